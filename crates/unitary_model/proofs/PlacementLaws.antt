@@ -1,0 +1,229 @@
+-- Placements as lists and as placings of all wires.
+--     front-identity, past_end, length-front, front-same, bit_of-front    bits from 0 to n-1
+--     placing size p h        the placing of a placement;  from_low, from_high: which wire is at a place
+--     carried-unique          there is one placing by a list
+--     carried-list, bits-carried      bits moved as a list are the bits carried
+--     same_bits-refl, same_bits-eq, same_bits-append, same_moved      the test of equal bits
+--     moved_back              the bits before they were moved;  moved-moved_back
+--     identity_placement, moved-identity      the identity
+use Rattle.std.proofs.Common.{◌≡◌, ℕ, zero, suc, ◌+◌, ◌<◌, ◌≤◌, Bool, true, false, cond, List, [], ◌∷◌, ◌++◌, map, length, append-nil, refl, sym, subst, ◌∙◌, ap, arith, zero-add, inl, inr, ◌⊎◌}
+use Rattle.std.proofs.Math.Path.{fun_ext}
+use Rattle.std.specs.List.{range_with_len}
+use Rattle.std.specs.Prelude.{nat_eq, nat_lt, slice_index}
+use Rattle.std.proofs.lemmas.Bool.{cases_lt}
+use Rattle.std.proofs.lemmas.Bool.Decides.{nat_tests}
+use Rattle.unitary_model.specs.Acts.{Bits}
+use Rattle.unitary_model.specs.Amplitude.{bit_of, same_bits}
+use Rattle.unitary_model.specs.Placement.{position_of, IsPlacement, identity, moved}
+use Rattle.std.proofs.lemmas.List.FromFn.{length-range_with_len, get_or-range_with_len, length-map-range_with_len}
+use Rattle.unitary_model.proofs.AmplitudeLaws.{front, front_bit, front_of}
+use Rattle.unitary_model.specs.Realised.{Placing, PlacedBy, carried}
+
+-- values at 0 to n-1, in both spellings
+map-range : (a n : ℕ) (f : Bits) → map f (range_with_len a n) ≡ front n (λ i. f (a + i))
+unfolding front
+map-range a zero f = refl
+map-range a (suc n) f = λ z. f (first z) ∷ (map-range (a + 1) n f ∙ ap (front n) (fun_ext (λ i. ap f (next i)))) z
+  where
+    first : a ≡ a + 0
+    first = omega arith
+
+    next : (i : ℕ) → (a + 1) + i ≡ a + suc i
+    next i = omega arith
+
+pub front-identity : (n : ℕ) (f : Bits) → front n f ≡ map f (identity n)
+front-identity n f = ap (front n) (fun_ext (λ i. ap f (sym (zero-add i)))) ∙ sym (map-range 0 n f)
+
+pub past_end : (x : List Bool) (i : ℕ) → length x ≤ i → bit_of x i ≡ false
+past_end [] i h = refl
+past_end (b ∷ x) zero h = absurd (omega arith)
+past_end (b ∷ x) (suc i) h = past_end x i (omega arith)
+
+pub length-front : (n : ℕ) (f : Bits) → length (front n f) ≡ n
+unfolding front
+length-front zero f = refl
+length-front (suc n) f = ap (λ m. suc m) (length-front n (λ i. f (suc i)))
+
+pub front-same : (n : ℕ) (f g : Bits) → ((i : ℕ) → i < n → f i ≡ g i) → front n f ≡ front n g
+unfolding front
+front-same zero f g h = refl
+front-same (suc n) f g h = λ z. h 0 (omega arith) z ∷ front-same n (λ i. f (suc i)) (λ i. g (suc i)) (λ i lt. h (suc i) (omega arith)) z
+
+pub bit_of-front : (n : ℕ) (x : Bits) (i : ℕ) → i < n → bit_of (front n x) i ≡ x i
+bit_of-front n x i h = ap (λ y. bit_of y i) (sym (append-nil (front n x))) ∙ front_bit n x [] i h
+
+-- a list placement as a placing of all wires
+pub placing : (size : ℕ) (p : List ℕ) → IsPlacement size p → Placing
+placing size p h = record {
+  to = to;
+  from = from;
+  from_to = λ i. go_from i (cases_lt i size);
+  to_from = λ j. go_to j (cases_lt j size);
+}
+  where
+    to : ℕ → ℕ
+    to i = cond (nat_lt i size) (slice_index p i) i
+
+    from : ℕ → ℕ
+    from j = cond (nat_lt j size) (position_of j p) j
+
+    low : (i : ℕ) → i < size → nat_lt i size ≡ true
+    low i g = grind (arith, nat_tests)
+
+    high : (i : ℕ) → size ≤ i → nat_lt i size ≡ false
+    high i g = grind (arith, nat_tests)
+
+    go_from : (i : ℕ) → (i < size) ⊎ (size ≤ i) → from (to i) ≡ i
+    go_from i (inl g) = ap from (λ z. cond (low i g z) (slice_index p i) i) ∙ (λ z. cond (low (slice_index p i) (h.within i g) z) (position_of (slice_index p i) p) (slice_index p i)) ∙ h.once i g
+    go_from i (inr g) = ap from (λ z. cond (high i g z) (slice_index p i) i) ∙ (λ z. cond (high i g z) (position_of i p) i)
+
+    go_to : (j : ℕ) → (j < size) ⊎ (size ≤ j) → to (from j) ≡ j
+    go_to j (inl g) = ap to (λ z. cond (low j g z) (position_of j p) j) ∙ (λ z. cond (low (position_of j p) (h.each j g) z) (slice_index p (position_of j p)) (position_of j p)) ∙ h.there j g
+    go_to j (inr g) = ap to (λ z. cond (high j g z) (position_of j p) j) ∙ (λ z. cond (high j g z) (slice_index p j) j)
+
+pub from_low : (size : ℕ) (p : List ℕ) (h : IsPlacement size p) (j : ℕ) → j < size → (placing size p h).from j ≡ position_of j p
+unfolding placing
+from_low size p h j lt = ap (λ b. cond b (position_of j p) j) (low j lt)
+  where
+    low : (i : ℕ) → i < size → nat_lt i size ≡ true
+    low i g = grind (arith, nat_tests)
+
+pub from_high : (size : ℕ) (p : List ℕ) (h : IsPlacement size p) (j : ℕ) → size ≤ j → (placing size p h).from j ≡ j
+unfolding placing
+from_high size p h j le = ap (λ b. cond b (position_of j p) j) (high j le)
+  where
+    high : (i : ℕ) → size ≤ i → nat_lt i size ≡ false
+    high i g = grind (arith, nat_tests)
+
+-- bits carried as a list are the bits carried
+pub carried-list : (size : ℕ) (p : List ℕ) (h : IsPlacement size p) (f : Bits) (x : List Bool) → ((i : ℕ) → i < size → f i ≡ bit_of x i) → front size (carried (placing size p h) f) ≡ moved size p x
+carried-list size p h f x e = front-same size _ (λ j. bit_of x (position_of j p)) (λ j lt. ap f (from_low size p h j lt) ∙ e (position_of j p) (h.each j lt)) ∙ front-identity size (λ j. bit_of x (position_of j p))
+
+pub bits-carried : (size : ℕ) (p : List ℕ) (h : IsPlacement size p) (x : List Bool) → length x ≡ size → bit_of (moved size p x) ≡ carried (placing size p h) (bit_of x)
+bits-carried size p h x len = fun_ext (λ j. go j (cases_lt j size))
+  where
+    same : moved size p x ≡ front size (carried (placing size p h) (bit_of x))
+    same = sym (carried-list size p h (bit_of x) x (λ i lt. refl))
+
+    go : (j : ℕ) → (j < size) ⊎ (size ≤ j) → bit_of (moved size p x) j ≡ carried (placing size p h) (bit_of x) j
+    go j (inl lt) = ap (λ y. bit_of y j) same ∙ bit_of-front size (carried (placing size p h) (bit_of x)) j lt
+    go j (inr le) = ap (λ y. bit_of y j) same ∙ past_end (front size (carried (placing size p h) (bit_of x))) j (omega (arith, length-front size (carried (placing size p h) (bit_of x))))
+        ∙ sym (ap (bit_of x) (from_high size p h j le) ∙ past_end x j (omega (arith, len)))
+
+-- ---- the test of equal bits
+pub same_bits-refl : (x : List Bool) → same_bits x x ≡ true
+same_bits-refl [] = refl
+same_bits-refl (true ∷ x) = same_bits-refl x
+same_bits-refl (false ∷ x) = same_bits-refl x
+
+pub same_bits-eq : (x y : List Bool) → same_bits x y ≡ true → x ≡ y
+same_bits-eq [] [] h = refl
+same_bits-eq [] (b ∷ y) h = absurd (cc)
+same_bits-eq (b ∷ x) [] h = go b h
+  where
+    go : (b : Bool) → same_bits (b ∷ x) [] ≡ true → b ∷ x ≡ []
+    go true h = absurd (cc)
+    go false h = absurd (cc)
+same_bits-eq (true ∷ x) (true ∷ y) h = ap (λ r. true ∷ r) (same_bits-eq x y h)
+same_bits-eq (false ∷ x) (false ∷ y) h = ap (λ r. false ∷ r) (same_bits-eq x y h)
+same_bits-eq (true ∷ x) (false ∷ y) h = absurd (cc)
+same_bits-eq (false ∷ x) (true ∷ y) h = absurd (cc)
+
+by_iff : (a b : Bool) → (a ≡ true → b ≡ true) → (b ≡ true → a ≡ true) → a ≡ b
+by_iff true true f g = refl
+by_iff true false f g = sym (f refl)
+by_iff false true f g = g refl
+by_iff false false f g = refl
+
+pub front-bit_of : (n : ℕ) (x : List Bool) → length x ≡ n → front n (bit_of x) ≡ x
+front-bit_of n x e = ap (λ m. front m (bit_of x)) (sym e) ∙ front_of x
+
+pub same_moved : (size : ℕ) (p : List ℕ) (h : IsPlacement size p) (u y : List Bool) → length u ≡ size → length y ≡ size → same_bits (moved size p u) (moved size p y) ≡ same_bits u y
+same_moved size p h u y eu ey = by_iff _ _ down up
+  where
+    P : Placing
+    P = placing size p h
+
+    down : same_bits (moved size p u) (moved size p y) ≡ true → same_bits u y ≡ true
+    down e =
+        let m : carried P (bit_of u) ≡ carried P (bit_of y) = sym (bits-carried size p h u eu) ∙ ap bit_of (same_bits-eq (moved size p u) (moved size p y) e) ∙ bits-carried size p h y ey in
+        let b : bit_of u ≡ bit_of y = fun_ext (λ i. ap (bit_of u) (sym (P.from_to i)) ∙ ap (λ g. g (P.to i)) m ∙ ap (bit_of y) (P.from_to i)) in
+        let l : u ≡ y = sym (front-bit_of size u eu) ∙ ap (front size) b ∙ front-bit_of size y ey in
+        ap (λ z. same_bits z y) l ∙ same_bits-refl y
+
+    up : same_bits u y ≡ true → same_bits (moved size p u) (moved size p y) ≡ true
+    up e = ap (λ z. same_bits (moved size p z) (moved size p y)) (same_bits-eq u y e) ∙ same_bits-refl (moved size p y)
+
+pub same_bits-append : (u v r s : List Bool) → length u ≡ length v → same_bits (u ++ r) (v ++ s) ≡ cond (same_bits u v) (same_bits r s) false
+same_bits-append [] [] r s e = refl
+same_bits-append [] (b ∷ v) r s e = absurd (omega arith)
+same_bits-append (b ∷ u) [] r s e = absurd (omega arith)
+same_bits-append (true ∷ u) (true ∷ v) r s e = same_bits-append u v r s (omega arith)
+same_bits-append (false ∷ u) (false ∷ v) r s e = same_bits-append u v r s (omega arith)
+same_bits-append (true ∷ u) (false ∷ v) r s e = refl
+same_bits-append (false ∷ u) (true ∷ v) r s e = refl
+
+-- there is one placing by a list
+pub carried-unique : (size : ℕ) (p : List ℕ) (h : IsPlacement size p) (P : Placing) → PlacedBy size p P → carried P ≡ carried (placing size p h)
+carried-unique size p h P g = fun_ext (λ x. fun_ext (λ j. ap x (go j (cases_lt j size))))
+  where
+    go : (j : ℕ) → (j < size) ⊎ (size ≤ j) → P.from j ≡ (placing size p h).from j
+    go j (inl lt) = ap P.from (sym (g.low (position_of j p) (h.each j lt) ∙ h.there j lt)) ∙ P.from_to (position_of j p) ∙ sym (from_low size p h j lt)
+    go j (inr le) = ap P.from (sym (g.high j le)) ∙ P.from_to j ∙ sym (from_high size p h j le)
+
+-- ---- the bits before they were moved
+pub moved_back : (size : ℕ) (p : List ℕ) → IsPlacement size p → (y : List Bool) → List Bool
+moved_back size p h y = front size (λ i. bit_of y ((placing size p h).to i))
+
+pub length-moved : (size : ℕ) (p : List ℕ) (x : List Bool) → length (moved size p x) ≡ size
+length-moved size p x = length-map-range_with_len (λ j. bit_of x (position_of j p)) 0 size
+
+pub length-moved_back : (size : ℕ) (p : List ℕ) (h : IsPlacement size p) (y : List Bool) → length (moved_back size p h y) ≡ size
+unfolding moved_back
+length-moved_back size p h y = length-front size (λ i. bit_of y ((placing size p h).to i))
+
+pub moved-moved_back : (size : ℕ) (p : List ℕ) (h : IsPlacement size p) (y : List Bool) → length y ≡ size → moved size p (moved_back size p h y) ≡ y
+unfolding moved_back
+moved-moved_back size p h y e =
+    let P = placing size p h in
+    let x : Bits = λ i. bit_of y (P.to i) in
+    sym (carried-list size p h x (front size x) (λ i lt. sym (bit_of-front size x i lt)))
+    ∙ ap (front size) (fun_ext (λ j. ap (bit_of y) (P.to_from j)))
+    ∙ front-bit_of size y e
+
+-- ---- the identity
+slice_index-range : (a n i : ℕ) → i < n → slice_index (range_with_len a n) i ≡ a + i
+slice_index-range a n i h = get_or-range_with_len a n i 0 h
+
+position_of-range : (a n i : ℕ) → i < n → position_of (a + i) (range_with_len a n) ≡ i
+position_of-range a zero i h = absurd (omega arith)
+position_of-range a (suc n) zero h = ap (λ t. cond t 0 (suc (position_of (a + 0) (range_with_len (a + 1) n)))) (here a)
+  where
+    here : (a : ℕ) → nat_eq a (a + 0) ≡ true
+    here a = grind (arith, nat_tests)
+position_of-range a (suc n) (suc i) h = ap (λ t. cond t 0 (suc (position_of (a + suc i) (range_with_len (a + 1) n)))) (not_here a i)
+    ∙ ap (λ j. suc (position_of j (range_with_len (a + 1) n))) (next a i) ∙ ap (λ j. suc j) (position_of-range (a + 1) n i (omega arith))
+  where
+    not_here : (a i : ℕ) → nat_eq a (a + suc i) ≡ false
+    not_here a i = grind (arith, nat_tests)
+
+    next : (a i : ℕ) → a + suc i ≡ (a + 1) + i
+    next a i = omega arith
+
+slice_index-identity : (n i : ℕ) → i < n → slice_index (identity n) i ≡ i
+slice_index-identity n i h = slice_index-range 0 n i h ∙ zero-add i
+
+position_of-identity : (n i : ℕ) → i < n → position_of i (identity n) ≡ i
+position_of-identity n i h = ap (λ j. position_of j (identity n)) (sym (zero-add i)) ∙ position_of-range 0 n i h
+
+pub identity_placement : (n : ℕ) → IsPlacement n (identity n)
+identity_placement n = record {
+  long = length-range_with_len 0 n;
+  within = λ i h. subst (λ j. j < n) (sym (slice_index-identity n i h)) h;
+  once = λ i h. ap (λ j. position_of j (identity n)) (slice_index-identity n i h) ∙ position_of-identity n i h;
+  each = λ i h. subst (λ j. j < n) (sym (position_of-identity n i h)) h;
+  there = λ i h. ap (slice_index (identity n)) (position_of-identity n i h) ∙ slice_index-identity n i h;
+}
+
+pub moved-identity : (n : ℕ) (x : List Bool) → length x ≡ n → moved n (identity n) x ≡ x
+moved-identity n x e = sym (front-identity n (λ j. bit_of x (position_of j (identity n)))) ∙ front-same n (λ j. bit_of x (position_of j (identity n))) (bit_of x) (λ i h. ap (bit_of x) (position_of-identity n i h)) ∙ front-bit_of n x e

@@ -1,0 +1,14 @@
+pub mod Ring
+pub mod Operations
+pub mod Amplitude
+pub mod Sums
+pub mod OddPaths
+pub mod Placement
+pub mod Realises
+pub mod Acts
+pub mod Paths
+pub mod SameUpTo
+pub mod SmallProgram
+pub mod Tokens
+pub mod WrittenProgram
+pub mod Realised
