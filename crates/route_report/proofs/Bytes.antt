@@ -1,0 +1,132 @@
+-- The lines as plain bytes, piece by piece.
+--   in_quotes             a text between quotation marks
+--   listed                whole numbers in brackets, with commas between
+--   report_pieces         the pieces of the report line
+--   report_line-pieces    it is these
+--   compact_text-name_of  a refusal's name stands as it is: none has a character that JSON escapes
+--   outside_pieces        the pieces of the line of a fault that is no refusal: its name, its status
+--   refusal_pieces        those of the line of a refusal with this text of its name
+--   fault_pieces          the pieces of the line of each fault
+--   fault_line-pieces     it is these
+use Rattle.std.proofs.Common.{◌≡◌, ℕ, List, [], ◌∷◌, ◌++◌, ◌==◌, ap, append_assoc, codes, cond, map, refl}
+use Rattle.std.specs.Prelude.{Some, decimal, false, find, true}
+use Rattle.std.specs.Fmt.{digits}
+use Rattle.std.specs.List.{concat, join_with_byte}
+use Rattle.std.specs.Option.{option_map_or}
+use Rattle.serde_json.proofs.OnLiterals.{serde_json_on_literals}
+use Rattle.serde_json.specs.Data.{string}
+use Rattle.serde_json.specs.View.{items_of}
+use Rattle.serde_json.specs.Written.{compact_text, items_text}
+use Rattle.route_report.specs.declared.faults.Fault.{Fault}
+use Rattle.route_report.specs.declared.faults.Fault.TheVariants as fault
+use Rattle.route_report.specs.declared.lines.Report.{Report}
+use Rattle.route_report.specs.Compact.{whole}
+use Rattle.route_report.specs.Faults.{fault_line}
+use Rattle.route_report.specs.Lines.{report_line}
+use Rattle.route_report.specs.Refusals.{name_of, refusals, stops_with}
+
+abbrev pub in_quotes : List ℕ → List ℕ
+in_quotes text = 34 ∷ (text ++ 34 ∷ [])
+
+abbrev pub listed : List ℕ → List ℕ
+listed ns = 91 ∷ (join_with_byte 44 (map decimal ns) ++ 93 ∷ [])
+
+-- what two functions give alike at each name of a table they give alike at the name that is found
+found-alike : (f g : List ℕ → List ℕ) (none : List ℕ) (code : ℕ) → f none ≡ g none →
+    (rows : List (ℕ × List ℕ)) → map (λ row. f row.1) rows ≡ map (λ row. g row.1) rows →
+    f (option_map_or (λ row. row.1) (find (λ row. row.0 == code) rows) none)
+    ≡ g (option_map_or (λ row. row.1) (find (λ row. row.0 == code) rows) none)
+found-alike f g none code default [] alike = default
+found-alike f g none code default (r ∷ rows) alike =
+    let later = found-alike f g none code default rows (cc alike) in
+    elim (r.0 == code) as (λ b. f (option_map_or (λ row. row.1) (cond b (Some r) (find (λ row. row.0 == code) rows)) none)
+    ≡ g (option_map_or (λ row. row.1) (cond b (Some r) (find (λ row. row.0 == code) rows)) none))
+    [ true ↦ cc alike | false ↦ later ]
+
+pub compact_text-name_of : (code : ℕ) → compact_text (string (name_of code)) ≡ in_quotes (name_of code)
+unfolding serde_json_on_literals
+compact_text-name_of code = found-alike (λ s. compact_text (string s)) in_quotes (codes "Unknown") code refl refusals refl
+
+items_text-later : (n : ℕ) (ns : List ℕ) →
+    decimal n ++ items_text true (items_of (map whole ns)) ≡ join_with_byte 44 (map decimal (n ∷ ns)) ++ 93 ∷ []
+items_text-later n [] = refl
+items_text-later n (m ∷ ns) =
+    rw (append_assoc (decimal n) (44 ∷ join_with_byte 44 (map decimal (m ∷ ns))) (93 ∷ []), items_text-later m ns) refl
+
+items_text-wholes : (ns : List ℕ) →
+    items_text false (items_of (map whole ns)) ≡ join_with_byte 44 (map decimal ns) ++ 93 ∷ []
+items_text-wholes [] = refl
+items_text-wholes (n ∷ ns) = items_text-later n ns
+
+abbrev pub report_pieces : Report → List (List ℕ)
+report_pieces r =
+    codes "{\"barriers\":" ∷ decimal r.barriers
+    ∷ codes ",\"cx_after\":" ∷ decimal r.cx_after
+    ∷ codes ",\"cx_before\":" ∷ decimal r.cx_before
+    ∷ codes ",\"device\":" ∷ decimal r.device
+    ∷ codes ",\"final\":" ∷ listed r.last
+    ∷ codes ",\"format\":1,\"initial\":" ∷ listed r.initial
+    ∷ codes ",\"phase\":" ∷ decimal r.phase
+    ∷ codes ",\"qubits\":" ∷ decimal r.qubits
+    ∷ codes ",\"swaps\":" ∷ decimal r.swaps
+    ∷ codes ",\"t_after\":" ∷ decimal r.t_after
+    ∷ codes ",\"t_before\":" ∷ decimal r.t_before
+    ∷ codes "}" ∷ []
+
+pub report_line-pieces : (r : Report) → report_line r ≡ concat (report_pieces r) ++ 10 ∷ []
+unfolding serde_json_on_literals digits
+report_line-pieces r = rw (items_text-wholes r.last, items_text-wholes r.initial) refl
+
+abbrev pub outside_pieces : List ℕ → ℕ → List (List ℕ)
+outside_pieces name status =
+    codes "{\"fault\":" ∷ in_quotes name ∷ codes ",\"status\":" ∷ decimal status ∷ codes "}" ∷ []
+
+-- what a refusal keeps stands between its name and its status
+abbrev pub refusal_pieces : ℕ → List ℕ → List (List ℕ) → List (List ℕ)
+refusal_pieces code name kept =
+    codes "{\"code\":" ∷ decimal code ∷ codes ",\"fault\":" ∷ name
+    ∷ (kept ++ codes ",\"status\":" ∷ decimal (stops_with code) ∷ codes "}" ∷ [])
+
+abbrev pub fault_pieces : Fault → List (List ℕ)
+fault_pieces fault.Words = outside_pieces (codes "Words") 2
+fault_pieces fault.Input = outside_pieces (codes "Input") 5
+fault_pieces fault.Output = outside_pieces (codes "Output") 6
+fault_pieces fault.Shelf = outside_pieces (codes "Shelf") 9
+fault_pieces fault.Absent = outside_pieces (codes "Absent") 9
+fault_pieces (fault.Plain code) = refusal_pieces code (in_quotes (name_of code)) []
+fault_pieces (fault.Place code place) =
+    refusal_pieces code (in_quotes (name_of code)) (codes ",\"place\":" ∷ decimal place ∷ [])
+fault_pieces (fault.Statement code statement) =
+    refusal_pieces code (in_quotes (name_of code)) (codes ",\"statement\":" ∷ decimal statement ∷ [])
+fault_pieces (fault.SelfEdge qubit) =
+    codes "{\"code\":53,\"fault\":\"SelfEdge\",\"qubit\":" ∷ decimal qubit
+    ∷ codes ",\"status\":4}" ∷ []
+fault_pieces (fault.NotConnected from to) =
+    codes "{\"code\":54,\"fault\":\"NotConnected\",\"from\":" ∷ decimal from
+    ∷ codes ",\"status\":4,\"to\":" ∷ decimal to ∷ codes "}" ∷ []
+fault_pieces (fault.TooFewQubits device qubits) =
+    codes "{\"code\":56,\"device\":" ∷ decimal device
+    ∷ codes ",\"fault\":\"TooFewQubits\",\"qubits\":" ∷ decimal qubits
+    ∷ codes ",\"status\":4}" ∷ []
+
+refusal-alike : (code : ℕ) (kept : List (List ℕ)) →
+    concat (refusal_pieces code (compact_text (string (name_of code))) kept) ++ 10 ∷ []
+    ≡ concat (refusal_pieces code (in_quotes (name_of code)) kept) ++ 10 ∷ []
+refusal-alike code kept =
+    ap (λ name. concat (refusal_pieces code name kept) ++ 10 ∷ []) (compact_text-name_of code)
+
+pub fault_line-pieces : (f : Fault) → fault_line f ≡ concat (fault_pieces f) ++ 10 ∷ []
+unfolding serde_json_on_literals digits
+fault_line-pieces fault.Words = refl
+fault_line-pieces fault.Input = refl
+fault_line-pieces fault.Output = refl
+fault_line-pieces fault.Shelf = refl
+fault_line-pieces fault.Absent = refl
+fault_line-pieces (fault.Plain code) = refusal-alike code []
+fault_line-pieces (fault.Place code place) =
+    refusal-alike code (codes ",\"place\":" ∷ decimal place ∷ [])
+fault_line-pieces (fault.Statement code statement) =
+    refusal-alike code (codes ",\"statement\":" ∷ decimal statement ∷ [])
+fault_line-pieces (fault.SelfEdge qubit) = refl
+fault_line-pieces (fault.NotConnected from to) = refl
+fault_line-pieces (fault.TooFewQubits device qubits) = refl

@@ -1,0 +1,4 @@
+pub mod Floats
+pub mod Bytes
+pub mod Rows
+pub mod Statuses

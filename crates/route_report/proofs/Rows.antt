@@ -1,0 +1,103 @@
+-- Lines of worked records, computed by their definitions.
+use Rattle.std.proofs.Common.{◌≡◌, [], ◌∷◌, codes, refl}
+use Rattle.std.specs.Fmt.{digits}
+use Rattle.serde_json.proofs.OnLiterals.{serde_json_on_literals}
+use Rattle.route_report.specs.declared.faults.Fault.TheVariants as fault
+use Rattle.route_report.specs.Faults.{fault_line}
+use Rattle.route_report.specs.Lines.{report_line}
+
+pub one_wire : report_line (record {
+  barriers = 0;
+  cx_after = 0;
+  cx_before = 0;
+  device = 1;
+  last = 0 ∷ [];
+  initial = 0 ∷ [];
+  phase = 0;
+  qubits = 1;
+  swaps = 0;
+  t_after = 1;
+  t_before = 1;
+}) ≡ codes "{\"barriers\":0,\"cx_after\":0,\"cx_before\":0,\"device\":1,\"final\":[0],\"format\":1,\"initial\":[0],\"phase\":0,\"qubits\":1,\"swaps\":0,\"t_after\":1,\"t_before\":1}\n"
+unfolding serde_json_on_literals digits
+one_wire = refl
+
+pub three_wires : report_line (record {
+  barriers = 1;
+  cx_after = 4;
+  cx_before = 2;
+  device = 3;
+  last = 2 ∷ 1 ∷ 0 ∷ [];
+  initial = 0 ∷ 1 ∷ 2 ∷ [];
+  phase = 7;
+  qubits = 2;
+  swaps = 5;
+  t_after = 6;
+  t_before = 18446744073709551615;
+}) ≡ codes "{\"barriers\":1,\"cx_after\":4,\"cx_before\":2,\"device\":3,\"final\":[2,1,0],\"format\":1,\"initial\":[0,1,2],\"phase\":7,\"qubits\":2,\"swaps\":5,\"t_after\":6,\"t_before\":18446744073709551615}\n"
+unfolding serde_json_on_literals digits
+three_wires = refl
+
+pub no_wire : report_line (record {
+  barriers = 0;
+  cx_after = 0;
+  cx_before = 0;
+  device = 0;
+  last = [];
+  initial = [];
+  phase = 0;
+  qubits = 0;
+  swaps = 0;
+  t_after = 0;
+  t_before = 0;
+}) ≡ codes "{\"barriers\":0,\"cx_after\":0,\"cx_before\":0,\"device\":0,\"final\":[],\"format\":1,\"initial\":[],\"phase\":0,\"qubits\":0,\"swaps\":0,\"t_after\":0,\"t_before\":0}\n"
+unfolding serde_json_on_literals digits
+no_wire = refl
+
+pub words : fault_line fault.Words ≡ codes "{\"fault\":\"Words\",\"status\":2}\n"
+unfolding serde_json_on_literals digits
+words = refl
+
+pub input : fault_line fault.Input ≡ codes "{\"fault\":\"Input\",\"status\":5}\n"
+unfolding serde_json_on_literals digits
+input = refl
+
+pub output : fault_line fault.Output ≡ codes "{\"fault\":\"Output\",\"status\":6}\n"
+unfolding serde_json_on_literals digits
+output = refl
+
+pub shelf : fault_line fault.Shelf ≡ codes "{\"fault\":\"Shelf\",\"status\":9}\n"
+unfolding serde_json_on_literals digits
+shelf = refl
+
+pub absent : fault_line fault.Absent ≡ codes "{\"fault\":\"Absent\",\"status\":9}\n"
+unfolding serde_json_on_literals digits
+absent = refl
+
+pub syntax : fault_line (fault.Place 12 23) ≡ codes "{\"code\":12,\"fault\":\"Syntax\",\"place\":23,\"status\":3}\n"
+unfolding serde_json_on_literals digits
+syntax = refl
+
+pub text_too_long : fault_line (fault.Plain 60) ≡ codes "{\"code\":60,\"fault\":\"TextTooLong\",\"status\":3}\n"
+unfolding serde_json_on_literals digits
+text_too_long = refl
+
+pub angle_step : fault_line (fault.Statement 43 3) ≡ codes "{\"code\":43,\"fault\":\"AngleStep\",\"statement\":3,\"status\":3}\n"
+unfolding serde_json_on_literals digits
+angle_step = refl
+
+pub device_range : fault_line (fault.Plain 52) ≡ codes "{\"code\":52,\"fault\":\"DeviceRange\",\"status\":4}\n"
+unfolding serde_json_on_literals digits
+device_range = refl
+
+pub self_edge : fault_line (fault.SelfEdge 0) ≡ codes "{\"code\":53,\"fault\":\"SelfEdge\",\"qubit\":0,\"status\":4}\n"
+unfolding serde_json_on_literals digits
+self_edge = refl
+
+pub not_connected : fault_line (fault.NotConnected 0 2) ≡ codes "{\"code\":54,\"fault\":\"NotConnected\",\"from\":0,\"status\":4,\"to\":2}\n"
+unfolding serde_json_on_literals digits
+not_connected = refl
+
+pub too_few_qubits : fault_line (fault.TooFewQubits 4 5) ≡ codes "{\"code\":56,\"device\":4,\"fault\":\"TooFewQubits\",\"qubits\":5,\"status\":4}\n"
+unfolding serde_json_on_literals digits
+too_few_qubits = refl

@@ -1,0 +1,17 @@
+-- A line of JSON.
+--   whole   a whole number
+--   wholes  an array of whole numbers
+--   line    the text without a space, and a line break
+use Rattle.std.specs.Prelude.{ℕ, List, [], ◌∷◌, ◌++◌, map}
+use Rattle.serde_json.specs.Data.{Data, array, number, unsigned}
+use Rattle.serde_json.specs.View.{items_of}
+use Rattle.serde_json.specs.Written.{compact_text}
+
+abbrev pub whole : ℕ → Data
+whole n = number (unsigned n)
+
+abbrev pub wholes : List ℕ → Data
+wholes ns = array (items_of (map whole ns))
+
+abbrev pub line : Data → List ℕ
+line d = compact_text d ++ 10 ∷ []

@@ -1,0 +1,70 @@
+-- The line of a fault: one JSON object, its keys in the order of their bytes.
+--   status_of     the status that the program ends with
+--   outside_data  the object of a fault that is no refusal: its name and its status
+--   fault_data    the object: for a refusal also its code, and what it keeps
+--   fault_line    its line
+use Rattle.std.specs.Prelude.{ℕ, List, codes}
+use Rattle.serde_json.specs.Data.{Data, member, no_members, object, string}
+use Rattle.route_report.specs.declared.faults.Fault.{Fault}
+use Rattle.route_report.specs.declared.faults.Fault.TheVariants as fault
+use Rattle.route_report.specs.Compact.{line, whole}
+use Rattle.route_report.specs.Refusals.{name_of, stops_with}
+
+abbrev pub status_of : Fault → ℕ
+status_of fault.Words = 2
+status_of fault.Input = 5
+status_of fault.Output = 6
+status_of fault.Shelf = 9
+status_of fault.Absent = 9
+status_of (fault.Plain code) = stops_with code
+status_of (fault.Place code place) = stops_with code
+status_of (fault.Statement code statement) = stops_with code
+status_of (fault.SelfEdge qubit) = stops_with 53
+status_of (fault.NotConnected from to) = stops_with 54
+status_of (fault.TooFewQubits device qubits) = stops_with 56
+
+abbrev pub outside_data : List ℕ → ℕ → Data
+outside_data name status = object
+    (member (codes "fault") (string name)
+    (member (codes "status") (whole status) no_members))
+
+abbrev pub fault_data : Fault → Data
+fault_data fault.Words = outside_data (codes "Words") (status_of fault.Words)
+fault_data fault.Input = outside_data (codes "Input") (status_of fault.Input)
+fault_data fault.Output = outside_data (codes "Output") (status_of fault.Output)
+fault_data fault.Shelf = outside_data (codes "Shelf") (status_of fault.Shelf)
+fault_data fault.Absent = outside_data (codes "Absent") (status_of fault.Absent)
+fault_data (fault.Plain code) = object
+    (member (codes "code") (whole code)
+    (member (codes "fault") (string (name_of code))
+    (member (codes "status") (whole (stops_with code)) no_members)))
+fault_data (fault.Place code place) = object
+    (member (codes "code") (whole code)
+    (member (codes "fault") (string (name_of code))
+    (member (codes "place") (whole place)
+    (member (codes "status") (whole (stops_with code)) no_members))))
+fault_data (fault.Statement code statement) = object
+    (member (codes "code") (whole code)
+    (member (codes "fault") (string (name_of code))
+    (member (codes "statement") (whole statement)
+    (member (codes "status") (whole (stops_with code)) no_members))))
+fault_data (fault.SelfEdge qubit) = object
+    (member (codes "code") (whole 53)
+    (member (codes "fault") (string (name_of 53))
+    (member (codes "qubit") (whole qubit)
+    (member (codes "status") (whole (stops_with 53)) no_members))))
+fault_data (fault.NotConnected from to) = object
+    (member (codes "code") (whole 54)
+    (member (codes "fault") (string (name_of 54))
+    (member (codes "from") (whole from)
+    (member (codes "status") (whole (stops_with 54))
+    (member (codes "to") (whole to) no_members)))))
+fault_data (fault.TooFewQubits device qubits) = object
+    (member (codes "code") (whole 56)
+    (member (codes "device") (whole device)
+    (member (codes "fault") (string (name_of 56))
+    (member (codes "qubits") (whole qubits)
+    (member (codes "status") (whole (stops_with 56)) no_members)))))
+
+abbrev pub fault_line : Fault → List ℕ
+fault_line f = line (fault_data f)

@@ -1,0 +1,4 @@
+pub mod Compact
+pub mod Refusals
+pub mod Lines
+pub mod Faults

@@ -1,0 +1,127 @@
+//! Why a run gives no result.
+
+ghost use Rattle.std.specs.Prelude.{◌≡◌, IfOk};
+ghost use Rattle.serde_json.specs.View.{view};
+ghost use Rattle.route_report.specs.Faults.{fault_data, outside_data, status_of};
+
+use crate::refusals::{NOT_CONNECTED, SELF_EDGE, TOO_FEW_QUBITS, refusal_name, refusal_status};
+use serde_json::{Value, json};
+use std::alloc::{AllocError, Global};
+
+/// A fault, with what its line tells. A `code` is that of a refusal.
+#[derive(Clone, Copy, Debug, PartialEq, Eq)]
+pub enum Fault {
+    /// The command line means no command.
+    Words,
+    /// Reading the input failed.
+    Input,
+    /// Writing the program failed.
+    Output,
+    /// Reading the device's text failed.
+    Shelf,
+    /// There is no text of the device's name.
+    Absent,
+    /// A refusal that tells nothing but its code.
+    Plain { code: u8 },
+    /// A refusal of the text at a place: bytes that stand before it.
+    Place { code: u8, place: u32 },
+    /// A refusal of a statement; those after the header are counted from 1 on.
+    Statement { code: u8, statement: u32 },
+    /// An edge of the device has equal ends.
+    SelfEdge { qubit: u32 },
+    /// No walk of the device leads from one qubit to the other.
+    NotConnected { from: u32, to: u32 },
+    /// The device has fewer qubits than the program.
+    TooFewQubits { device: u32, qubits: u32 },
+}
+
+/// The status that the program ends with, from 2 to 9.
+pub fn status(fault: &Fault) -> u8
+    ensures { result ≡ status_of fault.now }
+{
+    match *fault {
+        Fault::Words => 2,
+        Fault::Input => 5,
+        Fault::Output => 6,
+        Fault::Shelf | Fault::Absent => 9,
+        Fault::Plain { code } | Fault::Place { code, .. } | Fault::Statement { code, .. } =>
+            refusal_status(code),
+        Fault::SelfEdge { .. } => refusal_status(SELF_EDGE),
+        Fault::NotConnected { .. } => refusal_status(NOT_CONNECTED),
+        Fault::TooFewQubits { .. } => refusal_status(TOO_FEW_QUBITS),
+    }
+}
+
+/// The JSON object of a fault.
+pub(crate) fn fault_value(alloc: Global, fault: &Fault) -> Result<Value, AllocError>
+    ensures { IfOk result (λ v. view v ≡ fault_data fault.now) }
+{
+    let status = status(fault);
+    match *fault {
+        Fault::Words => outside_value(alloc, "Words", status),
+        Fault::Input => outside_value(alloc, "Input", status),
+        Fault::Output => outside_value(alloc, "Output", status),
+        Fault::Shelf => outside_value(alloc, "Shelf", status),
+        Fault::Absent => outside_value(alloc, "Absent", status),
+        Fault::Plain { code } => plain_value(alloc, code),
+        Fault::Place { code, place } => place_value(alloc, code, place),
+        Fault::Statement { code, statement } => statement_value(alloc, code, statement),
+        Fault::SelfEdge { qubit } => self_edge_value(alloc, qubit),
+        Fault::NotConnected { from, to } => not_connected_value(alloc, from, to),
+        Fault::TooFewQubits { device, qubits } => too_few_value(alloc, device, qubits),
+    }
+}
+
+fn outside_value(alloc: Global, name: &str, status: u8) -> Result<Value, AllocError>
+    ensures { IfOk result (λ v. view v ≡ outside_data name.now status) }
+{
+    json!(in alloc; {"fault": name, "status": status})
+}
+
+fn plain_value(alloc: Global, code: u8) -> Result<Value, AllocError>
+    ensures { IfOk result (λ v. view v ≡ fault_data (Fault.Plain code)) }
+{
+    let (name, status) = (refusal_name(code), refusal_status(code));
+    json!(in alloc; {"code": code, "fault": name, "status": status})
+}
+
+fn place_value(alloc: Global, code: u8, place: u32) -> Result<Value, AllocError>
+    ensures { IfOk result (λ v. view v ≡ fault_data (Fault.Place code place)) }
+{
+    let (name, status) = (refusal_name(code), refusal_status(code));
+    json!(in alloc; {"code": code, "fault": name, "place": place, "status": status})
+}
+
+fn statement_value(alloc: Global, code: u8, statement: u32) -> Result<Value, AllocError>
+    ensures { IfOk result (λ v. view v ≡ fault_data (Fault.Statement code statement)) }
+{
+    let (name, status) = (refusal_name(code), refusal_status(code));
+    json!(in alloc; {"code": code, "fault": name, "statement": statement, "status": status})
+}
+
+fn self_edge_value(alloc: Global, qubit: u32) -> Result<Value, AllocError>
+    ensures { IfOk result (λ v. view v ≡ fault_data (Fault.SelfEdge qubit)) }
+{
+    let (name, status) = (refusal_name(SELF_EDGE), refusal_status(SELF_EDGE));
+    json!(in alloc; {"code": SELF_EDGE, "fault": name, "qubit": qubit, "status": status})
+}
+
+fn not_connected_value(alloc: Global, from: u32, to: u32) -> Result<Value, AllocError>
+    ensures { IfOk result (λ v. view v ≡ fault_data (Fault.NotConnected from to)) }
+{
+    let (name, status) = (refusal_name(NOT_CONNECTED), refusal_status(NOT_CONNECTED));
+    json!(in alloc; {"code": NOT_CONNECTED, "fault": name, "from": from, "status": status, "to": to})
+}
+
+fn too_few_value(alloc: Global, device: u32, qubits: u32) -> Result<Value, AllocError>
+    ensures { IfOk result (λ v. view v ≡ fault_data (Fault.TooFewQubits device qubits)) }
+{
+    let (name, status) = (refusal_name(TOO_FEW_QUBITS), refusal_status(TOO_FEW_QUBITS));
+    json!(in alloc; {
+        "code": TOO_FEW_QUBITS,
+        "device": device,
+        "fault": name,
+        "qubits": qubits,
+        "status": status
+    })
+}

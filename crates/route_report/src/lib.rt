@@ -1,0 +1,43 @@
+//! The two lines of JSON that a run tells of itself.
+//!
+//! A `Report` or a `Fault` goes in, and the bytes of its line come out: one compact JSON object with its
+//! keys in the order of their bytes, then a line break. The contracts give these bytes exactly, and the
+//! status that a fault ends with. Every record has a line; the only error is want of memory.
+#![tactic(auto)]
+
+ghost use Rattle.std.specs.Prelude.{◌≡◌, IfOk};
+ghost use Rattle.route_report.specs.Faults.{fault_line};
+ghost use Rattle.route_report.specs.Lines.{report_line};
+
+use std::alloc::{AllocError, Global};
+
+mod compact;
+pub mod faults;
+pub mod lines;
+mod refusals;
+pub mod wires;
+
+pub use faults::{Fault, status};
+pub use lines::Report;
+pub use wires::Wires;
+
+/// The bytes of the report line; `Err` for want of memory alone.
+#[tactic(auto, using(crate::proofs::Floats::floats))]
+pub fn report_line(alloc: Global, report: &Report) -> Result<Vec<u8>, AllocError>
+    ensures { IfOk result (λ v. v.items ≡ report_line report.now) }
+{
+    let value = lines::report_value(alloc, report)?;
+    compact::value_line(alloc, &value)
+}
+
+/// The bytes of the line of a fault; `Err` for want of memory alone.
+#[tactic(auto, using(crate::proofs::Floats::floats))]
+pub fn fault_line(alloc: Global, fault: &Fault) -> Result<Vec<u8>, AllocError>
+    ensures { IfOk result (λ v. v.items ≡ fault_line fault.now) }
+{
+    let value = faults::fault_value(alloc, fault)?;
+    compact::value_line(alloc, &value)
+}
+
+#[cfg(test)]
+mod tests;

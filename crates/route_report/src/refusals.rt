@@ -1,0 +1,63 @@
+//! The refusals of a program's text and of a device's text, by their codes.
+
+ghost use Rattle.std.specs.Prelude.{◌≡◌};
+ghost use Rattle.route_report.specs.Refusals.{name_of, stops_with};
+
+pub(crate) const SELF_EDGE: u8 = 53;
+
+pub(crate) const NOT_CONNECTED: u8 = 54;
+
+pub(crate) const TOO_FEW_QUBITS: u8 = 56;
+
+/// The name of a refusal.
+pub(crate) fn refusal_name(code: u8) -> &'static str
+    ensures { result.now ≡ name_of code }
+{
+    match code {
+        10 => "BadByte",
+        11 => "Number",
+        12 => "Syntax",
+        13 => "Version",
+        14 => "Depth",
+        20 => "Include",
+        21 => "NameTaken",
+        22 => "UnknownName",
+        23 => "WrongKind",
+        24 => "IndexRange",
+        25 => "EmptyRegister",
+        26 => "ParamCount",
+        27 => "QubitCount",
+        28 => "SizeDiffers",
+        29 => "RepeatedQubit",
+        30 => "Conditional",
+        31 => "Reset",
+        32 => "OpaqueApplied",
+        33 => "AfterMeasure",
+        34 => "TooManyQubits",
+        35 => "TooManyBits",
+        40 => "AngleForm",
+        41 => "AngleZero",
+        42 => "AngleRange",
+        43 => "AngleStep",
+        44 => "TooManyOps",
+        50 => "DeviceText",
+        51 => "DeviceShape",
+        52 => "DeviceRange",
+        SELF_EDGE => "SelfEdge",
+        NOT_CONNECTED => "NotConnected",
+        55 => "DeviceTooLong",
+        TOO_FEW_QUBITS => "TooFewQubits",
+        60 => "TextTooLong",
+        _ => "Unknown",
+    }
+}
+
+/// The status that a refusal ends with: 4 for a device's text, 3 for a program's.
+pub(crate) fn refusal_status(code: u8) -> u8
+    ensures { result ≡ stops_with code }
+{
+    match code {
+        50..=56 => 4,
+        _ => 3,
+    }
+}

@@ -1,0 +1,124 @@
+use crate::{Fault, Report, Wires, fault_line, report_line, status};
+use std::test::Fail;
+
+#[test]
+fn writes_the_worked_lines(rt: HostRuntime) -> Result<(), Fail> {
+    let one_wire = Report {
+        barriers: 0,
+        cx_after: 0,
+        cx_before: 0,
+        device: 1,
+        last: Wires::new(vec![in rt.alloc(); 0]?),
+        initial: Wires::new(vec![in rt.alloc(); 0]?),
+        phase: 0,
+        qubits: 1,
+        swaps: 0,
+        t_after: 1,
+        t_before: 1,
+    };
+    let three_wires = Report {
+        barriers: 1,
+        cx_after: 4,
+        cx_before: 2,
+        device: 3,
+        last: Wires::new(vec![in rt.alloc(); 2, 1, 0]?),
+        initial: Wires::new(vec![in rt.alloc(); 0, 1, 2]?),
+        phase: 7,
+        qubits: 2,
+        swaps: 5,
+        t_after: 6,
+        t_before: 18446744073709551615,
+    };
+    let no_wire = Report {
+        barriers: 0,
+        cx_after: 0,
+        cx_before: 0,
+        device: 0,
+        last: Wires::new(Vec::new(rt.alloc())),
+        initial: Wires::new(Vec::new(rt.alloc())),
+        phase: 0,
+        qubits: 0,
+        swaps: 0,
+        t_after: 0,
+        t_before: 0,
+    };
+    for (report, want) in [
+        (
+            &one_wire,
+            "{\"barriers\":0,\"cx_after\":0,\"cx_before\":0,\"device\":1,\"final\":[0],\"format\":1,\"initial\":[0],\"phase\":0,\"qubits\":1,\"swaps\":0,\"t_after\":1,\"t_before\":1}\n",
+        ),
+        (
+            &three_wires,
+            "{\"barriers\":1,\"cx_after\":4,\"cx_before\":2,\"device\":3,\"final\":[2,1,0],\"format\":1,\"initial\":[0,1,2],\"phase\":7,\"qubits\":2,\"swaps\":5,\"t_after\":6,\"t_before\":18446744073709551615}\n",
+        ),
+        (
+            &no_wire,
+            "{\"barriers\":0,\"cx_after\":0,\"cx_before\":0,\"device\":0,\"final\":[],\"format\":1,\"initial\":[],\"phase\":0,\"qubits\":0,\"swaps\":0,\"t_after\":0,\"t_before\":0}\n",
+        ),
+    ] {
+        assert_eq!(rt;
+            report_line(rt.alloc(), report)?.as_slice(),
+            want.as_bytes(),
+            "{want}"
+        );
+    }
+    for (fault, ends_with, want) in [
+        (Fault::Words, 2, "{\"fault\":\"Words\",\"status\":2}\n"),
+        (Fault::Input, 5, "{\"fault\":\"Input\",\"status\":5}\n"),
+        (Fault::Output, 6, "{\"fault\":\"Output\",\"status\":6}\n"),
+        (Fault::Shelf, 9, "{\"fault\":\"Shelf\",\"status\":9}\n"),
+        (Fault::Absent, 9, "{\"fault\":\"Absent\",\"status\":9}\n"),
+        (
+            Fault::Place {
+                code: 12,
+                place: 23,
+            },
+            3,
+            "{\"code\":12,\"fault\":\"Syntax\",\"place\":23,\"status\":3}\n",
+        ),
+        (
+            Fault::Plain { code: 60 },
+            3,
+            "{\"code\":60,\"fault\":\"TextTooLong\",\"status\":3}\n",
+        ),
+        (
+            Fault::Statement {
+                code: 43,
+                statement: 3,
+            },
+            3,
+            "{\"code\":43,\"fault\":\"AngleStep\",\"statement\":3,\"status\":3}\n",
+        ),
+        (
+            Fault::Plain { code: 52 },
+            4,
+            "{\"code\":52,\"fault\":\"DeviceRange\",\"status\":4}\n",
+        ),
+        (
+            Fault::SelfEdge { qubit: 0 },
+            4,
+            "{\"code\":53,\"fault\":\"SelfEdge\",\"qubit\":0,\"status\":4}\n",
+        ),
+        (
+            Fault::NotConnected { from: 0, to: 2 },
+            4,
+            "{\"code\":54,\"fault\":\"NotConnected\",\"from\":0,\"status\":4,\"to\":2}\n",
+        ),
+        (
+            Fault::TooFewQubits {
+                device: 4,
+                qubits: 5,
+            },
+            4,
+            "{\"code\":56,\"device\":4,\"fault\":\"TooFewQubits\",\"qubits\":5,\"status\":4}\n",
+        ),
+    ] {
+        assert_eq!(rt; status(&fault), ends_with, "{want}");
+        assert_eq!(rt;
+            fault_line(rt.alloc(), &fault)?.as_slice(),
+            want.as_bytes(),
+            "{want}"
+        );
+    }
+    Ok(())
+}
