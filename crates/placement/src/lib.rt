@@ -1,0 +1,150 @@
+//! Where the wires of a circuit stand on a device.
+//!
+//! In comes a number of qubits, then exchanges of two of them; out comes the qubit of a wire and the
+//! wire of a qubit. A `Placement` is a permutation of 0 to N - 1, which contracts see as the list whose
+//! entry i is the device qubit of wire i. Its inverse is kept beside it, so that every call but the two
+//! makers (`identity`, `copy`) takes constant time and no memory. The contracts promise that the list
+//! stays a permutation, and that `logical` undoes `phys`. There is no bad input: the callers keep wires
+//! and qubits below the size. Want of memory leaves nothing behind.
+#![tactic(auto)]
+
+ghost use Rattle.std.specs.Prelude.{◌≡◌, ◌<◌, IfOk, length, map, slice_index};
+ghost use Rattle.unitary_model.specs.Placement.{identity, position_of, IsPlacement};
+ghost use Rattle.placement.specs.Exchange.{exchanged};
+
+use std::alloc::{AllocError, Global};
+use std::marker::Model;
+
+/// A permutation of the device qubits 0 to N - 1: each wire stands on one qubit.
+#[derive(Drop)]
+pub struct Placement {
+    /// The device qubit of each wire.
+    qubits: Vec<u32>,
+    /// The wire on each device qubit.
+    wires: Vec<u32>,
+}
+
+impl Model for Placement {
+    ghost use Rattle.std.specs.Prelude.{List, ℕ};
+    ghost use Rattle.placement.specs.Exchange.{AreInverse};
+
+    ghost Value = { List ℕ };
+
+    ghost view = { λ a. a.qubits.items };
+
+    ghost invariant = { λ a. AreInverse a.qubits.items a.wires.items };
+}
+
+/// The numbers below `n`, in order.
+#[tactic(auto, using(crate::proofs::PlacementLaws::identities))]
+fn ascending(alloc: Global, n: u32) -> Result<Vec<u32>, AllocError>
+    ensures { IfOk result (λ v. v.items ≡ identity n) }
+{
+    let mut numbers = Vec::new(alloc);
+    'numbers: for number in 0..n {
+        numbers.push(number)?;
+    }
+    Ok(numbers)
+}
+
+impl Placement {
+    /// The placement of `n` wires that puts each on the qubit of its own number.
+    #[tactic(auto, using(crate::proofs::PlacementLaws::identities))]
+    pub fn identity(alloc: Global, n: u32) -> Result<Placement, AllocError>
+        ensures identity { IfOk result (λ p. p ≡ identity n) }
+        ensures placement { IfOk result (λ p. IsPlacement n p) }
+    {
+        let qubits = ascending(alloc, n)?;
+        let wires = ascending(alloc, n)?;
+        Ok(Placement { qubits, wires })
+    }
+
+    /// The number of wires, which is the number of qubits.
+    #[tactic(auto, using(crate::proofs::PlacementLaws::laws))]
+    pub fn size(&self) -> u32
+        ensures size { result ≡ length self.now }
+        ensures placement { IsPlacement (length self.now) self.now }
+    {
+        self.qubits.len() as u32
+    }
+
+    /// The device qubit of each wire, in the order of the wires.
+    pub fn qubits(&self) -> &[u32]
+        ensures { result.now ≡ self.now }
+    {
+        self.qubits.as_slice()
+    }
+
+    /// The device qubit on which a wire stands.
+    pub fn phys(&self, wire: u32) -> u32
+        requires { wire < length self.now }
+        ensures place { result ≡ slice_index self.now wire }
+        ensures below { result < length self.now }
+    {
+        self.qubits[wire as usize]
+    }
+
+    /// The wire that stands on a device qubit.
+    #[tactic(auto, using(crate::proofs::PlacementLaws::laws))]
+    pub fn logical(&self, qubit: u32) -> u32
+        requires { qubit < length self.now }
+        ensures position { result ≡ position_of qubit self.now }
+        ensures below { result < length self.now }
+        ensures inverse { slice_index self.now result ≡ qubit }
+    {
+        self.wires[qubit as usize]
+    }
+
+    /// Exchanges what stands on the device qubits `a` and `b`, which may be one.
+    #[tactic(auto, using(crate::proofs::PlacementLaws::laws))]
+    pub fn swap(&mut self, a: u32, b: u32)
+        requires first { a < length self.old }
+        requires second { b < length self.old }
+        ensures exchanged { self.new ≡ map (exchanged a b) self.old }
+        ensures placement { IsPlacement (length self.old) self.new }
+    {
+        let on_a = self.wires[a as usize];
+        let on_b = self.wires[b as usize];
+        self.qubits[on_a as usize] = b;
+        self.qubits[on_b as usize] = a;
+        self.wires[a as usize] = on_b;
+        self.wires[b as usize] = on_a;
+    }
+
+    /// A second placement of the same wires.
+    pub fn copy(&self) -> Result<Placement, AllocError>
+        ensures { IfOk result (λ p. p ≡ self.now) }
+    {
+        let qubits = self.qubits.clone()?;
+        let wires = self.wires.clone()?;
+        Ok(Placement { qubits, wires })
+    }
+}
+
+#[cfg(test)]
+mod tests {
+    use super::*;
+    use std::test::Fail;
+
+    #[test]
+    fn exchanges_and_copies(rt: HostRuntime) -> Result<(), Fail> {
+        let mut placement = Placement::identity(rt.alloc(), 3)?;
+        assert_eq!(rt; placement.qubits(), [0, 1, 2].as_slice());
+        assert_eq!(rt; placement.size(), 3);
+        for (a, b, qubits, wires) in [
+            (0, 2, [2, 1, 0], [2, 1, 0]),
+            (2, 1, [1, 2, 0], [2, 0, 1]),
+            (1, 1, [1, 2, 0], [2, 0, 1]),
+        ] {
+            assert!(rt; placement.size() == 3);
+            placement.swap(a, b);
+            assert_eq!(rt; placement.qubits(), qubits.as_slice());
+            assert_eq!(rt; placement.copy()?.qubits(), qubits.as_slice());
+            for qubit in 0..3 {
+                assert_eq!(rt; placement.logical(qubit), wires[qubit as usize]);
+                assert_eq!(rt; placement.phys(wires[qubit as usize]), qubit);
+            }
+        }
+        Ok(())
+    }
+}
