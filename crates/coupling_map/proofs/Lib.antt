@@ -1,0 +1,9 @@
+pub mod Lists
+pub mod Tables
+pub mod WalkLaws
+pub mod TextLaws
+pub mod TableLaws
+pub mod NeighbourLaws
+pub mod SearchLaws
+pub mod RowLaws
+pub mod CouplingLaws

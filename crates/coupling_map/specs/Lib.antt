@@ -1,0 +1,7 @@
+pub mod Lists
+pub mod Text
+pub mod Walks
+pub mod Coupling
+pub mod Refusals
+pub mod Search
+pub mod Tables

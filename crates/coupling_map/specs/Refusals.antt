@@ -1,0 +1,56 @@
+-- Why a text is refused, one equation for each refusal. Want of memory may come at any time.
+--   IsRefusal text fault   the text is refused by this fault
+--   IsCause text error     the same of an error, which may also be want of memory
+--   the others             the same of one stage of the reading
+use Rattle.std.specs.Prelude.{◌≡◌, ℕ, List, Option, None, ⊤}
+use Rattle.coupling_map.specs.declared.faults.DeviceFault.{DeviceFault}
+use Rattle.coupling_map.specs.declared.faults.DeviceFault.TheVariants as fault
+use Rattle.coupling_map.specs.declared.faults.DeviceError.{DeviceError}
+use Rattle.coupling_map.specs.declared.faults.DeviceError.TheVariants as error
+use Rattle.coupling_map.specs.Text.{HasNoTable, Outcome, Says, shape, range, self_edge, graph}
+use Rattle.coupling_map.specs.Walks.{IsLeastApart}
+
+abbrev pub IsRefusal : List ℕ → DeviceFault → Type 0
+IsRefusal text fault.Text = HasNoTable text
+IsRefusal text fault.Shape = Says text shape
+IsRefusal text fault.Range = Says text range
+IsRefusal text (fault.SelfEdge qubit) = Says text (self_edge qubit)
+IsRefusal text (fault.NotConnected from to) =
+    (n : ℕ) × (es : List (ℕ × ℕ)) × Says text (graph n es) × (from ≡ 0) × IsLeastApart n es to
+
+abbrev pub IsCause : List ℕ → DeviceError → Type 0
+IsCause text error.NoMemory = ⊤
+IsCause text (error.Refused f) = IsRefusal text f
+
+-- the text has no table
+abbrev pub IsTextCause : List ℕ → DeviceError → Type 0
+IsTextCause text error.NoMemory = ⊤
+IsTextCause text (error.Refused fault.Text) = HasNoTable text
+IsTextCause text (error.Refused other) = ⊥
+
+-- a value has not its shape
+abbrev pub IsShapeCause : {A : Type 0} → Option A → DeviceError → Type 0
+IsShapeCause o error.NoMemory = ⊤
+IsShapeCause o (error.Refused fault.Shape) = o ≡ None
+IsShapeCause o (error.Refused other) = ⊥
+
+-- a number is out of its range
+abbrev pub IsRangeCause : {A : Type 0} → Option A → DeviceError → Type 0
+IsRangeCause o error.NoMemory = ⊤
+IsRangeCause o (error.Refused fault.Range) = o ≡ None
+IsRangeCause o (error.Refused other) = ⊥
+
+-- the table says no graph
+abbrev pub IsTableCause : Outcome → DeviceError → Type 0
+IsTableCause o error.NoMemory = ⊤
+IsTableCause o (error.Refused fault.Text) = ⊥
+IsTableCause o (error.Refused fault.Shape) = o ≡ shape
+IsTableCause o (error.Refused fault.Range) = o ≡ range
+IsTableCause o (error.Refused (fault.SelfEdge qubit)) = o ≡ self_edge qubit
+IsTableCause o (error.Refused (fault.NotConnected from to)) = ⊥
+
+-- the graph is not connected
+abbrev pub IsGraphCause : ℕ → List (ℕ × ℕ) → DeviceError → Type 0
+IsGraphCause n es error.NoMemory = ⊤
+IsGraphCause n es (error.Refused (fault.NotConnected from to)) = (from ≡ 0) × IsLeastApart n es to
+IsGraphCause n es (error.Refused other) = ⊥
