@@ -1,0 +1,9 @@
+pub mod NextLaws
+pub mod ReadingLaws
+pub mod SpellingLaws
+pub mod WritingLaws
+pub mod WrittenLaws
+pub mod AcceptedLaws
+pub mod ExpansionLaws
+pub mod PlanLaws
+pub mod RunLaws

@@ -1,0 +1,6 @@
+pub mod Next
+pub mod Reading
+pub mod Commands
+pub mod Accepted
+pub mod Causes
+pub mod Delivered

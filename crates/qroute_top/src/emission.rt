@@ -1,0 +1,90 @@
+//! What goes out: the text and the report line, or the line of a fault.
+
+ghost use Rattle.std.specs.Prelude.{◌≡◌, ◌⊎◌, ℕ, Some, true};
+ghost use Rattle.outside_io.specs.Bytes.{Gains, GainsPrefix, GainsUnlessFault};
+ghost use Rattle.outside_io.specs.Causes.{Rose};
+ghost use Rattle.route_report.specs.Faults.{fault_line, status_of};
+ghost use Rattle.route_report.specs.declared.faults.Fault.{Fault as Told};
+ghost use Rattle.qroute_top.specs.Causes.{fault_of, refusal_fault, stop_status};
+
+use crate::plan::Plan;
+use crate::stops::{Refusal, Stop};
+use outside_io::{Sink, send};
+use route_report::{Fault, fault_line, status};
+use std::alloc::{AllocError, Global};
+
+/// The text and the report line are written.
+const DONE: u8 = 0;
+
+/// The output failed.
+const OUTPUT_FAILED: u8 = 6;
+
+/// Memory was wanting before the first byte went out.
+const NO_MEMORY: u8 = 7;
+
+/// The report failed after the text was written.
+const REPORT_FAILED: u8 = 8;
+
+/// The fault that a refusal is told as.
+fn fault_of_refusal(refusal: Refusal) -> Fault
+    ensures { result ≡ refusal_fault refusal }
+{
+    match refusal {
+        Refusal::TooLong => Fault::Plain { code: 60 },
+        Refusal::Syntax { place } => Fault::Place { code: 12, place },
+    }
+}
+
+/// The fault that a stop is told as; want of memory isn't told.
+fn fault_of(stop: Stop) -> Option<Fault>
+    ensures { result ≡ fault_of stop }
+{
+    match stop {
+        Stop::NoMemory => None,
+        Stop::Words => Some(Fault::Words),
+        Stop::Input => Some(Fault::Input),
+        Stop::Program(refusal) => Some(fault_of_refusal(refusal)),
+    }
+}
+
+/// Tells the fault of a stop in the report, and gives its status; 7 where memory is wanting.
+#[tactic(auto, using(crate::proofs::RunLaws::told))]
+pub fn tell<R: Sink>(alloc: Global, stop: Stop, report: &mut R) -> u8
+    ensures status { (result ≡ 7) ⊎ (result ≡ stop_status stop) }
+    ensures told { (result ≡ 7) × (report.new ≡ report.old) ⊎ ((f : Told) × (fault_of stop ≡ Some f) × (result ≡ status_of f)
+        × GainsUnlessFault (R.held report.old) (R.held report.new) (R.faults report.old) (R.faults report.new) (fault_line f)) }
+{
+    let Some(fault) = fault_of(stop) else {
+        return NO_MEMORY;
+    };
+    match fault_line(alloc, &fault) {
+        Err(AllocError) => NO_MEMORY,
+        Ok(line) => {
+            let _ = send(report, &line);
+            status(&fault)
+        }
+    }
+}
+
+/// Writes the text, and then the line of the report.
+pub fn emit<O: Sink, R: Sink>(plan: &Plan, out: &mut O, report: &mut R) -> u8
+    ensures ends { (result ≡ 0) ⊎ ((result ≡ 6) ⊎ (result ≡ 8)) }
+    ensures done { result ≡ 0 → Gains (O.held out.old) (O.held out.new) plan.now.text.items
+        × Gains (R.held report.old) (R.held report.new) plan.now.line.items }
+    ensures flushed { result ≡ 0 → (O.flushed out.new ≡ true) × (R.flushed report.new ≡ true) }
+    ensures calm { result ≡ 0 → (O.faults out.new ≡ O.faults out.old) × (R.faults report.new ≡ R.faults report.old) }
+    ensures output { result ≡ 6 → GainsPrefix (O.held out.old) (O.held out.new) plan.now.text.items × Rose (O.faults out.old) (O.faults out.new)
+        × GainsUnlessFault (R.held report.old) (R.held report.new) (R.faults report.old) (R.faults report.new) plan.now.output_fault.items }
+    ensures report { result ≡ 8 → Gains (O.held out.old) (O.held out.new) plan.now.text.items × (O.flushed out.new ≡ true)
+        × (O.faults out.new ≡ O.faults out.old)
+        × GainsPrefix (R.held report.old) (R.held report.new) plan.now.line.items × Rose (R.faults report.old) (R.faults report.new) }
+{
+    if send(out, &plan.text).is_err() {
+        let _ = send(report, &plan.output_fault);
+        return OUTPUT_FAILED;
+    }
+    if send(report, &plan.line).is_err() {
+        return REPORT_FAILED;
+    }
+    DONE
+}
