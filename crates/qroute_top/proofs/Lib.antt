@@ -1,3 +1,4 @@
+pub mod Rows
 pub mod NextLaws
 pub mod ReadingLaws
 pub mod SpellingLaws

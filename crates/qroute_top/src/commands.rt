@@ -1,8 +1,33 @@
-//! The words of the command line.
+//! What the words of a command line ask for.
+
+use std::alloc::AllocError;
+use thiserror::Error;
 
 /// What the words ask for.
 #[derive(Clone, Copy, Debug, PartialEq, Eq)]
 pub enum Command {
     /// Reads a program and writes an equivalent one.
     Opt,
+}
+
+/// Why words give no command.
+#[derive(Clone, Copy, Debug, PartialEq, Eq, Error)]
+pub enum WordsFault {
+    /// They mean none.
+    #[error("the words mean no command")]
+    BadWords,
+    /// Memory ran out.
+    #[error("out of memory")]
+    NoMemory,
+}
+
+impl From<AllocError> for WordsFault {
+    ghost use Rattle.std.specs.Prelude.{◌≡◌};
+    ghost use Rattle.qroute_top.specs.declared.commands.WordsFault.TheVariants.{NoMemory};
+
+    ghost from_gives = { λ _ e. e ≡ NoMemory };
+
+    fn from(_error: AllocError) -> WordsFault {
+        WordsFault::NoMemory
+    }
 }

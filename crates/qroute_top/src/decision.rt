@@ -4,11 +4,11 @@ ghost use Rattle.std.specs.Prelude.{◌≡◌, Some, Err, map, IfOk, IfErr};
 ghost use Rattle.qroute_top.specs.Causes.{IsCause, output_fault_line};
 ghost use Rattle.qroute_top.specs.Delivered.{Delivers};
 
-use crate::commands::Command;
+use crate::commands::{Command, WordsFault};
 use crate::plan::{Plan, make_plan};
 use crate::source::read_source;
 use crate::stops::Stop;
-use crate::words::read_words;
+use crate::words::command;
 use outside_io::Source;
 use std::alloc::Global;
 
@@ -26,8 +26,10 @@ pub fn decide<I: Source>(alloc: Global, words: &[&str], input: &mut I) -> Result
     ensures calm { (result ≡ Err Stop.Input → ⊥) → I.faults input.new ≡ I.faults input.old }
     ensures words_only { result ≡ Err Stop.Words → input.new ≡ input.old }
 {
-    let Some(command) = read_words(words) else {
-        return Err(Stop::Words);
+    let command = match command(alloc, words) {
+        Ok(command) => command,
+        Err(WordsFault::BadWords) => return Err(Stop::Words),
+        Err(WordsFault::NoMemory) => return Err(Stop::NoMemory),
     };
     let Command::Opt = command;
     let program = read_source(alloc, input)?;

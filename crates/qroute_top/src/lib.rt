@@ -39,7 +39,7 @@ mod reader;
 mod source;
 mod stops;
 mod token;
-mod words;
+pub mod words;
 mod writer;
 
 /// Runs the command of the words: reads the input, writes the program to `out` and the report line to `report`, and answers

@@ -28,7 +28,7 @@ fn report(t: &str) -> &str {
 fn runs_and_says_how_it_ended(rt: HostRuntime) -> Result<(), Fail> {
     let alloc = rt.alloc();
     // words, text; the calls of the input, of the output (16 bytes a call) and of the report that fail; status, output, report
-    let rows: [(&[&str], &str, u64, u64, u64, u8, &str, &str); 14] = [
+    let rows: [(&[&str], &str, u64, u64, u64, u8, &str, &str); 18] = [
         (
             &["qroute", "opt"],
             FIRST,
@@ -68,6 +68,19 @@ fn runs_and_says_how_it_ended(rt: HostRuntime) -> Result<(), Fail> {
         (&["qroute"], TWO_T, 0, 0, 0, 2, "", WORDS),
         (&[], TWO_T, 0, 0, 0, 2, "", WORDS),
         (&["qroute", "Opt"], TWO_T, 0, 0, 1, 2, "", ""),
+        (
+            &["qroute", "opt", "--"],
+            TWO_T,
+            0,
+            0,
+            0,
+            0,
+            TWO_T_WRITTEN,
+            report("2"),
+        ),
+        (&["qroute", "--help"], TWO_T, 1, 1, 0, 2, "", WORDS),
+        (&["qroute", "op"], TWO_T, 1, 1, 0, 2, "", WORDS),
+        (&["qroute", "help"], TWO_T, 1, 1, 0, 2, "", WORDS),
         (
             &["qroute", "opt"],
             "OPENQASM 2.0;\nqreg q[1]",
