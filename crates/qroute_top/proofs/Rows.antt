@@ -73,3 +73,7 @@ of_short_help_flag name = refl
 pub of_version_flag : (name : List ℕ) → command_of (name ∷ codes "--version" ∷ []) ≡ None
 unfolding clap_on_literals
 of_version_flag name = refl
+
+pub of_opt_dashes_twice : (name : List ℕ) → command_of (name ∷ codes "opt" ∷ codes "--" ∷ codes "--" ∷ []) ≡ None
+unfolding clap_on_literals
+of_opt_dashes_twice name = refl

@@ -6,9 +6,9 @@
 //! the reported placements; no count of T gates or CNOTs rises; and each status comes exactly where its cause is. A text that
 //! isn't of the form, or too long, is refused with its place, and nothing is written then.
 //!
-//! The small form of OpenQASM 2.0 is read by private parts: `lexeme` and `token` (the longest lexeme at each place),
-//! `reader` (token by token), `source` (the input within its limits). `expansion` makes gates of operations, `writer` the
-//! text, `plan` all that is to be written, before `emission` writes the first byte.
+//! `words` gives the command of the words. The small form of OpenQASM 2.0 is read by private parts: `lexeme` and `token` (the
+//! longest lexeme at each place), `reader` (token by token), `source` (the input within its limits). `expansion` makes gates
+//! of operations, `writer` the text, `plan` all that is to be written, before `emission` writes the first byte.
 #![tactic(auto)]
 
 ghost use Rattle.std.specs.Prelude.{◌≡◌, ◌⊎◌, ℕ, List, Some, None, map, true};
