@@ -6,6 +6,7 @@
 --     same_bits-refl, same_bits-eq, same_bits-append, same_moved      the test of equal bits
 --     moved_back              the bits before they were moved;  moved-moved_back
 --     identity_placement, moved-identity      the identity
+--     composed_placement, moved-composed      one placement after another
 use Rattle.std.proofs.Common.{◌≡◌, ℕ, zero, suc, ◌+◌, ◌<◌, ◌≤◌, Bool, true, false, cond, List, [], ◌∷◌, ◌++◌, map, length, append-nil, refl, sym, subst, ◌∙◌, ap, arith, zero-add, inl, inr, ◌⊎◌}
 use Rattle.std.proofs.Math.Path.{fun_ext}
 use Rattle.std.specs.List.{range_with_len}
@@ -14,8 +15,9 @@ use Rattle.std.proofs.lemmas.Bool.{cases_lt}
 use Rattle.std.proofs.lemmas.Bool.Decides.{nat_tests}
 use Rattle.unitary_model.specs.Acts.{Bits}
 use Rattle.unitary_model.specs.Amplitude.{bit_of, same_bits}
-use Rattle.unitary_model.specs.Placement.{position_of, IsPlacement, identity, moved}
+use Rattle.unitary_model.specs.Placement.{position_of, IsPlacement, composed, identity, moved}
 use Rattle.std.proofs.lemmas.List.FromFn.{length-range_with_len, get_or-range_with_len, length-map-range_with_len}
+use Rattle.std.proofs.lemmas.List.{get_or-map, length-map}
 use Rattle.unitary_model.proofs.AmplitudeLaws.{front, front_bit, front_of}
 use Rattle.unitary_model.specs.Realised.{Placing, PlacedBy, carried}
 
@@ -227,3 +229,52 @@ identity_placement n = record {
 
 pub moved-identity : (n : ℕ) (x : List Bool) → length x ≡ n → moved n (identity n) x ≡ x
 moved-identity n x e = sym (front-identity n (λ j. bit_of x (position_of j (identity n)))) ∙ front-same n (λ j. bit_of x (position_of j (identity n))) (bit_of x) (λ i h. ap (bit_of x) (position_of-identity n i h)) ∙ front-bit_of n x e
+
+-- ---- one placement after another
+position_of-map : (f : ℕ → ℕ) (i : ℕ) (p : List ℕ) → ((k : ℕ) → k < length p → f (slice_index p k) ≡ f i → slice_index p k ≡ i) → position_of (f i) (map f p) ≡ position_of i p
+position_of-map f i [] h = refl
+position_of-map f i (j ∷ p) h = ap (λ b. cond b 0 (suc (position_of (f i) (map f p)))) same ∙ ap (λ m. cond (nat_eq j i) 0 (suc m)) (position_of-map f i p (λ k lt. h (suc k) (omega (arith, lt))))
+  where
+    equal : (a b : ℕ) → a ≡ b → nat_eq a b ≡ true
+    equal a b e = grind (arith, nat_tests)
+
+    equals : (a b : ℕ) → nat_eq a b ≡ true → a ≡ b
+    equals a b e = grind (arith, nat_tests)
+
+    same : nat_eq (f j) (f i) ≡ nat_eq j i
+    same = by_iff (nat_eq (f j) (f i)) (nat_eq j i) (λ e. equal j i (h 0 (omega arith) (equals (f j) (f i) e))) (λ e. equal (f j) (f i) (ap f (equals j i e)))
+
+position_of-composed : (size : ℕ) (p q : List ℕ) → IsPlacement size p → IsPlacement size q → (j : ℕ) → j < size → position_of j (composed p q) ≡ position_of (position_of j q) p
+position_of-composed size p q hp hq j lt =
+    ap (λ m. position_of m (composed p q)) (sym (hq.there j lt))
+    ∙ position_of-map (slice_index q) (position_of j q) p (λ k lk e.
+    sym (hq.once (slice_index p k) (hp.within k (omega (arith, lk, hp.long)))) ∙ ap (λ m. position_of m q) e ∙ hq.once (position_of j q) (hq.each j lt))
+
+pub composed_placement : (size : ℕ) (p q : List ℕ) → IsPlacement size p → IsPlacement size q → IsPlacement size (composed p q)
+composed_placement size p q hp hq = record {
+  long = length-map p (slice_index q) ∙ hp.long;
+  within = λ i lt. subst (λ m. m < size) (sym (entry i lt)) (hq.within (slice_index p i) (hp.within i lt));
+  once = λ i lt. ap (λ m. position_of m (composed p q)) (entry i lt)
+      ∙ position_of-composed size p q hp hq (slice_index q (slice_index p i)) (hq.within (slice_index p i) (hp.within i lt))
+      ∙ ap (λ m. position_of m p) (hq.once (slice_index p i) (hp.within i lt)) ∙ hp.once i lt;
+  each = λ j lt. subst (λ m. m < size) (sym (position_of-composed size p q hp hq j lt)) (hp.each (position_of j q) (hq.each j lt));
+  there = λ j lt. ap (slice_index (composed p q)) (position_of-composed size p q hp hq j lt)
+      ∙ entry (position_of (position_of j q) p) (hp.each (position_of j q) (hq.each j lt))
+      ∙ ap (slice_index q) (hp.there (position_of j q) (hq.each j lt)) ∙ hq.there j lt;
+}
+  where
+    entry : (i : ℕ) → i < size → slice_index (composed p q) i ≡ slice_index q (slice_index p i)
+    entry i lt = get_or-map (slice_index q) p i 0 0 (omega (arith, lt, hp.long))
+
+bit_of-moved : (size : ℕ) (p : List ℕ) (x : List Bool) (j : ℕ) → j < size → bit_of (moved size p x) j ≡ bit_of x (position_of j p)
+bit_of-moved size p x j lt =
+    let f : Bits = λ k. bit_of x (position_of k p) in
+    ap (λ y. bit_of y j) (sym (front-identity size f)) ∙ bit_of-front size f j lt
+
+pub moved-composed : (size : ℕ) (p q : List ℕ) → IsPlacement size p → IsPlacement size q → (x : List Bool) → moved size (composed p q) x ≡ moved size q (moved size p x)
+moved-composed size p q hp hq x =
+    let f : Bits = λ j. bit_of x (position_of j (composed p q)) in
+    let g : Bits = λ j. bit_of (moved size p x) (position_of j q) in
+    sym (front-identity size f)
+    ∙ front-same size f g (λ j lt. ap (bit_of x) (position_of-composed size p q hp hq j lt) ∙ sym (bit_of-moved size p x (position_of j q) (hq.each j lt)))
+    ∙ front-identity size g

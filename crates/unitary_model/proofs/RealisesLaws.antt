@@ -7,6 +7,7 @@
 --     Realises_itself         a list realises itself
 --     Realises_same           a list with the same amplitudes up to w^k realises the other
 --     Realises_chain          what realises a realisation realises the first list
+--     Realises_composed       the same where wires have moved: the placements compose
 --     Realises_joined         joined lists
 use Rattle.std.proofs.Common.{◌≡◌, ℕ, zero, suc, ◌+◌, ◌%◌, ◌<◌, ◌≤◌, Bool, true, false, cond, List, [], ◌∷◌, ◌++◌, length, take, drop, refl, sym, ◌∙◌, ap, arith}
 use Rattle.std.proofs.Math.Path.{fun_ext}
@@ -22,7 +23,7 @@ use Rattle.unitary_model.specs.Acts.{applied}
 use Rattle.unitary_model.specs.Amplitude.{bit_of, with_bit, same_bits, amplitude}
 use Rattle.unitary_model.specs.Sums.{sum_over, all_bits}
 use Rattle.unitary_model.specs.SameUpTo.{SameUpTo}
-use Rattle.unitary_model.specs.Placement.{IsPlacement, identity, moved}
+use Rattle.unitary_model.specs.Placement.{IsPlacement, composed, identity, moved}
 use Rattle.unitary_model.specs.Realises.{Realises}
 use Rattle.unitary_model.specs.Realised.{Placing, PlacedBy, Realised}
 use Rattle.unitary_model.proofs.RingLaws.{turn-turn, turn-plus, turn-nought, turn-mul, double-plus, double-turn, double-double, double-swap, double-nought, double-mul, double_cancel}
@@ -31,7 +32,7 @@ use Rattle.unitary_model.proofs.TurnsLaws.{weight-append}
 use Rattle.unitary_model.proofs.AmplitudeForm.{listed, amplitude_form, amplitude-act}
 use Rattle.unitary_model.proofs.AmplitudeLaws.{front, listed-applied, listed-whole, turn_mod}
 use Rattle.unitary_model.proofs.JoinedAmplitude.{listed-same, listed-sums, sum_over-append, sum_over-map}
-use Rattle.unitary_model.proofs.PlacementLaws.{carried-unique, bit_of-front, placing, carried-list, bits-carried, same_bits-refl, same_bits-eq, same_bits-append, same_moved, moved_back, length-moved, length-moved_back, moved-moved_back, identity_placement, moved-identity}
+use Rattle.unitary_model.proofs.PlacementLaws.{carried-unique, bit_of-front, placing, carried-list, bits-carried, same_bits-refl, same_bits-eq, same_bits-append, same_moved, moved_back, length-moved, length-moved_back, moved-moved_back, identity_placement, moved-identity, composed_placement, moved-composed}
 
 -- ---- both cases at once
 abbrev pub BothCases : List Op → ℕ → List Op → ℕ → List ℕ → List ℕ → ℕ → Type 0
@@ -236,6 +237,28 @@ Realises_chain S Q R n size p q i j a b = from_cases S R n size p q ((i + j) % 8
     inner : (c : Bool) (u v : List Bool) → length u ≡ n → length v ≡ n → double (weight S) (cond c (amplitude Q u v) nought) ≡ turn i (double (weight Q) (cond c (amplitude S u v) nought))
     inner true u v eu ev = (same_Realises S Q n i a).law u v eu ev
     inner false u v eu ev = double-nought (weight S) ∙ sym (none i (weight Q))
+
+pub Realises_composed : (S Q R : List Op) (n size : ℕ) (p q r s : List ℕ) (i j : ℕ) → Realises S n Q size p q i → Realises Q size R size r s j →
+    Realises S n R size (composed p r) (composed q s) ((i + j) % 8)
+Realises_composed S Q R n size p q r s i j a b =
+    from_cases S R n size (composed p r) (composed q s) ((i + j) % 8) a.fits (omega arith) (composed_placement size p r a.starts b.starts) (composed_placement size q s a.ends b.ends) (λ x y ex ey.
+    let u = moved size p x in
+    let v = moved size q y in
+    let t = cond (same_bits (drop n x) (drop n y)) (amplitude S (take n x) (take n y)) nought in
+    (λ z. double (weight S) (amplitude R (moved-composed size p r a.starts b.starts x z) (moved-composed size q s a.ends b.ends y z)))
+    ∙ double_cancel (weight Q) _ _ (
+    double-swap (weight Q) (weight S) (amplitude R (moved size r u) (moved size s v))
+    ∙ ap (double (weight S)) (second u v (length-moved size p x) (length-moved size q y))
+    ∙ double-turn (weight S) j (double (weight R) (amplitude Q u v))
+    ∙ ap (turn j) (double-swap (weight S) (weight R) (amplitude Q u v) ∙ ap (double (weight R)) (to_cases S Q n size p q i a x y ex ey))
+    ∙ turned_twice i j (weight Q) (weight R) t a.below b.below
+    ∙ sym (double-turn (weight Q) ((i + j) % 8) (double (weight R) t))))
+  where
+    none_left : (x : List Bool) → length x ≡ size → drop size x ≡ []
+    none_left x e = drop_of_length-le x (omega (arith, e))
+
+    second : (u v : List Bool) → length u ≡ size → length v ≡ size → double (weight Q) (amplitude R (moved size r u) (moved size s v)) ≡ turn j (double (weight R) (amplitude Q u v))
+    second u v eu ev = b.agree u v eu ev (none_left u eu ∙ sym (none_left v ev)) ∙ (λ z. turn j (double (weight R) (amplitude Q (whole size u eu z) (whole size v ev z))))
 
 pub Realises_joined : (A B R T : List Op) (n size : ℕ) (p q r : List ℕ) (i j : ℕ) → Realises A n R size p q i → Realises B n T size q r j → Realises (A ++ B) n (R ++ T) size p r ((i + j) % 8)
 Realises_joined A B R T n size p q r i j a b = from_lists (A ++ B) (R ++ T) n size p r ((i + j) % 8) a.fits (omega arith) a.starts b.ends (record {

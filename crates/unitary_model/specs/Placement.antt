@@ -3,6 +3,7 @@
 --     IsPlacement size p  p is a permutation of 0 to size-1
 --     identity n          the list 0, 1, .. n-1
 --     moved size p x      the bits x, bit i at place p(i)
+--     composed p q        each wire from its place by p on by q
 use Rattle.std.specs.Prelude.{◌≡◌, ℕ, suc, ◌<◌, Bool, cond, List, [], ◌∷◌, length, map, nat_eq, slice_index}
 use Rattle.std.specs.List.{range_with_len}
 use Rattle.unitary_model.specs.Amplitude.{bit_of}
@@ -26,3 +27,7 @@ identity n = range_with_len 0 n
 -- at place j stands the bit of the wire that is there
 abbrev pub moved : ℕ → List ℕ → List Bool → List Bool
 moved size p x = map (λ j. bit_of x (position_of j p)) (identity size)
+
+-- the place of wire i is q(p(i))
+abbrev pub composed : List ℕ → List ℕ → List ℕ
+composed p q = map (slice_index q) p

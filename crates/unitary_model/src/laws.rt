@@ -10,7 +10,7 @@ ghost use Rattle.unitary_model.specs.Sums.{sum_over, all_bits};
 ghost use Rattle.unitary_model.specs.OddPaths.{odd_paths};
 ghost use Rattle.unitary_model.specs.Acts.{Turns};
 ghost use Rattle.unitary_model.specs.SameUpTo.{SameUpTo};
-ghost use Rattle.unitary_model.specs.Placement.{IsPlacement, identity};
+ghost use Rattle.unitary_model.specs.Placement.{IsPlacement, composed, identity};
 ghost use Rattle.unitary_model.specs.Realises.{Realises};
 ghost use Rattle.unitary_model.specs.Realised.{Placing, PlacedBy, Realised};
 
@@ -44,6 +44,13 @@ pub fn realises_chain()
     ensures chain { (us vs ws : List Op) (n size : ℕ) (first last : List ℕ) (i j : ℕ) →
         Realises us n vs n (identity n) (identity n) i → Realises vs n ws size first last j →
         Realises us n ws size first last ((i + j) % 8) }
+{}
+
+/// The same where the wires have moved: the placements compose, and the powers add up.
+pub fn realises_composed()
+    ensures composed { (us vs ws : List Op) (n size : ℕ) (first last further_first further_last : List ℕ) (i j : ℕ) →
+        Realises us n vs size first last i → Realises vs size ws size further_first further_last j →
+        Realises us n ws size (composed first further_first) (composed last further_last) ((i + j) % 8) }
 {}
 
 /// Two lists one after the other are realised one after the other, where the second begins at the
