@@ -1,0 +1,4 @@
+pub mod FactorLaws
+pub mod LowestLaws
+pub mod PowerLaws
+pub mod TurnLaws
