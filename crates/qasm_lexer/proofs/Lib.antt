@@ -1,0 +1,5 @@
+pub mod ValueLaws
+pub mod DigitLaws
+pub mod TailLaws
+pub mod ScaledLaws
+pub mod TokenLaws

@@ -1,0 +1,56 @@
+//! The tokens of a program text in OpenQASM 2.0.
+//!
+//! In goes a text, out come the kinds and places of its tokens, by the longest lexeme at each place; white space and
+//! comments are left out. The contract says that this is the list of the definition, or that the text is refused at its
+//! first fault, which is told: a byte at which nothing begins, or a number that as a fraction in lowest terms has a part
+//! above 2^62. A number's value is exact however long it is written. Time is linear in the text.
+#![tactic(auto)]
+
+use thiserror::Error;
+
+mod lexeme;
+mod number;
+mod reading;
+mod step;
+
+pub use reading::{lex, value};
+
+/// What a token is.
+#[derive(Clone, Copy, Debug, PartialEq, Eq)]
+pub enum Kind {
+    /// A name, a reserved word, or one of `OPENQASM`, `U` and `CX`.
+    Word,
+    /// A whole number.
+    Whole,
+    /// A number with a point.
+    Real,
+    /// A text between quotes, the quotes included.
+    Text,
+    /// A mark of one or two bytes.
+    Sign,
+}
+
+/// A token of a text: its bytes stand at the places from `from` on and below `to`.
+#[derive(Clone, Copy, Debug, PartialEq, Eq)]
+pub struct Token {
+    /// What it is.
+    pub kind: Kind,
+    /// The place of its first byte.
+    pub from: u32,
+    /// The place behind its last byte.
+    pub to: u32,
+}
+
+/// Why a text has no list of tokens. A place is an offset in bytes.
+#[derive(Clone, Copy, Debug, PartialEq, Eq, Error)]
+pub enum LexFault {
+    /// At this place, the first such, no token, white space or comment begins.
+    #[error("no token begins at byte {place}")]
+    BadByte { place: u32 },
+    /// The number at this place has a part above 2^62 as a fraction in lowest terms, and nothing before it is at fault.
+    #[error("the number at byte {place} is out of range")]
+    Number { place: u32 },
+    /// There is no memory for the tokens.
+    #[error("out of memory")]
+    NoMemory,
+}

@@ -1,0 +1,54 @@
+//! The tokens of a whole text, and the values of its numbers.
+
+ghost use Rattle.std.specs.Prelude.{◌≡◌, ℕ, ◌<◌, ◌^◌, length, IfOk, IfErr, OnErr, Ok};
+ghost use Rattle.angle_fraction.specs.Fraction.{lowest};
+ghost use Rattle.qasm_lexer.specs.Numbers.{decimal};
+ghost use Rattle.qasm_lexer.specs.Tokens.{IsFaultOf, IsNumberToken, bytes_of, kept, lexed};
+
+use std::alloc::Global;
+
+use angle_fraction::Frac;
+
+use crate::number::number;
+use crate::step::lexeme_at;
+use crate::{LexFault, Token};
+
+/// Puts a token, where there is one, behind the others.
+fn keep(tokens: &mut Vec<Token>, token: Option<Token>) -> Result<(), LexFault>
+    ensures ok { IfOk result (λ _. tokens.new.items ≡ kept tokens.old.items token) }
+    ensures err { IfErr result (λ e. e ≡ LexFault.NoMemory) }
+{
+    let Some(token) = token else {
+        return Ok(());
+    };
+    match tokens.push(token) {
+        Ok(()) => Ok(()),
+        Err(_) => Err(LexFault::NoMemory),
+    }
+}
+
+/// The tokens of a text shorter than 2^32 bytes, in order. BadByte and Number tell the first place at fault.
+pub fn lex(alloc: Global, text: &[u8]) -> Result<Vec<Token>, LexFault>
+    requires { length text.now < 2 ^ 32 }
+    ensures tokens { IfOk result (λ v. lexed text.now ≡ Ok v.items) }
+    ensures fault { IfErr result (IsFaultOf text.now) }
+{
+    let mut tokens = Vec::new(alloc);
+    let mut place = 0usize;
+    'lexemes: while place < text.len() {
+        let lexeme = lexeme_at(text, place)?;
+        keep(&mut tokens, lexeme.token)?;
+        place = lexeme.to;
+    }
+    Ok(tokens)
+}
+
+/// The exact value of a number token of a text whose tokens were read.
+pub fn value(text: &[u8], token: &Token) -> Frac
+    requires short { length text.now < 2 ^ 32 }
+    requires number { IsNumberToken text.now token.now }
+    ensures { result ≡ lowest (decimal (bytes_of text.now token.now)) }
+{
+    let bytes = &text[token.from as usize..token.to as usize];
+    number(bytes).unwrap()
+}

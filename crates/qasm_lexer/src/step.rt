@@ -1,0 +1,58 @@
+//! One lexeme of a text after the other.
+
+ghost use Rattle.std.specs.Prelude.{◌≡◌, ℕ, ◌+◌, ◌<◌, ◌≤◌, ◌^◌, length, drop, take};
+ghost use Rattle.qasm_lexer.specs.Steps.{IsLexemeAt};
+ghost use Rattle.qasm_lexer.specs.Tokens.{has_value};
+
+use crate::lexeme::{after, front, is_blank, is_number, kind_of, lexeme_len};
+use crate::number::number;
+use crate::{LexFault, Token};
+
+/// A token, or nothing for white space and comments, and the place behind it.
+#[derive(Clone, Copy)]
+pub struct Lexeme {
+    pub token: Option<Token>,
+    pub to: usize,
+}
+
+/// Whether the value of a number is kept.
+fn has_value(lexeme: &[u8]) -> bool
+    requires { length lexeme.now < 2 ^ 32 }
+    ensures { result ≡ has_value lexeme.now }
+{
+    number(lexeme).is_ok()
+}
+
+/// The lexeme at a place.
+pub fn lexeme_at(text: &[u8], place: usize) -> Result<Lexeme, LexFault>
+    requires within { place < length text.now }
+    requires short { length text.now < 2 ^ 32 }
+    ensures { IsLexemeAt text.now place result }
+{
+    let rest = after(text, place);
+    let len = lexeme_len(rest);
+    if len == 0 {
+        return Err(LexFault::BadByte {
+            place: place as u32,
+        });
+    }
+    let lexeme = front(rest, len);
+    let to = place + len;
+    if is_blank(lexeme) {
+        return Ok(Lexeme { token: None, to });
+    }
+    if is_number(lexeme) && !has_value(lexeme) {
+        return Err(LexFault::Number {
+            place: place as u32,
+        });
+    }
+    let token = Token {
+        kind: kind_of(lexeme),
+        from: place as u32,
+        to: to as u32,
+    };
+    Ok(Lexeme {
+        token: Some(token),
+        to,
+    })
+}
