@@ -3,16 +3,16 @@
 --   lexed_from-lexeme     the first lexeme, and then the tokens of the rest
 --   lexed_from-bad        no lexeme begins the text
 --   lexed_from-nil        no text
-use Rattle.std.proofs.Common.{◌≡◌, ◌≢◌, ℕ, zero, suc, ◌+◌, ◌-◌, ◌<◌, ◌≤◌, ◌==◌, ◌&&◌, Bool, true, false, not, cond, List, [], ◌∷◌, ◌++◌, Option, Some, None, Ok, Err, Result, if◌then◌else◌, refl, sym, ap, ◌∙◌, subst, arith, length, take, drop, rules, lit<}
-use Rattle.std.proofs.lemmas.List.{length-drop}
+--   bad_at, blank_at, number_at, token_there   what stands at a place of a text
+--   joined                tokens before a list of tokens or its fault
+use Rattle.std.proofs.Common.{◌≡◌, ◌≢◌, ℕ, zero, suc, ◌+◌, ◌-◌, ◌<◌, ◌≤◌, ◌==◌, ◌&&◌, Bool, true, false, not, cond, List, [], ◌∷◌, ◌++◌, Option, Some, None, Ok, Err, Result, if◌then◌else◌, refl, sym, ap, ◌∙◌, subst, arith, length, take, drop, append_assoc, length-take-le}
+use Rattle.std.proofs.lemmas.List.{drop-drop, length-drop}
 use Rattle.qasm_lexer.specs.Lexemes.{Bytes, is_blank, lexeme_len}
-use Rattle.qasm_lexer.specs.Tokens.{is_number, has_value, lexed_from, lexed_within, then_more, token_at, with_lexeme}
+use Rattle.qasm_lexer.specs.Tokens.{IsFaultOf, before, is_out_of_range, kept, kind_of, lexed, lexed_from, lexed_within, then_more, with_lexeme}
+use Rattle.qasm_lexer.specs.declared.Kind.{Kind}
 use Rattle.qasm_lexer.specs.declared.Token.{Token}
 use Rattle.qasm_lexer.specs.declared.LexFault.{LexFault}
-use Rattle.qasm_lexer.specs.declared.LexFault.TheVariants.{BadByte, Number}
-
-Tokens : Type 0
-Tokens = Result (List Token) LexFault
+use Rattle.qasm_lexer.specs.declared.LexFault.TheVariants.{BadByte, NoMemory, Number}
 
 shorter : (n k : ℕ) (b : ℕ) (t : Bytes) → 0 < k → length (b ∷ t) ≤ suc n → length (drop k (b ∷ t)) ≤ n
 shorter n k b t h l = simp length-drop (omega arith)
@@ -68,3 +68,53 @@ pub lexed_from-nil : (t : Bytes) (place : ℕ) → length t ≡ 0 → lexed_from
 unfolding lexed_from
 lexed_from-nil [] place e = refl
 lexed_from-nil (b ∷ t) place e = absurd (omega arith)
+
+-- ---- at a place of a text
+at_place : (t rest lexeme : Bytes) (place k : ℕ) → rest ≡ drop place t → k ≡ lexeme_len rest → 0 < k → lexeme ≡ take k rest
+    → lexed_from place (drop place t) ≡ with_lexeme place lexeme (lexed_from (place + k) (drop (place + k) t))
+at_place t rest lexeme place k e f some g =
+    ap (λ (z : Bytes). lexed_from place z) (sym e) ∙ lexed_from-lexeme rest place k (sym f) some
+    ∙ ap (λ (z : Bytes). with_lexeme place z (lexed_from (place + k) (drop k rest))) (sym g)
+    ∙ ap (λ (z : Bytes). with_lexeme place lexeme (lexed_from (place + k) z)) (ap (λ (z : Bytes). drop k z) e ∙ drop-drop k place t)
+
+pub bad_at : (t rest : Bytes) (place k : ℕ) → rest ≡ drop place t → place < length t → k ≡ lexeme_len rest → k ≡ 0
+    → lexed_from place (drop place t) ≡ Err (BadByte place)
+bad_at t rest place k e less f none =
+    lexed_from-bad (drop place t) place (simp length-drop (omega arith)) (ap (λ (z : Bytes). lexeme_len z) (sym e) ∙ sym f ∙ none)
+
+pub blank_at : (t rest lexeme : Bytes) (place k : ℕ) → rest ≡ drop place t → k ≡ lexeme_len rest → 0 < k → lexeme ≡ take k rest
+    → is_blank lexeme ≡ true → lexed_from place (drop place t) ≡ lexed_from (place + k) (drop (place + k) t)
+blank_at t rest lexeme place k e f some g blank = let step = at_place t rest lexeme place k e f some g in rw blank at step
+
+pub number_at : (t rest lexeme : Bytes) (place k : ℕ) → rest ≡ drop place t → k ≡ lexeme_len rest → 0 < k → lexeme ≡ take k rest
+    → is_blank lexeme ≡ false → is_out_of_range lexeme ≡ true → lexed_from place (drop place t) ≡ Err (Number place)
+number_at t rest lexeme place k e f some g token out = let step = at_place t rest lexeme place k e f some g in rw (token, out) at step
+
+pub token_there : (t rest lexeme : Bytes) (place k : ℕ) (kind : Kind) → rest ≡ drop place t → k ≡ lexeme_len rest → 0 < k → lexeme ≡ take k rest
+    → k ≤ length rest → is_blank lexeme ≡ false → is_out_of_range lexeme ≡ false → kind ≡ kind_of lexeme
+    → lexed_from place (drop place t)
+      ≡ then_more (record { kind = kind; from = place; to = place + k }) (lexed_from (place + k) (drop (place + k) t))
+token_there t rest lexeme place k kind e f some g le token fine h =
+    let step = at_place t rest lexeme place k e f some g in
+    let long : length lexeme ≡ k = ap length g ∙ length-take-le k rest le in
+    rw (token, fine) at step
+    ∙ ap (λ (x : Token). then_more x (lexed_from (place + k) (drop (place + k) t))) (λ i. record { kind = sym h i; from = place; to = place + long i })
+
+-- ---- the tokens that are read, and the others
+abbrev pub joined : List Token → Result (List Token) LexFault → Result (List Token) LexFault
+joined ts (Ok us) = Ok (ts ++ us)
+joined ts (Err e) = Err e
+
+pub joined-before : (ts : List Token) (k : Option Token) (r : Result (List Token) LexFault) → joined ts (before k r) ≡ joined (kept ts k) r
+joined-before ts None r = refl
+joined-before ts (Some k) (Ok us) = ap Ok (sym (append_assoc ts (k ∷ []) us))
+joined-before ts (Some k) (Err e) = refl
+
+pub joined-nil : (r : Result (List Token) LexFault) → joined [] r ≡ r
+joined-nil (Ok us) = refl
+joined-nil (Err e) = refl
+
+pub IsFaultOf-from : (t : Bytes) (e : LexFault) → lexed t ≡ Err e → IsFaultOf t e
+IsFaultOf-from t (BadByte place) h = h
+IsFaultOf-from t (Number place) h = h
+IsFaultOf-from t NoMemory h = tt

@@ -6,9 +6,12 @@
 --   small_value        a fraction with small parts has a value
 --   same_value         equal fractions have one value
 --   nought_value       0 has a value
+--   range_only         the only fault of a value
+--   ok_fitted, kept_value   the test of a value, and what it gives
 use Rattle.std.proofs.Common.{◌≡◌, ◌⊎◌, inl, inr, ℕ, zero, suc, ◌+◌, ◌-◌, ◌*◌, ◌/◌, ◌^◌, ◌<◌, ◌≤◌, ◌==◌, ◌&&◌, Bool, true, false, ℤ, pos, negsuc, Ok, Err, Result, if◌then◌else◌, refl, sym, ap, ◌∙◌, subst, arith, rules, nat_le, unsigned_abs, ◌*ℤ◌, lit<}
 use Rattle.std.specs.Int.{IsGcd, ◌∣◌}
 use Rattle.std.proofs.Math.Nat.{pos_of_dvd_of_pos, div-mul_cancel, dvd-mul_right, div-le_self, mul-mul-mul_comm, mul_comm, mul_assoc, zero-mul, mul-pos, le_trans}
+use Rattle.std.specs.Result.{is_ok}
 use Rattle.angle_fraction.specs.Fraction.{Fraction, common_factor, greatest_common, fraction, is_small, lowest, most_part, nought}
 use Rattle.angle_fraction.specs.Angles.{fitted}
 use Rattle.angle_fraction.specs.declared.AngleFault.{AngleFault}
@@ -104,3 +107,13 @@ range_only x e f = by_answer (none_or_value x)
     by_answer : (fitted x ≡ Ok (lowest x)) ⊎ (fitted x ≡ Err Range) → e ≡ Range
     by_answer (inl g) = absurd (let other : Ok (lowest x) ≡ Err e = sym g ∙ f in cc)
     by_answer (inr g) = let same : Err e ≡ Err Range = sym f ∙ g in cc
+
+pub ok_fitted : (x : Fraction) → is_ok (fitted x) ≡ is_small (lowest x)
+ok_fitted x = by_test (is_small (lowest x)) refl
+  where
+    by_test : (b : Bool) → is_small (lowest x) ≡ b → is_ok (fitted x) ≡ is_small (lowest x)
+    by_test true e = ap is_ok (by_small x true e) ∙ sym e
+    by_test false e = ap is_ok (by_small x false e) ∙ sym e
+
+pub kept_value : (x : Fraction) → is_small (lowest x) ≡ true → fitted x ≡ Ok (lowest x)
+kept_value x e = by_small x true e

@@ -3,7 +3,7 @@
 --   number_kind, kind_of   a token's kind, by its bytes
 --   token_at          a token of these bytes at a place
 --   then_more, before, with_lexeme   a token, or a lexeme, before the tokens that follow
---   has_value         a number's value is kept
+--   has_value, is_out_of_range   a number's value is kept; a lexeme is a number whose value isn't
 --   kept              a token or nothing, behind those that are read
 --   lexed_within      the tokens of a text that begins at a place, of at most so many lexemes
 --   lexed_from, lexed the tokens of a text that begins at a place; of a whole text
@@ -46,6 +46,9 @@ token_at place lexeme = record { kind = kind_of lexeme; from = place; to = place
 abbrev pub has_value : Bytes → Bool
 has_value lexeme = is_small (lowest (decimal lexeme))
 
+abbrev pub is_out_of_range : Bytes → Bool
+is_out_of_range lexeme = is_number lexeme && not (has_value lexeme)
+
 abbrev pub then_more : Token → Result (List Token) LexFault → Result (List Token) LexFault
 then_more k (Ok ts) = Ok (k ∷ ts)
 then_more k (Err e) = Err e
@@ -59,7 +62,7 @@ kept ts (Some k) = ts ++ k ∷ []
 abbrev pub with_lexeme : ℕ → Bytes → Result (List Token) LexFault → Result (List Token) LexFault
 with_lexeme place lexeme rest =
     if is_blank lexeme then rest
-    else (if is_number lexeme && not (has_value lexeme) then Err (Number place)
+    else (if is_out_of_range lexeme then Err (Number place)
     else then_more (token_at place lexeme) rest)
 
 -- a token or nothing, before what follows

@@ -2,7 +2,7 @@
 
 ghost use Rattle.std.specs.Prelude.{◌≡◌, ℕ, ◌+◌, ◌<◌, ◌≤◌, ◌^◌, length, drop, take};
 ghost use Rattle.qasm_lexer.specs.Steps.{IsLexemeAt};
-ghost use Rattle.qasm_lexer.specs.Tokens.{has_value};
+ghost use Rattle.qasm_lexer.specs.Tokens.{has_value, is_out_of_range};
 
 use crate::lexeme::{after, front, is_blank, is_number, kind_of, lexeme_len};
 use crate::number::number;
@@ -23,6 +23,14 @@ fn has_value(lexeme: &[u8]) -> bool
     number(lexeme).is_ok()
 }
 
+/// Whether a lexeme is a number whose value is not kept.
+fn is_out_of_range(lexeme: &[u8]) -> bool
+    requires { length lexeme.now < 2 ^ 32 }
+    ensures { result ≡ is_out_of_range lexeme.now }
+{
+    is_number(lexeme) && !has_value(lexeme)
+}
+
 /// The lexeme at a place.
 pub fn lexeme_at(text: &[u8], place: usize) -> Result<Lexeme, LexFault>
     requires within { place < length text.now }
@@ -41,7 +49,7 @@ pub fn lexeme_at(text: &[u8], place: usize) -> Result<Lexeme, LexFault>
     if is_blank(lexeme) {
         return Ok(Lexeme { token: None, to });
     }
-    if is_number(lexeme) && !has_value(lexeme) {
+    if is_out_of_range(lexeme) {
         return Err(LexFault::Number {
             place: place as u32,
         });
