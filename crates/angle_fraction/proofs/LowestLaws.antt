@@ -1,7 +1,11 @@
 -- Fractions in lowest terms.
---   common_factor-is     the common factor of a fraction is the greatest common divisor of its parts
+--   common_factor-by, common_factor-is   the common factor of a fraction is the greatest common divisor of its parts
 --   lowest_by            lowest terms, by any greatest common divisor
---   lowest_same          equal fractions are equal in lowest terms
+--   kept_by, fitted_by, too_large   the parts without a common divisor are kept, where they are small; else there is no value
+--   kept, fits, past     the same for parts as the code has them
+--   factor_bound         a common divisor fits where the denominator does
+--   kept_over, kept_over_less, inverse-above, inverse-below, over, over_less   1 over what is kept
+--   lowest_same, fitted_same   equal fractions are equal in lowest terms, and have one value
 use Rattle.std.proofs.Common.{◌≡◌, ℕ, zero, suc, ◌*◌, ◌/◌, ◌<◌, ◌≤◌, ◌==◌, ◌&&◌, ◌⊎◌, true, false, if◌then◌else◌, ◌^◌, FitsSigned, ℤ, pos, negsuc, neg_ℤ, Ok, Err, refl, sym, ap, ◌∙◌, subst, arith, nat_le, unsigned_abs, ◌*ℤ◌}
 use Rattle.std.specs.Prelude.{◌<ℤ◌, ◌≤ℤ◌}
 use Rattle.std.specs.Int.{IsGcd, w128, ◌∣◌}

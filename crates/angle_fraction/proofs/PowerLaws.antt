@@ -1,7 +1,10 @@
 -- Powers of fractions in lowest terms.
 --   size-int_pow         the size of a power
 --   int_pow-more         one factor more
---   power_past           a power with a part that is too large has no value that fits, nor have the later ones
+--   lowest-raised        a power of lowest terms is in lowest terms
+--   power_past           a power without a value keeps the later ones from having one
+--   raised-zero, raised-more   the power 0, and one factor more
+--   one-pow, zero-pow    powers of 1 and 0
 --   sign_power           what is 0, 1 or -1 has two powers
 use Rattle.std.proofs.Common.{◌≡◌, ◌⊎◌, inl, inr, ℕ, zero, suc, ◌+◌, ◌-◌, ◌*◌, ◌/◌, ◌%◌, ◌^◌, ◌<◌, ◌≤◌, ◌==◌, Bool, true, false, cond, if◌then◌else◌, ℤ, pos, negsuc, neg_ℤ, Ok, Err, refl, sym, ap, ◌∙◌, subst, arith, unsigned_abs, ◌*ℤ◌, lit<}
 use Rattle.std.specs.Int.{int_pow, IsGcd}

@@ -1,4 +1,7 @@
 -- The first number at which a test holds.
+--   first_where-here     the test holds at once
+--   first_where-next     it doesn't, so a later one is the first
+--   first_where-none     no number is left
 use Rattle.std.proofs.Common.{◌≡◌, ℕ, zero, suc, ◌+◌, ◌<◌, Bool, true, false, Some, None, refl, arith}
 use Rattle.angle_fraction.specs.Angles.{first_where}
 

@@ -145,24 +145,28 @@ fn common_den(a: &Frac, b: &Frac) -> i128
     times(a.den(), b.den())
 }
 
+/// The sum; Range where a part is too large.
 pub fn sum(a: &Frac, b: &Frac) -> Result<Frac, AngleFault>
     ensures { result ≡ fitted (sum a.now b.now) }
 {
     lowest(spread(a, b) + spread(b, a), common_den(a, b))
 }
 
+/// The first less the second; Range where a part is too large.
 pub fn difference(a: &Frac, b: &Frac) -> Result<Frac, AngleFault>
     ensures { result ≡ fitted (difference a.now b.now) }
 {
     lowest(spread(a, b) - spread(b, a), common_den(a, b))
 }
 
+/// The fraction with the other sign.
 pub fn opposite(a: &Frac) -> Result<Frac, AngleFault>
     ensures { result ≡ fitted (opposite a.now) }
 {
     lowest(negated(a.num()), a.den())
 }
 
+/// The product; Range where a part is too large.
 pub fn product(a: &Frac, b: &Frac) -> Result<Frac, AngleFault>
     ensures { result ≡ fitted (product a.now b.now) }
 {

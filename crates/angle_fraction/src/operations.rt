@@ -1,6 +1,6 @@
 //! The operations on angles.
 
-ghost use Rattle.std.specs.Prelude.{◌≡◌, ℕ, ◌+◌, ◌-◌, ◌*◌, ◌<◌, ◌≤◌, ◌↔◌, ℤ, IsTrue, unsigned_abs, ◌*ℤ◌, ◌-ℤ◌, pos};
+ghost use Rattle.std.specs.Prelude.{IfSome, ◌≡◌, ℕ, ◌+◌, ◌-◌, ◌*◌, ◌<◌, ◌≤◌, ◌↔◌, ℤ, IsTrue, unsigned_abs, ◌*ℤ◌, ◌-ℤ◌, pos};
 ghost use Rattle.angle_fraction.specs.Fraction.{most_part};
 ghost use Rattle.angle_fraction.specs.Angles.{difference_of, eighths_of, is_nought, is_plain, is_turn, is_whole, opposite_of, plainly, power_by, power_of, product_of, quotient_of, sum_of};
 
@@ -162,7 +162,8 @@ fn is_turn(a: &Angle, k: u8) -> bool
 /// The angle in units of pi/4, below 8, up to a multiple of 2 pi. None where it is no multiple of pi/4, or has a plain part.
 #[tactic(auto, unfolding(crate::specs::Angles::eighths_of))]
 pub fn eighths(a: &Angle) -> Option<u8>
-    ensures { result ≡ eighths_of a.now }
+    ensures value { result ≡ eighths_of a.now }
+    ensures below { IfSome result (λ k. k < 8) }
 {
     for k in 0..8 {
         if is_turn(a, k) {

@@ -2,10 +2,8 @@
 --   number-front       all digits, as the first so many
 --   front_number-lt    a bound
 --   front_number-more  zeros at the end
-use Rattle.std.proofs.Common.{◌≡◌, ℕ, zero, suc, ◌+◌, ◌-◌, ◌*◌, ◌^◌, ◌<◌, ◌≤◌, Bool, true, false, List, [], ◌∷◌, ◌++◌, refl, sym, ap, ◌∙◌, subst, arith, length, take, drop, slice_index, length-append, if◌then◌else◌, append_assoc, add-one}
+use Rattle.std.proofs.Common.{◌≡◌, ℕ, zero, suc, ◌+◌, ◌*◌, ◌^◌, ◌<◌, ◌≤◌, [], ◌∷◌, ◌++◌, refl, sym, ap, ◌∙◌, arith, length, slice_index, length-append, append_assoc, add-one}
 use Rattle.std.proofs.lemmas.List.{get_or_past}
-use Rattle.std.specs.Char.{is_ascii_digit}
-use Rattle.std.proofs.lemmas.Grind.{common_steps}
 use Rattle.std.proofs.Math.Nat.{pow-suc, pow-zero, add-zero, add-suc}
 use Rattle.qasm_lexer.specs.Lexemes.{Bytes}
 use Rattle.qasm_lexer.specs.Numbers.{digit, front_number, number, number_after}
@@ -28,9 +26,9 @@ read_on read [] all e = ap (λ n. front_number all n) (sym (ap length e ∙ leng
 read_on read (b ∷ t) all e =
     let more : all ≡ (read ++ b ∷ []) ++ t = e ∙ sym (append_assoc read (b ∷ []) t) in
     let next : front_number all (length (read ++ b ∷ [])) ≡ front_number all (length read) * 10 + digit b =
-      ap (λ n. front_number all n) (length-append read (b ∷ []))
-      ∙ front_number-next all (length read)
-      ∙ ap (λ c. front_number all (length read) * 10 + digit c) (ap (λ (z : Bytes). slice_index z (length read)) e ∙ at_next read t b) in
+    ap (λ n. front_number all n) (length-append read (b ∷ []))
+    ∙ front_number-next all (length read)
+    ∙ ap (λ c. front_number all (length read) * 10 + digit c) (ap (λ (z : Bytes). slice_index z (length read)) e ∙ at_next read t b) in
     ap (λ n. number_after n t) (sym next) ∙ read_on (read ++ b ∷ []) t all more
 
 pub number-front : (t : Bytes) → number t ≡ front_number t (length t)
@@ -57,7 +55,7 @@ pub front_number-more : (t : Bytes) (k : ℕ) → front_number t (length t + k) 
 front_number-more t zero = rw (add-zero, pow-zero) (sym (number-front t) ∙ omega arith)
 front_number-more t (suc k) =
     let step : front_number t (length t + suc k) ≡ front_number t (length t + k) * 10 + digit (slice_index t (length t + k)) =
-      ap (λ n. front_number t n) (add-suc (length t) k ∙ sym (add-one (length t + k))) ∙ front_number-next t (length t + k) in
+    ap (λ n. front_number t n) (add-suc (length t) k ∙ sym (add-one (length t + k))) ∙ front_number-next t (length t + k) in
     let none : digit (slice_index t (length t + k)) ≡ 0 = ap digit (past_end t k) ∙ no_digit in
     let before = front_number-more t k in
     step ∙ rw (none, before, pow-suc) (omega arith)

@@ -3,3 +3,4 @@ pub mod DigitLaws
 pub mod TailLaws
 pub mod ScaledLaws
 pub mod TokenLaws
+pub mod EachToken

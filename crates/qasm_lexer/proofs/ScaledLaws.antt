@@ -5,10 +5,10 @@
 --   scaled-nought      no digit but 0
 --   scaled-far         an exponent past any text's length has the answer of a lesser one
 --   decimal_by         the value of a text, by its parts
-use Rattle.std.proofs.Common.{◌≡◌, ◌⊎◌, inl, inr, ℕ, zero, suc, ◌+◌, ◌-◌, ◌*◌, ◌^◌, ◌<◌, ◌≤◌, Bool, true, false, List, [], ◌∷◌, ◌++◌, pos, Ok, Err, refl, sym, ap, ◌∙◌, subst, arith, length, length-append, min, if◌then◌else◌, lit<}
+use Rattle.std.proofs.Common.{◌≡◌, ◌⊎◌, inl, inr, ℕ, ◌+◌, ◌*◌, ◌^◌, ◌<◌, ◌≤◌, Bool, true, false, ◌++◌, Ok, Err, refl, sym, ap, ◌∙◌, subst, arith, length, length-append, min}
 use Rattle.std.proofs.Math.Nat.{zero-mul, pos_of_ne-zero}
 use Rattle.std.proofs.lemmas.Bool.{cases_lt, cases_eq}
-use Rattle.angle_fraction.specs.Fraction.{fraction, nought}
+use Rattle.angle_fraction.specs.Fraction.{nought}
 use Rattle.angle_fraction.specs.Angles.{fitted}
 use Rattle.angle_fraction.specs.declared.AngleFault.TheVariants.{Range}
 use Rattle.qasm_lexer.specs.Lexemes.{Bytes, begins_with}

@@ -7,14 +7,14 @@
 --   far_down, far_up  numbers that are too small or too large
 --   ten_more, ten_places   powers of ten
 --   less_zeros, more_zeros   powers of ten that cancel
-use Rattle.std.proofs.Common.{◌≡◌, ◌⊎◌, inl, inr, ℕ, zero, suc, ◌+◌, ◌-◌, ◌*◌, ◌/◌, ◌^◌, ◌<◌, ◌≤◌, ℤ, pos, Ok, Err, Result, refl, sym, ap, ◌∙◌, subst, arith, rules, unsigned_abs, ◌*ℤ◌, ◌+ℤ◌, lit<, lit≤, add-one}
-use Rattle.std.proofs.Math.Nat.{eq_of_mul-eq-mul_right, mul-pos, le_of_mul-le-mul_right, lt_of_mul-lt-mul_right, pow-suc, pow-zero, mul-le-mul, mul-le-mul_right, mul-le-mul_left, one-le-pow, le_trans, lt_of_le_of_lt, lt_of_lt_of_le, pow-le-pow_right, zero-lt-suc, mul_comm, mul_assoc, mul-one, one-mul, zero-mul, suc-mul, le-mul_of_pos_right, le_of_lt, mul-lt-mul_of_pos_right}
+use Rattle.std.proofs.Common.{◌≡◌, ℕ, zero, suc, ◌+◌, ◌-◌, ◌*◌, ◌^◌, ◌<◌, ◌≤◌, pos, Ok, Err, refl, sym, ap, ◌∙◌, subst, arith, ◌+ℤ◌, lit<, add-one}
+use Rattle.std.proofs.Math.Nat.{eq_of_mul-eq-mul_right, mul-pos, le_of_mul-le-mul_right, lt_of_mul-lt-mul_right, pow-suc, mul-le-mul_right, one-le-pow, le_trans, lt_of_le_of_lt, lt_of_lt_of_le, pow-le-pow_right, mul_comm, mul_assoc, mul-one, one-mul, zero-mul, suc-mul, le-mul_of_pos_right, le_of_lt, mul-lt-mul_of_pos_right}
 use Rattle.std.proofs.lemmas.Nat.{mul-lt, pow-add}
 use Rattle.angle_fraction.specs.Fraction.{Fraction, fraction, most_part, nought}
 use Rattle.angle_fraction.specs.Angles.{fitted}
 use Rattle.angle_fraction.specs.declared.AngleFault.{AngleFault}
 use Rattle.angle_fraction.specs.declared.AngleFault.TheVariants.{Range}
-use Rattle.qasm_lexer.proofs.ValueLaws.{IsValue, no_value, nought_value, range_only, same_value, small_value, value_of}
+use Rattle.qasm_lexer.proofs.ValueLaws.{IsValue, no_value, range_only, same_value, small_value, value_of}
 
 pub ten_pow : (n : ℕ) → 0 < 10 ^ n
 ten_pow n = one-le-pow n 10 (lit< tt)
@@ -56,7 +56,7 @@ pub tail_more : (A B h whole scale : ℕ) (tail next : Fraction) → h ≤ 9 →
 tail_more A B h whole scale tail next low front t f =
     let some : 0 < 10 * tail.den = mul-pos (lit< tt) t.positive in
     let exact : fitted (fraction (pos (h * tail.den + t.num)) (10 * tail.den)) ≡ Ok next =
-      ap (λ z. fitted (fraction z (10 * tail.den))) (sym (behind_num h tail t.num t.is)) ∙ f in
+    ap (λ z. fitted (fraction z (10 * tail.den))) (sym (behind_num h tail t.num t.is)) ∙ f in
     let v = value_of (h * tail.den + t.num) (10 * tail.den) next some exact in
     record {
       num = v.num;
@@ -64,7 +64,7 @@ tail_more A B h whole scale tail next low front t f =
       positive = v.positive;
       below = step_below v.num next.den (h * tail.den + t.num) (10 * tail.den) v.positive v.cross (tenth_below h t.num tail.den low t.below);
       value = step_value B next.den v.num tail.den scale t.num h whole t.positive v.cross
-        (subst (λ z. (z * tail.den + t.num) * scale ≡ whole * tail.den) front t.value);
+          (subst (λ z. (z * tail.den + t.num) * scale ≡ whole * tail.den) front t.value);
     }
 
 -- ---- no value of the tail, no value of the whole
@@ -89,17 +89,17 @@ tail_none A B h whole scale r tail e low front some other t f =
   where
     no : (y : Fraction) → IsValue whole (scale * 10 * r) y → ⊥
     no y v =
-      let d_some : 0 < 10 * tail.den = mul-pos (lit< tt) t.positive in
-      let exact : fitted (fraction (pos (h * tail.den + t.num)) (10 * tail.den)) ≡ Err e =
+        let d_some : 0 < 10 * tail.den = mul-pos (lit< tt) t.positive in
+        let exact : fitted (fraction (pos (h * tail.den + t.num)) (10 * tail.den)) ≡ Err e =
         ap (λ z. fitted (fraction z (10 * tail.den))) (sym (behind_num h tail t.num t.is)) ∙ f in
-      let old : ((B * 10 + h) * tail.den + t.num) * scale ≡ whole * tail.den =
+        let old : ((B * 10 + h) * tail.den + t.num) * scale ≡ whole * tail.den =
         subst (λ z. (z * tail.den + t.num) * scale ≡ whole * tail.den) front t.value in
-      let value : (B * (10 * tail.den) + (h * tail.den + t.num)) * (scale * 10) ≡ whole * (10 * tail.den) = omega arith in
-      let parts = part_of_value B (10 * tail.den) (h * tail.den + t.num) (scale * 10) r whole v.num y.den d_some (mul-pos some (lit< tt)) value v.cross in
-      let less : v.num * r - B * y.den < y.den =
+        let value : (B * (10 * tail.den) + (h * tail.den + t.num)) * (scale * 10) ≡ whole * (10 * tail.den) = omega arith in
+        let parts = part_of_value B (10 * tail.den) (h * tail.den + t.num) (scale * 10) r whole v.num y.den d_some (mul-pos some (lit< tt)) value v.cross in
+        let less : v.num * r - B * y.den < y.den =
         step_below (v.num * r - B * y.den) y.den (h * tail.den + t.num) (10 * tail.den) v.positive (sym parts.1) (tenth_below h t.num tail.den low t.below) in
-      let same = same_value (h * tail.den + t.num) (10 * tail.den) (v.num * r - B * y.den) y.den d_some v.positive parts.1 in
-      small_value (v.num * r - B * y.den) y.den v.positive (le_trans (le_of_lt less) v.den_small) v.den_small e (sym same ∙ exact)
+        let same = same_value (h * tail.den + t.num) (10 * tail.den) (v.num * r - B * y.den) y.den d_some v.positive parts.1 in
+        small_value (v.num * r - B * y.den) y.den v.positive (le_trans (le_of_lt less) v.den_small) v.den_small e (sym same ∙ exact)
 
 -- ---- the digits in front of the point
 pub whole_and_tail : (head whole scale : ℕ) (tail : Fraction) → 0 < scale → IsTail head whole scale tail
@@ -114,12 +114,12 @@ head_too_large head whole scale tail some t large = no_value whole scale some no
   where
     no : (y : Fraction) → IsValue whole scale y → ⊥
     no y v =
-      let cross : v.num * (scale * 1) ≡ whole * y.den = subst (λ z. v.num * z ≡ whole * y.den) (sym (mul-one scale)) v.cross in
-      let parts = part_of_value head tail.den t.num scale 1 whole v.num y.den t.positive some t.value cross in
-      let up : head ≤ head * y.den = le-mul_of_pos_right head v.positive in
-      let top : v.num * 1 ≤ most_part = subst (λ z. z ≤ most_part) (sym (mul-one v.num)) v.num_small in
-      let all : head ≤ most_part = le_trans up (le_trans parts.0 top) in
-      omega arith
+        let cross : v.num * (scale * 1) ≡ whole * y.den = subst (λ z. v.num * z ≡ whole * y.den) (sym (mul-one scale)) v.cross in
+        let parts = part_of_value head tail.den t.num scale 1 whole v.num y.den t.positive some t.value cross in
+        let up : head ≤ head * y.den = le-mul_of_pos_right head v.positive in
+        let top : v.num * 1 ≤ most_part = subst (λ z. z ≤ most_part) (sym (mul-one v.num)) v.num_small in
+        let all : head ≤ most_part = le_trans up (le_trans parts.0 top) in
+        omega arith
 
 -- ---- powers of ten
 ten_split : (i j : ℕ) → i ≤ j → 10 ^ j ≡ 10 ^ i * 10 ^ (j - i)
@@ -137,14 +137,14 @@ pub less_zeros : (n up down : ℕ) → up ≤ down
     → fitted (fraction (pos n) (10 ^ (down - up))) ≡ fitted (fraction (pos (n * 10 ^ up)) (10 ^ down))
 less_zeros n up down le =
     same_value n (10 ^ (down - up)) (n * 10 ^ up) (10 ^ down) (ten_pow (down - up)) (ten_pow down)
-      (ap (λ z. n * z) (ten_split up down le) ∙ sym (mul_assoc n (10 ^ up) (10 ^ (down - up))))
+    (ap (λ z. n * z) (ten_split up down le) ∙ sym (mul_assoc n (10 ^ up) (10 ^ (down - up))))
 
 pub more_zeros : (n up down : ℕ) → down ≤ up
     → fitted (fraction (pos (n * 10 ^ (up - down))) 1) ≡ fitted (fraction (pos (n * 10 ^ up)) (10 ^ down))
 more_zeros n up down le =
     same_value (n * 10 ^ (up - down)) 1 (n * 10 ^ up) (10 ^ down) (lit< tt) (ten_pow down)
-      (mul_assoc n (10 ^ (up - down)) (10 ^ down)
-       ∙ ap (λ z. n * z) (mul_comm (10 ^ (up - down)) (10 ^ down) ∙ sym (ten_split down up le)) ∙ sym (mul-one (n * 10 ^ up)))
+    (mul_assoc n (10 ^ (up - down)) (10 ^ down)
+    ∙ ap (λ z. n * z) (mul_comm (10 ^ (up - down)) (10 ^ down) ∙ sym (ten_split down up le)) ∙ sym (mul-one (n * 10 ^ up)))
 
 -- ---- far from the point
 at_least : (p m : ℕ) → 0 < m * p → p ≤ m * p
@@ -162,26 +162,26 @@ far_down n len places some short far = no_value n (10 ^ places) (ten_pow places)
   where
     no : (y : Fraction) → IsValue n (10 ^ places) y → ⊥
     no y v =
-      let up : 0 < v.num * 10 ^ places = subst (λ z. 0 < z) (sym v.cross) (mul-pos some v.positive) in
-      let le : 10 ^ places ≤ v.num * 10 ^ places = at_least (10 ^ places) v.num up in
-      let small : y.den < 10 ^ 19 = lt_of_le_of_lt v.den_small (lit< tt) in
-      let less : n * y.den < 10 ^ len * 10 ^ 19 = mul-lt n y.den (10 ^ len) (10 ^ 19) short small in
-      let top : 10 ^ len * 10 ^ 19 ≤ 10 ^ places = subst (λ z. z ≤ 10 ^ places) (pow-add 10 len 19) (pow-le-pow_right {n = 10} (lit< tt) (le_of_lt far)) in
-      let e = v.cross in
-      not_both (v.num * 10 ^ places) (n * y.den) (10 ^ places) e le (lt_of_lt_of_le less top)
+        let up : 0 < v.num * 10 ^ places = subst (λ z. 0 < z) (sym v.cross) (mul-pos some v.positive) in
+        let le : 10 ^ places ≤ v.num * 10 ^ places = at_least (10 ^ places) v.num up in
+        let small : y.den < 10 ^ 19 = lt_of_le_of_lt v.den_small (lit< tt) in
+        let less : n * y.den < 10 ^ len * 10 ^ 19 = mul-lt n y.den (10 ^ len) (10 ^ 19) short small in
+        let top : 10 ^ len * 10 ^ 19 ≤ 10 ^ places = subst (λ z. z ≤ 10 ^ places) (pow-add 10 len 19) (pow-le-pow_right {n = 10} (lit< tt) (le_of_lt far)) in
+        let e = v.cross in
+        not_both (v.num * 10 ^ places) (n * y.den) (10 ^ places) e le (lt_of_lt_of_le less top)
 
 pub far_up : (n up down : ℕ) → 0 < n → down + 19 < up → Err Range ≡ fitted (fraction (pos (n * 10 ^ up)) (10 ^ down))
 far_up n up down some far = no_value (n * 10 ^ up) (10 ^ down) (ten_pow down) no
   where
     no : (y : Fraction) → IsValue (n * 10 ^ up) (10 ^ down) y → ⊥
     no y v =
-      let first : 10 ^ up ≤ n * 10 ^ up = subst (λ z. z ≤ n * 10 ^ up) (one-mul (10 ^ up)) (mul-le-mul_right (10 ^ up) some) in
-      let second : n * 10 ^ up ≤ n * 10 ^ up * y.den = le-mul_of_pos_right (n * 10 ^ up) v.positive in
-      let all : 10 ^ up ≤ v.num * 10 ^ down = subst (λ z. 10 ^ up ≤ z) (sym v.cross) (le_trans first second) in
-      let split : 10 ^ up ≡ 10 ^ (up - down) * 10 ^ down = ten_split down up (omega arith) ∙ mul_comm (10 ^ down) (10 ^ (up - down)) in
-      let times : 10 ^ (up - down) ≤ v.num = le_of_mul-le-mul_right (subst (λ z. z ≤ v.num * 10 ^ down) split all) (ten_pow down) in
-      let gap : 19 ≤ up - down = omega arith in
-      let big : 10 ^ 19 ≤ 10 ^ (up - down) = pow-le-pow_right {n = 10} (lit< tt) gap in
-      let low = v.num_small in
-      let large : 10 ^ 19 ≤ most_part = le_trans big (le_trans times low) in
-      omega arith
+        let first : 10 ^ up ≤ n * 10 ^ up = subst (λ z. z ≤ n * 10 ^ up) (one-mul (10 ^ up)) (mul-le-mul_right (10 ^ up) some) in
+        let second : n * 10 ^ up ≤ n * 10 ^ up * y.den = le-mul_of_pos_right (n * 10 ^ up) v.positive in
+        let all : 10 ^ up ≤ v.num * 10 ^ down = subst (λ z. 10 ^ up ≤ z) (sym v.cross) (le_trans first second) in
+        let split : 10 ^ up ≡ 10 ^ (up - down) * 10 ^ down = ten_split down up (omega arith) ∙ mul_comm (10 ^ down) (10 ^ (up - down)) in
+        let times : 10 ^ (up - down) ≤ v.num = le_of_mul-le-mul_right (subst (λ z. z ≤ v.num * 10 ^ down) split all) (ten_pow down) in
+        let gap : 19 ≤ up - down = omega arith in
+        let big : 10 ^ 19 ≤ 10 ^ (up - down) = pow-le-pow_right {n = 10} (lit< tt) gap in
+        let low = v.num_small in
+        let large : 10 ^ 19 ≤ most_part = le_trans big (le_trans times low) in
+        omega arith

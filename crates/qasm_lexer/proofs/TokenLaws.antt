@@ -5,7 +5,7 @@
 --   lexed_from-nil        no text
 --   bad_at, blank_at, number_at, token_there   what stands at a place of a text
 --   joined                tokens before a list of tokens or its fault
-use Rattle.std.proofs.Common.{◌≡◌, ◌≢◌, ℕ, zero, suc, ◌+◌, ◌-◌, ◌<◌, ◌≤◌, ◌==◌, ◌&&◌, Bool, true, false, not, cond, List, [], ◌∷◌, ◌++◌, Option, Some, None, Ok, Err, Result, if◌then◌else◌, refl, sym, ap, ◌∙◌, subst, arith, length, take, drop, append_assoc, length-take-le}
+use Rattle.std.proofs.Common.{◌≡◌, ℕ, zero, suc, ◌+◌, ◌<◌, ◌≤◌, ◌==◌, true, false, List, [], ◌∷◌, ◌++◌, Option, Some, None, Ok, Err, Result, if◌then◌else◌, refl, sym, ap, ◌∙◌, arith, length, take, drop, append_assoc, length-take-le}
 use Rattle.std.proofs.lemmas.List.{drop-drop, length-drop}
 use Rattle.qasm_lexer.specs.Lexemes.{Bytes, is_blank, lexeme_len}
 use Rattle.qasm_lexer.specs.Tokens.{IsFaultOf, before, is_out_of_range, kept, kind_of, lexed, lexed_from, lexed_within, then_more, with_lexeme}
@@ -17,7 +17,7 @@ use Rattle.qasm_lexer.specs.declared.LexFault.TheVariants.{BadByte, NoMemory, Nu
 shorter : (n k : ℕ) (b : ℕ) (t : Bytes) → 0 < k → length (b ∷ t) ≤ suc n → length (drop k (b ∷ t)) ≤ n
 shorter n k b t h l = simp length-drop (omega arith)
 
-suc_not_zero : (k : ℕ) → (suc k == 0) ≡ false
+pub suc_not_zero : (k : ℕ) → (suc k == 0) ≡ false
 suc_not_zero k = grind arith
 
 pub lexed_within-enough : (n m place : ℕ) (t : Bytes) → length t ≤ n → length t ≤ m → lexed_within n place t ≡ lexed_within m place t
@@ -36,7 +36,7 @@ lexed_within-enough (suc n) (suc m) place (b ∷ t) h l =
   where
     by_len : (k : ℕ) → ((j : ℕ) → 0 < j → lexed_within n (place + j) (drop j (b ∷ t)) ≡ lexed_within m (place + j) (drop j (b ∷ t)))
         → (if k == 0 then Err (BadByte place) else with_lexeme place (take k (b ∷ t)) (lexed_within n (place + k) (drop k (b ∷ t))))
-          ≡ (if k == 0 then Err (BadByte place) else with_lexeme place (take k (b ∷ t)) (lexed_within m (place + k) (drop k (b ∷ t))))
+        ≡ (if k == 0 then Err (BadByte place) else with_lexeme place (take k (b ∷ t)) (lexed_within m (place + k) (drop k (b ∷ t))))
     by_len zero rest = refl
     by_len (suc k) rest = rw suc_not_zero (ap (λ ts. with_lexeme place (take (suc k) (b ∷ t)) ts) (rest (suc k) (omega arith)))
 
@@ -46,7 +46,7 @@ nothing_from_nothing k e some = omega arith
 
 from_lexeme : (n k place : ℕ) (t : Bytes) → 0 < k → length (drop k t) ≤ n
     → (if k == 0 then Err (BadByte place) else with_lexeme place (take k t) (lexed_within n (place + k) (drop k t)))
-      ≡ with_lexeme place (take k t) (lexed_from (place + k) (drop k t))
+    ≡ with_lexeme place (take k t) (lexed_from (place + k) (drop k t))
 unfolding lexed_from
 from_lexeme n zero place t some fits = absurd (omega arith)
 from_lexeme n (suc k) place t some fits =
@@ -93,7 +93,7 @@ number_at t rest lexeme place k e f some g token out = let step = at_place t res
 pub token_there : (t rest lexeme : Bytes) (place k : ℕ) (kind : Kind) → rest ≡ drop place t → k ≡ lexeme_len rest → 0 < k → lexeme ≡ take k rest
     → k ≤ length rest → is_blank lexeme ≡ false → is_out_of_range lexeme ≡ false → kind ≡ kind_of lexeme
     → lexed_from place (drop place t)
-      ≡ then_more (record { kind = kind; from = place; to = place + k }) (lexed_from (place + k) (drop (place + k) t))
+    ≡ then_more (record { kind = kind; from = place; to = place + k }) (lexed_from (place + k) (drop (place + k) t))
 token_there t rest lexeme place k kind e f some g le token fine h =
     let step = at_place t rest lexeme place k e f some g in
     let long : length lexeme ≡ k = ap length g ∙ length-take-le k rest le in

@@ -8,9 +8,9 @@
 --   nought_value       0 has a value
 --   range_only         the only fault of a value
 --   ok_fitted, kept_value   the test of a value, and what it gives
-use Rattle.std.proofs.Common.{◌≡◌, ◌⊎◌, inl, inr, ℕ, zero, suc, ◌+◌, ◌-◌, ◌*◌, ◌/◌, ◌^◌, ◌<◌, ◌≤◌, ◌==◌, ◌&&◌, Bool, true, false, ℤ, pos, negsuc, Ok, Err, Result, if◌then◌else◌, refl, sym, ap, ◌∙◌, subst, arith, rules, nat_le, unsigned_abs, ◌*ℤ◌, lit<}
-use Rattle.std.specs.Int.{IsGcd, ◌∣◌}
-use Rattle.std.proofs.Math.Nat.{pos_of_dvd_of_pos, div-mul_cancel, dvd-mul_right, div-le_self, mul-mul-mul_comm, mul_comm, mul_assoc, zero-mul, mul-pos, le_trans}
+use Rattle.std.proofs.Common.{◌≡◌, ◌⊎◌, inl, inr, ℕ, ◌*◌, ◌/◌, ◌<◌, ◌≤◌, Bool, true, false, pos, Ok, Err, if◌then◌else◌, refl, sym, ap, ◌∙◌, subst, arith, unsigned_abs, lit<}
+use Rattle.std.specs.Int.{◌∣◌}
+use Rattle.std.proofs.Math.Nat.{pos_of_dvd_of_pos, div-mul_cancel, dvd-mul_right, div-le_self, mul_comm, mul_assoc, zero-mul, le_trans}
 use Rattle.std.specs.Result.{is_ok}
 use Rattle.angle_fraction.specs.Fraction.{Fraction, common_factor, greatest_common, fraction, is_small, lowest, most_part, nought}
 use Rattle.angle_fraction.specs.Angles.{fitted}
@@ -67,7 +67,7 @@ value_of a b y some f =
     let den : b / g ≡ y.den = ap (λ (z : Fraction). z.den) is in
     let g_some : 0 < g = pos_of_dvd_of_pos gcd.1 some in
     let swapped : (a / g) * b ≡ a * (b / g) =
-      ap (λ n. (a / g) * n) (sym (div-mul_cancel g gcd.1) ∙ mul_comm (b / g) g) ∙ sym (mul_assoc (a / g) g (b / g)) ∙ ap (λ n. n * (b / g)) (div-mul_cancel g gcd.0) in
+    ap (λ n. (a / g) * n) (sym (div-mul_cancel g gcd.1) ∙ mul_comm (b / g) g) ∙ sym (mul_assoc (a / g) g (b / g)) ∙ ap (λ n. n * (b / g)) (div-mul_cancel g gcd.0) in
     record {
       num = a / g;
       is = sym (ap (λ (z : Fraction). z.num) is);
@@ -90,7 +90,7 @@ pub small_value : (a b : ℕ) → 0 < b → a ≤ most_part → b ≤ most_part 
 small_value a b some h k e f =
     let g = common_factor (fraction (pos a) b) in
     let small : is_small (fraction (pos (a / g)) (b / g)) ≡ true =
-      small_from (fraction (pos (a / g)) (b / g)) (le_trans (div-le_self a g) h) (le_trans (div-le_self b g) k) in
+    small_from (fraction (pos (a / g)) (b / g)) (le_trans (div-le_self a g) h) (le_trans (div-le_self b g) k) in
     let is : is_small (lowest (fraction (pos a) b)) ≡ true = ap is_small (lowest_parts a b some) ∙ small in
     let other : Ok (lowest (fraction (pos a) b)) ≡ Err e = sym (by_small (fraction (pos a) b) true is) ∙ f in cc
 

@@ -8,7 +8,7 @@
 --   exponent          what follows the `e`
 --   exponent_size     the exponent without its sign
 --   decimal           the value: the digits times a power of ten
-use Rattle.std.specs.Prelude.{ℕ, zero, suc, slice_index, ◌+◌, ◌-◌, ◌*◌, ◌^◌, Bool, pos, List, [], ◌∷◌, ◌++◌, if◌then◌else◌, drop, take, length}
+use Rattle.std.specs.Prelude.{ℕ, zero, suc, slice_index, ◌+◌, ◌-◌, ◌*◌, ◌^◌, Bool, pos, [], ◌∷◌, ◌++◌, if◌then◌else◌, drop, take, length}
 use Rattle.std.specs.List.{prefix_len}
 use Rattle.std.specs.Char.{is_ascii_digit}
 use Rattle.angle_fraction.specs.Fraction.{Fraction, fraction}

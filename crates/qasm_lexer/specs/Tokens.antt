@@ -9,8 +9,9 @@
 --   lexed_from, lexed the tokens of a text that begins at a place; of a whole text
 --   IsFaultOf         a fault that a text has; want of memory is told of no text
 --   bytes_of          a token's bytes
+--   IsTokenOf         the token stands in the text, with its kind, and if it is a number its value is kept
 --   IsNumberToken     the token's place in the text holds a number whose value is kept
-use Rattle.std.specs.Prelude.{◌≡◌, ℕ, zero, suc, ◌+◌, ◌-◌, ◌≤◌, ◌==◌, ◌&&◌, ◌||◌, Bool, true, false, not, List, [], ◌∷◌, ◌++◌, Option, Some, None, Result, Ok, Err, if◌then◌else◌, drop, take, length}
+use Rattle.std.specs.Prelude.{◌≡◌, ℕ, zero, suc, ◌+◌, ◌-◌, ◌<◌, ◌≤◌, ◌==◌, ◌&&◌, ◌||◌, Bool, true, false, not, List, [], ◌∷◌, ◌++◌, Option, Some, None, Result, Ok, Err, if◌then◌else◌, drop, take, length}
 use Rattle.std.specs.Char.{is_ascii_alphabetic, is_ascii_digit}
 use Rattle.angle_fraction.specs.Fraction.{is_small, lowest}
 use Rattle.qasm_lexer.specs.Lexemes.{Bytes, is_blank, lexeme_len}
@@ -92,6 +93,14 @@ IsFaultOf t NoMemory = Unit {0}
 -- the bytes of a token
 abbrev pub bytes_of : Bytes → Token → Bytes
 bytes_of t k = take (k.to - k.from) (drop k.from t)
+
+-- what holds of each token of a text's list
+pub record IsTokenOf (t : Bytes) (k : Token) : Type 0 where
+  pub ordered : k.from < k.to
+  pub within : k.to ≤ length t
+  pub token : is_blank (bytes_of t k) ≡ false
+  pub kind : k.kind ≡ kind_of (bytes_of t k)
+  pub fine : is_out_of_range (bytes_of t k) ≡ false
 
 pub record IsNumberToken (t : Bytes) (k : Token) : Type 0 where
   pub ordered : k.from ≤ k.to

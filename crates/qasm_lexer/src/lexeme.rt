@@ -303,5 +303,9 @@ pub fn kind_of(lexeme: &[u8]) -> Kind
 fn number_kind(lexeme: &[u8]) -> Kind
     ensures { result ≡ number_kind lexeme.now }
 {
-    if has_point(lexeme) { Kind::Real } else { Kind::Whole }
+    if has_point(lexeme) {
+        Kind::Real
+    } else {
+        Kind::Whole
+    }
 }

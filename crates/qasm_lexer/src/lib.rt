@@ -12,6 +12,8 @@ mod lexeme;
 mod number;
 mod reading;
 mod step;
+#[cfg(test)]
+mod tests;
 
 pub use reading::{lex, value};
 

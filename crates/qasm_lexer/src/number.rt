@@ -6,9 +6,8 @@ ghost use Rattle.angle_fraction.specs.Angles.{fitted};
 ghost use Rattle.qasm_lexer.specs.Lexemes.{begins_with, exponent_sign_len};
 ghost use Rattle.qasm_lexer.specs.Numbers.{behind_point, decimal, digit, exponent, exponent_size, front_digits, front_number, has_point, number, part_digits, past_digits, scaled};
 
-use angle_fraction::{AngleFault, Frac, lowest};
-
 use crate::lexeme::{after, begins_with, digits_len, exponent_sign_len, front};
+use angle_fraction::{AngleFault, Frac, lowest};
 
 /// The greatest size of an exponent that is told apart from greater ones: no text is so long.
 const FAR: usize = 1 << 40;
@@ -25,7 +24,11 @@ fn digit(byte: u8) -> u8
     ensures value { result ≡ digit byte }
     ensures bound { result ≤ 9 }
 {
-    if byte.is_ascii_digit() { byte - b'0' } else { 0 }
+    if byte.is_ascii_digit() {
+        byte - b'0'
+    } else {
+        0
+    }
 }
 
 /// The digit at a place of two runs of digits, 0 past their end.

@@ -1,17 +1,15 @@
 //! The tokens of a whole text, and the values of its numbers.
 
-ghost use Rattle.std.specs.Prelude.{◌≡◌, ℕ, ◌<◌, ◌^◌, length, IfOk, IfErr, OnErr, Ok};
+ghost use Rattle.std.specs.Prelude.{◌≡◌, ℕ, ◌<◌, ◌^◌, length, IfOk, IfErr, All, Ok};
 ghost use Rattle.angle_fraction.specs.Fraction.{lowest};
 ghost use Rattle.qasm_lexer.specs.Numbers.{decimal};
-ghost use Rattle.qasm_lexer.specs.Tokens.{IsFaultOf, IsNumberToken, bytes_of, kept, lexed};
-
-use std::alloc::Global;
-
-use angle_fraction::Frac;
+ghost use Rattle.qasm_lexer.specs.Tokens.{IsFaultOf, IsNumberToken, IsTokenOf, bytes_of, kept, lexed};
 
 use crate::number::number;
 use crate::step::lexeme_at;
 use crate::{LexFault, Token};
+use angle_fraction::Frac;
+use std::alloc::Global;
 
 /// Puts a token, where there is one, behind the others.
 fn keep(tokens: &mut Vec<Token>, token: Option<Token>) -> Result<(), LexFault>
@@ -31,6 +29,7 @@ fn keep(tokens: &mut Vec<Token>, token: Option<Token>) -> Result<(), LexFault>
 pub fn lex(alloc: Global, text: &[u8]) -> Result<Vec<Token>, LexFault>
     requires { length text.now < 2 ^ 32 }
     ensures tokens { IfOk result (λ v. lexed text.now ≡ Ok v.items) }
+    ensures each { IfOk result (λ v. All (IsTokenOf text.now) v.items) }
     ensures fault { IfErr result (IsFaultOf text.now) }
 {
     let mut tokens = Vec::new(alloc);

@@ -37,12 +37,11 @@ pub fn lexeme_at(text: &[u8], place: usize) -> Result<Lexeme, LexFault>
     requires short { length text.now < 2 ^ 32 }
     ensures { IsLexemeAt text.now place result }
 {
+    let from = place as u32;
     let rest = after(text, place);
     let len = lexeme_len(rest);
     if len == 0 {
-        return Err(LexFault::BadByte {
-            place: place as u32,
-        });
+        return Err(LexFault::BadByte { place: from });
     }
     let lexeme = front(rest, len);
     let to = place + len;
@@ -50,13 +49,11 @@ pub fn lexeme_at(text: &[u8], place: usize) -> Result<Lexeme, LexFault>
         return Ok(Lexeme { token: None, to });
     }
     if is_out_of_range(lexeme) {
-        return Err(LexFault::Number {
-            place: place as u32,
-        });
+        return Err(LexFault::Number { place: from });
     }
     let token = Token {
         kind: kind_of(lexeme),
-        from: place as u32,
+        from,
         to: to as u32,
     };
     Ok(Lexeme {

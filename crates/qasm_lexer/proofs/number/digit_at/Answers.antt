@@ -1,4 +1,4 @@
-use Rattle.std.proofs.Common.{◌≤◌, ◌++◌, length, length-append, arith}
+use Rattle.std.proofs.Common.{◌++◌, length-append, arith}
 use Rattle.qasm_lexer.proofs.DigitLaws.{digit-past}
 use Rattle.qasm_lexer.proofs.number.digit_at.Goals as goal
 

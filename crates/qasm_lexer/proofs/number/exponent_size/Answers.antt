@@ -1,4 +1,4 @@
-use Rattle.std.proofs.Common.{◌≡◌, refl, arith, ap, ◌∙◌, sym, ◌^◌, min, length}
+use Rattle.std.proofs.Common.{◌≡◌, refl, arith, ap, ◌∙◌, sym, min, length}
 use Rattle.qasm_lexer.specs.Numbers.{front_number}
 use Rattle.qasm_lexer.proofs.DigitLaws.{front_number-next, number-front}
 use Rattle.qasm_lexer.proofs.number.exponent_size.Goals as goal

@@ -1,4 +1,4 @@
-use Rattle.std.proofs.Common.{◌≡◌, refl, arith, ap, ◌∙◌, sym, ◌++◌}
+use Rattle.std.proofs.Common.{refl, arith, ◌++◌}
 use Rattle.qasm_lexer.specs.Numbers.{front_number}
 use Rattle.qasm_lexer.proofs.DigitLaws.{front_number-next}
 use Rattle.qasm_lexer.proofs.number.head.Goals as goal

@@ -1,4 +1,4 @@
-use Rattle.std.proofs.Common.{◌≡◌, ◌<◌, ◌++◌, ◌+◌, ap, ◌∙◌, sym, arith, length, Ok}
+use Rattle.std.proofs.Common.{◌≡◌, ◌++◌, ap, ◌∙◌, sym, arith, length, Ok}
 use Rattle.qasm_lexer.specs.Numbers.{number, scaled}
 use Rattle.qasm_lexer.proofs.ScaledLaws.{all_digits, scaled-nought}
 use Rattle.qasm_lexer.proofs.number.scaled.Goals as goal

@@ -9,7 +9,7 @@ use Rattle.qasm_lexer.proofs.number.scaled_down.Goals as goal
 pub returns-then-places-digits : goal.returns-then-places-digits
 returns-then-places-digits c =
     far_down (number (c.args.whole.now ++ c.args.part.now)) (length c.args.whole.now + length c.args.part.now) (length c.args.part.now + c.args.size)
-      c.requires.some (digits_short c.args.whole.now c.args.part.now) (omega arith)
+    c.requires.some (digits_short c.args.whole.now c.args.part.now) (omega arith)
 
 pub returns : goal.returns
 returns c =

@@ -1,4 +1,4 @@
-use Rattle.std.proofs.Common.{◌≡◌, ◌++◌, ◌+◌, ◌-◌, ◌*◌, ◌^◌, ap, ◌∙◌, arith, length, pos}
+use Rattle.std.proofs.Common.{◌++◌, ◌-◌, ◌^◌, ap, ◌∙◌, arith, length, pos}
 use Rattle.angle_fraction.specs.Fraction.{fraction}
 use Rattle.angle_fraction.specs.Angles.{fitted}
 use Rattle.qasm_lexer.specs.Numbers.{number}

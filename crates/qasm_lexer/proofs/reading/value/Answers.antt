@@ -1,5 +1,5 @@
-use Rattle.std.proofs.Common.{◌≡◌, ◌∙◌, sym, ap, subst, refl, Ok}
-use Rattle.std.specs.Result.{IsOk, is_ok}
+use Rattle.std.proofs.Common.{◌≡◌, ◌∙◌, sym, ap, Ok}
+use Rattle.std.specs.Result.{is_ok}
 use Rattle.angle_fraction.specs.Fraction.{lowest}
 use Rattle.qasm_lexer.specs.Numbers.{decimal}
 use Rattle.qasm_lexer.specs.Tokens.{bytes_of}
@@ -12,5 +12,5 @@ unwrap-requires c = ap is_ok (c.number.ensures ∙ kept_value (decimal (bytes_of
 pub returns : goal.returns
 returns c =
     let same : Ok c.unwrap.result ≡ Ok (lowest (decimal (bytes_of c.args.text.now c.args.token.now))) =
-      sym c.unwrap.ensures ∙ c.number.ensures ∙ kept_value (decimal (bytes_of c.args.text.now c.args.token.now)) c.requires.number.value in
+    sym c.unwrap.ensures ∙ c.number.ensures ∙ kept_value (decimal (bytes_of c.args.text.now c.args.token.now)) c.requires.number.value in
     cc
