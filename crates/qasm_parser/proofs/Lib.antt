@@ -1,0 +1,13 @@
+pub mod CodeLaws
+pub mod ExpressionLaws
+pub mod FormLaws
+pub mod FrameLaws
+pub mod ListLaws
+pub mod OnceLaws
+pub mod PlaceLaws
+pub mod RepeatLaws
+pub mod StatementLaws
+pub mod StepLaws
+pub mod SumLaws
+pub mod SymbolLaws
+pub mod TreeLaws

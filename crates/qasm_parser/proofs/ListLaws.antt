@@ -1,0 +1,120 @@
+-- What the loops over lists need: the list so far is put in front of what is still to come.
+--   more-first, more-step, more-last, more-fail   the first member, one more, none more, one that can't be read
+--   names, args, angles   these for each kind of list
+use Rattle.std.proofs.Common.{◌≡◌, ℕ, zero, suc, ◌+◌, ◌<◌, ◌≤◌, Bool, true, false, if◌then◌else◌, List, [], ◌∷◌, ◌++◌, Option, Some, None, refl, sym, ap, ◌∙◌, subst, length, map, arith, append-nil, lit≤, option_map, option_and_then}
+use Rattle.qasm_parser.specs.declared.symbols.Mark.TheVariants.{Comma}
+use Rattle.qasm_parser.specs.declared.tree.Arg.{Arg}
+use Rattle.qasm_parser.specs.Symbols.{Symbol, mark}
+use Rattle.std.proofs.lemmas.List.{map-append}
+use Rattle.qasm_parser.specs.declared.tree.Expr.{Expr}
+use Rattle.qasm_parser.specs.Tree.{Expression, expression}
+use Rattle.qasm_parser.specs.Spelling.{SpellsAngle, SpellsArg, SpellsName}
+use Rattle.qasm_parser.specs.Reading.{Read, all, angle_of, arg_of, first_of, is_mark, list_of, more_of, name_of, onto, read, skip}
+use Rattle.qasm_parser.proofs.RepeatLaws.{Shrinks, all-end, all-more, all-none, more-shrinks, onto-onto, skip-sound}
+use Rattle.qasm_parser.proofs.ExpressionLaws.{NoSign}
+use Rattle.qasm_parser.proofs.FormLaws.{Any, NoBracket, angle-complete, angle-sound, angle-takes, shown, arg-complete, arg-sound, arg-takes, name-complete, name-list, name-takes}
+
+first_of-none : (d : Option ℕ) → first_of d None ≡ d
+first_of-none None = refl
+first_of-none (Some n) = refl
+
+module _ {A : Type 0} (item : List Symbol → Option (Read A)) where
+  more-comma : (ts us : List Symbol) → skip Comma ts ≡ Some us → more_of item ts ≡ option_map Some (item us)
+  more-comma ts us h = ap (more_of item) (skip-sound Comma ts us h)
+
+  more-other : (ts : List Symbol) → skip Comma ts ≡ None → more_of item ts ≡ Some None
+  more-other [] h = refl
+  more-other (t ∷ ts) h = by_test (is_mark Comma t) refl h
+    where
+      by_test : (b : Bool) → is_mark Comma t ≡ b → (if b then Some ts else None) ≡ None → more_of item (t ∷ ts) ≡ Some None
+      by_test true is h' = cc
+      by_test false is h' = rw (is, more_of) refl
+
+  more-step : Shrinks (more_of item) → (front : List A) (deep : Option ℕ) (ts us : List Symbol) (x : Read A) → skip Comma ts ≡ Some us → item us ≡ Some x
+      → onto front deep (all (more_of item) ts) ≡ onto (front ++ x.value ∷ []) (first_of deep x.deep) (all (more_of item) x.rest)
+  more-step shrinks front deep ts us x h e =
+      ap (onto front deep) (all-more (more_of item) shrinks ts x (more-comma ts us h ∙ ap (option_map Some) e))
+      ∙ sym (onto-onto front (x.value ∷ []) deep x.deep (all (more_of item) x.rest))
+
+  more-last : (front : List A) (deep : Option ℕ) (ts : List Symbol) → skip Comma ts ≡ None → onto front deep (all (more_of item) ts) ≡ Some (read front deep ts)
+  more-last front deep ts h =
+      ap (onto front deep) (all-end (more_of item) ts (more-other ts h)) ∙ rw (append-nil, first_of-none) refl
+
+  more-fail : (front : List A) (deep : Option ℕ) (ts us : List Symbol) → skip Comma ts ≡ Some us → item us ≡ None → onto front deep (all (more_of item) ts) ≡ None
+  more-fail front deep ts us h e = ap (onto front deep) (all-none (more_of item) ts (more-comma ts us h ∙ ap (option_map Some) e))
+
+  list-first : (ts : List Symbol) (x : Read A) → item ts ≡ Some x → list_of item ts ≡ onto (x.value ∷ []) x.deep (all (more_of item) x.rest)
+  list-first ts x e = rw (e, list_of) refl
+
+-- ---- names
+names-shrink : Shrinks (more_of name_of)
+names-shrink = more-shrinks 64 (λ n. n) SpellsName name_of (name-list 64) Any (name-takes 64) (λ ts. tt) (name-complete 64)
+
+pub names-first : (ts rest : List Symbol) (n : List ℕ) → name_of ts ≡ Some (read n None rest) → onto (n ∷ []) None (all (more_of name_of) rest) ≡ list_of name_of ts
+names-first ts rest n e = sym (list-first name_of ts _ e)
+
+pub names-step : (front : List (List ℕ)) (ts us rest : List Symbol) (n : List ℕ) → skip Comma ts ≡ Some us → name_of us ≡ Some (read n None rest)
+    → onto (front ++ n ∷ []) None (all (more_of name_of) rest) ≡ onto front None (all (more_of name_of) ts)
+names-step front ts us rest n h e = sym (more-step name_of names-shrink front None ts us _ h e)
+
+pub names-last : (front : List (List ℕ)) (ts : List Symbol) → skip Comma ts ≡ None → onto front None (all (more_of name_of) ts) ≡ Some (read front None ts)
+names-last front ts h = more-last name_of front None ts h
+
+pub names-fail : (front : List (List ℕ)) (ts us : List Symbol) → skip Comma ts ≡ Some us → name_of us ≡ None → onto front None (all (more_of name_of) ts) ≡ None
+names-fail front ts us h e = more-fail name_of front None ts us h e
+
+pub names-none : (ts : List Symbol) → name_of ts ≡ None → list_of name_of ts ≡ None
+names-none ts e = rw (e, list_of) refl
+
+pub ruleset names = (names-first, names-step, names-last, names-fail, names-none)
+
+-- ---- arguments
+args-shrink : (plain : Bool) → Shrinks (more_of (arg_of plain))
+args-shrink plain = more-shrinks 64 (λ a. a) (SpellsArg plain) (arg_of plain) (arg-sound 64 plain) NoBracket (arg-takes 64 plain) (λ ts. refl) (arg-complete 64 plain)
+
+pub args-first : (plain : Bool) (ts rest : List Symbol) (a : Arg) → arg_of plain ts ≡ Some (read a None rest)
+    → onto (a ∷ []) None (all (more_of (arg_of plain)) rest) ≡ list_of (arg_of plain) ts
+args-first plain ts rest a e = sym (list-first (arg_of plain) ts _ e)
+
+pub args-step : (plain : Bool) (front : List Arg) (ts us rest : List Symbol) (a : Arg) → skip Comma ts ≡ Some us → arg_of plain us ≡ Some (read a None rest)
+    → onto (front ++ a ∷ []) None (all (more_of (arg_of plain)) rest) ≡ onto front None (all (more_of (arg_of plain)) ts)
+args-step plain front ts us rest a h e = sym (more-step (arg_of plain) (args-shrink plain) front None ts us _ h e)
+
+pub args-last : (plain : Bool) (front : List Arg) (ts : List Symbol) → skip Comma ts ≡ None → onto front None (all (more_of (arg_of plain)) ts) ≡ Some (read front None ts)
+args-last plain front ts h = more-last (arg_of plain) front None ts h
+
+pub args-fail : (plain : Bool) (front : List Arg) (ts us : List Symbol) → skip Comma ts ≡ Some us → arg_of plain us ≡ None → onto front None (all (more_of (arg_of plain)) ts) ≡ None
+args-fail plain front ts us h e = more-fail (arg_of plain) front None ts us h e
+
+pub args-none : (plain : Bool) (ts : List Symbol) → arg_of plain ts ≡ None → list_of (arg_of plain) ts ≡ None
+args-none plain ts e = rw (e, list_of) refl
+
+pub ruleset args = (args-first, args-step, args-last, args-fail, args-none)
+
+-- ---- angles
+angles-shrink : Shrinks (more_of (angle_of 64))
+angles-shrink = more-shrinks 64 (shown 64 (lit≤ tt)) SpellsAngle (angle_of 64) (angle-sound 64 (lit≤ tt)) NoSign (angle-takes 64 (shown 64 (lit≤ tt))) (λ ts. tt) (angle-complete 64 (lit≤ tt))
+
+pub angles-first : (ts rest : List Symbol) (e : Expression) (d : Option ℕ) → angle_of 64 ts ≡ Some (read e d rest)
+    → onto (e ∷ []) d (all (more_of (angle_of 64)) rest) ≡ list_of (angle_of 64) ts
+angles-first ts rest e d h = sym (list-first (angle_of 64) ts _ h)
+
+pub angles-step : (front : List Expr) (deep : Option ℕ) (ts us rest : List Symbol) (e : Expr) (d : Option ℕ) → skip Comma ts ≡ Some us
+    → angle_of 64 us ≡ Some (read (expression e) d rest)
+    → onto (map expression (front ++ e ∷ [])) (first_of deep d) (all (more_of (angle_of 64)) rest) ≡ onto (map expression front) deep (all (more_of (angle_of 64)) ts)
+angles-step front deep ts us rest e d h k =
+    ap (λ xs. onto xs (first_of deep d) (all (more_of (angle_of 64)) rest)) (map-append expression front (e ∷ []))
+    ∙ sym (more-step (angle_of 64) angles-shrink (map expression front) deep ts us _ h k)
+
+pub angles-last : (front : List Expression) (deep : Option ℕ) (ts : List Symbol) → skip Comma ts ≡ None
+    → onto front deep (all (more_of (angle_of 64)) ts) ≡ Some (read front deep ts)
+angles-last front deep ts h = more-last (angle_of 64) front deep ts h
+
+pub angles-fail : (front : List Expression) (deep : Option ℕ) (ts us : List Symbol) → skip Comma ts ≡ Some us → angle_of 64 us ≡ None
+    → onto front deep (all (more_of (angle_of 64)) ts) ≡ None
+angles-fail front deep ts us h e = more-fail (angle_of 64) front deep ts us h e
+
+pub angles-none : (ts : List Symbol) → angle_of 64 ts ≡ None → list_of (angle_of 64) ts ≡ None
+angles-none ts e = rw (e, list_of) refl
+
+pub ruleset angles = (angles-first, angles-step, angles-last, angles-fail, angles-none)

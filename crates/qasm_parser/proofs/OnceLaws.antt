@@ -1,0 +1,173 @@
+-- A text with its tokens spells one tree.
+--   high             a limit that no expression of these is deeper than
+--   tree-shown       a tree without a too deep expression is read as it is
+--   only_one         two trees that are spelt by the same symbols are one
+--   spelt_once, no_fault   the same of a text; a text that is accepted has no fault
+--   accepted, refused, other_version, too_deep   what a reading says of a text
+use Rattle.std.proofs.Common.{◌≡◌, ◌≢◌, ℕ, zero, suc, ◌+◌, ◌<◌, ◌≤◌, max, Bool, true, false, nat_le, if◌then◌else◌, List, [], ◌∷◌, ◌++◌, Option, Some, None, refl, sym, ap, ◌∙◌, subst, length, map, arith, lit≤}
+use Rattle.std.proofs.lemmas.Bool.Decides.{nat_tests}
+use Rattle.qasm_lexer.specs.declared.Token.{Token}
+use Rattle.qasm_parser.specs.declared.tree.Arg.{Arg}
+use Rattle.qasm_parser.specs.Symbols.{Symbol, mark, place_of, symbols}
+use Rattle.qasm_parser.specs.declared.ParseFault.{ParseFault}
+use Rattle.qasm_parser.specs.declared.ParseFault.TheVariants.{Syntax, Version, Depth, NoMemory}
+use Rattle.qasm_parser.specs.declared.symbols.Mark.TheVariants.{CloseBrace, Close, Semicolon}
+use Rattle.qasm_parser.specs.Tree.{Expression, depth, Application, Action, apply, measure, reset, barrier, Definition, definition, Statement, include, register, gate, opaque, conditional, act, Tree}
+use Rattle.qasm_parser.specs.Machine.{capped}
+use Rattle.qasm_parser.specs.Spelling.{BehindComma, Form, by_u, by_cx, alone, empty, listed, Seen, seen, Spells, SpellsAction, SpellsAngle, SpellsApplication, SpellsEach, SpellsForm, SpellsItem, SpellsList, SpellsStatement, SpellsTree}
+use Rattle.qasm_parser.specs.Reading.{Read, first_deep, first_of, kept, read, tree_of}
+use Rattle.qasm_parser.specs.Parsing.{IsFault, IsProgram, first_deep_of, real_place, two, Spells as SpellsText}
+use Rattle.qasm_parser.proofs.RepeatLaws.{first_deep-append}
+use Rattle.qasm_parser.proofs.FormLaws.{shown, shown_action, shown_application}
+use Rattle.qasm_parser.proofs.StatementLaws.{TreeSpelt, shown_statement, shown_tree, tree-complete, tree-sound}
+
+-- ---- limits
+abbrev pub high : List Seen → ℕ
+high [] = 1
+high (s ∷ found) = max s.depth (high found)
+
+high-some : (found : List Seen) → 1 ≤ high found
+high-some [] = omega arith
+high-some (s ∷ found) = let h = high-some found in omega arith
+
+high-none : (limit : ℕ) (found : List Seen) → high found ≤ limit → first_deep limit found ≡ None
+high-none limit [] h = refl
+high-none limit (s ∷ found) h =
+    let t : nat_le s.depth limit ≡ true = grind (arith, nat_tests) in
+    rw t (high-none limit found (omega arith))
+
+none-both : (a b : Option ℕ) → first_of a b ≡ None → (a ≡ None) × (b ≡ None)
+none-both None b e = (refl, e)
+none-both (Some a) b e = cc
+
+-- nothing is too deep in a part where nothing is too deep in the whole
+parts : (limit : ℕ) (here later found : List Seen) → found ≡ here ++ later → first_deep limit found ≡ None
+    → (first_deep limit here ≡ None) × (first_deep limit later ≡ None)
+parts limit here later found is e =
+    none-both (first_deep limit here) (first_deep limit later) (sym (first_deep-append limit here later) ∙ ap (first_deep limit) (sym is) ∙ e)
+
+-- ---- what is read as it is
+module _ (limit : ℕ) (positive : 1 ≤ limit) where
+  abbrev Kept : {A : Type 0} → (A → A) → Spells A → Type 0
+  Kept {A} cap R = (x : A) (ts rest : List Symbol) (found : List Seen) → R x ts rest found → first_deep limit found ≡ None → cap x ≡ x
+
+  each-shown : {A : Type 0} (cap : A → A) (R : Spells A) → Kept cap R → (xs : List A) (ts rest : List Symbol) (found : List Seen) → SpellsEach R xs ts rest found
+      → first_deep limit found ≡ None → map cap xs ≡ xs
+  each-shown cap R kept [] ts rest found s e = refl
+  each-shown cap R kept (x ∷ xs) ts rest found s e =
+      let p = parts limit s.1 s.2 found s.5 e in
+      ap (λ y. y ∷ map cap xs) (kept x ts s.0 s.1 s.3 p.0) ∙ ap (λ ys. x ∷ ys) (each-shown cap R kept xs s.0 rest s.2 s.4 p.1)
+
+  list-shown : {A : Type 0} (cap : A → A) (R : Spells A) → Kept cap R → (xs : List A) (ts rest : List Symbol) (found : List Seen) → SpellsList R xs ts rest found
+      → first_deep limit found ≡ None → map cap xs ≡ xs
+  list-shown cap R kept [] ts rest found s e = absurd s
+  list-shown cap R kept (x ∷ xs) ts rest found s e =
+      let p = parts limit s.1 s.2 found s.5 e in
+      ap (λ y. y ∷ map cap xs) (kept x ts s.0 s.1 s.3 p.0)
+      ∙ ap (λ ys. x ∷ ys) (each-shown cap (BehindComma R) (λ y us vs f h k. kept y h.0 vs f h.2 k) xs s.0 rest s.2 s.4 p.1)
+
+  angle-shown : Kept (shown limit positive) SpellsAngle
+  unfolding capped
+  angle-shown e ts rest found s none = by_test (nat_le (depth e) limit) (sym (ap (first_deep limit) s.1) ∙ none)
+    where
+      by_test : (b : Bool) → (if b then None else Some (length ts)) ≡ None → kept (if b then Some e else None) ≡ e
+      by_test true h = refl
+      by_test false h = cc
+
+  form-shown : (form : Form) (a : Application) (ts rest : List Symbol) (found : List Seen) → SpellsForm form a ts rest found → first_deep limit found ≡ None
+      → map (shown limit positive) a.angles ≡ a.angles
+  form-shown by_u a ts rest found s e = list-shown (shown limit positive) SpellsAngle angle-shown a.angles s.1 (mark Close ∷ rest) found s.3 e
+  form-shown by_cx a ts rest found s e = rw s.1 refl
+  form-shown alone a ts rest found s e = rw s.0 refl
+  form-shown empty a ts rest found s e = rw s.0 refl
+  form-shown listed a ts rest found s e = list-shown (shown limit positive) SpellsAngle angle-shown a.angles s.0 (mark Close ∷ rest) found s.2 e
+
+  application-shown : (plain : Bool) → Kept (shown_application limit positive) (SpellsApplication plain)
+  application-shown plain a ts rest found s e =
+      ap (λ es. record { gate = a.gate; angles = es; args = a.args }) (form-shown s.0 a ts s.1 found s.2 e)
+
+  action-shown : Kept (shown_action limit positive) SpellsAction
+  action-shown (apply a) ts rest found s e = ap apply (application-shown false a ts rest found s e)
+  action-shown (measure q b) ts rest found s e = refl
+  action-shown (reset a) ts rest found s e = refl
+  action-shown (barrier args) ts rest found s e = refl
+
+  item-shown : Kept (shown_action limit positive) SpellsItem
+  item-shown (apply a) ts rest found s e = ap apply (application-shown true a ts rest found s e)
+  item-shown (measure q b) ts rest found s e = refl
+  item-shown (reset a) ts rest found s e = refl
+  item-shown (barrier args) ts rest found s e = refl
+
+  statement-shown : Kept (shown_statement limit positive) SpellsStatement
+  statement-shown (include file) ts rest found s e = refl
+  statement-shown (register quantum bytes size) ts rest found s e = refl
+  statement-shown (gate d) ts rest found s e =
+      ap (λ xs. gate (definition d.name d.params d.qubits xs)) (each-shown (shown_action limit positive) SpellsItem item-shown d.body s.1 (mark CloseBrace ∷ rest) found s.4 e)
+  statement-shown (opaque d) ts rest found s e = refl
+  statement-shown (conditional bytes value inner) ts rest found s e = ap (conditional bytes value) (action-shown inner s.0 rest found s.3 e)
+  statement-shown (act x) ts rest found s e = ap act (action-shown x ts rest found s e)
+
+  pub tree-shown : (t : Tree) (ts : List Symbol) (found : List Seen) → SpellsTree t ts found → first_deep limit found ≡ None → shown_tree limit positive t ≡ t
+  tree-shown t ts found s e =
+      ap (λ xs. record { version = t.version; list = xs }) (each-shown (shown_statement limit positive) SpellsStatement statement-shown t.list s.0 [] found s.2 e)
+
+-- ---- one tree
+same-read : {A : Type 0} (a b : A) (d e : Option ℕ) (ts : List Symbol) → ◌≡◌ {A = Option (Read A)} (Some (read a d ts)) (Some (read b e ts)) → (a ≡ b) × (d ≡ e)
+same-read a b d e ts h =
+    let same : read a d ts ≡ read b e ts = cc in
+    (ap (λ r. r.value) same, ap (λ r. r.deep) same)
+
+pub only_one : (ts : List Symbol) (a b : Tree) (f g : List Seen) → SpellsTree a ts f → SpellsTree b ts g → (a ≡ b) × (first_deep_of f ≡ first_deep_of g)
+only_one ts a b f g s t =
+    let limit : ℕ = max (high f) (high g) in
+    let some = high-some f in
+    let positive : 1 ≤ max (high f) (high g) = omega arith in
+    let one = tree-complete (max (high f) (high g)) positive a ts f s in
+    let two = tree-complete (max (high f) (high g)) positive b ts g t in
+    let same = same-read _ _ _ _ [] (sym one ∙ two) in
+    let at_limit = same-read _ _ _ _ [] (sym (tree-complete 64 (lit≤ tt) a ts f s) ∙ tree-complete 64 (lit≤ tt) b ts g t) in (
+      sym (tree-shown (max (high f) (high g)) positive a ts f s (high-none _ f (omega arith)))
+          ∙ same.0 ∙ tree-shown (max (high f) (high g)) positive b ts g t (high-none _ g (omega arith)),
+      at_limit.1,
+    )
+
+-- ---- what a reading says of a text
+pub accepted : (text : List ℕ) (tokens : List Token) (t : Tree) (rest : List Symbol) → tree_of 64 (symbols text tokens) ≡ Some (read t None rest) → t.version ≡ two
+    → IsProgram text tokens t
+accepted text tokens t rest e version =
+    let s = tree-sound 64 (lit≤ tt) (symbols text tokens) (read t None rest) e in
+    let same : t ≡ s.it = s.value ∙ tree-shown 64 (lit≤ tt) s.it (symbols text tokens) s.found s.spells (sym s.deep) in
+    (s.found, subst (λ (x : Tree). SpellsText text tokens x s.found) (sym same) s.spells, version, sym s.deep)
+
+pub refused : (text : List ℕ) (tokens : List Token) → tree_of 64 (symbols text tokens) ≡ None → (t : Tree) (found : List Seen) → SpellsText text tokens t found → ⊥
+refused text tokens e t found s = let k = tree-complete 64 (lit≤ tt) t (symbols text tokens) found s in cc
+
+pub other_version : (text : List ℕ) (tokens : List Token) (t : Tree) (d : Option ℕ) (rest : List Symbol) → tree_of 64 (symbols text tokens) ≡ Some (read t d rest)
+    → t.version ≢ two → IsFault text tokens (Version (real_place text tokens))
+other_version text tokens t d rest e version =
+    let s = tree-sound 64 (lit≤ tt) (symbols text tokens) (read t d rest) e in
+    (s.it, s.found, s.spells, (λ is. version (ap (λ (x : Tree). x.version) s.value ∙ is)), refl)
+
+pub too_deep : (text : List ℕ) (tokens : List Token) (t : Tree) (left : ℕ) (rest : List Symbol) → tree_of 64 (symbols text tokens) ≡ Some (read t (Some left) rest)
+    → t.version ≡ two → IsFault text tokens (Depth (place_of text tokens left))
+too_deep text tokens t left rest e version =
+    let s = tree-sound 64 (lit≤ tt) (symbols text tokens) (read t (Some left) rest) e in
+    (s.it, s.found, left, s.spells, sym (ap (λ (x : Tree). x.version) s.value) ∙ version, sym s.deep, refl)
+
+pub ruleset verdicts = (accepted, refused, other_version, too_deep)
+
+-- ---- exactness
+pub spelt_once : (text : List ℕ) (tokens : List Token) (a b : Tree) (f g : List Seen) → SpellsText text tokens a f → SpellsText text tokens b g
+    → (a ≡ b) × (first_deep_of f ≡ first_deep_of g)
+spelt_once text tokens a b f g s t = only_one (symbols text tokens) a b f g s t
+
+pub no_fault : (text : List ℕ) (tokens : List Token) (t : Tree) (fault : ParseFault) → IsProgram text tokens t → IsFault text tokens fault → fault ≡ NoMemory
+no_fault text tokens t (Syntax place) p f = absurd (f.0 t p.0 p.1)
+no_fault text tokens t (Version place) p f =
+    let same = only_one (symbols text tokens) t f.0 p.0 f.1 p.1 f.2 in
+    absurd (f.3 (sym (ap (λ (x : Tree). x.version) same.0) ∙ p.2))
+no_fault text tokens t (Depth place) p f =
+    let same = only_one (symbols text tokens) t f.0 p.0 f.1 p.1 f.3 in
+    let none = sym p.3 ∙ same.1 ∙ f.5 in
+    cc
+no_fault text tokens t NoMemory p f = refl

@@ -1,0 +1,13 @@
+use Rattle.std.proofs.Common.{◌≡◌, ℕ, ◌≤◌, length, map}
+use Rattle.qasm_parser.specs.Tree.{expression}
+use Rattle.qasm_parser.specs.Reading.{all, angle_of, list_of, more_of, onto}
+use Rattle.qasm_parser.proofs.apply.angle_list.Given as goal
+
+abbrev pub invariant-angles : goal.invariant-angles
+invariant-angles l = record {
+  same : onto (map expression l.list.items) l.deep (all (more_of (angle_of 64)) l.cursor) ≡ list_of (angle_of 64) l.fn.cursor;
+  shorter : length l.cursor ≤ length l.fn.cursor;
+}
+
+abbrev pub decreases-angles : goal.decreases-angles
+decreases-angles l = length l.cursor

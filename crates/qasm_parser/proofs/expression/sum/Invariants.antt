@@ -1,0 +1,14 @@
+use Rattle.std.proofs.Common.{◌≡◌, ℕ, ◌≤◌, length}
+use Rattle.qasm_parser.specs.Frames.{stack}
+use Rattle.qasm_parser.specs.Machine.{sum_of}
+use Rattle.qasm_parser.specs.Modes.{go, steps}
+use Rattle.qasm_parser.proofs.expression.sum.Given as goal
+
+abbrev pub invariant-steps : goal.invariant-steps
+invariant-steps l = record {
+  same : go (stack l.frames.items) l.mode l.cursor ≡ sum_of 64 l.initial.cursor;
+  shorter : length l.cursor ≤ length l.initial.cursor;
+}
+
+abbrev pub decreases-steps : goal.decreases-steps
+decreases-steps l = steps l.mode (length l.cursor)

@@ -1,0 +1,13 @@
+use Rattle.std.proofs.Common.{◌≡◌, ℕ, ◌≤◌, length, map}
+use Rattle.qasm_parser.specs.Tree.{statement}
+use Rattle.qasm_parser.specs.Reading.{all, more_statements, onto}
+use Rattle.qasm_parser.proofs.program.statements.Given as goal
+
+abbrev pub invariant-statements : goal.invariant-statements
+invariant-statements l = record {
+  same : onto (map statement l.list.items) l.deep (all (more_statements 64) l.cursor) ≡ all (more_statements 64) l.fn.cursor;
+  shorter : length l.cursor ≤ length l.fn.cursor;
+}
+
+abbrev pub decreases-statements : goal.decreases-statements
+decreases-statements l = length l.cursor

@@ -1,0 +1,63 @@
+-- Expressions: how they are spelt, in five levels.
+--   level           1 for a sum, 2 a product, 3 a signed part, 4 a power, 5 an atom
+--   left_level, right_level   the least level of what stands to the left and right of a sign
+--   IsShaped        each part has a level that may stand in its place without parentheses
+--   Reads e ts rest   the symbols ts are those of an expression, and then rest
+--   SpellsSum       the same for an expression in its levels
+use Rattle.std.specs.Prelude.{◌≡◌, ℕ, ◌≤◌, List, ◌∷◌, ◌⊎◌}
+use Rattle.qasm_parser.specs.declared.tree.Binary.{Binary}
+use Rattle.qasm_parser.specs.declared.tree.Binary.TheVariants.{Add, Sub, Mul, Div, Pow}
+use Rattle.qasm_parser.specs.declared.symbols.Keyword.TheVariants.{Pi}
+use Rattle.qasm_parser.specs.declared.symbols.Mark.TheVariants.{Open, Close}
+use Rattle.qasm_parser.specs.Symbols.{Symbol, word, function, name, whole, real, mark, sign}
+use Rattle.qasm_parser.specs.Tree.{Expression, number, pi, param, negated, paren, call, binary}
+
+-- a sum is product, then any number of + or - product; a product is signed, then any number of * or / signed;
+-- signed is - signed, or a power; a power is an atom, or atom ^ signed
+abbrev pub sign_level : Binary → ℕ
+sign_level Add = 1
+sign_level Sub = 1
+sign_level Mul = 2
+sign_level Div = 2
+sign_level Pow = 4
+
+abbrev pub left_level : Binary → ℕ
+left_level Add = 1
+left_level Sub = 1
+left_level Mul = 2
+left_level Div = 2
+left_level Pow = 5
+
+abbrev pub right_level : Binary → ℕ
+right_level Add = 2
+right_level Sub = 2
+right_level Mul = 3
+right_level Div = 3
+right_level Pow = 3
+
+abbrev pub level : Expression → ℕ
+level (negated part) = 3
+level (binary s left right) = sign_level s
+level _ = 5
+
+abbrev pub IsShaped : Expression → Type 0
+IsShaped (negated part) = (3 ≤ level part) × IsShaped part
+IsShaped (paren part) = IsShaped part
+IsShaped (call f part) = IsShaped part
+IsShaped (binary s left right) =
+    (left_level s ≤ level left) × (right_level s ≤ level right) × IsShaped left × IsShaped right
+IsShaped _ = Unit {0}
+
+abbrev pub Reads : Expression → List Symbol → List Symbol → Type 0
+Reads (number value) ts rest = (ts ≡ whole value ∷ rest) ⊎ (ts ≡ real value ∷ rest)
+Reads pi ts rest = ts ≡ word Pi ∷ rest
+Reads (param bytes) ts rest = ts ≡ name bytes ∷ rest
+Reads (negated part) ts rest = (mid : List Symbol) × (ts ≡ sign Sub ∷ mid) × Reads part mid rest
+Reads (paren part) ts rest = (mid : List Symbol) × (ts ≡ mark Open ∷ mid) × Reads part mid (mark Close ∷ rest)
+Reads (call f part) ts rest =
+    (mid : List Symbol) × (ts ≡ function f ∷ mark Open ∷ mid) × Reads part mid (mark Close ∷ rest)
+Reads (binary s left right) ts rest = (mid : List Symbol) × Reads left ts (sign s ∷ mid) × Reads right mid rest
+
+pub record SpellsSum (e : Expression) (ts rest : List Symbol) : Type 0 where
+  pub shaped : IsShaped e
+  pub reads : Reads e ts rest

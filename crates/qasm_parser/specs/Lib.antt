@@ -1,0 +1,13 @@
+pub mod Expressions
+pub mod Frames
+pub mod Heads
+pub mod Machine
+pub mod Misread
+pub mod Modes
+pub mod Parsing
+pub mod Parts
+pub mod Reading
+pub mod Spelling
+pub mod Symbols
+pub mod Tree
+pub mod Views

@@ -1,0 +1,129 @@
+//! Measures, resets, barriers and applications, and the body of a gate. Where an expression is deeper than the limit is
+//! told as for applications.
+
+ghost use Rattle.std.specs.Prelude.{◌≡◌, ◌≤◌, ◌<◌, [], Some, None, map, IfOk, IfErr, OnOk, length};
+ghost use Rattle.qasm_parser.specs.Misread.{IsMisread};
+ghost use Rattle.qasm_parser.specs.Tree.{act, action, statement};
+ghost use Rattle.qasm_parser.specs.Reading.{action_of, all, application_of, barrier_of, body_of, item_of, measure_of, more_items, read, reset_of, with_apply};
+
+use crate::apply::{application, earlier};
+use crate::cursor::Cursor;
+use crate::lists::{arg, args, expect, is_next, take_word};
+use crate::stop::Stop;
+use crate::symbols::{Keyword, Mark};
+use crate::tree::Stmt;
+use std::alloc::Global;
+
+/// A measure, from behind its word.
+#[tactic(auto, unfolding(crate::specs::Reading::measure_of))]
+fn measure(alloc: Global, cursor: &mut Cursor<'_>) -> Result<Stmt, Stop>
+    ensures ok { IfOk result (λ s. measure_of cursor.old ≡ Some (read (action s) None cursor.new)) }
+    ensures acts { IfOk result (λ s. statement s ≡ act (action s)) }
+    ensures err { IfErr result (IsMisread (measure_of cursor.old) (length cursor.old)) }
+    ensures rest { OnOk result (length cursor.new ≤ length cursor.old) }
+{
+    let qubit = arg(alloc, cursor, false)?;
+    expect(cursor, Mark::Arrow)?;
+    let bit = arg(alloc, cursor, false)?;
+    expect(cursor, Mark::Semicolon)?;
+    Ok(Stmt::Measure { qubit, bit })
+}
+
+/// A reset, from behind its word.
+#[tactic(auto, unfolding(crate::specs::Reading::reset_of))]
+fn reset(alloc: Global, cursor: &mut Cursor<'_>) -> Result<Stmt, Stop>
+    ensures ok { IfOk result (λ s. reset_of cursor.old ≡ Some (read (action s) None cursor.new)) }
+    ensures acts { IfOk result (λ s. statement s ≡ act (action s)) }
+    ensures err { IfErr result (IsMisread (reset_of cursor.old) (length cursor.old)) }
+    ensures rest { OnOk result (length cursor.new ≤ length cursor.old) }
+{
+    let arg = arg(alloc, cursor, false)?;
+    expect(cursor, Mark::Semicolon)?;
+    Ok(Stmt::Reset { arg })
+}
+
+/// A barrier, from behind its word.
+#[tactic(auto, unfolding(crate::specs::Reading::barrier_of))]
+pub fn barrier(alloc: Global, cursor: &mut Cursor<'_>, plain: bool) -> Result<Stmt, Stop>
+    ensures ok { IfOk result (λ s. barrier_of plain cursor.old ≡ Some (read (action s) None cursor.new)) }
+    ensures acts { IfOk result (λ s. statement s ≡ act (action s)) }
+    ensures err { IfErr result (IsMisread (barrier_of plain cursor.old) (length cursor.old)) }
+    ensures rest { OnOk result (length cursor.new ≤ length cursor.old) }
+{
+    let args = args(alloc, cursor, plain)?;
+    Ok(Stmt::Barrier { args })
+}
+
+/// An application as a statement.
+fn applying(
+    alloc: Global,
+    cursor: &mut Cursor<'_>,
+    plain: bool,
+) -> Result<(Stmt, Option<usize>), Stop>
+    ensures ok { IfOk result (λ r. with_apply (application_of 64 plain cursor.old) ≡ Some (read (action r.0) r.1 cursor.new)) }
+    ensures acts { IfOk result (λ r. statement r.0 ≡ act (action r.0)) }
+    ensures err { IfErr result (IsMisread (with_apply (application_of 64 plain cursor.old)) (length cursor.old)) }
+    ensures rest { OnOk result (length cursor.new ≤ length cursor.old) }
+{
+    let (apply, deep) = application(alloc, cursor, plain)?;
+    Ok((Stmt::Apply(apply), deep))
+}
+
+/// What may stand behind `if`: an application, a measure or a reset.
+#[tactic(auto, using(crate::proofs::CodeLaws::actions))]
+pub fn action(alloc: Global, cursor: &mut Cursor<'_>) -> Result<(Stmt, Option<usize>), Stop>
+    ensures ok { IfOk result (λ r. action_of 64 cursor.old ≡ Some (read (action r.0) r.1 cursor.new)) }
+    ensures acts { IfOk result (λ r. statement r.0 ≡ act (action r.0)) }
+    ensures err { IfErr result (IsMisread (action_of 64 cursor.old) (length cursor.old)) }
+    ensures rest { OnOk result (length cursor.new ≤ length cursor.old) }
+{
+    if take_word(cursor, Keyword::Measure) {
+        return Ok((measure(alloc, cursor)?, None));
+    }
+    if take_word(cursor, Keyword::Reset) {
+        return Ok((reset(alloc, cursor)?, None));
+    }
+    applying(alloc, cursor, false)
+}
+
+/// What may stand in a gate's body: an application or a barrier of plain names.
+#[tactic(auto, using(crate::proofs::CodeLaws::actions))]
+fn item(alloc: Global, cursor: &mut Cursor<'_>) -> Result<(Stmt, Option<usize>), Stop>
+    ensures ok { IfOk result (λ r. item_of 64 cursor.old ≡ Some (read (action r.0) r.1 cursor.new)) }
+    ensures err { IfErr result (IsMisread (item_of 64 cursor.old) (length cursor.old)) }
+    ensures rest { OnOk result (length cursor.new ≤ length cursor.old) }
+{
+    if take_word(cursor, Keyword::Barrier) {
+        return Ok((barrier(alloc, cursor, true)?, None));
+    }
+    applying(alloc, cursor, true)
+}
+
+/// The items of a gate's body, up to its end.
+#[tactic(auto, using(crate::proofs::StepLaws::items))]
+fn items(alloc: Global, cursor: &mut Cursor<'_>) -> Result<(Vec<Stmt>, Option<usize>), Stop>
+    ensures ok { IfOk result (λ r. all (more_items 64) cursor.old ≡ Some (read (map action r.0.items) r.1 cursor.new)) }
+    ensures err { IfErr result (IsMisread (all (more_items 64) cursor.old) (length cursor.old)) }
+    ensures rest { OnOk result (length cursor.new ≤ length cursor.old) }
+{
+    let mut list = Vec::new(alloc);
+    let mut deep = None;
+    'items: while !is_next(cursor, Mark::CloseBrace) {
+        let (next, place) = item(alloc, cursor)?;
+        list.push(next)?;
+        deep = earlier(deep, place);
+    }
+    Ok((list, deep))
+}
+
+/// A gate's body, from behind its brace.
+#[tactic(auto, unfolding(crate::specs::Reading::body_of))]
+pub fn body(alloc: Global, cursor: &mut Cursor<'_>) -> Result<(Vec<Stmt>, Option<usize>), Stop>
+    ensures ok { IfOk result (λ r. body_of 64 cursor.old ≡ Some (read (map action r.0.items) r.1 cursor.new)) }
+    ensures err { IfErr result (IsMisread (body_of 64 cursor.old) (length cursor.old)) }
+    ensures rest { OnOk result (length cursor.new ≤ length cursor.old) }
+{
+    let (list, deep) = items(alloc, cursor)?;
+    expect(cursor, Mark::CloseBrace)?;
+    Ok((list, deep))
+}

@@ -1,0 +1,156 @@
+//! Applications of gates. Where an expression is deeper than the limit, `pi` stands in its place, and the first such is
+//! told: how many symbols are left from there to the end.
+
+ghost use Rattle.std.specs.Prelude.{◌≡◌, ◌≤◌, ◌<◌, [], Some, None, map, codes, IfOk, IfErr, OnOk, length};
+ghost use Rattle.qasm_parser.specs.Misread.{IsMisread};
+ghost use Rattle.qasm_parser.specs.Tree.{application, expression};
+ghost use Rattle.qasm_parser.specs.Reading.{angle_of, angles_of, angles_of_u, application_of, first_of, head, head_of, list_of, optional_of, read, with_gate};
+ghost use Rattle.qasm_parser.specs.Heads.{head_view};
+
+use crate::cursor::Cursor;
+use crate::expression::{copied, sum};
+use crate::lists::{args, expect, take};
+use crate::stop::Stop;
+use crate::symbols::{Keyword, Mark, Symbol};
+use crate::tree::{Apply, Expr, Name};
+use std::alloc::Global;
+
+/// An expression, and where it begins if it is too deep.
+#[tactic(auto, unfolding(crate::specs::Reading::angle_of))]
+fn angle(alloc: Global, cursor: &mut Cursor<'_>) -> Result<(Expr, Option<usize>), Stop>
+    ensures ok { IfOk result (λ r. angle_of 64 cursor.old ≡ Some (read (expression r.0) r.1 cursor.new)) }
+    ensures err { IfErr result (IsMisread (angle_of 64 cursor.old) (length cursor.old)) }
+    ensures rest { OnOk result (length cursor.new ≤ length cursor.old) }
+{
+    let left = cursor.left();
+    match sum(alloc, cursor)? {
+        Some(part) => Ok((part.tree, None)),
+        None => Ok((Expr::Pi, Some(left))),
+    }
+}
+
+/// The first of two places, where there is one.
+pub fn earlier(a: Option<usize>, b: Option<usize>) -> Option<usize>
+    ensures { result ≡ first_of a b }
+{
+    match a {
+        Some(place) => Some(place),
+        None => b,
+    }
+}
+
+/// Expressions with commas between.
+#[tactic(auto, using(crate::proofs::ListLaws::angles))]
+fn angle_list(alloc: Global, cursor: &mut Cursor<'_>) -> Result<(Vec<Expr>, Option<usize>), Stop>
+    ensures ok { IfOk result (λ r. list_of (angle_of 64) cursor.old ≡ Some (read (map expression r.0.items) r.1 cursor.new)) }
+    ensures err { IfErr result (IsMisread (list_of (angle_of 64) cursor.old) (length cursor.old)) }
+    ensures rest { OnOk result (length cursor.new ≤ length cursor.old) }
+{
+    let mut list = Vec::new(alloc);
+    let (first, mut deep) = angle(alloc, cursor)?;
+    list.push(first)?;
+    'angles: while take(cursor, Mark::Comma) {
+        let (next, place) = angle(alloc, cursor)?;
+        list.push(next)?;
+        deep = earlier(deep, place);
+    }
+    Ok((list, deep))
+}
+
+/// A gate's name, its angles, and where the first that is too deep begins.
+#[derive(Drop)]
+pub struct Head {
+    pub gate: Name,
+    pub angles: Vec<Expr>,
+    pub deep: Option<usize>,
+}
+
+/// Angles up to the end of the parenthesis.
+#[tactic(auto, unfolding(crate::specs::Reading::angles_of))]
+fn angles(alloc: Global, cursor: &mut Cursor<'_>) -> Result<(Vec<Expr>, Option<usize>), Stop>
+    ensures ok { IfOk result (λ r. angles_of 64 cursor.old ≡ Some (read (map expression r.0.items) r.1 cursor.new)) }
+    ensures err { IfErr result (IsMisread (angles_of 64 cursor.old) (length cursor.old)) }
+    ensures rest { OnOk result (length cursor.new ≤ length cursor.old) }
+{
+    let (list, deep) = angle_list(alloc, cursor)?;
+    expect(cursor, Mark::Close)?;
+    Ok((list, deep))
+}
+
+/// The angles of a gate with a name: in parentheses, or none.
+#[tactic(auto, unfolding(crate::specs::Reading::optional_of))]
+fn optional(alloc: Global, cursor: &mut Cursor<'_>) -> Result<(Vec<Expr>, Option<usize>), Stop>
+    ensures ok { IfOk result (λ r. optional_of 64 cursor.old ≡ Some (read (map expression r.0.items) r.1 cursor.new)) }
+    ensures err { IfErr result (IsMisread (optional_of 64 cursor.old) (length cursor.old)) }
+    ensures rest { OnOk result (length cursor.new ≤ length cursor.old) }
+{
+    if !take(cursor, Mark::Open) {
+        return Ok((Vec::new(alloc), None));
+    }
+    if take(cursor, Mark::Close) {
+        return Ok((Vec::new(alloc), None));
+    }
+    angles(alloc, cursor)
+}
+
+/// The angles of `U`.
+#[tactic(auto, unfolding(crate::specs::Reading::angles_of_u))]
+fn angles_of_u(alloc: Global, cursor: &mut Cursor<'_>) -> Result<(Vec<Expr>, Option<usize>), Stop>
+    ensures ok { IfOk result (λ r. angles_of_u 64 cursor.old ≡ Some (read (map expression r.0.items) r.1 cursor.new)) }
+    ensures err { IfErr result (IsMisread (angles_of_u 64 cursor.old) (length cursor.old)) }
+    ensures rest { OnOk result (length cursor.new ≤ length cursor.old) }
+{
+    expect(cursor, Mark::Open)?;
+    angles(alloc, cursor)
+}
+
+/// A gate's name and its angles.
+#[tactic(auto, unfolding(crate::specs::Reading::head_of))]
+fn gate_head(alloc: Global, cursor: &mut Cursor<'_>) -> Result<Head, Stop>
+    ensures ok { IfOk result (λ h. head_of 64 cursor.old ≡ Some (read (head_view h) h.deep cursor.new)) }
+    ensures err { IfErr result (IsMisread (head_of 64 cursor.old) (length cursor.old)) }
+    ensures rest { OnOk result (length cursor.new ≤ length cursor.old) }
+{
+    let left = cursor.left();
+    match cursor.peek() {
+        Some(Symbol::Word(Keyword::U)) => {
+            cursor.advance();
+            let (angles, deep) = angles_of_u(alloc, cursor)?;
+            let gate = copied(alloc, b"U")?;
+            Ok(Head { gate, angles, deep })
+        }
+        Some(Symbol::Word(Keyword::Cx)) => {
+            cursor.advance();
+            let gate = copied(alloc, b"CX")?;
+            Ok(Head {
+                gate,
+                angles: Vec::new(alloc),
+                deep: None,
+            })
+        }
+        Some(Symbol::Name(bytes)) => {
+            cursor.advance();
+            let gate = copied(alloc, bytes)?;
+            let (angles, deep) = optional(alloc, cursor)?;
+            Ok(Head { gate, angles, deep })
+        }
+        _ => Err(Stop::Misfit { left }),
+    }
+}
+
+/// A gate with its angles and arguments, up to the semicolon.
+#[tactic(auto, unfolding(crate::specs::Reading::application_of))]
+pub fn application(
+    alloc: Global,
+    cursor: &mut Cursor<'_>,
+    plain: bool,
+) -> Result<(Apply, Option<usize>), Stop>
+    ensures ok { IfOk result (λ r. application_of 64 plain cursor.old ≡ Some (read (application r.0) r.1 cursor.new)) }
+    ensures err { IfErr result (IsMisread (application_of 64 plain cursor.old) (length cursor.old)) }
+    ensures rest { OnOk result (length cursor.new ≤ length cursor.old) }
+{
+    let Head { gate, angles, deep } = gate_head(alloc, cursor)?;
+    let args = args(alloc, cursor, plain)?;
+    let apply = Apply { gate, angles, args };
+    Ok((apply, deep))
+}

@@ -1,0 +1,178 @@
+//! Expressions, read from left to right without recursion.
+
+ghost use Rattle.std.specs.Prelude.{◌≡◌, ◌<◌, ◌≤◌, ◌+◌, ◌*◌, Some, IfOk, IfErr, IfSome, MatchOption, OnOk, List, ◌∷◌, length, []};
+ghost use Rattle.qasm_parser.specs.Machine.{behind, front, parenthesis, run, sum_of};
+ghost use Rattle.qasm_parser.specs.Modes.{go, steps};
+ghost use Rattle.qasm_parser.specs.Frames.{stack};
+ghost use Rattle.qasm_parser.specs.Parts.{part_of};
+ghost use Rattle.qasm_parser.specs.Tree.{expression};
+ghost use Rattle.qasm_parser.specs.Misread.{IsMisread};
+ghost use Rattle.qasm_parser.specs.Symbols.{Symbol as SpecSymbol, mark};
+ghost use Rattle.qasm_parser.specs.declared.symbols.Mark.TheVariants.{Open};
+ghost use Rattle.qasm_parser.specs.declared.stop.Stop.TheVariants.{Misfit};
+
+use crate::cursor::Cursor;
+use crate::frames::{Frame, binding, reduce};
+use crate::growth::{applied, parenthesised};
+use crate::part::{Part, atom, number};
+use crate::stop::Stop;
+use crate::symbols::{Keyword, Mark, Symbol};
+use crate::tree::{Binary, Expr, Name};
+use std::alloc::{AllocError, Global};
+
+/// What has come last: nothing that a sign may follow, or a part, or the whole expression.
+#[derive(Drop)]
+pub enum Mode {
+    Front,
+    Behind(Option<Part>),
+    Done(Option<Part>),
+}
+
+/// A name of these bytes.
+pub fn copied(alloc: Global, bytes: &[u8]) -> Result<Name, AllocError>
+    ensures { IfOk result (λ n. n ≡ bytes.now) }
+{
+    Ok(Name::new(bytes.to_vec(alloc)?))
+}
+
+/// The parenthesis that follows a function.
+fn open(cursor: &mut Cursor<'_>) -> Result<(), Stop>
+    ensures ok { OnOk result (cursor.old ≡ mark Open ∷ cursor.new) }
+    ensures err { IfErr result (λ e. (e ≡ Misfit (length cursor.old)) × ((ts : List SpecSymbol) → cursor.old ≡ mark Open ∷ ts → ⊥)) }
+{
+    let left = cursor.left();
+    match cursor.peek() {
+        Some(Symbol::Mark(Mark::Open)) => {
+            cursor.advance();
+            Ok(())
+        }
+        _ => Err(Stop::Misfit { left }),
+    }
+}
+
+/// Where a part is to come: an atom, or what begins one.
+#[tactic(auto, using(crate::proofs::FrameLaws::stacks))]
+fn begin(alloc: Global, cursor: &mut Cursor<'_>, frames: &mut Vec<Frame>) -> Result<Mode, Stop>
+    ensures ok { IfOk result (λ m. run 64 (stack frames.old.items) front cursor.old ≡ go (stack frames.new.items) m cursor.new) }
+    ensures err { IfErr result (IsMisread (run 64 (stack frames.old.items) front cursor.old) (length cursor.old)) }
+    ensures shorter { OnOk result (length cursor.new < length cursor.old) }
+{
+    let left = cursor.left();
+    let Some(symbol) = cursor.peek() else {
+        return Err(Stop::Misfit { left });
+    };
+    match symbol {
+        Symbol::Sign(Binary::Sub) => {
+            cursor.advance();
+            frames.push(Frame::Minus)?;
+            Ok(Mode::Front)
+        }
+        Symbol::Mark(Mark::Open) => {
+            cursor.advance();
+            frames.push(Frame::Paren)?;
+            Ok(Mode::Front)
+        }
+        Symbol::Function(function) => {
+            cursor.advance();
+            open(cursor)?;
+            frames.push(Frame::Call(function))?;
+            Ok(Mode::Front)
+        }
+        Symbol::Whole | Symbol::Real => {
+            let value = cursor.value();
+            cursor.advance();
+            Ok(Mode::Behind(Some(number(value))))
+        }
+        Symbol::Word(Keyword::Pi) => {
+            cursor.advance();
+            Ok(Mode::Behind(Some(atom(Expr::Pi))))
+        }
+        Symbol::Name(bytes) => {
+            cursor.advance();
+            Ok(Mode::Behind(Some(atom(Expr::Param(copied(alloc, bytes)?)))))
+        }
+        Symbol::Sign(_) | Symbol::Mark(_) | Symbol::Word(_) | Symbol::Quoted(_) | Symbol::Other =>
+            Err(Stop::Misfit { left }),
+    }
+}
+
+/// The end of a parenthesis; where none is open it no longer belongs to the expression.
+#[tactic(auto, using(crate::proofs::FrameLaws::stacks))]
+fn close(
+    alloc: Global,
+    cursor: &mut Cursor<'_>,
+    frames: &mut Vec<Frame>,
+    part: Option<Part>,
+) -> Result<Mode, Stop>
+    requires { 0 < length cursor.old }
+    ensures ok { IfOk result (λ m. parenthesis 64 (stack frames.old.items) (part_of part) cursor.old ≡ go (stack frames.new.items) m cursor.new) }
+    ensures err { IfErr result (IsMisread (parenthesis 64 (stack frames.old.items) (part_of part) cursor.old) (length cursor.old)) }
+    ensures shorter { IfOk result (λ m. steps m (length cursor.new) < 2 * length cursor.old + 1) }
+{
+    let left = cursor.left();
+    match frames.pop() {
+        None => Ok(Mode::Done(part)),
+        Some(Frame::Paren) => {
+            cursor.advance();
+            Ok(Mode::Behind(parenthesised(alloc, part)?))
+        }
+        Some(Frame::Call(function)) => {
+            cursor.advance();
+            Ok(Mode::Behind(applied(alloc, function, part)?))
+        }
+        Some(Frame::Minus) => Err(Stop::Misfit { left }),
+        Some(Frame::Left { sign: _, left: _ }) => Err(Stop::Misfit { left }),
+    }
+}
+
+/// Behind a part: a sign, the end of a parenthesis, or what no longer belongs to the expression.
+#[tactic(auto, using(crate::proofs::FrameLaws::stacks))]
+fn after(
+    alloc: Global,
+    cursor: &mut Cursor<'_>,
+    frames: &mut Vec<Frame>,
+    part: Option<Part>,
+) -> Result<Mode, Stop>
+    ensures ok { IfOk result (λ m. run 64 (stack frames.old.items) (behind (part_of part)) cursor.old ≡ go (stack frames.new.items) m cursor.new) }
+    ensures err { IfErr result (IsMisread (run 64 (stack frames.old.items) (behind (part_of part)) cursor.old) (length cursor.old)) }
+    ensures shorter { IfOk result (λ m. steps m (length cursor.new) < 2 * length cursor.old + 1) }
+{
+    let left = cursor.left();
+    match cursor.peek() {
+        Some(Symbol::Sign(sign)) => {
+            cursor.advance();
+            let left = reduce(alloc, frames, part, binding(sign))?;
+            frames.push(Frame::Left { sign, left })?;
+            Ok(Mode::Front)
+        }
+        Some(Symbol::Mark(Mark::Close)) => {
+            let part = reduce(alloc, frames, part, 1)?;
+            close(alloc, cursor, frames, part)
+        }
+        _ => {
+            let part = reduce(alloc, frames, part, 1)?;
+            if frames.is_empty() {
+                Ok(Mode::Done(part))
+            } else {
+                Err(Stop::Misfit { left })
+            }
+        }
+    }
+}
+
+/// The expression that comes next, as far as it goes; none where it is deeper than 64.
+pub fn sum(alloc: Global, cursor: &mut Cursor<'_>) -> Result<Option<Part>, Stop>
+    ensures ok { IfOk result (λ p. sum_of 64 cursor.old ≡ Some (part_of p, cursor.new)) }
+    ensures err { IfErr result (IsMisread (sum_of 64 cursor.old) (length cursor.old)) }
+    ensures rest { OnOk result (length cursor.new ≤ length cursor.old) }
+{
+    let mut frames = Vec::new(alloc);
+    let mut mode = Mode::Front;
+    'steps: loop {
+        mode = match mode {
+            Mode::Front => begin(alloc, cursor, &mut frames)?,
+            Mode::Behind(part) => after(alloc, cursor, &mut frames, part)?,
+            Mode::Done(part) => return Ok(part),
+        };
+    }
+}

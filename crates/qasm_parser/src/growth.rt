@@ -1,0 +1,92 @@
+//! Parts of an expression put into greater ones; one that gets deeper than the limit is let go.
+
+ghost use Rattle.std.specs.Prelude.{◌≡◌, IfOk};
+ghost use Rattle.qasm_parser.specs.Machine.{called, closed, joined, minus, opened};
+ghost use Rattle.qasm_parser.specs.Parts.{part_of};
+
+use crate::part::{DEPTH_LIMIT, Part};
+use crate::tree::{Binary, Expr, Function};
+use std::alloc::{AllocError, Global};
+
+/// Unary minus.
+#[tactic(auto, unfolding(crate::specs::Machine::capped))]
+pub fn negated(alloc: Global, part: Option<Part>) -> Result<Option<Part>, AllocError>
+    ensures { IfOk result (λ p. part_of p ≡ closed 64 minus (part_of part)) }
+{
+    let Some(part) = part else {
+        return Ok(None);
+    };
+    if part.depth >= DEPTH_LIMIT {
+        return Ok(None);
+    }
+    let depth = part.depth + 1;
+    let tree = Expr::Neg(Box::new(alloc, part.tree)?);
+    Ok(Some(Part { tree, depth }))
+}
+
+/// A pair of parentheses.
+#[tactic(auto, unfolding(crate::specs::Machine::capped))]
+pub fn parenthesised(alloc: Global, part: Option<Part>) -> Result<Option<Part>, AllocError>
+    ensures { IfOk result (λ p. part_of p ≡ closed 64 opened (part_of part)) }
+{
+    let Some(part) = part else {
+        return Ok(None);
+    };
+    if part.depth >= DEPTH_LIMIT {
+        return Ok(None);
+    }
+    let depth = part.depth + 1;
+    let tree = Expr::Paren(Box::new(alloc, part.tree)?);
+    Ok(Some(Part { tree, depth }))
+}
+
+/// A function of a part.
+#[tactic(auto, unfolding(crate::specs::Machine::capped))]
+pub fn applied(
+    alloc: Global,
+    function: Function,
+    part: Option<Part>,
+) -> Result<Option<Part>, AllocError>
+    ensures { IfOk result (λ p. part_of p ≡ closed 64 (called function) (part_of part)) }
+{
+    let Some(part) = part else {
+        return Ok(None);
+    };
+    if part.depth >= DEPTH_LIMIT {
+        return Ok(None);
+    }
+    let depth = part.depth + 1;
+    let arg = Box::new(alloc, part.tree)?;
+    Ok(Some(Part {
+        tree: Expr::Call { function, arg },
+        depth,
+    }))
+}
+
+/// Two parts with a sign between them.
+#[tactic(auto, unfolding(crate::specs::Machine::capped))]
+pub fn joined(
+    alloc: Global,
+    sign: Binary,
+    left: Option<Part>,
+    right: Option<Part>,
+) -> Result<Option<Part>, AllocError>
+    ensures { IfOk result (λ p. part_of p ≡ joined 64 sign (part_of left) (part_of right)) }
+{
+    let Some(left) = left else {
+        return Ok(None);
+    };
+    let Some(right) = right else {
+        return Ok(None);
+    };
+    let deepest = left.depth.max(right.depth);
+    if deepest >= DEPTH_LIMIT {
+        return Ok(None);
+    }
+    let left = Box::new(alloc, left.tree)?;
+    let right = Box::new(alloc, right.tree)?;
+    Ok(Some(Part {
+        tree: Expr::Binary { sign, left, right },
+        depth: deepest + 1,
+    }))
+}

@@ -1,0 +1,258 @@
+//! Signs, names, numbers and arguments, and lists of them.
+
+ghost use Rattle.std.specs.Prelude.{◌≡◌, ◌≤◌, ◌<◌, Some, None, Bool, true, false, nat_eq, IfOk, IfErr, OnOk, drop, length};
+ghost use Rattle.qasm_parser.specs.Misread.{IsMisread};
+ghost use Rattle.qasm_parser.specs.Reading.{args_of, arg_of, begins_with, begins_word, bracketed_of, index_of, list_of, mark_code, name_of, read, skip, whole_number, whole_of, word_code};
+
+use crate::cursor::Cursor;
+use crate::expression::copied;
+use crate::stop::Stop;
+use crate::symbols::{Keyword, Mark, Symbol};
+use crate::tree::{Arg, Name};
+use angle_fraction::Frac;
+use std::alloc::Global;
+
+fn code(mark: Mark) -> u8
+    ensures { result ≡ mark_code mark }
+{
+    match mark {
+        Mark::Semicolon => 0,
+        Mark::Comma => 1,
+        Mark::Open => 2,
+        Mark::Close => 3,
+        Mark::OpenBracket => 4,
+        Mark::CloseBracket => 5,
+        Mark::OpenBrace => 6,
+        Mark::CloseBrace => 7,
+        Mark::Arrow => 8,
+        Mark::Equals => 9,
+    }
+}
+
+/// Whether this sign comes next.
+pub fn is_next(cursor: &Cursor<'_>, mark: Mark) -> bool
+    ensures { result ≡ begins_with mark cursor.now }
+{
+    let Some(symbol) = cursor.peek() else {
+        return false;
+    };
+    match symbol {
+        Symbol::Mark(found) => code(mark) == code(found),
+        Symbol::Word(_) | Symbol::Function(_) | Symbol::Name(_) | Symbol::Whole | Symbol::Real =>
+            false,
+        Symbol::Quoted(_) | Symbol::Sign(_) | Symbol::Other => false,
+    }
+}
+
+/// Goes past this sign, where it comes next.
+#[tactic(auto, using(crate::proofs::CodeLaws::signs))]
+pub fn take(cursor: &mut Cursor<'_>, mark: Mark) -> bool
+    ensures taken { result ≡ true → skip mark cursor.old ≡ Some cursor.new }
+    ensures shorter { result ≡ true → length cursor.new < length cursor.old }
+    ensures other { result ≡ false → skip mark cursor.old ≡ None }
+    ensures stays { result ≡ false → cursor.new ≡ cursor.old }
+{
+    if is_next(cursor, mark) {
+        cursor.advance();
+        return true;
+    }
+    false
+}
+
+/// Goes past this sign.
+#[tactic(auto, using(crate::proofs::CodeLaws::signs))]
+pub fn expect(cursor: &mut Cursor<'_>, mark: Mark) -> Result<(), Stop>
+    ensures ok { OnOk result (skip mark cursor.old ≡ Some cursor.new) }
+    ensures err { IfErr result (IsMisread (skip mark cursor.old) (length cursor.old)) }
+    ensures rest { OnOk result (length cursor.new ≤ length cursor.old) }
+{
+    let left = cursor.left();
+    if is_next(cursor, mark) {
+        cursor.advance();
+        return Ok(());
+    }
+    Err(Stop::Misfit { left })
+}
+
+fn word_code(keyword: Keyword) -> u8
+    ensures { result ≡ word_code keyword }
+{
+    match keyword {
+        Keyword::OpenQasm => 0,
+        Keyword::Include => 1,
+        Keyword::Qreg => 2,
+        Keyword::Creg => 3,
+        Keyword::Gate => 4,
+        Keyword::Opaque => 5,
+        Keyword::Measure => 6,
+        Keyword::Reset => 7,
+        Keyword::If => 8,
+        Keyword::Barrier => 9,
+        Keyword::Pi => 10,
+        Keyword::U => 11,
+        Keyword::Cx => 12,
+    }
+}
+
+/// Whether this reserved word comes next.
+fn is_word(cursor: &Cursor<'_>, keyword: Keyword) -> bool
+    ensures { result ≡ begins_word keyword cursor.now }
+{
+    let Some(symbol) = cursor.peek() else {
+        return false;
+    };
+    match symbol {
+        Symbol::Word(found) => word_code(keyword) == word_code(found),
+        Symbol::Mark(_) | Symbol::Function(_) | Symbol::Name(_) | Symbol::Whole | Symbol::Real =>
+            false,
+        Symbol::Quoted(_) | Symbol::Sign(_) | Symbol::Other => false,
+    }
+}
+
+/// Goes past this reserved word, where it comes next.
+#[tactic(auto, using(crate::proofs::CodeLaws::signs))]
+pub fn take_word(cursor: &mut Cursor<'_>, keyword: Keyword) -> bool
+    ensures test { result ≡ begins_word keyword cursor.old }
+    ensures taken { result ≡ true → cursor.new ≡ drop 1 cursor.old }
+    ensures shorter { result ≡ true → length cursor.new < length cursor.old }
+    ensures stays { result ≡ false → cursor.new ≡ cursor.old }
+{
+    if is_word(cursor, keyword) {
+        cursor.advance();
+        return true;
+    }
+    false
+}
+
+/// A name.
+#[tactic(auto, unfolding(crate::specs::Reading::name_of))]
+pub fn name(alloc: Global, cursor: &mut Cursor<'_>) -> Result<Name, Stop>
+    ensures ok { IfOk result (λ n. name_of cursor.old ≡ Some (read n None cursor.new)) }
+    ensures err { IfErr result (IsMisread (name_of cursor.old) (length cursor.old)) }
+    ensures rest { OnOk result (length cursor.new ≤ length cursor.old) }
+{
+    let left = cursor.left();
+    match cursor.peek() {
+        Some(Symbol::Name(bytes)) => {
+            cursor.advance();
+            Ok(copied(alloc, bytes)?)
+        }
+        _ => Err(Stop::Misfit { left }),
+    }
+}
+
+/// The whole number of a fraction.
+fn whole_number(value: Frac) -> Option<u64>
+    ensures { result ≡ whole_number value }
+{
+    if value.den() != 1 {
+        return None;
+    }
+    let number = value.num();
+    if number < 0 {
+        return None;
+    }
+    Some(number as u64)
+}
+
+/// A whole number.
+#[tactic(auto, unfolding(crate::specs::Reading::whole_of))]
+pub fn whole(cursor: &mut Cursor<'_>) -> Result<u64, Stop>
+    ensures ok { IfOk result (λ n. whole_of cursor.old ≡ Some (read n None cursor.new)) }
+    ensures err { IfErr result (IsMisread (whole_of cursor.old) (length cursor.old)) }
+    ensures rest { OnOk result (length cursor.new ≤ length cursor.old) }
+{
+    let left = cursor.left();
+    match cursor.peek() {
+        Some(Symbol::Whole) => match whole_number(cursor.value()) {
+            Some(number) => {
+                cursor.advance();
+                Ok(number)
+            }
+            None => Err(Stop::Misfit { left }),
+        },
+        _ => Err(Stop::Misfit { left }),
+    }
+}
+
+/// A whole number and the end of its bracket.
+#[tactic(auto, unfolding(crate::specs::Reading::bracketed_of))]
+pub fn bracketed(cursor: &mut Cursor<'_>) -> Result<u64, Stop>
+    ensures ok { IfOk result (λ n. bracketed_of cursor.old ≡ Some (read n None cursor.new)) }
+    ensures err { IfErr result (IsMisread (bracketed_of cursor.old) (length cursor.old)) }
+    ensures rest { OnOk result (length cursor.new ≤ length cursor.old) }
+{
+    let number = whole(cursor)?;
+    expect(cursor, Mark::CloseBracket)?;
+    Ok(number)
+}
+
+/// The index in brackets, where one is there; none in a gate's body.
+fn index(cursor: &mut Cursor<'_>, plain: bool) -> Result<Option<u64>, Stop>
+    ensures ok { IfOk result (λ i. index_of plain cursor.old ≡ Some (read i None cursor.new)) }
+    ensures err { IfErr result (IsMisread (index_of plain cursor.old) (length cursor.old)) }
+    ensures rest { OnOk result (length cursor.new ≤ length cursor.old) }
+{
+    if plain {
+        return Ok(None);
+    }
+    if take(cursor, Mark::OpenBracket) {
+        let index = bracketed(cursor)?;
+        return Ok(Some(index));
+    }
+    Ok(None)
+}
+
+/// An argument; in a gate's body it is a plain name.
+#[tactic(auto, unfolding(crate::specs::Reading::arg_of))]
+pub fn arg(alloc: Global, cursor: &mut Cursor<'_>, plain: bool) -> Result<Arg, Stop>
+    ensures ok { IfOk result (λ a. arg_of plain cursor.old ≡ Some (read a None cursor.new)) }
+    ensures err { IfErr result (IsMisread (arg_of plain cursor.old) (length cursor.old)) }
+    ensures rest { OnOk result (length cursor.new ≤ length cursor.old) }
+{
+    let name = name(alloc, cursor)?;
+    let index = index(cursor, plain)?;
+    Ok(Arg { name, index })
+}
+
+/// Names with commas between.
+#[tactic(auto, using(crate::proofs::ListLaws::names))]
+pub fn names(alloc: Global, cursor: &mut Cursor<'_>) -> Result<Vec<Name>, Stop>
+    ensures ok { IfOk result (λ v. list_of name_of cursor.old ≡ Some (read v.items None cursor.new)) }
+    ensures err { IfErr result (IsMisread (list_of name_of cursor.old) (length cursor.old)) }
+    ensures rest { OnOk result (length cursor.new ≤ length cursor.old) }
+{
+    let mut list = Vec::new(alloc);
+    list.push(name(alloc, cursor)?)?;
+    'names: while take(cursor, Mark::Comma) {
+        list.push(name(alloc, cursor)?)?;
+    }
+    Ok(list)
+}
+
+/// Arguments with commas between.
+#[tactic(auto, using(crate::proofs::ListLaws::args))]
+fn arg_list(alloc: Global, cursor: &mut Cursor<'_>, plain: bool) -> Result<Vec<Arg>, Stop>
+    ensures ok { IfOk result (λ v. list_of (arg_of plain) cursor.old ≡ Some (read v.items None cursor.new)) }
+    ensures err { IfErr result (IsMisread (list_of (arg_of plain) cursor.old) (length cursor.old)) }
+    ensures rest { OnOk result (length cursor.new ≤ length cursor.old) }
+{
+    let mut list = Vec::new(alloc);
+    list.push(arg(alloc, cursor, plain)?)?;
+    'members: while take(cursor, Mark::Comma) {
+        list.push(arg(alloc, cursor, plain)?)?;
+    }
+    Ok(list)
+}
+
+/// Arguments up to the semicolon.
+#[tactic(auto, unfolding(crate::specs::Reading::args_of))]
+pub fn args(alloc: Global, cursor: &mut Cursor<'_>, plain: bool) -> Result<Vec<Arg>, Stop>
+    ensures ok { IfOk result (λ v. args_of plain cursor.old ≡ Some (read v.items None cursor.new)) }
+    ensures err { IfErr result (IsMisread (args_of plain cursor.old) (length cursor.old)) }
+    ensures rest { OnOk result (length cursor.new ≤ length cursor.old) }
+{
+    let list = arg_list(alloc, cursor, plain)?;
+    expect(cursor, Mark::Semicolon)?;
+    Ok(list)
+}

@@ -1,0 +1,233 @@
+//! Tokens as the grammar sees them.
+
+ghost use Rattle.std.specs.Prelude.{◌≡◌, ◌<◌, ◌^◌, ◌∷◌, List, length};
+ghost use Rattle.qasm_parser.specs.Symbols.{function_of, keyword_of, mark_of, sign_of, symbol_by, unquoted, word_symbol, mark_symbol, symbol_of, value_of, first_value, Symbol as SpecSymbol};
+ghost use Rattle.qasm_lexer.specs.Tokens.{IsTokenOf};
+ghost use Rattle.angle_fraction.specs.Fraction.{Fraction};
+ghost use Rattle.qasm_parser.specs.Views.{symbol};
+
+use crate::tree::{Binary, Function};
+use angle_fraction::Frac;
+use qasm_lexer::{Kind, Token, value};
+
+/// The reserved words that are no function.
+#[derive(Clone, Copy, Debug, PartialEq, Eq)]
+pub enum Keyword {
+    OpenQasm,
+    Include,
+    Qreg,
+    Creg,
+    Gate,
+    Opaque,
+    Measure,
+    Reset,
+    If,
+    Barrier,
+    Pi,
+    U,
+    Cx,
+}
+
+/// The signs that stand in no expression, and the parentheses.
+#[derive(Clone, Copy, Debug, PartialEq, Eq)]
+pub enum Mark {
+    Semicolon,
+    Comma,
+    Open,
+    Close,
+    OpenBracket,
+    CloseBracket,
+    OpenBrace,
+    CloseBrace,
+    Arrow,
+    Equals,
+}
+
+/// A token as the grammar sees it, a number without its value, a text without its quotes.
+#[derive(Clone, Copy)]
+pub enum Symbol<'a> {
+    Word(Keyword),
+    Function(Function),
+    Name(&'a [u8]),
+    Whole,
+    Real,
+    Quoted(&'a [u8]),
+    Mark(Mark),
+    Sign(Binary),
+    Other,
+}
+
+/// The reserved word that these bytes spell.
+fn keyword_of(word: &[u8]) -> Option<Keyword>
+    ensures { result ≡ keyword_of word.now }
+{
+    let keyword = if word == b"OPENQASM".as_slice() {
+        Keyword::OpenQasm
+    } else if word == b"include".as_slice() {
+        Keyword::Include
+    } else if word == b"qreg".as_slice() {
+        Keyword::Qreg
+    } else if word == b"creg".as_slice() {
+        Keyword::Creg
+    } else if word == b"gate".as_slice() {
+        Keyword::Gate
+    } else if word == b"opaque".as_slice() {
+        Keyword::Opaque
+    } else if word == b"measure".as_slice() {
+        Keyword::Measure
+    } else if word == b"reset".as_slice() {
+        Keyword::Reset
+    } else if word == b"if".as_slice() {
+        Keyword::If
+    } else if word == b"barrier".as_slice() {
+        Keyword::Barrier
+    } else if word == b"pi".as_slice() {
+        Keyword::Pi
+    } else if word == b"U".as_slice() {
+        Keyword::U
+    } else if word == b"CX".as_slice() {
+        Keyword::Cx
+    } else {
+        return None;
+    };
+    Some(keyword)
+}
+
+/// The function that these bytes spell.
+fn function_of(word: &[u8]) -> Option<Function>
+    ensures { result ≡ function_of word.now }
+{
+    let function = if word == b"sin".as_slice() {
+        Function::Sin
+    } else if word == b"cos".as_slice() {
+        Function::Cos
+    } else if word == b"tan".as_slice() {
+        Function::Tan
+    } else if word == b"exp".as_slice() {
+        Function::Exp
+    } else if word == b"ln".as_slice() {
+        Function::Ln
+    } else if word == b"sqrt".as_slice() {
+        Function::Sqrt
+    } else {
+        return None;
+    };
+    Some(function)
+}
+
+/// The sign that these bytes spell, where it stands in no expression or is a parenthesis.
+fn mark_of(sign: &[u8]) -> Option<Mark>
+    ensures { result ≡ mark_of sign.now }
+{
+    let mark = if sign == b";".as_slice() {
+        Mark::Semicolon
+    } else if sign == b",".as_slice() {
+        Mark::Comma
+    } else if sign == b"(".as_slice() {
+        Mark::Open
+    } else if sign == b")".as_slice() {
+        Mark::Close
+    } else if sign == b"[".as_slice() {
+        Mark::OpenBracket
+    } else if sign == b"]".as_slice() {
+        Mark::CloseBracket
+    } else if sign == b"{".as_slice() {
+        Mark::OpenBrace
+    } else if sign == b"}".as_slice() {
+        Mark::CloseBrace
+    } else if sign == b"->".as_slice() {
+        Mark::Arrow
+    } else if sign == b"==".as_slice() {
+        Mark::Equals
+    } else {
+        return None;
+    };
+    Some(mark)
+}
+
+/// The sign between two parts that these bytes spell.
+fn sign_of(sign: &[u8]) -> Option<Binary>
+    ensures { result ≡ sign_of sign.now }
+{
+    let binary = if sign == b"+".as_slice() {
+        Binary::Add
+    } else if sign == b"-".as_slice() {
+        Binary::Sub
+    } else if sign == b"*".as_slice() {
+        Binary::Mul
+    } else if sign == b"/".as_slice() {
+        Binary::Div
+    } else if sign == b"^".as_slice() {
+        Binary::Pow
+    } else {
+        return None;
+    };
+    Some(binary)
+}
+
+#[tactic(auto, unfolding(crate::specs::Symbols::word_symbol))]
+fn word_symbol(word: &[u8]) -> Symbol<'_>
+    ensures { (v : Fraction) → symbol result v ≡ word_symbol word.now (keyword_of word.now) }
+{
+    match keyword_of(word) {
+        Some(keyword) => Symbol::Word(keyword),
+        None => match function_of(word) {
+            Some(function) => Symbol::Function(function),
+            None => Symbol::Name(word),
+        },
+    }
+}
+
+#[tactic(auto, unfolding(crate::specs::Symbols::mark_symbol))]
+fn mark_symbol(sign: &[u8]) -> Symbol<'_>
+    ensures { (v : Fraction) → symbol result v ≡ mark_symbol sign.now (mark_of sign.now) }
+{
+    match mark_of(sign) {
+        Some(mark) => Symbol::Mark(mark),
+        None => match sign_of(sign) {
+            Some(binary) => Symbol::Sign(binary),
+            None => Symbol::Other,
+        },
+    }
+}
+
+/// A text without its quotes.
+#[tactic(auto, unfolding(crate::specs::Symbols::unquoted))]
+fn unquoted(text: &[u8]) -> &[u8]
+    ensures { result.now ≡ unquoted text.now }
+{
+    if text.len() < 2 {
+        return &[];
+    }
+    &text[1..text.len() - 1]
+}
+
+/// The symbol of a token of a text.
+#[tactic(auto, unfolding(crate::specs::Symbols::symbol_by))]
+pub fn symbol_of<'a>(text: &'a [u8], token: &Token) -> Symbol<'a>
+    requires short { length text.now < 2 ^ 32 }
+    requires token { IsTokenOf text.now token.now }
+    ensures { symbol result (value_of text.now token.now) ≡ symbol_of text.now token.now }
+{
+    let bytes = &text[token.from as usize..token.to as usize];
+    match token.kind {
+        Kind::Word => word_symbol(bytes),
+        Kind::Whole => Symbol::Whole,
+        Kind::Real => Symbol::Real,
+        Kind::Text => Symbol::Quoted(unquoted(bytes)),
+        Kind::Sign => mark_symbol(bytes),
+    }
+}
+
+/// The value of a token of a text, where it is a number; else 0.
+#[tactic(auto, unfolding(crate::specs::Symbols::symbol_by), using(crate::proofs::SymbolLaws::firsts))]
+pub fn number_of(text: &[u8], token: &Token) -> Frac
+    requires short { length text.now < 2 ^ 32 }
+    requires token { IsTokenOf text.now token.now }
+    ensures { (ts : List SpecSymbol) → result ≡ first_value (symbol_of text.now token.now ∷ ts) }
+{
+    match token.kind {
+        Kind::Whole | Kind::Real => value(text, token),
+        Kind::Word | Kind::Text | Kind::Sign => Frac::nought(),
+    }
+}

@@ -1,0 +1,147 @@
+//! Programs as trees. Contracts see what a tree spells, apart from where its parts lie in memory.
+
+ghost use Rattle.std.specs.Prelude.{◌≡◌};
+
+use angle_fraction::Frac;
+use std::marker::Model;
+
+/// A text that contracts see as a list of bytes.
+#[derive(Drop)]
+pub struct Name {
+    bytes: Vec<u8>,
+}
+
+impl Model for Name {
+    ghost use Rattle.std.specs.Prelude.{List, ℕ};
+
+    ghost Value = { List ℕ };
+
+    ghost view = { λ n. n.bytes.items };
+}
+
+impl Name {
+    /// The name of these bytes.
+    pub fn new(bytes: Vec<u8>) -> Name
+        ensures { result ≡ bytes.items }
+    {
+        Name { bytes }
+    }
+
+    /// The bytes.
+    pub fn as_bytes(&self) -> &[u8]
+        ensures { result.now ≡ self.now }
+    {
+        &self.bytes
+    }
+}
+
+/// The six functions.
+#[derive(Clone, Copy, Debug, PartialEq, Eq)]
+pub enum Function {
+    Sin,
+    Cos,
+    Tan,
+    Exp,
+    Ln,
+    Sqrt,
+}
+
+/// The signs between two parts.
+#[derive(Clone, Copy, Debug, PartialEq, Eq)]
+pub enum Binary {
+    Add,
+    Sub,
+    Mul,
+    Div,
+    Pow,
+}
+
+/// An expression, at most 64 deep in the tree of a text.
+#[derive(Drop)]
+pub enum Expr {
+    /// A whole number or a real, by its exact value.
+    Number(Frac),
+    Pi,
+    /// A name; in a gate's body it may be a parameter.
+    Param(Name),
+    /// Unary minus.
+    Neg(Box<Expr>),
+    /// A pair of parentheses.
+    Paren(Box<Expr>),
+    Call {
+        function: Function,
+        arg: Box<Expr>,
+    },
+    Binary {
+        sign: Binary,
+        left: Box<Expr>,
+        right: Box<Expr>,
+    },
+}
+
+/// A register, or one place of it, counted from 0.
+#[derive(Drop)]
+pub struct Arg {
+    pub name: Name,
+    pub index: Option<u64>,
+}
+
+/// A gate applied. `U` and `CX` are names of gates too.
+#[derive(Drop)]
+pub struct Apply {
+    pub gate: Name,
+    pub angles: Vec<Expr>,
+    pub args: Vec<Arg>,
+}
+
+/// A gate declared. Its body holds applications and barriers of plain names; that of an opaque gate is empty.
+#[cycle(tree)]
+#[derive(Drop)]
+pub struct GateDef {
+    pub name: Name,
+    pub params: Vec<Name>,
+    pub qubits: Vec<Name>,
+    pub body: Vec<Stmt>,
+}
+
+/// A statement.
+#[cycle(tree)]
+#[derive(Drop)]
+pub enum Stmt {
+    /// The file's name without its quotes.
+    Include {
+        file: Name,
+    },
+    /// A quantum or a classical register of so many places.
+    Register {
+        quantum: bool,
+        name: Name,
+        size: u64,
+    },
+    Gate(GateDef),
+    Opaque(GateDef),
+    Apply(Apply),
+    Measure {
+        qubit: Arg,
+        bit: Arg,
+    },
+    Reset {
+        arg: Arg,
+    },
+    /// An application, a measure or a reset, where a register has this value.
+    If {
+        name: Name,
+        value: u64,
+        inner: Box<Stmt>,
+    },
+    Barrier {
+        args: Vec<Arg>,
+    },
+}
+
+/// A program: the number behind `OPENQASM`, and the statements in order.
+#[derive(Drop)]
+pub struct Program {
+    pub version: Frac,
+    pub list: Vec<Stmt>,
+}
