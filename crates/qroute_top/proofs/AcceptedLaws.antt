@@ -1,11 +1,11 @@
 -- What is read of a text decides whether it is accepted.
 --   accepted-read     a program that is read makes the text accepted
 --   misspelt-unread   where none is read, none is spelt
-use Rattle.std.proofs.Common.{◌≡◌, ℕ, ◌+◌, ◌-◌, ◌<◌, ◌≤◌, List, Option, Some, None, refl, sym, ap, ◌∙◌, length, replicate, arith, option_and_then, append-nil, [], ◌++◌, ◌∷◌}
+use Rattle.std.proofs.Common.{◌≡◌, ℕ, ◌+◌, ◌<◌, ◌≤◌, List, Option, Some, None, refl, ap, ◌∙◌, length, replicate, arith, option_and_then, append-nil}
 use Rattle.std.proofs.lemmas.Grind.{common_steps}
 use Rattle.outside_io.specs.Bytes.{IsLongerThan, TakesAll, Tells}
 use Rattle.unitary_model.specs.Tokens.{Text, tokens}
-use Rattle.unitary_model.specs.SmallProgram.{SmallProgram, Spells, spelling}
+use Rattle.unitary_model.specs.SmallProgram.{SmallProgram, spelling}
 use Rattle.qroute_top.specs.Accepted.{IsAccepted, IsMisspelt, operation_limit, text_limit}
 use Rattle.qroute_top.specs.Causes.{IsReadCause, IsRefused, IsTextCause}
 use Rattle.qroute_top.specs.Reading.{program_of}

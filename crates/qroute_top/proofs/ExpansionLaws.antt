@@ -1,11 +1,9 @@
 -- Named operations as gates.
-use Rattle.std.proofs.Common.{◌≡◌, ℕ, ◌+◌, ◌<◌, ◌≤◌, ◌⊎◌, inl, inr, List, [], ◌∷◌, ◌++◌, Option, Some, None, refl, sym, ap, ◌∙◌, length, take, get_or, arith, map, All}
-use Rattle.unitary_model.specs.declared.Op.{Op}
-use Rattle.unitary_model.specs.declared.Op.TheVariants.{U, Cx}
-use Rattle.unitary_model.specs.SmallProgram.{IsNamed, gate_tokens}
-use Rattle.circuit_list.specs.declared.Gate.{Gate}
+use Rattle.std.proofs.Common.{◌≡◌, ℕ, ◌<◌, inl, inr, [], arith}
+use Rattle.unitary_model.specs.declared.Op.TheVariants.{U}
+use Rattle.unitary_model.specs.SmallProgram.{gate_tokens}
 use Rattle.circuit_list.specs.declared.Gate.TheVariants.{H, X, P}
-use Rattle.circuit_list.specs.Gates.{IsFine, op_of, ops}
+use Rattle.circuit_list.specs.Gates.{op_of}
 use Rattle.qroute_top.proofs.SpellingLaws.{gate_cases}
 
 -- a named operation has three forms

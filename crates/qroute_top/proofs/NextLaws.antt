@@ -1,7 +1,7 @@
 -- The first token of a text, by the lexemes at its front.
-use Rattle.std.proofs.Common.{◌≡◌, ◌≢◌, ℕ, ◌+◌, ◌<◌, ◌≤◌, Bool, true, false, List, [], ◌∷◌, Option, Some, None, refl, sym, ◌∙◌, length, take, drop, arith}
+use Rattle.std.proofs.Common.{◌≡◌, ℕ, ◌<◌, true, false, [], ◌∷◌, Some, None, refl, sym, length, take, drop, arith}
 use Rattle.std.specs.Prelude.{option_map}
-use Rattle.unitary_model.specs.Tokens.{Text, is_blank, lexeme_len, tokens, with_lexeme}
+use Rattle.unitary_model.specs.Tokens.{Text, is_blank, lexeme_len, tokens}
 use Rattle.unitary_model.proofs.TokenLaws.{tokens-lexeme, tokens-none}
 
 -- white space or a comment changes nothing

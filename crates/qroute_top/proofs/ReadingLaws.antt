@@ -1,8 +1,8 @@
 -- Reading token by token.
 --   strip_all-next     one word more
-use Rattle.std.proofs.Common.{◌≡◌, ◌≢◌, ℕ, zero, suc, ◌+◌, ◌*◌, ◌-◌, ◌<◌, ◌≤◌, Bool, true, false, List, [], ◌∷◌, ◌++◌, Option, Some, None, Result, Ok, Err, OnErr, refl, sym, ap, ◌∙◌, length, take, drop, map, get_or, arith, rules, ◌&&◌, ◌||◌, ◌^◌, ◌==◌, not, nat_lt, nat_le, if◌then◌else◌, subst, ◌⊎◌, inl, inr, add-one, option_and_then, option_map, append_assoc, length-append, drop-cons}
+use Rattle.std.proofs.Common.{◌≡◌, ℕ, zero, suc, ◌+◌, ◌*◌, ◌-◌, ◌<◌, ◌≤◌, Bool, true, false, List, [], ◌∷◌, ◌++◌, Option, Some, None, Result, Ok, Err, OnErr, refl, sym, ap, length, take, drop, map, get_or, arith, rules, ◌&&◌, ◌||◌, ◌^◌, ◌==◌, not, nat_lt, nat_le, if◌then◌else◌, subst, ◌⊎◌, inl, inr, add-one, option_and_then, option_map, append_assoc, length-append, drop-cons}
 use Rattle.std.proofs.lemmas.List.{drop-map}
-use Rattle.std.proofs.lemmas.List.Folds.{list_all_at, list_all_more}
+use Rattle.std.proofs.lemmas.List.Folds.{list_all_at}
 use Rattle.std.proofs.lemmas.Int.Digits.{digits_value_more}
 use Rattle.std.proofs.lemmas.Str.{digit_value_digit}
 use Rattle.std.proofs.lemmas.Str.Parse.{IsNumeralModel, numerals_by_value, digits_value_short}

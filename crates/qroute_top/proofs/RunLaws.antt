@@ -4,12 +4,12 @@
 --   Ends s n              a stop ends with want of memory or with its status
 --   stopped-..            what follows of a status after a stop
 --   planned-refuses       where a plan was made, the text has no refusal
-use Rattle.std.proofs.Common.{◌≡◌, ◌⊎◌, inl, inr, ℕ, ◌+◌, ◌<◌, ◌≤◌, List, Option, Some, None, Result, Err, refl, sym, ap, ◌∙◌, arith, true}
+use Rattle.std.proofs.Common.{◌≡◌, ◌⊎◌, inl, inr, ℕ, List, Option, Some, None, Result, Err, refl, arith}
 use Rattle.outside_io.specs.Bytes.{TakesAll, Tells}
 use Rattle.outside_io.specs.Causes.{Rose}
 use Rattle.unitary_model.specs.SmallProgram.{SmallProgram, IsSmallProgram}
 use Rattle.qroute_top.specs.Accepted.{IsAccepted, IsRefusal}
-use Rattle.qroute_top.specs.Causes.{Handed, HasCommand, IsCause, IsReadCause, IsRefused, fault_of, is_early_fault, stop_status}
+use Rattle.qroute_top.specs.Causes.{Handed, IsCause, IsReadCause, IsRefused, fault_of, stop_status}
 use Rattle.qroute_top.specs.Delivered.{Delivers, Makes}
 use Rattle.qroute_top.specs.Commands.{command_of}
 use Rattle.qroute_top.specs.declared.commands.Command.{Command}

@@ -4,7 +4,7 @@
 --   Spells-once           a text spells at most one program
 --   gate_cases            the gates that the form names
 --   is_numeral-decimal    a decimal is a numeral
-use Rattle.std.proofs.Common.{◌≡◌, ◌≢◌, ℕ, zero, suc, ◌+◌, ◌-◌, ◌*◌, ◌^◌, ◌<◌, ◌≤◌, ◌==◌, ◌&&◌, ◌||◌, ◌⊎◌, inl, inr, not, Bool, true, false, nat_lt, nat_le, if◌then◌else◌, List, [], ◌∷◌, ◌++◌, Option, Some, None, refl, sym, ap, ◌∙◌, subst, length, get_or, arith, rules, option_and_then, option_map, append_assoc, append-nil, All, codes, lit<}
+use Rattle.std.proofs.Common.{◌≡◌, ℕ, zero, suc, ◌+◌, ◌-◌, ◌^◌, ◌<◌, ◌≤◌, ◌==◌, ◌&&◌, ◌||◌, ◌⊎◌, inl, inr, not, Bool, true, false, nat_lt, nat_le, if◌then◌else◌, List, [], ◌∷◌, ◌++◌, Option, Some, None, refl, sym, ap, ◌∙◌, subst, length, get_or, arith, rules, option_and_then, option_map, codes, lit<}
 use Rattle.std.proofs.lemmas.Bool.Decides.{nat_tests}
 use Rattle.std.proofs.lemmas.Fmt.{digits_decimal, digits_value-decimal, decimal_nonempty, first_decimal, decimal_digit}
 use Rattle.std.proofs.lemmas.List.Elements.{recursion_from_All, All-from_recursion}
@@ -17,7 +17,7 @@ use Rattle.std.specs.Str.Parse.{digits_value}
 use Rattle.unitary_model.specs.declared.Op.{Op}
 use Rattle.unitary_model.specs.declared.Op.TheVariants.{U, Cx}
 use Rattle.unitary_model.specs.Tokens.{Text, begins_with}
-use Rattle.unitary_model.specs.SmallProgram.{IsNamed, IsSmallProgram, SmallProgram, Spells, gate_tokens, header_tokens, op_tokens, spelling, wire_tokens}
+use Rattle.unitary_model.specs.SmallProgram.{IsNamed, IsSmallProgram, SmallProgram, Spells, gate_tokens, op_tokens, spelling, wire_tokens}
 use Rattle.qroute_top.specs.Reading.{Angles, and_more, angles, at_least, body_of, close_after, closing, gate_named, heading, is_numeral, number, number_of, op_at, opening, operation_of, operations_of, program_of, register_of, strip, strip_all, wire_of}
 use Rattle.qroute_top.proofs.ReadingLaws.{decimal-numeral, digits_own}
 

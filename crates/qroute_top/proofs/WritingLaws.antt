@@ -1,11 +1,11 @@
 -- The lines of a circuit's gates, one by one, and the tokens of a written text.
 --   lines-more             the line of one gate more
-use Rattle.std.proofs.Common.{◌≡◌, ◌≢◌, ℕ, zero, suc, ◌+◌, ◌<◌, ◌≤◌, ◌^◌, ◌==◌, Bool, true, false, List, [], ◌∷◌, ◌++◌, Option, Some, None, refl, sym, ap, ◌∙◌, subst, length, take, slice_get, arith, rules, add-one, append_assoc, append-nil, option_map, codes, lit<, map}
+use Rattle.std.proofs.Common.{◌≡◌, ℕ, zero, suc, ◌+◌, List, [], ◌∷◌, ◌++◌, Some, refl, sym, take, slice_get, add-one, append_assoc, append-nil}
 use Rattle.std.specs.List.{flat_map}
 use Rattle.circuit_list.specs.declared.Gate.{Gate}
 use Rattle.circuit_list.specs.Gates.{op_of, ops}
 use Rattle.unitary_model.specs.Tokens.{Text}
-use Rattle.unitary_model.specs.WrittenProgram.{heading_text, op_line, register_line, written_text}
+use Rattle.unitary_model.specs.WrittenProgram.{op_line}
 
 lines-suc : (gs : List Gate) (i : ℕ) (g : Gate) → slice_get gs i ≡ Some g
     → flat_map op_line (ops (take (suc i) gs)) ≡ flat_map op_line (ops (take i gs)) ++ op_line (op_of g)

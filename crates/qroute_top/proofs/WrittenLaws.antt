@@ -1,10 +1,9 @@
 -- The tokens of a written text are those of its program.
 --   tokens-written    for a program of the small form
-use Rattle.std.proofs.Common.{◌≡◌, ◌≢◌, ℕ, zero, suc, ◌+◌, ◌<◌, ◌≤◌, ◌^◌, ◌==◌, ◌&&◌, ◌||◌, ◌⊎◌, inl, inr, not, Bool, true, false, cond, List, [], ◌∷◌, ◌++◌, Option, Some, None, refl, sym, ap, ◌∙◌, subst, length, take, drop, get_or, arith, rules, append_assoc, append-nil, option_map, codes, lit<, All, one-add, if◌then◌else◌}
+use Rattle.std.proofs.Common.{◌≡◌, ℕ, ◌<◌, ◌≤◌, ◌^◌, ◌==◌, inl, inr, Bool, true, false, List, [], ◌∷◌, ◌++◌, Some, refl, sym, ap, ◌∙◌, length, drop, arith, append_assoc, option_map, codes, lit<, one-add, if◌then◌else◌}
 use Rattle.std.proofs.lemmas.Grind.{common_steps}
 use Rattle.std.proofs.lemmas.Bool.Decides.{nat_tests}
 use Rattle.std.proofs.lemmas.Fmt.{decimal_nonempty}
-use Rattle.std.proofs.lemmas.List.Folds.{prefix_len-append}
 use Rattle.std.proofs.lemmas.List.Elements.{recursion_from_All}
 use Rattle.std.specs.List.{flat_map, list_all, prefix_len, AllByRecursion}
 use Rattle.std.specs.Char.{is_ascii_alphabetic, is_ascii_digit}
@@ -12,8 +11,8 @@ use Rattle.std.specs.Fmt.{decimal}
 use Rattle.unitary_model.specs.declared.Op.{Op}
 use Rattle.unitary_model.specs.declared.Op.TheVariants.{U, Cx}
 use Rattle.unitary_model.specs.Tokens.{Text, begins_with, is_blank, is_space, lexeme_by, lexeme_len, number_len, tokens}
-use Rattle.unitary_model.specs.SmallProgram.{IsNamed, IsSmallProgram, SmallProgram, gate_tokens, header_tokens, op_tokens, spelling, wire_tokens}
-use Rattle.unitary_model.specs.WrittenProgram.{gate_text, heading_text, op_line, register_line, wire_text, written_text}
+use Rattle.unitary_model.specs.SmallProgram.{IsNamed, IsSmallProgram, SmallProgram, op_tokens, spelling, wire_tokens}
+use Rattle.unitary_model.specs.WrittenProgram.{heading_text, op_line, register_line, wire_text, written_text}
 use Rattle.unitary_model.proofs.TokenLaws.{tokens-more, tokens-space, tokens-word}
 use Rattle.qroute_top.specs.Reading.{is_numeral}
 use Rattle.qroute_top.proofs.SpellingLaws.{first_of_both, second_of_both, is_numeral-decimal, gate_cases}

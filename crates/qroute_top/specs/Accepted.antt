@@ -2,7 +2,7 @@
 --   text_limit, operation_limit    the limits of an input
 --   IsAccepted text p     the text spells the program p, within the limits
 --   IsRefusal text r      r is the text's first refusal: its length, or else that it spells no program within the limits
-use Rattle.std.specs.Prelude.{◌≡◌, ℕ, ◌<◌, ◌≤◌, length}
+use Rattle.std.specs.Prelude.{ℕ, ◌<◌, ◌≤◌, length}
 use Rattle.unitary_model.specs.Tokens.{Text}
 use Rattle.unitary_model.specs.SmallProgram.{SmallProgram, Spells}
 use Rattle.qroute_top.specs.declared.stops.Refusal.{Refusal}

@@ -11,14 +11,14 @@
 --   register_of ts             the number of wires, and the tokens after the register
 --   program_of n ts            the program of the tokens, of at most n operations
 --   read_from f t              f of the tokens of a text
-use Rattle.std.specs.Prelude.{◌≡◌, ◌≤◌, ⊤, ℕ, zero, suc, ◌+◌, ◌-◌, ◌==◌, ◌&&◌, ◌||◌, Bool, true, false, not, nat_lt, nat_le, List, [], ◌∷◌, ◌++◌, Option, Some, None, if◌then◌else◌, codes, length, option_map, option_and_then}
+use Rattle.std.specs.Prelude.{◌≡◌, ◌≤◌, ⊤, ℕ, zero, suc, ◌-◌, ◌==◌, ◌&&◌, ◌||◌, Bool, not, nat_lt, nat_le, List, [], ◌∷◌, Option, Some, None, if◌then◌else◌, codes, length, option_map, option_and_then}
 use Rattle.std.specs.Char.{is_ascii_digit}
 use Rattle.std.specs.List.{list_all}
 use Rattle.std.specs.Str.{bytes_eq}
 use Rattle.std.specs.Str.Parse.{digits_value}
 use Rattle.unitary_model.specs.declared.Op.{Op}
 use Rattle.unitary_model.specs.declared.Op.TheVariants.{U}
-use Rattle.unitary_model.specs.Tokens.{Text, begins_with, tokens}
+use Rattle.unitary_model.specs.Tokens.{Text, begins_with}
 use Rattle.unitary_model.specs.SmallProgram.{SmallProgram}
 use Rattle.qroute_top.specs.declared.reader.Unread.{Unread}
 use Rattle.qroute_top.specs.declared.reader.Unread.TheVariants.{NoMemory, Misfit}

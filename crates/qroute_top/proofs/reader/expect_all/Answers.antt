@@ -1,4 +1,4 @@
-use Rattle.std.proofs.Common.{◌≡◌, ◌≤◌, ◌+◌, ◌∙◌, arith, None, ap, option_and_then, drop, map}
+use Rattle.std.proofs.Common.{◌+◌, ◌∙◌, arith, ap, option_and_then, drop, map}
 use Rattle.unitary_model.specs.Tokens.{tokens}
 use Rattle.qroute_top.proofs.ReadingLaws.{OnErr-whatever, strip_all-next}
 use Rattle.qroute_top.specs.Reading.{strip_all}
