@@ -3,15 +3,14 @@
 --   signs                   these
 --   word-first              a reserved word that comes next
 --   actions, statements, headers   what is read by the word that comes next
-use Rattle.std.proofs.Common.{◌≡◌, ℕ, zero, suc, ◌+◌, ◌<◌, ◌≤◌, Bool, true, false, nat_eq, if◌then◌else◌, List, [], ◌∷◌, ◌++◌, Option, Some, None, refl, sym, ap, ◌∙◌, subst, length, drop, map, arith}
+use Rattle.std.proofs.Common.{◌≡◌, ℕ, ◌<◌, true, false, nat_eq, if◌then◌else◌, List, [], ◌∷◌, Some, None, refl, sym, ap, ◌∙◌, length, drop, arith}
 use Rattle.std.proofs.lemmas.Bool.Decides.{nat_tests}
 use Rattle.qasm_parser.specs.declared.symbols.Mark.{Mark}
 use Rattle.qasm_parser.specs.Symbols.{Symbol}
 use Rattle.qasm_parser.specs.declared.symbols.Keyword.{Keyword}
 use Rattle.qasm_parser.specs.declared.symbols.Keyword.TheVariants.{OpenQasm, Include, Qreg, Creg, Gate, Opaque, Measure, Reset, If, Barrier, Pi, U, Cx}
-use Rattle.qasm_parser.specs.Symbols.{word, function, name, whole, real, quoted, mark, sign, other}
-use Rattle.qasm_parser.specs.Tree.{Action}
-use Rattle.qasm_parser.specs.Reading.{Read, action_of, application_of, barrier_of, begins_with, begins_word, conditional_of, gate_of, head_of, header_of, include_of, item_of, measure_of, opaque_of, register_of, reset_of, skip, statement_of, version_of, with_act, with_apply, word_code}
+use Rattle.qasm_parser.specs.Symbols.{word}
+use Rattle.qasm_parser.specs.Reading.{action_of, application_of, barrier_of, begins_with, begins_word, conditional_of, gate_of, head_of, header_of, include_of, item_of, measure_of, opaque_of, register_of, reset_of, skip, statement_of, version_of, with_act, with_apply, word_code}
 
 pub skip-next : (m : Mark) (ts : List Symbol) → begins_with m ts ≡ true → skip m ts ≡ Some (drop 1 ts)
 skip-next m [] h = cc

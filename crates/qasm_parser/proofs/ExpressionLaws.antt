@@ -4,17 +4,15 @@
 --   capped-..        an expression is within the limit where its parts are, and it is no deeper
 --   run-reads        the symbols of an expression are read as that expression, whatever stands before and behind
 --   sum_of-spelt     an expression that no sign follows is read whole
-use Rattle.std.proofs.Common.{◌≡◌, ◌≢◌, ℕ, zero, suc, ◌+◌, ◌<◌, ◌≤◌, Bool, true, false, nat_le, max, if◌then◌else◌, List, [], ◌∷◌, Option, Some, None, refl, sym, ap, ◌∙◌, subst, ◌⊎◌, inl, inr, arith}
+use Rattle.std.proofs.Common.{◌≡◌, ℕ, ◌+◌, ◌<◌, ◌≤◌, Bool, true, false, nat_le, max, if◌then◌else◌, List, [], ◌∷◌, Option, Some, None, refl, sym, ap, ◌∙◌, inl, inr, arith}
 use Rattle.std.proofs.lemmas.Bool.Decides.{nat_tests}
-use Rattle.qasm_parser.specs.declared.tree.Function.{Function}
 use Rattle.qasm_parser.specs.declared.tree.Binary.{Binary}
 use Rattle.qasm_parser.specs.declared.tree.Binary.TheVariants.{Add, Sub, Mul, Div, Pow}
-use Rattle.qasm_parser.specs.declared.symbols.Mark.TheVariants.{Open, Close}
-use Rattle.qasm_parser.specs.declared.symbols.Keyword.TheVariants.{Pi}
-use Rattle.qasm_parser.specs.Symbols.{Symbol, word, function, name, whole, real, quoted, mark, sign, other}
+use Rattle.qasm_parser.specs.declared.symbols.Mark.TheVariants.{Close}
+use Rattle.qasm_parser.specs.Symbols.{Symbol, mark, sign}
 use Rattle.qasm_parser.specs.Tree.{Expression, number, pi, param, negated, paren, call, binary, depth}
-use Rattle.qasm_parser.specs.Expressions.{IsShaped, Reads, SpellsSum, left_level, level, right_level, sign_level}
-use Rattle.qasm_parser.specs.Machine.{Frame, minus, opened, called, before, Mode, front, opens, behind, Role, atom, begins, ends, calls, joins, none, binding, capped, closed, finished, grown, joined, parenthesis, reduce, reduced, role, run, sum_of, tightness, tightness_of}
+use Rattle.qasm_parser.specs.Expressions.{IsShaped, IsWritten, SpellsSum, left_level, level, right_level, sign_level}
+use Rattle.qasm_parser.specs.Machine.{Frame, minus, opened, called, before, front, behind, Role, atom, begins, ends, calls, joins, none, binding, capped, closed, finished, grown, joined, parenthesis, reduce, reduced, role, run, sum_of, tightness, tightness_of}
 
 abbrev pub tight : List Frame → ℕ
 tight [] = 0
@@ -213,7 +211,7 @@ module _ (limit : ℕ) (positive : 1 ≤ limit) where
       by_role (calls g) is = outside (calls g) is tt
       by_role none is = outside none is tt
 
-  pub run-reads : (e : Expression) (fs : List Frame) (ts rest : List Symbol) → IsShaped e → Reads e ts rest → tight fs < level e → Below (grip e) rest
+  pub run-reads : (e : Expression) (fs : List Frame) (ts rest : List Symbol) → IsShaped e → IsWritten e ts rest → tight fs < level e → Below (grip e) rest
       → run limit fs front ts ≡ run limit fs (behind (capped limit e)) rest
   run-reads (number value) fs ts rest shaped reads low below =
       elim reads [

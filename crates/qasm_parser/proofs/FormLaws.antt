@@ -5,25 +5,23 @@
 --   shown                what a reader makes of an expression: pi where it is too deep
 --   application-.., barrier-.., action-.., item-..   applications and their kin
 --   ..-sound             what is read is spelt; ..-complete what is spelt is read; ..-takes, ..-long how many symbols it takes
-use Rattle.std.proofs.Common.{◌≡◌, ℕ, zero, suc, ◌+◌, ◌<◌, ◌≤◌, Bool, true, false, nat_eq, nat_le, if◌then◌else◌, List, [], ◌∷◌, ◌++◌, Option, Some, None, refl, sym, ap, ◌∙◌, subst, ◌⊎◌, inl, inr, length, map, codes, arith, append-nil, option_map, option_and_then, ℤ, pos, negsuc}
+use Rattle.std.proofs.Common.{◌≡◌, ℕ, suc, ◌<◌, ◌≤◌, Bool, true, false, nat_eq, nat_le, if◌then◌else◌, List, [], ◌∷◌, ◌++◌, Option, Some, None, refl, sym, ap, ◌∙◌, subst, inl, inr, length, map, codes, arith, option_map, option_and_then, ℤ, pos, negsuc}
 use Rattle.std.proofs.lemmas.Bool.Decides.{nat_tests}
 use Rattle.angle_fraction.specs.Fraction.{Fraction, fraction}
 use Rattle.qasm_parser.specs.declared.tree.Arg.{Arg}
-use Rattle.qasm_parser.specs.declared.tree.Function.{Function}
-use Rattle.qasm_parser.specs.declared.tree.Binary.{Binary}
 use Rattle.qasm_parser.specs.declared.symbols.Keyword.{Keyword}
 use Rattle.qasm_parser.specs.declared.symbols.Keyword.TheVariants.{OpenQasm, Include, Qreg, Creg, Gate, Opaque, Measure, Reset, If, Barrier, Pi, U, Cx}
 use Rattle.qasm_parser.specs.declared.symbols.Mark.{Mark}
-use Rattle.qasm_parser.specs.declared.symbols.Mark.TheVariants.{Semicolon, Comma, Open, Close, OpenBracket, CloseBracket, OpenBrace, CloseBrace, Arrow, Equals}
+use Rattle.qasm_parser.specs.declared.symbols.Mark.TheVariants.{Semicolon, Comma, Open, Close, OpenBracket, CloseBracket, Arrow}
 use Rattle.qasm_parser.specs.Symbols.{Symbol, word, function, name, whole, real, quoted, mark, sign, other}
 use Rattle.qasm_parser.specs.Tree.{Expression, number, pi, param, negated, paren, call, binary, depth, Application, Action, apply, measure, reset, barrier}
-use Rattle.qasm_parser.specs.Expressions.{Reads, SpellsSum}
+use Rattle.qasm_parser.specs.Expressions.{IsWritten}
 use Rattle.qasm_parser.specs.Machine.{capped, sum_of}
-use Rattle.qasm_parser.specs.Spelling.{Form, by_u, by_cx, alone, empty, listed, IsAllowed, Seen, seen, Spells, SpellsAction, IsConditional, SpellsAngle, SpellsApplication, SpellsArg, SpellsArgs, SpellsBarrier, SpellsEach, SpellsForm, SpellsItem, SpellsList, SpellsName, BehindComma, index_symbols, whole_symbol}
-use Rattle.qasm_parser.specs.Reading.{Head, Read, action_of, angle_of, angles_of, angles_of_u, application_of, applied, arg_of, args_of, argument, barrier_of, bracketed_of, deep_from, first_deep, first_of, head, head_of, index_of, is_mark, item_of, kept, list_of, measure_of, more_of, name_of, natural, onto, optional_of, read, reset_of, skip, whole_number, whole_of, with_apply, with_gate, word_action, word_head, word_item}
+use Rattle.qasm_parser.specs.Spelling.{Form, by_u, by_cx, alone, empty, listed, IsAllowed, Seen, seen, Spells, SpellsAction, IsConditional, SpellsAngle, SpellsApplication, SpellsArg, SpellsArgs, SpellsBarrier, SpellsEach, SpellsForm, SpellsItem, SpellsList, SpellsName, BehindComma, index_symbols, whole_symbol, first_deep}
+use Rattle.qasm_parser.specs.Reading.{Head, Read, action_of, angle_of, angles_of, angles_of_u, application_of, applied, arg_of, args_of, argument, barrier_of, bracketed_of, deep_from, head, head_of, index_of, is_mark, item_of, kept, list_of, measure_of, more_of, name_of, natural, optional_of, read, reset_of, skip, whole_number, whole_of, with_apply, with_gate, word_action, word_head, word_item}
 use Rattle.qasm_parser.proofs.ExpressionLaws.{NoSign, sum_of-spelt}
-use Rattle.qasm_parser.proofs.SumLaws.{Found, sum_of-sound}
-use Rattle.qasm_parser.proofs.RepeatLaws.{Complete, Sound, Spelt, Takes, first_deep-append, is_mark-sound, list-complete, list-sound, skip-sound}
+use Rattle.qasm_parser.proofs.SumLaws.{sum_of-sound}
+use Rattle.qasm_parser.proofs.RepeatLaws.{Complete, Sound, Spelt, Takes, list-complete, list-sound, skip-sound}
 
 -- ---- the parts of an answer
 pub both_of : {A B P : Type 0} (f : A → Option B) (o : Option A) (y : B) → option_and_then f o ≡ Some y → ((x : A) → o ≡ Some x → f x ≡ Some y → P) → P
@@ -238,7 +236,7 @@ args-complete plain args ts rest s =
     ∙ ap (λ xs. Some (read xs None (mark Semicolon ∷ rest))) (map-id args))
 
 -- ---- angles
-reads-takes : (e : Expression) (ts rest : List Symbol) → Reads e ts rest → length rest < length ts
+reads-takes : (e : Expression) (ts rest : List Symbol) → IsWritten e ts rest → length rest < length ts
 reads-takes (number value) ts rest s = elim s [ inl h ↦ (let k : length ts ≡ suc (length rest) = ap length h in omega arith) | inr h ↦ (let k : length ts ≡ suc (length rest) = ap length h in omega arith) ]
 reads-takes pi ts rest s = let k : length ts ≡ suc (length rest) = ap length s in omega arith
 reads-takes (param n) ts rest s = let k : length ts ≡ suc (length rest) = ap length s in omega arith
@@ -327,7 +325,7 @@ module _ (limit : ℕ) (positive : 1 ≤ limit) where
 
 -- ---- heads of applications
 -- no expression begins with the end of a parenthesis
-reads-front : (e : Expression) (ts rest : List Symbol) → Reads e ts rest → skip Close ts ≡ None
+reads-front : (e : Expression) (ts rest : List Symbol) → IsWritten e ts rest → skip Close ts ≡ None
 reads-front (number value) ts rest s = elim s [ inl h ↦ ap (skip Close) h | inr h ↦ ap (skip Close) h ]
 reads-front pi ts rest s = ap (skip Close) s
 reads-front (param n) ts rest s = ap (skip Close) s

@@ -1,7 +1,7 @@
 -- Frames of the code as a stack.
 --   stack-push     a frame that is put behind the others is the first of the stack
 --   stacks         what the code of frames needs
-use Rattle.std.proofs.Common.{◌≡◌, ℕ, Bool, true, false, List, [], ◌∷◌, ◌++◌, refl, sym, ap, ◌∙◌, map, reverse, Option, nat_le, if◌then◌else◌}
+use Rattle.std.proofs.Common.{◌≡◌, ℕ, true, false, List, [], ◌∷◌, ◌++◌, refl, Option}
 use Rattle.std.proofs.lemmas.List.{map-append, reverse-append}
 use Rattle.qasm_parser.specs.declared.frames.Frame.{Frame}
 use Rattle.qasm_parser.specs.Frames.{frame_of, stack}

@@ -1,10 +1,10 @@
 -- What the loops over lists need: the list so far is put in front of what is still to come.
 --   more-first, more-step, more-last, more-fail   the first member, one more, none more, one that can't be read
 --   names, args, angles   these for each kind of list
-use Rattle.std.proofs.Common.{◌≡◌, ℕ, zero, suc, ◌+◌, ◌<◌, ◌≤◌, Bool, true, false, if◌then◌else◌, List, [], ◌∷◌, ◌++◌, Option, Some, None, refl, sym, ap, ◌∙◌, subst, length, map, arith, append-nil, lit≤, option_map, option_and_then}
+use Rattle.std.proofs.Common.{◌≡◌, ℕ, Bool, true, false, if◌then◌else◌, List, [], ◌∷◌, ◌++◌, Option, Some, None, refl, sym, ap, ◌∙◌, map, append-nil, lit≤, option_map}
 use Rattle.qasm_parser.specs.declared.symbols.Mark.TheVariants.{Comma}
 use Rattle.qasm_parser.specs.declared.tree.Arg.{Arg}
-use Rattle.qasm_parser.specs.Symbols.{Symbol, mark}
+use Rattle.qasm_parser.specs.Symbols.{Symbol}
 use Rattle.std.proofs.lemmas.List.{map-append}
 use Rattle.qasm_parser.specs.declared.tree.Expr.{Expr}
 use Rattle.qasm_parser.specs.Tree.{Expression, expression}

@@ -4,22 +4,21 @@
 --   only_one         two trees that are spelt by the same symbols are one
 --   spelt_once, no_fault   the same of a text; a text that is accepted has no fault
 --   accepted, refused, other_version, too_deep   what a reading says of a text
-use Rattle.std.proofs.Common.{◌≡◌, ◌≢◌, ℕ, zero, suc, ◌+◌, ◌<◌, ◌≤◌, max, Bool, true, false, nat_le, if◌then◌else◌, List, [], ◌∷◌, ◌++◌, Option, Some, None, refl, sym, ap, ◌∙◌, subst, length, map, arith, lit≤}
+use Rattle.std.proofs.Common.{◌≡◌, ◌≢◌, ℕ, ◌≤◌, max, Bool, true, false, nat_le, if◌then◌else◌, List, [], ◌∷◌, ◌++◌, Option, Some, None, refl, sym, ap, ◌∙◌, subst, length, map, arith, lit≤}
 use Rattle.std.proofs.lemmas.Bool.Decides.{nat_tests}
 use Rattle.qasm_lexer.specs.declared.Token.{Token}
-use Rattle.qasm_parser.specs.declared.tree.Arg.{Arg}
 use Rattle.qasm_parser.specs.Symbols.{Symbol, mark, place_of, symbols}
 use Rattle.qasm_parser.specs.declared.ParseFault.{ParseFault}
 use Rattle.qasm_parser.specs.declared.ParseFault.TheVariants.{Syntax, Version, Depth, NoMemory}
-use Rattle.qasm_parser.specs.declared.symbols.Mark.TheVariants.{CloseBrace, Close, Semicolon}
-use Rattle.qasm_parser.specs.Tree.{Expression, depth, Application, Action, apply, measure, reset, barrier, Definition, definition, Statement, include, register, gate, opaque, conditional, act, Tree}
+use Rattle.qasm_parser.specs.declared.symbols.Mark.TheVariants.{CloseBrace, Close}
+use Rattle.qasm_parser.specs.Tree.{depth, Application, apply, measure, reset, barrier, definition, include, register, gate, opaque, conditional, act, Tree}
 use Rattle.qasm_parser.specs.Machine.{capped}
-use Rattle.qasm_parser.specs.Spelling.{BehindComma, Form, by_u, by_cx, alone, empty, listed, Seen, seen, Spells, SpellsAction, SpellsAngle, SpellsApplication, SpellsEach, SpellsForm, SpellsItem, SpellsList, SpellsStatement, SpellsTree}
-use Rattle.qasm_parser.specs.Reading.{Read, first_deep, first_of, kept, read, tree_of}
+use Rattle.qasm_parser.specs.Spelling.{BehindComma, Form, by_u, by_cx, alone, empty, listed, Seen, Spells, SpellsAction, SpellsAngle, SpellsApplication, SpellsEach, SpellsForm, SpellsItem, SpellsList, SpellsStatement, SpellsTree, first_deep}
+use Rattle.qasm_parser.specs.Reading.{Read, first_of, kept, read, tree_of}
 use Rattle.qasm_parser.specs.Parsing.{IsFault, IsProgram, first_deep_of, real_place, two, Spells as SpellsText}
 use Rattle.qasm_parser.proofs.RepeatLaws.{first_deep-append}
 use Rattle.qasm_parser.proofs.FormLaws.{shown, shown_action, shown_application}
-use Rattle.qasm_parser.proofs.StatementLaws.{TreeSpelt, shown_statement, shown_tree, tree-complete, tree-sound}
+use Rattle.qasm_parser.proofs.StatementLaws.{shown_statement, shown_tree, tree-complete, tree-sound}
 
 -- ---- limits
 abbrev pub high : List Seen → ℕ

@@ -1,10 +1,9 @@
 -- Where tokens stand.
 --   first_place-get   the first of the tokens from a place on
 --   places            what the code of places needs
-use Rattle.std.proofs.Common.{◌≡◌, ℕ, zero, suc, ◌+◌, ◌<◌, ◌≤◌, List, [], ◌∷◌, Option, Some, None, refl, sym, ap, ◌∙◌, subst, length, drop, arith, All}
+use Rattle.std.proofs.Common.{◌≡◌, ℕ, zero, suc, List, [], ◌∷◌, Some, sym, ap, drop}
 use Rattle.std.specs.Prelude.{slice_get}
 use Rattle.qasm_lexer.specs.declared.Token.{Token}
-use Rattle.qasm_lexer.specs.Tokens.{IsTokenOf}
 use Rattle.qasm_parser.specs.Symbols.{first_place}
 
 pub first_place-get : (size : ℕ) (tokens : List Token) (i : ℕ) (token : Token) → Some token ≡ slice_get tokens i → first_place size (drop i tokens) ≡ token.from

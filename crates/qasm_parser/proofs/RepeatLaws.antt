@@ -4,13 +4,13 @@
 --   onto-onto, onto-nothing       what is put in front
 --   Sound, Complete  a reader gives only what is spelt; it gives what is spelt, where what follows doesn't continue it
 --   each-sound, each-complete, list-sound, list-complete   the same for lists
-use Rattle.std.proofs.Common.{◌≡◌, ℕ, zero, suc, ◌+◌, ◌<◌, ◌≤◌, Bool, true, false, nat_eq, nat_le, if◌then◌else◌, List, [], ◌∷◌, ◌++◌, Option, Some, None, refl, sym, ap, ◌∙◌, subst, length, map, arith, append_assoc, append-nil, option_map, option_and_then}
+use Rattle.std.proofs.Common.{◌≡◌, ℕ, zero, suc, ◌<◌, Bool, true, false, nat_eq, nat_le, if◌then◌else◌, List, [], ◌∷◌, ◌++◌, Option, Some, None, refl, sym, ap, ◌∙◌, subst, length, map, arith, append_assoc, option_map, option_and_then}
 use Rattle.std.proofs.lemmas.Bool.Decides.{nat_tests}
 use Rattle.qasm_parser.specs.declared.symbols.Mark.{Mark}
 use Rattle.qasm_parser.specs.declared.symbols.Mark.TheVariants.{Semicolon, Comma, Open, Close, OpenBracket, CloseBracket, OpenBrace, CloseBrace, Arrow, Equals}
 use Rattle.qasm_parser.specs.Symbols.{Symbol, word, function, name, whole, real, quoted, mark, sign, other}
-use Rattle.qasm_parser.specs.Spelling.{BehindComma, Seen, Spells, SpellsEach, SpellsList}
-use Rattle.qasm_parser.specs.Reading.{Read, all, first_deep, first_of, is_mark, list_of, mark_code, more_of, onto, read, repeat, skip}
+use Rattle.qasm_parser.specs.Spelling.{BehindComma, Seen, Spells, SpellsEach, SpellsList, first_deep}
+use Rattle.qasm_parser.specs.Reading.{Read, all, first_of, is_mark, list_of, mark_code, more_of, onto, read, repeat, skip}
 
 -- ---- places
 pub first_of-assoc : (a b c : Option ℕ) → first_of (first_of a b) c ≡ first_of a (first_of b c)

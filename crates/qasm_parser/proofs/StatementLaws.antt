@@ -5,19 +5,18 @@
 --   statement-.., statements-..   statements, one and all
 --   header-.., tree-..       whole programs
 --   ..-sound                 what is read is spelt; ..-complete what is spelt is read; ..-long how many symbols it takes
-use Rattle.std.proofs.Common.{◌≡◌, ℕ, zero, suc, ◌+◌, ◌<◌, ◌≤◌, Bool, true, false, nat_le, if◌then◌else◌, List, [], ◌∷◌, ◌++◌, Option, Some, None, refl, sym, ap, ◌∙◌, subst, length, map, arith, option_map, option_and_then}
-use Rattle.angle_fraction.specs.Fraction.{Fraction, fraction}
-use Rattle.qasm_parser.specs.declared.tree.Arg.{Arg}
+use Rattle.std.proofs.Common.{◌≡◌, ℕ, suc, ◌<◌, ◌≤◌, Bool, true, false, if◌then◌else◌, List, [], ◌∷◌, Option, Some, None, refl, sym, ap, ◌∙◌, subst, length, map, arith, option_map, option_and_then}
+use Rattle.angle_fraction.specs.Fraction.{Fraction}
 use Rattle.qasm_parser.specs.declared.symbols.Keyword.{Keyword}
 use Rattle.qasm_parser.specs.declared.symbols.Keyword.TheVariants.{OpenQasm, Include, Qreg, Creg, Gate, Opaque, Measure, Reset, If, Barrier, Pi, U, Cx}
 use Rattle.qasm_parser.specs.declared.symbols.Mark.{Mark}
-use Rattle.qasm_parser.specs.declared.symbols.Mark.TheVariants.{Semicolon, Comma, Open, Close, OpenBracket, CloseBracket, OpenBrace, CloseBrace, Arrow, Equals}
+use Rattle.qasm_parser.specs.declared.symbols.Mark.TheVariants.{Semicolon, Comma, Open, Close, OpenBracket, CloseBracket, OpenBrace, CloseBrace, Equals}
 use Rattle.qasm_parser.specs.Symbols.{Symbol, word, function, name, whole, real, quoted, mark, sign, other}
-use Rattle.qasm_parser.specs.Tree.{Expression, Application, Action, apply, measure, reset, barrier, Definition, definition, Statement, include, register, gate, opaque, conditional, act, Tree}
-use Rattle.qasm_parser.specs.Spelling.{Form, by_u, by_cx, alone, empty, listed, IsConditional, Params, bare, vacant, given, Seen, Spells, SpellsAction, SpellsEach, SpellsForm, SpellsItem, SpellsList, SpellsName, SpellsNames, SpellsParams, SpellsStatement, SpellsTree, whole_symbol}
-use Rattle.qasm_parser.specs.Reading.{Read, action_of, all, barrier_of, begins_with, body_of, bracketed_of, conditional_of, first_deep, first_of, gate_of, header_of, include_of, is_mark, item_of, list_of, listed_of, more_items, more_statements, name_of, names_of, onto, opaque_of, params_of, quoted_of, read, register_of, repeat, skip, statement_of, tree_of, version_of, whole_of, with_act, word_statement}
-use Rattle.qasm_parser.proofs.RepeatLaws.{Complete, Shrinks, Sound, Spelt, StepSound, Takes, each-complete, each-sound, is_mark-sound, repeat-ends, skip-sound}
-use Rattle.qasm_parser.proofs.FormLaws.{Any, action-complete, action-long, action-sound, barrier-complete, barrier-sound, both_of, bracketed-sound, bracketed_of-whole, each-long, item-complete, item-long, item-sound, mapped, name-sound, name_of-name, names-complete, names-long, names-sound, shown_action, whole-sound, whole_of-whole}
+use Rattle.qasm_parser.specs.Tree.{Application, Action, apply, measure, reset, barrier, Definition, definition, Statement, include, register, gate, opaque, conditional, act, Tree}
+use Rattle.qasm_parser.specs.Spelling.{Form, by_u, by_cx, alone, empty, listed, IsConditional, Params, bare, vacant, given, Seen, SpellsAction, SpellsEach, SpellsForm, SpellsItem, SpellsList, SpellsName, SpellsNames, SpellsParams, SpellsStatement, SpellsTree, whole_symbol, first_deep}
+use Rattle.qasm_parser.specs.Reading.{Read, action_of, all, barrier_of, begins_with, body_of, bracketed_of, conditional_of, gate_of, header_of, include_of, is_mark, item_of, list_of, listed_of, more_items, more_statements, name_of, names_of, opaque_of, params_of, quoted_of, read, register_of, skip, statement_of, tree_of, version_of, whole_of, with_act, word_statement}
+use Rattle.qasm_parser.proofs.RepeatLaws.{Complete, Shrinks, Sound, Spelt, StepSound, each-complete, each-sound, repeat-ends, skip-sound}
+use Rattle.qasm_parser.proofs.FormLaws.{Any, action-complete, action-long, action-sound, barrier-complete, barrier-sound, both_of, bracketed-sound, each-long, item-complete, item-long, item-sound, mapped, name-sound, name_of-name, names-complete, names-long, names-sound, shown_action, whole-sound}
 
 -- ---- the names of a definition
 names-front : (ns : List (List ℕ)) (ts rest : List Symbol) (found : List Seen) → SpellsList SpellsName ns ts rest found → (skip Close ts ≡ None) × (skip Open ts ≡ None)

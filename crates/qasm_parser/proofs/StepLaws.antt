@@ -1,6 +1,6 @@
 -- What the loops over items and statements need: what was read so far is put in front of what is still to come.
 --   items, statements   these for the items of a gate's body and for statements
-use Rattle.std.proofs.Common.{◌≡◌, ℕ, zero, suc, ◌+◌, ◌<◌, ◌≤◌, Bool, true, false, if◌then◌else◌, List, [], ◌∷◌, ◌++◌, Option, Some, None, refl, sym, ap, ◌∙◌, subst, length, map, arith, append-nil, lit≤, option_map, option_and_then}
+use Rattle.std.proofs.Common.{◌≡◌, ℕ, ◌<◌, ◌≤◌, true, false, List, [], ◌∷◌, ◌++◌, Option, Some, None, refl, sym, ap, ◌∙◌, length, map, arith, append-nil, lit≤, option_map}
 use Rattle.std.proofs.lemmas.List.{map-append}
 use Rattle.qasm_parser.specs.declared.symbols.Mark.TheVariants.{CloseBrace}
 use Rattle.qasm_parser.specs.declared.tree.Stmt.{Stmt}

@@ -2,7 +2,7 @@
 --   first_value-symbols   the value of the first token of a text
 --   symbol-first       a symbol has the value of the first of a list that it begins
 --   word_symbol-value, mark_symbol-value   a word or a sign has no value
-use Rattle.std.proofs.Common.{◌≡◌, ℕ, List, [], ◌∷◌, Option, Some, None, refl, sym, ap, ◌∙◌, subst, ◌⊎◌, inl, inr}
+use Rattle.std.proofs.Common.{◌≡◌, ℕ, List, [], ◌∷◌, Option, Some, None, refl, ap, subst, ◌⊎◌, inl, inr}
 use Rattle.angle_fraction.specs.Fraction.{Fraction, nought}
 use Rattle.qasm_parser.specs.declared.symbols.Symbol.{Symbol}
 use Rattle.qasm_parser.specs.declared.symbols.Symbol.TheVariants.{Word, Function, Name, Whole, Real, Quoted, Mark, Sign, Other}

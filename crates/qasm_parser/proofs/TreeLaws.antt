@@ -1,6 +1,6 @@
 -- Trees of the code and what they spell.
 --   statement-Gate, statement-Opaque   a gate's body is spelt statement by statement
-use Rattle.std.proofs.Common.{◌≡◌, List, [], ◌∷◌, refl, ap, ◌∙◌, map}
+use Rattle.std.proofs.Common.{◌≡◌, ◌∷◌, refl, ap, ◌∙◌, map}
 use mathlib.Core.Former.{Count}
 use Rattle.qasm_parser.specs.declared.tree.GateDef.{GateDef}
 use Rattle.qasm_parser.specs.declared.tree.Stmt.{Stmt, Gate, Gate', Opaque, Opaque', Row_of-Stmt, end_of-Stmt, more_of-Stmt, items-the_row-Stmt, items_hidden-the_row-Stmt-0}

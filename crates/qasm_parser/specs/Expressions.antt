@@ -1,9 +1,9 @@
 -- Expressions: how they are spelt, in five levels.
---   level           1 for a sum, 2 a product, 3 a signed part, 4 a power, 5 an atom
+--   sign_level, level   1 for a sum, 2 a product, 3 a signed part, 4 a power, 5 an atom
 --   left_level, right_level   the least level of what stands to the left and right of a sign
 --   IsShaped        each part has a level that may stand in its place without parentheses
---   Reads e ts rest   the symbols ts are those of an expression, and then rest
---   SpellsSum       the same for an expression in its levels
+--   IsWritten e ts rest   the symbols ts are those of an expression, part by part, and then rest
+--   SpellsSum       the same, each part in its level
 use Rattle.std.specs.Prelude.{◌≡◌, ℕ, ◌≤◌, List, ◌∷◌, ◌⊎◌}
 use Rattle.qasm_parser.specs.declared.tree.Binary.{Binary}
 use Rattle.qasm_parser.specs.declared.tree.Binary.TheVariants.{Add, Sub, Mul, Div, Pow}
@@ -48,16 +48,16 @@ IsShaped (binary s left right) =
     (left_level s ≤ level left) × (right_level s ≤ level right) × IsShaped left × IsShaped right
 IsShaped _ = Unit {0}
 
-abbrev pub Reads : Expression → List Symbol → List Symbol → Type 0
-Reads (number value) ts rest = (ts ≡ whole value ∷ rest) ⊎ (ts ≡ real value ∷ rest)
-Reads pi ts rest = ts ≡ word Pi ∷ rest
-Reads (param bytes) ts rest = ts ≡ name bytes ∷ rest
-Reads (negated part) ts rest = (mid : List Symbol) × (ts ≡ sign Sub ∷ mid) × Reads part mid rest
-Reads (paren part) ts rest = (mid : List Symbol) × (ts ≡ mark Open ∷ mid) × Reads part mid (mark Close ∷ rest)
-Reads (call f part) ts rest =
-    (mid : List Symbol) × (ts ≡ function f ∷ mark Open ∷ mid) × Reads part mid (mark Close ∷ rest)
-Reads (binary s left right) ts rest = (mid : List Symbol) × Reads left ts (sign s ∷ mid) × Reads right mid rest
+abbrev pub IsWritten : Expression → List Symbol → List Symbol → Type 0
+IsWritten (number value) ts rest = (ts ≡ whole value ∷ rest) ⊎ (ts ≡ real value ∷ rest)
+IsWritten pi ts rest = ts ≡ word Pi ∷ rest
+IsWritten (param bytes) ts rest = ts ≡ name bytes ∷ rest
+IsWritten (negated part) ts rest = (mid : List Symbol) × (ts ≡ sign Sub ∷ mid) × IsWritten part mid rest
+IsWritten (paren part) ts rest = (mid : List Symbol) × (ts ≡ mark Open ∷ mid) × IsWritten part mid (mark Close ∷ rest)
+IsWritten (call f part) ts rest =
+    (mid : List Symbol) × (ts ≡ function f ∷ mark Open ∷ mid) × IsWritten part mid (mark Close ∷ rest)
+IsWritten (binary s left right) ts rest = (mid : List Symbol) × IsWritten left ts (sign s ∷ mid) × IsWritten right mid rest
 
 pub record SpellsSum (e : Expression) (ts rest : List Symbol) : Type 0 where
   pub shaped : IsShaped e
-  pub reads : Reads e ts rest
+  pub reads : IsWritten e ts rest

@@ -1,7 +1,7 @@
 -- Where the code stands in an expression.
 --   go      what the machine gives from there
 --   steps   how many steps it may still take, with so many symbols to come
-use Rattle.std.specs.Prelude.{ℕ, ◌+◌, ◌*◌, List, Option, Some, ◌<◌}
+use Rattle.std.specs.Prelude.{ℕ, ◌+◌, ◌*◌, List, Option, Some}
 use Rattle.qasm_parser.specs.declared.expression.Mode.{Mode}
 use Rattle.qasm_parser.specs.declared.expression.Mode.TheVariants.{Front, Behind, Done}
 use Rattle.qasm_parser.specs.Symbols.{Symbol}

@@ -10,8 +10,7 @@ use Rattle.angle_fraction.specs.Fraction.{Fraction, fraction}
 use Rattle.qasm_lexer.specs.declared.Token.{Token}
 use Rattle.qasm_parser.specs.Symbols.{first_place, place_of, symbols}
 use Rattle.qasm_parser.specs.Tree.{Tree}
-use Rattle.qasm_parser.specs.Spelling.{Seen, SpellsTree}
-use Rattle.qasm_parser.specs.Reading.{first_deep}
+use Rattle.qasm_parser.specs.Spelling.{Seen, SpellsTree, first_deep}
 use Rattle.qasm_parser.specs.declared.ParseFault.{ParseFault}
 use Rattle.qasm_parser.specs.declared.ParseFault.TheVariants.{Syntax, Version, Depth, NoMemory}
 

@@ -1,7 +1,6 @@
 -- Reading a program symbol by symbol: working forms. An expression deeper than the limit is read as pi, and where it begins is told.
 --   Read             what was read, where the first expression that is too deep begins (how many symbols are left there), and what is left
 --   first_of         the first of two places, where there is one
---   first_deep       the first expression that is deeper than the limit
 --   same_mark, skip  a sign
 --   repeat, all      steps as long as they give something more
 --   onto             what was read before that, put in front
@@ -9,7 +8,7 @@
 --   name_of, whole_of, bracketed_of, index_of, arg_of, angle_of   members of lists and their parts
 --   begins_word      this reserved word comes next
 --   head_of, application_of, action_of, item_of, params_of, names_of, statement_of, tree_of   the forms of programs
-use Rattle.std.specs.Prelude.{◌≡◌, ℕ, zero, suc, nat_eq, nat_le, Bool, true, false, List, [], ◌∷◌, ◌++◌, Option, Some, None, ℤ, pos, negsuc, codes, length, map, if◌then◌else◌, option_and_then, option_map}
+use Rattle.std.specs.Prelude.{ℕ, zero, suc, nat_eq, Bool, true, false, List, [], ◌∷◌, ◌++◌, Option, Some, None, ℤ, pos, negsuc, codes, length, if◌then◌else◌, option_and_then, option_map}
 use Rattle.angle_fraction.specs.Fraction.{Fraction}
 use Rattle.qasm_parser.specs.declared.tree.Arg.{Arg}
 use Rattle.qasm_parser.specs.declared.symbols.Keyword.{Keyword}
@@ -19,7 +18,6 @@ use Rattle.qasm_parser.specs.declared.symbols.Mark.TheVariants.{Semicolon, Comma
 use Rattle.qasm_parser.specs.Symbols.{Symbol, word, name, whole, real, quoted, mark}
 use Rattle.qasm_parser.specs.Tree.{Expression, pi, Application, Action, apply, measure, reset, barrier, Definition, definition, Statement, include, register, gate, opaque, conditional, act, Tree}
 use Rattle.qasm_parser.specs.Machine.{sum_of}
-use Rattle.qasm_parser.specs.Spelling.{Seen}
 
 pub record Read (A : Type 0) : Type 0 where
   pub value : A
@@ -36,10 +34,6 @@ o >>= f = option_and_then f o
 abbrev pub first_of : Option ℕ → Option ℕ → Option ℕ
 first_of (Some a) b = Some a
 first_of None b = b
-
-abbrev pub first_deep : ℕ → List Seen → Option ℕ
-first_deep limit [] = None
-first_deep limit (s ∷ found) = if nat_le s.depth limit then first_deep limit found else Some s.left
 
 -- ---- signs
 abbrev pub mark_code : Mark → ℕ

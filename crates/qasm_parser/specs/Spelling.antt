@@ -1,18 +1,21 @@
 -- Programs: how they are spelt. Below, `SpellsIt it ts rest found` says: the symbols ts are those of it, and then rest;
 -- found are the expressions in it, from left to right.
---   Seen            an expression: how many symbols there are from its first to the end, and how deep it is
+--   Seen, seen      an expression: how many symbols there are from its first to the end, and how deep it is
+--   first_deep      where the first expression begins that is deeper than a limit
+--   Spells          the relations of this kind
 --   SpellsEach      all of a list, one after the other
---   SpellsList      at least one, with commas between
---   SpellsAngle, SpellsName, SpellsArg, SpellsArgs
---   Form, SpellsHead   a gate's name and its angles: `U` and `CX`, a name alone, with nothing in parentheses, or with angles there
+--   BehindComma, SpellsList   one behind a comma; at least one, with commas between
+--   SpellsAngle, SpellsName, SpellsArg, SpellsArgs   members of lists; arguments up to the semicolon
+--   whole_symbol, index_symbols, IsAllowed   a whole number; an index in brackets, or none; none in a gate's body
+--   Form, SpellsForm   a gate's name and its angles: `U` and `CX`, a name alone, with nothing in parentheses, or with angles there
 --   SpellsApplication, SpellsBarrier, SpellsAction
 --   SpellsItem      what may stand in a gate's body: applications and barriers of plain names
 --   Params, SpellsParams, SpellsNames   a gate's names
+--   IsConditional   what may stand behind `if`
 --   SpellsStatement, SpellsTree
-use Rattle.std.specs.Prelude.{◌≡◌, ◌≢◌, ℕ, Bool, true, false, List, [], ◌∷◌, ◌++◌, Option, Some, None, pos, codes, length, All, if◌then◌else◌}
-use Rattle.angle_fraction.specs.Fraction.{Fraction, fraction}
+use Rattle.std.specs.Prelude.{◌≡◌, ℕ, nat_le, Bool, true, false, List, [], ◌∷◌, ◌++◌, Option, Some, None, pos, codes, length, if◌then◌else◌}
+use Rattle.angle_fraction.specs.Fraction.{fraction}
 use Rattle.qasm_parser.specs.declared.tree.Arg.{Arg}
-use Rattle.qasm_parser.specs.declared.symbols.Keyword.{Keyword}
 use Rattle.qasm_parser.specs.declared.symbols.Keyword.TheVariants.{OpenQasm, Include, Qreg, Creg, Gate, Opaque, Measure, Reset, If, Barrier, U, Cx}
 use Rattle.qasm_parser.specs.declared.symbols.Mark.TheVariants.{Semicolon, Comma, Open, Close, OpenBracket, CloseBracket, OpenBrace, CloseBrace, Arrow, Equals}
 use Rattle.qasm_parser.specs.Symbols.{Symbol, word, name, whole, real, quoted, mark}
@@ -25,6 +28,11 @@ pub record Seen : Type 0 where
 
 abbrev pub seen : ℕ → ℕ → Seen
 seen left depth = record { left = left; depth = depth }
+
+-- how many symbols there are from the first expression that is deeper than the limit
+abbrev pub first_deep : ℕ → List Seen → Option ℕ
+first_deep limit [] = None
+first_deep limit (s ∷ found) = if nat_le s.depth limit then first_deep limit found else Some s.left
 
 -- ---- lists
 abbrev pub Spells : Type 0 → Type 1

@@ -6,7 +6,7 @@
 --   first_value    the value of the first of these symbols
 --   symbols        those of a text's tokens, in order
 --   place_of       where the token stands that has so many tokens from itself to the end; the text's length where there is none
-use Rattle.std.specs.Prelude.{ℕ, ◌+◌, ◌-◌, ◌≤◌, List, [], ◌∷◌, Option, Some, None, if◌then◌else◌, codes, drop, length, map, slice_range, unwrap_or}
+use Rattle.std.specs.Prelude.{ℕ, ◌-◌, List, [], ◌∷◌, Option, Some, None, if◌then◌else◌, codes, drop, length, map, slice_range}
 use Rattle.std.specs.Str.{bytes_eq}
 use Rattle.angle_fraction.specs.Fraction.{Fraction, lowest, nought}
 use Rattle.qasm_lexer.specs.Numbers.{decimal}

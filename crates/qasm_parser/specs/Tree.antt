@@ -7,7 +7,7 @@
 --   Statement, Tree   a statement; a program
 --   expression, application, action, statement, program   what a tree of the code spells; in a body or behind `if`
 --                  a statement that can't stand there is an empty barrier, which no text spells
-use Rattle.std.specs.Prelude.{ℕ, ◌+◌, max, List, [], ◌∷◌, Option, Bool, map}
+use Rattle.std.specs.Prelude.{ℕ, ◌+◌, max, List, [], ◌∷◌, Bool, map}
 use Rattle.angle_fraction.specs.Fraction.{Fraction}
 use Rattle.qasm_parser.specs.declared.tree.Function.{Function}
 use Rattle.qasm_parser.specs.declared.tree.Binary.{Binary}

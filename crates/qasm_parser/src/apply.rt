@@ -8,7 +8,7 @@ ghost use Rattle.qasm_parser.specs.Reading.{angle_of, angles_of, angles_of_u, ap
 ghost use Rattle.qasm_parser.specs.Heads.{head_view};
 
 use crate::cursor::Cursor;
-use crate::expression::{copied, sum};
+use crate::expression::sum;
 use crate::lists::{args, expect, take};
 use crate::stop::Stop;
 use crate::symbols::{Keyword, Mark, Symbol};
@@ -116,12 +116,12 @@ fn gate_head(alloc: Global, cursor: &mut Cursor<'_>) -> Result<Head, Stop>
         Some(Symbol::Word(Keyword::U)) => {
             cursor.advance();
             let (angles, deep) = angles_of_u(alloc, cursor)?;
-            let gate = copied(alloc, b"U")?;
+            let gate = Name::copied(alloc, b"U")?;
             Ok(Head { gate, angles, deep })
         }
         Some(Symbol::Word(Keyword::Cx)) => {
             cursor.advance();
-            let gate = copied(alloc, b"CX")?;
+            let gate = Name::copied(alloc, b"CX")?;
             Ok(Head {
                 gate,
                 angles: Vec::new(alloc),
@@ -130,7 +130,7 @@ fn gate_head(alloc: Global, cursor: &mut Cursor<'_>) -> Result<Head, Stop>
         }
         Some(Symbol::Name(bytes)) => {
             cursor.advance();
-            let gate = copied(alloc, bytes)?;
+            let gate = Name::copied(alloc, bytes)?;
             let (angles, deep) = optional(alloc, cursor)?;
             Ok(Head { gate, angles, deep })
         }

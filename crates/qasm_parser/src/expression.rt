@@ -18,7 +18,7 @@ use crate::part::{Part, atom, number};
 use crate::stop::Stop;
 use crate::symbols::{Keyword, Mark, Symbol};
 use crate::tree::{Binary, Expr, Name};
-use std::alloc::{AllocError, Global};
+use std::alloc::Global;
 
 /// What has come last: nothing that a sign may follow, or a part, or the whole expression.
 #[derive(Drop)]
@@ -26,13 +26,6 @@ pub enum Mode {
     Front,
     Behind(Option<Part>),
     Done(Option<Part>),
-}
-
-/// A name of these bytes.
-pub fn copied(alloc: Global, bytes: &[u8]) -> Result<Name, AllocError>
-    ensures { IfOk result (λ n. n ≡ bytes.now) }
-{
-    Ok(Name::new(bytes.to_vec(alloc)?))
 }
 
 /// The parenthesis that follows a function.
@@ -89,7 +82,7 @@ fn begin(alloc: Global, cursor: &mut Cursor<'_>, frames: &mut Vec<Frame>) -> Res
         }
         Symbol::Name(bytes) => {
             cursor.advance();
-            Ok(Mode::Behind(Some(atom(Expr::Param(copied(alloc, bytes)?)))))
+            Ok(Mode::Behind(Some(atom(Expr::Param(Name::copied(alloc, bytes)?)))))
         }
         Symbol::Sign(_) | Symbol::Mark(_) | Symbol::Word(_) | Symbol::Quoted(_) | Symbol::Other =>
             Err(Stop::Misfit { left }),

@@ -5,7 +5,6 @@ ghost use Rattle.qasm_parser.specs.Misread.{IsMisread};
 ghost use Rattle.qasm_parser.specs.Reading.{args_of, arg_of, begins_with, begins_word, bracketed_of, index_of, list_of, mark_code, name_of, read, skip, whole_number, whole_of, word_code};
 
 use crate::cursor::Cursor;
-use crate::expression::copied;
 use crate::stop::Stop;
 use crate::symbols::{Keyword, Mark, Symbol};
 use crate::tree::{Arg, Name};
@@ -135,7 +134,7 @@ pub fn name(alloc: Global, cursor: &mut Cursor<'_>) -> Result<Name, Stop>
     match cursor.peek() {
         Some(Symbol::Name(bytes)) => {
             cursor.advance();
-            Ok(copied(alloc, bytes)?)
+            Ok(Name::copied(alloc, bytes)?)
         }
         _ => Err(Stop::Misfit { left }),
     }

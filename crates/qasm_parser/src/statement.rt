@@ -7,7 +7,6 @@ ghost use Rattle.qasm_parser.specs.Reading.{conditional_of, gate_of, include_of,
 
 use crate::action::{action, barrier, body};
 use crate::cursor::Cursor;
-use crate::expression::copied;
 use crate::lists::{bracketed, expect, name, names, take, take_word, whole};
 use crate::stop::Stop;
 use crate::symbols::{Keyword, Mark, Symbol};
@@ -127,7 +126,7 @@ fn quoted(alloc: Global, cursor: &mut Cursor<'_>) -> Result<Name, Stop>
     match cursor.peek() {
         Some(Symbol::Quoted(bytes)) => {
             cursor.advance();
-            Ok(copied(alloc, bytes)?)
+            Ok(Name::copied(alloc, bytes)?)
         }
         _ => Err(Stop::Misfit { left }),
     }

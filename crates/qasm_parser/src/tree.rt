@@ -1,8 +1,9 @@
 //! Programs as trees. Contracts see what a tree spells, apart from where its parts lie in memory.
 
-ghost use Rattle.std.specs.Prelude.{◌≡◌};
+ghost use Rattle.std.specs.Prelude.{◌≡◌, IfOk};
 
 use angle_fraction::Frac;
+use std::alloc::{AllocError, Global};
 use std::marker::Model;
 
 /// A text that contracts see as a list of bytes.
@@ -25,6 +26,15 @@ impl Name {
         ensures { result ≡ bytes.items }
     {
         Name { bytes }
+    }
+
+    /// A name of these bytes.
+    pub fn copied(alloc: Global, bytes: &[u8]) -> Result<Name, AllocError>
+        ensures { IfOk result (λ n. n ≡ bytes.now) }
+    {
+        Ok(Name {
+            bytes: bytes.to_vec(alloc)?,
+        })
     }
 
     /// The bytes.

@@ -1,4 +1,4 @@
-use Rattle.std.proofs.Common.{◌≡◌, ℕ, ◌≤◌, length, map}
+use Rattle.std.proofs.Common.{◌≡◌, ◌≤◌, length, map}
 use Rattle.qasm_parser.specs.Tree.{action}
 use Rattle.qasm_parser.specs.Reading.{all, more_items, onto}
 use Rattle.qasm_parser.proofs.action.items.Given as goal

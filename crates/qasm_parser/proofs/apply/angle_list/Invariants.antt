@@ -1,4 +1,4 @@
-use Rattle.std.proofs.Common.{◌≡◌, ℕ, ◌≤◌, length, map}
+use Rattle.std.proofs.Common.{◌≡◌, ◌≤◌, length, map}
 use Rattle.qasm_parser.specs.Tree.{expression}
 use Rattle.qasm_parser.specs.Reading.{all, angle_of, list_of, more_of, onto}
 use Rattle.qasm_parser.proofs.apply.angle_list.Given as goal

@@ -1,4 +1,4 @@
-use Rattle.std.proofs.Common.{◌≡◌, ℕ, vec_len}
+use Rattle.std.proofs.Common.{◌≡◌, vec_len}
 use Rattle.qasm_parser.specs.Frames.{stack}
 use Rattle.qasm_parser.specs.Parts.{part_of}
 use Rattle.qasm_parser.specs.Machine.{reduce}

@@ -1,4 +1,4 @@
-use Rattle.std.proofs.Common.{◌≡◌, ◌∙◌, ◌≤◌, arith, refl, length}
+use Rattle.std.proofs.Common.{◌∙◌, arith, refl}
 use Rattle.qasm_parser.proofs.ListLaws.{args-step}
 use Rattle.qasm_parser.proofs.lists.arg_list.Goals as goal
 

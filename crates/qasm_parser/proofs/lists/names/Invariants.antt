@@ -1,4 +1,4 @@
-use Rattle.std.proofs.Common.{◌≡◌, ℕ, ◌≤◌, length, None}
+use Rattle.std.proofs.Common.{◌≡◌, ◌≤◌, length, None}
 use Rattle.qasm_parser.specs.Reading.{all, list_of, more_of, name_of, onto}
 use Rattle.qasm_parser.proofs.lists.names.Given as goal
 

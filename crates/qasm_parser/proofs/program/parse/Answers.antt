@@ -1,4 +1,4 @@
-use Rattle.std.proofs.Common.{◌≡◌, List, Option, None, subst}
+use Rattle.std.proofs.Common.{◌≡◌, List, None, subst}
 use Rattle.qasm_parser.specs.Symbols.{Symbol}
 use Rattle.qasm_parser.specs.Reading.{tree_of}
 use Rattle.qasm_parser.proofs.OnceLaws.{refused}

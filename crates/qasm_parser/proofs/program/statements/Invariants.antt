@@ -1,4 +1,4 @@
-use Rattle.std.proofs.Common.{◌≡◌, ℕ, ◌≤◌, length, map}
+use Rattle.std.proofs.Common.{◌≡◌, ◌≤◌, length, map}
 use Rattle.qasm_parser.specs.Tree.{statement}
 use Rattle.qasm_parser.specs.Reading.{all, more_statements, onto}
 use Rattle.qasm_parser.proofs.program.statements.Given as goal

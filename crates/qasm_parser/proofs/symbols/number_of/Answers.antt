@@ -1,4 +1,4 @@
-use Rattle.std.proofs.Common.{◌≡◌, ◌∙◌, sym}
+use Rattle.std.proofs.Common.{◌∙◌, sym}
 use Rattle.qasm_parser.proofs.SymbolLaws.{word-value}
 use Rattle.qasm_parser.proofs.symbols.number_of.Goals as goal
 

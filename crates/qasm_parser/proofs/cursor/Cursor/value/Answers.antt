@@ -1,4 +1,4 @@
-use Rattle.std.proofs.Common.{◌≡◌, ◌∙◌, sym, ap}
+use Rattle.std.proofs.Common.{◌∙◌, ap}
 use Rattle.qasm_parser.specs.Symbols.{first_value}
 use Rattle.qasm_parser.proofs.SymbolLaws.{first_value-symbols}
 use Rattle.qasm_parser.proofs.cursor.Cursor.value.Goals as goal
