@@ -6,7 +6,7 @@
 //! that a phase is from 1 to 7, so a reader of gates need not test it again.
 #![tactic(auto)]
 
-ghost use Rattle.std.specs.Prelude.{◌≡◌, ℕ, ◌+◌, ◌%◌, ◌<◌, ◌≤◌, length, IfOk, OnErr, OnOk, slice_get, Some, remove, slice_set, [], ◌∷◌, ◌++◌, List};
+ghost use Rattle.std.specs.Prelude.{◌≡◌, ℕ, ◌+◌, ◌%◌, ◌<◌, ◌≤◌, length, IfOk, OnErr, OnOk, slice_get, All, Some, remove, slice_set, [], ◌∷◌, ◌++◌, List};
 ghost use Rattle.std.specs.List.{count_by};
 ghost use Rattle.circuit_list.specs.Gates.{IsFine, h_count, is_cx, is_h, is_t, most_wires, ops};
 ghost use Rattle.unitary_model.specs.Operations.{cx_count, t_count};
@@ -98,7 +98,8 @@ impl Circuit {
     /// The number of wires, at most [`MOST_WIRES`].
     pub fn wires(&self) -> u32
         ensures wires { result ≡ self.now.wires }
-        ensures few { result ≤ most_wires }
+        ensures few { self.now.wires ≤ most_wires }
+        ensures fine { All (IsFine self.now.wires) self.now.gates }
     {
         self.wires
     }

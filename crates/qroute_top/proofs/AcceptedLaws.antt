@@ -1,43 +1,24 @@
 -- What is read of a text decides whether it is accepted.
 --   accepted-read     a program that is read makes the text accepted
---   misspelt-unread   where none is read, none is spelt
-use Rattle.std.proofs.Common.{◌≡◌, ℕ, ◌+◌, ◌<◌, ◌≤◌, List, Option, Some, None, refl, ap, ◌∙◌, length, replicate, arith, option_and_then, append-nil}
+--   misspelt-unread   where none can be read, none is spelt
+use Rattle.std.proofs.Common.{◌≡◌, ℕ, ◌+◌, ◌<◌, ◌≤◌, List, Option, Some, None, refl, ◌∙◌, length, replicate, arith, append-nil}
 use Rattle.std.proofs.lemmas.Grind.{common_steps}
 use Rattle.outside_io.specs.Bytes.{IsLongerThan, TakesAll, Tells}
-use Rattle.unitary_model.specs.Tokens.{Text, tokens}
-use Rattle.unitary_model.specs.SmallProgram.{SmallProgram, spelling}
+use Rattle.unitary_model.specs.Tokens.{Text}
+use Rattle.unitary_model.specs.SmallProgram.{SmallProgram, Spells, ops_of}
 use Rattle.qroute_top.specs.Accepted.{IsAccepted, IsMisspelt, operation_limit, text_limit}
 use Rattle.qroute_top.specs.Causes.{IsReadCause, IsRefused, IsTextCause}
-use Rattle.qroute_top.specs.Reading.{program_of}
+use Rattle.qroute_top.specs.Reading.{IsUnread}
+use Rattle.qroute_top.specs.declared.reader.Unread.TheVariants.{Misfit}
 use Rattle.qroute_top.specs.declared.stops.Stop.{Stop}
 use Rattle.qroute_top.specs.declared.stops.Stop.TheVariants as stop
 use Rattle.qroute_top.specs.declared.stops.Refusal.TheVariants.{TooLong}
-use Rattle.qroute_top.proofs.SpellingLaws.{program_of-sound, program_of-spelling}
 
-read_tokens : (n : ℕ) (o : Option (List Text)) (p : SmallProgram) → option_and_then (program_of n) o ≡ Some p
-    → (ts : List Text) × (o ≡ Some ts) × (program_of n ts ≡ Some p)
-read_tokens n None p e = cc
-read_tokens n (Some ts) p e = (ts, refl, e)
+pub accepted-read : (text : Text) (p : SmallProgram) → length text ≤ text_limit → Spells text p → length (ops_of p.statements) ≤ operation_limit → IsAccepted text p
+accepted-read text p short spelt few = record { spelt = spelt; short = short; few = few }
 
-pub accepted-read : (text : Text) (p : SmallProgram) → length text ≤ text_limit → option_and_then (program_of operation_limit) (tokens text) ≡ Some p
-    → IsAccepted text p
-accepted-read text p short e =
-    let read = read_tokens operation_limit (tokens text) p e in
-    let it = program_of-sound operation_limit read.0 p read.2 in
-    record { spelt = record { small = it.1; spelt = read.1 ∙ ap (λ x. Some x) it.0 }; short = short; few = it.2 }
-
-unread : (n : ℕ) (o : Option (List Text)) (ts : List Text) (p : SmallProgram) → o ≡ Some ts → program_of n ts ≡ Some p
-    → option_and_then (program_of n) o ≡ None → ⊥
-unread n None ts p e f g = cc
-unread n (Some us) ts p e f g = let same : us ≡ ts = cc in let g2 = rw same at g in cc
-
-pub misspelt-unread : (text : Text) (place : ℕ) → length text ≤ text_limit → place ≤ length text
-    → option_and_then (program_of operation_limit) (tokens text) ≡ None → IsMisspelt text place
-misspelt-unread text place short within e = record {
-  short = short;
-  within = within;
-  no_program = λ p a. unread operation_limit (tokens text) (spelling p) p a.spelt.spelt (program_of-spelling operation_limit p a.spelt.small a.few) e;
-}
+pub misspelt-unread : (text : Text) (left place : ℕ) → length text ≤ text_limit → place ≤ length text → IsUnread operation_limit text (Misfit left) → IsMisspelt text place
+misspelt-unread text left place short within none = record { short = short; within = within; no_program = λ p a. none.1 p a.spelt a.few }
 
 -- ---- a text that is too long; the limit is a variable here
 pub long_list : (n : ℕ) → (xs : List ℕ) × (n < length xs)

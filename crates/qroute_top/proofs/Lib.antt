@@ -2,9 +2,8 @@ pub mod Rows
 pub mod NextLaws
 pub mod ReadingLaws
 pub mod SpellingLaws
-pub mod WritingLaws
-pub mod WrittenLaws
-pub mod AcceptedLaws
+pub mod ListingLaws
 pub mod ExpansionLaws
+pub mod AcceptedLaws
 pub mod PlanLaws
 pub mod RunLaws

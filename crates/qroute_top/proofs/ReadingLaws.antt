@@ -1,21 +1,23 @@
 -- Reading token by token.
---   strip_all-next     one word more
-use Rattle.std.proofs.Common.{◌≡◌, ℕ, zero, suc, ◌+◌, ◌*◌, ◌-◌, ◌<◌, ◌≤◌, Bool, true, false, List, [], ◌∷◌, ◌++◌, Option, Some, None, Result, Ok, Err, OnErr, refl, sym, ap, length, take, drop, map, get_or, arith, rules, ◌&&◌, ◌||◌, ◌^◌, ◌==◌, not, nat_lt, nat_le, if◌then◌else◌, subst, ◌⊎◌, inl, inr, add-one, option_and_then, option_map, append_assoc, length-append, drop-cons}
+--   OnErr-whatever      a fact that holds whatever the answer is
+--   strip_all-next      one word more
+--   digits_value_step   one digit more
+--   number_of-none      what writes no number
+use Rattle.std.proofs.Common.{◌≡◌, ℕ, zero, suc, ◌+◌, ◌*◌, ◌-◌, ◌<◌, ◌≤◌, Bool, true, false, List, [], ◌∷◌, Option, Some, None, Result, Ok, Err, OnErr, refl, length, take, drop, map, get_or, arith, rules, ◌&&◌, nat_lt, nat_le, if◌then◌else◌, subst, ◌⊎◌, inl, inr, add-one, option_and_then, drop-cons}
 use Rattle.std.proofs.lemmas.List.{drop-map}
 use Rattle.std.proofs.lemmas.List.Folds.{list_all_at}
 use Rattle.std.proofs.lemmas.Int.Digits.{digits_value_more}
 use Rattle.std.proofs.lemmas.Str.{digit_value_digit}
-use Rattle.std.proofs.lemmas.Str.Parse.{IsNumeralModel, numerals_by_value, digits_value_short}
+use Rattle.std.proofs.lemmas.Str.Parse.{digits_value_short}
 use Rattle.std.proofs.lemmas.Grind.{common_steps}
+use Rattle.std.proofs.lemmas.Fmt.{length-decimal-le}
 use Rattle.std.specs.Char.{is_ascii_digit}
 use Rattle.std.specs.Int.{IsInRange}
 use Rattle.std.specs.List.{list_all}
 use Rattle.std.specs.Str.Parse.{digits_value}
-use Rattle.std.proofs.lemmas.Fmt.{decimal-digits_value, length-decimal-le}
-use Rattle.std.specs.Fmt.{decimal}
-use Rattle.unitary_model.specs.declared.Op.{Op}
-use Rattle.unitary_model.specs.Tokens.{Text, begins_with}
-use Rattle.qroute_top.specs.Reading.{is_numeral, number_of, operation_of, operations_of, strip, strip_all}
+use Rattle.unitary_model.specs.Tokens.{Text, is_numeral}
+use Rattle.unitary_model.proofs.NumeralLaws.{decimal-numeral, digits_own}
+use Rattle.qroute_top.specs.Reading.{number_of, strip, strip_all}
 
 -- a fact that holds whatever the answer is
 pub OnErr-whatever : {T E P : Type 0} (r : Result T E) → P → OnErr r P
@@ -48,9 +50,6 @@ digit_at ds i all h = by_test (is_ascii_digit (get_or ds i 0)) (λ e. list_all_a
 in_range : (c : ℕ) → is_ascii_digit c ≡ true → IsInRange 48 57 c
 in_range c e = search rules
 
-pub digits_own : IsNumeralModel (λ ds. list_all is_ascii_digit ds ≡ true) (digits_value 10)
-digits_own = numerals_by_value _ (search rules)
-
 front_passes : (b rest front : Bool) → (rest ≡ true → front ≡ true) → (b && rest) ≡ true → (b && front) ≡ true
 front_passes true rest front f e = f e
 front_passes false rest front f e = e
@@ -71,25 +70,6 @@ digits_value_step ds i short all h =
     let front : length (take i ds) ≤ 8 = grind (arith, common_steps) in
     let small = digits_value_short digits_own (take i ds) 8 (all_front i ds all) front in
     (small, digit.0, digit.1, omega arith)
-
--- a numeral is what `decimal` writes of its value
-first_is : (t : Text) → get_or t 0 0 ≡ 48 → begins_with 48 t ≡ true
-first_is [] e = cc
-first_is (b ∷ t) e = rw e refl
-
-pub one_zero : (a b : Bool) (n : ℕ) → (a && (not b || (n == 1))) ≡ true → b ≡ true → n ≡ 1
-one_zero true true n e h = grind arith
-one_zero true false n e h = cc
-one_zero false b n e h = cc
-
-both : (a b : Bool) → (a && b) ≡ true → a ≡ true
-both true b e = refl
-both false b e = e
-
-pub decimal-numeral : (t : Text) → is_numeral t ≡ true → 0 < length t → digits_value 10 t < 2 ^ 64 → decimal (digits_value 10 t) ≡ t
-decimal-numeral t e some small =
-    decimal-digits_value digits_own t (both (list_all is_ascii_digit t) _ e) some
-    (λ z. one_zero (list_all is_ascii_digit t) (begins_with 48 t) (length t) e (first_is t z)) small
 
 numeral_short : (most : ℕ) (t : Text) → most < 1000000 → is_numeral t ≡ true → 0 < length t → digits_value 10 t ≤ most → length t ≤ 9
 numeral_short most t few e some small =
@@ -113,52 +93,3 @@ number_of-none most t few why =
     elim why [ inl e ↦ omega arith | inr rest ↦ elim rest [ inl e ↦ omega arith | inr e ↦ cc ] ])
 
 pub ruleset numbers = (digits_value_step)
-
--- ---- operations
-more : (most m : ℕ) (word : Text) (o next : Option (List Text)) (op : Op)
-    → option_and_then (operation_of most) (option_map (λ ts. word ∷ ts) o) ≡ option_map (λ ts. (op, ts)) next
-    → option_and_then (operations_of most (suc m)) (option_map (λ ts. word ∷ ts) o)
-    ≡ option_map (λ us. op ∷ us) (option_and_then (operations_of most m) next)
-more most m word None None op e = refl
-more most m word None (Some rest) op e = cc
-more most m word (Some ts) None op e = rw e refl
-more most m word (Some ts) (Some rest) op e = rw e refl
-
-none_more : (most m : ℕ) (word : Text) (o : Option (List Text))
-    → option_and_then (operation_of most) (option_map (λ ts. word ∷ ts) o) ≡ None
-    → option_and_then (operations_of most (suc m)) (option_map (λ ts. word ∷ ts) o) ≡ None
-none_more most m word None e = refl
-none_more most m word (Some ts) e = rw e refl
-
-joined : (us : List Op) (op : Op) (o : Option (List Op))
-    → option_map (λ vs. us ++ vs) (option_map (λ vs. op ∷ vs) o) ≡ option_map (λ vs. (us ++ op ∷ []) ++ vs) o
-joined us op None = refl
-joined us op (Some vs) = ap (λ x. Some x) (sym (append_assoc us (op ∷ []) vs))
-
--- one operation more
-pub operations_of-next : (most n : ℕ) (us vs : List Op) (word : Text) (tail : Option (List Text)) (next : Option (List Text)) (op : Op)
-    → length us ≤ n → (length us ≡ n → ⊥) → vs ≡ us ++ op ∷ []
-    → option_and_then (operation_of most) (option_map (λ ts. word ∷ ts) tail) ≡ option_map (λ ts. (op, ts)) next
-    → option_map (λ x. us ++ x) (option_and_then (operations_of most (n - length us)) (option_map (λ ts. word ∷ ts) tail))
-    ≡ option_map (λ x. vs ++ x) (option_and_then (operations_of most (n - length vs)) next)
-operations_of-next most n us vs word tail next op few some pushed e =
-    let len : length vs ≡ length us + 1 = rw pushed (simp length-append refl) in
-    let room : n - length us ≡ suc (n - length vs) = omega arith in
-    rw (room, more most (n - length vs) word tail next op e, pushed) (joined us op _)
-
-pub operations_of-none : (most n : ℕ) (us : List Op) (word : Text) (tail : Option (List Text))
-    → length us ≤ n → (length us ≡ n → ⊥)
-    → option_and_then (operation_of most) (option_map (λ ts. word ∷ ts) tail) ≡ None
-    → option_map (λ vs. us ++ vs) (option_and_then (operations_of most (n - length us)) (option_map (λ ts. word ∷ ts) tail)) ≡ None
-operations_of-none most n us word tail few some e =
-    let room : n - length us ≡ suc (n - (length us + 1)) = omega arith in
-    rw (room, none_more most (n - (length us + 1)) word tail e) refl
-
--- the first token is taken off
-pub read_token : (most n : ℕ) (us : List Op) (whole tail : Option (List Text)) (word : Text)
-    → whole ≡ option_map (λ ts. word ∷ ts) tail
-    → option_map (λ x. us ++ x) (option_and_then (operations_of most (n - length us)) whole)
-    ≡ option_map (λ x. us ++ x) (option_and_then (operations_of most (n - length us)) (option_map (λ ts. word ∷ ts) tail))
-read_token most n us whole tail word e = rw e refl
-
-pub ruleset operations = (decimal-numeral)

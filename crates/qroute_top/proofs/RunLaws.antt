@@ -13,6 +13,7 @@ use Rattle.qroute_top.specs.Causes.{Handed, IsCause, IsReadCause, IsRefused, fau
 use Rattle.qroute_top.specs.Delivered.{Delivers, Makes}
 use Rattle.qroute_top.specs.Commands.{command_of}
 use Rattle.qroute_top.specs.declared.commands.Command.{Command}
+use Rattle.qroute_top.specs.declared.commands.Command.TheVariants.{Opt}
 use Rattle.route_report.specs.declared.faults.Fault.{Fault}
 use Rattle.route_report.specs.declared.faults.Fault.TheVariants as fault
 use Rattle.route_report.specs.Faults.{status_of}
@@ -29,7 +30,7 @@ IsCause-read h c stop.Input asked r = ((c, asked), r)
 IsCause-read h c (stop.Program e) asked r = ((c, asked), r)
 
 pub Delivers-made : (words : List (List ℕ)) (c : Command) (old new : Option (List ℕ)) (p : SmallProgram) (text line : List ℕ)
-    → command_of words ≡ Some c → (t : List ℕ) × TakesAll old new t × IsAccepted t p → Makes p text line → Delivers words old new text line
+    → command_of words ≡ Some c → (t : List ℕ) × TakesAll old new t × IsAccepted t p → Makes c p text line → Delivers words old new text line
 Delivers-made words c old new p text line asked read made = record {
   command = c;
   asked = asked;
@@ -39,6 +40,9 @@ Delivers-made words c old new p text line asked read made = record {
   accepted = read.2;
   made = made;
 }
+
+pub only_opt : (c : Command) → c ≡ Opt
+only_opt Opt = refl
 
 pub small_of : (old new : Option (List ℕ)) (p : SmallProgram) → (t : List ℕ) × TakesAll old new t × IsAccepted t p → IsSmallProgram p
 small_of old new p read = read.2.spelt.small

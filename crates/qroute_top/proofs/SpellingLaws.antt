@@ -1,32 +1,28 @@
--- What is read is what is spelt: from tokens to a program, and back.
---   program_of-sound      a program that is read has these tokens, and is one of the form
---   program_of-spelling   the tokens of a program of the form are read as that program
---   Spells-once           a text spells at most one program
---   gate_cases            the gates that the form names
---   is_numeral-decimal    a decimal is a numeral
-use Rattle.std.proofs.Common.{◌≡◌, ℕ, zero, suc, ◌+◌, ◌-◌, ◌^◌, ◌<◌, ◌≤◌, ◌==◌, ◌&&◌, ◌||◌, ◌⊎◌, inl, inr, not, Bool, true, false, nat_lt, nat_le, if◌then◌else◌, List, [], ◌∷◌, ◌++◌, Option, Some, None, refl, sym, ap, ◌∙◌, subst, length, get_or, arith, rules, option_and_then, option_map, codes, lit<}
-use Rattle.std.proofs.lemmas.Bool.Decides.{nat_tests}
-use Rattle.std.proofs.lemmas.Fmt.{digits_decimal, digits_value-decimal, decimal_nonempty, first_decimal, decimal_digit}
-use Rattle.std.proofs.lemmas.List.Elements.{recursion_from_All, All-from_recursion}
+-- What is read is what is spelt: from tokens to a statement, and back.
+--   statement_of-sound    a statement that is read has these tokens, and is one of the form
+--   statement_of-spelt    the tokens of a statement of the form are read as that statement
+--   wires_of-.., bits_of-..   the same of the registers
+use Rattle.std.proofs.Common.{◌≡◌, ℕ, ◌+◌, ◌-◌, ◌^◌, ◌<◌, ◌≤◌, ◌==◌, ◌&&◌, ◌⊎◌, inl, inr, Bool, true, false, nat_lt, nat_le, if◌then◌else◌, List, [], ◌∷◌, ◌++◌, Option, Some, None, refl, sym, ap, ◌∙◌, subst, length, arith, rules, option_and_then, option_map, append_assoc, codes, lit<}
+use Rattle.std.proofs.lemmas.Fmt.{digits_value-decimal, decimal_nonempty}
 use Rattle.std.proofs.lemmas.Slice.Eq.{bytes_eq-Decides}
-use Rattle.std.specs.Char.{is_ascii_digit}
 use Rattle.std.specs.Fmt.{decimal}
-use Rattle.std.specs.List.{list_all, flat_map, AllByRecursion}
 use Rattle.std.specs.Str.{bytes_eq}
 use Rattle.std.specs.Str.Parse.{digits_value}
-use Rattle.unitary_model.specs.declared.Op.{Op}
 use Rattle.unitary_model.specs.declared.Op.TheVariants.{U, Cx}
-use Rattle.unitary_model.specs.Tokens.{Text, begins_with}
-use Rattle.unitary_model.specs.SmallProgram.{IsNamed, IsSmallProgram, SmallProgram, Spells, gate_tokens, op_tokens, spelling, wire_tokens}
-use Rattle.qroute_top.specs.Reading.{Angles, and_more, angles, at_least, body_of, close_after, closing, gate_named, heading, is_numeral, number, number_of, op_at, opening, operation_of, operations_of, program_of, register_of, strip, strip_all, wire_of}
-use Rattle.qroute_top.proofs.ReadingLaws.{decimal-numeral, digits_own}
+use Rattle.unitary_model.specs.declared.Statement.{Statement}
+use Rattle.unitary_model.specs.declared.Statement.TheVariants.{Apply, Measure}
+use Rattle.unitary_model.specs.Tokens.{Text, is_numeral}
+use Rattle.unitary_model.specs.SmallProgram.{IsStatement, bits_tokens, gate_tokens, index_tokens, statement_tokens, wire_tokens}
+use Rattle.unitary_model.proofs.NumeralLaws.{decimal-numeral, digits_own, first_of_both, is_numeral-decimal, second_of_both}
+use Rattle.unitary_model.proofs.StatementLaws.{gate_cases, phase_cases}
+use Rattle.qroute_top.specs.Reading.{Angles, after_angle, angle_end, angles, at_least, before, bit_of, bits_of, cx_of, gate_named, gate_of, heading, index_of, last_index, measure_of, number, number_of, odd_of, op_at, operand, other_wire, single_of, statement_by, statement_of, strip, strip_all, target, u1_of, wires_of}
 
 -- ---- the parts of an answer
-both_of : {A B P : Type 0} (f : A → Option B) (o : Option A) (y : B) → option_and_then f o ≡ Some y → ((x : A) → o ≡ Some x → f x ≡ Some y → P) → P
+pub both_of : {A B P : Type 0} (f : A → Option B) (o : Option A) (y : B) → option_and_then f o ≡ Some y → ((x : A) → o ≡ Some x → f x ≡ Some y → P) → P
 both_of f None y e k = cc
 both_of f (Some x) y e k = k x refl e
 
-mapped : {A B P : Type 0} (f : A → B) (o : Option A) (y : B) → option_map f o ≡ Some y → ((x : A) → o ≡ Some x → f x ≡ y → P) → P
+pub mapped : {A B P : Type 0} (f : A → B) (o : Option A) (y : B) → option_map f o ≡ Some y → ((x : A) → o ≡ Some x → f x ≡ y → P) → P
 mapped f None y e k = cc
 mapped f (Some x) y e k = k x refl (cc)
 
@@ -52,14 +48,6 @@ strip_all-sound (w ∷ ws) ts rest e =
 passed : {A : Type 0} (b : Bool) (x : A) → b ≡ true → (if b then Some x else None) ≡ Some x
 passed true x e = refl
 passed false x e = cc
-
-pub first_of_both : (a b : Bool) → (a && b) ≡ true → a ≡ true
-first_of_both true b e = refl
-first_of_both false b e = e
-
-pub second_of_both : (a b : Bool) → (a && b) ≡ true → b ≡ true
-second_of_both true b e = e
-second_of_both false b e = cc
 
 both_true : (a b : Bool) → a ≡ true → b ≡ true → (a && b) ≡ true
 both_true true true e f = refl
@@ -98,25 +86,6 @@ number-sound least most n (t ∷ ts) rest few e =
     )))
 
 -- ---- a decimal is a numeral
-not_first : (t : Text) → 48 < get_or t 0 0 → begins_with 48 t ≡ false
-not_first [] h = absurd (omega arith)
-not_first (c ∷ t) h = grind arith
-
-numeral_if : (a b : Bool) (n : ℕ) → a ≡ true → (b ≡ false) ⊎ (n ≡ 1) → (a && (not b || (n == 1))) ≡ true
-numeral_if true true n e (inl f) = cc
-numeral_if true false n e (inl f) = refl
-numeral_if true true n e (inr f) = grind arith
-numeral_if true false n e (inr f) = refl
-numeral_if false b n e f = cc
-
-no_leading_zero : (n : ℕ) → n < 2 ^ 64 → (begins_with 48 (decimal n) ≡ false) ⊎ (length (decimal n) ≡ 1)
-no_leading_zero zero h = inr (ap length (decimal_digit 0 (omega arith)))
-no_leading_zero (suc n) h = inl (not_first (decimal (suc n)) (first_decimal (suc n) (omega arith) h))
-
-pub is_numeral-decimal : (n : ℕ) → n < 2 ^ 64 → is_numeral (decimal n) ≡ true
-is_numeral-decimal n h =
-    numeral_if (list_all is_ascii_digit (decimal n)) (begins_with 48 (decimal n)) (length (decimal n)) (digits_decimal digits_own n h) (no_leading_zero n h)
-
 number_of-decimal : (most n : ℕ) → most < 2 ^ 64 → n ≤ most → number_of most (decimal n) ≡ Some n
 number_of-decimal most n few small =
     let h : n < 2 ^ 64 = omega arith in
@@ -133,163 +102,308 @@ number-decimal least most n rest few large small =
     let test : nat_le least n ≡ true = grind arith in
     rw (number_of-decimal most n few small, test) refl
 
--- ---- wires
-wire_of-sound : (least most n : ℕ) (ts rest : List Text) → most < 2 ^ 64 → wire_of least most ts ≡ Some (n, rest)
-    → (ts ≡ wire_tokens n ++ codes ";" ∷ rest) × (least ≤ n) × (n ≤ most)
-wire_of-sound least most n ts rest few e =
-    both_of close_after (option_and_then (number least most) (strip_all opening ts)) (n, rest) e
-    (λ m read closed. both_of (number least most) (strip_all opening ts) m read
-    (λ mid opened numbered. mapped (λ x. (m.0, x)) (strip_all closing m.1) (n, rest) closed
-    (λ tail stripped pair.
-    let is_n : m.0 ≡ n = ap (λ x. x.0) pair in
-    let is_rest : tail ≡ rest = ap (λ x. x.1) pair in
-    let it = number-sound least most m.0 mid m.1 few numbered in
-    let front = strip_all-sound opening ts mid opened in
-    let back = strip_all-sound closing m.1 tail stripped in (
-      front ∙ ap (λ x. opening ++ x) (it.0 ∙ ap (λ x. decimal x ∷ m.1) is_n ∙ ap (λ x. decimal n ∷ x) (back ∙ ap (λ x. closing ++ x) is_rest)),
-      subst (λ (x : ℕ). least ≤ x) is_n it.1,
-      subst (λ (x : ℕ). x ≤ most) is_n it.2,
-    ))))
+-- ---- indices
+before-sound : {X : Type 0} (w : Text) (m : X × List Text) (x : X) (rest : List Text) → before w m ≡ Some (x, rest) → (m.1 ≡ w ∷ rest) × (m.0 ≡ x)
+before-sound w m x rest e = mapped (λ r. (m.0, r)) (strip w m.1) (x, rest) e
+    (λ r stripped pair.
+    let is_x : m.0 ≡ x = ap (λ y. y.0) pair in
+    let is_rest : r ≡ rest = ap (λ y. y.1) pair in
+    (strip-sound w m.1 r stripped ∙ ap (λ y. w ∷ y) is_rest, is_x))
 
-wire_of-spelt : (least most n : ℕ) (rest : List Text) → most < 2 ^ 64 → least ≤ n → n ≤ most
-    → wire_of least most (wire_tokens n ++ codes ";" ∷ rest) ≡ Some (n, rest)
-wire_of-spelt least most n rest few large small =
-    ap (option_and_then close_after) (number-decimal least most n (closing ++ rest) few large small)
+index_of-sound : (name : Text) (least most n : ℕ) (ts rest : List Text) → most < 2 ^ 64 → index_of name least most ts ≡ Some (n, rest)
+    → (ts ≡ index_tokens name n ++ rest) × (least ≤ n) × (n ≤ most)
+index_of-sound name least most n ts rest few e =
+    both_of (before (codes "]")) (option_and_then (number least most) (strip_all (name ∷ codes "[" ∷ []) ts)) (n, rest) e
+    (λ m read closed. both_of (number least most) (strip_all (name ∷ codes "[" ∷ []) ts) m read
+    (λ mid opened numbered.
+    let back = before-sound (codes "]") m n rest closed in
+    let it = number-sound least most m.0 mid m.1 few numbered in
+    let front = strip_all-sound (name ∷ codes "[" ∷ []) ts mid opened in (
+      front ∙ ap (λ x. name ∷ codes "[" ∷ x) (it.0 ∙ ap (λ x. decimal x ∷ m.1) back.1 ∙ ap (λ x. decimal n ∷ x) back.0),
+      subst (λ (x : ℕ). least ≤ x) back.1 it.1,
+      subst (λ (x : ℕ). x ≤ most) back.1 it.2,
+    )))
+
+last_index-sound : (name : Text) (least most n : ℕ) (ts rest : List Text) → most < 2 ^ 64 → last_index name least most ts ≡ Some (n, rest)
+    → (ts ≡ index_tokens name n ++ codes ";" ∷ rest) × (least ≤ n) × (n ≤ most)
+last_index-sound name least most n ts rest few e =
+    both_of (before (codes ";")) (index_of name least most ts) (n, rest) e
+    (λ m read closed.
+    let back = before-sound (codes ";") m n rest closed in
+    let it = index_of-sound name least most m.0 ts m.1 few read in (
+      it.0 ∙ ap (λ (x : ℕ). index_tokens name x ++ m.1) back.1 ∙ ap (λ x. index_tokens name n ++ x) back.0,
+      subst (λ (x : ℕ). least ≤ x) back.1 it.1,
+      subst (λ (x : ℕ). x ≤ most) back.1 it.2,
+    ))
+
+index_of-spelt : (name : Text) (least most n : ℕ) (rest : List Text) → bytes_eq name name ≡ true → most < 2 ^ 64 → least ≤ n → n ≤ most
+    → index_of name least most (index_tokens name n ++ rest) ≡ Some (n, rest)
+index_of-spelt name least most n rest same few large small =
+    rw same (ap (option_and_then (before (codes "]"))) (number-decimal least most n (codes "]" ∷ rest) few large small))
+
+last_index-spelt : (name : Text) (least most n : ℕ) (rest : List Text) → bytes_eq name name ≡ true → most < 2 ^ 64 → least ≤ n → n ≤ most
+    → last_index name least most (index_tokens name n ++ codes ";" ∷ rest) ≡ Some (n, rest)
+last_index-spelt name least most n rest same few large small =
+    ap (option_and_then (before (codes ";"))) (index_of-spelt name least most n (codes ";" ∷ rest) same few large small)
 
 -- ---- gates
-pub gate_cases : (a b c : ℕ) → (gate_tokens a b c ≡ [] → ⊥)
-    → (((a ≡ 2) × (b ≡ 0) × (c ≡ 4)) ⊎ (((a ≡ 4) × (b ≡ 0) × (c ≡ 4)) ⊎ ((a ≡ 0) × (b ≡ 0) × ((c ≡ 1) ⊎ ((c ≡ 2) ⊎ ((c ≡ 4) ⊎ ((c ≡ 6) ⊎ (c ≡ 7))))))))
-gate_cases a b c some = grind (arith, nat_tests)
-
-named_is : (w : Text) (k : Text) → bytes_eq w k ≡ true → w ≡ k
+pub named_is : (w : Text) (k : Text) → bytes_eq w k ≡ true → w ≡ k
 named_is w k e = search (rules, bytes_eq-Decides, e)
 
 -- one name more
-by_name : {P : Type 0} (w k : Text) (g h : Angles) (others : Option Angles) → (if bytes_eq w k then Some g else others) ≡ Some h
-    → (w ≡ k → g ≡ h → P) → (others ≡ Some h → P) → P
+by_name : {P X : Type 0} (w k : Text) (g : Option X) (h : X) (others : Option X) → (if bytes_eq w k then g else others) ≡ Some h
+    → (w ≡ k → g ≡ Some h → P) → (others ≡ Some h → P) → P
 by_name {P = P} w k g h others e first rest = by_test (bytes_eq w k) refl
   where
     by_test : (b : Bool) → bytes_eq w k ≡ b → P
-    by_test true is = let one : Some g ≡ Some h = rw is at e in first (named_is w k is) (cc)
+    by_test true is = let one : g ≡ Some h = rw is at e in first (named_is w k is) one
     by_test false is = rest (rw is at e)
+
+pub some_same : {X : Type 0} (x y : X) → Some x ≡ Some y → x ≡ y
+some_same x y e = cc
 
 gate_named-sound : (w : Text) (h : Angles) → gate_named w ≡ Some h → gate_tokens h.a h.b h.c ≡ w ∷ []
 gate_named-sound w h e =
-    by_name w (codes "h") (angles 2 0 4) h _ e (λ is g. rw (is, ← g) refl)
-    (λ e. by_name w (codes "x") (angles 4 0 4) h _ e (λ is g. rw (is, ← g) refl)
-    (λ e. by_name w (codes "t") (angles 0 0 1) h _ e (λ is g. rw (is, ← g) refl)
-    (λ e. by_name w (codes "s") (angles 0 0 2) h _ e (λ is g. rw (is, ← g) refl)
-    (λ e. by_name w (codes "z") (angles 0 0 4) h _ e (λ is g. rw (is, ← g) refl)
-    (λ e. by_name w (codes "sdg") (angles 0 0 6) h _ e (λ is g. rw (is, ← g) refl)
-    (λ e. by_name w (codes "tdg") (angles 0 0 7) h _ e (λ is g. rw (is, ← g) refl)
+    by_name w (codes "h") (Some (angles 2 0 4)) h _ e (λ is g. rw (is, ← some_same _ _ g) refl)
+    (λ e. by_name w (codes "x") (Some (angles 4 0 4)) h _ e (λ is g. rw (is, ← some_same _ _ g) refl)
+    (λ e. by_name w (codes "t") (Some (angles 0 0 1)) h _ e (λ is g. rw (is, ← some_same _ _ g) refl)
+    (λ e. by_name w (codes "s") (Some (angles 0 0 2)) h _ e (λ is g. rw (is, ← some_same _ _ g) refl)
+    (λ e. by_name w (codes "z") (Some (angles 0 0 4)) h _ e (λ is g. rw (is, ← some_same _ _ g) refl)
+    (λ e. by_name w (codes "sdg") (Some (angles 0 0 6)) h _ e (λ is g. rw (is, ← some_same _ _ g) refl)
+    (λ e. by_name w (codes "tdg") (Some (angles 0 0 7)) h _ e (λ is g. rw (is, ← some_same _ _ g) refl)
     (λ e. cc)))))))
 
-named_tokens : (a b c : ℕ) → (gate_tokens a b c ≡ [] → ⊥) → (w : Text) × (gate_tokens a b c ≡ w ∷ []) × (gate_named w ≡ Some (angles a b c))
-named_tokens a b c some =
-    elim (gate_cases a b c some) [
-      | inl e ↦ (codes "h", rw (e.0, e.1, e.2) refl, rw (e.0, e.1, e.2) refl)
-      | inr rest ↦ elim rest [
-        | inl e ↦ (codes "x", rw (e.0, e.1, e.2) refl, rw (e.0, e.1, e.2) refl)
-        | inr e ↦ rw (e.0, e.1) (elim e.2 [
-          | inl f ↦ (codes "t", rw f refl, rw f refl)
-          | inr rest ↦ elim rest [
-            | inl f ↦ (codes "s", rw f refl, rw f refl)
-            | inr rest ↦ elim rest [
-              | inl f ↦ (codes "z", rw f refl, rw f refl)
-              | inr rest ↦ elim rest [
-                | inl f ↦ (codes "sdg", rw f refl, rw f refl)
-                | inr f ↦ (codes "tdg", rw f refl, rw f refl)
+odd_of-sound : (ts rest : List Text) (n : ℕ) → odd_of ts ≡ Some (n, rest)
+    → (ts ≡ codes "3" ∷ rest) × (n ≡ 3) ⊎ (ts ≡ codes "5" ∷ rest) × (n ≡ 5)
+odd_of-sound [] rest n e = cc
+odd_of-sound (t ∷ ts) rest n e =
+    by_name t (codes "3") (Some (3, ts)) (n, rest) _ e
+    (λ is g. let pair = some_same _ _ g in inl (rw is (ap (λ x. codes "3" ∷ x) (ap (λ (y : ℕ × List Text). y.1) pair)), sym (ap (λ (y : ℕ × List Text). y.0) pair)))
+    (λ e. by_name t (codes "5") (Some (5, ts)) (n, rest) _ e
+    (λ is g. let pair = some_same _ _ g in inr (rw is (ap (λ x. codes "5" ∷ x) (ap (λ (y : ℕ × List Text). y.1) pair)), sym (ap (λ (y : ℕ × List Text). y.0) pair)))
+    (λ e. cc))
+
+u1_of-sound : (ts rest : List Text) (g : Angles) → u1_of ts ≡ Some (g, rest) → codes "u1" ∷ ts ≡ gate_tokens g.a g.b g.c ++ rest
+u1_of-sound ts rest g e =
+    both_of after_angle (option_and_then odd_of (strip (codes "(") ts)) (g, rest) e
+    (λ m read last. both_of odd_of (strip (codes "(") ts) m read
+    (λ mid opened odd. mapped (λ r. (angles 0 0 m.0, r)) (strip_all angle_end m.1) (g, rest) last
+    (λ r stripped pair.
+    let front = strip-sound (codes "(") ts mid opened in
+    let back = strip_all-sound angle_end m.1 r stripped in
+    let is_rest : r ≡ rest = ap (λ (y : Angles × List Text). y.1) pair in
+    let is_g : angles 0 0 m.0 ≡ g = ap (λ (y : Angles × List Text). y.0) pair in
+    elim (odd_of-sound mid m.1 m.0 odd) [
+      | inl o ↦ (let three : angles 0 0 3 ≡ g = ap (λ (n : ℕ). angles 0 0 n) (sym o.1) ∙ is_g in
+          rw (← three, front, o.0, back, is_rest) refl)
+      | inr o ↦ (let five : angles 0 0 5 ≡ g = ap (λ (n : ℕ). angles 0 0 n) (sym o.1) ∙ is_g in
+          rw (← five, front, o.0, back, is_rest) refl)
+    ])))
+
+gate_of-sound : (w : Text) (ts rest : List Text) (g : Angles) → gate_of w ts ≡ Some (g, rest) → w ∷ ts ≡ gate_tokens g.a g.b g.c ++ rest
+gate_of-sound w ts rest g e =
+    by_name w (codes "u1") (u1_of ts) (g, rest) _ e (λ is f. rw is (u1_of-sound ts rest g f))
+    (λ e. mapped (λ h. (h, ts)) (gate_named w) (g, rest) e
+    (λ h named pair.
+    let is_g : h ≡ g = ap (λ (y : Angles × List Text). y.0) pair in
+    let is_rest : ts ≡ rest = ap (λ (y : Angles × List Text). y.1) pair in
+    let name = gate_named-sound w h named in
+    subst (λ (x : Angles). w ∷ ts ≡ gate_tokens x.a x.b x.c ++ rest) is_g (rw (name, is_rest) refl)))
+
+-- a gate that was read has tokens
+u1_named : (n : ℕ) (g : Angles) → (n ≡ 3) ⊎ (n ≡ 5) → angles 0 0 n ≡ g → gate_tokens g.a g.b g.c ≡ [] → ⊥
+u1_named n g (inl three) is none = let e : angles 0 0 3 ≡ g = rw (← three) is in let f = rw (← e) at none in cc
+u1_named n g (inr five) is none = let e : angles 0 0 5 ≡ g = rw (← five) is in let f = rw (← e) at none in cc
+
+odd_is : (n : ℕ) (A B : Type 0) → A × (n ≡ 3) ⊎ B × (n ≡ 5) → (n ≡ 3) ⊎ (n ≡ 5)
+odd_is n A B (inl h) = inl h.1
+odd_is n A B (inr h) = inr h.1
+
+u1_of-named : (ts rest : List Text) (g : Angles) → u1_of ts ≡ Some (g, rest) → gate_tokens g.a g.b g.c ≡ [] → ⊥
+u1_of-named ts rest g e =
+    both_of after_angle (option_and_then odd_of (strip (codes "(") ts)) (g, rest) e
+    (λ m read last. both_of odd_of (strip (codes "(") ts) m read
+    (λ mid opened odd. mapped (λ r. (angles 0 0 m.0, r)) (strip_all angle_end m.1) (g, rest) last
+    (λ r stripped pair. u1_named m.0 g (odd_is m.0 _ _ (odd_of-sound mid m.1 m.0 odd)) (ap (λ (y : Angles × List Text). y.0) pair))))
+
+gate_of-named : (w : Text) (ts rest : List Text) (g : Angles) → gate_of w ts ≡ Some (g, rest) → gate_tokens g.a g.b g.c ≡ [] → ⊥
+gate_of-named w ts rest g e =
+    by_name w (codes "u1") (u1_of ts) (g, rest) _ e (λ is f. u1_of-named ts rest g f)
+    (λ e. mapped (λ h. (h, ts)) (gate_named w) (g, rest) e
+    (λ h named pair none.
+    let is_g : h ≡ g = ap (λ (y : Angles × List Text). y.0) pair in
+    let name = rw is_g at (gate_named-sound w h named) in cc))
+
+-- ---- statements
+single_of-sound : (most bits : ℕ) (w : Text) (ts rest : List Text) (s : Statement) → most < 2 ^ 64 → single_of most w ts ≡ Some (s, rest)
+    → (w ∷ ts ≡ statement_tokens s ++ rest) × IsStatement (most + 1) bits s
+single_of-sound most bits w ts rest s few e =
+    both_of (operand most) (gate_of w ts) (s, rest) e
+    (λ m named read. mapped (λ r. (Apply (op_at m.0 r.0), r.1)) (last_index (codes "q") 0 most m.1) (s, rest) read
+    (λ r wire pair.
+    let is_s : Apply (op_at m.0 r.0) ≡ s = ap (λ (y : Statement × List Text). y.0) pair in
+    let is_rest : r.1 ≡ rest = ap (λ (y : Statement × List Text). y.1) pair in
+    let it = last_index-sound (codes "q") 0 most r.0 m.1 r.1 few wire in
+    let name = gate_of-sound w ts m.1 m.0 named in
+    subst (λ (x : Statement). (w ∷ ts ≡ statement_tokens x ++ rest) × IsStatement (most + 1) bits x) is_s (
+      name ∙ ap (λ x. gate_tokens m.0.a m.0.b m.0.c ++ x) (it.0 ∙ ap (λ x. wire_tokens r.0 ++ codes ";" ∷ x) is_rest)
+          ∙ sym (append_assoc (gate_tokens m.0.a m.0.b m.0.c) (wire_tokens r.0 ++ codes ";" ∷ []) rest),
+      (gate_of-named w ts m.1 m.0 named, omega (arith, it.2)),
+    )))
+
+cx_of-sound : (most bits : ℕ) (ts rest : List Text) (s : Statement) → most < 2 ^ 64 → cx_of most ts ≡ Some (s, rest)
+    → (codes "cx" ∷ ts ≡ statement_tokens s ++ rest) × IsStatement (most + 1) bits s
+cx_of-sound most bits ts rest s few e =
+    both_of (target most) (option_and_then (before (codes ",")) (index_of (codes "q") 0 most ts)) (s, rest) e
+    (λ m read last. both_of (before (codes ",")) (index_of (codes "q") 0 most ts) m read
+    (λ n first comma. both_of (other_wire m.0) (last_index (codes "q") 0 most m.1) (s, rest) last
+    (λ r second other.
+    let one = index_of-sound (codes "q") 0 most n.0 ts n.1 few first in
+    let sign = before-sound (codes ",") n m.0 m.1 comma in
+    let two = last_index-sound (codes "q") 0 most r.0 m.1 r.1 few second in
+    let start : ts ≡ wire_tokens m.0 ++ codes "," ∷ m.1 =
+    one.0 ∙ ap (λ (x : ℕ). wire_tokens x ++ n.1) sign.1 ∙ ap (λ x. wire_tokens m.0 ++ x) sign.0 in
+    different m.0 r.0 r.1 s rest other
+    (λ apart is_s is_rest.
+    subst (λ (x : Statement). (codes "cx" ∷ ts ≡ statement_tokens x ++ rest) × IsStatement (most + 1) bits x) is_s (
+      ap (λ x. codes "cx" ∷ x) (start ∙ ap (λ x. wire_tokens m.0 ++ codes "," ∷ x) (two.0 ∙ ap (λ x. wire_tokens r.0 ++ codes ";" ∷ x) is_rest)),
+      (subst (λ (x : ℕ). x < most + 1) sign.1 (omega (arith, one.2)), (omega (arith, two.2), apart)),
+    )))))
+  where
+    different : {P : Type 0} (c t : ℕ) (tail : List Text) (s : Statement) (rest : List Text) → other_wire c (t, tail) ≡ Some (s, rest)
+        → ((c ≡ t → ⊥) → Apply (Cx c t) ≡ s → tail ≡ rest → P) → P
+    different {P = P} c t tail s rest e k = by_test (c == t) refl
+      where
+        by_test : (b : Bool) → (c == t) ≡ b → P
+        by_test true is = let none = rw is at e in cc
+        by_test false is =
+            let pair = some_same _ _ (rw is at e) in
+            k (λ same. let yes_same : (c == t) ≡ true = grind arith in cc) (ap (λ (y : Statement × List Text). y.0) pair) (ap (λ (y : Statement × List Text). y.1) pair)
+
+measure_of-sound : (most bits : ℕ) (ts rest : List Text) (s : Statement) → most < 2 ^ 64 → bits ≤ 1024 → measure_of most bits ts ≡ Some (s, rest)
+    → (codes "measure" ∷ ts ≡ statement_tokens s ++ rest) × IsStatement (most + 1) bits s
+measure_of-sound most bits ts rest s few short e =
+    both_of (bit_of bits) (option_and_then (before (codes "->")) (index_of (codes "q") 0 most ts)) (s, rest) e
+    (λ m read last. both_of (before (codes "->")) (index_of (codes "q") 0 most ts) m read
+    (λ n first arrow. into m last
+    (λ some reading. mapped (λ r. (Measure m.0 r.0, r.1)) (last_index (codes "c") 0 (bits - 1) m.1) (s, rest) reading
+    (λ r second pair.
+    let one = index_of-sound (codes "q") 0 most n.0 ts n.1 few first in
+    let sign = before-sound (codes "->") n m.0 m.1 arrow in
+    let two = last_index-sound (codes "c") 0 (bits - 1) r.0 m.1 r.1 (omega arith) second in
+    let is_s : Measure m.0 r.0 ≡ s = ap (λ (y : Statement × List Text). y.0) pair in
+    let is_rest : r.1 ≡ rest = ap (λ (y : Statement × List Text). y.1) pair in
+    let start : ts ≡ wire_tokens m.0 ++ codes "->" ∷ m.1 =
+    one.0 ∙ ap (λ (x : ℕ). wire_tokens x ++ n.1) sign.1 ∙ ap (λ x. wire_tokens m.0 ++ x) sign.0 in
+    subst (λ (x : Statement). (codes "measure" ∷ ts ≡ statement_tokens x ++ rest) × IsStatement (most + 1) bits x) is_s (
+      ap (λ x. codes "measure" ∷ x) (start ∙ ap (λ x. wire_tokens m.0 ++ codes "->" ∷ x) (two.0 ∙ ap (λ x. index_tokens (codes "c") r.0 ++ codes ";" ∷ x) is_rest)),
+      (subst (λ (x : ℕ). x < most + 1) sign.1 (omega (arith, one.2)), omega (arith, two.2)),
+    )))))
+  where
+    into : {P : Type 0} (m : ℕ × List Text) → bit_of bits m ≡ Some (s, rest)
+        → (0 < bits → option_map {U = Statement × List Text} (λ r. (Measure m.0 r.0, r.1)) (last_index (codes "c") 0 (bits - 1) m.1) ≡ Some (s, rest) → P) → P
+    into {P = P} m e k = by_test (bits == 0) refl
+      where
+        by_test : (b : Bool) → (bits == 0) ≡ b → P
+        by_test true is = let none = rw is at e in cc
+        by_test false is = k (grind arith) (rw is at e)
+
+pub statement_by-sound : (most bits : ℕ) (w : Text) (ts rest : List Text) (s : Statement) → most < 2 ^ 64 → bits ≤ 1024 → statement_by most bits w ts ≡ Some (s, rest)
+    → (w ∷ ts ≡ statement_tokens s ++ rest) × IsStatement (most + 1) bits s
+statement_by-sound most bits w ts rest s few short e =
+    by_name w (codes "cx") (cx_of most ts) (s, rest) _ e (λ is f. rw is (cx_of-sound most bits ts rest s few f))
+    (λ e. by_name w (codes "measure") (measure_of most bits ts) (s, rest) _ e (λ is f. rw is (measure_of-sound most bits ts rest s few short f))
+    (λ e. single_of-sound most bits w ts rest s few e))
+
+-- ---- from a statement to its tokens and back
+operand-spelt : (most : ℕ) (g : Angles) (q : ℕ) (rest : List Text) → most < 2 ^ 64 → q < most + 1
+    → operand most (g, wire_tokens q ++ codes ";" ∷ rest) ≡ Some (Apply (op_at g q), rest)
+operand-spelt most g q rest few there =
+    ap (option_map {U = Statement × List Text} (λ r. (Apply (op_at g r.0), r.1))) (last_index-spelt (codes "q") 0 most q rest refl few (omega arith) (omega arith))
+
+apply-spelt : (most bits a b c q : ℕ) (rest : List Text) → most < 2 ^ 64 → (gate_tokens a b c ≡ [] → ⊥) → q < most + 1
+    → statement_of most bits (gate_tokens a b c ++ (wire_tokens q ++ codes ";" ∷ rest)) ≡ Some (Apply (U a b c q), rest)
+apply-spelt most bits a b c q rest few some there = elim (gate_cases a b c some) [
+  | inl e ↦ rw (e.0, e.1, e.2) (operand-spelt most (angles 2 0 4) q rest few there)
+  | inr others ↦ elim others [
+    | inl e ↦ rw (e.0, e.1, e.2) (operand-spelt most (angles 4 0 4) q rest few there)
+    | inr e ↦ rw (e.0, e.1) (elim (phase_cases c e.2 e.3) [
+      | inl f ↦ rw f (operand-spelt most (angles 0 0 1) q rest few there)
+      | inr others ↦ elim others [
+        | inl f ↦ rw f (operand-spelt most (angles 0 0 2) q rest few there)
+        | inr others ↦ elim others [
+          | inl f ↦ rw f (operand-spelt most (angles 0 0 3) q rest few there)
+          | inr others ↦ elim others [
+            | inl f ↦ rw f (operand-spelt most (angles 0 0 4) q rest few there)
+            | inr others ↦ elim others [
+              | inl f ↦ rw f (operand-spelt most (angles 0 0 5) q rest few there)
+              | inr others ↦ elim others [
+                | inl f ↦ rw f (operand-spelt most (angles 0 0 6) q rest few there)
+                | inr f ↦ rw f (operand-spelt most (angles 0 0 7) q rest few there)
               ]
             ]
           ]
-        ])
+        ]
       ]
-    ]
+    ])
+  ]
+]
 
--- ---- operations
-operation_of-sound : (most : ℕ) (op : Op) (ts rest : List Text) → most < 2 ^ 64 → operation_of most ts ≡ Some (op, rest)
-    → (ts ≡ op_tokens op ++ rest) × IsNamed (most + 1) op
-operation_of-sound most op [] rest few e = cc
-operation_of-sound most op (w ∷ ts) rest few e =
-    both_of (λ g. option_map (λ m. (op_at g m.0, m.1)) (wire_of 0 most ts)) (gate_named w) (op, rest) e
-    (λ g named read. mapped (λ m. (op_at g m.0, m.1)) (wire_of 0 most ts) (op, rest) read
-    (λ m wire pair.
-    let is_op : op_at g m.0 ≡ op = ap (λ x. x.0) pair in
-    let is_rest : m.1 ≡ rest = ap (λ x. x.1) pair in
-    let it = wire_of-sound 0 most m.0 ts m.1 few wire in
-    let name = gate_named-sound w g named in
-    subst (λ (x : Op). (w ∷ ts ≡ op_tokens x ++ rest) × IsNamed (most + 1) x) is_op
-    (rw name (ap (λ x. w ∷ x) it.0 ∙ ap (λ x. w ∷ (wire_tokens m.0 ++ codes ";" ∷ x)) is_rest), ((λ none. cc (name, none)), omega (arith, it.2)))))
+pub statement_of-spelt : (most bits : ℕ) (s : Statement) (rest : List Text) → most < 2 ^ 64 → bits ≤ 1024 → IsStatement (most + 1) bits s
+    → statement_of most bits (statement_tokens s ++ rest) ≡ Some (s, rest)
+statement_of-spelt most bits (Apply (U a b c q)) rest few short is =
+    let shown : statement_tokens (Apply (U a b c q)) ++ rest ≡ gate_tokens a b c ++ (wire_tokens q ++ codes ";" ∷ rest) =
+    append_assoc (gate_tokens a b c) (wire_tokens q ++ codes ";" ∷ []) rest in
+    rw shown (apply-spelt most bits a b c q rest few is.0 is.1)
+statement_of-spelt most bits (Apply (Cx c t)) rest few short is =
+    let apart : (c == t) ≡ false = grind arith in
+    ap (λ o. option_and_then (target most) (option_and_then (before (codes ",")) o))
+    (index_of-spelt (codes "q") 0 most c (codes "," ∷ (wire_tokens t ++ codes ";" ∷ rest)) refl few (omega arith) (omega (arith, is.0)))
+    ∙ ap (option_and_then (other_wire c)) (last_index-spelt (codes "q") 0 most t rest refl few (omega arith) (omega (arith, is.1.0)))
+    ∙ rw apart refl
+statement_of-spelt most bits (Measure q k) rest few short is =
+    let some : (bits == 0) ≡ false = let lt = is.1 in grind arith in
+    ap (λ o. option_and_then (bit_of bits) (option_and_then (before (codes "->")) o))
+    (index_of-spelt (codes "q") 0 most q (codes "->" ∷ (index_tokens (codes "c") k ++ codes ";" ∷ rest)) refl few (omega arith) (omega (arith, is.0)))
+    ∙ rw some (ap (option_map {U = Statement × List Text} (λ r. (Measure q r.0, r.1)))
+    (last_index-spelt (codes "c") 0 (bits - 1) k rest refl (omega arith) (omega arith) (omega (arith, is.1))))
 
-operation_of-spelt : (most : ℕ) (op : Op) (rest : List Text) → most < 2 ^ 64 → IsNamed (most + 1) op
-    → operation_of most (op_tokens op ++ rest) ≡ Some (op, rest)
-operation_of-spelt most (Cx c t) rest few named = absurd named
-operation_of-spelt most (U a b c q) rest few named =
-    let name = named_tokens a b c named.0 in
-    rw (name.1, name.2) (ap (option_map (λ m. (U a b c m.0, m.1))) (wire_of-spelt 0 most q rest few (omega arith) (omega arith)))
+-- ---- registers
+pub wires_of-sound : (n : ℕ) (ts rest : List Text) → wires_of ts ≡ Some (n, rest)
+    → (ts ≡ heading ++ (wire_tokens n ++ codes ";" ∷ rest)) × (1 ≤ n) × (n ≤ 64)
+wires_of-sound n ts rest e =
+    both_of (last_index (codes "q") 1 64) (strip_all heading ts) (n, rest) e
+    (λ mid head wire.
+    let it = last_index-sound (codes "q") 1 64 n mid rest (lit< tt) wire in
+    (strip_all-sound heading ts mid head ∙ ap (λ x. heading ++ x) it.0, it.1, it.2))
 
-operations_of-sound : (most n : ℕ) (us : List Op) (ts : List Text) → most < 2 ^ 64 → operations_of most n ts ≡ Some us
-    → (ts ≡ flat_map op_tokens us) × AllByRecursion (IsNamed (most + 1)) us × (length us ≤ n)
-operations_of-sound most n us [] few e =
-    let none : [] ≡ us = cc in
-    subst (λ (x : List Op). ([] ≡ flat_map op_tokens x) × AllByRecursion (IsNamed (most + 1)) x × (length x ≤ n)) none (refl, tt, omega arith)
-operations_of-sound most zero us (t ∷ ts) few e = cc
-operations_of-sound most (suc n) us (t ∷ ts) few e =
-    both_of (and_more (operations_of most n)) (operation_of most (t ∷ ts)) us e
-    (λ m one rest. mapped (λ vs. m.0 ∷ vs) (operations_of most n m.1) us rest
-    (λ vs others is.
-    let front = operation_of-sound most m.0 (t ∷ ts) m.1 few one in
-    let back = operations_of-sound most n vs m.1 few others in
-    subst (λ (x : List Op). (t ∷ ts ≡ flat_map op_tokens x) × AllByRecursion (IsNamed (most + 1)) x × (length x ≤ suc n)) is
-    (front.0 ∙ ap (λ x. op_tokens m.0 ++ x) back.0, (front.1, back.1), omega (arith, back.2))))
+pub wires_of-spelt : (n : ℕ) (rest : List Text) → 1 ≤ n → n ≤ 64 → wires_of (heading ++ (wire_tokens n ++ codes ";" ∷ rest)) ≡ Some (n, rest)
+wires_of-spelt n rest some few = last_index-spelt (codes "q") 1 64 n rest refl (lit< tt) some few
 
-operations_of-more : (most n : ℕ) (ts : List Text) (m : Op × List Text) → operation_of most ts ≡ Some m
-    → operations_of most (suc n) ts ≡ and_more (operations_of most n) m
-operations_of-more most n [] m e = cc
-operations_of-more most n (t ∷ ts) m e = rw e refl
+pub bits_of-sound : (m : ℕ) (ts rest : List Text) → bits_of ts ≡ Some (m, rest) → (ts ≡ bits_tokens m ++ rest) × (m ≤ 1024)
+bits_of-sound m [] rest e =
+    let pair = some_same _ _ e in
+    let is_m : 0 ≡ m = ap (λ (y : ℕ × List Text). y.0) pair in
+    let is_rest : [] ≡ rest = ap (λ (y : ℕ × List Text). y.1) pair in
+    (subst (λ (x : ℕ). [] ≡ bits_tokens x ++ rest) is_m is_rest, omega arith)
+bits_of-sound m (t ∷ ts) rest e =
+    by_name t (codes "creg") (last_index (codes "c") 1 1024 ts) (m, rest) _ e
+    (λ is f.
+    let it = last_index-sound (codes "c") 1 1024 m ts rest (lit< tt) f in
+    let some : (m == 0) ≡ false = let lt = it.1 in grind arith in
+    (rw (is, some) (ap (λ x. codes "creg" ∷ x) it.0 ∙ ap (λ x. codes "creg" ∷ x) (sym (append_assoc (index_tokens (codes "c") m) (codes ";" ∷ []) rest))), it.2))
+    (λ f.
+    let pair = some_same _ _ f in
+    let is_m : 0 ≡ m = ap (λ (y : ℕ × List Text). y.0) pair in
+    let is_rest : t ∷ ts ≡ rest = ap (λ (y : ℕ × List Text). y.1) pair in
+    (subst (λ (x : ℕ). t ∷ ts ≡ bits_tokens x ++ rest) is_m is_rest, omega arith))
 
-operations_of-spelt : (most n : ℕ) (us : List Op) → most < 2 ^ 64 → AllByRecursion (IsNamed (most + 1)) us → length us ≤ n
-    → operations_of most n (flat_map op_tokens us) ≡ Some us
-operations_of-spelt most n [] few named fits = refl
-operations_of-spelt most zero (u ∷ us) few named fits = absurd (omega arith)
-operations_of-spelt most (suc n) (u ∷ us) few named fits =
-    operations_of-more most n (op_tokens u ++ flat_map op_tokens us) (u, flat_map op_tokens us)
-    (operation_of-spelt most u (flat_map op_tokens us) few named.0)
-    ∙ ap (option_map (λ vs. u ∷ vs)) (operations_of-spelt most n us few named.1 (omega arith))
+with_bits : (m : ℕ) (ts : List Text) (b : Bool) → (m == 0) ≡ b → m ≤ 1024 → bits_of ts ≡ Some (0, ts) → bits_of (bits_tokens m ++ ts) ≡ Some (m, ts)
+with_bits m ts true e short none =
+    let is : 0 ≡ m = grind arith in
+    rw e (none ∙ ap (λ (x : ℕ). Some (x, ts)) is)
+with_bits m ts false e short none = rw e (last_index-spelt (codes "c") 1 1024 m ts refl (lit< tt) (grind arith) short)
 
--- ---- programs
-same_count : (n : ℕ) → 1 ≤ n → n - 1 + 1 ≡ n
-same_count n h = omega arith
-
-pub program_of-sound : (n : ℕ) (ts : List Text) (p : SmallProgram) → program_of n ts ≡ Some p
-    → (ts ≡ spelling p) × IsSmallProgram p × (length p.ops ≤ n)
-program_of-sound n ts p e =
-    both_of (body_of n) (register_of ts) p e
-    (λ m read body. both_of (wire_of 1 64) (strip_all heading ts) m read
-    (λ mid head wire. mapped (λ us. record { wires = m.0; ops = us }) (operations_of (m.0 - 1) n m.1) p body
-    (λ us others is.
-    let front = strip_all-sound heading ts mid head in
-    let it = wire_of-sound 1 64 m.0 mid m.1 (lit< tt) wire in
-    let rest = operations_of-sound (m.0 - 1) n us m.1 (omega (arith, it.2)) others in
-    let named = subst (λ (x : ℕ). AllByRecursion (IsNamed x) us) (same_count m.0 it.1) rest.1 in
-    subst (λ (x : SmallProgram). (ts ≡ spelling x) × IsSmallProgram x × (length x.ops ≤ n)) is (
-      front ∙ ap (λ x. heading ++ x) (it.0 ∙ ap (λ x. wire_tokens m.0 ++ codes ";" ∷ x) rest.0),
-      record { some = it.1; few = it.2; named = All-from_recursion (IsNamed m.0) us named },
-      rest.2,
-    ))))
-
-pub program_of-spelling : (n : ℕ) (p : SmallProgram) → IsSmallProgram p → length p.ops ≤ n → program_of n (spelling p) ≡ Some p
-program_of-spelling n p small fits =
-    let register = wire_of-spelt 1 64 p.wires (flat_map op_tokens p.ops) (lit< tt) small.some small.few in
-    let named = subst (λ (x : ℕ). AllByRecursion (IsNamed x) p.ops) (sym (same_count p.wires small.some)) (recursion_from_All (IsNamed p.wires) p.ops small.named) in
-    ap (option_and_then (body_of n)) register
-    ∙ ap (option_map (λ us. record { wires = p.wires; ops = us })) (operations_of-spelt (p.wires - 1) n p.ops (omega (arith, small.few)) named fits)
-
-same_value : {A B : Type 0} (f : A → Option B) (x y : A) (p q : B) → Some x ≡ Some y → f x ≡ Some p → f y ≡ Some q → p ≡ q
-same_value f x y p q e a b = let same : x ≡ y = cc in let g = rw same at a in cc
-
-pub Spells-once : (text : Text) (p q : SmallProgram) → Spells text p → Spells text q → p ≡ q
-Spells-once text p q a b =
-    let n = length p.ops + length q.ops in
-    same_value (program_of n) (spelling p) (spelling q) p q (sym a.spelt ∙ b.spelt)
-    (program_of-spelling n p a.small (omega arith)) (program_of-spelling n q b.small (omega arith))
+-- where what follows begins with no register of bits
+pub bits_of-spelt : (m : ℕ) (ts : List Text) → m ≤ 1024 → bits_of ts ≡ Some (0, ts) → bits_of (bits_tokens m ++ ts) ≡ Some (m, ts)
+bits_of-spelt m ts short none = with_bits m ts (m == 0) refl short none

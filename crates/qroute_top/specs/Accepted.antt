@@ -4,7 +4,7 @@
 --   IsRefusal text r      r is the text's first refusal: its length, or else that it spells no program within the limits
 use Rattle.std.specs.Prelude.{ℕ, ◌<◌, ◌≤◌, length}
 use Rattle.unitary_model.specs.Tokens.{Text}
-use Rattle.unitary_model.specs.SmallProgram.{SmallProgram, Spells}
+use Rattle.unitary_model.specs.SmallProgram.{SmallProgram, Spells, ops_of}
 use Rattle.qroute_top.specs.declared.stops.Refusal.{Refusal}
 use Rattle.qroute_top.specs.declared.stops.Refusal.TheVariants.{TooLong, Syntax}
 
@@ -17,7 +17,7 @@ operation_limit = 65536
 pub record IsAccepted (text : Text) (p : SmallProgram) : Type 0 where
   pub spelt : Spells text p
   pub short : length text ≤ text_limit
-  pub few : length p.ops ≤ operation_limit
+  pub few : length (ops_of p.statements) ≤ operation_limit
 
 -- a text that spells none has a place from which on it doesn't fit
 pub record IsMisspelt (text : Text) (place : ℕ) : Type 0 where

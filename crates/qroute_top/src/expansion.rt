@@ -1,13 +1,13 @@
-//! From a source's operations to gates.
+//! From a source's statements to gates, and to what its bits read.
 
 ghost use Rattle.std.specs.Prelude.{◌≡◌, IfOk, All};
-ghost use Rattle.unitary_model.specs.SmallProgram.{IsNamed, IsSmallProgram};
+ghost use Rattle.unitary_model.specs.SmallProgram.{IsNamed, IsSmallProgram, ops_of, reads_of};
 ghost use Rattle.circuit_list.specs.Gates.{IsFine, op_of, ops};
 
 use crate::reader::Program;
 use circuit_list::{Circuit, Gate, Passed};
 use std::alloc::{AllocError, Global};
-use unitary_model::Op;
+use unitary_model::{Op, Statement};
 
 /// The gate of an operation that the small form names.
 #[tactic(auto, using(crate::proofs::ExpansionLaws::expansion))]
@@ -33,14 +33,31 @@ fn gate_of(wires: u32, op: Op) -> Gate
 /// The circuit of a program, gate by gate, and its turn.
 #[tactic(auto, using(crate::proofs::ExpansionLaws::expansion))]
 pub fn expand(alloc: Global, program: &Program) -> Result<Passed, AllocError>
-    requires { IsSmallProgram (record { wires = program.now.wires; ops = program.now.list.items }) }
+    requires { IsSmallProgram (record { wires = program.now.wires; bits = program.now.bits; statements = program.now.list.items }) }
     ensures wires { IfOk result (λ p. p.body.wires ≡ program.now.wires) }
-    ensures same { IfOk result (λ p. ops p.body.gates ≡ program.now.list.items) }
+    ensures same { IfOk result (λ p. ops p.body.gates ≡ ops_of program.now.list.items) }
     ensures turn { IfOk result (λ p. p.turn ≡ 0) }
 {
     let mut body = Circuit::empty(alloc, program.wires)?;
-    'ops: for op in &program.list {
-        body.push(gate_of(program.wires, *op))?;
+    'statements: for statement in &program.list {
+        if let Statement::Apply(op) = *statement {
+            body.push(gate_of(program.wires, op))?;
+        }
     }
     Ok(Passed { body, turn: 0 })
+}
+
+/// The wire that is measured last into each bit, or none.
+#[tactic(auto, using(crate::proofs::ExpansionLaws::expansion))]
+pub fn reads_of(alloc: Global, program: &Program) -> Result<Vec<Option<u32>>, AllocError>
+    requires { IsSmallProgram (record { wires = program.now.wires; bits = program.now.bits; statements = program.now.list.items }) }
+    ensures { IfOk result (λ v. v.items ≡ reads_of program.now.bits program.now.list.items) }
+{
+    let mut reads = vec![in alloc; None; program.bits as usize]?;
+    'statements: for statement in &program.list {
+        if let Statement::Measure { qubit, bit } = *statement {
+            reads[bit as usize] = Some(qubit);
+        }
+    }
+    Ok(reads)
 }

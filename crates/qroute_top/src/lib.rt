@@ -7,8 +7,8 @@
 //! isn't of the form, or too long, is refused with its place, and nothing is written then.
 //!
 //! `words` gives the command of the words. The small form of OpenQASM 2.0 is read by private parts: `lexeme` and `token` (the
-//! longest lexeme at each place), `reader` (token by token), `source` (the input within its limits). `expansion` makes gates
-//! of operations, `writer` the text, `plan` all that is to be written, before `emission` writes the first byte.
+//! longest lexeme at each place), `phrase`, `statement` and `reader` (token by token), `source` (the input within its limits).
+//! `expansion` makes gates and reads of statements, `plan` all that is to be written, before `emission` writes the first byte.
 #![tactic(auto)]
 
 ghost use Rattle.std.specs.Prelude.{◌≡◌, ◌⊎◌, ℕ, List, Some, None, map, true};
@@ -34,13 +34,14 @@ mod emission;
 mod expansion;
 pub mod laws;
 mod lexeme;
+mod phrase;
 mod plan;
 mod reader;
 mod source;
+mod statement;
 mod stops;
 mod token;
 pub mod words;
-mod writer;
 
 /// Runs the command of the words: reads the input, writes the program to `out` and the report line to `report`, and answers
 /// the status that the program ends with.

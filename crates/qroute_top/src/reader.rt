@@ -1,22 +1,16 @@
-//! The reader of the small form.
+//! The reader of the small form: registers, and then statements to the end of the text.
 
-ghost use Rattle.std.specs.Prelude.{◌≡◌, ℕ, ◌+◌, ◌^◌, ◌≤◌, ◌<◌, ◌∷◌, length, take, drop, None, Some, true, IfSome, MatchOption, IfOk, IfErr, OnErr, option_map, option_and_then, map};
-ghost use Rattle.std.specs.Char.{is_ascii_digit};
-ghost use Rattle.std.specs.List.{list_all};
-ghost use Rattle.std.specs.Str.Parse.{digits_value};
+ghost use Rattle.std.specs.Prelude.{◌≡◌, ℕ, ◌+◌, ◌^◌, ◌≤◌, ◌<◌, length, None, Some, IfOk, OnErr, IfErr, option_map, option_and_then};
+ghost use Rattle.std.specs.List.{flat_map};
 ghost use Rattle.unitary_model.specs.Tokens.{tokens};
-ghost use Rattle.qroute_top.specs.Reading.{IsMisread, angles, gate_named, is_numeral, number, number_of, operation_of, operations_of, program_of, register_of, strip, strip_all, wire_of};
+ghost use Rattle.unitary_model.specs.SmallProgram.{Spells, ops_of, statement_tokens};
+ghost use Rattle.qroute_top.specs.Reading.{IsInside, IsListed, IsUnlisted, IsUnread, bits_of, counted, has_room, is_free, marked, wires_of};
 
-use crate::lexeme::begins_with;
+use crate::phrase::{Misfit, expect_all, last_index};
+use crate::statement::statement;
 use crate::token::{Next, first_token};
 use std::alloc::{AllocError, AllocFailed, Global};
-use unitary_model::Op;
-
-/// The text isn't of the form from its last `left` bytes on.
-#[derive(Clone, Copy, Debug, PartialEq, Eq)]
-pub struct Misfit {
-    pub left: usize,
-}
+use unitary_model::{Op, Statement};
 
 /// A text that can't be read, or not for want of memory.
 #[derive(Clone, Copy, Debug, PartialEq, Eq)]
@@ -47,213 +41,100 @@ impl From<AllocError> for Unread {
     }
 }
 
-impl From<AllocFailed<Op>> for Unread {
+impl From<AllocFailed<Statement>> for Unread {
     ghost use Rattle.std.specs.Prelude.{◌≡◌};
     ghost use Rattle.qroute_top.specs.declared.reader.Unread.TheVariants.{NoMemory};
 
     ghost from_gives = { λ _ u. u ≡ NoMemory };
 
-    fn from(_error: AllocFailed<Op>) -> Unread {
+    fn from(_error: AllocFailed<Statement>) -> Unread {
         Unread::NoMemory
     }
 }
 
-/// The text after a token, which is this word.
-fn expect<'a>(text: &'a [u8], word: &[u8]) -> Result<&'a [u8], Misfit>
-    requires { length text.now < 2 ^ 32 }
-    ensures ok { IfOk result (λ rest. option_and_then (strip word.now) (tokens text.now) ≡ tokens rest.now) }
-    ensures err { OnErr result (option_and_then (strip word.now) (tokens text.now) ≡ None) }
-    ensures rest { IfOk result (λ rest. length rest.now ≤ length text.now) }
-    ensures place { IfErr result (λ e. e.left ≤ length text.now) }
+/// No operand is marked as measured.
+fn is_free(marks: &[bool], statement: Statement) -> bool
+    requires { IsInside (length marks.now) statement }
+    ensures { result ≡ is_free marks.now statement }
 {
-    match first_token(text) {
-        Next::Token { word: found, rest } => {
-            if found == word {
-                Ok(rest)
-            } else {
-                Err(Misfit {
-                    left: found.len() + rest.len(),
-                })
-            }
-        }
-        Next::End => Err(Misfit { left: 0 }),
-        Next::Bad { rest } => Err(Misfit { left: rest.len() }),
+    match statement {
+        Statement::Apply(
+            Op::U {
+                a: _,
+                b: _,
+                c: _,
+                q,
+            },
+        ) => !marks[q as usize],
+        Statement::Apply(Op::Cx { c, t }) => !marks[c as usize] && !marks[t as usize],
+        Statement::Measure { qubit: _, bit: _ } => true,
     }
 }
 
-/// The text after these words.
-fn expect_all<'a>(text: &'a [u8], words: &[&[u8]]) -> Result<&'a [u8], Misfit>
-    requires { length text.now < 2 ^ 32 }
-    ensures ok { IfOk result (λ rest. option_and_then (strip_all (map (λ w. w.now) words.now)) (tokens text.now) ≡ tokens rest.now) }
-    ensures err { OnErr result (option_and_then (strip_all (map (λ w. w.now) words.now)) (tokens text.now) ≡ None) }
-    ensures rest { IfOk result (λ rest. length rest.now ≤ length text.now) }
-    ensures place { IfErr result (λ e. e.left ≤ length text.now) }
+/// An operation is one of at most `limit`.
+fn has_room(count: usize, limit: usize, statement: Statement) -> bool
+    ensures { result ≡ has_room count limit statement }
 {
-    let mut rest = text;
-    'words: for word in words {
-        rest = expect(rest, word)?;
+    match statement {
+        Statement::Apply(_) => count < limit,
+        Statement::Measure { qubit: _, bit: _ } => true,
     }
-    Ok(rest)
 }
 
-fn has_digits_alone(word: &[u8]) -> bool
-    ensures { result ≡ list_all is_ascii_digit word.now }
+/// Marks the wire of a measurement.
+fn mark(marks: &mut [bool], statement: Statement)
+    requires { IsInside (length marks.old) statement }
+    ensures { marks.new ≡ marked marks.old statement }
 {
-    word.iter().all(|b| b.is_ascii_digit())
-}
-
-/// Decimal digits without a leading zero.
-fn is_numeral(word: &[u8]) -> bool
-    ensures { result ≡ is_numeral word.now }
-{
-    has_digits_alone(word) && (!begins_with(word, b'0') || word.len() == 1)
-}
-
-/// The number that a numeral writes, where it is at most `most`.
-#[tactic(auto, using(crate::proofs::ReadingLaws::numbers))]
-fn number_of(word: &[u8], most: u32) -> Option<u32>
-    requires { most < 1000000 }
-    ensures value { result ≡ number_of most word.now }
-    ensures bound { IfSome result (λ n. n ≤ most) }
-{
-    if word.is_empty() || word.len() > 9 || !is_numeral(word) {
-        return None;
+    if let Statement::Measure { qubit, bit: _ } = statement {
+        marks[qubit as usize] = true;
     }
-    let number = digits_value(word);
-    if number <= most { Some(number) } else { None }
 }
 
-/// The number that at most nine digits write.
-#[tactic(auto, using(crate::proofs::ReadingLaws::numbers))]
-fn digits_value(digits: &[u8]) -> u32
-    requires short { length digits.now ≤ 9 }
-    requires digits { list_all is_ascii_digit digits.now ≡ true }
-    ensures { result ≡ digits_value 10 digits.now }
+/// The number of operations after a statement.
+fn counted(count: usize, statement: Statement) -> usize
+    requires { count < 2 ^ 32 }
+    ensures { result ≡ counted count statement }
 {
-    let mut value = 0;
-    'digits: for digit in digits {
-        value = value * 10 + u32::from(*digit - b'0');
+    match statement {
+        Statement::Apply(_) => count + 1,
+        Statement::Measure { qubit: _, bit: _ } => count,
     }
-    value
 }
 
-/// The number that the text begins with, from `least` to `most`, and what follows it.
-fn number<'a>(text: &'a [u8], least: u32, most: u32) -> Result<(u32, &'a [u8]), Misfit>
+/// The statements up to the end of the text, with at most so many operations.
+fn statements(
+    alloc: Global,
+    text: &[u8],
+    wires: u32,
+    bits: u32,
+    limit: usize,
+) -> Result<Vec<Statement>, Unread>
     requires size { length text.now < 2 ^ 32 }
-    requires few { most < 1000000 }
-    ensures ok { IfOk result (λ r. option_and_then (number least most) (tokens text.now) ≡ option_map (λ ts. (r.0, ts)) (tokens r.1.now)) }
-    ensures err { OnErr result (option_and_then (number least most) (tokens text.now) ≡ None) }
-    ensures least { IfOk result (λ r. least ≤ r.0) }
-    ensures most { IfOk result (λ r. r.0 ≤ most) }
-    ensures rest { IfOk result (λ r. length r.1.now ≤ length text.now) }
-    ensures place { IfErr result (λ e. e.left ≤ length text.now) }
-{
-    match first_token(text) {
-        Next::Token { word, rest } => match number_of(word, most) {
-            Some(number) if number >= least => Ok((number, rest)),
-            _ => Err(Misfit {
-                left: word.len() + rest.len(),
-            }),
-        },
-        Next::End => Err(Misfit { left: 0 }),
-        Next::Bad { rest } => Err(Misfit { left: rest.len() }),
-    }
-}
-
-const OPENING: [&[u8]; 2] = [b"q", b"["];
-
-const CLOSING: [&[u8]; 2] = [b"]", b";"];
-
-/// The number in `q[..];`, from `least` to `most`, and what follows.
-fn wire<'a>(text: &'a [u8], least: u32, most: u32) -> Result<(u32, &'a [u8]), Misfit>
-    requires size { length text.now < 2 ^ 32 }
-    requires few { most < 1000000 }
-    ensures ok { IfOk result (λ r. option_and_then (wire_of least most) (tokens text.now) ≡ option_map (λ ts. (r.0, ts)) (tokens r.1.now)) }
-    ensures err { OnErr result (option_and_then (wire_of least most) (tokens text.now) ≡ None) }
-    ensures least { IfOk result (λ r. least ≤ r.0) }
-    ensures most { IfOk result (λ r. r.0 ≤ most) }
-    ensures rest { IfOk result (λ r. length r.1.now ≤ length text.now) }
-    ensures place { IfErr result (λ e. e.left ≤ length text.now) }
-{
-    let text = expect_all(text, &OPENING)?;
-    let (wire, text) = number(text, least, most)?;
-    let text = expect_all(text, &CLOSING)?;
-    Ok((wire, text))
-}
-
-/// The angles of a gate, in units of pi/4.
-#[derive(Clone, Copy, Debug, PartialEq, Eq)]
-pub struct GateAngles {
-    pub a: u8,
-    pub b: u8,
-    pub c: u8,
-}
-
-/// The gate of a name.
-fn gate_named(word: &[u8]) -> Option<GateAngles>
-    ensures { MatchOption result (gate_named word.now ≡ None) (λ g. gate_named word.now ≡ Some (angles g.a g.b g.c)) }
-{
-    let (a, b, c) = if word == b"h".as_slice() {
-        (2, 0, 4)
-    } else if word == b"x".as_slice() {
-        (4, 0, 4)
-    } else if word == b"t".as_slice() {
-        (0, 0, 1)
-    } else if word == b"s".as_slice() {
-        (0, 0, 2)
-    } else if word == b"z".as_slice() {
-        (0, 0, 4)
-    } else if word == b"sdg".as_slice() {
-        (0, 0, 6)
-    } else if word == b"tdg".as_slice() {
-        (0, 0, 7)
-    } else {
-        return None;
-    };
-    Some(GateAngles { a, b, c })
-}
-
-/// An operation from the token of its name on: the name, what follows it, and the greatest wire.
-#[tactic(auto, using(crate::proofs::ReadingLaws::operations))]
-fn operation<'a>(name: &[u8], text: &'a [u8], most: u32) -> Result<(Op, &'a [u8]), Misfit>
-    requires size { length text.now + length name.now < 2 ^ 32 }
-    requires few { most < 1000000 }
-    ensures ok { IfOk result (λ r. option_and_then (operation_of most) (option_map (λ ts. name.now ∷ ts) (tokens text.now))
-        ≡ option_map (λ ts. (r.0, ts)) (tokens r.1.now)) }
-    ensures err { OnErr result (option_and_then (operation_of most) (option_map (λ ts. name.now ∷ ts) (tokens text.now)) ≡ None) }
-    ensures rest { IfOk result (λ r. length r.1.now ≤ length text.now) }
-    ensures place { IfErr result (λ e. e.left ≤ length name.now + length text.now) }
-{
-    let Some(gate) = gate_named(name) else {
-        return Err(Misfit {
-            left: name.len() + text.len(),
-        });
-    };
-    let (q, rest) = wire(text, 0, most)?;
-    let GateAngles { a, b, c } = gate;
-    Ok((Op::U { a, b, c, q }, rest))
-}
-
-/// At most so many operations, to the end of the text.
-#[tactic(auto, using(crate::proofs::ReadingLaws::operations))]
-fn operations(alloc: Global, text: &[u8], most: u32, limit: usize) -> Result<Vec<Op>, Unread>
-    requires size { length text.now < 2 ^ 32 }
-    requires few { most < 1000000 }
-    ensures ok { IfOk result (λ v. option_and_then (operations_of most limit) (tokens text.now) ≡ Some v.items) }
-    ensures err { IfErr result (IsMisread (option_and_then (operations_of most limit) (tokens text.now)) (length text.now)) }
+    requires some { 0 < wires }
+    requires few { wires ≤ 64 }
+    requires short { bits ≤ 1024 }
+    requires room { limit < 2 ^ 32 }
+    ensures spelt { IfOk result (λ v. tokens text.now ≡ Some (flat_map statement_tokens v.items)) }
+    ensures listed { IfOk result (λ v. IsListed wires bits limit v.items) }
+    ensures err { IfErr result (IsUnlisted wires bits limit text.now) }
 {
     let mut list = Vec::new(alloc);
+    let mut marks = vec![in alloc; false; wires as usize]?;
+    let mut count = 0;
     let mut rest = text;
-    'operations: loop {
+    'statements: loop {
         match first_token(rest) {
             Next::Token { word, rest: tail } => {
-                if list.len() == limit {
+                let (statement, next) = statement(word, tail, wires - 1, bits)?;
+                if !is_free(&marks, statement) || !has_room(count, limit, statement) {
                     return Err(Unread::from(Misfit {
                         left: word.len() + tail.len(),
                     }));
                 }
-                let (op, next) = operation(word, tail, most)?;
-                list.push(op)?;
+                list.push(statement)?;
+                mark(&mut marks, statement);
+                count = counted(count, statement);
                 rest = next;
             }
             Next::End => return Ok(list),
@@ -272,34 +153,61 @@ const HEADING: [&[u8]; 7] = [
     b"qreg",
 ];
 
-/// The number of wires, and what follows the register.
-fn register(text: &[u8]) -> Result<(u32, &[u8]), Misfit>
-    requires size { length text.now < 2 ^ 32 }
-    ensures ok { IfOk result (λ r. option_and_then register_of (tokens text.now) ≡ option_map (λ ts. (r.0, ts)) (tokens r.1.now)) }
-    ensures err { OnErr result (option_and_then register_of (tokens text.now) ≡ None) }
+/// The number of wires, and what follows the quantum register.
+fn wires(text: &[u8]) -> Result<(u32, &[u8]), Misfit>
+    requires { length text.now < 2 ^ 32 }
+    ensures ok { IfOk result (λ r. option_and_then wires_of (tokens text.now) ≡ option_map (λ ts. (r.0, ts)) (tokens r.1.now)) }
+    ensures err { OnErr result (option_and_then wires_of (tokens text.now) ≡ None) }
     ensures some { IfOk result (λ r. 1 ≤ r.0) }
-    ensures bound { IfOk result (λ r. r.0 ≤ 64) }
+    ensures few { IfOk result (λ r. r.0 ≤ 64) }
     ensures rest { IfOk result (λ r. length r.1.now ≤ length text.now) }
     ensures place { IfErr result (λ e. e.left ≤ length text.now) }
 {
     let text = expect_all(text, &HEADING)?;
-    wire(text, 1, 64)
+    last_index(text, b"q", 1, 64)
 }
 
-/// The operations of a program, as the text spells them.
+/// The number of classical bits, 0 where there is no classical register, and what follows it.
+fn bits(text: &[u8]) -> Result<(u32, &[u8]), Misfit>
+    requires { length text.now < 2 ^ 32 }
+    ensures ok { IfOk result (λ r. option_and_then bits_of (tokens text.now) ≡ option_map (λ ts. (r.0, ts)) (tokens r.1.now)) }
+    ensures err { OnErr result (option_and_then bits_of (tokens text.now) ≡ None) }
+    ensures short { IfOk result (λ r. r.0 ≤ 1024) }
+    ensures rest { IfOk result (λ r. length r.1.now ≤ length text.now) }
+    ensures place { IfErr result (λ e. e.left ≤ length text.now) }
+{
+    match first_token(text) {
+        Next::Token { word, rest } => {
+            if word == b"creg".as_slice() {
+                last_index(rest, b"c", 1, 1024)
+            } else {
+                Ok((0, text))
+            }
+        }
+        _ => Ok((0, text)),
+    }
+}
+
+/// A program of the small form.
 #[derive(Drop)]
 pub struct Program {
     pub wires: u32,
-    pub list: Vec<Op>,
+    /// The number of classical bits; 0 where there is no classical register.
+    pub bits: u32,
+    pub list: Vec<Statement>,
 }
 
-/// Reads a program of at most so many operations.
+/// The program that the text spells, with at most `limit` operations; [`Unread::Misfit`] tells how many bytes were left where
+/// it stopped fitting.
 pub fn read_program(alloc: Global, text: &[u8], limit: usize) -> Result<Program, Unread>
-    requires { length text.now < 2 ^ 32 }
-    ensures ok { IfOk result (λ p. option_and_then (program_of limit) (tokens text.now) ≡ Some (record { wires = p.wires; ops = p.list.items })) }
-    ensures err { IfErr result (IsMisread (option_and_then (program_of limit) (tokens text.now)) (length text.now)) }
+    requires size { length text.now < 2 ^ 32 }
+    requires room { limit < 2 ^ 32 }
+    ensures spelt { IfOk result (λ p. Spells text.now (record { wires = p.wires; bits = p.bits; statements = p.list.items })) }
+    ensures few { IfOk result (λ p. length (ops_of p.list.items) ≤ limit) }
+    ensures err { IfErr result (IsUnread limit text.now) }
 {
-    let (wires, rest) = register(text)?;
-    let list = operations(alloc, rest, wires - 1, limit)?;
-    Ok(Program { wires, list })
+    let (wires, body) = wires(text)?;
+    let (bits, body) = bits(body)?;
+    let list = statements(alloc, body, wires, bits, limit)?;
+    Ok(Program { wires, bits, list })
 }

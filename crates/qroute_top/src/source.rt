@@ -20,7 +20,7 @@ const OPERATION_LIMIT: usize = 65_536;
 #[tactic(auto, using(crate::proofs::AcceptedLaws::accepted))]
 fn accept(alloc: Global, text: &[u8]) -> Result<Program, Stop>
     requires { length text.now ≤ text_limit }
-    ensures ok { IfOk result (λ p. IsAccepted text.now (record { wires = p.wires; ops = p.list.items })) }
+    ensures ok { IfOk result (λ p. IsAccepted text.now (record { wires = p.wires; bits = p.bits; statements = p.list.items })) }
     ensures err { IfErr result (IsTextCause text.now) }
 {
     match read_program(alloc, text, OPERATION_LIMIT) {
@@ -37,7 +37,7 @@ fn accept(alloc: Global, text: &[u8]) -> Result<Program, Stop>
 #[tactic(auto, using(crate::proofs::AcceptedLaws::read))]
 pub fn read_source<I: Source>(alloc: Global, input: &mut I) -> Result<Program, Stop>
     ensures ok { IfOk result (λ p. (text : List ℕ) × TakesAll (I.left input.old) (I.left input.new) text
-        × IsAccepted text (record { wires = p.wires; ops = p.list.items })) }
+        × IsAccepted text (record { wires = p.wires; bits = p.bits; statements = p.list.items })) }
     ensures err { IfErr result (IsReadCause (I.left input.old) (I.faults input.old) (I.faults input.new)) }
     ensures later { I.faults input.old ≤ I.faults input.new }
     ensures calm { (result ≡ Err Stop.Input → ⊥) → I.faults input.new ≡ I.faults input.old }

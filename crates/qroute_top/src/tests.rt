@@ -142,3 +142,102 @@ fn refuses_a_text_that_is_too_long(rt: HostRuntime) -> Result<(), Fail> {
     );
     Ok(())
 }
+
+const BELL: &str =
+    "OPENQASM 2.0;\ninclude \"qelib1.inc\";\nqreg q[2];\ncreg c[3];\nh q[0];\ncx q[0],q[1];\nmeasure q[1]->c[2];\nmeasure q[0]->c[0];\n";
+
+const GATES: &str =
+    "OPENQASM 2.0;\ninclude \"qelib1.inc\";\nqreg q[2];\nh q[0];\nx q[1];\ncx q[1],q[0];\nt q[0];\ns q[0];\nu1(3*pi/4) q[1];\nz q[0];\nu1(5*pi/4) q[1];\nsdg q[0];\ntdg q[0];\n";
+
+#[test]
+fn writes_each_gate_and_the_last_reads(rt: HostRuntime) -> Result<(), Fail> {
+    let alloc = rt.alloc();
+    let rows = [
+        // a pair in a Bell state, its measures in the order of the bits
+        (
+            BELL,
+            "OPENQASM 2.0;\ninclude \"qelib1.inc\";\nqreg q[2];\ncreg c[3];\nh q[0];\ncx q[0],q[1];\nmeasure q[0] -> c[0];\nmeasure q[1] -> c[2];\n",
+            "{\"barriers\":0,\"cx_after\":1,\"cx_before\":1,\"device\":2,\"final\":[0,1],\"format\":1,\"initial\":[0,1],\"phase\":0,\"qubits\":2,\"swaps\":0,\"t_after\":0,\"t_before\":0}\n",
+        ),
+        // the last measurement into a bit counts
+        (
+            "OPENQASM 2.0; include \"qelib1.inc\"; qreg q[2]; creg c[1]; measure q[0] -> c[0]; h q[1]; measure q[1] -> c[0];",
+            "OPENQASM 2.0;\ninclude \"qelib1.inc\";\nqreg q[2];\ncreg c[1];\nh q[1];\nmeasure q[1] -> c[0];\n",
+            "{\"barriers\":0,\"cx_after\":0,\"cx_before\":0,\"device\":2,\"final\":[0,1],\"format\":1,\"initial\":[0,1],\"phase\":0,\"qubits\":2,\"swaps\":0,\"t_after\":0,\"t_before\":0}\n",
+        ),
+        // each of the ten gates
+        (
+            GATES,
+            GATES,
+            "{\"barriers\":0,\"cx_after\":1,\"cx_before\":1,\"device\":2,\"final\":[0,1],\"format\":1,\"initial\":[0,1],\"phase\":0,\"qubits\":2,\"swaps\":0,\"t_after\":4,\"t_before\":4}\n",
+        ),
+    ];
+    for (text, written, told) in rows {
+        let mut input = MemSource::new(
+            Vec::from_slice(alloc, text.as_bytes())?,
+            999,
+            Vec::new(alloc),
+        );
+        let mut shelf = CalmShelf::empty();
+        let mut out = MemSink::new(alloc, 999, 999, Vec::new(alloc))?;
+        let mut report = MemSink::new(alloc, 999, 999, Vec::new(alloc))?;
+        let words = ["qroute", "opt"];
+        let answer = run(
+            alloc,
+            words.as_slice(),
+            &mut input,
+            &mut shelf,
+            &mut out,
+            &mut report,
+        );
+        assert_eq!(rt; answer, 0, "{text}");
+        assert_eq!(rt; out.as_slice(), written.as_bytes(), "{text}");
+        assert_eq!(rt; report.as_slice(), told.as_bytes(), "{text}");
+    }
+    Ok(())
+}
+
+#[test]
+fn refuses_what_isnt_of_the_form(rt: HostRuntime) -> Result<(), Fail> {
+    let alloc = rt.alloc();
+    // what follows the registers `q[2]` and `c[1]`, from the place 54 on, and the place from which on it doesn't fit
+    let rows = [
+        ("cx q[1],q[1];", "62"),
+        ("measure q[0] -> c[0]; h q[0];", "76"),
+        ("measure q[0] -> c[0]; cx q[1],q[0];", "76"),
+        ("measure q[0] -> c[1];", "72"),
+        ("measure q[2] -> c[0];", "64"),
+        ("u1(1*pi/4) q[0];", "57"),
+        ("u1(3*pi/8) q[0];", "62"),
+        ("creg c[1];", "54"),
+    ];
+    for (statements, place) in rows {
+        let mut text = String::from_str(
+            alloc,
+            "OPENQASM 2.0;include \"qelib1.inc\";qreg q[2];creg c[1];",
+        )?;
+        text.push_str(statements)?;
+        let mut input = MemSource::new(text.into_bytes(), 999, Vec::new(alloc));
+        let mut shelf = CalmShelf::empty();
+        let mut out = MemSink::new(alloc, 999, 999, Vec::new(alloc))?;
+        let mut report = MemSink::new(alloc, 999, 999, Vec::new(alloc))?;
+        let words = ["qroute", "opt"];
+        let answer = run(
+            alloc,
+            words.as_slice(),
+            &mut input,
+            &mut shelf,
+            &mut out,
+            &mut report,
+        );
+        assert_eq!(rt; answer, 3, "{statements}");
+        assert!(rt; out.as_slice().is_empty());
+        let mut told = String::new(alloc);
+        write!(
+            told,
+            "{{\"code\":12,\"fault\":\"Syntax\",\"place\":{place},\"status\":3}}\n"
+        )?;
+        assert_eq!(rt; report.as_slice(), told.as_bytes(), "{statements}");
+    }
+    Ok(())
+}

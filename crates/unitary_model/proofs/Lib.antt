@@ -18,3 +18,5 @@ pub mod PlacementLaws
 pub mod RealisesLaws
 pub mod HadamardWindows
 pub mod TokenLaws
+pub mod NumeralLaws
+pub mod StatementLaws

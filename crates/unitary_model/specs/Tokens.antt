@@ -2,6 +2,7 @@
 --   is_space, is_word_byte, is_sign   classes of bytes
 --   begins_with       the text's first byte is this one
 --   word_len          a word, taken whole; one that begins with a capital must be `OPENQASM`, `U` or `CX`
+--   is_numeral        decimal digits without a leading zero
 --   exponent_len      `e` or `E`, a sign or none, digits
 --   number_len        a real, or a whole number without a leading zero
 --   quoted_len        a text between quotes, on one line
@@ -11,7 +12,7 @@
 --   tokens_within     the tokens of a text of at most so many lexemes
 --   tokens            the tokens of a text, in order; none where at some place no lexeme begins
 use Rattle.std.specs.Prelude.{ℕ, zero, suc, ◌+◌, ◌==◌, ◌&&◌, ◌||◌, Bool, true, false, not, List, [], ◌∷◌, Option, Some, None, if◌then◌else◌, codes, drop, take, length, option_map}
-use Rattle.std.specs.List.{prefix_len}
+use Rattle.std.specs.List.{list_all, prefix_len}
 use Rattle.std.specs.Char.{is_ascii_alphabetic, is_ascii_alphanumeric, is_ascii_digit, is_ascii_uppercase}
 use Rattle.std.specs.Str.{bytes_eq}
 
@@ -45,6 +46,10 @@ word_len b t = let n = prefix_len is_word_byte t in
 -- a sign of an exponent
 abbrev pub exponent_sign_len : Text → ℕ
 exponent_sign_len t = if begins_with 43 t || begins_with 45 t then 1 else 0
+
+-- decimal digits without a leading zero; a whole number is one with a digit
+abbrev pub is_numeral : Text → Bool
+is_numeral t = list_all is_ascii_digit t && (not (begins_with 48 t) || (length t == 1))
 
 abbrev pub exponent_len : Text → ℕ
 exponent_len t = if begins_with 101 t || begins_with 69 t

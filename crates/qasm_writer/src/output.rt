@@ -1,0 +1,22 @@
+//! What is written.
+
+use circuit_list::Circuit;
+
+/// A classical register.
+#[derive(Clone, Copy)]
+pub struct Register<'a> {
+    pub name: &'a str,
+    /// The number of its bits.
+    pub size: u32,
+}
+
+/// A program to be written.
+#[derive(Clone, Copy)]
+pub struct Output<'a> {
+    /// The gates, on the qubits of the device.
+    pub body: &'a Circuit,
+    /// The classical registers, in order of declaration.
+    pub registers: &'a [Register<'a>],
+    /// For each bit the qubit that is measured into it, or none.
+    pub reads: &'a [Option<u32>],
+}
