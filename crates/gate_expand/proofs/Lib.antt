@@ -1,0 +1,4 @@
+pub mod TurnedLaws
+pub mod RowLaws
+pub mod PathRows
+pub mod ExpandedLaws
