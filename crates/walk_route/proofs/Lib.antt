@@ -1,0 +1,8 @@
+pub mod RestLaws
+pub mod FrontLaws
+pub mod EmissionLaws
+pub mod ReachedLaws
+pub mod UnderwayLaws
+pub mod WalkLaws
+pub mod WriteLaws
+pub mod ReadyLaws

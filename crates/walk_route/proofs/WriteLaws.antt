@@ -1,0 +1,144 @@
+-- Gates that are written one by one.
+--   fine_more            a gate on more wires
+--   pushed-more          one gate more
+--   cx-straight, cx-turned       a CNOT, along its edge and turned round
+--   one-written, emitted-h, -x, -p, -cx, same_written    a gate on the qubits of its wires
+--   swap-made            a swap;  IsFitting-swapped
+use Rattle.std.proofs.Common.{◌≡◌, ℕ, ◌+◌, ◌%◌, ◌<◌, ◌≤◌, true, false, cond, List, [], ◌∷◌, ◌++◌, map, length, slice_index, refl, sym, ◌∙◌, ap, arith, append_assoc}
+use Rattle.std.proofs.lemmas.List.{length-append}
+use Rattle.circuit_list.specs.declared.Gate.{Gate}
+use Rattle.circuit_list.specs.declared.Gate.TheVariants.{H, X, P, Cx}
+use Rattle.circuit_list.specs.Body.{Body}
+use Rattle.circuit_list.specs.Gates.{IsFine}
+use Rattle.coupling_map.specs.Walks.{is_edge}
+use Rattle.placement.specs.Exchange.{exchanged}
+use Rattle.unitary_model.specs.Placement.{IsPlacement}
+use Rattle.walk_route.specs.declared.router.Routed.{Routed}
+use Rattle.walk_route.specs.Emission.{cx_gates, cx_turn, low_order, swap_gates, swap_turn, emitted, emitted_turn}
+use Rattle.walk_route.specs.Underway.{HasSwapped, HasWritten, IsFitting}
+
+pub fine_more : (n m : ℕ) (g : Gate) → n ≤ m → IsFine n g → IsFine m g
+fine_more n m (H q) le f = omega (arith, f)
+fine_more n m (X q) le f = omega (arith, f)
+fine_more n m (P k q) le f = (omega (arith, f.0), f.1)
+fine_more n m (Cx c t) le f = (omega (arith, f.0), (omega (arith, f.1.0), f.1.1))
+
+-- b is a with the gates gs behind the others
+pub record IsPushed (a b : Body) (gs : List Gate) : Type 0 where
+  pub wires : b.wires ≡ a.wires
+  pub gates : b.gates ≡ a.gates ++ gs
+
+pub pushed-one : (a b : Body) (g : Gate) → b ≡ record { wires = a.wires; gates = a.gates ++ g ∷ [] } → IsPushed a b (g ∷ [])
+pushed-one a b g e = record { wires = ap (λ (x : Body). x.wires) e; gates = ap (λ (x : Body). x.gates) e }
+
+pub pushed-more : (a b c : Body) (gs : List Gate) (g : Gate) → IsPushed a b gs → c ≡ record { wires = b.wires; gates = b.gates ++ g ∷ [] } → IsPushed a c (gs ++ g ∷ [])
+pushed-more a b c gs g h e = record {
+  wires = ap (λ (x : Body). x.wires) e ∙ h.wires;
+  gates = ap (λ (x : Body). x.gates) e ∙ ap (λ xs. xs ++ g ∷ []) h.gates ∙ append_assoc a.gates gs (g ∷ []);
+}
+
+same_turn : (t : ℕ) → t < 8 → t ≡ (t + 0) % 8
+same_turn t lt = grind arith
+
+-- one gate without a turn
+plain : (old : Routed) (b : Body) (gs hs : List Gate) (k : ℕ) → old.turn < 8 → IsPushed old.body b gs → gs ≡ hs → k ≡ 0
+    → HasWritten hs k old (record { body = b; last = old.last; swaps = old.swaps; turn = old.turn })
+plain old b gs hs k lt h e z = record {
+  wires = h.wires;
+  gates = h.gates ∙ ap (λ xs. old.body.gates ++ xs) e;
+  turn = same_turn old.turn lt ∙ ap (λ n. (old.turn + n) % 8) (sym z);
+  last = refl;
+  swaps = refl;
+}
+
+pub cx-straight : (es : List (ℕ × ℕ)) (c t : ℕ) (old : Routed) (b : Body) → is_edge es c t ≡ true → old.turn < 8 → b ≡ record { wires = old.body.wires; gates = old.body.gates ++ Cx c t ∷ [] }
+    → HasWritten (cx_gates es c t) (cx_turn es c t) old (record { body = b; last = old.last; swaps = old.swaps; turn = old.turn })
+unfolding cx_gates cx_turn
+cx-straight es c t old b edge lt e =
+    plain old b (Cx c t ∷ []) _ _ lt (pushed-one old.body b (Cx c t) e) (λ z. cond (sym edge z) (Cx c t ∷ []) (H c ∷ H t ∷ Cx t c ∷ H c ∷ H t ∷ [])) (λ z. cond (edge z) 0 4)
+
+pub cx-turned : (es : List (ℕ × ℕ)) (c t : ℕ) (old : Routed) (b1 b2 b3 b4 b5 : Body) (k : ℕ) → is_edge es c t ≡ false
+    → b1 ≡ record { wires = old.body.wires; gates = old.body.gates ++ H c ∷ [] }
+    → b2 ≡ record { wires = b1.wires; gates = b1.gates ++ H t ∷ [] }
+    → b3 ≡ record { wires = b2.wires; gates = b2.gates ++ Cx t c ∷ [] }
+    → b4 ≡ record { wires = b3.wires; gates = b3.gates ++ H c ∷ [] }
+    → b5 ≡ record { wires = b4.wires; gates = b4.gates ++ H t ∷ [] }
+    → k ≡ (old.turn + 4) % 8
+    → HasWritten (cx_gates es c t) (cx_turn es c t) old (record { body = b5; last = old.last; swaps = old.swaps; turn = k })
+unfolding cx_gates cx_turn
+cx-turned es c t old b1 b2 b3 b4 b5 k edge e1 e2 e3 e4 e5 ek =
+    let p1 = pushed-one old.body b1 (H c) e1 in
+    let p2 = pushed-more old.body b1 b2 (H c ∷ []) (H t) p1 e2 in
+    let p3 = pushed-more old.body b2 b3 (H c ∷ H t ∷ []) (Cx t c) p2 e3 in
+    let p4 = pushed-more old.body b3 b4 (H c ∷ H t ∷ Cx t c ∷ []) (H c) p3 e4 in
+    let p5 = pushed-more old.body b4 b5 (H c ∷ H t ∷ Cx t c ∷ H c ∷ []) (H t) p4 e5 in
+    record {
+      wires = p5.wires;
+      gates = p5.gates ∙ (λ z. old.body.gates ++ cond (sym edge z) (Cx c t ∷ []) (H c ∷ H t ∷ Cx t c ∷ H c ∷ H t ∷ []));
+      turn = ek ∙ (λ z. (old.turn + cond (sym edge z) 0 4) % 8);
+      last = refl;
+      swaps = refl;
+    }
+
+-- ---- one gate
+pub one-written : (es : List (ℕ × ℕ)) (old : Routed) (b : Body) (g placed : Gate) → old.turn < 8 → emitted es old.last g ≡ placed ∷ [] → emitted_turn es old.last g ≡ 0
+    → b ≡ record { wires = old.body.wires; gates = old.body.gates ++ placed ∷ [] }
+    → HasWritten (emitted es old.last g) (emitted_turn es old.last g) old (record { body = b; last = old.last; swaps = old.swaps; turn = old.turn })
+one-written es old b g placed lt e z h = plain old b (placed ∷ []) _ _ lt (pushed-one old.body b placed h) (sym e) z
+
+pub emitted-h : (es : List (ℕ × ℕ)) (q : List ℕ) (g : Gate) (w p : ℕ) → g ≡ H w → p ≡ slice_index q w → (emitted es q g ≡ H p ∷ []) × (emitted_turn es q g ≡ 0)
+unfolding emitted emitted_turn
+emitted-h es q g w p e f = (ap (emitted es q) e ∙ ap (λ x. H x ∷ []) (sym f), ap (emitted_turn es q) e)
+
+pub emitted-x : (es : List (ℕ × ℕ)) (q : List ℕ) (g : Gate) (w p : ℕ) → g ≡ X w → p ≡ slice_index q w → (emitted es q g ≡ X p ∷ []) × (emitted_turn es q g ≡ 0)
+unfolding emitted emitted_turn
+emitted-x es q g w p e f = (ap (emitted es q) e ∙ ap (λ x. X x ∷ []) (sym f), ap (emitted_turn es q) e)
+
+pub emitted-p : (es : List (ℕ × ℕ)) (q : List ℕ) (g : Gate) (k w p : ℕ) → g ≡ P k w → p ≡ slice_index q w → (emitted es q g ≡ P k p ∷ []) × (emitted_turn es q g ≡ 0)
+unfolding emitted emitted_turn
+emitted-p es q g k w p e f = (ap (emitted es q) e ∙ ap (λ x. P k x ∷ []) (sym f), ap (emitted_turn es q) e)
+
+pub emitted-cx : (es : List (ℕ × ℕ)) (q : List ℕ) (g : Gate) (c t u v : ℕ) → g ≡ Cx c t → u ≡ slice_index q c → v ≡ slice_index q t → (cx_gates es u v ≡ emitted es q g) × (cx_turn es u v ≡ emitted_turn es q g)
+unfolding emitted emitted_turn
+emitted-cx es q g c t u v e f h = ((λ z. cx_gates es (f z) (h z)) ∙ ap (emitted es q) (sym e), (λ z. cx_turn es (f z) (h z)) ∙ ap (emitted_turn es q) (sym e))
+
+pub same_written : (gs hs : List Gate) (k l : ℕ) (old new : Routed) → gs ≡ hs → k ≡ l → HasWritten gs k old new → HasWritten hs l old new
+same_written gs hs k l old new e f h = record {
+  wires = h.wires;
+  gates = h.gates ∙ ap (λ xs. old.body.gates ++ xs) e;
+  turn = h.turn ∙ ap (λ n. (old.turn + n) % 8) f;
+  last = h.last;
+  swaps = h.swaps;
+}
+
+-- ---- a swap
+pub swap-made : (es : List (ℕ × ℕ)) (a b : ℕ) (p : ℕ × ℕ) (old r : Routed) (b1 b3 : Body) (last : List ℕ) → p ≡ low_order es a b
+    → b1 ≡ record { wires = old.body.wires; gates = old.body.gates ++ Cx p.0 p.1 ∷ [] }
+    → HasWritten (cx_gates es p.1 p.0) (cx_turn es p.1 p.0) (record { body = b1; last = old.last; swaps = old.swaps; turn = old.turn }) r
+    → b3 ≡ record { wires = r.body.wires; gates = r.body.gates ++ Cx p.0 p.1 ∷ [] }
+    → last ≡ map (exchanged a b) r.last
+    → HasSwapped es a b old (record { body = b3; last = last; swaps = r.swaps + 1; turn = r.turn })
+unfolding swap_gates swap_turn
+swap-made es a b p old r b1 b3 last e e1 h e3 el =
+    let middle : List Gate = cx_gates es p.1 p.0 in
+    let p1 = pushed-one old.body b1 (Cx p.0 p.1) e1 in
+    record {
+      wires = ap (λ (x : Body). x.wires) e3 ∙ h.wires ∙ p1.wires;
+      gates = ap (λ (x : Body). x.gates) e3 ∙ ap (λ xs. xs ++ Cx p.0 p.1 ∷ []) (h.gates ∙ ap (λ xs. xs ++ middle) p1.gates ∙ append_assoc old.body.gates (Cx p.0 p.1 ∷ []) middle)
+          ∙ append_assoc old.body.gates (Cx p.0 p.1 ∷ middle) (Cx p.0 p.1 ∷ [])
+          ∙ ap (λ (o : ℕ × ℕ). old.body.gates ++ (Cx o.0 o.1 ∷ cx_gates es o.1 o.0 ++ Cx o.0 o.1 ∷ [])) e;
+      turn = h.turn ∙ ap (λ (o : ℕ × ℕ). (old.turn + cx_turn es o.1 o.0) % 8) e;
+      last = el ∙ ap (map (exchanged a b)) h.last;
+      swaps = ap (λ n. n + 1) h.swaps;
+    }
+
+pub IsFitting-swapped : (es : List (ℕ × ℕ)) (size a b : ℕ) (old new : Routed) → IsFitting size old → HasSwapped es a b old new → IsPlacement size new.last → IsFitting size new
+unfolding swap_gates
+IsFitting-swapped es size a b old new f h placed =
+    let p = low_order es a b in
+    record {
+      wires = h.wires ∙ f.wires;
+      placed = placed;
+      below = omega (arith, h.turn);
+      counted = omega (arith, f.counted, h.swaps, ap length h.gates, length-append old.body.gates (Cx p.0 p.1 ∷ cx_gates es p.1 p.0 ++ Cx p.0 p.1 ∷ []));
+    }

@@ -1,0 +1,4 @@
+pub mod Edges
+pub mod Emission
+pub mod Front
+pub mod Underway
