@@ -1,11 +1,11 @@
-//! The program `qroute`: the real input and output, and the top call over them.
+//! The program `qroute`: the real input, files and output, and the top call over them.
 //!
 //! The words of the command line and standard input go in; the written program comes out on standard output, and the report
-//! line, or the line of a fault, on standard error. The status is the top call's answer. What the words, the input and the
-//! outputs really hold is the trusted edge: no contract speaks of it.
+//! line, or the line of a fault, on standard error. The status is the top call's answer. What the words, the input, the
+//! files and the outputs really hold is the trusted edge: no contract speaks of it.
 #![tactic(auto)]
 
-use outside_io::{CalmShelf, StdSink, StdSource};
+use outside_io::{DirShelf, StdSink, StdSource};
 use std::alloc::AllocError;
 use std::env;
 use std::io::ErrorKind;
@@ -26,7 +26,7 @@ fn perform(rt: &HostRuntime) -> Result<u8, AllocError> {
         words.push(text.as_str())?;
     }
     let mut input = StdSource::new(rt.reader());
-    let mut shelf = CalmShelf::empty();
+    let mut shelf = DirShelf::new(rt);
     let mut out = StdSink::new(rt.stdout());
     let mut report = StdSink::new(rt.stderr());
     Ok(qroute_top::run(

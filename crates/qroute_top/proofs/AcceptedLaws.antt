@@ -1,7 +1,7 @@
 -- What is read of a text decides whether it is accepted.
 --   accepted-read     a program that is read makes the text accepted
 --   misspelt-unread   where none can be read, none is spelt
-use Rattle.std.proofs.Common.{◌≡◌, ℕ, ◌+◌, ◌<◌, ◌≤◌, List, Option, Some, None, refl, ◌∙◌, length, replicate, arith, append-nil}
+use Rattle.std.proofs.Common.{ℕ, ◌+◌, ◌<◌, ◌≤◌, List, Option, Some, None, refl, ◌∙◌, length, replicate, arith, append-nil}
 use Rattle.std.proofs.lemmas.Grind.{common_steps}
 use Rattle.outside_io.specs.Bytes.{IsLongerThan, TakesAll, Tells}
 use Rattle.unitary_model.specs.Tokens.{Text}
@@ -43,6 +43,9 @@ pub IsReadCause-text : (old new : Option (List ℕ)) (before after : ℕ) (sourc
 IsReadCause-text old new before after source stop.NoMemory t c = tt
 IsReadCause-text old new before after source stop.Words t c = absurd c
 IsReadCause-text old new before after source stop.Input t c = absurd c
+IsReadCause-text old new before after source stop.Shelf t c = absurd c
+IsReadCause-text old new before after source stop.Absent t c = absurd c
+IsReadCause-text old new before after source (stop.Device r) t c = absurd c
 IsReadCause-text old new before after source (stop.Program r) t c = (source, Tells-taken old new source t, c)
 
 pub ruleset accepted = (accepted-read, misspelt-unread)

@@ -12,7 +12,6 @@ use Rattle.unitary_model.specs.declared.Op.{Op}
 use Rattle.unitary_model.specs.declared.Op.TheVariants.{U}
 use Rattle.unitary_model.specs.declared.Statement.{Statement}
 use Rattle.unitary_model.specs.declared.Statement.TheVariants.{Apply, Measure}
-use Rattle.unitary_model.specs.Placement.{identity}
 use Rattle.unitary_model.specs.SmallProgram.{IsStatement, gate_tokens, last_read, ops_of, or_else, reads_of}
 use Rattle.unitary_model.proofs.StatementLaws.{gate_cases, ops_of-append}
 use Rattle.circuit_list.specs.declared.Gate.{Gate}

@@ -5,5 +5,6 @@ pub mod SpellingLaws
 pub mod ListingLaws
 pub mod ExpansionLaws
 pub mod AcceptedLaws
+pub mod DeviceLaws
 pub mod PlanLaws
 pub mod RunLaws

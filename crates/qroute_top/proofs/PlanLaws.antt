@@ -1,16 +1,14 @@
 -- What is made for an accepted program is what is to be delivered.
---   identity-more     one wire more
 --   wires_below, plain_of     the operations of a circuit
---   read_in_place     a read of a wire that stays
---   Makes-same        a circuit of the source's operations and reads is made as it should be
-use Rattle.std.proofs.Common.{◌≡◌, ℕ, zero, suc, ◌+◌, ◌*◌, ◌<◌, ◌≤◌, ◌==◌, Bool, true, false, if◌then◌else◌, List, [], ◌∷◌, ◌++◌, Option, Some, None, All, map, refl, sym, ap, ◌∙◌, subst, arith, zero-add, inl, inr, length}
-use Rattle.std.proofs.lemmas.List.FromFn.{get_or-range_with_len, length-map-range_with_len, map-range_with_len_more}
-use Rattle.std.proofs.lemmas.List.{map-id}
+--   reads_there, reads_wider, length-reads_of     the reads of a program
+--   Makes-planned, MakesInPlace-planned, MakesOnDevice-planned
+--                             a circuit that stands for the source is made as it should be
+use Rattle.std.proofs.Common.{◌≡◌, ℕ, zero, suc, ◌+◌, ◌*◌, ◌<◌, ◌≤◌, ◌==◌, Bool, true, false, if◌then◌else◌, List, [], ◌∷◌, Option, Some, None, All, map, refl, sym, ap, ◌∙◌, arith, inl, inr, length}
+use Rattle.std.proofs.lemmas.List.FromFn.{length-map-range_with_len}
+use Rattle.std.proofs.lemmas.List.{length-map}
 use Rattle.std.proofs.lemmas.List.Elements.{recursion_from_All, All-from_recursion}
 use Rattle.std.specs.List.{AllByRecursion, range_with_len}
-use Rattle.std.specs.Prelude.{option_map, slice_index}
 use Rattle.unitary_model.specs.declared.Op.{Op}
-use Rattle.unitary_model.specs.declared.Op.TheVariants.{U, Cx as OpCx}
 use Rattle.unitary_model.specs.Operations.{IsPlain, WiresBelow, cx_count, t_count}
 use Rattle.unitary_model.specs.Placement.{identity}
 use Rattle.unitary_model.specs.Realises.{Realises}
@@ -21,15 +19,13 @@ use Rattle.unitary_model.proofs.RealisesLaws.{Realises_itself}
 use Rattle.circuit_list.specs.declared.Gate.{Gate}
 use Rattle.circuit_list.specs.declared.Gate.TheVariants.{H, X, P, Cx}
 use Rattle.circuit_list.specs.Gates.{IsFine, ops}
-use Rattle.qasm_writer.specs.Outputs.{IsRead, IsWritten}
-use Rattle.route_report.specs.declared.lines.Report.{Report}
-use Rattle.route_report.specs.Lines.{report_line}
-use Rattle.qroute_top.specs.declared.commands.Command.TheVariants.{Opt}
-use Rattle.qroute_top.specs.Delivered.{Makes, Reports, placed_read}
-
-pub identity-more : (n : ℕ) → identity (n + 1) ≡ identity n ++ n ∷ []
-identity-more n =
-    sym (map-id (identity (n + 1))) ∙ map-range_with_len_more (λ i. i) 0 n n (zero-add n) ∙ ap (λ p. p ++ n ∷ []) (map-id (identity n))
+use Rattle.coupling_map.specs.Coupling.{Coupling}
+use Rattle.qasm_writer.specs.Outputs.{IsRead}
+use Rattle.walk_route.specs.Edges.{FollowsEdges}
+use Rattle.walk_route.specs.declared.router.Routed.{Routed}
+use Rattle.qroute_top.specs.declared.plan.Counts.{Counts}
+use Rattle.qroute_top.specs.Delivered.{Makes, MakesInPlace, MakesOnDevice, placed_read}
+use Rattle.qroute_top.specs.Plans.{IsPlanned}
 
 -- ---- the operations of a circuit
 below_of : (n : ℕ) (gs : List Gate) → AllByRecursion (IsFine n) gs → WiresBelow n (ops gs)
@@ -76,38 +72,80 @@ reads_there p small =
 pub length-reads_of : (m : ℕ) (ss : List Statement) → length (reads_of m ss) ≡ m
 length-reads_of m ss = length-map-range_with_len (last_read ss) 0 m
 
-in_place_by : (n : ℕ) (rs : List (Option ℕ)) → AllByRecursion (IsRead n) rs → map (placed_read (identity n)) rs ≡ rs
-in_place_by n [] h = refl
-in_place_by n (None ∷ rs) h = ap (λ x. None ∷ x) (in_place_by n rs h.1)
-in_place_by n (Some q ∷ rs) h =
-    let here : slice_index (identity n) q ≡ q = get_or-range_with_len 0 n q 0 h.0 ∙ zero-add q in
-    rw here (ap (λ x. Some q ∷ x) (in_place_by n rs h.1))
+-- reads of fewer wires are reads of more
+pub reads_wider : (n m : ℕ) (rs : List (Option ℕ)) → n ≤ m → All (IsRead n) rs → All (IsRead m) rs
+reads_wider n m rs fits h = All-from_recursion (IsRead m) rs (by_list rs (recursion_from_All (IsRead n) rs h))
+  where
+    wider : (r : Option ℕ) → IsRead n r → IsRead m r
+    wider None h = tt
+    wider (Some q) h = omega (arith, h)
 
--- where no wire moves, no read does
-pub reads_in_place : (n : ℕ) (rs : List (Option ℕ)) → All (IsRead n) rs → map (placed_read (identity n)) rs ≡ rs
-reads_in_place n rs h = in_place_by n rs (recursion_from_All (IsRead n) rs h)
+    by_list : (xs : List (Option ℕ)) → AllByRecursion (IsRead n) xs → AllByRecursion (IsRead m) xs
+    by_list [] h = tt
+    by_list (r ∷ xs) h = (wider r h.0, by_list xs h.1)
 
--- ---- a circuit of the source's operations and reads
-pub Makes-same : (p : SmallProgram) (n : ℕ) (us : List Op) (rs : List (Option ℕ)) (text line : List ℕ) (r : Report) → IsSmallProgram p
-    → n ≡ p.wires → us ≡ ops_of p.statements → rs ≡ reads_of p.bits p.statements → All IsPlain us → WiresBelow n us → IsWritten n us rs text
-    → line ≡ report_line r → Reports us n us n r → r.initial ≡ identity n → r.last ≡ identity n → r.phase ≡ 0 → r.swaps ≡ 0 → Makes Opt p text line
-Makes-same p n us rs text line r small e f g plain below w l numbers first last phase swaps =
-    let some : 0 < n = rw e small.some in
-    let there : All (IsRead n) rs = rw (g, e) (reads_there p small) in
-    let itself : Realises us n us n (identity n) (identity n) 0 = Realises_itself us n n (omega arith) below in
+-- ---- a circuit that stands for the source
+pub Makes-planned : (p : SmallProgram) (c : Counts) (first : List ℕ) (rs : List (Option ℕ)) (t : Routed) (us : List Op) (text line : List ℕ) → IsSmallProgram p
+    → 0 < t.body.wires → All (IsFine t.body.wires) t.body.gates → us ≡ ops_of p.statements
+    → c.qubits ≡ p.wires → c.cx ≡ cx_count us → c.t ≡ t_count us → rs ≡ reads_of p.bits p.statements
+    → Realises us p.wires (ops t.body.gates) t.body.wires first t.last t.turn
+    → t_count (ops t.body.gates) ≡ t_count us → cx_count (ops t.body.gates) ≡ cx_count us + 3 * t.swaps
+    → (plan : IsPlanned c first rs t text line) → Makes p plan.written.program plan.told text line
+Makes-planned p c first rs t us text line small some fine e qubits cx ts g realises t_same cx_more plan =
+    let w = plan.written in
+    let r = plan.numbers in
     record {
-      target = w.program;
       written = w.spelt some;
-      bits = w.bits ∙ ap length g ∙ length-reads_of p.bits p.statements;
-      plain = rw w.ops plain;
-      told = r;
-      report = l;
-      numbers = rw (w.ops, w.wires, ← f, ← e) numbers;
-      unitary = rw (w.ops, w.wires, ← f, ← e, first, last, phase) itself;
-      placed = (w.wires ∙ e, swaps, rw (← e) first, rw (← e) last);
-      reads = rw (w.reads, ← g, last) (sym (reads_in_place n rs there));
-      t_gates = rw (w.ops, ← f) (omega arith);
-      cx_gates = rw (w.ops, ← f) (omega arith);
+      bits = w.bits ∙ length-map rs (placed_read t.last) ∙ ap length g ∙ length-reads_of p.bits p.statements;
+      plain = rw w.ops (plain_of t.body.wires t.body.gates fine);
+      report = plan.report;
+      numbers = record {
+        barriers = r.barriers;
+        cx_after = r.cx_after ∙ ap cx_count (sym w.ops);
+        cx_before = r.cx_before ∙ cx ∙ ap cx_count e;
+        device = r.device ∙ sym w.wires;
+        qubits = r.qubits ∙ qubits;
+        t_after = r.t_after ∙ ap t_count (sym w.ops);
+        t_before = r.t_before ∙ ts ∙ ap t_count e;
+      };
+      unitary = rw (w.ops, w.wires, ← e, r.initial, r.last, r.phase) realises;
+      reads = w.reads ∙ ap (λ (p0 : List ℕ). map (placed_read p0) rs) (sym r.last) ∙ ap (map (placed_read plan.told.last)) g;
+      t_gates = rw (w.ops, ← e) (omega (arith, t_same));
+      cx_gates = rw (w.ops, ← e, r.swaps) (omega (arith, cx_more));
     }
 
-pub ruleset identities = (identity-more)
+pub MakesInPlace-planned : (p : SmallProgram) (c : Counts) (first : List ℕ) (rs : List (Option ℕ)) (t : Routed) (text line : List ℕ) → IsSmallProgram p
+    → t.body.wires ≡ p.wires → All (IsFine t.body.wires) t.body.gates → ops t.body.gates ≡ ops_of p.statements
+    → c.qubits ≡ t.body.wires → c.cx ≡ cx_count (ops t.body.gates) → c.t ≡ t_count (ops t.body.gates) → rs ≡ reads_of p.bits p.statements
+    → first ≡ identity p.wires → t.last ≡ identity p.wires → t.turn ≡ 0 → t.swaps ≡ 0
+    → IsPlanned c first rs t text line → MakesInPlace p text line
+MakesInPlace-planned p c first rs t text line small wires fine e qubits cx ts g starts ends turn swaps plan =
+    let us = ops t.body.gates in
+    let itself = Realises_itself us t.body.wires t.body.wires (omega arith) (wires_below t.body.wires t.body.gates fine) in
+    let realises : Realises us p.wires us t.body.wires first t.last t.turn = rw (starts, ends, turn, ← wires) itself in
+    let none : cx_count us ≡ cx_count us + 3 * t.swaps = rw swaps (omega arith) in (
+      plan.written.program,
+      plan.told,
+      Makes-planned p c first rs t us text line small (rw wires small.some) fine e (qubits ∙ wires) cx ts g realises refl none plan,
+      record {
+        wires = plan.written.wires ∙ wires;
+        swaps = plan.numbers.swaps ∙ swaps;
+        initial = plan.numbers.initial ∙ starts;
+        last = plan.numbers.last ∙ ends;
+      },
+    )
+
+pub MakesOnDevice-planned : (p : SmallProgram) (d : Coupling) (c : Counts) (first : List ℕ) (rs : List (Option ℕ)) (t : Routed) (us : List Op) (text line : List ℕ)
+    → IsSmallProgram p → p.wires ≤ d.size → t.body.wires ≡ d.size → All (IsFine t.body.wires) t.body.gates → us ≡ ops_of p.statements
+    → c.qubits ≡ p.wires → c.cx ≡ cx_count us → c.t ≡ t_count us → rs ≡ reads_of p.bits p.statements
+    → first ≡ identity d.size → Realises us p.wires (ops t.body.gates) d.size first t.last t.turn → FollowsEdges d.edges (ops t.body.gates)
+    → t_count (ops t.body.gates) ≡ t_count us → cx_count (ops t.body.gates) ≡ cx_count us + 3 * t.swaps
+    → IsPlanned c first rs t text line → MakesOnDevice p d text line
+MakesOnDevice-planned p d c first rs t us text line small fits wires fine e qubits cx ts g starts realises edges t_same cx_more plan = (
+  plan.written.program,
+  plan.told,
+  Makes-planned p c first rs t us text line small (omega (arith, wires, small.some, fits)) fine e qubits cx ts g (rw wires realises) t_same cx_more plan,
+  plan.written.wires ∙ wires,
+  rw plan.written.ops edges,
+  plan.numbers.initial ∙ starts,
+)

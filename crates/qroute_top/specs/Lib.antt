@@ -2,5 +2,7 @@ pub mod Next
 pub mod Reading
 pub mod Commands
 pub mod Accepted
-pub mod Causes
+pub mod Devices
 pub mod Delivered
+pub mod Plans
+pub mod Causes

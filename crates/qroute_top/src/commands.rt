@@ -1,13 +1,21 @@
 //! What the words of a command line ask for.
 
+use crate::name::Name;
 use std::alloc::AllocError;
 use thiserror::Error;
 
 /// What the words ask for.
-#[derive(Clone, Copy, Debug, PartialEq, Eq)]
+#[derive(Debug, Drop, PartialEq, Eq)]
 pub enum Command {
     /// Reads a program and writes an equivalent one.
     Opt,
+    /// The same on the qubits of a device.
+    Route {
+        /// The name of the device text.
+        device: Name,
+        /// Whether the wires begin on the qubits of their own numbers.
+        trivial: bool,
+    },
 }
 
 /// Why words give no command.

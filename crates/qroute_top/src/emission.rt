@@ -5,10 +5,11 @@ ghost use Rattle.outside_io.specs.Bytes.{Gains, GainsPrefix, GainsUnlessFault};
 ghost use Rattle.outside_io.specs.Causes.{Rose};
 ghost use Rattle.route_report.specs.Faults.{fault_line, status_of};
 ghost use Rattle.route_report.specs.declared.faults.Fault.{Fault as Told};
-ghost use Rattle.qroute_top.specs.Causes.{fault_of, refusal_fault, stop_status};
+ghost use Rattle.qroute_top.specs.Causes.{device_fault, fault_of, refusal_fault, stop_status};
 
 use crate::plan::Plan;
-use crate::stops::{Refusal, Stop};
+use crate::stops::{DeviceRefusal, Refusal, Stop};
+use coupling_map::DeviceFault;
 use outside_io::{Sink, send};
 use route_report::{Fault, fault_line, status};
 use std::alloc::{AllocError, Global};
@@ -35,6 +36,23 @@ fn fault_of_refusal(refusal: Refusal) -> Fault
     }
 }
 
+/// The fault that a device's refusal is told as.
+fn fault_of_device(refusal: DeviceRefusal) -> Fault
+    ensures { result ≡ device_fault refusal }
+{
+    match refusal {
+        DeviceRefusal::TooLong => Fault::Plain { code: 55 },
+        DeviceRefusal::Fault(DeviceFault::Text) => Fault::Plain { code: 50 },
+        DeviceRefusal::Fault(DeviceFault::Shape) => Fault::Plain { code: 51 },
+        DeviceRefusal::Fault(DeviceFault::Range) => Fault::Plain { code: 52 },
+        DeviceRefusal::Fault(DeviceFault::SelfEdge { qubit }) => Fault::SelfEdge { qubit },
+        DeviceRefusal::Fault(DeviceFault::NotConnected { from, to }) => {
+            Fault::NotConnected { from, to }
+        }
+        DeviceRefusal::TooFewQubits { device, qubits } => Fault::TooFewQubits { device, qubits },
+    }
+}
+
 /// The fault that a stop is told as; want of memory isn't told.
 fn fault_of(stop: Stop) -> Option<Fault>
     ensures { result ≡ fault_of stop }
@@ -44,6 +62,9 @@ fn fault_of(stop: Stop) -> Option<Fault>
         Stop::Words => Some(Fault::Words),
         Stop::Input => Some(Fault::Input),
         Stop::Program(refusal) => Some(fault_of_refusal(refusal)),
+        Stop::Shelf => Some(Fault::Shelf),
+        Stop::Absent => Some(Fault::Absent),
+        Stop::Device(refusal) => Some(fault_of_device(refusal)),
     }
 }
 

@@ -3,23 +3,29 @@
 //! Words, a source, a shelf and two sinks go in; what is written is an equivalent program on `out` and a line of report, or
 //! of a fault, on `report`, and the status comes out. The contract of `run` is the promise of the whole program: the text
 //! that is written spells a program whose unitary is the source's, up to the reported power of the eighth root of unity and
-//! the reported placements; no count of T gates or CNOTs rises; and each status comes exactly where its cause is. A text that
-//! isn't of the form, or too long, is refused with its place, and nothing is written then.
+//! the reported placements; no count of T gates rises, and that of CNOTs by three for each swap at most; each measured bit
+//! reads its wire of the source; on a device each CNOT follows an edge; and each status comes exactly where its cause is. A
+//! text that isn't of the form, or too long, is refused with its place, a device with its reason, and nothing is written then.
 //!
 //! `words` gives the command of the words. The small form of OpenQASM 2.0 is read by private parts: `lexeme` and `token` (the
 //! longest lexeme at each place), `phrase`, `statement` and `reader` (token by token), `source` (the input within its limits).
-//! `expansion` makes gates and reads of statements, `plan` all that is to be written, before `emission` writes the first byte.
+//! `device` loads the device of a name. `expansion` makes gates and reads of statements, `pipeline` the circuit that is to be
+//! written, `plan` all that is to be written, before `emission` writes the first byte.
 #![tactic(auto)]
 
-ghost use Rattle.std.specs.Prelude.{◌≡◌, ◌⊎◌, ℕ, List, Some, None, map, true};
+ghost use Rattle.std.specs.Prelude.{◌≡◌, ◌⊎◌, ◌≤◌, ℕ, Bool, List, Some, None, map, true};
 ghost use Rattle.outside_io.specs.Bytes.{Gains, GainsPrefix, GainsUnlessFault};
 ghost use Rattle.outside_io.specs.Causes.{Rose};
 ghost use Rattle.route_report.specs.Faults.{fault_line};
 ghost use Rattle.unitary_model.specs.SmallProgram.{SmallProgram};
+ghost use Rattle.coupling_map.specs.Coupling.{Coupling};
 ghost use Rattle.qroute_top.specs.declared.commands.Command.{Command as Asked};
+ghost use Rattle.qroute_top.specs.declared.commands.Command.TheVariants.{Opt, Route};
+ghost use Rattle.qroute_top.specs.declared.stops.DeviceRefusal.{DeviceRefusal as RefusedDevice};
 ghost use Rattle.qroute_top.specs.declared.stops.Refusal.{Refusal as Refused};
 ghost use Rattle.qroute_top.specs.Accepted.{IsAccepted, IsRefusal};
 ghost use Rattle.qroute_top.specs.Commands.{command_of};
+ghost use Rattle.qroute_top.specs.Devices.{IsDevice, IsDeviceRefusal};
 ghost use Rattle.qroute_top.specs.Causes.{EndsWithFault, is_early_fault, output_fault_line};
 ghost use Rattle.qroute_top.specs.Delivered.{Delivered};
 
@@ -30,11 +36,14 @@ use std::alloc::Global;
 
 pub mod commands;
 mod decision;
+mod device;
 mod emission;
 mod expansion;
 pub mod laws;
 mod lexeme;
+pub mod name;
 mod phrase;
+mod pipeline;
 mod plan;
 mod reader;
 mod source;
@@ -57,57 +66,82 @@ pub fn run<I: Source, F: Shelf, O: Sink, R: Sink>(
     ensures ends { (result ≡ 0) ⊎ ((result ≡ 6) ⊎ ((result ≡ 7) ⊎ ((result ≡ 8) ⊎ (is_early_fault result ≡ true)))) }
 
     // 0: what is made for the input is written and reported, and both sinks are flushed.
-    ensures headline { result ≡ 0 → Delivered (map (λ w. w.now) words.now) (I.left input.old) (I.left input.new)
+    ensures headline { result ≡ 0 → Delivered (map (λ w. w.now) words.now) (F.content shelf.old) (I.left input.old) (I.left input.new)
         (λ text line. Gains (O.held out.old) (O.held out.new) text × Gains (R.held report.old) (R.held report.new) line) }
     ensures flushed { result ≡ 0 → (O.flushed out.new ≡ true) × (R.flushed report.new ≡ true) }
-    ensures calm { result ≡ 0 → (I.faults input.new ≡ I.faults input.old)
+    ensures calm { result ≡ 0 → (I.faults input.new ≡ I.faults input.old) × (F.faults shelf.new ≡ F.faults shelf.old)
         × (O.faults out.new ≡ O.faults out.old) × (R.faults report.new ≡ R.faults report.old) }
 
-    // 2, 3, 5: a fault that has its cause; the report tells it.
+    // 2, 3, 4, 5, 9: a fault that has its cause; the report tells it.
     ensures fault { is_early_fault result ≡ true → EndsWithFault (record {
       words = map (λ w. w.now) words.now;
       input = I.left input.old;
       faults_before = I.faults input.old;
       faults_after = I.faults input.new;
+      content = F.content shelf.old;
+      shelf_before = F.faults shelf.old;
+      shelf_after = F.faults shelf.new;
     }) result
         (λ f. GainsUnlessFault (R.held report.old) (R.held report.new) (R.faults report.old) (R.faults report.new) (fault_line f)) }
-    ensures words_only { result ≡ 2 → input.new ≡ input.old }
+    ensures words_only { result ≡ 2 → (input.new ≡ input.old) × (shelf.new ≡ shelf.old) }
 
     // 2 exactly where the words mean no command; 5 only where the input failed.
     ensures no_command { result ≡ 2 → command_of (map (λ w. w.now) words.now) ≡ None }
     ensures words { command_of (map (λ w. w.now) words.now) ≡ None → (result ≡ 2) ⊎ (result ≡ 7) }
     ensures input { result ≡ 5 → Rose (I.faults input.old) (I.faults input.new) }
 
-    ensures read { result ≡ 3 → I.faults input.new ≡ I.faults input.old }
-
     // 3 exactly where a command's input, read without a fault, has a first refusal.
+    ensures read { result ≡ 3 → I.faults input.new ≡ I.faults input.old }
     ensures refuses { (c : Asked) (text : List ℕ) (r : Refused) → command_of (map (λ w. w.now) words.now) ≡ Some c
         → I.left input.old ≡ Some text → IsRefusal text r → (Rose (I.faults input.old) (I.faults input.new) → ⊥)
         → (result ≡ 3) ⊎ (result ≡ 7) }
 
-    // A command whose input is accepted ends well, or wants memory, unless a count of faults rose.
-    ensures complete { (c : Asked) (text : List ℕ) (p : SmallProgram) → command_of (map (λ w. w.now) words.now) ≡ Some c
+    // 9 exactly where the shelf has no text of the device's name, unless it failed.
+    ensures absent { (name : List ℕ) (trivial : Bool) (text : List ℕ) (p : SmallProgram)
+        → command_of (map (λ w. w.now) words.now) ≡ Some (Route name trivial)
         → I.left input.old ≡ Some text → IsAccepted text p → (Rose (I.faults input.old) (I.faults input.new) → ⊥)
+        → (Rose (F.faults shelf.old) (F.faults shelf.new) → ⊥) → F.content shelf.old name ≡ Some None → (result ≡ 9) ⊎ (result ≡ 7) }
+
+    // 4 exactly where the text of the device has a first refusal.
+    ensures refuses_device { (name : List ℕ) (trivial : Bool) (text device_text : List ℕ) (p : SmallProgram) (r : RefusedDevice)
+        → command_of (map (λ w. w.now) words.now) ≡ Some (Route name trivial)
+        → I.left input.old ≡ Some text → IsAccepted text p → (Rose (I.faults input.old) (I.faults input.new) → ⊥)
+        → (Rose (F.faults shelf.old) (F.faults shelf.new) → ⊥) → F.content shelf.old name ≡ Some (Some device_text)
+        → IsDeviceRefusal device_text p.wires r → (result ≡ 4) ⊎ (result ≡ 7) }
+
+    // A command whose input is accepted, and whose device has a qubit for each wire, ends well, or wants memory, unless a
+    // count of faults rose.
+    ensures complete { (text : List ℕ) (p : SmallProgram) → command_of (map (λ w. w.now) words.now) ≡ Some Opt
+        → I.left input.old ≡ Some text → IsAccepted text p → (Rose (I.faults input.old) (I.faults input.new) → ⊥)
+        → (Rose (O.faults out.old) (O.faults out.new) → ⊥) → (Rose (R.faults report.old) (R.faults report.new) → ⊥)
+        → (result ≡ 0) ⊎ (result ≡ 7) }
+    ensures complete_route { (name : List ℕ) (trivial : Bool) (text device_text : List ℕ) (p : SmallProgram) (d : Coupling)
+        → command_of (map (λ w. w.now) words.now) ≡ Some (Route name trivial)
+        → I.left input.old ≡ Some text → IsAccepted text p → (Rose (I.faults input.old) (I.faults input.new) → ⊥)
+        → (Rose (F.faults shelf.old) (F.faults shelf.new) → ⊥) → F.content shelf.old name ≡ Some (Some device_text)
+        → IsDevice device_text d → p.wires ≤ d.size
         → (Rose (O.faults out.old) (O.faults out.new) → ⊥) → (Rose (R.faults report.old) (R.faults report.new) → ⊥)
         → (result ≡ 0) ⊎ (result ≡ 7) }
 
     // 6 and 8: the output or the report failed, with a prefix of what is made.
     ensures output { result ≡ 6 → Rose (O.faults out.old) (O.faults out.new)
-        × Delivered (map (λ w. w.now) words.now) (I.left input.old) (I.left input.new) (λ text line. GainsPrefix (O.held out.old) (O.held out.new) text)
+        × Delivered (map (λ w. w.now) words.now) (F.content shelf.old) (I.left input.old) (I.left input.new)
+        (λ text line. GainsPrefix (O.held out.old) (O.held out.new) text)
         × GainsUnlessFault (R.held report.old) (R.held report.new) (R.faults report.old) (R.faults report.new) output_fault_line }
     ensures report { result ≡ 8 → Rose (R.faults report.old) (R.faults report.new)
-        × Delivered (map (λ w. w.now) words.now) (I.left input.old) (I.left input.new)
+        × Delivered (map (λ w. w.now) words.now) (F.content shelf.old) (I.left input.old) (I.left input.new)
         (λ text line. Gains (O.held out.old) (O.held out.new) text × GainsPrefix (R.held report.old) (R.held report.new) line)
         × (O.flushed out.new ≡ true) × (O.faults out.new ≡ O.faults out.old) }
 
     // 7: want of memory.
     ensures memory { result ≡ 7 → report.new ≡ report.old }
 
-    // Before the first byte goes out the output is untouched; the shelf always is.
+    // Before the first byte goes out the output is untouched; the shelf keeps its texts, and `opt` doesn't touch it.
     ensures untouched { (result ≡ 7) ⊎ (is_early_fault result ≡ true) → out.new ≡ out.old }
-    ensures shelf { shelf.new ≡ shelf.old }
+    ensures shelf { (name : List ℕ) → F.content shelf.new name ≡ F.content shelf.old name }
+    ensures no_shelf { command_of (map (λ w. w.now) words.now) ≡ Some Opt → shelf.new ≡ shelf.old }
 {
-    match decide(alloc, words, input) {
+    match decide(alloc, words, input, shelf) {
         Ok(plan) => emit(&plan, out, report),
         Err(stop) => tell(alloc, stop, report),
     }

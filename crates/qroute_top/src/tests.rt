@@ -1,117 +1,516 @@
 use crate::run;
-use outside_io::{CalmShelf, MemSink, MemSource};
+use outside_io::{MemShelf, MemSink, MemSource, NamedText};
+use std::alloc::{AllocError, Global};
 use std::test::Fail;
 
-const FIRST: &str = "OPENQASM 2.0; include \"qelib1.inc\"; qreg q[1]; h q[0]; t q[0];";
+/// What is handed to `run`.
+#[derive(Clone, Copy)]
+struct Case<'a> {
+    words: &'a [&'a str],
+    text: &'a [u8],
+    /// The text of the name `d` on the shelf; empty for none.
+    device: &'a str,
+    /// The call of the input, of the shelf, of the output (16 bytes a call) and of the report that fails; 0 for none.
+    fails: [u64; 4],
+}
 
-const TWO_T: &str = "OPENQASM 2.0;\ninclude \"qelib1.inc\";\nqreg q[1]; t q[0]; t q[0];";
+#[derive(Drop)]
+struct Outcome {
+    status: u8,
+    /// The bytes of the input that weren't taken.
+    left: usize,
+    out: Vec<u8>,
+    report: Vec<u8>,
+}
 
-const TWO_T_WRITTEN: &str =
-    "OPENQASM 2.0;\ninclude \"qelib1.inc\";\nqreg q[1];\nt q[0];\nt q[0];\n";
-
-const INPUT: &str = "{\"fault\":\"Input\",\"status\":5}\n";
-
-const OUTPUT: &str = "{\"fault\":\"Output\",\"status\":6}\n";
-
-const WORDS: &str = "{\"fault\":\"Words\",\"status\":2}\n";
-
-fn report(t: &str) -> &str {
-    match t {
-        "1" =>
-            "{\"barriers\":0,\"cx_after\":0,\"cx_before\":0,\"device\":1,\"final\":[0],\"format\":1,\"initial\":[0],\"phase\":0,\"qubits\":1,\"swaps\":0,\"t_after\":1,\"t_before\":1}\n",
-        _ =>
-            "{\"barriers\":0,\"cx_after\":0,\"cx_before\":0,\"device\":1,\"final\":[0],\"format\":1,\"initial\":[0],\"phase\":0,\"qubits\":1,\"swaps\":0,\"t_after\":2,\"t_before\":2}\n",
+fn run_case(alloc: Global, case: Case<'_>) -> Result<Outcome, AllocError> {
+    let [input_fails, shelf_fails, out_fails, report_fails] = case.fails;
+    let text = Vec::from_slice(alloc, case.text)?;
+    let mut input = MemSource::new(text, 64, Vec::from_slice(alloc, &[input_fails])?);
+    let mut texts = Vec::new(alloc);
+    if !case.device.is_empty() {
+        texts.push(NamedText::new(alloc, "d", case.device.as_bytes())?)?;
     }
+    let mut shelf = MemShelf::new(texts, Vec::from_slice(alloc, &[shelf_fails])?);
+    let mut out = MemSink::new(alloc, 999, 16, Vec::from_slice(alloc, &[out_fails])?)?;
+    let mut report = MemSink::new(alloc, 999, 999, Vec::from_slice(alloc, &[report_fails])?)?;
+    let status = run(
+        alloc,
+        case.words,
+        &mut input,
+        &mut shelf,
+        &mut out,
+        &mut report,
+    );
+    Ok(Outcome {
+        status,
+        left: input.rest().len(),
+        out: Vec::from_slice(alloc, out.as_slice())?,
+        report: Vec::from_slice(alloc, report.as_slice())?,
+    })
+}
+
+const OPT: [&str; 2] = ["qroute", "opt"];
+
+const ROUTE: [&str; 5] = ["qroute", "route", "--device", "d", "--trivial"];
+
+const HEAD: &str = "OPENQASM 2.0;\ninclude \"qelib1.inc\";\n";
+
+const PAIR: &str = "qubits = 2\nedges = [[0, 1]]\n";
+
+const LINE: &str = "qubits = 4\nedges = [[0, 1], [1, 2], [2, 3]]\n";
+
+/// A text after the heading.
+fn headed(alloc: Global, text: &str) -> Result<Vec<u8>, AllocError> {
+    let mut headed = String::from_str(alloc, HEAD)?;
+    headed.push_str(text)?;
+    Ok(headed.into_bytes())
 }
 
 #[test]
-fn runs_and_says_how_it_ended(rt: HostRuntime) -> Result<(), Fail> {
+fn writes_and_reports(rt: HostRuntime) -> Result<(), Fail> {
     let alloc = rt.alloc();
-    // words, text; the calls of the input, of the output (16 bytes a call) and of the report that fail; status, output, report
-    let rows: [(&[&str], &str, u64, u64, u64, u8, &str, &str); 18] = [
+    // words, text, device; what is written, what the report tells: the texts after their headings
+    let rows: [(&[&str], &str, &str, &str, &str); 10] = [
         (
-            &["qroute", "opt"],
-            FIRST,
-            0,
-            0,
-            0,
-            0,
-            "OPENQASM 2.0;\ninclude \"qelib1.inc\";\nqreg q[1];\nh q[0];\nt q[0];\n",
-            report("1"),
+            &OPT,
+            "qreg q[1]; h q[0]; t q[0];",
+            "",
+            "qreg q[1];\nh q[0];\nt q[0];\n",
+            "{\"barriers\":0,\"cx_after\":0,\"cx_before\":0,\"device\":1,\"final\":[0],\"format\":1,\"initial\":[0],\"phase\":0,\"qubits\":1,\"swaps\":0,\"t_after\":1,\"t_before\":1}\n",
         ),
-        (&["", "opt"], TWO_T, 0, 0, 0, 0, TWO_T_WRITTEN, report("2")),
-        (&["qroute", "opt"], TWO_T, 1, 0, 0, 5, "", INPUT),
-        (&["qroute", "opt"], TWO_T, 2, 0, 0, 5, "", INPUT),
         (
-            &["qroute", "opt"],
-            TWO_T,
-            0,
-            2,
-            0,
+            &["", "opt", "--"],
+            "qreg q[1]; t q[0]; t q[0];",
+            "",
+            "qreg q[1];\nt q[0];\nt q[0];\n",
+            "{\"barriers\":0,\"cx_after\":0,\"cx_before\":0,\"device\":1,\"final\":[0],\"format\":1,\"initial\":[0],\"phase\":0,\"qubits\":1,\"swaps\":0,\"t_after\":2,\"t_before\":2}\n",
+        ),
+        // a pair in a Bell state, its measures in the order of the bits
+        (
+            &OPT,
+            "qreg q[2]; creg c[3]; h q[0]; cx q[0],q[1]; measure q[1]->c[2]; measure q[0]->c[0];",
+            "",
+            "qreg q[2];\ncreg c[3];\nh q[0];\ncx q[0],q[1];\nmeasure q[0] -> c[0];\nmeasure q[1] -> c[2];\n",
+            "{\"barriers\":0,\"cx_after\":1,\"cx_before\":1,\"device\":2,\"final\":[0,1],\"format\":1,\"initial\":[0,1],\"phase\":0,\"qubits\":2,\"swaps\":0,\"t_after\":0,\"t_before\":0}\n",
+        ),
+        // the last measurement into a bit counts
+        (
+            &OPT,
+            "qreg q[2]; creg c[1]; measure q[0] -> c[0]; h q[1]; measure q[1] -> c[0];",
+            "",
+            "qreg q[2];\ncreg c[1];\nh q[1];\nmeasure q[1] -> c[0];\n",
+            "{\"barriers\":0,\"cx_after\":0,\"cx_before\":0,\"device\":2,\"final\":[0,1],\"format\":1,\"initial\":[0,1],\"phase\":0,\"qubits\":2,\"swaps\":0,\"t_after\":0,\"t_before\":0}\n",
+        ),
+        // each of the ten gates
+        (
+            &OPT,
+            "qreg q[2]; h q[0]; x q[1]; cx q[1],q[0]; t q[0]; s q[0]; u1(3*pi/4) q[1]; z q[0]; u1(5*pi/4) q[1]; sdg q[0]; tdg q[0];",
+            "",
+            "qreg q[2];\nh q[0];\nx q[1];\ncx q[1],q[0];\nt q[0];\ns q[0];\nu1(3*pi/4) q[1];\nz q[0];\nu1(5*pi/4) q[1];\nsdg q[0];\ntdg q[0];\n",
+            "{\"barriers\":0,\"cx_after\":1,\"cx_before\":1,\"device\":2,\"final\":[0,1],\"format\":1,\"initial\":[0,1],\"phase\":0,\"qubits\":2,\"swaps\":0,\"t_after\":4,\"t_before\":4}\n",
+        ),
+        // a CNOT against the only edge
+        (
+            &ROUTE,
+            "qreg q[2]; cx q[1],q[0];",
+            PAIR,
+            "qreg q[2];\nh q[1];\nh q[0];\ncx q[0],q[1];\nh q[1];\nh q[0];\n",
+            "{\"barriers\":0,\"cx_after\":1,\"cx_before\":1,\"device\":2,\"final\":[0,1],\"format\":1,\"initial\":[0,1],\"phase\":4,\"qubits\":2,\"swaps\":0,\"t_after\":0,\"t_before\":0}\n",
+        ),
+        // one swap, which moves the spare wire, and a measure of the moved qubit
+        (
+            &ROUTE,
+            "qreg q[2]; creg c[1]; cx q[0],q[1]; measure q[0]->c[0];",
+            "qubits = 3\nedges = [[0, 2], [2, 1]]\n",
+            "qreg q[3];\ncreg c[1];\ncx q[0],q[2];\nh q[2];\nh q[0];\ncx q[0],q[2];\nh q[2];\nh q[0];\ncx q[0],q[2];\ncx q[2],q[1];\nmeasure q[2] -> c[0];\n",
+            "{\"barriers\":0,\"cx_after\":4,\"cx_before\":1,\"device\":3,\"final\":[2,1,0],\"format\":1,\"initial\":[0,1,2],\"phase\":4,\"qubits\":2,\"swaps\":1,\"t_after\":0,\"t_before\":0}\n",
+        ),
+        // two swaps along a line
+        (
+            &ROUTE,
+            "qreg q[4]; cx q[0],q[3];",
+            LINE,
+            "qreg q[4];\ncx q[0],q[1];\nh q[1];\nh q[0];\ncx q[0],q[1];\nh q[1];\nh q[0];\ncx q[0],q[1];\ncx q[1],q[2];\nh q[2];\nh q[1];\ncx q[1],q[2];\nh q[2];\nh q[1];\ncx q[1],q[2];\ncx q[2],q[3];\n",
+            "{\"barriers\":0,\"cx_after\":7,\"cx_before\":1,\"device\":4,\"final\":[2,0,1,3],\"format\":1,\"initial\":[0,1,2,3],\"phase\":0,\"qubits\":4,\"swaps\":2,\"t_after\":0,\"t_before\":0}\n",
+        ),
+        // the later gate that is near goes first; without --trivial too the wires begin in place
+        (
+            &["qroute", "route", "--device=d"],
+            "qreg q[3]; cx q[0],q[2]; t q[1]; t q[0];",
+            LINE,
+            "qreg q[4];\nt q[1];\ncx q[0],q[1];\nh q[1];\nh q[0];\ncx q[0],q[1];\nh q[1];\nh q[0];\ncx q[0],q[1];\ncx q[1],q[2];\nt q[1];\n",
+            "{\"barriers\":0,\"cx_after\":4,\"cx_before\":1,\"device\":4,\"final\":[1,0,2,3],\"format\":1,\"initial\":[0,1,2,3],\"phase\":4,\"qubits\":3,\"swaps\":1,\"t_after\":2,\"t_before\":2}\n",
+        ),
+        (
+            &["qroute", "route", "--trivial", "--device", "d"],
+            "qreg q[1];",
+            PAIR,
+            "qreg q[2];\n",
+            "{\"barriers\":0,\"cx_after\":0,\"cx_before\":0,\"device\":2,\"final\":[0,1],\"format\":1,\"initial\":[0,1],\"phase\":0,\"qubits\":1,\"swaps\":0,\"t_after\":0,\"t_before\":0}\n",
+        ),
+    ];
+    for (words, text, device, written, told) in rows {
+        let text = headed(alloc, text)?;
+        // The shelf's second call would fail: the device is loaded once.
+        let fails = [0, 2, 0, 0];
+        let got = run_case(
+            alloc,
+            Case {
+                words,
+                text: &text,
+                device,
+                fails,
+            },
+        )?;
+        assert_eq!(rt; got.status, 0, "{written}");
+        assert_eq!(rt; got.left, 0);
+        assert_eq!(rt;
+            got.out.as_slice(),
+            headed(alloc, written)?.as_slice(),
+            "{written}"
+        );
+        assert_eq!(rt; got.report.as_slice(), told.as_bytes(), "{written}");
+    }
+    Ok(())
+}
+
+#[test]
+fn stops_and_says_why(rt: HostRuntime) -> Result<(), Fail> {
+    let alloc = rt.alloc();
+    // words, text after the heading, device, failing calls; status, output, report
+    let rows: [(&[&str], &str, &str, [u64; 4], u8, &str, &str); 36] = [
+        (
+            &OPT,
+            "qreg q[1]; t q[0]; t q[0];",
+            "",
+            [1, 0, 0, 0],
+            5,
+            "",
+            "{\"fault\":\"Input\",\"status\":5}\n",
+        ),
+        (
+            &OPT,
+            "qreg q[1]; t q[0]; t q[0];",
+            "",
+            [2, 0, 0, 0],
+            5,
+            "",
+            "{\"fault\":\"Input\",\"status\":5}\n",
+        ),
+        (
+            &OPT,
+            "qreg q[1]; t q[0]; t q[0];",
+            "",
+            [0, 0, 2, 0],
             6,
             "OPENQASM 2.0;\nin",
-            OUTPUT,
+            "{\"fault\":\"Output\",\"status\":6}\n",
         ),
-        (&["qroute", "opt"], TWO_T, 0, 1, 1, 6, "", ""),
-        (&["qroute", "opt"], TWO_T, 0, 0, 1, 8, TWO_T_WRITTEN, ""),
         (
-            &["qroute", "opt"],
-            TWO_T,
-            0,
-            0,
-            2,
+            &OPT,
+            "qreg q[1]; t q[0]; t q[0];",
+            "",
+            [0, 0, 1, 1],
+            6,
+            "",
+            "",
+        ),
+        (
+            &OPT,
+            "qreg q[1]; t q[0]; t q[0];",
+            "",
+            [0, 0, 0, 1],
             8,
-            TWO_T_WRITTEN,
-            report("2"),
+            "OPENQASM 2.0;\ninclude \"qelib1.inc\";\nqreg q[1];\nt q[0];\nt q[0];\n",
+            "",
         ),
-        (&["qroute", "opt", "extra"], TWO_T, 1, 1, 0, 2, "", WORDS),
-        (&["qroute"], TWO_T, 0, 0, 0, 2, "", WORDS),
-        (&[], TWO_T, 0, 0, 0, 2, "", WORDS),
-        (&["qroute", "Opt"], TWO_T, 0, 0, 1, 2, "", ""),
         (
-            &["qroute", "opt", "--"],
-            TWO_T,
-            0,
-            0,
-            0,
-            0,
-            TWO_T_WRITTEN,
-            report("2"),
+            &OPT,
+            "qreg q[1]; t q[0]; t q[0];",
+            "",
+            [0, 0, 0, 2],
+            8,
+            "OPENQASM 2.0;\ninclude \"qelib1.inc\";\nqreg q[1];\nt q[0];\nt q[0];\n",
+            "{\"barriers\":0,\"cx_after\":0,\"cx_before\":0,\"device\":1,\"final\":[0],\"format\":1,\"initial\":[0],\"phase\":0,\"qubits\":1,\"swaps\":0,\"t_after\":2,\"t_before\":2}\n",
         ),
-        (&["qroute", "--help"], TWO_T, 1, 1, 0, 2, "", WORDS),
-        (&["qroute", "op"], TWO_T, 1, 1, 0, 2, "", WORDS),
-        (&["qroute", "help"], TWO_T, 1, 1, 0, 2, "", WORDS),
         (
-            &["qroute", "opt"],
-            "OPENQASM 2.0;\nqreg q[1]",
-            0,
-            0,
-            0,
+            &["qroute", "opt", "extra"],
+            "qreg q[1]; t q[0]; t q[0];",
+            "",
+            [1, 1, 1, 0],
+            2,
+            "",
+            "{\"fault\":\"Words\",\"status\":2}\n",
+        ),
+        (
+            &["qroute"],
+            "qreg q[1]; t q[0]; t q[0];",
+            "",
+            [0, 0, 0, 0],
+            2,
+            "",
+            "{\"fault\":\"Words\",\"status\":2}\n",
+        ),
+        (
+            &[],
+            "qreg q[1]; t q[0]; t q[0];",
+            "",
+            [0, 0, 0, 0],
+            2,
+            "",
+            "{\"fault\":\"Words\",\"status\":2}\n",
+        ),
+        (
+            &["qroute", "Opt"],
+            "qreg q[1]; t q[0]; t q[0];",
+            "",
+            [0, 0, 0, 1],
+            2,
+            "",
+            "",
+        ),
+        (
+            &["qroute", "--help"],
+            "qreg q[1]; t q[0]; t q[0];",
+            "",
+            [1, 0, 1, 0],
+            2,
+            "",
+            "{\"fault\":\"Words\",\"status\":2}\n",
+        ),
+        (
+            &["qroute", "help"],
+            "qreg q[1]; t q[0]; t q[0];",
+            "",
+            [1, 0, 1, 0],
+            2,
+            "",
+            "{\"fault\":\"Words\",\"status\":2}\n",
+        ),
+        (
+            &["qroute", "route"],
+            "qreg q[1]; t q[0]; t q[0];",
+            PAIR,
+            [1, 1, 1, 0],
+            2,
+            "",
+            "{\"fault\":\"Words\",\"status\":2}\n",
+        ),
+        (
+            &["qroute", "route", "--trivial"],
+            "qreg q[1]; t q[0]; t q[0];",
+            PAIR,
+            [1, 1, 1, 0],
+            2,
+            "",
+            "{\"fault\":\"Words\",\"status\":2}\n",
+        ),
+        (
+            &["qroute", "route", "--device", "d", "--device", "d"],
+            "qreg q[1]; t q[0]; t q[0];",
+            PAIR,
+            [1, 1, 1, 0],
+            2,
+            "",
+            "{\"fault\":\"Words\",\"status\":2}\n",
+        ),
+        (
+            &OPT,
+            "qreg q[1]",
+            "",
+            [0, 0, 0, 0],
             3,
             "",
-            "{\"code\":12,\"fault\":\"Syntax\",\"place\":14,\"status\":3}\n",
+            "{\"code\":12,\"fault\":\"Syntax\",\"place\":45,\"status\":3}\n",
         ),
         (
-            &["qroute", "opt"],
-            "OPENQASM 2.0;\ninclude \"qelib1.inc\";\nqreg q[1]; y q[0];",
-            0,
-            0,
-            0,
+            &OPT,
+            "qreg q[1]; y q[0];",
+            "",
+            [0, 0, 0, 0],
             3,
             "",
             "{\"code\":12,\"fault\":\"Syntax\",\"place\":47,\"status\":3}\n",
         ),
+        (
+            &OPT,
+            "qreg q[2];creg c[1];cx q[1],q[1];",
+            "",
+            [0, 0, 0, 0],
+            3,
+            "",
+            "{\"code\":12,\"fault\":\"Syntax\",\"place\":64,\"status\":3}\n",
+        ),
+        (
+            &OPT,
+            "qreg q[2];creg c[1];measure q[0] -> c[0]; h q[0];",
+            "",
+            [0, 0, 0, 0],
+            3,
+            "",
+            "{\"code\":12,\"fault\":\"Syntax\",\"place\":78,\"status\":3}\n",
+        ),
+        (
+            &OPT,
+            "qreg q[2];creg c[1];measure q[0] -> c[0]; cx q[1],q[0];",
+            "",
+            [0, 0, 0, 0],
+            3,
+            "",
+            "{\"code\":12,\"fault\":\"Syntax\",\"place\":78,\"status\":3}\n",
+        ),
+        (
+            &OPT,
+            "qreg q[2];creg c[1];measure q[0] -> c[1];",
+            "",
+            [0, 0, 0, 0],
+            3,
+            "",
+            "{\"code\":12,\"fault\":\"Syntax\",\"place\":74,\"status\":3}\n",
+        ),
+        (
+            &OPT,
+            "qreg q[2];creg c[1];measure q[2] -> c[0];",
+            "",
+            [0, 0, 0, 0],
+            3,
+            "",
+            "{\"code\":12,\"fault\":\"Syntax\",\"place\":66,\"status\":3}\n",
+        ),
+        (
+            &OPT,
+            "qreg q[2];creg c[1];u1(1*pi/4) q[0];",
+            "",
+            [0, 0, 0, 0],
+            3,
+            "",
+            "{\"code\":12,\"fault\":\"Syntax\",\"place\":59,\"status\":3}\n",
+        ),
+        (
+            &OPT,
+            "qreg q[2];creg c[1];u1(3*pi/8) q[0];",
+            "",
+            [0, 0, 0, 0],
+            3,
+            "",
+            "{\"code\":12,\"fault\":\"Syntax\",\"place\":64,\"status\":3}\n",
+        ),
+        (
+            &OPT,
+            "qreg q[2];creg c[1];creg c[1];",
+            "",
+            [0, 0, 0, 0],
+            3,
+            "",
+            "{\"code\":12,\"fault\":\"Syntax\",\"place\":56,\"status\":3}\n",
+        ),
+        (
+            &ROUTE,
+            "qreg q[1]; y q[0];",
+            "?",
+            [0, 1, 0, 0],
+            3,
+            "",
+            "{\"code\":12,\"fault\":\"Syntax\",\"place\":47,\"status\":3}\n",
+        ),
+        (
+            &ROUTE,
+            "qreg q[1];",
+            PAIR,
+            [0, 1, 0, 0],
+            9,
+            "",
+            "{\"fault\":\"Shelf\",\"status\":9}\n",
+        ),
+        (
+            &ROUTE,
+            "qreg q[1];",
+            "",
+            [0, 0, 1, 0],
+            9,
+            "",
+            "{\"fault\":\"Absent\",\"status\":9}\n",
+        ),
+        (
+            &ROUTE,
+            "qreg q[1];",
+            "qubits = ",
+            [0, 0, 1, 0],
+            4,
+            "",
+            "{\"code\":50,\"fault\":\"DeviceText\",\"status\":4}\n",
+        ),
+        (
+            &ROUTE,
+            "qreg q[1];",
+            "qubits = 2",
+            [0, 0, 1, 0],
+            4,
+            "",
+            "{\"code\":51,\"fault\":\"DeviceShape\",\"status\":4}\n",
+        ),
+        (
+            &ROUTE,
+            "qreg q[1];",
+            "qubits = 0\nedges = []",
+            [0, 0, 1, 0],
+            4,
+            "",
+            "{\"code\":52,\"fault\":\"DeviceRange\",\"status\":4}\n",
+        ),
+        (
+            &ROUTE,
+            "qreg q[1];",
+            "qubits = 2\nedges = [[0, 1], [1, 1]]",
+            [0, 0, 1, 0],
+            4,
+            "",
+            "{\"code\":53,\"fault\":\"SelfEdge\",\"qubit\":1,\"status\":4}\n",
+        ),
+        (
+            &ROUTE,
+            "qreg q[1];",
+            "qubits = 4\nedges = [[0, 1], [2, 3]]",
+            [0, 0, 1, 0],
+            4,
+            "",
+            "{\"code\":54,\"fault\":\"NotConnected\",\"from\":0,\"status\":4,\"to\":2}\n",
+        ),
+        (
+            &ROUTE,
+            "qreg q[5];",
+            LINE,
+            [0, 0, 1, 0],
+            4,
+            "",
+            "{\"code\":56,\"device\":4,\"fault\":\"TooFewQubits\",\"qubits\":5,\"status\":4}\n",
+        ),
+        (&ROUTE, "qreg q[5];", LINE, [0, 0, 0, 1], 4, "", ""),
+        (
+            &ROUTE,
+            "qreg q[1];",
+            PAIR,
+            [0, 0, 1, 0],
+            6,
+            "",
+            "{\"fault\":\"Output\",\"status\":6}\n",
+        ),
     ];
-    for (words, text, input_fails, out_fails, report_fails, status, written, told) in rows {
-        let bytes = Vec::from_slice(alloc, text.as_bytes())?;
-        let mut input = MemSource::new(bytes, 7, Vec::from_slice(alloc, &[input_fails])?);
-        let mut shelf = CalmShelf::empty();
-        let mut out = MemSink::new(alloc, 999, 16, Vec::from_slice(alloc, &[out_fails])?)?;
-        let mut report = MemSink::new(alloc, 999, 999, Vec::from_slice(alloc, &[report_fails])?)?;
-        let answer = run(alloc, words, &mut input, &mut shelf, &mut out, &mut report);
-        assert_eq!(rt; answer, status, "{text}");
-        assert_eq!(rt; out.as_slice(), written.as_bytes(), "{text}");
-        assert_eq!(rt; report.as_slice(), told.as_bytes(), "{text}");
+    for (words, text, device, fails, status, written, told) in rows {
+        let text = headed(alloc, text)?;
+        let got = run_case(
+            alloc,
+            Case {
+                words,
+                text: &text,
+                device,
+                fails,
+            },
+        )?;
+        assert_eq!(rt; got.status, status, "{told}");
+        assert_eq!(rt; got.out.as_slice(), written.as_bytes(), "{told}");
+        assert_eq!(rt; got.report.as_slice(), told.as_bytes(), "{told}");
     }
     Ok(())
 }
@@ -119,125 +518,23 @@ fn runs_and_says_how_it_ended(rt: HostRuntime) -> Result<(), Fail> {
 #[test]
 fn refuses_a_text_that_is_too_long(rt: HostRuntime) -> Result<(), Fail> {
     let alloc = rt.alloc();
-    let mut input = MemSource::new(vec![in alloc; b' '; 4_194_400]?, 1_000_000, Vec::new(alloc));
-    let mut shelf = CalmShelf::empty();
-    let mut out = MemSink::new(alloc, 99, 99, Vec::new(alloc))?;
-    let mut report = MemSink::new(alloc, 99, 99, Vec::new(alloc))?;
-    let words = ["qroute", "opt"];
-    let answer = run(
+    let text = vec![in alloc; b' '; 4_194_400]?;
+    let got = run_case(
         alloc,
-        words.as_slice(),
-        &mut input,
-        &mut shelf,
-        &mut out,
-        &mut report,
-    );
-    assert_eq!(rt; answer, 3);
-    assert!(rt; out.as_slice().is_empty());
+        Case {
+            words: &OPT,
+            text: &text,
+            device: "",
+            fails: [0, 0, 0, 0],
+        },
+    )?;
+    assert_eq!(rt; got.status, 3);
+    assert!(rt; got.out.as_slice().is_empty());
     // The input isn't read past the limit and one byte.
-    assert_eq!(rt; input.rest().len(), 95);
+    assert_eq!(rt; got.left, 95);
     assert_eq!(rt;
-        report.as_slice(),
+        got.report.as_slice(),
         b"{\"code\":60,\"fault\":\"TextTooLong\",\"status\":3}\n".as_slice()
     );
-    Ok(())
-}
-
-const BELL: &str =
-    "OPENQASM 2.0;\ninclude \"qelib1.inc\";\nqreg q[2];\ncreg c[3];\nh q[0];\ncx q[0],q[1];\nmeasure q[1]->c[2];\nmeasure q[0]->c[0];\n";
-
-const GATES: &str =
-    "OPENQASM 2.0;\ninclude \"qelib1.inc\";\nqreg q[2];\nh q[0];\nx q[1];\ncx q[1],q[0];\nt q[0];\ns q[0];\nu1(3*pi/4) q[1];\nz q[0];\nu1(5*pi/4) q[1];\nsdg q[0];\ntdg q[0];\n";
-
-#[test]
-fn writes_each_gate_and_the_last_reads(rt: HostRuntime) -> Result<(), Fail> {
-    let alloc = rt.alloc();
-    let rows = [
-        // a pair in a Bell state, its measures in the order of the bits
-        (
-            BELL,
-            "OPENQASM 2.0;\ninclude \"qelib1.inc\";\nqreg q[2];\ncreg c[3];\nh q[0];\ncx q[0],q[1];\nmeasure q[0] -> c[0];\nmeasure q[1] -> c[2];\n",
-            "{\"barriers\":0,\"cx_after\":1,\"cx_before\":1,\"device\":2,\"final\":[0,1],\"format\":1,\"initial\":[0,1],\"phase\":0,\"qubits\":2,\"swaps\":0,\"t_after\":0,\"t_before\":0}\n",
-        ),
-        // the last measurement into a bit counts
-        (
-            "OPENQASM 2.0; include \"qelib1.inc\"; qreg q[2]; creg c[1]; measure q[0] -> c[0]; h q[1]; measure q[1] -> c[0];",
-            "OPENQASM 2.0;\ninclude \"qelib1.inc\";\nqreg q[2];\ncreg c[1];\nh q[1];\nmeasure q[1] -> c[0];\n",
-            "{\"barriers\":0,\"cx_after\":0,\"cx_before\":0,\"device\":2,\"final\":[0,1],\"format\":1,\"initial\":[0,1],\"phase\":0,\"qubits\":2,\"swaps\":0,\"t_after\":0,\"t_before\":0}\n",
-        ),
-        // each of the ten gates
-        (
-            GATES,
-            GATES,
-            "{\"barriers\":0,\"cx_after\":1,\"cx_before\":1,\"device\":2,\"final\":[0,1],\"format\":1,\"initial\":[0,1],\"phase\":0,\"qubits\":2,\"swaps\":0,\"t_after\":4,\"t_before\":4}\n",
-        ),
-    ];
-    for (text, written, told) in rows {
-        let mut input = MemSource::new(
-            Vec::from_slice(alloc, text.as_bytes())?,
-            999,
-            Vec::new(alloc),
-        );
-        let mut shelf = CalmShelf::empty();
-        let mut out = MemSink::new(alloc, 999, 999, Vec::new(alloc))?;
-        let mut report = MemSink::new(alloc, 999, 999, Vec::new(alloc))?;
-        let words = ["qroute", "opt"];
-        let answer = run(
-            alloc,
-            words.as_slice(),
-            &mut input,
-            &mut shelf,
-            &mut out,
-            &mut report,
-        );
-        assert_eq!(rt; answer, 0, "{text}");
-        assert_eq!(rt; out.as_slice(), written.as_bytes(), "{text}");
-        assert_eq!(rt; report.as_slice(), told.as_bytes(), "{text}");
-    }
-    Ok(())
-}
-
-#[test]
-fn refuses_what_isnt_of_the_form(rt: HostRuntime) -> Result<(), Fail> {
-    let alloc = rt.alloc();
-    // what follows the registers `q[2]` and `c[1]`, from the place 54 on, and the place from which on it doesn't fit
-    let rows = [
-        ("cx q[1],q[1];", "62"),
-        ("measure q[0] -> c[0]; h q[0];", "76"),
-        ("measure q[0] -> c[0]; cx q[1],q[0];", "76"),
-        ("measure q[0] -> c[1];", "72"),
-        ("measure q[2] -> c[0];", "64"),
-        ("u1(1*pi/4) q[0];", "57"),
-        ("u1(3*pi/8) q[0];", "62"),
-        ("creg c[1];", "54"),
-    ];
-    for (statements, place) in rows {
-        let mut text = String::from_str(
-            alloc,
-            "OPENQASM 2.0;include \"qelib1.inc\";qreg q[2];creg c[1];",
-        )?;
-        text.push_str(statements)?;
-        let mut input = MemSource::new(text.into_bytes(), 999, Vec::new(alloc));
-        let mut shelf = CalmShelf::empty();
-        let mut out = MemSink::new(alloc, 999, 999, Vec::new(alloc))?;
-        let mut report = MemSink::new(alloc, 999, 999, Vec::new(alloc))?;
-        let words = ["qroute", "opt"];
-        let answer = run(
-            alloc,
-            words.as_slice(),
-            &mut input,
-            &mut shelf,
-            &mut out,
-            &mut report,
-        );
-        assert_eq!(rt; answer, 3, "{statements}");
-        assert!(rt; out.as_slice().is_empty());
-        let mut told = String::new(alloc);
-        write!(
-            told,
-            "{{\"code\":12,\"fault\":\"Syntax\",\"place\":{place},\"status\":3}}\n"
-        )?;
-        assert_eq!(rt; report.as_slice(), told.as_bytes(), "{statements}");
-    }
     Ok(())
 }

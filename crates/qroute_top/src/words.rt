@@ -5,13 +5,14 @@
 //! command of the words by `clap`'s own definitions, and that words are refused exactly where they mean none.
 
 ghost use Rattle.std.specs.Prelude.{◌≡◌, IfOk, IsErrOf, Some, None, map, false};
-ghost use Rattle.clap.specs.Words.{app_of, kind_of};
+ghost use Rattle.clap.specs.Words.{app_of, found_of, kind_of, rows_of, rule_of};
 ghost use Rattle.clap.specs.declared.builder.Command.TheViews.{out-Command as fields_of};
-ghost use Rattle.qroute_top.specs.Commands.{command_of, meaning, opt_command, qroute_command, root_command};
+ghost use Rattle.qroute_top.specs.Commands.{command_of, device_option, meaning, opt_command, qroute_command, root_command, route_command, trivial_flag};
 
 use crate::commands::{self, WordsFault};
+use crate::name::Name;
 use clap::error::ErrorKind;
-use clap::{Command, Error};
+use clap::{Arg, ArgAction, ArgMatches, Command, Error};
 use std::alloc::{AllocError, Global};
 
 /// The program, before its subcommands.
@@ -32,22 +33,69 @@ fn opt_command<'a>(alloc: Global) -> Command<'a>
     Command::new(alloc, "opt")
 }
 
+/// `--device NAME`, which has to be there, once.
+fn device_option<'a>(alloc: Global) -> Arg<'a>
+    ensures rule { rule_of result ≡ device_option }
+    ensures local { result.global ≡ false }
+{
+    Arg::new(alloc, "device")
+        .long("device")
+        .action(ArgAction::Set)
+        .required(true)
+}
+
+/// `--trivial`, at most once.
+fn trivial_flag<'a>(alloc: Global) -> Arg<'a>
+    ensures rule { rule_of result ≡ trivial_flag }
+    ensures local { result.global ≡ false }
+{
+    Arg::new(alloc, "trivial")
+        .long("trivial")
+        .action(ArgAction::SetTrue)
+}
+
+/// `route`, which takes a device and a flag.
+fn route_command<'a>(alloc: Global) -> Result<Command<'a>, AllocError>
+    ensures command { IfOk result (λ c. app_of c ≡ route_command) }
+    ensures local { IfOk result (λ c. (fields_of c).has_globals ≡ false) }
+{
+    Command::new(alloc, "route")
+        .arg(device_option(alloc))?
+        .arg(trivial_flag(alloc))
+}
+
 /// The program with its subcommands.
 fn qroute_command<'a>(alloc: Global) -> Result<Command<'a>, AllocError>
     ensures { IfOk result (λ c. app_of c ≡ qroute_command) }
 {
-    root_command(alloc).subcommand(opt_command(alloc))
+    root_command(alloc)
+        .subcommand(opt_command(alloc))?
+        .subcommand(route_command(alloc)?)
 }
 
-/// What a subcommand asks for.
-fn meaning_of(name: &str) -> Result<commands::Command, WordsFault>
-    ensures ok { IfOk result (λ c. meaning name.now ≡ Some c) }
-    ensures bad { IsErrOf result WordsFault.BadWords → meaning name.now ≡ None }
+/// What a subcommand with its matches asks for.
+fn meaning_of(
+    alloc: Global,
+    name: &str,
+    matches: &ArgMatches<'_>,
+) -> Result<commands::Command, WordsFault>
+    ensures ok { IfOk result (λ c. meaning name.now (rows_of (found_of matches.now)) ≡ Some c) }
+    ensures bad { IsErrOf result WordsFault.BadWords → meaning name.now (rows_of (found_of matches.now)) ≡ None }
 {
     if name == "opt" {
         return Ok(commands::Command::Opt);
     }
-    Err(WordsFault::BadWords)
+    let Some(device) = matches.get_str("device") else {
+        return Err(WordsFault::BadWords);
+    };
+    let trivial = match matches.get_str("trivial") {
+        Some(text) => text == "true",
+        None => false,
+    };
+    Ok(commands::Command::Route {
+        device: Name::new(alloc, device)?,
+        trivial,
+    })
 }
 
 /// What an error of `clap` is here: want of memory, or words that it doesn't take.
@@ -72,7 +120,7 @@ fn read<'a>(alloc: Global, words: &'a [&'a str]) -> Result<commands::Command, Wo
     };
     match matches.subcommand() {
         None => Err(WordsFault::BadWords),
-        Some((name, _matches)) => meaning_of(name),
+        Some((name, found)) => meaning_of(alloc, name, found),
     }
 }
 

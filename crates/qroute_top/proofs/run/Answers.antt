@@ -1,5 +1,6 @@
-use Rattle.std.proofs.Common.{inl, inr, ◌∙◌}
-use Rattle.qroute_top.proofs.RunLaws.{not_late, same_stop, stopped-read}
+use Rattle.std.proofs.Common.{inl, inr, ◌∙◌, ap, Err, map}
+use Rattle.qroute_top.specs.Causes.{Handed}
+use Rattle.qroute_top.proofs.RunLaws.{asked_route, not_late, planned-refuses_device, same_stop, stopped-opt, stopped-read, stopped-refuses, stopped-route, stopped-two}
 use Rattle.qroute_top.proofs.run.Goals as goal
 
 pub returns-in-Err-clause-calm : goal.returns-in-Err-clause-calm
@@ -13,3 +14,52 @@ returns-in-Err-clause-report g c = λ e. absurd (not_late c.in-Err.stop c.tell.r
 
 pub returns-in-Err-clause-read : goal.returns-in-Err-clause-read
 returns-in-Err-clause-read g c = λ e. c.in-Err.ensures.calm (λ is. stopped-read c.in-Err.stop c.tell.result c.tell.ensures.status e (same_stop c.decide.result _ _ c.in-Err.is (c.in-Err.is ∙ is)))
+
+pub returns-in-Ok-clause-refuses_device : goal.returns-in-Ok-clause-refuses_device
+returns-in-Ok-clause-refuses_device g c =
+    λ name trivial text device_text p r asked told ok calm shelf_calm here refusal. absurd
+    (planned-refuses_device _ _ _ _ _ _ name trivial text device_text p r c.in-Ok.ensures.plan asked told ok here refusal)
+
+pub returns-in-Err-clause-words_only : goal.returns-in-Err-clause-words_only
+returns-in-Err-clause-words_only g c =
+    λ two. c.in-Err.ensures.words_only (ap (λ s. Err s) (stopped-two c.in-Err.stop c.tell.result c.tell.ensures.status two))
+
+pub returns-in-Err-clause-refuses : goal.returns-in-Err-clause-refuses
+returns-in-Err-clause-refuses g c =
+    let handed : Handed = record {
+      words = map (λ w. w.now) c.args.words.now;
+      input = g.I.Source.left c.args.input.now;
+      faults_before = g.I.Source.faults c.args.input.now;
+      faults_after = g.I.Source.faults c.decide.new.input;
+      content = g.F.Shelf.content c.args.shelf.now;
+      shelf_before = g.F.Shelf.faults c.args.shelf.now;
+      shelf_after = g.F.Shelf.faults c.decide.new.shelf;
+    } in
+    λ a text r asked told is calm. stopped-refuses handed c.in-Err.stop c.tell.result a text r c.in-Err.ensures.stop c.tell.ensures.status asked told is calm
+
+pub returns-in-Err-clause-complete : goal.returns-in-Err-clause-complete
+returns-in-Err-clause-complete g c =
+    let handed : Handed = record {
+      words = map (λ w. w.now) c.args.words.now;
+      input = g.I.Source.left c.args.input.now;
+      faults_before = g.I.Source.faults c.args.input.now;
+      faults_after = g.I.Source.faults c.decide.new.input;
+      content = g.F.Shelf.content c.args.shelf.now;
+      shelf_before = g.F.Shelf.faults c.args.shelf.now;
+      shelf_after = g.F.Shelf.faults c.decide.new.shelf;
+    } in
+    λ text p asked told ok calm out_calm report_calm. stopped-opt handed c.in-Err.stop c.tell.result text p c.in-Err.ensures.stop c.tell.ensures.status asked told ok calm
+
+pub returns-in-Err-clause-complete_route : goal.returns-in-Err-clause-complete_route
+returns-in-Err-clause-complete_route g c =
+    let handed : Handed = record {
+      words = map (λ w. w.now) c.args.words.now;
+      input = g.I.Source.left c.args.input.now;
+      faults_before = g.I.Source.faults c.args.input.now;
+      faults_after = g.I.Source.faults c.decide.new.input;
+      content = g.F.Shelf.content c.args.shelf.now;
+      shelf_before = g.F.Shelf.faults c.args.shelf.now;
+      shelf_after = g.F.Shelf.faults c.decide.new.shelf;
+    } in
+    λ name trivial text device_text p d asked told ok calm shelf_calm here is fits out_calm report_calm. stopped-route handed c.in-Err.stop c.tell.result name device_text p d
+    c.in-Err.ensures.stop c.tell.ensures.status (asked_route handed name trivial text p asked told ok calm shelf_calm) here is fits

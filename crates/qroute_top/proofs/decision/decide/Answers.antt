@@ -1,7 +1,21 @@
-use Rattle.std.proofs.Common.{ap, Some, ◌∙◌}
-use Rattle.qroute_top.proofs.RunLaws.{Delivers-made, only_opt}
+use Rattle.std.proofs.Common.{refl, map}
+use Rattle.std.proofs.lemmas.Result.{err_from_is_err_and}
+use Rattle.qroute_top.specs.Causes.{Handed}
+use Rattle.qroute_top.proofs.RunLaws.{IsCause-device, same_stop}
 use Rattle.qroute_top.proofs.decision.decide.Goals as goal
 
-pub returns-clause-plan : goal.returns-clause-plan
-returns-clause-plan g c =
-    Delivers-made _ _ _ _ _ _ _ (c.in-Ok.ensures.ok ∙ ap (λ x. Some x) (only_opt c.in-Ok.command)) c.in_ok-program.ensures.ok c.in_ok-plan.ensures.made
+pub returns-in_err-device-in-Route-clause-stop : goal.returns-in_err-device-in-Route-clause-stop
+returns-in_err-device-in-Route-clause-stop g c =
+    let p = err_from_is_err_and c.from_residual-in_err-device-in-Route.result c.from_residual-in_err-device-in-Route.ensures.1 in
+    let handed : Handed = record {
+      words = map (λ w. w.now) c.args.words.now;
+      input = g.I.Source.left c.args.input.now;
+      faults_before = g.I.Source.faults c.args.input.now;
+      faults_after = g.I.Source.faults c.read_source.new.input;
+      content = g.F.Shelf.content c.args.shelf.now;
+      shelf_before = g.F.Shelf.faults c.args.shelf.now;
+      shelf_after = g.F.Shelf.faults c.load_device.new.shelf;
+    } in
+    let it = IsCause-device handed c.in-Ok.command c.in-Route.name c.in-Route.trivial _ _ c.in_ok-program.program.wires _ c.in-Ok.ensures.ok c.in-Route.is c.in_ok-program.ensures.ok
+    refl c.in_err-device-in-Route.ensures.err (λ f. c.in_err-device-in-Route.ensures.calm (λ e. f (same_stop _ _ _ refl e))) in
+    rw (p.1, p.2) it

@@ -1,4 +1,4 @@
-use Rattle.std.proofs.Common.{◌≡◌, ◌∙◌, ap}
+use Rattle.std.proofs.Common.{◌∙◌, ap}
 use Rattle.unitary_model.specs.SmallProgram.{ops_of}
 use Rattle.circuit_list.specs.Body.{Body}
 use Rattle.circuit_list.specs.Gates.{ops}

@@ -1,4 +1,4 @@
-use Rattle.std.proofs.Common.{◌≡◌, ◌∙◌, ap, sym}
+use Rattle.std.proofs.Common.{◌∙◌, ap, sym}
 use Rattle.unitary_model.specs.SmallProgram.{reads_of}
 use Rattle.qroute_top.proofs.ExpansionLaws.{bit_below, none_only, reads-kept, reads-more, reads_of-none, take-whole}
 use Rattle.qroute_top.proofs.expansion.reads_of.Goals as goal

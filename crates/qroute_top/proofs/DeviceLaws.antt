@@ -1,0 +1,81 @@
+-- Device texts: what they say, and what is refused.
+--   Says-once              a text says one thing
+--   IsDevice-refused       a text that describes a device is refused for too few qubits alone
+--   IsDeviceCause-text, IsDeviceCause-stop     why a device isn't had
+use Rattle.std.proofs.Common.{◌≡◌, ℕ, ◌≤◌, List, [], Option, Some, sym, ap, ◌∙◌, arith}
+use Rattle.outside_io.specs.Shelf.{IsTextCause, TellsText}
+use Rattle.outside_io.specs.declared.TextFault.{TextFault}
+use Rattle.outside_io.specs.declared.TextFault.TheVariants as text_fault
+use Rattle.coupling_map.specs.Coupling.{Coupling}
+use Rattle.coupling_map.specs.Text.{Outcome, Says, graph, outcome_of, range, self_edge, shape}
+use Rattle.coupling_map.specs.Walks.{IsJoined}
+use Rattle.coupling_map.specs.declared.faults.DeviceFault.TheVariants as fault
+use Rattle.qroute_top.specs.Causes.{IsDeviceCause, IsDeviceStop, IsTextStop}
+use Rattle.qroute_top.specs.Devices.{IsDevice, IsDeviceRefusal, device_limit}
+use Rattle.qroute_top.specs.declared.stops.DeviceRefusal.{DeviceRefusal}
+use Rattle.qroute_top.specs.declared.stops.DeviceRefusal.TheVariants as device
+use Rattle.qroute_top.specs.declared.stops.Stop.{Stop}
+use Rattle.qroute_top.specs.declared.stops.Stop.TheVariants as stop
+
+-- a text says one thing
+pub Says-once : (text : List ℕ) (o p : Outcome) → Says text o → Says text p → o ≡ p
+Says-once text o p (t, is, e) (u, too, f) =
+    let same : t ≡ u = some_same t u (sym is.read ∙ too.read) in
+    sym e ∙ ap outcome_of same ∙ f
+  where
+    some_same : {X : Type 0} (x y : X) → Some x ≡ Some y → x ≡ y
+    some_same x y e = cc
+
+abbrev pub size_said : Outcome → ℕ
+size_said (graph n es) = n
+size_said shape = 0
+size_said range = 0
+size_said (self_edge q) = 0
+
+abbrev pub edges_said : Outcome → List (ℕ × ℕ)
+edges_said (graph n es) = es
+edges_said shape = []
+edges_said range = []
+edges_said (self_edge q) = []
+
+-- where a text describes a device with a qubit for each wire, it is not refused
+pub IsDevice-refused : (text : List ℕ) (d : Coupling) (n : ℕ) (r : DeviceRefusal) → IsDevice text d → n ≤ d.size → IsDeviceRefusal text n r → ⊥
+IsDevice-refused text d n device.TooLong is fits r = omega (arith, is.short)
+IsDevice-refused text d n (device.Fault fault.Text) is fits r =
+    let none = r.1 is.says.1.utf8 in
+    let read = is.says.1.read in
+    cc
+IsDevice-refused text d n (device.Fault fault.Shape) is fits r = let e = Says-once text _ _ is.says r.1 in cc
+IsDevice-refused text d n (device.Fault fault.Range) is fits r = let e = Says-once text _ _ is.says r.1 in cc
+IsDevice-refused text d n (device.Fault (fault.SelfEdge q)) is fits r = let e = Says-once text _ _ is.says r.1 in cc
+IsDevice-refused text d n (device.Fault (fault.NotConnected from to)) is fits (short, (m, es, says, first, apart)) =
+    let e = Says-once text _ _ says is.says in
+    let size : m ≡ d.size = ap size_said e in
+    let edges : es ≡ d.edges = ap edges_said e in
+    let walk = is.coupling.exact 0 to is.coupling.graph.positive (omega (arith, apart.below, size)) in
+    let joined : IsJoined es 0 to = rw edges (walk.walked.0, walk.walked.2) in
+    apart.apart joined
+IsDevice-refused text d n (device.TooFewQubits size qubits) is fits (c, other, a, b, few) =
+    let e = Says-once text _ _ other.says is.says in
+    let same : c.size ≡ d.size = ap size_said e in
+    omega (arith, same, a, b, few, fits)
+
+-- why a text of the shelf isn't had is why the device isn't
+pub IsDeviceCause-text : (content : Option (Option (List ℕ))) (n before after : ℕ) (f : TextFault) (s : Stop)
+    → IsTextCause content device_limit before after f → IsTextStop f s → IsDeviceCause content n before after s
+IsDeviceCause-text content n before after text_fault.Failed s c is = rw is c
+IsDeviceCause-text content n before after text_fault.Absent s c is = rw is c
+IsDeviceCause-text content n before after text_fault.TooLong s c is = rw is c
+IsDeviceCause-text content n before after text_fault.NoMemory s c is = rw is tt
+
+pub IsDeviceCause-stop : (content : Option (Option (List ℕ))) (n before after : ℕ) (text : List ℕ) (s : Stop)
+    → TellsText content text → IsDeviceStop text n s → IsDeviceCause content n before after s
+IsDeviceCause-stop content n before after text stop.NoMemory t c = tt
+IsDeviceCause-stop content n before after text stop.Words t c = absurd c
+IsDeviceCause-stop content n before after text stop.Input t c = absurd c
+IsDeviceCause-stop content n before after text (stop.Program r) t c = absurd c
+IsDeviceCause-stop content n before after text stop.Shelf t c = absurd c
+IsDeviceCause-stop content n before after text stop.Absent t c = absurd c
+IsDeviceCause-stop content n before after text (stop.Device r) t c = (text, t, c)
+
+pub ruleset shelves = (IsDeviceCause-text, IsDeviceCause-stop)

@@ -1,0 +1,11 @@
+-- The reads so far are placed.
+use Rattle.std.proofs.Common.{◌≡◌, All, length, map, take}
+use Rattle.qasm_writer.specs.Outputs.{IsRead}
+use Rattle.qroute_top.specs.Delivered.{placed_read}
+use Rattle.qroute_top.proofs.plan.placed_reads.Given as goal
+
+abbrev pub invariant-reads : goal.invariant-reads
+invariant-reads l = record {
+  same : l.placed.items ≡ map (placed_read l.last) (take l.read-index l.reads);
+  there : All (IsRead (length l.last)) l.placed.items;
+}
