@@ -1,0 +1,8 @@
+mod LoopLaws
+mod PlaceLaws
+mod ProgramLaws
+mod RepeatLaws
+mod StateLaws
+mod StatementLaws
+mod TableLaws
+mod VerdictLaws

@@ -1,0 +1,23 @@
+use Rattle.std.proofs.Common.{◌≡◌, ℕ, List, [], ap, sym, ◌∙◌, map}
+use Rattle.std.proofs.lemmas.Simd.{map-map}
+use Rattle.qasm_parser.specs.Tree.{application, expression}
+use Rattle.qasm_parser.specs.declared.tree.Expr.{Expr}
+use Rattle.qasm_check.specs.Known.{gate_number, meaning}
+use Rattle.qasm_check.specs.Places.{places}
+use Rattle.qasm_check.specs.State.{state}
+use Rattle.qasm_check.specs.Steps.{formula as bound}
+use Rattle.qasm_check.specs.Views.{formula}
+use Rattle.qasm_check.proofs.act.application.Goals as goal
+
+pub returns-clause-ok : goal.returns-clause-ok
+returns-clause-ok c =
+    let K = state c.args.known.now in
+    let a = application c.args.apply.now in
+    let number : c.gate_number.result ≡ gate_number (meaning K a.gate) = c.gate_number.ensures in
+    let angles : map formula c.in_ok-angles.angles.items ≡ map (bound []) a.angles =
+    c.in_ok-angles.ensures
+    ∙ ap (λ (ps : List (List ℕ)). map (λ (e : Expr). bound ps (expression e)) c.deref.result.now) c.none-none.ensures
+    ∙ ap (map (λ (e : Expr). bound [] (expression e))) c.deref.ensures.value
+    ∙ sym (map-map (bound []) expression c.args.apply.now.angles.items) in
+    let named : c.in_ok-places.places.items ≡ places K a.args = c.in_ok-places.ensures.ok.1 in
+    (c.in_ok-places.ensures.ok.0, cc)

@@ -1,0 +1,22 @@
+use Rattle.std.proofs.Common.{◌≡◌, false, ap, sym, ◌∙◌, arith}
+use Rattle.std.specs.List.{list_any}
+use Rattle.std.proofs.lemmas.Grind.{common_steps}
+use Rattle.std.proofs.lemmas.List.Folds.{list_any_at}
+use Rattle.qasm_parser.specs.Tree.{action}
+use Rattle.qasm_parser.specs.declared.tree.Stmt.{Stmt}
+use Rattle.qasm_check.proofs.LoopLaws.{list_any-map}
+use Rattle.qasm_check.specs.Refusals.{in_body, repeats_name}
+use Rattle.qasm_check.proofs.body.any_repeating.Goals as goal
+
+pub returns-then-branch : goal.returns-then-branch
+returns-then-branch c =
+    let test = in_body repeats_name in
+    sym (list_any-map test action c.args.body.now
+    ∙ list_any_at (λ (s : Stmt). test (action s)) c.args.body.now c.items.item-index c.item-item.result c.items-test.true
+    (ap (λ (s : Stmt). test (action s)) (sym c.item-item.is) ∙ sym c.in_ok-is_repeating.ensures ∙ c.if-branch.true))
+
+pub returns : goal.returns
+returns c =
+    let test = in_body repeats_name in
+    let none : list_any (λ (s : Stmt). test (action s)) c.args.body.now ≡ false = grind (arith, common_steps) in
+    sym (list_any-map test action c.args.body.now ∙ none)

@@ -1,0 +1,86 @@
+-- Whole programs.
+--   AllFine        no refusal applies to any of these statements, each with what is known before it
+--   IsAccepted     no refusal applies to a statement of the program
+--   IsRefusedIn, IsRefused   the first statement to which a refusal applies, counted from 1, and the least such refusal
+--   IsFaultIn, IsFault   what may be told of the program
+--   Bound          a program with its names bound: the gates by their numbers, what each statement does, how many wires
+--                  and bits there are, and the classical registers in order
+--   bound_of, bound   that of statements; that of a tree
+--   barriers       how many barriers stand outside bodies
+use Rattle.std.specs.Prelude.{◌≡◌, ℕ, ◌+◌, List, [], ◌∷◌, ◌++◌, Option, Some, None, Bool, true, false, length}
+use Rattle.std.specs.List.{count_by, filter_map}
+use Rattle.qasm_parser.specs.Tree.{Statement, include, register, gate, opaque, conditional, act, Tree}
+use Rattle.qasm_check.specs.Gates.{Gate}
+use Rattle.qasm_check.specs.Known.{Known, fresh}
+use Rattle.qasm_check.specs.Steps.{Step, applies, measures, pauses, nothing, after, known, step}
+use Rattle.qasm_check.specs.declared.bits.Bits.{Bits}
+use Rattle.qasm_check.specs.Refusals.{IsFine, IsLeast}
+use Rattle.qasm_check.specs.declared.refusal.Refused.{Refused}
+use Rattle.qasm_check.specs.declared.refusal.CheckFault.{CheckFault}
+use Rattle.qasm_check.specs.declared.refusal.CheckFault.TheVariants.{Refused as Refuses, NoMemory}
+
+abbrev pub AllFine : Known → List Statement → Type 0
+AllFine k [] = Unit {0}
+AllFine k (s ∷ rest) = IsFine k s × AllFine (after k s) rest
+
+abbrev pub IsAccepted : Tree → Type 0
+IsAccepted t = AllFine fresh t.list
+
+abbrev pub IsRefusedIn : List Statement → Refused → Type 0
+IsRefusedIn list r =
+    (before : List Statement) × (s : Statement) × (rest : List Statement)
+    × (list ≡ before ++ s ∷ rest) × (r.statement ≡ length before + 1)
+    × AllFine fresh before × IsLeast (known before) s r.refusal
+
+abbrev pub IsRefused : Tree → Refused → Type 0
+IsRefused t r = IsRefusedIn t.list r
+
+abbrev pub IsFaultIn : List Statement → CheckFault → Type 0
+IsFaultIn list (Refuses r) = IsRefusedIn list r
+IsFaultIn list NoMemory = Unit {0}
+
+abbrev pub IsFault : Tree → CheckFault → Type 0
+IsFault t fault = IsFaultIn t.list fault
+
+-- ---- names bound
+abbrev pub bits_of : Statement → Option Bits
+bits_of (register true name size) = None
+bits_of (register false name size) = Some (record { name = name; size = size })
+bits_of (include file) = None
+bits_of (gate d) = None
+bits_of (opaque d) = None
+bits_of (conditional name value inner) = None
+bits_of (act it) = None
+
+abbrev pub steps : Known → List Statement → List Step
+steps k [] = []
+steps k (s ∷ rest) = step k s ∷ steps (after k s) rest
+
+pub record Bound : Type 0 where
+  pub gates : List Gate
+  pub steps : List Step
+  pub wires : ℕ
+  pub bits : ℕ
+  pub registers : List Bits
+
+abbrev pub bound_of : List Statement → Bound
+bound_of list = let end = known list in record {
+  gates = end.gates;
+  steps = steps fresh list;
+  wires = end.wires;
+  bits = end.bits;
+  registers = filter_map bits_of list;
+}
+
+abbrev pub bound : Tree → Bound
+bound t = bound_of t.list
+
+-- how many barriers stand outside bodies
+abbrev pub is_pause : Step → Bool
+is_pause (applies number angles places) = false
+is_pause (measures qubit bit) = false
+is_pause (pauses places) = true
+is_pause nothing = false
+
+abbrev pub barriers : Bound → ℕ
+barriers b = count_by is_pause b.steps

@@ -1,0 +1,45 @@
+-- What is known behind some statements.
+--   Known          what the program's own names stand for, whether the tables are included, the gates by their numbers, how
+--                  many wires and bits there are, and which wires were measured
+--   fresh          what is known at a program's beginning
+--   own_number     the number of a gate that needs no declaration: `U`, `CX`, and where they are included those of the tables
+--   meaning        what a name stands for: what the program made of it, else one of those gates, else nothing
+--   gate_number    the number of the gate that a name stands for
+use Rattle.std.specs.Prelude.{ℕ, ◌+◌, List, ◌∷◌, Option, Some, None, Bool, false, if◌then◌else◌, codes, option_map}
+use Rattle.std.specs.Option.{option_or}
+use Rattle.std.specs.Str.{bytes_eq}
+use Rattle.qasm_check.specs.Gates.{Gate, u, cx}
+use Rattle.qasm_check.specs.Library.{library, table_place}
+use Rattle.qasm_check.specs.declared.meaning.Meaning.{Meaning}
+use Rattle.qasm_check.specs.declared.meaning.Meaning.TheVariants.{Gate as Numbered}
+
+pub record Known : Type 0 where
+  pub declared : List ℕ → Option Meaning
+  pub included : Bool
+  pub gates : List Gate
+  pub wires : ℕ
+  pub bits : ℕ
+  pub measured : ℕ → Bool
+
+abbrev pub fresh : Known
+fresh = record {
+  declared = λ name. None;
+  included = false;
+  gates = u ∷ cx ∷ library;
+  wires = 0;
+  bits = 0;
+  measured = λ wire. false;
+}
+
+abbrev pub own_number : Bool → List ℕ → Option ℕ
+own_number included name =
+    if bytes_eq name (codes "U") then Some 0
+    else (if bytes_eq name (codes "CX") then Some 1
+    else (if included then option_map (λ i. i + 2) (table_place name) else None))
+
+abbrev pub meaning : Known → List ℕ → Option Meaning
+meaning k name = option_or (k.declared name) (option_map Numbered (own_number k.included name))
+
+abbrev pub gate_number : Option Meaning → ℕ
+gate_number (Some (Numbered i)) = i
+gate_number _ = 0

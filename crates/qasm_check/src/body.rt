@@ -1,0 +1,353 @@
+//! Gates as they are declared.
+
+ghost use Rattle.std.specs.Prelude.{◌≡◌, ◌++◌, None, length, IfOk, IfErr, OnOk, [], map, not};
+ghost use Rattle.std.specs.List.{list_any};
+ghost use Rattle.qasm_parser.specs.Tree.{action, application as application_tree, gate as declares, opaque as leaves_opaque};
+ghost use Rattle.qasm_check.specs.Bodies.{declaration, has_flaw};
+ghost use Rattle.qasm_check.specs.Gates.{opaque as without_body};
+ghost use Rattle.qasm_check.specs.Known.{meaning};
+ghost use Rattle.qasm_check.specs.Names.{is_one_of, place_of};
+ghost use Rattle.qasm_check.specs.Refusals.{applies_opaque, gate_taken, in_body, is_register, name_taken_by, params_differ, qubits_differ, repeats_name, unknown_in_body};
+ghost use Rattle.qasm_check.specs.State.{state};
+ghost use Rattle.qasm_check.specs.Steps.{bound_gate, item as bound_item};
+ghost use Rattle.qasm_check.specs.Verdicts.{IsStop, verdict};
+ghost use Rattle.qasm_check.specs.Views.{gate as gate_view, item as item_view};
+
+use crate::act::{applies_opaque, gate_number, params_differ, qubits_differ};
+use crate::formula::{any_foreign, formulas};
+use crate::gate::{Gate, Item};
+use crate::known::Known;
+use crate::library::is_standard;
+use crate::meaning::is_register;
+use crate::names::Places;
+use crate::refusal::Refusal;
+use crate::repeats::names_repeat;
+use crate::stop::Stop;
+use qasm_parser::{Apply, Arg, GateDef, Name, Stmt};
+use std::alloc::{AllocError, Global};
+
+/// What may be wrong with an application.
+#[derive(Clone, Copy)]
+pub enum Flaw {
+    /// A register stands for the gate.
+    Register,
+    /// The gate has another number of parameters.
+    Params,
+    /// The gate has another number of qubits.
+    Qubits,
+    /// The gate has no body.
+    Opaque,
+}
+
+/// Whether this is wrong with an application.
+fn has_flaw<'a>(known: &Known<'a>, flaw: Flaw, apply: &'a Apply) -> bool
+    ensures { result ≡ has_flaw (state known.now) flaw (application_tree apply.now) }
+{
+    match flaw {
+        Flaw::Register => is_register(known.meaning(apply.gate.as_bytes())),
+        Flaw::Params => params_differ(known, apply),
+        Flaw::Qubits => qubits_differ(known, apply),
+        Flaw::Opaque => applies_opaque(known, apply),
+    }
+}
+
+/// Whether this is wrong with an item of a body.
+fn is_flawed<'a>(known: &Known<'a>, flaw: Flaw, item: &'a Stmt) -> bool
+    ensures { result ≡ in_body (has_flaw (state known.now) flaw) (action item.now) }
+{
+    match item {
+        Stmt::Apply(apply) => has_flaw(known, flaw, apply),
+        _ => false,
+    }
+}
+
+/// Whether this is wrong with an item of the body.
+fn any_flawed<'a>(known: &Known<'a>, flaw: Flaw, body: &'a [Stmt]) -> bool
+    ensures { result ≡ list_any (in_body (has_flaw (state known.now) flaw)) (map action body.now) }
+{
+    'items: for item in body {
+        if is_flawed(known, flaw, item) {
+            return true;
+        }
+    }
+    false
+}
+
+/// Whether a register stands for a gate in the body.
+fn any_register<'a>(known: &Known<'a>, body: &'a [Stmt]) -> bool
+    ensures { result ≡ list_any (in_body (λ a. is_register (meaning (state known.now) a.gate))) (map action body.now) }
+{
+    any_flawed(known, Flaw::Register, body)
+}
+
+/// Whether a gate in the body has another number of parameters.
+fn any_params_differ<'a>(known: &Known<'a>, body: &'a [Stmt]) -> bool
+    ensures { result ≡ list_any (in_body (params_differ (state known.now))) (map action body.now) }
+{
+    any_flawed(known, Flaw::Params, body)
+}
+
+/// Whether a gate in the body has another number of qubits.
+fn any_qubits_differ<'a>(known: &Known<'a>, body: &'a [Stmt]) -> bool
+    ensures { result ≡ list_any (in_body (qubits_differ (state known.now))) (map action body.now) }
+{
+    any_flawed(known, Flaw::Qubits, body)
+}
+
+/// Whether a gate in the body has no body of its own.
+fn any_opaque<'a>(known: &Known<'a>, body: &'a [Stmt]) -> bool
+    ensures { result ≡ list_any (in_body (applies_opaque (state known.now))) (map action body.now) }
+{
+    any_flawed(known, Flaw::Opaque, body)
+}
+
+/// Whether an argument is no qubit of the gate.
+fn is_foreign<'a>(qubits: &Places<'a>, args: &'a [Arg]) -> bool
+    ensures { result ≡ list_any (λ x. not (is_one_of qubits.now x.name)) args.now }
+{
+    'each: for arg in args {
+        if !qubits.has(arg.name.as_bytes()) {
+            return true;
+        }
+    }
+    false
+}
+
+/// Whether an item of the body has a name that stands for nothing.
+fn is_unknown_in<'a>(
+    known: &Known<'a>,
+    params: &Places<'a>,
+    qubits: &Places<'a>,
+    item: &'a Stmt,
+) -> bool
+    ensures { result ≡ unknown_in_body (state known.now) params.now qubits.now (action item.now) }
+{
+    match item {
+        Stmt::Apply(apply) => {
+            known.meaning(apply.gate.as_bytes()).is_none()
+                || is_foreign(qubits, &apply.args)
+                || any_foreign(params, &apply.angles)
+        }
+        Stmt::Barrier { args } => is_foreign(qubits, args),
+        _ => false,
+    }
+}
+
+/// Whether an item of the body has a name that stands for nothing.
+fn any_unknown<'a>(
+    known: &Known<'a>,
+    params: &Places<'a>,
+    qubits: &Places<'a>,
+    body: &'a [Stmt],
+) -> bool
+    ensures { result ≡ list_any (unknown_in_body (state known.now) params.now qubits.now) (map action body.now) }
+{
+    'items: for item in body {
+        if is_unknown_in(known, params, qubits, item) {
+            return true;
+        }
+    }
+    false
+}
+
+/// The names of arguments.
+fn arg_names<'a>(alloc: Global, args: &'a [Arg]) -> Result<Vec<&'a [u8]>, AllocError>
+    ensures { IfOk result (λ v. map (λ n. n.now) v.items ≡ map (λ x. x.name) args.now) }
+{
+    let mut names = Vec::with_capacity(alloc, args.len())?;
+    'each: for arg in args {
+        names.push(arg.name.as_bytes())?;
+    }
+    Ok(names)
+}
+
+/// Whether two arguments are one name.
+#[tactic(auto, using(crate::proofs::RepeatLaws::names_repeating))]
+fn repeats<'a>(alloc: Global, apply: &'a Apply) -> Result<bool, AllocError>
+    ensures { IfOk result (λ b. b ≡ repeats_name (application_tree apply.now)) }
+{
+    let names = arg_names(alloc, &apply.args)?;
+    let repeats = names_repeat(alloc, &names)?;
+    Ok(repeats)
+}
+
+/// Whether two arguments of an item are one name.
+fn is_repeating<'a>(alloc: Global, item: &'a Stmt) -> Result<bool, AllocError>
+    ensures { IfOk result (λ b. b ≡ in_body repeats_name (action item.now)) }
+{
+    match item {
+        Stmt::Apply(apply) => repeats(alloc, apply),
+        _ => Ok(false),
+    }
+}
+
+/// Whether two arguments of an item of the body are one name.
+fn any_repeating<'a>(alloc: Global, body: &'a [Stmt]) -> Result<bool, AllocError>
+    ensures { IfOk result (λ b. b ≡ list_any (in_body repeats_name) (map action body.now)) }
+{
+    'items: for item in body {
+        if is_repeating(alloc, item)? {
+            return Ok(true);
+        }
+    }
+    Ok(false)
+}
+
+/// Puts names behind others.
+fn add_names<'a>(list: &mut Vec<&'a [u8]>, names: &'a [Name]) -> Result<(), AllocError>
+    ensures { OnOk result (map (λ n. n.now) list.new.items ≡ map (λ n. n.now) list.old.items ++ names.now) }
+{
+    'names: for name in names {
+        list.push(name.as_bytes())?;
+    }
+    Ok(())
+}
+
+/// The names of a gate's parameters and qubits.
+fn local_names<'a>(alloc: Global, gate: &'a GateDef) -> Result<Vec<&'a [u8]>, AllocError>
+    ensures { IfOk result (λ v. map (λ n. n.now) v.items ≡ gate.now.params.items ++ gate.now.qubits.items) }
+{
+    let mut names = Vec::new(alloc);
+    add_names(&mut names, &gate.params)?;
+    add_names(&mut names, &gate.qubits)?;
+    Ok(names)
+}
+
+/// Whether the name of the gate is taken.
+fn is_name_taken<'a>(known: &Known<'a>, name: &'a [u8]) -> bool
+    ensures { result ≡ name_taken_by (state known.now) name.now }
+{
+    known.declared(name).is_some() || (known.is_included() && is_standard(name))
+}
+
+/// Whether the names of the gate, its parameters or its qubits are taken.
+#[tactic(auto, using(crate::proofs::RepeatLaws::names_repeating))]
+fn is_taken<'a>(alloc: Global, known: &Known<'a>, gate: &'a GateDef) -> Result<bool, AllocError>
+    ensures { IfOk result (λ b. b ≡ gate_taken (state known.now) (declaration gate.now)) }
+{
+    if is_name_taken(known, gate.name.as_bytes()) {
+        return Ok(true);
+    }
+    let names = local_names(alloc, gate)?;
+    let repeats = names_repeat(alloc, &names)?;
+    Ok(repeats)
+}
+
+/// The places of arguments among the gate's qubits.
+fn qubit_places<'a>(
+    alloc: Global,
+    qubits: &Places<'a>,
+    args: &'a [Arg],
+) -> Result<Vec<usize>, AllocError>
+    ensures { IfOk result (λ v. v.items ≡ map (λ x. place_of qubits.now x.name) args.now) }
+{
+    let mut list = Vec::with_capacity(alloc, args.len())?;
+    'each: for arg in args {
+        list.push(qubits.place(arg.name.as_bytes()))?;
+    }
+    Ok(list)
+}
+
+/// An item of the body with its names bound.
+fn item<'a>(
+    alloc: Global,
+    known: &Known<'a>,
+    params: &Places<'a>,
+    qubits: &Places<'a>,
+    item: &'a Stmt,
+) -> Result<Item, AllocError>
+    ensures { IfOk result (λ i. item_view i ≡ bound_item (state known.now) params.now qubits.now (action item.now)) }
+{
+    match item {
+        Stmt::Apply(apply) => Ok(Item::Call {
+            gate: gate_number(known, &apply.gate),
+            angles: formulas(alloc, params, &apply.angles)?,
+            qubits: qubit_places(alloc, qubits, &apply.args)?,
+        }),
+        _ => Ok(Item::Pause),
+    }
+}
+
+/// The body with its names bound.
+#[tactic(auto, using(crate::proofs::LoopLaws::tests))]
+fn items<'a>(
+    alloc: Global,
+    known: &Known<'a>,
+    params: &Places<'a>,
+    qubits: &Places<'a>,
+    body: &'a [Stmt],
+) -> Result<Vec<Item>, AllocError>
+    ensures { IfOk result (λ v. map item_view v.items ≡ map (bound_item (state known.now) params.now qubits.now) (map action body.now)) }
+{
+    let mut list = Vec::with_capacity(alloc, body.len())?;
+    'items: for it in body {
+        list.push(item(alloc, known, params, qubits, it)?)?;
+    }
+    Ok(list)
+}
+
+/// Tests a gate with a body.
+fn tested<'a>(
+    alloc: Global,
+    known: &Known<'a>,
+    params: &Places<'a>,
+    qubits: &Places<'a>,
+    gate: &'a GateDef,
+) -> Result<(), Stop>
+    requires params { params.now ≡ gate.now.params.items }
+    requires qubits { qubits.now ≡ gate.now.qubits.items }
+    ensures ok { OnOk result (verdict (state known.now) (declares (declaration gate.now)) ≡ None) }
+    ensures err { IfErr result (IsStop (verdict (state known.now) (declares (declaration gate.now)))) }
+{
+    if is_taken(alloc, known, gate)? {
+        return Err(Stop::Refused(Refusal::NameTaken));
+    }
+    if any_unknown(known, params, qubits, &gate.body) {
+        return Err(Stop::Refused(Refusal::UnknownName));
+    }
+    if any_register(known, &gate.body) {
+        return Err(Stop::Refused(Refusal::WrongKind));
+    }
+    if any_params_differ(known, &gate.body) {
+        return Err(Stop::Refused(Refusal::ParamCount));
+    }
+    if any_qubits_differ(known, &gate.body) {
+        return Err(Stop::Refused(Refusal::QubitCount));
+    }
+    if any_repeating(alloc, &gate.body)? {
+        return Err(Stop::Refused(Refusal::RepeatedQubit));
+    }
+    if any_opaque(known, &gate.body) {
+        return Err(Stop::Refused(Refusal::OpaqueApplied));
+    }
+    Ok(())
+}
+
+/// A gate with a body.
+pub fn gate<'a>(alloc: Global, known: &Known<'a>, gate: &'a GateDef) -> Result<Gate, Stop>
+    ensures ok { IfOk result (λ g. (verdict (state known.now) (declares (declaration gate.now)) ≡ None) × (gate_view g ≡ bound_gate (state known.now) (declaration gate.now))) }
+    ensures err { IfErr result (IsStop (verdict (state known.now) (declares (declaration gate.now)))) }
+{
+    let params = Places::of(alloc, &gate.params)?;
+    let qubits = Places::of(alloc, &gate.qubits)?;
+    tested(alloc, known, &params, &qubits, gate)?;
+    Ok(Gate::Composed {
+        params: gate.params.len(),
+        qubits: gate.qubits.len(),
+        body: items(alloc, known, &params, &qubits, &gate.body)?,
+    })
+}
+
+/// A gate without a body.
+pub fn opaque<'a>(alloc: Global, known: &Known<'a>, gate: &'a GateDef) -> Result<Gate, Stop>
+    ensures ok { IfOk result (λ g. (verdict (state known.now) (leaves_opaque (declaration gate.now)) ≡ None) × (gate_view g ≡ without_body (length gate.now.params.items) (length gate.now.qubits.items))) }
+    ensures err { IfErr result (IsStop (verdict (state known.now) (leaves_opaque (declaration gate.now)))) }
+{
+    if is_taken(alloc, known, gate)? {
+        return Err(Stop::Refused(Refusal::NameTaken));
+    }
+    Ok(Gate::Opaque {
+        params: gate.params.len(),
+        qubits: gate.qubits.len(),
+    })
+}

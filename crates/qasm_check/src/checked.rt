@@ -1,0 +1,105 @@
+//! Programs whose names are bound.
+
+ghost use Rattle.std.specs.Prelude.{◌<◌, ◌^◌, length};
+
+use crate::bits::Bits;
+use crate::gate::Gate;
+use crate::statement::Step;
+
+/// A program without a refusal, its names bound. Contracts see its gates by their numbers, what each statement does, how
+/// many wires and bits there are, and the classical registers in order.
+#[derive(Drop)]
+pub struct Checked {
+    gates: Vec<Gate>,
+    steps: Vec<Step>,
+    wires: u32,
+    bits: u32,
+    registers: Vec<Bits>,
+    ghost few: { length registers.items < 2 ^ 32 },
+}
+
+impl Checked {
+    ghost use Rattle.std.specs.Prelude.{◌≡◌, IfOk, map, slice_get, Some};
+    ghost use Rattle.qasm_check.specs.Checking.{barriers};
+    ghost use Rattle.qasm_check.specs.CheckedView.{program};
+    ghost use Rattle.qasm_check.specs.StepViews.{step};
+    ghost use Rattle.qasm_check.specs.Views.{gate};
+
+    /// A program of these parts.
+    pub(crate) fn new(
+        gates: Vec<Gate>,
+        steps: Vec<Step>,
+        wires: u32,
+        bits: u32,
+        registers: Vec<Bits>,
+    ) -> Checked
+        requires { length registers.items < 2 ^ 32 }
+        ensures { program result ≡ record { gates = map gate gates.items; steps = map step steps.items; wires = wires; bits = bits; registers = registers.items } }
+    {
+        Checked {
+            gates,
+            steps,
+            wires,
+            bits,
+            registers,
+        }
+    }
+
+    /// How many wires there are: the qubits of all registers in order of declaration, side by side.
+    pub fn wires(&self) -> u32
+        ensures { result ≡ (program self.now).wires }
+    {
+        self.wires
+    }
+
+    /// How many classical bits there are.
+    pub fn bits(&self) -> u32
+        ensures { result ≡ (program self.now).bits }
+    {
+        self.bits
+    }
+
+    /// How many barriers stand outside bodies.
+    pub fn barriers(&self) -> u64
+        ensures { result ≡ barriers (program self.now) }
+    {
+        let mut count = 0u64;
+        'steps: for it in &self.steps {
+            if it.is_pause() {
+                count += 1;
+            }
+        }
+        count
+    }
+
+    /// How many classical registers there are.
+    pub fn registers(&self) -> u32
+        ensures { result ≡ length (program self.now).registers }
+    {
+        self.registers.len() as u32
+    }
+
+    /// The name and the size of the k-th classical register, from 0.
+    pub fn register(&self, k: u32) -> (&[u8], u32)
+        requires { k < length (program self.now).registers }
+        ensures { slice_get (program self.now).registers k ≡ Some (record { name = result.0.now; size = result.1 }) }
+    {
+        let register = &self.registers[k as usize];
+        (register.name.as_bytes(), register.size)
+    }
+
+    /// The gates by their numbers: `U`, `CX`, those of the tables, then those that the program declares, in order. A gate's
+    /// body has only lesser numbers.
+    pub fn gates(&self) -> &[Gate]
+        ensures { map gate result.now ≡ (program self.now).gates }
+    {
+        &self.gates
+    }
+
+    /// What each statement does.
+    pub fn steps(&self) -> &[Step]
+        ensures { map step result.now ≡ (program self.now).steps }
+    {
+        &self.steps
+    }
+}

@@ -1,0 +1,42 @@
+//! The checks of a program's tree, and its names bound.
+//!
+//! In goes a tree, out comes the same program with its names bound: each application names its gate by a number and its
+//! qubits by their register's first wire, each line of a gate's body its gate by a number and its qubits and parameters by
+//! their places. A name in a body means what it means where the body stands. Else the contract says which statement is the
+//! first with a refusal, and which of its refusals has the least code. Names are looked up in ordered maps, so the time is
+//! near-linear in the tree.
+#![tactic(auto)]
+
+mod act;
+mod arguments;
+mod bits;
+mod body;
+mod checked;
+mod formula;
+mod gate;
+mod known;
+mod library;
+mod meaning;
+mod names;
+mod program;
+mod refusal;
+mod repeats;
+mod statement;
+mod stop;
+#[cfg(test)]
+mod tests;
+
+pub use bits::Bits;
+pub use checked::Checked;
+pub use formula::Formula;
+pub use gate::{Gate, Item};
+pub use meaning::Place;
+pub use program::check;
+pub use refusal::{CheckFault, Refusal, Refused};
+pub use statement::Step;
+
+/// The most qubits that a program has.
+pub const QUBIT_LIMIT: u64 = 64;
+
+/// The most classical bits that a program has.
+pub const BIT_LIMIT: u64 = 1024;

@@ -1,0 +1,219 @@
+//! One statement: why it is refused, or what it does and what is known behind it.
+
+ghost use Rattle.std.specs.Prelude.{◌≡◌, ◌+◌, ◌||◌, None, IfOk, IfErr, codes, is_some, nat_lt};
+ghost use Rattle.std.specs.Str.{bytes_eq};
+ghost use Rattle.qasm_parser.specs.Tree.{act, gate as declares, include as includes, measure as measures, opaque as leaves_opaque, register as registers, statement as tree};
+ghost use Rattle.qasm_check.specs.Bodies.{declaration};
+ghost use Rattle.qasm_check.specs.Names.{is_one_of};
+ghost use Rattle.qasm_check.specs.StepViews.{step};
+ghost use Rattle.qasm_check.specs.Steps.{act_step, after, nothing, step as step_of};
+ghost use Rattle.qasm_check.specs.Verdicts.{IsStop, verdict};
+ghost use Rattle.std.specs.List.{list_any};
+ghost use Rattle.qasm_check.specs.Library.{standard_names, table_names};
+ghost use Rattle.qasm_check.specs.Refusals.{is_gate};
+ghost use Rattle.qasm_check.specs.State.{state};
+
+use crate::act::{application, barrier, measure};
+use crate::arguments::place;
+use crate::body::{gate, opaque};
+use crate::formula::Formula;
+use crate::known::Known;
+use crate::library::{NAMES, STANDARD, is_in_table};
+use crate::meaning::{Place, is_gate};
+use crate::refusal::Refusal;
+use crate::stop::Stop;
+use crate::{BIT_LIMIT, QUBIT_LIMIT};
+use qasm_parser::{Arg, GateDef, Name, Stmt};
+use std::alloc::Global;
+
+/// What a statement does.
+#[derive(Drop)]
+pub enum Step {
+    /// Applies the gate of this number at these angles. Where a place is a whole register, it is applied once for each of
+    /// its wires; single wires are repeated.
+    Apply {
+        gate: usize,
+        angles: Vec<Formula>,
+        places: Vec<Place>,
+    },
+    /// Measures a wire into a bit, or wire by wire a register into one of bits.
+    Measure {
+        qubit: Place,
+        bit: Place,
+    },
+    /// A barrier over these wires.
+    Pause {
+        places: Vec<Place>,
+    },
+    /// A declaration or an include.
+    Nothing,
+}
+
+/// Whether the program has made a gate of one of these names.
+fn any_declared<'a>(known: &Known<'a>, names: &[&'a [u8]]) -> bool
+    ensures { result ≡ list_any (λ name. is_gate ((state known.now).declared name.now)) names.now }
+{
+    'names: for name in names {
+        if is_gate(known.declared(name)) {
+            return true;
+        }
+    }
+    false
+}
+
+/// Whether the program has made a gate of a name of the library's listing.
+fn any_standard(known: &Known<'_>) -> bool
+    ensures { result ≡ list_any (λ name. is_gate ((state known.now).declared name)) standard_names }
+{
+    any_declared(known, &NAMES[..STANDARD])
+}
+
+impl Step {
+    ghost use Rattle.qasm_check.specs.Checking.{is_pause};
+
+    /// Whether it is a barrier.
+    pub fn is_pause(&self) -> bool
+        ensures { result ≡ is_pause (step self.now) }
+    {
+        match self {
+            Step::Pause { places: _ } => true,
+            Step::Apply {
+                gate: _,
+                angles: _,
+                places: _,
+            } => false,
+            Step::Measure { qubit: _, bit: _ } => false,
+            Step::Nothing => false,
+        }
+    }
+}
+
+/// Whether it is the file of the tables.
+fn is_library(file: &[u8]) -> bool
+    ensures { result ≡ bytes_eq file.now (codes "qelib1.inc") }
+{
+    file == b"qelib1.inc".as_slice()
+}
+
+/// An include.
+fn include(known: &mut Known<'_>, file: &Name) -> Result<Step, Stop>
+    ensures ok { IfOk result (λ s. (verdict (state known.old) (includes file.now) ≡ None) × (step s ≡ nothing) × (state known.new ≡ after (state known.old) (includes file.now))) }
+    ensures err { IfErr result (IsStop (verdict (state known.old) (includes file.now))) }
+{
+    if !is_library(file.as_bytes()) || known.is_included() {
+        return Err(Stop::Refused(Refusal::Include));
+    }
+    if any_standard(known) {
+        return Err(Stop::Refused(Refusal::NameTaken));
+    }
+    known.include();
+    Ok(Step::Nothing)
+}
+
+/// Whether with so many more there are more than the limit.
+fn is_over(limit: u64, already: u32, size: u64) -> bool
+    ensures { result ≡ nat_lt limit (already + size) }
+{
+    u128::from(already) + u128::from(size) > u128::from(limit)
+}
+
+/// Whether the name of a register is taken.
+fn is_register_taken<'a>(known: &Known<'a>, name: &'a [u8]) -> bool
+    ensures { result ≡ (is_some ((state known.now).declared name.now) || is_one_of table_names name.now) }
+{
+    known.declared(name).is_some() || is_in_table(name)
+}
+
+/// A register.
+fn register<'a>(
+    known: &mut Known<'a>,
+    quantum: bool,
+    name: &'a Name,
+    size: u64,
+) -> Result<Step, Stop>
+    ensures ok { IfOk result (λ s. (verdict (state known.old) (registers quantum name.now size) ≡ None) × (step s ≡ nothing) × (state known.new ≡ after (state known.old) (registers quantum name.now size))) }
+    ensures err { IfErr result (IsStop (verdict (state known.old) (registers quantum name.now size))) }
+{
+    let name = name.as_bytes();
+    if is_register_taken(known, name) {
+        return Err(Stop::Refused(Refusal::NameTaken));
+    }
+    if size == 0 {
+        return Err(Stop::Refused(Refusal::EmptyRegister));
+    }
+    if quantum && is_over(QUBIT_LIMIT, known.wires(), size) {
+        return Err(Stop::Refused(Refusal::TooManyQubits));
+    }
+    if !quantum && is_over(BIT_LIMIT, known.bits(), size) {
+        return Err(Stop::Refused(Refusal::TooManyBits));
+    }
+    known.add_register(quantum, name, size as u32)?;
+    Ok(Step::Nothing)
+}
+
+/// A gate with a body.
+fn declare<'a>(alloc: Global, known: &mut Known<'a>, definition: &'a GateDef) -> Result<Step, Stop>
+    ensures ok { IfOk result (λ s. (verdict (state known.old) (declares (declaration definition.now)) ≡ None) × (step s ≡ nothing) × (state known.new ≡ after (state known.old) (declares (declaration definition.now)))) }
+    ensures err { IfErr result (IsStop (verdict (state known.old) (declares (declaration definition.now)))) }
+{
+    let gate = gate(alloc, known, definition)?;
+    known.add_gate(definition.name.as_bytes(), gate)?;
+    Ok(Step::Nothing)
+}
+
+/// A gate without a body.
+fn declare_opaque<'a>(
+    alloc: Global,
+    known: &mut Known<'a>,
+    definition: &'a GateDef,
+) -> Result<Step, Stop>
+    ensures ok { IfOk result (λ s. (verdict (state known.old) (leaves_opaque (declaration definition.now)) ≡ None) × (step s ≡ nothing) × (state known.new ≡ after (state known.old) (leaves_opaque (declaration definition.now)))) }
+    ensures err { IfErr result (IsStop (verdict (state known.old) (leaves_opaque (declaration definition.now)))) }
+{
+    let gate = opaque(alloc, known, definition)?;
+    known.add_gate(definition.name.as_bytes(), gate)?;
+    Ok(Step::Nothing)
+}
+
+/// A measure.
+fn measured<'a>(known: &mut Known<'a>, qubit: &'a Arg, bit: &'a Arg) -> Result<Step, Stop>
+    ensures ok { IfOk result (λ s. (verdict (state known.old) (act (measures qubit.now bit.now)) ≡ None) × (step s ≡ act_step (state known.old) (measures qubit.now bit.now)) × (state known.new ≡ after (state known.old) (act (measures qubit.now bit.now)))) }
+    ensures err { IfErr result (IsStop (verdict (state known.old) (act (measures qubit.now bit.now)))) }
+{
+    let step = measure(known, qubit, bit)?;
+    if let Some(wires) = place(known, qubit) {
+        known.measure(&wires)?;
+    }
+    Ok(step)
+}
+
+/// Checks a statement, and adds to what is known.
+#[tactic(auto, using(crate::proofs::StatementLaws::statements))]
+pub fn statement<'a>(
+    alloc: Global,
+    known: &mut Known<'a>,
+    statement: &'a Stmt,
+) -> Result<Step, Stop>
+    ensures ok { IfOk result (λ s. (verdict (state known.old) (tree statement.now) ≡ None) × (step s ≡ step_of (state known.old) (tree statement.now)) × (state known.new ≡ after (state known.old) (tree statement.now))) }
+    ensures err { IfErr result (IsStop (verdict (state known.old) (tree statement.now))) }
+{
+    match statement {
+        Stmt::Include { file } => include(known, file),
+        Stmt::Register {
+            quantum,
+            name,
+            size,
+        } => register(known, *quantum, name, *size),
+        Stmt::Gate(definition) => declare(alloc, known, definition),
+        Stmt::Opaque(definition) => declare_opaque(alloc, known, definition),
+        Stmt::Apply(apply) => application(alloc, known, apply),
+        Stmt::Measure { qubit, bit } => measured(known, qubit, bit),
+        Stmt::Reset { arg: _ } => Err(Stop::Refused(Refusal::Reset)),
+        Stmt::If {
+            name: _,
+            value: _,
+            inner: _,
+        } => Err(Stop::Refused(Refusal::Conditional)),
+        Stmt::Barrier { args } => barrier(alloc, known, args),
+    }
+}
