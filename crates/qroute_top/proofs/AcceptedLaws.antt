@@ -8,8 +8,8 @@ use Rattle.unitary_model.specs.Tokens.{Text}
 use Rattle.unitary_model.specs.SmallProgram.{SmallProgram, Spells, ops_of}
 use Rattle.qroute_top.specs.Accepted.{IsAccepted, IsMisspelt, operation_limit, text_limit}
 use Rattle.qroute_top.specs.Causes.{IsReadCause, IsRefused, IsTextCause}
-use Rattle.qroute_top.specs.Reading.{IsUnread}
-use Rattle.qroute_top.specs.declared.reader.Unread.TheVariants.{Misfit}
+use Rattle.small_reader.specs.Reading.{IsUnread}
+use Rattle.small_reader.specs.declared.reader.Unread.TheVariants.{Misfit}
 use Rattle.qroute_top.specs.declared.stops.Stop.{Stop}
 use Rattle.qroute_top.specs.declared.stops.Stop.TheVariants as stop
 use Rattle.qroute_top.specs.declared.stops.Refusal.TheVariants.{TooLong}

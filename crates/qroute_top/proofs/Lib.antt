@@ -1,8 +1,4 @@
 pub mod Rows
-pub mod NextLaws
-pub mod ReadingLaws
-pub mod SpellingLaws
-pub mod ListingLaws
 pub mod ExpansionLaws
 pub mod AcceptedLaws
 pub mod DeviceLaws

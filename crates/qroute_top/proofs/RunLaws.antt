@@ -31,7 +31,7 @@ use Rattle.qroute_top.specs.declared.stops.Stop.{Stop}
 use Rattle.qroute_top.specs.declared.stops.Stop.TheVariants as stop
 use Rattle.qroute_top.proofs.AcceptedLaws.{Tells-taken}
 use Rattle.qroute_top.proofs.DeviceLaws.{IsDevice-refused}
-use Rattle.qroute_top.proofs.ListingLaws.{spelled-once}
+use Rattle.small_reader.proofs.ListingLaws.{spelled-once}
 
 pub IsCause-read : (h : Handed) (c : Command) (s : Stop) → command_of h.words ≡ Some c → IsReadCause h.input h.faults_before h.faults_after s → IsCause h s
 IsCause-read h c stop.NoMemory asked r = tt

@@ -1,5 +1,3 @@
-pub mod Next
-pub mod Reading
 pub mod Commands
 pub mod Accepted
 pub mod Devices

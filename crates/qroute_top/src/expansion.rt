@@ -4,8 +4,8 @@ ghost use Rattle.std.specs.Prelude.{◌≡◌, IfOk, All};
 ghost use Rattle.unitary_model.specs.SmallProgram.{IsNamed, IsSmallProgram, ops_of, reads_of};
 ghost use Rattle.circuit_list.specs.Gates.{IsFine, op_of, ops};
 
-use crate::reader::Program;
 use circuit_list::{Circuit, Gate, Passed};
+use small_reader::Program;
 use std::alloc::{AllocError, Global};
 use unitary_model::{Op, Statement};
 

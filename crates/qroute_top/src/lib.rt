@@ -7,8 +7,7 @@
 //! reads its wire of the source; on a device each CNOT follows an edge; and each status comes exactly where its cause is. A
 //! text that isn't of the form, or too long, is refused with its place, a device with its reason, and nothing is written then.
 //!
-//! `words` gives the command of the words. The small form of OpenQASM 2.0 is read by private parts: `lexeme` and `token` (the
-//! longest lexeme at each place), `phrase`, `statement` and `reader` (token by token), `source` (the input within its limits).
+//! `words` gives the command of the words. `source` reads the input within its limits, as the small form of OpenQASM 2.0, and
 //! `device` loads the device of a name. `expansion` makes gates and reads of statements, `pipeline` the circuit that is to be
 //! written, `plan` all that is to be written, before `emission` writes the first byte.
 #![tactic(auto)]
@@ -39,17 +38,11 @@ mod decision;
 mod device;
 mod emission;
 mod expansion;
-pub mod laws;
-mod lexeme;
 pub mod name;
-mod phrase;
 mod pipeline;
 mod plan;
-mod reader;
 mod source;
-mod statement;
 mod stops;
-mod token;
 pub mod words;
 
 /// Runs the command of the words: reads the input, writes the program to `out` and the report line to `report`, and answers

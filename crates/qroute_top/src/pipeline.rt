@@ -7,9 +7,9 @@ ghost use Rattle.qroute_top.specs.Delivered.{MakesOnDevice, MakesInPlace};
 
 use crate::expansion::{expand, reads_of};
 use crate::plan::{Plan, counts_of, plan_of, qubits_of};
-use crate::reader::Program;
 use coupling_map::Device;
 use placement::Placement;
+use small_reader::Program;
 use std::alloc::{AllocError, Global};
 use walk_route::{Routed, route};
 

@@ -5,9 +5,9 @@ ghost use Rattle.outside_io.specs.Bytes.{TakesAll};
 ghost use Rattle.qroute_top.specs.Accepted.{IsAccepted, text_limit};
 ghost use Rattle.qroute_top.specs.Causes.{IsReadCause, IsTextCause};
 
-use crate::reader::{Program, Unread, read_program};
 use crate::stops::{Refusal, Stop};
 use outside_io::{ReadFault, Source, read_all};
+use small_reader::{Program, Unread, read_program};
 use std::alloc::Global;
 
 /// The most bytes of a program text.

@@ -1,6 +1,7 @@
 use crate::run;
 use outside_io::{MemShelf, MemSink, MemSource, NamedText};
 use std::alloc::{AllocError, Global};
+use std::process::Abort;
 use std::test::Fail;
 
 /// What is handed to `run`.
@@ -67,11 +68,68 @@ fn headed(alloc: Global, text: &str) -> Result<Vec<u8>, AllocError> {
     Ok(headed.into_bytes())
 }
 
+/// Words, text after the heading and device; what is written after the heading, and what the report tells.
+type Written<'a> = (&'a [&'a str], &'a str, &'a str, &'a str, &'a str);
+
+fn write(alloc: Global, rt: &impl Abort, rows: &[Written<'_>]) -> Result<(), Fail> {
+    for (words, text, device, written, told) in rows {
+        let text = headed(alloc, text)?;
+        // The shelf's second call would fail: the device is loaded once.
+        let fails = [0, 2, 0, 0];
+        let got = run_case(
+            alloc,
+            Case {
+                words,
+                text: &text,
+                device,
+                fails,
+            },
+        )?;
+        assert_eq!(rt; got.status, 0, "{written}");
+        assert_eq!(rt; got.left, 0);
+        assert_eq!(rt;
+            got.out.as_slice(),
+            headed(alloc, written)?.as_slice(),
+            "{written}"
+        );
+        assert_eq!(rt; got.report.as_slice(), told.as_bytes(), "{written}");
+    }
+    Ok(())
+}
+
+/// Words, text after the heading, device, failing calls; status, output and report.
+type Stopped<'a> = (
+    &'a [&'a str],
+    &'a str,
+    &'a str,
+    [u64; 4],
+    u8,
+    &'a str,
+    &'a str,
+);
+
+fn stop(alloc: Global, rt: &impl Abort, rows: &[Stopped<'_>]) -> Result<(), Fail> {
+    for (words, text, device, fails, status, written, told) in rows {
+        let text = headed(alloc, text)?;
+        let got = run_case(
+            alloc,
+            Case {
+                words,
+                text: &text,
+                device,
+                fails: *fails,
+            },
+        )?;
+        assert_eq!(rt; got.status, *status, "{told}");
+        assert_eq!(rt; got.out.as_slice(), written.as_bytes(), "{told}");
+        assert_eq!(rt; got.report.as_slice(), told.as_bytes(), "{told}");
+    }
+    Ok(())
+}
+
 #[test]
-fn writes_and_reports(rt: HostRuntime) -> Result<(), Fail> {
-    let alloc = rt.alloc();
-    // words, text, device; what is written, what the report tells: the texts after their headings
-    let rows: [(&[&str], &str, &str, &str, &str); 10] = [
+fn writes_on_the_own_wires(rt: HostRuntime) -> Result<(), Fail> {
+    let rows: [Written; 5] = [
         (
             &OPT,
             "qreg q[1]; h q[0]; t q[0];",
@@ -110,6 +168,13 @@ fn writes_and_reports(rt: HostRuntime) -> Result<(), Fail> {
             "qreg q[2];\nh q[0];\nx q[1];\ncx q[1],q[0];\nt q[0];\ns q[0];\nu1(3*pi/4) q[1];\nz q[0];\nu1(5*pi/4) q[1];\nsdg q[0];\ntdg q[0];\n",
             "{\"barriers\":0,\"cx_after\":1,\"cx_before\":1,\"device\":2,\"final\":[0,1],\"format\":1,\"initial\":[0,1],\"phase\":0,\"qubits\":2,\"swaps\":0,\"t_after\":4,\"t_before\":4}\n",
         ),
+    ];
+    write(rt.alloc(), &rt, &rows)
+}
+
+#[test]
+fn writes_on_a_device(rt: HostRuntime) -> Result<(), Fail> {
+    let rows: [Written; 5] = [
         // a CNOT against the only edge
         (
             &ROUTE,
@@ -150,36 +215,12 @@ fn writes_and_reports(rt: HostRuntime) -> Result<(), Fail> {
             "{\"barriers\":0,\"cx_after\":0,\"cx_before\":0,\"device\":2,\"final\":[0,1],\"format\":1,\"initial\":[0,1],\"phase\":0,\"qubits\":1,\"swaps\":0,\"t_after\":0,\"t_before\":0}\n",
         ),
     ];
-    for (words, text, device, written, told) in rows {
-        let text = headed(alloc, text)?;
-        // The shelf's second call would fail: the device is loaded once.
-        let fails = [0, 2, 0, 0];
-        let got = run_case(
-            alloc,
-            Case {
-                words,
-                text: &text,
-                device,
-                fails,
-            },
-        )?;
-        assert_eq!(rt; got.status, 0, "{written}");
-        assert_eq!(rt; got.left, 0);
-        assert_eq!(rt;
-            got.out.as_slice(),
-            headed(alloc, written)?.as_slice(),
-            "{written}"
-        );
-        assert_eq!(rt; got.report.as_slice(), told.as_bytes(), "{written}");
-    }
-    Ok(())
+    write(rt.alloc(), &rt, &rows)
 }
 
 #[test]
-fn stops_and_says_why(rt: HostRuntime) -> Result<(), Fail> {
-    let alloc = rt.alloc();
-    // words, text after the heading, device, failing calls; status, output, report
-    let rows: [(&[&str], &str, &str, [u64; 4], u8, &str, &str); 36] = [
+fn says_what_failed(rt: HostRuntime) -> Result<(), Fail> {
+    let rows: [Stopped; 6] = [
         (
             &OPT,
             "qreg q[1]; t q[0]; t q[0];",
@@ -234,6 +275,13 @@ fn stops_and_says_why(rt: HostRuntime) -> Result<(), Fail> {
             "OPENQASM 2.0;\ninclude \"qelib1.inc\";\nqreg q[1];\nt q[0];\nt q[0];\n",
             "{\"barriers\":0,\"cx_after\":0,\"cx_before\":0,\"device\":1,\"final\":[0],\"format\":1,\"initial\":[0],\"phase\":0,\"qubits\":1,\"swaps\":0,\"t_after\":2,\"t_before\":2}\n",
         ),
+    ];
+    stop(rt.alloc(), &rt, &rows)
+}
+
+#[test]
+fn takes_no_other_words(rt: HostRuntime) -> Result<(), Fail> {
+    let rows: [Stopped; 9] = [
         (
             &["qroute", "opt", "extra"],
             "qreg q[1]; t q[0]; t q[0];",
@@ -315,6 +363,13 @@ fn stops_and_says_why(rt: HostRuntime) -> Result<(), Fail> {
             "",
             "{\"fault\":\"Words\",\"status\":2}\n",
         ),
+    ];
+    stop(rt.alloc(), &rt, &rows)
+}
+
+#[test]
+fn refuses_texts_of_another_form(rt: HostRuntime) -> Result<(), Fail> {
+    let rows: [Stopped; 10] = [
         (
             &OPT,
             "qreg q[1]",
@@ -405,6 +460,13 @@ fn stops_and_says_why(rt: HostRuntime) -> Result<(), Fail> {
             "",
             "{\"code\":12,\"fault\":\"Syntax\",\"place\":56,\"status\":3}\n",
         ),
+    ];
+    stop(rt.alloc(), &rt, &rows)
+}
+
+#[test]
+fn refuses_devices(rt: HostRuntime) -> Result<(), Fail> {
+    let rows: [Stopped; 11] = [
         (
             &ROUTE,
             "qreg q[1]; y q[0];",
@@ -497,22 +559,7 @@ fn stops_and_says_why(rt: HostRuntime) -> Result<(), Fail> {
             "{\"fault\":\"Output\",\"status\":6}\n",
         ),
     ];
-    for (words, text, device, fails, status, written, told) in rows {
-        let text = headed(alloc, text)?;
-        let got = run_case(
-            alloc,
-            Case {
-                words,
-                text: &text,
-                device,
-                fails,
-            },
-        )?;
-        assert_eq!(rt; got.status, status, "{told}");
-        assert_eq!(rt; got.out.as_slice(), written.as_bytes(), "{told}");
-        assert_eq!(rt; got.report.as_slice(), told.as_bytes(), "{told}");
-    }
-    Ok(())
+    stop(rt.alloc(), &rt, &rows)
 }
 
 #[test]

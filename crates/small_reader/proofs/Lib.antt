@@ -1,0 +1,4 @@
+pub mod NextLaws
+pub mod ReadingLaws
+pub mod SpellingLaws
+pub mod ListingLaws
