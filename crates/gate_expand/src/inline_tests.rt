@@ -11,7 +11,7 @@ use std::test::Fail;
 use unitary_model::Op;
 
 /// What a text's program is inlined to; none where the text has no checked program.
-fn inlined(alloc: Global, text: &[u8]) -> Option<Result<Ops, InlineFault>> {
+pub fn inlined(alloc: Global, text: &[u8]) -> Option<Result<Ops, InlineFault>> {
     if text.len() > 10_000_000 {
         return None;
     }
@@ -33,7 +33,7 @@ fn inlined(alloc: Global, text: &[u8]) -> Option<Result<Ops, InlineFault>> {
 }
 
 /// The text behind the two first lines.
-fn behind_head(alloc: Global, body: &[u8]) -> Result<Vec<u8>, AllocError> {
+pub fn behind_head(alloc: Global, body: &[u8]) -> Result<Vec<u8>, AllocError> {
     let mut text = Vec::new(alloc);
     text.extend_from_slice(b"OPENQASM 2.0;\ninclude \"qelib1.inc\";\n")?;
     text.extend_from_slice(body)?;

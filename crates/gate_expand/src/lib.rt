@@ -23,6 +23,8 @@ mod expansion;
 mod inline_tests;
 mod inlining;
 mod laws;
+#[cfg(test)]
+mod matrix_tests;
 mod program;
 mod refusal;
 mod size;
