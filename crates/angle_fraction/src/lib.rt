@@ -11,11 +11,13 @@ use thiserror::Error;
 
 mod frac;
 mod operations;
+mod signs;
 #[cfg(test)]
 mod tests;
 
 pub use frac::{Frac, lowest};
 pub use operations::{add, div, eighths, mul, neg, pow, sub};
+pub use signs::{Binary, Function};
 
 /// The angle `plain + pis * pi`.
 #[derive(Clone, Copy, Debug, PartialEq, Eq)]

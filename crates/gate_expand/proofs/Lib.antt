@@ -2,10 +2,3 @@ pub mod TurnedLaws
 pub mod RowLaws
 pub mod PathRows
 pub mod ExpandedLaws
-pub mod SizeLaws
-pub mod OrderLaws
-pub mod FrameLaws
-pub mod StepLaws
-pub mod ReadLaws
-pub mod FineLaws
-pub mod SoundLaws

@@ -8,8 +8,8 @@
 --   is_opaque    a gate without a body
 use Rattle.std.specs.Prelude.{ℕ, List, Bool, true, false, slice_get, unwrap_or}
 use Rattle.angle_fraction.specs.Fraction.{Fraction}
-use Rattle.qasm_parser.specs.declared.tree.Function.{Function}
-use Rattle.qasm_parser.specs.declared.tree.Binary.{Binary}
+use Rattle.angle_fraction.specs.declared.signs.Function.{Function}
+use Rattle.angle_fraction.specs.declared.signs.Binary.{Binary}
 
 pub data Formula : Type 0 where
   number : (value : Fraction) → Formula

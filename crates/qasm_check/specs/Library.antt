@@ -14,7 +14,7 @@ use Rattle.std.specs.Prelude.{ℕ, ◌+◌, List, [], ◌∷◌, Option, Bool, p
 use Rattle.std.specs.List.{filter, filter_map, position}
 use Rattle.std.specs.Str.{bytes_eq}
 use Rattle.angle_fraction.specs.Fraction.{Fraction, fraction, nought}
-use Rattle.qasm_parser.specs.declared.tree.Binary.TheVariants.{Div}
+use Rattle.angle_fraction.specs.declared.signs.Binary.TheVariants.{Div}
 use Rattle.qasm_check.specs.Gates.{Formula, number, pi, param, negated, binary, Item, call, Gate, composed}
 use Rattle.qasm_check.specs.Names.{is_one_of}
 use Rattle.qasm_check.specs.declared.library.Line.{Line}

@@ -4,7 +4,7 @@ ghost use Rattle.std.specs.Prelude.{◌≡◌, ◌<◌, ◌∷◌, ◌++◌, [],
 ghost use Rattle.std.specs.List.{filter_map, position};
 ghost use Rattle.std.specs.Str.{bytes_eq};
 ghost use Rattle.qasm_check.specs.Gates.{binary, cx, negated as minus, number, u};
-ghost use Rattle.qasm_parser.specs.declared.tree.Binary.TheVariants.{Div};
+ghost use Rattle.angle_fraction.specs.declared.signs.Binary.TheVariants.{Div};
 ghost use Rattle.qasm_check.specs.Known.{own_number};
 ghost use Rattle.qasm_check.specs.Library.{is_standard, library, lines_of, over, table_formula, table_gate, table_gates, table_item, table_names, table_place, whole};
 ghost use Rattle.qasm_check.specs.Names.{is_one_of};

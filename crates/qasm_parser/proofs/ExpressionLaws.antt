@@ -6,8 +6,8 @@
 --   sum_of-spelt     an expression that no sign follows is read whole
 use Rattle.std.proofs.Common.{◌≡◌, ℕ, ◌+◌, ◌<◌, ◌≤◌, Bool, true, false, nat_le, max, if◌then◌else◌, List, [], ◌∷◌, Option, Some, None, refl, sym, ap, ◌∙◌, inl, inr, arith}
 use Rattle.std.proofs.lemmas.Bool.Decides.{nat_tests}
-use Rattle.qasm_parser.specs.declared.tree.Binary.{Binary}
-use Rattle.qasm_parser.specs.declared.tree.Binary.TheVariants.{Add, Sub, Mul, Div, Pow}
+use Rattle.angle_fraction.specs.declared.signs.Binary.{Binary}
+use Rattle.angle_fraction.specs.declared.signs.Binary.TheVariants.{Add, Sub, Mul, Div, Pow}
 use Rattle.qasm_parser.specs.declared.symbols.Mark.TheVariants.{Close}
 use Rattle.qasm_parser.specs.Symbols.{Symbol, mark, sign}
 use Rattle.qasm_parser.specs.Tree.{Expression, number, pi, param, negated, paren, call, binary, depth}

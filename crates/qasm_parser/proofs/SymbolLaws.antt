@@ -8,8 +8,8 @@ use Rattle.qasm_parser.specs.declared.symbols.Symbol.{Symbol}
 use Rattle.qasm_parser.specs.declared.symbols.Symbol.TheVariants.{Word, Function, Name, Whole, Real, Quoted, Mark, Sign, Other}
 use Rattle.qasm_parser.specs.declared.symbols.Keyword.{Keyword}
 use Rattle.qasm_parser.specs.declared.symbols.Mark.{Mark as MarkSign}
-use Rattle.qasm_parser.specs.declared.tree.Function.{Function as FunctionName}
-use Rattle.qasm_parser.specs.declared.tree.Binary.{Binary}
+use Rattle.angle_fraction.specs.declared.signs.Function.{Function as FunctionName}
+use Rattle.angle_fraction.specs.declared.signs.Binary.{Binary}
 use Rattle.std.specs.Prelude.{slice_get}
 use Rattle.qasm_lexer.specs.declared.Token.{Token}
 use Rattle.qasm_lexer.specs.declared.Kind.{Kind}

@@ -5,8 +5,8 @@
 --   IsWritten e ts rest   the symbols ts are those of an expression, part by part, and then rest
 --   SpellsSum       the same, each part in its level
 use Rattle.std.specs.Prelude.{◌≡◌, ℕ, ◌≤◌, List, ◌∷◌, ◌⊎◌}
-use Rattle.qasm_parser.specs.declared.tree.Binary.{Binary}
-use Rattle.qasm_parser.specs.declared.tree.Binary.TheVariants.{Add, Sub, Mul, Div, Pow}
+use Rattle.angle_fraction.specs.declared.signs.Binary.{Binary}
+use Rattle.angle_fraction.specs.declared.signs.Binary.TheVariants.{Add, Sub, Mul, Div, Pow}
 use Rattle.qasm_parser.specs.declared.symbols.Keyword.TheVariants.{Pi}
 use Rattle.qasm_parser.specs.declared.symbols.Mark.TheVariants.{Open, Close}
 use Rattle.qasm_parser.specs.Symbols.{Symbol, word, function, name, whole, real, mark, sign}

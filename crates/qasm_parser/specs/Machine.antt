@@ -12,9 +12,9 @@
 --   parenthesis    the same where a parenthesis ends behind a part
 --   sum_of         the same, from the beginning
 use Rattle.std.specs.Prelude.{ℕ, Bool, false, drop, nat_le, List, [], ◌∷◌, Option, Some, None, if◌then◌else◌}
-use Rattle.qasm_parser.specs.declared.tree.Function.{Function}
-use Rattle.qasm_parser.specs.declared.tree.Binary.{Binary}
-use Rattle.qasm_parser.specs.declared.tree.Binary.TheVariants.{Add, Sub, Mul, Div, Pow}
+use Rattle.angle_fraction.specs.declared.signs.Function.{Function}
+use Rattle.angle_fraction.specs.declared.signs.Binary.{Binary}
+use Rattle.angle_fraction.specs.declared.signs.Binary.TheVariants.{Add, Sub, Mul, Div, Pow}
 use Rattle.qasm_parser.specs.declared.symbols.Keyword.TheVariants.{Pi}
 use Rattle.qasm_parser.specs.declared.symbols.Keyword.{Keyword}
 use Rattle.qasm_parser.specs.declared.symbols.Mark.{Mark}

@@ -14,10 +14,10 @@ use Rattle.qasm_lexer.specs.Tokens.{bytes_of}
 use Rattle.qasm_lexer.specs.declared.Token.{Token}
 use Rattle.qasm_lexer.specs.declared.Kind.{Kind}
 use Rattle.qasm_lexer.specs.declared.Kind.TheVariants.{Word, Whole, Real, Text, Sign}
-use Rattle.qasm_parser.specs.declared.tree.Function.{Function}
-use Rattle.qasm_parser.specs.declared.tree.Function.TheVariants.{Sin, Cos, Tan, Exp, Ln, Sqrt}
-use Rattle.qasm_parser.specs.declared.tree.Binary.{Binary}
-use Rattle.qasm_parser.specs.declared.tree.Binary.TheVariants.{Add, Sub, Mul, Div, Pow}
+use Rattle.angle_fraction.specs.declared.signs.Function.{Function}
+use Rattle.angle_fraction.specs.declared.signs.Function.TheVariants.{Sin, Cos, Tan, Exp, Ln, Sqrt}
+use Rattle.angle_fraction.specs.declared.signs.Binary.{Binary}
+use Rattle.angle_fraction.specs.declared.signs.Binary.TheVariants.{Add, Sub, Mul, Div, Pow}
 use Rattle.qasm_parser.specs.declared.symbols.Keyword.{Keyword}
 use Rattle.qasm_parser.specs.declared.symbols.Keyword.TheVariants.{OpenQasm, Include, Qreg, Creg, Gate, Opaque, Measure, Reset, If, Barrier, Pi, U, Cx}
 use Rattle.qasm_parser.specs.declared.symbols.Mark.{Mark}

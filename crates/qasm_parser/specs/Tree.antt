@@ -9,8 +9,8 @@
 --                  a statement that can't stand there is an empty barrier, which no text spells
 use Rattle.std.specs.Prelude.{ℕ, ◌+◌, max, List, [], ◌∷◌, Bool, map}
 use Rattle.angle_fraction.specs.Fraction.{Fraction}
-use Rattle.qasm_parser.specs.declared.tree.Function.{Function}
-use Rattle.qasm_parser.specs.declared.tree.Binary.{Binary}
+use Rattle.angle_fraction.specs.declared.signs.Function.{Function}
+use Rattle.angle_fraction.specs.declared.signs.Binary.{Binary}
 use Rattle.qasm_parser.specs.declared.tree.Arg.{Arg}
 use Rattle.qasm_parser.specs.declared.tree.Apply.{Apply}
 use Rattle.qasm_parser.specs.declared.tree.Program.{Program}

@@ -17,7 +17,8 @@ use crate::growth::{applied, parenthesised};
 use crate::part::{Part, atom, number};
 use crate::stop::Stop;
 use crate::symbols::{Keyword, Mark, Symbol};
-use crate::tree::{Binary, Expr, Name};
+use crate::tree::{Expr, Name};
+use angle_fraction::Binary;
 use std::alloc::Global;
 
 /// What has come last: nothing that a sign may follow, or a part, or the whole expression.

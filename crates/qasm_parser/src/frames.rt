@@ -7,7 +7,7 @@ ghost use Rattle.qasm_parser.specs.Frames.{frame_of, stack};
 
 use crate::growth::{applied, joined, negated, parenthesised};
 use crate::part::Part;
-use crate::tree::{Binary, Function};
+use angle_fraction::{Binary, Function};
 use std::alloc::{AllocError, Global};
 
 /// A minus, a parenthesis, a function's parenthesis, or a left part and its sign.

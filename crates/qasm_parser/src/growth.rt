@@ -5,7 +5,8 @@ ghost use Rattle.qasm_parser.specs.Machine.{called, closed, joined, minus, opene
 ghost use Rattle.qasm_parser.specs.Parts.{part_of};
 
 use crate::part::{DEPTH_LIMIT, Part};
-use crate::tree::{Binary, Expr, Function};
+use crate::tree::Expr;
+use angle_fraction::{Binary, Function};
 use std::alloc::{AllocError, Global};
 
 /// Unary minus.

@@ -24,10 +24,11 @@ mod symbols;
 mod tests;
 mod tree;
 
+pub use angle_fraction::{Binary, Function};
 pub use laws::{accepted_has_no_fault, spelt_once};
 pub use program::parse;
 use thiserror::Error;
-pub use tree::{Apply, Arg, Binary, Expr, Function, GateDef, Name, Program, Stmt};
+pub use tree::{Apply, Arg, Expr, GateDef, Name, Program, Stmt};
 
 /// Why the tokens of a text are refused. A place is an offset in bytes.
 #[derive(Clone, Copy, Debug, PartialEq, Eq, Error)]

@@ -6,8 +6,7 @@ ghost use Rattle.qasm_lexer.specs.Tokens.{IsTokenOf};
 ghost use Rattle.angle_fraction.specs.Fraction.{Fraction};
 ghost use Rattle.qasm_parser.specs.Views.{symbol};
 
-use crate::tree::{Binary, Function};
-use angle_fraction::Frac;
+use angle_fraction::{Binary, Frac, Function};
 use qasm_lexer::{Kind, Token, value};
 
 /// The reserved words that are no function.

@@ -2,7 +2,7 @@
 
 ghost use Rattle.std.specs.Prelude.{◌≡◌, IfOk};
 
-use angle_fraction::Frac;
+use angle_fraction::{Binary, Frac, Function};
 use std::alloc::{AllocError, Global};
 use std::marker::Model;
 
@@ -43,27 +43,6 @@ impl Name {
     {
         &self.bytes
     }
-}
-
-/// The six functions.
-#[derive(Clone, Copy, Debug, PartialEq, Eq)]
-pub enum Function {
-    Sin,
-    Cos,
-    Tan,
-    Exp,
-    Ln,
-    Sqrt,
-}
-
-/// The signs between two parts.
-#[derive(Clone, Copy, Debug, PartialEq, Eq)]
-pub enum Binary {
-    Add,
-    Sub,
-    Mul,
-    Div,
-    Pow,
 }
 
 /// An expression, at most 64 deep in the tree of a text.

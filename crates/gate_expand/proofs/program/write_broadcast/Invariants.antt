@@ -1,9 +1,0 @@
--- What is written are the operations for the first indices.
-use Rattle.std.proofs.Common.{◌≡◌, Ok, map}
-use Rattle.qasm_check.specs.Views.{gate as gate_view}
-use Rattle.gate_expand.specs.Meanings.{broadcast_answer, followed, meanings}
-use Rattle.gate_expand.proofs.program.write_broadcast.Given as goal
-
-abbrev pub invariant-indices : goal.invariant-indices
-invariant-indices l =
-    Ok l.list.items ≡ followed (Ok l.initial.list.items) (broadcast_answer (meanings (map gate_view l.gates)) l.gate l.angles l.places l.j)

@@ -1,9 +1,0 @@
--- The sum so far.
-use Rattle.std.proofs.Common.{◌≡◌, map, take}
-use Rattle.qasm_check.specs.Views.{item as item_view}
-use Rattle.gate_expand.specs.Capped.{capped}
-use Rattle.gate_expand.specs.Sizes.{item_size as size_of_item, size_all}
-use Rattle.gate_expand.proofs.size.body_size.Given as goal
-
-abbrev pub invariant-items : goal.invariant-items
-invariant-items l = l.sum ≡ capped (size_all (map (size_of_item l.sizes) (map item_view (take l.item-index l.body))))

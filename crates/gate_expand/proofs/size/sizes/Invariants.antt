@@ -1,9 +1,0 @@
--- The sizes so far are those of the first gates.
-use Rattle.std.proofs.Common.{◌≡◌, map, take}
-use Rattle.qasm_check.specs.Views.{gate as gate_view}
-use Rattle.gate_expand.specs.Capped.{capped}
-use Rattle.gate_expand.specs.Sizes.{sizes as sizes_of}
-use Rattle.gate_expand.proofs.size.sizes.Given as goal
-
-abbrev pub invariant-gates : goal.invariant-gates
-invariant-gates l = l.list.items ≡ map capped (sizes_of (map gate_view (take l.gate-index l.gates)))

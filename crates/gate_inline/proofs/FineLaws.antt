@@ -1,0 +1,323 @@
+-- The operations of a sound program are fine.
+--     operations-fine     those of all steps
+--     placed_wide         wires and bits below some number are below a greater one
+use Rattle.std.proofs.Common.{◌≡◌, ℕ, zero, suc, ◌+◌, ◌<◌, ◌≤◌, List, [], ◌∷◌, ◌++◌, All, Bool, true, false, ◌&&◌, ◌||◌, if◌then◌else◌, Option, Some, None, Result, Ok, Err, append_assoc, append-nil, refl, sym, subst, ◌∙◌, ap, arith, add-one, length, map, fold, ◌⊎◌, inl, inr}
+use Rattle.std.specs.Prelude.{◌≢◌, not, nat_eq, nat_lt, ◌==◌}
+use Rattle.std.specs.List.{list_all, list_any}
+use Rattle.std.proofs.lemmas.Bool.{eq-eqb}
+use Rattle.std.proofs.lemmas.Bool.Decides.{nat_tests, eqb_tells}
+use Rattle.std.proofs.lemmas.List.{length-map}
+use Rattle.std.proofs.lemmas.List.Elements.{All-append, All-cons, All-head, All-map, All-nil, All-same, All-tail, All-weaker}
+use Rattle.angle_fraction.specs.Angles.{eighths_of, first_where, is_turn}
+use Rattle.angle_fraction.specs.declared.Angle.{Angle}
+use Rattle.unitary_model.specs.declared.Op.{Op}
+use Rattle.unitary_model.specs.declared.Op.TheVariants.{U, Cx}
+use Rattle.qasm_check.specs.Checking.{Bound}
+use Rattle.qasm_check.specs.Gates.{Item, call, pause, Gate, u, cx, opaque, composed, gate_at, gate_qubits}
+use Rattle.qasm_check.specs.Names.{has_repeat}
+use Rattle.qasm_check.specs.Places.{broadcast, upto, wire_at}
+use Rattle.qasm_check.specs.declared.meaning.Place.{Place}
+use Rattle.qasm_check.specs.Steps.{Step, applies, measures, pauses, nothing}
+use Rattle.gate_expand.specs.Expansion.{IsFineOp}
+use Rattle.gate_inline.specs.Inlined.{IsFault, IsFirstUnvalued, IsInlined, IsRefused, IsTooMany, operations}
+use Rattle.gate_inline.specs.Reads.{reads}
+use Rattle.gate_inline.specs.Sizes.{is_too_much, total}
+use Rattle.gate_inline.specs.declared.refusal.Refusal.{Refusal}
+use Rattle.gate_inline.specs.declared.refusal.Refusal.TheVariants.{AngleForm, AngleZero, AngleRange, AngleStep, TooManyOps}
+use Rattle.gate_inline.specs.declared.refusal.InlineFault.{InlineFault}
+use Rattle.gate_inline.specs.declared.refusal.InlineFault.TheVariants.{Refused as Refuses, NoMemory}
+use Rattle.gate_inline.specs.declared.stop.Unvalued.TheVariants.{NoForm, ByZero, TooLarge, NoStep}
+use Rattle.gate_expand.specs.declared.source.Ops.{Ops}
+use Rattle.gate_inline.specs.Meanings.{Answer, Meaning, controlled, eighth, followed, gate_meaning, item_answer, joined, meaning_at, meanings, rotation, step_answer, step_of, unvalued, wire_of}
+use Rattle.gate_inline.specs.Placed.{IsPlaced}
+use Rattle.gate_inline.specs.Sound.{IsSound, IsSoundStep, are_sound, is_distinct, is_sound_gate, is_sound_item}
+use Rattle.gate_inline.specs.Values.{and_next, values}
+use Rattle.gate_inline.specs.declared.stop.Unvalued.{Unvalued}
+use Rattle.gate_inline.proofs.StepLaws.{upto-more, upto_none}
+
+-- ---- tests
+pub and_left : (a b : Bool) → (a && b) ≡ true → a ≡ true
+and_left true b e = refl
+and_left false b e = e
+
+pub and_right : (a b : Bool) → (a && b) ≡ true → b ≡ true
+and_right true b e = e
+and_right false b e = absurd (cc)
+
+pub or_left : (a b : Bool) → (a || b) ≡ false → a ≡ false
+or_left true b e = e
+or_left false b e = refl
+
+pub or_right : (a b : Bool) → (a || b) ≡ false → b ≡ false
+or_right true b e = absurd (cc)
+or_right false b e = e
+
+pub both_false : (a b : Bool) → a ≡ false → b ≡ false → (a || b) ≡ false
+both_false true b e f = e
+both_false false b e f = f
+
+pub not_true : (a : Bool) → not a ≡ true → a ≡ false
+not_true true e = absurd (cc)
+not_true false e = refl
+
+pub not_false : (a : Bool) → a ≡ false → not a ≡ true
+not_false a e = ap not e
+
+-- ---- lists of wires
+read_below : (n : ℕ) (wires : List ℕ) (p : ℕ) → All (λ w. w < n) wires → p < length wires → wire_of wires p < n
+read_below n [] p h l = absurd (omega arith)
+read_below n (w ∷ ws) zero h l = All-head (λ x. x < n) w ws h
+read_below n (w ∷ ws) (suc p) h l = read_below n ws p (All-tail (λ x. x < n) w ws h) (omega arith)
+
+met : (q : ℕ) (ws : List ℕ) (p : ℕ) → p < length ws → q ≡ wire_of ws p → list_any (nat_eq q) ws ≡ true
+met q [] p l e = absurd (omega arith)
+met q (w ∷ ws) zero l e = ap (λ b. b || list_any (nat_eq q) ws) (eq-eqb q w e)
+met q (w ∷ ws) (suc p) l e = or_true (nat_eq q w) _ (met q ws p (omega arith) e)
+  where
+    or_true : (a b : Bool) → b ≡ true → (a || b) ≡ true
+    or_true true b e = refl
+    or_true false b e = e
+
+same_place : (ws : List ℕ) (p q : ℕ) → has_repeat nat_eq ws ≡ false → p < length ws → q < length ws → wire_of ws p ≡ wire_of ws q → p ≡ q
+same_place [] p q r l m e = absurd (omega arith)
+same_place (w ∷ ws) zero zero r l m e = refl
+same_place (w ∷ ws) zero (suc q) r l m e =
+    let no : list_any (nat_eq w) ws ≡ false = or_left _ (has_repeat nat_eq ws) r in
+    let yes : list_any (nat_eq w) ws ≡ true = met w ws q (omega arith) e in absurd (cc)
+same_place (w ∷ ws) (suc p) zero r l m e =
+    let no : list_any (nat_eq w) ws ≡ false = or_left _ (has_repeat nat_eq ws) r in
+    let yes : list_any (nat_eq w) ws ≡ true = met w ws p (omega arith) (sym e) in absurd (cc)
+same_place (w ∷ ws) (suc p) (suc q) r l m e =
+    ap (λ n. suc n) (same_place ws p q (or_right (list_any (nat_eq w) ws) _ r) (omega arith) (omega arith) e)
+
+pub below_of : (p n : ℕ) → nat_lt p n ≡ true → p < n
+below_of p n e = grind (arith, nat_tests)
+
+none_same : (ws : List ℕ) (p : ℕ) (ps : List ℕ) → has_repeat nat_eq ws ≡ false → p < length ws → list_all (λ q. nat_lt q (length ws)) ps ≡ true
+    → list_any (nat_eq p) ps ≡ false → list_any (nat_eq (wire_of ws p)) (map (wire_of ws) ps) ≡ false
+none_same ws p [] r l a n = refl
+none_same ws p (q ∷ qs) r l a n =
+    both_false _ _ (go (eqb_tells (wire_of ws p) (wire_of ws q)))
+    (none_same ws p qs r l (and_right (nat_lt q (length ws)) _ a) (or_right (nat_eq p q) _ n))
+  where
+    go : ((nat_eq (wire_of ws p) (wire_of ws q) ≡ true) × (wire_of ws p ≡ wire_of ws q)) ⊎ ((nat_eq (wire_of ws p) (wire_of ws q) ≡ false) × (wire_of ws p ≢ wire_of ws q)) → nat_eq (wire_of ws p) (wire_of ws q) ≡ false
+    go (inl t) =
+        let no : nat_eq p q ≡ false = or_left (nat_eq p q) _ n in
+        let yes : nat_eq p q ≡ true = eq-eqb p q (same_place ws p q r l (below_of q (length ws) (and_left _ _ a)) t.1) in absurd (cc)
+    go (inr f) = f.0
+
+distinct_wires : (ws ps : List ℕ) → has_repeat nat_eq ws ≡ false → list_all (λ q. nat_lt q (length ws)) ps ≡ true → has_repeat nat_eq ps ≡ false
+    → has_repeat nat_eq (map (wire_of ws) ps) ≡ false
+distinct_wires ws [] r a n = refl
+distinct_wires ws (p ∷ ps) r a n =
+    both_false _ _
+    (none_same ws p ps r (below_of p (length ws) (and_left _ _ a)) (and_right (nat_lt p (length ws)) _ a) (or_left (list_any (nat_eq p) ps) _ n))
+    (distinct_wires ws ps r (and_right (nat_lt p (length ws)) _ a) (or_right (list_any (nat_eq p) ps) _ n))
+
+below_wires : (n : ℕ) (ws ps : List ℕ) → All (λ w. w < n) ws → list_all (λ q. nat_lt q (length ws)) ps ≡ true → All (λ w. w < n) (map (wire_of ws) ps)
+below_wires n ws [] h a = All-nil (λ w. w < n)
+below_wires n ws (p ∷ ps) h a =
+    All-cons (λ w. w < n) (wire_of ws p) (map (wire_of ws) ps) (read_below n ws p h (below_of p (length ws) (and_left _ _ a)))
+    (below_wires n ws ps h (and_right (nat_lt p (length ws)) _ a))
+
+-- ---- answers
+module _ (n : ℕ) where
+  fine_nil : (us : List Op) → ◌≡◌ {A = Answer} (Ok []) (Ok us) → All (IsFineOp n) us
+  fine_nil us e = let same : us ≡ [] = cc in All-same (IsFineOp n) us [] same (All-nil (IsFineOp n))
+
+  fine_one : (op : Op) (us : List Op) → IsFineOp n op → ◌≡◌ {A = Answer} (Ok (op ∷ [])) (Ok us) → All (IsFineOp n) us
+  fine_one op us h e = let same : us ≡ op ∷ [] = cc in All-same (IsFineOp n) us (op ∷ []) same (All-cons (IsFineOp n) op [] h (All-nil (IsFineOp n)))
+
+  fine_followed : (a b : Answer) (us : List Op) → ((vs : List Op) → a ≡ Ok vs → All (IsFineOp n) vs) → ((vs : List Op) → b ≡ Ok vs → All (IsFineOp n) vs)
+      → followed a b ≡ Ok us → All (IsFineOp n) us
+  fine_followed (Ok vs) (Ok ws) us f g e =
+      let same : us ≡ vs ++ ws = cc in All-same (IsFineOp n) us (vs ++ ws) same (All-append (IsFineOp n) vs ws (f vs refl) (g ws refl))
+  fine_followed (Ok vs) (Err x) us f g e = absurd (cc)
+  fine_followed (Err x) b us f g e = absurd (cc)
+
+  fine_next : {A : Type 0} (r : Result A Unvalued) (f : A → Answer) (us : List Op) → ((a : A) (vs : List Op) → f a ≡ Ok vs → All (IsFineOp n) vs)
+      → and_next r f ≡ Ok us → All (IsFineOp n) us
+  fine_next (Ok a) f us h e = h a us e
+  fine_next (Err x) f us h e = absurd (cc)
+
+-- ---- U and CX
+first_small : (p : ℕ → Bool) (from n k : ℕ) → first_where p from n ≡ Some k → k < from + n
+unfolding first_where
+first_small p from zero k e = absurd (cc)
+first_small p from (suc n) k e = go (p from) (first_small p (from + 1) n k) e
+  where
+    go : (b : Bool) → (first_where p (from + 1) n ≡ Some k → k < from + 1 + n) → (if b then Some from else first_where p (from + 1) n) ≡ Some k → k < from + suc n
+    go true later e = let same : from ≡ k = cc in omega arith
+    go false later e = let h : k < from + 1 + n = later e in omega arith
+
+eighth_small : (a : Angle) (k : ℕ) → eighth a ≡ Ok k → k < 8
+unfolding eighths_of
+eighth_small a k e = go (first_where (is_turn a) 0 8) refl e
+  where
+    go : (o : Option ℕ) → first_where (is_turn a) 0 8 ≡ o → step_of o ≡ Ok k → k < 8
+    go (Some j) was e = let same : j ≡ k = cc in let h : j < 0 + 8 = first_small (is_turn a) 0 8 j was in omega arith
+    go None was e = absurd (cc)
+
+fine_rotation : (n : ℕ) (angles : List Angle) (wires : List ℕ) (us : List Op) → All (λ w. w < n) wires → rotation angles wires ≡ Ok us → All (IsFineOp n) us
+fine_rotation n [] ws us b e = fine_nil n us e
+fine_rotation n (t ∷ []) ws us b e = fine_nil n us e
+fine_rotation n (t ∷ p ∷ []) ws us b e = fine_nil n us e
+fine_rotation n (t ∷ p ∷ l ∷ x ∷ xs) ws us b e = fine_nil n us e
+fine_rotation n (t ∷ p ∷ l ∷ []) [] us b e = fine_nil n us e
+fine_rotation n (t ∷ p ∷ l ∷ []) (q ∷ r ∷ ws) us b e = fine_nil n us e
+fine_rotation n (t ∷ p ∷ l ∷ []) (q ∷ []) us there e = go (eighth t) (eighth p) (eighth l) (eighth_small t) (eighth_small p) (eighth_small l) e
+  where
+    go : (x y z : Result ℕ Unvalued) → ((k : ℕ) → x ≡ Ok k → k < 8) → ((k : ℕ) → y ≡ Ok k → k < 8) → ((k : ℕ) → z ≡ Ok k → k < 8)
+        → ◌≡◌ {A = Answer} (and_next x (λ a. and_next y (λ b. and_next z (λ c. Ok (U a b c q ∷ []))))) (Ok us) → All (IsFineOp n) us
+    go (Ok a) (Ok b) (Ok c) f g h e = fine_one n (U a b c q) us ((f a refl, (g b refl, h c refl)), All-head (λ w. w < n) q [] there) e
+    go (Ok a) (Ok b) (Err x) f g h e = absurd (cc)
+    go (Ok a) (Err x) z f g h e = absurd (cc)
+    go (Err x) y z f g h e = absurd (cc)
+
+fine_controlled : (n : ℕ) (wires : List ℕ) (us : List Op) → All (λ w. w < n) wires → has_repeat nat_eq wires ≡ false → controlled wires ≡ Ok us → All (IsFineOp n) us
+fine_controlled n [] us b d e = fine_nil n us e
+fine_controlled n (c ∷ []) us b d e = fine_nil n us e
+fine_controlled n (c ∷ t ∷ x ∷ ws) us b d e = fine_nil n us e
+fine_controlled n (c ∷ t ∷ []) us b d e =
+    fine_one n (Cx c t) us (All-head (λ w. w < n) c (t ∷ []) b, (All-head (λ w. w < n) t [] (All-tail (λ w. w < n) c (t ∷ []) b), other)) e
+  where
+    no : nat_eq c t ≡ false
+    no = or_left (nat_eq c t) false (or_left (nat_eq c t || false) _ d)
+
+    other : c ≢ t
+    other = let h : nat_eq c t ≡ false = no in grind (arith, nat_tests)
+
+-- ---- gates by those before them
+abbrev IsFineMeaning : ℕ → Gate → Meaning → Type 0
+IsFineMeaning n g m = (angles : List Angle) (wires : List ℕ) (us : List Op) → length wires ≡ gate_qubits g → All (λ w. w < n) wires → has_repeat nat_eq wires ≡ false
+    → m angles wires ≡ Ok us → All (IsFineOp n) us
+
+abbrev AreFine : ℕ → List Gate → List Meaning → Type 0
+AreFine n [] [] = Unit {0}
+AreFine n [] (m ∷ ms) = ⊥
+AreFine n (g ∷ gs) [] = ⊥
+AreFine n (g ∷ gs) (m ∷ ms) = IsFineMeaning n g m × AreFine n gs ms
+
+fine_push : (n : ℕ) (gs : List Gate) (ms : List Meaning) (g : Gate) (m : Meaning) → AreFine n gs ms → IsFineMeaning n g m → AreFine n (gs ++ g ∷ []) (ms ++ m ∷ [])
+fine_push n [] [] g m h k = (k, tt)
+fine_push n [] (x ∷ ms) g m h k = absurd h
+fine_push n (x ∷ gs) [] g m h k = absurd h
+fine_push n (x ∷ gs) (y ∷ ms) g m h k = (h.0, fine_push n gs ms g m h.1 k)
+
+fine_at : (n : ℕ) (gs : List Gate) (ms : List Meaning) (i : ℕ) → AreFine n gs ms → IsFineMeaning n (gate_at gs i) (meaning_at ms i)
+fine_at n [] [] i h = λ angles wires us l b d e. fine_nil n us e
+fine_at n [] (m ∷ ms) i h = absurd h
+fine_at n (g ∷ gs) [] i h = absurd h
+fine_at n (g ∷ gs) (m ∷ ms) zero h = h.0
+fine_at n (g ∷ gs) (m ∷ ms) (suc i) h = fine_at n gs ms i h.1
+
+pub equal_of : (a b : ℕ) → (a == b) ≡ true → a ≡ b
+equal_of a b e = grind (arith, nat_tests)
+
+fine_item : (n : ℕ) (before : List Gate) (ms : List Meaning) (qubits : ℕ) (params : List Angle) (wires : List ℕ) (x : Item) (us : List Op) → AreFine n before ms
+    → length wires ≡ qubits → All (λ w. w < n) wires → has_repeat nat_eq wires ≡ false → is_sound_item before qubits x ≡ true
+    → item_answer ms params wires x ≡ Ok us → All (IsFineOp n) us
+fine_item n before ms qubits params wires pause us h l b d s e = fine_nil n us e
+fine_item n before ms qubits params wires (call gate angles places) us h l b d s e =
+    let placed : (list_all (λ q. nat_lt q qubits) places && is_distinct places) ≡ true = and_right (length places == gate_qubits (gate_at before gate)) _ s in
+    let inside : list_all (λ q. nat_lt q (length wires)) places ≡ true =
+    ap (λ k. list_all (λ q. nat_lt q k) places) l ∙ and_left (list_all (λ q. nat_lt q qubits) places) (is_distinct places) placed in
+    fine_next n (unvalued (values params angles)) (λ given. meaning_at ms gate given (map (wire_of wires) places)) us
+    (λ given vs f. fine_at n before ms gate h given (map (wire_of wires) places) vs
+    (length-map places (wire_of wires) ∙ equal_of _ _ (and_left _ _ s))
+    (below_wires n wires places b inside)
+    (distinct_wires wires places d inside (not_true (has_repeat nat_eq places) (and_right (list_all (λ q. nat_lt q qubits) places) (is_distinct places) placed)))
+    f) e
+
+fine_items : (n : ℕ) (before : List Gate) (ms : List Meaning) (qubits : ℕ) (params : List Angle) (wires : List ℕ) (xs : List Item) (us : List Op) → AreFine n before ms
+    → length wires ≡ qubits → All (λ w. w < n) wires → has_repeat nat_eq wires ≡ false → list_all (is_sound_item before qubits) xs ≡ true
+    → joined (map (item_answer ms params wires) xs) ≡ Ok us → All (IsFineOp n) us
+fine_items n before ms qubits params wires [] us h l b d s e = fine_nil n us e
+fine_items n before ms qubits params wires (x ∷ xs) us h l b d s e =
+    fine_followed n (item_answer ms params wires x) (joined (map (item_answer ms params wires) xs)) us
+    (λ vs f. fine_item n before ms qubits params wires x vs h l b d (and_left _ _ s) f)
+    (λ vs f. fine_items n before ms qubits params wires xs vs h l b d (and_right (is_sound_item before qubits x) _ s) f) e
+
+fine_gate : (n : ℕ) (before : List Gate) (ms : List Meaning) (g : Gate) → AreFine n before ms → is_sound_gate before g ≡ true → IsFineMeaning n g (gate_meaning ms g)
+fine_gate n before ms u h s = λ angles wires us l b d e. fine_rotation n angles wires us b e
+fine_gate n before ms cx h s = λ angles wires us l b d e. fine_controlled n wires us b d e
+fine_gate n before ms (opaque params qubits) h s = λ angles wires us l b d e. fine_nil n us e
+fine_gate n before ms (composed params qubits body) h s = λ angles wires us l b d e. fine_items n before ms qubits angles wires body us h l b d s e
+
+fine_gates : (n : ℕ) (before gates : List Gate) (ms : List Meaning) → are_sound before gates ≡ true → AreFine n before ms
+    → AreFine n (before ++ gates) (fold (λ b g. b ++ gate_meaning b g ∷ []) ms gates)
+fine_gates n before [] ms s h = subst (λ (gs : List Gate). AreFine n gs ms) (sym (append-nil before)) h
+fine_gates n before (g ∷ gates) ms s h =
+    subst (λ (gs : List Gate). AreFine n gs (fold (λ b x. b ++ gate_meaning b x ∷ []) (ms ++ gate_meaning ms g ∷ []) gates)) (append_assoc before (g ∷ []) gates)
+    (fine_gates n (before ++ g ∷ []) gates (ms ++ gate_meaning ms g ∷ []) (and_right (is_sound_gate before g) _ s)
+    (fine_push n before ms g (gate_meaning ms g) h (fine_gate n before ms g h (and_left _ _ s))))
+
+-- ---- steps
+fine_upto : (n : ℕ) (m : ℕ → Answer) (count : ℕ) (us : List Op) → ((j : ℕ) (vs : List Op) → j < count → m j ≡ Ok vs → All (IsFineOp n) vs)
+    → joined (map m (upto count)) ≡ Ok us → All (IsFineOp n) us
+fine_upto n m zero us h e = fine_nil n us (sym (upto_none m) ∙ e)
+fine_upto n m (suc k) us h e =
+    fine_followed n (joined (map m (upto k))) (m k) us
+    (λ vs f. fine_upto n m k vs (λ j ws l g. h j ws (omega arith) g) f)
+    (λ vs f. h k vs (omega arith) f)
+    (sym (ap (λ c. joined (map m (upto c))) (sym (add-one k)) ∙ upto-more m k) ∙ e)
+
+wires_below : (n j : ℕ) (places : List Place) → All (λ p. wire_at j p < n) places → All (λ w. w < n) (map (wire_at j) places)
+wires_below n j places h = All-map (λ w. w < n) (wire_at j) places h
+
+fine_step : (gates : List Gate) (wires bits : ℕ) (s : Step) (us : List Op) → AreFine wires gates (meanings gates) → IsSoundStep gates wires bits s
+    → step_answer (meanings gates) s ≡ Ok us → All (IsFineOp wires) us
+fine_step gates wires bits (measures qubit bit) us h s e = fine_nil wires us e
+fine_step gates wires bits (pauses places) us h s e = fine_nil wires us e
+fine_step gates wires bits nothing us h s e = fine_nil wires us e
+fine_step gates wires bits (applies gate angles places) us h s e =
+    fine_next wires (unvalued (values [] angles)) (λ given. joined (map (λ j. meaning_at (meanings gates) gate given (map (wire_at j) places)) (upto (broadcast places)))) us
+    (λ given vs f. fine_upto wires (λ j. meaning_at (meanings gates) gate given (map (wire_at j) places)) (broadcast places) vs
+    (λ j ws l g. fine_at wires gates (meanings gates) gate h given (map (wire_at j) places) ws
+    (length-map places (wire_at j) ∙ s.1) (wires_below wires j places (s.0 j l)) (not_true _ (s.2 j l)) g) f) e
+
+fine_steps : (gates : List Gate) (wires bits : ℕ) (steps : List Step) (us : List Op) → AreFine wires gates (meanings gates) → All (IsSoundStep gates wires bits) steps
+    → joined (map (step_answer (meanings gates)) steps) ≡ Ok us → All (IsFineOp wires) us
+fine_steps gates wires bits [] us h s e = fine_nil wires us e
+fine_steps gates wires bits (x ∷ xs) us h s e =
+    fine_followed wires (step_answer (meanings gates) x) (joined (map (step_answer (meanings gates)) xs)) us
+    (λ vs f. fine_step gates wires bits x vs h (All-head (IsSoundStep gates wires bits) x xs s) f)
+    (λ vs f. fine_steps gates wires bits xs vs h (All-tail (IsSoundStep gates wires bits) x xs s) f) e
+
+pub operations-fine : (b : Bound) (us : List Op) → IsSound b → operations b.gates b.steps ≡ Ok us → All (IsFineOp b.wires) us
+operations-fine b us s e = fine_steps b.gates b.wires b.bits b.steps us (fine_gates b.wires [] b.gates [] s.gates tt) s.steps e
+
+-- ---- what is told of one program is told of another with the same gates and steps
+moved : (b c : Bound) (P : List Gate → List Step → Type 0) → b.gates ≡ c.gates → b.steps ≡ c.steps → P b.gates b.steps → P c.gates c.steps
+moved b c P g s h = subst (λ (gates : List Gate). P gates c.steps) g (subst (λ (steps : List Step). P b.gates steps) s h)
+
+refused_same : (b c : Bound) (r : Refusal) (n : ℕ) → b.gates ≡ c.gates → b.steps ≡ c.steps → IsRefused b r n → IsRefused c r n
+refused_same b c TooManyOps n g s h = moved b c (λ gates steps. IsTooMany gates steps n) g s h
+refused_same b c AngleForm n g s h = moved b c (λ gates steps. (is_too_much (total gates steps) ≡ false) × IsFirstUnvalued gates steps NoForm n) g s h
+refused_same b c AngleZero n g s h = moved b c (λ gates steps. (is_too_much (total gates steps) ≡ false) × IsFirstUnvalued gates steps ByZero n) g s h
+refused_same b c AngleRange n g s h = moved b c (λ gates steps. (is_too_much (total gates steps) ≡ false) × IsFirstUnvalued gates steps TooLarge n) g s h
+refused_same b c AngleStep n g s h = moved b c (λ gates steps. (is_too_much (total gates steps) ≡ false) × IsFirstUnvalued gates steps NoStep n) g s h
+
+pub fault_same : (b c : Bound) (f : InlineFault) → b.gates ≡ c.gates → b.steps ≡ c.steps → IsFault b f → IsFault c f
+fault_same b c (Refuses r) g s h = refused_same b c r.refusal r.statement g s h
+fault_same b c NoMemory g s h = tt
+
+pub inlined_same : (b c : Bound) (o : Ops) → b.gates ≡ c.gates → b.steps ≡ c.steps → b.wires ≡ c.wires → b.bits ≡ c.bits → IsInlined b o → IsInlined c o
+inlined_same b c o g s w bits i = record {
+  small = moved b c (λ gates steps. is_too_much (total gates steps) ≡ false) g s i.small;
+  wires = i.wires ∙ w;
+  list = moved b c (λ gates steps. operations gates steps ≡ Ok o.list) g s i.list;
+  reads = i.reads ∙ (λ j. reads (bits j) (s j));
+}
+
+-- ---- wires and bits that are there
+pub placed_wide : (gates : List Gate) (wires bits more : ℕ) (s : Step) → wires ≤ more → IsSoundStep gates wires bits s → IsPlaced more bits s
+placed_wide gates wires bits more (applies gate angles places) l s =
+    λ j k. All-weaker (λ p. wire_at j p < wires) (λ p. wire_at j p < more) (λ p h. omega arith) places (s.0 j k)
+placed_wide gates wires bits more (measures qubit bit) l s =
+    (s.0, λ j k. (let h : wire_at j qubit < wires = (s.1 j k).0 in omega arith, (s.1 j k).1))
+placed_wide gates wires bits more (pauses places) l s = tt
+placed_wide gates wires bits more nothing l s = tt
+
+pub fine_ops : (b : Bound) (o : Ops) → IsSound b → IsInlined b o → All (IsFineOp o.wires) o.list
+fine_ops b o s i = subst (λ n. All (IsFineOp n) o.list) (sym i.wires) (operations-fine b o.list s i.list)

@@ -1,0 +1,40 @@
+-- What is written out of the gates and steps of a checked program is that of the program.
+use Rattle.std.proofs.Common.{All, Ok, Err, IfOk, IfErr, Result, [], map}
+use Rattle.qasm_check.specs.Checking.{Bound}
+use Rattle.qasm_check.specs.CheckedView.{program}
+use Rattle.qasm_check.specs.StepViews.{step as step_view}
+use Rattle.qasm_check.specs.Views.{gate as gate_view}
+use Rattle.gate_expand.specs.Expansion.{IsFineOp}
+use Rattle.gate_inline.specs.Inlined.{IsFault, IsInlined}
+use Rattle.gate_inline.proofs.FineLaws.{fault_same, fine_ops, inlined_same}
+use Rattle.gate_inline.proofs.inlining.inline.Goals as goal
+
+in_ok : {A E : Type 0} (P Q : A → Type 0) (r : Result A E) → ((x : A) → P x → Q x) → IfOk r P → IfOk r Q
+in_ok P Q (Ok x) f h = f x h
+in_ok P Q (Err e) f h = tt
+
+in_err : {A E : Type 0} (P Q : E → Type 0) (r : Result A E) → ((x : E) → P x → Q x) → IfErr r P → IfErr r Q
+in_err P Q (Ok x) f h = tt
+in_err P Q (Err e) f h = f e h
+
+pub returns-clause-ok : goal.returns-clause-ok
+returns-clause-ok c =
+    in_ok _ (IsInlined (program c.args.checked.now)) c.written_out.result
+    (λ o h. inlined_same _ (program c.args.checked.now) o c.gates.ensures c.steps.ensures c.wires.ensures c.bits.ensures h) c.written_out.ensures.ok
+
+pub returns-clause-fine : goal.returns-clause-fine
+returns-clause-fine c =
+    in_ok (IsInlined (program c.args.checked.now)) (λ o. All (IsFineOp o.wires) o.list) c.written_out.result
+    (λ o h. fine_ops (program c.args.checked.now) o c.requires.sound h) (returns-clause-ok c)
+
+pub returns-clause-err : goal.returns-clause-err
+returns-clause-err c =
+    let b : Bound = record {
+      gates = map gate_view c.gates.result.now;
+      steps = map step_view c.steps.result.now;
+      wires = c.wires.result;
+      bits = c.bits.result;
+      registers = [];
+    } in
+    in_err (IsFault b) (IsFault (program c.args.checked.now)) c.written_out.result
+    (λ f h. fault_same b (program c.args.checked.now) f c.gates.ensures c.steps.ensures h) c.written_out.ensures.err

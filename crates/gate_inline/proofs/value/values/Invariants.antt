@@ -1,0 +1,10 @@
+-- The values so far, and those of the rest.
+use Rattle.std.proofs.Common.{◌≡◌, ◌++◌, Ok, map, drop}
+use Rattle.qasm_check.specs.Views.{formula as formula_view}
+use Rattle.gate_inline.specs.Values.{and_next, values as values_of}
+use Rattle.gate_inline.proofs.value.values.Given as goal
+
+abbrev pub invariant-formulas : goal.invariant-formulas
+invariant-formulas l =
+    values_of l.params (map formula_view l.formulas)
+    ≡ and_next (values_of l.params (map formula_view (drop l.formula-index l.formulas))) (λ others. Ok (l.list.items ++ others))

@@ -1,0 +1,90 @@
+-- The operations and reads of a program whose names are bound, or why there are none.
+--     answers gates steps     the operations of each step
+--     operations gates steps  those of all steps, or the first refusal
+--     IsInlined b o       o are the operations and reads of a program without a refusal
+--     IsTooMany gates steps n     step n, counted from 1, is the first with which there is too much
+--     IsFirstUnvalued gates steps e n     step n is the first with an angle that isn't exact, which is told by e
+--     code r              its number
+--     refusal_of e        the refusal of such an angle
+--     IsRefused b r n     the program's refusal: too much anywhere comes before angles
+--     stopped_at s n, unwritten_fault u   a stop at step n, and what is told of it
+--     IsFault b e         what may be told of the program;  IsUnwritten gates steps e: where there isn't too much
+use Rattle.std.specs.Prelude.{◌≡◌, ℕ, ◌+◌, List, [], ◌∷◌, ◌++◌, Ok, Err, true, false, length, map, IsOk}
+use Rattle.qasm_check.specs.Gates.{Gate}
+use Rattle.qasm_check.specs.Checking.{Bound}
+use Rattle.qasm_check.specs.Steps.{Step}
+use Rattle.gate_inline.specs.Meanings.{Answer, joined, meanings, step_answer}
+use Rattle.gate_inline.specs.Reads.{reads}
+use Rattle.gate_inline.specs.Sizes.{is_too_much, total}
+use Rattle.gate_inline.specs.declared.refusal.Refusal.{Refusal}
+use Rattle.gate_inline.specs.declared.refusal.Refusal.TheVariants.{AngleForm, AngleZero, AngleRange, AngleStep, TooManyOps}
+use Rattle.gate_inline.specs.declared.refusal.InlineFault.{InlineFault}
+use Rattle.gate_inline.specs.declared.refusal.InlineFault.TheVariants.{Refused as Refuses, NoMemory}
+use Rattle.gate_inline.specs.declared.program.Unwritten.{Unwritten}
+use Rattle.gate_inline.specs.declared.program.Unwritten.TheVariants.{Unvalued as Unvalues, NoMemory as Short}
+use Rattle.gate_expand.specs.declared.source.Ops.{Ops}
+use Rattle.gate_inline.specs.declared.stop.Stop.{Stop}
+use Rattle.gate_inline.specs.declared.stop.Stop.TheVariants.{NoMemory as Empty, Angle}
+use Rattle.gate_inline.specs.declared.stop.Unvalued.{Unvalued}
+use Rattle.gate_inline.specs.declared.stop.Unvalued.TheVariants.{NoForm, ByZero, TooLarge, NoStep}
+
+abbrev pub answers : List Gate → List Step → List Answer
+answers gates steps = map (step_answer (meanings gates)) steps
+
+abbrev pub operations : List Gate → List Step → Answer
+operations gates steps = joined (answers gates steps)
+
+pub record IsInlined (b : Bound) (o : Ops) : Type 0 where
+  pub small : is_too_much (total b.gates b.steps) ≡ false
+  pub wires : o.wires ≡ b.wires
+  pub list : operations b.gates b.steps ≡ Ok o.list
+  pub reads : o.reads ≡ reads b.bits b.steps
+
+abbrev pub IsTooMany : List Gate → List Step → ℕ → Type 0
+IsTooMany gates steps n =
+    (before : List Step) × (s : Step) × (rest : List Step)
+    × (steps ≡ before ++ s ∷ rest) × (n ≡ length before + 1)
+    × (is_too_much (total gates before) ≡ false) × (is_too_much (total gates (before ++ s ∷ [])) ≡ true)
+
+abbrev pub IsFirstUnvalued : List Gate → List Step → Unvalued → ℕ → Type 0
+IsFirstUnvalued gates steps e n =
+    (before : List Step) × (s : Step) × (rest : List Step)
+    × (steps ≡ before ++ s ∷ rest) × (n ≡ length before + 1)
+    × IsOk (operations gates before) × (step_answer (meanings gates) s ≡ Err e)
+
+abbrev pub code : Refusal → ℕ
+code AngleForm = 40
+code AngleZero = 41
+code AngleRange = 42
+code AngleStep = 43
+code TooManyOps = 44
+
+abbrev pub refusal_of : Unvalued → Refusal
+refusal_of NoForm = AngleForm
+refusal_of ByZero = AngleZero
+refusal_of TooLarge = AngleRange
+refusal_of NoStep = AngleStep
+
+abbrev pub IsRefused : Bound → Refusal → ℕ → Type 0
+IsRefused b TooManyOps n = IsTooMany b.gates b.steps n
+IsRefused b AngleForm n = (is_too_much (total b.gates b.steps) ≡ false) × IsFirstUnvalued b.gates b.steps NoForm n
+IsRefused b AngleZero n = (is_too_much (total b.gates b.steps) ≡ false) × IsFirstUnvalued b.gates b.steps ByZero n
+IsRefused b AngleRange n = (is_too_much (total b.gates b.steps) ≡ false) × IsFirstUnvalued b.gates b.steps TooLarge n
+IsRefused b AngleStep n = (is_too_much (total b.gates b.steps) ≡ false) × IsFirstUnvalued b.gates b.steps NoStep n
+
+abbrev pub IsFault : Bound → InlineFault → Type 0
+IsFault b (Refuses r) = IsRefused b r.refusal r.statement
+IsFault b NoMemory = Unit {0}
+
+abbrev pub stopped_at : Stop → ℕ → Unwritten
+stopped_at Empty n = Short
+stopped_at (Angle e) n = Unvalues e n
+
+abbrev pub unwritten_fault : Unwritten → InlineFault
+unwritten_fault Short = NoMemory
+unwritten_fault (Unvalues e n) = Refuses (record { refusal = refusal_of e; statement = n })
+
+-- where there isn't too much
+abbrev pub IsUnwritten : List Gate → List Step → Unwritten → Type 0
+IsUnwritten gates steps (Unvalues e n) = IsFirstUnvalued gates steps e n
+IsUnwritten gates steps Short = Unit {0}

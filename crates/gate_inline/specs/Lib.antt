@@ -1,0 +1,10 @@
+pub mod Values
+pub mod Meanings
+pub mod Sizes
+pub mod Capped
+pub mod Reads
+pub mod Inlined
+pub mod Stops
+pub mod Placed
+pub mod Frames
+pub mod Sound

@@ -1,0 +1,10 @@
+-- Why something has no operations.
+--     IsStop a s      s is told where a is asked for: the refusal that a is, or want of memory
+use Rattle.std.specs.Prelude.{◌≡◌, Result, Err}
+use Rattle.gate_inline.specs.declared.stop.Unvalued.{Unvalued}
+use Rattle.gate_inline.specs.declared.stop.Stop.{Stop}
+use Rattle.gate_inline.specs.declared.stop.Stop.TheVariants.{NoMemory, Angle}
+
+abbrev pub IsStop : {A : Type 0} → Result A Unvalued → Stop → Type 0
+IsStop a NoMemory = Unit {0}
+IsStop a (Angle e) = a ≡ Err e

@@ -1,0 +1,285 @@
+//! Gates' bodies written out.
+
+ghost use Rattle.std.specs.Prelude.{◌≡◌, ◌+◌, ◌*◌, ◌<◌, ◌≤◌, [], ◌∷◌, ◌++◌, List, MatchOption, Ok, IfOk, IfErr, OnOk, map, slice_get, take};
+ghost use Rattle.std.specs.Option.{option_map};
+ghost use Rattle.qasm_check.specs.Views.{gate as gate_view, item as item_view};
+ghost use Rattle.gate_inline.specs.declared.size.Size.{Size};
+ghost use Rattle.gate_inline.specs.declared.stop.Stop.TheVariants.{NoMemory};
+ghost use Rattle.gate_inline.specs.Frames.{asked_answer, asked_size, body_answer, body_room, call_answer, entered_answer, frame_answer, frame_room, frames_answer, frames_room, one_frame};
+ghost use Rattle.qasm_check.specs.Gates.{Gate as BoundGate};
+ghost use Rattle.gate_inline.specs.Meanings.{Meaning, controlled as controlled_of, followed, item_answer, meaning_at, meanings, one_op, rotation as rotation_of, wire_of as wire_there};
+ghost use Rattle.gate_inline.specs.Sizes.{item_size, size_at, sizes};
+ghost use Rattle.gate_inline.specs.Stops.{IsStop};
+
+use crate::stop::Stop;
+use crate::value::{eighth, values};
+use angle_fraction::Angle;
+use qasm_check::{Gate, Item};
+use std::alloc::{AllocError, Global};
+use unitary_model::Op;
+
+/// A gate by its number, with the values of its angles and its wires.
+#[derive(Drop)]
+pub struct Call {
+    pub gate: usize,
+    pub angles: Vec<Angle>,
+    pub wires: Vec<u32>,
+}
+
+/// What is left of a body: that of gate `own`, for these angles and wires.
+#[derive(Drop)]
+pub struct Frame<'a> {
+    own: usize,
+    rest: &'a [Item],
+    angles: Vec<Angle>,
+    wires: Vec<u32>,
+}
+
+/// The wire at a place among a gate's; a bound body has no other places.
+fn wire_of(wires: &[u32], place: usize) -> u32
+    ensures { result ≡ wire_there wires.now place }
+{
+    match wires.get(place) {
+        Some(wire) => *wire,
+        None => 0,
+    }
+}
+
+fn wires_of(alloc: Global, wires: &[u32], places: &[usize]) -> Result<Vec<u32>, AllocError>
+    ensures { IfOk result (λ v. v.items ≡ map (wire_there wires.now) places.now) }
+{
+    let mut list = Vec::with_capacity(alloc, places.len())?;
+    'places: for place in places {
+        list.push(wire_of(wires, *place))?;
+    }
+    Ok(list)
+}
+
+/// The rotation at three angles, in eighths, on one wire; none at other numbers of them.
+fn rotation(angles: &[Angle], wires: &[u32]) -> Result<Option<Op>, Stop>
+    ensures ok { IfOk result (λ o. rotation_of angles.now wires.now ≡ Ok (one_op o)) }
+    ensures err { IfErr result (IsStop (rotation_of angles.now wires.now)) }
+{
+    if angles.len() != 3 || wires.len() != 1 {
+        return Ok(None);
+    }
+    let a = eighth(&angles[0])?;
+    let b = eighth(&angles[1])?;
+    let c = eighth(&angles[2])?;
+    Ok(Some(Op::U {
+        a,
+        b,
+        c,
+        q: wires[0],
+    }))
+}
+
+/// The CNOT on two wires; none on another number of them.
+fn controlled(wires: &[u32]) -> Option<Op>
+    ensures { controlled_of wires.now ≡ Ok (one_op result) }
+{
+    if wires.len() != 2 {
+        return None;
+    }
+    Some(Op::Cx {
+        c: wires[0],
+        t: wires[1],
+    })
+}
+
+/// The gate of a number among the first so many.
+fn gate_below<'a>(gates: &'a [Gate], below: usize, number: usize) -> Option<&'a Gate>
+    ensures { option_map (λ g. gate_view g.now) result ≡ slice_get (take below (map gate_view gates.now)) number }
+{
+    if number < below {
+        gates.get(number)
+    } else {
+        None
+    }
+}
+
+/// Puts an operation behind the others, if there is one.
+fn push_op(list: &mut Vec<Op>, op: Option<Op>) -> Result<(), Stop>
+    ensures ok { OnOk result (list.new.items ≡ list.old.items ++ one_op op) }
+    ensures err { IfErr result (λ e. e ≡ NoMemory) }
+{
+    if let Some(op) = op {
+        list.push(op)?;
+    }
+    Ok(())
+}
+
+/// What applying a gate comes to: an operation, or a body.
+#[derive(Drop)]
+struct Entered<'a> {
+    op: Option<Op>,
+    body: Option<Frame<'a>>,
+}
+
+/// What a call of one of the first `below` gates comes to.
+fn enter<'a>(gates: &'a [Gate], below: usize, call: Call) -> Result<Entered<'a>, Stop>
+    ensures ok { IfOk result (λ e. call_answer (map gate_view gates.now) below call ≡ entered_answer (map gate_view gates.now) e) }
+    ensures err { IfErr result (IsStop (call_answer (map gate_view gates.now) below call)) }
+    ensures room { IfOk result (λ e. body_room (map gate_view gates.now) e.body < 2 * (size_at (sizes (take below (map gate_view gates.now))) call.gate).items) }
+{
+    let Call {
+        gate: number,
+        angles,
+        wires,
+    } = call;
+    match gate_below(gates, below, number) {
+        Some(Gate::U) => match rotation(&angles, &wires) {
+            Ok(op) => Ok(Entered { op, body: None }),
+            Err(stop) => Err(stop),
+        },
+        Some(Gate::Cx) => Ok(Entered {
+            op: controlled(&wires),
+            body: None,
+        }),
+        Some(
+            Gate::Composed {
+                params: _,
+                qubits: _,
+                body,
+            },
+        ) => Ok(Entered {
+            op: None,
+            body: Some(Frame {
+                own: number,
+                rest: body,
+                angles,
+                wires,
+            }),
+        }),
+        Some(
+            Gate::Opaque {
+                params: _,
+                qubits: _,
+            },
+        ) => Ok(Entered {
+            op: None,
+            body: None,
+        }),
+        None => Ok(Entered {
+            op: None,
+            body: None,
+        }),
+    }
+}
+
+/// Keeps a body for later, if there is one.
+fn push_body<'a>(frames: &mut Vec<Frame<'a>>, body: Option<Frame<'a>>) -> Result<(), Stop>
+    ensures ok { OnOk result (frames.new.items ≡ frames.old.items ++ one_frame body.entry) }
+    ensures err { IfErr result (λ e. e ≡ NoMemory) }
+{
+    if let Some(body) = body {
+        frames.push(body)?;
+    }
+    Ok(())
+}
+
+/// What is left of a body behind its first line, if there is anything.
+fn rest_of<'a>(frame: Frame<'a>) -> Option<Frame<'a>>
+    ensures answer { (gates : List BoundGate) → body_answer gates result ≡ frame_answer gates frame.entry }
+    ensures room { (gates : List BoundGate) → body_room gates result ≤ frame_room gates frame.entry }
+{
+    if frame.rest.is_empty() {
+        None
+    } else {
+        Some(frame)
+    }
+}
+
+/// The call of a line, with its angles' values and its wires; none where it is a barrier.
+fn call_of(
+    alloc: Global,
+    item: &Item,
+    params: &[Angle],
+    wires: &[u32],
+) -> Result<Option<Call>, Stop>
+    ensures ok { IfOk result (λ o. (ms : List Meaning) → item_answer ms params.now wires.now (item_view item.now) ≡ asked_answer ms o) }
+    ensures size { IfOk result (λ o. (ss : List Size) → item_size ss (item_view item.now) ≡ asked_size ss o) }
+    ensures err { IfErr result (λ e. (ms : List Meaning) → IsStop (item_answer ms params.now wires.now (item_view item.now)) e) }
+{
+    match item {
+        Item::Call {
+            gate,
+            angles,
+            qubits,
+        } => {
+            let angles = values(alloc, params, angles)?;
+            let wires = wires_of(alloc, wires, qubits)?;
+            Ok(Some(Call {
+                gate: *gate,
+                angles,
+                wires,
+            }))
+        }
+        Item::Pause => Ok(None),
+    }
+}
+
+/// The first line and the others.
+fn split<'a>(items: &'a [Item]) -> Option<(&'a Item, &'a [Item])>
+    ensures { MatchOption result (items.now ≡ []) (λ p. items.now ≡ p.0.now ∷ p.1.now) }
+{
+    items.split_first()
+}
+
+/// One line of a body that isn't at its end.
+fn advance<'a>(
+    alloc: Global,
+    gates: &'a [Gate],
+    frame: Frame<'a>,
+    frames: &mut Vec<Frame<'a>>,
+    list: &mut Vec<Op>,
+) -> Result<(), Stop>
+    ensures ok { OnOk result (followed (Ok list.new.items) (frames_answer (map gate_view gates.now) frames.new.items)
+        ≡ followed (Ok list.old.items) (followed (frame_answer (map gate_view gates.now) frame.entry) (frames_answer (map gate_view gates.now) frames.old.items))) }
+    ensures err { IfErr result (IsStop (frame_answer (map gate_view gates.now) frame.entry)) }
+    ensures room { OnOk result (frames_room (map gate_view gates.now) frames.new.items
+        < frames_room (map gate_view gates.now) frames.old.items + frame_room (map gate_view gates.now) frame.entry) }
+{
+    let Frame {
+        own,
+        rest,
+        angles,
+        wires,
+    } = frame;
+    let Some((item, rest)) = split(rest) else {
+        return Ok(());
+    };
+    let call = call_of(alloc, item, &angles, &wires)?;
+    push_body(
+        frames,
+        rest_of(Frame {
+            own,
+            rest,
+            angles,
+            wires,
+        }),
+    )?;
+    let Some(call) = call else {
+        return Ok(());
+    };
+    let Entered { op, body } = enter(gates, own, call)?;
+    push_op(list, op)?;
+    push_body(frames, body)?;
+    Ok(())
+}
+
+/// Puts the operations of a gate behind the others. Bodies that wait for others are kept in a list, so that a long chain
+/// of gates needs no deep stack; one at its end isn't kept, so that the list stays short.
+pub fn write_out(alloc: Global, gates: &[Gate], call: Call, list: &mut Vec<Op>) -> Result<(), Stop>
+    ensures ok { OnOk result (Ok list.new.items ≡ followed (Ok list.old.items) (meaning_at (meanings (map gate_view gates.now)) call.gate call.angles.items call.wires.items)) }
+    ensures err { IfErr result (IsStop (meaning_at (meanings (map gate_view gates.now)) call.gate call.angles.items call.wires.items)) }
+{
+    let mut frames = Vec::new(alloc);
+    let Entered { op, body } = enter(gates, gates.len(), call)?;
+    push_op(list, op)?;
+    push_body(&mut frames, body)?;
+    'frames: while let Some(frame) = frames.pop() {
+        advance(alloc, gates, frame, &mut frames, list)?;
+    }
+    Ok(())
+}

@@ -1,0 +1,181 @@
+//! Texts with their operations and reads, or their refusals, worked by hand.
+
+ghost use Rattle.std.specs.Prelude.{◌<◌, ◌^◌, length};
+
+use crate::{InlineFault, inline};
+use gate_expand::Ops;
+use qasm_check::check;
+use qasm_lexer::lex;
+use qasm_parser::parse;
+use std::alloc::{AllocError, Global};
+use std::test::Fail;
+use unitary_model::Op;
+
+/// What a text's program is inlined to; none where the text has no checked program.
+pub fn inlined(alloc: Global, text: &[u8]) -> Option<Result<Ops, InlineFault>> {
+    if text.len() > 10_000_000 {
+        return None;
+    }
+    let tokens = match lex(alloc, text) {
+        Ok(tokens) => tokens,
+        Err(_) => return None,
+    };
+    let program = match parse(alloc, text, &tokens) {
+        Ok(program) => program,
+        Err(_) => return None,
+    };
+    if program.list.len() > 10_000_000 {
+        return None;
+    }
+    match check(alloc, program) {
+        Ok(checked) => Some(inline(alloc, &checked)),
+        Err(_) => None,
+    }
+}
+
+/// The text behind the two first lines.
+pub fn behind_head(alloc: Global, body: &[u8]) -> Result<Vec<u8>, AllocError> {
+    let mut text = Vec::new(alloc);
+    text.extend_from_slice(b"OPENQASM 2.0;\ninclude \"qelib1.inc\";\n")?;
+    text.extend_from_slice(body)?;
+    Ok(text)
+}
+
+/// The operations and reads, as `104.0 cx01 | 1 -`.
+fn told_ops(alloc: Global, ops: &Ops) -> Result<String, AllocError> {
+    let mut text = String::new(alloc);
+    for op in ops.list.as_slice() {
+        let word = match op {
+            Op::U { a, b, c, q } => format!(in alloc; "{a}{b}{c}.{q} ")?,
+            Op::Cx { c, t } => format!(in alloc; "cx{c}{t} ")?,
+        };
+        text.push_str(word.as_str())?;
+    }
+    text.push_str("|")?;
+    for read in ops.reads.as_slice() {
+        let word = match read {
+            Some(wire) => format!(in alloc; " {wire}")?,
+            None => format!(in alloc; " -")?,
+        };
+        text.push_str(word.as_str())?;
+    }
+    Ok(text)
+}
+
+/// The same, or the refusal's code and statement.
+fn told(alloc: Global, text: &[u8]) -> Result<String, AllocError> {
+    match inlined(alloc, text) {
+        None => format!(in alloc; "no program"),
+        Some(Ok(ops)) => told_ops(alloc, &ops),
+        Some(Err(InlineFault::NoMemory)) => format!(in alloc; "no memory"),
+        Some(Err(InlineFault::Refused(refused))) => {
+            let code = refused.refusal.code();
+            let statement = refused.statement;
+            format!(in alloc; "code {code} at {statement}")
+        }
+    }
+}
+
+#[test]
+fn operations_by_hand(rt: HostRuntime) -> Result<(), Fail> {
+    let alloc = rt.alloc();
+    let rows: [(&[u8], &str); 28] = [
+        (b"", "|"),
+        (b"qreg q[1]; U(pi/4,0,0) q[0];", "100.0 |"),
+        // exact angles
+        (b"qreg q[1]; u1(0.25*pi) q[0];", "001.0 |"),
+        (b"qreg q[1]; u1(-pi/2^2) q[0];", "007.0 |"),
+        (b"qreg q[1]; u1(-2^2*pi/16) q[0];", "007.0 |"),
+        (b"qreg q[1]; u1(2^-1*pi) q[0];", "002.0 |"),
+        (b"qreg q[1]; u1(-3*pi/4) q[0];", "005.0 |"),
+        (b"qreg q[1]; u1(2^62*pi) q[0];", "000.0 |"),
+        // others
+        (b"qreg q[1]; u1(0.7853981633974483) q[0];", "code 43 at 3"),
+        (b"qreg q[1]; u1(1.) q[0];", "code 43 at 3"),
+        (b"qreg q[1]; u1(pi*pi) q[0];", "code 40 at 3"),
+        (b"qreg q[1]; u1(sin(0)) q[0];", "code 40 at 3"),
+        (b"qreg q[1]; u1(sin(1/0)) q[0];", "code 41 at 3"),
+        (b"qreg q[1]; u1(pi/(1-1)) q[0];", "code 41 at 3"),
+        (b"qreg q[1]; u1(2^62*2*pi) q[0];", "code 42 at 3"),
+        (b"qreg q[2]; crz(pi/4) q[0],q[1];", "code 43 at 3"),
+        (
+            b"gate g a,b { crz(pi/4) a,b; } qreg q[1]; t q[0];",
+            "001.0 |",
+        ),
+        (b"gate g(x) a { } qreg q[1]; g(1/0) q[0];", "code 41 at 4"),
+        (
+            b"gate g(x) a { } gate f a { g(sin(0)) a; } qreg q[1]; f q[0];",
+            "code 40 at 5",
+        ),
+        // parameters and qubits in order of declaration
+        (
+            b"gate g(x,y) a,b { U(x,0,y) b; CX b,a; U(y,0,0) a; } qreg q[2]; g(pi/4,pi/2) q[1],q[0];",
+            "102.0 cx01 200.1 |",
+        ),
+        // registers, index by index
+        (b"qreg q[2]; qreg r[2]; cx q,r;", "cx02 cx13 |"),
+        (b"qreg q[2]; qreg r[2]; cx q[1],r;", "cx12 cx13 |"),
+        (b"qreg q[2]; h q;", "204.0 204.1 |"),
+        // the last read
+        (
+            b"qreg q[2]; creg c[1]; measure q[0]->c[0]; h q[1]; measure q[1]->c[0];",
+            "204.1 | 1",
+        ),
+        (
+            b"qreg q[2]; creg c[2]; creg d[2]; measure q -> d; measure q[1] -> c[0];",
+            "| 1 - 0 1",
+        ),
+        // tables
+        (b"qreg q[1]; y q[0];", "422.0 |"),
+        (b"qreg q[2]; cz q[0],q[1];", "204.1 cx01 204.1 |"),
+        (
+            b"qreg q[3]; cswap q[0],q[1],q[2];",
+            "cx21 204.2 cx12 007.2 cx02 001.2 cx12 007.2 cx02 001.1 001.2 204.2 cx01 001.0 007.1 cx01 cx21 |",
+        ),
+    ];
+    for (body, wanted) in rows {
+        let text = behind_head(alloc, body)?;
+        let found = told(alloc, &text)?;
+        assert_eq!(rt; found.as_str(), wanted);
+    }
+    Ok(())
+}
+
+/// Gates `g0`, `g1` and so on, each of which applies the one before it so often, and an application of the last.
+fn chain(alloc: Global, first: &str, each: u32, times: u32) -> Result<String, AllocError> {
+    let mut text = String::new(alloc);
+    text.push_str("OPENQASM 2.0;\ninclude \"qelib1.inc\";\n")?;
+    text.push_str(first)?;
+    let mut last = 0u32;
+    for i in 1..each {
+        let head = format!(in alloc; "gate g{i} a ")?;
+        text.push_str(head.as_str())?;
+        text.push_str("{ ")?;
+        for _ in 0..times {
+            let line = format!(in alloc; "g{last} a; ")?;
+            text.push_str(line.as_str())?;
+        }
+        text.push_str("}\n")?;
+        last = i;
+    }
+    let end = format!(in alloc; "qreg q[1];\ng{last} q[0];\n")?;
+    text.push_str(end.as_str())?;
+    Ok(text)
+}
+
+#[test]
+fn chains(rt: HostRuntime) -> Result<(), Fail> {
+    let alloc = rt.alloc();
+    // doubled again and again
+    let text = chain(alloc, "gate g0 a { x a; x a; }\n", 60, 2)?;
+    let found = told(alloc, text.as_bytes())?;
+    assert_eq!(rt; found.as_str(), "code 44 at 63");
+    let text = chain(alloc, "gate g0 a { }\n", 60, 2)?;
+    let found = told(alloc, text.as_bytes())?;
+    assert_eq!(rt; found.as_str(), "code 44 at 63");
+    // long, and no operation
+    let text = chain(alloc, "gate g0 a { }\n", 100_000, 1)?;
+    let found = told(alloc, text.as_bytes())?;
+    assert_eq!(rt; found.as_str(), "|");
+    Ok(())
+}

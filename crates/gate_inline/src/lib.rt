@@ -1,0 +1,31 @@
+//! From a checked program to its operations and reads, and what a program's text means as a whole.
+//!
+//! `inline` gives the operations and reads of a checked program: gates' bodies are written out under their angles and wires,
+//! registers index by index. Else the contract says why there are none: with which statement there is too much, before
+//! anything is written out; else which is the first with an angle that isn't exact. Bodies are kept in a list on the heap, so
+//! a long chain of gates needs no deep stack. Each operation is such as `gate_expand::expand` asks for. Time is linear in the
+//! operations and items.
+#![tactic(auto)]
+
+mod body;
+#[cfg(test)]
+mod inline_tests;
+mod inlining;
+mod laws;
+#[cfg(test)]
+mod matrix_tests;
+mod program;
+mod refusal;
+mod size;
+mod stop;
+mod value;
+
+pub use inlining::inline;
+pub use laws::accepted_is_sound;
+pub use refusal::{InlineFault, Refusal, Refused};
+
+/// The most operations that a program has.
+pub const OPERATION_LIMIT: u64 = 65_536;
+
+/// The most items of gates' bodies that are met while a program's bodies are written out.
+pub const ITEM_LIMIT: u64 = 1_048_576;

@@ -1,0 +1,224 @@
+//! A program's operations and reads.
+
+ghost use Rattle.std.specs.Prelude.{◌≡◌, ℕ, ◌+◌, ◌<◌, ◌^◌, [], Ok, IfOk, IfErr, OnOk, All, None, map, length, slice_index_or};
+ghost use Rattle.std.specs.Option.{option_or};
+ghost use Rattle.qasm_check.specs.Steps.{measures};
+ghost use Rattle.qasm_check.specs.Places.{broadcast as broadcast_of, times, wire_at as wire_there};
+ghost use Rattle.qasm_check.specs.StepViews.{step as step_view};
+ghost use Rattle.qasm_check.specs.Views.{gate as gate_view};
+ghost use Rattle.gate_inline.specs.Inlined.{IsFault, IsInlined, IsUnwritten, operations as operations_of, refusal_of as refusal_there, stopped_at, unwritten_fault as fault_there};
+ghost use Rattle.gate_inline.specs.Meanings.{broadcast_answer, followed, meanings, step_answer};
+ghost use Rattle.gate_inline.specs.Placed.{IsPlaced};
+ghost use Rattle.gate_inline.specs.Reads.{reads as reads_of, step_read};
+ghost use Rattle.gate_inline.specs.Stops.{IsStop};
+
+use crate::body::{Call, write_out};
+use crate::refusal::{InlineFault, Refusal, Refused};
+use crate::size::{broadcast, sizes, too_much};
+use gate_expand::{OpList, Ops, ReadList};
+use crate::stop::{Stop, Unvalued};
+use crate::value::values;
+use angle_fraction::Angle;
+use qasm_check::{Gate, Place, Step};
+use std::alloc::{AllocError, Global};
+use unitary_model::Op;
+
+/// The wires at an index of a broadcast.
+fn wires_at(alloc: Global, places: &[Place], j: u32) -> Result<Vec<u32>, AllocError>
+    requires { All (λ p. wire_there j p < 2 ^ 32) places.now }
+    ensures { IfOk result (λ v. v.items ≡ map (wire_there j) places.now) }
+{
+    let mut list = Vec::with_capacity(alloc, places.len())?;
+    'places: for place in places {
+        list.push(place.wire_at(j) as u32)?;
+    }
+    Ok(list)
+}
+
+fn copied(alloc: Global, angles: &[Angle]) -> Result<Vec<Angle>, AllocError>
+    ensures { IfOk result (λ v. v.items ≡ angles.now) }
+{
+    angles.iter().copied().collect(alloc)
+}
+
+/// Puts the operations of a gate behind the others, for each index of the broadcast.
+fn write_broadcast(
+    alloc: Global,
+    gates: &[Gate],
+    gate: usize,
+    angles: &[Angle],
+    places: &[Place],
+    list: &mut Vec<Op>,
+) -> Result<(), Stop>
+    requires { (j : ℕ) → j < broadcast_of places.now → All (λ p. wire_there j p < 2 ^ 32) places.now }
+    ensures ok { OnOk result (Ok list.new.items ≡ followed (Ok list.old.items) (broadcast_answer (meanings (map gate_view gates.now)) gate angles.now places.now (broadcast_of places.now))) }
+    ensures err { IfErr result (IsStop (broadcast_answer (meanings (map gate_view gates.now)) gate angles.now places.now (broadcast_of places.now))) }
+{
+    'indices: for j in 0..broadcast(places) {
+        let call = Call {
+            gate,
+            angles: copied(alloc, angles)?,
+            wires: wires_at(alloc, places, j)?,
+        };
+        match write_out(alloc, gates, call, list) {
+            Ok(()) => {}
+            Err(stop) => return Err(stop),
+        }
+    }
+    Ok(())
+}
+
+/// Puts the operations of a step behind the others.
+fn write_step(alloc: Global, gates: &[Gate], step: &Step, list: &mut Vec<Op>) -> Result<(), Stop>
+    requires { IsPlaced (2 ^ 32) (2 ^ 32) (step_view step.now) }
+    ensures ok { OnOk result (Ok list.new.items ≡ followed (Ok list.old.items) (step_answer (meanings (map gate_view gates.now)) (step_view step.now))) }
+    ensures err { IfErr result (IsStop (step_answer (meanings (map gate_view gates.now)) (step_view step.now))) }
+{
+    match step {
+        Step::Apply {
+            gate,
+            angles,
+            places,
+        } => match values(alloc, &[], angles) {
+            Ok(angles) => write_broadcast(alloc, gates, *gate, &angles, places, list),
+            Err(stop) => Err(stop),
+        },
+        Step::Measure { qubit: _, bit: _ } | Step::Pause { places: _ } | Step::Nothing => Ok(()),
+    }
+}
+
+/// Measures a wire into a bit, or wire by wire a register into one of bits.
+fn measure(list: &mut [Option<u32>], qubit: &Place, bit: &Place)
+    requires same { times qubit.now ≡ times bit.now }
+    requires placed { (j : ℕ) → j < times bit.now → (wire_there j qubit.now < 2 ^ 32) × (wire_there j bit.now < length list.old) }
+    ensures { (x : ℕ) → x < length list.old →
+        slice_index_or list.new x None ≡ option_or (step_read (measures qubit.now bit.now) x) (slice_index_or list.old x None) }
+{
+    'wires: for j in 0..bit.count() {
+        let wire = qubit.wire_at(j);
+        let place = bit.wire_at(j);
+        list[place as usize] = Some(wire as u32);
+    }
+}
+
+/// Reads what a step measures.
+fn read_step(list: &mut [Option<u32>], step: &Step)
+    requires { IsPlaced (2 ^ 32) (length list.old) (step_view step.now) }
+    ensures { (x : ℕ) → x < length list.old →
+        slice_index_or list.new x None ≡ option_or (step_read (step_view step.now) x) (slice_index_or list.old x None) }
+{
+    if let Step::Measure { qubit, bit } = step {
+        measure(list, qubit, bit);
+    }
+}
+
+/// For each bit the wire that is measured into it last.
+fn reads(alloc: Global, bits: u32, steps: &[Step]) -> Result<Vec<Option<u32>>, AllocError>
+    requires { All (IsPlaced (2 ^ 32) bits) (map step_view steps.now) }
+    ensures { IfOk result (λ v. v.items ≡ reads_of bits (map step_view steps.now)) }
+{
+    let mut list = vec![in alloc; None; bits as usize]?;
+    'steps: for step in steps {
+        read_step(&mut list, step);
+    }
+    Ok(list)
+}
+
+/// The first step with an angle that isn't exact, counted from 1, or no memory.
+#[derive(Clone, Copy, Debug)]
+enum Unwritten {
+    Unvalued(Unvalued, u32),
+    NoMemory,
+}
+
+/// The number of a statement.
+fn number(index: usize) -> u32
+    requires { index + 1 < 2 ^ 32 }
+    ensures { result ≡ index + 1 }
+{
+    index as u32 + 1
+}
+
+/// Why a statement has no operations, with its number.
+fn at_statement(stop: Stop, statement: u32) -> Unwritten
+    ensures { result ≡ stopped_at stop statement }
+{
+    match stop {
+        Stop::NoMemory => Unwritten::NoMemory,
+        Stop::Angle(unvalued) => Unwritten::Unvalued(unvalued, statement),
+    }
+}
+
+/// The operations of all steps.
+fn operations(alloc: Global, gates: &[Gate], steps: &[Step]) -> Result<Vec<Op>, Unwritten>
+    requires few { length steps.now < 2 ^ 32 }
+    requires placed { All (IsPlaced (2 ^ 32) (2 ^ 32)) (map step_view steps.now) }
+    ensures ok { IfOk result (λ v. operations_of (map gate_view gates.now) (map step_view steps.now) ≡ Ok v.items) }
+    ensures err { IfErr result (IsUnwritten (map gate_view gates.now) (map step_view steps.now)) }
+{
+    let mut list = Vec::new(alloc);
+    'steps: for (i, step) in steps.iter().enumerate() {
+        match write_step(alloc, gates, step, &mut list) {
+            Ok(()) => {}
+            Err(stop) => return Err(at_statement(stop, number(i))),
+        }
+    }
+    Ok(list)
+}
+
+/// The refusal of a step with an angle that isn't exact.
+fn refusal_of(unvalued: Unvalued) -> Refusal
+    ensures { result ≡ refusal_there unvalued }
+{
+    match unvalued {
+        Unvalued::NoForm => Refusal::AngleForm,
+        Unvalued::ByZero => Refusal::AngleZero,
+        Unvalued::TooLarge => Refusal::AngleRange,
+        Unvalued::NoStep => Refusal::AngleStep,
+    }
+}
+
+/// What is told of a program with such a step.
+fn fault_of(unwritten: Unwritten) -> InlineFault
+    ensures { result ≡ fault_there unwritten }
+{
+    match unwritten {
+        Unwritten::NoMemory => InlineFault::NoMemory,
+        Unwritten::Unvalued(unvalued, statement) => InlineFault::Refused(Refused {
+            refusal: refusal_of(unvalued),
+            statement,
+        }),
+    }
+}
+
+/// The operations and reads of steps over gates.
+pub fn written_out(
+    alloc: Global,
+    gates: &[Gate],
+    steps: &[Step],
+    wires: u32,
+    bits: u32,
+) -> Result<Ops, InlineFault>
+    requires few { length steps.now < 2 ^ 32 }
+    requires placed { All (IsPlaced (2 ^ 32) bits) (map step_view steps.now) }
+    ensures ok { IfOk result (IsInlined (record { gates = map gate_view gates.now; steps = map step_view steps.now; wires = wires; bits = bits; registers = [] })) }
+    ensures err { IfErr result (IsFault (record { gates = map gate_view gates.now; steps = map step_view steps.now; wires = wires; bits = bits; registers = [] })) }
+{
+    let sizes = sizes(alloc, gates)?;
+    if let Some(index) = too_much(&sizes, steps) {
+        return Err(InlineFault::Refused(Refused {
+            refusal: Refusal::TooManyOps,
+            statement: number(index),
+        }));
+    }
+    let list = match operations(alloc, gates, steps) {
+        Ok(list) => list,
+        Err(unwritten) => return Err(fault_of(unwritten)),
+    };
+    let reads = reads(alloc, bits, steps)?;
+    Ok(Ops {
+        wires,
+        list: OpList::new(list),
+        reads: ReadList::new(reads),
+    })
+}

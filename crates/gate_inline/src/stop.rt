@@ -1,0 +1,62 @@
+//! Why a statement has no operations.
+
+use angle_fraction::AngleFault;
+use std::alloc::{AllocError, AllocFailed};
+
+/// What an angle lacks.
+#[derive(Clone, Copy, Debug)]
+pub enum Unvalued {
+    /// It has no exact value: a product of two parts with pi, a function, and the like.
+    NoForm,
+    /// A divisor in it is 0.
+    ByZero,
+    /// Its numerator or denominator is above 2^62.
+    TooLarge,
+    /// It is no multiple of pi/4, and stands at a `U`.
+    NoStep,
+}
+
+/// No memory, or an angle that isn't exact.
+#[derive(Clone, Copy, Debug)]
+pub enum Stop {
+    NoMemory,
+    Angle(Unvalued),
+}
+
+impl From<AllocError> for Stop {
+    ghost use Rattle.std.specs.Prelude.{◌≡◌};
+    ghost use Rattle.gate_inline.specs.declared.stop.Stop.TheVariants.{NoMemory};
+
+    ghost from_gives = { λ _ s. s ≡ NoMemory };
+
+    fn from(_error: AllocError) -> Stop {
+        Stop::NoMemory
+    }
+}
+
+impl<T: Drop> From<AllocFailed<T>> for Stop {
+    ghost use Rattle.std.specs.Prelude.{◌≡◌};
+    ghost use Rattle.gate_inline.specs.declared.stop.Stop.TheVariants.{NoMemory};
+
+    ghost from_gives = { λ _ s. s ≡ NoMemory };
+
+    fn from(_error: AllocFailed<T>) -> Stop {
+        Stop::NoMemory
+    }
+}
+
+impl From<AngleFault> for Stop {
+    ghost use Rattle.std.specs.Prelude.{◌≡◌};
+    ghost use Rattle.gate_inline.specs.Meanings.{fault_of};
+    ghost use Rattle.gate_inline.specs.declared.stop.Stop.TheVariants.{Angle};
+
+    ghost from_gives = { λ e s. s ≡ Angle (fault_of e) };
+
+    fn from(fault: AngleFault) -> Stop {
+        Stop::Angle(match fault {
+            AngleFault::Form => Unvalued::NoForm,
+            AngleFault::ZeroDivisor => Unvalued::ByZero,
+            AngleFault::Range => Unvalued::TooLarge,
+        })
+    }
+}

@@ -1,0 +1,94 @@
+//! The values of angles.
+
+ghost use Rattle.std.specs.Prelude.{◌≡◌, ◌<◌, Ok, IfOk, IfErr, IfSome, map, slice_get, unwrap_or};
+ghost use Rattle.angle_fraction.specs.Angles.{eighths_of};
+ghost use Rattle.qasm_check.specs.Views.{formula as formula_view};
+ghost use Rattle.gate_inline.specs.Meanings.{eighth as eighth_of, unvalued};
+ghost use Rattle.gate_inline.specs.Stops.{IsStop};
+ghost use Rattle.gate_inline.specs.Values.{no_angle, operation as operation_of, value as value_of, values as values_of};
+
+use crate::stop::{Stop, Unvalued};
+use angle_fraction::{Angle, AngleFault, Frac, add, div, eighths, mul, neg, pow, sub};
+use qasm_check::Formula;
+use qasm_parser::Binary;
+use std::alloc::Global;
+
+/// The value of the parameter at a place; a bound expression has no other places.
+fn param(params: &[Angle], place: usize) -> Angle
+    ensures { result ≡ unwrap_or (slice_get params.now place) no_angle }
+{
+    match params.get(place) {
+        Some(angle) => *angle,
+        None => Angle {
+            plain: Frac::nought(),
+            pis: Frac::nought(),
+        },
+    }
+}
+
+fn operation(sign: Binary, left: &Angle, right: &Angle) -> Result<Angle, AngleFault>
+    ensures { result ≡ operation_of sign left.now right.now }
+{
+    match sign {
+        Binary::Add => add(left, right),
+        Binary::Sub => sub(left, right),
+        Binary::Mul => mul(left, right),
+        Binary::Div => div(left, right),
+        Binary::Pow => pow(left, right),
+    }
+}
+
+/// The value of an expression under values of the parameters, or its first fault. An expression is at most 64 deep.
+pub fn value(params: &[Angle], formula: &Formula) -> Result<Angle, AngleFault>
+    ensures { result ≡ value_of params.now (formula_view formula.now) }
+{
+    match formula {
+        Formula::Number(number) => Ok(Angle {
+            plain: *number,
+            pis: Frac::nought(),
+        }),
+        Formula::Pi => Ok(Angle {
+            plain: Frac::nought(),
+            pis: Frac::unit(),
+        }),
+        Formula::Param(place) => Ok(param(params, *place)),
+        Formula::Neg(part) => {
+            let part = value(params, part)?;
+            neg(&part)
+        }
+        Formula::Call { function: _, arg } => {
+            let _arg = value(params, arg)?;
+            Err(AngleFault::Form)
+        }
+        Formula::Binary { sign, left, right } => {
+            let left = value(params, left)?;
+            let right = value(params, right)?;
+            operation(*sign, &left, &right)
+        }
+    }
+}
+
+/// The values of expressions, from left to right.
+pub fn values(alloc: Global, params: &[Angle], formulas: &[Formula]) -> Result<Vec<Angle>, Stop>
+    ensures ok { IfOk result (λ v. unvalued (values_of params.now (map formula_view formulas.now)) ≡ Ok v.items) }
+    ensures err { IfErr result (IsStop (unvalued (values_of params.now (map formula_view formulas.now)))) }
+{
+    let mut list = Vec::with_capacity(alloc, formulas.len())?;
+    'formulas: for formula in formulas {
+        let angle = value(params, formula)?;
+        list.push(angle)?;
+    }
+    Ok(list)
+}
+
+/// An angle in units of pi/4, below 8.
+pub fn eighth(angle: &Angle) -> Result<u8, Stop>
+    ensures ok { IfOk result (λ k. eighth_of angle.now ≡ Ok k) }
+    ensures below { IfOk result (λ k. k < 8) }
+    ensures err { IfErr result (IsStop (eighth_of angle.now)) }
+{
+    match eighths(angle) {
+        Some(k) => Ok(k),
+        None => Err(Stop::Angle(Unvalued::NoStep)),
+    }
+}
