@@ -8,3 +8,5 @@ pub mod Stops
 pub mod Placed
 pub mod Frames
 pub mod Sound
+pub mod Registers
+pub mod Programs

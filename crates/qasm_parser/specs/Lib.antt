@@ -11,3 +11,4 @@ pub mod Spelling
 pub mod Symbols
 pub mod Tree
 pub mod Views
+pub mod Names

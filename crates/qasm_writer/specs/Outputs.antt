@@ -1,33 +1,38 @@
--- What a caller may hand over to be written.
---   HasRegister rs n    no classical register and no bits, or one named c, from 1 to 1024 bits
---   IsRead n r          the qubit of a read is below n
---   IsOutput o          such registers, a read for each bit, of qubits that are there
---   IsWritten ..        the text is a program of these wires, operations and reads
-use Rattle.std.specs.Prelude.{◌≡◌, ℕ, ◌<◌, ◌≤◌, List, [], ◌∷◌, Option, Some, None, All, codes, length}
-use Rattle.unitary_model.specs.SmallProgram.{SmallProgram, Spells, ops_of, reads_of}
-use Rattle.unitary_model.specs.Tokens.{Text}
-use Rattle.unitary_model.specs.declared.Op.{Op}
+-- What a caller may hand over to be written, and what is written for it.
+--   bits_of r            a classical register's name and size
+--   IsRead n r           the qubit of a read is below n
+--   IsOutput o           registers as a program may declare them, a read for each of their bits, of qubits that are there
+--   program_of o         the program that is to be written
+--   IsText o text        the text is that of the output
+use Rattle.std.specs.Prelude.{◌≡◌, ℕ, ◌<◌, List, Option, Some, None, All, length, map}
+use Rattle.circuit_list.specs.Gates.{ops}
+use Rattle.qasm_check.specs.declared.bits.Bits.{Bits}
+use Rattle.gate_inline.specs.Programs.{Program}
+use Rattle.gate_inline.specs.Registers.{AreRegisters}
+use Rattle.qasm_writer.specs.Texts.{IsQubitsName, written_text}
 use Rattle.qasm_writer.specs.declared.output.Register.{Register}
 use Rattle.qasm_writer.specs.declared.output.Output.{Output}
 
-abbrev pub HasRegister : List Register → ℕ → Type 0
-HasRegister [] n = n ≡ 0
-HasRegister (r ∷ []) n = (r.name.now ≡ codes "c") × (0 < r.size) × (r.size ≤ 1024) × (n ≡ r.size)
-HasRegister (r ∷ (s ∷ rs)) n = ⊥
+abbrev pub bits_of : Register → Bits
+bits_of r = record { name = r.name.now; size = r.size }
 
 abbrev pub IsRead : ℕ → Option ℕ → Type 0
 IsRead n None = Unit {0}
 IsRead n (Some q) = q < n
 
 pub record IsOutput (o : Output) : Type 0 where
-  pub registers : HasRegister o.registers.now (length o.reads.now)
+  pub registers : AreRegisters (map bits_of o.registers.now) (length o.reads.now)
   pub reads : All (IsRead o.body.now.wires) o.reads.now
 
--- the text spells a program of these wires, operations and reads; a program has a wire
-pub record IsWritten (n : ℕ) (us : List Op) (rs : List (Option ℕ)) (text : Text) : Type 0 where
-  pub program : SmallProgram
-  pub spelt : 0 < n → Spells text program
-  pub wires : program.wires ≡ n
-  pub bits : program.bits ≡ length rs
-  pub ops : ops_of program.statements ≡ us
-  pub reads : reads_of program.bits program.statements ≡ rs
+abbrev pub program_of : Output → Program
+program_of o = record {
+  wires = o.body.now.wires;
+  ops = ops o.body.now.gates;
+  reads = o.reads.now;
+  registers = map bits_of o.registers.now;
+  barriers = 0;
+}
+
+abbrev pub IsText : Output → List ℕ → Type 0
+IsText o text = (q : List ℕ) × IsQubitsName (map bits_of o.registers.now) q
+    × (text ≡ written_text q o.body.now.wires (ops o.body.now.gates) (map bits_of o.registers.now) o.reads.now)

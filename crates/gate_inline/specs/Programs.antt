@@ -1,0 +1,53 @@
+-- What the text of a program means, and which texts are accepted.
+--   Program          the number of wires, the operations, what each classical bit reads, the classical registers, and how many
+--                    barriers stand outside bodies
+--   Means b p        p is what a program with its names bound means, where each angle is exact
+--   IsTreeOf text t  all tokens of the text spell the tree t, of version 2, with no expression that is too deep
+--   IsSource text t  the same of a tree to which no refusal of a statement applies
+--   IsWritten text p     a written program: the text spells a program that means p; of any length, with any number of operations
+--   text_limit       the most bytes of an input
+--   IsAccepted text p    an accepted program: a written one within the limits
+use Rattle.std.specs.Prelude.{◌≡◌, ℕ, ◌≤◌, false, List, Option, Ok, length}
+use Rattle.qasm_lexer.specs.declared.Token.{Token}
+use Rattle.qasm_lexer.specs.Tokens.{lexed}
+use Rattle.qasm_parser.specs.Parsing.{IsProgram}
+use Rattle.qasm_parser.specs.Tree.{Tree}
+use Rattle.qasm_check.specs.declared.bits.Bits.{Bits}
+use Rattle.qasm_check.specs.Checking.{Bound, IsAccepted as IsFineTree, barriers, bound}
+use Rattle.unitary_model.specs.declared.Op.{Op}
+use Rattle.gate_inline.specs.Inlined.{operations}
+use Rattle.gate_inline.specs.Reads.{reads}
+use Rattle.gate_inline.specs.Sizes.{is_too_much, total}
+
+pub record Program : Type 0 where
+  pub wires : ℕ
+  pub ops : List Op
+  pub reads : List (Option ℕ)
+  pub registers : List Bits
+  pub barriers : ℕ
+
+pub record Means (b : Bound) (p : Program) : Type 0 where
+  pub wires : p.wires ≡ b.wires
+  pub ops : operations b.gates b.steps ≡ Ok p.ops
+  pub reads : p.reads ≡ reads b.bits b.steps
+  pub registers : p.registers ≡ b.registers
+  pub barriers : p.barriers ≡ barriers b
+
+abbrev pub IsTreeOf : List ℕ → Tree → Type 0
+IsTreeOf text t = (tokens : List Token) × (lexed text ≡ Ok tokens) × IsProgram text tokens t
+
+abbrev pub IsSource : List ℕ → Tree → Type 0
+IsSource text t = IsTreeOf text t × IsFineTree t
+
+abbrev pub IsWritten : List ℕ → Program → Type 0
+IsWritten text p = (t : Tree) × IsSource text t × Means (bound t) p
+
+abbrev pub text_limit : ℕ
+text_limit = 4194304
+
+pub record IsAccepted (text : List ℕ) (p : Program) : Type 0 where
+  pub short : length text ≤ text_limit
+  pub tree : Tree
+  pub source : IsSource text tree
+  pub few : is_too_much (total (bound tree).gates (bound tree).steps) ≡ false
+  pub means : Means (bound tree) p

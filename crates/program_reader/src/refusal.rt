@@ -1,0 +1,36 @@
+//! Why a text is refused.
+
+use std::alloc::AllocError;
+use thiserror::Error;
+
+/// The first refusal of a text. A place is an offset in bytes, a statement is counted from 1.
+#[derive(Clone, Copy, Debug, PartialEq, Eq)]
+pub enum Refusal {
+    /// The text has more than 4,194,304 bytes.
+    TooLong,
+    /// At this place no token, white space or comment begins.
+    BadByte { place: u32 },
+    /// The number at this place has a part above 2^62 as a fraction in lowest terms.
+    Number { place: u32 },
+    /// The tokens spell no program; the place is that of the first token that fits nothing, or the text's length.
+    Syntax { place: u32 },
+    /// The program's version, at this place, isn't 2.
+    Version { place: u32 },
+    /// The expression that begins at this place is deeper than 64.
+    Depth { place: u32 },
+    /// A statement is refused.
+    Check(qasm_check::Refused),
+    /// A statement's gates can't be written out.
+    Inline(gate_inline::Refused),
+}
+
+/// Why there is no program.
+#[derive(Clone, Copy, Debug, PartialEq, Eq, Error)]
+pub enum ReadFault {
+    /// The text is refused.
+    #[error("the program is refused: {0:?}")]
+    Refused(Refusal),
+    /// There is no memory for the program.
+    #[error("out of memory")]
+    NoMemory,
+}

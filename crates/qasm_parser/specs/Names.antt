@@ -1,0 +1,16 @@
+-- Names of the language.
+--   IsName w     a word that begins with a small letter and is no reserved word and no function
+use Rattle.std.specs.Prelude.{◌≡◌, ℕ, Bool, true, false, ◌&&◌, List, [], ◌∷◌, None}
+use Rattle.std.specs.List.{list_all}
+use Rattle.std.specs.Char.{is_ascii_lowercase}
+use Rattle.qasm_lexer.specs.Lexemes.{is_word_byte}
+use Rattle.qasm_parser.specs.Symbols.{function_of, keyword_of}
+
+abbrev pub is_small_word : List ℕ → Bool
+is_small_word [] = false
+is_small_word (b ∷ w) = is_ascii_lowercase b && list_all is_word_byte w
+
+pub record IsName (w : List ℕ) : Type 0 where
+  pub word : is_small_word w ≡ true
+  pub free : keyword_of w ≡ None
+  pub no_function : function_of w ≡ None

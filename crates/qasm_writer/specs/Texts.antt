@@ -1,0 +1,74 @@
+-- The text that is written for a circuit's operations and reads: a header, the registers, one gate a line, then the
+-- measurements in order of the bits. Each line ends with a line break.
+--   with_underscores k   `q` and so many underscores
+--   IsQubitsName rs q    q is the first of these names that no classical register has
+--   gate_text a c        the name of U(a,0,c) as it is written, for the plain ones
+--   index_text name i    name[i]
+--   op_line q u          the line of an operation on the register q
+--   wires_line q n       the line of the quantum register; nothing for no wires
+--   bits_line r          the line of a classical register
+--   register_lines, read_lines   the lines of the measurements into one register, into all
+--   written_text ..      the whole text
+use Rattle.std.specs.Prelude.{◌≡◌, ℕ, ◌+◌, ◌<◌, ◌==◌, true, false, List, [], ◌∷◌, ◌++◌, Option, Some, None, if◌then◌else◌, codes, drop, take}
+use Rattle.std.specs.List.{flat_map, replicate}
+use Rattle.std.specs.Fmt.{decimal}
+use Rattle.qasm_check.specs.Names.{is_one_of}
+use Rattle.qasm_check.specs.declared.bits.Bits.{Bits}
+use Rattle.gate_inline.specs.Registers.{names_of}
+use Rattle.unitary_model.specs.declared.Op.{Op}
+use Rattle.unitary_model.specs.declared.Op.TheVariants.{U, Cx}
+
+abbrev pub with_underscores : ℕ → List ℕ
+with_underscores k = codes "q" ++ replicate k 95
+
+pub record IsQubitsName (rs : List Bits) (q : List ℕ) : Type 0 where
+  pub underscores : ℕ
+  pub spelt : q ≡ with_underscores underscores
+  pub spare : is_one_of (names_of rs) q ≡ false
+  pub least : (k : ℕ) → k < underscores → is_one_of (names_of rs) (with_underscores k) ≡ true
+
+abbrev pub phase_text : ℕ → List ℕ
+phase_text k =
+    if k == 1 then codes "t"
+    else (if k == 2 then codes "s"
+    else (if k == 3 then codes "u1(3*pi/4)"
+    else (if k == 4 then codes "z"
+    else (if k == 5 then codes "u1(5*pi/4)"
+    else (if k == 6 then codes "sdg" else codes "tdg")))))
+
+abbrev pub gate_text : ℕ → ℕ → List ℕ
+gate_text a c = if a == 2 then codes "h" else (if a == 4 then codes "x" else phase_text c)
+
+abbrev pub index_text : List ℕ → ℕ → List ℕ
+index_text name i = name ++ (codes "[" ++ (decimal i ++ codes "]"))
+
+abbrev pub op_line : List ℕ → Op → List ℕ
+op_line q (U a b c i) = gate_text a c ++ (codes " " ++ (index_text q i ++ codes ";\n"))
+op_line q (Cx c t) = codes "cx " ++ (index_text q c ++ (codes "," ++ (index_text q t ++ codes ";\n")))
+
+abbrev pub wires_line : List ℕ → ℕ → List ℕ
+wires_line q wires = if wires == 0 then [] else codes "qreg " ++ (index_text q wires ++ codes ";\n")
+
+abbrev pub bits_line : Bits → List ℕ
+bits_line r = codes "creg " ++ (index_text r.name r.size ++ codes ";\n")
+
+abbrev pub read_line : List ℕ → List ℕ → ℕ → Option ℕ → List ℕ
+read_line q name k None = []
+read_line q name k (Some i) = codes "measure " ++ (index_text q i ++ (codes " -> " ++ (index_text name k ++ codes ";\n")))
+
+-- into the bits of one register, from the bit k on
+abbrev pub register_lines : List ℕ → List ℕ → ℕ → List (Option ℕ) → List ℕ
+register_lines q name k [] = []
+register_lines q name k (r ∷ rs) = read_line q name k r ++ register_lines q name (k + 1) rs
+
+-- registers stand side by side
+abbrev pub read_lines : List ℕ → List Bits → List (Option ℕ) → List ℕ
+read_lines q [] reads = []
+read_lines q (r ∷ rs) reads = register_lines q r.name 0 (take r.size reads) ++ read_lines q rs (drop r.size reads)
+
+abbrev pub heading_text : List ℕ
+heading_text = codes "OPENQASM 2.0;\ninclude \"qelib1.inc\";\n"
+
+abbrev pub written_text : List ℕ → ℕ → List Op → List Bits → List (Option ℕ) → List ℕ
+written_text q wires us rs reads = heading_text
+    ++ (wires_line q wires ++ (flat_map bits_line rs ++ (flat_map (op_line q) us ++ read_lines q rs reads)))

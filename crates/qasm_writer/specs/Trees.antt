@@ -1,0 +1,70 @@
+-- Working form. The tree of a written text.
+--   at name i            name[i], as an argument
+--   applied name es as   the application of the gate of this name
+--   phase_statement, op_statement   the statement of an operation on the register q
+--   wires_statements     that of the quantum register; none for no wires
+--   bits_statement       that of a classical register
+--   register_statements, read_statements   the measurements into one register, into all
+--   written_tree         the whole tree
+use Rattle.std.specs.Prelude.{ℕ, ◌+◌, ◌==◌, true, false, List, [], ◌∷◌, ◌++◌, Option, Some, None, if◌then◌else◌, codes, drop, map, pos, take}
+use Rattle.angle_fraction.specs.Fraction.{fraction}
+use Rattle.angle_fraction.specs.declared.signs.Binary.TheVariants.{Mul, Div}
+use Rattle.qasm_parser.specs.Parsing.{two}
+use Rattle.qasm_parser.specs.Tree.{Expression, number, pi, binary, Statement, include, register, act, apply, measure, Tree}
+use Rattle.qasm_parser.specs.declared.tree.Arg.{Arg}
+use Rattle.qasm_check.specs.declared.bits.Bits.{Bits}
+use Rattle.unitary_model.specs.declared.Op.{Op}
+use Rattle.unitary_model.specs.declared.Op.TheVariants.{U, Cx}
+
+abbrev pub at : List ℕ → ℕ → Arg
+at name i = record { name = name; index = Some i }
+
+abbrev pub applied : List ℕ → List Expression → List Arg → Statement
+applied gate angles args = act (apply (record { gate = gate; angles = angles; args = args }))
+
+-- k*pi/4
+abbrev pub eighths_angle : ℕ → Expression
+eighths_angle k = binary Div (binary Mul (number (fraction (pos k) 1)) pi) (number (fraction (pos 4) 1))
+
+abbrev pub phase_statement : ℕ → Arg → Statement
+phase_statement k at =
+    if k == 1 then applied (codes "t") [] (at ∷ [])
+    else (if k == 2 then applied (codes "s") [] (at ∷ [])
+    else (if k == 3 then applied (codes "u1") (eighths_angle 3 ∷ []) (at ∷ [])
+    else (if k == 4 then applied (codes "z") [] (at ∷ [])
+    else (if k == 5 then applied (codes "u1") (eighths_angle 5 ∷ []) (at ∷ [])
+    else (if k == 6 then applied (codes "sdg") [] (at ∷ []) else applied (codes "tdg") [] (at ∷ []))))))
+
+abbrev pub u_statement : ℕ → ℕ → Arg → Statement
+u_statement a c at =
+    if a == 2 then applied (codes "h") [] (at ∷ [])
+    else (if a == 4 then applied (codes "x") [] (at ∷ []) else phase_statement c at)
+
+abbrev pub op_statement : List ℕ → Op → Statement
+op_statement q (U a b c i) = u_statement a c (at q i)
+op_statement q (Cx c t) = applied (codes "cx") [] (at q c ∷ at q t ∷ [])
+
+abbrev pub wires_statements : List ℕ → ℕ → List Statement
+wires_statements q wires = if wires == 0 then [] else register true q wires ∷ []
+
+abbrev pub bits_statement : Bits → Statement
+bits_statement r = register false r.name r.size
+
+abbrev pub read_statement : List ℕ → List ℕ → ℕ → Option ℕ → List Statement
+read_statement q name k None = []
+read_statement q name k (Some i) = act (measure (at q i) (at name k)) ∷ []
+
+abbrev pub register_statements : List ℕ → List ℕ → ℕ → List (Option ℕ) → List Statement
+register_statements q name k [] = []
+register_statements q name k (r ∷ rs) = read_statement q name k r ++ register_statements q name (k + 1) rs
+
+abbrev pub read_statements : List ℕ → List Bits → List (Option ℕ) → List Statement
+read_statements q [] reads = []
+read_statements q (r ∷ rs) reads = register_statements q r.name 0 (take r.size reads) ++ read_statements q rs (drop r.size reads)
+
+abbrev pub written_tree : List ℕ → ℕ → List Op → List Bits → List (Option ℕ) → Tree
+written_tree q wires us rs reads = record {
+  version = two;
+  list = include (codes "qelib1.inc")
+      ∷ (wires_statements q wires ++ (map bits_statement rs ++ (map (op_statement q) us ++ read_statements q rs reads)));
+}
