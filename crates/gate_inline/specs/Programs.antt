@@ -6,6 +6,7 @@
 --   IsSource text t  the same of a tree to which no refusal of a statement applies
 --   IsWritten text p     a written program: the text spells a program that means p; of any length, with any number of operations
 --   text_limit       the most bytes of an input
+--   IsWithinLimits b     writing its gates out makes no more operations and meets no more items than the limits
 --   IsAccepted text p    an accepted program: a written one within the limits
 use Rattle.std.specs.Prelude.{◌≡◌, ℕ, ◌≤◌, false, List, Option, Ok, length}
 use Rattle.qasm_lexer.specs.declared.Token.{Token}
@@ -45,9 +46,12 @@ IsWritten text p = (t : Tree) × IsSource text t × Means (bound t) p
 abbrev pub text_limit : ℕ
 text_limit = 4194304
 
+abbrev pub IsWithinLimits : Bound → Type 0
+IsWithinLimits b = is_too_much (total b.gates b.steps) ≡ false
+
 pub record IsAccepted (text : List ℕ) (p : Program) : Type 0 where
   pub short : length text ≤ text_limit
   pub tree : Tree
   pub source : IsSource text tree
-  pub few : is_too_much (total (bound tree).gates (bound tree).steps) ≡ false
+  pub few : IsWithinLimits (bound tree)
   pub means : Means (bound tree) p
