@@ -16,6 +16,8 @@ pub enum Command {
         /// Whether the wires begin on the qubits of their own numbers.
         trivial: bool,
     },
+    /// Reads a program and reports on it.
+    Check,
 }
 
 /// Why words give no command.
@@ -31,7 +33,7 @@ pub enum WordsFault {
 
 impl From<AllocError> for WordsFault {
     ghost use Rattle.std.specs.Prelude.{◌≡◌};
-    ghost use Rattle.qroute_top.specs.declared.commands.WordsFault.TheVariants.{NoMemory};
+    ghost use Rattle.command_words.specs.declared.commands.WordsFault.TheVariants.{NoMemory};
 
     ghost from_gives = { λ _ e. e ≡ NoMemory };
 

@@ -1,12 +1,13 @@
 -- Command lines and what they mean, computed by the definitions. The first word, the program's name, is free.
 --   of_opt, of_opt_dashes            `opt`, and `opt` with `--` behind it
+--   of_check, of_check_dashes        `check`, and `check` with `--` behind it
 --   of_route, of_route_..            `route` with its device
 --   of_route_trivial, of_trivial_..  `route` with its device and `--trivial`
 --   no_.., and other of_..           words that mean no command
 use Rattle.std.proofs.Common.{◌≡◌, ℕ, List, [], ◌∷◌, Some, None, refl, codes, true, false}
 use Rattle.clap.proofs.OnLiterals.{clap_on_literals}
-use Rattle.qroute_top.specs.Commands.{command_of}
-use Rattle.qroute_top.specs.declared.commands.Command.TheVariants.{Opt, Route}
+use Rattle.command_words.specs.Commands.{command_of}
+use Rattle.command_words.specs.declared.commands.Command.TheVariants.{Opt, Route, Check}
 
 pub of_opt : (name : List ℕ) → command_of (name ∷ codes "opt" ∷ []) ≡ Some Opt
 unfolding clap_on_literals
@@ -15,6 +16,26 @@ of_opt name = refl
 pub of_opt_dashes : (name : List ℕ) → command_of (name ∷ codes "opt" ∷ codes "--" ∷ []) ≡ Some Opt
 unfolding clap_on_literals
 of_opt_dashes name = refl
+
+pub of_check : (name : List ℕ) → command_of (name ∷ codes "check" ∷ []) ≡ Some Check
+unfolding clap_on_literals
+of_check name = refl
+
+pub of_check_dashes : (name : List ℕ) → command_of (name ∷ codes "check" ∷ codes "--" ∷ []) ≡ Some Check
+unfolding clap_on_literals
+of_check_dashes name = refl
+
+pub of_check_extra : (name : List ℕ) → command_of (name ∷ codes "check" ∷ codes "x" ∷ []) ≡ None
+unfolding clap_on_literals
+of_check_extra name = refl
+
+pub of_check_device : (name : List ℕ) → command_of (name ∷ codes "check" ∷ codes "--device" ∷ codes "d" ∷ []) ≡ None
+unfolding clap_on_literals
+of_check_device name = refl
+
+pub of_check_opt : (name : List ℕ) → command_of (name ∷ codes "check" ∷ codes "opt" ∷ []) ≡ None
+unfolding clap_on_literals
+of_check_opt name = refl
 
 pub of_nothing : command_of [] ≡ None
 unfolding clap_on_literals

@@ -1,6 +1,6 @@
 use Rattle.std.proofs.Common.{rules}
 use Rattle.clap.proofs.WalkLemmas.{first_value-rows}
-use Rattle.qroute_top.proofs.words.meaning_of.Goals as goal
+use Rattle.command_words.proofs.words.meaning_of.Goals as goal
 
 pub returns-in_default-clause-bad : goal.returns-in_default-clause-bad
 returns-in_default-clause-bad c = search (first_value-rows, rules)

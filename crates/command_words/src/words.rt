@@ -7,7 +7,7 @@
 ghost use Rattle.std.specs.Prelude.{◌≡◌, IfOk, IsErrOf, Some, None, map, false};
 ghost use Rattle.clap.specs.Words.{app_of, found_of, kind_of, rows_of, rule_of};
 ghost use Rattle.clap.specs.declared.builder.Command.TheViews.{out-Command as fields_of};
-ghost use Rattle.qroute_top.specs.Commands.{command_of, device_option, meaning, opt_command, qroute_command, root_command, route_command, trivial_flag};
+ghost use Rattle.command_words.specs.Commands.{check_command, command_of, device_option, meaning, opt_command, qroute_command, root_command, route_command, trivial_flag};
 
 use crate::commands::{self, WordsFault};
 use crate::name::Name;
@@ -31,6 +31,14 @@ fn opt_command<'a>(alloc: Global) -> Command<'a>
     ensures local { (fields_of result).has_globals ≡ false }
 {
     Command::new(alloc, "opt")
+}
+
+/// `check`, which takes no argument either.
+fn check_command<'a>(alloc: Global) -> Command<'a>
+    ensures command { app_of result ≡ check_command }
+    ensures local { (fields_of result).has_globals ≡ false }
+{
+    Command::new(alloc, "check")
 }
 
 /// `--device NAME`, which has to be there, once.
@@ -70,7 +78,8 @@ fn qroute_command<'a>(alloc: Global) -> Result<Command<'a>, AllocError>
 {
     root_command(alloc)
         .subcommand(opt_command(alloc))?
-        .subcommand(route_command(alloc)?)
+        .subcommand(route_command(alloc)?)?
+        .subcommand(check_command(alloc))
 }
 
 /// What a subcommand with its matches asks for.
@@ -84,6 +93,9 @@ fn meaning_of(
 {
     if name == "opt" {
         return Ok(commands::Command::Opt);
+    }
+    if name == "check" {
+        return Ok(commands::Command::Check);
     }
     let Some(device) = matches.get_str("device") else {
         return Err(WordsFault::BadWords);

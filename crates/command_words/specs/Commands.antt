@@ -3,6 +3,7 @@
 --   opt_command         the subcommand `opt`, which takes no argument
 --   device_option       `--device NAME`, which has to be there, once
 --   trivial_flag        `--trivial`, at most once
+--   check_command       the subcommand `check`, which takes none either
 --   route_command       the subcommand `route`, which takes these two
 --   qroute_command      the program with its subcommands
 --   device_of rows      the name behind `--device` in what was matched, none where there is none
@@ -15,8 +16,8 @@ use Rattle.std.specs.Str.{bytes_eq}
 use Rattle.clap.specs.Simple.{on_top}
 use Rattle.clap.specs.Words.{App, Row, Rule, Text, fault_of, first_of, new_app, new_rule, subcommand_of, with_rule, with_subcommand}
 use Rattle.clap.specs.declared.builder.action.ArgAction.TheVariants.{Set, SetTrue}
-use Rattle.qroute_top.specs.declared.commands.Command.{Command}
-use Rattle.qroute_top.specs.declared.commands.Command.TheVariants.{Opt, Route}
+use Rattle.command_words.specs.declared.commands.Command.{Command}
+use Rattle.command_words.specs.declared.commands.Command.TheVariants.{Opt, Route, Check}
 
 abbrev pub root_command : App
 root_command = on_top (λ s. record s {
@@ -27,6 +28,9 @@ root_command = on_top (λ s. record s {
 
 abbrev pub opt_command : App
 opt_command = new_app (codes "opt")
+
+abbrev pub check_command : App
+check_command = new_app (codes "check")
 
 abbrev pub device_option : Rule
 device_option = record (new_rule (codes "device")) {
@@ -45,7 +49,7 @@ abbrev pub route_command : App
 route_command = with_rule (with_rule (new_app (codes "route")) device_option) trivial_flag
 
 abbrev pub qroute_command : App
-qroute_command = with_subcommand (with_subcommand root_command opt_command.top) route_command.top
+qroute_command = with_subcommand (with_subcommand (with_subcommand root_command opt_command.top) route_command.top) check_command.top
 
 abbrev pub device_of : List Row → Option Text
 device_of rows = first_of (codes "device") rows
@@ -56,7 +60,8 @@ is_trivial rows = option_map_or (λ t. bytes_eq t (codes "true")) (first_of (cod
 
 abbrev pub meaning : Text → List Row → Option Command
 meaning name rows = if bytes_eq name (codes "opt") then Some Opt
-    else option_map (λ device. Route device (is_trivial rows)) (device_of rows)
+    else (if bytes_eq name (codes "check") then Some Check
+    else option_map (λ device. Route device (is_trivial rows)) (device_of rows))
 
 -- none where `clap` finds a fault, and else what the subcommand asks for
 abbrev pub command_of : List Text → Option Command
