@@ -5,3 +5,4 @@ pub mod StepLaws
 pub mod ReadLaws
 pub mod FineLaws
 pub mod SoundLaws
+pub mod LengthLaws

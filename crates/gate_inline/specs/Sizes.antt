@@ -6,6 +6,7 @@
 --     sizes gates         those of each gate
 --     step_size ss s      a step: its gate's, so often as it is applied
 --     steps_size ss steps     the sum over steps;  total gates steps: with the sizes of these gates
+--     operation_limit, item_limit     the most operations and items of a program
 --     is_too_much s       more operations or more items than the limits
 use Rattle.std.specs.Prelude.{ℕ, ◌+◌, ◌*◌, List, [], ◌∷◌, map, nat_lt, slice_get, unwrap_or, ◌||◌, Bool}
 use Rattle.qasm_check.specs.Gates.{Item, call, pause, Gate, u, cx, opaque, composed}
@@ -13,7 +14,6 @@ use Rattle.qasm_check.specs.Places.{broadcast}
 use Rattle.qasm_check.specs.Steps.{Step, applies, measures, pauses, nothing}
 use Rattle.gate_inline.specs.Meanings.{in_order}
 use Rattle.gate_inline.specs.declared.size.Size.{Size}
-use Rattle.gate_inline.specs.declared.TheConstants.{OPERATION_LIMIT, ITEM_LIMIT}
 
 abbrev pub size : ℕ → ℕ → Size
 size operations items = record { operations = operations; items = items }
@@ -56,5 +56,11 @@ steps_size ss steps = size_all (map (step_size ss) steps)
 abbrev pub total : List Gate → List Step → Size
 total gates steps = steps_size (sizes gates) steps
 
+abbrev pub operation_limit : ℕ
+operation_limit = 65536
+
+abbrev pub item_limit : ℕ
+item_limit = 1048576
+
 abbrev pub is_too_much : Size → Bool
-is_too_much s = nat_lt OPERATION_LIMIT s.operations || nat_lt ITEM_LIMIT s.items
+is_too_much s = nat_lt operation_limit s.operations || nat_lt item_limit s.items

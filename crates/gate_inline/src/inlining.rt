@@ -19,6 +19,7 @@ pub fn inline(alloc: Global, checked: &Checked) -> Result<Ops, InlineFault>
     requires few { length (program checked.now).steps < 2 ^ 32 }
     requires sound { IsSound (program checked.now) }
     ensures ok { IfOk result (IsInlined (program checked.now)) }
+    ensures short { IfOk result (λ o. length o.list ≤ 65536) }
     ensures few { IfOk result (λ o. o.wires ≤ most_wires) }
     ensures fine { IfOk result (λ o. All (IsFineOp o.wires) o.list) }
     ensures err { IfErr result (IsFault (program checked.now)) }

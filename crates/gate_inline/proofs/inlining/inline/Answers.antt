@@ -1,5 +1,5 @@
 -- What is written out of the gates and steps of a checked program is that of the program.
-use Rattle.std.proofs.Common.{All, Ok, Err, IfOk, IfErr, Result, [], map}
+use Rattle.std.proofs.Common.{All, Ok, Err, IfOk, IfErr, Result, [], map, length, ◌≤◌}
 use Rattle.qasm_check.specs.Checking.{Bound}
 use Rattle.qasm_check.specs.CheckedView.{program}
 use Rattle.qasm_check.specs.StepViews.{step as step_view}
@@ -7,6 +7,7 @@ use Rattle.qasm_check.specs.Views.{gate as gate_view}
 use Rattle.gate_expand.specs.Expansion.{IsFineOp}
 use Rattle.gate_inline.specs.Inlined.{IsFault, IsInlined}
 use Rattle.gate_inline.proofs.FineLaws.{fault_same, fine_ops, inlined_same}
+use Rattle.gate_inline.proofs.LengthLaws.{inlined_short}
 use Rattle.gate_inline.proofs.inlining.inline.Goals as goal
 
 in_ok : {A E : Type 0} (P Q : A → Type 0) (r : Result A E) → ((x : A) → P x → Q x) → IfOk r P → IfOk r Q
@@ -26,6 +27,11 @@ pub returns-clause-fine : goal.returns-clause-fine
 returns-clause-fine c =
     in_ok (IsInlined (program c.args.checked.now)) (λ o. All (IsFineOp o.wires) o.list) c.written_out.result
     (λ o h. fine_ops (program c.args.checked.now) o c.requires.sound h) (returns-clause-ok c)
+
+pub returns-clause-short : goal.returns-clause-short
+returns-clause-short c =
+    in_ok (IsInlined (program c.args.checked.now)) (λ o. length o.list ≤ 65536) c.written_out.result
+    (λ o h. inlined_short (program c.args.checked.now) o h) (returns-clause-ok c)
 
 pub returns-clause-err : goal.returns-clause-err
 returns-clause-err c =
