@@ -6,3 +6,4 @@ pub mod ReadLaws
 pub mod FineLaws
 pub mod SoundLaws
 pub mod LengthLaws
+pub mod OnceLaws

@@ -44,7 +44,7 @@ capped-times n s = same_size _ _ _ _ (products n s.operations) (products n s.ite
         go (inl h) = let e : min a most ≡ a = omega arith in rw e
         go (inr h) = let e : min a most ≡ most = omega arith in rw e (omega arith)
 
-size_all-append : (ss ts : List Size) → size_all (ss ++ ts) ≡ size_plus (size_all ss) (size_all ts)
+pub size_all-append : (ss ts : List Size) → size_all (ss ++ ts) ≡ size_plus (size_all ss) (size_all ts)
 size_all-append [] ts = same_size (size_all ts).operations (size_all ts).items _ _ (omega arith) (omega arith)
 size_all-append (s ∷ ss) ts =
     ap (size_plus s) (size_all-append ss ts)
