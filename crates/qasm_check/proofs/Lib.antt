@@ -1,7 +1,11 @@
+mod AcceptedLaws
 mod LoopLaws
+mod OnceLaws
 mod PlaceLaws
 mod ProgramLaws
+mod RegisterLaws
 mod RepeatLaws
+mod SoundLaws
 mod StateLaws
 mod StatementLaws
 mod TableLaws

@@ -16,7 +16,7 @@ use Rattle.angle_fraction.specs.Fraction.{fraction, lowest, common_factor, great
 use Rattle.angle_fraction.specs.Angles.{fitted}
 use Rattle.qasm_check.specs.Library.{is_standard, standard_names, table_gate, table_gates, table_names, table_place, whole}
 use Rattle.qasm_check.specs.Names.{is_one_of}
-use Rattle.qasm_check.specs.declared.library.Line.{Line}
+use Rattle.qasm_check.specs.declared.table.Line.{Line}
 
 pub fitted-two : fitted (fraction (pos 2) 1) ≡ Ok (whole 2)
 unfolding fitted lowest common_factor greatest_common is_small
@@ -83,7 +83,7 @@ place-found p xs i e = elim (nat_lt (position_or_len p xs) (length xs)) as (λ b
   | false ↦ λ e. cc
 ] e
 
-names-length : length table_names ≡ 29
+pub names-length : length table_names ≡ 29
 unfolding table_names
 names-length = refl
 

@@ -7,6 +7,7 @@ pub mod Library
 pub mod Names
 pub mod Places
 pub mod Refusals
+pub mod Sound
 pub mod State
 pub mod StepViews
 pub mod Steps

@@ -17,10 +17,10 @@ use Rattle.angle_fraction.specs.Fraction.{Fraction, fraction, nought}
 use Rattle.angle_fraction.specs.declared.signs.Binary.TheVariants.{Div}
 use Rattle.qasm_check.specs.Gates.{Formula, number, pi, param, negated, binary, Item, call, Gate, composed}
 use Rattle.qasm_check.specs.Names.{is_one_of}
-use Rattle.qasm_check.specs.declared.library.Line.{Line}
-use Rattle.qasm_check.specs.declared.library.TableAngle.{TableAngle}
-use Rattle.qasm_check.specs.declared.library.TableAngle.TheVariants.{Zero, Pi, HalfPi, MinusHalfPi, QuarterPi, MinusQuarterPi, Param, Half, MinusHalf}
-use Rattle.qasm_check.specs.declared.library.TheConstants.{LINES, NAMES, SHAPES, STANDARD}
+use Rattle.qasm_check.specs.declared.table.Line.{Line}
+use Rattle.qasm_check.specs.declared.table.TableAngle.{TableAngle}
+use Rattle.qasm_check.specs.declared.table.TableAngle.TheVariants.{Zero, Pi, HalfPi, MinusHalfPi, QuarterPi, MinusQuarterPi, Param, Half, MinusHalf}
+use Rattle.qasm_check.specs.declared.table.TheConstants.{LINES, NAMES, SHAPES, STANDARD}
 
 -- ---- names
 unfoldable pub table_names : List (List ℕ)

@@ -15,6 +15,7 @@ mod checked;
 mod formula;
 mod gate;
 mod known;
+mod laws;
 mod library;
 mod meaning;
 mod names;
@@ -23,6 +24,7 @@ mod refusal;
 mod repeats;
 mod statement;
 mod stop;
+mod table;
 #[cfg(test)]
 mod tests;
 
@@ -30,6 +32,7 @@ pub use bits::Bits;
 pub use checked::Checked;
 pub use formula::Formula;
 pub use gate::{Gate, Item};
+pub use laws::{accepted_has_no_fault, refused_once};
 pub use meaning::Place;
 pub use program::check;
 pub use refusal::{CheckFault, Refusal, Refused};

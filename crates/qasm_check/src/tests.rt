@@ -2,7 +2,7 @@
 
 ghost use Rattle.std.specs.Prelude.{◌<◌, ◌^◌, length};
 
-use crate::library::{LINES, Line, NAMES, SHAPES, TableAngle};
+use crate::table::{LINES, Line, NAMES, SHAPES, TableAngle};
 use crate::{CheckFault, Checked, check};
 use qasm_lexer::lex;
 use qasm_parser::parse;
@@ -50,7 +50,7 @@ fn behind_head(alloc: Global, body: &[u8]) -> Result<Vec<u8>, AllocError> {
 /// Each refusal with a smallest program, and one that nearly has it.
 #[test]
 fn refusals(rt: HostRuntime) -> Result<(), Fail> {
-    let rows: [(&[u8], u8, u32); 81] = [
+    let rows: [(&[u8], u8, u32); 87] = [
         (b"", 0, 0),
         // 20
         (b"include \"qelib1.inc\";", 20, 2),
@@ -151,9 +151,24 @@ fn refusals(rt: HostRuntime) -> Result<(), Fail> {
             33,
             5,
         ),
+        (
+            b"qreg q[1]; creg c[1]; creg d[1]; measure q[0]->c[0]; measure q[0]->d[0];",
+            0,
+            0,
+        ),
         // 34, 35
         (b"qreg q[65];", 34, 2),
         (b"creg c[1025];", 35, 2),
+        (b"qreg q[64]; h q;", 0, 0),
+        // accepted here, whatever later stages say
+        (b"qreg q[2]; crz(pi/4) q[0],q[1];", 0, 0),
+        (b"gate g a,b { crz(pi/4) a,b; } qreg q[1]; t q[0];", 0, 0),
+        (b"qreg a[1]; creg q[1]; measure a -> q;", 0, 0),
+        (
+            b"qreg q[2]; creg c[1]; measure q[0]->c[0]; h q[1]; measure q[1]->c[0];",
+            0,
+            0,
+        ),
     ];
     let alloc = rt.alloc();
     for (i, (body, code, statement)) in rows.iter().enumerate() {

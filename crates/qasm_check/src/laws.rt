@@ -1,0 +1,24 @@
+//! What holds of every tree, as functions whose contracts are the laws.
+
+ghost use Rattle.std.specs.Prelude.{◌≡◌, Bool, true};
+ghost use Rattle.qasm_check.specs.Sound.{is_sound};
+ghost use Rattle.qasm_parser.specs.Tree.{Tree};
+ghost use Rattle.qasm_check.specs.Checking.{IsAccepted, IsFault, IsRefused, bound};
+ghost use Rattle.qasm_check.specs.declared.refusal.CheckFault.{CheckFault as Fault};
+ghost use Rattle.qasm_check.specs.declared.refusal.CheckFault.TheVariants.{NoMemory};
+ghost use Rattle.qasm_check.specs.declared.refusal.Refused.{Refused as Told};
+
+/// A tree has one refusal at most: the statement and its code.
+pub fn refused_once()
+    ensures { (t : Tree) (a b : Told) → IsRefused t a → IsRefused t b → a ≡ b }
+{}
+
+/// An accepted tree has no fault, so only want of memory is told of it.
+pub fn accepted_has_no_fault()
+    ensures { (t : Tree) (fault : Fault) → IsAccepted t → IsFault t fault → fault ≡ NoMemory }
+{}
+
+/// The value of an accepted tree is sound: numbers, places and wires are in range, and no wire stands twice.
+pub fn accepted_is_sound()
+    ensures { (t : Tree) → IsAccepted t → is_sound (bound t) ≡ true }
+{}
