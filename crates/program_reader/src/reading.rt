@@ -22,6 +22,7 @@ use std::alloc::{AllocError, Global};
 const TEXT_LIMIT: usize = 4_194_304;
 
 /// The tree that a text spells.
+#[tactic(auto, using(crate::proofs::ReaderLaws::reader))]
 fn read_tree(alloc: Global, text: &[u8]) -> Result<Program, ReadFault>
     requires { length text.now ≤ text_limit }
     ensures ok { IfOk result (λ p. IsTreeOf text.now (tree_of p)) }
@@ -62,6 +63,7 @@ fn registers_of(alloc: Global, checked: &Checked) -> Result<Vec<Bits>, AllocErro
 fn write_out(alloc: Global, checked: &Checked) -> Result<Source, ReadFault>
     ensures ok { IfOk result (λ s. IsWithinLimits (bound_program checked.now) × Means (bound_program checked.now) (program_of s)) }
     ensures few { IfOk result (λ s. s.ops.wires ≤ 64) }
+    ensures short { IfOk result (λ s. length s.ops.list ≤ 65536) }
     ensures fine { IfOk result (λ s. All (IsFineOp s.ops.wires) s.ops.list) }
     ensures err { IfErr result (IsUnwritten (bound_program checked.now)) }
 {
@@ -79,11 +81,13 @@ fn write_out(alloc: Global, checked: &Checked) -> Result<Source, ReadFault>
     })
 }
 
+#[tactic(auto, using(crate::proofs::ReaderLaws::reader))]
 /// The program that a text spells: its operations, each such as `expand` asks for, its reads and its registers. Else the
 /// text's first refusal.
 pub fn read_program(alloc: Global, text: &[u8]) -> Result<Source, ReadFault>
     ensures ok { IfOk result (λ s. IsAccepted text.now (program_of s)) }
     ensures few { IfOk result (λ s. s.ops.wires ≤ 64) }
+    ensures short { IfOk result (λ s. length s.ops.list ≤ 65536) }
     ensures fine { IfOk result (λ s. All (IsFineOp s.ops.wires) s.ops.list) }
     ensures registers { IfOk result (λ s. AreRegisters s.registers.items (length s.ops.reads)) }
     ensures reads { IfOk result (λ s. All (IsRead s.ops.wires) s.ops.reads) }
