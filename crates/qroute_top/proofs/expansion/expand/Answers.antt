@@ -9,10 +9,9 @@ use Rattle.qroute_top.proofs.expansion.expand.Goals.{in-Apply+in_ok-push, in_def
 pub statements-preserved : goal.statements-preserved
 statements-preserved c = elim c.match-statement.branch [
   | in-Apply+in_ok-push w ↦
-      let pushed = w.body-is ∙ w.in_ok-push.ensures.ok in
       record {
-        wires = ap (λ (b : Body). b.wires) pushed ∙ c.statements.invariant.wires;
-        same = ap (λ (b : Body). ops b.gates) pushed
+        wires = ap (λ (b : Body). b.wires) w.body-is ∙ w.push.ensures.wires ∙ c.statements.invariant.wires;
+        same = ap (λ (b : Body). ops b.gates) w.body-is ∙ ap ops w.in_ok-push.ensures.gates
             ∙ ops-more _ c.args.program.now.list.items c.statements.statement-index _ _ c.statements.body.gates w.gate_of.result c.deref-statement-items.ensures.value
             c.statements-test.true w.in-Apply.is w.gate_of.ensures.same c.statements.invariant.same;
       }
