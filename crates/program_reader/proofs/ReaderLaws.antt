@@ -105,9 +105,9 @@ IsFaultOf-lexed text lexing.NoMemory f short is e = rw e tt
 
 pub IsFaultOf-parsed : (text : List ℕ) (tokens : List Token) (e : ParseFault) (f : ReadFault) → IsWithin text → lexed text ≡ Ok tokens
     → IsParseFault text tokens e → f ≡ parse_fault e → IsFaultOf text f
-IsFaultOf-parsed text tokens (parsing.Syntax place) f short lx is e = rw e (short, tokens, lx, is)
-IsFaultOf-parsed text tokens (parsing.Version place) f short lx is e = rw e (short, tokens, lx, is)
-IsFaultOf-parsed text tokens (parsing.Depth place) f short lx is e = rw e (short, tokens, lx, is)
+IsFaultOf-parsed text tokens (parsing.Syntax place) f short lx is e = rw e (short, (tokens, lx, is))
+IsFaultOf-parsed text tokens (parsing.Version place) f short lx is e = rw e (short, (tokens, lx, is))
+IsFaultOf-parsed text tokens (parsing.Depth place) f short lx is e = rw e (short, (tokens, lx, is))
 IsFaultOf-parsed text tokens parsing.NoMemory f short lx is e = rw e tt
 
 pub IsFaultOf-checked : (text : List ℕ) (t : Tree) (e : ReadFault) → IsWithin text → IsTreeOf text t → IsUnchecked t e → IsFaultOf text e
