@@ -1,3 +1,5 @@
+pub mod LexemeLaws
+pub mod SymbolLaws
+pub mod SpellingLaws
 pub mod LineLaws
-pub mod WrittenLaws
-pub mod OutputLaws
+pub mod NameLaws
