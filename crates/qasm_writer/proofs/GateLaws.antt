@@ -2,7 +2,7 @@
 --   IsWritable n u       a plain operation on wires below n, no control its target
 --   IsWritable-ops       the gates of a circuit are such operations
 --   op_run, ops_run      what the statement of an operation means, and those of several; nothing more is known behind them
-use Rattle.std.proofs.Common.{◌≡◌, ◌≢◌, ℕ, zero, suc, ◌<◌, ◌≤◌, ◌⊎◌, inl, inr, List, [], ◌∷◌, Option, None, refl, sym, subst, ◌∙◌, ap, arith, map, fold}
+use Rattle.std.proofs.Common.{◌≡◌, ◌≢◌, ℕ, zero, suc, ◌<◌, ◌≤◌, inl, inr, List, [], ◌∷◌, None, refl, sym, subst, ◌∙◌, ap, arith, map, fold}
 use Rattle.std.specs.Prelude.{codes}
 use Rattle.std.specs.List.{AllByRecursion}
 use Rattle.unitary_model.specs.declared.Op.{Op}
@@ -13,7 +13,7 @@ use Rattle.circuit_list.specs.declared.Gate.{Gate}
 use Rattle.circuit_list.specs.declared.Gate.TheVariants.{H, X, P, Cx as GateCx}
 use Rattle.qasm_check.specs.Known.{Known}
 use Rattle.qasm_check.specs.Steps.{after}
-use Rattle.qasm_writer.specs.Trees.{at, eighths_angle, op_statement, phase_statement}
+use Rattle.qasm_writer.specs.Trees.{eighths_angle, op_statement}
 use Rattle.qasm_writer.proofs.RowLaws.{three_eighths, five_eighths, row_h, row_x, row_cx, row_t, row_s, row_three, row_z, row_five, row_sdg, row_tdg, means_h, means_x, means_cx, means_t, means_s, means_three, means_z, means_five, means_sdg, means_tdg}
 use Rattle.qasm_writer.proofs.RunLaws.{Run, Run-append, Run-nil}
 use Rattle.qasm_writer.proofs.StatementLaws.{IsReady, one_run, two_run}

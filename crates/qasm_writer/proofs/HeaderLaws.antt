@@ -6,7 +6,7 @@
 --   bits_registered, bits_checked   the same of the classical registers
 --   no_table_name        the quantum register's name is no gate's
 --   other_way            names that differ, seen from either
-use Rattle.std.proofs.Common.{◌≡◌, ℕ, zero, suc, ◌+◌, ◌<◌, ◌≤◌, ◌⊎◌, inl, inr, List, [], ◌∷◌, ◌++◌, Bool, true, false, if◌then◌else◌, ◌||◌, Option, Some, None, refl, sym, subst, ◌∙◌, ap, arith, length, map, fold}
+use Rattle.std.proofs.Common.{◌≡◌, ℕ, ◌+◌, ◌<◌, ◌≤◌, ◌⊎◌, inl, inr, List, [], ◌∷◌, Bool, true, false, if◌then◌else◌, ◌||◌, Option, Some, None, refl, sym, ◌∙◌, ap, arith, map, fold}
 use Rattle.std.specs.Prelude.{codes, replicate, ◌==◌}
 use Rattle.std.specs.List.{AllByRecursion, list_any}
 use Rattle.std.specs.Str.{bytes_eq}
@@ -14,7 +14,7 @@ use Rattle.std.proofs.lemmas.Bool.{cases_Bool}
 use Rattle.std.proofs.lemmas.Bool.Decides.{nat_tests}
 use Rattle.std.proofs.lemmas.Slice.Eq.{bytes_eq-Decides}
 use Rattle.qasm_parser.specs.Tree.{Statement, include, register}
-use Rattle.qasm_check.specs.Gates.{Gate, u, cx}
+use Rattle.qasm_check.specs.Gates.{u, cx}
 use Rattle.qasm_check.specs.Known.{Known, fresh}
 use Rattle.qasm_check.specs.Library.{library, table_names}
 use Rattle.qasm_check.specs.Names.{has_repeat, is_one_of, with}

@@ -3,7 +3,7 @@
 --                        wires that are there, registers as a program may have them, and a read for each of their bits
 --   written_tree-fine    no refusal of a statement applies
 --   written_tree-means   it means these wires, operations, reads and registers
-use Rattle.std.proofs.Common.{◌≡◌, ℕ, ◌+◌, ◌<◌, ◌≤◌, List, [], ◌∷◌, ◌++◌, All, Bool, true, false, ◌||◌, Option, Some, None, Ok, append-nil, refl, sym, subst, ◌∙◌, ap, arith, length, map, fold, get_or}
+use Rattle.std.proofs.Common.{◌≡◌, ℕ, ◌≤◌, List, [], ◌∷◌, ◌++◌, All, Bool, true, false, ◌||◌, Option, None, append-nil, refl, sym, subst, ◌∙◌, ap, arith, length, map, fold}
 use Rattle.std.specs.Prelude.{codes}
 use Rattle.std.specs.List.{AllByRecursion}
 use Rattle.std.specs.Option.{option_or}
@@ -12,7 +12,7 @@ use Rattle.std.proofs.lemmas.List.Elements.{recursion_from_All}
 use Rattle.std.proofs.lemmas.List.Sums.{fold-append}
 use Rattle.unitary_model.specs.declared.Op.{Op}
 use Rattle.qasm_parser.specs.Tree.{Statement, include}
-use Rattle.qasm_check.specs.Checking.{Bound, IsAccepted, bound, steps}
+use Rattle.qasm_check.specs.Checking.{IsAccepted, bound, steps}
 use Rattle.qasm_check.specs.Gates.{Gate, u, cx}
 use Rattle.qasm_check.specs.Known.{Known, fresh}
 use Rattle.qasm_check.specs.Library.{library, table_names}
@@ -20,8 +20,7 @@ use Rattle.qasm_check.specs.Names.{is_one_of}
 use Rattle.qasm_check.specs.Steps.{after, known}
 use Rattle.qasm_check.specs.declared.bits.Bits.{Bits}
 use Rattle.gate_inline.specs.Inlined.{operations}
-use Rattle.gate_inline.specs.Meanings.{Answer}
-use Rattle.gate_inline.specs.Programs.{Means, Program}
+use Rattle.gate_inline.specs.Programs.{Means}
 use Rattle.gate_inline.specs.Registers.{AreRegisters, IsFree, names_of}
 use Rattle.gate_inline.proofs.ReadLaws.{reads-listed}
 use Rattle.qasm_writer.specs.Outputs.{IsRead}

@@ -5,7 +5,7 @@
 --   read_from b os bit   what is read into a bit, where these are the reads of the bits from b on
 --   read_at              the read of the bit x
 --   reads_run            what the measurements mean
-use Rattle.std.proofs.Common.{◌≡◌, ℕ, zero, suc, ◌+◌, ◌<◌, ◌≤◌, List, [], ◌∷◌, ◌++◌, Bool, true, false, if◌then◌else◌, Option, Some, None, refl, sym, subst, ◌∙◌, ap, arith, length, map, fold, take, drop, get_or}
+use Rattle.std.proofs.Common.{◌≡◌, ℕ, zero, suc, ◌+◌, ◌<◌, ◌≤◌, List, [], ◌∷◌, ◌++◌, Bool, true, false, if◌then◌else◌, Option, Some, None, refl, sym, subst, ◌∙◌, ap, arith, length, fold, take, drop, get_or}
 use Rattle.std.specs.Prelude.{nat_eq}
 use Rattle.std.specs.List.{AllByRecursion, sum_by}
 use Rattle.std.specs.Option.{option_or}
@@ -13,7 +13,6 @@ use Rattle.std.proofs.lemmas.Bool.Decides.{nat_tests}
 use Rattle.std.proofs.lemmas.List.{length-drop, length-take, take-append-drop}
 use Rattle.std.proofs.lemmas.List.Sums.{fold-append, sum_by-append}
 use Rattle.qasm_parser.specs.Tree.{Statement, act, measure}
-use Rattle.qasm_check.specs.Gates.{Gate}
 use Rattle.qasm_check.specs.Known.{Known}
 use Rattle.qasm_check.specs.Places.{place}
 use Rattle.qasm_check.specs.Steps.{after, with_measured}

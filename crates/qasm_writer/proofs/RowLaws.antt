@@ -2,7 +2,7 @@
 --   Row name es n given   a gate of the tables of this name takes so many angles, which have these values, and n qubits
 --   row_..               the nine names that are written
 --   means_..             what each does
-use Rattle.std.proofs.Common.{◌≡◌, ℕ, List, [], ◌∷◌, Bool, true, false, Option, Some, Ok, pos, refl, length, map}
+use Rattle.std.proofs.Common.{◌≡◌, ℕ, List, [], ◌∷◌, true, false, Some, Ok, pos, refl, length, map}
 use Rattle.std.specs.Prelude.{codes, not, ◌==◌}
 use Rattle.std.specs.List.{list_any}
 use Rattle.angle_fraction.specs.Angles.{angle, eighths_of, first_where, opposite_of, product_of, quotient_of, fitted}

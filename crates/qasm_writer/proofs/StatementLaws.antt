@@ -8,30 +8,29 @@
 --   include_run, wires_run, bits_run   the header
 --   one_run, two_run     a gate of the tables on one wire, on two
 --   measure_run          a measurement of one wire
-use Rattle.std.proofs.Common.{◌≡◌, ◌≢◌, ℕ, ◌+◌, ◌<◌, ◌≤◌, List, [], ◌∷◌, ◌++◌, Bool, true, false, cond, ◌||◌, if◌then◌else◌, Option, Some, None, Ok, refl, sym, ◌∙◌, ap, arith, length, map}
+use Rattle.std.proofs.Common.{◌≡◌, ◌≢◌, ℕ, ◌+◌, ◌<◌, ◌≤◌, List, [], ◌∷◌, ◌++◌, Bool, true, false, cond, ◌||◌, if◌then◌else◌, Option, Some, None, Ok, refl, ◌∙◌, ap, arith, length, map}
 use Rattle.std.specs.Prelude.{codes, is_none, is_some, not, nat_eq, nat_le, nat_lt, option_map, ◌==◌}
 use Rattle.std.specs.List.{cons_option, list_any}
 use Rattle.std.specs.Option.{option_or}
 use Rattle.std.proofs.lemmas.Bool.Decides.{nat_tests}
 use Rattle.unitary_model.specs.declared.Op.{Op}
-use Rattle.qasm_parser.specs.Tree.{Expression, Statement, include, register, act, measure}
+use Rattle.qasm_parser.specs.Tree.{Expression, include, register, act, measure}
 use Rattle.qasm_parser.specs.declared.tree.Arg.{Arg}
-use Rattle.qasm_check.specs.Checking.{bits_of}
 use Rattle.qasm_check.specs.Gates.{Gate, u, cx, gate_at, gate_params, gate_qubits, is_opaque}
 use Rattle.qasm_check.specs.Known.{Known, fresh, gate_number, meaning, own_number}
 use Rattle.qasm_check.specs.Library.{library, standard_names, table_names}
-use Rattle.qasm_check.specs.Names.{has_repeat, is_one_of, knows}
+use Rattle.qasm_check.specs.Names.{is_one_of}
 use Rattle.qasm_check.specs.Places.{broadcast, place, place_in, places, upto, wires_of}
 use Rattle.qasm_check.specs.Refusals.{IsFine, differs_from, is_beyond_in, is_other, is_register, measure_differs, of_gate, repeats}
-use Rattle.qasm_check.specs.Steps.{Step, applies, measures, formula, measure_step, step}
+use Rattle.qasm_check.specs.Steps.{applies, measures, formula, measure_step, step}
 use Rattle.qasm_check.specs.declared.bits.Bits.{Bits}
 use Rattle.qasm_check.specs.declared.meaning.Meaning.{Meaning}
 use Rattle.qasm_check.specs.declared.meaning.Meaning.TheVariants.{Gate as Numbered, Register}
 use Rattle.qasm_check.specs.declared.meaning.Place.{Place}
-use Rattle.qasm_check.specs.declared.refusal.Refusal.TheVariants.{Include, NameTaken, UnknownName, WrongKind, IndexRange, EmptyRegister, ParamCount, QubitCount, SizeDiffers, RepeatedQubit, Conditional, Reset, OpaqueApplied, AfterMeasure, TooManyQubits, TooManyBits}
+use Rattle.qasm_check.specs.declared.refusal.Refusal.TheVariants.{NameTaken, UnknownName, WrongKind, IndexRange, EmptyRegister, ParamCount, QubitCount, SizeDiffers, RepeatedQubit, OpaqueApplied, AfterMeasure, TooManyQubits, TooManyBits}
 use Rattle.angle_fraction.specs.declared.Angle.{Angle}
 use Rattle.gate_inline.specs.Meanings.{Answer, broadcast_answer, followed, meaning_at, step_answer, unvalued}
-use Rattle.gate_inline.specs.Reads.{read_within, step_read}
+use Rattle.gate_inline.specs.Reads.{read_within}
 use Rattle.gate_inline.specs.Values.{and_next, values}
 use Rattle.qasm_writer.specs.Trees.{at, applied, bits_statement}
 use Rattle.qasm_writer.proofs.RowLaws.{Row}
@@ -86,44 +85,18 @@ never [] = refl
 never (x ∷ xs) = never xs
 
 include_fine : IsFine fresh (include (codes "qelib1.inc"))
-include_fine Include = refl
 include_fine NameTaken = never standard_names
-include_fine UnknownName = refl
-include_fine WrongKind = refl
-include_fine IndexRange = refl
-include_fine EmptyRegister = refl
-include_fine ParamCount = refl
-include_fine QubitCount = refl
-include_fine SizeDiffers = refl
-include_fine RepeatedQubit = refl
-include_fine Conditional = refl
-include_fine Reset = refl
-include_fine OpaqueApplied = refl
-include_fine AfterMeasure = refl
-include_fine TooManyQubits = refl
-include_fine TooManyBits = refl
+include_fine _ = refl
 
 pub include_run : Run fresh (include (codes "qelib1.inc") ∷ []) [] [] (λ bit. None)
 include_run = Run-quiet fresh (include (codes "qelib1.inc")) None include_fine refl refl
 
 wires_fine : (k : Known) (q : List ℕ) (n : ℕ) → k.declared q ≡ None → is_one_of table_names q ≡ false → 0 < n → k.wires + n ≤ 64
     → IsFine k (register true q n)
-wires_fine k q n d t some few Include = refl
 wires_fine k q n d t some few NameTaken = λ j. is_some (d j) || t j
-wires_fine k q n d t some few UnknownName = refl
-wires_fine k q n d t some few WrongKind = refl
-wires_fine k q n d t some few IndexRange = refl
 wires_fine k q n d t some few EmptyRegister = not_nought n some
-wires_fine k q n d t some few ParamCount = refl
-wires_fine k q n d t some few QubitCount = refl
-wires_fine k q n d t some few SizeDiffers = refl
-wires_fine k q n d t some few RepeatedQubit = refl
-wires_fine k q n d t some few Conditional = refl
-wires_fine k q n d t some few Reset = refl
-wires_fine k q n d t some few OpaqueApplied = refl
-wires_fine k q n d t some few AfterMeasure = refl
 wires_fine k q n d t some few TooManyQubits = within 64 (k.wires + n) few
-wires_fine k q n d t some few TooManyBits = refl
+wires_fine k q n d t some few _ = refl
 
 pub wires_run : (k : Known) (q : List ℕ) (n : ℕ) → k.declared q ≡ None → is_one_of table_names q ≡ false → 0 < n → k.wires + n ≤ 64
     → Run k (register true q n ∷ []) [] [] (λ bit. None)
@@ -131,22 +104,10 @@ wires_run k q n d t some few = Run-quiet k (register true q n) None (wires_fine 
 
 bits_fine : (k : Known) (name : List ℕ) (size : ℕ) → k.declared name ≡ None → is_one_of table_names name ≡ false → 0 < size
     → k.bits + size ≤ 1024 → IsFine k (register false name size)
-bits_fine k name size d t some few Include = refl
 bits_fine k name size d t some few NameTaken = λ j. is_some (d j) || t j
-bits_fine k name size d t some few UnknownName = refl
-bits_fine k name size d t some few WrongKind = refl
-bits_fine k name size d t some few IndexRange = refl
 bits_fine k name size d t some few EmptyRegister = not_nought size some
-bits_fine k name size d t some few ParamCount = refl
-bits_fine k name size d t some few QubitCount = refl
-bits_fine k name size d t some few SizeDiffers = refl
-bits_fine k name size d t some few RepeatedQubit = refl
-bits_fine k name size d t some few Conditional = refl
-bits_fine k name size d t some few Reset = refl
-bits_fine k name size d t some few OpaqueApplied = refl
-bits_fine k name size d t some few AfterMeasure = refl
-bits_fine k name size d t some few TooManyQubits = refl
 bits_fine k name size d t some few TooManyBits = within 1024 (k.bits + size) few
+bits_fine k name size d t some few _ = refl
 
 pub bits_run : (k : Known) (r : Bits) → k.declared r.name ≡ None → is_one_of table_names r.name ≡ false → 0 < r.size
     → k.bits + r.size ≤ 1024 → Run k (bits_statement r ∷ []) [] (r ∷ []) (λ bit. None)
@@ -191,25 +152,19 @@ one_fine k q n w name es given r h l = go
     spots = ap (λ (o : Option Place). cons_option o []) (wire_placed k q n w h l)
 
     go : IsFine k (applied name es (at q w ∷ []))
-    go Include = refl
-    go NameTaken = refl
     go UnknownName = λ j. is_none (named j) || (is_none (wire j) || false) || r.closed j
     go WrongKind = λ j. is_register (named j) || (is_other true (wire j) || false)
     go IndexRange = (λ j. is_beyond_in (wire j) (Some w) || false) ∙ ap (λ (b : Bool). b || false) (not_over w n l)
-    go EmptyRegister = refl
     go ParamCount = (λ j. of_gate k (λ g. not (gate_params g == length es)) (named j))
         ∙ (λ j. not (gate_params (there j) == length es)) ∙ ap not r.params
     go QubitCount = (λ j. of_gate k (λ g. not (gate_qubits g == 1)) (named j))
         ∙ (λ j. not (gate_qubits (there j) == 1)) ∙ ap not r.wires
     go SizeDiffers = ap (λ (ps : List Place). list_any (differs_from (broadcast ps)) ps) spots
     go RepeatedQubit = ap repeats spots
-    go Conditional = refl
-    go Reset = refl
     go OpaqueApplied = (λ j. of_gate k is_opaque (named j)) ∙ ap is_opaque there ∙ r.solid
     go AfterMeasure = ap (λ (ps : List Place). list_any (λ p. list_any k.measured (wires_of p)) ps) spots
         ∙ ap (λ (b : Bool). (b || false) || false) (h.unmeasured (0 + w))
-    go TooManyQubits = refl
-    go TooManyBits = refl
+    go _ = refl
 
 -- a gate on the wires that its arguments name
 applied_step : (k : Known) (name : List ℕ) (es : List Expression) (args : List Arg) (i : ℕ) (ps : List Place)
@@ -254,26 +209,20 @@ two_fine k q n c t name es given r h lc lt apart = go
     spots = λ j. cons_option (wire_placed k q n c h lc j) (cons_option (wire_placed k q n t h lt j) [])
 
     go : IsFine k (applied name es (at q c ∷ at q t ∷ []))
-    go Include = refl
-    go NameTaken = refl
     go UnknownName = λ j. is_none (named j) || (is_none (wire j) || (is_none (wire j) || false)) || r.closed j
     go WrongKind = λ j. is_register (named j) || (is_other true (wire j) || (is_other true (wire j) || false))
     go IndexRange = (λ j. is_beyond_in (wire j) (Some c) || (is_beyond_in (wire j) (Some t) || false))
         ∙ (λ j. not_over c n lc j || (not_over t n lt j || false))
-    go EmptyRegister = refl
     go ParamCount = (λ j. of_gate k (λ g. not (gate_params g == length es)) (named j))
         ∙ (λ j. not (gate_params (there j) == length es)) ∙ ap not r.params
     go QubitCount = (λ j. of_gate k (λ g. not (gate_qubits g == 2)) (named j))
         ∙ (λ j. not (gate_qubits (there j) == 2)) ∙ ap not r.wires
     go SizeDiffers = ap (λ (ps : List Place). list_any (differs_from (broadcast ps)) ps) spots
     go RepeatedQubit = ap repeats spots ∙ ap (λ (b : Bool). ((b || false) || (false || false)) || false) (unequal (0 + c) (0 + t) (λ e. apart (omega arith)))
-    go Conditional = refl
-    go Reset = refl
     go OpaqueApplied = (λ j. of_gate k is_opaque (named j)) ∙ ap is_opaque there ∙ r.solid
     go AfterMeasure = ap (λ (ps : List Place). list_any (λ p. list_any k.measured (wires_of p)) ps) spots
         ∙ (λ j. (h.unmeasured (0 + c) j || false) || ((h.unmeasured (0 + t) j || false) || false))
-    go TooManyQubits = refl
-    go TooManyBits = refl
+    go _ = refl
 
 two_answer : (i : ℕ) (es : List Expression) (given : List Angle) (n c t : ℕ) (us : List Op) → values [] (map (formula []) es) ≡ Ok given
     → ◌≡◌ {A = Answer} (meaning_at standard_meanings i given (c ∷ t ∷ [])) (Ok us)
@@ -307,22 +256,11 @@ measure_fine k q n w name first size i dq dn lw li = go
     bit = meaning-declared k name (bits_register first size) dn
 
     go : IsFine k (act (measure (at q w) (at name i)))
-    go Include = refl
-    go NameTaken = refl
     go UnknownName = λ j. is_none (wire j) || is_none (bit j)
     go WrongKind = λ j. is_other true (wire j) || is_other false (bit j)
     go IndexRange = (λ j. is_beyond_in (wire j) (Some w) || is_beyond_in (bit j) (Some i)) ∙ (λ j. not_over w n lw j || not_over i size li j)
-    go EmptyRegister = refl
-    go ParamCount = refl
-    go QubitCount = refl
     go SizeDiffers = λ j. measure_differs (placed k q true 0 n w dq lw j) (placed k name false first size i dn li j)
-    go RepeatedQubit = refl
-    go Conditional = refl
-    go Reset = refl
-    go OpaqueApplied = refl
-    go AfterMeasure = refl
-    go TooManyQubits = refl
-    go TooManyBits = refl
+    go _ = refl
 
 measured_read : (n w first size i bit : ℕ) → read_within 1 (spot 0 n w) (spot first size i) bit ≡ (if nat_eq bit (first + i) then Some w else None)
 unfolding upto
