@@ -17,18 +17,18 @@ use Rattle.qasm_check.specs.Gates.{Gate, u, cx}
 use Rattle.qasm_check.specs.Known.{Known, fresh}
 use Rattle.qasm_check.specs.Library.{library, table_names}
 use Rattle.qasm_check.specs.Names.{is_one_of}
+use Rattle.qasm_check.specs.Places.{upto}
 use Rattle.qasm_check.specs.Steps.{after, known}
 use Rattle.qasm_check.specs.declared.bits.Bits.{Bits}
 use Rattle.gate_inline.specs.Inlined.{operations}
 use Rattle.gate_inline.specs.Programs.{Means}
 use Rattle.gate_inline.specs.Registers.{AreRegisters, IsFree, names_of}
-use Rattle.gate_inline.proofs.ReadLaws.{reads-listed}
 use Rattle.qasm_writer.specs.Outputs.{IsRead}
 use Rattle.qasm_writer.specs.Texts.{IsQubitsName}
 use Rattle.qasm_writer.specs.Trees.{bits_statement, op_statement, read_statements, wires_statements, written_tree}
 use Rattle.qasm_writer.proofs.GateLaws.{IsWritable, ops_run}
 use Rattle.qasm_writer.proofs.HeaderLaws.{Registered, Wired, begun, bits_checked, bits_registered, kept_apart, left_of, no_table_name, other_way, right_of, wires_checked}
-use Rattle.qasm_writer.proofs.MeasureLaws.{AreDeclared, Same, read_at, read_from, reads_run, sizes, sum-sizes}
+use Rattle.qasm_writer.proofs.MeasureLaws.{AreDeclared, Same, read_from, reads_listed, reads_run, sizes, sum-sizes}
 use Rattle.qasm_writer.proofs.RunLaws.{Run, Run-append, Run-reads, none_or, standard_meanings}
 use Rattle.qasm_writer.proofs.StatementLaws.{IsReady, include_run}
 
@@ -147,8 +147,8 @@ written_tree-means q n us rs reads h =
     let list : List Statement = (written_tree q n us rs reads).list in record {
       wires = sym w.wires;
       ops = ap (λ (gs : List Gate). operations gs (steps fresh list)) w.gates ∙ w.run.ops;
-      reads = reads-listed reads (known list).bits (steps fresh list) (sym w.bits)
-          (λ bit l. read_at reads 0 bit bit (omega arith) ∙ sym (w.run.reads bit));
+      reads = sym ((λ i. map (λ bit. w.run.reads bit i) (upto (known list).bits))
+          ∙ ap (λ bits. map (read_from 0 reads) (upto bits)) w.bits ∙ reads_listed reads);
       registers = sym w.run.registers;
       barriers = sym w.run.pauses;
     }

@@ -3,18 +3,20 @@
 --   Same k l             l differs from k in what is measured alone
 --   AreDeclared d b rs   by the naming d these registers stand side by side, from the bit b on
 --   read_from b os bit   what is read into a bit, where these are the reads of the bits from b on
---   read_at              the read of the bit x
+--   reads_listed         the reads of all bits, one by one
 --   reads_run            what the measurements mean
-use Rattle.std.proofs.Common.{◌≡◌, ℕ, zero, suc, ◌+◌, ◌<◌, ◌≤◌, List, [], ◌∷◌, ◌++◌, Bool, true, false, if◌then◌else◌, Option, Some, None, refl, sym, subst, ◌∙◌, ap, arith, length, fold, take, drop, get_or}
+use Rattle.std.proofs.Common.{◌≡◌, ℕ, zero, suc, ◌+◌, ◌<◌, ◌≤◌, List, [], ◌∷◌, ◌++◌, Bool, true, false, if◌then◌else◌, Option, Some, None, refl, sym, subst, ◌∙◌, ap, arith, add-one, length, map, fold, take, drop, get_or}
 use Rattle.std.specs.Prelude.{nat_eq}
 use Rattle.std.specs.List.{AllByRecursion, sum_by}
 use Rattle.std.specs.Option.{option_or}
 use Rattle.std.proofs.lemmas.Bool.Decides.{nat_tests}
-use Rattle.std.proofs.lemmas.List.{length-drop, length-take, take-append-drop}
+use Rattle.std.proofs.Math.Seq.{take-length}
+use Rattle.std.proofs.lemmas.Grind.{take_at_read}
+use Rattle.std.proofs.lemmas.List.{length-drop, length-take, map-append, take-append-drop}
 use Rattle.std.proofs.lemmas.List.Sums.{fold-append, sum_by-append}
 use Rattle.qasm_parser.specs.Tree.{Statement, act, measure}
 use Rattle.qasm_check.specs.Known.{Known}
-use Rattle.qasm_check.specs.Places.{place}
+use Rattle.qasm_check.specs.Places.{place, upto}
 use Rattle.qasm_check.specs.Steps.{after, with_measured}
 use Rattle.qasm_check.specs.declared.bits.Bits.{Bits}
 use Rattle.qasm_check.specs.declared.meaning.Meaning.{Meaning}
@@ -76,12 +78,23 @@ read_before : (os : List (Option ℕ)) (b x : ℕ) → x < b → read_from b os 
 read_before [] b x l = refl
 read_before (o ∷ os) b x l = λ j. option_or (read_before os (b + 1) x (omega arith) j) (here_before b x o l j)
 
-pub read_at : (os : List (Option ℕ)) (b x i : ℕ) → x ≡ b + i → get_or os i None ≡ read_from b os x
+read_at : (os : List (Option ℕ)) (b x i : ℕ) → x ≡ b + i → get_or os i None ≡ read_from b os x
 read_at [] b x i e = refl
 read_at (o ∷ os) b x zero e = sym (λ j. option_or (read_before os (b + 1) x (omega arith) j) (here_same b x o (omega arith) j))
 read_at (o ∷ os) b x (suc i) e =
     read_at os (b + 1) x i (omega arith)
     ∙ sym (none_or (read_from (b + 1) os x)) ∙ sym (ap (option_or (read_from (b + 1) os x)) (here_other b x o (omega arith)))
+
+reads_first : (os : List (Option ℕ)) (n : ℕ) → n ≤ length os → map (read_from 0 os) (upto n) ≡ take n os
+unfolding upto
+reads_first os zero l = refl
+reads_first os (suc n) l =
+    map-append (read_from 0 os) (upto n) (n ∷ [])
+    ∙ (λ j. reads_first os n (omega arith) j ++ sym (read_at os 0 n n (omega arith)) j ∷ [])
+    ∙ sym (take_at_read os n None (omega arith)).1 ∙ ap (λ m. take m os) (add-one n)
+
+pub reads_listed : (os : List (Option ℕ)) → map (read_from 0 os) (upto (length os)) ≡ os
+reads_listed os = reads_first os (length os) (omega arith) ∙ take-length os
 
 read_from-append : (xs ys : List (Option ℕ)) (b c x : ℕ) → c ≡ b + length xs → read_from b (xs ++ ys) x ≡ option_or (read_from c ys x) (read_from b xs x)
 read_from-append [] ys b c x e =

@@ -5,7 +5,7 @@
 --   Run-nil, Run-append  no statements; some and then others
 --   Run-one, Run-quiet   one statement; one that does nothing
 --   Run-reads            the same reads, told in another way
-use Rattle.std.proofs.Common.{◌≡◌, ℕ, ◌+◌, List, [], ◌∷◌, ◌++◌, Bool, false, cond, Option, Some, None, Ok, append-nil, refl, sym, ◌∙◌, ap, arith, map, fold}
+use Rattle.std.proofs.Common.{◌≡◌, ℕ, ◌+◌, List, [], ◌∷◌, ◌++◌, Bool, false, cond, Option, Some, None, Ok, Err, append_assoc, append-nil, refl, sym, ◌∙◌, ap, arith, map, fold}
 use Rattle.std.specs.List.{cons_option, count_by, filter_map}
 use Rattle.std.specs.Option.{option_or}
 use Rattle.std.proofs.lemmas.List.{map-append}
@@ -22,7 +22,6 @@ use Rattle.qasm_check.specs.Steps.{Step, nothing, after, step}
 use Rattle.qasm_check.specs.declared.bits.Bits.{Bits}
 use Rattle.gate_inline.specs.Meanings.{Answer, Meaning, followed, joined, meanings, step_answer}
 use Rattle.gate_inline.specs.Reads.{last_read, step_read}
-use Rattle.gate_inline.proofs.StepLaws.{joined-append}
 
 unfoldable pub standard_meanings : List Meaning
 standard_meanings = meanings (u ∷ cx ∷ library)
@@ -66,6 +65,19 @@ last_read-append (x ∷ xs) ys bit =
     ap (λ (o : Option ℕ). option_or o (step_read x bit)) (last_read-append xs ys bit)
     ∙ or_or (last_read ys bit) (last_read xs bit) (step_read x bit)
 
+joined_both : (xs ys : List Answer) (us vs : List Op) → ◌≡◌ {A = Answer} (joined xs) (Ok us) → ◌≡◌ {A = Answer} (joined ys) (Ok vs)
+    → ◌≡◌ {A = Answer} (joined (xs ++ ys)) (Ok (us ++ vs))
+joined_both [] ys us vs e f = let none : [] ≡ us = cc in f ∙ ap (λ (ws : List Op). Ok (ws ++ vs)) none
+joined_both (x ∷ xs) ys us vs e f = go x (joined xs) (λ zs same. joined_both xs ys zs vs same f) e
+  where
+    go : (a b : Answer) → ((zs : List Op) → ◌≡◌ {A = Answer} b (Ok zs) → ◌≡◌ {A = Answer} (joined (xs ++ ys)) (Ok (zs ++ vs)))
+        → ◌≡◌ {A = Answer} (followed a b) (Ok us) → ◌≡◌ {A = Answer} (followed a (joined (xs ++ ys))) (Ok (us ++ vs))
+    go (Err r) b later e = absurd (cc)
+    go (Ok ws) (Err r) later e = absurd (cc)
+    go (Ok ws) (Ok zs) later e =
+        let all : ws ++ zs ≡ us = cc in
+        ap (followed (Ok ws)) (later zs refl) ∙ ap (λ (ts : List Op). Ok ts) (sym (append_assoc ws zs vs)) ∙ ap (λ (ts : List Op). Ok (ts ++ vs)) all
+
 none_counted : (p : Step → Bool) (xs ys : List Step) → count_by p xs ≡ 0 → count_by p ys ≡ 0 → count_by p (xs ++ ys) ≡ 0
 none_counted p xs ys e f = omega (arith, sum_by-append (λ x. cond (p x) 1 0) xs ys)
 
@@ -75,8 +87,7 @@ Run-append k xs ys us vs rs ts f g r s = record {
   fine = all_fine-append k xs ys r.fine s.fine;
   ops = ap (λ (ss : List Step). joined (map (step_answer standard_meanings) ss)) (steps-append k xs ys)
       ∙ ap joined (map-append (step_answer standard_meanings) (steps k xs) (steps (fold after k xs) ys))
-      ∙ joined-append (map (step_answer standard_meanings) (steps k xs)) (map (step_answer standard_meanings) (steps (fold after k xs) ys))
-      ∙ (λ i. followed (r.ops i) (s.ops i));
+      ∙ joined_both (map (step_answer standard_meanings) (steps k xs)) (map (step_answer standard_meanings) (steps (fold after k xs) ys)) us vs r.ops s.ops;
   registers = filter_map-append bits_of xs ys ∙ (λ i. r.registers i ++ s.registers i);
   reads = λ bit. ap (λ (ss : List Step). last_read ss bit) (steps-append k xs ys)
       ∙ last_read-append (steps k xs) (steps (fold after k xs) ys) bit
