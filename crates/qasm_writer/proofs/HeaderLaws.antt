@@ -4,10 +4,9 @@
 --   wires_wired, wires_checked      it is known then, and its line means nothing else
 --   Registered k l rs    l is what is known in k, and the classical registers behind it
 --   bits_registered, bits_checked   the same of the classical registers
---   no_table_name        the quantum register's name is no gate's
 --   other_way            names that differ, seen from either
 use Rattle.std.proofs.Common.{◌≡◌, ℕ, ◌+◌, ◌<◌, ◌≤◌, ◌⊎◌, inl, inr, List, [], ◌∷◌, Bool, true, false, if◌then◌else◌, ◌||◌, Option, Some, None, refl, sym, ◌∙◌, ap, arith, map, fold}
-use Rattle.std.specs.Prelude.{codes, replicate, ◌==◌}
+use Rattle.std.specs.Prelude.{codes, ◌==◌}
 use Rattle.std.specs.List.{AllByRecursion, list_any}
 use Rattle.std.specs.Str.{bytes_eq}
 use Rattle.std.proofs.lemmas.Bool.{cases_Bool}
@@ -22,7 +21,6 @@ use Rattle.qasm_check.specs.Steps.{after}
 use Rattle.qasm_check.specs.declared.bits.Bits.{Bits}
 use Rattle.qasm_check.specs.declared.meaning.Meaning.{Meaning}
 use Rattle.gate_inline.specs.Registers.{IsFree, names_of}
-use Rattle.qasm_writer.specs.Texts.{with_underscores}
 use Rattle.qasm_writer.specs.Trees.{bits_statement, wires_statements}
 use Rattle.qasm_writer.proofs.MeasureLaws.{AreDeclared, sizes}
 use Rattle.qasm_writer.proofs.RunLaws.{Run, Run-append, Run-nil}
@@ -54,13 +52,6 @@ kept_apart names x y e f = go (cases_Bool (bytes_eq y x))
     go : (bytes_eq y x ≡ true) ⊎ (bytes_eq y x ≡ false) → bytes_eq y x ≡ false
     go (inr other) = other
     go (inl same) = let met : is_one_of names y ≡ true = ap (is_one_of names) ((bytes_eq-Decides y x).0 same) ∙ e in absurd (cc)
-
-begins_otherwise : (w : List ℕ) → is_one_of table_names (113 ∷ w) ≡ false
-unfolding table_names
-begins_otherwise w = refl
-
-pub no_table_name : (k : ℕ) → is_one_of table_names (with_underscores k) ≡ false
-no_table_name k = begins_otherwise (replicate k 95)
 
 -- ---- the quantum register
 abbrev pub begun : Known

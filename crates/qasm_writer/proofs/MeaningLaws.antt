@@ -27,8 +27,9 @@ use Rattle.qasm_writer.specs.Outputs.{IsRead}
 use Rattle.qasm_writer.specs.Texts.{IsQubitsName}
 use Rattle.qasm_writer.specs.Trees.{bits_statement, op_statement, read_statements, wires_statements, written_tree}
 use Rattle.qasm_writer.proofs.GateLaws.{IsWritable, ops_run}
-use Rattle.qasm_writer.proofs.HeaderLaws.{Registered, Wired, begun, bits_checked, bits_registered, kept_apart, left_of, no_table_name, other_way, right_of, wires_checked}
+use Rattle.qasm_writer.proofs.HeaderLaws.{Registered, Wired, begun, bits_checked, bits_registered, kept_apart, left_of, other_way, right_of, wires_checked}
 use Rattle.qasm_writer.proofs.MeasureLaws.{AreDeclared, Same, read_from, reads_listed, reads_run, sizes, sum-sizes}
+use Rattle.qasm_writer.proofs.RowLaws.{no_table_name}
 use Rattle.qasm_writer.proofs.RunLaws.{Run, Run-append, Run-reads, none_or, standard_meanings}
 use Rattle.qasm_writer.proofs.StatementLaws.{IsReady, include_run}
 

@@ -2,8 +2,9 @@
 --   Row name es n given   a gate of the tables of this name takes so many angles, which have these values, and n qubits
 --   row_..               the nine names that are written
 --   means_..             what each does
+--   no_table_name        no gate of the tables has a name that the quantum register may have
 use Rattle.std.proofs.Common.{◌≡◌, ℕ, List, [], ◌∷◌, true, false, Some, Ok, pos, refl, length, map}
-use Rattle.std.specs.Prelude.{codes, not, ◌==◌}
+use Rattle.std.specs.Prelude.{codes, not, replicate, ◌==◌}
 use Rattle.std.specs.List.{list_any}
 use Rattle.angle_fraction.specs.Angles.{angle, eighths_of, first_where, opposite_of, product_of, quotient_of, fitted}
 use Rattle.angle_fraction.specs.Fraction.{common_factor, fraction, greatest_common, is_small, lowest, nought}
@@ -17,6 +18,7 @@ use Rattle.qasm_check.specs.Names.{is_one_of, knows}
 use Rattle.qasm_check.specs.Steps.{formula}
 use Rattle.gate_inline.specs.Meanings.{Answer, meaning_at}
 use Rattle.gate_inline.specs.Values.{values}
+use Rattle.qasm_writer.specs.Texts.{with_underscores}
 use Rattle.qasm_writer.specs.Trees.{eighths_angle}
 use Rattle.qasm_writer.proofs.RunLaws.{standard_meanings}
 
@@ -118,3 +120,11 @@ means_tdg w = refl
 pub means_cx : (c t : ℕ) → ◌≡◌ {A = Answer} (meaning_at standard_meanings row_cx.number [] (c ∷ t ∷ [])) (Ok (Cx c t ∷ []))
 unfolding row_cx standard_meanings library
 means_cx c t = refl
+
+-- ---- no row
+begins_otherwise : (w : List ℕ) → is_one_of table_names (113 ∷ w) ≡ false
+unfolding table_names
+begins_otherwise w = refl
+
+pub no_table_name : (k : ℕ) → is_one_of table_names (with_underscores k) ≡ false
+no_table_name k = begins_otherwise (replicate k 95)
