@@ -10,7 +10,8 @@ ghost use Rattle.std.specs.List.{flat_map, list_any};
 ghost use Rattle.std.specs.Prelude.{◌≡◌, ◌<◌, ◌≤◌, ◌++◌, All, IfOk, OnOk, length, map, string_bytes, sum_by};
 ghost use Rattle.std.specs.Str.{bytes_eq};
 ghost use Rattle.circuit_list.specs.Gates.{op_of, ops};
-ghost use Rattle.qasm_writer.specs.Outputs.{IsOutput, IsText, bits_of};
+ghost use Rattle.gate_inline.specs.Programs.{IsWritten};
+ghost use Rattle.qasm_writer.specs.Outputs.{IsOutput, IsText, bits_of, program_of};
 ghost use Rattle.qasm_writer.specs.Texts.{IsQubitsName, bits_line, op_line, phase_text, read_line, read_lines, register_lines, wires_line};
 
 use circuit_list::{Circuit, Gate};
@@ -159,6 +160,7 @@ fn push_reads(text: &mut String, q: &str, registers: &[Register], reads: &[Optio
 pub fn program_text(alloc: Global, output: &Output) -> Result<Vec<u8>, AllocError>
     requires { IsOutput output.now }
     ensures text { IfOk result (λ v. IsText output.now v.items) }
+    ensures written { IfOk result (λ v. IsWritten v.items (program_of output.now)) }
 {
     let q = qubits_name(alloc, output.registers)?;
     let mut text = String::from_str(alloc, "OPENQASM 2.0;\ninclude \"qelib1.inc\";\n")?;
