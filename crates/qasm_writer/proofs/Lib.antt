@@ -1,0 +1,14 @@
+pub mod LexemeLaws
+pub mod SymbolLaws
+pub mod SpellingLaws
+pub mod RunLaws
+pub mod RowLaws
+pub mod StatementLaws
+pub mod GateLaws
+pub mod MeasureLaws
+pub mod HeaderLaws
+pub mod MeaningLaws
+pub mod PartLaws
+pub mod OutputLaws
+pub mod LineLaws
+pub mod NameLaws

@@ -9,8 +9,8 @@
 --   bits_line r          the line of a classical register
 --   register_lines, read_lines   the lines of the measurements into one register, into all
 --   written_text ..      the whole text
-use Rattle.std.specs.Prelude.{◌≡◌, ℕ, ◌+◌, ◌<◌, ◌==◌, true, false, List, [], ◌∷◌, ◌++◌, Option, Some, None, if◌then◌else◌, codes, drop, take}
-use Rattle.std.specs.List.{flat_map, replicate}
+use Rattle.std.specs.Prelude.{◌≡◌, ℕ, ◌+◌, ◌<◌, ◌==◌, true, false, List, [], ◌∷◌, ◌++◌, Option, Some, None, if◌then◌else◌, codes, drop, replicate, take}
+use Rattle.std.specs.List.{flat_map}
 use Rattle.std.specs.Fmt.{decimal}
 use Rattle.qasm_check.specs.Names.{is_one_of}
 use Rattle.qasm_check.specs.declared.bits.Bits.{Bits}

@@ -1,0 +1,69 @@
+-- The name of the quantum register.
+--   taken_is         whether a register has a name
+--   underscores-more     one underscore more
+--   longer_free      a name that is longer than all others is free
+--   free_name        the first name that is free
+--   taken_more       one name more that is taken
+use Rattle.std.proofs.Common.{◌≡◌, ℕ, zero, suc, ◌+◌, ◌<◌, ◌≤◌, ◌&&◌, Bool, true, false, List, [], ◌∷◌, ◌++◌, refl, sym, ap, ◌∙◌, length, map, replicate, arith, All, add-one, codes, below_more}
+use Rattle.std.proofs.lemmas.List.Elements.{recursion_from_All}
+use Rattle.std.specs.List.{AllByRecursion, list_any}
+use Rattle.std.specs.Str.{bytes_eq}
+use Rattle.qasm_check.specs.Names.{is_one_of}
+use Rattle.gate_inline.specs.Registers.{names_of}
+use Rattle.qasm_writer.specs.Outputs.{bits_of}
+use Rattle.qasm_writer.specs.Texts.{IsQubitsName, with_underscores}
+use Rattle.qasm_writer.specs.declared.output.Register.{Register}
+
+pub taken_is : (rs : List Register) (q : List ℕ) → list_any (λ r. bytes_eq q r.name.now) rs ≡ is_one_of (names_of (map bits_of rs)) q
+taken_is [] q = refl
+taken_is (r ∷ rs) q = rw (taken_is rs q) refl
+
+replicate-more : (k x : ℕ) → replicate k x ++ x ∷ [] ≡ replicate (suc k) x
+replicate-more zero x = refl
+replicate-more (suc k) x = ap (λ z. x ∷ z) (replicate-more k x)
+
+pub underscores-more : (k : ℕ) → with_underscores k ++ 95 ∷ [] ≡ with_underscores (k + 1)
+underscores-more k = rw add-one (ap (λ z. 113 ∷ z) (replicate-more k 95))
+
+length-replicate : (k x : ℕ) → length (replicate k x) ≡ k
+length-replicate zero x = refl
+length-replicate (suc k) x = ap suc (length-replicate k x)
+
+and-false : (b : Bool) → (b && false) ≡ false
+and-false true = refl
+and-false false = refl
+
+longer_differs : (xs ys : List ℕ) → length ys < length xs → bytes_eq xs ys ≡ false
+longer_differs [] ys h = absurd (omega arith)
+longer_differs (x ∷ xs) [] h = refl
+longer_differs (x ∷ xs) (y ∷ ys) h = rw (longer_differs xs ys (omega arith)) (and-false _)
+
+free_by : (rs : List Register) (k : ℕ) (q : List ℕ) → k < length q → AllByRecursion (λ r. length r.name.now ≤ k) rs → is_one_of (names_of (map bits_of rs)) q ≡ false
+free_by [] k q more h = refl
+free_by (r ∷ rs) k q more h = rw (longer_differs q r.name.now (omega (arith, h.0)), free_by rs k q more h.1) refl
+
+pub longer_free : (rs : List Register) (k : ℕ) → All (λ r. length r.name.now ≤ k) rs → is_one_of (names_of (map bits_of rs)) (with_underscores k) ≡ false
+longer_free rs k h =
+    free_by rs k (with_underscores k) (omega (arith, length-replicate k 95)) (recursion_from_All (λ r. length r.name.now ≤ k) rs h)
+
+-- the names so far are taken, and this one isn't
+pub free_name : (rs : List Register) (name q : List ℕ) (k : ℕ) → name ≡ with_underscores k
+    → ((j : ℕ) → j < k → is_one_of (names_of (map bits_of rs)) (with_underscores j) ≡ true) → q ≡ name
+    → list_any (λ r. bytes_eq q r.name.now) rs ≡ false → IsQubitsName (map bits_of rs) name
+free_name rs name q k e below same free = record {
+  underscores = k;
+  spelt = e;
+  spare = ap (λ (z : List ℕ). is_one_of (names_of (map bits_of rs)) z) (sym same) ∙ sym (taken_is rs q) ∙ free;
+  least = below;
+}
+
+-- one name more is taken
+pub taken_more : (rs : List Register) (name q : List ℕ) (k : ℕ) → name ≡ with_underscores k
+    → ((j : ℕ) → j < k → is_one_of (names_of (map bits_of rs)) (with_underscores j) ≡ true) → q ≡ name
+    → list_any (λ r. bytes_eq q r.name.now) rs ≡ true
+    → (j : ℕ) → j < k + 1 → is_one_of (names_of (map bits_of rs)) (with_underscores j) ≡ true
+taken_more rs name q k e below same taken =
+    below_more (λ j. is_one_of (names_of (map bits_of rs)) (with_underscores j) ≡ true) k below
+    (ap (λ (z : List ℕ). is_one_of (names_of (map bits_of rs)) z) (sym e ∙ sym same) ∙ sym (taken_is rs q) ∙ taken)
+
+pub ruleset names = (taken_is, underscores-more, longer_free)
