@@ -7,3 +7,4 @@ pub mod FineLaws
 pub mod SoundLaws
 pub mod LengthLaws
 pub mod OnceLaws
+pub mod ReadWires

@@ -1,10 +1,11 @@
 //! A checked program's operations and reads.
 
-ghost use Rattle.std.specs.Prelude.{◌<◌, ◌≤◌, ◌^◌, All, IfOk, IfErr, length};
+ghost use Rattle.std.specs.Prelude.{◌≡◌, ◌<◌, ◌≤◌, ◌^◌, All, IfOk, IfErr, length};
 ghost use Rattle.circuit_list.specs.Gates.{most_wires};
 ghost use Rattle.qasm_check.specs.CheckedView.{program};
 ghost use Rattle.gate_expand.specs.Expansion.{IsFineOp};
 ghost use Rattle.gate_inline.specs.Inlined.{IsFault, IsInlined};
+ghost use Rattle.gate_inline.specs.Registers.{IsRead};
 ghost use Rattle.gate_inline.specs.Sound.{IsSound};
 
 use crate::program::written_out;
@@ -22,6 +23,8 @@ pub fn inline(alloc: Global, checked: &Checked) -> Result<Ops, InlineFault>
     ensures short { IfOk result (λ o. length o.list ≤ 65536) }
     ensures few { IfOk result (λ o. o.wires ≤ most_wires) }
     ensures fine { IfOk result (λ o. All (IsFineOp o.wires) o.list) }
+    ensures bits { IfOk result (λ o. length o.reads ≡ (program checked.now).bits) }
+    ensures reads { IfOk result (λ o. All (IsRead o.wires) o.reads) }
     ensures err { IfErr result (IsFault (program checked.now)) }
 {
     written_out(

@@ -47,6 +47,7 @@ fn read_checked(alloc: Global, program: Program) -> Result<Checked, ReadFault>
 }
 
 /// The classical registers of a program, in order.
+#[tactic(auto, using(crate::proofs::RegisterLaws::registers))]
 fn registers_of(alloc: Global, checked: &Checked) -> Result<Vec<Bits>, AllocError>
     ensures { IfOk result (λ v. v.items ≡ (bound_program checked.now).registers) }
 {
@@ -81,9 +82,9 @@ fn write_out(alloc: Global, checked: &Checked) -> Result<Source, ReadFault>
     })
 }
 
-#[tactic(auto, using(crate::proofs::ReaderLaws::reader))]
 /// The program that a text spells: its operations, each such as `expand` asks for, its reads and its registers. Else the
 /// text's first refusal.
+#[tactic(auto, using(crate::proofs::ReaderLaws::reader))]
 pub fn read_program(alloc: Global, text: &[u8]) -> Result<Source, ReadFault>
     ensures ok { IfOk result (λ s. IsAccepted text.now (program_of s)) }
     ensures few { IfOk result (λ s. s.ops.wires ≤ 64) }

@@ -1,5 +1,5 @@
 -- What is written out of the gates and steps of a checked program is that of the program.
-use Rattle.std.proofs.Common.{All, Ok, Err, IfOk, IfErr, Result, [], map, length, ◌≤◌}
+use Rattle.std.proofs.Common.{All, Ok, Err, IfOk, IfErr, Result, [], map, length, ◌≤◌, ◌≡◌, ◌∙◌, ap}
 use Rattle.qasm_check.specs.Checking.{Bound}
 use Rattle.qasm_check.specs.CheckedView.{program}
 use Rattle.qasm_check.specs.StepViews.{step as step_view}
@@ -7,6 +7,8 @@ use Rattle.qasm_check.specs.Views.{gate as gate_view}
 use Rattle.gate_expand.specs.Expansion.{IsFineOp}
 use Rattle.gate_inline.specs.Inlined.{IsFault, IsInlined}
 use Rattle.gate_inline.proofs.FineLaws.{fault_same, fine_ops, inlined_same}
+use Rattle.gate_inline.specs.Registers.{IsRead}
+use Rattle.gate_inline.proofs.ReadWires.{inlined_reads, length-reads}
 use Rattle.gate_inline.proofs.LengthLaws.{inlined_short}
 use Rattle.gate_inline.proofs.inlining.inline.Goals as goal
 
@@ -32,6 +34,16 @@ pub returns-clause-short : goal.returns-clause-short
 returns-clause-short c =
     in_ok (IsInlined (program c.args.checked.now)) (λ o. length o.list ≤ 65536) c.written_out.result
     (λ o h. inlined_short (program c.args.checked.now) o h) (returns-clause-ok c)
+
+pub returns-clause-bits : goal.returns-clause-bits
+returns-clause-bits c =
+    in_ok (IsInlined (program c.args.checked.now)) (λ o. length o.reads ≡ (program c.args.checked.now).bits) c.written_out.result
+    (λ o h. ap length h.reads ∙ length-reads (program c.args.checked.now).bits (program c.args.checked.now).steps) (returns-clause-ok c)
+
+pub returns-clause-reads : goal.returns-clause-reads
+returns-clause-reads c =
+    in_ok (IsInlined (program c.args.checked.now)) (λ o. All (IsRead o.wires) o.reads) c.written_out.result
+    (λ o h. inlined_reads (program c.args.checked.now) o c.requires.sound h) (returns-clause-ok c)
 
 pub returns-clause-err : goal.returns-clause-err
 returns-clause-err c =
