@@ -11,7 +11,8 @@ use Rattle.std.proofs.lemmas.Bool.{cases_lt, cases_eq}
 use Rattle.angle_fraction.specs.Fraction.{nought}
 use Rattle.angle_fraction.specs.Angles.{fitted}
 use Rattle.angle_fraction.specs.declared.AngleFault.TheVariants.{Range}
-use Rattle.qasm_lexer.specs.Lexemes.{Bytes, begins_with}
+use Rattle.qasm_lexer.specs.Forms.{Bytes}
+use Rattle.qasm_lexer.specs.Numbers.{begins_with}
 use Rattle.qasm_lexer.specs.Numbers.{decimal, exponent, exponent_size, front_digits, front_number, number, part_digits, scaled}
 use Rattle.qasm_lexer.proofs.DigitLaws.{front_number-lt, front_number-more, number-front}
 use Rattle.qasm_lexer.proofs.ValueLaws.{nought_value}

@@ -1,4 +1,6 @@
-pub mod Lexemes
+pub mod Forms
 pub mod Numbers
 pub mod Tokens
+pub mod Lexemes
+pub mod Lexed
 pub mod Steps

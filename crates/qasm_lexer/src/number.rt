@@ -3,7 +3,7 @@
 ghost use Rattle.std.specs.Prelude.{◌≡◌, ℕ, ◌+◌, ◌-◌, ◌*◌, ◌^◌, ◌≤◌, ◌<◌, ◌++◌, length, min, pos, ◌+ℤ◌, slice_index, Ok, Err, Bool};
 ghost use Rattle.angle_fraction.specs.Fraction.{Fraction, fraction, most_part};
 ghost use Rattle.angle_fraction.specs.Angles.{fitted};
-ghost use Rattle.qasm_lexer.specs.Lexemes.{begins_with, exponent_sign_len};
+ghost use Rattle.qasm_lexer.specs.Numbers.{begins_with, exponent_sign_len};
 ghost use Rattle.qasm_lexer.specs.Numbers.{behind_point, decimal, digit, exponent, exponent_size, front_digits, front_number, has_point, number, part_digits, past_digits, scaled};
 
 use crate::lexeme::{after, begins_with, digits_len, exponent_sign_len, front};

@@ -1,6 +1,7 @@
 use Rattle.std.proofs.Common.{◌<◌, ◌+◌, ◌^◌, ap, ◌∙◌, arith, length, min, drop}
 use Rattle.qasm_lexer.specs.Numbers.{front_digits, number}
-use Rattle.qasm_lexer.specs.Lexemes.{Bytes, begins_with, exponent_sign_len}
+use Rattle.qasm_lexer.specs.Forms.{Bytes}
+use Rattle.qasm_lexer.specs.Numbers.{begins_with, exponent_sign_len}
 use Rattle.qasm_lexer.proofs.ScaledLaws.{decimal_by}
 use Rattle.qasm_lexer.proofs.number.number.Goals as goal
 
