@@ -8,3 +8,4 @@ pub mod KindLaws
 pub mod LexemeLaws
 pub mod TokenLaws
 pub mod LexingLaws
+pub mod NameLaws

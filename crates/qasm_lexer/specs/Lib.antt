@@ -1,4 +1,5 @@
 pub mod Forms
+pub mod Names
 pub mod Numbers
 pub mod Tokens
 pub mod Lexemes

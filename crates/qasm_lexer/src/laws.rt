@@ -1,7 +1,9 @@
 //! What holds of every text, as functions whose contracts are the laws. They take nothing and do nothing.
 
 ghost use Rattle.std.specs.Prelude.{◌≡◌, ◌≢◌, ◌⊎◌, ◌≤◌, List, All, Ok, Err, length};
+ghost use Rattle.std.specs.Str.{IsAscii};
 ghost use Rattle.qasm_lexer.specs.Forms.{Bytes};
+ghost use Rattle.qasm_lexer.specs.Names.{IsName};
 ghost use Rattle.qasm_lexer.specs.Lexed.{lexed};
 ghost use Rattle.qasm_lexer.specs.Tokens.{AreTokens, IsFaultOf, IsTokenOf};
 ghost use Rattle.qasm_lexer.specs.declared.Token.{Token as LexToken};
@@ -40,4 +42,9 @@ pub fn lexed_exactly()
     ensures has_tokens { (text : Bytes) (tokens : List LexToken) → lexed text ≡ Ok tokens → AreTokens text tokens }
     ensures fault { (text : Bytes) (fault : Fault) → fault ≢ NoMemory → IsFaultOf text fault → lexed text ≡ Err fault }
     ensures has_fault { (text : Bytes) (fault : Fault) → lexed text ≡ Err fault → IsFaultOf text fault }
+{}
+
+/// A name is ASCII.
+pub fn names_are_ascii()
+    ensures { (name : Bytes) → IsName name → IsAscii name }
 {}
