@@ -1,3 +1,4 @@
+pub mod DeclaredNames
 pub mod Expressions
 pub mod Frames
 pub mod Heads
