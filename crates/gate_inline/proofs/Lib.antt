@@ -4,4 +4,4 @@ pub mod FrameLaws
 pub mod StepLaws
 pub mod ReadLaws
 pub mod FineLaws
-pub mod SoundLaws
+pub mod PlacedLaws

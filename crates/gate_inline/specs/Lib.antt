@@ -7,4 +7,3 @@ pub mod Inlined
 pub mod Stops
 pub mod Placed
 pub mod Frames
-pub mod Sound

@@ -1,11 +1,10 @@
 //! A checked program's operations and reads.
 
-ghost use Rattle.std.specs.Prelude.{◌<◌, ◌≤◌, ◌^◌, All, IfOk, IfErr, length};
+ghost use Rattle.std.specs.Prelude.{◌≤◌, All, IfOk, IfErr};
 ghost use Rattle.circuit_list.specs.Gates.{most_wires};
 ghost use Rattle.qasm_check.specs.CheckedView.{program};
 ghost use Rattle.gate_expand.specs.Expansion.{IsFineOp};
 ghost use Rattle.gate_inline.specs.Inlined.{IsFault, IsInlined};
-ghost use Rattle.gate_inline.specs.Sound.{IsSound};
 
 use crate::program::written_out;
 use crate::refusal::InlineFault;
@@ -14,10 +13,8 @@ use qasm_check::Checked;
 use std::alloc::Global;
 
 /// The operations and reads of a checked program, each operation fit for `expand`; else the first statement that is
-/// refused, and why. The checks leave only sound programs.
+/// refused, and why.
 pub fn inline(alloc: Global, checked: &Checked) -> Result<Ops, InlineFault>
-    requires few { length (program checked.now).steps < 2 ^ 32 }
-    requires sound { IsSound (program checked.now) }
     ensures ok { IfOk result (IsInlined (program checked.now)) }
     ensures few { IfOk result (λ o. o.wires ≤ most_wires) }
     ensures fine { IfOk result (λ o. All (IsFineOp o.wires) o.list) }

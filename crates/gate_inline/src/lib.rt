@@ -11,7 +11,6 @@ mod body;
 #[cfg(test)]
 mod inline_tests;
 mod inlining;
-mod laws;
 #[cfg(test)]
 mod matrix_tests;
 mod program;
@@ -21,7 +20,6 @@ mod stop;
 mod value;
 
 pub use inlining::inline;
-pub use laws::accepted_is_sound;
 pub use refusal::{InlineFault, Refusal, Refused};
 
 /// The most operations that a program has.
