@@ -10,14 +10,14 @@ use Rattle.std.proofs.lemmas.List.{length-append, length-take-le}
 use Rattle.angle_fraction.specs.declared.Angle.{Angle}
 use Rattle.unitary_model.specs.declared.Op.{Op}
 use Rattle.unitary_model.specs.declared.Op.TheVariants.{U, Cx}
-use Rattle.qasm_check.specs.Checking.{Bound}
-use Rattle.qasm_check.specs.Gates.{Item, call, pause, Gate, u, cx, opaque, composed}
-use Rattle.qasm_check.specs.Places.{broadcast, upto, wire_at}
-use Rattle.qasm_check.specs.Steps.{Step, applies, measures, pauses, nothing}
+use Rattle.qasm_check.specs.Bound.{Bound}
+use Rattle.gate_library.specs.Gates.{Item, call, barrier, Gate, u, cx, opaque, composed}
+use Rattle.gate_library.specs.Operands.{broadcast, upto, wire_at}
+use Rattle.qasm_check.specs.Steps.{Step, applies, measures, bars, nothing}
 use Rattle.gate_expand.specs.declared.source.Ops.{Ops}
 use Rattle.gate_inline.specs.Inlined.{IsInlined, operations}
 use Rattle.gate_inline.specs.Meanings.{Answer, Meaning, body_answer, broadcast_answer, controlled, eighth, followed, gate_meaning, item_answer, joined, meaning_at, meanings, no_meaning, rotation, step_answer, unvalued, wire_of}
-use Rattle.gate_inline.specs.Sizes.{gate_size, is_too_much, item_size, size, size_all, size_at, sizes, step_size, steps_size, total}
+use Rattle.gate_inline.specs.Sizes.{gate_size, is_too_much, item_size, operation_limit, size, size_all, size_at, sizes, step_size, steps_size, total}
 use Rattle.gate_inline.specs.Values.{and_next, values}
 use Rattle.gate_inline.specs.declared.size.Size.{Size}
 use Rattle.gate_inline.specs.declared.stop.Unvalued.{Unvalued}
@@ -71,7 +71,7 @@ item_at : (ms : List Meaning) (ss : List Size) (params : List Angle) (wires : Li
     → AtMost (item_answer ms params wires it) (item_size ss it).operations
 item_at ms ss params wires (call gate angles qubits) h =
     next_at (unvalued (values params angles)) _ (size_at ss gate).operations (λ given. h gate given (map (wire_of wires) qubits))
-item_at ms ss params wires pause h = none_at 0
+item_at ms ss params wires barrier h = none_at 0
 
 body_at : (ms : List Meaning) (ss : List Size) (params : List Angle) (wires : List ℕ) (body : List Item) → AreAtMost ms ss
     → AtMost (joined (map (item_answer ms params wires) body)) (size_all (map (item_size ss) body)).operations
@@ -146,7 +146,7 @@ step_at gates (applies gate angles places) =
     (λ given. upto_at (λ j. meaning_at (meanings gates) gate given (map (wire_at j) places)) (size_at (sizes gates) gate).operations (broadcast places)
     (λ j. gates_at (length gates) gates (omega arith) gate given (map (wire_at j) places)))
 step_at gates (measures qubit bit) = none_at 0
-step_at gates (pauses places) = none_at 0
+step_at gates (bars places) = none_at 0
 step_at gates nothing = none_at 0
 
 pub operations-at_most : (gates : List Gate) (steps : List Step) → AtMost (operations gates steps) (total gates steps).operations
@@ -162,7 +162,7 @@ few_of n b e = go (nat_lt 65536 n) refl e
     go true t f = cc
     go false t f = grind (arith, nat_tests)
 
-pub inlined_short : (b : Bound) (o : Ops) → IsInlined b o → length o.list ≤ 65536
+pub inlined_short : (b : Bound) (o : Ops) → IsInlined b o → length o.list ≤ operation_limit
 inlined_short b o h =
     let most = operations-at_most b.gates b.steps o.list h.list in
     let few = few_of (total b.gates b.steps).operations _ h.small in

@@ -6,8 +6,8 @@ use Rattle.std.specs.Prelude.{IsOk, nat_lt}
 use Rattle.std.proofs.lemmas.Bool.Decides.{nat_tests}
 use Rattle.std.proofs.lemmas.List.{map-append}
 use Rattle.unitary_model.specs.declared.Op.{Op}
-use Rattle.qasm_check.specs.Checking.{Bound}
-use Rattle.qasm_check.specs.Gates.{Gate}
+use Rattle.qasm_check.specs.Bound.{Bound}
+use Rattle.gate_library.specs.Gates.{Gate}
 use Rattle.qasm_check.specs.Steps.{Step}
 use Rattle.gate_expand.specs.declared.source.Ops.{Ops}
 use Rattle.gate_inline.specs.Inlined.{IsFault, IsFirstUnvalued, IsInlined, IsRefused, IsTooMany, operations, refusal_of}

@@ -7,16 +7,16 @@ use Rattle.std.specs.Prelude.{if◌then◌else◌, nat_eq}
 use Rattle.std.specs.List.{AllByRecursion, find}
 use Rattle.std.specs.Option.{option_map, option_or}
 use Rattle.std.proofs.lemmas.List.{length-append, length-map}
-use Rattle.std.proofs.lemmas.List.Elements.{All-append, All-cons, All-nil, All-weaker, recursion_from_All}
-use Rattle.qasm_check.specs.Places.{times, upto, wire_at}
-use Rattle.qasm_check.specs.declared.meaning.Place.{Place}
-use Rattle.qasm_check.specs.Steps.{Step, applies, measures, pauses, nothing}
-use Rattle.qasm_check.specs.Checking.{Bound}
+use Rattle.std.proofs.lemmas.List.Elements.{All-append, All-cons, All-nil, recursion_from_All}
+use Rattle.gate_library.specs.Operands.{times, upto, wire_at}
+use Rattle.gate_library.specs.declared.operand.Operand.{Operand}
+use Rattle.qasm_check.specs.Steps.{Step, applies, measures, bars, nothing}
+use Rattle.qasm_check.specs.Bound.{Bound}
 use Rattle.gate_expand.specs.declared.source.Ops.{Ops}
 use Rattle.gate_inline.specs.Inlined.{IsInlined}
 use Rattle.gate_inline.specs.Placed.{IsPlaced}
-use Rattle.gate_inline.specs.Sound.{IsSound, IsSoundStep}
-use Rattle.gate_inline.proofs.FineLaws.{placed_wide}
+use Rattle.qasm_check.specs.Sound.{IsSound}
+use Rattle.gate_inline.proofs.FineLaws.{steps_wide}
 use Rattle.gate_inline.specs.Reads.{last_read, read_within, reads, step_read}
 use Rattle.gate_inline.specs.Registers.{IsRead}
 
@@ -46,7 +46,7 @@ found_in P f (x ∷ xs) j h e = go (f x) (found_in P f xs j h.1) e
     go false more e = more e
 
 -- ---- reads
-read_at : (wires n : ℕ) (qubit : Place) (f : ℕ → Bool) → ((j : ℕ) → j < n → wire_at j qubit < wires) → (o : Option ℕ) → find f (upto n) ≡ o
+read_at : (wires n : ℕ) (qubit : Operand) (f : ℕ → Bool) → ((j : ℕ) → j < n → wire_at j qubit < wires) → (o : Option ℕ) → find f (upto n) ≡ o
     → IsRead wires (option_map (λ j. wire_at j qubit) o)
 read_at wires n qubit f there None e = tt
 read_at wires n qubit f there (Some j) e = there j (found_in (λ i. i < n) f (upto n) j (recursion_from_All (λ i. i < n) (upto n) (upto_below n)) e)
@@ -56,7 +56,7 @@ step_there wires bits (applies gate angles places) bit h = tt
 step_there wires bits (measures qubit cell) bit h =
     read_at wires (times cell) qubit (λ j. nat_eq bit (wire_at j cell)) (λ j low. let same = h.0 in (h.1 j (omega (arith, low, same))).0)
     (find (λ j. nat_eq bit (wire_at j cell)) (upto (times cell))) refl
-step_there wires bits (pauses places) bit h = tt
+step_there wires bits (bars places) bit h = tt
 step_there wires bits nothing bit h = tt
 
 or_there : (wires : ℕ) (a b : Option ℕ) → IsRead wires a → IsRead wires b → IsRead wires (option_or a b)
@@ -80,7 +80,4 @@ pub length-reads : (bits : ℕ) (steps : List Step) → length (reads bits steps
 length-reads bits steps = length-map (upto bits) (last_read steps) ∙ length-upto bits
 
 pub inlined_reads : (b : Bound) (o : Ops) → IsSound b → IsInlined b o → All (IsRead o.wires) o.reads
-inlined_reads b o sound h =
-    let placed : All (IsPlaced b.wires b.bits) b.steps =
-        All-weaker (IsSoundStep b.gates b.wires b.bits) (IsPlaced b.wires b.bits) (λ s x. placed_wide b.gates b.wires b.bits b.wires s (omega arith) x) b.steps sound.steps in
-    rw (h.wires, h.reads) (reads_there b.wires b.bits b.steps placed)
+inlined_reads b o sound h = rw (h.wires, h.reads) (reads_there b.wires b.bits b.steps (steps_wide b b.wires sound (omega arith)))

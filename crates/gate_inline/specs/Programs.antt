@@ -10,11 +10,12 @@
 --   IsAccepted text p    an accepted program: a written one within the limits
 use Rattle.std.specs.Prelude.{◌≡◌, ℕ, ◌≤◌, false, List, Option, Ok, length}
 use Rattle.qasm_lexer.specs.declared.Token.{Token}
-use Rattle.qasm_lexer.specs.Tokens.{lexed}
+use Rattle.qasm_lexer.specs.Tokens.{AreTokens}
 use Rattle.qasm_parser.specs.Parsing.{IsProgram}
 use Rattle.qasm_parser.specs.Tree.{Tree}
 use Rattle.qasm_check.specs.declared.bits.Bits.{Bits}
-use Rattle.qasm_check.specs.Checking.{Bound, IsAccepted as IsFineTree, barriers, bound}
+use Rattle.qasm_check.specs.Bound.{Bound, barriers}
+use Rattle.qasm_check.specs.Checking.{IsAccepted as IsFineTree, bound}
 use Rattle.unitary_model.specs.declared.Op.{Op}
 use Rattle.gate_inline.specs.Inlined.{operations}
 use Rattle.gate_inline.specs.Reads.{reads}
@@ -35,7 +36,7 @@ pub record Means (b : Bound) (p : Program) : Type 0 where
   pub barriers : p.barriers ≡ barriers b
 
 abbrev pub IsTreeOf : List ℕ → Tree → Type 0
-IsTreeOf text t = (tokens : List Token) × (lexed text ≡ Ok tokens) × IsProgram text tokens t
+IsTreeOf text t = (tokens : List Token) × AreTokens text tokens × IsProgram text tokens t
 
 abbrev pub IsSource : List ℕ → Tree → Type 0
 IsSource text t = IsTreeOf text t × IsFineTree t

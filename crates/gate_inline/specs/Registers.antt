@@ -5,10 +5,10 @@
 --   IsRead n r           what a bit reads is one of n wires, or nothing
 use Rattle.std.specs.Prelude.{◌≡◌, ℕ, ◌<◌, ◌≤◌, false, List, All, Option, Some, None, map, sum_by}
 use Rattle.std.specs.Str.{bytes_eq}
-use Rattle.qasm_check.specs.Library.{table_names}
-use Rattle.qasm_check.specs.Names.{has_repeat, is_one_of}
+use Rattle.gate_library.specs.Library.{table_names}
+use Rattle.gate_library.specs.Names.{has_repeat, is_one_of}
 use Rattle.qasm_check.specs.declared.bits.Bits.{Bits}
-use Rattle.qasm_parser.specs.Names.{IsName}
+use Rattle.qasm_lexer.specs.Names.{IsName}
 
 abbrev pub names_of : List Bits → List (List ℕ)
 names_of rs = map (λ r. r.name) rs

@@ -9,9 +9,9 @@
 --     operation_limit, item_limit     the most operations and items of a program
 --     is_too_much s       more operations or more items than the limits
 use Rattle.std.specs.Prelude.{ℕ, ◌+◌, ◌*◌, List, [], ◌∷◌, map, nat_lt, slice_get, unwrap_or, ◌||◌, Bool}
-use Rattle.qasm_check.specs.Gates.{Item, call, pause, Gate, u, cx, opaque, composed}
-use Rattle.qasm_check.specs.Places.{broadcast}
-use Rattle.qasm_check.specs.Steps.{Step, applies, measures, pauses, nothing}
+use Rattle.gate_library.specs.Gates.{Item, call, barrier, Gate, u, cx, opaque, composed}
+use Rattle.gate_library.specs.Operands.{broadcast}
+use Rattle.qasm_check.specs.Steps.{Step, applies, measures, bars, nothing}
 use Rattle.gate_inline.specs.Meanings.{in_order}
 use Rattle.gate_inline.specs.declared.size.Size.{Size}
 
@@ -33,7 +33,7 @@ size_at ss i = unwrap_or (slice_get ss i) (size 0 1)
 
 abbrev pub item_size : List Size → Item → Size
 item_size ss (call gate angles qubits) = size_at ss gate
-item_size ss pause = size 0 1
+item_size ss barrier = size 0 1
 
 abbrev pub gate_size : List Size → Gate → Size
 gate_size ss u = size 1 1
@@ -47,7 +47,7 @@ sizes gates = in_order gate_size gates
 abbrev pub step_size : List Size → Step → Size
 step_size ss (applies gate angles places) = size_times (broadcast places) (size_at ss gate)
 step_size ss (measures qubit bit) = size 0 0
-step_size ss (pauses places) = size 0 0
+step_size ss (bars places) = size 0 0
 step_size ss nothing = size 0 0
 
 abbrev pub steps_size : List Size → List Step → Size

@@ -6,7 +6,8 @@
 --   IsRefusal-checked, IsRefusal-written     from the stages' refusals to the text's
 use Rattle.std.proofs.Common.{◌≡◌, ℕ, ◌<◌, ◌≤◌, List, Option, Result, Ok, Err, refl, sym, subst, ◌∙◌, ap, arith, length}
 use Rattle.unitary_model.specs.declared.Op.{Op}
-use Rattle.qasm_lexer.specs.Tokens.{IsFaultOf as IsLexFault, lexed}
+use Rattle.qasm_lexer.specs.Tokens.{IsFaultOf as IsLexFault}
+use Rattle.qasm_lexer.specs.Lexed.{lexed}
 use Rattle.qasm_lexer.specs.declared.LexFault.{LexFault}
 use Rattle.qasm_lexer.specs.declared.LexFault.TheVariants as lexing
 use Rattle.qasm_lexer.specs.declared.Token.{Token}

@@ -7,7 +7,7 @@
 --   program_of s         the program that a source stands for
 --   lex_fault, parse_fault   a fault of the tokens or of the grammar, as it is told
 use Rattle.std.specs.Prelude.{◌≡◌, ℕ, ◌<◌, ◌≤◌, List, Ok, Err, length}
-use Rattle.qasm_lexer.specs.Tokens.{lexed}
+use Rattle.qasm_lexer.specs.Lexed.{lexed}
 use Rattle.qasm_lexer.specs.declared.Token.{Token}
 use Rattle.qasm_lexer.specs.declared.LexFault.{LexFault}
 use Rattle.qasm_lexer.specs.declared.LexFault.TheVariants as lexing

@@ -1,12 +1,8 @@
 mod AcceptedLaws
 mod LoopLaws
 mod OnceLaws
-mod PlaceLaws
 mod ProgramLaws
 mod RegisterLaws
-mod RepeatLaws
 mod SoundLaws
-mod StateLaws
 mod StatementLaws
-mod TableLaws
 mod VerdictLaws

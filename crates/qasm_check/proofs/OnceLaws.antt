@@ -6,7 +6,7 @@ use Rattle.std.specs.Prelude.{if◌then◌else◌, nat_eq}
 use Rattle.std.proofs.lemmas.Bool.{cases_order}
 use Rattle.qasm_parser.specs.Tree.{Statement, Tree}
 use Rattle.qasm_check.specs.Checking.{AllFine, IsAccepted, IsFault, IsRefused}
-use Rattle.qasm_check.specs.Known.{Known, fresh}
+use Rattle.gate_library.specs.Known.{Known, fresh}
 use Rattle.qasm_check.specs.Refusals.{IsFine, IsLeast, code}
 use Rattle.qasm_check.specs.Steps.{after}
 use Rattle.qasm_check.specs.declared.refusal.CheckFault.{CheckFault}

@@ -1,5 +1,6 @@
 -- The classical registers of an accepted program.
---   registers_fit      their sizes are above 0, and no table has their names
+--   registers_sizes    their sizes are above 0
+--   registers_free     no table has their names
 --   registers_apart    no name is there twice
 --   registers_sum      together they have all bits
 use Rattle.std.proofs.Common.{◌≡◌, ℕ, ◌+◌, ◌<◌, List, [], ◌∷◌, Option, Some, None, Bool, true, false, not, ◌&&◌, ◌||◌, refl, sym, ap, subst, ◌∙◌, map, fold, arith, ⊎_elim}
@@ -13,36 +14,47 @@ use Rattle.std.proofs.lemmas.List.Sums.{sum_by-cons}
 use Rattle.std.proofs.lemmas.Slice.Eq.{bytes_eq-Decides}
 use Rattle.qasm_parser.specs.Tree.{Action, apply, measure, reset as resets, barrier, Statement, include, register, gate, opaque, conditional, act}
 use Rattle.qasm_check.specs.Checking.{AllFine, bits_of}
-use Rattle.qasm_check.specs.Known.{Known}
-use Rattle.qasm_check.specs.Library.{table_names}
-use Rattle.qasm_check.specs.Names.{has_repeat, is_one_of, with}
-use Rattle.qasm_check.specs.Places.{place}
+use Rattle.gate_library.specs.Known.{Known, with_measured}
+use Rattle.gate_library.specs.Library.{table_names}
+use Rattle.gate_library.specs.Names.{has_repeat, is_one_of, with}
+use Rattle.qasm_check.specs.Arguments.{operand}
 use Rattle.qasm_check.specs.Refusals.{IsFine}
-use Rattle.qasm_check.specs.Sound.{is_bits}
-use Rattle.qasm_check.specs.Steps.{after, with_measured}
+use Rattle.qasm_check.specs.Steps.{after}
 use Rattle.qasm_check.specs.declared.bits.Bits.{Bits}
-use Rattle.qasm_check.specs.declared.meaning.Place.{Place}
+use Rattle.gate_library.specs.declared.operand.Operand.{Operand}
 use Rattle.qasm_check.specs.declared.refusal.Refusal.TheVariants.{NameTaken, EmptyRegister}
 use Rattle.qasm_check.proofs.SoundLaws.{both, first, neither_first, neither_second, not_false, second}
 
-pub registers_fit : (k : Known) (xs : List Statement) → AllFine k xs → list_all is_bits (filter_map bits_of xs) ≡ true
-registers_fit k [] fine = refl
-registers_fit k (include file ∷ xs) fine = registers_fit (after k (include file)) xs fine.1
-registers_fit k (register true name size ∷ xs) fine = registers_fit (after k (register true name size)) xs fine.1
-registers_fit k (register false name size ∷ xs) fine =
+pub registers_sizes : (k : Known) (xs : List Statement) → AllFine k xs → list_all (λ r. nat_lt 0 r.size) (filter_map bits_of xs) ≡ true
+registers_sizes k [] fine = refl
+registers_sizes k (include file ∷ xs) fine = registers_sizes (after k (include file)) xs fine.1
+registers_sizes k (register true name size ∷ xs) fine = registers_sizes (after k (register true name size)) xs fine.1
+registers_sizes k (register false name size ∷ xs) fine =
     let empty : (size == 0) ≡ false = fine.0 EmptyRegister in
     let above : nat_lt 0 size ≡ true = grind (arith, nat_tests) in
-    both _ _ (both _ _ above (not_false _ (neither_second _ _ (fine.0 NameTaken)))) (registers_fit (after k (register false name size)) xs fine.1)
-registers_fit k (gate d ∷ xs) fine = registers_fit (after k (gate d)) xs fine.1
-registers_fit k (opaque d ∷ xs) fine = registers_fit (after k (opaque d)) xs fine.1
-registers_fit k (conditional name value inner ∷ xs) fine = registers_fit (after k (conditional name value inner)) xs fine.1
-registers_fit k (act it ∷ xs) fine = registers_fit (after k (act it)) xs fine.1
+    both _ _ above (registers_sizes (after k (register false name size)) xs fine.1)
+registers_sizes k (gate d ∷ xs) fine = registers_sizes (after k (gate d)) xs fine.1
+registers_sizes k (opaque d ∷ xs) fine = registers_sizes (after k (opaque d)) xs fine.1
+registers_sizes k (conditional name value inner ∷ xs) fine = registers_sizes (after k (conditional name value inner)) xs fine.1
+registers_sizes k (act it ∷ xs) fine = registers_sizes (after k (act it)) xs fine.1
+
+pub registers_free : (k : Known) (xs : List Statement) → AllFine k xs → list_any (λ r. is_one_of table_names r.name) (filter_map bits_of xs) ≡ false
+registers_free k [] fine = refl
+registers_free k (include file ∷ xs) fine = registers_free (after k (include file)) xs fine.1
+registers_free k (register true name size ∷ xs) fine = registers_free (after k (register true name size)) xs fine.1
+registers_free k (register false name size ∷ xs) fine =
+    let free : is_one_of table_names name ≡ false = neither_second _ _ (fine.0 NameTaken) in
+    rw free (registers_free (after k (register false name size)) xs fine.1)
+registers_free k (gate d ∷ xs) fine = registers_free (after k (gate d)) xs fine.1
+registers_free k (opaque d ∷ xs) fine = registers_free (after k (opaque d)) xs fine.1
+registers_free k (conditional name value inner ∷ xs) fine = registers_free (after k (conditional name value inner)) xs fine.1
+registers_free k (act it ∷ xs) fine = registers_free (after k (act it)) xs fine.1
 
 -- ---- names stay declared
 with-stays : {A : Type 0} (name : List ℕ) (m : A) (others : List ℕ → Option A) (asked : List ℕ) → is_some (others asked) ≡ true → is_some (with name m others asked) ≡ true
 with-stays name m others asked e = ⊎_elim (λ y. rw y refl) (λ n. rw n e) (cases_Bool (bytes_eq name asked))
 
-measured-stays : (k : Known) (o : Option Place) (asked : List ℕ) → is_some (k.declared asked) ≡ true → is_some ((with_measured k o).declared asked) ≡ true
+measured-stays : (k : Known) (o : Option Operand) (asked : List ℕ) → is_some (k.declared asked) ≡ true → is_some ((with_measured k o).declared asked) ≡ true
 measured-stays k None asked e = e
 measured-stays k (Some p) asked e = e
 
@@ -54,7 +66,7 @@ stays k (gate d) asked e = with-stays d.name _ k.declared asked e
 stays k (opaque d) asked e = with-stays d.name _ k.declared asked e
 stays k (conditional name value inner) asked e = e
 stays k (act (apply a)) asked e = e
-stays k (act (measure qubit bit)) asked e = measured-stays k (place k qubit) asked e
+stays k (act (measure qubit bit)) asked e = measured-stays k (operand k qubit) asked e
 stays k (act (resets arg)) asked e = e
 stays k (act (barrier args)) asked e = e
 
@@ -91,7 +103,7 @@ registers_apart k (conditional name value inner ∷ xs) fine = registers_apart (
 registers_apart k (act it ∷ xs) fine = registers_apart (after k (act it)) xs fine.1
 
 -- ---- sizes
-measured-bits : (k : Known) (o : Option Place) → (with_measured k o).bits ≡ k.bits
+measured-bits : (k : Known) (o : Option Operand) → (with_measured k o).bits ≡ k.bits
 measured-bits k None = refl
 measured-bits k (Some p) = refl
 
@@ -108,7 +120,7 @@ registers_sum k (gate d ∷ xs) = registers_sum (after k (gate d)) xs
 registers_sum k (opaque d ∷ xs) = registers_sum (after k (opaque d)) xs
 registers_sum k (conditional name value inner ∷ xs) = registers_sum (after k (conditional name value inner)) xs
 registers_sum k (act (apply a) ∷ xs) = registers_sum k xs
-registers_sum k (act (measure qubit bit) ∷ xs) = registers_sum (with_measured k (place k qubit)) xs
-    ∙ ap (λ n. n + sum_by (λ (r : Bits). r.size) (filter_map bits_of xs)) (measured-bits k (place k qubit))
+registers_sum k (act (measure qubit bit) ∷ xs) = registers_sum (with_measured k (operand k qubit)) xs
+    ∙ ap (λ n. n + sum_by (λ (r : Bits). r.size) (filter_map bits_of xs)) (measured-bits k (operand k qubit))
 registers_sum k (act (resets arg) ∷ xs) = registers_sum k xs
 registers_sum k (act (barrier args) ∷ xs) = registers_sum k xs

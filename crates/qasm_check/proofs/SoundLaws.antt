@@ -1,7 +1,10 @@
--- What holds of the gates and steps of an accepted program.
---   IsSoundKnown       what holds of what is known
---   gates-grow         more gates change nothing of those that are there
---   item_sound         a line of the body of a gate that isn't refused
+-- What holds of the gates of an accepted program.
+--   both, first, second, ..   what tests say together
+--   are_gates-push     one more gate
+--   gate_at-front      more gates change nothing of those that are there
+--   each-uses          the parameters that expressions use
+--   callee, fits-callee   the gate that a name stands for
+--   gate_sound         a gate that isn't refused
 use Rattle.std.proofs.Common.{◌≡◌, ℕ, zero, suc, ◌+◌, ◌<◌, ◌≤◌, List, [], ◌∷◌, ◌++◌, Option, Some, None, Bool, true, false, not, ◌&&◌, ◌||◌, refl, sym, ap, subst, ◌∙◌, length, map, get_or, arith, ⊎_elim}
 use Rattle.std.specs.Prelude.{◌==◌, is_none, nat_eq, nat_le, nat_lt, slice_get, unwrap_or}
 use Rattle.std.specs.List.{list_all, list_any, position, position_or_len}
@@ -12,20 +15,21 @@ use Rattle.std.proofs.lemmas.Simd.{map-map}
 use Rattle.std.specs.Str.{bytes_eq}
 use Rattle.std.proofs.lemmas.Bool.{cases_Bool}
 use Rattle.std.proofs.lemmas.Bool.Decides.{nat_tests}
-use Rattle.std.proofs.lemmas.List.{length-map}
+use Rattle.std.proofs.lemmas.List.{append-nil, append_assoc, length-map}
 use Rattle.std.proofs.lemmas.Slice.Eq.{bytes_eq-Decides}
 use Rattle.qasm_parser.specs.Tree.{Expression, number, pi, param, negated, paren, call, binary, Action, Application, Definition, apply, measure, reset as resets, barrier, gate as declares}
 use Rattle.qasm_parser.specs.declared.tree.Arg.{Arg}
-use Rattle.qasm_check.specs.Gates.{Gate, u, cx, opaque, composed, Item, call as i-call, pause, gate_at, gate_params, gate_qubits, is_opaque}
-use Rattle.qasm_check.specs.Known.{Known, gate_number, meaning}
-use Rattle.qasm_check.specs.Refusals.{IsFine, applies_opaque, in_body, is_register, of_gate, params_differ, qubits_differ, repeats_name, unknown_in_body}
-use Rattle.qasm_check.specs.declared.meaning.Meaning.{Meaning}
-use Rattle.qasm_check.specs.declared.meaning.Meaning.TheVariants.{Gate as Numbered, Register}
+use Rattle.gate_library.specs.Gates.{Gate, u, cx, opaque, composed, Item, call as i-call, barrier as i-barrier, gate_at, gate_params, gate_qubits, is_opaque}
+use Rattle.gate_library.specs.Known.{Known, gate_number, meaning}
+use Rattle.gate_library.specs.Meanings.{is_register}
+use Rattle.qasm_check.specs.Refusals.{IsFine, applies_opaque, in_body, of_gate, params_differ, qubits_differ, repeats_name, unknown_in_body}
+use Rattle.gate_library.specs.declared.meaning.Meaning.{Meaning}
+use Rattle.gate_library.specs.declared.meaning.Meaning.TheVariants.{Gate as Numbered, Register}
 use Rattle.qasm_check.specs.declared.refusal.Refusal.TheVariants.{UnknownName, WrongKind, ParamCount, QubitCount, RepeatedQubit, OpaqueApplied}
-use Rattle.qasm_check.specs.Names.{has_repeat, is_one_of, knows, place_of}
-use Rattle.qasm_check.specs.Sound.{are_gates, fits, gates_from, is_gate, is_item, uses_below}
+use Rattle.gate_library.specs.Names.{has_repeat, is_one_of, index_of}
+use Rattle.qasm_check.specs.Arguments.{knows}
+use Rattle.qasm_check.specs.Sound.{are_gates, fits, is_gate, is_item, uses_below}
 use Rattle.qasm_check.specs.Steps.{bound_gate, formula, item}
-use Rattle.qasm_check.proofs.TableLaws.{found-position}
 
 -- ---- tests
 pub both : (a b : Bool) → a ≡ true → b ≡ true → (a && b) ≡ true
@@ -66,7 +70,13 @@ le_test i n le = grind (arith, nat_tests)
 pub test_le : (i n : ℕ) → nat_le i n ≡ true → i ≤ n
 test_le i n e = grind (arith, nat_tests)
 
--- ---- more gates
+-- ---- one more gate
+pub are_gates-push : (before gs : List Gate) (g : Gate) → are_gates before gs ≡ true → is_gate (before ++ gs) g ≡ true → are_gates before (gs ++ g ∷ []) ≡ true
+are_gates-push before [] g e f = both _ true (subst (λ (xs : List Gate). is_gate xs g ≡ true) (append-nil before) f) refl
+are_gates-push before (x ∷ gs) g e f =
+    both _ _ (first _ _ e)
+    (are_gates-push (before ++ x ∷ []) gs g (second _ _ e) (subst (λ (xs : List Gate). is_gate xs g ≡ true) (sym (append_assoc before (x ∷ []) gs)) f))
+
 slice_get-front : {A : Type 0} (xs ys : List A) (i : ℕ) → i < length xs → slice_get (xs ++ ys) i ≡ slice_get xs i
 slice_get-front [] ys i lt = absurd (omega arith)
 slice_get-front (x ∷ xs) ys zero lt = refl
@@ -75,78 +85,51 @@ slice_get-front (x ∷ xs) ys (suc i) lt = slice_get-front xs ys i (omega arith)
 pub gate_at-front : (gates more : List Gate) (i : ℕ) → i < length gates → gate_at (gates ++ more) i ≡ gate_at gates i
 gate_at-front gates more i lt = ap (λ o. unwrap_or o u) (slice_get-front gates more i lt)
 
-item-grow : (gates more : List Gate) (i params qubits : ℕ) (it : Item) → i ≤ length gates → is_item gates i params qubits it ≡ true
-    → is_item (gates ++ more) i params qubits it ≡ true
-item-grow gates more i params qubits (i-call gate angles places) le e =
-    let lesser : gate < i = test_lt gate i (first _ _ (first _ _ (first _ _ (first _ _ e)))) in
-    let same : gate_at (gates ++ more) gate ≡ gate_at gates gate = gate_at-front gates more gate (omega arith) in
-    rw same e
-item-grow gates more i params qubits pause le e = refl
-
-items-grow : (gates more : List Gate) (i params qubits : ℕ) (body : List Item) → i ≤ length gates → list_all (is_item gates i params qubits) body ≡ true
-    → list_all (is_item (gates ++ more) i params qubits) body ≡ true
-items-grow gates more i params qubits [] le e = refl
-items-grow gates more i params qubits (it ∷ body) le e =
-    both _ _ (item-grow gates more i params qubits it le (first _ _ e)) (items-grow gates more i params qubits body le (second _ _ e))
-
-gate-grow : (gates more : List Gate) (i : ℕ) (g : Gate) → i ≤ length gates → is_gate gates i g ≡ true → is_gate (gates ++ more) i g ≡ true
-gate-grow gates more i u le e = refl
-gate-grow gates more i cx le e = refl
-gate-grow gates more i (opaque params qubits) le e = refl
-gate-grow gates more i (composed params qubits body) le e = items-grow gates more i params qubits body le e
-
-gates-grow : (gates more : List Gate) (i : ℕ) (xs : List Gate) → i + length xs ≤ length gates → gates_from gates i xs ≡ true → gates_from (gates ++ more) i xs ≡ true
-gates-grow gates more i [] le e = refl
-gates-grow gates more i (g ∷ xs) le e =
-    both _ _ (gate-grow gates more i g (omega arith) (first _ _ e)) (gates-grow gates more (i + 1) xs (omega arith) (second _ _ e))
-
-gates_from-append : (gates : List Gate) (i j : ℕ) (xs : List Gate) (g : Gate) → i + length xs ≡ j → gates_from gates i xs ≡ true → is_gate gates j g ≡ true
-    → gates_from gates i (xs ++ g ∷ []) ≡ true
-gates_from-append gates i j [] g at e f = let same : i ≡ j = omega arith in both _ _ (subst (λ n. is_gate gates n g ≡ true) (sym same) f) refl
-gates_from-append gates i j (x ∷ xs) g at e f = both _ _ (first _ _ e) (gates_from-append gates (i + 1) j xs g (omega arith) (second _ _ e) f)
-
--- one more gate
-pub are_gates-push : (gates : List Gate) (g : Gate) → are_gates gates ≡ true → is_gate gates (length gates) g ≡ true → are_gates (gates ++ g ∷ []) ≡ true
-are_gates-push gates g e f =
-    gates_from-append (gates ++ g ∷ []) 0 (length gates) gates g (omega arith)
-    (gates-grow gates (g ∷ []) 0 gates (omega arith) e) (gate-grow gates (g ∷ []) (length gates) g (omega arith) f)
-
 -- ---- names of a gate's own
-place-found : (names : List (List ℕ)) (name : List ℕ) → is_one_of names name ≡ true
-    → position (λ y. bytes_eq name y) names ≡ Some (place_of names name)
-place-found names name e = let h : nat_lt (position_or_len (λ y. bytes_eq name y) names) (length names) ≡ true = found-position (λ y. bytes_eq name y) names ∙ e in rw h refl
-
-place-below : (names : List (List ℕ)) (name : List ℕ) → is_one_of names name ≡ true → place_of names name < length names
-place-below names name e = (position-Some (λ y. bytes_eq name y) names (place_of names name) [] (place-found names name e)).0
-
-place-at : (names : List (List ℕ)) (name : List ℕ) → is_one_of names name ≡ true → name ≡ get_or names (place_of names name) []
-place-at names name e = (bytes_eq-Decides name _).0 (position-Some (λ y. bytes_eq name y) names (place_of names name) [] (place-found names name e)).1
-
-other-place : (names : List (List ℕ)) (a b : List ℕ) → is_one_of names a ≡ true → is_one_of names b ≡ true → bytes_eq a b ≡ false
-    → nat_eq (place_of names a) (place_of names b) ≡ false
-other-place names a b ia ib e =
+found-there : {X : Type 0} (p : X → Bool) (xs : List X) → list_any p xs ≡ true → nat_lt (position_or_len p xs) (length xs) ≡ true
+found-there p [] e = absurd (cc)
+found-there p (x ∷ xs) e =
     ⊎_elim
-    (λ y. let same : place_of names a ≡ place_of names b = eqb-true (place_of names a) (place_of names b) y in
-    let names_same : a ≡ b = place-at names a ia ∙ ap (λ i. get_or names i []) same ∙ sym (place-at names b ib) in
+    (λ y. rw y (grind (arith, nat_tests)))
+    (λ n. let later : nat_lt (position_or_len p xs) (length xs) ≡ true = found-there p xs (rw n at e) in
+    rw n (let h : nat_lt (1 + position_or_len p xs) (suc (length xs)) ≡ true = grind (arith, nat_tests) in h))
+    (cases_Bool (p x))
+
+index-found : (names : List (List ℕ)) (name : List ℕ) → is_one_of names name ≡ true
+    → position (λ y. bytes_eq name y) names ≡ Some (index_of names name)
+index-found names name e = let h : nat_lt (position_or_len (λ y. bytes_eq name y) names) (length names) ≡ true = found-there (λ y. bytes_eq name y) names e in rw h refl
+
+index-below : (names : List (List ℕ)) (name : List ℕ) → is_one_of names name ≡ true → index_of names name < length names
+index-below names name e = (position-Some (λ y. bytes_eq name y) names (index_of names name) [] (index-found names name e)).0
+
+index-at : (names : List (List ℕ)) (name : List ℕ) → is_one_of names name ≡ true → name ≡ get_or names (index_of names name) []
+index-at names name e = (bytes_eq-Decides name _).0 (position-Some (λ y. bytes_eq name y) names (index_of names name) [] (index-found names name e)).1
+
+other-index : (names : List (List ℕ)) (a b : List ℕ) → is_one_of names a ≡ true → is_one_of names b ≡ true → bytes_eq a b ≡ false
+    → nat_eq (index_of names a) (index_of names b) ≡ false
+other-index names a b ia ib e =
+    ⊎_elim
+    (λ y. let same : index_of names a ≡ index_of names b = eqb-true (index_of names a) (index_of names b) y in
+    let names_same : a ≡ b = index-at names a ia ∙ ap (λ i. get_or names i []) same ∙ sym (index-at names b ib) in
     let here : bytes_eq a b ≡ true = subst (λ (n : List ℕ). bytes_eq a n ≡ true) names_same (nat_list_eq_equiv.refl a) in
     let no : true ≡ false = sym here ∙ e in absurd (cc))
     (λ n. n)
-    (cases_Bool (nat_eq (place_of names a) (place_of names b)))
+    (cases_Bool (nat_eq (index_of names a) (index_of names b)))
 
-other-places : (names : List (List ℕ)) (x : List ℕ) (xs : List (List ℕ)) → is_one_of names x ≡ true → list_all (is_one_of names) xs ≡ true
-    → list_any (bytes_eq x) xs ≡ false → list_any (nat_eq (place_of names x)) (map (place_of names) xs) ≡ false
-other-places names x [] ix ixs e = refl
-other-places names x (y ∷ ys) ix ixs e =
-    let here : nat_eq (place_of names x) (place_of names y) ≡ false = other-place names x y ix (first _ _ ixs) (neither_first _ _ e) in
-    let later : list_any (nat_eq (place_of names x)) (map (place_of names) ys) ≡ false = other-places names x ys ix (second _ _ ixs) (neither_second _ _ e) in
+other-indices : (names : List (List ℕ)) (x : List ℕ) (xs : List (List ℕ)) → is_one_of names x ≡ true → list_all (is_one_of names) xs ≡ true
+    → list_any (bytes_eq x) xs ≡ false → list_any (nat_eq (index_of names x)) (map (index_of names) xs) ≡ false
+other-indices names x [] ix ixs e = refl
+other-indices names x (y ∷ ys) ix ixs e =
+    let here : nat_eq (index_of names x) (index_of names y) ≡ false = other-index names x y ix (first _ _ ixs) (neither_first _ _ e) in
+    let later : list_any (nat_eq (index_of names x)) (map (index_of names) ys) ≡ false = other-indices names x ys ix (second _ _ ixs) (neither_second _ _ e) in
     rw (here, later) refl
 
-places-distinct : (names : List (List ℕ)) (xs : List (List ℕ)) → list_all (is_one_of names) xs ≡ true → has_repeat bytes_eq xs ≡ false
-    → has_repeat nat_eq (map (place_of names) xs) ≡ false
-places-distinct names [] ixs e = refl
-places-distinct names (x ∷ xs) ixs e =
-    let here : list_any (nat_eq (place_of names x)) (map (place_of names) xs) ≡ false = other-places names x xs (first _ _ ixs) (second _ _ ixs) (neither_first _ _ e) in
-    let later : has_repeat nat_eq (map (place_of names) xs) ≡ false = places-distinct names xs (second _ _ ixs) (neither_second _ _ e) in
+indices-distinct : (names : List (List ℕ)) (xs : List (List ℕ)) → list_all (is_one_of names) xs ≡ true → has_repeat bytes_eq xs ≡ false
+    → has_repeat nat_eq (map (index_of names) xs) ≡ false
+indices-distinct names [] ixs e = refl
+indices-distinct names (x ∷ xs) ixs e =
+    let here : list_any (nat_eq (index_of names x)) (map (index_of names) xs) ≡ false = other-indices names x xs (first _ _ ixs) (second _ _ ixs) (neither_first _ _ e) in
+    let later : has_repeat nat_eq (map (index_of names) xs) ≡ false = indices-distinct names xs (second _ _ ixs) (neither_second _ _ e) in
     rw (here, later) refl
 
 members : (names : List (List ℕ)) (args : List Arg) → list_any (λ x. not (is_one_of names x.name)) args ≡ false
@@ -154,15 +137,15 @@ members : (names : List (List ℕ)) (args : List Arg) → list_any (λ x. not (i
 members names [] e = refl
 members names (x ∷ args) e = both _ _ (not_not _ (neither_first _ _ e)) (members names args (neither_second _ _ e))
 
-places-below : (names : List (List ℕ)) (xs : List (List ℕ)) → list_all (is_one_of names) xs ≡ true
-    → list_all (λ q. nat_lt q (length names)) (map (place_of names) xs) ≡ true
-places-below names [] e = refl
-places-below names (x ∷ xs) e = both _ _ (lt_test _ _ (place-below names x (first _ _ e))) (places-below names xs (second _ _ e))
+indices-below : (names : List (List ℕ)) (xs : List (List ℕ)) → list_all (is_one_of names) xs ≡ true
+    → list_all (λ q. nat_lt q (length names)) (map (index_of names) xs) ≡ true
+indices-below names [] e = refl
+indices-below names (x ∷ xs) e = both _ _ (lt_test _ _ (index-below names x (first _ _ e))) (indices-below names xs (second _ _ e))
 
 knows-uses : (params : List (List ℕ)) (e : Expression) → knows params e ≡ true → uses_below (length params) (formula params e) ≡ true
 knows-uses params (number value) e = refl
 knows-uses params pi e = refl
-knows-uses params (param name) e = lt_test _ _ (place-below params name e)
+knows-uses params (param name) e = lt_test _ _ (index-below params name e)
 knows-uses params (negated part) e = knows-uses params part e
 knows-uses params (paren part) e = knows-uses params part e
 knows-uses params (call function part) e = knows-uses params part e
@@ -195,7 +178,7 @@ HasGates k = (name : List ℕ) (c : ℕ) → meaning k name ≡ Some (Numbered c
 item_sound : (k : Known) → HasGates k → (params qubits : List (List ℕ)) (it : Action) → unknown_in_body k params qubits it ≡ false
     → in_body (λ a. is_register (meaning k a.gate)) it ≡ false → in_body (params_differ k) it ≡ false → in_body (qubits_differ k) it ≡ false
     → in_body repeats_name it ≡ false → in_body (applies_opaque k) it ≡ false
-    → is_item k.gates (length k.gates) (length params) (length qubits) (item k params qubits it) ≡ true
+    → is_item k.gates (length params) (length qubits) (item k params qubits it) ≡ true
 item_sound k has params qubits (apply a) unknown register eparams equbits repeated closed =
     let known_gate : is_none (meaning k a.gate) ≡ false = neither_first _ _ (neither_first _ _ unknown) in
     let known_args : list_any (λ x. not (is_one_of qubits x.name)) a.args ≡ false = neither_second _ _ (neither_first _ _ unknown) in
@@ -204,15 +187,15 @@ item_sound k has params qubits (apply a) unknown register eparams equbits repeat
     let c = found.0 in
     let m : meaning k a.gate ≡ Some (Numbered c) = found.1 in
     let ixs = members qubits a.args known_args in
-    let mapped : map (place_of qubits) (map (λ x. x.name) a.args) ≡ map (λ x. place_of qubits x.name) a.args = map-map (place_of qubits) (λ (x : Arg). x.name) a.args in
+    let mapped : map (index_of qubits) (map (λ x. x.name) a.args) ≡ map (λ x. index_of qubits x.name) a.args = map-map (index_of qubits) (λ (x : Arg). x.name) a.args in
     let number : gate_number (meaning k a.gate) ≡ c = ap gate_number m in
     let lesser : nat_lt c (length k.gates) ≡ true = lt_test _ _ (has a.gate c m) in
-    let fit : fits (gate_at k.gates c) (length (map (formula params) a.angles)) (length (map (λ x. place_of qubits x.name) a.args)) ≡ true =
-    fits-callee k a c _ _ m (length-map a.angles (formula params)) (length-map a.args (λ x. place_of qubits x.name)) eparams equbits closed in
+    let fit : fits (gate_at k.gates c) (length (map (formula params) a.angles)) (length (map (λ x. index_of qubits x.name) a.args)) ≡ true =
+    fits-callee k a c _ _ m (length-map a.angles (formula params)) (length-map a.args (λ x. index_of qubits x.name)) eparams equbits closed in
     let uses = each-uses params a.angles known_names in
-    let below = subst (λ (ps : List ℕ). list_all (λ q. nat_lt q (length qubits)) ps ≡ true) mapped (places-below qubits (map (λ x. x.name) a.args) ixs) in
-    let apart = subst (λ (ps : List ℕ). has_repeat nat_eq ps ≡ false) mapped (places-distinct qubits (map (λ x. x.name) a.args) ixs repeated) in
-    subst (λ (n : ℕ). is_item k.gates (length k.gates) (length params) (length qubits) (i-call n (map (formula params) a.angles) (map (λ x. place_of qubits x.name) a.args)) ≡ true)
+    let below = subst (λ (ps : List ℕ). list_all (λ q. nat_lt q (length qubits)) ps ≡ true) mapped (indices-below qubits (map (λ x. x.name) a.args) ixs) in
+    let apart = subst (λ (ps : List ℕ). has_repeat nat_eq ps ≡ false) mapped (indices-distinct qubits (map (λ x. x.name) a.args) ixs repeated) in
+    subst (λ (n : ℕ). is_item k.gates (length params) (length qubits) (i-call n (map (formula params) a.angles) (map (λ x. index_of qubits x.name) a.args)) ≡ true)
     (sym number) (both _ _ (both _ _ (both _ _ (both _ _ lesser fit) uses) below) (not_false _ apart))
 item_sound k has params qubits (measure qubit bit) unknown register eparams equbits repeated closed = refl
 item_sound k has params qubits (resets arg) unknown register eparams equbits repeated closed = refl
@@ -221,12 +204,12 @@ item_sound k has params qubits (barrier args) unknown register eparams equbits r
 body_sound : (k : Known) → HasGates k → (params qubits : List (List ℕ)) (body : List Action) → list_any (unknown_in_body k params qubits) body ≡ false
     → list_any (in_body (λ a. is_register (meaning k a.gate))) body ≡ false → list_any (in_body (params_differ k)) body ≡ false
     → list_any (in_body (qubits_differ k)) body ≡ false → list_any (in_body repeats_name) body ≡ false → list_any (in_body (applies_opaque k)) body ≡ false
-    → list_all (is_item k.gates (length k.gates) (length params) (length qubits)) (map (item k params qubits) body) ≡ true
+    → list_all (is_item k.gates (length params) (length qubits)) (map (item k params qubits) body) ≡ true
 body_sound k has params qubits [] un r p q d o = refl
 body_sound k has params qubits (it ∷ body) un r p q d o =
     both _ _ (item_sound k has params qubits it (neither_first _ _ un) (neither_first _ _ r) (neither_first _ _ p) (neither_first _ _ q) (neither_first _ _ d) (neither_first _ _ o))
     (body_sound k has params qubits body (neither_second _ _ un) (neither_second _ _ r) (neither_second _ _ p) (neither_second _ _ q) (neither_second _ _ d) (neither_second _ _ o))
 
-pub gate_sound : (k : Known) → HasGates k → (d : Definition) → IsFine k (declares d) → is_gate k.gates (length k.gates) (bound_gate k d) ≡ true
+pub gate_sound : (k : Known) → HasGates k → (d : Definition) → IsFine k (declares d) → is_gate k.gates (bound_gate k d) ≡ true
 gate_sound k has d fine = body_sound k has d.params d.qubits d.body
     (fine UnknownName) (fine WrongKind) (fine ParamCount) (fine QubitCount) (fine RepeatedQubit) (fine OpaqueApplied)

@@ -12,4 +12,3 @@ pub mod Spelling
 pub mod Symbols
 pub mod Tree
 pub mod Views
-pub mod Names

@@ -4,8 +4,9 @@
 use Rattle.std.proofs.Common.{◌≡◌, ℕ, zero, suc, ◌+◌, ◌<◌, ◌≤◌, ◌==◌, false, List, [], ◌∷◌, ◌++◌, Ok, Err, if◌then◌else◌, refl, ap, arith, length, take, drop}
 use Rattle.std.proofs.lemmas.List.{length-drop}
 use Rattle.std.proofs.lemmas.Grind.{common_steps}
-use Rattle.qasm_lexer.specs.Lexemes.{Bytes, lexeme_len}
-use Rattle.qasm_lexer.specs.Tokens.{lexed_from, lexed_within, with_lexeme}
+use Rattle.qasm_lexer.specs.Forms.{Bytes}
+use Rattle.qasm_lexer.specs.Lexemes.{lexeme_len}
+use Rattle.qasm_lexer.specs.Lexed.{lexed_from, lexed_within, with_lexeme}
 use Rattle.qasm_lexer.specs.declared.LexFault.TheVariants.{BadByte}
 
 pub no_lexeme : (place : ℕ) → lexed_from place [] ≡ Ok []

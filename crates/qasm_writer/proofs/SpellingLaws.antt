@@ -3,7 +3,7 @@
 --   Spelt xs text      the same before any tail
 --   Spelt-nil, Spelt-then   no text; one text behind another
 --   Spelt-line         a line that spells one statement
---   IsName-underscores the quantum register has a name of the language
+--   IsFreeWord-underscores the quantum register has a name of the language
 --   written_tree-spelt the text of a program spells its tree
 use Rattle.std.proofs.Common.{◌≡◌, ℕ, zero, suc, ◌+◌, ◌-◌, ◌^◌, ◌<◌, ◌≤◌, ◌==◌, ◌⊎◌, inl, inr, Bool, true, false, if◌then◌else◌, List, [], ◌∷◌, ◌++◌, Option, Some, None, pos, refl, sym, ap, ◌∙◌, subst, arith, length, drop, take, codes, map, replicate, append_assoc, append-nil, All, lit<, lit≤, nat_le}
 use Rattle.std.proofs.lemmas.List.{length-take}
@@ -13,10 +13,16 @@ use Rattle.std.specs.List.{AllByRecursion, flat_map, list_all, sum_by}
 use Rattle.std.specs.Fmt.{decimal}
 use Rattle.angle_fraction.specs.Fraction.{common_factor, fraction, greatest_common, is_small, lowest}
 use Rattle.angle_fraction.specs.declared.signs.Binary.TheVariants.{Mul, Div}
-use Rattle.qasm_lexer.specs.Lexemes.{Bytes, is_word_byte, lexeme_len}
+use Rattle.qasm_lexer.specs.Forms.{Bytes, is_word_byte}
+use Rattle.qasm_lexer.specs.Lexemes.{lexeme_len}
+use Rattle.qasm_lexer.specs.Lexed.{lexed}
+use Rattle.qasm_lexer.specs.Tokens.{AreTokens}
+use Rattle.qasm_lexer.specs.declared.Token.{Token}
+use Rattle.std.specs.Prelude.{Ok}
 use Rattle.qasm_lexer.specs.Numbers.{digit, number, scaled}
 use Rattle.qasm_parser.specs.Expressions.{SpellsSum}
-use Rattle.qasm_parser.specs.Names.{IsName}
+use Rattle.qasm_writer.specs.Words.{IsFreeWord}
+use Rattle.qasm_writer.proofs.WordLaws.{IsFreeWord-name}
 use Rattle.qasm_parser.specs.Parsing.{two}
 use Rattle.qasm_parser.specs.Spelling.{Seen, SpellsArg, SpellsArgs, Form, SpellsEach, SpellsForm, SpellsStatement, SpellsTree, alone, first_deep, index_symbols, listed, seen, whole_symbol}
 use Rattle.qasm_parser.specs.Symbols.{Symbol, mark, mark_symbol, name, quoted, real, sign, symbol_by, unquoted, whole, word, word_symbol}
@@ -128,7 +134,7 @@ unfolding lexeme_len symbol_by mark_symbol
 gives-close t ss g = Gives-token (codes "]") t ss refl (lit< tt) refl refl g
 
 -- ---- an argument
-gives-index : (q : Bytes) (i : ℕ) (t : Bytes) (ss : List Symbol) → IsName q → i ≤ 4611686018427387904 → Gives t ss
+gives-index : (q : Bytes) (i : ℕ) (t : Bytes) (ss : List Symbol) → IsFreeWord q → i ≤ 4611686018427387904 → Gives t ss
     → Gives (index_text q i ++ t) (name q ∷ index_symbols (Some i) ss)
 gives-index q i t ss h few g =
     let shown : index_text q i ++ t ≡ q ++ 91 ∷ (decimal i ++ 93 ∷ t) = simp append_assoc in
@@ -138,7 +144,7 @@ gives-index q i t ss h few g =
     (Gives-number i t (mark CloseBracket ∷ ss) few (gives-close t ss g))))
 
 -- ---- registers
-wires_spelt : (q : Bytes) (n : ℕ) → IsName q → n ≤ 4611686018427387904 → Spelt (wires_statements q n) (wires_line q n)
+wires_spelt : (q : Bytes) (n : ℕ) → IsFreeWord q → n ≤ 4611686018427387904 → Spelt (wires_statements q n) (wires_line q n)
 wires_spelt q n h few = by_test (n == 0)
   where
     line : Spelt (register true q n ∷ []) (codes "qreg " ++ (index_text q n ++ codes ";\n"))
@@ -152,7 +158,7 @@ wires_spelt q n h few = by_test (n == 0)
     by_test true = Spelt-nil
     by_test false = line
 
-bits_spelt : (r : Bits) → IsName r.name → r.size ≤ 4611686018427387904 → Spelt (bits_statement r ∷ []) (bits_line r)
+bits_spelt : (r : Bits) → IsFreeWord r.name → r.size ≤ 4611686018427387904 → Spelt (bits_statement r ∷ []) (bits_line r)
 bits_spelt r h few = Spelt-line (bits_statement r) (bits_line r)
     (λ rest. word Creg ∷ name r.name ∷ index_symbols (Some r.size) (mark Semicolon ∷ rest)) (λ rest. [])
     (λ tail rest g. let shown : bits_line r ++ tail ≡ codes "creg " ++ (index_text r.name r.size ++ (codes ";\n" ++ tail)) = simp append_assoc in
@@ -160,14 +166,14 @@ bits_spelt r h few = Spelt-line (bits_statement r) (bits_line r)
     (gives-index r.name r.size (codes ";\n" ++ tail) (mark Semicolon ∷ rest) h few (gives-end tail rest g))))
     (λ rest. (refl, refl)) (λ rest. refl)
 
-registers_spelt : (rs : List Bits) → AllByRecursion (λ r. IsName r.name × (r.size ≤ 4611686018427387904)) rs
+registers_spelt : (rs : List Bits) → AllByRecursion (λ r. IsFreeWord r.name × (r.size ≤ 4611686018427387904)) rs
     → Spelt (map bits_statement rs) (flat_map bits_line rs)
 registers_spelt [] h = Spelt-nil
 registers_spelt (r ∷ rs) h =
     Spelt-then (bits_statement r ∷ []) (map bits_statement rs) (bits_line r) (flat_map bits_line rs) (bits_spelt r h.0.0 h.0.1) (registers_spelt rs h.1)
 
 -- ---- measurements
-read_spelt : (q b : Bytes) (k i : ℕ) → IsName q → IsName b → k ≤ 4611686018427387904 → i ≤ 4611686018427387904
+read_spelt : (q b : Bytes) (k i : ℕ) → IsFreeWord q → IsFreeWord b → k ≤ 4611686018427387904 → i ≤ 4611686018427387904
     → Spelt (act (measure (at q i) (at b k)) ∷ []) (read_line q b k (Some i))
 read_spelt q b k i h g few less = Spelt-line (act (measure (at q i) (at b k))) (read_line q b k (Some i))
     (λ rest. word Measure ∷ name q ∷ index_symbols (Some i) (mark Arrow ∷ name b ∷ index_symbols (Some k) (mark Semicolon ∷ rest))) (λ rest. [])
@@ -180,7 +186,7 @@ read_spelt q b k i h g few less = Spelt-line (act (measure (at q i) (at b k))) (
         name b ∷ index_symbols (Some k) (mark Semicolon ∷ rest), refl, (refl, tt, refl), (refl, tt, refl), refl))
     (λ rest. refl)
 
-reads_spelt : (q b : Bytes) (n k : ℕ) (reads : List (Option ℕ)) → IsName q → IsName b → n ≤ 4611686018427387904
+reads_spelt : (q b : Bytes) (n k : ℕ) (reads : List (Option ℕ)) → IsFreeWord q → IsFreeWord b → n ≤ 4611686018427387904
     → k + length reads ≤ 4611686018427387904 → AllByRecursion (IsRead n) reads → Spelt (register_statements q b k reads) (register_lines q b k reads)
 reads_spelt q b n k [] h g few less there = Spelt-nil
 reads_spelt q b n k (None ∷ reads) h g few less there = reads_spelt q b n (k + 1) reads h g few (omega arith) there.1
@@ -198,8 +204,8 @@ there_drop n zero reads h = h
 there_drop n (suc k) [] h = tt
 there_drop n (suc k) (r ∷ reads) h = there_drop n k reads h.1
 
-all_reads_spelt : (q : Bytes) (n : ℕ) (rs : List Bits) (reads : List (Option ℕ)) → IsName q → n ≤ 4611686018427387904
-    → AllByRecursion (λ r. IsName r.name × (r.size ≤ 4611686018427387904)) rs → AllByRecursion (IsRead n) reads
+all_reads_spelt : (q : Bytes) (n : ℕ) (rs : List Bits) (reads : List (Option ℕ)) → IsFreeWord q → n ≤ 4611686018427387904
+    → AllByRecursion (λ r. IsFreeWord r.name × (r.size ≤ 4611686018427387904)) rs → AllByRecursion (IsRead n) reads
     → Spelt (read_statements q rs reads) (read_lines q rs reads)
 all_reads_spelt q n [] reads h few named there = Spelt-nil
 all_reads_spelt q n (r ∷ rs) reads h few named there =
@@ -212,7 +218,7 @@ all_reads_spelt q n (r ∷ rs) reads h few named there =
 gives-cx : (t : Bytes) (ss : List Symbol) → Gives t ss → Gives (codes "cx " ++ t) (name (codes "cx") ∷ ss)
 gives-cx t ss g = Gives-name (codes "cx") 32 t ss (record { word = refl; free = refl; no_function = refl }) refl (Gives-space t ss g)
 
-cx_spelt : (q : Bytes) (c t : ℕ) → IsName q → c ≤ 4611686018427387904 → t ≤ 4611686018427387904 → Spelt (op_statement q (Cx c t) ∷ []) (op_line q (Cx c t))
+cx_spelt : (q : Bytes) (c t : ℕ) → IsFreeWord q → c ≤ 4611686018427387904 → t ≤ 4611686018427387904 → Spelt (op_statement q (Cx c t) ∷ []) (op_line q (Cx c t))
 cx_spelt q c t h few less = Spelt-line (op_statement q (Cx c t)) (op_line q (Cx c t))
     (λ rest. name (codes "cx") ∷ name q ∷ index_symbols (Some c) (mark Comma ∷ name q ∷ index_symbols (Some t) (mark Semicolon ∷ rest))) (λ rest. [])
     (λ tail rest g.
@@ -227,7 +233,7 @@ cx_spelt q c t h few less = Spelt-line (op_statement q (Cx c t)) (op_line q (Cx 
 
 -- a gate on one qubit, by the symbols of its name
 gate_spelt : (q gate text : Bytes) (i : ℕ) (angles : List Expression) (ts : List Symbol → List Symbol) (found : List Symbol → List Seen)
-    → IsName q → i ≤ 4611686018427387904
+    → IsFreeWord q → i ≤ 4611686018427387904
     → ((t : Bytes) (ss : List Symbol) → Gives t ss → Gives (text ++ 32 ∷ t) (ts ss))
     → ((rest : List Symbol) → (form : Form) × SpellsForm form (record { gate = gate; angles = angles; args = at q i ∷ [] }) (ts rest) rest (found rest))
     → ((rest : List Symbol) → first_deep 64 (found rest) ≡ None)
@@ -244,7 +250,7 @@ gate_spelt q gate text i angles ts found h few gives form shallow =
         (f.0, mid, f.1, (mark Semicolon ∷ rest, [], [], (refl, tt, refl), (refl, refl), refl)))
     (λ rest. shallow (name q ∷ index_symbols (Some i) (mark Semicolon ∷ rest)))
 
-plain_spelt : (q gate : Bytes) (i : ℕ) → IsName q → i ≤ 4611686018427387904 → IsName gate
+plain_spelt : (q gate : Bytes) (i : ℕ) → IsFreeWord q → i ≤ 4611686018427387904 → IsFreeWord gate
     → Spelt (applied gate [] (at q i ∷ []) ∷ []) (gate ++ (codes " " ++ (index_text q i ++ codes ";\n")))
 plain_spelt q gate i h few named =
     gate_spelt q gate gate i [] (λ rest. name gate ∷ rest) (λ rest. []) h few
@@ -283,7 +289,7 @@ angle_spelt k rest = record {
 }
 
 -- k*pi/4 in parentheses is one angle, three deep
-eighths_spelt : (q text : Bytes) (i k : ℕ) → IsName q → i ≤ 4611686018427387904
+eighths_spelt : (q text : Bytes) (i k : ℕ) → IsFreeWord q → i ≤ 4611686018427387904
     → ((t : Bytes) (ss : List Symbol) → Gives t ss → Gives (text ++ 32 ∷ t) (name (codes "u1") ∷ mark Open ∷ whole_symbol k ∷ sign Mul ∷ word Pi ∷ sign Div ∷ whole_symbol 4 ∷ mark Close ∷ ss))
     → Spelt (applied (codes "u1") (eighths_angle k ∷ []) (at q i ∷ []) ∷ []) (text ++ (codes " " ++ (index_text q i ++ codes ";\n")))
 eighths_spelt q text i k h few gives =
@@ -295,7 +301,7 @@ eighths_spelt q text i k h few gives =
         (angle_spelt k (mark Close ∷ rest), refl), (refl, refl), refl))))
     (λ rest. refl)
 
-phase_spelt : (q : Bytes) (i c : ℕ) → IsName q → i ≤ 4611686018427387904
+phase_spelt : (q : Bytes) (i c : ℕ) → IsFreeWord q → i ≤ 4611686018427387904
     → (c ≡ 1) ⊎ ((c ≡ 2) ⊎ ((c ≡ 3) ⊎ ((c ≡ 4) ⊎ ((c ≡ 5) ⊎ ((c ≡ 6) ⊎ (c ≡ 7))))))
     → Spelt (phase_statement c (at q i) ∷ []) (phase_text c ++ (codes " " ++ (index_text q i ++ codes ";\n")))
 phase_spelt q i c h few (inl e) = rw e (plain_spelt q (codes "t") i h few (record { word = refl; free = refl; no_function = refl }))
@@ -309,7 +315,7 @@ phase_spelt q i c h few (inr (inr (inr (inr (inr (inr e)))))) = rw e (plain_spel
 phase_cases : (c : ℕ) → 1 ≤ c → c < 8 → (c ≡ 1) ⊎ ((c ≡ 2) ⊎ ((c ≡ 3) ⊎ ((c ≡ 4) ⊎ ((c ≡ 5) ⊎ ((c ≡ 6) ⊎ (c ≡ 7))))))
 phase_cases c some few = grind arith
 
-op_spelt : (q : Bytes) (u : Op) (n : ℕ) → IsName q → n ≤ 4611686018427387904 → IsPlain u → WiresBelow n (u ∷ []) → Spelt (op_statement q u ∷ []) (op_line q u)
+op_spelt : (q : Bytes) (u : Op) (n : ℕ) → IsFreeWord q → n ≤ 4611686018427387904 → IsPlain u → WiresBelow n (u ∷ []) → Spelt (op_statement q u ∷ []) (op_line q u)
 op_spelt q (Cx c t) n h few plain there = cx_spelt q c t h (omega (arith, there.0)) (omega (arith, there.1.0))
 op_spelt q (U a b c i) n h few (inl e) there =
     rw e.0 (plain_spelt q (codes "h") i h (omega (arith, there.0)) (record { word = refl; free = refl; no_function = refl }))
@@ -318,7 +324,7 @@ op_spelt q (U a b c i) n h few (inr (inl e)) there =
 op_spelt q (U a b c i) n h few (inr (inr e)) there =
     rw e.0 (phase_spelt q i c h (omega (arith, there.0)) (phase_cases c e.2 e.3))
 
-ops_spelt : (q : Bytes) (us : List Op) (n : ℕ) → IsName q → n ≤ 4611686018427387904 → AllByRecursion IsPlain us → WiresBelow n us
+ops_spelt : (q : Bytes) (us : List Op) (n : ℕ) → IsFreeWord q → n ≤ 4611686018427387904 → AllByRecursion IsPlain us → WiresBelow n us
     → Spelt (map (op_statement q) us) (flat_map (op_line q) us)
 ops_spelt q [] n h few plain there = Spelt-nil
 ops_spelt q (U a b c i ∷ us) n h few plain there =
@@ -347,31 +353,35 @@ include_spelt = Spelt-line (include (codes "qelib1.inc")) (codes "include \"qeli
     (λ rest. (refl, refl)) (λ rest. refl)
 
 -- ---- the whole text
-pub IsName-underscores : (k : ℕ) → IsName (with_underscores k)
-IsName-underscores zero = record { word = refl; free = refl; no_function = refl }
-IsName-underscores (suc k) = record { word = all_words k; free = refl; no_function = refl }
+pub IsFreeWord-underscores : (k : ℕ) → IsFreeWord (with_underscores k)
+IsFreeWord-underscores zero = record { word = refl; free = refl; no_function = refl }
+IsFreeWord-underscores (suc k) = record { word = all_words k; free = refl; no_function = refl }
   where
     all_words : (k : ℕ) → list_all is_word_byte (replicate k 95) ≡ true
     all_words zero = refl
     all_words (suc k) = all_words k
 
 size-le-sum : (rs : List Bits) → AllByRecursion IsFree rs → sum_by (λ r. r.size) rs ≤ 1024
-    → AllByRecursion (λ r. IsName r.name × (r.size ≤ 4611686018427387904)) rs
+    → AllByRecursion (λ r. IsFreeWord r.name × (r.size ≤ 4611686018427387904)) rs
 size-le-sum [] h few = tt
 size-le-sum (r ∷ rs) h few =
     let total : r.size + sum_by (λ x. x.size) rs ≤ 1024 = omega (arith, few, sum_by-cons (λ x. x.size) r rs) in
-    ((h.0.name, omega (arith, total)), size-le-sum rs h.1 (omega (arith, total)))
+    ((IsFreeWord-name r.name h.0.name, omega (arith, total)), size-le-sum rs h.1 (omega (arith, total)))
 
-tree_by : (text : Bytes) (xs : List Statement) (ts : List Symbol) (found : List Seen) → Gives text (word OpenQasm ∷ real two ∷ mark Semicolon ∷ ts)
+-- a law of the lexer, as it is handed in
+abbrev pub HasTokens : Type 0
+HasTokens = (text : Bytes) (tokens : List Token) → lexed text ≡ Ok tokens → AreTokens text tokens
+
+tree_by : HasTokens → (text : Bytes) (xs : List Statement) (ts : List Symbol) (found : List Seen) → Gives text (word OpenQasm ∷ real two ∷ mark Semicolon ∷ ts)
     → SpellsEach SpellsStatement xs ts [] found → first_deep 64 found ≡ None → IsTreeOf text (record { version = two; list = xs })
-tree_by text xs ts found g each shallow =
-    let it = g.behind [] in (it.tokens, it.lexed, (found, (ts, it.spelt, each), refl, shallow))
+tree_by law text xs ts found g each shallow =
+    let it = g.behind [] in (it.tokens, law text it.tokens it.lexed, (found, (ts, it.spelt, each), refl, shallow))
 
-pub written_tree-spelt : (q : List ℕ) (n bits : ℕ) (us : List Op) (rs : List Bits) (reads : List (Option ℕ)) → n ≤ 4611686018427387904
+pub written_tree-spelt : HasTokens → (q : List ℕ) (n bits : ℕ) (us : List Op) (rs : List Bits) (reads : List (Option ℕ)) → n ≤ 4611686018427387904
     → IsQubitsName rs q → AreRegisters rs bits → All IsPlain us → WiresBelow n us → All (IsRead n) reads
     → IsTreeOf (written_text q n us rs reads) (written_tree q n us rs reads)
-written_tree-spelt q n bits us rs reads few spare registers plain there asked =
-    let h : IsName q = subst IsName (sym spare.spelt) (IsName-underscores spare.underscores) in
+written_tree-spelt law q n bits us rs reads few spare registers plain there asked =
+    let h : IsFreeWord q = subst IsFreeWord (sym spare.spelt) (IsFreeWord-underscores spare.underscores) in
     let named = size-le-sum rs (recursion_from_All IsFree rs registers.each) (omega (arith, registers.all, registers.few)) in
     let reads' = recursion_from_All (IsRead n) reads asked in
     let all = Spelt-then (include (codes "qelib1.inc") ∷ []) _ (codes "include \"qelib1.inc\";\n") _ include_spelt
@@ -381,5 +391,5 @@ written_tree-spelt q n bits us rs reads few spare registers plain there asked =
     (ops_spelt q us n h few (recursion_from_All IsPlain us plain) there) (all_reads_spelt q n rs reads h few named reads')))) in
     let b = all.before [] [] Gives-nil in
     let whole = gives-version _ b.ts b.gives in
-    tree_by (written_text q n us rs reads) (written_tree q n us rs reads).list b.ts b.found
+    tree_by law (written_text q n us rs reads) (written_tree q n us rs reads).list b.ts b.found
     (subst (λ (z : Bytes). Gives (codes "OPENQASM 2.0;\n" ++ z) (word OpenQasm ∷ real two ∷ mark Semicolon ∷ b.ts)) (append-nil _) whole) b.spells b.shallow

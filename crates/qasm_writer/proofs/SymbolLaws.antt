@@ -17,12 +17,14 @@ use Rattle.std.specs.Char.{is_ascii_alphabetic, is_ascii_digit, is_ascii_lowerca
 use Rattle.std.specs.Fmt.{decimal}
 use Rattle.std.specs.List.{list_all, prefix_len}
 use Rattle.angle_fraction.specs.Fraction.{Fraction, common_factor, fraction, greatest_common, is_small, lowest, most_part}
-use Rattle.qasm_lexer.specs.Lexemes.{Bytes, begins_with, is_blank, is_space, is_word_byte, lexeme_by, lexeme_len, number_len, word_len}
-use Rattle.qasm_lexer.specs.Numbers.{digit, has_point, number, number_after, decimal as value, scaled}
-use Rattle.qasm_lexer.specs.Tokens.{bytes_of, has_value, is_number, is_out_of_range, kind_of, lexed_from, number_kind, then_more, token_at, with_lexeme}
+use Rattle.qasm_lexer.specs.Forms.{Bytes, is_space, is_word_byte}
+use Rattle.qasm_lexer.specs.Numbers.{begins_with, digit, has_point, number, number_after, decimal as value, scaled, has_value}
+use Rattle.qasm_lexer.specs.Lexemes.{is_blank, lexeme_by, lexeme_len, number_len, word_len, is_number, is_out_of_range, kind_of, number_kind}
+use Rattle.qasm_lexer.specs.Tokens.{bytes_of}
+use Rattle.qasm_lexer.specs.Lexed.{lexed_from, then_more, token_at, with_lexeme}
 use Rattle.qasm_lexer.specs.declared.Kind.TheVariants.{Real, Whole}
 use Rattle.qasm_lexer.specs.declared.Token.{Token}
-use Rattle.qasm_parser.specs.Names.{IsName}
+use Rattle.qasm_writer.specs.Words.{IsFreeWord}
 use Rattle.qasm_parser.specs.Spelling.{whole_symbol}
 use Rattle.qasm_parser.specs.Symbols.{Symbol, function_of, keyword_of, name, symbol_by, symbols, whole, word_symbol}
 use Rattle.qasm_writer.proofs.LexemeLaws.{first_lexeme, no_lexeme}
@@ -163,7 +165,7 @@ name_by b t c rest ss small word free no_function ends g =
     subst (λ (x : Symbol). Gives (b ∷ t ++ c ∷ rest) (x ∷ ss)) it
     (Gives-token (b ∷ t) (c ∷ rest) ss (lexeme_len-name b t c rest small word ends) (omega arith) blank fine g)
 
-pub Gives-name : (w : Bytes) (c : ℕ) (rest : Bytes) (ss : List Symbol) → IsName w → is_word_byte c ≡ false → Gives (c ∷ rest) ss
+pub Gives-name : (w : Bytes) (c : ℕ) (rest : Bytes) (ss : List Symbol) → IsFreeWord w → is_word_byte c ≡ false → Gives (c ∷ rest) ss
     → Gives (w ++ c ∷ rest) (name w ∷ ss)
 Gives-name [] c rest ss h ends g = absurd (let e = h.word in cc)
 Gives-name (b ∷ t) c rest ss h ends g =
