@@ -1,22 +1,27 @@
 -- What a text means, and its refusals.
---   SpeltOnce, NoParseFault, NoCheckFault, NoInlineFault     laws of the stages, as they are handed in
+--   LexedOnce, NoLexFault, SpeltOnce, NoParseFault, NoCheckFault, NoInlineFault, Laws     laws of the stages, as they are handed in
+--   FewTokens, FewStatements, DeclaresNames     more of them
+--   few_of, names_of     how many statements a tree has, and what names it declares
+--   in_ok, in_err        from one promise of an answer to another
 --   tree-once            a text spells one tree at most
 --   means-once           and means one program at most
 --   accepted-no_refusal  an accepted text has no refusal
 --   IsRefusal-checked, IsRefusal-written     from the stages' refusals to the text's
-use Rattle.std.proofs.Common.{◌≡◌, ℕ, ◌<◌, ◌≤◌, List, Option, Result, Ok, Err, refl, sym, subst, ◌∙◌, ap, arith, length}
+use Rattle.std.proofs.Common.{◌≡◌, ℕ, ◌<◌, ◌≤◌, List, All, Option, Result, Ok, Err, IfOk, IfErr, refl, sym, subst, ◌∙◌, ap, arith, length}
 use Rattle.unitary_model.specs.declared.Op.{Op}
-use Rattle.qasm_lexer.specs.Tokens.{IsFaultOf as IsLexFault}
-use Rattle.qasm_lexer.specs.Lexed.{lexed}
+use Rattle.qasm_lexer.specs.Tokens.{AreTokens, IsFaultOf as IsLexFault, IsTokenOf}
 use Rattle.qasm_lexer.specs.declared.LexFault.{LexFault}
 use Rattle.qasm_lexer.specs.declared.LexFault.TheVariants as lexing
 use Rattle.qasm_lexer.specs.declared.Token.{Token}
+use Rattle.qasm_lexer.specs.Names.{IsName}
+use Rattle.qasm_parser.specs.DeclaredNames.{HasNames}
 use Rattle.qasm_parser.specs.Parsing.{IsFault as IsParseFault, IsProgram, Spells, first_deep_of}
 use Rattle.qasm_parser.specs.Spelling.{Seen}
 use Rattle.qasm_parser.specs.Tree.{Tree}
 use Rattle.qasm_parser.specs.declared.ParseFault.{ParseFault}
 use Rattle.qasm_parser.specs.declared.ParseFault.TheVariants as parsing
-use Rattle.qasm_check.specs.Checking.{Bound, IsAccepted as IsFineTree, IsFault as IsCheckFault, bound}
+use Rattle.qasm_check.specs.Bound.{Bound}
+use Rattle.qasm_check.specs.Checking.{IsAccepted as IsFineTree, IsFault as IsCheckFault, bound}
 use Rattle.qasm_check.specs.declared.bits.Bits.{Bits}
 use Rattle.qasm_check.specs.declared.refusal.CheckFault.{CheckFault}
 use Rattle.qasm_check.specs.declared.refusal.CheckFault.TheVariants as checking
@@ -45,15 +50,24 @@ NoCheckFault = (t : Tree) (fault : CheckFault) → IsFineTree t → IsCheckFault
 abbrev pub NoInlineFault : Type 0
 NoInlineFault = (b : Bound) (o : Ops) (fault : InlineFault) → IsInlined b o → IsInlineFault b fault → fault ≡ inlining.NoMemory
 
-same_tokens : (r : Result (List Token) LexFault) (a b : List Token) → r ≡ Ok a → r ≡ Ok b → a ≡ b
-same_tokens r a b e f = cc
+abbrev pub LexedOnce : Type 0
+LexedOnce = (text : List ℕ) (a b : List Token) → AreTokens text a → AreTokens text b → a ≡ b
 
-no_tokens : (r : Result (List Token) LexFault) (a : List Token) (f : LexFault) → r ≡ Ok a → r ≡ Err f → ⊥
-no_tokens r a f e g = cc
+abbrev pub NoLexFault : Type 0
+NoLexFault = (text : List ℕ) (tokens : List Token) (fault : LexFault) → AreTokens text tokens → IsLexFault text fault → fault ≡ lexing.NoMemory
 
-pub tree-once : SpeltOnce → (text : List ℕ) (a b : Tree) → IsTreeOf text a → IsTreeOf text b → a ≡ b
-tree-once once text a b (xs, lx, (f, sa, va, da)) (ys, ly, (g, sb, vb, db)) =
-    let same = same_tokens (lexed text) xs ys lx ly in
+-- what the reader's stages promise of texts
+pub record Laws : Type 0 where
+  pub lexed_once : LexedOnce
+  pub no_lex_fault : NoLexFault
+  pub spelt_once : SpeltOnce
+  pub no_parse_fault : NoParseFault
+  pub no_check_fault : NoCheckFault
+  pub no_inline_fault : NoInlineFault
+
+pub tree-once : LexedOnce → SpeltOnce → (text : List ℕ) (a b : Tree) → IsTreeOf text a → IsTreeOf text b → a ≡ b
+tree-once lexes once text a b (xs, lx, (f, sa, va, da)) (ys, ly, (g, sb, vb, db)) =
+    let same = lexes text xs ys lx ly in
     (once text ys a b f g (subst (λ (ts : List Token). Spells text ts a f) same sa) sb).0
 
 -- ---- one program
@@ -68,35 +82,60 @@ means_same b p q m n =
     ok_same : {A E : Type 0} (r : Result A E) (x y : A) → r ≡ Ok x → r ≡ Ok y → x ≡ y
     ok_same r x y e f = cc
 
-pub means-once : SpeltOnce → (text : List ℕ) (p q : Program) → IsWritten text p → IsWritten text q → p ≡ q
-means-once once text p q (t, (is, fine), m) (u, (too, also), n) =
-    let same = tree-once once text t u is too in
+pub means-once : LexedOnce → SpeltOnce → (text : List ℕ) (p q : Program) → IsWritten text p → IsWritten text q → p ≡ q
+means-once lexes once text p q (t, (is, fine), m) (u, (too, also), n) =
+    let same = tree-once lexes once text t u is too in
     means_same (bound u) p q (subst (λ (x : Tree). Means (bound x) p) same m) n
 
 -- ---- no refusal
-unparsed : NoParseFault → (text : List ℕ) (t : Tree) (fault : ParseFault) → IsTreeOf text t → IsUnparsed text fault → fault ≡ parsing.NoMemory
-unparsed law text t fault (xs, lx, is) (ys, ly, f) =
-    let same = same_tokens (lexed text) ys xs ly lx in
-    law text xs t fault is (subst (λ (ts : List Token). IsParseFault text ts fault) same f)
+unparsed : Laws → (text : List ℕ) (t : Tree) (fault : ParseFault) → IsTreeOf text t → IsUnparsed text fault → fault ≡ parsing.NoMemory
+unparsed laws text t fault (xs, lx, is) (ys, ly, f) =
+    let same = laws.lexed_once text ys xs ly lx in
+    laws.no_parse_fault text xs t fault is (subst (λ (ts : List Token). IsParseFault text ts fault) same f)
+
+unlexed : Laws → (text : List ℕ) (t : Tree) (fault : LexFault) → IsTreeOf text t → IsLexFault text fault → fault ≡ lexing.NoMemory
+unlexed laws text t fault (xs, lx, is) f = laws.no_lex_fault text xs fault lx f
 
 inlined_of : (b : Bound) (p : Program) → IsWithinLimits b → Means b p → IsInlined b (record { wires = p.wires; list = p.ops; reads = p.reads })
 inlined_of b p small m = record { small = small; wires = m.wires; list = m.ops; reads = m.reads }
 
-pub accepted-no_refusal : SpeltOnce → NoParseFault → NoCheckFault → NoInlineFault → (text : List ℕ) (p : Program) (r : Refusal) → IsAccepted text p → IsRefusal text r → ⊥
-accepted-no_refusal once parse check inline text p TooLong a r = omega (arith, a.short, r)
-accepted-no_refusal once parse check inline text p (BadByte place) a r = no_tokens (lexed text) a.source.0.0 _ a.source.0.1 r.1
-accepted-no_refusal once parse check inline text p (Number place) a r = no_tokens (lexed text) a.source.0.0 _ a.source.0.1 r.1
-accepted-no_refusal once parse check inline text p (Syntax place) a r = let e = unparsed parse text a.tree (parsing.Syntax place) a.source.0 r.1 in cc
-accepted-no_refusal once parse check inline text p (Version place) a r = let e = unparsed parse text a.tree (parsing.Version place) a.source.0 r.1 in cc
-accepted-no_refusal once parse check inline text p (Depth place) a r = let e = unparsed parse text a.tree (parsing.Depth place) a.source.0 r.1 in cc
-accepted-no_refusal once parse check inline text p (Check r) a (short, t, is, refused) =
-    let same = tree-once once text a.tree t a.source.0 is in
-    let e = check t (checking.Refused r) (subst (λ (x : Tree). IsFineTree x) same a.source.1) refused in cc
-accepted-no_refusal once parse check inline text p (Inline r) a (short, t, is, refused) =
-    let same = tree-once once text a.tree t a.source.0 is.0 in
+pub accepted-no_refusal : Laws → (text : List ℕ) (p : Program) (r : Refusal) → IsAccepted text p → IsRefusal text r → ⊥
+accepted-no_refusal laws text p TooLong a r = omega (arith, a.short, r)
+accepted-no_refusal laws text p (BadByte place) a r = let e = unlexed laws text a.tree (lexing.BadByte place) a.source.0 r.1 in cc
+accepted-no_refusal laws text p (Number place) a r = let e = unlexed laws text a.tree (lexing.Number place) a.source.0 r.1 in cc
+accepted-no_refusal laws text p (Syntax place) a r = let e = unparsed laws text a.tree (parsing.Syntax place) a.source.0 r.1 in cc
+accepted-no_refusal laws text p (Version place) a r = let e = unparsed laws text a.tree (parsing.Version place) a.source.0 r.1 in cc
+accepted-no_refusal laws text p (Depth place) a r = let e = unparsed laws text a.tree (parsing.Depth place) a.source.0 r.1 in cc
+accepted-no_refusal laws text p (Check r) a (short, t, is, refused) =
+    let same = tree-once laws.lexed_once laws.spelt_once text a.tree t a.source.0 is in
+    let e = laws.no_check_fault t (checking.Refused r) (subst (λ (x : Tree). IsFineTree x) same a.source.1) refused in cc
+accepted-no_refusal laws text p (Inline r) a (short, t, is, refused) =
+    let same = tree-once laws.lexed_once laws.spelt_once text a.tree t a.source.0 is.0 in
     let small = subst (λ (x : Tree). IsWithinLimits (bound x)) same a.few in
     let means = subst (λ (x : Tree). Means (bound x) p) same a.means in
-    let e = inline (bound t) _ (inlining.Refused r) (inlined_of (bound t) p small means) refused in cc
+    let e = laws.no_inline_fault (bound t) _ (inlining.Refused r) (inlined_of (bound t) p small means) refused in cc
+
+-- ---- sizes and names of a tree
+abbrev pub FewTokens : Type 0
+FewTokens = (text : List ℕ) (tokens : List Token) → AreTokens text tokens → length tokens ≤ length text
+
+abbrev pub FewStatements : Type 0
+FewStatements = (text : List ℕ) (tokens : List Token) (t : Tree) (found : List Seen) → Spells text tokens t found → length t.list ≤ length tokens
+
+abbrev pub DeclaresNames : Type 0
+DeclaresNames = (text : List ℕ) (tokens : List Token) (t : Tree) (found : List Seen) → All (IsTokenOf text) tokens → Spells text tokens t found
+    → All (HasNames IsName) t.list
+
+pub few_of : FewTokens → FewStatements → (text : List ℕ) (tokens : List Token) (t : Tree) (n : ℕ) → IsWithin text → AreTokens text tokens
+    → IsProgram text tokens t → n ≡ length t.list → n < 4294967296
+few_of tokens_law statements_law text tokens t n short lx (found, spells, version, shallow) same =
+    let a = tokens_law text tokens lx in
+    let b = statements_law text tokens t found spells in
+    omega (arith, short, a, b, same)
+
+pub names_of : DeclaresNames → (text : List ℕ) (tokens : List Token) (t : Tree) → All (IsTokenOf text) tokens → IsProgram text tokens t
+    → All (HasNames IsName) t.list
+names_of law text tokens t each (found, spells, version, shallow) = law text tokens t found each spells
 
 -- ---- from the stages
 pub IsFaultOf-lexed : (text : List ℕ) (e : LexFault) (f : ReadFault) → IsWithin text → IsLexFault text e → f ≡ lex_fault e → IsFaultOf text f
@@ -104,7 +143,7 @@ IsFaultOf-lexed text (lexing.BadByte place) f short is e = rw e (short, is)
 IsFaultOf-lexed text (lexing.Number place) f short is e = rw e (short, is)
 IsFaultOf-lexed text lexing.NoMemory f short is e = rw e tt
 
-pub IsFaultOf-parsed : (text : List ℕ) (tokens : List Token) (e : ParseFault) (f : ReadFault) → IsWithin text → lexed text ≡ Ok tokens
+pub IsFaultOf-parsed : (text : List ℕ) (tokens : List Token) (e : ParseFault) (f : ReadFault) → IsWithin text → AreTokens text tokens
     → IsParseFault text tokens e → f ≡ parse_fault e → IsFaultOf text f
 IsFaultOf-parsed text tokens (parsing.Syntax place) f short lx is e = rw e (short, (tokens, lx, is))
 IsFaultOf-parsed text tokens (parsing.Version place) f short lx is e = rw e (short, (tokens, lx, is))
@@ -143,5 +182,13 @@ IsAccepted-read text t b p short is fine same h = record {
   few = subst (λ (x : Bound). IsWithinLimits x) same h.0;
   means = subst (λ (x : Bound). Means x p) same h.1;
 }
+
+pub in_ok : {A E : Type 0} (P Q : A → Type 0) (r : Result A E) → ((x : A) → P x → Q x) → IfOk r P → IfOk r Q
+in_ok P Q (Ok x) f h = f x h
+in_ok P Q (Err e) f h = tt
+
+pub in_err : {A E : Type 0} (P Q : E → Type 0) (r : Result A E) → ((x : E) → P x → Q x) → IfErr r P → IfErr r Q
+in_err P Q (Ok x) f h = tt
+in_err P Q (Err e) f h = f e h
 
 pub ruleset reader = (IsFaultOf-lexed, IsFaultOf-parsed, IsFaultOf-checked, IsFaultOf-written, IsAccepted-read)

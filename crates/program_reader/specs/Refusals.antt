@@ -6,8 +6,8 @@
 --   IsFaultOf text e     what may be told of a text: its first refusal, or want of memory
 --   program_of s         the program that a source stands for
 --   lex_fault, parse_fault   a fault of the tokens or of the grammar, as it is told
-use Rattle.std.specs.Prelude.{◌≡◌, ℕ, ◌<◌, ◌≤◌, List, Ok, Err, length}
-use Rattle.qasm_lexer.specs.Lexed.{lexed}
+use Rattle.std.specs.Prelude.{ℕ, ◌<◌, ◌≤◌, List, length}
+use Rattle.qasm_lexer.specs.Tokens.{AreTokens, IsFaultOf as IsLexFault}
 use Rattle.qasm_lexer.specs.declared.Token.{Token}
 use Rattle.qasm_lexer.specs.declared.LexFault.{LexFault}
 use Rattle.qasm_lexer.specs.declared.LexFault.TheVariants as lexing
@@ -25,7 +25,7 @@ use Rattle.program_reader.specs.declared.refusal.ReadFault.TheVariants.{Refused,
 use Rattle.program_reader.specs.declared.source.Source.{Source}
 
 abbrev pub IsUnparsed : List ℕ → ParseFault → Type 0
-IsUnparsed text fault = (tokens : List Token) × (lexed text ≡ Ok tokens) × IsParseFault text tokens fault
+IsUnparsed text fault = (tokens : List Token) × AreTokens text tokens × IsParseFault text tokens fault
 
 -- of a text that isn't too long
 abbrev pub IsWithin : List ℕ → Type 0
@@ -33,8 +33,8 @@ IsWithin text = length text ≤ text_limit
 
 abbrev pub IsRefusal : List ℕ → Refusal → Type 0
 IsRefusal text TooLong = text_limit < length text
-IsRefusal text (BadByte place) = IsWithin text × (lexed text ≡ Err (lexing.BadByte place))
-IsRefusal text (Number place) = IsWithin text × (lexed text ≡ Err (lexing.Number place))
+IsRefusal text (BadByte place) = IsWithin text × IsLexFault text (lexing.BadByte place)
+IsRefusal text (Number place) = IsWithin text × IsLexFault text (lexing.Number place)
 IsRefusal text (Syntax place) = IsWithin text × IsUnparsed text (parsing.Syntax place)
 IsRefusal text (Version place) = IsWithin text × IsUnparsed text (parsing.Version place)
 IsRefusal text (Depth place) = IsWithin text × IsUnparsed text (parsing.Depth place)

@@ -1,7 +1,8 @@
 -- Working form. What each stage may tell of its own input.
 --   IsUnchecked t e      of a tree: its refusal by the checks, or want of memory
 --   IsUnwritten b e      of a program with its names bound: its refusal where gates are written out, or want of memory
-use Rattle.qasm_check.specs.Checking.{Bound, IsRefused as IsCheckRefused}
+use Rattle.qasm_check.specs.Bound.{Bound}
+use Rattle.qasm_check.specs.Checking.{IsRefused as IsCheckRefused}
 use Rattle.qasm_parser.specs.Tree.{Tree}
 use Rattle.gate_inline.specs.Inlined.{IsRefused as IsInlineRefused}
 use Rattle.program_reader.specs.declared.refusal.Refusal.{Refusal}

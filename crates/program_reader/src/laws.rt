@@ -9,6 +9,7 @@ ghost use Rattle.program_reader.specs.declared.refusal.Refusal.{Refusal as First
 pub fn means_once()
     ensures { (text : List ℕ) (p q : Meant) → IsWritten text p → IsWritten text q → p ≡ q }
 {
+    qasm_lexer::lexed_once();
     qasm_parser::spelt_once();
 }
 
@@ -16,6 +17,8 @@ pub fn means_once()
 pub fn accepted_has_no_refusal()
     ensures { (text : List ℕ) (p : Meant) (r : First) → IsAccepted text p → IsRefusal text r → ⊥ }
 {
+    qasm_lexer::lexed_once();
+    qasm_lexer::accepted_has_no_fault();
     qasm_parser::spelt_once();
     qasm_parser::accepted_has_no_fault();
     qasm_check::accepted_has_no_fault();

@@ -8,14 +8,16 @@ ghost use Rattle.program_reader.specs.Refusals.{IsFaultOf, program_of};
 ghost use Rattle.program_reader.specs.Stages.{IsUnchecked, IsUnwritten};
 ghost use Rattle.qasm_check.specs.Checking.{IsAccepted as IsFineTree, bound};
 ghost use Rattle.qasm_check.specs.CheckedView.{program as bound_program};
+ghost use Rattle.qasm_lexer.specs.Names.{IsName};
+ghost use Rattle.qasm_parser.specs.DeclaredNames.{HasNames};
 ghost use Rattle.qasm_parser.specs.Tree.{program as tree_of};
 
 use crate::refusal::{ReadFault, Refusal};
 use crate::source::Source;
 use gate_inline::{InlineFault, inline};
 use qasm_check::{Bits, CheckFault, Checked, check};
-use qasm_lexer::lex;
-use qasm_parser::{Name, Program, parse};
+use qasm_lexer::{lex, tokens_are_lexemes};
+use qasm_parser::{Name, Program, declares_names, few_statements, parse};
 use std::alloc::{AllocError, Global};
 
 /// The most bytes of a text.
@@ -27,8 +29,12 @@ fn read_tree(alloc: Global, text: &[u8]) -> Result<Program, ReadFault>
     requires { length text.now ≤ text_limit }
     ensures ok { IfOk result (λ p. IsTreeOf text.now (tree_of p)) }
     ensures few { IfOk result (λ p. length p.list.items < 2 ^ 32) }
+    ensures names { IfOk result (λ p. All (HasNames IsName) (tree_of p).list) }
     ensures err { IfErr result (IsFaultOf text.now) }
 {
+    tokens_are_lexemes();
+    few_statements();
+    declares_names();
     let tokens = lex(alloc, text)?;
     Ok(parse(alloc, text, &tokens)?)
 }
@@ -62,10 +68,13 @@ fn registers_of(alloc: Global, checked: &Checked) -> Result<Vec<Bits>, AllocErro
 
 /// The operations, reads and registers of a program with its names bound.
 fn write_out(alloc: Global, checked: &Checked) -> Result<Source, ReadFault>
+    requires { All (λ r. IsName r.name) (bound_program checked.now).registers }
     ensures ok { IfOk result (λ s. IsWithinLimits (bound_program checked.now) × Means (bound_program checked.now) (program_of s)) }
     ensures few { IfOk result (λ s. s.ops.wires ≤ 64) }
     ensures short { IfOk result (λ s. length s.ops.list ≤ 65536) }
     ensures fine { IfOk result (λ s. All (IsFineOp s.ops.wires) s.ops.list) }
+    ensures registers { IfOk result (λ s. AreRegisters s.registers.items (length s.ops.reads)) }
+    ensures reads { IfOk result (λ s. All (IsRead s.ops.wires) s.ops.reads) }
     ensures err { IfErr result (IsUnwritten (bound_program checked.now)) }
 {
     let ops = match inline(alloc, checked) {

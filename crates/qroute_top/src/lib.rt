@@ -138,4 +138,12 @@ pub fn run<I: Source, F: Shelf, O: Sink, R: Sink>(
 }
 
 #[cfg(test)]
-mod tests;
+mod cases;
+#[cfg(test)]
+mod check_tests;
+#[cfg(test)]
+mod opt_tests;
+#[cfg(test)]
+mod route_tests;
+#[cfg(test)]
+mod stop_tests;

@@ -1,0 +1,180 @@
+//! What the tests of `run` share: runs over forms in memory, and tables of what they write and tell.
+
+use crate::run;
+use outside_io::{MemShelf, MemSink, MemSource, NamedText};
+use std::alloc::{AllocError, Global};
+use std::process::Abort;
+use std::test::Fail;
+
+/// What is handed to `run`.
+#[derive(Clone, Copy)]
+pub struct Case<'a> {
+    pub words: &'a [&'a str],
+    pub text: &'a [u8],
+    /// The text of the name `d` on the shelf; empty for none.
+    pub device: &'a str,
+    /// The call of the input, of the shelf, of the output (16 bytes a call) and of the report that fails; 0 for none.
+    pub fails: [u64; 4],
+}
+
+#[derive(Drop)]
+pub struct Outcome {
+    pub status: u8,
+    /// The bytes of the input that weren't taken.
+    pub left: usize,
+    pub out: Vec<u8>,
+    pub report: Vec<u8>,
+}
+
+pub fn run_case(alloc: Global, case: Case<'_>) -> Result<Outcome, AllocError> {
+    let [input_fails, shelf_fails, out_fails, report_fails] = case.fails;
+    let text = Vec::from_slice(alloc, case.text)?;
+    let mut input = MemSource::new(text, 64, Vec::from_slice(alloc, &[input_fails])?);
+    let mut texts = Vec::new(alloc);
+    if !case.device.is_empty() {
+        texts.push(NamedText::new(alloc, "d", case.device.as_bytes())?)?;
+    }
+    let mut shelf = MemShelf::new(texts, Vec::from_slice(alloc, &[shelf_fails])?);
+    let mut out = MemSink::new(alloc, 9999, 16, Vec::from_slice(alloc, &[out_fails])?)?;
+    let mut report = MemSink::new(alloc, 999, 999, Vec::from_slice(alloc, &[report_fails])?)?;
+    let status = run(
+        alloc,
+        case.words,
+        &mut input,
+        &mut shelf,
+        &mut out,
+        &mut report,
+    );
+    Ok(Outcome {
+        status,
+        left: input.rest().len(),
+        out: Vec::from_slice(alloc, out.as_slice())?,
+        report: Vec::from_slice(alloc, report.as_slice())?,
+    })
+}
+
+pub const OPT: [&str; 2] = ["qroute", "opt"];
+
+pub const CHECK: [&str; 2] = ["qroute", "check"];
+
+pub const ROUTE: [&str; 5] = ["qroute", "route", "--device", "d", "--trivial"];
+
+pub const HEAD: &str = "OPENQASM 2.0;\ninclude \"qelib1.inc\";\n";
+
+pub const PAIR: &str = "qubits = 2\nedges = [[0, 1]]\n";
+
+pub const LINE: &str = "qubits = 4\nedges = [[0, 1], [1, 2], [2, 3]]\n";
+
+/// A text after the heading; one that begins with a heading of its own, as it is.
+pub fn headed(alloc: Global, text: &str) -> Result<Vec<u8>, AllocError> {
+    let mut headed = String::new(alloc);
+    if !text.starts_with("OPENQASM") {
+        headed.push_str(HEAD)?;
+    }
+    headed.push_str(text)?;
+    Ok(headed.into_bytes())
+}
+
+/// Words, text after the heading and device; what is written after the heading, and what the report tells.
+pub type Written<'a> = (&'a [&'a str], &'a str, &'a str, &'a str, &'a str);
+
+pub fn write(alloc: Global, rt: &impl Abort, rows: &[Written<'_>]) -> Result<(), Fail> {
+    for (words, text, device, written, told) in rows {
+        let text = headed(alloc, text)?;
+        // The shelf's second call would fail: the device is loaded once.
+        let fails = [0, 2, 0, 0];
+        let got = run_case(
+            alloc,
+            Case {
+                words,
+                text: &text,
+                device,
+                fails,
+            },
+        )?;
+        assert_eq!(rt; got.status, 0, "{written}");
+        assert_eq!(rt; got.left, 0);
+        assert_eq!(rt;
+            got.out.as_slice(),
+            headed(alloc, written)?.as_slice(),
+            "{written}"
+        );
+        assert_eq!(rt; got.report.as_slice(), told.as_bytes(), "{written}");
+    }
+    Ok(())
+}
+
+/// Words, text after the heading, device, failing calls; status, output and report.
+pub type Stopped<'a> = (
+    &'a [&'a str],
+    &'a str,
+    &'a str,
+    [u64; 4],
+    u8,
+    &'a str,
+    &'a str,
+);
+
+pub fn stop(alloc: Global, rt: &impl Abort, rows: &[Stopped<'_>]) -> Result<(), Fail> {
+    for (words, text, device, fails, status, written, told) in rows {
+        let text = headed(alloc, text)?;
+        let got = run_case(
+            alloc,
+            Case {
+                words,
+                text: &text,
+                device,
+                fails: *fails,
+            },
+        )?;
+        assert_eq!(rt; got.status, *status, "{told}");
+        assert_eq!(rt; got.out.as_slice(), written.as_bytes(), "{told}");
+        assert_eq!(rt; got.report.as_slice(), told.as_bytes(), "{told}");
+    }
+    Ok(())
+}
+
+
+/// Texts that `opt` writes with these lines behind the heading, and the phase that it reports.
+pub fn optimise(alloc: Global, rt: &impl Abort, rows: &[(&str, &str, u8)]) -> Result<(), Fail> {
+    for (text, written, phase) in rows {
+        let text = headed(alloc, text)?;
+        let got = run_case(
+            alloc,
+            Case {
+                words: &OPT,
+                text: &text,
+                device: "",
+                fails: [0, 1, 0, 0],
+            },
+        )?;
+        assert_eq!(rt; got.status, 0, "{written}");
+        assert_eq!(rt; got.out.as_slice(), headed(alloc, written)?.as_slice(), "{written}");
+        let told = String::from_utf8(got.report).unwrap();
+        assert!(rt; told.contains(&format!(in alloc; "\"phase\":{phase},")?), "{told}");
+    }
+    Ok(())
+}
+
+/// Texts that each command on a program refuses, and the line that tells why.
+pub fn refuse(alloc: Global, rt: &impl Abort, rows: &[(&str, &str)]) -> Result<(), Fail> {
+    for (text, told) in rows {
+        let text = headed(alloc, text)?;
+        for words in [OPT.as_slice(), CHECK.as_slice(), ROUTE.as_slice()] {
+            // No output is written, and no device is loaded.
+            let got = run_case(
+                alloc,
+                Case {
+                    words,
+                    text: &text,
+                    device: "?",
+                    fails: [0, 1, 1, 0],
+                },
+            )?;
+            assert_eq!(rt; got.status, 3, "{told}");
+            assert!(rt; got.out.as_slice().is_empty(), "{told}");
+            assert_eq!(rt; got.report.as_slice(), told.as_bytes(), "{told}");
+        }
+    }
+    Ok(())
+}
