@@ -1,7 +1,7 @@
 -- One lexeme at the front of a text.
 --   first_lexeme     the first lexeme, and then what follows it
 --   no_lexeme        no text has no tokens
-use Rattle.std.proofs.Common.{◌≡◌, ℕ, zero, suc, ◌+◌, ◌<◌, ◌≤◌, ◌==◌, false, List, [], ◌∷◌, ◌++◌, Ok, Err, if◌then◌else◌, refl, ap, arith, length, take, drop}
+use Rattle.std.proofs.Common.{◌≡◌, ℕ, zero, suc, ◌+◌, ◌<◌, ◌≤◌, ◌==◌, false, [], ◌∷◌, ◌++◌, Ok, Err, if◌then◌else◌, refl, ap, arith, length, take, drop}
 use Rattle.std.proofs.lemmas.List.{length-drop}
 use Rattle.std.proofs.lemmas.Grind.{common_steps}
 use Rattle.qasm_lexer.specs.Lexemes.{Bytes, lexeme_len}
