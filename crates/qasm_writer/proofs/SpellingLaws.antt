@@ -11,7 +11,7 @@ use Rattle.std.proofs.lemmas.List.Sums.{sum_by-cons}
 use Rattle.std.proofs.lemmas.List.Elements.{recursion_from_All}
 use Rattle.std.specs.List.{AllByRecursion, flat_map, list_all, sum_by}
 use Rattle.std.specs.Fmt.{decimal}
-use Rattle.angle_fraction.specs.Fraction.{common_factor, greatest_common, is_small, lowest}
+use Rattle.angle_fraction.specs.Fraction.{common_factor, greatest_common, is_small, lowest, most_part}
 use Rattle.angle_fraction.specs.declared.signs.Binary.TheVariants.{Mul, Div}
 use Rattle.qasm_lexer.specs.Lexemes.{Bytes, is_word_byte, lexeme_len}
 use Rattle.qasm_lexer.specs.Numbers.{digit, number, scaled}
@@ -128,7 +128,7 @@ unfolding lexeme_len symbol_by mark_symbol
 gives-close t ss g = Gives-token (codes "]") t ss refl (lit< tt) refl refl g
 
 -- ---- an argument
-gives-index : (q : Bytes) (i : ℕ) (t : Bytes) (ss : List Symbol) → IsName q → i ≤ 4611686018427387904 → Gives t ss
+gives-index : (q : Bytes) (i : ℕ) (t : Bytes) (ss : List Symbol) → IsName q → i ≤ most_part → Gives t ss
     → Gives (index_text q i ++ t) (name q ∷ index_symbols (Some i) ss)
 gives-index q i t ss h few g =
     let shown : index_text q i ++ t ≡ q ++ 91 ∷ (decimal i ++ 93 ∷ t) = simp append_assoc in
@@ -138,7 +138,7 @@ gives-index q i t ss h few g =
     (Gives-number i t (mark CloseBracket ∷ ss) few (gives-close t ss g))))
 
 -- ---- registers
-wires_spelt : (q : Bytes) (n : ℕ) → IsName q → n ≤ 4611686018427387904 → Spelt (wires_statements q n) (wires_line q n)
+wires_spelt : (q : Bytes) (n : ℕ) → IsName q → n ≤ most_part → Spelt (wires_statements q n) (wires_line q n)
 wires_spelt q n h few = by_test (n == 0)
   where
     line : Spelt (register true q n ∷ []) (codes "qreg " ++ (index_text q n ++ codes ";\n"))
@@ -153,7 +153,7 @@ wires_spelt q n h few = by_test (n == 0)
     by_test true = Spelt-nil
     by_test false = line
 
-bits_spelt : (r : Bits) → IsName r.name → r.size ≤ 4611686018427387904 → Spelt (bits_statement r ∷ []) (bits_line r)
+bits_spelt : (r : Bits) → IsName r.name → r.size ≤ most_part → Spelt (bits_statement r ∷ []) (bits_line r)
 bits_spelt r h few = Spelt-line (bits_statement r) (bits_line r)
     (λ rest. word Creg ∷ name r.name ∷ index_symbols (Some r.size) (mark Semicolon ∷ rest)) (λ rest. [])
     (λ tail rest g. let shown : bits_line r ++ tail ≡ codes "creg " ++ (index_text r.name r.size ++ (codes ";\n" ++ tail)) = simp append_assoc in
@@ -161,14 +161,14 @@ bits_spelt r h few = Spelt-line (bits_statement r) (bits_line r)
     (gives-index r.name r.size (codes ";\n" ++ tail) (mark Semicolon ∷ rest) h few (gives-end tail rest g))))
     (λ rest. (refl, refl)) (λ rest. refl)
 
-registers_spelt : (rs : List Bits) → AllByRecursion (λ r. IsName r.name × (r.size ≤ 4611686018427387904)) rs
+registers_spelt : (rs : List Bits) → AllByRecursion (λ r. IsName r.name × (r.size ≤ most_part)) rs
     → Spelt (map bits_statement rs) (flat_map bits_line rs)
 registers_spelt [] h = Spelt-nil
 registers_spelt (r ∷ rs) h =
     Spelt-then (bits_statement r ∷ []) (map bits_statement rs) (bits_line r) (flat_map bits_line rs) (bits_spelt r h.0.0 h.0.1) (registers_spelt rs h.1)
 
 -- ---- measurements
-read_spelt : (q b : Bytes) (k i : ℕ) → IsName q → IsName b → k ≤ 4611686018427387904 → i ≤ 4611686018427387904
+read_spelt : (q b : Bytes) (k i : ℕ) → IsName q → IsName b → k ≤ most_part → i ≤ most_part
     → Spelt (act (measure (at q i) (at b k)) ∷ []) (read_line q b k (Some i))
 read_spelt q b k i h g few less = Spelt-line (act (measure (at q i) (at b k))) (read_line q b k (Some i))
     (λ rest. word Measure ∷ name q ∷ index_symbols (Some i) (mark Arrow ∷ name b ∷ index_symbols (Some k) (mark Semicolon ∷ rest))) (λ rest. [])
@@ -187,8 +187,8 @@ read_spelt q b k i h g few less = Spelt-line (act (measure (at q i) (at b k))) (
     ))
     (λ rest. refl)
 
-reads_spelt : (q b : Bytes) (n k : ℕ) (reads : List (Option ℕ)) → IsName q → IsName b → n ≤ 4611686018427387904
-    → k + length reads ≤ 4611686018427387904 → AllByRecursion (IsRead n) reads → Spelt (register_statements q b k reads) (register_lines q b k reads)
+reads_spelt : (q b : Bytes) (n k : ℕ) (reads : List (Option ℕ)) → IsName q → IsName b → n ≤ most_part
+    → k + length reads ≤ most_part → AllByRecursion (IsRead n) reads → Spelt (register_statements q b k reads) (register_lines q b k reads)
 reads_spelt q b n k [] h g few less there = Spelt-nil
 reads_spelt q b n k (None ∷ reads) h g few less there = reads_spelt q b n (k + 1) reads h g few (omega arith) there.1
 reads_spelt q b n k (Some i ∷ reads) h g few less there =
@@ -205,8 +205,8 @@ there_drop n zero reads h = h
 there_drop n (suc k) [] h = tt
 there_drop n (suc k) (r ∷ reads) h = there_drop n k reads h.1
 
-all_reads_spelt : (q : Bytes) (n : ℕ) (rs : List Bits) (reads : List (Option ℕ)) → IsName q → n ≤ 4611686018427387904
-    → AllByRecursion (λ r. IsName r.name × (r.size ≤ 4611686018427387904)) rs → AllByRecursion (IsRead n) reads
+all_reads_spelt : (q : Bytes) (n : ℕ) (rs : List Bits) (reads : List (Option ℕ)) → IsName q → n ≤ most_part
+    → AllByRecursion (λ r. IsName r.name × (r.size ≤ most_part)) rs → AllByRecursion (IsRead n) reads
     → Spelt (read_statements q rs reads) (read_lines q rs reads)
 all_reads_spelt q n [] reads h few named there = Spelt-nil
 all_reads_spelt q n (r ∷ rs) reads h few named there =
@@ -219,7 +219,7 @@ all_reads_spelt q n (r ∷ rs) reads h few named there =
 gives-cx : (t : Bytes) (ss : List Symbol) → Gives t ss → Gives (codes "cx " ++ t) (name (codes "cx") ∷ ss)
 gives-cx t ss g = Gives-name (codes "cx") 32 t ss (record { word = refl; free = refl; no_function = refl }) refl (Gives-space t ss g)
 
-cx_spelt : (q : Bytes) (c t : ℕ) → IsName q → c ≤ 4611686018427387904 → t ≤ 4611686018427387904 → Spelt (op_statement q (Cx c t) ∷ []) (op_line q (Cx c t))
+cx_spelt : (q : Bytes) (c t : ℕ) → IsName q → c ≤ most_part → t ≤ most_part → Spelt (op_statement q (Cx c t) ∷ []) (op_line q (Cx c t))
 cx_spelt q c t h few less = Spelt-line (op_statement q (Cx c t)) (op_line q (Cx c t))
     (λ rest. name (codes "cx") ∷ name q ∷ index_symbols (Some c) (mark Comma ∷ name q ∷ index_symbols (Some t) (mark Semicolon ∷ rest))) (λ rest. [])
     (λ tail rest g.
@@ -244,7 +244,7 @@ cx_spelt q c t h few less = Spelt-line (op_statement q (Cx c t)) (op_line q (Cx 
 
 -- a gate on one qubit, by the symbols of its name
 gate_spelt : (q gate text : Bytes) (i : ℕ) (angles : List Expression) (ts : List Symbol → List Symbol) (found : List Symbol → List Seen)
-    → IsName q → i ≤ 4611686018427387904
+    → IsName q → i ≤ most_part
     → ((t : Bytes) (ss : List Symbol) → Gives t ss → Gives (text ++ 32 ∷ t) (ts ss))
     → ((rest : List Symbol) → (form : Form) × SpellsForm form (record { gate = gate; angles = angles; args = at q i ∷ [] }) (ts rest) rest (found rest))
     → ((rest : List Symbol) → first_deep 64 (found rest) ≡ None)
@@ -261,7 +261,7 @@ gate_spelt q gate text i angles ts found h few gives form shallow =
     (f.0, mid, f.1, (mark Semicolon ∷ rest, [], [], (refl, tt, refl), (refl, refl), refl)))
     (λ rest. shallow (name q ∷ index_symbols (Some i) (mark Semicolon ∷ rest)))
 
-plain_spelt : (q gate : Bytes) (i : ℕ) → IsName q → i ≤ 4611686018427387904 → IsName gate
+plain_spelt : (q gate : Bytes) (i : ℕ) → IsName q → i ≤ most_part → IsName gate
     → Spelt (applied gate [] (at q i ∷ []) ∷ []) (gate ++ (codes " " ++ (index_text q i ++ codes ";\n")))
 plain_spelt q gate i h few named =
     gate_spelt q gate gate i [] (λ rest. name gate ∷ rest) (λ rest. []) h few
@@ -300,7 +300,7 @@ angle_spelt k rest = record {
 }
 
 -- k*pi/4 in parentheses is one angle, three deep
-eighths_spelt : (q text : Bytes) (i k : ℕ) → IsName q → i ≤ 4611686018427387904
+eighths_spelt : (q text : Bytes) (i k : ℕ) → IsName q → i ≤ most_part
     → ((t : Bytes) (ss : List Symbol) → Gives t ss → Gives (text ++ 32 ∷ t) (name (codes "u1") ∷ mark Open ∷ whole_symbol k ∷ sign Mul ∷ word Pi ∷ sign Div ∷ whole_symbol 4 ∷ mark Close ∷ ss))
     → Spelt (applied (codes "u1") (eighths_angle k ∷ []) (at q i ∷ []) ∷ []) (text ++ (codes " " ++ (index_text q i ++ codes ";\n")))
 eighths_spelt q text i k h few gives =
@@ -324,7 +324,7 @@ eighths_spelt q text i k h few gives =
     ))
     (λ rest. refl)
 
-phase_spelt : (q : Bytes) (i c : ℕ) → IsName q → i ≤ 4611686018427387904
+phase_spelt : (q : Bytes) (i c : ℕ) → IsName q → i ≤ most_part
     → (c ≡ 1) ⊎ ((c ≡ 2) ⊎ ((c ≡ 3) ⊎ ((c ≡ 4) ⊎ ((c ≡ 5) ⊎ ((c ≡ 6) ⊎ (c ≡ 7))))))
     → Spelt (phase_statement c (at q i) ∷ []) (phase_text c ++ (codes " " ++ (index_text q i ++ codes ";\n")))
 phase_spelt q i c h few (inl e) = rw e (plain_spelt q (codes "t") i h few (record { word = refl; free = refl; no_function = refl }))
@@ -338,7 +338,7 @@ phase_spelt q i c h few (inr (inr (inr (inr (inr (inr e)))))) = rw e (plain_spel
 phase_cases : (c : ℕ) → 1 ≤ c → c < 8 → (c ≡ 1) ⊎ ((c ≡ 2) ⊎ ((c ≡ 3) ⊎ ((c ≡ 4) ⊎ ((c ≡ 5) ⊎ ((c ≡ 6) ⊎ (c ≡ 7))))))
 phase_cases c some few = grind arith
 
-op_spelt : (q : Bytes) (u : Op) (n : ℕ) → IsName q → n ≤ 4611686018427387904 → IsPlain u → WiresBelow n (u ∷ []) → Spelt (op_statement q u ∷ []) (op_line q u)
+op_spelt : (q : Bytes) (u : Op) (n : ℕ) → IsName q → n ≤ most_part → IsPlain u → WiresBelow n (u ∷ []) → Spelt (op_statement q u ∷ []) (op_line q u)
 op_spelt q (Cx c t) n h few plain there = cx_spelt q c t h (omega (arith, there.0)) (omega (arith, there.1.0))
 op_spelt q (U a b c i) n h few (inl e) there =
     rw e.0 (plain_spelt q (codes "h") i h (omega (arith, there.0)) (record { word = refl; free = refl; no_function = refl }))
@@ -347,7 +347,7 @@ op_spelt q (U a b c i) n h few (inr (inl e)) there =
 op_spelt q (U a b c i) n h few (inr (inr e)) there =
     rw e.0 (phase_spelt q i c h (omega (arith, there.0)) (phase_cases c e.2 e.3))
 
-ops_spelt : (q : Bytes) (us : List Op) (n : ℕ) → IsName q → n ≤ 4611686018427387904 → AllByRecursion IsPlain us → WiresBelow n us
+ops_spelt : (q : Bytes) (us : List Op) (n : ℕ) → IsName q → n ≤ most_part → AllByRecursion IsPlain us → WiresBelow n us
     → Spelt (map (op_statement q) us) (flat_map (op_line q) us)
 ops_spelt q [] n h few plain there = Spelt-nil
 ops_spelt q (U a b c i ∷ us) n h few plain there =
@@ -385,7 +385,7 @@ IsName-underscores (suc k) = record { word = all_words k; free = refl; no_functi
     all_words (suc k) = all_words k
 
 size-le-sum : (rs : List Bits) → AllByRecursion IsFree rs → sum_by (λ r. r.size) rs ≤ 1024
-    → AllByRecursion (λ r. IsName r.name × (r.size ≤ 4611686018427387904)) rs
+    → AllByRecursion (λ r. IsName r.name × (r.size ≤ most_part)) rs
 size-le-sum [] h few = tt
 size-le-sum (r ∷ rs) h few =
     let total : r.size + sum_by (λ x. x.size) rs ≤ 1024 = omega (arith, few, sum_by-cons (λ x. x.size) r rs) in
@@ -396,7 +396,7 @@ tree_by : (text : Bytes) (xs : List Statement) (ts : List Symbol) (found : List 
 tree_by text xs ts found g each shallow =
     let it = g.behind [] in (it.tokens, it.lexed, (found, (ts, it.spelt, each), refl, shallow))
 
-pub written_tree-spelt : (q : List ℕ) (n bits : ℕ) (us : List Op) (rs : List Bits) (reads : List (Option ℕ)) → n ≤ 4611686018427387904
+pub written_tree-spelt : (q : List ℕ) (n bits : ℕ) (us : List Op) (rs : List Bits) (reads : List (Option ℕ)) → n ≤ most_part
     → IsQubitsName rs q → AreRegisters rs bits → All IsPlain us → WiresBelow n us → All (IsRead n) reads
     → IsTreeOf (written_text q n us rs reads) (written_tree q n us rs reads)
 written_tree-spelt q n bits us rs reads few spare registers plain there asked =

@@ -16,7 +16,7 @@ use Rattle.std.proofs.lemmas.Str.Parse.{IsNumeralModel, numerals_by_fold}
 use Rattle.std.specs.Char.{is_ascii_alphabetic, is_ascii_digit, is_ascii_lowercase, is_ascii_uppercase}
 use Rattle.std.specs.Fmt.{decimal}
 use Rattle.std.specs.List.{list_all, prefix_len}
-use Rattle.angle_fraction.specs.Fraction.{common_factor, fraction, greatest_common, is_small, lowest}
+use Rattle.angle_fraction.specs.Fraction.{common_factor, fraction, greatest_common, is_small, lowest, most_part}
 use Rattle.qasm_lexer.specs.Lexemes.{Bytes, begins_with, is_blank, is_space, is_word_byte, lexeme_by, lexeme_len, number_len, word_len}
 use Rattle.qasm_lexer.specs.Numbers.{digit, has_point, number, number_after, decimal as value, scaled}
 use Rattle.qasm_lexer.specs.Tokens.{bytes_of, has_value, is_number, is_out_of_range, kind_of, lexed_from, number_kind, then_more, token_at}
@@ -213,7 +213,7 @@ value-decimal : (n : ℕ) → n < 2 ^ 64 → lowest (value (decimal n)) ≡ frac
 value-decimal n h =
     ap lowest (value-digits (decimal n) (all_digits n h) ∙ ap (λ m. fraction (pos m) 1) (number-decimal n h)) ∙ lowest-whole n
 
-small_whole : (n : ℕ) → n ≤ 4611686018427387904 → is_small (fraction (pos n) 1) ≡ true
+small_whole : (n : ℕ) → n ≤ most_part → is_small (fraction (pos n) 1) ≡ true
 unfolding is_small
 small_whole n h = grind (arith, nat_tests)
 
@@ -273,7 +273,7 @@ kind-digits b t digits =
     kind_of-digit b t (digit_letter b digit) digit
     ∙ ap (λ p. if p then Real else Whole) (point_none (b ∷ t) (prefix_len-whole is_ascii_digit (b ∷ t) digits))
 
-number_by : (n : ℕ) (b : ℕ) (t rest : Bytes) (ss : List Symbol) → n ≤ 4611686018427387904 → list_all is_ascii_digit (b ∷ t) ≡ true
+number_by : (n : ℕ) (b : ℕ) (t rest : Bytes) (ss : List Symbol) → n ≤ most_part → list_all is_ascii_digit (b ∷ t) ≡ true
     → ((b == 48) ≡ false) ⊎ (length (b ∷ t) ≡ 1) → lowest (value (b ∷ t)) ≡ fraction (pos n) 1
     → Gives (93 ∷ rest) ss → Gives (b ∷ t ++ 93 ∷ rest) (whole_symbol n ∷ ss)
 unfolding symbol_by
@@ -286,13 +286,13 @@ number_by n b t rest ss h digits first is g =
     subst (λ (x : Symbol). Gives (b ∷ t ++ 93 ∷ rest) (x ∷ ss)) it
     (Gives-token (b ∷ t) (93 ∷ rest) ss (lexeme_len-number b t rest digits first) (omega arith) blank fine g)
 
-number_text : (n : ℕ) (t rest : Bytes) (ss : List Symbol) → n ≤ 4611686018427387904 → 0 < length t → list_all is_ascii_digit t ≡ true
+number_text : (n : ℕ) (t rest : Bytes) (ss : List Symbol) → n ≤ most_part → 0 < length t → list_all is_ascii_digit t ≡ true
     → (begins_with 48 t ≡ false) ⊎ (length t ≡ 1) → lowest (value t) ≡ fraction (pos n) 1
     → Gives (93 ∷ rest) ss → Gives (t ++ 93 ∷ rest) (whole_symbol n ∷ ss)
 number_text n [] rest ss h some digits first is g = absurd (omega arith)
 number_text n (b ∷ t) rest ss h some digits first is g = number_by n b t rest ss h digits first is g
 
-pub Gives-number : (n : ℕ) (rest : Bytes) (ss : List Symbol) → n ≤ 4611686018427387904 → Gives (93 ∷ rest) ss
+pub Gives-number : (n : ℕ) (rest : Bytes) (ss : List Symbol) → n ≤ most_part → Gives (93 ∷ rest) ss
     → Gives (decimal n ++ 93 ∷ rest) (whole_symbol n ∷ ss)
 Gives-number n rest ss h g =
     let small : n < 2 ^ 64 = omega arith in
