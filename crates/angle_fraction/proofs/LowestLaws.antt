@@ -5,6 +5,7 @@
 --   kept, fits, past     the same for parts as the code has them
 --   factor_bound         a common divisor fits where the denominator does
 --   kept_over, kept_over_less, inverse-above, inverse-below, over, over_less   1 over what is kept
+--   lowest_reduced, lowest_lowest   lowest terms have the value, and are lowest
 --   lowest_same, fitted_same   equal fractions are equal in lowest terms, and have one value
 use Rattle.std.proofs.Common.{◌≡◌, ℕ, zero, suc, ◌*◌, ◌/◌, ◌<◌, ◌≤◌, ◌==◌, ◌&&◌, ◌⊎◌, true, false, if◌then◌else◌, ◌^◌, FitsSigned, ℤ, pos, negsuc, neg_ℤ, Ok, Err, refl, sym, ap, ◌∙◌, subst, arith, nat_le, unsigned_abs, ◌*ℤ◌}
 use Rattle.std.specs.Prelude.{◌<ℤ◌, ◌≤ℤ◌}
@@ -13,7 +14,7 @@ use Rattle.std.specs.Int.RustNames.{int_div}
 use Rattle.std.proofs.lemmas.Int.{ints}
 use Rattle.std.proofs.lemmas.Nat.Gcd.{IsGcd-swap}
 use Rattle.std.proofs.Math.Nat.{zero-lt-suc, mul-pos, lt_of_le_of_lt, pos_of_dvd_of_pos, le_of_dvd, div-mul_cancel, dvd-mul_right}
-use Rattle.angle_fraction.specs.Fraction.{Fraction, IsKept, IsLowest, common_factor, fraction, inverse_of, is_small, lowest, most_part}
+use Rattle.angle_fraction.specs.Fraction.{Fraction, IsKept, IsLowest, IsReduced, common_factor, fraction, inverse_of, is_small, lowest, most_part}
 use Rattle.angle_fraction.specs.Angles.{fitted}
 use Rattle.angle_fraction.specs.declared.AngleFault.TheVariants.{Range}
 use Rattle.angle_fraction.proofs.FactorLaws.{coprime-parts, greatest_common_is, has_gcd, same_lowest}
@@ -40,6 +41,25 @@ unsigned_abs-int_div (negsuc n) g = by_size (suc n / g)
     by_size : (m : ℕ) → unsigned_abs (neg_ℤ (pos m)) ≡ m
     by_size zero = refl
     by_size (suc m) = refl
+
+pub lowest_reduced : (x : Fraction) → 0 < x.den → IsReduced x (lowest x)
+lowest_reduced x some =
+    let g = common_factor-is x some in
+    record { factor = common_factor x; in_num = g.0; in_den = g.1; is = lowest_by x.num x.den (common_factor x) some g }
+
+lowest_parts : (num : ℤ) (den g : ℕ) → 0 < den → IsGcd (unsigned_abs num) den g → IsLowest (fraction (int_div num (pos g)) (den / g))
+lowest_parts num den g some h =
+    let above : 0 < g = pos_of_dvd_of_pos h.1 some in
+    let less : 0 < den / g = pos_of_dvd_of_pos (subst (λ n. den / g ∣ n) (div-mul_cancel g h.1) (dvd-mul_right (den / g) g)) some in
+    record {
+      positive = less;
+      coprime = common_factor-by (int_div num (pos g)) (den / g) 1 less (rw unsigned_abs-int_div (coprime-parts (unsigned_abs num) den g above h));
+    }
+
+pub lowest_lowest : (x : Fraction) → 0 < x.den → IsLowest (lowest x)
+lowest_lowest x some =
+    let g = common_factor-is x some in
+    subst IsLowest (sym (lowest_by x.num x.den (common_factor x) some g)) (lowest_parts x.num x.den (common_factor x) some g)
 
 -- ---- what the code keeps
 pub kept_by : (num den : ℤ) (g : ℕ) → pos 0 <ℤ den → IsGcd (unsigned_abs num) (unsigned_abs den) g

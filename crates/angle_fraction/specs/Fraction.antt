@@ -7,11 +7,12 @@
 --   common_factor     the greatest common divisor of a fraction's parts
 --   lowest            the same value in lowest terms
 --   IsLowest          a value in lowest terms
+--   IsReduced x y     y is x with both parts divided by a common divisor
 --   most_part         the greatest size of a part that is kept, 2^62
 --   is_small          both parts are at most so large
 --   IsKept            what two parts that are kept have: a denominator above 0, lowest terms, and their size
 use Rattle.std.specs.Prelude.{◌≡◌, ℕ, zero, suc, ◌*◌, ◌/◌, ◌%◌, ◌<◌, ◌^◌, ◌==◌, ◌&&◌, Bool, ℤ, pos, negsuc, neg_ℤ, ◌+ℤ◌, ◌-ℤ◌, ◌*ℤ◌, if◌then◌else◌, nat_le, ◌≤◌, ◌<ℤ◌, refl}
-use Rattle.std.specs.Int.{int_pow}
+use Rattle.std.specs.Int.{int_pow, ◌∣◌}
 use Rattle.std.specs.Int.RustNames.{int_div, unsigned_abs}
 
 pub record Fraction : Type 0 where
@@ -77,6 +78,12 @@ lowest x = fraction (int_div x.num (pos (common_factor x))) (x.den / common_fact
 pub record IsLowest (x : Fraction) : Type 0 where
   pub positive : 0 < x.den
   pub coprime : common_factor x ≡ 1
+
+pub record IsReduced (x y : Fraction) : Type 0 where
+  pub factor : ℕ
+  pub in_num : factor ∣ unsigned_abs x.num
+  pub in_den : factor ∣ x.den
+  pub is : y ≡ fraction (int_div x.num (pos factor)) (x.den / factor)
 
 abbrev pub most_part : ℕ
 most_part = 4611686018427387904

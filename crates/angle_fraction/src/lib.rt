@@ -10,12 +10,14 @@
 use thiserror::Error;
 
 mod frac;
+mod laws;
 mod operations;
 mod signs;
 #[cfg(test)]
 mod tests;
 
 pub use frac::{Frac, lowest};
+pub use laws::lowest_terms;
 pub use operations::{add, div, eighths, mul, neg, pow, sub};
 pub use signs::{Binary, Function};
 

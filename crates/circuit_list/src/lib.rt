@@ -53,7 +53,8 @@ impl Circuit {
     /// A circuit without gates.
     pub fn empty(alloc: Global, wires: u32) -> Result<Circuit, AllocError>
         requires { wires ≤ most_wires }
-        ensures { IfOk result (λ c. c ≡ record { wires = wires; gates = [] }) }
+        ensures wires { IfOk result (λ c. c.wires ≡ wires) }
+        ensures gates { IfOk result (λ c. c.gates ≡ []) }
     {
         Ok(Circuit {
             wires,
@@ -64,7 +65,8 @@ impl Circuit {
     /// Puts a gate behind the others. After want of memory the circuit is as it was.
     pub fn push(&mut self, g: Gate) -> Result<(), AllocError>
         requires { IsFine self.old.wires g }
-        ensures ok { OnOk result (self.new ≡ record self.old { gates = self.old.gates ++ g ∷ [] }) }
+        ensures wires { self.new.wires ≡ self.old.wires }
+        ensures gates { OnOk result (self.new.gates ≡ self.old.gates ++ g ∷ []) }
         ensures err { OnErr result (self.new ≡ self.old) }
     {
         self.gates.push(g)?;
@@ -74,7 +76,8 @@ impl Circuit {
     /// Takes the gate at a place away.
     pub fn remove(&mut self, i: usize)
         requires { i < length self.old.gates }
-        ensures { self.new ≡ record self.old { gates = remove self.old.gates i } }
+        ensures wires { self.new.wires ≡ self.old.wires }
+        ensures gates { self.new.gates ≡ remove self.old.gates i }
     {
         let _gone = self.gates.remove(i);
     }
@@ -83,7 +86,8 @@ impl Circuit {
     pub fn replace(&mut self, i: usize, g: Gate)
         requires there { i < length self.old.gates }
         requires fine { IsFine self.old.wires g }
-        ensures { self.new ≡ record self.old { gates = slice_set self.old.gates i g } }
+        ensures wires { self.new.wires ≡ self.old.wires }
+        ensures gates { self.new.gates ≡ slice_set self.old.gates i g }
     {
         self.gates[i] = g;
     }

@@ -42,7 +42,8 @@ pub fn expand(alloc: Global, source: &Ops) -> Result<Passed, AllocError>
 /// Puts the gates of an operation behind the others.
 fn push_expanded(body: &mut Circuit, op: Op) -> Result<(), AllocError>
     requires { IsFineOp body.old.wires op }
-    ensures ok { OnOk result (body.new ≡ record body.old { gates = body.old.gates ++ gates_of op }) }
+    ensures wires { body.new.wires ≡ body.old.wires }
+    ensures gates { OnOk result (body.new.gates ≡ body.old.gates ++ gates_of op) }
 {
     match op {
         Op::U { a, b, c, q } => push_u(body, a, b, c, q),
@@ -56,7 +57,8 @@ fn push_u(body: &mut Circuit, a: u8, b: u8, c: u8, q: u32) -> Result<(), AllocEr
     requires b_below { b < 8 }
     requires c_below { c < 8 }
     requires wire { q < body.old.wires }
-    ensures ok { OnOk result (body.new ≡ record body.old { gates = body.old.gates ++ u_gates a b c q }) }
+    ensures wires { body.new.wires ≡ body.old.wires }
+    ensures gates { OnOk result (body.new.gates ≡ body.old.gates ++ u_gates a b c q) }
 {
     if a == 0 {
         return push_phase(body, b + c, q);
@@ -86,7 +88,8 @@ fn push_u(body: &mut Circuit, a: u8, b: u8, c: u8, q: u32) -> Result<(), AllocEr
 /// Puts the phase `k`, taken modulo 8, behind the others; no gate where that is 0.
 fn push_phase(body: &mut Circuit, k: u8, q: u32) -> Result<(), AllocError>
     requires { q < body.old.wires }
-    ensures ok { OnOk result (body.new ≡ record body.old { gates = body.old.gates ++ phase k q }) }
+    ensures wires { body.new.wires ≡ body.old.wires }
+    ensures gates { OnOk result (body.new.gates ≡ body.old.gates ++ phase k q) }
 {
     let k = k % 8;
     if k == 0 {

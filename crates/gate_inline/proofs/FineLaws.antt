@@ -1,6 +1,6 @@
 -- The operations of a sound program are fine.
 --     operations-fine     those of all steps
---     placed_wide         wires and bits below some number are below a greater one
+--     steps_wide          their wires are below a number that is no less than theirs
 use Rattle.std.proofs.Common.{◌≡◌, ℕ, zero, suc, ◌+◌, ◌<◌, ◌≤◌, List, [], ◌∷◌, ◌++◌, All, Bool, true, false, ◌&&◌, ◌||◌, if◌then◌else◌, Option, Some, None, Result, Ok, Err, append_assoc, append-nil, refl, sym, subst, ◌∙◌, ap, arith, add-one, length, map, fold, ◌⊎◌, inl, inr}
 use Rattle.std.specs.Prelude.{◌≢◌, not, nat_eq, nat_lt, ◌==◌}
 use Rattle.std.specs.List.{list_all, list_any}
@@ -12,12 +12,13 @@ use Rattle.angle_fraction.specs.Angles.{eighths_of, first_where, is_turn}
 use Rattle.angle_fraction.specs.declared.Angle.{Angle}
 use Rattle.unitary_model.specs.declared.Op.{Op}
 use Rattle.unitary_model.specs.declared.Op.TheVariants.{U, Cx}
-use Rattle.qasm_check.specs.Checking.{Bound}
-use Rattle.qasm_check.specs.Gates.{Item, call, pause, Gate, u, cx, opaque, composed, gate_at, gate_qubits}
-use Rattle.qasm_check.specs.Names.{has_repeat}
-use Rattle.qasm_check.specs.Places.{broadcast, upto, wire_at}
-use Rattle.qasm_check.specs.declared.meaning.Place.{Place}
-use Rattle.qasm_check.specs.Steps.{Step, applies, measures, pauses, nothing}
+use Rattle.qasm_check.specs.Bound.{Bound}
+use Rattle.gate_library.specs.Gates.{Item, call, barrier, Gate, u, cx, opaque, composed, gate_at, gate_qubits}
+use Rattle.gate_library.specs.Names.{has_repeat}
+use Rattle.gate_library.specs.Operands.{broadcast, upto, wire_at}
+use Rattle.gate_library.specs.declared.operand.Operand.{Operand}
+use Rattle.qasm_check.specs.Sound.{IsSound, are_gates, is_distinct, is_gate, is_item, is_step}
+use Rattle.qasm_check.specs.Steps.{Step, applies, measures, bars, nothing}
 use Rattle.gate_expand.specs.Expansion.{IsFineOp}
 use Rattle.gate_inline.specs.Inlined.{IsFault, IsFirstUnvalued, IsInlined, IsRefused, IsTooMany, operations}
 use Rattle.gate_inline.specs.Reads.{reads}
@@ -30,38 +31,10 @@ use Rattle.gate_inline.specs.declared.stop.Unvalued.TheVariants.{NoForm, ByZero,
 use Rattle.gate_expand.specs.declared.source.Ops.{Ops}
 use Rattle.gate_inline.specs.Meanings.{Answer, Meaning, controlled, eighth, followed, gate_meaning, item_answer, joined, meaning_at, meanings, rotation, step_answer, step_of, unvalued, wire_of}
 use Rattle.gate_inline.specs.Placed.{IsPlaced}
-use Rattle.gate_inline.specs.Sound.{IsSound, IsSoundStep, are_sound, is_distinct, is_sound_gate, is_sound_item}
 use Rattle.gate_inline.specs.Values.{and_next, values}
 use Rattle.gate_inline.specs.declared.stop.Unvalued.{Unvalued}
+use Rattle.gate_inline.proofs.PlacedLaws.{and_left, and_right, below_of, both_false, equal_of, not_true, or_left, or_right, step_apart, step_counted, step_placed, steps_placed}
 use Rattle.gate_inline.proofs.StepLaws.{upto-more, upto_none}
-
--- ---- tests
-pub and_left : (a b : Bool) → (a && b) ≡ true → a ≡ true
-and_left true b e = refl
-and_left false b e = e
-
-pub and_right : (a b : Bool) → (a && b) ≡ true → b ≡ true
-and_right true b e = e
-and_right false b e = absurd (cc)
-
-pub or_left : (a b : Bool) → (a || b) ≡ false → a ≡ false
-or_left true b e = e
-or_left false b e = refl
-
-pub or_right : (a b : Bool) → (a || b) ≡ false → b ≡ false
-or_right true b e = absurd (cc)
-or_right false b e = e
-
-pub both_false : (a b : Bool) → a ≡ false → b ≡ false → (a || b) ≡ false
-both_false true b e f = e
-both_false false b e f = f
-
-pub not_true : (a : Bool) → not a ≡ true → a ≡ false
-not_true true e = absurd (cc)
-not_true false e = refl
-
-pub not_false : (a : Bool) → a ≡ false → not a ≡ true
-not_false a e = ap not e
 
 -- ---- lists of wires
 read_below : (n : ℕ) (wires : List ℕ) (p : ℕ) → All (λ w. w < n) wires → p < length wires → wire_of wires p < n
@@ -89,9 +62,6 @@ same_place (w ∷ ws) (suc p) zero r l m e =
     let yes : list_any (nat_eq w) ws ≡ true = met w ws p (omega arith) (sym e) in absurd (cc)
 same_place (w ∷ ws) (suc p) (suc q) r l m e =
     ap (λ n. suc n) (same_place ws p q (or_right (list_any (nat_eq w) ws) _ r) (omega arith) (omega arith) e)
-
-pub below_of : (p n : ℕ) → nat_lt p n ≡ true → p < n
-below_of p n e = grind (arith, nat_tests)
 
 none_same : (ws : List ℕ) (p : ℕ) (ps : List ℕ) → has_repeat nat_eq ws ≡ false → p < length ws → list_all (λ q. nat_lt q (length ws)) ps ≡ true
     → list_any (nat_eq p) ps ≡ false → list_any (nat_eq (wire_of ws p)) (map (wire_of ws) ps) ≡ false
@@ -211,45 +181,42 @@ fine_at n (g ∷ gs) [] i h = absurd h
 fine_at n (g ∷ gs) (m ∷ ms) zero h = h.0
 fine_at n (g ∷ gs) (m ∷ ms) (suc i) h = fine_at n gs ms i h.1
 
-pub equal_of : (a b : ℕ) → (a == b) ≡ true → a ≡ b
-equal_of a b e = grind (arith, nat_tests)
-
-fine_item : (n : ℕ) (before : List Gate) (ms : List Meaning) (qubits : ℕ) (params : List Angle) (wires : List ℕ) (x : Item) (us : List Op) → AreFine n before ms
-    → length wires ≡ qubits → All (λ w. w < n) wires → has_repeat nat_eq wires ≡ false → is_sound_item before qubits x ≡ true
+fine_item : (n : ℕ) (before : List Gate) (ms : List Meaning) (count qubits : ℕ) (params : List Angle) (wires : List ℕ) (x : Item) (us : List Op) → AreFine n before ms
+    → length wires ≡ qubits → All (λ w. w < n) wires → has_repeat nat_eq wires ≡ false → is_item before count qubits x ≡ true
     → item_answer ms params wires x ≡ Ok us → All (IsFineOp n) us
-fine_item n before ms qubits params wires pause us h l b d s e = fine_nil n us e
-fine_item n before ms qubits params wires (call gate angles places) us h l b d s e =
-    let placed : (list_all (λ q. nat_lt q qubits) places && is_distinct places) ≡ true = and_right (length places == gate_qubits (gate_at before gate)) _ s in
-    let inside : list_all (λ q. nat_lt q (length wires)) places ≡ true =
-    ap (λ k. list_all (λ q. nat_lt q k) places) l ∙ and_left (list_all (λ q. nat_lt q qubits) places) (is_distinct places) placed in
+fine_item n before ms count qubits params wires barrier us h l b d s e = fine_nil n us e
+fine_item n before ms count qubits params wires (call gate angles places) us h l b d s e =
+    let there : list_all (λ q. nat_lt q qubits) places ≡ true = and_right _ _ (and_left _ _ s) in
+    let inside : list_all (λ q. nat_lt q (length wires)) places ≡ true = ap (λ k. list_all (λ q. nat_lt q k) places) l ∙ there in
+    let counted : (gate_qubits (gate_at before gate) == length places) ≡ true = and_right _ _ (and_right _ _ (and_left _ _ (and_left _ _ (and_left _ _ s)))) in
     fine_next n (unvalued (values params angles)) (λ given. meaning_at ms gate given (map (wire_of wires) places)) us
     (λ given vs f. fine_at n before ms gate h given (map (wire_of wires) places) vs
-    (length-map places (wire_of wires) ∙ equal_of _ _ (and_left _ _ s))
+    (length-map places (wire_of wires) ∙ sym (equal_of _ _ counted))
     (below_wires n wires places b inside)
-    (distinct_wires wires places d inside (not_true (has_repeat nat_eq places) (and_right (list_all (λ q. nat_lt q qubits) places) (is_distinct places) placed)))
+    (distinct_wires wires places d inside (not_true (has_repeat nat_eq places) (and_right _ _ s)))
     f) e
 
-fine_items : (n : ℕ) (before : List Gate) (ms : List Meaning) (qubits : ℕ) (params : List Angle) (wires : List ℕ) (xs : List Item) (us : List Op) → AreFine n before ms
-    → length wires ≡ qubits → All (λ w. w < n) wires → has_repeat nat_eq wires ≡ false → list_all (is_sound_item before qubits) xs ≡ true
+fine_items : (n : ℕ) (before : List Gate) (ms : List Meaning) (count qubits : ℕ) (params : List Angle) (wires : List ℕ) (xs : List Item) (us : List Op) → AreFine n before ms
+    → length wires ≡ qubits → All (λ w. w < n) wires → has_repeat nat_eq wires ≡ false → list_all (is_item before count qubits) xs ≡ true
     → joined (map (item_answer ms params wires) xs) ≡ Ok us → All (IsFineOp n) us
-fine_items n before ms qubits params wires [] us h l b d s e = fine_nil n us e
-fine_items n before ms qubits params wires (x ∷ xs) us h l b d s e =
+fine_items n before ms count qubits params wires [] us h l b d s e = fine_nil n us e
+fine_items n before ms count qubits params wires (x ∷ xs) us h l b d s e =
     fine_followed n (item_answer ms params wires x) (joined (map (item_answer ms params wires) xs)) us
-    (λ vs f. fine_item n before ms qubits params wires x vs h l b d (and_left _ _ s) f)
-    (λ vs f. fine_items n before ms qubits params wires xs vs h l b d (and_right (is_sound_item before qubits x) _ s) f) e
+    (λ vs f. fine_item n before ms count qubits params wires x vs h l b d (and_left _ _ s) f)
+    (λ vs f. fine_items n before ms count qubits params wires xs vs h l b d (and_right (is_item before count qubits x) _ s) f) e
 
-fine_gate : (n : ℕ) (before : List Gate) (ms : List Meaning) (g : Gate) → AreFine n before ms → is_sound_gate before g ≡ true → IsFineMeaning n g (gate_meaning ms g)
+fine_gate : (n : ℕ) (before : List Gate) (ms : List Meaning) (g : Gate) → AreFine n before ms → is_gate before g ≡ true → IsFineMeaning n g (gate_meaning ms g)
 fine_gate n before ms u h s = λ angles wires us l b d e. fine_rotation n angles wires us b e
 fine_gate n before ms cx h s = λ angles wires us l b d e. fine_controlled n wires us b d e
 fine_gate n before ms (opaque params qubits) h s = λ angles wires us l b d e. fine_nil n us e
-fine_gate n before ms (composed params qubits body) h s = λ angles wires us l b d e. fine_items n before ms qubits angles wires body us h l b d s e
+fine_gate n before ms (composed params qubits body) h s = λ angles wires us l b d e. fine_items n before ms params qubits angles wires body us h l b d s e
 
-fine_gates : (n : ℕ) (before gates : List Gate) (ms : List Meaning) → are_sound before gates ≡ true → AreFine n before ms
+fine_gates : (n : ℕ) (before gates : List Gate) (ms : List Meaning) → are_gates before gates ≡ true → AreFine n before ms
     → AreFine n (before ++ gates) (fold (λ b g. b ++ gate_meaning b g ∷ []) ms gates)
 fine_gates n before [] ms s h = subst (λ (gs : List Gate). AreFine n gs ms) (sym (append-nil before)) h
 fine_gates n before (g ∷ gates) ms s h =
     subst (λ (gs : List Gate). AreFine n gs (fold (λ b x. b ++ gate_meaning b x ∷ []) (ms ++ gate_meaning ms g ∷ []) gates)) (append_assoc before (g ∷ []) gates)
-    (fine_gates n (before ++ g ∷ []) gates (ms ++ gate_meaning ms g ∷ []) (and_right (is_sound_gate before g) _ s)
+    (fine_gates n (before ++ g ∷ []) gates (ms ++ gate_meaning ms g ∷ []) (and_right (is_gate before g) _ s)
     (fine_push n before ms g (gate_meaning ms g) h (fine_gate n before ms g h (and_left _ _ s))))
 
 -- ---- steps
@@ -262,27 +229,29 @@ fine_upto n m (suc k) us h e =
     (λ vs f. h k vs (omega arith) f)
     (sym (ap (λ c. joined (map m (upto c))) (sym (add-one k)) ∙ upto-more m k) ∙ e)
 
-wires_below : (n j : ℕ) (places : List Place) → All (λ p. wire_at j p < n) places → All (λ w. w < n) (map (wire_at j) places)
+wires_below : (n j : ℕ) (places : List Operand) → All (λ p. wire_at j p < n) places → All (λ w. w < n) (map (wire_at j) places)
 wires_below n j places h = All-map (λ w. w < n) (wire_at j) places h
 
-fine_step : (gates : List Gate) (wires bits : ℕ) (s : Step) (us : List Op) → AreFine wires gates (meanings gates) → IsSoundStep gates wires bits s
+fine_step : (gates : List Gate) (wires bits : ℕ) (s : Step) (us : List Op) → AreFine wires gates (meanings gates) → is_step gates wires bits s ≡ true
     → step_answer (meanings gates) s ≡ Ok us → All (IsFineOp wires) us
 fine_step gates wires bits (measures qubit bit) us h s e = fine_nil wires us e
-fine_step gates wires bits (pauses places) us h s e = fine_nil wires us e
+fine_step gates wires bits (bars places) us h s e = fine_nil wires us e
 fine_step gates wires bits nothing us h s e = fine_nil wires us e
 fine_step gates wires bits (applies gate angles places) us h s e =
     fine_next wires (unvalued (values [] angles)) (λ given. joined (map (λ j. meaning_at (meanings gates) gate given (map (wire_at j) places)) (upto (broadcast places)))) us
     (λ given vs f. fine_upto wires (λ j. meaning_at (meanings gates) gate given (map (wire_at j) places)) (broadcast places) vs
     (λ j ws l g. fine_at wires gates (meanings gates) gate h given (map (wire_at j) places) ws
-    (length-map places (wire_at j) ∙ s.1) (wires_below wires j places (s.0 j l)) (not_true _ (s.2 j l)) g) f) e
+    (length-map places (wire_at j) ∙ step_counted gates wires bits gate angles places s)
+    (wires_below wires j places (step_placed gates wires bits (applies gate angles places) s j l))
+    (step_apart gates wires bits gate angles places s j l) g) f) e
 
-fine_steps : (gates : List Gate) (wires bits : ℕ) (steps : List Step) (us : List Op) → AreFine wires gates (meanings gates) → All (IsSoundStep gates wires bits) steps
+fine_steps : (gates : List Gate) (wires bits : ℕ) (steps : List Step) (us : List Op) → AreFine wires gates (meanings gates) → list_all (is_step gates wires bits) steps ≡ true
     → joined (map (step_answer (meanings gates)) steps) ≡ Ok us → All (IsFineOp wires) us
 fine_steps gates wires bits [] us h s e = fine_nil wires us e
 fine_steps gates wires bits (x ∷ xs) us h s e =
     fine_followed wires (step_answer (meanings gates) x) (joined (map (step_answer (meanings gates)) xs)) us
-    (λ vs f. fine_step gates wires bits x vs h (All-head (IsSoundStep gates wires bits) x xs s) f)
-    (λ vs f. fine_steps gates wires bits xs vs h (All-tail (IsSoundStep gates wires bits) x xs s) f) e
+    (λ vs f. fine_step gates wires bits x vs h (and_left _ _ s) f)
+    (λ vs f. fine_steps gates wires bits xs vs h (and_right (is_step gates wires bits x) _ s) f) e
 
 pub operations-fine : (b : Bound) (us : List Op) → IsSound b → operations b.gates b.steps ≡ Ok us → All (IsFineOp b.wires) us
 operations-fine b us s e = fine_steps b.gates b.wires b.bits b.steps us (fine_gates b.wires [] b.gates [] s.gates tt) s.steps e
@@ -311,13 +280,17 @@ inlined_same b c o g s w bits i = record {
 }
 
 -- ---- wires and bits that are there
-pub placed_wide : (gates : List Gate) (wires bits more : ℕ) (s : Step) → wires ≤ more → IsSoundStep gates wires bits s → IsPlaced more bits s
-placed_wide gates wires bits more (applies gate angles places) l s =
-    λ j k. All-weaker (λ p. wire_at j p < wires) (λ p. wire_at j p < more) (λ p h. omega arith) places (s.0 j k)
-placed_wide gates wires bits more (measures qubit bit) l s =
+placed_wide : (wires bits more : ℕ) (s : Step) → wires ≤ more → IsPlaced wires bits s → IsPlaced more bits s
+placed_wide wires bits more (applies gate angles places) l s =
+    λ j k. All-weaker (λ p. wire_at j p < wires) (λ p. wire_at j p < more) (λ p h. omega arith) places (s j k)
+placed_wide wires bits more (measures qubit bit) l s =
     (s.0, λ j k. (let h : wire_at j qubit < wires = (s.1 j k).0 in omega arith, (s.1 j k).1))
-placed_wide gates wires bits more (pauses places) l s = tt
-placed_wide gates wires bits more nothing l s = tt
+placed_wide wires bits more (bars places) l s = tt
+placed_wide wires bits more nothing l s = tt
+
+pub steps_wide : (b : Bound) (more : ℕ) → IsSound b → b.wires ≤ more → All (IsPlaced more b.bits) b.steps
+steps_wide b more s l = All-weaker (IsPlaced b.wires b.bits) (IsPlaced more b.bits) (λ x h. placed_wide b.wires b.bits more x l h) b.steps
+    (steps_placed b.gates b.wires b.bits b.steps s.steps)
 
 pub fine_ops : (b : Bound) (o : Ops) → IsSound b → IsInlined b o → All (IsFineOp o.wires) o.list
 fine_ops b o s i = subst (λ n. All (IsFineOp n) o.list) (sym i.wires) (operations-fine b o.list s i.list)

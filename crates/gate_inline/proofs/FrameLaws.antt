@@ -6,13 +6,13 @@
 --     IsStop_through          a refusal of the first part is one of the whole
 use Rattle.std.proofs.Common.{◌≡◌, ℕ, ◌+◌, ◌<◌, ◌≤◌, List, [], ◌∷◌, ◌++◌, append_assoc, append-nil, refl, sym, ◌∙◌, ap, subst, arith, Ok, Err, Option, Some, None, ◌*◌, slice_get, map, take, add-zero}
 use Rattle.unitary_model.specs.declared.Op.{Op}
-use Rattle.qasm_check.specs.Gates.{Gate, Item, composed}
+use Rattle.gate_library.specs.Gates.{Gate, Item, composed}
 use Rattle.angle_fraction.specs.declared.Angle.{Angle}
 use Rattle.gate_inline.specs.Frames.{body_answer, body_room, frame_answer, frames_answer, frame_room, frames_room, one_frame}
 use Rattle.gate_inline.specs.Meanings.{Answer, Meaning, followed, gate_meaning, item_answer, joined, meaning_at, meanings}
 use Rattle.gate_inline.specs.Sizes.{gate_size, item_size, size_all, size_at, sizes}
-use Rattle.qasm_check.specs.Views.{item as item_view}
-use Rattle.qasm_check.specs.declared.gate.Item.{Item as CodeItem}
+use Rattle.gate_library.specs.Views.{item as item_view}
+use Rattle.gate_library.specs.declared.gate.Item.{Item as CodeItem}
 use Rattle.gate_inline.specs.declared.size.Size.{Size}
 use Rattle.gate_inline.proofs.OrderLaws.{meaning_at-below, meaning_at-none, size_at-below, size_at-none}
 use Rattle.gate_inline.specs.Stops.{IsStop}

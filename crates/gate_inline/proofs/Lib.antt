@@ -4,4 +4,7 @@ pub mod FrameLaws
 pub mod StepLaws
 pub mod ReadLaws
 pub mod FineLaws
-pub mod SoundLaws
+pub mod PlacedLaws
+pub mod LengthLaws
+pub mod OnceLaws
+pub mod ReadWires

@@ -5,7 +5,7 @@
 use Rattle.std.proofs.Common.{◌≡◌, ℕ, zero, suc, ◌+◌, ◌<◌, ◌≤◌, List, [], ◌∷◌, ◌++◌, length, refl, ◌∙◌, ap, arith, Some, None, slice_get, take, unwrap_or}
 use Rattle.std.specs.List.{fold}
 use Rattle.std.specs.Option.{option_map}
-use Rattle.qasm_check.specs.Gates.{Gate}
+use Rattle.gate_library.specs.Gates.{Gate}
 use Rattle.gate_inline.specs.Meanings.{gate_meaning, in_order, meaning_at, meanings, no_meaning}
 use Rattle.gate_inline.specs.Sizes.{gate_size, size, size_at, sizes}
 

@@ -13,9 +13,9 @@ use Rattle.std.proofs.Math.Seq.{take-append_seam}
 use Rattle.std.proofs.lemmas.Bool.Decides.{nat_tests}
 use Rattle.std.proofs.lemmas.List.{get_or-set_other, get_or-set_same, length-append, length-map, map-append, same_lists}
 use Rattle.std.proofs.lemmas.List.Folds.{find-append}
-use Rattle.qasm_check.specs.Places.{times, upto, wire_at}
+use Rattle.gate_library.specs.Operands.{times, upto, wire_at}
 use Rattle.qasm_check.specs.Steps.{Step}
-use Rattle.qasm_check.specs.declared.meaning.Place.{Place}
+use Rattle.gate_library.specs.declared.operand.Operand.{Operand}
 use Rattle.gate_inline.specs.Reads.{last_read, read_within, reads, step_read}
 
 or_none : {A : Type 0} (o : Option A) → option_or o None ≡ o
@@ -31,25 +31,25 @@ map_or f None b = refl
 map_or f (Some x) b = refl
 
 -- ---- one step
-last_index : ℕ → Place → Place → ℕ → Option ℕ
+last_index : ℕ → Operand → Operand → ℕ → Option ℕ
 last_index n qubit bits x = option_map (λ j. wire_at j qubit) (find (λ j. nat_eq x (wire_at j bits)) (n ∷ []))
 
-read_within-more : (n : ℕ) (qubit bits : Place) (x : ℕ) → read_within (n + 1) qubit bits x ≡ option_or (read_within n qubit bits x) (last_index n qubit bits x)
+read_within-more : (n : ℕ) (qubit bits : Operand) (x : ℕ) → read_within (n + 1) qubit bits x ≡ option_or (read_within n qubit bits x) (last_index n qubit bits x)
 unfolding upto last_index
 read_within-more n qubit bits x =
     ap (λ k. read_within k qubit bits x) (add-one n)
     ∙ ap (option_map (λ j. wire_at j qubit)) (find-append (λ j. nat_eq x (wire_at j bits)) (upto n) (n ∷ []))
     ∙ map_or (λ j. wire_at j qubit) (find (λ j. nat_eq x (wire_at j bits)) (upto n)) (find (λ j. nat_eq x (wire_at j bits)) (n ∷ []))
 
-last_index-same : (n : ℕ) (qubit bits : Place) (x : ℕ) → x ≡ wire_at n bits → last_index n qubit bits x ≡ Some (wire_at n qubit)
+last_index-same : (n : ℕ) (qubit bits : Operand) (x : ℕ) → x ≡ wire_at n bits → last_index n qubit bits x ≡ Some (wire_at n qubit)
 unfolding last_index
 last_index-same n qubit bits x e = let test : nat_eq x (wire_at n bits) ≡ true = (grind (arith, nat_tests)) in rw test refl
 
-last_index-other : (n : ℕ) (qubit bits : Place) (x : ℕ) → x ≢ wire_at n bits → last_index n qubit bits x ≡ None
+last_index-other : (n : ℕ) (qubit bits : Operand) (x : ℕ) → x ≢ wire_at n bits → last_index n qubit bits x ≡ None
 unfolding last_index
 last_index-other n qubit bits x e = let test : nat_eq x (wire_at n bits) ≡ false = (grind (arith, nat_tests)) in rw test refl
 
-read_within-none : (n : ℕ) (qubit bits : Place) (x : ℕ) → ((i : ℕ) → i < n → x ≢ wire_at i bits) → read_within n qubit bits x ≡ None
+read_within-none : (n : ℕ) (qubit bits : Operand) (x : ℕ) → ((i : ℕ) → i < n → x ≢ wire_at i bits) → read_within n qubit bits x ≡ None
 unfolding upto
 read_within-none zero qubit bits x h = refl
 read_within-none (suc n) qubit bits x h =
@@ -57,14 +57,14 @@ read_within-none (suc n) qubit bits x h =
     ∙ (λ i. option_or (read_within-none n qubit bits x (λ j l. h j (omega arith)) i) (last_index-other n qubit bits x (h n (omega arith)) i))
 
 -- no two indices name one bit
-apart : (p : Place) (i n : ℕ) → n < times p → i < n → wire_at n p ≢ wire_at i p
+apart : (p : Operand) (i n : ℕ) → n < times p → i < n → wire_at n p ≢ wire_at i p
 apart p i n h l = go p.index h
   where
     go : (o : Option ℕ) → n < elim o [ None ↦ p.size | Some k ↦ 1 ] → p.first + unwrap_or o n ≢ p.first + unwrap_or o i
     go None h e = absurd (omega arith)
     go (Some k) h e = absurd (omega arith)
 
-pub measured_next : (list old : List (Option ℕ)) (qubit bits : Place) (n : ℕ) → n < times bits → wire_at n bits < length list →
+pub measured_next : (list old : List (Option ℕ)) (qubit bits : Operand) (n : ℕ) → n < times bits → wire_at n bits < length list →
     ((x : ℕ) → x < length old → get_or list x None ≡ option_or (read_within n qubit bits x) (get_or old x None)) →
     (x : ℕ) → x < length old → get_or (set list (wire_at n bits) (Some (wire_at n qubit))) x None ≡ option_or (read_within (n + 1) qubit bits x) (get_or old x None)
 measured_next list old qubit bits n h w inv x l = go (nat_eq x (wire_at n bits)) refl
@@ -134,7 +134,7 @@ reads-listed list bits ss e h =
 pub read_next : (ss : List Step) (s : Step) (x : ℕ) (new old : Option ℕ) → old ≡ last_read ss x → new ≡ option_or (step_read s x) old → new ≡ last_read (ss ++ s ∷ []) x
 read_next ss s x new old e f = f ∙ ap (option_or (step_read s x)) e ∙ sym (last_read-push ss s x)
 
-pub read_within-zero : (qubit bits : Place) (x : ℕ) → read_within 0 qubit bits x ≡ None
+pub read_within-zero : (qubit bits : Operand) (x : ℕ) → read_within 0 qubit bits x ≡ None
 unfolding upto
 read_within-zero qubit bits x = refl
 

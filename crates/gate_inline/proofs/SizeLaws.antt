@@ -11,9 +11,9 @@ use Rattle.std.proofs.lemmas.Bool.Decides.{nat_tests}
 use Rattle.std.proofs.lemmas.List.{map-append, take_more}
 use Rattle.std.proofs.lemmas.List.Sums.{fold-append}
 use Rattle.std.proofs.lemmas.Option.{slice_get-map}
-use Rattle.qasm_check.specs.Gates.{Item, call, pause, Gate, u, cx, opaque, composed}
-use Rattle.qasm_check.specs.Places.{broadcast}
-use Rattle.qasm_check.specs.Steps.{Step, applies, measures, pauses, nothing}
+use Rattle.gate_library.specs.Gates.{Item, call, barrier, Gate, u, cx, opaque, composed}
+use Rattle.gate_library.specs.Operands.{broadcast}
+use Rattle.qasm_check.specs.Steps.{Step, applies, measures, bars, nothing}
 use Rattle.gate_inline.specs.Capped.{most, capped}
 use Rattle.gate_inline.specs.Sizes.{size, size_plus, size_times, size_all, size_at, item_size, gate_size, sizes, step_size, steps_size, is_too_much}
 use Rattle.gate_inline.specs.declared.size.Size.{Size}
@@ -44,7 +44,7 @@ capped-times n s = same_size _ _ _ _ (products n s.operations) (products n s.ite
         go (inl h) = let e : min a most ≡ a = omega arith in rw e
         go (inr h) = let e : min a most ≡ most = omega arith in rw e (omega arith)
 
-size_all-append : (ss ts : List Size) → size_all (ss ++ ts) ≡ size_plus (size_all ss) (size_all ts)
+pub size_all-append : (ss ts : List Size) → size_all (ss ++ ts) ≡ size_plus (size_all ss) (size_all ts)
 size_all-append [] ts = same_size (size_all ts).operations (size_all ts).items _ _ (omega arith) (omega arith)
 size_all-append (s ∷ ss) ts =
     ap (size_plus s) (size_all-append ss ts)
@@ -89,7 +89,7 @@ size_at-capped ss i = ap (λ o. unwrap_or o (size 0 1)) (slice_get-map capped ss
 
 pub item_size-capped : (ss : List Size) (it : Item) → item_size (map capped ss) it ≡ capped (item_size ss it)
 item_size-capped ss (call gate angles qubits) = size_at-capped ss gate
-item_size-capped ss pause = refl
+item_size-capped ss barrier = refl
 
 body-capped : (ss : List Size) (body : List Item) → capped (size_all (map (item_size (map capped ss)) body)) ≡ capped (size_all (map (item_size ss) body))
 body-capped ss [] = refl
@@ -112,7 +112,7 @@ pub step_size-capped : (ss : List Size) (s : Step) → capped (step_size (map ca
 step_size-capped ss (applies gate angles places) =
     ap (λ t. capped (size_times (broadcast places) t)) (size_at-capped ss gate) ∙ capped-times (broadcast places) (size_at ss gate)
 step_size-capped ss (measures qubit bit) = refl
-step_size-capped ss (pauses places) = refl
+step_size-capped ss (bars places) = refl
 step_size-capped ss nothing = refl
 
 steps-capped : (ss : List Size) (steps : List Step) → capped (steps_size (map capped ss) steps) ≡ capped (steps_size ss steps)

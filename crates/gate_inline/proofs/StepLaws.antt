@@ -7,10 +7,10 @@
 use Rattle.std.proofs.Common.{◌≡◌, ℕ, zero, suc, ◌+◌, ◌<◌, ◌≤◌, List, [], ◌∷◌, ◌++◌, map, length, take, drop, get_or, IsOk, true, false, refl, sym, subst, ◌∙◌, ap, arith, Ok, Err, add-one, ◌⊎◌, inl, inr}
 use Rattle.std.proofs.lemmas.List.{map-append}
 use Rattle.unitary_model.specs.declared.Op.{Op}
-use Rattle.qasm_check.specs.Checking.{Bound}
-use Rattle.qasm_check.specs.Gates.{Gate}
+use Rattle.qasm_check.specs.Bound.{Bound}
+use Rattle.gate_library.specs.Gates.{Gate}
 use Rattle.qasm_check.specs.Steps.{Step}
-use Rattle.qasm_check.specs.Places.{upto}
+use Rattle.gate_library.specs.Operands.{upto}
 use Rattle.gate_inline.specs.Meanings.{Answer, followed, joined, meanings, step_answer}
 use Rattle.gate_inline.specs.Capped.{capped}
 use Rattle.gate_inline.specs.Inlined.{IsFault, IsFirstUnvalued, IsRefused, IsTooMany, IsUnwritten, operations, refusal_of, stopped_at, unwritten_fault}

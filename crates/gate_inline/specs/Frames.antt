@@ -7,8 +7,8 @@
 --     frames_answer gates fs      those of several, the last one first
 --     frame_room, body_room, frames_room  a number that falls with each line
 use Rattle.std.specs.Prelude.{ℕ, ◌+◌, ◌*◌, List, [], ◌∷◌, Option, Some, None, Ok, map, take}
-use Rattle.qasm_check.specs.Gates.{Gate}
-use Rattle.qasm_check.specs.Views.{item as item_view}
+use Rattle.gate_library.specs.Gates.{Gate}
+use Rattle.gate_library.specs.Views.{item as item_view}
 use Rattle.gate_inline.specs.Meanings.{Answer, Meaning, body_answer as items_answer, followed, meaning_at, meanings, one_op}
 use Rattle.gate_inline.specs.Sizes.{item_size, size, size_all, size_at, sizes}
 use Rattle.gate_inline.specs.declared.body.Call.{Call}

@@ -10,8 +10,8 @@
 --     stopped_at s n, unwritten_fault u   a stop at step n, and what is told of it
 --     IsFault b e         what may be told of the program;  IsUnwritten gates steps e: where there isn't too much
 use Rattle.std.specs.Prelude.{◌≡◌, ℕ, ◌+◌, List, [], ◌∷◌, ◌++◌, Ok, Err, true, false, length, map, IsOk}
-use Rattle.qasm_check.specs.Gates.{Gate}
-use Rattle.qasm_check.specs.Checking.{Bound}
+use Rattle.gate_library.specs.Gates.{Gate}
+use Rattle.qasm_check.specs.Bound.{Bound}
 use Rattle.qasm_check.specs.Steps.{Step}
 use Rattle.gate_inline.specs.Meanings.{Answer, joined, meanings, step_answer}
 use Rattle.gate_inline.specs.Reads.{reads}

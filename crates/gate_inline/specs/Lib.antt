@@ -7,6 +7,5 @@ pub mod Inlined
 pub mod Stops
 pub mod Placed
 pub mod Frames
-pub mod Sound
 pub mod Registers
 pub mod Programs

@@ -18,10 +18,10 @@ use Rattle.angle_fraction.specs.declared.AngleFault.{AngleFault}
 use Rattle.angle_fraction.specs.declared.AngleFault.TheVariants.{Form, ZeroDivisor, Range}
 use Rattle.unitary_model.specs.declared.Op.{Op}
 use Rattle.unitary_model.specs.declared.Op.TheVariants.{U, Cx}
-use Rattle.qasm_check.specs.Gates.{Item, call, pause, Gate, u, cx, opaque, composed}
-use Rattle.qasm_check.specs.Places.{broadcast, upto, wire_at}
-use Rattle.qasm_check.specs.declared.meaning.Place.{Place}
-use Rattle.qasm_check.specs.Steps.{Step, applies, measures, pauses, nothing}
+use Rattle.gate_library.specs.Gates.{Item, call, barrier, Gate, u, cx, opaque, composed}
+use Rattle.gate_library.specs.Operands.{broadcast, upto, wire_at}
+use Rattle.gate_library.specs.declared.operand.Operand.{Operand}
+use Rattle.qasm_check.specs.Steps.{Step, applies, measures, bars, nothing}
 use Rattle.gate_inline.specs.Values.{and_next, values}
 use Rattle.gate_inline.specs.declared.stop.Unvalued.{Unvalued}
 use Rattle.gate_inline.specs.declared.stop.Unvalued.TheVariants.{NoForm, ByZero, TooLarge, NoStep}
@@ -85,7 +85,7 @@ wire_of wires place = unwrap_or (slice_get wires place) 0
 abbrev pub item_answer : List Meaning → List Angle → List ℕ → Item → Answer
 item_answer ms params wires (call gate angles qubits) =
     and_next (unvalued (values params angles)) (λ given. meaning_at ms gate given (map (wire_of wires) qubits))
-item_answer ms params wires pause = Ok []
+item_answer ms params wires barrier = Ok []
 
 abbrev pub body_answer : List Meaning → List Item → Meaning
 body_answer ms body params wires = joined (map (item_answer ms params wires) body)
@@ -105,12 +105,12 @@ meanings gates = in_order gate_meaning gates
 
 -- ---- steps
 -- a gate for the first so many indices
-abbrev pub broadcast_answer : List Meaning → ℕ → List Angle → List Place → ℕ → Answer
+abbrev pub broadcast_answer : List Meaning → ℕ → List Angle → List Operand → ℕ → Answer
 broadcast_answer ms gate angles places n = joined (map (λ j. meaning_at ms gate angles (map (wire_at j) places)) (upto n))
 
 abbrev pub step_answer : List Meaning → Step → Answer
 step_answer ms (applies gate angles places) =
     and_next (unvalued (values [] angles)) (λ given. broadcast_answer ms gate given places (broadcast places))
 step_answer ms (measures qubit bit) = Ok []
-step_answer ms (pauses places) = Ok []
+step_answer ms (bars places) = Ok []
 step_answer ms nothing = Ok []

@@ -1,12 +1,12 @@
--- Steps whose wires and bits are there.
+-- Working form. Steps whose wires and bits are there.
 --     IsPlaced wires bits s       each wire and bit that a step names, at each index, is below these
 use Rattle.std.specs.Prelude.{◌≡◌, ℕ, ◌<◌, All}
-use Rattle.qasm_check.specs.Places.{broadcast, times, wire_at}
-use Rattle.qasm_check.specs.Steps.{Step, applies, measures, pauses, nothing}
+use Rattle.gate_library.specs.Operands.{broadcast, times, wire_at}
+use Rattle.qasm_check.specs.Steps.{Step, applies, measures, bars, nothing}
 
 abbrev pub IsPlaced : ℕ → ℕ → Step → Type 0
 IsPlaced wires bits (applies gate angles places) = (j : ℕ) → j < broadcast places → All (λ p. wire_at j p < wires) places
 IsPlaced wires bits (measures qubit bit) =
     (times qubit ≡ times bit) × ((j : ℕ) → j < times qubit → (wire_at j qubit < wires) × (wire_at j bit < bits))
-IsPlaced wires bits (pauses places) = Unit {0}
+IsPlaced wires bits (bars places) = Unit {0}
 IsPlaced wires bits nothing = Unit {0}

@@ -6,14 +6,16 @@
 --   IsSource text t  the same of a tree to which no refusal of a statement applies
 --   IsWritten text p     a written program: the text spells a program that means p; of any length, with any number of operations
 --   text_limit       the most bytes of an input
+--   IsWithinLimits b     writing its gates out makes no more operations and meets no more items than the limits
 --   IsAccepted text p    an accepted program: a written one within the limits
 use Rattle.std.specs.Prelude.{◌≡◌, ℕ, ◌≤◌, false, List, Option, Ok, length}
 use Rattle.qasm_lexer.specs.declared.Token.{Token}
-use Rattle.qasm_lexer.specs.Tokens.{lexed}
+use Rattle.qasm_lexer.specs.Tokens.{AreTokens}
 use Rattle.qasm_parser.specs.Parsing.{IsProgram}
 use Rattle.qasm_parser.specs.Tree.{Tree}
 use Rattle.qasm_check.specs.declared.bits.Bits.{Bits}
-use Rattle.qasm_check.specs.Checking.{Bound, IsAccepted as IsFineTree, barriers, bound}
+use Rattle.qasm_check.specs.Bound.{Bound, barriers}
+use Rattle.qasm_check.specs.Checking.{IsAccepted as IsFineTree, bound}
 use Rattle.unitary_model.specs.declared.Op.{Op}
 use Rattle.gate_inline.specs.Inlined.{operations}
 use Rattle.gate_inline.specs.Reads.{reads}
@@ -34,7 +36,7 @@ pub record Means (b : Bound) (p : Program) : Type 0 where
   pub barriers : p.barriers ≡ barriers b
 
 abbrev pub IsTreeOf : List ℕ → Tree → Type 0
-IsTreeOf text t = (tokens : List Token) × (lexed text ≡ Ok tokens) × IsProgram text tokens t
+IsTreeOf text t = (tokens : List Token) × AreTokens text tokens × IsProgram text tokens t
 
 abbrev pub IsSource : List ℕ → Tree → Type 0
 IsSource text t = IsTreeOf text t × IsFineTree t
@@ -45,9 +47,12 @@ IsWritten text p = (t : Tree) × IsSource text t × Means (bound t) p
 abbrev pub text_limit : ℕ
 text_limit = 4194304
 
+abbrev pub IsWithinLimits : Bound → Type 0
+IsWithinLimits b = is_too_much (total b.gates b.steps) ≡ false
+
 pub record IsAccepted (text : List ℕ) (p : Program) : Type 0 where
   pub short : length text ≤ text_limit
   pub tree : Tree
   pub source : IsSource text tree
-  pub few : is_too_much (total (bound tree).gates (bound tree).steps) ≡ false
+  pub few : IsWithinLimits (bound tree)
   pub means : Means (bound tree) p

@@ -6,18 +6,18 @@
 use Rattle.std.specs.Prelude.{ℕ, List, [], ◌∷◌, Option, None, map, nat_eq}
 use Rattle.std.specs.List.{find}
 use Rattle.std.specs.Option.{option_map, option_or}
-use Rattle.qasm_check.specs.Places.{times, upto, wire_at}
-use Rattle.qasm_check.specs.declared.meaning.Place.{Place}
-use Rattle.qasm_check.specs.Steps.{Step, applies, measures, pauses, nothing}
+use Rattle.gate_library.specs.Operands.{times, upto, wire_at}
+use Rattle.gate_library.specs.declared.operand.Operand.{Operand}
+use Rattle.qasm_check.specs.Steps.{Step, applies, measures, bars, nothing}
 
 -- registers are measured wire by wire
-abbrev pub read_within : ℕ → Place → Place → ℕ → Option ℕ
+abbrev pub read_within : ℕ → Operand → Operand → ℕ → Option ℕ
 read_within n qubit bits bit = option_map (λ j. wire_at j qubit) (find (λ j. nat_eq bit (wire_at j bits)) (upto n))
 
 abbrev pub step_read : Step → ℕ → Option ℕ
 step_read (applies gate angles places) bit = None
 step_read (measures qubit bits) bit = read_within (times bits) qubit bits bit
-step_read (pauses places) bit = None
+step_read (bars places) bit = None
 step_read nothing bit = None
 
 abbrev pub last_read : List Step → ℕ → Option ℕ

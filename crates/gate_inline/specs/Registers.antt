@@ -2,12 +2,13 @@
 --   names_of rs          their names, in order
 --   IsFree r             its name is a name of the language and none of a gate of the tables, and it has a bit at least
 --   AreRegisters rs n    all of them are so, their names are different, and together they have n bits, at most 1,024
-use Rattle.std.specs.Prelude.{◌≡◌, ℕ, ◌<◌, ◌≤◌, false, List, All, map, sum_by}
+--   IsRead n r           what a bit reads is one of n wires, or nothing
+use Rattle.std.specs.Prelude.{◌≡◌, ℕ, ◌<◌, ◌≤◌, false, List, All, Option, Some, None, map, sum_by}
 use Rattle.std.specs.Str.{bytes_eq}
-use Rattle.qasm_check.specs.Library.{table_names}
-use Rattle.qasm_check.specs.Names.{has_repeat, is_one_of}
+use Rattle.gate_library.specs.Library.{table_names}
+use Rattle.gate_library.specs.Names.{has_repeat, is_one_of}
 use Rattle.qasm_check.specs.declared.bits.Bits.{Bits}
-use Rattle.qasm_parser.specs.Names.{IsName}
+use Rattle.qasm_lexer.specs.Names.{IsName}
 
 abbrev pub names_of : List Bits → List (List ℕ)
 names_of rs = map (λ r. r.name) rs
@@ -22,3 +23,7 @@ pub record AreRegisters (rs : List Bits) (bits : ℕ) : Type 0 where
   pub different : has_repeat bytes_eq (names_of rs) ≡ false
   pub all : sum_by (λ r. r.size) rs ≡ bits
   pub few : bits ≤ 1024
+
+abbrev pub IsRead : ℕ → Option ℕ → Type 0
+IsRead n None = Unit {0}
+IsRead n (Some q) = q < n

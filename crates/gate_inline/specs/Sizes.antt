@@ -6,14 +6,14 @@
 --     sizes gates         those of each gate
 --     step_size ss s      a step: its gate's, so often as it is applied
 --     steps_size ss steps     the sum over steps;  total gates steps: with the sizes of these gates
+--     operation_limit, item_limit     the most operations and items of a program
 --     is_too_much s       more operations or more items than the limits
 use Rattle.std.specs.Prelude.{ℕ, ◌+◌, ◌*◌, List, [], ◌∷◌, map, nat_lt, slice_get, unwrap_or, ◌||◌, Bool}
-use Rattle.qasm_check.specs.Gates.{Item, call, pause, Gate, u, cx, opaque, composed}
-use Rattle.qasm_check.specs.Places.{broadcast}
-use Rattle.qasm_check.specs.Steps.{Step, applies, measures, pauses, nothing}
+use Rattle.gate_library.specs.Gates.{Item, call, barrier, Gate, u, cx, opaque, composed}
+use Rattle.gate_library.specs.Operands.{broadcast}
+use Rattle.qasm_check.specs.Steps.{Step, applies, measures, bars, nothing}
 use Rattle.gate_inline.specs.Meanings.{in_order}
 use Rattle.gate_inline.specs.declared.size.Size.{Size}
-use Rattle.gate_inline.specs.declared.TheConstants.{OPERATION_LIMIT, ITEM_LIMIT}
 
 abbrev pub size : ℕ → ℕ → Size
 size operations items = record { operations = operations; items = items }
@@ -33,7 +33,7 @@ size_at ss i = unwrap_or (slice_get ss i) (size 0 1)
 
 abbrev pub item_size : List Size → Item → Size
 item_size ss (call gate angles qubits) = size_at ss gate
-item_size ss pause = size 0 1
+item_size ss barrier = size 0 1
 
 abbrev pub gate_size : List Size → Gate → Size
 gate_size ss u = size 1 1
@@ -47,7 +47,7 @@ sizes gates = in_order gate_size gates
 abbrev pub step_size : List Size → Step → Size
 step_size ss (applies gate angles places) = size_times (broadcast places) (size_at ss gate)
 step_size ss (measures qubit bit) = size 0 0
-step_size ss (pauses places) = size 0 0
+step_size ss (bars places) = size 0 0
 step_size ss nothing = size 0 0
 
 abbrev pub steps_size : List Size → List Step → Size
@@ -56,5 +56,11 @@ steps_size ss steps = size_all (map (step_size ss) steps)
 abbrev pub total : List Gate → List Step → Size
 total gates steps = steps_size (sizes gates) steps
 
+abbrev pub operation_limit : ℕ
+operation_limit = 65536
+
+abbrev pub item_limit : ℕ
+item_limit = 1048576
+
 abbrev pub is_too_much : Size → Bool
-is_too_much s = nat_lt OPERATION_LIMIT s.operations || nat_lt ITEM_LIMIT s.items
+is_too_much s = nat_lt operation_limit s.operations || nat_lt item_limit s.items

@@ -10,7 +10,7 @@ use Rattle.angle_fraction.specs.declared.AngleFault.{AngleFault}
 use Rattle.angle_fraction.specs.declared.AngleFault.TheVariants.{Form}
 use Rattle.angle_fraction.specs.declared.signs.Binary.{Binary}
 use Rattle.angle_fraction.specs.declared.signs.Binary.TheVariants.{Add, Sub, Mul, Div, Pow}
-use Rattle.qasm_check.specs.Gates.{Formula, number, pi, param, negated, called, binary}
+use Rattle.gate_library.specs.Gates.{Formula, number, pi, param, negated, called, binary}
 
 abbrev pub and_next : {A B E : Type 0} → Result A E → (A → Result B E) → Result B E
 and_next (Ok x) f = f x

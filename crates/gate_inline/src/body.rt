@@ -2,11 +2,11 @@
 
 ghost use Rattle.std.specs.Prelude.{◌≡◌, ◌+◌, ◌*◌, ◌<◌, ◌≤◌, [], ◌∷◌, ◌++◌, List, MatchOption, Ok, IfOk, IfErr, OnOk, map, slice_get, take};
 ghost use Rattle.std.specs.Option.{option_map};
-ghost use Rattle.qasm_check.specs.Views.{gate as gate_view, item as item_view};
+ghost use Rattle.gate_library.specs.Views.{gate as gate_view, item as item_view};
 ghost use Rattle.gate_inline.specs.declared.size.Size.{Size};
 ghost use Rattle.gate_inline.specs.declared.stop.Stop.TheVariants.{NoMemory};
 ghost use Rattle.gate_inline.specs.Frames.{asked_answer, asked_size, body_answer, body_room, call_answer, entered_answer, frame_answer, frame_room, frames_answer, frames_room, one_frame};
-ghost use Rattle.qasm_check.specs.Gates.{Gate as BoundGate};
+ghost use Rattle.gate_library.specs.Gates.{Gate as BoundGate};
 ghost use Rattle.gate_inline.specs.Meanings.{Meaning, controlled as controlled_of, followed, item_answer, meaning_at, meanings, one_op, rotation as rotation_of, wire_of as wire_there};
 ghost use Rattle.gate_inline.specs.Sizes.{item_size, size_at, sizes};
 ghost use Rattle.gate_inline.specs.Stops.{IsStop};
@@ -215,7 +215,7 @@ fn call_of(
                 wires,
             }))
         }
-        Item::Pause => Ok(None),
+        Item::Barrier => Ok(None),
     }
 }
 

@@ -1,11 +1,12 @@
 //! A checked program's operations and reads.
 
-ghost use Rattle.std.specs.Prelude.{◌<◌, ◌≤◌, ◌^◌, All, IfOk, IfErr, length};
+ghost use Rattle.std.specs.Prelude.{◌≡◌, ◌≤◌, All, IfOk, IfErr, length};
 ghost use Rattle.circuit_list.specs.Gates.{most_wires};
 ghost use Rattle.qasm_check.specs.CheckedView.{program};
 ghost use Rattle.gate_expand.specs.Expansion.{IsFineOp};
 ghost use Rattle.gate_inline.specs.Inlined.{IsFault, IsInlined};
-ghost use Rattle.gate_inline.specs.Sound.{IsSound};
+ghost use Rattle.gate_inline.specs.Registers.{IsRead};
+ghost use Rattle.gate_inline.specs.Sizes.{operation_limit};
 
 use crate::program::written_out;
 use crate::refusal::InlineFault;
@@ -14,13 +15,14 @@ use qasm_check::Checked;
 use std::alloc::Global;
 
 /// The operations and reads of a checked program, each operation fit for `expand`; else the first statement that is
-/// refused, and why. The checks leave only sound programs.
+/// refused, and why.
 pub fn inline(alloc: Global, checked: &Checked) -> Result<Ops, InlineFault>
-    requires few { length (program checked.now).steps < 2 ^ 32 }
-    requires sound { IsSound (program checked.now) }
     ensures ok { IfOk result (IsInlined (program checked.now)) }
+    ensures short { IfOk result (λ o. length o.list ≤ operation_limit) }
     ensures few { IfOk result (λ o. o.wires ≤ most_wires) }
     ensures fine { IfOk result (λ o. All (IsFineOp o.wires) o.list) }
+    ensures bits { IfOk result (λ o. length o.reads ≡ (program checked.now).bits) }
+    ensures reads { IfOk result (λ o. All (IsRead o.wires) o.reads) }
     ensures err { IfErr result (IsFault (program checked.now)) }
 {
     written_out(

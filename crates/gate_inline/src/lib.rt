@@ -21,7 +21,7 @@ mod stop;
 mod value;
 
 pub use inlining::inline;
-pub use laws::accepted_is_sound;
+pub use laws::{inlined_has_no_fault, refused_once};
 pub use refusal::{InlineFault, Refusal, Refused};
 
 /// The most operations that a program has.

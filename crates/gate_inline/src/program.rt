@@ -3,9 +3,9 @@
 ghost use Rattle.std.specs.Prelude.{◌≡◌, ℕ, ◌+◌, ◌<◌, ◌^◌, [], Ok, IfOk, IfErr, OnOk, All, None, map, length, slice_index_or};
 ghost use Rattle.std.specs.Option.{option_or};
 ghost use Rattle.qasm_check.specs.Steps.{measures};
-ghost use Rattle.qasm_check.specs.Places.{broadcast as broadcast_of, times, wire_at as wire_there};
+ghost use Rattle.gate_library.specs.Operands.{broadcast as broadcast_of, times, wire_at as wire_there};
 ghost use Rattle.qasm_check.specs.StepViews.{step as step_view};
-ghost use Rattle.qasm_check.specs.Views.{gate as gate_view};
+ghost use Rattle.gate_library.specs.Views.{gate as gate_view};
 ghost use Rattle.gate_inline.specs.Inlined.{IsFault, IsInlined, IsUnwritten, operations as operations_of, refusal_of as refusal_there, stopped_at, unwritten_fault as fault_there};
 ghost use Rattle.gate_inline.specs.Meanings.{broadcast_answer, followed, meanings, step_answer};
 ghost use Rattle.gate_inline.specs.Placed.{IsPlaced};
@@ -19,12 +19,12 @@ use gate_expand::{OpList, Ops, ReadList};
 use crate::stop::{Stop, Unvalued};
 use crate::value::values;
 use angle_fraction::Angle;
-use qasm_check::{Gate, Place, Step};
+use qasm_check::{Gate, Operand, Step};
 use std::alloc::{AllocError, Global};
 use unitary_model::Op;
 
 /// The wires at an index of a broadcast.
-fn wires_at(alloc: Global, places: &[Place], j: u32) -> Result<Vec<u32>, AllocError>
+fn wires_at(alloc: Global, places: &[Operand], j: u32) -> Result<Vec<u32>, AllocError>
     requires { All (λ p. wire_there j p < 2 ^ 32) places.now }
     ensures { IfOk result (λ v. v.items ≡ map (wire_there j) places.now) }
 {
@@ -47,7 +47,7 @@ fn write_broadcast(
     gates: &[Gate],
     gate: usize,
     angles: &[Angle],
-    places: &[Place],
+    places: &[Operand],
     list: &mut Vec<Op>,
 ) -> Result<(), Stop>
     requires { (j : ℕ) → j < broadcast_of places.now → All (λ p. wire_there j p < 2 ^ 32) places.now }
@@ -78,17 +78,17 @@ fn write_step(alloc: Global, gates: &[Gate], step: &Step, list: &mut Vec<Op>) ->
         Step::Apply {
             gate,
             angles,
-            places,
+            operands,
         } => match values(alloc, &[], angles) {
-            Ok(angles) => write_broadcast(alloc, gates, *gate, &angles, places, list),
+            Ok(angles) => write_broadcast(alloc, gates, *gate, &angles, operands, list),
             Err(stop) => Err(stop),
         },
-        Step::Measure { qubit: _, bit: _ } | Step::Pause { places: _ } | Step::Nothing => Ok(()),
+        Step::Measure { qubit: _, bit: _ } | Step::Barrier { operands: _ } | Step::Nothing => Ok(()),
     }
 }
 
 /// Measures a wire into a bit, or wire by wire a register into one of bits.
-fn measure(list: &mut [Option<u32>], qubit: &Place, bit: &Place)
+fn measure(list: &mut [Option<u32>], qubit: &Operand, bit: &Operand)
     requires same { times qubit.now ≡ times bit.now }
     requires placed { (j : ℕ) → j < times bit.now → (wire_there j qubit.now < 2 ^ 32) × (wire_there j bit.now < length list.old) }
     ensures { (x : ℕ) → x < length list.old →

@@ -1,14 +1,14 @@
 //! How much a program becomes, before anything is written out.
 
 ghost use Rattle.std.specs.Prelude.{◌≡◌, ◌+◌, ◌<◌, false, true, IfNone, IfOk, IfSome, length, map, take};
-ghost use Rattle.qasm_check.specs.Places.{broadcast as broadcast_of};
+ghost use Rattle.gate_library.specs.Operands.{broadcast as broadcast_of};
 ghost use Rattle.qasm_check.specs.StepViews.{step as step_view};
-ghost use Rattle.qasm_check.specs.Views.{gate as gate_view, item as item_view};
+ghost use Rattle.gate_library.specs.Views.{gate as gate_view, item as item_view};
 ghost use Rattle.gate_inline.specs.Capped.{capped};
 ghost use Rattle.gate_inline.specs.Sizes.{gate_size as size_of_gate, is_too_much, size as size_from, item_size as size_of_item, size_all, size_at as size_there, size_plus, size_times, sizes as sizes_of, step_size as size_of_step, steps_size};
 
 use crate::{ITEM_LIMIT, OPERATION_LIMIT};
-use qasm_check::{Gate, Item, Place, Step};
+use qasm_check::{Gate, Item, Operand, Step};
 use std::alloc::{AllocError, Global};
 
 /// So many operations, and so many items of bodies; at most 2^64 - 1 of each.
@@ -65,7 +65,7 @@ fn item_size(sizes: &[Size], item: &Item) -> Size
             angles: _,
             qubits: _,
         } => size_at(sizes, *gate),
-        Item::Pause => one_item(),
+        Item::Barrier => one_item(),
     }
 }
 
@@ -115,7 +115,7 @@ pub fn sizes(alloc: Global, gates: &[Gate]) -> Result<Vec<Size>, AllocError>
 }
 
 /// How often a gate is applied to these places: once for each wire of a whole register, or once.
-pub fn broadcast(places: &[Place]) -> u32
+pub fn broadcast(places: &[Operand]) -> u32
     ensures { result ≡ broadcast_of places.now }
 {
     'places: for place in places {
@@ -133,9 +133,9 @@ fn step_size(sizes: &[Size], step: &Step) -> Size
         Step::Apply {
             gate,
             angles: _,
-            places,
-        } => times(broadcast(places), size_at(sizes, *gate)),
-        Step::Measure { qubit: _, bit: _ } | Step::Pause { places: _ } | Step::Nothing => Size {
+            operands,
+        } => times(broadcast(operands), size_at(sizes, *gate)),
+        Step::Measure { qubit: _, bit: _ } | Step::Barrier { operands: _ } | Step::Nothing => Size {
             operations: 0,
             items: 0,
         },

@@ -2,7 +2,7 @@
 
 ghost use Rattle.std.specs.Prelude.{◌≡◌, ◌<◌, Ok, IfOk, IfErr, IfSome, map, slice_get, unwrap_or};
 ghost use Rattle.angle_fraction.specs.Angles.{eighths_of};
-ghost use Rattle.qasm_check.specs.Views.{formula as formula_view};
+ghost use Rattle.gate_library.specs.Views.{formula as formula_view};
 ghost use Rattle.gate_inline.specs.Meanings.{eighth as eighth_of, unvalued};
 ghost use Rattle.gate_inline.specs.Stops.{IsStop};
 ghost use Rattle.gate_inline.specs.Values.{no_angle, operation as operation_of, value as value_of, values as values_of};

@@ -1,13 +1,15 @@
--- The first refusal of a text, and what a text that isn't refused means.
---   IsRefusal text r     r is the text's first refusal: its length; else the first byte that begins no token, or the first number
+-- The first refusal of a text.
+--   IsRefusal text r     r is the text's first refusal: its length; else the first byte that begins no token or the first number
 --                        that is too large, whichever comes first; else that no program is spelt, or one of another version, or
 --                        with an expression that is too deep; else that of the first statement which has one, with the least
 --                        code; else that there is too much to write out; else the first angle that isn't exact
 --   IsFaultOf text e     what may be told of a text: its first refusal, or want of memory
 --   program_of s         the program that a source stands for
+--   lex_fault, parse_fault   a fault of the tokens or of the grammar, as it is told
 use Rattle.std.specs.Prelude.{◌≡◌, ℕ, ◌<◌, ◌≤◌, List, Ok, Err, length}
-use Rattle.qasm_lexer.specs.Tokens.{lexed}
+use Rattle.qasm_lexer.specs.Lexed.{lexed}
 use Rattle.qasm_lexer.specs.declared.Token.{Token}
+use Rattle.qasm_lexer.specs.declared.LexFault.{LexFault}
 use Rattle.qasm_lexer.specs.declared.LexFault.TheVariants as lexing
 use Rattle.qasm_parser.specs.Parsing.{IsFault as IsParseFault}
 use Rattle.qasm_parser.specs.Tree.{Tree}
@@ -25,12 +27,40 @@ use Rattle.program_reader.specs.declared.source.Source.{Source}
 abbrev pub IsUnparsed : List ℕ → ParseFault → Type 0
 IsUnparsed text fault = (tokens : List Token) × (lexed text ≡ Ok tokens) × IsParseFault text tokens fault
 
-abbrev pub IsFirst : List ℕ → Refusal → Type 0
-IsFirst text TooLong = text_limit < length text
-IsFirst text (BadByte place) = lexed text ≡ Err (lexing.BadByte place)
-IsFirst text (Number place) = lexed text ≡ Err (lexing.Number place)
-IsFirst text (Syntax place) = IsUnparsed text (parsing.Syntax place)
-IsFirst text (Version place) = IsUnparsed text (parsing.Version place)
-IsFirst text (Depth place) = IsUnparsed text (parsing.Depth place)
-IsFirst text (Check r) = (t : Tree) × IsTreeOf text t × IsCheckRefused t r
-IsFirst text (Inline r) = (t : Tree) × IsSource text t × IsInlineRefused (bound t) r.refusal r.statement
+-- of a text that isn't too long
+abbrev pub IsWithin : List ℕ → Type 0
+IsWithin text = length text ≤ text_limit
+
+abbrev pub IsRefusal : List ℕ → Refusal → Type 0
+IsRefusal text TooLong = text_limit < length text
+IsRefusal text (BadByte place) = IsWithin text × (lexed text ≡ Err (lexing.BadByte place))
+IsRefusal text (Number place) = IsWithin text × (lexed text ≡ Err (lexing.Number place))
+IsRefusal text (Syntax place) = IsWithin text × IsUnparsed text (parsing.Syntax place)
+IsRefusal text (Version place) = IsWithin text × IsUnparsed text (parsing.Version place)
+IsRefusal text (Depth place) = IsWithin text × IsUnparsed text (parsing.Depth place)
+IsRefusal text (Check r) = IsWithin text × (t : Tree) × IsTreeOf text t × IsCheckRefused t r
+IsRefusal text (Inline r) = IsWithin text × (t : Tree) × IsSource text t × IsInlineRefused (bound t) r.refusal r.statement
+
+abbrev pub IsFaultOf : List ℕ → ReadFault → Type 0
+IsFaultOf text (Refused r) = IsRefusal text r
+IsFaultOf text NoMemory = Unit {0}
+
+abbrev pub program_of : Source → Program
+program_of s = record {
+  wires = s.ops.wires;
+  ops = s.ops.list;
+  reads = s.ops.reads;
+  registers = s.registers.items;
+  barriers = s.barriers;
+}
+
+abbrev pub lex_fault : LexFault → ReadFault
+lex_fault (lexing.BadByte place) = Refused (BadByte place)
+lex_fault (lexing.Number place) = Refused (Number place)
+lex_fault lexing.NoMemory = NoMemory
+
+abbrev pub parse_fault : ParseFault → ReadFault
+parse_fault (parsing.Syntax place) = Refused (Syntax place)
+parse_fault (parsing.Version place) = Refused (Version place)
+parse_fault (parsing.Depth place) = Refused (Depth place)
+parse_fault parsing.NoMemory = NoMemory

@@ -1,5 +1,7 @@
 //! Why a text is refused.
 
+use qasm_lexer::LexFault;
+use qasm_parser::ParseFault;
 use std::alloc::AllocError;
 use thiserror::Error;
 
@@ -18,7 +20,7 @@ pub enum Refusal {
     Version { place: u32 },
     /// The expression that begins at this place is deeper than 64.
     Depth { place: u32 },
-    /// A statement is refused.
+    /// A statement is refused by the checks.
     Check(qasm_check::Refused),
     /// A statement's gates can't be written out.
     Inline(gate_inline::Refused),
@@ -33,4 +35,46 @@ pub enum ReadFault {
     /// There is no memory for the program.
     #[error("out of memory")]
     NoMemory,
+}
+
+impl From<AllocError> for ReadFault {
+    ghost use Rattle.std.specs.Prelude.{◌≡◌};
+    ghost use Rattle.program_reader.specs.declared.refusal.ReadFault.TheVariants.{NoMemory};
+
+    ghost from_gives = { λ _ f. f ≡ NoMemory };
+
+    fn from(_error: AllocError) -> ReadFault {
+        ReadFault::NoMemory
+    }
+}
+
+impl From<LexFault> for ReadFault {
+    ghost use Rattle.std.specs.Prelude.{◌≡◌};
+    ghost use Rattle.program_reader.specs.Refusals.{lex_fault};
+
+    ghost from_gives = { λ e f. f ≡ lex_fault e };
+
+    fn from(fault: LexFault) -> ReadFault {
+        match fault {
+            LexFault::BadByte { place } => ReadFault::Refused(Refusal::BadByte { place }),
+            LexFault::Number { place } => ReadFault::Refused(Refusal::Number { place }),
+            LexFault::NoMemory => ReadFault::NoMemory,
+        }
+    }
+}
+
+impl From<ParseFault> for ReadFault {
+    ghost use Rattle.std.specs.Prelude.{◌≡◌};
+    ghost use Rattle.program_reader.specs.Refusals.{parse_fault};
+
+    ghost from_gives = { λ e f. f ≡ parse_fault e };
+
+    fn from(fault: ParseFault) -> ReadFault {
+        match fault {
+            ParseFault::Syntax { place } => ReadFault::Refused(Refusal::Syntax { place }),
+            ParseFault::Version { place } => ReadFault::Refused(Refusal::Version { place }),
+            ParseFault::Depth { place } => ReadFault::Refused(Refusal::Depth { place }),
+            ParseFault::NoMemory => ReadFault::NoMemory,
+        }
+    }
 }

@@ -1,8 +1,8 @@
+mod AcceptedLaws
 mod LoopLaws
-mod PlaceLaws
+mod OnceLaws
 mod ProgramLaws
-mod RepeatLaws
-mod StateLaws
+mod RegisterLaws
+mod SoundLaws
 mod StatementLaws
-mod TableLaws
 mod VerdictLaws

@@ -1,12 +1,13 @@
 -- One more element of a list, as at a step of a loop.
 --   filter_map_some, filter_map_none   by what is made of it
 --   list_any-map                       a test of what is made of elements
+--   drop_read                          the elements from one on
 --   loops                              these and the like
-use Rattle.std.proofs.Common.{◌≡◌, ℕ, ◌+◌, ◌<◌, List, [], ◌∷◌, ◌++◌, Option, Some, None, ap, ◌∙◌, refl, length, take, get_or}
-use Rattle.std.specs.List.{filter_map}
+use Rattle.std.proofs.Common.{◌≡◌, ℕ, ◌+◌, ◌<◌, List, [], ◌∷◌, ◌++◌, Option, Some, None, ap, ◌∙◌, refl, length, drop, take, get_or, add-one}
+use Rattle.std.proofs.Math.Seq.{drop-cons}
+use Rattle.std.specs.List.{filter_map, list_any}
 use Rattle.std.proofs.lemmas.List.Elements.{filter_map-append, filter_more}
 use Rattle.std.proofs.lemmas.List.{append-nil, map_more}
-use Rattle.std.specs.List.{list_any}
 use Rattle.std.proofs.lemmas.Simd.{map-map}
 use Rattle.std.proofs.lemmas.Grind.{take_at_read}
 use Rattle.std.proofs.Common.{Bool, ◌||◌, map}
@@ -32,6 +33,9 @@ pub filter_map_none : {X Y : Type 0} (h : X → Option Y) (xs : List X) (i : ℕ
 filter_map_none h xs i d lt e =
     ap (filter_map h) (take_at_read xs i d lt).1 ∙ filter_map-append h (take i xs) (get_or xs i d ∷ [])
     ∙ ap (λ ys. filter_map h (take i xs) ++ ys) (one_none h (get_or xs i d) e) ∙ append-nil _
+
+pub drop_read : {A : Type 0} (xs : List A) (i : ℕ) (d : A) → i < length xs → drop i xs ≡ get_or xs i d ∷ drop (i + 1) xs
+drop_read xs i d lt = rw (add-one, drop-cons xs i d)
 
 pub ruleset loops = (filter_map_some, filter_map_none, filter_more, map_more)
 

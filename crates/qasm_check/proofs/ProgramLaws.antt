@@ -13,7 +13,7 @@ use Rattle.std.proofs.lemmas.List.{length-map, length-take, map_more, map-append
 use Rattle.qasm_parser.specs.declared.tree.Stmt.{Stmt}
 use Rattle.qasm_parser.specs.Tree.{statement as tree, Statement, include, register, gate, opaque, conditional, act}
 use Rattle.qasm_check.specs.Checking.{AllFine, IsFaultIn, IsRefusedIn, bits_of, steps}
-use Rattle.qasm_check.specs.Known.{Known, fresh}
+use Rattle.gate_library.specs.Known.{Known, fresh}
 use Rattle.qasm_check.specs.Refusals.{IsFine}
 use Rattle.qasm_check.specs.Steps.{Step, after, known, step}
 use Rattle.qasm_check.specs.Verdicts.{IsStop, fault_of, verdict}
@@ -22,7 +22,7 @@ use Rattle.qasm_check.specs.declared.stop.Stop.TheVariants.{NoMemory, Refused as
 use Rattle.qasm_check.specs.declared.refusal.Refusal.TheVariants.{TooManyBits}
 use Rattle.qasm_check.specs.declared.refusal.Refused.{Refused}
 use Rattle.qasm_check.specs.declared.bits.Bits.{Bits}
-use Rattle.qasm_check.proofs.PlaceLaws.{drop_read}
+use Rattle.qasm_check.proofs.LoopLaws.{drop_read}
 use Rattle.qasm_check.proofs.VerdictLaws.{fine-verdict, least-verdict}
 
 pub size-bits : (k : Known) (s : Statement) → verdict k s ≡ None → ForSome (bits_of s) (λ b. b.size < 2 ^ 32)

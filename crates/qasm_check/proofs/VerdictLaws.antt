@@ -4,7 +4,7 @@
 use Rattle.std.proofs.Common.{◌≡◌, ℕ, ◌+◌, ◌<◌, ◌≤◌, List, [], ◌∷◌, Option, Some, None, Bool, true, false, refl, sym, ap, subst, ◌∙◌, ◌⊎◌, inl, inr, ⊎_elim, arith, lit≤}
 use Rattle.std.proofs.lemmas.Bool.{cases_Bool}
 use Rattle.qasm_parser.specs.Tree.{Statement}
-use Rattle.qasm_check.specs.Known.{Known}
+use Rattle.gate_library.specs.Known.{Known}
 use Rattle.qasm_check.specs.Refusals.{IsFine, IsLeast, applies, code}
 use Rattle.qasm_check.specs.Verdicts.{either, verdict}
 use Rattle.qasm_check.specs.declared.refusal.Refusal.{Refusal}

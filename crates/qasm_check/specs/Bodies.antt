@@ -4,8 +4,9 @@
 use Rattle.std.specs.Prelude.{Bool, map}
 use Rattle.qasm_parser.specs.Tree.{Application, Definition, action, definition}
 use Rattle.qasm_parser.specs.declared.tree.GateDef.{GateDef}
-use Rattle.qasm_check.specs.Known.{Known, meaning}
-use Rattle.qasm_check.specs.Refusals.{applies_opaque, is_register, params_differ, qubits_differ}
+use Rattle.gate_library.specs.Known.{Known, meaning}
+use Rattle.gate_library.specs.Meanings.{is_register}
+use Rattle.qasm_check.specs.Refusals.{applies_opaque, params_differ, qubits_differ}
 use Rattle.qasm_check.specs.declared.body.Flaw.{Flaw}
 use Rattle.qasm_check.specs.declared.body.Flaw.TheVariants.{Register, Params, Qubits, Opaque}
 

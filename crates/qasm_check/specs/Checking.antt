@@ -3,16 +3,13 @@
 --   IsAccepted     no refusal applies to a statement of the program
 --   IsRefusedIn, IsRefused   the first statement to which a refusal applies, counted from 1, and the least such refusal
 --   IsFaultIn, IsFault   what may be told of the program
---   Bound          a program with its names bound: the gates by their numbers, what each statement does, how many wires
---                  and bits there are, and the classical registers in order
---   bound_of, bound   that of statements; that of a tree
---   barriers       how many barriers stand outside bodies
-use Rattle.std.specs.Prelude.{◌≡◌, ℕ, ◌+◌, List, [], ◌∷◌, ◌++◌, Option, Some, None, Bool, true, false, length}
-use Rattle.std.specs.List.{count_by, filter_map}
+--   bound_of, bound   the program with its names bound, of statements; of a tree
+use Rattle.std.specs.Prelude.{◌≡◌, ◌+◌, List, [], ◌∷◌, ◌++◌, Option, Some, None, true, false, length}
+use Rattle.std.specs.List.{filter_map}
 use Rattle.qasm_parser.specs.Tree.{Statement, include, register, gate, opaque, conditional, act, Tree}
-use Rattle.qasm_check.specs.Gates.{Gate}
-use Rattle.qasm_check.specs.Known.{Known, fresh}
-use Rattle.qasm_check.specs.Steps.{Step, applies, measures, pauses, nothing, after, known, step}
+use Rattle.gate_library.specs.Known.{Known, fresh}
+use Rattle.qasm_check.specs.Bound.{Bound}
+use Rattle.qasm_check.specs.Steps.{Step, after, known, step}
 use Rattle.qasm_check.specs.declared.bits.Bits.{Bits}
 use Rattle.qasm_check.specs.Refusals.{IsFine, IsLeast}
 use Rattle.qasm_check.specs.declared.refusal.Refused.{Refused}
@@ -56,13 +53,6 @@ abbrev pub steps : Known → List Statement → List Step
 steps k [] = []
 steps k (s ∷ rest) = step k s ∷ steps (after k s) rest
 
-pub record Bound : Type 0 where
-  pub gates : List Gate
-  pub steps : List Step
-  pub wires : ℕ
-  pub bits : ℕ
-  pub registers : List Bits
-
 abbrev pub bound_of : List Statement → Bound
 bound_of list = let end = known list in record {
   gates = end.gates;
@@ -74,13 +64,3 @@ bound_of list = let end = known list in record {
 
 abbrev pub bound : Tree → Bound
 bound t = bound_of t.list
-
--- how many barriers stand outside bodies
-abbrev pub is_pause : Step → Bool
-is_pause (applies number angles places) = false
-is_pause (measures qubit bit) = false
-is_pause (pauses places) = true
-is_pause nothing = false
-
-abbrev pub barriers : Bound → ℕ
-barriers b = count_by is_pause b.steps

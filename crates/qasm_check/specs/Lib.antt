@@ -1,14 +1,10 @@
+pub mod Arguments
 pub mod Bodies
+pub mod Bound
 pub mod CheckedView
 pub mod Checking
-pub mod Gates
-pub mod Known
-pub mod Library
-pub mod Names
-pub mod Places
 pub mod Refusals
-pub mod State
+pub mod Sound
 pub mod StepViews
 pub mod Steps
 pub mod Verdicts
-pub mod Views

@@ -11,15 +11,16 @@ use Rattle.std.specs.List.{list_any}
 use Rattle.std.specs.Str.{bytes_eq}
 use Rattle.qasm_parser.specs.Tree.{Action, Application, apply, measure, reset as resets, barrier, Definition, Statement, include as includes, register as registers, gate as declares, opaque as leaves_opaque, conditional as tests, act}
 use Rattle.qasm_parser.specs.declared.tree.Arg.{Arg}
-use Rattle.qasm_check.specs.Gates.{Gate, gate_at, gate_params, gate_qubits, is_opaque}
-use Rattle.qasm_check.specs.Known.{Known, meaning}
-use Rattle.qasm_check.specs.Library.{standard_names, table_names, is_standard}
-use Rattle.qasm_check.specs.Names.{has_repeat, is_one_of, knows}
-use Rattle.qasm_check.specs.Places.{broadcast, place, places, upto, wire_at, wires_of}
-use Rattle.qasm_check.specs.declared.TheConstants.{QUBIT_LIMIT, BIT_LIMIT}
-use Rattle.qasm_check.specs.declared.meaning.Meaning.{Meaning}
-use Rattle.qasm_check.specs.declared.meaning.Meaning.TheVariants.{Gate as Numbered, Register}
-use Rattle.qasm_check.specs.declared.meaning.Place.{Place}
+use Rattle.gate_library.specs.Gates.{Gate, gate_at, gate_params, gate_qubits, is_opaque}
+use Rattle.gate_library.specs.Known.{Known, meaning}
+use Rattle.gate_library.specs.Library.{standard_names, table_names, is_standard}
+use Rattle.gate_library.specs.Limits.{most_bits, most_qubits}
+use Rattle.gate_library.specs.Meanings.{is_beyond as goes_beyond, is_gate, is_other, is_register}
+use Rattle.gate_library.specs.Names.{has_repeat, is_one_of}
+use Rattle.gate_library.specs.Operands.{broadcast, differs_from, measure_differs, repeats, wires_of}
+use Rattle.gate_library.specs.declared.meaning.Meaning.{Meaning}
+use Rattle.gate_library.specs.declared.meaning.Meaning.TheVariants.{Gate as Numbered, Register}
+use Rattle.qasm_check.specs.Arguments.{knows, operand, operands}
 use Rattle.qasm_check.specs.declared.refusal.Refusal.{Refusal}
 use Rattle.qasm_check.specs.declared.refusal.Refusal.TheVariants.{Include, NameTaken, UnknownName, WrongKind, IndexRange, EmptyRegister, ParamCount, QubitCount, SizeDiffers, RepeatedQubit, Conditional, Reset, OpaqueApplied, AfterMeasure, TooManyQubits, TooManyBits}
 
@@ -36,11 +37,6 @@ include k (includes file) = not (bytes_eq file (codes "qelib1.inc")) || k.includ
 include k _ = false
 
 -- ---- 21: the name is taken already
-abbrev pub is_gate : Option Meaning → Bool
-is_gate (Some (Numbered i)) = true
-is_gate (Some (Register r)) = false
-is_gate None = false
-
 -- a gate's name is the program's own already, or one of the first table where it is included; or two of the names of its
 -- parameters and qubits are one
 abbrev pub name_taken_by : Known → List ℕ → Bool
@@ -81,16 +77,6 @@ unknown_name k (act it) = unknown_in_act k it
 unknown_name k _ = false
 
 -- ---- 23: a register for a gate, a gate for a register, or a register of the other kind
-abbrev pub is_register : Option Meaning → Bool
-is_register (Some (Register r)) = true
-is_register (Some (Numbered i)) = false
-is_register None = false
-
-abbrev pub is_other : Bool → Option Meaning → Bool
-is_other quantum (Some (Register r)) = if quantum then not r.quantum else r.quantum
-is_other quantum (Some (Numbered i)) = true
-is_other quantum None = false
-
 abbrev pub is_wrong : Known → Bool → Arg → Bool
 is_wrong k quantum arg = is_other quantum (meaning k arg.name)
 
@@ -106,14 +92,8 @@ wrong_kind k (act it) = wrong_in_act k it
 wrong_kind k _ = false
 
 -- ---- 24: an index that isn't below its register's size
-abbrev pub is_beyond_in : Option Meaning → Option ℕ → Bool
-is_beyond_in (Some (Register r)) (Some i) = nat_le r.size i
-is_beyond_in (Some (Register r)) None = false
-is_beyond_in (Some (Numbered n)) index = false
-is_beyond_in None index = false
-
 abbrev pub is_beyond : Known → Arg → Bool
-is_beyond k arg = is_beyond_in (meaning k arg.name) arg.index
+is_beyond k arg = goes_beyond (meaning k arg.name) arg.index
 
 abbrev pub beyond_in_act : Known → Action → Bool
 beyond_in_act k (apply a) = list_any (is_beyond k) a.args
@@ -161,35 +141,18 @@ opaque_applied k (act (apply a)) = applies_opaque k a
 opaque_applied k _ = false
 
 -- ---- 28: two whole registers of different sizes
-abbrev pub differs_from : ℕ → Place → Bool
-differs_from times p = elim p.index [ None ↦ not (p.size == times) | Some i ↦ false ]
-
-abbrev pub sizes_differ : Option ℕ → ℕ → Option ℕ → ℕ → Bool
-sizes_differ None m None n = not (m == n)
-sizes_differ None m (Some j) n = true
-sizes_differ (Some i) m None n = true
-sizes_differ (Some i) m (Some j) n = false
-
-abbrev pub measure_differs : Option Place → Option Place → Bool
-measure_differs (Some qubit) (Some bit) = sizes_differ qubit.index qubit.size bit.index bit.size
-measure_differs (Some qubit) None = false
-measure_differs None bit = false
-
 abbrev pub size_differs : Known → Statement → Bool
-size_differs k (act (apply a)) = let ps = places k a.args in list_any (differs_from (broadcast ps)) ps
-size_differs k (act (measure qubit bit)) = measure_differs (place k qubit) (place k bit)
+size_differs k (act (apply a)) = let ps = operands k a.args in list_any (differs_from (broadcast ps)) ps
+size_differs k (act (measure qubit bit)) = measure_differs (operand k qubit) (operand k bit)
 size_differs k _ = false
 
 -- ---- 29: at some index of the broadcast one qubit stands twice; in a body, one name twice
-abbrev pub repeats : List Place → Bool
-repeats ps = list_any (λ j. has_repeat nat_eq (map (wire_at j) ps)) (upto (broadcast ps))
-
 abbrev pub repeats_name : Application → Bool
 repeats_name a = has_repeat bytes_eq (map (λ x. x.name) a.args)
 
 abbrev pub repeated_qubit : Known → Statement → Bool
 repeated_qubit k (declares d) = list_any (in_body repeats_name) d.body
-repeated_qubit k (act (apply a)) = repeats (places k a.args)
+repeated_qubit k (act (apply a)) = repeats (operands k a.args)
 repeated_qubit k _ = false
 
 -- ---- 30, 31: nothing else of these statements is looked at
@@ -203,16 +166,16 @@ reset k _ = false
 
 -- ---- 33: a qubit that an earlier statement measured
 abbrev pub after_measure : Known → Statement → Bool
-after_measure k (act (apply a)) = list_any (λ p. list_any k.measured (wires_of p)) (places k a.args)
+after_measure k (act (apply a)) = list_any (λ p. list_any k.measured (wires_of p)) (operands k a.args)
 after_measure k _ = false
 
 -- ---- 34, 35: with this register there are too many
 abbrev pub too_many_qubits : Known → Statement → Bool
-too_many_qubits k (registers quantum name size) = quantum && nat_lt QUBIT_LIMIT (k.wires + size)
+too_many_qubits k (registers quantum name size) = quantum && nat_lt most_qubits (k.wires + size)
 too_many_qubits k _ = false
 
 abbrev pub too_many_bits : Known → Statement → Bool
-too_many_bits k (registers quantum name size) = not quantum && nat_lt BIT_LIMIT (k.bits + size)
+too_many_bits k (registers quantum name size) = not quantum && nat_lt most_bits (k.bits + size)
 too_many_bits k _ = false
 
 -- ---- all of them

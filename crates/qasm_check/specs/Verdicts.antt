@@ -5,7 +5,7 @@
 --   fault_of     what is told then
 use Rattle.std.specs.Prelude.{◌≡◌, ℕ, Option, Some, None, Bool, if◌then◌else◌}
 use Rattle.qasm_parser.specs.Tree.{Statement}
-use Rattle.qasm_check.specs.Known.{Known}
+use Rattle.gate_library.specs.Known.{Known}
 use Rattle.qasm_check.specs.Refusals.{include, name_taken, unknown_name, wrong_kind, index_range, empty_register, param_count, qubit_count, size_differs, repeated_qubit, conditional, reset, opaque_applied, after_measure, too_many_qubits, too_many_bits}
 use Rattle.qasm_check.specs.declared.refusal.Refusal.{Refusal}
 use Rattle.qasm_check.specs.declared.refusal.Refusal.TheVariants.{Include, NameTaken, UnknownName, WrongKind, IndexRange, EmptyRegister, ParamCount, QubitCount, SizeDiffers, RepeatedQubit, Conditional, Reset, OpaqueApplied, AfterMeasure, TooManyQubits, TooManyBits}

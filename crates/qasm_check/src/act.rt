@@ -2,25 +2,24 @@
 
 ghost use Rattle.std.specs.Prelude.{◌≡◌, None, IfOk, IfErr, map, []};
 ghost use Rattle.qasm_parser.specs.Tree.{act, action, apply as applied, application as application_tree, barrier as barred, measure as measured};
-ghost use Rattle.qasm_check.specs.Known.{gate_number, meaning};
-ghost use Rattle.qasm_check.specs.State.{state};
-ghost use Rattle.qasm_check.specs.Places.{places};
+ghost use Rattle.gate_library.specs.Known.{gate_number, meaning};
+ghost use Rattle.gate_library.specs.State.{state};
+ghost use Rattle.qasm_check.specs.Arguments.{operands};
 ghost use Rattle.qasm_check.specs.Refusals.{applies_opaque, params_differ, qubits_differ, unknown_in_act, wrong_in_act};
 ghost use Rattle.qasm_check.specs.Steps.{act_step, step as step_of};
 ghost use Rattle.qasm_check.specs.Verdicts.{IsStop, verdict};
 ghost use Rattle.qasm_check.specs.StepViews.{step};
 
 use crate::arguments::{
-    any_beyond, any_measured, any_unknown, any_wrong, is_beyond, is_unknown, is_wrong,
-    measure_differs, place, places, repeats, sizes_differ,
+    any_beyond, any_unknown, any_wrong, is_beyond, is_unknown, is_wrong, operand, operands,
 };
-use crate::formula::{any_foreign, formulas};
-use crate::known::Known;
-use crate::meaning::{Meaning, Place, is_register};
-use crate::names::Places;
+use crate::expression::{any_foreign, formulas};
 use crate::refusal::Refusal;
 use crate::statement::Step;
 use crate::stop::Stop;
+use gate_library::{
+    Indices, Known, Meaning, Operand, is_register, measure_differs, repeats_wire, sizes_differ,
+};
 use qasm_parser::{Apply, Arg, Name};
 use std::alloc::Global;
 
@@ -65,7 +64,7 @@ pub fn applies_opaque<'a>(known: &Known<'a>, apply: &'a Apply) -> bool
 }
 
 /// Whether the application has a name that stands for nothing. No name in an expression stands for anything here.
-fn is_unknown_in<'a>(known: &Known<'a>, none: &Places<'a>, apply: &'a Apply) -> bool
+fn is_unknown_in<'a>(known: &Known<'a>, none: &Indices<'a>, apply: &'a Apply) -> bool
     requires { none.now ≡ [] }
     ensures { result ≡ unknown_in_act (state known.now) (applied (application_tree apply.now)) }
 {
@@ -85,11 +84,11 @@ fn is_wrong_in<'a>(known: &Known<'a>, apply: &'a Apply) -> bool
 fn tested<'a>(
     alloc: Global,
     known: &Known<'a>,
-    none: &Places<'a>,
+    none: &Indices<'a>,
     apply: &'a Apply,
-) -> Result<Vec<Place>, Stop>
+) -> Result<Vec<Operand>, Stop>
     requires { none.now ≡ [] }
-    ensures ok { IfOk result (λ v. (verdict (state known.now) (act (applied (application_tree apply.now))) ≡ None) × (v.items ≡ places (state known.now) apply.now.args.items)) }
+    ensures ok { IfOk result (λ v. (verdict (state known.now) (act (applied (application_tree apply.now))) ≡ None) × (v.items ≡ operands (state known.now) apply.now.args.items)) }
     ensures err { IfErr result (IsStop (verdict (state known.now) (act (applied (application_tree apply.now))))) }
 {
     if is_unknown_in(known, none, apply) {
@@ -107,20 +106,20 @@ fn tested<'a>(
     if qubits_differ(known, apply) {
         return Err(Stop::Refused(Refusal::QubitCount));
     }
-    let places = places(alloc, known, &apply.args)?;
-    if sizes_differ(&places) {
+    let operands = operands(alloc, known, &apply.args)?;
+    if sizes_differ(&operands) {
         return Err(Stop::Refused(Refusal::SizeDiffers));
     }
-    if repeats(alloc, &places)? {
+    if repeats_wire(alloc, &operands)? {
         return Err(Stop::Refused(Refusal::RepeatedQubit));
     }
     if applies_opaque(known, apply) {
         return Err(Stop::Refused(Refusal::OpaqueApplied));
     }
-    if any_measured(known, &places) {
+    if known.any_measured(&operands) {
         return Err(Stop::Refused(Refusal::AfterMeasure));
     }
-    Ok(places)
+    Ok(operands)
 }
 
 /// An application.
@@ -128,13 +127,13 @@ pub fn application<'a>(alloc: Global, known: &Known<'a>, apply: &'a Apply) -> Re
     ensures ok { IfOk result (λ s. (verdict (state known.now) (act (applied (application_tree apply.now))) ≡ None) × (step s ≡ act_step (state known.now) (applied (application_tree apply.now)))) }
     ensures err { IfErr result (IsStop (verdict (state known.now) (act (applied (application_tree apply.now))))) }
 {
-    let none = Places::none(alloc);
-    let places = tested(alloc, known, &none, apply)?;
+    let none = Indices::none(alloc);
+    let operands = tested(alloc, known, &none, apply)?;
     let angles = formulas(alloc, &none, &apply.angles)?;
     Ok(Step::Apply {
         gate: gate_number(known, &apply.gate),
         angles,
-        places,
+        operands,
     })
 }
 
@@ -152,8 +151,8 @@ pub fn measure<'a>(known: &Known<'a>, qubit: &'a Arg, bit: &'a Arg) -> Result<St
     if is_beyond(known, qubit) || is_beyond(known, bit) {
         return Err(Stop::Refused(Refusal::IndexRange));
     }
-    let from = place(known, qubit);
-    let into = place(known, bit);
+    let from = operand(known, qubit);
+    let into = operand(known, bit);
     if measure_differs(from, into) {
         return Err(Stop::Refused(Refusal::SizeDiffers));
     }
@@ -177,6 +176,6 @@ pub fn barrier<'a>(alloc: Global, known: &Known<'a>, args: &'a [Arg]) -> Result<
     if any_beyond(known, args) {
         return Err(Stop::Refused(Refusal::IndexRange));
     }
-    let places = places(alloc, known, args)?;
-    Ok(Step::Pause { places })
+    let operands = operands(alloc, known, args)?;
+    Ok(Step::Barrier { operands })
 }

@@ -4,25 +4,21 @@ ghost use Rattle.std.specs.Prelude.{◌≡◌, ◌++◌, None, length, IfOk, IfE
 ghost use Rattle.std.specs.List.{list_any};
 ghost use Rattle.qasm_parser.specs.Tree.{action, application as application_tree, gate as declares, opaque as leaves_opaque};
 ghost use Rattle.qasm_check.specs.Bodies.{declaration, has_flaw};
-ghost use Rattle.qasm_check.specs.Gates.{opaque as without_body};
-ghost use Rattle.qasm_check.specs.Known.{meaning};
-ghost use Rattle.qasm_check.specs.Names.{is_one_of, place_of};
-ghost use Rattle.qasm_check.specs.Refusals.{applies_opaque, gate_taken, in_body, is_register, name_taken_by, params_differ, qubits_differ, repeats_name, unknown_in_body};
-ghost use Rattle.qasm_check.specs.State.{state};
+ghost use Rattle.gate_library.specs.Gates.{opaque as without_body};
+ghost use Rattle.gate_library.specs.Known.{meaning};
+ghost use Rattle.gate_library.specs.Names.{index_of, is_one_of};
+ghost use Rattle.gate_library.specs.Meanings.{is_register};
+ghost use Rattle.qasm_check.specs.Refusals.{applies_opaque, gate_taken, in_body, name_taken_by, params_differ, qubits_differ, repeats_name, unknown_in_body};
+ghost use Rattle.gate_library.specs.State.{state};
 ghost use Rattle.qasm_check.specs.Steps.{bound_gate, item as bound_item};
 ghost use Rattle.qasm_check.specs.Verdicts.{IsStop, verdict};
-ghost use Rattle.qasm_check.specs.Views.{gate as gate_view, item as item_view};
+ghost use Rattle.gate_library.specs.Views.{gate as gate_view, item as item_view};
 
 use crate::act::{applies_opaque, gate_number, params_differ, qubits_differ};
-use crate::formula::{any_foreign, formulas};
-use crate::gate::{Gate, Item};
-use crate::known::Known;
-use crate::library::is_standard;
-use crate::meaning::is_register;
-use crate::names::Places;
+use crate::expression::{any_foreign, formulas};
 use crate::refusal::Refusal;
-use crate::repeats::names_repeat;
 use crate::stop::Stop;
+use gate_library::{Gate, Indices, Item, Known, is_register, is_standard, names_repeat};
 use qasm_parser::{Apply, Arg, GateDef, Name, Stmt};
 use std::alloc::{AllocError, Global};
 
@@ -102,7 +98,7 @@ fn any_opaque<'a>(known: &Known<'a>, body: &'a [Stmt]) -> bool
 }
 
 /// Whether an argument is no qubit of the gate.
-fn is_foreign<'a>(qubits: &Places<'a>, args: &'a [Arg]) -> bool
+fn is_foreign<'a>(qubits: &Indices<'a>, args: &'a [Arg]) -> bool
     ensures { result ≡ list_any (λ x. not (is_one_of qubits.now x.name)) args.now }
 {
     'each: for arg in args {
@@ -116,8 +112,8 @@ fn is_foreign<'a>(qubits: &Places<'a>, args: &'a [Arg]) -> bool
 /// Whether an item of the body has a name that stands for nothing.
 fn is_unknown_in<'a>(
     known: &Known<'a>,
-    params: &Places<'a>,
-    qubits: &Places<'a>,
+    params: &Indices<'a>,
+    qubits: &Indices<'a>,
     item: &'a Stmt,
 ) -> bool
     ensures { result ≡ unknown_in_body (state known.now) params.now qubits.now (action item.now) }
@@ -136,8 +132,8 @@ fn is_unknown_in<'a>(
 /// Whether an item of the body has a name that stands for nothing.
 fn any_unknown<'a>(
     known: &Known<'a>,
-    params: &Places<'a>,
-    qubits: &Places<'a>,
+    params: &Indices<'a>,
+    qubits: &Indices<'a>,
     body: &'a [Stmt],
 ) -> bool
     ensures { result ≡ list_any (unknown_in_body (state known.now) params.now qubits.now) (map action body.now) }
@@ -162,7 +158,6 @@ fn arg_names<'a>(alloc: Global, args: &'a [Arg]) -> Result<Vec<&'a [u8]>, AllocE
 }
 
 /// Whether two arguments are one name.
-#[tactic(auto, using(crate::proofs::RepeatLaws::names_repeating))]
 fn repeats<'a>(alloc: Global, apply: &'a Apply) -> Result<bool, AllocError>
     ensures { IfOk result (λ b. b ≡ repeats_name (application_tree apply.now)) }
 {
@@ -203,6 +198,15 @@ fn add_names<'a>(list: &mut Vec<&'a [u8]>, names: &'a [Name]) -> Result<(), Allo
     Ok(())
 }
 
+/// Names as slices.
+fn slices<'a>(alloc: Global, names: &'a [Name]) -> Result<Vec<&'a [u8]>, AllocError>
+    ensures { IfOk result (λ v. map (λ n. n.now) v.items ≡ names.now) }
+{
+    let mut list = Vec::with_capacity(alloc, names.len())?;
+    add_names(&mut list, names)?;
+    Ok(list)
+}
+
 /// The names of a gate's parameters and qubits.
 fn local_names<'a>(alloc: Global, gate: &'a GateDef) -> Result<Vec<&'a [u8]>, AllocError>
     ensures { IfOk result (λ v. map (λ n. n.now) v.items ≡ gate.now.params.items ++ gate.now.qubits.items) }
@@ -221,7 +225,6 @@ fn is_name_taken<'a>(known: &Known<'a>, name: &'a [u8]) -> bool
 }
 
 /// Whether the names of the gate, its parameters or its qubits are taken.
-#[tactic(auto, using(crate::proofs::RepeatLaws::names_repeating))]
 fn is_taken<'a>(alloc: Global, known: &Known<'a>, gate: &'a GateDef) -> Result<bool, AllocError>
     ensures { IfOk result (λ b. b ≡ gate_taken (state known.now) (declaration gate.now)) }
 {
@@ -233,17 +236,17 @@ fn is_taken<'a>(alloc: Global, known: &Known<'a>, gate: &'a GateDef) -> Result<b
     Ok(repeats)
 }
 
-/// The places of arguments among the gate's qubits.
-fn qubit_places<'a>(
+/// The indices of arguments among the gate's qubits.
+fn qubit_indices<'a>(
     alloc: Global,
-    qubits: &Places<'a>,
+    qubits: &Indices<'a>,
     args: &'a [Arg],
 ) -> Result<Vec<usize>, AllocError>
-    ensures { IfOk result (λ v. v.items ≡ map (λ x. place_of qubits.now x.name) args.now) }
+    ensures { IfOk result (λ v. v.items ≡ map (λ x. index_of qubits.now x.name) args.now) }
 {
     let mut list = Vec::with_capacity(alloc, args.len())?;
     'each: for arg in args {
-        list.push(qubits.place(arg.name.as_bytes()))?;
+        list.push(qubits.index(arg.name.as_bytes()))?;
     }
     Ok(list)
 }
@@ -252,8 +255,8 @@ fn qubit_places<'a>(
 fn item<'a>(
     alloc: Global,
     known: &Known<'a>,
-    params: &Places<'a>,
-    qubits: &Places<'a>,
+    params: &Indices<'a>,
+    qubits: &Indices<'a>,
     item: &'a Stmt,
 ) -> Result<Item, AllocError>
     ensures { IfOk result (λ i. item_view i ≡ bound_item (state known.now) params.now qubits.now (action item.now)) }
@@ -262,9 +265,9 @@ fn item<'a>(
         Stmt::Apply(apply) => Ok(Item::Call {
             gate: gate_number(known, &apply.gate),
             angles: formulas(alloc, params, &apply.angles)?,
-            qubits: qubit_places(alloc, qubits, &apply.args)?,
+            qubits: qubit_indices(alloc, qubits, &apply.args)?,
         }),
-        _ => Ok(Item::Pause),
+        _ => Ok(Item::Barrier),
     }
 }
 
@@ -273,8 +276,8 @@ fn item<'a>(
 fn items<'a>(
     alloc: Global,
     known: &Known<'a>,
-    params: &Places<'a>,
-    qubits: &Places<'a>,
+    params: &Indices<'a>,
+    qubits: &Indices<'a>,
     body: &'a [Stmt],
 ) -> Result<Vec<Item>, AllocError>
     ensures { IfOk result (λ v. map item_view v.items ≡ map (bound_item (state known.now) params.now qubits.now) (map action body.now)) }
@@ -290,8 +293,8 @@ fn items<'a>(
 fn tested<'a>(
     alloc: Global,
     known: &Known<'a>,
-    params: &Places<'a>,
-    qubits: &Places<'a>,
+    params: &Indices<'a>,
+    qubits: &Indices<'a>,
     gate: &'a GateDef,
 ) -> Result<(), Stop>
     requires params { params.now ≡ gate.now.params.items }
@@ -328,8 +331,8 @@ pub fn gate<'a>(alloc: Global, known: &Known<'a>, gate: &'a GateDef) -> Result<G
     ensures ok { IfOk result (λ g. (verdict (state known.now) (declares (declaration gate.now)) ≡ None) × (gate_view g ≡ bound_gate (state known.now) (declaration gate.now))) }
     ensures err { IfErr result (IsStop (verdict (state known.now) (declares (declaration gate.now)))) }
 {
-    let params = Places::of(alloc, &gate.params)?;
-    let qubits = Places::of(alloc, &gate.qubits)?;
+    let params = Indices::of(alloc, slices(alloc, &gate.params)?)?;
+    let qubits = Indices::of(alloc, slices(alloc, &gate.qubits)?)?;
     tested(alloc, known, &params, &qubits, gate)?;
     Ok(Gate::Composed {
         params: gate.params.len(),

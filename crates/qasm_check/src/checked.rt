@@ -1,13 +1,16 @@
 //! Programs whose names are bound.
 
-ghost use Rattle.std.specs.Prelude.{◌<◌, ◌^◌, length};
+ghost use Rattle.std.specs.Prelude.{◌<◌, ◌≡◌, ◌^◌, length, map};
+ghost use Rattle.gate_library.specs.Views.{gate};
+ghost use Rattle.qasm_check.specs.Sound.{IsSound};
+ghost use Rattle.qasm_check.specs.StepViews.{step};
 
 use crate::bits::Bits;
-use crate::gate::Gate;
 use crate::statement::Step;
+use gate_library::Gate;
 
 /// A program without a refusal, its names bound. Contracts see its gates by their numbers, what each statement does, how
-/// many wires and bits there are, and the classical registers in order.
+/// many wires and bits there are, and the classical registers in order. Each is sound: what it names is there.
 #[derive(Drop)]
 pub struct Checked {
     gates: Vec<Gate>,
@@ -15,15 +18,15 @@ pub struct Checked {
     wires: u32,
     bits: u32,
     registers: Vec<Bits>,
-    ghost few: { length registers.items < 2 ^ 32 },
+    pub ghost sound: { IsSound (record { gates = map gate gates.items; steps = map step steps.items; wires = wires; bits = bits; registers = registers.items }) },
+    pub ghost few_steps: { length steps.items < 2 ^ 32 },
+    pub ghost few_registers: { length registers.items < 2 ^ 32 },
 }
 
 impl Checked {
-    ghost use Rattle.std.specs.Prelude.{◌≡◌, IfOk, map, slice_get, Some};
-    ghost use Rattle.qasm_check.specs.Checking.{barriers};
+    ghost use Rattle.std.specs.Prelude.{IfOk, slice_get, Some};
+    ghost use Rattle.qasm_check.specs.Bound.{barriers};
     ghost use Rattle.qasm_check.specs.CheckedView.{program};
-    ghost use Rattle.qasm_check.specs.StepViews.{step};
-    ghost use Rattle.qasm_check.specs.Views.{gate};
 
     /// A program of these parts.
     pub(crate) fn new(
@@ -33,7 +36,9 @@ impl Checked {
         bits: u32,
         registers: Vec<Bits>,
     ) -> Checked
-        requires { length registers.items < 2 ^ 32 }
+        requires sound { IsSound (record { gates = map gate gates.items; steps = map step steps.items; wires = wires; bits = bits; registers = registers.items }) }
+        requires few_steps { length steps.items < 2 ^ 32 }
+        requires few_registers { length registers.items < 2 ^ 32 }
         ensures { program result ≡ record { gates = map gate gates.items; steps = map step steps.items; wires = wires; bits = bits; registers = registers.items } }
     {
         Checked {
@@ -65,7 +70,7 @@ impl Checked {
     {
         let mut count = 0u64;
         'steps: for it in &self.steps {
-            if it.is_pause() {
+            if it.is_barrier() {
                 count += 1;
             }
         }

@@ -2,7 +2,7 @@
 //!
 //! In goes a tree, out comes the same program with its names bound: each application names its gate by a number and its
 //! qubits by their register's first wire, each line of a gate's body its gate by a number and its qubits and parameters by
-//! their places. A name in a body means what it means where the body stands. Else the contract says which statement is the
+//! their indices. A name in a body means what it means where the body stands. Else the contract says which statement is the
 //! first with a refusal, and which of its refusals has the least code. Names are looked up in ordered maps, so the time is
 //! near-linear in the tree.
 #![tactic(auto)]
@@ -12,15 +12,10 @@ mod arguments;
 mod bits;
 mod body;
 mod checked;
-mod formula;
-mod gate;
-mod known;
-mod library;
-mod meaning;
-mod names;
+mod expression;
+mod laws;
 mod program;
 mod refusal;
-mod repeats;
 mod statement;
 mod stop;
 #[cfg(test)]
@@ -28,9 +23,8 @@ mod tests;
 
 pub use bits::Bits;
 pub use checked::Checked;
-pub use formula::Formula;
-pub use gate::{Gate, Item};
-pub use meaning::Place;
+pub use gate_library::{Formula, Gate, Item, Operand};
+pub use laws::{accepted_has_no_fault, accepted_is_sound, refused_once};
 pub use program::check;
 pub use refusal::{CheckFault, Refusal, Refused};
 pub use statement::Step;

@@ -5,18 +5,19 @@ ghost use Rattle.std.specs.Option.{ForSome, option_to_list};
 ghost use Rattle.qasm_parser.specs.Tree.{program as tree_of, statement as tree};
 ghost use Rattle.qasm_check.specs.Checking.{AllFine, IsAccepted, IsFault, IsFaultIn, bits_of, bound, bound_of};
 ghost use Rattle.qasm_check.specs.CheckedView.{program as bound_program};
-ghost use Rattle.qasm_check.specs.Known.{fresh};
-ghost use Rattle.qasm_check.specs.State.{state};
+ghost use Rattle.gate_library.specs.Known.{fresh};
+ghost use Rattle.gate_library.specs.State.{state};
+ghost use Rattle.qasm_check.specs.Sound.{IsSound};
 ghost use Rattle.qasm_check.specs.StepViews.{step};
 ghost use Rattle.qasm_check.specs.Steps.{after, step as step_of};
 ghost use Rattle.qasm_check.specs.Verdicts.{IsStop, fault_of, verdict};
 
 use crate::bits::Bits;
 use crate::checked::Checked;
-use crate::known::Known;
 use crate::refusal::{CheckFault, Refused};
 use crate::statement::{Step, statement};
 use crate::stop::Stop;
+use gate_library::Known;
 use qasm_parser::{Name, Program, Stmt};
 use std::alloc::{AllocError, Global};
 
@@ -125,6 +126,7 @@ fn checked(alloc: Global, statements: &[Stmt]) -> Result<Checked, CheckFault>
 pub fn check(alloc: Global, program: Program) -> Result<Checked, CheckFault>
     requires { length program.list.items < 2 ^ 32 }
     ensures ok { IfOk result (λ c. IsAccepted (tree_of program) × (bound_program c ≡ bound (tree_of program))) }
+    ensures sound { IfOk result (λ c. IsSound (bound_program c)) }
     ensures err { IfErr result (IsFault (tree_of program)) }
 {
     checked(alloc, &program.list)

@@ -2,85 +2,61 @@
 
 ghost use Rattle.std.specs.Prelude.{◌≡◌, ◌+◌, ◌||◌, None, IfOk, IfErr, codes, is_some, nat_lt};
 ghost use Rattle.std.specs.Str.{bytes_eq};
+ghost use Rattle.gate_library.specs.Library.{table_names};
+ghost use Rattle.gate_library.specs.Names.{is_one_of};
+ghost use Rattle.gate_library.specs.State.{state};
 ghost use Rattle.qasm_parser.specs.Tree.{act, gate as declares, include as includes, measure as measures, opaque as leaves_opaque, register as registers, statement as tree};
 ghost use Rattle.qasm_check.specs.Bodies.{declaration};
-ghost use Rattle.qasm_check.specs.Names.{is_one_of};
 ghost use Rattle.qasm_check.specs.StepViews.{step};
 ghost use Rattle.qasm_check.specs.Steps.{act_step, after, nothing, step as step_of};
 ghost use Rattle.qasm_check.specs.Verdicts.{IsStop, verdict};
-ghost use Rattle.std.specs.List.{list_any};
-ghost use Rattle.qasm_check.specs.Library.{standard_names, table_names};
-ghost use Rattle.qasm_check.specs.Refusals.{is_gate};
-ghost use Rattle.qasm_check.specs.State.{state};
 
 use crate::act::{application, barrier, measure};
-use crate::arguments::place;
+use crate::arguments::operand;
 use crate::body::{gate, opaque};
-use crate::formula::Formula;
-use crate::known::Known;
-use crate::library::{NAMES, STANDARD, is_in_table};
-use crate::meaning::{Place, is_gate};
 use crate::refusal::Refusal;
 use crate::stop::Stop;
 use crate::{BIT_LIMIT, QUBIT_LIMIT};
+use gate_library::{Formula, Known, Operand, is_in_table};
 use qasm_parser::{Arg, GateDef, Name, Stmt};
 use std::alloc::Global;
 
 /// What a statement does.
 #[derive(Drop)]
 pub enum Step {
-    /// Applies the gate of this number at these angles. Where a place is a whole register, it is applied once for each of
+    /// Applies the gate of this number at these angles. Where an operand is a whole register, it is applied once for each of
     /// its wires; single wires are repeated.
     Apply {
         gate: usize,
         angles: Vec<Formula>,
-        places: Vec<Place>,
+        operands: Vec<Operand>,
     },
     /// Measures a wire into a bit, or wire by wire a register into one of bits.
     Measure {
-        qubit: Place,
-        bit: Place,
+        qubit: Operand,
+        bit: Operand,
     },
     /// A barrier over these wires.
-    Pause {
-        places: Vec<Place>,
+    Barrier {
+        operands: Vec<Operand>,
     },
     /// A declaration or an include.
     Nothing,
 }
 
-/// Whether the program has made a gate of one of these names.
-fn any_declared<'a>(known: &Known<'a>, names: &[&'a [u8]]) -> bool
-    ensures { result ≡ list_any (λ name. is_gate ((state known.now).declared name.now)) names.now }
-{
-    'names: for name in names {
-        if is_gate(known.declared(name)) {
-            return true;
-        }
-    }
-    false
-}
-
-/// Whether the program has made a gate of a name of the library's listing.
-fn any_standard(known: &Known<'_>) -> bool
-    ensures { result ≡ list_any (λ name. is_gate ((state known.now).declared name)) standard_names }
-{
-    any_declared(known, &NAMES[..STANDARD])
-}
-
 impl Step {
-    ghost use Rattle.qasm_check.specs.Checking.{is_pause};
+    ghost use Rattle.qasm_check.specs.Bound.{is_barrier};
 
     /// Whether it is a barrier.
-    pub fn is_pause(&self) -> bool
-        ensures { result ≡ is_pause (step self.now) }
+    pub fn is_barrier(&self) -> bool
+        ensures { result ≡ is_barrier (step self.now) }
     {
         match self {
-            Step::Pause { places: _ } => true,
+            Step::Barrier { operands: _ } => true,
             Step::Apply {
                 gate: _,
                 angles: _,
-                places: _,
+                operands: _,
             } => false,
             Step::Measure { qubit: _, bit: _ } => false,
             Step::Nothing => false,
@@ -103,7 +79,7 @@ fn include(known: &mut Known<'_>, file: &Name) -> Result<Step, Stop>
     if !is_library(file.as_bytes()) || known.is_included() {
         return Err(Stop::Refused(Refusal::Include));
     }
-    if any_standard(known) {
+    if known.has_standard() {
         return Err(Stop::Refused(Refusal::NameTaken));
     }
     known.include();
@@ -181,7 +157,7 @@ fn measured<'a>(known: &mut Known<'a>, qubit: &'a Arg, bit: &'a Arg) -> Result<S
     ensures err { IfErr result (IsStop (verdict (state known.old) (act (measures qubit.now bit.now)))) }
 {
     let step = measure(known, qubit, bit)?;
-    if let Some(wires) = place(known, qubit) {
+    if let Some(wires) = operand(known, qubit) {
         known.measure(&wires)?;
     }
     Ok(step)

@@ -5,7 +5,7 @@
 use Rattle.std.proofs.Common.{◌≡◌, ℕ, zero, suc, ◌+◌, ◌*◌, ◌^◌, ◌<◌, ◌≤◌, [], ◌∷◌, ◌++◌, refl, sym, ap, ◌∙◌, arith, length, slice_index, length-append, append_assoc, add-one}
 use Rattle.std.proofs.lemmas.List.{get_or_past}
 use Rattle.std.proofs.Math.Nat.{pow-suc, pow-zero, add-zero, add-suc}
-use Rattle.qasm_lexer.specs.Lexemes.{Bytes}
+use Rattle.qasm_lexer.specs.Forms.{Bytes}
 use Rattle.qasm_lexer.specs.Numbers.{digit, front_number, number, number_after}
 
 pub digit_le : (b : ℕ) → digit b ≤ 9

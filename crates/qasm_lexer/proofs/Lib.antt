@@ -2,5 +2,10 @@ pub mod ValueLaws
 pub mod DigitLaws
 pub mod TailLaws
 pub mod ScaledLaws
+pub mod ClassLaws
+pub mod FormLaws
+pub mod KindLaws
+pub mod LexemeLaws
 pub mod TokenLaws
-pub mod EachToken
+pub mod LexingLaws
+pub mod NameLaws

@@ -11,10 +11,11 @@ use Rattle.std.proofs.lemmas.Bool.{cases_lt, cases_eq}
 use Rattle.angle_fraction.specs.Fraction.{nought}
 use Rattle.angle_fraction.specs.Angles.{fitted}
 use Rattle.angle_fraction.specs.declared.AngleFault.TheVariants.{Range}
-use Rattle.qasm_lexer.specs.Lexemes.{Bytes, begins_with}
+use Rattle.qasm_lexer.specs.Forms.{Bytes}
+use Rattle.qasm_lexer.specs.Numbers.{begins_with}
 use Rattle.qasm_lexer.specs.Numbers.{decimal, exponent, exponent_size, front_digits, front_number, number, part_digits, scaled}
 use Rattle.qasm_lexer.proofs.DigitLaws.{front_number-lt, front_number-more, number-front}
-use Rattle.qasm_lexer.proofs.ValueLaws.{nought_value}
+use Rattle.qasm_lexer.proofs.ValueLaws.{LowestLaws, nought_value}
 use Rattle.qasm_lexer.proofs.TailLaws.{far_down, far_up, ten_pow}
 
 pub all_digits : (w p : Bytes) → front_number (w ++ p) (length w + length p) ≡ number (w ++ p)
@@ -26,37 +27,38 @@ with_zeros w p k = ap (λ n. front_number (w ++ p) (n + k)) (sym (length-append 
 pub digits_short : (w p : Bytes) → number (w ++ p) < 10 ^ (length w + length p)
 digits_short w p = subst (λ n. n < 10 ^ (length w + length p)) (all_digits w p) (front_number-lt (w ++ p) (length w + length p))
 
-pub scaled-nought : (d : Bytes) (places : ℕ) (down : Bool) (size : ℕ) → number d ≡ 0 → fitted (scaled d places down size) ≡ Ok nought
-unfolding scaled
-scaled-nought d places true size e = rw e (nought_value (10 ^ (places + size)) (ten_pow (places + size)))
-scaled-nought d places false size e = rw e (rw zero-mul (nought_value (10 ^ places) (ten_pow places)))
+-- ---- by what lowest terms are
+module _ (laws : LowestLaws) where
+  pub scaled-nought : (d : Bytes) (places : ℕ) (down : Bool) (size : ℕ) → number d ≡ 0 → fitted (scaled d places down size) ≡ Ok nought
+  unfolding scaled
+  scaled-nought d places true size e = rw e (nought_value laws (10 ^ (places + size)) (ten_pow (places + size)))
+  scaled-nought d places false size e = rw e (rw zero-mul (nought_value laws (10 ^ places) (ten_pow places)))
 
--- of digits that aren't all 0
-far : (d : Bytes) (places : ℕ) (down : Bool) (size : ℕ) → 0 < number d → places ≤ length d → length d < 2 ^ 32 → 2 ^ 40 ≤ size
-    → fitted (scaled d places down size) ≡ Err Range
-unfolding scaled
-far d places true size some le short large =
-    let less : number d < 10 ^ length d = subst (λ n. n < 10 ^ length d) (sym (number-front d)) (front_number-lt d (length d)) in
-    sym (far_down (number d) (length d) (places + size) some less (omega arith))
-far d places false size some le short large = sym (far_up (number d) size places some (omega arith))
+  far : (d : Bytes) (places : ℕ) (down : Bool) (size : ℕ) → 0 < number d → places ≤ length d → length d < 2 ^ 32 → 2 ^ 40 ≤ size
+      → fitted (scaled d places down size) ≡ Err Range
+  unfolding scaled
+  far d places true size some le short large =
+      let less : number d < 10 ^ length d = subst (λ n. n < 10 ^ length d) (sym (number-front d)) (front_number-lt d (length d)) in
+      sym (far_down laws (number d) (length d) (places + size) some less (omega arith))
+  far d places false size some le short large = sym (far_up laws (number d) size places some (omega arith))
 
-pub scaled-far : (d : Bytes) (places : ℕ) (down : Bool) (size : ℕ) → places ≤ length d → length d < 2 ^ 32
-    → fitted (scaled d places down (min size (2 ^ 40))) ≡ fitted (scaled d places down size)
-scaled-far d places down size le short = by_size (cases_lt size (2 ^ 40)) (cases_eq (number d) 0)
-  where
-    by_size : (size < 2 ^ 40) ⊎ (2 ^ 40 ≤ size) → (number d ≡ 0) ⊎ (number d ≡ 0 → ⊥)
-        → fitted (scaled d places down (min size (2 ^ 40))) ≡ fitted (scaled d places down size)
-    by_size (inl near) z = ap (λ n. fitted (scaled d places down n)) (omega arith)
-    by_size (inr large) (inl none) = scaled-nought d places down (min size (2 ^ 40)) none ∙ sym (scaled-nought d places down size none)
-    by_size (inr large) (inr some) =
-        let up : 0 < number d = pos_of_ne-zero some in
-        far d places down (min size (2 ^ 40)) up le short (omega arith) ∙ sym (far d places down size up le short large)
+  pub scaled-far : (d : Bytes) (places : ℕ) (down : Bool) (size : ℕ) → places ≤ length d → length d < 2 ^ 32
+      → fitted (scaled d places down (min size (2 ^ 40))) ≡ fitted (scaled d places down size)
+  scaled-far d places down size le short = by_size (cases_lt size (2 ^ 40)) (cases_eq (number d) 0)
+    where
+      by_size : (size < 2 ^ 40) ⊎ (2 ^ 40 ≤ size) → (number d ≡ 0) ⊎ (number d ≡ 0 → ⊥)
+          → fitted (scaled d places down (min size (2 ^ 40))) ≡ fitted (scaled d places down size)
+      by_size (inl near) z = ap (λ n. fitted (scaled d places down n)) (omega arith)
+      by_size (inr large) (inl none) = scaled-nought d places down (min size (2 ^ 40)) none ∙ sym (scaled-nought d places down size none)
+      by_size (inr large) (inr some) =
+          let up : 0 < number d = pos_of_ne-zero some in
+          far d places down (min size (2 ^ 40)) up le short (omega arith) ∙ sym (far d places down size up le short large)
 
-pub decimal_by : (t w p : Bytes) (down : Bool) (size : ℕ) → w ≡ front_digits t → p ≡ part_digits t → down ≡ begins_with 45 (exponent t)
-    → size ≡ min (exponent_size (exponent t)) (2 ^ 40) → length w + length p < 2 ^ 32 → fitted (scaled (w ++ p) (length p) down size) ≡ fitted (decimal t)
-decimal_by t w p down size e f g h short =
-    let long : length (w ++ p) ≡ length w + length p = length-append w p in
-    let le : length p ≤ length (w ++ p) = omega arith in
-    let less : length (w ++ p) < 2 ^ 32 = omega arith in
-    ap (λ n. fitted (scaled (w ++ p) (length p) down n)) h ∙ scaled-far (w ++ p) (length p) down (exponent_size (exponent t)) le less
-    ∙ rw (e, f, g) refl
+  pub decimal_by : (t w p : Bytes) (down : Bool) (size : ℕ) → w ≡ front_digits t → p ≡ part_digits t → down ≡ begins_with 45 (exponent t)
+      → size ≡ min (exponent_size (exponent t)) (2 ^ 40) → length w + length p < 2 ^ 32 → fitted (scaled (w ++ p) (length p) down size) ≡ fitted (decimal t)
+  decimal_by t w p down size e f g h short =
+      let long : length (w ++ p) ≡ length w + length p = length-append w p in
+      let le : length p ≤ length (w ++ p) = omega arith in
+      let less : length (w ++ p) < 2 ^ 32 = omega arith in
+      ap (λ n. fitted (scaled (w ++ p) (length p) down n)) h ∙ scaled-far (w ++ p) (length p) down (exponent_size (exponent t)) le less
+      ∙ rw (e, f, g) refl

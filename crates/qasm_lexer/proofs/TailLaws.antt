@@ -14,7 +14,7 @@ use Rattle.angle_fraction.specs.Fraction.{Fraction, fraction, most_part, nought}
 use Rattle.angle_fraction.specs.Angles.{fitted}
 use Rattle.angle_fraction.specs.declared.AngleFault.{AngleFault}
 use Rattle.angle_fraction.specs.declared.AngleFault.TheVariants.{Range}
-use Rattle.qasm_lexer.proofs.ValueLaws.{IsValue, no_value, range_only, same_value, small_value, value_of}
+use Rattle.qasm_lexer.proofs.ValueLaws.{IsValue, LowestLaws, no_value, range_only, same_value, small_value, value_of}
 
 pub ten_pow : (n : ℕ) → 0 < 10 ^ n
 ten_pow n = one-le-pow n 10 (lit< tt)
@@ -51,22 +51,6 @@ behind_num h tail n e = ap (λ z. pos (h * tail.den) +ℤ z) e
 tenth_below : (h n d : ℕ) → h ≤ 9 → n < d → h * d + n < 10 * d
 tenth_below h n d low less = let top : h * d ≤ 9 * d = mul-le-mul_right d low in omega arith
 
-pub tail_more : (A B h whole scale : ℕ) (tail next : Fraction) → h ≤ 9 → A ≡ B * 10 + h → IsTail A whole scale tail
-    → fitted (fraction (pos (h * tail.den) +ℤ tail.num) (10 * tail.den)) ≡ Ok next → IsTail B whole (scale * 10) next
-tail_more A B h whole scale tail next low front t f =
-    let some : 0 < 10 * tail.den = mul-pos (lit< tt) t.positive in
-    let exact : fitted (fraction (pos (h * tail.den + t.num)) (10 * tail.den)) ≡ Ok next =
-    ap (λ z. fitted (fraction z (10 * tail.den))) (sym (behind_num h tail t.num t.is)) ∙ f in
-    let v = value_of (h * tail.den + t.num) (10 * tail.den) next some exact in
-    record {
-      num = v.num;
-      is = v.is;
-      positive = v.positive;
-      below = step_below v.num next.den (h * tail.den + t.num) (10 * tail.den) v.positive v.cross (tenth_below h t.num tail.den low t.below);
-      value = step_value B next.den v.num tail.den scale t.num h whole t.positive v.cross
-          (subst (λ z. (z * tail.den + t.num) * scale ≡ whole * tail.den) front t.value);
-    }
-
 -- ---- no value of the tail, no value of the whole
 part_of_value : (B e m s r T P q : ℕ) → 0 < e → 0 < s → (B * e + m) * s ≡ T * e → P * (s * r) ≡ T * q
     → (B * q ≤ P * r) × (m * q ≡ (P * r - B * q) * e)
@@ -81,46 +65,7 @@ part_of_value B e m s r T P q some scale f g =
     let apart : (B * q + (P * r - B * q)) * e ≡ P * r * e = ap (λ z. z * e) rest in
     (le, omega arith)
 
-pub tail_none : (A B h whole scale r : ℕ) (tail : Fraction) (e : AngleFault) → h ≤ 9 → A ≡ B * 10 + h → 0 < scale → 0 < r
-    → IsTail A whole scale tail → fitted (fraction (pos (h * tail.den) +ℤ tail.num) (10 * tail.den)) ≡ Err e
-    → Err e ≡ fitted (fraction (pos whole) (scale * 10 * r))
-tail_none A B h whole scale r tail e low front some other t f =
-    ap Err (range_only _ e f) ∙ no_value whole (scale * 10 * r) (mul-pos (mul-pos some (lit< tt)) other) no
-  where
-    no : (y : Fraction) → IsValue whole (scale * 10 * r) y → ⊥
-    no y v =
-        let d_some : 0 < 10 * tail.den = mul-pos (lit< tt) t.positive in
-        let exact : fitted (fraction (pos (h * tail.den + t.num)) (10 * tail.den)) ≡ Err e =
-        ap (λ z. fitted (fraction z (10 * tail.den))) (sym (behind_num h tail t.num t.is)) ∙ f in
-        let old : ((B * 10 + h) * tail.den + t.num) * scale ≡ whole * tail.den =
-        subst (λ z. (z * tail.den + t.num) * scale ≡ whole * tail.den) front t.value in
-        let value : (B * (10 * tail.den) + (h * tail.den + t.num)) * (scale * 10) ≡ whole * (10 * tail.den) = omega arith in
-        let parts = part_of_value B (10 * tail.den) (h * tail.den + t.num) (scale * 10) r whole v.num y.den d_some (mul-pos some (lit< tt)) value v.cross in
-        let less : v.num * r - B * y.den < y.den =
-        step_below (v.num * r - B * y.den) y.den (h * tail.den + t.num) (10 * tail.den) v.positive (sym parts.1) (tenth_below h t.num tail.den low t.below) in
-        let same = same_value (h * tail.den + t.num) (10 * tail.den) (v.num * r - B * y.den) y.den d_some v.positive parts.1 in
-        small_value (v.num * r - B * y.den) y.den v.positive (le_trans (le_of_lt less) v.den_small) v.den_small e (sym same ∙ exact)
-
 -- ---- the digits in front of the point
-pub whole_and_tail : (head whole scale : ℕ) (tail : Fraction) → 0 < scale → IsTail head whole scale tail
-    → fitted (fraction (pos (head * tail.den) +ℤ tail.num) tail.den) ≡ fitted (fraction (pos whole) scale)
-whole_and_tail head whole scale tail some t =
-    ap (λ z. fitted (fraction z tail.den)) (behind_num head tail t.num t.is)
-    ∙ same_value (head * tail.den + t.num) tail.den whole scale t.positive some t.value
-
-pub head_too_large : (head whole scale : ℕ) (tail : Fraction) → 0 < scale → IsTail head whole scale tail → most_part < head
-    → Err Range ≡ fitted (fraction (pos whole) scale)
-head_too_large head whole scale tail some t large = no_value whole scale some no
-  where
-    no : (y : Fraction) → IsValue whole scale y → ⊥
-    no y v =
-        let cross : v.num * (scale * 1) ≡ whole * y.den = subst (λ z. v.num * z ≡ whole * y.den) (sym (mul-one scale)) v.cross in
-        let parts = part_of_value head tail.den t.num scale 1 whole v.num y.den t.positive some t.value cross in
-        let up : head ≤ head * y.den = le-mul_of_pos_right head v.positive in
-        let top : v.num * 1 ≤ most_part = subst (λ z. z ≤ most_part) (sym (mul-one v.num)) v.num_small in
-        let all : head ≤ most_part = le_trans up (le_trans parts.0 top) in
-        omega arith
-
 -- ---- powers of ten
 ten_split : (i j : ℕ) → i ≤ j → 10 ^ j ≡ 10 ^ i * 10 ^ (j - i)
 ten_split i j le = let e : j ≡ i + (j - i) = omega arith in ap (λ n. 10 ^ n) e ∙ pow-add 10 i (j - i)
@@ -133,19 +78,6 @@ pub ten_places : (done places : ℕ) → done < places → 10 ^ done * 10 * 10 ^
 ten_places done places less =
     ap (λ n. n * 10 ^ (places - (done + 1))) (ten_more done) ∙ sym (ten_split (done + 1) places (omega arith))
 
-pub less_zeros : (n up down : ℕ) → up ≤ down
-    → fitted (fraction (pos n) (10 ^ (down - up))) ≡ fitted (fraction (pos (n * 10 ^ up)) (10 ^ down))
-less_zeros n up down le =
-    same_value n (10 ^ (down - up)) (n * 10 ^ up) (10 ^ down) (ten_pow (down - up)) (ten_pow down)
-    (ap (λ z. n * z) (ten_split up down le) ∙ sym (mul_assoc n (10 ^ up) (10 ^ (down - up))))
-
-pub more_zeros : (n up down : ℕ) → down ≤ up
-    → fitted (fraction (pos (n * 10 ^ (up - down))) 1) ≡ fitted (fraction (pos (n * 10 ^ up)) (10 ^ down))
-more_zeros n up down le =
-    same_value (n * 10 ^ (up - down)) 1 (n * 10 ^ up) (10 ^ down) (lit< tt) (ten_pow down)
-    (mul_assoc n (10 ^ (up - down)) (10 ^ down)
-    ∙ ap (λ z. n * z) (mul_comm (10 ^ (up - down)) (10 ^ down) ∙ sym (ten_split down up le)) ∙ sym (mul-one (n * 10 ^ up)))
-
 -- ---- far from the point
 at_least : (p m : ℕ) → 0 < m * p → p ≤ m * p
 at_least p zero h = absurd (none h)
@@ -157,31 +89,101 @@ at_least p (suc m) h = let e = suc-mul m (p) in omega arith
 not_both : (a b c : ℕ) → a ≡ b → c ≤ a → b < c → ⊥
 not_both a b c e h k = omega arith
 
-pub far_down : (n len places : ℕ) → 0 < n → n < 10 ^ len → len + 19 < places → Err Range ≡ fitted (fraction (pos n) (10 ^ places))
-far_down n len places some short far = no_value n (10 ^ places) (ten_pow places) no
-  where
-    no : (y : Fraction) → IsValue n (10 ^ places) y → ⊥
-    no y v =
-        let up : 0 < v.num * 10 ^ places = subst (λ z. 0 < z) (sym v.cross) (mul-pos some v.positive) in
-        let le : 10 ^ places ≤ v.num * 10 ^ places = at_least (10 ^ places) v.num up in
-        let small : y.den < 10 ^ 19 = lt_of_le_of_lt v.den_small (lit< tt) in
-        let less : n * y.den < 10 ^ len * 10 ^ 19 = mul-lt n y.den (10 ^ len) (10 ^ 19) short small in
-        let top : 10 ^ len * 10 ^ 19 ≤ 10 ^ places = subst (λ z. z ≤ 10 ^ places) (pow-add 10 len 19) (pow-le-pow_right {n = 10} (lit< tt) (le_of_lt far)) in
-        let e = v.cross in
-        not_both (v.num * 10 ^ places) (n * y.den) (10 ^ places) e le (lt_of_lt_of_le less top)
+-- ---- by what lowest terms are
+module _ (laws : LowestLaws) where
+  pub tail_more : (A B h whole scale : ℕ) (tail next : Fraction) → h ≤ 9 → A ≡ B * 10 + h → IsTail A whole scale tail
+      → fitted (fraction (pos (h * tail.den) +ℤ tail.num) (10 * tail.den)) ≡ Ok next → IsTail B whole (scale * 10) next
+  tail_more A B h whole scale tail next low front t f =
+      let some : 0 < 10 * tail.den = mul-pos (lit< tt) t.positive in
+      let exact : fitted (fraction (pos (h * tail.den + t.num)) (10 * tail.den)) ≡ Ok next =
+      ap (λ z. fitted (fraction z (10 * tail.den))) (sym (behind_num h tail t.num t.is)) ∙ f in
+      let v = value_of laws (h * tail.den + t.num) (10 * tail.den) next some exact in
+      record {
+        num = v.num;
+        is = v.is;
+        positive = v.positive;
+        below = step_below v.num next.den (h * tail.den + t.num) (10 * tail.den) v.positive v.cross (tenth_below h t.num tail.den low t.below);
+        value = step_value B next.den v.num tail.den scale t.num h whole t.positive v.cross
+            (subst (λ z. (z * tail.den + t.num) * scale ≡ whole * tail.den) front t.value);
+      }
 
-pub far_up : (n up down : ℕ) → 0 < n → down + 19 < up → Err Range ≡ fitted (fraction (pos (n * 10 ^ up)) (10 ^ down))
-far_up n up down some far = no_value (n * 10 ^ up) (10 ^ down) (ten_pow down) no
-  where
-    no : (y : Fraction) → IsValue (n * 10 ^ up) (10 ^ down) y → ⊥
-    no y v =
-        let first : 10 ^ up ≤ n * 10 ^ up = subst (λ z. z ≤ n * 10 ^ up) (one-mul (10 ^ up)) (mul-le-mul_right (10 ^ up) some) in
-        let second : n * 10 ^ up ≤ n * 10 ^ up * y.den = le-mul_of_pos_right (n * 10 ^ up) v.positive in
-        let all : 10 ^ up ≤ v.num * 10 ^ down = subst (λ z. 10 ^ up ≤ z) (sym v.cross) (le_trans first second) in
-        let split : 10 ^ up ≡ 10 ^ (up - down) * 10 ^ down = ten_split down up (omega arith) ∙ mul_comm (10 ^ down) (10 ^ (up - down)) in
-        let times : 10 ^ (up - down) ≤ v.num = le_of_mul-le-mul_right (subst (λ z. z ≤ v.num * 10 ^ down) split all) (ten_pow down) in
-        let gap : 19 ≤ up - down = omega arith in
-        let big : 10 ^ 19 ≤ 10 ^ (up - down) = pow-le-pow_right {n = 10} (lit< tt) gap in
-        let low = v.num_small in
-        let large : 10 ^ 19 ≤ most_part = le_trans big (le_trans times low) in
-        omega arith
+  pub tail_none : (A B h whole scale r : ℕ) (tail : Fraction) (e : AngleFault) → h ≤ 9 → A ≡ B * 10 + h → 0 < scale → 0 < r
+      → IsTail A whole scale tail → fitted (fraction (pos (h * tail.den) +ℤ tail.num) (10 * tail.den)) ≡ Err e
+      → Err e ≡ fitted (fraction (pos whole) (scale * 10 * r))
+  tail_none A B h whole scale r tail e low front some other t f =
+      ap Err (range_only _ e f) ∙ no_value laws whole (scale * 10 * r) (mul-pos (mul-pos some (lit< tt)) other) no
+    where
+      no : (y : Fraction) → IsValue whole (scale * 10 * r) y → ⊥
+      no y v =
+          let d_some : 0 < 10 * tail.den = mul-pos (lit< tt) t.positive in
+          let exact : fitted (fraction (pos (h * tail.den + t.num)) (10 * tail.den)) ≡ Err e =
+          ap (λ z. fitted (fraction z (10 * tail.den))) (sym (behind_num h tail t.num t.is)) ∙ f in
+          let old : ((B * 10 + h) * tail.den + t.num) * scale ≡ whole * tail.den =
+          subst (λ z. (z * tail.den + t.num) * scale ≡ whole * tail.den) front t.value in
+          let value : (B * (10 * tail.den) + (h * tail.den + t.num)) * (scale * 10) ≡ whole * (10 * tail.den) = omega arith in
+          let parts = part_of_value B (10 * tail.den) (h * tail.den + t.num) (scale * 10) r whole v.num y.den d_some (mul-pos some (lit< tt)) value v.cross in
+          let less : v.num * r - B * y.den < y.den =
+          step_below (v.num * r - B * y.den) y.den (h * tail.den + t.num) (10 * tail.den) v.positive (sym parts.1) (tenth_below h t.num tail.den low t.below) in
+          let same = same_value laws (h * tail.den + t.num) (10 * tail.den) (v.num * r - B * y.den) y.den d_some v.positive parts.1 in
+          small_value laws (v.num * r - B * y.den) y.den v.positive (le_trans (le_of_lt less) v.den_small) v.den_small e (sym same ∙ exact)
+
+  pub whole_and_tail : (head whole scale : ℕ) (tail : Fraction) → 0 < scale → IsTail head whole scale tail
+      → fitted (fraction (pos (head * tail.den) +ℤ tail.num) tail.den) ≡ fitted (fraction (pos whole) scale)
+  whole_and_tail head whole scale tail some t =
+      ap (λ z. fitted (fraction z tail.den)) (behind_num head tail t.num t.is)
+      ∙ same_value laws (head * tail.den + t.num) tail.den whole scale t.positive some t.value
+
+  pub head_too_large : (head whole scale : ℕ) (tail : Fraction) → 0 < scale → IsTail head whole scale tail → most_part < head
+      → Err Range ≡ fitted (fraction (pos whole) scale)
+  head_too_large head whole scale tail some t large = no_value laws whole scale some no
+    where
+      no : (y : Fraction) → IsValue whole scale y → ⊥
+      no y v =
+          let cross : v.num * (scale * 1) ≡ whole * y.den = subst (λ z. v.num * z ≡ whole * y.den) (sym (mul-one scale)) v.cross in
+          let parts = part_of_value head tail.den t.num scale 1 whole v.num y.den t.positive some t.value cross in
+          let up : head ≤ head * y.den = le-mul_of_pos_right head v.positive in
+          let top : v.num * 1 ≤ most_part = subst (λ z. z ≤ most_part) (sym (mul-one v.num)) v.num_small in
+          let all : head ≤ most_part = le_trans up (le_trans parts.0 top) in
+          omega arith
+
+  pub less_zeros : (n up down : ℕ) → up ≤ down
+      → fitted (fraction (pos n) (10 ^ (down - up))) ≡ fitted (fraction (pos (n * 10 ^ up)) (10 ^ down))
+  less_zeros n up down le =
+      same_value laws n (10 ^ (down - up)) (n * 10 ^ up) (10 ^ down) (ten_pow (down - up)) (ten_pow down)
+      (ap (λ z. n * z) (ten_split up down le) ∙ sym (mul_assoc n (10 ^ up) (10 ^ (down - up))))
+
+  pub more_zeros : (n up down : ℕ) → down ≤ up
+      → fitted (fraction (pos (n * 10 ^ (up - down))) 1) ≡ fitted (fraction (pos (n * 10 ^ up)) (10 ^ down))
+  more_zeros n up down le =
+      same_value laws (n * 10 ^ (up - down)) 1 (n * 10 ^ up) (10 ^ down) (lit< tt) (ten_pow down)
+      (mul_assoc n (10 ^ (up - down)) (10 ^ down)
+      ∙ ap (λ z. n * z) (mul_comm (10 ^ (up - down)) (10 ^ down) ∙ sym (ten_split down up le)) ∙ sym (mul-one (n * 10 ^ up)))
+
+  pub far_down : (n len places : ℕ) → 0 < n → n < 10 ^ len → len + 19 < places → Err Range ≡ fitted (fraction (pos n) (10 ^ places))
+  far_down n len places some short far = no_value laws n (10 ^ places) (ten_pow places) no
+    where
+      no : (y : Fraction) → IsValue n (10 ^ places) y → ⊥
+      no y v =
+          let up : 0 < v.num * 10 ^ places = subst (λ z. 0 < z) (sym v.cross) (mul-pos some v.positive) in
+          let le : 10 ^ places ≤ v.num * 10 ^ places = at_least (10 ^ places) v.num up in
+          let small : y.den < 10 ^ 19 = lt_of_le_of_lt v.den_small (lit< tt) in
+          let less : n * y.den < 10 ^ len * 10 ^ 19 = mul-lt n y.den (10 ^ len) (10 ^ 19) short small in
+          let top : 10 ^ len * 10 ^ 19 ≤ 10 ^ places = subst (λ z. z ≤ 10 ^ places) (pow-add 10 len 19) (pow-le-pow_right {n = 10} (lit< tt) (le_of_lt far)) in
+          let e = v.cross in
+          not_both (v.num * 10 ^ places) (n * y.den) (10 ^ places) e le (lt_of_lt_of_le less top)
+
+  pub far_up : (n up down : ℕ) → 0 < n → down + 19 < up → Err Range ≡ fitted (fraction (pos (n * 10 ^ up)) (10 ^ down))
+  far_up n up down some far = no_value laws (n * 10 ^ up) (10 ^ down) (ten_pow down) no
+    where
+      no : (y : Fraction) → IsValue (n * 10 ^ up) (10 ^ down) y → ⊥
+      no y v =
+          let first : 10 ^ up ≤ n * 10 ^ up = subst (λ z. z ≤ n * 10 ^ up) (one-mul (10 ^ up)) (mul-le-mul_right (10 ^ up) some) in
+          let second : n * 10 ^ up ≤ n * 10 ^ up * y.den = le-mul_of_pos_right (n * 10 ^ up) v.positive in
+          let all : 10 ^ up ≤ v.num * 10 ^ down = subst (λ z. 10 ^ up ≤ z) (sym v.cross) (le_trans first second) in
+          let split : 10 ^ up ≡ 10 ^ (up - down) * 10 ^ down = ten_split down up (omega arith) ∙ mul_comm (10 ^ down) (10 ^ (up - down)) in
+          let times : 10 ^ (up - down) ≤ v.num = le_of_mul-le-mul_right (subst (λ z. z ≤ v.num * 10 ^ down) split all) (ten_pow down) in
+          let gap : 19 ≤ up - down = omega arith in
+          let big : 10 ^ 19 ≤ 10 ^ (up - down) = pow-le-pow_right {n = 10} (lit< tt) gap in
+          let low = v.num_small in
+          let large : 10 ^ 19 ≤ most_part = le_trans big (le_trans times low) in
+          omega arith

@@ -7,12 +7,13 @@
 --   joined                tokens before a list of tokens or its fault
 use Rattle.std.proofs.Common.{◌≡◌, ℕ, zero, suc, ◌+◌, ◌<◌, ◌≤◌, ◌==◌, true, false, List, [], ◌∷◌, ◌++◌, Option, Some, None, Ok, Err, Result, if◌then◌else◌, refl, sym, ap, ◌∙◌, arith, length, take, drop, append_assoc, length-take-le}
 use Rattle.std.proofs.lemmas.List.{drop-drop, length-drop}
-use Rattle.qasm_lexer.specs.Lexemes.{Bytes, is_blank, lexeme_len}
-use Rattle.qasm_lexer.specs.Tokens.{IsFaultOf, before, is_out_of_range, kept, kind_of, lexed, lexed_from, lexed_within, then_more, with_lexeme}
+use Rattle.qasm_lexer.specs.Forms.{Bytes}
+use Rattle.qasm_lexer.specs.Lexemes.{form_len, is_blank, is_out_of_range, kind_of, lexeme_len}
+use Rattle.qasm_lexer.specs.Lexed.{before, kept, lexed_from, lexed_within, then_more, with_lexeme}
 use Rattle.qasm_lexer.specs.declared.Kind.{Kind}
 use Rattle.qasm_lexer.specs.declared.Token.{Token}
 use Rattle.qasm_lexer.specs.declared.LexFault.{LexFault}
-use Rattle.qasm_lexer.specs.declared.LexFault.TheVariants.{BadByte, NoMemory, Number}
+use Rattle.qasm_lexer.specs.declared.LexFault.TheVariants.{BadByte, Number}
 
 shorter : (n k : ℕ) (b : ℕ) (t : Bytes) → 0 < k → length (b ∷ t) ≤ suc n → length (drop k (b ∷ t)) ≤ n
 shorter n k b t h l = simp length-drop (omega arith)
@@ -41,7 +42,7 @@ lexed_within-enough (suc n) (suc m) place (b ∷ t) h l =
     by_len (suc k) rest = rw suc_not_zero (ap (λ ts. with_lexeme place (take (suc k) (b ∷ t)) ts) (rest (suc k) (omega arith)))
 
 nothing_from_nothing : (k : ℕ) → lexeme_len [] ≡ k → 0 < k → ⊥
-unfolding lexeme_len
+unfolding lexeme_len form_len
 nothing_from_nothing k e some = omega arith
 
 from_lexeme : (n k place : ℕ) (t : Bytes) → 0 < k → length (drop k t) ≤ n
@@ -113,8 +114,3 @@ joined-before ts (Some k) (Err e) = refl
 pub joined-nil : (r : Result (List Token) LexFault) → joined [] r ≡ r
 joined-nil (Ok us) = refl
 joined-nil (Err e) = refl
-
-pub IsFaultOf-from : (t : Bytes) (e : LexFault) → lexed t ≡ Err e → IsFaultOf t e
-IsFaultOf-from t (BadByte place) h = h
-IsFaultOf-from t (Number place) h = h
-IsFaultOf-from t NoMemory h = tt

@@ -1,50 +1,31 @@
--- The longest lexeme at the front of a text: a token, white space or a comment.
---   Bytes             a text, or a part of one
---   is_space, is_word_byte, is_sign, is_quoted, in_line   classes of bytes
---   begins_with       the text's first byte is this one
---   word_len          a word, taken whole; one that begins with a capital must be `OPENQASM`, `U` or `CX`
---   exponent_sign_len, exponent_len   `e` or `E`, a sign or none, digits
+-- Working form.
+-- The longest lexeme at the front of a text, by its first byte.
+--   is_sign           the signs of one byte that begin no longer lexeme
+--   exponent_len      `e` or `E`, a sign or none, digits
 --   real_len, number_len   a real, or a whole number without a leading zero
 --   quoted_len        a text between quotes, on one line
 --   slash_len         a comment up to the end of its line, or the sign `/`
---   mark_len, lexeme_by   the same by the first byte
+--   mark_len, form_by   the same by the first byte
+--   form_len          the bytes of the longest lexeme, all words among them; 0 where there is none
+--   is_capital_word, is_stray   a word that begins with a capital, one that there is and one that there isn't
 --   lexeme_len        the bytes of the lexeme that a text begins with; 0 where it begins with none
---   is_blank          white space or a comment
-use Rattle.std.specs.Prelude.{ℕ, ◌+◌, ◌==◌, ◌&&◌, ◌||◌, Bool, true, false, not, List, [], ◌∷◌, if◌then◌else◌, codes, drop, take}
+--   is_blank          of a lexeme: white space or a comment
+--   begins_number, is_number   of a lexeme: a whole number or a real
+--   number_kind, kind_of   the kind of a lexeme that is a token
+--   is_out_of_range   a number whose value isn't kept
+use Rattle.std.specs.Prelude.{ℕ, ◌+◌, ◌==◌, ◌&&◌, ◌||◌, Bool, true, false, not, [], ◌∷◌, if◌then◌else◌, codes, drop, take}
 use Rattle.std.specs.List.{prefix_len}
-use Rattle.std.specs.Char.{is_ascii_alphabetic, is_ascii_alphanumeric, is_ascii_digit, is_ascii_uppercase}
+use Rattle.std.specs.Char.{is_ascii_alphabetic, is_ascii_digit, is_ascii_uppercase}
 use Rattle.std.specs.Str.{bytes_eq}
-
--- the bytes of a text or of a token
-abbrev pub Bytes : Type 0
-Bytes = List ℕ
-
-abbrev pub is_space : ℕ → Bool
-is_space b = (b == 9) || ((b == 10) || ((b == 13) || (b == 32)))
-
-abbrev pub is_word_byte : ℕ → Bool
-is_word_byte b = is_ascii_alphanumeric b || (b == 95)
+use Rattle.qasm_lexer.specs.Forms.{Bytes, in_line, is_quoted, is_space, is_word_byte}
+use Rattle.qasm_lexer.specs.Numbers.{begins_with, exponent_sign_len, has_point, has_value}
+use Rattle.qasm_lexer.specs.declared.Kind.{Kind}
+use Rattle.qasm_lexer.specs.declared.Kind.TheVariants.{Word, Whole, Real, Text, Sign}
 
 -- ; , ( ) [ ] { } + * ^
 abbrev pub is_sign : ℕ → Bool
 is_sign b = (b == 59) || ((b == 44) || ((b == 40) || ((b == 41) || ((b == 91) || ((b == 93)
     || ((b == 123) || ((b == 125) || ((b == 43) || ((b == 42) || (b == 94))))))))))
-
-abbrev pub begins_with : ℕ → Bytes → Bool
-begins_with b [] = false
-begins_with b (c ∷ t) = c == b
-
--- words that begin with a capital
-abbrev pub is_capital_word : Bytes → Bool
-is_capital_word w = bytes_eq w (codes "OPENQASM") || (bytes_eq w (codes "U") || bytes_eq w (codes "CX"))
-
-abbrev pub word_len : ℕ → Bytes → ℕ
-word_len b t = let n = prefix_len is_word_byte t in
-    if is_ascii_uppercase b && not (is_capital_word (take n t)) then 0 else n
-
--- a sign of an exponent
-abbrev pub exponent_sign_len : Bytes → ℕ
-exponent_sign_len t = if begins_with 43 t || begins_with 45 t then 1 else 0
 
 abbrev pub exponent_len : Bytes → ℕ
 exponent_len t = if begins_with 101 t || begins_with 69 t
@@ -62,17 +43,11 @@ number_len t = let n = prefix_len is_ascii_digit t in
     if begins_with 46 (drop n t) then real_len n t
     else (if begins_with 48 t then 1 else n)
 
--- of what follows the first quote: whether a byte belongs to the text, and the length with both quotes
-abbrev pub is_quoted : ℕ → Bool
-is_quoted b = not ((b == 34) || (b == 10))
-
+-- of what follows the first quote: the length with both quotes
 abbrev pub quoted_len : Bytes → ℕ
 quoted_len t = let n = prefix_len is_quoted t in if begins_with 34 (drop n t) then n + 2 else 0
 
 -- of what follows a first slash
-abbrev pub in_line : ℕ → Bool
-in_line b = not (b == 10)
-
 abbrev pub slash_len : Bytes → ℕ
 slash_len t = if begins_with 47 t then 1 + prefix_len in_line t else 1
 
@@ -86,17 +61,48 @@ mark_len b t =
     else (if is_sign b then 1 else 0))))
 
 -- of a text that begins with this byte
-abbrev pub lexeme_by : ℕ → Bytes → ℕ
-lexeme_by b t =
+abbrev pub form_by : ℕ → Bytes → ℕ
+form_by b t =
     if is_space b then 1
-    else (if is_ascii_alphabetic b then word_len b t
+    else (if is_ascii_alphabetic b then prefix_len is_word_byte t
     else (if is_ascii_digit b || (b == 46) then number_len t
     else mark_len b (drop 1 t)))
 
-unfoldable pub lexeme_len : Bytes → ℕ
-lexeme_len [] = 0
-lexeme_len (b ∷ t) = lexeme_by b (b ∷ t)
+unfoldable pub form_len : Bytes → ℕ
+form_len [] = 0
+form_len (b ∷ t) = form_by b (b ∷ t)
 
+abbrev pub is_capital_word : Bytes → Bool
+is_capital_word w = bytes_eq w (codes "OPENQASM") || (bytes_eq w (codes "U") || bytes_eq w (codes "CX"))
+
+abbrev pub is_stray : Bytes → Bool
+is_stray [] = false
+is_stray (b ∷ w) = is_ascii_uppercase b && not (is_capital_word (b ∷ w))
+
+unfoldable pub lexeme_len : Bytes → ℕ
+lexeme_len t = if is_stray (take (form_len t) t) then 0 else form_len t
+
+-- ---- of a lexeme
 abbrev pub is_blank : Bytes → Bool
 is_blank [] = true
 is_blank (b ∷ t) = is_space b || ((b == 47) && begins_with 47 t)
+
+abbrev pub begins_number : ℕ → Bool
+begins_number b = is_ascii_digit b || (b == 46)
+
+abbrev pub is_number : Bytes → Bool
+is_number [] = false
+is_number (b ∷ t) = begins_number b
+
+abbrev pub number_kind : Bytes → Kind
+number_kind t = if has_point t then Real else Whole
+
+abbrev pub kind_of : Bytes → Kind
+kind_of [] = Sign
+kind_of (b ∷ t) =
+    if is_ascii_alphabetic b then Word
+    else (if begins_number b then number_kind (b ∷ t)
+    else (if b == 34 then Text else Sign))
+
+abbrev pub is_out_of_range : Bytes → Bool
+is_out_of_range lexeme = is_number lexeme && not (has_value lexeme)

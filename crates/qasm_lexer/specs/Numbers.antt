@@ -1,4 +1,6 @@
 -- The exact value of a number.
+--   begins_with       the text's first byte is this one
+--   exponent_sign_len   the length of an exponent's sign
 --   digit             the value of a decimal digit
 --   number            the number that decimal digits write
 --   front_number      the same of the first digits, as many as are told
@@ -8,11 +10,20 @@
 --   exponent          what follows the `e`
 --   exponent_size     the exponent without its sign
 --   decimal           the value: the digits times a power of ten
-use Rattle.std.specs.Prelude.{ℕ, zero, suc, slice_index, ◌+◌, ◌-◌, ◌*◌, ◌^◌, Bool, pos, [], ◌∷◌, ◌++◌, if◌then◌else◌, drop, take, length}
+--   has_value         the value is kept: in lowest terms its parts are at most 2^62
+use Rattle.std.specs.Prelude.{ℕ, zero, suc, slice_index, ◌+◌, ◌-◌, ◌*◌, ◌^◌, ◌==◌, ◌||◌, Bool, false, pos, [], ◌∷◌, ◌++◌, if◌then◌else◌, drop, take, length}
 use Rattle.std.specs.List.{prefix_len}
 use Rattle.std.specs.Char.{is_ascii_digit}
-use Rattle.angle_fraction.specs.Fraction.{Fraction, fraction}
-use Rattle.qasm_lexer.specs.Lexemes.{Bytes, begins_with, exponent_sign_len}
+use Rattle.angle_fraction.specs.Fraction.{Fraction, fraction, is_small, lowest}
+use Rattle.qasm_lexer.specs.Forms.{Bytes}
+
+abbrev pub begins_with : ℕ → Bytes → Bool
+begins_with b [] = false
+begins_with b (c ∷ t) = c == b
+
+-- 43 and 45 are plus and minus
+abbrev pub exponent_sign_len : Bytes → ℕ
+exponent_sign_len t = if begins_with 43 t || begins_with 45 t then 1 else 0
 
 -- 0 for another byte
 unfoldable pub digit : ℕ → ℕ
@@ -60,3 +71,6 @@ scaled digits places down size =
 abbrev pub decimal : Bytes → Fraction
 decimal t =
     scaled (front_digits t ++ part_digits t) (length (part_digits t)) (begins_with 45 (exponent t)) (exponent_size (exponent t))
+
+abbrev pub has_value : Bytes → Bool
+has_value t = is_small (lowest (decimal t))

@@ -1,8 +1,9 @@
+-- Working form.
 -- One lexeme of a text.
 --   IsLexemeAt        what stands at a place and from the lexeme's end on makes the tokens from the place on; or its fault
 use Rattle.std.specs.Prelude.{◌≡◌, ℕ, ◌<◌, ◌≤◌, Result, Ok, Err, drop, length}
-use Rattle.qasm_lexer.specs.Lexemes.{Bytes}
-use Rattle.qasm_lexer.specs.Tokens.{before, lexed_from}
+use Rattle.qasm_lexer.specs.Forms.{Bytes}
+use Rattle.qasm_lexer.specs.Lexed.{before, lexed_from}
 use Rattle.qasm_lexer.specs.declared.step.Lexeme.{Lexeme}
 use Rattle.qasm_lexer.specs.declared.LexFault.{LexFault}
 

@@ -1,106 +1,84 @@
--- The tokens of a text, or its first fault.
---   begins_number, is_number   a lexeme that is a whole number or a real
---   number_kind, kind_of   a token's kind, by its bytes
---   token_at          a token of these bytes at a place
---   then_more, before, with_lexeme   a token, or a lexeme, before the tokens that follow
---   has_value, is_out_of_range   a number's value is kept; a lexeme is a number whose value isn't
---   kept              a token or nothing, behind those that are read
---   lexed_within      the tokens of a text that begins at a place, of at most so many lexemes
---   lexed_from, lexed the tokens of a text that begins at a place; of a whole text
+-- A text, its lexemes, and its tokens or its fault.
+--   IsLongest w t rest   the text t is the lexeme w and then the rest, and it begins with no longer lexeme
+--   AreLexemes ws t rest   the text t is the lexemes ws one behind the other, each the longest at its place, and then the rest
+--   IsKept            a number's value is kept
+--   token             a token of these bytes at a place
+--   AreTokensAt place ws ks   the tokens ks among lexemes that stand one behind the other from a place on
+--   AreTokens t ks    the tokens of a text
+--   Leads ws t place rest   lexemes of which each number is kept lead from the text's front to a place, and the rest follows
+--   IsStuck           no lexeme can be taken: there is none, or the longest is a word with a capital that there isn't
+--   IsBadByte         at the place, behind such lexemes, no lexeme can be taken
+--   IsBadNumber       at the place, behind such lexemes, stands a number whose value isn't kept
 --   IsFaultOf         a fault that a text has; want of memory is told of no text
 --   bytes_of          a token's bytes
---   IsTokenOf         the token stands in the text, with its kind, and if it is a number its value is kept
+--   IsTokenOf         the token is one whole lexeme of the text, of its kind, and a number's value is kept
 --   IsNumberToken     the token's place in the text holds a number whose value is kept
-use Rattle.std.specs.Prelude.{◌≡◌, ℕ, zero, suc, ◌+◌, ◌-◌, ◌<◌, ◌≤◌, ◌==◌, ◌&&◌, ◌||◌, Bool, true, false, not, List, [], ◌∷◌, ◌++◌, Option, Some, None, Result, Ok, Err, if◌then◌else◌, drop, take, length}
-use Rattle.std.specs.Char.{is_ascii_alphabetic, is_ascii_digit}
-use Rattle.angle_fraction.specs.Fraction.{is_small, lowest}
-use Rattle.qasm_lexer.specs.Lexemes.{Bytes, is_blank, lexeme_len}
-use Rattle.qasm_lexer.specs.Numbers.{decimal, has_point}
+use Rattle.std.specs.Prelude.{◌≡◌, ◌⊎◌, ℕ, ◌+◌, ◌-◌, ◌<◌, ◌≤◌, true, false, List, [], ◌∷◌, ◌++◌, drop, take, length}
+use Rattle.std.specs.List.{AllByRecursion}
+use Rattle.qasm_lexer.specs.Forms.{Bytes, IsAllowed, IsBlank, IsLexeme, IsNumber, IsOfKind}
+use Rattle.qasm_lexer.specs.Numbers.{has_value}
 use Rattle.qasm_lexer.specs.declared.Kind.{Kind}
-use Rattle.qasm_lexer.specs.declared.Kind.TheVariants.{Word, Whole, Real, Text, Sign}
 use Rattle.qasm_lexer.specs.declared.Token.{Token}
 use Rattle.qasm_lexer.specs.declared.LexFault.{LexFault}
 use Rattle.qasm_lexer.specs.declared.LexFault.TheVariants.{BadByte, Number, NoMemory}
+unfoldable pub use Rattle.qasm_lexer.specs.Lexed.{lexed, lexed_from}
 
--- by the first byte of a lexeme
-abbrev pub begins_number : ℕ → Bool
-begins_number b = is_ascii_digit b || (b == 46)
+-- ---- lexemes
+pub record IsLongest (w t rest : Bytes) : Type 0 where
+  pub lexeme : IsLexeme w
+  pub text : t ≡ w ++ rest
+  pub longest : (v more : Bytes) → IsLexeme v → t ≡ v ++ more → length v ≤ length w
 
-abbrev pub is_number : Bytes → Bool
-is_number [] = false
-is_number (b ∷ t) = begins_number b
+abbrev pub AreLexemes : List Bytes → Bytes → Bytes → Type 0
+AreLexemes [] t rest = t ≡ rest
+AreLexemes (w ∷ ws) t rest = (mid : Bytes) × IsLongest w t mid × IsAllowed w × AreLexemes ws mid rest
 
-abbrev pub number_kind : Bytes → Kind
-number_kind t = if has_point t then Real else Whole
+abbrev pub IsKept : Bytes → Type 0
+IsKept w = IsNumber w → has_value w ≡ true
 
-abbrev pub kind_of : Bytes → Kind
-kind_of [] = Sign
-kind_of (b ∷ t) =
-    if is_ascii_alphabetic b then Word
-    else (if begins_number b then number_kind (b ∷ t)
-    else (if b == 34 then Text else Sign))
+-- ---- tokens
+abbrev pub token : Kind → ℕ → Bytes → Token
+token kind place w = record { kind = kind; from = place; to = place + length w }
 
-abbrev pub token_at : ℕ → Bytes → Token
-token_at place lexeme = record { kind = kind_of lexeme; from = place; to = place + length lexeme }
+abbrev pub AreTokensAt : ℕ → List Bytes → List Token → Type 0
+AreTokensAt place [] ks = ks ≡ []
+AreTokensAt place (w ∷ ws) ks = (IsBlank w × AreTokensAt (place + length w) ws ks)
+    ⊎ ((kind : Kind) × (more : List Token) × IsOfKind kind w × IsKept w × (ks ≡ token kind place w ∷ more) × AreTokensAt (place + length w) ws more)
 
--- the value is kept
-abbrev pub has_value : Bytes → Bool
-has_value lexeme = is_small (lowest (decimal lexeme))
+unfoldable pub AreTokens : Bytes → List Token → Type 0
+AreTokens t ks = (ws : List Bytes) × AreLexemes ws t [] × AreTokensAt 0 ws ks
 
-abbrev pub is_out_of_range : Bytes → Bool
-is_out_of_range lexeme = is_number lexeme && not (has_value lexeme)
+-- ---- faults
+pub record Leads (ws : List Bytes) (t : Bytes) (place : ℕ) (rest : Bytes) : Type 0 where
+  pub lexemes : AreLexemes ws t rest
+  pub kept : AllByRecursion IsKept ws
+  pub reached : place + length rest ≡ length t
 
-abbrev pub then_more : Token → Result (List Token) LexFault → Result (List Token) LexFault
-then_more k (Ok ts) = Ok (k ∷ ts)
-then_more k (Err e) = Err e
+abbrev pub IsStuck : Bytes → Type 0
+IsStuck t = (w rest : Bytes) → IsLongest w t rest → IsAllowed w → ⊥
 
--- a token or nothing, behind those that are read
-abbrev pub kept : List Token → Option Token → List Token
-kept ts None = ts
-kept ts (Some k) = ts ++ k ∷ []
+unfoldable pub IsBadByte : Bytes → ℕ → Type 0
+IsBadByte t place = (ws : List Bytes) × (rest : Bytes) × Leads ws t place rest × (0 < length rest) × IsStuck rest
 
--- a lexeme at a place, before what follows
-abbrev pub with_lexeme : ℕ → Bytes → Result (List Token) LexFault → Result (List Token) LexFault
-with_lexeme place lexeme rest =
-    if is_blank lexeme then rest
-    else (if is_out_of_range lexeme then Err (Number place)
-    else then_more (token_at place lexeme) rest)
-
--- a token or nothing, before what follows
-abbrev pub before : Option Token → Result (List Token) LexFault → Result (List Token) LexFault
-before None rest = rest
-before (Some k) rest = then_more k rest
-
-abbrev pub lexed_within : ℕ → ℕ → Bytes → Result (List Token) LexFault
-lexed_within n place [] = Ok []
-lexed_within zero place (b ∷ t) = Err (BadByte place)
-lexed_within (suc n) place (b ∷ t) = let k = lexeme_len (b ∷ t) in
-    if k == 0 then Err (BadByte place)
-    else with_lexeme place (take k (b ∷ t)) (lexed_within n (place + k) (drop k (b ∷ t)))
-
--- a lexeme has a byte at least, so a text has at most as many lexemes as bytes
-unfoldable pub lexed_from : ℕ → Bytes → Result (List Token) LexFault
-lexed_from place t = lexed_within (length t) place t
-
-abbrev pub lexed : Bytes → Result (List Token) LexFault
-lexed t = lexed_from 0 t
+unfoldable pub IsBadNumber : Bytes → ℕ → Type 0
+IsBadNumber t place = (ws : List Bytes) × (w : Bytes) × (rest : Bytes) × (end : Bytes)
+    × Leads ws t place rest × IsLongest w rest end × IsNumber w × (has_value w ≡ false)
 
 abbrev pub IsFaultOf : Bytes → LexFault → Type 0
-IsFaultOf t (BadByte place) = lexed t ≡ Err (BadByte place)
-IsFaultOf t (Number place) = lexed t ≡ Err (Number place)
+IsFaultOf t (BadByte place) = IsBadByte t place
+IsFaultOf t (Number place) = IsBadNumber t place
 IsFaultOf t NoMemory = Unit {0}
 
--- the bytes of a token
+-- ---- one token
 abbrev pub bytes_of : Bytes → Token → Bytes
 bytes_of t k = take (k.to - k.from) (drop k.from t)
 
--- what holds of each token of a text's list
 pub record IsTokenOf (t : Bytes) (k : Token) : Type 0 where
   pub ordered : k.from < k.to
   pub within : k.to ≤ length t
-  pub token : is_blank (bytes_of t k) ≡ false
-  pub kind : k.kind ≡ kind_of (bytes_of t k)
-  pub fine : is_out_of_range (bytes_of t k) ≡ false
+  pub form : IsOfKind k.kind (bytes_of t k)
+  pub allowed : IsAllowed (bytes_of t k)
+  pub kept : IsKept (bytes_of t k)
 
 pub record IsNumberToken (t : Bytes) (k : Token) : Type 0 where
   pub ordered : k.from ≤ k.to

@@ -3,9 +3,9 @@
 ghost use Rattle.std.specs.Prelude.{◌≡◌, ℕ, ◌+◌, ◌^◌, ◌≤◌, ◌<◌, length, take, drop};
 ghost use Rattle.std.specs.List.{prefix_len};
 ghost use Rattle.std.specs.Char.{is_ascii_digit};
-ghost use Rattle.qasm_lexer.specs.Numbers.{has_point};
-ghost use Rattle.qasm_lexer.specs.Tokens.{begins_number, is_number, kind_of, number_kind};
-ghost use Rattle.qasm_lexer.specs.Lexemes.{lexeme_by, mark_len, in_line, is_quoted, begins_with, exponent_len, exponent_sign_len, is_blank, is_capital_word, is_sign, is_space, is_word_byte, lexeme_len, number_len, quoted_len, real_len, slash_len, word_len};
+ghost use Rattle.qasm_lexer.specs.Forms.{in_line, is_quoted, is_space, is_word_byte};
+ghost use Rattle.qasm_lexer.specs.Numbers.{begins_with, exponent_sign_len, has_point};
+ghost use Rattle.qasm_lexer.specs.Lexemes.{begins_number, exponent_len, form_by, form_len, is_blank, is_capital_word, is_number, is_sign, is_stray, kind_of, lexeme_len, mark_len, number_kind, number_len, quoted_len, real_len, slash_len};
 
 use crate::Kind;
 use crate::number::has_point;
@@ -189,42 +189,52 @@ fn slash_len(text: &[u8]) -> usize
     }
 }
 
-fn word_len(text: &[u8], first: u8) -> usize
-    ensures value { result ≡ word_len first text.now }
-    ensures bound { result ≤ length text.now }
+/// A word that begins with a capital and is none of the three that there are.
+fn is_stray(lexeme: &[u8]) -> bool
+    ensures { result ≡ is_stray lexeme.now }
 {
-    let len = word_bytes_len(text);
-    if first.is_ascii_uppercase() && !is_capital_word(front(text, len)) {
-        0
-    } else {
-        len
+    match lexeme {
+        [] => false,
+        [first, ..] => first.is_ascii_uppercase() && !is_capital_word(lexeme),
     }
 }
 
-/// The length of the token, white space or comment that the text begins with; 0 where it begins with none.
+/// The length of the token, white space or comment that the text begins with; 0 where it begins with none. A word is taken
+/// whole, and then it must be one that there is.
 #[tactic(auto, unfolding(crate::specs::Lexemes::lexeme_len))]
 pub fn lexeme_len(text: &[u8]) -> usize
     requires { length text.now < 2 ^ 32 }
     ensures value { result ≡ lexeme_len text.now }
     ensures bound { result ≤ length text.now }
 {
+    let len = form_len(text);
+    if is_stray(front(text, len)) { 0 } else { len }
+}
+
+/// The same with every word that begins with a capital among the tokens.
+#[tactic(auto, unfolding(crate::specs::Lexemes::form_len))]
+fn form_len(text: &[u8]) -> usize
+    requires { length text.now < 2 ^ 32 }
+    ensures value { result ≡ form_len text.now }
+    ensures bound { result ≤ length text.now }
+{
     let [first, ..] = text else {
         return 0;
     };
-    lexeme_by(*first, text)
+    form_by(*first, text)
 }
 
 /// The same, by the first byte.
-fn lexeme_by(first: u8, text: &[u8]) -> usize
+fn form_by(first: u8, text: &[u8]) -> usize
     requires some { 0 < length text.now }
     requires small { length text.now < 2 ^ 32 }
-    ensures value { result ≡ lexeme_by first text.now }
+    ensures value { result ≡ form_by first text.now }
     ensures bound { result ≤ length text.now }
 {
     if is_space(first) {
         1
     } else if first.is_ascii_alphabetic() {
-        word_len(text, first)
+        word_bytes_len(text)
     } else if first.is_ascii_digit() || first == b'.' {
         number_len(text)
     } else {

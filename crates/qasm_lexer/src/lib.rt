@@ -1,13 +1,15 @@
 //! The tokens of a program text in OpenQASM 2.0.
 //!
-//! In goes a text, out come the kinds and places of its tokens, by the longest lexeme at each place; white space and
-//! comments are left out. The contract says that this is the list of the definition, or that the text is refused at its
-//! first fault, which is told: a byte at which nothing begins, or a number that as a fraction in lowest terms has a part
-//! above 2^62. A number's value is exact however long it is written. Time is linear in the text.
+//! In goes a text, out come the kinds and places of its tokens; white space and comments are left out. The contract says
+//! that the text is lexemes one behind the other, each the longest at its place, and that these are the tokens among
+//! them; or that the text is refused at its first fault, which is told: a byte at which nothing begins, or a number that
+//! as a fraction in lowest terms has a part above 2^62. A text has one answer. A number's value is exact however long it
+//! is written. Time is linear in the text.
 #![tactic(auto)]
 
 use thiserror::Error;
 
+mod laws;
 mod lexeme;
 mod number;
 mod reading;
@@ -15,6 +17,10 @@ mod step;
 #[cfg(test)]
 mod tests;
 
+pub use laws::{
+    accepted_has_no_fault, lexed_exactly, lexed_once, lexed_or_refused, names_are_ascii,
+    refused_once, tokens_are_lexemes,
+};
 pub use reading::{lex, value};
 
 /// What a token is.

@@ -3,11 +3,10 @@
 ghost use Rattle.std.specs.Prelude.{◌≡◌, ℕ, ◌+◌, ◌-◌, ◌*◌, ◌^◌, ◌≤◌, ◌<◌, ◌++◌, length, min, pos, ◌+ℤ◌, slice_index, Ok, Err, Bool};
 ghost use Rattle.angle_fraction.specs.Fraction.{Fraction, fraction, most_part};
 ghost use Rattle.angle_fraction.specs.Angles.{fitted};
-ghost use Rattle.qasm_lexer.specs.Lexemes.{begins_with, exponent_sign_len};
-ghost use Rattle.qasm_lexer.specs.Numbers.{behind_point, decimal, digit, exponent, exponent_size, front_digits, front_number, has_point, number, part_digits, past_digits, scaled};
+ghost use Rattle.qasm_lexer.specs.Numbers.{begins_with, behind_point, decimal, digit, exponent, exponent_sign_len, exponent_size, front_digits, front_number, has_point, number, part_digits, past_digits, scaled};
 
 use crate::lexeme::{after, begins_with, digits_len, exponent_sign_len, front};
-use angle_fraction::{AngleFault, Frac, lowest};
+use angle_fraction::{AngleFault, Frac, lowest, lowest_terms};
 
 /// The greatest size of an exponent that is told apart from greater ones: no text is so long.
 const FAR: usize = 1 << 40;
@@ -104,6 +103,7 @@ fn digit_back(whole: &[u8], part: &[u8], total: usize, done: usize) -> u8
 fn placed(whole: &[u8], part: &[u8], total: usize, places: usize) -> Result<Frac, AngleFault>
     ensures { result ≡ fitted (fraction (pos (front_number (whole.now ++ part.now) total)) (10 ^ places)) }
 {
+    lowest_terms();
     let mut tail = Frac::nought();
     for done in 0..places {
         tail = behind(digit_back(whole, part, total, done), &tail)?;
@@ -122,6 +122,7 @@ fn scaled_down(whole: &[u8], part: &[u8], size: usize) -> Result<Frac, AngleFaul
     requires near { size ≤ 2 ^ 40 }
     ensures { result ≡ fitted (fraction (pos (number (whole.now ++ part.now))) (10 ^ (length part.now + size))) }
 {
+    lowest_terms();
     let digits = whole.len() + part.len();
     let places = part.len() + size;
     if places > digits + 19 {
@@ -137,6 +138,7 @@ fn scaled_up(whole: &[u8], part: &[u8], size: usize) -> Result<Frac, AngleFault>
     requires near { size ≤ 2 ^ 40 }
     ensures { result ≡ fitted (fraction (pos (number (whole.now ++ part.now) * 10 ^ size)) (10 ^ length part.now)) }
 {
+    lowest_terms();
     let digits = whole.len() + part.len();
     if size <= part.len() {
         return placed(whole, part, digits, part.len() - size);
@@ -154,6 +156,7 @@ fn scaled(whole: &[u8], part: &[u8], down: bool, size: usize) -> Result<Frac, An
     requires near { size ≤ 2 ^ 40 }
     ensures { result ≡ fitted (scaled (whole.now ++ part.now) (length part.now) down size) }
 {
+    lowest_terms();
     if head(whole, part, whole.len() + part.len()) == 0 {
         return Ok(Frac::nought());
     }
@@ -216,6 +219,7 @@ pub fn number(text: &[u8]) -> Result<Frac, AngleFault>
     requires { length text.now < 2 ^ 32 }
     ensures { result ≡ fitted (decimal text.now) }
 {
+    lowest_terms();
     let part = front_digits(behind_point(text));
     let power = exponent(text);
     let size = exponent_size(front_digits(after(power, exponent_sign_len(power))));

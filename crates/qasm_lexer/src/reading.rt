@@ -3,7 +3,8 @@
 ghost use Rattle.std.specs.Prelude.{◌≡◌, ℕ, ◌<◌, ◌^◌, length, IfOk, IfErr, All, Ok};
 ghost use Rattle.angle_fraction.specs.Fraction.{lowest};
 ghost use Rattle.qasm_lexer.specs.Numbers.{decimal};
-ghost use Rattle.qasm_lexer.specs.Tokens.{IsFaultOf, IsNumberToken, IsTokenOf, bytes_of, kept, lexed};
+ghost use Rattle.qasm_lexer.specs.Lexed.{kept, lexed};
+ghost use Rattle.qasm_lexer.specs.Tokens.{AreTokens, IsFaultOf, IsNumberToken, IsTokenOf, bytes_of};
 
 use crate::number::number;
 use crate::step::lexeme_at;
@@ -26,8 +27,10 @@ fn keep(tokens: &mut Vec<Token>, token: Option<Token>) -> Result<(), LexFault>
 }
 
 /// The tokens of a text shorter than 2^32 bytes, in order. BadByte and Number tell the first place at fault.
+#[tactic(auto, using(crate::proofs::LexingLaws::fault_read))]
 pub fn lex(alloc: Global, text: &[u8]) -> Result<Vec<Token>, LexFault>
     requires { length text.now < 2 ^ 32 }
+    ensures lexemes { IfOk result (λ v. AreTokens text.now v.items) }
     ensures tokens { IfOk result (λ v. lexed text.now ≡ Ok v.items) }
     ensures each { IfOk result (λ v. All (IsTokenOf text.now) v.items) }
     ensures fault { IfErr result (IsFaultOf text.now) }

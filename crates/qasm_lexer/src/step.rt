@@ -2,7 +2,8 @@
 
 ghost use Rattle.std.specs.Prelude.{◌≡◌, ℕ, ◌+◌, ◌<◌, ◌≤◌, ◌^◌, length, drop, take};
 ghost use Rattle.qasm_lexer.specs.Steps.{IsLexemeAt};
-ghost use Rattle.qasm_lexer.specs.Tokens.{has_value, is_out_of_range};
+ghost use Rattle.qasm_lexer.specs.Numbers.{has_value};
+ghost use Rattle.qasm_lexer.specs.Lexemes.{is_out_of_range};
 
 use crate::lexeme::{after, front, is_blank, is_number, kind_of, lexeme_len};
 use crate::number::number;

@@ -5,6 +5,7 @@ ghost use Rattle.qasm_lexer.specs.Tokens.{IsTokenOf};
 
 use crate::{Kind, LexFault, Token, lex, value};
 use angle_fraction::{Frac, lowest};
+use std::alloc::Global;
 use std::test::Fail;
 
 fn token(kind: Kind, from: u32, to: u32) -> Token {
@@ -89,6 +90,17 @@ fn number_of(text: &[u8], token: &Token) -> Option<Frac>
     }
 }
 
+/// The value of a text that is one number.
+fn value_of(alloc: Global, text: &[u8]) -> Result<Option<Frac>, LexFault>
+    requires { length text.now < 2 ^ 32 }
+{
+    let tokens = lex(alloc, text)?;
+    if tokens.len() != 1 {
+        return Ok(None);
+    }
+    Ok(number_of(text, &tokens[0]))
+}
+
 #[test]
 fn values_of_numbers(rt: HostRuntime) -> Result<(), Fail> {
     let numbers: [(&[u8], i128, i128); 16] = [
@@ -114,9 +126,8 @@ fn values_of_numbers(rt: HostRuntime) -> Result<(), Fail> {
         ),
     ];
     for (text, num, den) in numbers {
-        let tokens = lex(rt.alloc(), text)?;
-        assert!(rt; den > 0 && tokens.len() == 1);
-        assert_eq!(rt; number_of(text, &tokens[0]), lowest(num, den).ok());
+        assert!(rt; den > 0);
+        assert_eq!(rt; value_of(rt.alloc(), text)?, lowest(num, den).ok());
     }
     Ok(())
 }

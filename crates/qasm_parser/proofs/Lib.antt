@@ -3,6 +3,7 @@ pub mod ExpressionLaws
 pub mod FormLaws
 pub mod FrameLaws
 pub mod ListLaws
+pub mod NameLaws
 pub mod OnceLaws
 pub mod PlaceLaws
 pub mod RepeatLaws

@@ -3,6 +3,7 @@
 --   tree-shown       a tree without a too deep expression is read as it is
 --   only_one         two trees that are spelt by the same symbols are one
 --   spelt_once, no_fault   the same of a text; a text that is accepted has no fault
+--   refused_once     a text has one fault
 --   accepted, refused, other_version, too_deep   what a reading says of a text
 use Rattle.std.proofs.Common.{◌≡◌, ◌≢◌, ℕ, ◌≤◌, max, Bool, true, false, nat_le, if◌then◌else◌, List, [], ◌∷◌, ◌++◌, Option, Some, None, refl, sym, ap, ◌∙◌, subst, length, map, arith, lit≤}
 use Rattle.std.proofs.lemmas.Bool.Decides.{nat_tests}
@@ -11,11 +12,11 @@ use Rattle.qasm_parser.specs.Symbols.{Symbol, mark, place_of, symbols}
 use Rattle.qasm_parser.specs.declared.ParseFault.{ParseFault}
 use Rattle.qasm_parser.specs.declared.ParseFault.TheVariants.{Syntax, Version, Depth, NoMemory}
 use Rattle.qasm_parser.specs.declared.symbols.Mark.TheVariants.{CloseBrace, Close}
-use Rattle.qasm_parser.specs.Tree.{depth, Application, apply, measure, reset, barrier, definition, include, register, gate, opaque, conditional, act, Tree}
+use Rattle.qasm_parser.specs.Tree.{depth, Application, apply, measure, reset, barrier, definition, include, register, gate, opaque, conditional, act, Tree, depth_limit}
 use Rattle.qasm_parser.specs.Machine.{capped}
 use Rattle.qasm_parser.specs.Spelling.{BehindComma, Form, by_u, by_cx, alone, empty, listed, Seen, Spells, SpellsAction, SpellsAngle, SpellsApplication, SpellsEach, SpellsForm, SpellsItem, SpellsList, SpellsStatement, SpellsTree, first_deep}
 use Rattle.qasm_parser.specs.Reading.{Read, first_of, kept, read, tree_of}
-use Rattle.qasm_parser.specs.Parsing.{IsFault, IsProgram, first_deep_of, real_place, two, Spells as SpellsText}
+use Rattle.qasm_parser.specs.Parsing.{IsAlike, IsFault, IsProgram, first_deep_of, real_place, two, Spells as SpellsText}
 use Rattle.qasm_parser.proofs.RepeatLaws.{first_deep-append}
 use Rattle.qasm_parser.proofs.FormLaws.{shown, shown_action, shown_application}
 use Rattle.qasm_parser.proofs.StatementLaws.{shown_statement, shown_tree, tree-complete, tree-sound}
@@ -124,33 +125,33 @@ only_one ts a b f g s t =
     let one = tree-complete (max (high f) (high g)) positive a ts f s in
     let two = tree-complete (max (high f) (high g)) positive b ts g t in
     let same = same-read _ _ _ _ [] (sym one ∙ two) in
-    let at_limit = same-read _ _ _ _ [] (sym (tree-complete 64 (lit≤ tt) a ts f s) ∙ tree-complete 64 (lit≤ tt) b ts g t) in (
+    let at_limit = same-read _ _ _ _ [] (sym (tree-complete depth_limit (lit≤ tt) a ts f s) ∙ tree-complete depth_limit (lit≤ tt) b ts g t) in (
       sym (tree-shown (max (high f) (high g)) positive a ts f s (high-none _ f (omega arith)))
           ∙ same.0 ∙ tree-shown (max (high f) (high g)) positive b ts g t (high-none _ g (omega arith)),
       at_limit.1,
     )
 
 -- ---- what a reading says of a text
-pub accepted : (text : List ℕ) (tokens : List Token) (t : Tree) (rest : List Symbol) → tree_of 64 (symbols text tokens) ≡ Some (read t None rest) → t.version ≡ two
+pub accepted : (text : List ℕ) (tokens : List Token) (t : Tree) (rest : List Symbol) → tree_of depth_limit (symbols text tokens) ≡ Some (read t None rest) → t.version ≡ two
     → IsProgram text tokens t
 accepted text tokens t rest e version =
-    let s = tree-sound 64 (lit≤ tt) (symbols text tokens) (read t None rest) e in
-    let same : t ≡ s.it = s.value ∙ tree-shown 64 (lit≤ tt) s.it (symbols text tokens) s.found s.spells (sym s.deep) in
+    let s = tree-sound depth_limit (lit≤ tt) (symbols text tokens) (read t None rest) e in
+    let same : t ≡ s.it = s.value ∙ tree-shown depth_limit (lit≤ tt) s.it (symbols text tokens) s.found s.spells (sym s.deep) in
     (s.found, subst (λ (x : Tree). SpellsText text tokens x s.found) (sym same) s.spells, version, sym s.deep)
 
-pub refused : (text : List ℕ) (tokens : List Token) → tree_of 64 (symbols text tokens) ≡ None → (t : Tree) (found : List Seen) → SpellsText text tokens t found → ⊥
-refused text tokens e t found s = let k = tree-complete 64 (lit≤ tt) t (symbols text tokens) found s in cc
+pub refused : (text : List ℕ) (tokens : List Token) → tree_of depth_limit (symbols text tokens) ≡ None → (t : Tree) (found : List Seen) → SpellsText text tokens t found → ⊥
+refused text tokens e t found s = let k = tree-complete depth_limit (lit≤ tt) t (symbols text tokens) found s in cc
 
-pub other_version : (text : List ℕ) (tokens : List Token) (t : Tree) (d : Option ℕ) (rest : List Symbol) → tree_of 64 (symbols text tokens) ≡ Some (read t d rest)
+pub other_version : (text : List ℕ) (tokens : List Token) (t : Tree) (d : Option ℕ) (rest : List Symbol) → tree_of depth_limit (symbols text tokens) ≡ Some (read t d rest)
     → t.version ≢ two → IsFault text tokens (Version (real_place text tokens))
 other_version text tokens t d rest e version =
-    let s = tree-sound 64 (lit≤ tt) (symbols text tokens) (read t d rest) e in
+    let s = tree-sound depth_limit (lit≤ tt) (symbols text tokens) (read t d rest) e in
     (s.it, s.found, s.spells, (λ is. version (ap (λ (x : Tree). x.version) s.value ∙ is)), refl)
 
-pub too_deep : (text : List ℕ) (tokens : List Token) (t : Tree) (left : ℕ) (rest : List Symbol) → tree_of 64 (symbols text tokens) ≡ Some (read t (Some left) rest)
+pub too_deep : (text : List ℕ) (tokens : List Token) (t : Tree) (left : ℕ) (rest : List Symbol) → tree_of depth_limit (symbols text tokens) ≡ Some (read t (Some left) rest)
     → t.version ≡ two → IsFault text tokens (Depth (place_of text tokens left))
 too_deep text tokens t left rest e version =
-    let s = tree-sound 64 (lit≤ tt) (symbols text tokens) (read t (Some left) rest) e in
+    let s = tree-sound depth_limit (lit≤ tt) (symbols text tokens) (read t (Some left) rest) e in
     (s.it, s.found, left, s.spells, sym (ap (λ (x : Tree). x.version) s.value) ∙ version, sym s.deep, refl)
 
 pub ruleset verdicts = (accepted, refused, other_version, too_deep)
@@ -170,3 +171,29 @@ no_fault text tokens t (Depth place) p f =
     let none = sym p.3 ∙ same.1 ∙ f.5 in
     cc
 no_fault text tokens t NoMemory p f = refl
+
+-- a version and an expression that is too deep are never both told
+not_both : (text : List ℕ) (tokens : List Token) (a b : ℕ) → IsFault text tokens (Version a) → IsFault text tokens (Depth b) → ⊥
+not_both text tokens a b f g =
+    let same = only_one (symbols text tokens) f.0 g.0 f.1 g.1 f.2 g.3 in
+    f.3 (ap (λ (x : Tree). x.version) same.0 ∙ g.4)
+
+pub refused_once : (text : List ℕ) (tokens : List Token) (a b : ParseFault) → IsFault text tokens a → IsFault text tokens b
+    → a ≢ NoMemory → b ≢ NoMemory → IsAlike a b
+refused_once text tokens (Syntax a) (Syntax b) f g some other = tt
+refused_once text tokens (Syntax a) (Version b) f g some other = absurd (f.0 g.0 g.1 g.2)
+refused_once text tokens (Syntax a) (Depth b) f g some other = absurd (f.0 g.0 g.1 g.3)
+refused_once text tokens (Syntax a) NoMemory f g some other = absurd (other refl)
+refused_once text tokens (Version a) (Syntax b) f g some other = absurd (g.0 f.0 f.1 f.2)
+refused_once text tokens (Version a) (Version b) f g some other = ap Version (f.4 ∙ sym g.4)
+refused_once text tokens (Version a) (Depth b) f g some other = absurd (not_both text tokens a b f g)
+refused_once text tokens (Version a) NoMemory f g some other = absurd (other refl)
+refused_once text tokens (Depth a) (Syntax b) f g some other = absurd (g.0 f.0 f.1 f.3)
+refused_once text tokens (Depth a) (Version b) f g some other = absurd (not_both text tokens b a g f)
+refused_once text tokens (Depth a) (Depth b) f g some other =
+    let same = only_one (symbols text tokens) f.0 g.0 f.1 g.1 f.3 g.3 in
+    let one : Some f.2 ≡ Some g.2 = sym f.5 ∙ same.1 ∙ g.5 in
+    let left : f.2 ≡ g.2 = cc in
+    ap Depth (f.6 ∙ ap (place_of text tokens) left ∙ sym g.6)
+refused_once text tokens (Depth a) NoMemory f g some other = absurd (other refl)
+refused_once text tokens NoMemory b f g some other = absurd (some refl)

@@ -5,7 +5,7 @@ use Rattle.std.proofs.lemmas.List.{map-append}
 use Rattle.qasm_parser.specs.declared.symbols.Mark.TheVariants.{CloseBrace}
 use Rattle.qasm_parser.specs.declared.tree.Stmt.{Stmt}
 use Rattle.qasm_parser.specs.Symbols.{Symbol}
-use Rattle.qasm_parser.specs.Tree.{Action, Statement, action, statement}
+use Rattle.qasm_parser.specs.Tree.{Action, Statement, action, statement, depth_limit}
 use Rattle.qasm_parser.specs.Reading.{Read, all, begins_with, first_of, item_of, more_items, more_statements, onto, read, statement_of}
 use Rattle.qasm_parser.proofs.RepeatLaws.{Shrinks, all-end, all-more, all-none, onto-nothing, onto-onto}
 use Rattle.qasm_parser.proofs.FormLaws.{item-long, item-sound}
@@ -30,25 +30,25 @@ module _ {A X : Type 0} (view : X → A) (step : List Symbol → Option (Option 
   failed-step front deep ts h = ap (onto front deep) (all-none step ts h)
 
 -- ---- items
-more-item : (ts : List Symbol) → begins_with CloseBrace ts ≡ false → more_items 64 ts ≡ option_map Some (item_of 64 ts)
+more-item : (ts : List Symbol) → begins_with CloseBrace ts ≡ false → more_items depth_limit ts ≡ option_map Some (item_of depth_limit ts)
 more-item ts h = rw (h, more_items) refl
 
 pub items-step : (front : List Stmt) (deep : Option ℕ) (ts rest : List Symbol) (x : Stmt) (d : Option ℕ) → begins_with CloseBrace ts ≡ false
-    → item_of 64 ts ≡ Some (read (action x) d rest)
-    → onto (map action (front ++ x ∷ [])) (first_of deep d) (all (more_items 64) rest) ≡ onto (map action front) deep (all (more_items 64) ts)
+    → item_of depth_limit ts ≡ Some (read (action x) d rest)
+    → onto (map action (front ++ x ∷ [])) (first_of deep d) (all (more_items depth_limit) rest) ≡ onto (map action front) deep (all (more_items depth_limit) ts)
 items-step front deep ts rest x d h k =
-    one-step action (more_items 64) (items-shrink 64 (lit≤ tt)) front deep ts rest x d (more-item ts h ∙ ap (option_map Some) k)
+    one-step action (more_items depth_limit) (items-shrink depth_limit (lit≤ tt)) front deep ts rest x d (more-item ts h ∙ ap (option_map Some) k)
 
 pub items-last : (front : List Action) (deep : Option ℕ) (ts : List Symbol) → begins_with CloseBrace ts ≡ true
-    → onto front deep (all (more_items 64) ts) ≡ Some (read front deep ts)
-items-last front deep ts h = last-step {X = Stmt} action (more_items 64) front deep ts (rw (h, more_items) refl)
+    → onto front deep (all (more_items depth_limit) ts) ≡ Some (read front deep ts)
+items-last front deep ts h = last-step {X = Stmt} action (more_items depth_limit) front deep ts (rw (h, more_items) refl)
 
-pub items-fail : (front : List Action) (deep : Option ℕ) (ts : List Symbol) → begins_with CloseBrace ts ≡ false → item_of 64 ts ≡ None
-    → onto front deep (all (more_items 64) ts) ≡ None
-items-fail front deep ts h k = failed-step {X = Stmt} action (more_items 64) front deep ts (more-item ts h ∙ ap (option_map Some) k)
+pub items-fail : (front : List Action) (deep : Option ℕ) (ts : List Symbol) → begins_with CloseBrace ts ≡ false → item_of depth_limit ts ≡ None
+    → onto front deep (all (more_items depth_limit) ts) ≡ None
+items-fail front deep ts h k = failed-step {X = Stmt} action (more_items depth_limit) front deep ts (more-item ts h ∙ ap (option_map Some) k)
 
-pub item-shorter : (ts rest : List Symbol) (x : Action) (d : Option ℕ) → item_of 64 ts ≡ Some (read x d rest) → length rest < length ts
-item-shorter ts rest x d h = let s = item-sound 64 (lit≤ tt) ts _ h in item-long s.it ts rest s.found s.spells
+pub item-shorter : (ts rest : List Symbol) (x : Action) (d : Option ℕ) → item_of depth_limit ts ≡ Some (read x d rest) → length rest < length ts
+item-shorter ts rest x d h = let s = item-sound depth_limit (lit≤ tt) ts _ h in item-long s.it ts rest s.found s.spells
 
 pub items-begin : (r : Option (Read (List Action))) → onto [] None r ≡ r
 items-begin r = onto-nothing r
@@ -57,24 +57,24 @@ pub ruleset items = (items-step, items-last, items-fail, item-shorter, items-beg
 
 -- ---- statements
 pub statements-step : (front : List Stmt) (deep : Option ℕ) (ts rest : List Symbol) (x : Stmt) (d : Option ℕ) → 1 ≤ length ts
-    → statement_of 64 ts ≡ Some (read (statement x) d rest)
-    → onto (map statement (front ++ x ∷ [])) (first_of deep d) (all (more_statements 64) rest) ≡ onto (map statement front) deep (all (more_statements 64) ts)
+    → statement_of depth_limit ts ≡ Some (read (statement x) d rest)
+    → onto (map statement (front ++ x ∷ [])) (first_of deep d) (all (more_statements depth_limit) rest) ≡ onto (map statement front) deep (all (more_statements depth_limit) ts)
 statements-step front deep [] rest x d h k = absurd (omega arith)
 statements-step front deep (t ∷ ts) rest x d h k =
-    one-step statement (more_statements 64) (statements-shrink 64 (lit≤ tt)) front deep (t ∷ ts) rest x d (ap (option_map Some) k)
+    one-step statement (more_statements depth_limit) (statements-shrink depth_limit (lit≤ tt)) front deep (t ∷ ts) rest x d (ap (option_map Some) k)
 
 pub statements-last : (front : List Statement) (deep : Option ℕ) (ts : List Symbol) → length ts ≡ 0
-    → onto front deep (all (more_statements 64) ts) ≡ Some (read front deep ts)
-statements-last front deep [] h = last-step {X = Stmt} statement (more_statements 64) front deep [] refl
+    → onto front deep (all (more_statements depth_limit) ts) ≡ Some (read front deep ts)
+statements-last front deep [] h = last-step {X = Stmt} statement (more_statements depth_limit) front deep [] refl
 statements-last front deep (t ∷ ts) h = absurd (omega arith)
 
-pub statements-fail : (front : List Statement) (deep : Option ℕ) (ts : List Symbol) → 1 ≤ length ts → statement_of 64 ts ≡ None
-    → onto front deep (all (more_statements 64) ts) ≡ None
+pub statements-fail : (front : List Statement) (deep : Option ℕ) (ts : List Symbol) → 1 ≤ length ts → statement_of depth_limit ts ≡ None
+    → onto front deep (all (more_statements depth_limit) ts) ≡ None
 statements-fail front deep [] h k = absurd (omega arith)
-statements-fail front deep (t ∷ ts) h k = failed-step {X = Stmt} statement (more_statements 64) front deep (t ∷ ts) (ap (option_map Some) k)
+statements-fail front deep (t ∷ ts) h k = failed-step {X = Stmt} statement (more_statements depth_limit) front deep (t ∷ ts) (ap (option_map Some) k)
 
-pub statement-shorter : (ts rest : List Symbol) (x : Statement) (d : Option ℕ) → statement_of 64 ts ≡ Some (read x d rest) → length rest < length ts
-statement-shorter ts rest x d h = let s = statement-sound 64 (lit≤ tt) ts _ h in statement-long 64 (lit≤ tt) s.it ts rest s.found s.spells
+pub statement-shorter : (ts rest : List Symbol) (x : Statement) (d : Option ℕ) → statement_of depth_limit ts ≡ Some (read x d rest) → length rest < length ts
+statement-shorter ts rest x d h = let s = statement-sound depth_limit (lit≤ tt) ts _ h in statement-long depth_limit (lit≤ tt) s.it ts rest s.found s.spells
 
 pub statements-begin : (r : Option (Read (List Statement))) → onto [] None r ≡ r
 statements-begin r = onto-nothing r

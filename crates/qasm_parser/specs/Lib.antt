@@ -1,3 +1,4 @@
+pub mod DeclaredNames
 pub mod Expressions
 pub mod Frames
 pub mod Heads
@@ -11,4 +12,3 @@ pub mod Spelling
 pub mod Symbols
 pub mod Tree
 pub mod Views
-pub mod Names

@@ -1,15 +1,16 @@
 -- What a text and its tokens spell, and why they spell nothing that is accepted.
 --   Spells        all tokens of the text are those of this tree
 --   two           the version that is accepted
---   first_deep_of the first expression deeper than 64: how many tokens there are from its first to the end
+--   first_deep_of the first expression deeper than the limit: how many tokens there are from its first to the end
 --   real_place    where the second token stands
 --   IsProgram     the tree of the text is accepted
 --   IsFault       a fault that the text has
+--   IsAlike       two faults are of one kind and at one place; the place of Syntax aside
 use Rattle.std.specs.Prelude.{◌≡◌, ◌≢◌, ◌≤◌, ℕ, List, Option, Some, None, pos, drop, length}
 use Rattle.angle_fraction.specs.Fraction.{Fraction, fraction}
 use Rattle.qasm_lexer.specs.declared.Token.{Token}
 use Rattle.qasm_parser.specs.Symbols.{first_place, place_of, symbols}
-use Rattle.qasm_parser.specs.Tree.{Tree}
+use Rattle.qasm_parser.specs.Tree.{Tree, depth_limit}
 use Rattle.qasm_parser.specs.Spelling.{Seen, SpellsTree, first_deep}
 use Rattle.qasm_parser.specs.declared.ParseFault.{ParseFault}
 use Rattle.qasm_parser.specs.declared.ParseFault.TheVariants.{Syntax, Version, Depth, NoMemory}
@@ -21,7 +22,7 @@ abbrev pub two : Fraction
 two = fraction (pos 2) 1
 
 abbrev pub first_deep_of : List Seen → Option ℕ
-first_deep_of found = first_deep 64 found
+first_deep_of found = first_deep depth_limit found
 
 abbrev pub real_place : List ℕ → List Token → ℕ
 real_place text tokens = first_place (length text) (drop 1 tokens)
@@ -38,3 +39,7 @@ IsFault text tokens (Depth place) =
     (t : Tree) × (found : List Seen) × (left : ℕ) × Spells text tokens t found × (t.version ≡ two)
     × (first_deep_of found ≡ Some left) × (place ≡ place_of text tokens left)
 IsFault text tokens NoMemory = Unit {0}
+
+abbrev pub IsAlike : ParseFault → ParseFault → Type 0
+IsAlike (Syntax a) (Syntax b) = Unit {0}
+IsAlike a b = a ≡ b

@@ -1,6 +1,7 @@
 -- Programs as they are spelt, apart from where their parts lie in memory.
 --   Expression     an expression; a pair of parentheses is a node
 --   depth          1 for a number, pi or a name; else 1 more than the deepest part
+--   depth_limit    the depth of the deepest expression that is accepted
 --   Application    a gate with its angles and arguments; `U` and `CX` are names of gates
 --   Action         what may stand behind `if`; applications and barriers may stand in a gate's body
 --   Definition     a gate's names and its body; the body of an opaque gate is empty
@@ -34,6 +35,9 @@ depth (negated part) = depth part + 1
 depth (paren part) = depth part + 1
 depth (call function part) = depth part + 1
 depth (binary sign left right) = max (depth left) (depth right) + 1
+
+abbrev pub depth_limit : ℕ
+depth_limit = 64
 
 pub record Application : Type 0 where
   pub gate : List ℕ

@@ -3,7 +3,7 @@
 
 ghost use Rattle.std.specs.Prelude.{◌≡◌, ◌≤◌, ◌<◌, [], Some, None, map, IfOk, IfErr, OnOk, length};
 ghost use Rattle.qasm_parser.specs.Misread.{IsMisread};
-ghost use Rattle.qasm_parser.specs.Tree.{act, action, statement};
+ghost use Rattle.qasm_parser.specs.Tree.{act, action, depth_limit, statement};
 ghost use Rattle.qasm_parser.specs.Reading.{action_of, all, application_of, barrier_of, body_of, item_of, measure_of, more_items, read, reset_of, with_apply};
 
 use crate::apply::{application, earlier};
@@ -60,9 +60,9 @@ fn applying(
     cursor: &mut Cursor<'_>,
     plain: bool,
 ) -> Result<(Stmt, Option<usize>), Stop>
-    ensures ok { IfOk result (λ r. with_apply (application_of 64 plain cursor.old) ≡ Some (read (action r.0) r.1 cursor.new)) }
+    ensures ok { IfOk result (λ r. with_apply (application_of depth_limit plain cursor.old) ≡ Some (read (action r.0) r.1 cursor.new)) }
     ensures acts { IfOk result (λ r. statement r.0 ≡ act (action r.0)) }
-    ensures err { IfErr result (IsMisread (with_apply (application_of 64 plain cursor.old)) (length cursor.old)) }
+    ensures err { IfErr result (IsMisread (with_apply (application_of depth_limit plain cursor.old)) (length cursor.old)) }
     ensures rest { OnOk result (length cursor.new ≤ length cursor.old) }
 {
     let (apply, deep) = application(alloc, cursor, plain)?;
@@ -72,9 +72,9 @@ fn applying(
 /// What may stand behind `if`: an application, a measure or a reset.
 #[tactic(auto, using(crate::proofs::CodeLaws::actions))]
 pub fn action(alloc: Global, cursor: &mut Cursor<'_>) -> Result<(Stmt, Option<usize>), Stop>
-    ensures ok { IfOk result (λ r. action_of 64 cursor.old ≡ Some (read (action r.0) r.1 cursor.new)) }
+    ensures ok { IfOk result (λ r. action_of depth_limit cursor.old ≡ Some (read (action r.0) r.1 cursor.new)) }
     ensures acts { IfOk result (λ r. statement r.0 ≡ act (action r.0)) }
-    ensures err { IfErr result (IsMisread (action_of 64 cursor.old) (length cursor.old)) }
+    ensures err { IfErr result (IsMisread (action_of depth_limit cursor.old) (length cursor.old)) }
     ensures rest { OnOk result (length cursor.new ≤ length cursor.old) }
 {
     if take_word(cursor, Keyword::Measure) {
@@ -89,8 +89,8 @@ pub fn action(alloc: Global, cursor: &mut Cursor<'_>) -> Result<(Stmt, Option<us
 /// What may stand in a gate's body: an application or a barrier of plain names.
 #[tactic(auto, using(crate::proofs::CodeLaws::actions))]
 fn item(alloc: Global, cursor: &mut Cursor<'_>) -> Result<(Stmt, Option<usize>), Stop>
-    ensures ok { IfOk result (λ r. item_of 64 cursor.old ≡ Some (read (action r.0) r.1 cursor.new)) }
-    ensures err { IfErr result (IsMisread (item_of 64 cursor.old) (length cursor.old)) }
+    ensures ok { IfOk result (λ r. item_of depth_limit cursor.old ≡ Some (read (action r.0) r.1 cursor.new)) }
+    ensures err { IfErr result (IsMisread (item_of depth_limit cursor.old) (length cursor.old)) }
     ensures rest { OnOk result (length cursor.new ≤ length cursor.old) }
 {
     if take_word(cursor, Keyword::Barrier) {
@@ -102,8 +102,8 @@ fn item(alloc: Global, cursor: &mut Cursor<'_>) -> Result<(Stmt, Option<usize>),
 /// The items of a gate's body, up to its end.
 #[tactic(auto, using(crate::proofs::StepLaws::items))]
 fn items(alloc: Global, cursor: &mut Cursor<'_>) -> Result<(Vec<Stmt>, Option<usize>), Stop>
-    ensures ok { IfOk result (λ r. all (more_items 64) cursor.old ≡ Some (read (map action r.0.items) r.1 cursor.new)) }
-    ensures err { IfErr result (IsMisread (all (more_items 64) cursor.old) (length cursor.old)) }
+    ensures ok { IfOk result (λ r. all (more_items depth_limit) cursor.old ≡ Some (read (map action r.0.items) r.1 cursor.new)) }
+    ensures err { IfErr result (IsMisread (all (more_items depth_limit) cursor.old) (length cursor.old)) }
     ensures rest { OnOk result (length cursor.new ≤ length cursor.old) }
 {
     let mut list = Vec::new(alloc);
@@ -119,8 +119,8 @@ fn items(alloc: Global, cursor: &mut Cursor<'_>) -> Result<(Vec<Stmt>, Option<us
 /// A gate's body, from behind its brace.
 #[tactic(auto, unfolding(crate::specs::Reading::body_of))]
 pub fn body(alloc: Global, cursor: &mut Cursor<'_>) -> Result<(Vec<Stmt>, Option<usize>), Stop>
-    ensures ok { IfOk result (λ r. body_of 64 cursor.old ≡ Some (read (map action r.0.items) r.1 cursor.new)) }
-    ensures err { IfErr result (IsMisread (body_of 64 cursor.old) (length cursor.old)) }
+    ensures ok { IfOk result (λ r. body_of depth_limit cursor.old ≡ Some (read (map action r.0.items) r.1 cursor.new)) }
+    ensures err { IfErr result (IsMisread (body_of depth_limit cursor.old) (length cursor.old)) }
     ensures rest { OnOk result (length cursor.new ≤ length cursor.old) }
 {
     let (list, deep) = items(alloc, cursor)?;

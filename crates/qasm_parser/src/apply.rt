@@ -3,7 +3,7 @@
 
 ghost use Rattle.std.specs.Prelude.{◌≡◌, ◌≤◌, ◌<◌, [], Some, None, map, codes, IfOk, IfErr, OnOk, length};
 ghost use Rattle.qasm_parser.specs.Misread.{IsMisread};
-ghost use Rattle.qasm_parser.specs.Tree.{application, expression};
+ghost use Rattle.qasm_parser.specs.Tree.{application, depth_limit, expression};
 ghost use Rattle.qasm_parser.specs.Reading.{angle_of, angles_of, angles_of_u, application_of, first_of, head, head_of, list_of, optional_of, read, with_gate};
 ghost use Rattle.qasm_parser.specs.Heads.{head_view};
 
@@ -18,8 +18,8 @@ use std::alloc::Global;
 /// An expression, and where it begins if it is too deep.
 #[tactic(auto, unfolding(crate::specs::Reading::angle_of))]
 fn angle(alloc: Global, cursor: &mut Cursor<'_>) -> Result<(Expr, Option<usize>), Stop>
-    ensures ok { IfOk result (λ r. angle_of 64 cursor.old ≡ Some (read (expression r.0) r.1 cursor.new)) }
-    ensures err { IfErr result (IsMisread (angle_of 64 cursor.old) (length cursor.old)) }
+    ensures ok { IfOk result (λ r. angle_of depth_limit cursor.old ≡ Some (read (expression r.0) r.1 cursor.new)) }
+    ensures err { IfErr result (IsMisread (angle_of depth_limit cursor.old) (length cursor.old)) }
     ensures rest { OnOk result (length cursor.new ≤ length cursor.old) }
 {
     let left = cursor.left();
@@ -42,8 +42,8 @@ pub fn earlier(a: Option<usize>, b: Option<usize>) -> Option<usize>
 /// Expressions with commas between.
 #[tactic(auto, using(crate::proofs::ListLaws::angles))]
 fn angle_list(alloc: Global, cursor: &mut Cursor<'_>) -> Result<(Vec<Expr>, Option<usize>), Stop>
-    ensures ok { IfOk result (λ r. list_of (angle_of 64) cursor.old ≡ Some (read (map expression r.0.items) r.1 cursor.new)) }
-    ensures err { IfErr result (IsMisread (list_of (angle_of 64) cursor.old) (length cursor.old)) }
+    ensures ok { IfOk result (λ r. list_of (angle_of depth_limit) cursor.old ≡ Some (read (map expression r.0.items) r.1 cursor.new)) }
+    ensures err { IfErr result (IsMisread (list_of (angle_of depth_limit) cursor.old) (length cursor.old)) }
     ensures rest { OnOk result (length cursor.new ≤ length cursor.old) }
 {
     let mut list = Vec::new(alloc);
@@ -68,8 +68,8 @@ pub struct Head {
 /// Angles up to the end of the parenthesis.
 #[tactic(auto, unfolding(crate::specs::Reading::angles_of))]
 fn angles(alloc: Global, cursor: &mut Cursor<'_>) -> Result<(Vec<Expr>, Option<usize>), Stop>
-    ensures ok { IfOk result (λ r. angles_of 64 cursor.old ≡ Some (read (map expression r.0.items) r.1 cursor.new)) }
-    ensures err { IfErr result (IsMisread (angles_of 64 cursor.old) (length cursor.old)) }
+    ensures ok { IfOk result (λ r. angles_of depth_limit cursor.old ≡ Some (read (map expression r.0.items) r.1 cursor.new)) }
+    ensures err { IfErr result (IsMisread (angles_of depth_limit cursor.old) (length cursor.old)) }
     ensures rest { OnOk result (length cursor.new ≤ length cursor.old) }
 {
     let (list, deep) = angle_list(alloc, cursor)?;
@@ -80,8 +80,8 @@ fn angles(alloc: Global, cursor: &mut Cursor<'_>) -> Result<(Vec<Expr>, Option<u
 /// The angles of a gate with a name: in parentheses, or none.
 #[tactic(auto, unfolding(crate::specs::Reading::optional_of))]
 fn optional(alloc: Global, cursor: &mut Cursor<'_>) -> Result<(Vec<Expr>, Option<usize>), Stop>
-    ensures ok { IfOk result (λ r. optional_of 64 cursor.old ≡ Some (read (map expression r.0.items) r.1 cursor.new)) }
-    ensures err { IfErr result (IsMisread (optional_of 64 cursor.old) (length cursor.old)) }
+    ensures ok { IfOk result (λ r. optional_of depth_limit cursor.old ≡ Some (read (map expression r.0.items) r.1 cursor.new)) }
+    ensures err { IfErr result (IsMisread (optional_of depth_limit cursor.old) (length cursor.old)) }
     ensures rest { OnOk result (length cursor.new ≤ length cursor.old) }
 {
     if !take(cursor, Mark::Open) {
@@ -96,8 +96,8 @@ fn optional(alloc: Global, cursor: &mut Cursor<'_>) -> Result<(Vec<Expr>, Option
 /// The angles of `U`.
 #[tactic(auto, unfolding(crate::specs::Reading::angles_of_u))]
 fn angles_of_u(alloc: Global, cursor: &mut Cursor<'_>) -> Result<(Vec<Expr>, Option<usize>), Stop>
-    ensures ok { IfOk result (λ r. angles_of_u 64 cursor.old ≡ Some (read (map expression r.0.items) r.1 cursor.new)) }
-    ensures err { IfErr result (IsMisread (angles_of_u 64 cursor.old) (length cursor.old)) }
+    ensures ok { IfOk result (λ r. angles_of_u depth_limit cursor.old ≡ Some (read (map expression r.0.items) r.1 cursor.new)) }
+    ensures err { IfErr result (IsMisread (angles_of_u depth_limit cursor.old) (length cursor.old)) }
     ensures rest { OnOk result (length cursor.new ≤ length cursor.old) }
 {
     expect(cursor, Mark::Open)?;
@@ -107,8 +107,8 @@ fn angles_of_u(alloc: Global, cursor: &mut Cursor<'_>) -> Result<(Vec<Expr>, Opt
 /// A gate's name and its angles.
 #[tactic(auto, unfolding(crate::specs::Reading::head_of))]
 fn gate_head(alloc: Global, cursor: &mut Cursor<'_>) -> Result<Head, Stop>
-    ensures ok { IfOk result (λ h. head_of 64 cursor.old ≡ Some (read (head_view h) h.deep cursor.new)) }
-    ensures err { IfErr result (IsMisread (head_of 64 cursor.old) (length cursor.old)) }
+    ensures ok { IfOk result (λ h. head_of depth_limit cursor.old ≡ Some (read (head_view h) h.deep cursor.new)) }
+    ensures err { IfErr result (IsMisread (head_of depth_limit cursor.old) (length cursor.old)) }
     ensures rest { OnOk result (length cursor.new ≤ length cursor.old) }
 {
     let left = cursor.left();
@@ -145,8 +145,8 @@ pub fn application(
     cursor: &mut Cursor<'_>,
     plain: bool,
 ) -> Result<(Apply, Option<usize>), Stop>
-    ensures ok { IfOk result (λ r. application_of 64 plain cursor.old ≡ Some (read (application r.0) r.1 cursor.new)) }
-    ensures err { IfErr result (IsMisread (application_of 64 plain cursor.old) (length cursor.old)) }
+    ensures ok { IfOk result (λ r. application_of depth_limit plain cursor.old ≡ Some (read (application r.0) r.1 cursor.new)) }
+    ensures err { IfErr result (IsMisread (application_of depth_limit plain cursor.old) (length cursor.old)) }
     ensures rest { OnOk result (length cursor.new ≤ length cursor.old) }
 {
     let Head { gate, angles, deep } = gate_head(alloc, cursor)?;

@@ -5,7 +5,7 @@ ghost use Rattle.qasm_parser.specs.Machine.{behind, front, parenthesis, run, sum
 ghost use Rattle.qasm_parser.specs.Modes.{go, steps};
 ghost use Rattle.qasm_parser.specs.Frames.{stack};
 ghost use Rattle.qasm_parser.specs.Parts.{part_of};
-ghost use Rattle.qasm_parser.specs.Tree.{expression};
+ghost use Rattle.qasm_parser.specs.Tree.{depth_limit, expression};
 ghost use Rattle.qasm_parser.specs.Misread.{IsMisread};
 ghost use Rattle.qasm_parser.specs.Symbols.{Symbol as SpecSymbol, mark};
 ghost use Rattle.qasm_parser.specs.declared.symbols.Mark.TheVariants.{Open};
@@ -47,8 +47,8 @@ fn open(cursor: &mut Cursor<'_>) -> Result<(), Stop>
 /// Where a part is to come: an atom, or what begins one.
 #[tactic(auto, using(crate::proofs::FrameLaws::stacks))]
 fn begin(alloc: Global, cursor: &mut Cursor<'_>, frames: &mut Vec<Frame>) -> Result<Mode, Stop>
-    ensures ok { IfOk result (λ m. run 64 (stack frames.old.items) front cursor.old ≡ go (stack frames.new.items) m cursor.new) }
-    ensures err { IfErr result (IsMisread (run 64 (stack frames.old.items) front cursor.old) (length cursor.old)) }
+    ensures ok { IfOk result (λ m. run depth_limit (stack frames.old.items) front cursor.old ≡ go (stack frames.new.items) m cursor.new) }
+    ensures err { IfErr result (IsMisread (run depth_limit (stack frames.old.items) front cursor.old) (length cursor.old)) }
     ensures shorter { OnOk result (length cursor.new < length cursor.old) }
 {
     let left = cursor.left();
@@ -99,8 +99,8 @@ fn close(
     part: Option<Part>,
 ) -> Result<Mode, Stop>
     requires { 0 < length cursor.old }
-    ensures ok { IfOk result (λ m. parenthesis 64 (stack frames.old.items) (part_of part) cursor.old ≡ go (stack frames.new.items) m cursor.new) }
-    ensures err { IfErr result (IsMisread (parenthesis 64 (stack frames.old.items) (part_of part) cursor.old) (length cursor.old)) }
+    ensures ok { IfOk result (λ m. parenthesis depth_limit (stack frames.old.items) (part_of part) cursor.old ≡ go (stack frames.new.items) m cursor.new) }
+    ensures err { IfErr result (IsMisread (parenthesis depth_limit (stack frames.old.items) (part_of part) cursor.old) (length cursor.old)) }
     ensures shorter { IfOk result (λ m. steps m (length cursor.new) < 2 * length cursor.old + 1) }
 {
     let left = cursor.left();
@@ -127,8 +127,8 @@ fn after(
     frames: &mut Vec<Frame>,
     part: Option<Part>,
 ) -> Result<Mode, Stop>
-    ensures ok { IfOk result (λ m. run 64 (stack frames.old.items) (behind (part_of part)) cursor.old ≡ go (stack frames.new.items) m cursor.new) }
-    ensures err { IfErr result (IsMisread (run 64 (stack frames.old.items) (behind (part_of part)) cursor.old) (length cursor.old)) }
+    ensures ok { IfOk result (λ m. run depth_limit (stack frames.old.items) (behind (part_of part)) cursor.old ≡ go (stack frames.new.items) m cursor.new) }
+    ensures err { IfErr result (IsMisread (run depth_limit (stack frames.old.items) (behind (part_of part)) cursor.old) (length cursor.old)) }
     ensures shorter { IfOk result (λ m. steps m (length cursor.new) < 2 * length cursor.old + 1) }
 {
     let left = cursor.left();
@@ -156,8 +156,8 @@ fn after(
 
 /// The expression that comes next, as far as it goes; none where it is deeper than 64.
 pub fn sum(alloc: Global, cursor: &mut Cursor<'_>) -> Result<Option<Part>, Stop>
-    ensures ok { IfOk result (λ p. sum_of 64 cursor.old ≡ Some (part_of p, cursor.new)) }
-    ensures err { IfErr result (IsMisread (sum_of 64 cursor.old) (length cursor.old)) }
+    ensures ok { IfOk result (λ p. sum_of depth_limit cursor.old ≡ Some (part_of p, cursor.new)) }
+    ensures err { IfErr result (IsMisread (sum_of depth_limit cursor.old) (length cursor.old)) }
     ensures rest { OnOk result (length cursor.new ≤ length cursor.old) }
 {
     let mut frames = Vec::new(alloc);

@@ -1,6 +1,7 @@
 //! What was begun in an expression and waits for its right part, the last on top.
 
 ghost use Rattle.std.specs.Prelude.{◌≡◌, ◌≤◌, nat_le, IfOk};
+ghost use Rattle.qasm_parser.specs.Tree.{depth_limit};
 ghost use Rattle.qasm_parser.specs.Machine.{Frame as SpecFrame, binding, closed, closes, reduce, reduced, tightness};
 ghost use Rattle.qasm_parser.specs.Parts.{part_of};
 ghost use Rattle.qasm_parser.specs.Frames.{frame_of, stack};
@@ -48,7 +49,7 @@ impl Frame {
 
 /// A frame with its right part.
 pub fn closed(alloc: Global, frame: Frame, part: Option<Part>) -> Result<Option<Part>, AllocError>
-    ensures { IfOk result (λ p. part_of p ≡ closed 64 (frame_of frame) (part_of part)) }
+    ensures { IfOk result (λ p. part_of p ≡ closed depth_limit (frame_of frame) (part_of part)) }
 {
     match frame {
         Frame::Minus => negated(alloc, part),
@@ -77,7 +78,7 @@ pub fn reduce(
     part: Option<Part>,
     binding: u8,
 ) -> Result<Option<Part>, AllocError>
-    ensures { IfOk result (λ p. reduce 64 binding (stack frames.old.items) (part_of part) ≡ reduced (stack frames.new.items) (part_of p)) }
+    ensures { IfOk result (λ p. reduce depth_limit binding (stack frames.old.items) (part_of part) ≡ reduced (stack frames.new.items) (part_of p)) }
 {
     let mut part = part;
     'frames: while closes(frames, binding) {

@@ -1,6 +1,7 @@
 //! Parts of an expression put into greater ones; one that gets deeper than the limit is let go.
 
 ghost use Rattle.std.specs.Prelude.{◌≡◌, IfOk};
+ghost use Rattle.qasm_parser.specs.Tree.{depth_limit};
 ghost use Rattle.qasm_parser.specs.Machine.{called, closed, joined, minus, opened};
 ghost use Rattle.qasm_parser.specs.Parts.{part_of};
 
@@ -12,7 +13,7 @@ use std::alloc::{AllocError, Global};
 /// Unary minus.
 #[tactic(auto, unfolding(crate::specs::Machine::capped))]
 pub fn negated(alloc: Global, part: Option<Part>) -> Result<Option<Part>, AllocError>
-    ensures { IfOk result (λ p. part_of p ≡ closed 64 minus (part_of part)) }
+    ensures { IfOk result (λ p. part_of p ≡ closed depth_limit minus (part_of part)) }
 {
     let Some(part) = part else {
         return Ok(None);
@@ -28,7 +29,7 @@ pub fn negated(alloc: Global, part: Option<Part>) -> Result<Option<Part>, AllocE
 /// A pair of parentheses.
 #[tactic(auto, unfolding(crate::specs::Machine::capped))]
 pub fn parenthesised(alloc: Global, part: Option<Part>) -> Result<Option<Part>, AllocError>
-    ensures { IfOk result (λ p. part_of p ≡ closed 64 opened (part_of part)) }
+    ensures { IfOk result (λ p. part_of p ≡ closed depth_limit opened (part_of part)) }
 {
     let Some(part) = part else {
         return Ok(None);
@@ -48,7 +49,7 @@ pub fn applied(
     function: Function,
     part: Option<Part>,
 ) -> Result<Option<Part>, AllocError>
-    ensures { IfOk result (λ p. part_of p ≡ closed 64 (called function) (part_of part)) }
+    ensures { IfOk result (λ p. part_of p ≡ closed depth_limit (called function) (part_of part)) }
 {
     let Some(part) = part else {
         return Ok(None);
@@ -72,7 +73,7 @@ pub fn joined(
     left: Option<Part>,
     right: Option<Part>,
 ) -> Result<Option<Part>, AllocError>
-    ensures { IfOk result (λ p. part_of p ≡ joined 64 sign (part_of left) (part_of right)) }
+    ensures { IfOk result (λ p. part_of p ≡ joined depth_limit sign (part_of left) (part_of right)) }
 {
     let Some(left) = left else {
         return Ok(None);

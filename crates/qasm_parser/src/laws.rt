@@ -1,10 +1,13 @@
-//! What holds of every text, as functions whose contracts are the laws.
+//! What holds of every text, as functions whose contracts are the laws. They take nothing and do nothing.
 
-ghost use Rattle.std.specs.Prelude.{◌≡◌, ℕ, List};
+ghost use Rattle.std.specs.Prelude.{◌≡◌, ◌≢◌, ◌≤◌, ℕ, List, All, length};
+ghost use Rattle.qasm_lexer.specs.Names.{IsName};
+ghost use Rattle.qasm_lexer.specs.Tokens.{IsTokenOf};
 ghost use Rattle.qasm_lexer.specs.declared.Token.{Token as LexToken};
 ghost use Rattle.qasm_parser.specs.Tree.{Tree};
 ghost use Rattle.qasm_parser.specs.Spelling.{Seen};
-ghost use Rattle.qasm_parser.specs.Parsing.{IsFault, IsProgram, Spells, first_deep_of};
+ghost use Rattle.qasm_parser.specs.DeclaredNames.{HasNames};
+ghost use Rattle.qasm_parser.specs.Parsing.{IsAlike, IsFault, IsProgram, Spells, first_deep_of};
 ghost use Rattle.qasm_parser.specs.declared.ParseFault.{ParseFault as Fault};
 ghost use Rattle.qasm_parser.specs.declared.ParseFault.TheVariants.{NoMemory};
 
@@ -17,4 +20,21 @@ pub fn spelt_once()
 /// A text whose tree is accepted has no fault, so only want of memory is told of it.
 pub fn accepted_has_no_fault()
     ensures { (text : List ℕ) (tokens : List LexToken) (t : Tree) (fault : Fault) → IsProgram text tokens t → IsFault text tokens fault → fault ≡ NoMemory }
+{}
+
+/// A text with its tokens has one refusal at most, the place of Syntax aside.
+pub fn refused_once()
+    ensures { (text : List ℕ) (tokens : List LexToken) (a b : Fault) → IsFault text tokens a → IsFault text tokens b
+        → a ≢ NoMemory → b ≢ NoMemory → IsAlike a b }
+{}
+
+/// A tree has no more statements than its text has tokens.
+pub fn few_statements()
+    ensures { (text : List ℕ) (tokens : List LexToken) (t : Tree) (found : List Seen) → Spells text tokens t found → length t.list ≤ length tokens }
+{}
+
+/// Each name that a text's tree declares is a name of the language.
+pub fn declares_names()
+    ensures { (text : List ℕ) (tokens : List LexToken) (t : Tree) (found : List Seen) → All (IsTokenOf text) tokens → Spells text tokens t found
+        → All (HasNames IsName) t.list }
 {}

@@ -1,7 +1,7 @@
 //! An expression that is being read, with its depth.
 
 ghost use Rattle.std.specs.Prelude.{◌≡◌, ◌≤◌};
-ghost use Rattle.qasm_parser.specs.Tree.{depth as depth_of, expression, number as tree_number};
+ghost use Rattle.qasm_parser.specs.Tree.{depth as depth_of, depth_limit, expression, number as tree_number};
 
 use crate::tree::Expr;
 use angle_fraction::Frac;
@@ -15,7 +15,7 @@ pub struct Part {
     pub tree: Expr,
     pub depth: u32,
     ghost exact: { depth ≡ depth_of (expression tree) },
-    ghost shallow: { depth ≤ 64 },
+    ghost shallow: { depth ≤ depth_limit },
 }
 
 /// An expression of depth 1.

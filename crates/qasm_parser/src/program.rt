@@ -2,7 +2,7 @@
 
 ghost use Rattle.std.specs.Prelude.{◌≡◌, ◌≢◌, ◌≤◌, ◌<◌, ◌↔◌, ◌^◌, [], All, Some, None, IsTrue, map, IfOk, IfErr, OnOk, length, pos};
 ghost use Rattle.qasm_parser.specs.Misread.{IsMisread};
-ghost use Rattle.qasm_parser.specs.Tree.{program, statement};
+ghost use Rattle.qasm_parser.specs.Tree.{depth_limit, program, statement};
 ghost use Rattle.qasm_parser.specs.Symbols.{place_of};
 ghost use Rattle.qasm_lexer.specs.Tokens.{IsTokenOf};
 ghost use Rattle.qasm_parser.specs.Parsing.{IsFault, IsProgram, real_place, two};
@@ -56,8 +56,8 @@ fn header(cursor: &mut Cursor<'_>) -> Result<Frac, Stop>
 /// Statements up to the end.
 #[tactic(auto, using(crate::proofs::StepLaws::statements))]
 fn statements(alloc: Global, cursor: &mut Cursor<'_>) -> Result<(Vec<Stmt>, Option<usize>), Stop>
-    ensures ok { IfOk result (λ r. all (more_statements 64) cursor.old ≡ Some (read (map statement r.0.items) r.1 cursor.new)) }
-    ensures err { IfErr result (IsMisread (all (more_statements 64) cursor.old) (length cursor.old)) }
+    ensures ok { IfOk result (λ r. all (more_statements depth_limit) cursor.old ≡ Some (read (map statement r.0.items) r.1 cursor.new)) }
+    ensures err { IfErr result (IsMisread (all (more_statements depth_limit) cursor.old) (length cursor.old)) }
 {
     let mut list = Vec::new(alloc);
     let mut deep = None;
@@ -72,8 +72,8 @@ fn statements(alloc: Global, cursor: &mut Cursor<'_>) -> Result<(Vec<Stmt>, Opti
 /// A program, and where the first expression that is too deep begins.
 #[tactic(auto, unfolding(crate::specs::Reading::tree_of))]
 fn tree(alloc: Global, cursor: &mut Cursor<'_>) -> Result<(Program, Option<usize>), Stop>
-    ensures ok { IfOk result (λ r. tree_of 64 cursor.old ≡ Some (read (program r.0) r.1 cursor.new)) }
-    ensures err { IfErr result (IsMisread (tree_of 64 cursor.old) (length cursor.old)) }
+    ensures ok { IfOk result (λ r. tree_of depth_limit cursor.old ≡ Some (read (program r.0) r.1 cursor.new)) }
+    ensures err { IfErr result (IsMisread (tree_of depth_limit cursor.old) (length cursor.old)) }
 {
     let version = header(cursor)?;
     let (list, deep) = statements(alloc, cursor)?;

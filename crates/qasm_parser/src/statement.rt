@@ -2,7 +2,7 @@
 
 ghost use Rattle.std.specs.Prelude.{◌≡◌, ◌≤◌, ◌<◌, [], Some, None, map, IfOk, IfErr, OnOk, length};
 ghost use Rattle.qasm_parser.specs.Misread.{IsMisread};
-ghost use Rattle.qasm_parser.specs.Tree.{action, definition, gate as gate_tree, opaque as opaque_tree, statement};
+ghost use Rattle.qasm_parser.specs.Tree.{action, definition, depth_limit, gate as gate_tree, opaque as opaque_tree, statement};
 ghost use Rattle.qasm_parser.specs.Reading.{conditional_of, gate_of, include_of, list_of, listed_of, name_of, names_of, opaque_of, params_of, quoted_of, read, register_of, statement_of};
 
 use crate::action::{action, barrier, body};
@@ -93,8 +93,8 @@ fn undefined(heading: Heading, body: Vec<Stmt>) -> Stmt
 /// A gate's declaration, from behind its word.
 #[tactic(auto, unfolding(crate::specs::Reading::gate_of))]
 fn gate(alloc: Global, cursor: &mut Cursor<'_>) -> Result<(Stmt, Option<usize>), Stop>
-    ensures ok { IfOk result (λ r. gate_of 64 cursor.old ≡ Some (read (statement r.0) r.1 cursor.new)) }
-    ensures err { IfErr result (IsMisread (gate_of 64 cursor.old) (length cursor.old)) }
+    ensures ok { IfOk result (λ r. gate_of depth_limit cursor.old ≡ Some (read (statement r.0) r.1 cursor.new)) }
+    ensures err { IfErr result (IsMisread (gate_of depth_limit cursor.old) (length cursor.old)) }
     ensures rest { OnOk result (length cursor.new ≤ length cursor.old) }
 {
     let heading = names_of_gate(alloc, cursor)?;
@@ -165,8 +165,8 @@ fn register(alloc: Global, cursor: &mut Cursor<'_>, quantum: bool) -> Result<Stm
 /// A conditional statement, from behind its word.
 #[tactic(auto, unfolding(crate::specs::Reading::conditional_of))]
 fn conditional(alloc: Global, cursor: &mut Cursor<'_>) -> Result<(Stmt, Option<usize>), Stop>
-    ensures ok { IfOk result (λ r. conditional_of 64 cursor.old ≡ Some (read (statement r.0) r.1 cursor.new)) }
-    ensures err { IfErr result (IsMisread (conditional_of 64 cursor.old) (length cursor.old)) }
+    ensures ok { IfOk result (λ r. conditional_of depth_limit cursor.old ≡ Some (read (statement r.0) r.1 cursor.new)) }
+    ensures err { IfErr result (IsMisread (conditional_of depth_limit cursor.old) (length cursor.old)) }
     ensures rest { OnOk result (length cursor.new ≤ length cursor.old) }
 {
     expect(cursor, Mark::Open)?;
@@ -182,8 +182,8 @@ fn conditional(alloc: Global, cursor: &mut Cursor<'_>) -> Result<(Stmt, Option<u
 /// A statement.
 #[tactic(auto, using(crate::proofs::CodeLaws::statements))]
 pub fn statement(alloc: Global, cursor: &mut Cursor<'_>) -> Result<(Stmt, Option<usize>), Stop>
-    ensures ok { IfOk result (λ r. statement_of 64 cursor.old ≡ Some (read (statement r.0) r.1 cursor.new)) }
-    ensures err { IfErr result (IsMisread (statement_of 64 cursor.old) (length cursor.old)) }
+    ensures ok { IfOk result (λ r. statement_of depth_limit cursor.old ≡ Some (read (statement r.0) r.1 cursor.new)) }
+    ensures err { IfErr result (IsMisread (statement_of depth_limit cursor.old) (length cursor.old)) }
     ensures rest { OnOk result (length cursor.new ≤ length cursor.old) }
 {
     if take_word(cursor, Keyword::Include) {

@@ -13,13 +13,13 @@ use Rattle.std.proofs.lemmas.Bool.{cases_Bool}
 use Rattle.std.proofs.lemmas.Bool.Decides.{nat_tests}
 use Rattle.std.proofs.lemmas.Slice.Eq.{bytes_eq-Decides}
 use Rattle.qasm_parser.specs.Tree.{Statement, include, register}
-use Rattle.qasm_check.specs.Gates.{u, cx}
-use Rattle.qasm_check.specs.Known.{Known, fresh}
-use Rattle.qasm_check.specs.Library.{library, table_names}
-use Rattle.qasm_check.specs.Names.{has_repeat, is_one_of, with}
+use Rattle.gate_library.specs.Gates.{u, cx}
+use Rattle.gate_library.specs.Known.{Known, fresh}
+use Rattle.gate_library.specs.Library.{library, table_names}
+use Rattle.gate_library.specs.Names.{has_repeat, is_one_of, with}
 use Rattle.qasm_check.specs.Steps.{after}
 use Rattle.qasm_check.specs.declared.bits.Bits.{Bits}
-use Rattle.qasm_check.specs.declared.meaning.Meaning.{Meaning}
+use Rattle.gate_library.specs.declared.meaning.Meaning.{Meaning}
 use Rattle.gate_inline.specs.Registers.{IsFree, names_of}
 use Rattle.qasm_writer.specs.Trees.{bits_statement, wires_statements}
 use Rattle.qasm_writer.proofs.MeasureLaws.{AreDeclared, sizes}

@@ -12,3 +12,4 @@ pub mod PartLaws
 pub mod OutputLaws
 pub mod LineLaws
 pub mod NameLaws
+pub mod WordLaws

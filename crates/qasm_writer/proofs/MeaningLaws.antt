@@ -13,17 +13,16 @@ use Rattle.std.proofs.lemmas.List.Sums.{fold-append}
 use Rattle.unitary_model.specs.declared.Op.{Op}
 use Rattle.qasm_parser.specs.Tree.{Statement, include}
 use Rattle.qasm_check.specs.Checking.{IsAccepted, bound, steps}
-use Rattle.qasm_check.specs.Gates.{Gate, u, cx}
-use Rattle.qasm_check.specs.Known.{Known, fresh}
-use Rattle.qasm_check.specs.Library.{library, table_names}
-use Rattle.qasm_check.specs.Names.{is_one_of}
-use Rattle.qasm_check.specs.Places.{upto}
+use Rattle.gate_library.specs.Gates.{Gate, u, cx}
+use Rattle.gate_library.specs.Known.{Known, fresh}
+use Rattle.gate_library.specs.Library.{library, table_names}
+use Rattle.gate_library.specs.Names.{is_one_of}
+use Rattle.gate_library.specs.Operands.{upto}
 use Rattle.qasm_check.specs.Steps.{after, known}
 use Rattle.qasm_check.specs.declared.bits.Bits.{Bits}
 use Rattle.gate_inline.specs.Inlined.{operations}
 use Rattle.gate_inline.specs.Programs.{Means}
-use Rattle.gate_inline.specs.Registers.{AreRegisters, IsFree, names_of}
-use Rattle.qasm_writer.specs.Outputs.{IsRead}
+use Rattle.gate_inline.specs.Registers.{AreRegisters, IsFree, IsRead, names_of}
 use Rattle.qasm_writer.specs.Texts.{IsQubitsName}
 use Rattle.qasm_writer.specs.Trees.{bits_statement, op_statement, read_statements, wires_statements, written_tree}
 use Rattle.qasm_writer.proofs.GateLaws.{IsWritable, ops_run}

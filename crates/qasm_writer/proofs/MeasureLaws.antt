@@ -15,13 +15,14 @@ use Rattle.std.proofs.lemmas.Grind.{take_at_read}
 use Rattle.std.proofs.lemmas.List.{length-drop, length-take, map-append, take-append-drop}
 use Rattle.std.proofs.lemmas.List.Sums.{fold-append, sum_by-append}
 use Rattle.qasm_parser.specs.Tree.{Statement, act, measure}
-use Rattle.qasm_check.specs.Known.{Known}
-use Rattle.qasm_check.specs.Places.{place, upto}
-use Rattle.qasm_check.specs.Steps.{after, with_measured}
+use Rattle.gate_library.specs.Known.{Known, with_measured}
+use Rattle.qasm_check.specs.Arguments.{operand}
+use Rattle.gate_library.specs.Operands.{upto}
+use Rattle.qasm_check.specs.Steps.{after}
 use Rattle.qasm_check.specs.declared.bits.Bits.{Bits}
-use Rattle.qasm_check.specs.declared.meaning.Meaning.{Meaning}
-use Rattle.qasm_check.specs.declared.meaning.Place.{Place}
-use Rattle.qasm_writer.specs.Outputs.{IsRead}
+use Rattle.gate_library.specs.declared.meaning.Meaning.{Meaning}
+use Rattle.gate_library.specs.declared.operand.Operand.{Operand}
+use Rattle.gate_inline.specs.Registers.{IsRead}
 use Rattle.qasm_writer.specs.Trees.{at, read_statement, register_statements, read_statements}
 use Rattle.qasm_writer.proofs.RunLaws.{Run, Run-append, Run-nil, Run-reads, none_or, or_or}
 use Rattle.qasm_writer.proofs.StatementLaws.{bits_register, wires_register, measure_run}
@@ -44,7 +45,7 @@ same_then k l m s t = record {
   bits = t.bits ∙ s.bits;
 }
 
-measured_same : (k : Known) (o : Option Place) → Same k (with_measured k o)
+measured_same : (k : Known) (o : Option Operand) → Same k (with_measured k o)
 measured_same k None = same_self k
 measured_same k (Some p) = record { declared = refl; gates = refl; wires = refl; bits = refl }
 
@@ -126,7 +127,7 @@ read_run k q n name first size i b (Some w) dq dn l r e = (
   Run-reads k (act (measure (at q w) (at name i)) ∷ []) [] [] (read_here (first + i) (Some w)) (read_here b (Some w))
       (λ bit. ap (λ m. read_here m (Some w) bit) (sym e))
       (measure_run k q n w name first size i (dq (omega arith)) dn r l),
-  measured_same k (place k (at q w)),
+  measured_same k (operand k (at q w)),
 )
 
 register_run : (k : Known) (q : List ℕ) (n : ℕ) (name : List ℕ) (first size i b : ℕ) (os : List (Option ℕ)) → (0 < n → k.declared q ≡ Some (wires_register n))

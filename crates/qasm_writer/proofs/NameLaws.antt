@@ -8,7 +8,7 @@ use Rattle.std.proofs.Common.{◌≡◌, ℕ, zero, suc, ◌+◌, ◌<◌, ◌�
 use Rattle.std.proofs.lemmas.List.Elements.{recursion_from_All}
 use Rattle.std.specs.List.{AllByRecursion, list_any}
 use Rattle.std.specs.Str.{bytes_eq}
-use Rattle.qasm_check.specs.Names.{is_one_of}
+use Rattle.gate_library.specs.Names.{is_one_of}
 use Rattle.gate_inline.specs.Registers.{names_of}
 use Rattle.qasm_writer.specs.Outputs.{bits_of}
 use Rattle.qasm_writer.specs.Texts.{IsQubitsName, with_underscores}

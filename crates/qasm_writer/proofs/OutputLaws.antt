@@ -13,7 +13,7 @@ use Rattle.qasm_writer.specs.Outputs.{IsOutput, IsText, bits_of, program_of}
 use Rattle.qasm_writer.specs.Trees.{written_tree}
 use Rattle.qasm_writer.specs.declared.output.Output.{Output}
 use Rattle.qasm_writer.proofs.PartLaws.{IsWritten-spelt}
-use Rattle.qasm_writer.proofs.SpellingLaws.{written_tree-spelt}
+use Rattle.qasm_writer.proofs.SpellingLaws.{HasTokens, written_tree-spelt}
 
 IsPlain-op : (n : ℕ) (g : Gate) → IsFine n g → IsPlain (op_of g)
 IsPlain-op n (H q) h = inl (refl, refl, refl)
@@ -32,12 +32,12 @@ WiresBelow-ops n (X q ∷ gs) h = (h.0, WiresBelow-ops n gs h.1)
 WiresBelow-ops n (P k q ∷ gs) h = (h.0.0, WiresBelow-ops n gs h.1)
 WiresBelow-ops n (Cx c t ∷ gs) h = (h.0.0, (h.0.1.0, WiresBelow-ops n gs h.1))
 
-pub IsWritten-text : (o : Output) (text : List ℕ) → IsOutput o → o.body.now.wires ≤ 64 → All (IsFine o.body.now.wires) o.body.now.gates
+pub IsWritten-text : HasTokens → (o : Output) (text : List ℕ) → IsOutput o → o.body.now.wires ≤ 64 → All (IsFine o.body.now.wires) o.body.now.gates
     → IsText o text → IsWritten text (program_of o)
-IsWritten-text o text h few fine is =
+IsWritten-text law o text h few fine is =
     let n = o.body.now.wires in
     let fine' = recursion_from_All (IsFine n) o.body.now.gates fine in
-    let spelt = written_tree-spelt is.0 n _ (ops o.body.now.gates) (map bits_of o.registers.now) o.reads.now (omega arith) is.1 h.registers
+    let spelt = written_tree-spelt law is.0 n _ (ops o.body.now.gates) (map bits_of o.registers.now) o.reads.now (omega arith) is.1 h.registers
     (All-from_recursion IsPlain (ops o.body.now.gates) (IsPlain-ops n o.body.now.gates fine')) (WiresBelow-ops n o.body.now.gates fine') h.reads in
     let tree = written_tree is.0 n (ops o.body.now.gates) (map bits_of o.registers.now) o.reads.now in
     IsWritten-spelt o is.0 text h is.1 few fine (subst (λ (z : List ℕ). IsTreeOf z tree) (sym is.2) spelt)

@@ -13,10 +13,11 @@ use Rattle.std.proofs.lemmas.List.Elements.{filter_map-append}
 use Rattle.std.proofs.lemmas.List.Sums.{sum_by-append}
 use Rattle.unitary_model.specs.declared.Op.{Op}
 use Rattle.qasm_parser.specs.Tree.{Statement}
-use Rattle.qasm_check.specs.Checking.{AllFine, bits_of, is_pause, steps}
-use Rattle.qasm_check.specs.Gates.{u, cx}
-use Rattle.qasm_check.specs.Known.{Known}
-use Rattle.qasm_check.specs.Library.{library}
+use Rattle.qasm_check.specs.Checking.{AllFine, bits_of, steps}
+use Rattle.qasm_check.specs.Bound.{is_barrier}
+use Rattle.gate_library.specs.Gates.{u, cx}
+use Rattle.gate_library.specs.Known.{Known}
+use Rattle.gate_library.specs.Library.{library}
 use Rattle.qasm_check.specs.Refusals.{IsFine}
 use Rattle.qasm_check.specs.Steps.{Step, nothing, after, step}
 use Rattle.qasm_check.specs.declared.bits.Bits.{Bits}
@@ -31,7 +32,7 @@ pub record Run (k : Known) (ss : List Statement) (us : List Op) (rs : List Bits)
   pub ops : ◌≡◌ {A = Answer} (joined (map (step_answer standard_meanings) (steps k ss))) (Ok us)
   pub registers : filter_map bits_of ss ≡ rs
   pub reads : (bit : ℕ) → last_read (steps k ss) bit ≡ f bit
-  pub pauses : count_by is_pause (steps k ss) ≡ 0
+  pub pauses : count_by is_barrier (steps k ss) ≡ 0
 
 pub Run-nil : (k : Known) → Run k [] [] [] (λ bit. None)
 Run-nil k = record {
@@ -92,7 +93,7 @@ Run-append k xs ys us vs rs ts f g r s = record {
   reads = λ bit. ap (λ (ss : List Step). last_read ss bit) (steps-append k xs ys)
       ∙ last_read-append (steps k xs) (steps (fold after k xs) ys) bit
       ∙ (λ i. option_or (s.reads bit i) (r.reads bit i));
-  pauses = ap (count_by is_pause) (steps-append k xs ys) ∙ none_counted is_pause (steps k xs) (steps (fold after k xs) ys) r.pauses s.pauses;
+  pauses = ap (count_by is_barrier) (steps-append k xs ys) ∙ none_counted is_barrier (steps k xs) (steps (fold after k xs) ys) r.pauses s.pauses;
 }
 
 pub Run-reads : (k : Known) (ss : List Statement) (us : List Op) (rs : List Bits) (f g : ℕ → Option ℕ)
@@ -108,14 +109,14 @@ Run-reads k ss us rs f g e r = record {
 -- ---- one statement
 pub Run-one : (k : Known) (s : Statement) (x : Step) (us : List Op) (o : Option Bits) (f : ℕ → Option ℕ)
     → IsFine k s → step k s ≡ x → ◌≡◌ {A = Answer} (step_answer standard_meanings x) (Ok us) → bits_of s ≡ o → ((bit : ℕ) → step_read x bit ≡ f bit)
-    → is_pause x ≡ false → Run k (s ∷ []) us (cons_option o []) f
+    → is_barrier x ≡ false → Run k (s ∷ []) us (cons_option o []) f
 Run-one k s x us o f fine does e b reads p = record {
   fine = (fine, tt);
   ops = ap (λ (y : Step). followed (step_answer standard_meanings y) (Ok [])) does ∙ ap (λ (a : Answer). followed a (Ok [])) e
       ∙ ap (λ (vs : List Op). Ok vs) (append-nil us);
   registers = ap (λ (c : Option Bits). cons_option c []) b;
   reads = λ bit. ap (λ (y : Step). step_read y bit) does ∙ reads bit;
-  pauses = ap (λ (y : Step). count_by is_pause (y ∷ [])) does ∙ ap (λ (c : Bool). 0 + cond c 1 0) p;
+  pauses = ap (λ (y : Step). count_by is_barrier (y ∷ [])) does ∙ ap (λ (c : Bool). 0 + cond c 1 0) p;
 }
 
 pub Run-quiet : (k : Known) (s : Statement) (o : Option Bits) → IsFine k s → step k s ≡ nothing → bits_of s ≡ o → Run k (s ∷ []) [] (cons_option o []) (λ bit. None)

@@ -16,17 +16,19 @@ use Rattle.std.proofs.lemmas.Bool.Decides.{nat_tests}
 use Rattle.unitary_model.specs.declared.Op.{Op}
 use Rattle.qasm_parser.specs.Tree.{Expression, include, register, act, measure}
 use Rattle.qasm_parser.specs.declared.tree.Arg.{Arg}
-use Rattle.qasm_check.specs.Gates.{Gate, u, cx, gate_at, gate_params, gate_qubits, is_opaque}
-use Rattle.qasm_check.specs.Known.{Known, fresh, gate_number, meaning, own_number}
-use Rattle.qasm_check.specs.Library.{library, standard_names, table_names}
-use Rattle.qasm_check.specs.Names.{is_one_of}
-use Rattle.qasm_check.specs.Places.{broadcast, place, place_in, places, upto, wires_of}
-use Rattle.qasm_check.specs.Refusals.{IsFine, differs_from, is_beyond_in, is_other, is_register, measure_differs, of_gate, repeats}
+use Rattle.gate_library.specs.Gates.{Gate, u, cx, gate_at, gate_params, gate_qubits, is_opaque}
+use Rattle.gate_library.specs.Known.{Known, fresh, gate_number, meaning, own_number}
+use Rattle.gate_library.specs.Library.{library, standard_names, table_names}
+use Rattle.gate_library.specs.Names.{is_one_of}
+use Rattle.gate_library.specs.Operands.{broadcast, operand_in, upto, wires_of, differs_from, measure_differs, repeats}
+use Rattle.qasm_check.specs.Arguments.{operand, operands}
+use Rattle.qasm_check.specs.Refusals.{IsFine, of_gate}
+use Rattle.gate_library.specs.Meanings.{is_beyond, is_other, is_register}
 use Rattle.qasm_check.specs.Steps.{applies, measures, formula, measure_step, step}
 use Rattle.qasm_check.specs.declared.bits.Bits.{Bits}
-use Rattle.qasm_check.specs.declared.meaning.Meaning.{Meaning}
-use Rattle.qasm_check.specs.declared.meaning.Meaning.TheVariants.{Gate as Numbered, Register}
-use Rattle.qasm_check.specs.declared.meaning.Place.{Place}
+use Rattle.gate_library.specs.declared.meaning.Meaning.{Meaning}
+use Rattle.gate_library.specs.declared.meaning.Meaning.TheVariants.{Gate as Numbered, Register}
+use Rattle.gate_library.specs.declared.operand.Operand.{Operand}
 use Rattle.qasm_check.specs.declared.refusal.Refusal.TheVariants.{NameTaken, UnknownName, WrongKind, IndexRange, EmptyRegister, ParamCount, QubitCount, SizeDiffers, RepeatedQubit, OpaqueApplied, AfterMeasure, TooManyQubits, TooManyBits}
 use Rattle.angle_fraction.specs.declared.Angle.{Angle}
 use Rattle.gate_inline.specs.Meanings.{Answer, broadcast_answer, followed, meaning_at, step_answer, unvalued}
@@ -43,7 +45,7 @@ wires_register n = Register (record { quantum = true; first = 0; size = n })
 abbrev pub bits_register : ℕ → ℕ → Meaning
 bits_register first size = Register (record { quantum = false; first = first; size = size })
 
-abbrev pub spot : ℕ → ℕ → ℕ → Place
+abbrev pub spot : ℕ → ℕ → ℕ → Operand
 spot first size i = record { first = first; size = size; index = Some i }
 
 pub meaning-declared : (k : Known) (name : List ℕ) (m : Meaning) → k.declared name ≡ Some m → meaning k name ≡ Some m
@@ -71,9 +73,9 @@ unequal i j h = grind (arith, nat_tests)
 
 pub placed : (k : Known) (name : List ℕ) (quantum : Bool) (first size i : ℕ)
     → k.declared name ≡ Some (Register (record { quantum = quantum; first = first; size = size })) → i < size
-    → place k (at name i) ≡ Some (spot first size i)
+    → operand k (at name i) ≡ Some (spot first size i)
 placed k name quantum first size i e h =
-    ap (λ (m : Option Meaning). place_in m (Some i)) (meaning-declared k name (Register (record { quantum = quantum; first = first; size = size })) e)
+    ap (λ (m : Option Meaning). operand_in m (Some i)) (meaning-declared k name (Register (record { quantum = quantum; first = first; size = size })) e)
     ∙ ap (λ (b : Bool). if b then Some (spot first size i) else None) (below i size h)
 
 from_nought : (n : ℕ) → 0 + n ≡ n
@@ -131,7 +133,7 @@ gate_named k q n name es count given r h = meaning-own k name r.number (h.free n
 wire_known : (k : Known) (q : List ℕ) (n w : ℕ) → IsReady k q n → w < n → meaning k q ≡ Some (wires_register n)
 wire_known k q n w h l = meaning-declared k q (wires_register n) (h.qubits (some_wire w n l))
 
-wire_placed : (k : Known) (q : List ℕ) (n w : ℕ) → IsReady k q n → w < n → place k (at q w) ≡ Some (spot 0 n w)
+wire_placed : (k : Known) (q : List ℕ) (n w : ℕ) → IsReady k q n → w < n → operand k (at q w) ≡ Some (spot 0 n w)
 wire_placed k q n w h l = placed k q true 0 n w (h.qubits (some_wire w n l)) l
 
 one_fine : (k : Known) (q : List ℕ) (n w : ℕ) (name : List ℕ) (es : List Expression) (given : List Angle) → (r : Row name es 1 given)
@@ -148,27 +150,27 @@ one_fine k q n w name es given r h l = go
     there : gate_at k.gates r.number ≡ r.shape
     there = ap (λ (gs : List Gate). gate_at gs r.number) h.gates ∙ r.there
 
-    spots : places k (at q w ∷ []) ≡ spot 0 n w ∷ []
-    spots = ap (λ (o : Option Place). cons_option o []) (wire_placed k q n w h l)
+    spots : operands k (at q w ∷ []) ≡ spot 0 n w ∷ []
+    spots = ap (λ (o : Option Operand). cons_option o []) (wire_placed k q n w h l)
 
     go : IsFine k (applied name es (at q w ∷ []))
     go UnknownName = λ j. is_none (named j) || (is_none (wire j) || false) || r.closed j
     go WrongKind = λ j. is_register (named j) || (is_other true (wire j) || false)
-    go IndexRange = (λ j. is_beyond_in (wire j) (Some w) || false) ∙ ap (λ (b : Bool). b || false) (not_over w n l)
+    go IndexRange = (λ j. is_beyond (wire j) (Some w) || false) ∙ ap (λ (b : Bool). b || false) (not_over w n l)
     go ParamCount = (λ j. of_gate k (λ g. not (gate_params g == length es)) (named j))
         ∙ (λ j. not (gate_params (there j) == length es)) ∙ ap not r.params
     go QubitCount = (λ j. of_gate k (λ g. not (gate_qubits g == 1)) (named j))
         ∙ (λ j. not (gate_qubits (there j) == 1)) ∙ ap not r.wires
-    go SizeDiffers = ap (λ (ps : List Place). list_any (differs_from (broadcast ps)) ps) spots
+    go SizeDiffers = ap (λ (ps : List Operand). list_any (differs_from (broadcast ps)) ps) spots
     go RepeatedQubit = ap repeats spots
     go OpaqueApplied = (λ j. of_gate k is_opaque (named j)) ∙ ap is_opaque there ∙ r.solid
-    go AfterMeasure = ap (λ (ps : List Place). list_any (λ p. list_any k.measured (wires_of p)) ps) spots
+    go AfterMeasure = ap (λ (ps : List Operand). list_any (λ p. list_any k.measured (wires_of p)) ps) spots
         ∙ ap (λ (b : Bool). (b || false) || false) (h.unmeasured (0 + w))
     go _ = refl
 
 -- a gate on the wires that its arguments name
-applied_step : (k : Known) (name : List ℕ) (es : List Expression) (args : List Arg) (i : ℕ) (ps : List Place)
-    → meaning k name ≡ Some (Numbered i) → places k args ≡ ps → step k (applied name es args) ≡ applies i (map (formula []) es) ps
+applied_step : (k : Known) (name : List ℕ) (es : List Expression) (args : List Arg) (i : ℕ) (ps : List Operand)
+    → meaning k name ≡ Some (Numbered i) → operands k args ≡ ps → step k (applied name es args) ≡ applies i (map (formula []) es) ps
 applied_step k name es args i ps named spots = λ j. applies (gate_number (named j)) (map (formula []) es) (spots j)
 
 one_answer : (i : ℕ) (es : List Expression) (given : List Angle) (n w : ℕ) (us : List Op) → values [] (map (formula []) es) ≡ Ok given
@@ -187,7 +189,7 @@ one_run k q n w name es given op r h l means =
     Run-one k (applied name es (at q w ∷ [])) (applies r.number (map (formula []) es) (spot 0 n w ∷ [])) (op ∷ []) None (λ bit. None)
     (one_fine k q n w name es given r h l)
     (applied_step k name es (at q w ∷ []) r.number (spot 0 n w ∷ []) (gate_named k q n name es 1 given r h)
-    (ap (λ (o : Option Place). cons_option o []) (wire_placed k q n w h l)))
+    (ap (λ (o : Option Operand). cons_option o []) (wire_placed k q n w h l)))
     (one_answer r.number es given n w (op ∷ []) r.exact means)
     refl (λ bit. refl) refl
 
@@ -205,22 +207,22 @@ two_fine k q n c t name es given r h lc lt apart = go
     there : gate_at k.gates r.number ≡ r.shape
     there = ap (λ (gs : List Gate). gate_at gs r.number) h.gates ∙ r.there
 
-    spots : places k (at q c ∷ at q t ∷ []) ≡ spot 0 n c ∷ spot 0 n t ∷ []
+    spots : operands k (at q c ∷ at q t ∷ []) ≡ spot 0 n c ∷ spot 0 n t ∷ []
     spots = λ j. cons_option (wire_placed k q n c h lc j) (cons_option (wire_placed k q n t h lt j) [])
 
     go : IsFine k (applied name es (at q c ∷ at q t ∷ []))
     go UnknownName = λ j. is_none (named j) || (is_none (wire j) || (is_none (wire j) || false)) || r.closed j
     go WrongKind = λ j. is_register (named j) || (is_other true (wire j) || (is_other true (wire j) || false))
-    go IndexRange = (λ j. is_beyond_in (wire j) (Some c) || (is_beyond_in (wire j) (Some t) || false))
+    go IndexRange = (λ j. is_beyond (wire j) (Some c) || (is_beyond (wire j) (Some t) || false))
         ∙ (λ j. not_over c n lc j || (not_over t n lt j || false))
     go ParamCount = (λ j. of_gate k (λ g. not (gate_params g == length es)) (named j))
         ∙ (λ j. not (gate_params (there j) == length es)) ∙ ap not r.params
     go QubitCount = (λ j. of_gate k (λ g. not (gate_qubits g == 2)) (named j))
         ∙ (λ j. not (gate_qubits (there j) == 2)) ∙ ap not r.wires
-    go SizeDiffers = ap (λ (ps : List Place). list_any (differs_from (broadcast ps)) ps) spots
+    go SizeDiffers = ap (λ (ps : List Operand). list_any (differs_from (broadcast ps)) ps) spots
     go RepeatedQubit = ap repeats spots ∙ ap (λ (b : Bool). ((b || false) || (false || false)) || false) (unequal (0 + c) (0 + t) (λ e. apart (omega arith)))
     go OpaqueApplied = (λ j. of_gate k is_opaque (named j)) ∙ ap is_opaque there ∙ r.solid
-    go AfterMeasure = ap (λ (ps : List Place). list_any (λ p. list_any k.measured (wires_of p)) ps) spots
+    go AfterMeasure = ap (λ (ps : List Operand). list_any (λ p. list_any k.measured (wires_of p)) ps) spots
         ∙ (λ j. (h.unmeasured (0 + c) j || false) || ((h.unmeasured (0 + t) j || false) || false))
     go _ = refl
 
@@ -258,7 +260,7 @@ measure_fine k q n w name first size i dq dn lw li = go
     go : IsFine k (act (measure (at q w) (at name i)))
     go UnknownName = λ j. is_none (wire j) || is_none (bit j)
     go WrongKind = λ j. is_other true (wire j) || is_other false (bit j)
-    go IndexRange = (λ j. is_beyond_in (wire j) (Some w) || is_beyond_in (bit j) (Some i)) ∙ (λ j. not_over w n lw j || not_over i size li j)
+    go IndexRange = (λ j. is_beyond (wire j) (Some w) || is_beyond (bit j) (Some i)) ∙ (λ j. not_over w n lw j || not_over i size li j)
     go SizeDiffers = λ j. measure_differs (placed k q true 0 n w dq lw j) (placed k name false first size i dn li j)
     go _ = refl
 

@@ -1,3 +1,4 @@
 pub mod Texts
 pub mod Trees
 pub mod Outputs
+pub mod Words

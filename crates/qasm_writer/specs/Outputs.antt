@@ -1,24 +1,19 @@
 -- What a caller may hand over to be written, and what is written for it.
 --   bits_of r            a classical register's name and size
---   IsRead n r           the qubit of a read is below n
 --   IsOutput o           registers as a program may declare them, a read for each of their bits, of qubits that are there
 --   program_of o         the program that is to be written
 --   IsText o text        the text is that of the output
-use Rattle.std.specs.Prelude.{◌≡◌, ℕ, ◌<◌, List, Option, Some, None, All, length, map}
+use Rattle.std.specs.Prelude.{◌≡◌, ℕ, List, All, length, map}
 use Rattle.circuit_list.specs.Gates.{ops}
 use Rattle.qasm_check.specs.declared.bits.Bits.{Bits}
 use Rattle.gate_inline.specs.Programs.{Program}
-use Rattle.gate_inline.specs.Registers.{AreRegisters}
+use Rattle.gate_inline.specs.Registers.{AreRegisters, IsRead}
 use Rattle.qasm_writer.specs.Texts.{IsQubitsName, written_text}
 use Rattle.qasm_writer.specs.declared.output.Register.{Register}
 use Rattle.qasm_writer.specs.declared.output.Output.{Output}
 
 abbrev pub bits_of : Register → Bits
 bits_of r = record { name = r.name.now; size = r.size }
-
-abbrev pub IsRead : ℕ → Option ℕ → Type 0
-IsRead n None = Unit {0}
-IsRead n (Some q) = q < n
 
 pub record IsOutput (o : Output) : Type 0 where
   pub registers : AreRegisters (map bits_of o.registers.now) (length o.reads.now)

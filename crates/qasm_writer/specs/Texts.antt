@@ -15,7 +15,7 @@
 use Rattle.std.specs.Prelude.{◌≡◌, ℕ, ◌+◌, ◌<◌, ◌==◌, true, false, List, [], ◌∷◌, ◌++◌, Option, Some, None, if◌then◌else◌, codes, drop, replicate, take}
 use Rattle.std.specs.List.{flat_map}
 use Rattle.std.specs.Fmt.{decimal}
-use Rattle.qasm_check.specs.Names.{is_one_of}
+use Rattle.gate_library.specs.Names.{is_one_of}
 use Rattle.qasm_check.specs.declared.bits.Bits.{Bits}
 use Rattle.gate_inline.specs.Registers.{names_of}
 use Rattle.unitary_model.specs.declared.Op.{Op}

@@ -178,6 +178,7 @@ pub fn program_text(alloc: Global, output: &Output) -> Result<Vec<u8>, AllocErro
     ensures text { IfOk result (λ v. IsText output.now v.items) }
     ensures written { IfOk result (λ v. IsWritten v.items (program_of output.now)) }
 {
+    qasm_lexer::lexed_exactly();
     let q = qubits_name(alloc, output.registers)?;
     let mut text = String::from_str(alloc, "OPENQASM 2.0;\ninclude \"qelib1.inc\";\n")?;
     push_wires(&mut text, &q, output.body.wires())?;

@@ -10,12 +10,13 @@ use Rattle.coupling_map.specs.Coupling.{Coupling}
 use Rattle.coupling_map.specs.Text.{Outcome, Says, graph, outcome_of, range, self_edge, shape}
 use Rattle.coupling_map.specs.Walks.{IsJoined}
 use Rattle.coupling_map.specs.declared.faults.DeviceFault.TheVariants as fault
-use Rattle.qroute_top.specs.Causes.{IsDeviceCause, IsDeviceStop, IsTextStop}
+use Rattle.qroute_top.specs.Causes.{IsDeviceCause}
 use Rattle.qroute_top.specs.Devices.{IsDevice, IsDeviceRefusal, device_limit}
 use Rattle.qroute_top.specs.declared.stops.DeviceRefusal.{DeviceRefusal}
 use Rattle.qroute_top.specs.declared.stops.DeviceRefusal.TheVariants as device
-use Rattle.qroute_top.specs.declared.stops.Stop.{Stop}
-use Rattle.qroute_top.specs.declared.stops.Stop.TheVariants as stop
+use Rattle.qroute_top.specs.declared.stops.DeviceStop.{DeviceStop}
+use Rattle.qroute_top.specs.declared.stops.DeviceStop.TheVariants as device_stop
+use Rattle.qroute_top.specs.Stops.{IsUndescribed, unloaded}
 
 -- a text says one thing
 pub Says-once : (text : List ℕ) (o p : Outcome) → Says text o → Says text p → o ≡ p
@@ -61,21 +62,18 @@ IsDevice-refused text d n (device.TooFewQubits size qubits) is fits (c, other, a
     omega (arith, same, a, b, few, fits)
 
 -- why a text of the shelf isn't had is why the device isn't
-pub IsDeviceCause-text : (content : Option (Option (List ℕ))) (n before after : ℕ) (f : TextFault) (s : Stop)
-    → IsTextCause content device_limit before after f → IsTextStop f s → IsDeviceCause content n before after s
+pub IsDeviceCause-text : (content : Option (Option (List ℕ))) (n before after : ℕ) (f : TextFault) (s : DeviceStop)
+    → IsTextCause content device_limit before after f → s ≡ unloaded f → IsDeviceCause content n before after s
 IsDeviceCause-text content n before after text_fault.Failed s c is = rw is c
 IsDeviceCause-text content n before after text_fault.Absent s c is = rw is c
 IsDeviceCause-text content n before after text_fault.TooLong s c is = rw is c
 IsDeviceCause-text content n before after text_fault.NoMemory s c is = rw is tt
 
-pub IsDeviceCause-stop : (content : Option (Option (List ℕ))) (n before after : ℕ) (text : List ℕ) (s : Stop)
-    → TellsText content text → IsDeviceStop text n s → IsDeviceCause content n before after s
-IsDeviceCause-stop content n before after text stop.NoMemory t c = tt
-IsDeviceCause-stop content n before after text stop.Words t c = absurd c
-IsDeviceCause-stop content n before after text stop.Input t c = absurd c
-IsDeviceCause-stop content n before after text (stop.Program r) t c = absurd c
-IsDeviceCause-stop content n before after text stop.Shelf t c = absurd c
-IsDeviceCause-stop content n before after text stop.Absent t c = absurd c
-IsDeviceCause-stop content n before after text (stop.Device r) t c = (text, t, c)
+pub IsDeviceCause-stop : (content : Option (Option (List ℕ))) (n before after : ℕ) (text : List ℕ) (s : DeviceStop)
+    → TellsText content text → IsUndescribed text n s → IsDeviceCause content n before after s
+IsDeviceCause-stop content n before after text device_stop.NoMemory t c = tt
+IsDeviceCause-stop content n before after text device_stop.Failed t c = absurd c
+IsDeviceCause-stop content n before after text device_stop.Absent t c = absurd c
+IsDeviceCause-stop content n before after text (device_stop.Refused r) t c = (text, t, c)
 
 pub ruleset shelves = (IsDeviceCause-text, IsDeviceCause-stop)

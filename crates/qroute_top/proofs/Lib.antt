@@ -1,6 +1,6 @@
-pub mod Rows
-pub mod ExpansionLaws
-pub mod AcceptedLaws
+pub mod StatusLaws
+pub mod SourceLaws
 pub mod DeviceLaws
+pub mod TargetLaws
 pub mod PlanLaws
 pub mod RunLaws

@@ -1,43 +1,31 @@
--- What is made for an accepted program is what is to be delivered.
---   wires_below, plain_of     the operations of a circuit
---   reads_there, reads_wider, length-reads_of     the reads of a program
---   Makes-planned, MakesInPlace-planned, MakesOnDevice-planned
---                             a circuit that stands for the source is made as it should be
-use Rattle.std.proofs.Common.{◌≡◌, ℕ, zero, suc, ◌+◌, ◌*◌, ◌<◌, ◌≤◌, ◌==◌, Bool, true, false, if◌then◌else◌, List, [], ◌∷◌, Option, Some, None, All, map, refl, sym, ap, ◌∙◌, arith, inl, inr, length}
-use Rattle.std.proofs.lemmas.List.FromFn.{length-map-range_with_len}
-use Rattle.std.proofs.lemmas.List.{length-map}
+-- What is planned for a source is what is to be delivered.
+--   plain_of             the operations of a circuit are plain
+--   reads_wider          reads of fewer wires are reads of more
+--   some_IsUtf8          a name of the language is UTF-8
+--   few_counts           the counts of few operations fit
+--   Makes-planned        a target that stands for the source is made as it should be
+--   Rewrites-in_place, Rewrites-routed     on its own wires, and on a device
+use Rattle.std.proofs.Common.{◌≡◌, ℕ, ◌+◌, ◌*◌, ◌<◌, ◌≤◌, List, [], ◌∷◌, Option, Some, None, All, refl, sym, ap, ◌∙◌, arith, inl, inr, length, map}
 use Rattle.std.proofs.lemmas.List.Elements.{recursion_from_All, All-from_recursion}
-use Rattle.std.specs.List.{AllByRecursion, range_with_len}
+use Rattle.std.specs.List.{AllByRecursion}
 use Rattle.unitary_model.specs.declared.Op.{Op}
-use Rattle.unitary_model.specs.Operations.{IsPlain, WiresBelow, cx_count, t_count}
+use Rattle.unitary_model.specs.declared.Op.TheVariants.{U, Cx as OpCx}
+use Rattle.unitary_model.specs.Operations.{IsPlain, cx_count, t_count}
 use Rattle.unitary_model.specs.Placement.{identity}
-use Rattle.unitary_model.specs.Realises.{Realises}
-use Rattle.unitary_model.specs.declared.Statement.{Statement}
-use Rattle.unitary_model.specs.declared.Statement.TheVariants.{Apply, Measure}
-use Rattle.unitary_model.specs.SmallProgram.{IsSmallProgram, IsStatement, SmallProgram, last_read, ops_of, or_else, reads_of}
-use Rattle.unitary_model.proofs.RealisesLaws.{Realises_itself}
 use Rattle.circuit_list.specs.declared.Gate.{Gate}
 use Rattle.circuit_list.specs.declared.Gate.TheVariants.{H, X, P, Cx}
 use Rattle.circuit_list.specs.Gates.{IsFine, ops}
 use Rattle.coupling_map.specs.Coupling.{Coupling}
-use Rattle.qasm_writer.specs.Outputs.{IsRead}
+use Rattle.gate_inline.specs.Registers.{IsRead}
+use Rattle.program_reader.specs.Refusals.{program_of}
+use Rattle.program_reader.specs.declared.source.Source.{Source}
 use Rattle.walk_route.specs.Edges.{FollowsEdges}
-use Rattle.walk_route.specs.declared.router.Routed.{Routed}
-use Rattle.qroute_top.specs.declared.plan.Counts.{Counts}
-use Rattle.qroute_top.specs.Delivered.{Makes, MakesInPlace, MakesOnDevice, placed_read}
-use Rattle.qroute_top.specs.Plans.{IsPlanned}
+use Rattle.qroute_top.specs.Delivered.{IsInPlace, Makes, Rewrites, placed_read}
+use Rattle.qroute_top.specs.Plans.{IsPlanned, IsRouted, target_program}
+use Rattle.qroute_top.specs.Targets.{Stands}
+use Rattle.qroute_top.specs.declared.target.Target.{Target}
 
 -- ---- the operations of a circuit
-below_of : (n : ℕ) (gs : List Gate) → AllByRecursion (IsFine n) gs → WiresBelow n (ops gs)
-below_of n [] h = tt
-below_of n (H q ∷ gs) h = (h.0, below_of n gs h.1)
-below_of n (X q ∷ gs) h = (h.0, below_of n gs h.1)
-below_of n (P k q ∷ gs) h = (h.0.0, below_of n gs h.1)
-below_of n (Cx c t ∷ gs) h = (h.0.0, (h.0.1.0, below_of n gs h.1))
-
-pub wires_below : (n : ℕ) (gs : List Gate) → All (IsFine n) gs → WiresBelow n (ops gs)
-wires_below n gs h = below_of n gs (recursion_from_All (IsFine n) gs h)
-
 plain_by : (n : ℕ) (gs : List Gate) → AllByRecursion (IsFine n) gs → AllByRecursion IsPlain (ops gs)
 plain_by n [] h = tt
 plain_by n (H q ∷ gs) h = (inl (refl, refl, refl), plain_by n gs h.1)
@@ -49,30 +37,6 @@ pub plain_of : (n : ℕ) (gs : List Gate) → All (IsFine n) gs → All IsPlain 
 plain_of n gs h = All-from_recursion IsPlain (ops gs) (plain_by n gs (recursion_from_All (IsFine n) gs h))
 
 -- ---- reads
-reads_there_by : (n m : ℕ) (ss : List Statement) (k : ℕ) → AllByRecursion (IsStatement n m) ss → IsRead n (last_read ss k)
-reads_there_by n m [] k h = tt
-reads_there_by n m (Apply u ∷ ss) k h = reads_there_by n m ss k h.1
-reads_there_by n m (Measure q j ∷ ss) k h = either (last_read ss k) (j == k) (reads_there_by n m ss k h.1)
-  where
-    either : (o : Option ℕ) (b : Bool) → IsRead n o → IsRead n (or_else o (if b then Some q else None))
-    either (Some p) b r = r
-    either None true r = h.0.0
-    either None false r = tt
-
-all_map : (n m a k : ℕ) (ss : List Statement) → AllByRecursion (IsStatement n m) ss → AllByRecursion (IsRead n) (map (last_read ss) (range_with_len a k))
-all_map n m a zero ss h = tt
-all_map n m a (suc k) ss h = (reads_there_by n m ss a h, all_map n m (a + 1) k ss h)
-
--- the reads of a program are of its wires
-pub reads_there : (p : SmallProgram) → IsSmallProgram p → All (IsRead p.wires) (reads_of p.bits p.statements)
-reads_there p small =
-    All-from_recursion (IsRead p.wires) (reads_of p.bits p.statements)
-    (all_map p.wires p.bits 0 p.bits p.statements (recursion_from_All (IsStatement p.wires p.bits) p.statements small.named))
-
-pub length-reads_of : (m : ℕ) (ss : List Statement) → length (reads_of m ss) ≡ m
-length-reads_of m ss = length-map-range_with_len (last_read ss) 0 m
-
--- reads of fewer wires are reads of more
 pub reads_wider : (n m : ℕ) (rs : List (Option ℕ)) → n ≤ m → All (IsRead n) rs → All (IsRead m) rs
 reads_wider n m rs fits h = All-from_recursion (IsRead m) rs (by_list rs (recursion_from_All (IsRead n) rs h))
   where
@@ -84,68 +48,62 @@ reads_wider n m rs fits h = All-from_recursion (IsRead m) rs (by_list rs (recurs
     by_list [] h = tt
     by_list (r ∷ xs) h = (wider r h.0, by_list xs h.1)
 
--- ---- a circuit that stands for the source
-pub Makes-planned : (p : SmallProgram) (c : Counts) (first : List ℕ) (rs : List (Option ℕ)) (t : Routed) (us : List Op) (text line : List ℕ) → IsSmallProgram p
-    → 0 < t.body.wires → All (IsFine t.body.wires) t.body.gates → us ≡ ops_of p.statements
-    → c.qubits ≡ p.wires → c.cx ≡ cx_count us → c.t ≡ t_count us → rs ≡ reads_of p.bits p.statements
-    → Realises us p.wires (ops t.body.gates) t.body.wires first t.last t.turn
-    → t_count (ops t.body.gates) ≡ t_count us → cx_count (ops t.body.gates) ≡ cx_count us + 3 * t.swaps
-    → (plan : IsPlanned c first rs t text line) → Makes p plan.written.program plan.told text line
-Makes-planned p c first rs t us text line small some fine e qubits cx ts g realises t_same cx_more plan =
-    let w = plan.written in
+-- ---- a target that stands for the source
+pub Makes-planned : (s : Source) (t : Target) (text line : List ℕ) → Stands s.ops.wires s.ops.list t → All (IsFine t.body.wires) t.body.gates
+    → (plan : IsPlanned s t text line) → Makes (program_of s) (target_program s t) plan.told text line
+Makes-planned s t text line stands fine plan =
     let r = plan.numbers in
     record {
-      written = w.spelt some;
-      bits = w.bits ∙ length-map rs (placed_read t.last) ∙ ap length g ∙ length-reads_of p.bits p.statements;
-      plain = rw w.ops (plain_of t.body.wires t.body.gates fine);
+      written = plan.written;
+      registers = refl;
+      plain = plain_of t.body.wires t.body.gates fine;
       report = plan.report;
       numbers = record {
         barriers = r.barriers;
-        cx_after = r.cx_after ∙ ap cx_count (sym w.ops);
-        cx_before = r.cx_before ∙ cx ∙ ap cx_count e;
-        device = r.device ∙ sym w.wires;
-        qubits = r.qubits ∙ qubits;
-        t_after = r.t_after ∙ ap t_count (sym w.ops);
-        t_before = r.t_before ∙ ts ∙ ap t_count e;
+        cx_after = r.cx_after;
+        cx_before = r.cx_before;
+        device = r.device;
+        qubits = r.qubits;
+        t_after = r.t_after;
+        t_before = r.t_before;
       };
-      unitary = rw (w.ops, w.wires, ← e, r.initial, r.last, r.phase) realises;
-      reads = w.reads ∙ ap (λ (p0 : List ℕ). map (placed_read p0) rs) (sym r.last) ∙ ap (map (placed_read plan.told.last)) g;
-      t_gates = rw (w.ops, ← e) (omega (arith, t_same));
-      cx_gates = rw (w.ops, ← e, r.swaps) (omega (arith, cx_more));
+      unitary = rw (r.initial, r.last, r.phase) stands.realises;
+      reads = ap (λ (p : List ℕ). map (placed_read p) s.ops.reads) (sym r.last);
+      t_gates = stands.t_gates;
+      cx_gates = rw r.swaps stands.cx_gates;
     }
 
-pub MakesInPlace-planned : (p : SmallProgram) (c : Counts) (first : List ℕ) (rs : List (Option ℕ)) (t : Routed) (text line : List ℕ) → IsSmallProgram p
-    → t.body.wires ≡ p.wires → All (IsFine t.body.wires) t.body.gates → ops t.body.gates ≡ ops_of p.statements
-    → c.qubits ≡ t.body.wires → c.cx ≡ cx_count (ops t.body.gates) → c.t ≡ t_count (ops t.body.gates) → rs ≡ reads_of p.bits p.statements
-    → first ≡ identity p.wires → t.last ≡ identity p.wires → t.turn ≡ 0 → t.swaps ≡ 0
-    → IsPlanned c first rs t text line → MakesInPlace p text line
-MakesInPlace-planned p c first rs t text line small wires fine e qubits cx ts g starts ends turn swaps plan =
-    let us = ops t.body.gates in
-    let itself = Realises_itself us t.body.wires t.body.wires (omega arith) (wires_below t.body.wires t.body.gates fine) in
-    let realises : Realises us p.wires us t.body.wires first t.last t.turn = rw (starts, ends, turn, ← wires) itself in
-    let none : cx_count us ≡ cx_count us + 3 * t.swaps = rw swaps (omega arith) in (
-      plan.written.program,
-      plan.told,
-      Makes-planned p c first rs t us text line small (rw wires small.some) fine e (qubits ∙ wires) cx ts g realises refl none plan,
-      record {
-        wires = plan.written.wires ∙ wires;
-        swaps = plan.numbers.swaps ∙ swaps;
-        initial = plan.numbers.initial ∙ starts;
-        last = plan.numbers.last ∙ ends;
-      },
-    )
+pub Rewrites-in_place : (s : Source) (t : Target) (text line : List ℕ) → Stands s.ops.wires s.ops.list t → All (IsFine t.body.wires) t.body.gates
+    → t.body.wires ≡ s.ops.wires → t.swaps ≡ 0 → t.initial ≡ identity s.ops.wires → t.last ≡ identity s.ops.wires
+    → IsPlanned s t text line → Rewrites (program_of s) (IsInPlace (program_of s)) text line
+Rewrites-in_place s t text line stands fine wires swaps initial last plan =
+    let r = plan.numbers in
+    record {
+      target = target_program s t;
+      told = plan.told;
+      made = Makes-planned s t text line stands fine plan;
+      placed = record { wires = wires; swaps = r.swaps ∙ swaps; initial = r.initial ∙ initial; last = r.last ∙ last };
+    }
 
-pub MakesOnDevice-planned : (p : SmallProgram) (d : Coupling) (c : Counts) (first : List ℕ) (rs : List (Option ℕ)) (t : Routed) (us : List Op) (text line : List ℕ)
-    → IsSmallProgram p → p.wires ≤ d.size → t.body.wires ≡ d.size → All (IsFine t.body.wires) t.body.gates → us ≡ ops_of p.statements
-    → c.qubits ≡ p.wires → c.cx ≡ cx_count us → c.t ≡ t_count us → rs ≡ reads_of p.bits p.statements
-    → first ≡ identity d.size → Realises us p.wires (ops t.body.gates) d.size first t.last t.turn → FollowsEdges d.edges (ops t.body.gates)
-    → t_count (ops t.body.gates) ≡ t_count us → cx_count (ops t.body.gates) ≡ cx_count us + 3 * t.swaps
-    → IsPlanned c first rs t text line → MakesOnDevice p d text line
-MakesOnDevice-planned p d c first rs t us text line small fits wires fine e qubits cx ts g starts realises edges t_same cx_more plan = (
-  plan.written.program,
-  plan.told,
-  Makes-planned p c first rs t us text line small (omega (arith, wires, small.some, fits)) fine e qubits cx ts g (rw wires realises) t_same cx_more plan,
-  plan.written.wires ∙ wires,
-  rw plan.written.ops edges,
-  plan.numbers.initial ∙ starts,
-)
+pub Rewrites-routed : (s : Source) (t : Target) (d : Coupling) (text line : List ℕ) → Stands s.ops.wires s.ops.list t → All (IsFine t.body.wires) t.body.gates
+    → t.body.wires ≡ d.size → FollowsEdges d.edges (ops t.body.gates) → t.initial ≡ identity d.size
+    → IsPlanned s t text line → Rewrites (program_of s) (IsRouted d) text line
+Rewrites-routed s t d text line stands fine wires edges initial plan =
+    let r = plan.numbers in
+    record {
+      target = target_program s t;
+      told = plan.told;
+      made = Makes-planned s t text line stands fine plan;
+      placed = record { qubits = wires; edges = edges; initial = r.initial ∙ initial };
+    }
+
+-- ---- counts
+few_cx : (us : List Op) → cx_count us ≤ length us
+few_cx [] = omega arith
+few_cx (OpCx c t ∷ us) = let more = few_cx us in omega (arith, more)
+few_cx (U a b c q ∷ us) = let more = few_cx us in omega (arith, more)
+
+pub few_counts : (us : List Op) → length us ≤ 65536 → cx_count us < 2 ^ 64
+few_counts us few = let more = few_cx us in omega (arith, few, more)
+
+pub ruleset plans = (Rewrites-in_place, Rewrites-routed, few_counts)

@@ -1,163 +1,150 @@
 -- The causes of a run's end, and what follows of each status.
---   IsCause-read, IsCause-device, Delivers-placed, Delivers-routed, small_of   from the parts of `decide` to its contract
---   status-stop           the status of the fault that a stop is told as
---   Ends s n              a stop ends with want of memory or with its status
---   stopped-..            what follows of a status after a stop
---   planned-..            what follows where a plan was made
-use Rattle.std.proofs.Common.{◌≡◌, ◌⊎◌, inl, inr, ℕ, ◌≤◌, Bool, List, Option, Some, None, Result, Err, refl, sym, ap, ◌∙◌, arith, subst}
+--   NoRefusal, MeansOnce     laws of the reader, as they are handed in
+--   reads_all                each command reads the input
+--   IsCause-source, IsCause-device, IsCause-words   from the parts of `decide` to the cause of a stop
+--   Delivers-opt, Delivers-check, Delivers-routed   from the parts of `decide` to what is delivered
+--   stopped-..               what follows of a status after a stop
+--   planned-..               what follows where a plan was made
+use Rattle.std.proofs.Common.{◌≡◌, ◌⊎◌, inl, inr, ℕ, ◌≤◌, Bool, true, false, List, [], Option, Some, None, Result, Err, refl, sym, ap, ◌∙◌, arith, subst, is_some}
 use Rattle.outside_io.specs.Bytes.{TakesAll, Tells}
 use Rattle.outside_io.specs.Causes.{Rose}
 use Rattle.outside_io.specs.Shelf.{HasNoText, TellsText}
 use Rattle.coupling_map.specs.Coupling.{Coupling}
-use Rattle.coupling_map.specs.declared.faults.DeviceFault.TheVariants as device_fault_is
 use Rattle.unitary_model.specs.Placement.{identity}
-use Rattle.unitary_model.specs.SmallProgram.{SmallProgram, IsSmallProgram, ops_of}
-use Rattle.qroute_top.specs.Accepted.{IsAccepted, IsRefusal}
-use Rattle.qroute_top.specs.Causes.{Handed, HasRoute, IsCause, IsDeviceCause, IsReadCause, IsRefused, IsRefusedDevice, fault_of, stop_status}
-use Rattle.qroute_top.specs.Delivered.{Content, Delivers, IsAsked, IsOnDevice, MakesInPlace, MakesOnDevice}
-use Rattle.qroute_top.specs.Devices.{IsDevice, IsDeviceRefusal}
-use Rattle.qroute_top.specs.Commands.{command_of}
-use Rattle.qroute_top.specs.declared.commands.Command.{Command}
-use Rattle.qroute_top.specs.declared.commands.Command.TheVariants.{Opt, Route}
+use Rattle.gate_inline.specs.Programs.{IsAccepted, IsWritten, Program}
+use Rattle.program_reader.specs.Refusals.{IsRefusal}
+use Rattle.program_reader.specs.declared.refusal.Refusal.{Refusal}
+use Rattle.command_words.specs.Commands.{command_of}
+use Rattle.command_words.specs.Demands.{device_name, reads_input, writes_out}
+use Rattle.command_words.specs.declared.commands.Command.{Command}
+use Rattle.command_words.specs.declared.commands.Command.TheVariants.{Opt, Route, Check}
 use Rattle.route_report.specs.declared.lines.Report.{Report}
-use Rattle.route_report.specs.declared.faults.Fault.{Fault}
-use Rattle.route_report.specs.declared.faults.Fault.TheVariants as fault
-use Rattle.route_report.specs.Faults.{status_of}
+use Rattle.route_report.specs.Lines.{check_line}
+use Rattle.qroute_top.specs.Causes.{Handed, IsCause, IsDeviceCause, IsRefused, IsRefusedDevice, IsSourceCause, Reaches, Reads, stop_status}
+use Rattle.qroute_top.specs.Delivered.{Content, Delivers, IsAnswer, IsInPlace, IsOnDevice, Rewrites, counts_of}
+use Rattle.qroute_top.specs.Devices.{HasDevice, IsDevice, IsDeviceRefusal}
+use Rattle.qroute_top.specs.Plans.{IsRouted}
+use Rattle.qroute_top.specs.Stops.{IsUnasked, device_stopped, source_stopped}
 use Rattle.qroute_top.specs.declared.stops.DeviceRefusal.{DeviceRefusal}
-use Rattle.qroute_top.specs.declared.stops.DeviceRefusal.TheVariants as device
-use Rattle.qroute_top.specs.declared.stops.Refusal.{Refusal}
-use Rattle.qroute_top.specs.declared.stops.Refusal.TheVariants.{TooLong, Syntax}
+use Rattle.qroute_top.specs.declared.stops.DeviceStop.{DeviceStop}
+use Rattle.qroute_top.specs.declared.stops.DeviceStop.TheVariants as device_stop
+use Rattle.qroute_top.specs.declared.stops.SourceStop.{SourceStop}
+use Rattle.qroute_top.specs.declared.stops.SourceStop.TheVariants as source_stop
 use Rattle.qroute_top.specs.declared.stops.Stop.{Stop}
 use Rattle.qroute_top.specs.declared.stops.Stop.TheVariants as stop
-use Rattle.qroute_top.proofs.AcceptedLaws.{Tells-taken}
 use Rattle.qroute_top.proofs.DeviceLaws.{IsDevice-refused}
-use Rattle.small_reader.proofs.ListingLaws.{spelled-once}
+use Rattle.qroute_top.proofs.SourceLaws.{Tells-taken}
+use Rattle.qroute_top.proofs.StatusLaws.{Ends}
 
-pub IsCause-read : (h : Handed) (c : Command) (s : Stop) → command_of h.words ≡ Some c → IsReadCause h.input h.faults_before h.faults_after s → IsCause h s
-IsCause-read h c stop.NoMemory asked r = tt
-IsCause-read h c stop.Words asked r = absurd r
-IsCause-read h c stop.Input asked r = ((c, asked), r)
-IsCause-read h c (stop.Program e) asked r = ((c, asked), r)
-IsCause-read h c stop.Shelf asked r = absurd r
-IsCause-read h c stop.Absent asked r = absurd r
-IsCause-read h c (stop.Device e) asked r = absurd r
+abbrev pub NoRefusal : Type 0
+NoRefusal = (text : List ℕ) (p : Program) (r : Refusal) → IsAccepted text p → IsRefusal text r → ⊥
+
+abbrev pub MeansOnce : Type 0
+MeansOnce = (text : List ℕ) (p q : Program) → IsWritten text p → IsWritten text q → p ≡ q
+
+pub reads_all : (c : Command) → reads_input c ≡ true
+reads_all Opt = refl
+reads_all (Route name trivial) = refl
+reads_all Check = refl
+
+-- ---- from the parts of `decide`
+pub IsCause-words : (h : Handed) (s : Stop) → IsUnasked h.words s → IsCause h s
+IsCause-words h stop.NoMemory u = tt
+IsCause-words h stop.Words u = u
+IsCause-words h stop.Input u = absurd u
+IsCause-words h (stop.Program r) u = absurd u
+IsCause-words h stop.Shelf u = absurd u
+IsCause-words h stop.Absent u = absurd u
+IsCause-words h (stop.Device r) u = absurd u
+
+reads_of : (h : Handed) (c : Command) → command_of h.words ≡ Some c → Reads h
+reads_of h c asked = record { command = c; asked = asked; reads = reads_all c }
+
+pub IsCause-source : (h : Handed) (c : Command) (e : SourceStop) → command_of h.words ≡ Some c → IsSourceCause h.input h.faults_before h.faults_after e
+    → IsCause h (source_stopped e)
+IsCause-source h c source_stop.NoMemory asked r = tt
+IsCause-source h c source_stop.Failed asked r = (reads_of h c asked, r)
+IsCause-source h c (source_stop.Refused x) asked r = (reads_of h c asked, r)
 
 -- what was read of the input
-abbrev pub HasRead : Option (List ℕ) → Option (List ℕ) → SmallProgram → Type 0
+abbrev pub HasRead : Option (List ℕ) → Option (List ℕ) → Program → Type 0
 HasRead old new p = (t : List ℕ) × TakesAll old new t × IsAccepted t p
 
-route_of : (h : Handed) (name : List ℕ) (trivial : Bool) (new : Option (List ℕ)) (p : SmallProgram) → command_of h.words ≡ Some (Route name trivial)
-    → HasRead h.input new p → HasRoute h name
-route_of h name trivial new p asked read = record {
-  trivial = trivial;
+reaches : (h : Handed) (c : Command) (name : List ℕ) (new : Option (List ℕ)) (p : Program) → command_of h.words ≡ Some c → device_name c ≡ Some name
+    → HasRead h.input new p → Reaches h name
+reaches h c name new p asked wants read = record {
+  command = c;
   asked = asked;
+  wants = wants;
   text = read.0;
   told = Tells-taken h.input new read.0 read.1;
   source = p;
   accepted = read.2;
 }
 
-pub IsCause-device : (h : Handed) (c : Command) (name : List ℕ) (trivial : Bool) (new : Option (List ℕ)) (p : SmallProgram) (n : ℕ) (s : Stop)
-    → command_of h.words ≡ Some c → c ≡ Route name trivial → HasRead h.input new p → n ≡ p.wires
-    → IsDeviceCause (h.content name) n h.shelf_before h.shelf_after s → ((s ≡ stop.Shelf → ⊥) → h.shelf_after ≡ h.shelf_before) → IsCause h s
-unfolding route_of
-IsCause-device h c name trivial new p n stop.NoMemory asked is read e r calm = tt
-IsCause-device h c name trivial new p n stop.Words asked is read e r calm = absurd r
-IsCause-device h c name trivial new p n stop.Input asked is read e r calm = absurd r
-IsCause-device h c name trivial new p n (stop.Program x) asked is read e r calm = absurd r
-IsCause-device h c name trivial new p n stop.Shelf asked is read e r calm =
-    (name, route_of h name trivial new p (asked ∙ ap (λ x. Some x) is) read, r)
-IsCause-device h c name trivial new p n stop.Absent asked is read e r calm =
-    (name, route_of h name trivial new p (asked ∙ ap (λ x. Some x) is) read, r, calm (λ f. cc))
-IsCause-device h c name trivial new p n (stop.Device x) asked is read e r calm = (
+pub IsCause-device : (h : Handed) (c : Command) (name : List ℕ) (new : Option (List ℕ)) (p : Program) (n : ℕ) (e : DeviceStop)
+    → command_of h.words ≡ Some c → device_name c ≡ Some name → HasRead h.input new p → n ≡ p.wires
+    → IsDeviceCause (h.content name) n h.shelf_before h.shelf_after e → ((e ≡ device_stop.Failed → ⊥) → h.shelf_after ≡ h.shelf_before)
+    → IsCause h (device_stopped e)
+unfolding reaches
+IsCause-device h c name new p n device_stop.NoMemory asked wants read same r calm = tt
+IsCause-device h c name new p n device_stop.Failed asked wants read same r calm = (name, reaches h c name new p asked wants read, r)
+IsCause-device h c name new p n device_stop.Absent asked wants read same r calm = (name, reaches h c name new p asked wants read, r, calm (λ f. cc))
+IsCause-device h c name new p n (device_stop.Refused x) asked wants read same r calm = (
   name,
-  route_of h name trivial new p (asked ∙ ap (λ y. Some y) is) read,
-  subst (λ (m : ℕ). IsRefusedDevice (h.content name) m x) e r,
+  reaches h c name new p asked wants read,
+  subst (λ (m : ℕ). IsRefusedDevice (h.content name) m x) same r,
   calm (λ f. cc),
 )
 
-pub Delivers-placed : (words : List (List ℕ)) (content : Content) (c : Command) (old new : Option (List ℕ)) (p : SmallProgram) (text line : List ℕ)
-    → command_of words ≡ Some c → c ≡ Opt → HasRead old new p → MakesInPlace p text line → Delivers words content old new text line
-Delivers-placed words content c old new p text line asked is read made = record {
-  command = Opt;
-  asked = asked ∙ ap (λ x. Some x) is;
+-- a name by which a command loads a device, as the code has it
+pub wants_of : (c : Command) (name : List ℕ) (trivial : Bool) → c ≡ Route name trivial → device_name c ≡ Some name
+wants_of c name trivial is = ap device_name is
+
+delivers : (words : List (List ℕ)) (content : Content) (c : Command) (old new : Option (List ℕ)) (p : Program) (text line : List ℕ)
+    → command_of words ≡ Some c → HasRead old new p → IsAnswer content c p text line → Delivers words content old new text line
+delivers words content c old new p text line asked read answer = record {
+  command = c;
+  asked = asked;
   source_text = read.0;
   consumed = read.1;
   source = p;
   accepted = read.2;
-  target = made.0;
-  told = made.1;
-  made = made.2;
-  placed = made.3;
+  answer = answer;
 }
 
-ap_identity : (n m : ℕ) → n ≡ m → identity n ≡ identity m
-ap_identity n m e = ap identity e
+pub Delivers-opt : (words : List (List ℕ)) (content : Content) (c : Command) (old new : Option (List ℕ)) (p : Program) (text line : List ℕ)
+    → command_of words ≡ Some c → c ≡ Opt → HasRead old new p → Rewrites p (IsInPlace p) text line → Delivers words content old new text line
+Delivers-opt words content c old new p text line asked is read made =
+    delivers words content Opt old new p text line (asked ∙ ap (λ x. Some x) is) read made
 
-pub Delivers-routed : (words : List (List ℕ)) (content : Content) (c : Command) (name : List ℕ) (trivial : Bool) (old new : Option (List ℕ)) (p : SmallProgram)
+pub Delivers-check : (words : List (List ℕ)) (content : Content) (c : Command) (old new : Option (List ℕ)) (p : Program) (text line : List ℕ)
+    → command_of words ≡ Some c → c ≡ Check → HasRead old new p → text ≡ [] → line ≡ check_line (counts_of p) → Delivers words content old new text line
+Delivers-check words content c old new p text line asked is read none told =
+    delivers words content Check old new p text line (asked ∙ ap (λ x. Some x) is) read (none, told)
+
+pub Delivers-routed : (words : List (List ℕ)) (content : Content) (c : Command) (name : List ℕ) (trivial : Bool) (old new : Option (List ℕ)) (p : Program)
     (d : Coupling) (n : ℕ) (text line : List ℕ)
     → command_of words ≡ Some c → c ≡ Route name trivial → HasRead old new p
     → (t : List ℕ) × TellsText (content name) t × IsDevice t d × (n ≤ d.size)
-    → MakesOnDevice p d text line → Delivers words content old new text line
-Delivers-routed words content c name trivial old new p d n text line asked is read loaded made = record {
-  command = Route name trivial;
-  asked = asked ∙ ap (λ x. Some x) is;
-  source_text = read.0;
-  consumed = read.1;
-  source = p;
-  accepted = read.2;
-  target = made.0;
-  told = made.1;
-  made = made.2;
-  placed = record {
-    device_text = loaded.0;
-    loaded = loaded.1;
-    device = d;
-    described = loaded.2;
-    qubits = made.3;
-    edges = made.4;
-    placed = λ e. made.5 ∙ sym (ap_identity made.0.wires d.size made.3);
-  };
-}
-
-pub small_of : (old new : Option (List ℕ)) (p : SmallProgram) → HasRead old new p → IsSmallProgram p
-small_of old new p read = read.2.spelt.small
-
-pub ruleset decided = (IsCause-read, small_of)
+    → Rewrites p (IsRouted d) text line → Delivers words content old new text line
+Delivers-routed words content c name trivial old new p d n text line asked is read loaded made =
+    delivers words content (Route name trivial) old new p text line (asked ∙ ap (λ x. Some x) is) read (record {
+      target = made.target;
+      told = made.told;
+      made = made.made;
+      placed = record {
+        device_text = loaded.0;
+        loaded = loaded.1;
+        device = d;
+        described = loaded.2;
+        qubits = made.placed.qubits;
+        edges = made.placed.edges;
+        placed = λ e. made.placed.initial ∙ sym (ap identity made.placed.qubits);
+      };
+    })
 
 -- ---- the status of a stop
-pub status-stop : (s : Stop) (f : Fault) (n : ℕ) → fault_of s ≡ Some f → n ≡ status_of f → n ≡ stop_status s
-status-stop stop.NoMemory f n e is = cc
-status-stop stop.Words f n e is = let same : f ≡ fault.Words = cc in rw (is, same) refl
-status-stop stop.Input f n e is = let same : f ≡ fault.Input = cc in rw (is, same) refl
-status-stop stop.Shelf f n e is = let same : f ≡ fault.Shelf = cc in rw (is, same) refl
-status-stop stop.Absent f n e is = let same : f ≡ fault.Absent = cc in rw (is, same) refl
-status-stop (stop.Program TooLong) f n e is = let same : f ≡ fault.Plain 60 = cc in rw (is, same) refl
-status-stop (stop.Program (Syntax place)) f n e is = let same : f ≡ fault.Place 12 place = cc in rw (is, same) refl
-status-stop (stop.Device device.TooLong) f n e is = let same : f ≡ fault.Plain 55 = cc in rw (is, same) refl
-status-stop (stop.Device (device.Fault device_fault_is.Text)) f n e is = let same : f ≡ fault.Plain 50 = cc in rw (is, same) refl
-status-stop (stop.Device (device.Fault device_fault_is.Shape)) f n e is = let same : f ≡ fault.Plain 51 = cc in rw (is, same) refl
-status-stop (stop.Device (device.Fault device_fault_is.Range)) f n e is = let same : f ≡ fault.Plain 52 = cc in rw (is, same) refl
-status-stop (stop.Device (device.Fault (device_fault_is.SelfEdge q))) f n e is = let same : f ≡ fault.SelfEdge q = cc in rw (is, same) refl
-status-stop (stop.Device (device.Fault (device_fault_is.NotConnected from to))) f n e is = let same : f ≡ fault.NotConnected from to = cc in rw (is, same) refl
-status-stop (stop.Device (device.TooFewQubits size qubits)) f n e is = let same : f ≡ fault.TooFewQubits size qubits = cc in rw (is, same) refl
-
-pub ruleset told = (status-stop)
-
--- one of these statuses, as a number
-abbrev pub Ends : Stop → ℕ → Type 0
-Ends s n = (n ≡ 7) ⊎ (n ≡ stop_status s)
-
-pub not_late : (s : Stop) (n : ℕ) → Ends s n → (n ≡ 0) ⊎ ((n ≡ 6) ⊎ (n ≡ 8)) → ⊥
-not_late stop.NoMemory n e late = grind arith
-not_late stop.Words n e late = grind arith
-not_late stop.Input n e late = grind arith
-not_late (stop.Program r) n e late = grind arith
-not_late stop.Shelf n e late = grind arith
-not_late stop.Absent n e late = grind arith
-not_late (stop.Device r) n e late = grind arith
-
--- ---- after a stop
 pub stopped-no_command : (h : Handed) (s : Stop) (n : ℕ) → IsCause h s → Ends s n → n ≡ 2 → command_of h.words ≡ None
 stopped-no_command h stop.NoMemory n c e two = absurd (grind arith)
 stopped-no_command h stop.Words n c e two = c
@@ -170,8 +157,8 @@ stopped-no_command h (stop.Device r) n c e two = absurd (grind arith)
 pub stopped-words : (h : Handed) (s : Stop) (n : ℕ) → IsCause h s → Ends s n → command_of h.words ≡ None → (n ≡ 2) ⊎ (n ≡ 7)
 stopped-words h stop.NoMemory n c e none = inr (grind arith)
 stopped-words h stop.Words n c e none = grind arith
-stopped-words h stop.Input n c e none = let asked = c.0.1 in cc
-stopped-words h (stop.Program r) n c e none = let asked = c.0.1 in cc
+stopped-words h stop.Input n c e none = let asked = c.0.asked in cc
+stopped-words h (stop.Program r) n c e none = let asked = c.0.asked in cc
 stopped-words h stop.Shelf n c e none = let asked = c.1.asked in cc
 stopped-words h stop.Absent n c e none = let asked = c.1.asked in cc
 stopped-words h (stop.Device r) n c e none = let asked = c.1.asked in cc
@@ -185,49 +172,50 @@ stopped-input h stop.Shelf n c e five = absurd (grind arith)
 stopped-input h stop.Absent n c e five = absurd (grind arith)
 stopped-input h (stop.Device r) n c e five = absurd (grind arith)
 
+-- ---- texts that are told
 told_text : (input : Option (List ℕ)) (t text : List ℕ) → input ≡ Some t → Tells input text → text ≡ t
 told_text None t text e h = cc
 told_text (Some x) t text e h = cc
 
--- a text that is accepted has no refusal
-pub accepted_or_refused : (text : List ℕ) (p : SmallProgram) (r : Refusal) → IsAccepted text p → IsRefusal text r → ⊥
-accepted_or_refused text p TooLong a r = omega (arith, a.short)
-accepted_or_refused text p (Syntax place) a r = r.no_program p a
-
-refused_or_accepted : (input : Option (List ℕ)) (t : List ℕ) (p : SmallProgram) (r : Refusal) → input ≡ Some t → IsAccepted t p → IsRefused input r → ⊥
-refused_or_accepted input t p r e a (text, tells, refusal) =
+refused_or_accepted : NoRefusal → (input : Option (List ℕ)) (t : List ℕ) (p : Program) (r : Refusal) → input ≡ Some t → IsAccepted t p → IsRefused input r → ⊥
+refused_or_accepted law input t p r e a (text, tells, refusal) =
     let same = told_text input t text e tells in
-    accepted_or_refused t p r a (rw same at refusal)
+    law t p r a (rw same at refusal)
 
--- the input of a route isn't refused
-routed_or_refused : (h : Handed) (name t : List ℕ) (r : Refusal) → HasRoute h name → h.input ≡ Some t → IsRefusal t r → ⊥
-routed_or_refused h name t r route e refusal =
+-- a program that is reached isn't refused
+reached_or_refused : NoRefusal → (h : Handed) (name t : List ℕ) (r : Refusal) → Reaches h name → h.input ≡ Some t → IsRefusal t r → ⊥
+reached_or_refused law h name t r route e refusal =
     let same = told_text h.input t route.text e route.told in
     let ok : IsAccepted t route.source = rw same at route.accepted in
-    accepted_or_refused t route.source r ok refusal
+    law t route.source r ok refusal
 
-pub stopped-refuses : (h : Handed) (s : Stop) (n : ℕ) (a : Command) (t : List ℕ) (r : Refusal) → IsCause h s → Ends s n → command_of h.words ≡ Some a
+pub stopped-refuses : NoRefusal → (h : Handed) (s : Stop) (n : ℕ) (a : Command) (t : List ℕ) (r : Refusal) → IsCause h s → Ends s n → command_of h.words ≡ Some a
     → h.input ≡ Some t → IsRefusal t r → (Rose h.faults_before h.faults_after → ⊥) → (n ≡ 3) ⊎ (n ≡ 7)
-stopped-refuses h stop.NoMemory n a t r c e asked told is calm = inr (grind arith)
-stopped-refuses h stop.Words n a t r c e asked told is calm = cc
-stopped-refuses h stop.Input n a t r c e asked told is calm = absurd (calm c.1)
-stopped-refuses h (stop.Program x) n a t r c e asked told is calm = grind arith
-stopped-refuses h stop.Shelf n a t r c e asked told is calm = absurd (routed_or_refused h c.0 t r c.1 told is)
-stopped-refuses h stop.Absent n a t r c e asked told is calm = absurd (routed_or_refused h c.0 t r c.1 told is)
-stopped-refuses h (stop.Device x) n a t r c e asked told is calm = absurd (routed_or_refused h c.0 t r c.1 told is)
+stopped-refuses law h stop.NoMemory n a t r c e asked told is calm = inr (grind arith)
+stopped-refuses law h stop.Words n a t r c e asked told is calm = cc
+stopped-refuses law h stop.Input n a t r c e asked told is calm = absurd (calm c.1)
+stopped-refuses law h (stop.Program x) n a t r c e asked told is calm = grind arith
+stopped-refuses law h stop.Shelf n a t r c e asked told is calm = absurd (reached_or_refused law h c.0 t r c.1 told is)
+stopped-refuses law h stop.Absent n a t r c e asked told is calm = absurd (reached_or_refused law h c.0 t r c.1 told is)
+stopped-refuses law h (stop.Device x) n a t r c e asked told is calm = absurd (reached_or_refused law h c.0 t r c.1 told is)
 
 -- ---- the device that is asked for
-same_name : (name other : List ℕ) (t u : Bool) (o : Option Command) → o ≡ Some (Route name t) → o ≡ Some (Route other u) → name ≡ other
-same_name name other t u o e f = cc
+written_of : (text : List ℕ) (p : Program) → IsAccepted text p → IsWritten text p
+written_of text p a = (a.tree, a.source, a.means)
 
-no_route : (name : List ℕ) (t : Bool) (o : Option Command) → o ≡ Some Opt → o ≡ Some (Route name t) → ⊥
-no_route name t o e f = cc
+same_name : (h : Handed) (name : List ℕ) (c : Command) → (route : Reaches h name) → command_of h.words ≡ Some c → device_name c ≡ Some name
+same_name h name c route asked =
+    let same : route.command ≡ c = some_same route.command c (sym route.asked ∙ asked) in
+    subst (λ x. device_name x ≡ Some name) same route.wants
+  where
+    some_same : (x y : Command) → Some x ≡ Some y → x ≡ y
+    some_same x y e = cc
 
-same_source : (h : Handed) (name t : List ℕ) (p : SmallProgram) (route : HasRoute h name) → h.input ≡ Some t → IsAccepted t p → route.source ≡ p
-same_source h name t p route e a =
+same_source : MeansOnce → (h : Handed) (name t : List ℕ) (p : Program) (route : Reaches h name) → h.input ≡ Some t → IsAccepted t p → route.source ≡ p
+same_source once h name t p route e a =
     let same = told_text h.input t route.text e route.told in
     let ok : IsAccepted t route.source = rw same at route.accepted in
-    spelled-once t route.source p ok.spelt a.spelt
+    once t route.source p (written_of t route.source ok) (written_of t p a)
 
 absent_or_told : (o : Option (Option (List ℕ))) (t : List ℕ) → o ≡ Some (Some t) → HasNoText o → ⊥
 absent_or_told None t e h = cc
@@ -241,57 +229,55 @@ absent_text : (o : Option (Option (List ℕ))) (u : List ℕ) → o ≡ Some Non
 absent_text None u e h = cc
 absent_text (Some x) u e h = cc
 
--- `opt` ends well on an accepted input
-pub stopped-opt : (h : Handed) (s : Stop) (n : ℕ) (text : List ℕ) (p : SmallProgram) → IsCause h s → Ends s n
-    → command_of h.words ≡ Some Opt → h.input ≡ Some text → IsAccepted text p → (Rose h.faults_before h.faults_after → ⊥) → (n ≡ 0) ⊎ (n ≡ 7)
-stopped-opt h stop.NoMemory n text p c e asked told ok calm = inr (grind arith)
-stopped-opt h stop.Words n text p c e asked told ok calm = cc
-stopped-opt h stop.Input n text p c e asked told ok calm = absurd (calm c.1)
-stopped-opt h (stop.Program r) n text p c e asked told ok calm = absurd (refused_or_accepted h.input text p r told ok c.1)
-stopped-opt h stop.Shelf n text p c e asked told ok calm = absurd (no_route c.0 c.1.trivial (command_of h.words) asked c.1.asked)
-stopped-opt h stop.Absent n text p c e asked told ok calm = absurd (no_route c.0 c.1.trivial (command_of h.words) asked c.1.asked)
-stopped-opt h (stop.Device r) n text p c e asked told ok calm = absurd (no_route c.0 c.1.trivial (command_of h.words) asked c.1.asked)
+same_device : (name other : List ℕ) (o : Option (List ℕ)) → o ≡ Some name → o ≡ Some other → name ≡ other
+same_device name other o e f = cc
 
--- what is asked of a route: its words, its input, and counts that didn't rise
-pub record IsAskedRoute (h : Handed) (name : List ℕ) (p : SmallProgram) : Type 0 where
-  pub trivial : Bool
-  pub asked : command_of h.words ≡ Some (Route name trivial)
+-- what is asked of a command: its words, its input, and counts that didn't rise
+pub record IsAsked (h : Handed) (c : Command) (p : Program) : Type 0 where
+  pub asked : command_of h.words ≡ Some c
   pub text : List ℕ
   pub told : h.input ≡ Some text
   pub accepted : IsAccepted text p
   pub calm : Rose h.faults_before h.faults_after → ⊥
-  pub shelf_calm : Rose h.shelf_before h.shelf_after → ⊥
+  pub shelf_calm : is_some (device_name c) ≡ true → Rose h.shelf_before h.shelf_after → ⊥
 
-pub asked_route : (h : Handed) (name : List ℕ) (trivial : Bool) (text : List ℕ) (p : SmallProgram) → command_of h.words ≡ Some (Route name trivial)
-    → h.input ≡ Some text → IsAccepted text p → (Rose h.faults_before h.faults_after → ⊥) → (Rose h.shelf_before h.shelf_after → ⊥) → IsAskedRoute h name p
-asked_route h name trivial text p asked told ok calm shelf_calm =
-    record { trivial = trivial; asked = asked; text = text; told = told; accepted = ok; calm = calm; shelf_calm = shelf_calm }
+pub asked_of : (h : Handed) (c : Command) (text : List ℕ) (p : Program) → command_of h.words ≡ Some c
+    → h.input ≡ Some text → IsAccepted text p → (Rose h.faults_before h.faults_after → ⊥)
+    → (is_some (device_name c) ≡ true → Rose h.shelf_before h.shelf_after → ⊥) → IsAsked h c p
+asked_of h c text p asked told ok calm shelf_calm =
+    record { asked = asked; text = text; told = told; accepted = ok; calm = calm; shelf_calm = shelf_calm }
+
+wanted : (o : Option (List ℕ)) (name : List ℕ) → o ≡ Some name → is_some o ≡ true
+wanted None name e = cc
+wanted (Some x) name e = refl
 
 -- a stop that isn't for the device is want of memory
-stopped_early : (h : Handed) (s : Stop) (n : ℕ) (name : List ℕ) (p : SmallProgram) → IsCause h s → Ends s n → IsAskedRoute h name p
+stopped_early : NoRefusal → (h : Handed) (s : Stop) (n : ℕ) (c : Command) (p : Program) → IsCause h s → Ends s n → IsAsked h c p
     → (s ≡ stop.Absent → ⊥) → ((r : DeviceRefusal) → s ≡ stop.Device r → ⊥) → n ≡ 7
-stopped_early h stop.NoMemory n name p c e a absent refused = grind arith
-stopped_early h stop.Words n name p c e a absent refused = let asked = a.asked in cc
-stopped_early h stop.Input n name p c e a absent refused = absurd (a.calm c.1)
-stopped_early h (stop.Program r) n name p c e a absent refused = absurd (refused_or_accepted h.input a.text p r a.told a.accepted c.1)
-stopped_early h stop.Shelf n name p c e a absent refused = absurd (a.shelf_calm c.2)
-stopped_early h stop.Absent n name p c e a absent refused = absurd (absent refl)
-stopped_early h (stop.Device r) n name p c e a absent refused = absurd (refused r refl)
+stopped_early law h stop.NoMemory n c p w e a absent refused = grind arith
+stopped_early law h stop.Words n c p w e a absent refused = let asked = a.asked in cc
+stopped_early law h stop.Input n c p w e a absent refused = absurd (a.calm w.1)
+stopped_early law h (stop.Program r) n c p w e a absent refused = absurd (refused_or_accepted law h.input a.text p r a.told a.accepted w.1)
+stopped_early law h stop.Shelf n c p w e a absent refused =
+    absurd (a.shelf_calm (wanted (device_name c) w.0 (same_name h w.0 c w.1 a.asked)) w.2)
+stopped_early law h stop.Absent n c p w e a absent refused = absurd (absent refl)
+stopped_early law h (stop.Device r) n c p w e a absent refused = absurd (refused r refl)
 
 -- the text of the device that is asked for
-told_device : (h : Handed) (name t : List ℕ) (p : SmallProgram) (r : DeviceRefusal) → IsCause h (stop.Device r) → IsAskedRoute h name p
-    → h.content name ≡ Some (Some t) → IsDeviceRefusal t p.wires r
-told_device h name t p r (other, route, (u, tells, refusal), calm) a here =
-    let names = same_name name other a.trivial route.trivial (command_of h.words) a.asked route.asked in
+told_device : MeansOnce → (h : Handed) (c : Command) (name t : List ℕ) (p : Program) (r : DeviceRefusal) → IsCause h (stop.Device r) → IsAsked h c p
+    → device_name c ≡ Some name → h.content name ≡ Some (Some t) → IsDeviceRefusal t p.wires r
+told_device once h c name t p r (other, route, (u, tells, refusal), calm) a wants here =
+    let names = same_device name other (device_name c) wants (same_name h other c route a.asked) in
     let there : h.content other ≡ Some (Some t) = rw (← names) here in
     let same = device_text (h.content other) t u there tells in
-    let source = same_source h other a.text p route a.told a.accepted in
+    let source = same_source once h other a.text p route a.told a.accepted in
     let refused : IsDeviceRefusal t route.source.wires r = rw same at refusal in
-    subst (λ (q : SmallProgram). IsDeviceRefusal t q.wires r) source refused
+    subst (λ (q : Program). IsDeviceRefusal t q.wires r) source refused
 
-told_absent : (h : Handed) (name t : List ℕ) (p : SmallProgram) → IsCause h stop.Absent → IsAskedRoute h name p → h.content name ≡ Some (Some t) → ⊥
-told_absent h name t p (other, route, none, calm) a here =
-    let names = same_name name other a.trivial route.trivial (command_of h.words) a.asked route.asked in
+told_absent : (h : Handed) (c : Command) (name t : List ℕ) (p : Program) → IsCause h stop.Absent → IsAsked h c p → device_name c ≡ Some name
+    → h.content name ≡ Some (Some t) → ⊥
+told_absent h c name t p (other, route, none, calm) a wants here =
+    let names = same_device name other (device_name c) wants (same_name h other c route a.asked) in
     absent_or_told (h.content other) t (rw (← names) here) none
 
 by_stop : (s : Stop) → (s ≡ stop.Absent) ⊎ (((r : DeviceRefusal) × (s ≡ stop.Device r)) ⊎ ((s ≡ stop.Absent → ⊥) × ((r : DeviceRefusal) → s ≡ stop.Device r → ⊥)))
@@ -303,25 +289,49 @@ by_stop stop.Input = inr (inr ((λ e. cc), (λ r e. cc)))
 by_stop stop.Shelf = inr (inr ((λ e. cc), (λ r e. cc)))
 by_stop (stop.Program x) = inr (inr ((λ e. cc), (λ r e. cc)))
 
--- a route on a device that is described, with a qubit for each wire
-pub stopped-route : (h : Handed) (s : Stop) (n : ℕ) (name t : List ℕ) (p : SmallProgram) (d : Coupling) → IsCause h s → Ends s n → IsAskedRoute h name p
-    → h.content name ≡ Some (Some t) → IsDevice t d → p.wires ≤ d.size → (n ≡ 0) ⊎ (n ≡ 7)
-stopped-route h s n name t p d c e a here is fits = elim (by_stop s) [
-  | inl absent ↦ absurd (told_absent h name t p (subst (IsCause h) absent c) a here)
+-- the name of a device that a stop speaks of is one that the command wants
+absent_wants : (h : Handed) (c : Command) (p : Program) → IsCause h stop.Absent → IsAsked h c p → (name : List ℕ) × (device_name c ≡ Some name)
+absent_wants h c p (name, route, none, calm) a = (name, same_name h name c route a.asked)
+
+device_wants : (h : Handed) (c : Command) (p : Program) (r : DeviceRefusal) → IsCause h (stop.Device r) → IsAsked h c p → (name : List ℕ) × (device_name c ≡ Some name)
+device_wants h c p r (name, route, refused, calm) a = (name, same_name h name c route a.asked)
+
+has_device : (content : Content) (o : Option (List ℕ)) (name : List ℕ) (n : ℕ) → HasDevice content o n → o ≡ Some name
+    → (text : List ℕ) × (d : Coupling) × (content name ≡ Some (Some text)) × IsDevice text d × (n ≤ d.size)
+has_device content None name n has e = cc
+has_device content (Some other) name n has e = let same : other ≡ name = cc in subst (λ x. HasDevice content (Some x) n) same has
+
+-- a command whose input is accepted and whose device, if it wants one, has room
+pub stopped-complete : NoRefusal → MeansOnce → (h : Handed) (s : Stop) (n : ℕ) (c : Command) (p : Program) → IsCause h s → Ends s n → IsAsked h c p
+    → HasDevice h.content (device_name c) p.wires → (n ≡ 0) ⊎ (n ≡ 7)
+stopped-complete law once h s n c p w e a has = elim (by_stop s) [
+  | inl absent ↦ absurd (not_absent (subst (IsCause h) absent w))
   | inr others ↦ elim others [
-    | inl refused ↦ absurd (IsDevice-refused t d p.wires refused.0 is fits (told_device h name t p refused.0 (subst (IsCause h) refused.1 c) a here))
-    | inr early ↦ inr (stopped_early h s n name p c e a early.0 early.1)
+    | inl refused ↦ absurd (not_refused refused.0 (subst (IsCause h) refused.1 w))
+    | inr early ↦ inr (stopped_early law h s n c p w e a early.0 early.1)
   ]
 ]
+  where
+    not_absent : IsCause h stop.Absent → ⊥
+    not_absent x =
+        let wants = absent_wants h c p x a in
+        let device = has_device h.content (device_name c) wants.0 p.wires has wants.1 in
+        told_absent h c wants.0 device.0 p x a wants.1 device.2
 
--- a route on a device whose text is refused
-pub stopped-refuses_device : (h : Handed) (s : Stop) (n : ℕ) (name t : List ℕ) (p : SmallProgram) → IsCause h s → Ends s n → IsAskedRoute h name p
-    → h.content name ≡ Some (Some t) → (n ≡ 4) ⊎ (n ≡ 7)
-stopped-refuses_device h s n name t p c e a here = elim (by_stop s) [
-  | inl absent ↦ absurd (told_absent h name t p (subst (IsCause h) absent c) a here)
+    not_refused : (r : DeviceRefusal) → IsCause h (stop.Device r) → ⊥
+    not_refused r x =
+        let wants = device_wants h c p r x a in
+        let device = has_device h.content (device_name c) wants.0 p.wires has wants.1 in
+        IsDevice-refused device.0 device.1 p.wires r device.3 device.4 (told_device once h c wants.0 device.0 p r x a wants.1 device.2)
+
+-- a command on a device whose text is refused
+pub stopped-refuses_device : NoRefusal → (h : Handed) (s : Stop) (n : ℕ) (c : Command) (name t : List ℕ) (p : Program) → IsCause h s → Ends s n → IsAsked h c p
+    → device_name c ≡ Some name → h.content name ≡ Some (Some t) → (n ≡ 4) ⊎ (n ≡ 7)
+stopped-refuses_device law h s n c name t p w e a wants here = elim (by_stop s) [
+  | inl absent ↦ absurd (told_absent h c name t p (subst (IsCause h) absent w) a wants here)
   | inr others ↦ elim others [
     | inl refused ↦ four n refused.0 (subst (λ x. Ends x n) refused.1 e)
-    | inr early ↦ inr (stopped_early h s n name p c e a early.0 early.1)
+    | inr early ↦ inr (stopped_early law h s n c p w e a early.0 early.1)
   ]
 ]
   where
@@ -329,14 +339,14 @@ stopped-refuses_device h s n name t p c e a here = elim (by_stop s) [
     four m r (inl x) = inr x
     four m r (inr x) = inl x
 
--- a route on a device of which the shelf has no text
-pub stopped-absent : (h : Handed) (s : Stop) (n : ℕ) (name : List ℕ) (p : SmallProgram) → IsCause h s → Ends s n → IsAskedRoute h name p
-    → h.content name ≡ Some None → (n ≡ 9) ⊎ (n ≡ 7)
-stopped-absent h s n name p c e a here = elim (by_stop s) [
+-- a command on a device of which the shelf has no text
+pub stopped-absent : NoRefusal → (h : Handed) (s : Stop) (n : ℕ) (c : Command) (name : List ℕ) (p : Program) → IsCause h s → Ends s n → IsAsked h c p
+    → device_name c ≡ Some name → h.content name ≡ Some None → (n ≡ 9) ⊎ (n ≡ 7)
+stopped-absent law h s n c name p w e a wants here = elim (by_stop s) [
   | inl absent ↦ nine n (subst (λ x. Ends x n) absent e)
   | inr others ↦ elim others [
-    | inl refused ↦ absurd (no_text refused.0 (subst (IsCause h) refused.1 c))
-    | inr early ↦ inr (stopped_early h s n name p c e a early.0 early.1)
+    | inl refused ↦ absurd (no_text refused.0 (subst (IsCause h) refused.1 w))
+    | inr early ↦ inr (stopped_early law h s n c p w e a early.0 early.1)
   ]
 ]
   where
@@ -346,45 +356,56 @@ stopped-absent h s n name p c e a here = elim (by_stop s) [
 
     no_text : (r : DeviceRefusal) → IsCause h (stop.Device r) → ⊥
     no_text r (other, route, (u, tells, refusal), calm) =
-        let names = same_name name other a.trivial route.trivial (command_of h.words) a.asked route.asked in
+        let names = same_device name other (device_name c) wants (same_name h other c route a.asked) in
         let there : h.content other ≡ Some None = rw (← names) here in
         absent_text (h.content other) u there tells
 
 -- ---- after a plan
-pub planned-refuses : (words : List (List ℕ)) (content : Content) (old new : Option (List ℕ)) (x l text : List ℕ) (r : Refusal) → Delivers words content old new x l
-    → old ≡ Some text → IsRefusal text r → ⊥
-planned-refuses words content old new x l text r d told refusal =
+pub planned-refuses : NoRefusal → (words : List (List ℕ)) (content : Content) (old new : Option (List ℕ)) (x l text : List ℕ) (r : Refusal)
+    → Delivers words content old new x l → old ≡ Some text → IsRefusal text r → ⊥
+planned-refuses law words content old new x l text r d told refusal =
     let same = told_text old text d.source_text told (Tells-taken old new d.source_text d.consumed) in
     let ok : IsAccepted text d.source = rw same at d.accepted in
-    accepted_or_refused text d.source r ok refusal
+    law text d.source r ok refusal
 
--- a plan for `route` comes of the text of its device
-planned_on : (content : Content) (name : List ℕ) (trivial : Bool) (c : Command) (words : List (List ℕ)) (source target : SmallProgram) (told : Report)
-    → command_of words ≡ Some c → command_of words ≡ Some (Route name trivial) → IsAsked content c source target told
-    → IsOnDevice content name trivial (ops_of target.statements) target.wires told
-planned_on content name trivial c words source target told asked is placed =
-    let same : c ≡ Route name trivial = cc in
-    subst (λ x. IsAsked content x source target told) same placed
+-- a plan for a command that loads a device comes of the text of its device
+answer_on : (content : Content) (name : List ℕ) (c : Command) (source : Program) (x l : List ℕ) → device_name c ≡ Some name → IsAnswer content c source x l
+    → (trivial : Bool) × Rewrites source (IsOnDevice content name trivial) x l
+answer_on content name Opt source x l wants answer = cc
+answer_on content name (Route other trivial) source x l wants answer =
+    let same : other ≡ name = cc in (trivial, subst (λ y. Rewrites source (IsOnDevice content y trivial) x l) same answer)
+answer_on content name Check source x l wants answer = cc
 
-pub planned-absent : (words : List (List ℕ)) (content : Content) (old new : Option (List ℕ)) (x l name : List ℕ) (trivial : Bool) → Delivers words content old new x l
-    → command_of words ≡ Some (Route name trivial) → content name ≡ Some None → ⊥
-planned-absent words content old new x l name trivial d is none =
-    let on = planned_on content name trivial d.command words d.source d.target d.told d.asked is d.placed in
-    absent_text (content name) on.device_text none on.loaded
+planned_on : (words : List (List ℕ)) (content : Content) (old new : Option (List ℕ)) (x l name : List ℕ) (c : Command) (d : Delivers words content old new x l)
+    → command_of words ≡ Some c → device_name c ≡ Some name → (trivial : Bool) × Rewrites d.source (IsOnDevice content name trivial) x l
+planned_on words content old new x l name c d asked wants =
+    let same : c ≡ d.command = some_same c d.command (sym asked ∙ d.asked) in
+    answer_on content name d.command d.source x l (subst (λ y. device_name y ≡ Some name) same wants) d.answer
+  where
+    some_same : (a b : Command) → Some a ≡ Some b → a ≡ b
+    some_same a b e = cc
 
-pub planned-refuses_device : (words : List (List ℕ)) (content : Content) (old new : Option (List ℕ)) (x l name : List ℕ) (trivial : Bool) (text t : List ℕ) (p : SmallProgram)
-    (r : DeviceRefusal) → Delivers words content old new x l → command_of words ≡ Some (Route name trivial) → old ≡ Some text → IsAccepted text p
-    → content name ≡ Some (Some t) → IsDeviceRefusal t p.wires r → ⊥
-planned-refuses_device words content old new x l name trivial text t p r d is told ok here refusal =
-    let on = planned_on content name trivial d.command words d.source d.target d.told d.asked is d.placed in
-    let same = device_text (content name) t on.device_text here on.loaded in
-    let described : IsDevice t on.device = rw same at on.described in
+pub planned-absent : (words : List (List ℕ)) (content : Content) (old new : Option (List ℕ)) (x l name : List ℕ) (c : Command) → Delivers words content old new x l
+    → command_of words ≡ Some c → device_name c ≡ Some name → content name ≡ Some None → ⊥
+planned-absent words content old new x l name c d asked wants none =
+    let on = planned_on words content old new x l name c d asked wants in
+    absent_text (content name) on.1.placed.device_text none on.1.placed.loaded
+
+pub planned-refuses_device : MeansOnce → (words : List (List ℕ)) (content : Content) (old new : Option (List ℕ)) (x l name : List ℕ) (c : Command) (text t : List ℕ)
+    (p : Program) (r : DeviceRefusal) → Delivers words content old new x l → command_of words ≡ Some c → device_name c ≡ Some name → old ≡ Some text
+    → IsAccepted text p → content name ≡ Some (Some t) → IsDeviceRefusal t p.wires r → ⊥
+planned-refuses_device once words content old new x l name c text t p r d asked wants told ok here refusal =
+    let on = planned_on words content old new x l name c d asked wants in
+    let placed = on.1.placed in
+    let same = device_text (content name) t placed.device_text here placed.loaded in
+    let described : IsDevice t placed.device = rw same at placed.described in
     let texts = told_text old text d.source_text told (Tells-taken old new d.source_text d.consumed) in
     let accepted : IsAccepted text d.source = rw texts at d.accepted in
-    let source = spelled-once text d.source p accepted.spelt ok.spelt in
-    let fits : d.source.wires ≤ on.device.size = rw (← on.qubits) d.made.unitary.fits in
-    IsDevice-refused t on.device p.wires r described (subst (λ (q : SmallProgram). q.wires ≤ on.device.size) source fits) refusal
+    let source = once text d.source p (written_of text d.source accepted) (written_of text p ok) in
+    let fits : d.source.wires ≤ placed.device.size = rw (← placed.qubits) on.1.made.unitary.fits in
+    IsDevice-refused t placed.device p.wires r described (subst (λ (q : Program). q.wires ≤ placed.device.size) source fits) refusal
 
+-- ---- stops by their statuses
 pub same_stop : {T : Type 0} (r : Result T Stop) (s t : Stop) → r ≡ Err s → r ≡ Err t → s ≡ t
 same_stop r s t e f = cc
 
@@ -405,3 +426,5 @@ stopped-two (stop.Program r) n e two = absurd (grind arith)
 stopped-two stop.Shelf n e two = absurd (grind arith)
 stopped-two stop.Absent n e two = absurd (grind arith)
 stopped-two (stop.Device r) n e two = absurd (grind arith)
+
+pub ruleset decided = (IsCause-words, IsCause-source)

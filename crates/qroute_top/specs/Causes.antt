@@ -1,38 +1,41 @@
 -- Why a run ends before its first byte goes out.
 --   Handed                what the program is handed, and its counts of faults at the entry and at the return
---   HasCommand h          the words mean a command
---   HasRoute h name       they mean `route` on a device of this name, and the input has a text that is accepted
+--   Reads h               the words mean a command that reads the input
+--   Reaches h name        they mean a command that loads the device of this name, and the program that it works on is accepted
 --   IsRefused input r     the input has a text, the told one where one is told, and r is its first refusal
---   IsRefusedDevice ..    the same of the text of a device
+--   IsRefusedDevice ..    the same of the text of a device, for a program on n wires
 --   IsCause h s           the stop s has its cause; want of memory is free
---   IsReadCause, IsTextCause    why reading the program stops
---   IsDeviceCause, IsDeviceStop, IsTextStop    why the device isn't had
+--   IsSourceCause, IsDeviceCause   why the program isn't read, and why the device isn't had
 --   fault_of s            the fault that a stop is told as
 --   EndsWithFault h n t   the program ends with status n for a stop that has its cause, and t holds of its fault
 --   stop_status s         the status that a stop ends with
 --   output_fault_line     the line that is told of an output that fails
 --   is_early_fault n      the statuses of such stops
-use Rattle.std.specs.Prelude.{◌≡◌, ℕ, Bool, ◌==◌, ◌||◌, List, Option, Some, None, ⊤}
+use Rattle.std.specs.Prelude.{◌≡◌, ℕ, Bool, true, ◌==◌, ◌||◌, List, Option, Some, None, ⊤}
 use Rattle.outside_io.specs.Bytes.{Tells}
 use Rattle.outside_io.specs.Causes.{Rose}
 use Rattle.outside_io.specs.Shelf.{HasNoText, TellsText}
-use Rattle.outside_io.specs.declared.TextFault.{TextFault}
-use Rattle.outside_io.specs.declared.TextFault.TheVariants as text_fault
 use Rattle.coupling_map.specs.declared.faults.DeviceFault.TheVariants as device_fault_is
 use Rattle.route_report.specs.declared.faults.Fault.{Fault}
 use Rattle.route_report.specs.declared.faults.Fault.TheVariants as fault
 use Rattle.route_report.specs.Faults.{fault_line, status_of}
-use Rattle.unitary_model.specs.SmallProgram.{SmallProgram}
-use Rattle.qroute_top.specs.declared.commands.Command.{Command}
-use Rattle.qroute_top.specs.declared.commands.Command.TheVariants.{Route}
+use Rattle.gate_inline.specs.Inlined.{code as inline_code}
+use Rattle.gate_inline.specs.Programs.{IsAccepted, Program}
+use Rattle.qasm_check.specs.Refusals.{code as check_code}
+use Rattle.program_reader.specs.Refusals.{IsRefusal}
+use Rattle.program_reader.specs.declared.refusal.Refusal.{Refusal}
+use Rattle.program_reader.specs.declared.refusal.Refusal.TheVariants as refusal
+use Rattle.command_words.specs.declared.commands.Command.{Command}
+use Rattle.command_words.specs.Commands.{command_of}
+use Rattle.command_words.specs.Demands.{device_name, reads_input}
 use Rattle.qroute_top.specs.declared.stops.DeviceRefusal.{DeviceRefusal}
 use Rattle.qroute_top.specs.declared.stops.DeviceRefusal.TheVariants as device
-use Rattle.qroute_top.specs.declared.stops.Refusal.{Refusal}
-use Rattle.qroute_top.specs.declared.stops.Refusal.TheVariants.{TooLong, Syntax}
+use Rattle.qroute_top.specs.declared.stops.DeviceStop.{DeviceStop}
+use Rattle.qroute_top.specs.declared.stops.DeviceStop.TheVariants as device_stop
+use Rattle.qroute_top.specs.declared.stops.SourceStop.{SourceStop}
+use Rattle.qroute_top.specs.declared.stops.SourceStop.TheVariants as source_stop
 use Rattle.qroute_top.specs.declared.stops.Stop.{Stop}
 use Rattle.qroute_top.specs.declared.stops.Stop.TheVariants as stop
-use Rattle.qroute_top.specs.Commands.{command_of}
-use Rattle.qroute_top.specs.Accepted.{IsAccepted, IsRefusal}
 use Rattle.qroute_top.specs.Delivered.{Content}
 use Rattle.qroute_top.specs.Devices.{IsDeviceRefusal}
 
@@ -45,19 +48,22 @@ pub record Handed : Type 0 where
   pub shelf_before : ℕ
   pub shelf_after : ℕ
 
-abbrev pub HasCommand : Handed → Type 0
-HasCommand h = (c : Command) × (command_of h.words ≡ Some c)
+pub record Reads (h : Handed) : Type 0 where
+  pub command : Command
+  pub asked : command_of h.words ≡ Some command
+  pub reads : reads_input command ≡ true
+
+pub record Reaches (h : Handed) (name : List ℕ) : Type 0 where
+  pub command : Command
+  pub asked : command_of h.words ≡ Some command
+  pub wants : device_name command ≡ Some name
+  pub text : List ℕ
+  pub told : Tells h.input text
+  pub source : Program
+  pub accepted : IsAccepted text source
 
 abbrev pub IsRefused : Option (List ℕ) → Refusal → Type 0
 IsRefused input r = (text : List ℕ) × Tells input text × IsRefusal text r
-
-pub record HasRoute (h : Handed) (name : List ℕ) : Type 0 where
-  pub trivial : Bool
-  pub asked : command_of h.words ≡ Some (Route name trivial)
-  pub text : List ℕ
-  pub told : Tells h.input text
-  pub source : SmallProgram
-  pub accepted : IsAccepted text source
 
 abbrev pub IsRefusedDevice : Option (Option (List ℕ)) → ℕ → DeviceRefusal → Type 0
 IsRefusedDevice content n r = (text : List ℕ) × TellsText content text × IsDeviceRefusal text n r
@@ -65,63 +71,35 @@ IsRefusedDevice content n r = (text : List ℕ) × TellsText content text × IsD
 abbrev pub IsCause : Handed → Stop → Type 0
 IsCause h stop.NoMemory = ⊤
 IsCause h stop.Words = command_of h.words ≡ None
-IsCause h stop.Input = HasCommand h × Rose h.faults_before h.faults_after
-IsCause h (stop.Program r) = HasCommand h × IsRefused h.input r
-IsCause h stop.Shelf = (name : List ℕ) × HasRoute h name × Rose h.shelf_before h.shelf_after
-IsCause h stop.Absent = (name : List ℕ) × HasRoute h name × HasNoText (h.content name) × (h.shelf_after ≡ h.shelf_before)
-IsCause h (stop.Device r) = (name : List ℕ) × (asked : HasRoute h name) × IsRefusedDevice (h.content name) asked.source.wires r
+IsCause h stop.Input = Reads h × Rose h.faults_before h.faults_after
+IsCause h (stop.Program r) = Reads h × IsRefused h.input r
+IsCause h stop.Shelf = (name : List ℕ) × Reaches h name × Rose h.shelf_before h.shelf_after
+IsCause h stop.Absent = (name : List ℕ) × Reaches h name × HasNoText (h.content name) × (h.shelf_after ≡ h.shelf_before)
+IsCause h (stop.Device r) = (name : List ℕ) × (asked : Reaches h name) × IsRefusedDevice (h.content name) asked.source.wires r
     × (h.shelf_after ≡ h.shelf_before)
 
--- why reading the program stops, once the words mean a command
-abbrev pub IsReadCause : Option (List ℕ) → ℕ → ℕ → Stop → Type 0
-IsReadCause input before after stop.NoMemory = ⊤
-IsReadCause input before after stop.Input = Rose before after
-IsReadCause input before after (stop.Program r) = IsRefused input r
-IsReadCause input before after stop.Words = ⊥
-IsReadCause input before after stop.Shelf = ⊥
-IsReadCause input before after stop.Absent = ⊥
-IsReadCause input before after (stop.Device r) = ⊥
-
--- why a text stops, that is no longer than the limit
-abbrev pub IsTextCause : List ℕ → Stop → Type 0
-IsTextCause text stop.NoMemory = ⊤
-IsTextCause text (stop.Program r) = IsRefusal text r
-IsTextCause text stop.Input = ⊥
-IsTextCause text stop.Words = ⊥
-IsTextCause text stop.Shelf = ⊥
-IsTextCause text stop.Absent = ⊥
-IsTextCause text (stop.Device r) = ⊥
+-- why reading the program stops
+abbrev pub IsSourceCause : Option (List ℕ) → ℕ → ℕ → SourceStop → Type 0
+IsSourceCause input before after source_stop.NoMemory = ⊤
+IsSourceCause input before after source_stop.Failed = Rose before after
+IsSourceCause input before after (source_stop.Refused r) = IsRefused input r
 
 -- why the device isn't had, for a program on n wires
-abbrev pub IsDeviceCause : Option (Option (List ℕ)) → ℕ → ℕ → ℕ → Stop → Type 0
-IsDeviceCause content n before after stop.NoMemory = ⊤
-IsDeviceCause content n before after stop.Shelf = Rose before after
-IsDeviceCause content n before after stop.Absent = HasNoText content
-IsDeviceCause content n before after (stop.Device r) = IsRefusedDevice content n r
-IsDeviceCause content n before after stop.Words = ⊥
-IsDeviceCause content n before after stop.Input = ⊥
-IsDeviceCause content n before after (stop.Program r) = ⊥
-
--- the same of a text that is no longer than the limit
-abbrev pub IsDeviceStop : List ℕ → ℕ → Stop → Type 0
-IsDeviceStop text n stop.NoMemory = ⊤
-IsDeviceStop text n (stop.Device r) = IsDeviceRefusal text n r
-IsDeviceStop text n stop.Words = ⊥
-IsDeviceStop text n stop.Input = ⊥
-IsDeviceStop text n (stop.Program r) = ⊥
-IsDeviceStop text n stop.Shelf = ⊥
-IsDeviceStop text n stop.Absent = ⊥
-
--- what a text that isn't had stops
-abbrev pub IsTextStop : TextFault → Stop → Type 0
-IsTextStop text_fault.Failed s = s ≡ stop.Shelf
-IsTextStop text_fault.Absent s = s ≡ stop.Absent
-IsTextStop text_fault.TooLong s = s ≡ stop.Device device.TooLong
-IsTextStop text_fault.NoMemory s = s ≡ stop.NoMemory
+abbrev pub IsDeviceCause : Option (Option (List ℕ)) → ℕ → ℕ → ℕ → DeviceStop → Type 0
+IsDeviceCause content n before after device_stop.NoMemory = ⊤
+IsDeviceCause content n before after device_stop.Failed = Rose before after
+IsDeviceCause content n before after device_stop.Absent = HasNoText content
+IsDeviceCause content n before after (device_stop.Refused r) = IsRefusedDevice content n r
 
 abbrev pub refusal_fault : Refusal → Fault
-refusal_fault TooLong = fault.Plain 60
-refusal_fault (Syntax place) = fault.Place 12 place
+refusal_fault refusal.TooLong = fault.Plain 60
+refusal_fault (refusal.BadByte place) = fault.Place 10 place
+refusal_fault (refusal.Number place) = fault.Place 11 place
+refusal_fault (refusal.Syntax place) = fault.Place 12 place
+refusal_fault (refusal.Version place) = fault.Place 13 place
+refusal_fault (refusal.Depth place) = fault.Place 14 place
+refusal_fault (refusal.Check r) = fault.Statement (check_code r.refusal) r.statement
+refusal_fault (refusal.Inline r) = fault.Statement (inline_code r.refusal) r.statement
 
 abbrev pub device_fault : DeviceRefusal → Fault
 device_fault device.TooLong = fault.Plain 55

@@ -3,7 +3,8 @@
 --   IsDevice text d            the text describes the device d
 --   IsDeviceRefusal text n r   r is the first refusal of the text for a program on n wires: its length, or else that it
 --                              describes no device, or else that its device has fewer qubits
-use Rattle.std.specs.Prelude.{◌≡◌, ℕ, ◌<◌, ◌≤◌, List, length}
+--   HasDevice content o n      where a device of a name is wanted, the shelf has its text, which describes one with n qubits at least
+use Rattle.std.specs.Prelude.{◌≡◌, ℕ, ◌<◌, ◌≤◌, List, Option, Some, None, length}
 use Rattle.coupling_map.specs.Coupling.{Coupling, IsCoupling}
 use Rattle.coupling_map.specs.Refusals.{IsRefusal}
 use Rattle.coupling_map.specs.Text.{Says, graph}
@@ -22,3 +23,7 @@ abbrev pub IsDeviceRefusal : List ℕ → ℕ → DeviceRefusal → Type 0
 IsDeviceRefusal text n device.TooLong = device_limit < length text
 IsDeviceRefusal text n (device.Fault f) = (length text ≤ device_limit) × IsRefusal text f
 IsDeviceRefusal text n (device.TooFewQubits size qubits) = (d : Coupling) × IsDevice text d × (size ≡ d.size) × (qubits ≡ n) × (size < n)
+
+abbrev pub HasDevice : (List ℕ → Option (Option (List ℕ))) → Option (List ℕ) → ℕ → Type 0
+HasDevice content None n = Unit {0}
+HasDevice content (Some name) n = (text : List ℕ) × (d : Coupling) × (content name ≡ Some (Some text)) × IsDevice text d × (n ≤ d.size)

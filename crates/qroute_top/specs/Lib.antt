@@ -1,6 +1,6 @@
-pub mod Commands
-pub mod Accepted
 pub mod Devices
 pub mod Delivered
-pub mod Plans
 pub mod Causes
+pub mod Stops
+pub mod Targets
+pub mod Plans

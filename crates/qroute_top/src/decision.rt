@@ -1,31 +1,47 @@
 //! All that happens before a sink is touched.
 
-ghost use Rattle.std.specs.Prelude.{◌≡◌, ℕ, List, Some, Err, map, IfOk, IfErr};
-ghost use Rattle.qroute_top.specs.Causes.{IsCause, output_fault_line};
-ghost use Rattle.qroute_top.specs.Commands.{command_of};
+ghost use Rattle.std.specs.Prelude.{◌≡◌, ℕ, List, Some, None, Err, true, false, map, is_some, IfOk, IfErr};
+ghost use Rattle.command_words.specs.Commands.{command_of};
+ghost use Rattle.command_words.specs.Demands.{device_name, reads_input, writes_out};
+ghost use Rattle.command_words.specs.declared.commands.Command.{Command as Asked};
+ghost use Rattle.qroute_top.specs.Causes.{IsCause};
 ghost use Rattle.qroute_top.specs.Delivered.{Delivers};
-ghost use Rattle.qroute_top.specs.declared.commands.Command.TheVariants.{Opt};
+ghost use Rattle.qroute_top.specs.Plans.{TellsOutputFault, text_of};
+ghost use Rattle.qroute_top.specs.Stops.{IsUnasked};
 
-use crate::commands::{Command, WordsFault};
 use crate::device::load_device;
 use crate::pipeline::{optimise, route_on};
-use crate::plan::Plan;
+use crate::plan::{Plan, check_plan};
 use crate::source::read_source;
 use crate::stops::Stop;
-use crate::words::command;
-use outside_io::{Shelf, Source};
+use command_words::commands::{Command, WordsFault};
+use command_words::words::command;
+use outside_io::{Shelf, Source as Input};
 use std::alloc::Global;
+
+/// The command of the words.
+fn asked(alloc: Global, words: &[&str]) -> Result<Command, Stop>
+    ensures ok { IfOk result (λ c. command_of (map (λ w. w.now) words.now) ≡ Some c) }
+    ensures err { IfErr result (IsUnasked (map (λ w. w.now) words.now)) }
+{
+    match command(alloc, words) {
+        Ok(command) => Ok(command),
+        Err(WordsFault::BadWords) => Err(Stop::Words),
+        Err(WordsFault::NoMemory) => Err(Stop::NoMemory),
+    }
+}
 
 /// Reads the words, the input and the device, and makes all that is to be written. No sink is touched.
 #[tactic(auto, using(crate::proofs::RunLaws::decided))]
-pub fn decide<I: Source, F: Shelf>(
+pub fn decide<I: Input, F: Shelf>(
     alloc: Global,
     words: &[&str],
     input: &mut I,
     shelf: &mut F,
 ) -> Result<Plan, Stop>
-    ensures plan { IfOk result (λ p. Delivers (map (λ w. w.now) words.now) (F.content shelf.old) (I.left input.old) (I.left input.new) p.text.items p.line.items) }
-    ensures output_fault { IfOk result (λ p. p.output_fault.items ≡ output_fault_line) }
+    ensures plan { IfOk result (λ p. Delivers (map (λ w. w.now) words.now) (F.content shelf.old) (I.left input.old) (I.left input.new) (text_of p) p.line.items) }
+    ensures fault { IfOk result TellsOutputFault }
+    ensures writes { IfOk result (λ p. (c : Asked) → command_of (map (λ w. w.now) words.now) ≡ Some c → is_some p.written ≡ writes_out c) }
     ensures stop { IfErr result (IsCause (record {
       words = map (λ w. w.now) words.now;
       input = I.left input.old;
@@ -39,22 +55,19 @@ pub fn decide<I: Source, F: Shelf>(
     ensures words_only { result ≡ Err Stop.Words → (input.new ≡ input.old) × (shelf.new ≡ shelf.old) }
     ensures shelf_calm { (result ≡ Err Stop.Shelf → ⊥) → F.faults shelf.new ≡ F.faults shelf.old }
     ensures shelf_keeps { (name : List ℕ) → F.content shelf.new name ≡ F.content shelf.old name }
-    ensures no_shelf { command_of (map (λ w. w.now) words.now) ≡ Some Opt → shelf.new ≡ shelf.old }
+    ensures no_shelf { (c : Asked) → command_of (map (λ w. w.now) words.now) ≡ Some c → device_name c ≡ None → shelf.new ≡ shelf.old }
 {
-    let command = match command(alloc, words) {
-        Ok(command) => command,
-        Err(WordsFault::BadWords) => return Err(Stop::Words),
-        Err(WordsFault::NoMemory) => return Err(Stop::NoMemory),
-    };
-    let program = read_source(alloc, input)?;
+    let command = asked(alloc, words)?;
+    let source = read_source(alloc, input)?;
     match command {
-        Command::Opt => Ok(optimise(alloc, &program)?),
+        Command::Opt => Ok(optimise(alloc, &source)?),
+        Command::Check => Ok(check_plan(alloc, &source)?),
         Command::Route {
             device: name,
             trivial: _,
         } => {
-            let device = load_device(alloc, shelf, &name, program.wires)?;
-            Ok(route_on(alloc, &program, &device)?)
+            let device = load_device(alloc, shelf, &name, source.ops.wires)?;
+            Ok(route_on(alloc, &source, &device)?)
         }
     }
 }

@@ -2,11 +2,12 @@
 
 ghost use Rattle.std.specs.Prelude.{◌≡◌, ◌≤◌, ◌<◌, ℕ, List, Err, IfErr, IfOk, length};
 ghost use Rattle.outside_io.specs.Shelf.{TellsText};
-ghost use Rattle.qroute_top.specs.Causes.{IsDeviceCause, IsDeviceStop, IsTextStop};
+ghost use Rattle.qroute_top.specs.Causes.{IsDeviceCause};
 ghost use Rattle.qroute_top.specs.Devices.{IsDevice, device_limit};
+ghost use Rattle.qroute_top.specs.Stops.{IsUndescribed, unloaded};
 
-use crate::name::Name;
-use crate::stops::{DeviceRefusal, Stop};
+use crate::stops::{DeviceRefusal, DeviceStop};
+use command_words::name::Name;
 use coupling_map::{Device, DeviceError, read_device};
 use outside_io::{Shelf, TextFault, load_text};
 use std::alloc::Global;
@@ -15,30 +16,30 @@ use std::alloc::Global;
 const TEXT_LIMIT: usize = 1_048_576;
 
 /// Why a text of the shelf isn't had.
-fn stop_of(fault: TextFault) -> Stop
-    ensures { IsTextStop fault result }
+fn stop_of(fault: TextFault) -> DeviceStop
+    ensures { result ≡ unloaded fault }
 {
     match fault {
-        TextFault::Failed => Stop::Shelf,
-        TextFault::Absent => Stop::Absent,
-        TextFault::TooLong => Stop::Device(DeviceRefusal::TooLong),
-        TextFault::NoMemory => Stop::NoMemory,
+        TextFault::Failed => DeviceStop::Failed,
+        TextFault::Absent => DeviceStop::Absent,
+        TextFault::TooLong => DeviceStop::Refused(DeviceRefusal::TooLong),
+        TextFault::NoMemory => DeviceStop::NoMemory,
     }
 }
 
 /// The device of a text, with at least `wires` qubits.
-fn device_of(alloc: Global, text: &[u8], wires: u32) -> Result<Device, Stop>
+fn device_of(alloc: Global, text: &[u8], wires: u32) -> Result<Device, DeviceStop>
     requires { length text.now ≤ device_limit }
     ensures ok { IfOk result (λ d. IsDevice text.now d × (wires ≤ d.size)) }
-    ensures err { IfErr result (IsDeviceStop text.now wires) }
+    ensures err { IfErr result (IsUndescribed text.now wires) }
 {
     match read_device(alloc, text) {
-        Err(DeviceError::NoMemory) => Err(Stop::NoMemory),
-        Err(DeviceError::Refused(fault)) => Err(Stop::Device(DeviceRefusal::Fault(fault))),
+        Err(DeviceError::NoMemory) => Err(DeviceStop::NoMemory),
+        Err(DeviceError::Refused(fault)) => Err(DeviceStop::Refused(DeviceRefusal::Fault(fault))),
         Ok(device) => {
             let size = device.size();
             if size < wires {
-                return Err(Stop::Device(DeviceRefusal::TooFewQubits {
+                return Err(DeviceStop::Refused(DeviceRefusal::TooFewQubits {
                     device: size,
                     qubits: wires,
                 }));
@@ -55,12 +56,12 @@ pub fn load_device<F: Shelf>(
     shelf: &mut F,
     name: &Name,
     wires: u32,
-) -> Result<Device, Stop>
+) -> Result<Device, DeviceStop>
     ensures ok { IfOk result (λ d. (text : List ℕ) × TellsText (F.content shelf.old name.now) text × IsDevice text d × (wires ≤ d.size)) }
     ensures err { IfErr result (IsDeviceCause (F.content shelf.old name.now) wires (F.faults shelf.old) (F.faults shelf.new)) }
     ensures keeps { (other : List ℕ) → F.content shelf.new other ≡ F.content shelf.old other }
     ensures later { F.faults shelf.old ≤ F.faults shelf.new }
-    ensures calm { (result ≡ Err Stop.Shelf → ⊥) → F.faults shelf.new ≡ F.faults shelf.old }
+    ensures calm { (result ≡ Err DeviceStop.Failed → ⊥) → F.faults shelf.new ≡ F.faults shelf.old }
 {
     match load_text(alloc, shelf, name.as_str(), TEXT_LIMIT) {
         Err(fault) => Err(stop_of(fault)),

@@ -1,20 +1,22 @@
-//! What goes out: the text and the report line, or the line of a fault.
+//! What goes out: the text and the line of a plan, or the line of a fault.
 
-ghost use Rattle.std.specs.Prelude.{◌≡◌, ◌⊎◌, ℕ, Some, true};
+ghost use Rattle.std.specs.Prelude.{◌≡◌, ◌⊎◌, ℕ, None, Some, true, is_some};
 ghost use Rattle.outside_io.specs.Bytes.{Gains, GainsPrefix, GainsUnlessFault};
 ghost use Rattle.outside_io.specs.Causes.{Rose};
 ghost use Rattle.route_report.specs.Faults.{fault_line, status_of};
 ghost use Rattle.route_report.specs.declared.faults.Fault.{Fault as Told};
-ghost use Rattle.qroute_top.specs.Causes.{device_fault, fault_of, refusal_fault, stop_status};
+ghost use Rattle.qroute_top.specs.Causes.{device_fault, fault_of, output_fault_line, refusal_fault, stop_status};
+ghost use Rattle.qroute_top.specs.Plans.{TellsOutputFault, text_of};
 
 use crate::plan::Plan;
-use crate::stops::{DeviceRefusal, Refusal, Stop};
+use crate::stops::{DeviceRefusal, Stop};
 use coupling_map::DeviceFault;
 use outside_io::{Sink, send};
+use program_reader::Refusal;
 use route_report::{Fault, fault_line, status};
 use std::alloc::{AllocError, Global};
 
-/// The text and the report line are written.
+/// What was planned is written.
 const DONE: u8 = 0;
 
 /// The output failed.
@@ -32,7 +34,19 @@ fn fault_of_refusal(refusal: Refusal) -> Fault
 {
     match refusal {
         Refusal::TooLong => Fault::Plain { code: 60 },
+        Refusal::BadByte { place } => Fault::Place { code: 10, place },
+        Refusal::Number { place } => Fault::Place { code: 11, place },
         Refusal::Syntax { place } => Fault::Place { code: 12, place },
+        Refusal::Version { place } => Fault::Place { code: 13, place },
+        Refusal::Depth { place } => Fault::Place { code: 14, place },
+        Refusal::Check(refused) => Fault::Statement {
+            code: refused.refusal.code(),
+            statement: refused.statement,
+        },
+        Refusal::Inline(refused) => Fault::Statement {
+            code: refused.refusal.code(),
+            statement: refused.statement,
+        },
     }
 }
 
@@ -69,7 +83,7 @@ fn fault_of(stop: Stop) -> Option<Fault>
 }
 
 /// Tells the fault of a stop in the report, and gives its status; 7 where memory is wanting.
-#[tactic(auto, using(crate::proofs::RunLaws::told))]
+#[tactic(auto, using(crate::proofs::StatusLaws::told))]
 pub fn tell<R: Sink>(alloc: Global, stop: Stop, report: &mut R) -> u8
     ensures status { (result ≡ 7) ⊎ (result ≡ stop_status stop) }
     ensures told { (result ≡ 7) × (report.new ≡ report.old) ⊎ ((f : Told) × (fault_of stop ≡ Some f) × (result ≡ status_of f)
@@ -87,22 +101,28 @@ pub fn tell<R: Sink>(alloc: Global, stop: Stop, report: &mut R) -> u8
     }
 }
 
-/// Writes the text, and then the line of the report.
+/// Writes the text, where there is one, and then the line of the report.
+#[tactic(auto, using(crate::proofs::StatusLaws::emitted))]
 pub fn emit<O: Sink, R: Sink>(plan: &Plan, out: &mut O, report: &mut R) -> u8
+    requires { TellsOutputFault plan.now }
     ensures ends { (result ≡ 0) ⊎ ((result ≡ 6) ⊎ (result ≡ 8)) }
-    ensures done { result ≡ 0 → Gains (O.held out.old) (O.held out.new) plan.now.text.items
+    ensures done { result ≡ 0 → Gains (O.held out.old) (O.held out.new) (text_of plan.now)
         × Gains (R.held report.old) (R.held report.new) plan.now.line.items }
-    ensures flushed { result ≡ 0 → (O.flushed out.new ≡ true) × (R.flushed report.new ≡ true) }
+    ensures flushed { result ≡ 0 → (is_some plan.now.written ≡ true → O.flushed out.new ≡ true) × (R.flushed report.new ≡ true) }
     ensures calm { result ≡ 0 → (O.faults out.new ≡ O.faults out.old) × (R.faults report.new ≡ R.faults report.old) }
-    ensures output { result ≡ 6 → GainsPrefix (O.held out.old) (O.held out.new) plan.now.text.items × Rose (O.faults out.old) (O.faults out.new)
-        × GainsUnlessFault (R.held report.old) (R.held report.new) (R.faults report.old) (R.faults report.new) plan.now.output_fault.items }
-    ensures report { result ≡ 8 → Gains (O.held out.old) (O.held out.new) plan.now.text.items × (O.flushed out.new ≡ true)
-        × (O.faults out.new ≡ O.faults out.old)
+    ensures output { result ≡ 6 → GainsPrefix (O.held out.old) (O.held out.new) (text_of plan.now) × Rose (O.faults out.old) (O.faults out.new)
+        × GainsUnlessFault (R.held report.old) (R.held report.new) (R.faults report.old) (R.faults report.new) output_fault_line }
+    ensures report { result ≡ 8 → Gains (O.held out.old) (O.held out.new) (text_of plan.now)
+        × (is_some plan.now.written ≡ true → O.flushed out.new ≡ true) × (O.faults out.new ≡ O.faults out.old)
         × GainsPrefix (R.held report.old) (R.held report.new) plan.now.line.items × Rose (R.faults report.old) (R.faults report.new) }
+    ensures no_fault { plan.now.written ≡ None → result ≡ 6 → ⊥ }
+    ensures no_out { plan.now.written ≡ None → out.new ≡ out.old }
 {
-    if send(out, &plan.text).is_err() {
-        let _ = send(report, &plan.output_fault);
-        return OUTPUT_FAILED;
+    if let Some(written) = &plan.written {
+        if send(out, &written.text).is_err() {
+            let _ = send(report, &written.fault);
+            return OUTPUT_FAILED;
+        }
     }
     if send(report, &plan.line).is_err() {
         return REPORT_FAILED;

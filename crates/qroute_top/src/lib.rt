@@ -5,26 +5,25 @@
 //! that is written spells a program whose unitary is the source's, up to the reported power of the eighth root of unity and
 //! the reported placements; no count of T gates rises, and that of CNOTs by three for each swap at most; each measured bit
 //! reads its wire of the source; on a device each CNOT follows an edge; and each status comes exactly where its cause is. A
-//! text that isn't of the form, or too long, is refused with its place, a device with its reason, and nothing is written then.
+//! text that is refused is told with its place or statement, a device with its reason, and nothing is written then.
 //!
-//! `words` gives the command of the words. `source` reads the input within its limits, as the small form of OpenQASM 2.0, and
-//! `device` loads the device of a name. `expansion` makes gates and reads of statements, `pipeline` the circuit that is to be
-//! written, `plan` all that is to be written, before `emission` writes the first byte.
+//! `source` reads the input, over all of the readers, `device` loads the device of a name, `target` makes the circuit that is
+//! to be written, `plan` all bytes that may go out, before `emission` writes the first of them. What a command asks of its
+//! surroundings is told by `command_words`, so that each clause is said once for all commands.
 #![tactic(auto)]
 
-ghost use Rattle.std.specs.Prelude.{◌≡◌, ◌⊎◌, ◌≤◌, ℕ, Bool, List, Some, None, map, true};
+ghost use Rattle.std.specs.Prelude.{◌≡◌, ◌⊎◌, ◌≤◌, ℕ, List, Some, None, map, true, false, is_some};
 ghost use Rattle.outside_io.specs.Bytes.{Gains, GainsPrefix, GainsUnlessFault};
 ghost use Rattle.outside_io.specs.Causes.{Rose};
 ghost use Rattle.route_report.specs.Faults.{fault_line};
-ghost use Rattle.unitary_model.specs.SmallProgram.{SmallProgram};
-ghost use Rattle.coupling_map.specs.Coupling.{Coupling};
-ghost use Rattle.qroute_top.specs.declared.commands.Command.{Command as Asked};
-ghost use Rattle.qroute_top.specs.declared.commands.Command.TheVariants.{Opt, Route};
+ghost use Rattle.gate_inline.specs.Programs.{IsAccepted, Program};
+ghost use Rattle.program_reader.specs.Refusals.{IsRefusal};
+ghost use Rattle.program_reader.specs.declared.refusal.Refusal.{Refusal as Refused};
+ghost use Rattle.command_words.specs.Commands.{command_of};
+ghost use Rattle.command_words.specs.Demands.{device_name, reads_input, writes_out, writes_report};
+ghost use Rattle.command_words.specs.declared.commands.Command.{Command as Asked};
 ghost use Rattle.qroute_top.specs.declared.stops.DeviceRefusal.{DeviceRefusal as RefusedDevice};
-ghost use Rattle.qroute_top.specs.declared.stops.Refusal.{Refusal as Refused};
-ghost use Rattle.qroute_top.specs.Accepted.{IsAccepted, IsRefusal};
-ghost use Rattle.qroute_top.specs.Commands.{command_of};
-ghost use Rattle.qroute_top.specs.Devices.{IsDevice, IsDeviceRefusal};
+ghost use Rattle.qroute_top.specs.Devices.{HasDevice, IsDeviceRefusal};
 ghost use Rattle.qroute_top.specs.Causes.{EndsWithFault, is_early_fault, output_fault_line};
 ghost use Rattle.qroute_top.specs.Delivered.{Delivered};
 
@@ -33,17 +32,16 @@ use emission::{emit, tell};
 use outside_io::{Shelf, Sink, Source};
 use std::alloc::Global;
 
-pub mod commands;
+pub use command_words::{commands, name, words};
+
 mod decision;
 mod device;
 mod emission;
-mod expansion;
-pub mod name;
 mod pipeline;
 mod plan;
 mod source;
 mod stops;
-pub mod words;
+mod target;
 
 /// Runs the command of the words: reads the input, writes the program to `out` and the report line to `report`, and answers
 /// the status that the program ends with.
@@ -61,7 +59,8 @@ pub fn run<I: Source, F: Shelf, O: Sink, R: Sink>(
     // 0: what is made for the input is written and reported, and both sinks are flushed.
     ensures headline { result ≡ 0 → Delivered (map (λ w. w.now) words.now) (F.content shelf.old) (I.left input.old) (I.left input.new)
         (λ text line. Gains (O.held out.old) (O.held out.new) text × Gains (R.held report.old) (R.held report.new) line) }
-    ensures flushed { result ≡ 0 → (O.flushed out.new ≡ true) × (R.flushed report.new ≡ true) }
+    ensures flushed { result ≡ 0 → (c : Asked) → command_of (map (λ w. w.now) words.now) ≡ Some c
+        → (writes_out c ≡ true → O.flushed out.new ≡ true) × (writes_report c ≡ true → R.flushed report.new ≡ true) }
     ensures calm { result ≡ 0 → (I.faults input.new ≡ I.faults input.old) × (F.faults shelf.new ≡ F.faults shelf.old)
         × (O.faults out.new ≡ O.faults out.old) × (R.faults report.new ≡ R.faults report.old) }
 
@@ -83,37 +82,31 @@ pub fn run<I: Source, F: Shelf, O: Sink, R: Sink>(
     ensures words { command_of (map (λ w. w.now) words.now) ≡ None → (result ≡ 2) ⊎ (result ≡ 7) }
     ensures input { result ≡ 5 → Rose (I.faults input.old) (I.faults input.new) }
 
-    // 3 exactly where a command's input, read without a fault, has a first refusal.
+    // 3 exactly where a command reads an input that has a first refusal, and reads it without a fault.
     ensures read { result ≡ 3 → I.faults input.new ≡ I.faults input.old }
-    ensures refuses { (c : Asked) (text : List ℕ) (r : Refused) → command_of (map (λ w. w.now) words.now) ≡ Some c
+    ensures refuses { (c : Asked) (text : List ℕ) (r : Refused) → command_of (map (λ w. w.now) words.now) ≡ Some c → reads_input c ≡ true
         → I.left input.old ≡ Some text → IsRefusal text r → (Rose (I.faults input.old) (I.faults input.new) → ⊥)
         → (result ≡ 3) ⊎ (result ≡ 7) }
 
     // 9 exactly where the shelf has no text of the device's name, unless it failed.
-    ensures absent { (name : List ℕ) (trivial : Bool) (text : List ℕ) (p : SmallProgram)
-        → command_of (map (λ w. w.now) words.now) ≡ Some (Route name trivial)
-        → I.left input.old ≡ Some text → IsAccepted text p → (Rose (I.faults input.old) (I.faults input.new) → ⊥)
-        → (Rose (F.faults shelf.old) (F.faults shelf.new) → ⊥) → F.content shelf.old name ≡ Some None → (result ≡ 9) ⊎ (result ≡ 7) }
+    ensures absent { (c : Asked) (name text : List ℕ) (p : Program) → command_of (map (λ w. w.now) words.now) ≡ Some c
+        → device_name c ≡ Some name → I.left input.old ≡ Some text → IsAccepted text p
+        → (Rose (I.faults input.old) (I.faults input.new) → ⊥) → (Rose (F.faults shelf.old) (F.faults shelf.new) → ⊥)
+        → F.content shelf.old name ≡ Some None → (result ≡ 9) ⊎ (result ≡ 7) }
 
     // 4 exactly where the text of the device has a first refusal.
-    ensures refuses_device { (name : List ℕ) (trivial : Bool) (text device_text : List ℕ) (p : SmallProgram) (r : RefusedDevice)
-        → command_of (map (λ w. w.now) words.now) ≡ Some (Route name trivial)
-        → I.left input.old ≡ Some text → IsAccepted text p → (Rose (I.faults input.old) (I.faults input.new) → ⊥)
-        → (Rose (F.faults shelf.old) (F.faults shelf.new) → ⊥) → F.content shelf.old name ≡ Some (Some device_text)
-        → IsDeviceRefusal device_text p.wires r → (result ≡ 4) ⊎ (result ≡ 7) }
+    ensures refuses_device { (c : Asked) (name text device_text : List ℕ) (p : Program) (r : RefusedDevice)
+        → command_of (map (λ w. w.now) words.now) ≡ Some c → device_name c ≡ Some name → I.left input.old ≡ Some text → IsAccepted text p
+        → (Rose (I.faults input.old) (I.faults input.new) → ⊥) → (Rose (F.faults shelf.old) (F.faults shelf.new) → ⊥)
+        → F.content shelf.old name ≡ Some (Some device_text) → IsDeviceRefusal device_text p.wires r → (result ≡ 4) ⊎ (result ≡ 7) }
 
-    // A command whose input is accepted, and whose device has a qubit for each wire, ends well, or wants memory, unless a
-    // count of faults rose.
-    ensures complete { (text : List ℕ) (p : SmallProgram) → command_of (map (λ w. w.now) words.now) ≡ Some Opt
-        → I.left input.old ≡ Some text → IsAccepted text p → (Rose (I.faults input.old) (I.faults input.new) → ⊥)
-        → (Rose (O.faults out.old) (O.faults out.new) → ⊥) → (Rose (R.faults report.old) (R.faults report.new) → ⊥)
-        → (result ≡ 0) ⊎ (result ≡ 7) }
-    ensures complete_route { (name : List ℕ) (trivial : Bool) (text device_text : List ℕ) (p : SmallProgram) (d : Coupling)
-        → command_of (map (λ w. w.now) words.now) ≡ Some (Route name trivial)
-        → I.left input.old ≡ Some text → IsAccepted text p → (Rose (I.faults input.old) (I.faults input.new) → ⊥)
-        → (Rose (F.faults shelf.old) (F.faults shelf.new) → ⊥) → F.content shelf.old name ≡ Some (Some device_text)
-        → IsDevice device_text d → p.wires ≤ d.size
-        → (Rose (O.faults out.old) (O.faults out.new) → ⊥) → (Rose (R.faults report.old) (R.faults report.new) → ⊥)
+    // A command whose input is accepted, and whose device, where it wants one, has a qubit for each wire, ends well, or wants
+    // memory, unless a count of faults rose.
+    ensures complete { (c : Asked) (text : List ℕ) (p : Program) → command_of (map (λ w. w.now) words.now) ≡ Some c
+        → I.left input.old ≡ Some text → IsAccepted text p → HasDevice (F.content shelf.old) (device_name c) p.wires
+        → (Rose (I.faults input.old) (I.faults input.new) → ⊥)
+        → (is_some (device_name c) ≡ true → Rose (F.faults shelf.old) (F.faults shelf.new) → ⊥)
+        → (writes_out c ≡ true → Rose (O.faults out.old) (O.faults out.new) → ⊥) → (Rose (R.faults report.old) (R.faults report.new) → ⊥)
         → (result ≡ 0) ⊎ (result ≡ 7) }
 
     // 6 and 8: the output or the report failed, with a prefix of what is made.
@@ -124,15 +117,19 @@ pub fn run<I: Source, F: Shelf, O: Sink, R: Sink>(
     ensures report { result ≡ 8 → Rose (R.faults report.old) (R.faults report.new)
         × Delivered (map (λ w. w.now) words.now) (F.content shelf.old) (I.left input.old) (I.left input.new)
         (λ text line. Gains (O.held out.old) (O.held out.new) text × GainsPrefix (R.held report.old) (R.held report.new) line)
-        × (O.flushed out.new ≡ true) × (O.faults out.new ≡ O.faults out.old) }
+        × ((c : Asked) → command_of (map (λ w. w.now) words.now) ≡ Some c → writes_out c ≡ true → O.flushed out.new ≡ true)
+        × (O.faults out.new ≡ O.faults out.old) }
 
     // 7: want of memory.
     ensures memory { result ≡ 7 → report.new ≡ report.old }
 
-    // Before the first byte goes out the output is untouched; the shelf keeps its texts, and `opt` doesn't touch it.
+    // Before the first byte goes out the output is untouched; the shelf keeps its texts. What a command doesn't ask for it
+    // doesn't touch.
     ensures untouched { (result ≡ 7) ⊎ (is_early_fault result ≡ true) → out.new ≡ out.old }
     ensures shelf { (name : List ℕ) → F.content shelf.new name ≡ F.content shelf.old name }
-    ensures no_shelf { command_of (map (λ w. w.now) words.now) ≡ Some Opt → shelf.new ≡ shelf.old }
+    ensures no_input { (c : Asked) → command_of (map (λ w. w.now) words.now) ≡ Some c → reads_input c ≡ false → input.new ≡ input.old }
+    ensures no_shelf { (c : Asked) → command_of (map (λ w. w.now) words.now) ≡ Some c → device_name c ≡ None → shelf.new ≡ shelf.old }
+    ensures no_out { (c : Asked) → command_of (map (λ w. w.now) words.now) ≡ Some c → writes_out c ≡ false → out.new ≡ out.old }
 {
     match decide(alloc, words, input, shelf) {
         Ok(plan) => emit(&plan, out, report),

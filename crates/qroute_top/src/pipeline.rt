@@ -1,55 +1,49 @@
 //! From a source to all that is to be written for a command.
 
-ghost use Rattle.std.specs.Prelude.{◌≡◌, ◌≤◌, IfOk};
-ghost use Rattle.unitary_model.specs.SmallProgram.{IsSmallProgram};
-ghost use Rattle.qroute_top.specs.Causes.{output_fault_line};
-ghost use Rattle.qroute_top.specs.Delivered.{MakesOnDevice, MakesInPlace};
+ghost use Rattle.std.specs.Prelude.{◌≡◌, ◌≤◌, All, IfOk, None, length, is_some, true};
+ghost use Rattle.gate_expand.specs.Expansion.{IsFineOp};
+ghost use Rattle.gate_inline.specs.Registers.{AreRegisters, IsRead};
+ghost use Rattle.program_reader.specs.Refusals.{program_of};
+ghost use Rattle.qroute_top.specs.Delivered.{IsInPlace, Rewrites};
+ghost use Rattle.qroute_top.specs.Plans.{IsRouted, TellsOutputFault, text_of};
 
-use crate::expansion::{expand, reads_of};
-use crate::plan::{Plan, counts_of, plan_of, qubits_of};
+use crate::plan::{Plan, plan_of};
+use crate::target::{in_place, on_device, optimised};
 use coupling_map::Device;
-use placement::Placement;
-use small_reader::Program;
+use program_reader::Source;
 use std::alloc::{AllocError, Global};
-use walk_route::{Routed, route};
 
-/// Makes all that is to be written for a program on its own wires.
-pub fn optimise(alloc: Global, program: &Program) -> Result<Plan, AllocError>
-    requires { IsSmallProgram (record { wires = program.now.wires; bits = program.now.bits; statements = program.now.list.items }) }
-    ensures made { IfOk result (λ p. MakesInPlace (record { wires = program.now.wires; bits = program.now.bits; statements = program.now.list.items })
-        p.text.items p.line.items) }
-    ensures output_fault { IfOk result (λ p. p.output_fault.items ≡ output_fault_line) }
+/// Makes all that is to be written for a source on its own wires.
+#[tactic(auto, using(crate::proofs::PlanLaws::plans))]
+pub fn optimise(alloc: Global, source: &Source) -> Result<Plan, AllocError>
+    requires few { source.now.ops.wires ≤ 64 }
+    requires fine { All (IsFineOp source.now.ops.wires) source.now.ops.list }
+    requires short { length source.now.ops.list ≤ 65536 }
+    requires registers { AreRegisters source.now.registers.items (length source.now.ops.reads) }
+    requires reads { All (IsRead source.now.ops.wires) source.now.ops.reads }
+    ensures made { IfOk result (λ p. Rewrites (program_of source.now) (IsInPlace (program_of source.now)) (text_of p) p.line.items) }
+    ensures writes { IfOk result (λ p. is_some p.written ≡ true) }
+    ensures fault { IfOk result TellsOutputFault }
 {
-    let source = expand(alloc, program)?;
-    let reads = reads_of(alloc, program)?;
-    let counts = counts_of(&source.body);
-    let last = Placement::identity(alloc, program.wires)?;
-    let initial = qubits_of(alloc, &last)?;
-    let target = Routed {
-        body: source.body,
-        last,
-        swaps: 0,
-        turn: source.turn,
-    };
-    let plan = plan_of(alloc, counts, &reads, initial, &target)?;
-    Ok(plan)
+    let passed = optimised(alloc, &source.ops)?;
+    let target = in_place(alloc, &source.ops, passed)?;
+    plan_of(alloc, source, target)
 }
 
-/// Makes all that is to be written for a program on the qubits of a device. The wires begin on the qubits of their own
-/// numbers.
-pub fn route_on(alloc: Global, program: &Program, device: &Device) -> Result<Plan, AllocError>
-    requires small { IsSmallProgram (record { wires = program.now.wires; bits = program.now.bits; statements = program.now.list.items }) }
-    requires fits { program.now.wires ≤ device.now.size }
-    ensures made { IfOk result (λ p. MakesOnDevice (record { wires = program.now.wires; bits = program.now.bits; statements = program.now.list.items })
-        device.now p.text.items p.line.items) }
-    ensures output_fault { IfOk result (λ p. p.output_fault.items ≡ output_fault_line) }
+/// Makes all that is to be written for a source on the qubits of a device.
+#[tactic(auto, using(crate::proofs::PlanLaws::plans))]
+pub fn route_on(alloc: Global, source: &Source, device: &Device) -> Result<Plan, AllocError>
+    requires few { source.now.ops.wires ≤ 64 }
+    requires fine { All (IsFineOp source.now.ops.wires) source.now.ops.list }
+    requires short { length source.now.ops.list ≤ 65536 }
+    requires registers { AreRegisters source.now.registers.items (length source.now.ops.reads) }
+    requires reads { All (IsRead source.now.ops.wires) source.now.ops.reads }
+    requires fits { source.now.ops.wires ≤ device.now.size }
+    ensures made { IfOk result (λ p. Rewrites (program_of source.now) (IsRouted device.now) (text_of p) p.line.items) }
+    ensures writes { IfOk result (λ p. is_some p.written ≡ true) }
+    ensures fault { IfOk result TellsOutputFault }
 {
-    let source = expand(alloc, program)?;
-    let reads = reads_of(alloc, program)?;
-    let counts = counts_of(&source.body);
-    let given = Placement::identity(alloc, device.size())?;
-    let initial = qubits_of(alloc, &given)?;
-    let target = route(alloc, &source.body, device, given)?;
-    let plan = plan_of(alloc, counts, &reads, initial, &target)?;
-    Ok(plan)
+    let passed = optimised(alloc, &source.ops)?;
+    let target = on_device(alloc, &source.ops, &passed, device)?;
+    plan_of(alloc, source, target)
 }

@@ -1,57 +1,53 @@
 //! All that is to be written, made before the first byte goes out.
 
-ghost use Rattle.std.specs.Prelude.{◌≡◌, ◌≤◌, All, IfOk, length, map};
-ghost use Rattle.unitary_model.specs.Operations.{cx_count, t_count};
-ghost use Rattle.unitary_model.specs.Placement.{identity};
-ghost use Rattle.circuit_list.specs.Gates.{IsFine, ops};
-ghost use Rattle.qasm_writer.specs.Outputs.{IsRead, IsWritten};
-ghost use Rattle.qroute_top.specs.Causes.{output_fault_line};
-ghost use Rattle.qroute_top.specs.Delivered.{placed_read};
-ghost use Rattle.qroute_top.specs.Plans.{IsPlanned, IsReport};
+ghost use Rattle.std.specs.Prelude.{◌≡◌, ◌≤◌, All, IfOk, None, length, map, is_some, true};
+ghost use Rattle.circuit_list.specs.Gates.{IsFine};
+ghost use Rattle.gate_inline.specs.Programs.{IsWritten};
+ghost use Rattle.gate_inline.specs.Registers.{AreRegisters, IsFree, IsRead};
+ghost use Rattle.program_reader.specs.Refusals.{program_of};
+ghost use Rattle.qasm_writer.specs.Outputs.{bits_of};
+ghost use Rattle.route_report.specs.Lines.{check_line};
+ghost use Rattle.qroute_top.specs.Delivered.{counts_of, placed_read};
+ghost use Rattle.qroute_top.specs.Plans.{IsPlanned, IsReport, TellsOutputFault, target_program, text_of};
 
-use circuit_list::Circuit;
+use crate::target::Target;
 use placement::Placement;
+use program_reader::Source;
+use qasm_check::Bits;
 use qasm_writer::output::{Output, Register};
 use qasm_writer::program_text;
-use route_report::{Fault, Report, Wires, fault_line, report_line};
+use route_report::{Counts, Fault, Report, Wires, check_line, fault_line, report_line};
 use std::alloc::{AllocError, Global};
-use walk_route::Routed;
+use unitary_plain::counts::{cx_count_of, t_count_of};
 
-/// The text, the report line, and the fault line of an output that fails.
+/// The text of a program, and the line of the fault that is told where it can't be written.
+#[derive(Drop)]
+pub struct Written {
+    pub text: Vec<u8>,
+    pub fault: Vec<u8>,
+}
+
+/// What goes to the output, if anything does, and what goes to the report.
 #[derive(Drop)]
 pub struct Plan {
-    pub text: Vec<u8>,
+    pub written: Option<Written>,
     pub line: Vec<u8>,
-    pub output_fault: Vec<u8>,
 }
 
-/// What the report tells of the source.
-#[derive(Clone, Copy)]
-pub struct Counts {
-    pub qubits: u32,
-    pub cx: usize,
-    pub t: usize,
-}
-
-/// The counts of a circuit.
-pub fn counts_of(circuit: &Circuit) -> Counts
-    ensures qubits { result.qubits ≡ circuit.now.wires }
-    ensures cx { result.cx ≡ cx_count (ops circuit.now.gates) }
-    ensures t { result.t ≡ t_count (ops circuit.now.gates) }
-    ensures fine { All (IsFine circuit.now.wires) circuit.now.gates }
+/// What the line tells of a program.
+pub fn counts_of(source: &Source) -> Counts
+    requires { length source.now.ops.list ≤ 65536 }
+    ensures { result ≡ counts_of (program_of source.now) }
 {
+    let ops = source.ops.list.as_slice();
     Counts {
-        qubits: circuit.wires(),
-        cx: circuit.count_cx(),
-        t: circuit.count_t(),
+        barriers: source.barriers,
+        bits: source.ops.reads.as_slice().len() as u32,
+        cx: cx_count_of(ops),
+        operations: ops.len() as u64,
+        qubits: source.ops.wires,
+        t: t_count_of(ops),
     }
-}
-
-/// The qubit of each wire.
-pub fn qubits_of(alloc: Global, placement: &Placement) -> Result<Wires, AllocError>
-    ensures { IfOk result (λ w. w ≡ placement.now) }
-{
-    Ok(Wires::new(Vec::from_slice(alloc, placement.qubits())?))
 }
 
 /// The qubit at which the wire of a read stands.
@@ -83,76 +79,95 @@ fn placed_reads(
     Ok(placed)
 }
 
-/// The report of a circuit that stands for a source of these counts.
-fn report_of(
-    alloc: Global,
-    source: Counts,
-    initial: Wires,
-    target: &Routed,
-) -> Result<Report, AllocError>
-    ensures report { IfOk result (IsReport source initial target.now) }
-    ensures fine { IfOk result (λ _. All (IsFine target.now.body.wires) target.now.body.gates) }
+/// The classical registers as they are written.
+fn registers_of<'a>(alloc: Global, bits: &'a [Bits]) -> Result<Vec<Register<'a>>, AllocError>
+    requires { All IsFree bits.now }
+    ensures { IfOk result (λ v. map bits_of v.items ≡ bits.now) }
 {
-    let last = qubits_of(alloc, &target.last)?;
-    Ok(Report {
-        barriers: 0,
-        cx_after: target.body.count_cx() as u64,
-        cx_before: source.cx as u64,
-        device: target.body.wires(),
-        last,
-        initial,
-        phase: target.turn,
-        qubits: source.qubits,
-        swaps: target.swaps,
-        t_after: target.body.count_t() as u64,
-        t_before: source.t as u64,
-    })
+    let mut registers = Vec::new(alloc);
+    'registers: for it in bits {
+        // A name of the language is ASCII.
+        let name = str::from_utf8(it.name.as_bytes()).unwrap();
+        registers.push(Register {
+            name,
+            size: it.size,
+        })?;
+    }
+    Ok(registers)
 }
 
-/// The text of a circuit and its reads; the classical register, where there are bits, is `c`.
-fn text_of(alloc: Global, body: &Circuit, reads: &[Option<u32>]) -> Result<Vec<u8>, AllocError>
-    requires short { length reads.now ≤ 1024 }
-    requires there { All (IsRead body.now.wires) reads.now }
-    ensures { IfOk result (λ v. IsWritten body.now.wires (ops body.now.gates) reads.now v.items) }
+/// The text of a target that reads what its source reads.
+fn written_text(alloc: Global, source: &Source, target: &Target) -> Result<Vec<u8>, AllocError>
+    requires placed { length target.now.last ≡ target.now.body.wires }
+    requires registers { AreRegisters source.now.registers.items (length source.now.ops.reads) }
+    requires reads { All (IsRead target.now.body.wires) source.now.ops.reads }
+    ensures { IfOk result (λ v. IsWritten v.items (target_program source.now target.now)) }
 {
-    let register = [Register {
-        name: "c",
-        size: reads.len() as u32,
-    }];
-    let registers: &[Register] = if reads.is_empty() { &[] } else { &register };
+    let reads = placed_reads(alloc, source.ops.reads.as_slice(), &target.last)?;
+    let registers = registers_of(alloc, &source.registers)?;
     program_text(
         alloc,
         &Output {
-            body,
-            registers,
-            reads,
+            body: &target.body,
+            registers: &registers,
+            reads: &reads,
         },
     )
 }
 
-/// Makes all that is to be written for a circuit that stands for a source of these counts and reads.
-pub fn plan_of(
-    alloc: Global,
-    source: Counts,
-    reads: &[Option<u32>],
-    initial: Wires,
-    target: &Routed,
-) -> Result<Plan, AllocError>
-    requires placed { length target.now.last ≡ target.now.body.wires }
-    requires short { length reads.now ≤ 1024 }
-    requires there { All (IsRead target.now.body.wires) reads.now }
-    ensures planned { IfOk result (λ p. IsPlanned source initial reads.now target.now p.text.items p.line.items) }
-    ensures fine { IfOk result (λ _. All (IsFine target.now.body.wires) target.now.body.gates) }
-    ensures output_fault { IfOk result (λ p. p.output_fault.items ≡ output_fault_line) }
+/// The report of a target that stands for a source.
+fn report_of(alloc: Global, source: &Source, target: Target) -> Result<Report, AllocError>
+    requires { length source.now.ops.list ≤ 65536 }
+    ensures { IfOk result (IsReport source.now target) }
 {
-    let placed = placed_reads(alloc, reads, &target.last)?;
-    let text = text_of(alloc, &target.body, &placed)?;
-    let report = report_of(alloc, source, initial, target)?;
+    let counts = counts_of(source);
+    let last = Wires::new(Vec::from_slice(alloc, target.last.qubits())?);
+    Ok(Report {
+        barriers: counts.barriers,
+        cx_after: target.body.count_cx() as u64,
+        cx_before: counts.cx,
+        device: target.body.wires(),
+        last,
+        initial: target.initial,
+        phase: target.turn,
+        qubits: counts.qubits,
+        swaps: target.swaps,
+        t_after: target.body.count_t() as u64,
+        t_before: counts.t,
+    })
+}
+
+/// All that is to be written for a target that stands for a source.
+pub fn plan_of(alloc: Global, source: &Source, target: Target) -> Result<Plan, AllocError>
+    requires short { length source.now.ops.list ≤ 65536 }
+    requires placed { length target.last ≡ target.body.wires }
+    requires registers { AreRegisters source.now.registers.items (length source.now.ops.reads) }
+    requires reads { All (IsRead target.body.wires) source.now.ops.reads }
+    ensures planned { IfOk result (λ p. IsPlanned source.now target (text_of p) p.line.items) }
+    ensures fine { All (IsFine target.body.wires) target.body.gates }
+    ensures writes { IfOk result (λ p. is_some p.written ≡ true) }
+    ensures fault { IfOk result TellsOutputFault }
+{
+    let _wires = target.body.wires();
+    let text = written_text(alloc, source, &target)?;
+    let report = report_of(alloc, source, target)?;
     let line = report_line(alloc, &report)?;
-    let output_fault = fault_line(alloc, &Fault::Output)?;
+    let fault = fault_line(alloc, &Fault::Output)?;
     Ok(Plan {
-        text,
+        written: Some(Written { text, fault }),
         line,
-        output_fault,
+    })
+}
+
+/// The line that tells what a program has; nothing goes to the output.
+pub fn check_plan(alloc: Global, source: &Source) -> Result<Plan, AllocError>
+    requires { length source.now.ops.list ≤ 65536 }
+    ensures line { IfOk result (λ p. p.line.items ≡ check_line (counts_of (program_of source.now))) }
+    ensures written { IfOk result (λ p. p.written ≡ None) }
+{
+    let line = check_line(alloc, &counts_of(source))?;
+    Ok(Plan {
+        written: None,
+        line,
     })
 }

@@ -1,16 +1,8 @@
 //! Why a run ends before its first byte goes out.
 
 use coupling_map::DeviceFault;
+use program_reader::{ReadFault, Refusal};
 use std::alloc::AllocError;
-
-/// Why a program text is refused.
-#[derive(Clone, Copy, Debug, PartialEq, Eq)]
-pub enum Refusal {
-    /// The text has more than 4,194,304 bytes.
-    TooLong,
-    /// The text spells no program: it doesn't fit from the byte at `place` on, its end included.
-    Syntax { place: u32 },
-}
 
 /// Why a device text is refused.
 #[derive(Clone, Copy, Debug, PartialEq, Eq)]
@@ -21,6 +13,30 @@ pub enum DeviceRefusal {
     Fault(DeviceFault),
     /// The device has fewer qubits than the program.
     TooFewQubits { device: u32, qubits: u32 },
+}
+
+/// Why the program isn't read.
+#[derive(Clone, Copy, Debug, PartialEq, Eq)]
+pub enum SourceStop {
+    /// Memory was wanting.
+    NoMemory,
+    /// Reading the input failed.
+    Failed,
+    /// The program is refused.
+    Refused(Refusal),
+}
+
+/// Why the device isn't had.
+#[derive(Clone, Copy, Debug, PartialEq, Eq)]
+pub enum DeviceStop {
+    /// Memory was wanting.
+    NoMemory,
+    /// The shelf failed.
+    Failed,
+    /// The shelf has no text of the device's name.
+    Absent,
+    /// The device is refused.
+    Refused(DeviceRefusal),
 }
 
 /// Want of memory, or a fault with what the fault line tells of it.
@@ -42,6 +58,20 @@ pub enum Stop {
     Device(DeviceRefusal),
 }
 
+impl From<ReadFault> for SourceStop {
+    ghost use Rattle.std.specs.Prelude.{◌≡◌};
+    ghost use Rattle.qroute_top.specs.Stops.{unread};
+
+    ghost from_gives = { λ f s. s ≡ unread f };
+
+    fn from(fault: ReadFault) -> SourceStop {
+        match fault {
+            ReadFault::NoMemory => SourceStop::NoMemory,
+            ReadFault::Refused(refusal) => SourceStop::Refused(refusal),
+        }
+    }
+}
+
 impl From<AllocError> for Stop {
     ghost use Rattle.std.specs.Prelude.{◌≡◌};
     ghost use Rattle.qroute_top.specs.declared.stops.Stop.TheVariants.{NoMemory};
@@ -50,5 +80,36 @@ impl From<AllocError> for Stop {
 
     fn from(_error: AllocError) -> Stop {
         Stop::NoMemory
+    }
+}
+
+impl From<SourceStop> for Stop {
+    ghost use Rattle.std.specs.Prelude.{◌≡◌};
+    ghost use Rattle.qroute_top.specs.Stops.{source_stopped};
+
+    ghost from_gives = { λ e s. s ≡ source_stopped e };
+
+    fn from(stop: SourceStop) -> Stop {
+        match stop {
+            SourceStop::NoMemory => Stop::NoMemory,
+            SourceStop::Failed => Stop::Input,
+            SourceStop::Refused(refusal) => Stop::Program(refusal),
+        }
+    }
+}
+
+impl From<DeviceStop> for Stop {
+    ghost use Rattle.std.specs.Prelude.{◌≡◌};
+    ghost use Rattle.qroute_top.specs.Stops.{device_stopped};
+
+    ghost from_gives = { λ e s. s ≡ device_stopped e };
+
+    fn from(stop: DeviceStop) -> Stop {
+        match stop {
+            DeviceStop::NoMemory => Stop::NoMemory,
+            DeviceStop::Failed => Stop::Shelf,
+            DeviceStop::Absent => Stop::Absent,
+            DeviceStop::Refused(refusal) => Stop::Device(refusal),
+        }
     }
 }

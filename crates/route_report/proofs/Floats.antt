@@ -1,17 +1,19 @@
 -- No line has a float, so its text is exact.
 --   items_have_float-wholes  an array of whole numbers has none
 --   has_float-report         nor has a report
+--   has_float-check          nor have the numbers of a check
 --   has_float-fault          nor has a fault
---   floats                   both, for the check to use
+--   floats                   all of them, for the check to use
 use Rattle.std.proofs.Common.{◌≡◌, ℕ, List, [], ◌∷◌, map, false, refl}
 use Rattle.serde_json.specs.View.{items_of}
 use Rattle.serde_json.specs.Written.{has_float, items_have_float}
+use Rattle.route_report.specs.declared.lines.Counts.{Counts}
 use Rattle.route_report.specs.declared.lines.Report.{Report}
 use Rattle.route_report.specs.declared.faults.Fault.{Fault}
 use Rattle.route_report.specs.declared.faults.Fault.TheVariants as fault
 use Rattle.route_report.specs.Compact.{whole}
 use Rattle.route_report.specs.Faults.{fault_data}
-use Rattle.route_report.specs.Lines.{report_data}
+use Rattle.route_report.specs.Lines.{check_data, report_data}
 
 items_have_float-wholes : (ns : List ℕ) → items_have_float (items_of (map whole ns)) ≡ false
 items_have_float-wholes [] = refl
@@ -19,6 +21,9 @@ items_have_float-wholes (n ∷ ns) = items_have_float-wholes ns
 
 pub has_float-report : (r : Report) → has_float (report_data r) ≡ false
 has_float-report r = rw (items_have_float-wholes r.last, items_have_float-wholes r.initial) refl
+
+pub has_float-check : (c : Counts) → has_float (check_data c) ≡ false
+has_float-check c = refl
 
 pub has_float-fault : (f : Fault) → has_float (fault_data f) ≡ false
 has_float-fault fault.Words = refl
@@ -33,4 +38,4 @@ has_float-fault (fault.SelfEdge qubit) = refl
 has_float-fault (fault.NotConnected from to) = refl
 has_float-fault (fault.TooFewQubits device qubits) = refl
 
-pub ruleset floats = (has_float-report, has_float-fault)
+pub ruleset floats = (has_float-report, has_float-check, has_float-fault)

@@ -1,13 +1,13 @@
-//! The two lines of JSON that a run tells of itself.
+//! The lines of JSON that a run tells of itself.
 //!
-//! A `Report` or a `Fault` goes in, and the bytes of its line come out: one compact JSON object with its
+//! A `Report`, the `Counts` of a checked program, or a `Fault` goes in, and the bytes of its line come out: one compact JSON object with its
 //! keys in the order of their bytes, then a line break. The contracts give these bytes exactly, and the
 //! status that a fault ends with. Every record has a line; the only error is want of memory.
 #![tactic(auto)]
 
 ghost use Rattle.std.specs.Prelude.{◌≡◌, IfOk};
 ghost use Rattle.route_report.specs.Faults.{fault_line};
-ghost use Rattle.route_report.specs.Lines.{report_line};
+ghost use Rattle.route_report.specs.Lines.{check_line, report_line};
 
 use std::alloc::{AllocError, Global};
 
@@ -18,7 +18,7 @@ mod refusals;
 pub mod wires;
 
 pub use faults::{Fault, status};
-pub use lines::Report;
+pub use lines::{Counts, Report};
 pub use wires::Wires;
 
 /// The bytes of the report line; `Err` for want of memory alone.
@@ -27,6 +27,15 @@ pub fn report_line(alloc: Global, report: &Report) -> Result<Vec<u8>, AllocError
     ensures { IfOk result (λ v. v.items ≡ report_line report.now) }
 {
     let value = lines::report_value(alloc, report)?;
+    compact::value_line(alloc, &value)
+}
+
+/// The bytes of the check line; `Err` for want of memory alone.
+#[tactic(auto, using(crate::proofs::Floats::floats))]
+pub fn check_line(alloc: Global, counts: &Counts) -> Result<Vec<u8>, AllocError>
+    ensures { IfOk result (λ v. v.items ≡ check_line counts.now) }
+{
+    let value = lines::check_value(alloc, counts)?;
     compact::value_line(alloc, &value)
 }
 

@@ -2,7 +2,7 @@
 
 ghost use Rattle.std.specs.Prelude.{◌≡◌, IfOk};
 ghost use Rattle.serde_json.specs.View.{view};
-ghost use Rattle.route_report.specs.Lines.{report_data};
+ghost use Rattle.route_report.specs.Lines.{check_data, report_data};
 
 use crate::compact::number_array;
 use crate::wires::Wires;
@@ -38,6 +38,23 @@ pub struct Report {
     pub t_before: u64,
 }
 
+/// The numbers of a program that was only checked, as the check line writes them.
+#[derive(Clone, Copy, Debug, PartialEq, Eq)]
+pub struct Counts {
+    /// Barrier statements outside gate bodies.
+    pub barriers: u64,
+    /// Classical bits.
+    pub bits: u32,
+    /// CNOTs of its operations.
+    pub cx: u64,
+    /// Operations, each a `U` or a CNOT.
+    pub operations: u64,
+    /// Qubits.
+    pub qubits: u32,
+    /// T gates of its operations.
+    pub t: u64,
+}
+
 /// The JSON object of a report.
 pub(crate) fn report_value(alloc: Global, report: &Report) -> Result<Value, AllocError>
     ensures { IfOk result (λ v. view v ≡ report_data report.now) }
@@ -57,5 +74,20 @@ pub(crate) fn report_value(alloc: Global, report: &Report) -> Result<Value, Allo
         "swaps": report.swaps,
         "t_after": report.t_after,
         "t_before": report.t_before
+    })
+}
+
+/// The JSON object of a checked program's numbers.
+pub(crate) fn check_value(alloc: Global, counts: &Counts) -> Result<Value, AllocError>
+    ensures { IfOk result (λ v. view v ≡ check_data counts.now) }
+{
+    json!(in alloc; {
+        "barriers": counts.barriers,
+        "bits": counts.bits,
+        "cx": counts.cx,
+        "format": 1u8,
+        "operations": counts.operations,
+        "qubits": counts.qubits,
+        "t": counts.t
     })
 }

@@ -1,4 +1,4 @@
-use crate::{Fault, Report, Wires, fault_line, report_line, status};
+use crate::{Counts, Fault, Report, Wires, check_line, fault_line, report_line, status};
 use std::test::Fail;
 
 #[test]
@@ -119,6 +119,40 @@ fn writes_the_worked_lines(rt: HostRuntime) -> Result<(), Fail> {
             want.as_bytes(),
             "{want}"
         );
+    }
+    Ok(())
+}
+
+#[test]
+fn writes_the_check_lines(rt: HostRuntime) -> Result<(), Fail> {
+    let bell = Counts {
+        barriers: 1,
+        bits: 2,
+        cx: 1,
+        operations: 3,
+        qubits: 2,
+        t: 1,
+    };
+    let large = Counts {
+        barriers: 18446744073709551615,
+        bits: 1024,
+        cx: 0,
+        operations: 65536,
+        qubits: 64,
+        t: 65536,
+    };
+    for (counts, want) in [
+        (
+            &bell,
+            "{\"barriers\":1,\"bits\":2,\"cx\":1,\"format\":1,\"operations\":3,\"qubits\":2,\"t\":1}\n",
+        ),
+        (
+            &large,
+            "{\"barriers\":18446744073709551615,\"bits\":1024,\"cx\":0,\"format\":1,\"operations\":65536,\"qubits\":64,\"t\":65536}\n",
+        ),
+    ] {
+        let line = check_line(rt.alloc(), counts)?;
+        assert_eq!(rt; line.as_slice(), want.as_bytes());
     }
     Ok(())
 }

@@ -11,7 +11,6 @@ use Rattle.std.proofs.lemmas.List.{map-append, length-append}
 use Rattle.std.proofs.lemmas.List.Elements.{All-append, All-from_recursion}
 use Rattle.circuit_list.specs.declared.Gate.{Gate}
 use Rattle.circuit_list.specs.declared.Gate.TheVariants.{H, X, P, Cx}
-use Rattle.circuit_list.specs.Body.{Body}
 use Rattle.circuit_list.specs.Gates.{IsFine, op_of, ops}
 use Rattle.circuit_list.proofs.GateLaws.{WiresBelow-ops}
 use Rattle.coupling_map.specs.Walks.{is_near}
@@ -136,13 +135,13 @@ IsFitting-underway es size first S r u = record {
 }
 
 -- ---- the machine's steps
-pub IsOnTheWay-start : (es : List (ℕ × ℕ)) (size n : ℕ) (gs : List Gate) (heads : List ℕ) (r : Routed) → IsPlacement size r.last → r.body ≡ record { wires = size; gates = [] }
+pub IsOnTheWay-start : (es : List (ℕ × ℕ)) (size n : ℕ) (gs : List Gate) (heads : List ℕ) (r : Routed) → IsPlacement size r.last → r.body.wires ≡ size → r.body.gates ≡ []
     → r.swaps ≡ 0 → r.turn ≡ 0 → AreHeads n gs heads → rest heads gs ≡ gs → IsOnTheWay es size r.last n gs heads r
-IsOnTheWay-start es size n gs heads r placed empty swaps turn are all = record {
+IsOnTheWay-start es size n gs heads r placed wires empty swaps turn are all = record {
   are_heads = are;
   done = [];
   underway = record {
-    wires = ap (λ (b : Body). b.wires) empty;
+    wires = wires;
     placed = placed;
     below = omega (arith, turn);
     within = subst (WiresBelow size) (sym none) tt;
@@ -157,7 +156,7 @@ IsOnTheWay-start es size n gs heads r placed empty swaps turn are all = record {
 }
   where
     none : ops r.body.gates ≡ []
-    none = ap (λ (b : Body). ops b.gates) empty
+    none = ap ops empty
 
 pub IsOnTheWay-walked : (es : List (ℕ × ℕ)) (size : ℕ) (first : List ℕ) (n : ℕ) (gs : List Gate) (heads : List ℕ) (old new : Routed)
     → IsOnTheWay es size first n gs heads old → Keeps es size old new → IsOnTheWay es size first n gs heads new

@@ -28,13 +28,10 @@ pub record IsPushed (a b : Body) (gs : List Gate) : Type 0 where
   pub wires : b.wires ≡ a.wires
   pub gates : b.gates ≡ a.gates ++ gs
 
-pub pushed-one : (a b : Body) (g : Gate) → b ≡ record { wires = a.wires; gates = a.gates ++ g ∷ [] } → IsPushed a b (g ∷ [])
-pushed-one a b g e = record { wires = ap (λ (x : Body). x.wires) e; gates = ap (λ (x : Body). x.gates) e }
-
-pub pushed-more : (a b c : Body) (gs : List Gate) (g : Gate) → IsPushed a b gs → c ≡ record { wires = b.wires; gates = b.gates ++ g ∷ [] } → IsPushed a c (gs ++ g ∷ [])
+pub pushed-more : (a b c : Body) (gs : List Gate) (g : Gate) → IsPushed a b gs → IsPushed b c (g ∷ []) → IsPushed a c (gs ++ g ∷ [])
 pushed-more a b c gs g h e = record {
-  wires = ap (λ (x : Body). x.wires) e ∙ h.wires;
-  gates = ap (λ (x : Body). x.gates) e ∙ ap (λ xs. xs ++ g ∷ []) h.gates ∙ append_assoc a.gates gs (g ∷ []);
+  wires = e.wires ∙ h.wires;
+  gates = e.gates ∙ ap (λ xs. xs ++ g ∷ []) h.gates ∙ append_assoc a.gates gs (g ∷ []);
 }
 
 same_turn : (t : ℕ) → t < 8 → t ≡ (t + 0) % 8
@@ -51,24 +48,23 @@ plain old b gs hs k lt h e z = record {
   swaps = refl;
 }
 
-pub cx-straight : (es : List (ℕ × ℕ)) (c t : ℕ) (old : Routed) (b : Body) → is_edge es c t ≡ true → old.turn < 8 → b ≡ record { wires = old.body.wires; gates = old.body.gates ++ Cx c t ∷ [] }
+pub cx-straight : (es : List (ℕ × ℕ)) (c t : ℕ) (old : Routed) (b : Body) → is_edge es c t ≡ true → old.turn < 8 → IsPushed old.body b (Cx c t ∷ [])
     → HasWritten (cx_gates es c t) (cx_turn es c t) old (record { body = b; last = old.last; swaps = old.swaps; turn = old.turn })
 unfolding cx_gates cx_turn
 cx-straight es c t old b edge lt e =
-    plain old b (Cx c t ∷ []) _ _ lt (pushed-one old.body b (Cx c t) e) (λ z. cond (sym edge z) (Cx c t ∷ []) (H c ∷ H t ∷ Cx t c ∷ H c ∷ H t ∷ [])) (λ z. cond (edge z) 0 4)
+    plain old b (Cx c t ∷ []) _ _ lt e (λ z. cond (sym edge z) (Cx c t ∷ []) (H c ∷ H t ∷ Cx t c ∷ H c ∷ H t ∷ [])) (λ z. cond (edge z) 0 4)
 
 pub cx-turned : (es : List (ℕ × ℕ)) (c t : ℕ) (old : Routed) (b1 b2 b3 b4 b5 : Body) (k : ℕ) → is_edge es c t ≡ false
-    → b1 ≡ record { wires = old.body.wires; gates = old.body.gates ++ H c ∷ [] }
-    → b2 ≡ record { wires = b1.wires; gates = b1.gates ++ H t ∷ [] }
-    → b3 ≡ record { wires = b2.wires; gates = b2.gates ++ Cx t c ∷ [] }
-    → b4 ≡ record { wires = b3.wires; gates = b3.gates ++ H c ∷ [] }
-    → b5 ≡ record { wires = b4.wires; gates = b4.gates ++ H t ∷ [] }
+    → IsPushed old.body b1 (H c ∷ [])
+    → IsPushed b1 b2 (H t ∷ [])
+    → IsPushed b2 b3 (Cx t c ∷ [])
+    → IsPushed b3 b4 (H c ∷ [])
+    → IsPushed b4 b5 (H t ∷ [])
     → k ≡ (old.turn + 4) % 8
     → HasWritten (cx_gates es c t) (cx_turn es c t) old (record { body = b5; last = old.last; swaps = old.swaps; turn = k })
 unfolding cx_gates cx_turn
 cx-turned es c t old b1 b2 b3 b4 b5 k edge e1 e2 e3 e4 e5 ek =
-    let p1 = pushed-one old.body b1 (H c) e1 in
-    let p2 = pushed-more old.body b1 b2 (H c ∷ []) (H t) p1 e2 in
+    let p2 = pushed-more old.body b1 b2 (H c ∷ []) (H t) e1 e2 in
     let p3 = pushed-more old.body b2 b3 (H c ∷ H t ∷ []) (Cx t c) p2 e3 in
     let p4 = pushed-more old.body b3 b4 (H c ∷ H t ∷ Cx t c ∷ []) (H c) p3 e4 in
     let p5 = pushed-more old.body b4 b5 (H c ∷ H t ∷ Cx t c ∷ H c ∷ []) (H t) p4 e5 in
@@ -82,9 +78,9 @@ cx-turned es c t old b1 b2 b3 b4 b5 k edge e1 e2 e3 e4 e5 ek =
 
 -- ---- one gate
 pub one-written : (es : List (ℕ × ℕ)) (old : Routed) (b : Body) (g placed : Gate) → old.turn < 8 → emitted es old.last g ≡ placed ∷ [] → emitted_turn es old.last g ≡ 0
-    → b ≡ record { wires = old.body.wires; gates = old.body.gates ++ placed ∷ [] }
+    → IsPushed old.body b (placed ∷ [])
     → HasWritten (emitted es old.last g) (emitted_turn es old.last g) old (record { body = b; last = old.last; swaps = old.swaps; turn = old.turn })
-one-written es old b g placed lt e z h = plain old b (placed ∷ []) _ _ lt (pushed-one old.body b placed h) (sym e) z
+one-written es old b g placed lt e z h = plain old b (placed ∷ []) _ _ lt h (sym e) z
 
 pub emitted-h : (es : List (ℕ × ℕ)) (q : List ℕ) (g : Gate) (w p : ℕ) → g ≡ H w → p ≡ slice_index q w → (emitted es q g ≡ H p ∷ []) × (emitted_turn es q g ≡ 0)
 unfolding emitted emitted_turn
@@ -113,18 +109,17 @@ same_written gs hs k l old new e f h = record {
 
 -- ---- a swap
 pub swap-made : (es : List (ℕ × ℕ)) (a b : ℕ) (p : ℕ × ℕ) (old r : Routed) (b1 b3 : Body) (last : List ℕ) → p ≡ low_order es a b
-    → b1 ≡ record { wires = old.body.wires; gates = old.body.gates ++ Cx p.0 p.1 ∷ [] }
+    → IsPushed old.body b1 (Cx p.0 p.1 ∷ [])
     → HasWritten (cx_gates es p.1 p.0) (cx_turn es p.1 p.0) (record { body = b1; last = old.last; swaps = old.swaps; turn = old.turn }) r
-    → b3 ≡ record { wires = r.body.wires; gates = r.body.gates ++ Cx p.0 p.1 ∷ [] }
+    → IsPushed r.body b3 (Cx p.0 p.1 ∷ [])
     → last ≡ map (exchanged a b) r.last
     → HasSwapped es a b old (record { body = b3; last = last; swaps = r.swaps + 1; turn = r.turn })
 unfolding swap_gates swap_turn
 swap-made es a b p old r b1 b3 last e e1 h e3 el =
     let middle : List Gate = cx_gates es p.1 p.0 in
-    let p1 = pushed-one old.body b1 (Cx p.0 p.1) e1 in
     record {
-      wires = ap (λ (x : Body). x.wires) e3 ∙ h.wires ∙ p1.wires;
-      gates = ap (λ (x : Body). x.gates) e3 ∙ ap (λ xs. xs ++ Cx p.0 p.1 ∷ []) (h.gates ∙ ap (λ xs. xs ++ middle) p1.gates ∙ append_assoc old.body.gates (Cx p.0 p.1 ∷ []) middle)
+      wires = e3.wires ∙ h.wires ∙ e1.wires;
+      gates = e3.gates ∙ ap (λ xs. xs ++ Cx p.0 p.1 ∷ []) (h.gates ∙ ap (λ xs. xs ++ middle) e1.gates ∙ append_assoc old.body.gates (Cx p.0 p.1 ∷ []) middle)
           ∙ append_assoc old.body.gates (Cx p.0 p.1 ∷ middle) (Cx p.0 p.1 ∷ [])
           ∙ ap (λ (o : ℕ × ℕ). old.body.gates ++ (Cx o.0 o.1 ∷ cx_gates es o.1 o.0 ++ Cx o.0 o.1 ∷ [])) e;
       turn = h.turn ∙ ap (λ (o : ℕ × ℕ). (old.turn + cx_turn es o.1 o.0) % 8) e;

@@ -12,4 +12,4 @@ returns-clause-text c =
 
 pub returns-clause-written : goal.returns-clause-written
 returns-clause-written c =
-    IsWritten-text c.args.output.now _ c.requires c.wires.ensures.few c.wires.ensures.fine (returns-clause-text c)
+    IsWritten-text c.lexed_exactly.ensures.has_tokens c.args.output.now _ c.requires c.wires.ensures.few c.wires.ensures.fine (returns-clause-text c)

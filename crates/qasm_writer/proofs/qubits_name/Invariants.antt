@@ -3,7 +3,7 @@ use Rattle.std.proofs.Common.{◌≡◌, ◌<◌, ℕ, true, map}
 use Rattle.std.specs.Prelude.{string_bytes}
 use Rattle.qasm_writer.specs.Outputs.{bits_of}
 use Rattle.qasm_writer.specs.Texts.{with_underscores}
-use Rattle.qasm_check.specs.Names.{is_one_of}
+use Rattle.gate_library.specs.Names.{is_one_of}
 use Rattle.gate_inline.specs.Registers.{names_of}
 use Rattle.qasm_writer.proofs.qubits_name.Given as goal
 

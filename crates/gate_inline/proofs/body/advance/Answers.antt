@@ -2,7 +2,7 @@
 use Rattle.std.proofs.Common.{◌≡◌, ◌*◌, ◌<◌, ℕ, List, map, sym, subst, ap, ◌∙◌, Ok, Some, take}
 use Rattle.std.proofs.lemmas.Result.{err_from_is_err_and}
 use Rattle.angle_fraction.specs.declared.Angle.{Angle}
-use Rattle.qasm_check.specs.Views.{gate as gate_view, item as item_view}
+use Rattle.gate_library.specs.Views.{gate as gate_view, item as item_view}
 use Rattle.gate_inline.specs.Frames.{asked_answer, asked_size, body_room, frame_answer, frames_answer, frames_room}
 use Rattle.gate_inline.specs.Meanings.{followed, item_answer, joined, meanings, one_op}
 use Rattle.gate_inline.specs.Sizes.{item_size, size_all, size_at, sizes}

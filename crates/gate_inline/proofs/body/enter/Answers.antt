@@ -1,8 +1,8 @@
 -- A gate's meaning, case by case.
 use Rattle.std.proofs.Common.{ℕ, List, [], map, sym, ap, ◌∙◌, arith, Some, Ok, refl, subst}
 use Rattle.angle_fraction.specs.declared.Angle.{Angle}
-use Rattle.qasm_check.specs.Gates.{u, cx, opaque, composed}
-use Rattle.qasm_check.specs.Views.{gate as gate_view, item as item_view}
+use Rattle.gate_library.specs.Gates.{u, cx, opaque, composed}
+use Rattle.gate_library.specs.Views.{gate as gate_view, item as item_view}
 use Rattle.gate_inline.specs.Meanings.{controlled, one_op, rotation}
 use Rattle.gate_inline.specs.Stops.{IsStop}
 use Rattle.gate_inline.proofs.FrameLaws.{called_op, called_stop, called_body, called_none, called_size, called_size_none, called_room}

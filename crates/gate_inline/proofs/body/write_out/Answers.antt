@@ -1,7 +1,7 @@
 -- What is written and what is left stay the gate's operations, while there is less and less room.
 use Rattle.std.proofs.Common.{◌<◌, ℕ, map, sym, subst, ap, ◌∙◌, Ok}
 use Rattle.std.proofs.lemmas.Result.{err_from_is_err_and}
-use Rattle.qasm_check.specs.Views.{gate as gate_view}
+use Rattle.gate_library.specs.Views.{gate as gate_view}
 use Rattle.gate_inline.specs.Frames.{frame_answer, frames_answer, frames_room}
 use Rattle.gate_inline.specs.Meanings.{followed, meaning_at, meanings}
 use Rattle.gate_inline.proofs.FrameLaws.{IsStop_through, frames_answer-push, frames_room-push}

@@ -1,6 +1,6 @@
 -- What is written and what is left are the gate's operations.
 use Rattle.std.proofs.Common.{◌≡◌, Ok, map}
-use Rattle.qasm_check.specs.Views.{gate as gate_view}
+use Rattle.gate_library.specs.Views.{gate as gate_view}
 use Rattle.gate_inline.specs.Frames.{frames_answer, frames_room}
 use Rattle.gate_inline.specs.Meanings.{followed, meaning_at, meanings}
 use Rattle.gate_inline.proofs.body.write_out.Given as goal

@@ -2,7 +2,7 @@
 use Rattle.std.proofs.Common.{◌<◌, None, Some, length, get_or, sym, ap, ◌∙◌, arith}
 use Rattle.std.specs.Option.{option_or}
 use Rattle.std.proofs.Math.ListN.{set}
-use Rattle.qasm_check.specs.Places.{times, wire_at}
+use Rattle.gate_library.specs.Operands.{times, wire_at}
 use Rattle.gate_inline.proofs.ReadLaws.{measured_next, read_within-zero}
 use Rattle.gate_inline.proofs.program.measure.Goals as goal
 

@@ -1,7 +1,7 @@
 -- One more step, or the first that isn't exact.
 use Rattle.std.proofs.Common.{map, sym, subst, arith}
 use Rattle.qasm_check.specs.StepViews.{step as step_view}
-use Rattle.qasm_check.specs.Views.{gate as gate_view}
+use Rattle.gate_library.specs.Views.{gate as gate_view}
 use Rattle.gate_inline.specs.Inlined.{IsUnwritten}
 use Rattle.gate_inline.specs.Placed.{IsPlaced}
 use Rattle.gate_inline.specs.declared.program.Unwritten.{Unwritten}

@@ -1,7 +1,7 @@
 -- The operations of the first steps.
 use Rattle.std.proofs.Common.{◌≡◌, Ok, map, take}
 use Rattle.qasm_check.specs.StepViews.{step as step_view}
-use Rattle.qasm_check.specs.Views.{gate as gate_view}
+use Rattle.gate_library.specs.Views.{gate as gate_view}
 use Rattle.gate_inline.specs.Inlined.{operations as operations_of}
 use Rattle.gate_inline.proofs.program.operations.Given as goal
 

@@ -1,6 +1,6 @@
 -- The wires so far.
 use Rattle.std.proofs.Common.{◌≡◌, map, take}
-use Rattle.qasm_check.specs.Places.{wire_at as wire_there}
+use Rattle.gate_library.specs.Operands.{wire_at as wire_there}
 use Rattle.gate_inline.proofs.program.wires_at.Given as goal
 
 abbrev pub invariant-places : goal.invariant-places

@@ -1,8 +1,8 @@
 -- One more index.
 use Rattle.std.proofs.Common.{ℕ, List, map, sym, subst, ap, ◌∙◌, Ok, arith}
 use Rattle.angle_fraction.specs.declared.Angle.{Angle}
-use Rattle.qasm_check.specs.Places.{wire_at as wire_there}
-use Rattle.qasm_check.specs.Views.{gate as gate_view}
+use Rattle.gate_library.specs.Operands.{wire_at as wire_there}
+use Rattle.gate_library.specs.Views.{gate as gate_view}
 use Rattle.gate_inline.specs.Meanings.{Answer, broadcast_answer, followed, meaning_at, meanings}
 use Rattle.gate_inline.specs.Stops.{IsStop}
 use Rattle.gate_inline.proofs.FrameLaws.{followed-nil}

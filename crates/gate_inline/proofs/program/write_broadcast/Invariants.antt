@@ -1,6 +1,6 @@
 -- What is written are the operations for the first indices.
 use Rattle.std.proofs.Common.{◌≡◌, Ok, map}
-use Rattle.qasm_check.specs.Views.{gate as gate_view}
+use Rattle.gate_library.specs.Views.{gate as gate_view}
 use Rattle.gate_inline.specs.Meanings.{broadcast_answer, followed, meanings}
 use Rattle.gate_inline.proofs.program.write_broadcast.Given as goal
 

@@ -1,8 +1,8 @@
 -- Too much, a step that isn't exact, or the operations and reads.
 use Rattle.std.proofs.Common.{[], map, ap, sym, subst, ◌∙◌, Ok, refl}
-use Rattle.qasm_check.specs.Checking.{Bound}
+use Rattle.qasm_check.specs.Bound.{Bound}
 use Rattle.qasm_check.specs.StepViews.{step as step_view}
-use Rattle.qasm_check.specs.Views.{gate as gate_view}
+use Rattle.gate_library.specs.Views.{gate as gate_view}
 use Rattle.gate_inline.specs.Inlined.{IsFault}
 use Rattle.gate_inline.specs.declared.refusal.InlineFault.{InlineFault}
 use Rattle.gate_inline.proofs.StepLaws.{not_too_much, too_many, unwritten_fault-told}

@@ -1,6 +1,6 @@
 -- A sum with one more item.
 use Rattle.std.proofs.Common.{◌∙◌, refl, arith}
-use Rattle.qasm_check.specs.Views.{item as item_view}
+use Rattle.gate_library.specs.Views.{item as item_view}
 use Rattle.gate_inline.specs.Capped.{capped}
 use Rattle.gate_inline.specs.Sizes.{item_size as size_of_item, size_plus}
 use Rattle.gate_inline.proofs.SizeLaws.{next_sum}

@@ -1,6 +1,6 @@
 -- The sum so far.
 use Rattle.std.proofs.Common.{◌≡◌, map, take}
-use Rattle.qasm_check.specs.Views.{item as item_view}
+use Rattle.gate_library.specs.Views.{item as item_view}
 use Rattle.gate_inline.specs.Capped.{capped}
 use Rattle.gate_inline.specs.Sizes.{item_size as size_of_item, size_all}
 use Rattle.gate_inline.proofs.size.body_size.Given as goal

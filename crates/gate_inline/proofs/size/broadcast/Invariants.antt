@@ -1,6 +1,6 @@
 -- No place so far is a whole register.
 use Rattle.std.proofs.Common.{◌≡◌, drop}
-use Rattle.qasm_check.specs.Places.{broadcast as broadcast_of}
+use Rattle.gate_library.specs.Operands.{broadcast as broadcast_of}
 use Rattle.gate_inline.proofs.size.broadcast.Given as goal
 
 abbrev pub invariant-places : goal.invariant-places

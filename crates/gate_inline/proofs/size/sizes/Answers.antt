@@ -1,6 +1,6 @@
 -- The sizes with one more gate.
 use Rattle.std.proofs.Common.{◌≡◌, ◌++◌, ◌∷◌, [], ◌∙◌, ap, map, take, arith}
-use Rattle.qasm_check.specs.Views.{gate as gate_view}
+use Rattle.gate_library.specs.Views.{gate as gate_view}
 use Rattle.gate_inline.specs.Capped.{capped}
 use Rattle.gate_inline.specs.Sizes.{gate_size as size_of_gate, sizes as sizes_of}
 use Rattle.gate_inline.proofs.SizeLaws.{next_sizes}

@@ -1,6 +1,6 @@
 -- The sizes so far are those of the first gates.
 use Rattle.std.proofs.Common.{◌≡◌, map, take}
-use Rattle.qasm_check.specs.Views.{gate as gate_view}
+use Rattle.gate_library.specs.Views.{gate as gate_view}
 use Rattle.gate_inline.specs.Capped.{capped}
 use Rattle.gate_inline.specs.Sizes.{sizes as sizes_of}
 use Rattle.gate_inline.proofs.size.sizes.Given as goal

@@ -2,11 +2,11 @@ use Rattle.std.proofs.Common.{◌≡◌, ℕ, List, [], ap, sym, ◌∙◌, map}
 use Rattle.std.proofs.lemmas.Simd.{map-map}
 use Rattle.qasm_parser.specs.Tree.{application, expression}
 use Rattle.qasm_parser.specs.declared.tree.Expr.{Expr}
-use Rattle.qasm_check.specs.Known.{gate_number, meaning}
-use Rattle.qasm_check.specs.Places.{places}
-use Rattle.qasm_check.specs.State.{state}
+use Rattle.gate_library.specs.Known.{gate_number, meaning}
+use Rattle.qasm_check.specs.Arguments.{operands}
+use Rattle.gate_library.specs.State.{state}
 use Rattle.qasm_check.specs.Steps.{formula as bound}
-use Rattle.qasm_check.specs.Views.{formula}
+use Rattle.gate_library.specs.Views.{formula}
 use Rattle.qasm_check.proofs.act.application.Goals as goal
 
 pub returns-clause-ok : goal.returns-clause-ok
@@ -19,5 +19,5 @@ returns-clause-ok c =
     ∙ ap (λ (ps : List (List ℕ)). map (λ (e : Expr). bound ps (expression e)) c.deref.result.now) c.none-none.ensures
     ∙ ap (map (λ (e : Expr). bound [] (expression e))) c.deref.ensures.value
     ∙ sym (map-map (bound []) expression c.args.apply.now.angles.items) in
-    let named : c.in_ok-places.places.items ≡ places K a.args = c.in_ok-places.ensures.ok.1 in
-    (c.in_ok-places.ensures.ok.0, cc)
+    let named : c.in_ok-operands.operands.items ≡ operands K a.args = c.in_ok-operands.ensures.ok.1 in
+    (c.in_ok-operands.ensures.ok.0, cc)

@@ -1,6 +1,6 @@
 use Rattle.std.proofs.Common.{◌≡◌, false, take}
 use Rattle.std.specs.List.{list_any}
-use Rattle.qasm_check.specs.State.{state}
+use Rattle.gate_library.specs.State.{state}
 use Rattle.qasm_check.specs.Refusals.{is_unknown}
 use Rattle.qasm_check.proofs.arguments.any_unknown.Given as goal
 

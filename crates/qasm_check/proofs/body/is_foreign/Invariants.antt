@@ -1,6 +1,6 @@
 use Rattle.std.proofs.Common.{◌≡◌, false, not, take}
 use Rattle.std.specs.List.{list_any}
-use Rattle.qasm_check.specs.Names.{is_one_of}
+use Rattle.gate_library.specs.Names.{is_one_of}
 use Rattle.qasm_check.proofs.body.is_foreign.Given as goal
 
 abbrev pub invariant-each : goal.invariant-each

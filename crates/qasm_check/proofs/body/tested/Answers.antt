@@ -3,9 +3,10 @@ use Rattle.std.specs.List.{list_any}
 use Rattle.qasm_parser.specs.Tree.{action}
 use Rattle.qasm_parser.specs.declared.tree.Stmt.{Stmt}
 use Rattle.qasm_check.specs.Bodies.{declaration}
-use Rattle.qasm_check.specs.Known.{meaning}
-use Rattle.qasm_check.specs.Refusals.{applies_opaque, gate_taken, in_body, is_register, params_differ, qubits_differ, repeats_name, unknown_in_body}
-use Rattle.qasm_check.specs.State.{state}
+use Rattle.gate_library.specs.Known.{meaning}
+use Rattle.gate_library.specs.Meanings.{is_register}
+use Rattle.qasm_check.specs.Refusals.{applies_opaque, gate_taken, in_body, params_differ, qubits_differ, repeats_name, unknown_in_body}
+use Rattle.gate_library.specs.State.{state}
 use Rattle.qasm_check.proofs.body.tested.Goals as goal
 
 pub returns-then-any_register-clause-err : goal.returns-then-any_register-clause-err

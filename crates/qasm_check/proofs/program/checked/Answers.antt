@@ -1,11 +1,19 @@
-use Rattle.std.proofs.Common.{◌≡◌, ◌∷◌, [], ◌++◌, List, None, get_or, map, take, ap, subst, sym, ◌∙◌, arith}
+use Rattle.std.proofs.Common.{◌≡◌, ℕ, ◌∷◌, [], ◌++◌, List, None, get_or, length, map, take, ap, subst, sym, ◌∙◌, arith}
+use Rattle.std.proofs.lemmas.Grind.{common_steps}
+use Rattle.std.proofs.lemmas.List.{length-map}
+use Rattle.gate_library.specs.Gates.{Gate}
+use Rattle.gate_library.specs.Views.{gate}
+use Rattle.qasm_check.specs.Bound.{Bound}
+use Rattle.qasm_check.specs.Sound.{IsSound}
+use Rattle.qasm_check.specs.StepViews.{step}
+use Rattle.qasm_check.proofs.AcceptedLaws.{accepted_sound, steps-length}
 use Rattle.std.specs.Option.{option_to_list}
 use Rattle.qasm_parser.specs.declared.tree.Stmt.{Stmt}
 use Rattle.qasm_parser.specs.Tree.{statement as tree}
 use Rattle.std.specs.List.{filter_map}
-use Rattle.qasm_check.specs.Checking.{IsFaultIn, bits_of, steps}
-use Rattle.qasm_check.specs.Known.{Known, fresh}
-use Rattle.qasm_check.specs.State.{state}
+use Rattle.qasm_check.specs.Checking.{AllFine, IsFaultIn, bits_of, steps}
+use Rattle.gate_library.specs.Known.{Known, fresh}
+use Rattle.gate_library.specs.State.{state}
 use Rattle.qasm_check.specs.Steps.{Step, after, known, step as step_of}
 use Rattle.qasm_check.specs.Verdicts.{IsStop, verdict}
 use Rattle.qasm_check.specs.declared.bits.Bits.{Bits}
@@ -44,3 +52,34 @@ returns-in-Err-clause-err c =
     subst (λ (s : Stmt). IsStop (verdict (known (map tree (take i xs))) (tree s)) c.in-Err.stop) c.index-statements-i.is
     (subst (λ (k : Known). IsStop (verdict k (tree d)) c.in-Err.stop) c.statements.invariant.known c.in-Err.ensures.err) in
     subst (IsFaultIn (map tree xs)) (sym c.fault.ensures) (fault_at xs i d c.in-Err.stop c.statements-test.true c.statements.invariant.fine stops)
+
+pub new-requires-4-clause-sound : goal.new-requires-4-clause-sound
+new-requires-4-clause-sound c =
+    let xs = c.args.statements.now in
+    let inv = c.statements.invariant in
+    let at : map tree (take c.statements.i xs) ≡ map tree xs = grind (arith, common_steps) in
+    let known_is : state c.statements.known ≡ known (map tree xs) = inv.known ∙ ap known at in
+    let gates : map gate c.into_gates-gates.result.items ≡ (known (map tree xs)).gates = c.into_gates-gates.ensures ∙ ap (λ (k : Known). k.gates) known_is in
+    let wires : c.wires-wires.result ≡ (known (map tree xs)).wires = c.wires-wires.ensures ∙ ap (λ (k : Known). k.wires) known_is in
+    let bits : c.bits-bits.result ≡ (known (map tree xs)).bits = c.bits-bits.ensures ∙ ap (λ (k : Known). k.bits) known_is in
+    let done : map step c.statements.parts.steps.items ≡ steps fresh (map tree xs) = inv.steps ∙ ap (steps fresh) at in
+    let registers : c.statements.parts.registers.items ≡ filter_map bits_of (map tree xs) = inv.registers ∙ ap (filter_map bits_of) at in
+    subst IsSound (sym (bound_by gates done wires bits registers)) (accepted_sound (map tree xs) (subst (AllFine fresh) at inv.fine))
+  where
+    bound_by : {gates hates : List Gate} {done gone : List Step} {wires vires bits cits : ℕ} {registers segisters : List Bits}
+        → gates ≡ hates → done ≡ gone → wires ≡ vires → bits ≡ cits → registers ≡ segisters
+        → ◌≡◌ {A = Bound} (record { gates = gates; steps = done; wires = wires; bits = bits; registers = registers })
+        (record { gates = hates; steps = gone; wires = vires; bits = cits; registers = segisters })
+    bound_by a b c d e = λ i. record { gates = a i; steps = b i; wires = c i; bits = d i; registers = e i }
+
+pub new-requires-4-clause-few_steps : goal.new-requires-4-clause-few_steps
+new-requires-4-clause-few_steps c =
+    let xs = c.args.statements.now in
+    let inv = c.statements.invariant in
+    let at : map tree (take c.statements.i xs) ≡ map tree xs = grind (arith, common_steps) in
+    let shown : length (map step c.statements.parts.steps.items) ≡ length (steps fresh (map tree xs)) = ap length (inv.steps ∙ ap (steps fresh) at) in
+    let as_many : length (steps fresh (map tree xs)) ≡ length (map tree xs) = steps-length fresh (map tree xs) in
+    let one_each : length (map tree xs) ≡ length xs = length-map xs tree in
+    let same : length (map step c.statements.parts.steps.items) ≡ length c.statements.parts.steps.items = length-map c.statements.parts.steps.items step in
+    let few = c.requires in
+    omega arith

@@ -2,8 +2,8 @@ use Rattle.std.proofs.Common.{◌≡◌, ◌≤◌, map, take, vec_len}
 use Rattle.std.specs.List.{filter_map}
 use Rattle.qasm_parser.specs.Tree.{statement as tree}
 use Rattle.qasm_check.specs.Checking.{AllFine, bits_of, steps}
-use Rattle.qasm_check.specs.Known.{fresh}
-use Rattle.qasm_check.specs.State.{state}
+use Rattle.gate_library.specs.Known.{fresh}
+use Rattle.gate_library.specs.State.{state}
 use Rattle.qasm_check.specs.StepViews.{step}
 use Rattle.qasm_check.specs.Steps.{known}
 use Rattle.qasm_check.proofs.program.checked.Given as goal

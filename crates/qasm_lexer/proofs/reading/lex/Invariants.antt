@@ -1,5 +1,5 @@
 use Rattle.std.proofs.Common.{◌≡◌, ◌≤◌, ◌-◌, length, drop}
-use Rattle.qasm_lexer.specs.Tokens.{lexed, lexed_from}
+use Rattle.qasm_lexer.specs.Lexed.{lexed, lexed_from}
 use Rattle.qasm_lexer.proofs.TokenLaws.{joined}
 use Rattle.qasm_lexer.proofs.reading.lex.Given as goal
 

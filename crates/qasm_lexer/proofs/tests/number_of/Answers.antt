@@ -1,5 +1,5 @@
 use Rattle.std.proofs.Common.{inl}
-use Rattle.qasm_lexer.proofs.EachToken.{number_token}
+use Rattle.qasm_lexer.proofs.LexingLaws.{number_token}
 use Rattle.qasm_lexer.proofs.tests.number_of.Goals as goal
 
 pub value-requires-clause-number : goal.value-requires-clause-number

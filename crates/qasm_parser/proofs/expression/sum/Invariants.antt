@@ -1,4 +1,5 @@
 use Rattle.std.proofs.Common.{◌≡◌, ◌≤◌, length}
+use Rattle.qasm_parser.specs.Tree.{depth_limit}
 use Rattle.qasm_parser.specs.Frames.{stack}
 use Rattle.qasm_parser.specs.Machine.{sum_of}
 use Rattle.qasm_parser.specs.Modes.{go, steps}
@@ -6,7 +7,7 @@ use Rattle.qasm_parser.proofs.expression.sum.Given as goal
 
 abbrev pub invariant-steps : goal.invariant-steps
 invariant-steps l = record {
-  same : go (stack l.frames.items) l.mode l.cursor ≡ sum_of 64 l.initial.cursor;
+  same : go (stack l.frames.items) l.mode l.cursor ≡ sum_of depth_limit l.initial.cursor;
   shorter : length l.cursor ≤ length l.initial.cursor;
 }
 

@@ -1,5 +1,5 @@
 use Rattle.std.proofs.Common.{inr, sym, ◌∙◌}
-use Rattle.qroute_top.proofs.RunLaws.{status-stop}
+use Rattle.qroute_top.proofs.StatusLaws.{status-stop}
 use Rattle.qroute_top.proofs.emission.tell.Goals as goal
 
 pub returns-in-Ok-clause-status : goal.returns-in-Ok-clause-status

@@ -1,6 +1,6 @@
 -- The reads so far are placed.
 use Rattle.std.proofs.Common.{◌≡◌, All, length, map, take}
-use Rattle.qasm_writer.specs.Outputs.{IsRead}
+use Rattle.gate_inline.specs.Registers.{IsRead}
 use Rattle.qroute_top.specs.Delivered.{placed_read}
 use Rattle.qroute_top.proofs.plan.placed_reads.Given as goal
 

@@ -9,7 +9,7 @@ gates-init c =
     IsOnTheWay-start c.args.device.now.edges c.args.device.now.size c.args.circuit.now.wires c.args.circuit.now.gates c.in_ok-heads.heads.items
     record { body = c.in_ok-empty.field-0; last = c.args.given; swaps = 0; turn = 0 }
     (subst (λ (n : ℕ). IsPlacement n c.args.given) c.requires.placed c.size-size.ensures.placement)
-    (c.in_ok-empty.ensures ∙ ap (λ (n : ℕ). record { wires = n; gates = [] }) c.size.ensures.size) refl refl c.in_ok-heads.ensures.heads c.in_ok-heads.ensures.all
+    (c.in_ok-empty.ensures.wires ∙ c.size.ensures.size) c.in_ok-empty.ensures.gates refl refl c.in_ok-heads.ensures.heads c.in_ok-heads.ensures.all
 
 pub walk-requires-clause-fitting : goal.walk-requires-clause-fitting
 walk-requires-clause-fitting c = IsFitting-underway c.args.device.now.edges c.args.device.now.size c.args.given c.gates.invariant.done c.gates.routed c.gates.invariant.underway

@@ -17,17 +17,17 @@ write_cx-requires-clause-apart c = λ e.
 pub returns-in-H : goal.returns-in-H
 returns-in-H c =
     let e = emitted-h c.args.device.now.edges c.args.self.now.last c.args.gate c.in-H.q c.phys.result c.in-H.is c.phys.ensures.place in
-    on_ok_weaker c.push.result (one-written c.args.device.now.edges c.args.self.now c.push.new.self c.args.gate (H c.phys.result) c.requires.fits.below e.0 e.1) c.push.ensures.ok
+    on_ok_weaker c.push.result (λ gates. one-written c.args.device.now.edges c.args.self.now c.push.new.self c.args.gate (H c.phys.result) c.requires.fits.below e.0 e.1 (record { wires = c.push.ensures.wires; gates = gates })) c.push.ensures.gates
 
 pub returns-in-X : goal.returns-in-X
 returns-in-X c =
     let e = emitted-x c.args.device.now.edges c.args.self.now.last c.args.gate c.in-X.q c.phys-in-X.result c.in-X.is c.phys-in-X.ensures.place in
-    on_ok_weaker c.push-in-X.result (one-written c.args.device.now.edges c.args.self.now c.push-in-X.new.self c.args.gate (X c.phys-in-X.result) c.requires.fits.below e.0 e.1) c.push-in-X.ensures.ok
+    on_ok_weaker c.push-in-X.result (λ gates. one-written c.args.device.now.edges c.args.self.now c.push-in-X.new.self c.args.gate (X c.phys-in-X.result) c.requires.fits.below e.0 e.1 (record { wires = c.push-in-X.ensures.wires; gates = gates })) c.push-in-X.ensures.gates
 
 pub returns-in-P : goal.returns-in-P
 returns-in-P c =
     let e = emitted-p c.args.device.now.edges c.args.self.now.last c.args.gate c.in-P.k c.in-P.q c.phys-in-P.result c.in-P.is c.phys-in-P.ensures.place in
-    on_ok_weaker c.push-in-P.result (one-written c.args.device.now.edges c.args.self.now c.push-in-P.new.self c.args.gate (P c.in-P.k c.phys-in-P.result) c.requires.fits.below e.0 e.1) c.push-in-P.ensures.ok
+    on_ok_weaker c.push-in-P.result (λ gates. one-written c.args.device.now.edges c.args.self.now c.push-in-P.new.self c.args.gate (P c.in-P.k c.phys-in-P.result) c.requires.fits.below e.0 e.1 (record { wires = c.push-in-P.ensures.wires; gates = gates })) c.push-in-P.ensures.gates
 
 pub returns-in-Cx : goal.returns-in-Cx
 returns-in-Cx c =

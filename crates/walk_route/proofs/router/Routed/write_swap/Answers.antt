@@ -1,5 +1,4 @@
-use Rattle.std.proofs.Common.{◌≢◌, ◌<◌, ◌∙◌, ℕ, sym, ap, subst}
-use Rattle.circuit_list.specs.Body.{Body}
+use Rattle.std.proofs.Common.{◌≢◌, ◌<◌, ◌∙◌, ℕ, sym, subst}
 use Rattle.walk_route.proofs.EmissionLaws.{low_order-fine}
 use Rattle.walk_route.proofs.WriteLaws.{swap-made}
 use Rattle.walk_route.proofs.router.Routed.write_swap.Goals as goal
@@ -31,11 +30,11 @@ write_cx-requires-clause-apart c = λ e.
 pub push-requires-2 : goal.push-requires-2
 push-requires-2 c =
     let es = c.args.device.now.edges in
-    let wires = c.in_ok-write_cx.ensures.wires ∙ ap (λ (b : Body). b.wires) c.in_ok-push.ensures.ok ∙ c.requires.fits.wires in
+    let wires = c.in_ok-write_cx.ensures.wires ∙ c.push.ensures.wires ∙ c.requires.fits.wires in
     subst (λ n. Apart n c.low_order-u.result) (sym wires)
     (subst (λ p. Apart c.args.device.now.size p) (sym c.low_order-u.ensures) (low_order-fine es c.args.device.now.size c.args.a c.args.b c.requires.first c.requires.second c.requires.apart))
 
 pub returns-clause-swapped : goal.returns-clause-swapped
 returns-clause-swapped c =
     swap-made c.args.device.now.edges c.args.a c.args.b c.low_order-u.result c.args.self.now c.write_cx.new.self c.push.new.self c.push-2.new.self c.swap.new.self
-    c.low_order-u.ensures c.in_ok-push.ensures.ok c.in_ok-write_cx.ensures c.in_ok-push-2.ensures.ok c.swap.ensures.exchanged
+    c.low_order-u.ensures (record { wires = c.push.ensures.wires; gates = c.in_ok-push.ensures.gates }) c.in_ok-write_cx.ensures (record { wires = c.push-2.ensures.wires; gates = c.in_ok-push-2.ensures.gates }) c.swap.ensures.exchanged

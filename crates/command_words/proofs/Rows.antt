@@ -1,0 +1,218 @@
+-- Command lines and what they mean, computed by the definitions. The first word, the program's name, is free.
+--   of_opt, of_opt_dashes            `opt`, and `opt` with `--` behind it
+--   of_check, of_check_dashes        `check`, and `check` with `--` behind it
+--   of_route, of_route_..            `route` with its device
+--   of_route_trivial, of_trivial_..  `route` with its device and `--trivial`
+--   no_.., and other of_..           words that mean no command
+use Rattle.std.proofs.Common.{◌≡◌, ℕ, List, [], ◌∷◌, Some, None, refl, codes, true, false}
+use Rattle.clap.proofs.OnLiterals.{clap_on_literals}
+use Rattle.command_words.specs.Commands.{command_of}
+use Rattle.command_words.specs.declared.commands.Command.TheVariants.{Opt, Route, Check}
+
+pub of_opt : (name : List ℕ) → command_of (name ∷ codes "opt" ∷ []) ≡ Some Opt
+unfolding clap_on_literals
+of_opt name = refl
+
+pub of_opt_dashes : (name : List ℕ) → command_of (name ∷ codes "opt" ∷ codes "--" ∷ []) ≡ Some Opt
+unfolding clap_on_literals
+of_opt_dashes name = refl
+
+pub of_check : (name : List ℕ) → command_of (name ∷ codes "check" ∷ []) ≡ Some Check
+unfolding clap_on_literals
+of_check name = refl
+
+pub of_check_dashes : (name : List ℕ) → command_of (name ∷ codes "check" ∷ codes "--" ∷ []) ≡ Some Check
+unfolding clap_on_literals
+of_check_dashes name = refl
+
+pub of_check_extra : (name : List ℕ) → command_of (name ∷ codes "check" ∷ codes "x" ∷ []) ≡ None
+unfolding clap_on_literals
+of_check_extra name = refl
+
+pub of_check_device : (name : List ℕ) → command_of (name ∷ codes "check" ∷ codes "--device" ∷ codes "d" ∷ []) ≡ None
+unfolding clap_on_literals
+of_check_device name = refl
+
+pub of_check_opt : (name : List ℕ) → command_of (name ∷ codes "check" ∷ codes "opt" ∷ []) ≡ None
+unfolding clap_on_literals
+of_check_opt name = refl
+
+pub of_nothing : command_of [] ≡ None
+unfolding clap_on_literals
+of_nothing = refl
+
+pub of_name_alone : (name : List ℕ) → command_of (name ∷ []) ≡ None
+unfolding clap_on_literals
+of_name_alone name = refl
+
+pub of_empty_word : (name : List ℕ) → command_of (name ∷ [] ∷ []) ≡ None
+unfolding clap_on_literals
+of_empty_word name = refl
+
+pub of_opt_extra : (name : List ℕ) → command_of (name ∷ codes "opt" ∷ codes "extra" ∷ []) ≡ None
+unfolding clap_on_literals
+of_opt_extra name = refl
+
+pub of_opt_opt : (name : List ℕ) → command_of (name ∷ codes "opt" ∷ codes "opt" ∷ []) ≡ None
+unfolding clap_on_literals
+of_opt_opt name = refl
+
+pub of_opt_empty : (name : List ℕ) → command_of (name ∷ codes "opt" ∷ [] ∷ []) ≡ None
+unfolding clap_on_literals
+of_opt_empty name = refl
+
+pub of_opt_dashes_extra : (name : List ℕ) → command_of (name ∷ codes "opt" ∷ codes "--" ∷ codes "x" ∷ []) ≡ None
+unfolding clap_on_literals
+of_opt_dashes_extra name = refl
+
+pub of_dashes_opt : (name : List ℕ) → command_of (name ∷ codes "--" ∷ codes "opt" ∷ []) ≡ None
+unfolding clap_on_literals
+of_dashes_opt name = refl
+
+pub of_abbreviation : (name : List ℕ) → command_of (name ∷ codes "op" ∷ []) ≡ None
+unfolding clap_on_literals
+of_abbreviation name = refl
+
+pub of_capital : (name : List ℕ) → command_of (name ∷ codes "Opt" ∷ []) ≡ None
+unfolding clap_on_literals
+of_capital name = refl
+
+pub of_help : (name : List ℕ) → command_of (name ∷ codes "help" ∷ []) ≡ None
+unfolding clap_on_literals
+of_help name = refl
+
+pub of_help_flag : (name : List ℕ) → command_of (name ∷ codes "--help" ∷ []) ≡ None
+unfolding clap_on_literals
+of_help_flag name = refl
+
+pub of_opt_help_flag : (name : List ℕ) → command_of (name ∷ codes "opt" ∷ codes "--help" ∷ []) ≡ None
+unfolding clap_on_literals
+of_opt_help_flag name = refl
+
+pub of_short_help_flag : (name : List ℕ) → command_of (name ∷ codes "-h" ∷ []) ≡ None
+unfolding clap_on_literals
+of_short_help_flag name = refl
+
+pub of_version_flag : (name : List ℕ) → command_of (name ∷ codes "--version" ∷ []) ≡ None
+unfolding clap_on_literals
+of_version_flag name = refl
+
+pub of_opt_dashes_twice : (name : List ℕ) → command_of (name ∷ codes "opt" ∷ codes "--" ∷ codes "--" ∷ []) ≡ None
+unfolding clap_on_literals
+of_opt_dashes_twice name = refl
+
+pub of_route : (name : List ℕ) → command_of (name ∷ codes "route" ∷ codes "--device" ∷ codes "d" ∷ []) ≡ Some (Route (codes "d") false)
+unfolding clap_on_literals
+of_route name = refl
+
+pub of_route_equals : (name : List ℕ) → command_of (name ∷ codes "route" ∷ codes "--device=x" ∷ []) ≡ Some (Route (codes "x") false)
+unfolding clap_on_literals
+of_route_equals name = refl
+
+pub of_route_dash : (name : List ℕ) → command_of (name ∷ codes "route" ∷ codes "--device" ∷ codes "-" ∷ []) ≡ Some (Route (codes "-") false)
+unfolding clap_on_literals
+of_route_dash name = refl
+
+pub of_route_equals_dashed : (name : List ℕ) → command_of (name ∷ codes "route" ∷ codes "--device=-x" ∷ []) ≡ Some (Route (codes "-x") false)
+unfolding clap_on_literals
+of_route_equals_dashed name = refl
+
+pub of_route_equals_empty : (name : List ℕ) → command_of (name ∷ codes "route" ∷ codes "--device=" ∷ []) ≡ Some (Route [] false)
+unfolding clap_on_literals
+of_route_equals_empty name = refl
+
+pub of_route_empty : (name : List ℕ) → command_of (name ∷ codes "route" ∷ codes "--device" ∷ [] ∷ []) ≡ Some (Route [] false)
+unfolding clap_on_literals
+of_route_empty name = refl
+
+pub of_route_opt : (name : List ℕ) → command_of (name ∷ codes "route" ∷ codes "--device" ∷ codes "opt" ∷ []) ≡ Some (Route (codes "opt") false)
+unfolding clap_on_literals
+of_route_opt name = refl
+
+pub of_route_dashes : (name : List ℕ) → command_of (name ∷ codes "route" ∷ codes "--device" ∷ codes "d" ∷ codes "--" ∷ []) ≡ Some (Route (codes "d") false)
+unfolding clap_on_literals
+of_route_dashes name = refl
+
+pub of_route_trivial : (name : List ℕ) → command_of (name ∷ codes "route" ∷ codes "--device" ∷ codes "d" ∷ codes "--trivial" ∷ []) ≡ Some (Route (codes "d") true)
+unfolding clap_on_literals
+of_route_trivial name = refl
+
+pub of_trivial_route : (name : List ℕ) → command_of (name ∷ codes "route" ∷ codes "--trivial" ∷ codes "--device" ∷ codes "d" ∷ []) ≡ Some (Route (codes "d") true)
+unfolding clap_on_literals
+of_trivial_route name = refl
+
+pub no_device : (name : List ℕ) → command_of (name ∷ codes "route" ∷ []) ≡ None
+unfolding clap_on_literals
+no_device name = refl
+
+pub no_device_but_trivial : (name : List ℕ) → command_of (name ∷ codes "route" ∷ codes "--trivial" ∷ []) ≡ None
+unfolding clap_on_literals
+no_device_but_trivial name = refl
+
+pub no_name : (name : List ℕ) → command_of (name ∷ codes "route" ∷ codes "--device" ∷ []) ≡ None
+unfolding clap_on_literals
+no_name name = refl
+
+pub no_name_but_trivial : (name : List ℕ) → command_of (name ∷ codes "route" ∷ codes "--device" ∷ codes "--trivial" ∷ []) ≡ None
+unfolding clap_on_literals
+no_name_but_trivial name = refl
+
+pub no_name_but_dashes : (name : List ℕ) → command_of (name ∷ codes "route" ∷ codes "--device" ∷ codes "--" ∷ []) ≡ None
+unfolding clap_on_literals
+no_name_but_dashes name = refl
+
+pub no_dashed_name : (name : List ℕ) → command_of (name ∷ codes "route" ∷ codes "--device" ∷ codes "-x" ∷ []) ≡ None
+unfolding clap_on_literals
+no_dashed_name name = refl
+
+pub no_word_more : (name : List ℕ) → command_of (name ∷ codes "route" ∷ codes "--device" ∷ codes "d" ∷ codes "extra" ∷ []) ≡ None
+unfolding clap_on_literals
+no_word_more name = refl
+
+pub no_second_device : (name : List ℕ) → command_of (name ∷ codes "route" ∷ codes "--device" ∷ codes "d" ∷ codes "--device" ∷ codes "e" ∷ []) ≡ None
+unfolding clap_on_literals
+no_second_device name = refl
+
+pub no_second_trivial : (name : List ℕ) → command_of (name ∷ codes "route" ∷ codes "--device" ∷ codes "d" ∷ codes "--trivial" ∷ codes "--trivial" ∷ []) ≡ None
+unfolding clap_on_literals
+no_second_trivial name = refl
+
+pub no_value_of_trivial : (name : List ℕ) → command_of (name ∷ codes "route" ∷ codes "--device" ∷ codes "d" ∷ codes "--trivial=1" ∷ []) ≡ None
+unfolding clap_on_literals
+no_value_of_trivial name = refl
+
+pub no_true_of_trivial : (name : List ℕ) → command_of (name ∷ codes "route" ∷ codes "--device" ∷ codes "d" ∷ codes "--trivial=true" ∷ []) ≡ None
+unfolding clap_on_literals
+no_true_of_trivial name = refl
+
+pub no_abbreviated_device : (name : List ℕ) → command_of (name ∷ codes "route" ∷ codes "--dev" ∷ codes "d" ∷ []) ≡ None
+unfolding clap_on_literals
+no_abbreviated_device name = refl
+
+pub no_abbreviated_trivial : (name : List ℕ) → command_of (name ∷ codes "route" ∷ codes "--device" ∷ codes "d" ∷ codes "--triv" ∷ []) ≡ None
+unfolding clap_on_literals
+no_abbreviated_trivial name = refl
+
+pub no_help_of_route : (name : List ℕ) → command_of (name ∷ codes "route" ∷ codes "--help" ∷ []) ≡ None
+unfolding clap_on_literals
+no_help_of_route name = refl
+
+pub no_help_beside_device : (name : List ℕ) → command_of (name ∷ codes "route" ∷ codes "--device" ∷ codes "d" ∷ codes "-h" ∷ []) ≡ None
+unfolding clap_on_literals
+no_help_beside_device name = refl
+
+pub no_device_of_opt : (name : List ℕ) → command_of (name ∷ codes "opt" ∷ codes "--device" ∷ codes "d" ∷ []) ≡ None
+unfolding clap_on_literals
+no_device_of_opt name = refl
+
+pub no_trivial_of_opt : (name : List ℕ) → command_of (name ∷ codes "opt" ∷ codes "--trivial" ∷ []) ≡ None
+unfolding clap_on_literals
+no_trivial_of_opt name = refl
+
+pub no_device_before_route : (name : List ℕ) → command_of (name ∷ codes "--device" ∷ codes "d" ∷ codes "route" ∷ []) ≡ None
+unfolding clap_on_literals
+no_device_before_route name = refl
+
+pub no_two_commands : (name : List ℕ) → command_of (name ∷ codes "opt" ∷ codes "route" ∷ codes "--device" ∷ codes "d" ∷ []) ≡ None
+unfolding clap_on_literals
+no_two_commands name = refl

@@ -1,0 +1,43 @@
+//! What the words of a command line ask for.
+
+use crate::name::Name;
+use std::alloc::AllocError;
+use thiserror::Error;
+
+/// What the words ask for.
+#[derive(Debug, Drop, PartialEq, Eq)]
+pub enum Command {
+    /// Reads a program and writes an equivalent one.
+    Opt,
+    /// The same on the qubits of a device.
+    Route {
+        /// The name of the device text.
+        device: Name,
+        /// Whether the wires begin on the qubits of their own numbers.
+        trivial: bool,
+    },
+    /// Reads a program and reports on it.
+    Check,
+}
+
+/// Why words give no command.
+#[derive(Clone, Copy, Debug, PartialEq, Eq, Error)]
+pub enum WordsFault {
+    /// They mean none.
+    #[error("the words mean no command")]
+    BadWords,
+    /// Memory ran out.
+    #[error("out of memory")]
+    NoMemory,
+}
+
+impl From<AllocError> for WordsFault {
+    ghost use Rattle.std.specs.Prelude.{◌≡◌};
+    ghost use Rattle.command_words.specs.declared.commands.WordsFault.TheVariants.{NoMemory};
+
+    ghost from_gives = { λ _ e. e ≡ NoMemory };
+
+    fn from(_error: AllocError) -> WordsFault {
+        WordsFault::NoMemory
+    }
+}

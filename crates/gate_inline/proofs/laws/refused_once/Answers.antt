@@ -1,0 +1,5 @@
+use Rattle.gate_inline.proofs.OnceLaws.{refused_once}
+use Rattle.gate_inline.proofs.laws.refused_once.Goals as goal
+
+pub returns : goal.returns
+returns c = refused_once

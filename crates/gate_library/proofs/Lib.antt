@@ -1,0 +1,5 @@
+mod ListLaws
+mod OperandLaws
+mod RepeatLaws
+mod StateLaws
+mod TableLaws

@@ -1,0 +1,11 @@
+pub mod Gates
+pub mod Known
+pub mod Library
+pub mod Limits
+pub mod Listing
+pub mod Meanings
+pub mod Names
+pub mod Operands
+pub mod Rows
+pub mod State
+pub mod Views

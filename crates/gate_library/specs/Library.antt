@@ -1,0 +1,56 @@
+-- The gates of the tables by number.
+--   standard_names the names of the first table, the library's listing
+--   table_names    those of both, in order
+--   table_index    where the tables have a name
+--   is_standard    the name is in the first table
+--   number_of      the number of the gate of a name: 0 is `U`, 1 is `CX`, then come the tables' gates in order
+--   whole, over    a whole number; a formula divided by one
+--   formula_of, item_of, gate_of   an angle, a line, a gate of the tables with its names bound
+--   library        the gates of both tables, by their numbers from 2 on
+use Rattle.std.specs.Prelude.{ℕ, List, ◌∷◌, ◌++◌, Option, Bool, pos, codes, length, map}
+use Rattle.std.specs.List.{position}
+use Rattle.std.specs.Str.{bytes_eq}
+use Rattle.angle_fraction.specs.Fraction.{Fraction, fraction}
+use Rattle.angle_fraction.specs.declared.signs.Binary.TheVariants.{Div}
+use Rattle.gate_library.specs.Gates.{Formula, number, pi, param, negated, binary, Item, call, Gate, composed}
+use Rattle.gate_library.specs.Listing.{Angle, nought, pi as angle_pi, param as angle_param, minus, over as angle_over, Line, Entry, standard, added}
+use Rattle.gate_library.specs.Names.{index_of, is_one_of}
+
+-- ---- names
+unfoldable pub standard_names : List (List ℕ)
+standard_names = map (λ (e : Entry). e.name) standard
+
+unfoldable pub table_names : List (List ℕ)
+table_names = map (λ (e : Entry). e.name) (standard ++ added)
+
+unfoldable pub table_index : List ℕ → Option ℕ
+table_index name = position (λ y. bytes_eq name y) table_names
+
+unfoldable pub is_standard : List ℕ → Bool
+is_standard name = is_one_of standard_names name
+
+abbrev pub number_of : List ℕ → ℕ
+number_of name = index_of (codes "U" ∷ codes "CX" ∷ table_names) name
+
+-- ---- gates
+abbrev pub whole : ℕ → Fraction
+whole n = fraction (pos n) 1
+
+abbrev pub over : Formula → ℕ → Formula
+over part by = binary Div part (number (whole by))
+
+abbrev pub formula_of : List (List ℕ) → Angle → Formula
+formula_of params nought = number (whole 0)
+formula_of params angle_pi = pi
+formula_of params (angle_param name) = param (index_of params name)
+formula_of params (minus part) = negated (formula_of params part)
+formula_of params (angle_over part by) = over (formula_of params part) by
+
+abbrev pub item_of : List (List ℕ) → List (List ℕ) → Line → Item
+item_of params qubits l = call (number_of l.gate) (map (formula_of params) l.angles) (map (index_of qubits) l.qubits)
+
+abbrev pub gate_of : Entry → Gate
+gate_of e = composed (length e.params) (length e.qubits) (map (item_of e.params e.qubits) e.body)
+
+unfoldable pub library : List Gate
+library = map gate_of (standard ++ added)

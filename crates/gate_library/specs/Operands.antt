@@ -1,0 +1,62 @@
+-- What arguments name, and what a broadcast over them is.
+--   Operand      a register of wires or bits, its first and its size, or one of them by its index
+--   operand_in   what an argument names; nothing where it names no register or an index is too great
+--   wire_at      its wire at a broadcast index: a single one is repeated
+--   times        how many wires it has
+--   broadcast    how often a gate is applied to these: so often as a whole register has wires, once where there is none
+--   upto         the numbers below n
+--   wires_of     all its wires
+--   differs_from a whole register of another size
+--   sizes_differ, measure_differs   of two: one is whole and the other single, or both are whole and the sizes differ
+--   repeats      at some index of the broadcast one wire stands twice
+use Rattle.std.specs.Prelude.{ℕ, zero, suc, ◌+◌, List, [], ◌∷◌, ◌++◌, Option, Some, None, Bool, true, false, not, ◌==◌, if◌then◌else◌, map, nat_eq, nat_lt, unwrap_or}
+use Rattle.std.specs.List.{list_any}
+use Rattle.gate_library.specs.Names.{has_repeat}
+use Rattle.gate_library.specs.declared.meaning.Meaning.{Meaning}
+use Rattle.gate_library.specs.declared.meaning.Meaning.TheVariants.{Gate, Register}
+use Rattle.gate_library.specs.declared.operand.Operand.{Operand}
+
+abbrev pub operand_in : Option Meaning → Option ℕ → Option Operand
+operand_in (Some (Register r)) None = Some (record { first = r.first; size = r.size; index = None })
+operand_in (Some (Register r)) (Some i) =
+    if nat_lt i r.size then Some (record { first = r.first; size = r.size; index = Some i }) else None
+operand_in (Some (Gate n)) index = None
+operand_in None index = None
+
+abbrev pub wire_at : ℕ → Operand → ℕ
+wire_at j p = p.first + unwrap_or p.index j
+
+abbrev pub times : Operand → ℕ
+times p = elim p.index [ None ↦ p.size | Some i ↦ 1 ]
+
+abbrev pub broadcast_by : Option ℕ → ℕ → ℕ → ℕ
+broadcast_by None size others = size
+broadcast_by (Some i) size others = others
+
+abbrev pub broadcast : List Operand → ℕ
+broadcast [] = 1
+broadcast (p ∷ ps) = broadcast_by p.index p.size (broadcast ps)
+
+unfoldable pub upto : ℕ → List ℕ
+upto zero = []
+upto (suc n) = upto n ++ n ∷ []
+
+abbrev pub wires_of : Operand → List ℕ
+wires_of p = map (λ j. wire_at j p) (upto (times p))
+
+abbrev pub differs_from : ℕ → Operand → Bool
+differs_from times p = elim p.index [ None ↦ not (p.size == times) | Some i ↦ false ]
+
+abbrev pub sizes_differ : Option ℕ → ℕ → Option ℕ → ℕ → Bool
+sizes_differ None m None n = not (m == n)
+sizes_differ None m (Some j) n = true
+sizes_differ (Some i) m None n = true
+sizes_differ (Some i) m (Some j) n = false
+
+abbrev pub measure_differs : Option Operand → Option Operand → Bool
+measure_differs (Some qubit) (Some bit) = sizes_differ qubit.index qubit.size bit.index bit.size
+measure_differs (Some qubit) None = false
+measure_differs None bit = false
+
+abbrev pub repeats : List Operand → Bool
+repeats ps = list_any (λ j. has_repeat nat_eq (map (wire_at j) ps)) (upto (broadcast ps))

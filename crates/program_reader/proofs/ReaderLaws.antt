@@ -1,0 +1,147 @@
+-- What a text means, and its refusals.
+--   SpeltOnce, NoParseFault, NoCheckFault, NoInlineFault     laws of the stages, as they are handed in
+--   tree-once            a text spells one tree at most
+--   means-once           and means one program at most
+--   accepted-no_refusal  an accepted text has no refusal
+--   IsRefusal-checked, IsRefusal-written     from the stages' refusals to the text's
+use Rattle.std.proofs.Common.{◌≡◌, ℕ, ◌<◌, ◌≤◌, List, Option, Result, Ok, Err, refl, sym, subst, ◌∙◌, ap, arith, length}
+use Rattle.unitary_model.specs.declared.Op.{Op}
+use Rattle.qasm_lexer.specs.Tokens.{IsFaultOf as IsLexFault}
+use Rattle.qasm_lexer.specs.Lexed.{lexed}
+use Rattle.qasm_lexer.specs.declared.LexFault.{LexFault}
+use Rattle.qasm_lexer.specs.declared.LexFault.TheVariants as lexing
+use Rattle.qasm_lexer.specs.declared.Token.{Token}
+use Rattle.qasm_parser.specs.Parsing.{IsFault as IsParseFault, IsProgram, Spells, first_deep_of}
+use Rattle.qasm_parser.specs.Spelling.{Seen}
+use Rattle.qasm_parser.specs.Tree.{Tree}
+use Rattle.qasm_parser.specs.declared.ParseFault.{ParseFault}
+use Rattle.qasm_parser.specs.declared.ParseFault.TheVariants as parsing
+use Rattle.qasm_check.specs.Checking.{Bound, IsAccepted as IsFineTree, IsFault as IsCheckFault, bound}
+use Rattle.qasm_check.specs.declared.bits.Bits.{Bits}
+use Rattle.qasm_check.specs.declared.refusal.CheckFault.{CheckFault}
+use Rattle.qasm_check.specs.declared.refusal.CheckFault.TheVariants as checking
+use Rattle.gate_expand.specs.declared.source.Ops.{Ops}
+use Rattle.gate_inline.specs.Inlined.{IsFault as IsInlineFault, IsInlined, operations}
+use Rattle.gate_inline.specs.Programs.{IsAccepted, IsSource, IsTreeOf, IsWithinLimits, IsWritten, Means, Program}
+use Rattle.gate_inline.specs.declared.refusal.InlineFault.{InlineFault}
+use Rattle.gate_inline.specs.declared.refusal.InlineFault.TheVariants as inlining
+use Rattle.program_reader.specs.Refusals.{IsFaultOf, IsRefusal, IsUnparsed, IsWithin, lex_fault, parse_fault}
+use Rattle.program_reader.specs.Stages.{IsUnchecked, IsUnwritten}
+use Rattle.program_reader.specs.declared.refusal.Refusal.{Refusal}
+use Rattle.program_reader.specs.declared.refusal.Refusal.TheVariants.{TooLong, BadByte, Number, Syntax, Version, Depth, Check, Inline}
+use Rattle.program_reader.specs.declared.refusal.ReadFault.{ReadFault}
+use Rattle.program_reader.specs.declared.refusal.ReadFault.TheVariants.{Refused, NoMemory}
+
+abbrev pub SpeltOnce : Type 0
+SpeltOnce = (text : List ℕ) (tokens : List Token) (a b : Tree) (f g : List Seen) → Spells text tokens a f → Spells text tokens b g
+    → (a ≡ b) × (first_deep_of f ≡ first_deep_of g)
+
+abbrev pub NoParseFault : Type 0
+NoParseFault = (text : List ℕ) (tokens : List Token) (t : Tree) (fault : ParseFault) → IsProgram text tokens t → IsParseFault text tokens fault → fault ≡ parsing.NoMemory
+
+abbrev pub NoCheckFault : Type 0
+NoCheckFault = (t : Tree) (fault : CheckFault) → IsFineTree t → IsCheckFault t fault → fault ≡ checking.NoMemory
+
+abbrev pub NoInlineFault : Type 0
+NoInlineFault = (b : Bound) (o : Ops) (fault : InlineFault) → IsInlined b o → IsInlineFault b fault → fault ≡ inlining.NoMemory
+
+same_tokens : (r : Result (List Token) LexFault) (a b : List Token) → r ≡ Ok a → r ≡ Ok b → a ≡ b
+same_tokens r a b e f = cc
+
+no_tokens : (r : Result (List Token) LexFault) (a : List Token) (f : LexFault) → r ≡ Ok a → r ≡ Err f → ⊥
+no_tokens r a f e g = cc
+
+pub tree-once : SpeltOnce → (text : List ℕ) (a b : Tree) → IsTreeOf text a → IsTreeOf text b → a ≡ b
+tree-once once text a b (xs, lx, (f, sa, va, da)) (ys, ly, (g, sb, vb, db)) =
+    let same = same_tokens (lexed text) xs ys lx ly in
+    (once text ys a b f g (subst (λ (ts : List Token). Spells text ts a f) same sa) sb).0
+
+-- ---- one program
+same_program : (p q : Program) → p.wires ≡ q.wires → p.ops ≡ q.ops → p.reads ≡ q.reads → p.registers ≡ q.registers → p.barriers ≡ q.barriers → p ≡ q
+same_program p q w o r g b = λ i. record { wires = w i; ops = o i; reads = r i; registers = g i; barriers = b i }
+
+means_same : (b : Bound) (p q : Program) → Means b p → Means b q → p ≡ q
+means_same b p q m n =
+    let list : p.ops ≡ q.ops = ok_same (operations b.gates b.steps) p.ops q.ops m.ops n.ops in
+    same_program p q (m.wires ∙ sym n.wires) list (m.reads ∙ sym n.reads) (m.registers ∙ sym n.registers) (m.barriers ∙ sym n.barriers)
+  where
+    ok_same : {A E : Type 0} (r : Result A E) (x y : A) → r ≡ Ok x → r ≡ Ok y → x ≡ y
+    ok_same r x y e f = cc
+
+pub means-once : SpeltOnce → (text : List ℕ) (p q : Program) → IsWritten text p → IsWritten text q → p ≡ q
+means-once once text p q (t, (is, fine), m) (u, (too, also), n) =
+    let same = tree-once once text t u is too in
+    means_same (bound u) p q (subst (λ (x : Tree). Means (bound x) p) same m) n
+
+-- ---- no refusal
+unparsed : NoParseFault → (text : List ℕ) (t : Tree) (fault : ParseFault) → IsTreeOf text t → IsUnparsed text fault → fault ≡ parsing.NoMemory
+unparsed law text t fault (xs, lx, is) (ys, ly, f) =
+    let same = same_tokens (lexed text) ys xs ly lx in
+    law text xs t fault is (subst (λ (ts : List Token). IsParseFault text ts fault) same f)
+
+inlined_of : (b : Bound) (p : Program) → IsWithinLimits b → Means b p → IsInlined b (record { wires = p.wires; list = p.ops; reads = p.reads })
+inlined_of b p small m = record { small = small; wires = m.wires; list = m.ops; reads = m.reads }
+
+pub accepted-no_refusal : SpeltOnce → NoParseFault → NoCheckFault → NoInlineFault → (text : List ℕ) (p : Program) (r : Refusal) → IsAccepted text p → IsRefusal text r → ⊥
+accepted-no_refusal once parse check inline text p TooLong a r = omega (arith, a.short, r)
+accepted-no_refusal once parse check inline text p (BadByte place) a r = no_tokens (lexed text) a.source.0.0 _ a.source.0.1 r.1
+accepted-no_refusal once parse check inline text p (Number place) a r = no_tokens (lexed text) a.source.0.0 _ a.source.0.1 r.1
+accepted-no_refusal once parse check inline text p (Syntax place) a r = let e = unparsed parse text a.tree (parsing.Syntax place) a.source.0 r.1 in cc
+accepted-no_refusal once parse check inline text p (Version place) a r = let e = unparsed parse text a.tree (parsing.Version place) a.source.0 r.1 in cc
+accepted-no_refusal once parse check inline text p (Depth place) a r = let e = unparsed parse text a.tree (parsing.Depth place) a.source.0 r.1 in cc
+accepted-no_refusal once parse check inline text p (Check r) a (short, t, is, refused) =
+    let same = tree-once once text a.tree t a.source.0 is in
+    let e = check t (checking.Refused r) (subst (λ (x : Tree). IsFineTree x) same a.source.1) refused in cc
+accepted-no_refusal once parse check inline text p (Inline r) a (short, t, is, refused) =
+    let same = tree-once once text a.tree t a.source.0 is.0 in
+    let small = subst (λ (x : Tree). IsWithinLimits (bound x)) same a.few in
+    let means = subst (λ (x : Tree). Means (bound x) p) same a.means in
+    let e = inline (bound t) _ (inlining.Refused r) (inlined_of (bound t) p small means) refused in cc
+
+-- ---- from the stages
+pub IsFaultOf-lexed : (text : List ℕ) (e : LexFault) (f : ReadFault) → IsWithin text → IsLexFault text e → f ≡ lex_fault e → IsFaultOf text f
+IsFaultOf-lexed text (lexing.BadByte place) f short is e = rw e (short, is)
+IsFaultOf-lexed text (lexing.Number place) f short is e = rw e (short, is)
+IsFaultOf-lexed text lexing.NoMemory f short is e = rw e tt
+
+pub IsFaultOf-parsed : (text : List ℕ) (tokens : List Token) (e : ParseFault) (f : ReadFault) → IsWithin text → lexed text ≡ Ok tokens
+    → IsParseFault text tokens e → f ≡ parse_fault e → IsFaultOf text f
+IsFaultOf-parsed text tokens (parsing.Syntax place) f short lx is e = rw e (short, (tokens, lx, is))
+IsFaultOf-parsed text tokens (parsing.Version place) f short lx is e = rw e (short, (tokens, lx, is))
+IsFaultOf-parsed text tokens (parsing.Depth place) f short lx is e = rw e (short, (tokens, lx, is))
+IsFaultOf-parsed text tokens parsing.NoMemory f short lx is e = rw e tt
+
+pub IsFaultOf-checked : (text : List ℕ) (t : Tree) (e : ReadFault) → IsWithin text → IsTreeOf text t → IsUnchecked t e → IsFaultOf text e
+IsFaultOf-checked text t NoMemory short is u = tt
+IsFaultOf-checked text t (Refused (Check r)) short is u = (short, t, is, u)
+IsFaultOf-checked text t (Refused TooLong) short is u = absurd u
+IsFaultOf-checked text t (Refused (BadByte place)) short is u = absurd u
+IsFaultOf-checked text t (Refused (Number place)) short is u = absurd u
+IsFaultOf-checked text t (Refused (Syntax place)) short is u = absurd u
+IsFaultOf-checked text t (Refused (Version place)) short is u = absurd u
+IsFaultOf-checked text t (Refused (Depth place)) short is u = absurd u
+IsFaultOf-checked text t (Refused (Inline r)) short is u = absurd u
+
+pub IsFaultOf-written : (text : List ℕ) (t : Tree) (b : Bound) (e : ReadFault) → IsWithin text → IsTreeOf text t → IsFineTree t → b ≡ bound t → IsUnwritten b e → IsFaultOf text e
+IsFaultOf-written text t b NoMemory short is fine same u = tt
+IsFaultOf-written text t b (Refused (Inline r)) short is fine same u =
+    (short, t, (is, fine), subst (λ (x : Bound). IsUnwritten x (Refused (Inline r))) same u)
+IsFaultOf-written text t b (Refused TooLong) short is fine same u = absurd u
+IsFaultOf-written text t b (Refused (BadByte place)) short is fine same u = absurd u
+IsFaultOf-written text t b (Refused (Number place)) short is fine same u = absurd u
+IsFaultOf-written text t b (Refused (Syntax place)) short is fine same u = absurd u
+IsFaultOf-written text t b (Refused (Version place)) short is fine same u = absurd u
+IsFaultOf-written text t b (Refused (Depth place)) short is fine same u = absurd u
+IsFaultOf-written text t b (Refused (Check r)) short is fine same u = absurd u
+
+pub IsAccepted-read : (text : List ℕ) (t : Tree) (b : Bound) (p : Program) → IsWithin text → IsTreeOf text t → IsFineTree t → b ≡ bound t
+    → IsWithinLimits b × Means b p → IsAccepted text p
+IsAccepted-read text t b p short is fine same h = record {
+  short = short;
+  tree = t;
+  source = (is, fine);
+  few = subst (λ (x : Bound). IsWithinLimits x) same h.0;
+  means = subst (λ (x : Bound). Means x p) same h.1;
+}
+
+pub ruleset reader = (IsFaultOf-lexed, IsFaultOf-parsed, IsFaultOf-checked, IsFaultOf-written, IsAccepted-read)

@@ -1,0 +1,5 @@
+use Rattle.program_reader.proofs.ReaderLaws.{means-once}
+use Rattle.program_reader.proofs.laws.means_once.Goals as goal
+
+pub returns : goal.returns
+returns c = means-once c.spelt_once.ensures

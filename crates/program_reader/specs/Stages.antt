@@ -1,0 +1,20 @@
+-- Working form. What each stage may tell of its own input.
+--   IsUnchecked t e      of a tree: its refusal by the checks, or want of memory
+--   IsUnwritten b e      of a program with its names bound: its refusal where gates are written out, or want of memory
+use Rattle.qasm_check.specs.Checking.{Bound, IsRefused as IsCheckRefused}
+use Rattle.qasm_parser.specs.Tree.{Tree}
+use Rattle.gate_inline.specs.Inlined.{IsRefused as IsInlineRefused}
+use Rattle.program_reader.specs.declared.refusal.Refusal.{Refusal}
+use Rattle.program_reader.specs.declared.refusal.Refusal.TheVariants.{TooLong, BadByte, Number, Syntax, Version, Depth, Check, Inline}
+use Rattle.program_reader.specs.declared.refusal.ReadFault.{ReadFault}
+use Rattle.program_reader.specs.declared.refusal.ReadFault.TheVariants.{Refused, NoMemory}
+
+abbrev pub IsUnchecked : Tree → ReadFault → Type 0
+IsUnchecked t NoMemory = Unit {0}
+IsUnchecked t (Refused (Check r)) = IsCheckRefused t r
+IsUnchecked t (Refused _) = ⊥
+
+abbrev pub IsUnwritten : Bound → ReadFault → Type 0
+IsUnwritten b NoMemory = Unit {0}
+IsUnwritten b (Refused (Inline r)) = IsInlineRefused b r.refusal r.statement
+IsUnwritten b (Refused _) = ⊥

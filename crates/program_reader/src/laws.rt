@@ -1,0 +1,23 @@
+//! What holds of every text, as functions whose contracts are the laws.
+
+ghost use Rattle.std.specs.Prelude.{◌≡◌, ℕ, List};
+ghost use Rattle.gate_inline.specs.Programs.{IsAccepted, IsWritten, Program as Meant};
+ghost use Rattle.program_reader.specs.Refusals.{IsRefusal};
+ghost use Rattle.program_reader.specs.declared.refusal.Refusal.{Refusal as First};
+
+/// A text means one program at most.
+pub fn means_once()
+    ensures { (text : List ℕ) (p q : Meant) → IsWritten text p → IsWritten text q → p ≡ q }
+{
+    qasm_parser::spelt_once();
+}
+
+/// An accepted text has no refusal.
+pub fn accepted_has_no_refusal()
+    ensures { (text : List ℕ) (p : Meant) (r : First) → IsAccepted text p → IsRefusal text r → ⊥ }
+{
+    qasm_parser::spelt_once();
+    qasm_parser::accepted_has_no_fault();
+    qasm_check::accepted_has_no_fault();
+    gate_inline::inlined_has_no_fault();
+}

@@ -1,0 +1,17 @@
+//! From the text of a program to its operations, reads and registers, or to its first refusal.
+//!
+//! In goes a text of any bytes. Out comes the program that it spells, over all of the readers: tokens, tree, checks, and gates
+//! written out. The contract says that the text is accepted as this program, by the definition of what a text means. Else it
+//! tells the text's first refusal, exactly, with its place or statement. Each stage is dropped once the next one is there.
+//! `laws` says that a text means one program at most, and that an accepted one has no refusal.
+#![tactic(auto)]
+
+mod laws;
+mod reading;
+mod refusal;
+mod source;
+
+pub use laws::{accepted_has_no_refusal, means_once};
+pub use reading::read_program;
+pub use refusal::{ReadFault, Refusal};
+pub use source::Source;

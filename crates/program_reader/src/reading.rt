@@ -1,0 +1,103 @@
+//! The stages of the reader, one behind the other.
+
+ghost use Rattle.std.specs.Prelude.{◌≡◌, ◌<◌, ◌≤◌, All, IfOk, IfErr, length, ◌^◌};
+ghost use Rattle.gate_expand.specs.Expansion.{IsFineOp};
+ghost use Rattle.gate_inline.specs.Programs.{IsAccepted, IsTreeOf, IsWithinLimits, Means, text_limit};
+ghost use Rattle.gate_inline.specs.Registers.{AreRegisters, IsRead};
+ghost use Rattle.program_reader.specs.Refusals.{IsFaultOf, program_of};
+ghost use Rattle.program_reader.specs.Stages.{IsUnchecked, IsUnwritten};
+ghost use Rattle.qasm_check.specs.Checking.{IsAccepted as IsFineTree, bound};
+ghost use Rattle.qasm_check.specs.CheckedView.{program as bound_program};
+ghost use Rattle.qasm_parser.specs.Tree.{program as tree_of};
+
+use crate::refusal::{ReadFault, Refusal};
+use crate::source::Source;
+use gate_inline::{InlineFault, inline};
+use qasm_check::{Bits, CheckFault, Checked, check};
+use qasm_lexer::lex;
+use qasm_parser::{Name, Program, parse};
+use std::alloc::{AllocError, Global};
+
+/// The most bytes of a text.
+const TEXT_LIMIT: usize = 4_194_304;
+
+/// The tree that a text spells.
+#[tactic(auto, using(crate::proofs::ReaderLaws::reader))]
+fn read_tree(alloc: Global, text: &[u8]) -> Result<Program, ReadFault>
+    requires { length text.now ≤ text_limit }
+    ensures ok { IfOk result (λ p. IsTreeOf text.now (tree_of p)) }
+    ensures few { IfOk result (λ p. length p.list.items < 2 ^ 32) }
+    ensures err { IfErr result (IsFaultOf text.now) }
+{
+    let tokens = lex(alloc, text)?;
+    Ok(parse(alloc, text, &tokens)?)
+}
+
+/// The program with its names bound.
+fn read_checked(alloc: Global, program: Program) -> Result<Checked, ReadFault>
+    requires { length program.list.items < 2 ^ 32 }
+    ensures ok { IfOk result (λ c. IsFineTree (tree_of program) × (bound_program c ≡ bound (tree_of program))) }
+    ensures err { IfErr result (IsUnchecked (tree_of program)) }
+{
+    match check(alloc, program) {
+        Ok(checked) => Ok(checked),
+        Err(CheckFault::Refused(refused)) => Err(ReadFault::Refused(Refusal::Check(refused))),
+        Err(CheckFault::NoMemory) => Err(ReadFault::NoMemory),
+    }
+}
+
+/// The classical registers of a program, in order.
+#[tactic(auto, using(crate::proofs::RegisterLaws::registers))]
+fn registers_of(alloc: Global, checked: &Checked) -> Result<Vec<Bits>, AllocError>
+    ensures { IfOk result (λ v. v.items ≡ (bound_program checked.now).registers) }
+{
+    let mut registers = Vec::new(alloc);
+    'registers: for k in 0..checked.registers() {
+        let (name, size) = checked.register(k);
+        let name = Name::copied(alloc, name)?;
+        registers.push(Bits { name, size })?;
+    }
+    Ok(registers)
+}
+
+/// The operations, reads and registers of a program with its names bound.
+fn write_out(alloc: Global, checked: &Checked) -> Result<Source, ReadFault>
+    ensures ok { IfOk result (λ s. IsWithinLimits (bound_program checked.now) × Means (bound_program checked.now) (program_of s)) }
+    ensures few { IfOk result (λ s. s.ops.wires ≤ 64) }
+    ensures short { IfOk result (λ s. length s.ops.list ≤ 65536) }
+    ensures fine { IfOk result (λ s. All (IsFineOp s.ops.wires) s.ops.list) }
+    ensures err { IfErr result (IsUnwritten (bound_program checked.now)) }
+{
+    let ops = match inline(alloc, checked) {
+        Ok(ops) => ops,
+        Err(InlineFault::Refused(refused)) => {
+            return Err(ReadFault::Refused(Refusal::Inline(refused)));
+        }
+        Err(InlineFault::NoMemory) => return Err(ReadFault::NoMemory),
+    };
+    Ok(Source {
+        ops,
+        registers: registers_of(alloc, checked)?,
+        barriers: checked.barriers(),
+    })
+}
+
+/// The program that a text spells: its operations, each such as `expand` asks for, its reads and its registers. Else the
+/// text's first refusal.
+#[tactic(auto, using(crate::proofs::ReaderLaws::reader))]
+pub fn read_program(alloc: Global, text: &[u8]) -> Result<Source, ReadFault>
+    ensures ok { IfOk result (λ s. IsAccepted text.now (program_of s)) }
+    ensures few { IfOk result (λ s. s.ops.wires ≤ 64) }
+    ensures short { IfOk result (λ s. length s.ops.list ≤ 65536) }
+    ensures fine { IfOk result (λ s. All (IsFineOp s.ops.wires) s.ops.list) }
+    ensures registers { IfOk result (λ s. AreRegisters s.registers.items (length s.ops.reads)) }
+    ensures reads { IfOk result (λ s. All (IsRead s.ops.wires) s.ops.reads) }
+    ensures err { IfErr result (IsFaultOf text.now) }
+{
+    if text.len() > TEXT_LIMIT {
+        return Err(ReadFault::Refused(Refusal::TooLong));
+    }
+    let program = read_tree(alloc, text)?;
+    let checked = read_checked(alloc, program)?;
+    write_out(alloc, &checked)
+}

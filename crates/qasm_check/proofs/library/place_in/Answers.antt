@@ -1,8 +1,0 @@
-use denote.Ref.{Bor}
-use Rattle.std.proofs.Common.{ℕ, List, ◌∙◌}
-use Rattle.std.specs.Str.{bytes_eq}
-use Rattle.qasm_check.proofs.TableLaws.{position-map}
-use Rattle.qasm_check.proofs.library.place_in.Goals as goal
-
-pub returns-clause-value : goal.returns-clause-value
-returns-clause-value c = c.first_same.ensures.value ∙ position-map (λ y. bytes_eq c.args.name.now y) (λ (y : Bor (List ℕ)). y.now) c.args.names.now

@@ -1,0 +1,25 @@
+-- Programs whose names are bound.
+--   Bound          the gates by their numbers, what each statement does, how many wires and bits there are, and the
+--                  classical registers in order
+--   barriers       how many barriers stand outside bodies
+use Rattle.std.specs.Prelude.{ℕ, List, Bool, true, false}
+use Rattle.std.specs.List.{count_by}
+use Rattle.gate_library.specs.Gates.{Gate}
+use Rattle.qasm_check.specs.Steps.{Step, applies, measures, bars, nothing}
+use Rattle.qasm_check.specs.declared.bits.Bits.{Bits}
+
+pub record Bound : Type 0 where
+  pub gates : List Gate
+  pub steps : List Step
+  pub wires : ℕ
+  pub bits : ℕ
+  pub registers : List Bits
+
+abbrev pub is_barrier : Step → Bool
+is_barrier (applies number angles operands) = false
+is_barrier (measures qubit bit) = false
+is_barrier (bars operands) = true
+is_barrier nothing = false
+
+abbrev pub barriers : Bound → ℕ
+barriers b = count_by is_barrier b.steps

@@ -1,0 +1,94 @@
+//! Expressions: the names in them, bound to their indices.
+
+ghost use Rattle.std.specs.Prelude.{◌≡◌, IfOk, map, not};
+ghost use Rattle.std.specs.List.{list_any};
+ghost use Rattle.qasm_parser.specs.Tree.{expression};
+ghost use Rattle.qasm_check.specs.Steps.{formula as bound_formula};
+ghost use Rattle.gate_library.specs.Views.{formula as formula_view};
+ghost use Rattle.qasm_check.specs.Arguments.{knows as knows_all};
+
+use gate_library::{Formula, Indices};
+use qasm_parser::Expr;
+use std::alloc::{AllocError, Global};
+
+/// Whether each name in an expression is one of these.
+pub fn knows<'a>(params: &Indices<'a>, tree: &'a Expr) -> bool
+    ensures { result ≡ knows_all params.now (expression tree.now) }
+{
+    match tree {
+        Expr::Number(_) | Expr::Pi => true,
+        Expr::Param(name) => params.has(name.as_bytes()),
+        Expr::Neg(part) => knows(params, part),
+        Expr::Paren(part) => knows(params, part),
+        Expr::Call { function: _, arg } => knows(params, arg),
+        Expr::Binary {
+            sign: _,
+            left,
+            right,
+        } => knows(params, left) && knows(params, right),
+    }
+}
+
+/// An expression with each name bound to its index among these.
+pub fn bind<'a>(alloc: Global, params: &Indices<'a>, tree: &'a Expr) -> Result<Formula, AllocError>
+    ensures { IfOk result (λ f. formula_view f ≡ bound_formula params.now (expression tree.now)) }
+{
+    match tree {
+        Expr::Number(value) => Ok(Formula::Number(*value)),
+        Expr::Pi => Ok(Formula::Pi),
+        Expr::Param(name) => Ok(Formula::Param(params.index(name.as_bytes()))),
+        Expr::Neg(part) => {
+            let part = bind(alloc, params, part)?;
+            Ok(Formula::Neg(Box::new(alloc, part)?))
+        }
+        Expr::Paren(part) => bind(alloc, params, part),
+        Expr::Call { function, arg } => {
+            let arg = bind(alloc, params, arg)?;
+            let arg = Box::new(alloc, arg)?;
+            Ok(Formula::Call {
+                function: *function,
+                arg,
+            })
+        }
+        Expr::Binary { sign, left, right } => {
+            let left = bind(alloc, params, left)?;
+            let right = bind(alloc, params, right)?;
+            let left = Box::new(alloc, left)?;
+            let right = Box::new(alloc, right)?;
+            Ok(Formula::Binary {
+                sign: *sign,
+                left,
+                right,
+            })
+        }
+    }
+}
+
+/// Expressions with their names bound.
+#[tactic(auto, using(crate::proofs::LoopLaws::loops))]
+pub fn formulas<'a>(
+    alloc: Global,
+    params: &Indices<'a>,
+    trees: &'a [Expr],
+) -> Result<Vec<Formula>, AllocError>
+    ensures { IfOk result (λ v. map formula_view v.items ≡ map (λ e. bound_formula params.now (expression e)) trees.now) }
+{
+    let mut list = Vec::with_capacity(alloc, trees.len())?;
+    'trees: for tree in trees {
+        list.push(bind(alloc, params, tree)?)?;
+    }
+    Ok(list)
+}
+
+/// Whether a name in an expression is none of these.
+#[tactic(auto, using(crate::proofs::LoopLaws::tests))]
+pub fn any_foreign<'a>(params: &Indices<'a>, trees: &'a [Expr]) -> bool
+    ensures { result ≡ list_any (λ e. not (knows_all params.now e)) (map expression trees.now) }
+{
+    'trees: for tree in trees {
+        if !knows(params, tree) {
+            return true;
+        }
+    }
+    false
+}

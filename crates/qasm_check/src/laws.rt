@@ -1,0 +1,26 @@
+//! What holds of every tree, as functions whose contracts are the laws.
+
+ghost use Rattle.std.specs.Prelude.{◌≡◌, length};
+ghost use Rattle.qasm_parser.specs.Tree.{Tree};
+ghost use Rattle.qasm_check.specs.Checking.{IsAccepted, IsFault, IsRefused, bound};
+ghost use Rattle.qasm_check.specs.Sound.{IsSound};
+ghost use Rattle.qasm_check.specs.declared.refusal.CheckFault.{CheckFault as Fault};
+ghost use Rattle.qasm_check.specs.declared.refusal.CheckFault.TheVariants.{NoMemory};
+ghost use Rattle.qasm_check.specs.declared.refusal.Refused.{Refused as Told};
+
+/// A tree has one refusal at most: the statement and its code.
+pub fn refused_once()
+    ensures { (t : Tree) (a b : Told) → IsRefused t a → IsRefused t b → a ≡ b }
+{}
+
+/// An accepted tree has no fault, so only want of memory is told of it.
+pub fn accepted_has_no_fault()
+    ensures { (t : Tree) (fault : Fault) → IsAccepted t → IsFault t fault → fault ≡ NoMemory }
+{}
+
+/// An accepted tree is sound with its names bound, and has a step for each statement: numbers, indices and wires are in
+/// range, no wire stands twice, and the classical registers have different names, which no table has, and together all bits.
+pub fn accepted_is_sound()
+    ensures sound { (t : Tree) → IsAccepted t → IsSound (bound t) }
+    ensures steps { (t : Tree) → length (bound t).steps ≡ length t.list }
+{}

@@ -1,0 +1,5 @@
+use Rattle.qasm_lexer.proofs.LexingLaws.{tokens_once}
+use Rattle.qasm_lexer.proofs.laws.lexed_once.Goals as goal
+
+pub returns : goal.returns
+returns c = tokens_once

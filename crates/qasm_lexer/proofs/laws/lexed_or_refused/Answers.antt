@@ -1,0 +1,5 @@
+use Rattle.qasm_lexer.proofs.LexingLaws.{lexed_or_refused}
+use Rattle.qasm_lexer.proofs.laws.lexed_or_refused.Goals as goal
+
+pub returns : goal.returns
+returns c = lexed_or_refused

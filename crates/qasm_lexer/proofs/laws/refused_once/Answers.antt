@@ -1,0 +1,5 @@
+use Rattle.qasm_lexer.proofs.LexingLaws.{refused_once}
+use Rattle.qasm_lexer.proofs.laws.refused_once.Goals as goal
+
+pub returns : goal.returns
+returns c = refused_once

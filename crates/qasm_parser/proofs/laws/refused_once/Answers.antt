@@ -1,0 +1,5 @@
+use Rattle.qasm_parser.proofs.OnceLaws.{refused_once}
+use Rattle.qasm_parser.proofs.laws.refused_once.Goals as goal
+
+pub returns : goal.returns
+returns c = refused_once

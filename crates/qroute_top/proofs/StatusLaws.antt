@@ -1,0 +1,105 @@
+-- The statuses of a run's end.
+--   status-stop           the status of the fault that a stop is told as
+--   Ends s n              a stop ends with want of memory or with its status
+--   not_late              it is none of those that a plan ends with
+--   Gains-nothing         what is untouched gained no bytes
+use Rattle.std.proofs.Common.{◌≡◌, ◌⊎◌, ℕ, List, [], Option, Some, None, refl, sym, arith, append-nil}
+use Rattle.outside_io.specs.Bytes.{Gains}
+use Rattle.coupling_map.specs.declared.faults.DeviceFault.TheVariants as device_fault_is
+use Rattle.program_reader.specs.declared.refusal.Refusal.{Refusal}
+use Rattle.program_reader.specs.declared.refusal.Refusal.TheVariants as refusal
+use Rattle.qasm_check.specs.declared.refusal.Refusal.{Refusal as CheckRefusal}
+use Rattle.qasm_check.specs.declared.refusal.Refusal.TheVariants as check
+use Rattle.gate_inline.specs.declared.refusal.Refusal.{Refusal as InlineRefusal}
+use Rattle.gate_inline.specs.declared.refusal.Refusal.TheVariants as inline
+use Rattle.gate_inline.specs.Inlined.{code as inline_code}
+use Rattle.qasm_check.specs.Refusals.{code as check_code}
+use Rattle.route_report.specs.Faults.{status_of}
+use Rattle.route_report.specs.Refusals.{stops_with}
+use Rattle.route_report.specs.declared.faults.Fault.{Fault}
+use Rattle.route_report.specs.declared.faults.Fault.TheVariants as fault
+use Rattle.qroute_top.specs.Causes.{device_fault, fault_of, refusal_fault, stop_status}
+use Rattle.qroute_top.specs.declared.stops.DeviceRefusal.{DeviceRefusal}
+use Rattle.qroute_top.specs.declared.stops.DeviceRefusal.TheVariants as device
+use Rattle.qroute_top.specs.declared.stops.Stop.{Stop}
+use Rattle.qroute_top.specs.declared.stops.Stop.TheVariants as stop
+
+check_status : (r : CheckRefusal) → stops_with (check_code r) ≡ 3
+check_status check.Include = refl
+check_status check.NameTaken = refl
+check_status check.UnknownName = refl
+check_status check.WrongKind = refl
+check_status check.IndexRange = refl
+check_status check.EmptyRegister = refl
+check_status check.ParamCount = refl
+check_status check.QubitCount = refl
+check_status check.SizeDiffers = refl
+check_status check.RepeatedQubit = refl
+check_status check.Conditional = refl
+check_status check.Reset = refl
+check_status check.OpaqueApplied = refl
+check_status check.AfterMeasure = refl
+check_status check.TooManyQubits = refl
+check_status check.TooManyBits = refl
+
+inline_status : (r : InlineRefusal) → stops_with (inline_code r) ≡ 3
+inline_status inline.AngleForm = refl
+inline_status inline.AngleZero = refl
+inline_status inline.AngleRange = refl
+inline_status inline.AngleStep = refl
+inline_status inline.TooManyOps = refl
+
+some_same : {X : Type 0} (x y : X) → Some x ≡ Some y → x ≡ y
+some_same x y e = cc
+
+by_fault : (f g : Fault) (n m : ℕ) → Some f ≡ Some g → n ≡ status_of g → status_of f ≡ m → n ≡ m
+by_fault f g n m e is same = let here = some_same f g e in cc
+
+program_status : (r : Refusal) → status_of (refusal_fault r) ≡ 3
+program_status refusal.TooLong = refl
+program_status (refusal.BadByte place) = refl
+program_status (refusal.Number place) = refl
+program_status (refusal.Syntax place) = refl
+program_status (refusal.Version place) = refl
+program_status (refusal.Depth place) = refl
+program_status (refusal.Check r) = check_status r.refusal
+program_status (refusal.Inline r) = inline_status r.refusal
+
+device_status : (r : DeviceRefusal) → status_of (device_fault r) ≡ 4
+device_status device.TooLong = refl
+device_status (device.Fault device_fault_is.Text) = refl
+device_status (device.Fault device_fault_is.Shape) = refl
+device_status (device.Fault device_fault_is.Range) = refl
+device_status (device.Fault (device_fault_is.SelfEdge qubit)) = refl
+device_status (device.Fault (device_fault_is.NotConnected from to)) = refl
+device_status (device.TooFewQubits size qubits) = refl
+
+pub status-stop : (s : Stop) (f : Fault) (n : ℕ) → fault_of s ≡ Some f → n ≡ status_of f → n ≡ stop_status s
+status-stop stop.NoMemory f n e is = cc
+status-stop stop.Words f n e is = by_fault fault.Words f n 2 e is refl
+status-stop stop.Input f n e is = by_fault fault.Input f n 5 e is refl
+status-stop stop.Shelf f n e is = by_fault fault.Shelf f n 9 e is refl
+status-stop stop.Absent f n e is = by_fault fault.Absent f n 9 e is refl
+status-stop (stop.Program r) f n e is = by_fault (refusal_fault r) f n 3 e is (program_status r)
+status-stop (stop.Device r) f n e is = by_fault (device_fault r) f n 4 e is (device_status r)
+
+abbrev pub Ends : Stop → ℕ → Type 0
+Ends s n = (n ≡ 7) ⊎ (n ≡ stop_status s)
+
+-- a stop ends with no late status
+pub not_late : (s : Stop) (n : ℕ) → Ends s n → (n ≡ 0) ⊎ ((n ≡ 6) ⊎ (n ≡ 8)) → ⊥
+not_late stop.NoMemory n e late = grind arith
+not_late stop.Words n e late = grind arith
+not_late stop.Input n e late = grind arith
+not_late (stop.Program r) n e late = grind arith
+not_late stop.Shelf n e late = grind arith
+not_late stop.Absent n e late = grind arith
+not_late (stop.Device r) n e late = grind arith
+
+pub Gains-nothing : (held : Option (List ℕ)) → Gains held held []
+Gains-nothing None = tt
+Gains-nothing (Some bytes) = sym (append-nil bytes)
+
+pub ruleset told = (status-stop)
+
+pub ruleset emitted = (Gains-nothing)

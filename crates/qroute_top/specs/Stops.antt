@@ -1,0 +1,52 @@
+-- Working form. Stops of one part as stops of a run.
+--   unread f             a fault of the reader, as a stop of reading
+--   unloaded f           why a text of the shelf isn't had, as a stop of the device
+--   IsUndescribed text n e   why a text that isn't too long gives no device for a program on n wires
+--   IsUnasked words s    why words give no command
+--   source_stopped e, device_stopped e   a stop of reading, or of the device, as one of the run
+use Rattle.std.specs.Prelude.{◌≡◌, ℕ, List, None, ⊤, ⊥}
+use Rattle.command_words.specs.Commands.{command_of}
+use Rattle.outside_io.specs.declared.TextFault.{TextFault}
+use Rattle.outside_io.specs.declared.TextFault.TheVariants as text_fault
+use Rattle.program_reader.specs.declared.refusal.ReadFault.{ReadFault}
+use Rattle.program_reader.specs.declared.refusal.ReadFault.TheVariants as read_fault
+use Rattle.qroute_top.specs.declared.stops.DeviceRefusal.TheVariants as device
+use Rattle.qroute_top.specs.declared.stops.DeviceStop.{DeviceStop}
+use Rattle.qroute_top.specs.declared.stops.DeviceStop.TheVariants as device_stop
+use Rattle.qroute_top.specs.declared.stops.SourceStop.{SourceStop}
+use Rattle.qroute_top.specs.declared.stops.SourceStop.TheVariants as source_stop
+use Rattle.qroute_top.specs.declared.stops.Stop.{Stop}
+use Rattle.qroute_top.specs.declared.stops.Stop.TheVariants as stop
+use Rattle.qroute_top.specs.Devices.{IsDeviceRefusal}
+
+abbrev pub unread : ReadFault → SourceStop
+unread read_fault.NoMemory = source_stop.NoMemory
+unread (read_fault.Refused r) = source_stop.Refused r
+
+abbrev pub source_stopped : SourceStop → Stop
+source_stopped source_stop.NoMemory = stop.NoMemory
+source_stopped source_stop.Failed = stop.Input
+source_stopped (source_stop.Refused r) = stop.Program r
+
+abbrev pub device_stopped : DeviceStop → Stop
+device_stopped device_stop.NoMemory = stop.NoMemory
+device_stopped device_stop.Failed = stop.Shelf
+device_stopped device_stop.Absent = stop.Absent
+device_stopped (device_stop.Refused r) = stop.Device r
+
+abbrev pub unloaded : TextFault → DeviceStop
+unloaded text_fault.Failed = device_stop.Failed
+unloaded text_fault.Absent = device_stop.Absent
+unloaded text_fault.TooLong = device_stop.Refused device.TooLong
+unloaded text_fault.NoMemory = device_stop.NoMemory
+
+abbrev pub IsUndescribed : List ℕ → ℕ → DeviceStop → Type 0
+IsUndescribed text n device_stop.NoMemory = ⊤
+IsUndescribed text n (device_stop.Refused r) = IsDeviceRefusal text n r
+IsUndescribed text n device_stop.Failed = ⊥
+IsUndescribed text n device_stop.Absent = ⊥
+
+abbrev pub IsUnasked : List (List ℕ) → Stop → Type 0
+IsUnasked words stop.NoMemory = ⊤
+IsUnasked words stop.Words = command_of words ≡ None
+IsUnasked words _ = ⊥
