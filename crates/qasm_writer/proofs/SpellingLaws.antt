@@ -5,13 +5,13 @@
 --   Spelt-line         a line that spells one statement
 --   IsFreeWord-underscores the quantum register has a name of the language
 --   written_tree-spelt the text of a program spells its tree
-use Rattle.std.proofs.Common.{◌≡◌, ℕ, zero, suc, ◌+◌, ◌-◌, ◌^◌, ◌<◌, ◌≤◌, ◌==◌, ◌⊎◌, inl, inr, Bool, true, false, if◌then◌else◌, List, [], ◌∷◌, ◌++◌, Option, Some, None, pos, refl, sym, ap, ◌∙◌, subst, arith, length, drop, take, codes, map, replicate, append_assoc, append-nil, All, lit<, lit≤, nat_le}
+use Rattle.std.proofs.Common.{◌≡◌, ℕ, zero, suc, ◌+◌, ◌<◌, ◌≤◌, ◌==◌, ◌⊎◌, inl, inr, Bool, true, false, if◌then◌else◌, List, [], ◌∷◌, ◌++◌, Option, Some, None, refl, sym, ap, ◌∙◌, subst, arith, length, drop, take, codes, map, replicate, append_assoc, append-nil, All, lit<, lit≤, nat_le}
 use Rattle.std.proofs.lemmas.List.{length-take}
 use Rattle.std.proofs.lemmas.List.Sums.{sum_by-cons}
 use Rattle.std.proofs.lemmas.List.Elements.{recursion_from_All}
 use Rattle.std.specs.List.{AllByRecursion, flat_map, list_all, sum_by}
 use Rattle.std.specs.Fmt.{decimal}
-use Rattle.angle_fraction.specs.Fraction.{common_factor, fraction, greatest_common, is_small, lowest, most_part}
+use Rattle.angle_fraction.specs.Fraction.{common_factor, greatest_common, is_small, lowest, most_part}
 use Rattle.angle_fraction.specs.declared.signs.Binary.TheVariants.{Mul, Div}
 use Rattle.qasm_lexer.specs.Forms.{Bytes, is_word_byte}
 use Rattle.qasm_lexer.specs.Lexemes.{form_len, lexeme_len}
@@ -24,9 +24,9 @@ use Rattle.qasm_parser.specs.Expressions.{SpellsSum}
 use Rattle.qasm_writer.specs.Words.{IsFreeWord}
 use Rattle.qasm_writer.proofs.WordLaws.{IsFreeWord-name}
 use Rattle.qasm_parser.specs.Parsing.{two}
-use Rattle.qasm_parser.specs.Spelling.{Seen, SpellsArg, SpellsArgs, Form, SpellsEach, SpellsForm, SpellsStatement, SpellsTree, alone, first_deep, index_symbols, listed, seen, whole_symbol}
-use Rattle.qasm_parser.specs.Symbols.{Symbol, mark, mark_symbol, name, quoted, real, sign, symbol_by, unquoted, whole, word, word_symbol}
-use Rattle.qasm_parser.specs.Tree.{Expression, Statement, Tree, act, apply, include, measure, register}
+use Rattle.qasm_parser.specs.Spelling.{Seen, Form, SpellsEach, SpellsForm, SpellsStatement, alone, first_deep, index_symbols, listed, seen, whole_symbol}
+use Rattle.qasm_parser.specs.Symbols.{Symbol, mark, mark_symbol, name, quoted, real, sign, symbol_by, unquoted, word, word_symbol}
+use Rattle.qasm_parser.specs.Tree.{Expression, Statement, act, include, measure, register}
 use Rattle.qasm_parser.specs.declared.symbols.Keyword.TheVariants.{OpenQasm, Include, Qreg, Creg, Measure, Pi}
 use Rattle.qasm_parser.specs.declared.symbols.Mark.TheVariants.{Semicolon, Comma, Open, Close, OpenBracket, CloseBracket, Arrow}
 use Rattle.qasm_check.specs.declared.bits.Bits.{Bits}
@@ -35,8 +35,8 @@ use Rattle.gate_inline.specs.Programs.{IsTreeOf}
 use Rattle.unitary_model.specs.Operations.{IsPlain, WiresBelow}
 use Rattle.unitary_model.specs.declared.Op.{Op}
 use Rattle.unitary_model.specs.declared.Op.TheVariants.{U, Cx}
-use Rattle.qasm_writer.specs.Texts.{IsQubitsName, bits_line, gate_text, heading_text, index_text, op_line, phase_text, read_line, read_lines, register_lines, wires_line, with_underscores, written_text}
-use Rattle.qasm_writer.specs.Trees.{applied, at, bits_statement, eighths_angle, op_statement, phase_statement, read_statement, read_statements, register_statements, wires_statements, written_tree}
+use Rattle.qasm_writer.specs.Texts.{IsQubitsName, bits_line, index_text, op_line, phase_text, read_line, read_lines, register_lines, wires_line, with_underscores, written_text}
+use Rattle.qasm_writer.specs.Trees.{applied, at, bits_statement, eighths_angle, op_statement, phase_statement, read_statements, register_statements, wires_statements, written_tree}
 use Rattle.qasm_writer.proofs.SymbolLaws.{Gives, Gives-line, Gives-name, Gives-nil, Gives-number, Gives-space, Gives-token}
 
 -- ---- texts, one behind another
@@ -153,6 +153,7 @@ wires_spelt q n h few = by_test (n == 0)
         rw shown (gives-qreg (index_text q n ++ (codes ";\n" ++ tail)) (name q ∷ index_symbols (Some n) (mark Semicolon ∷ rest))
         (gives-index q n (codes ";\n" ++ tail) (mark Semicolon ∷ rest) h few (gives-end tail rest g))))
         (λ rest. (refl, refl)) (λ rest. refl)
+
     by_test : (b : Bool) → Spelt (if b then [] else register true q n ∷ []) (if b then [] else codes "qreg " ++ (index_text q n ++ codes ";\n"))
     by_test true = Spelt-nil
     by_test false = line
@@ -177,12 +178,18 @@ read_spelt : (q b : Bytes) (k i : ℕ) → IsFreeWord q → IsFreeWord b → k �
 read_spelt q b k i h g few less = Spelt-line (act (measure (at q i) (at b k))) (read_line q b k (Some i))
     (λ rest. word Measure ∷ name q ∷ index_symbols (Some i) (mark Arrow ∷ name b ∷ index_symbols (Some k) (mark Semicolon ∷ rest))) (λ rest. [])
     (λ tail rest g'.
-        let last = index_text b k ++ (codes ";\n" ++ tail) in
-        let shown : read_line q b k (Some i) ++ tail ≡ codes "measure " ++ (index_text q i ++ (codes " -> " ++ last)) = simp append_assoc in
-        rw shown (gives-measure (index_text q i ++ (codes " -> " ++ last)) _
-        (gives-index q i (codes " -> " ++ last) _ h less (gives-arrow last _ (gives-index b k (codes ";\n" ++ tail) _ g few (gives-end tail rest g'))))))
-    (λ rest. (name q ∷ index_symbols (Some i) (mark Arrow ∷ name b ∷ index_symbols (Some k) (mark Semicolon ∷ rest)),
-        name b ∷ index_symbols (Some k) (mark Semicolon ∷ rest), refl, (refl, tt, refl), (refl, tt, refl), refl))
+    let last = index_text b k ++ (codes ";\n" ++ tail) in
+    let shown : read_line q b k (Some i) ++ tail ≡ codes "measure " ++ (index_text q i ++ (codes " -> " ++ last)) = simp append_assoc in
+    rw shown (gives-measure (index_text q i ++ (codes " -> " ++ last)) _
+    (gives-index q i (codes " -> " ++ last) _ h less (gives-arrow last _ (gives-index b k (codes ";\n" ++ tail) _ g few (gives-end tail rest g'))))))
+    (λ rest. (
+      name q ∷ index_symbols (Some i) (mark Arrow ∷ name b ∷ index_symbols (Some k) (mark Semicolon ∷ rest)),
+      name b ∷ index_symbols (Some k) (mark Semicolon ∷ rest),
+      refl,
+      (refl, tt, refl),
+      (refl, tt, refl),
+      refl,
+    ))
     (λ rest. refl)
 
 reads_spelt : (q b : Bytes) (n k : ℕ) (reads : List (Option ℕ)) → IsFreeWord q → IsFreeWord b → n ≤ most_part
@@ -221,13 +228,23 @@ cx_spelt : (q : Bytes) (c t : ℕ) → IsFreeWord q → c ≤ most_part → t �
 cx_spelt q c t h few less = Spelt-line (op_statement q (Cx c t)) (op_line q (Cx c t))
     (λ rest. name (codes "cx") ∷ name q ∷ index_symbols (Some c) (mark Comma ∷ name q ∷ index_symbols (Some t) (mark Semicolon ∷ rest))) (λ rest. [])
     (λ tail rest g.
-        let last = index_text q t ++ (codes ";\n" ++ tail) in
-        let shown : op_line q (Cx c t) ++ tail ≡ codes "cx " ++ (index_text q c ++ (codes "," ++ last)) = simp append_assoc in
-        rw shown (gives-cx (index_text q c ++ (codes "," ++ last)) _
-        (gives-index q c (codes "," ++ last) _ h few (gives-comma last _ (gives-index q t (codes ";\n" ++ tail) _ h less (gives-end tail rest g))))))
-    (λ rest. (alone, name q ∷ index_symbols (Some c) (mark Comma ∷ name q ∷ index_symbols (Some t) (mark Semicolon ∷ rest)), (refl, refl, refl),
-        (mark Comma ∷ name q ∷ index_symbols (Some t) (mark Semicolon ∷ rest), [], [], (refl, tt, refl),
-        (mark Semicolon ∷ rest, [], [], (name q ∷ index_symbols (Some t) (mark Semicolon ∷ rest), refl, (refl, tt, refl)), (refl, refl), refl), refl)))
+    let last = index_text q t ++ (codes ";\n" ++ tail) in
+    let shown : op_line q (Cx c t) ++ tail ≡ codes "cx " ++ (index_text q c ++ (codes "," ++ last)) = simp append_assoc in
+    rw shown (gives-cx (index_text q c ++ (codes "," ++ last)) _
+    (gives-index q c (codes "," ++ last) _ h few (gives-comma last _ (gives-index q t (codes ";\n" ++ tail) _ h less (gives-end tail rest g))))))
+    (λ rest. (
+      alone,
+      name q ∷ index_symbols (Some c) (mark Comma ∷ name q ∷ index_symbols (Some t) (mark Semicolon ∷ rest)),
+      (refl, refl, refl),
+      (
+        mark Comma ∷ name q ∷ index_symbols (Some t) (mark Semicolon ∷ rest),
+        [],
+        [],
+        (refl, tt, refl),
+        (mark Semicolon ∷ rest, [], [], (name q ∷ index_symbols (Some t) (mark Semicolon ∷ rest), refl, (refl, tt, refl)), (refl, refl), refl),
+        refl,
+      ),
+    ))
     (λ rest. refl)
 
 -- a gate on one qubit, by the symbols of its name
@@ -242,11 +259,11 @@ gate_spelt q gate text i angles ts found h few gives form shallow =
     (λ rest. ts (name q ∷ index_symbols (Some i) (mark Semicolon ∷ rest)))
     (λ rest. found (name q ∷ index_symbols (Some i) (mark Semicolon ∷ rest)))
     (λ tail rest g.
-        let shown : (text ++ (codes " " ++ (index_text q i ++ codes ";\n"))) ++ tail ≡ text ++ 32 ∷ (index_text q i ++ (codes ";\n" ++ tail)) = simp append_assoc in
-        rw shown (gives (index_text q i ++ (codes ";\n" ++ tail)) _ (gives-index q i (codes ";\n" ++ tail) _ h few (gives-end tail rest g))))
+    let shown : (text ++ (codes " " ++ (index_text q i ++ codes ";\n"))) ++ tail ≡ text ++ 32 ∷ (index_text q i ++ (codes ";\n" ++ tail)) = simp append_assoc in
+    rw shown (gives (index_text q i ++ (codes ";\n" ++ tail)) _ (gives-index q i (codes ";\n" ++ tail) _ h few (gives-end tail rest g))))
     (λ rest. let mid = name q ∷ index_symbols (Some i) (mark Semicolon ∷ rest) in
-        let f = form mid in
-        (f.0, mid, f.1, (mark Semicolon ∷ rest, [], [], (refl, tt, refl), (refl, refl), refl)))
+    let f = form mid in
+    (f.0, mid, f.1, (mark Semicolon ∷ rest, [], [], (refl, tt, refl), (refl, refl), refl)))
     (λ rest. shallow (name q ∷ index_symbols (Some i) (mark Semicolon ∷ rest)))
 
 plain_spelt : (q gate : Bytes) (i : ℕ) → IsFreeWord q → i ≤ most_part → IsFreeWord gate
@@ -295,9 +312,21 @@ eighths_spelt q text i k h few gives =
     gate_spelt q (codes "u1") text i (eighths_angle k ∷ [])
     (λ rest. name (codes "u1") ∷ mark Open ∷ whole_symbol k ∷ sign Mul ∷ word Pi ∷ sign Div ∷ whole_symbol 4 ∷ mark Close ∷ rest)
     (λ rest. seen (length (whole_symbol k ∷ sign Mul ∷ word Pi ∷ sign Div ∷ whole_symbol 4 ∷ mark Close ∷ rest)) 3 ∷ []) h few gives
-    (λ rest. (listed, (whole_symbol k ∷ sign Mul ∷ word Pi ∷ sign Div ∷ whole_symbol 4 ∷ mark Close ∷ rest, refl,
-        (mark Close ∷ rest, seen (length (whole_symbol k ∷ sign Mul ∷ word Pi ∷ sign Div ∷ whole_symbol 4 ∷ mark Close ∷ rest)) 3 ∷ [], [],
-        (angle_spelt k (mark Close ∷ rest), refl), (refl, refl), refl))))
+    (λ rest. (
+      listed,
+      (
+        whole_symbol k ∷ sign Mul ∷ word Pi ∷ sign Div ∷ whole_symbol 4 ∷ mark Close ∷ rest,
+        refl,
+        (
+          mark Close ∷ rest,
+          seen (length (whole_symbol k ∷ sign Mul ∷ word Pi ∷ sign Div ∷ whole_symbol 4 ∷ mark Close ∷ rest)) 3 ∷ [],
+          [],
+          (angle_spelt k (mark Close ∷ rest), refl),
+          (refl, refl),
+          refl,
+        ),
+      ),
+    ))
     (λ rest. refl)
 
 phase_spelt : (q : Bytes) (i c : ℕ) → IsFreeWord q → i ≤ most_part
@@ -346,9 +375,9 @@ unfolding lexeme_len form_len symbol_by word_symbol unquoted
 include_spelt = Spelt-line (include (codes "qelib1.inc")) (codes "include \"qelib1.inc\";\n")
     (λ rest. word Include ∷ quoted (codes "qelib1.inc") ∷ mark Semicolon ∷ rest) (λ rest. [])
     (λ tail rest g.
-        Gives-token (codes "include") (codes " \"qelib1.inc\";\n" ++ tail) _ refl (lit< tt) refl refl
-        (Gives-space (codes "\"qelib1.inc\";\n" ++ tail) _
-        (Gives-token (codes "\"qelib1.inc\"") (codes ";\n" ++ tail) _ refl (lit< tt) refl refl (gives-end tail rest g))))
+    Gives-token (codes "include") (codes " \"qelib1.inc\";\n" ++ tail) _ refl (lit< tt) refl refl
+    (Gives-space (codes "\"qelib1.inc\";\n" ++ tail) _
+    (Gives-token (codes "\"qelib1.inc\"") (codes ";\n" ++ tail) _ refl (lit< tt) refl refl (gives-end tail rest g))))
     (λ rest. (refl, refl)) (λ rest. refl)
 
 -- ---- the whole text

@@ -7,8 +7,8 @@
 --   Gives-name         a name before a byte that ends it
 --   Gives-number       a number before a bracket
 --   lowest-whole       a whole number is in lowest terms
-use Rattle.std.proofs.Common.{◌≡◌, ℕ, zero, suc, ◌+◌, ◌-◌, ◌*◌, ◌^◌, ◌/◌, ◌%◌, ◌<◌, ◌≤◌, ◌==◌, ◌&&◌, ◌||◌, ◌⊎◌, inl, inr, not, Bool, true, false, if◌then◌else◌, List, [], ◌∷◌, ◌++◌, Option, Some, None, Ok, Err, Result, pos, refl, sym, ap, ◌∙◌, subst, arith, rules, length, drop, take, get_or, codes, map, append_assoc, length-append, append-nil, lit<, one-add}
-use Rattle.std.proofs.Math.Nat.{mod-one, div-one, mul-one, pow-zero}
+use Rattle.std.proofs.Common.{◌≡◌, ℕ, zero, suc, ◌+◌, ◌-◌, ◌^◌, ◌<◌, ◌≤◌, ◌==◌, ◌&&◌, ◌⊎◌, inl, inr, not, Bool, true, false, if◌then◌else◌, List, [], ◌∷◌, ◌++◌, None, Ok, pos, refl, sym, ap, ◌∙◌, subst, arith, rules, length, drop, take, get_or, append_assoc, length-append, append-nil, lit<, one-add}
+use Rattle.std.proofs.Math.Nat.{mod-one, div-one, mul-one}
 use Rattle.std.proofs.lemmas.Grind.{common_steps}
 use Rattle.std.proofs.lemmas.Bool.Decides.{nat_tests}
 use Rattle.std.proofs.lemmas.Fmt.{digits_value-decimal, digits_decimal, decimal_nonempty, first_decimal, decimal_digit}
@@ -16,12 +16,12 @@ use Rattle.std.proofs.lemmas.Str.Parse.{IsNumeralModel, numerals_by_fold}
 use Rattle.std.specs.Char.{is_ascii_alphabetic, is_ascii_digit, is_ascii_lowercase, is_ascii_uppercase}
 use Rattle.std.specs.Fmt.{decimal}
 use Rattle.std.specs.List.{list_all, prefix_len}
-use Rattle.angle_fraction.specs.Fraction.{Fraction, common_factor, fraction, greatest_common, is_small, lowest, most_part}
+use Rattle.angle_fraction.specs.Fraction.{common_factor, fraction, greatest_common, is_small, lowest, most_part}
 use Rattle.qasm_lexer.specs.Forms.{Bytes, is_space, is_word_byte}
 use Rattle.qasm_lexer.specs.Numbers.{begins_with, digit, has_point, number, number_after, decimal as value, scaled, has_value}
 use Rattle.qasm_lexer.specs.Lexemes.{form_by, form_len, is_blank, is_number, is_out_of_range, is_stray, kind_of, lexeme_len, number_kind, number_len}
 use Rattle.qasm_lexer.specs.Tokens.{bytes_of}
-use Rattle.qasm_lexer.specs.Lexed.{lexed_from, then_more, token_at, with_lexeme}
+use Rattle.qasm_lexer.specs.Lexed.{lexed_from, then_more, token_at}
 use Rattle.qasm_lexer.specs.declared.Kind.TheVariants.{Real, Whole}
 use Rattle.qasm_lexer.specs.declared.Token.{Token}
 use Rattle.qasm_writer.specs.Words.{IsFreeWord}
@@ -66,7 +66,7 @@ behind_token front w rest ss e some token fine g =
       tokens = it ∷ g.tokens;
       lexed = shown ∙ ap (λ n. then_more it (lexed_from n rest)) place ∙ ap (λ r. then_more it r) g.lexed;
       spelt = λ i. ap (λ (z : Bytes). symbol_by (kind_of w) z) (bytes_there front w rest) i
-      ∷ (ap (λ (z : Bytes). symbols z g.tokens) (sym (append_assoc front w rest)) ∙ g.spelt) i;
+          ∷ (ap (λ (z : Bytes). symbols z g.tokens) (sym (append_assoc front w rest)) ∙ g.spelt) i;
     }
 
 pub Gives-token : (w rest : Bytes) (ss : List Symbol) → lexeme_len (w ++ rest) ≡ length w → 0 < length w → is_blank w ≡ false → is_out_of_range w ≡ false

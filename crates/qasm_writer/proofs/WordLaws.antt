@@ -1,7 +1,7 @@
 -- Names of the language as the grammar's tests see them.
 --   IsFreeWord-name     each name of the language is a free word
 --   IsName-underscores  `q` and underscores is a name of the language
-use Rattle.std.proofs.Common.{◌≡◌, ◌⊎◌, inl, inr, ℕ, zero, suc, Bool, true, false, ◌&&◌, ◌||◌, List, [], ◌∷◌, None, refl, sym, ap, ◌∙◌, subst, codes, replicate}
+use Rattle.std.proofs.Common.{◌≡◌, inl, inr, ℕ, zero, suc, Bool, true, false, ◌||◌, List, [], ◌∷◌, None, refl, sym, ap, ◌∙◌, subst, codes, replicate}
 use Rattle.std.specs.Bool.{Decides}
 use Rattle.std.specs.Char.{is_ascii_lowercase}
 use Rattle.std.specs.List.{list_all, list_any}
@@ -57,7 +57,7 @@ keyword_none w n =
 function_none : (w : Bytes) → IsName w → function_of w ≡ None
 function_none w n =
     let past : OneOf (codes "sin" ∷ codes "cos" ∷ codes "tan" ∷ codes "exp" ∷ codes "ln" ∷ codes "sqrt" ∷ []) w → ⊥ =
-        (λ x. n.free (inr (inr (inr (inr (inr (inr (inr (inr (inr (inr x))))))))))) in
+    (λ x. n.free (inr (inr (inr (inr (inr (inr (inr (inr (inr (inr x))))))))))) in
     let a = unlike w (codes "sin") (λ e. past (inl e)) in
     let b = unlike w (codes "cos") (λ e. past (inr (inl e))) in
     let c = unlike w (codes "tan") (λ e. past (inr (inr (inl e)))) in
