@@ -1,11 +1,11 @@
 -- One lexeme at the front of a text.
 --   first_lexeme     the first lexeme, and then what follows it
 --   no_lexeme        no text has no tokens
-use Rattle.std.proofs.Common.{◌≡◌, ℕ, zero, suc, ◌+◌, ◌<◌, ◌≤◌, ◌==◌, false, List, [], ◌∷◌, ◌++◌, Ok, Err, if◌then◌else◌, refl, ap, arith, length, take, drop}
+use Rattle.std.proofs.Common.{◌≡◌, ℕ, zero, suc, ◌+◌, ◌<◌, ◌≤◌, ◌==◌, false, [], ◌∷◌, ◌++◌, Ok, Err, if◌then◌else◌, refl, ap, arith, length, take, drop}
 use Rattle.std.proofs.lemmas.List.{length-drop}
 use Rattle.std.proofs.lemmas.Grind.{common_steps}
 use Rattle.qasm_lexer.specs.Forms.{Bytes}
-use Rattle.qasm_lexer.specs.Lexemes.{lexeme_len}
+use Rattle.qasm_lexer.specs.Lexemes.{form_len, lexeme_len}
 use Rattle.qasm_lexer.specs.Lexed.{lexed_from, lexed_within, with_lexeme}
 use Rattle.qasm_lexer.specs.declared.LexFault.TheVariants.{BadByte}
 
@@ -49,7 +49,7 @@ from_lexeme n (suc k) place t some fits =
     rw suc_not_zero (ap (λ ts. with_lexeme place (take (suc k) t) ts) same)
 
 nothing_from_nothing : (k : ℕ) → lexeme_len [] ≡ k → 0 < k → ⊥
-unfolding lexeme_len
+unfolding lexeme_len form_len
 nothing_from_nothing k e some = omega arith
 
 split_lexeme : (t : Bytes) (place k : ℕ) → lexeme_len t ≡ k → 0 < k

@@ -3,7 +3,7 @@
 --   reads-more         that of one measurement more
 --   registers-more     those into one register more
 --   text-joined        the parts of a text, one after the other
-use Rattle.std.proofs.Common.{◌≡◌, ℕ, zero, suc, ◌+◌, ◌<◌, ◌≤◌, List, [], ◌∷◌, ◌++◌, Option, Some, refl, sym, ap, ◌∙◌, length, take, drop, get_or, slice_get, sum_by, map, arith, add-one, add-zero, append_assoc, append-nil}
+use Rattle.std.proofs.Common.{◌≡◌, ℕ, zero, suc, ◌+◌, ◌<◌, List, [], ◌∷◌, ◌++◌, Option, Some, refl, sym, ap, ◌∙◌, length, take, get_or, slice_get, arith, add-one, add-zero, append_assoc, append-nil}
 use Rattle.std.specs.List.{flat_map}
 use Rattle.circuit_list.specs.declared.Gate.{Gate}
 use Rattle.circuit_list.specs.Gates.{op_of, ops}

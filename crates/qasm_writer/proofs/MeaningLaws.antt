@@ -22,8 +22,7 @@ use Rattle.qasm_check.specs.Steps.{after, known}
 use Rattle.qasm_check.specs.declared.bits.Bits.{Bits}
 use Rattle.gate_inline.specs.Inlined.{operations}
 use Rattle.gate_inline.specs.Programs.{Means}
-use Rattle.gate_inline.specs.Registers.{AreRegisters, IsFree, names_of}
-use Rattle.qasm_writer.specs.Outputs.{IsRead}
+use Rattle.gate_inline.specs.Registers.{AreRegisters, IsFree, IsRead, names_of}
 use Rattle.qasm_writer.specs.Texts.{IsQubitsName}
 use Rattle.qasm_writer.specs.Trees.{bits_statement, op_statement, read_statements, wires_statements, written_tree}
 use Rattle.qasm_writer.proofs.GateLaws.{IsWritable, ops_run}

@@ -22,7 +22,7 @@ use Rattle.qasm_check.specs.Steps.{after}
 use Rattle.qasm_check.specs.declared.bits.Bits.{Bits}
 use Rattle.gate_library.specs.declared.meaning.Meaning.{Meaning}
 use Rattle.gate_library.specs.declared.operand.Operand.{Operand}
-use Rattle.qasm_writer.specs.Outputs.{IsRead}
+use Rattle.gate_inline.specs.Registers.{IsRead}
 use Rattle.qasm_writer.specs.Trees.{at, read_statement, register_statements, read_statements}
 use Rattle.qasm_writer.proofs.RunLaws.{Run, Run-append, Run-nil, Run-reads, none_or, or_or}
 use Rattle.qasm_writer.proofs.StatementLaws.{bits_register, wires_register, measure_run}

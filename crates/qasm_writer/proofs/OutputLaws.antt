@@ -1,7 +1,7 @@
 -- What is written for an output is a written program.
 --   IsPlain-ops, WiresBelow-ops   the gates of a circuit are plain operations, on wires that are there
 --   IsWritten-text       the text of an output is a written program of it
-use Rattle.std.proofs.Common.{◌≡◌, ℕ, ◌<◌, ◌≤◌, inl, inr, List, [], ◌∷◌, refl, sym, subst, arith, All, map}
+use Rattle.std.proofs.Common.{ℕ, ◌≤◌, inl, inr, List, [], ◌∷◌, refl, sym, subst, arith, All, map}
 use Rattle.std.proofs.lemmas.List.Elements.{All-from_recursion, recursion_from_All}
 use Rattle.std.specs.List.{AllByRecursion}
 use Rattle.circuit_list.specs.declared.Gate.{Gate}

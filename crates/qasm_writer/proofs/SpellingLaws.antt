@@ -5,16 +5,16 @@
 --   Spelt-line         a line that spells one statement
 --   IsFreeWord-underscores the quantum register has a name of the language
 --   written_tree-spelt the text of a program spells its tree
-use Rattle.std.proofs.Common.{◌≡◌, ℕ, zero, suc, ◌+◌, ◌-◌, ◌^◌, ◌<◌, ◌≤◌, ◌==◌, ◌⊎◌, inl, inr, Bool, true, false, if◌then◌else◌, List, [], ◌∷◌, ◌++◌, Option, Some, None, pos, refl, sym, ap, ◌∙◌, subst, arith, length, drop, take, codes, map, replicate, append_assoc, append-nil, All, lit<, lit≤, nat_le}
+use Rattle.std.proofs.Common.{◌≡◌, ℕ, zero, suc, ◌+◌, ◌<◌, ◌≤◌, ◌==◌, ◌⊎◌, inl, inr, Bool, true, false, if◌then◌else◌, List, [], ◌∷◌, ◌++◌, Option, Some, None, refl, sym, ap, ◌∙◌, subst, arith, length, drop, take, codes, map, replicate, append_assoc, append-nil, All, lit<, lit≤, nat_le}
 use Rattle.std.proofs.lemmas.List.{length-take}
 use Rattle.std.proofs.lemmas.List.Sums.{sum_by-cons}
 use Rattle.std.proofs.lemmas.List.Elements.{recursion_from_All}
 use Rattle.std.specs.List.{AllByRecursion, flat_map, list_all, sum_by}
 use Rattle.std.specs.Fmt.{decimal}
-use Rattle.angle_fraction.specs.Fraction.{common_factor, fraction, greatest_common, is_small, lowest}
+use Rattle.angle_fraction.specs.Fraction.{common_factor, greatest_common, is_small, lowest, most_part}
 use Rattle.angle_fraction.specs.declared.signs.Binary.TheVariants.{Mul, Div}
 use Rattle.qasm_lexer.specs.Forms.{Bytes, is_word_byte}
-use Rattle.qasm_lexer.specs.Lexemes.{lexeme_len}
+use Rattle.qasm_lexer.specs.Lexemes.{form_len, lexeme_len}
 use Rattle.qasm_lexer.specs.Lexed.{lexed}
 use Rattle.qasm_lexer.specs.Tokens.{AreTokens}
 use Rattle.qasm_lexer.specs.declared.Token.{Token}
@@ -24,20 +24,19 @@ use Rattle.qasm_parser.specs.Expressions.{SpellsSum}
 use Rattle.qasm_writer.specs.Words.{IsFreeWord}
 use Rattle.qasm_writer.proofs.WordLaws.{IsFreeWord-name}
 use Rattle.qasm_parser.specs.Parsing.{two}
-use Rattle.qasm_parser.specs.Spelling.{Seen, SpellsArg, SpellsArgs, Form, SpellsEach, SpellsForm, SpellsStatement, SpellsTree, alone, first_deep, index_symbols, listed, seen, whole_symbol}
-use Rattle.qasm_parser.specs.Symbols.{Symbol, mark, mark_symbol, name, quoted, real, sign, symbol_by, unquoted, whole, word, word_symbol}
-use Rattle.qasm_parser.specs.Tree.{Expression, Statement, Tree, act, apply, include, measure, register}
+use Rattle.qasm_parser.specs.Spelling.{Seen, Form, SpellsEach, SpellsForm, SpellsStatement, alone, first_deep, index_symbols, listed, seen, whole_symbol}
+use Rattle.qasm_parser.specs.Symbols.{Symbol, mark, mark_symbol, name, quoted, real, sign, symbol_by, unquoted, word, word_symbol}
+use Rattle.qasm_parser.specs.Tree.{Expression, Statement, act, include, measure, register}
 use Rattle.qasm_parser.specs.declared.symbols.Keyword.TheVariants.{OpenQasm, Include, Qreg, Creg, Measure, Pi}
 use Rattle.qasm_parser.specs.declared.symbols.Mark.TheVariants.{Semicolon, Comma, Open, Close, OpenBracket, CloseBracket, Arrow}
 use Rattle.qasm_check.specs.declared.bits.Bits.{Bits}
-use Rattle.gate_inline.specs.Registers.{AreRegisters, IsFree}
+use Rattle.gate_inline.specs.Registers.{AreRegisters, IsFree, IsRead}
 use Rattle.gate_inline.specs.Programs.{IsTreeOf}
 use Rattle.unitary_model.specs.Operations.{IsPlain, WiresBelow}
 use Rattle.unitary_model.specs.declared.Op.{Op}
 use Rattle.unitary_model.specs.declared.Op.TheVariants.{U, Cx}
-use Rattle.qasm_writer.specs.Outputs.{IsRead}
-use Rattle.qasm_writer.specs.Texts.{IsQubitsName, bits_line, gate_text, heading_text, index_text, op_line, phase_text, read_line, read_lines, register_lines, wires_line, with_underscores, written_text}
-use Rattle.qasm_writer.specs.Trees.{applied, at, bits_statement, eighths_angle, op_statement, phase_statement, read_statement, read_statements, register_statements, wires_statements, written_tree}
+use Rattle.qasm_writer.specs.Texts.{IsQubitsName, bits_line, index_text, op_line, phase_text, read_line, read_lines, register_lines, wires_line, with_underscores, written_text}
+use Rattle.qasm_writer.specs.Trees.{applied, at, bits_statement, eighths_angle, op_statement, phase_statement, read_statements, register_statements, wires_statements, written_tree}
 use Rattle.qasm_writer.proofs.SymbolLaws.{Gives, Gives-line, Gives-name, Gives-nil, Gives-number, Gives-space, Gives-token}
 
 -- ---- texts, one behind another
@@ -101,40 +100,40 @@ Spelt-line x text ts found gives spells shallow = record {
 
 -- ---- words and signs
 gives-qreg : (t : Bytes) (ss : List Symbol) → Gives t ss → Gives (codes "qreg " ++ t) (word Qreg ∷ ss)
-unfolding lexeme_len symbol_by word_symbol
+unfolding lexeme_len form_len symbol_by word_symbol
 gives-qreg t ss g = Gives-token (codes "qreg") (32 ∷ t) ss refl (lit< tt) refl refl (Gives-space t ss g)
 
 gives-creg : (t : Bytes) (ss : List Symbol) → Gives t ss → Gives (codes "creg " ++ t) (word Creg ∷ ss)
-unfolding lexeme_len symbol_by word_symbol
+unfolding lexeme_len form_len symbol_by word_symbol
 gives-creg t ss g = Gives-token (codes "creg") (32 ∷ t) ss refl (lit< tt) refl refl (Gives-space t ss g)
 
 gives-measure : (t : Bytes) (ss : List Symbol) → Gives t ss → Gives (codes "measure " ++ t) (word Measure ∷ ss)
-unfolding lexeme_len symbol_by word_symbol
+unfolding lexeme_len form_len symbol_by word_symbol
 gives-measure t ss g = Gives-token (codes "measure") (32 ∷ t) ss refl (lit< tt) refl refl (Gives-space t ss g)
 
 gives-comma : (t : Bytes) (ss : List Symbol) → Gives t ss → Gives (codes "," ++ t) (mark Comma ∷ ss)
-unfolding lexeme_len symbol_by mark_symbol
+unfolding lexeme_len form_len symbol_by mark_symbol
 gives-comma t ss g = Gives-token (codes ",") t ss refl (lit< tt) refl refl g
 
 gives-arrow : (t : Bytes) (ss : List Symbol) → Gives t ss → Gives (codes " -> " ++ t) (mark Arrow ∷ ss)
-unfolding lexeme_len symbol_by mark_symbol
+unfolding lexeme_len form_len symbol_by mark_symbol
 gives-arrow t ss g =
     Gives-space (codes "-> " ++ t) (mark Arrow ∷ ss) (Gives-token (codes "->") (32 ∷ t) ss refl (lit< tt) refl refl (Gives-space t ss g))
 
 gives-end : (t : Bytes) (ss : List Symbol) → Gives t ss → Gives (codes ";\n" ++ t) (mark Semicolon ∷ ss)
-unfolding lexeme_len symbol_by mark_symbol
+unfolding lexeme_len form_len symbol_by mark_symbol
 gives-end t ss g = Gives-token (codes ";") (10 ∷ t) ss refl (lit< tt) refl refl (Gives-line t ss g)
 
 gives-open : (t : Bytes) (ss : List Symbol) → Gives t ss → Gives (codes "[" ++ t) (mark OpenBracket ∷ ss)
-unfolding lexeme_len symbol_by mark_symbol
+unfolding lexeme_len form_len symbol_by mark_symbol
 gives-open t ss g = Gives-token (codes "[") t ss refl (lit< tt) refl refl g
 
 gives-close : (t : Bytes) (ss : List Symbol) → Gives t ss → Gives (codes "]" ++ t) (mark CloseBracket ∷ ss)
-unfolding lexeme_len symbol_by mark_symbol
+unfolding lexeme_len form_len symbol_by mark_symbol
 gives-close t ss g = Gives-token (codes "]") t ss refl (lit< tt) refl refl g
 
 -- ---- an argument
-gives-index : (q : Bytes) (i : ℕ) (t : Bytes) (ss : List Symbol) → IsFreeWord q → i ≤ 4611686018427387904 → Gives t ss
+gives-index : (q : Bytes) (i : ℕ) (t : Bytes) (ss : List Symbol) → IsFreeWord q → i ≤ most_part → Gives t ss
     → Gives (index_text q i ++ t) (name q ∷ index_symbols (Some i) ss)
 gives-index q i t ss h few g =
     let shown : index_text q i ++ t ≡ q ++ 91 ∷ (decimal i ++ 93 ∷ t) = simp append_assoc in
@@ -144,7 +143,7 @@ gives-index q i t ss h few g =
     (Gives-number i t (mark CloseBracket ∷ ss) few (gives-close t ss g))))
 
 -- ---- registers
-wires_spelt : (q : Bytes) (n : ℕ) → IsFreeWord q → n ≤ 4611686018427387904 → Spelt (wires_statements q n) (wires_line q n)
+wires_spelt : (q : Bytes) (n : ℕ) → IsFreeWord q → n ≤ most_part → Spelt (wires_statements q n) (wires_line q n)
 wires_spelt q n h few = by_test (n == 0)
   where
     line : Spelt (register true q n ∷ []) (codes "qreg " ++ (index_text q n ++ codes ";\n"))
@@ -154,11 +153,12 @@ wires_spelt q n h few = by_test (n == 0)
         rw shown (gives-qreg (index_text q n ++ (codes ";\n" ++ tail)) (name q ∷ index_symbols (Some n) (mark Semicolon ∷ rest))
         (gives-index q n (codes ";\n" ++ tail) (mark Semicolon ∷ rest) h few (gives-end tail rest g))))
         (λ rest. (refl, refl)) (λ rest. refl)
+
     by_test : (b : Bool) → Spelt (if b then [] else register true q n ∷ []) (if b then [] else codes "qreg " ++ (index_text q n ++ codes ";\n"))
     by_test true = Spelt-nil
     by_test false = line
 
-bits_spelt : (r : Bits) → IsFreeWord r.name → r.size ≤ 4611686018427387904 → Spelt (bits_statement r ∷ []) (bits_line r)
+bits_spelt : (r : Bits) → IsFreeWord r.name → r.size ≤ most_part → Spelt (bits_statement r ∷ []) (bits_line r)
 bits_spelt r h few = Spelt-line (bits_statement r) (bits_line r)
     (λ rest. word Creg ∷ name r.name ∷ index_symbols (Some r.size) (mark Semicolon ∷ rest)) (λ rest. [])
     (λ tail rest g. let shown : bits_line r ++ tail ≡ codes "creg " ++ (index_text r.name r.size ++ (codes ";\n" ++ tail)) = simp append_assoc in
@@ -166,28 +166,34 @@ bits_spelt r h few = Spelt-line (bits_statement r) (bits_line r)
     (gives-index r.name r.size (codes ";\n" ++ tail) (mark Semicolon ∷ rest) h few (gives-end tail rest g))))
     (λ rest. (refl, refl)) (λ rest. refl)
 
-registers_spelt : (rs : List Bits) → AllByRecursion (λ r. IsFreeWord r.name × (r.size ≤ 4611686018427387904)) rs
+registers_spelt : (rs : List Bits) → AllByRecursion (λ r. IsFreeWord r.name × (r.size ≤ most_part)) rs
     → Spelt (map bits_statement rs) (flat_map bits_line rs)
 registers_spelt [] h = Spelt-nil
 registers_spelt (r ∷ rs) h =
     Spelt-then (bits_statement r ∷ []) (map bits_statement rs) (bits_line r) (flat_map bits_line rs) (bits_spelt r h.0.0 h.0.1) (registers_spelt rs h.1)
 
 -- ---- measurements
-read_spelt : (q b : Bytes) (k i : ℕ) → IsFreeWord q → IsFreeWord b → k ≤ 4611686018427387904 → i ≤ 4611686018427387904
+read_spelt : (q b : Bytes) (k i : ℕ) → IsFreeWord q → IsFreeWord b → k ≤ most_part → i ≤ most_part
     → Spelt (act (measure (at q i) (at b k)) ∷ []) (read_line q b k (Some i))
 read_spelt q b k i h g few less = Spelt-line (act (measure (at q i) (at b k))) (read_line q b k (Some i))
     (λ rest. word Measure ∷ name q ∷ index_symbols (Some i) (mark Arrow ∷ name b ∷ index_symbols (Some k) (mark Semicolon ∷ rest))) (λ rest. [])
     (λ tail rest g'.
-        let last = index_text b k ++ (codes ";\n" ++ tail) in
-        let shown : read_line q b k (Some i) ++ tail ≡ codes "measure " ++ (index_text q i ++ (codes " -> " ++ last)) = simp append_assoc in
-        rw shown (gives-measure (index_text q i ++ (codes " -> " ++ last)) _
-        (gives-index q i (codes " -> " ++ last) _ h less (gives-arrow last _ (gives-index b k (codes ";\n" ++ tail) _ g few (gives-end tail rest g'))))))
-    (λ rest. (name q ∷ index_symbols (Some i) (mark Arrow ∷ name b ∷ index_symbols (Some k) (mark Semicolon ∷ rest)),
-        name b ∷ index_symbols (Some k) (mark Semicolon ∷ rest), refl, (refl, tt, refl), (refl, tt, refl), refl))
+    let last = index_text b k ++ (codes ";\n" ++ tail) in
+    let shown : read_line q b k (Some i) ++ tail ≡ codes "measure " ++ (index_text q i ++ (codes " -> " ++ last)) = simp append_assoc in
+    rw shown (gives-measure (index_text q i ++ (codes " -> " ++ last)) _
+    (gives-index q i (codes " -> " ++ last) _ h less (gives-arrow last _ (gives-index b k (codes ";\n" ++ tail) _ g few (gives-end tail rest g'))))))
+    (λ rest. (
+      name q ∷ index_symbols (Some i) (mark Arrow ∷ name b ∷ index_symbols (Some k) (mark Semicolon ∷ rest)),
+      name b ∷ index_symbols (Some k) (mark Semicolon ∷ rest),
+      refl,
+      (refl, tt, refl),
+      (refl, tt, refl),
+      refl,
+    ))
     (λ rest. refl)
 
-reads_spelt : (q b : Bytes) (n k : ℕ) (reads : List (Option ℕ)) → IsFreeWord q → IsFreeWord b → n ≤ 4611686018427387904
-    → k + length reads ≤ 4611686018427387904 → AllByRecursion (IsRead n) reads → Spelt (register_statements q b k reads) (register_lines q b k reads)
+reads_spelt : (q b : Bytes) (n k : ℕ) (reads : List (Option ℕ)) → IsFreeWord q → IsFreeWord b → n ≤ most_part
+    → k + length reads ≤ most_part → AllByRecursion (IsRead n) reads → Spelt (register_statements q b k reads) (register_lines q b k reads)
 reads_spelt q b n k [] h g few less there = Spelt-nil
 reads_spelt q b n k (None ∷ reads) h g few less there = reads_spelt q b n (k + 1) reads h g few (omega arith) there.1
 reads_spelt q b n k (Some i ∷ reads) h g few less there =
@@ -204,8 +210,8 @@ there_drop n zero reads h = h
 there_drop n (suc k) [] h = tt
 there_drop n (suc k) (r ∷ reads) h = there_drop n k reads h.1
 
-all_reads_spelt : (q : Bytes) (n : ℕ) (rs : List Bits) (reads : List (Option ℕ)) → IsFreeWord q → n ≤ 4611686018427387904
-    → AllByRecursion (λ r. IsFreeWord r.name × (r.size ≤ 4611686018427387904)) rs → AllByRecursion (IsRead n) reads
+all_reads_spelt : (q : Bytes) (n : ℕ) (rs : List Bits) (reads : List (Option ℕ)) → IsFreeWord q → n ≤ most_part
+    → AllByRecursion (λ r. IsFreeWord r.name × (r.size ≤ most_part)) rs → AllByRecursion (IsRead n) reads
     → Spelt (read_statements q rs reads) (read_lines q rs reads)
 all_reads_spelt q n [] reads h few named there = Spelt-nil
 all_reads_spelt q n (r ∷ rs) reads h few named there =
@@ -218,22 +224,32 @@ all_reads_spelt q n (r ∷ rs) reads h few named there =
 gives-cx : (t : Bytes) (ss : List Symbol) → Gives t ss → Gives (codes "cx " ++ t) (name (codes "cx") ∷ ss)
 gives-cx t ss g = Gives-name (codes "cx") 32 t ss (record { word = refl; free = refl; no_function = refl }) refl (Gives-space t ss g)
 
-cx_spelt : (q : Bytes) (c t : ℕ) → IsFreeWord q → c ≤ 4611686018427387904 → t ≤ 4611686018427387904 → Spelt (op_statement q (Cx c t) ∷ []) (op_line q (Cx c t))
+cx_spelt : (q : Bytes) (c t : ℕ) → IsFreeWord q → c ≤ most_part → t ≤ most_part → Spelt (op_statement q (Cx c t) ∷ []) (op_line q (Cx c t))
 cx_spelt q c t h few less = Spelt-line (op_statement q (Cx c t)) (op_line q (Cx c t))
     (λ rest. name (codes "cx") ∷ name q ∷ index_symbols (Some c) (mark Comma ∷ name q ∷ index_symbols (Some t) (mark Semicolon ∷ rest))) (λ rest. [])
     (λ tail rest g.
-        let last = index_text q t ++ (codes ";\n" ++ tail) in
-        let shown : op_line q (Cx c t) ++ tail ≡ codes "cx " ++ (index_text q c ++ (codes "," ++ last)) = simp append_assoc in
-        rw shown (gives-cx (index_text q c ++ (codes "," ++ last)) _
-        (gives-index q c (codes "," ++ last) _ h few (gives-comma last _ (gives-index q t (codes ";\n" ++ tail) _ h less (gives-end tail rest g))))))
-    (λ rest. (alone, name q ∷ index_symbols (Some c) (mark Comma ∷ name q ∷ index_symbols (Some t) (mark Semicolon ∷ rest)), (refl, refl, refl),
-        (mark Comma ∷ name q ∷ index_symbols (Some t) (mark Semicolon ∷ rest), [], [], (refl, tt, refl),
-        (mark Semicolon ∷ rest, [], [], (name q ∷ index_symbols (Some t) (mark Semicolon ∷ rest), refl, (refl, tt, refl)), (refl, refl), refl), refl)))
+    let last = index_text q t ++ (codes ";\n" ++ tail) in
+    let shown : op_line q (Cx c t) ++ tail ≡ codes "cx " ++ (index_text q c ++ (codes "," ++ last)) = simp append_assoc in
+    rw shown (gives-cx (index_text q c ++ (codes "," ++ last)) _
+    (gives-index q c (codes "," ++ last) _ h few (gives-comma last _ (gives-index q t (codes ";\n" ++ tail) _ h less (gives-end tail rest g))))))
+    (λ rest. (
+      alone,
+      name q ∷ index_symbols (Some c) (mark Comma ∷ name q ∷ index_symbols (Some t) (mark Semicolon ∷ rest)),
+      (refl, refl, refl),
+      (
+        mark Comma ∷ name q ∷ index_symbols (Some t) (mark Semicolon ∷ rest),
+        [],
+        [],
+        (refl, tt, refl),
+        (mark Semicolon ∷ rest, [], [], (name q ∷ index_symbols (Some t) (mark Semicolon ∷ rest), refl, (refl, tt, refl)), (refl, refl), refl),
+        refl,
+      ),
+    ))
     (λ rest. refl)
 
 -- a gate on one qubit, by the symbols of its name
 gate_spelt : (q gate text : Bytes) (i : ℕ) (angles : List Expression) (ts : List Symbol → List Symbol) (found : List Symbol → List Seen)
-    → IsFreeWord q → i ≤ 4611686018427387904
+    → IsFreeWord q → i ≤ most_part
     → ((t : Bytes) (ss : List Symbol) → Gives t ss → Gives (text ++ 32 ∷ t) (ts ss))
     → ((rest : List Symbol) → (form : Form) × SpellsForm form (record { gate = gate; angles = angles; args = at q i ∷ [] }) (ts rest) rest (found rest))
     → ((rest : List Symbol) → first_deep 64 (found rest) ≡ None)
@@ -243,14 +259,14 @@ gate_spelt q gate text i angles ts found h few gives form shallow =
     (λ rest. ts (name q ∷ index_symbols (Some i) (mark Semicolon ∷ rest)))
     (λ rest. found (name q ∷ index_symbols (Some i) (mark Semicolon ∷ rest)))
     (λ tail rest g.
-        let shown : (text ++ (codes " " ++ (index_text q i ++ codes ";\n"))) ++ tail ≡ text ++ 32 ∷ (index_text q i ++ (codes ";\n" ++ tail)) = simp append_assoc in
-        rw shown (gives (index_text q i ++ (codes ";\n" ++ tail)) _ (gives-index q i (codes ";\n" ++ tail) _ h few (gives-end tail rest g))))
+    let shown : (text ++ (codes " " ++ (index_text q i ++ codes ";\n"))) ++ tail ≡ text ++ 32 ∷ (index_text q i ++ (codes ";\n" ++ tail)) = simp append_assoc in
+    rw shown (gives (index_text q i ++ (codes ";\n" ++ tail)) _ (gives-index q i (codes ";\n" ++ tail) _ h few (gives-end tail rest g))))
     (λ rest. let mid = name q ∷ index_symbols (Some i) (mark Semicolon ∷ rest) in
-        let f = form mid in
-        (f.0, mid, f.1, (mark Semicolon ∷ rest, [], [], (refl, tt, refl), (refl, refl), refl)))
+    let f = form mid in
+    (f.0, mid, f.1, (mark Semicolon ∷ rest, [], [], (refl, tt, refl), (refl, refl), refl)))
     (λ rest. shallow (name q ∷ index_symbols (Some i) (mark Semicolon ∷ rest)))
 
-plain_spelt : (q gate : Bytes) (i : ℕ) → IsFreeWord q → i ≤ 4611686018427387904 → IsFreeWord gate
+plain_spelt : (q gate : Bytes) (i : ℕ) → IsFreeWord q → i ≤ most_part → IsFreeWord gate
     → Spelt (applied gate [] (at q i ∷ []) ∷ []) (gate ++ (codes " " ++ (index_text q i ++ codes ";\n")))
 plain_spelt q gate i h few named =
     gate_spelt q gate gate i [] (λ rest. name gate ∷ rest) (λ rest. []) h few
@@ -258,7 +274,7 @@ plain_spelt q gate i h few named =
 
 -- 3*pi/4 and 5*pi/4
 gives-eighths : (t : Bytes) (ss : List Symbol) → Gives t ss → Gives (codes "*pi/4)" ++ 32 ∷ t) (sign Mul ∷ word Pi ∷ sign Div ∷ whole_symbol 4 ∷ mark Close ∷ ss)
-unfolding lexeme_len symbol_by mark_symbol word_symbol digit number scaled is_small lowest common_factor greatest_common
+unfolding lexeme_len form_len symbol_by mark_symbol word_symbol digit number scaled is_small lowest common_factor greatest_common
 gives-eighths t ss g =
     Gives-token (codes "*") (codes "pi/4)" ++ 32 ∷ t) _ refl (lit< tt) refl refl
     (Gives-token (codes "pi") (codes "/4)" ++ 32 ∷ t) _ refl (lit< tt) refl refl
@@ -268,7 +284,7 @@ gives-eighths t ss g =
 
 gives-three : (t : Bytes) (ss : List Symbol) → Gives t ss
     → Gives (codes "u1(3*pi/4)" ++ 32 ∷ t) (name (codes "u1") ∷ mark Open ∷ whole_symbol 3 ∷ sign Mul ∷ word Pi ∷ sign Div ∷ whole_symbol 4 ∷ mark Close ∷ ss)
-unfolding lexeme_len symbol_by mark_symbol word_symbol digit number scaled is_small lowest common_factor greatest_common
+unfolding lexeme_len form_len symbol_by mark_symbol word_symbol digit number scaled is_small lowest common_factor greatest_common
 gives-three t ss g =
     Gives-token (codes "u1") (codes "(3*pi/4)" ++ 32 ∷ t) _ refl (lit< tt) refl refl
     (Gives-token (codes "(") (codes "3*pi/4)" ++ 32 ∷ t) _ refl (lit< tt) refl refl
@@ -276,7 +292,7 @@ gives-three t ss g =
 
 gives-five : (t : Bytes) (ss : List Symbol) → Gives t ss
     → Gives (codes "u1(5*pi/4)" ++ 32 ∷ t) (name (codes "u1") ∷ mark Open ∷ whole_symbol 5 ∷ sign Mul ∷ word Pi ∷ sign Div ∷ whole_symbol 4 ∷ mark Close ∷ ss)
-unfolding lexeme_len symbol_by mark_symbol word_symbol digit number scaled is_small lowest common_factor greatest_common
+unfolding lexeme_len form_len symbol_by mark_symbol word_symbol digit number scaled is_small lowest common_factor greatest_common
 gives-five t ss g =
     Gives-token (codes "u1") (codes "(5*pi/4)" ++ 32 ∷ t) _ refl (lit< tt) refl refl
     (Gives-token (codes "(") (codes "5*pi/4)" ++ 32 ∷ t) _ refl (lit< tt) refl refl
@@ -289,19 +305,31 @@ angle_spelt k rest = record {
 }
 
 -- k*pi/4 in parentheses is one angle, three deep
-eighths_spelt : (q text : Bytes) (i k : ℕ) → IsFreeWord q → i ≤ 4611686018427387904
+eighths_spelt : (q text : Bytes) (i k : ℕ) → IsFreeWord q → i ≤ most_part
     → ((t : Bytes) (ss : List Symbol) → Gives t ss → Gives (text ++ 32 ∷ t) (name (codes "u1") ∷ mark Open ∷ whole_symbol k ∷ sign Mul ∷ word Pi ∷ sign Div ∷ whole_symbol 4 ∷ mark Close ∷ ss))
     → Spelt (applied (codes "u1") (eighths_angle k ∷ []) (at q i ∷ []) ∷ []) (text ++ (codes " " ++ (index_text q i ++ codes ";\n")))
 eighths_spelt q text i k h few gives =
     gate_spelt q (codes "u1") text i (eighths_angle k ∷ [])
     (λ rest. name (codes "u1") ∷ mark Open ∷ whole_symbol k ∷ sign Mul ∷ word Pi ∷ sign Div ∷ whole_symbol 4 ∷ mark Close ∷ rest)
     (λ rest. seen (length (whole_symbol k ∷ sign Mul ∷ word Pi ∷ sign Div ∷ whole_symbol 4 ∷ mark Close ∷ rest)) 3 ∷ []) h few gives
-    (λ rest. (listed, (whole_symbol k ∷ sign Mul ∷ word Pi ∷ sign Div ∷ whole_symbol 4 ∷ mark Close ∷ rest, refl,
-        (mark Close ∷ rest, seen (length (whole_symbol k ∷ sign Mul ∷ word Pi ∷ sign Div ∷ whole_symbol 4 ∷ mark Close ∷ rest)) 3 ∷ [], [],
-        (angle_spelt k (mark Close ∷ rest), refl), (refl, refl), refl))))
+    (λ rest. (
+      listed,
+      (
+        whole_symbol k ∷ sign Mul ∷ word Pi ∷ sign Div ∷ whole_symbol 4 ∷ mark Close ∷ rest,
+        refl,
+        (
+          mark Close ∷ rest,
+          seen (length (whole_symbol k ∷ sign Mul ∷ word Pi ∷ sign Div ∷ whole_symbol 4 ∷ mark Close ∷ rest)) 3 ∷ [],
+          [],
+          (angle_spelt k (mark Close ∷ rest), refl),
+          (refl, refl),
+          refl,
+        ),
+      ),
+    ))
     (λ rest. refl)
 
-phase_spelt : (q : Bytes) (i c : ℕ) → IsFreeWord q → i ≤ 4611686018427387904
+phase_spelt : (q : Bytes) (i c : ℕ) → IsFreeWord q → i ≤ most_part
     → (c ≡ 1) ⊎ ((c ≡ 2) ⊎ ((c ≡ 3) ⊎ ((c ≡ 4) ⊎ ((c ≡ 5) ⊎ ((c ≡ 6) ⊎ (c ≡ 7))))))
     → Spelt (phase_statement c (at q i) ∷ []) (phase_text c ++ (codes " " ++ (index_text q i ++ codes ";\n")))
 phase_spelt q i c h few (inl e) = rw e (plain_spelt q (codes "t") i h few (record { word = refl; free = refl; no_function = refl }))
@@ -315,7 +343,7 @@ phase_spelt q i c h few (inr (inr (inr (inr (inr (inr e)))))) = rw e (plain_spel
 phase_cases : (c : ℕ) → 1 ≤ c → c < 8 → (c ≡ 1) ⊎ ((c ≡ 2) ⊎ ((c ≡ 3) ⊎ ((c ≡ 4) ⊎ ((c ≡ 5) ⊎ ((c ≡ 6) ⊎ (c ≡ 7))))))
 phase_cases c some few = grind arith
 
-op_spelt : (q : Bytes) (u : Op) (n : ℕ) → IsFreeWord q → n ≤ 4611686018427387904 → IsPlain u → WiresBelow n (u ∷ []) → Spelt (op_statement q u ∷ []) (op_line q u)
+op_spelt : (q : Bytes) (u : Op) (n : ℕ) → IsFreeWord q → n ≤ most_part → IsPlain u → WiresBelow n (u ∷ []) → Spelt (op_statement q u ∷ []) (op_line q u)
 op_spelt q (Cx c t) n h few plain there = cx_spelt q c t h (omega (arith, there.0)) (omega (arith, there.1.0))
 op_spelt q (U a b c i) n h few (inl e) there =
     rw e.0 (plain_spelt q (codes "h") i h (omega (arith, there.0)) (record { word = refl; free = refl; no_function = refl }))
@@ -324,7 +352,7 @@ op_spelt q (U a b c i) n h few (inr (inl e)) there =
 op_spelt q (U a b c i) n h few (inr (inr e)) there =
     rw e.0 (phase_spelt q i c h (omega (arith, there.0)) (phase_cases c e.2 e.3))
 
-ops_spelt : (q : Bytes) (us : List Op) (n : ℕ) → IsFreeWord q → n ≤ 4611686018427387904 → AllByRecursion IsPlain us → WiresBelow n us
+ops_spelt : (q : Bytes) (us : List Op) (n : ℕ) → IsFreeWord q → n ≤ most_part → AllByRecursion IsPlain us → WiresBelow n us
     → Spelt (map (op_statement q) us) (flat_map (op_line q) us)
 ops_spelt q [] n h few plain there = Spelt-nil
 ops_spelt q (U a b c i ∷ us) n h few plain there =
@@ -336,20 +364,20 @@ ops_spelt q (Cx c t ∷ us) n h few plain there =
 
 -- ---- the heading
 gives-version : (t : Bytes) (ss : List Symbol) → Gives t ss → Gives (codes "OPENQASM 2.0;\n" ++ t) (word OpenQasm ∷ real two ∷ mark Semicolon ∷ ss)
-unfolding lexeme_len symbol_by mark_symbol word_symbol digit number scaled is_small lowest common_factor greatest_common
+unfolding lexeme_len form_len symbol_by mark_symbol word_symbol digit number scaled is_small lowest common_factor greatest_common
 gives-version t ss g =
     Gives-token (codes "OPENQASM") (codes " 2.0;\n" ++ t) _ refl (lit< tt) refl refl
     (Gives-space (codes "2.0;\n" ++ t) _
     (Gives-token (codes "2.0") (codes ";\n" ++ t) _ refl (lit< tt) refl refl (gives-end t ss g)))
 
 include_spelt : Spelt (include (codes "qelib1.inc") ∷ []) (codes "include \"qelib1.inc\";\n")
-unfolding lexeme_len symbol_by word_symbol unquoted
+unfolding lexeme_len form_len symbol_by word_symbol unquoted
 include_spelt = Spelt-line (include (codes "qelib1.inc")) (codes "include \"qelib1.inc\";\n")
     (λ rest. word Include ∷ quoted (codes "qelib1.inc") ∷ mark Semicolon ∷ rest) (λ rest. [])
     (λ tail rest g.
-        Gives-token (codes "include") (codes " \"qelib1.inc\";\n" ++ tail) _ refl (lit< tt) refl refl
-        (Gives-space (codes "\"qelib1.inc\";\n" ++ tail) _
-        (Gives-token (codes "\"qelib1.inc\"") (codes ";\n" ++ tail) _ refl (lit< tt) refl refl (gives-end tail rest g))))
+    Gives-token (codes "include") (codes " \"qelib1.inc\";\n" ++ tail) _ refl (lit< tt) refl refl
+    (Gives-space (codes "\"qelib1.inc\";\n" ++ tail) _
+    (Gives-token (codes "\"qelib1.inc\"") (codes ";\n" ++ tail) _ refl (lit< tt) refl refl (gives-end tail rest g))))
     (λ rest. (refl, refl)) (λ rest. refl)
 
 -- ---- the whole text
@@ -362,7 +390,7 @@ IsFreeWord-underscores (suc k) = record { word = all_words k; free = refl; no_fu
     all_words (suc k) = all_words k
 
 size-le-sum : (rs : List Bits) → AllByRecursion IsFree rs → sum_by (λ r. r.size) rs ≤ 1024
-    → AllByRecursion (λ r. IsFreeWord r.name × (r.size ≤ 4611686018427387904)) rs
+    → AllByRecursion (λ r. IsFreeWord r.name × (r.size ≤ most_part)) rs
 size-le-sum [] h few = tt
 size-le-sum (r ∷ rs) h few =
     let total : r.size + sum_by (λ x. x.size) rs ≤ 1024 = omega (arith, few, sum_by-cons (λ x. x.size) r rs) in
@@ -377,7 +405,7 @@ tree_by : HasTokens → (text : Bytes) (xs : List Statement) (ts : List Symbol) 
 tree_by law text xs ts found g each shallow =
     let it = g.behind [] in (it.tokens, law text it.tokens it.lexed, (found, (ts, it.spelt, each), refl, shallow))
 
-pub written_tree-spelt : HasTokens → (q : List ℕ) (n bits : ℕ) (us : List Op) (rs : List Bits) (reads : List (Option ℕ)) → n ≤ 4611686018427387904
+pub written_tree-spelt : HasTokens → (q : List ℕ) (n bits : ℕ) (us : List Op) (rs : List Bits) (reads : List (Option ℕ)) → n ≤ most_part
     → IsQubitsName rs q → AreRegisters rs bits → All IsPlain us → WiresBelow n us → All (IsRead n) reads
     → IsTreeOf (written_text q n us rs reads) (written_tree q n us rs reads)
 written_tree-spelt law q n bits us rs reads few spare registers plain there asked =

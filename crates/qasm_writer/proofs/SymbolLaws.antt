@@ -7,8 +7,8 @@
 --   Gives-name         a name before a byte that ends it
 --   Gives-number       a number before a bracket
 --   lowest-whole       a whole number is in lowest terms
-use Rattle.std.proofs.Common.{◌≡◌, ℕ, zero, suc, ◌+◌, ◌-◌, ◌*◌, ◌^◌, ◌/◌, ◌%◌, ◌<◌, ◌≤◌, ◌==◌, ◌&&◌, ◌||◌, ◌⊎◌, inl, inr, not, Bool, true, false, if◌then◌else◌, List, [], ◌∷◌, ◌++◌, Option, Some, None, Ok, Err, Result, pos, refl, sym, ap, ◌∙◌, subst, arith, rules, length, drop, take, get_or, codes, map, append_assoc, length-append, append-nil, lit<, one-add}
-use Rattle.std.proofs.Math.Nat.{mod-one, div-one, mul-one, pow-zero}
+use Rattle.std.proofs.Common.{◌≡◌, ℕ, zero, suc, ◌+◌, ◌-◌, ◌^◌, ◌<◌, ◌≤◌, ◌==◌, ◌&&◌, ◌⊎◌, inl, inr, not, Bool, true, false, if◌then◌else◌, List, [], ◌∷◌, ◌++◌, None, Ok, pos, refl, sym, ap, ◌∙◌, subst, arith, rules, length, drop, take, get_or, append_assoc, length-append, append-nil, lit<, one-add}
+use Rattle.std.proofs.Math.Nat.{mod-one, div-one, mul-one}
 use Rattle.std.proofs.lemmas.Grind.{common_steps}
 use Rattle.std.proofs.lemmas.Bool.Decides.{nat_tests}
 use Rattle.std.proofs.lemmas.Fmt.{digits_value-decimal, digits_decimal, decimal_nonempty, first_decimal, decimal_digit}
@@ -16,12 +16,12 @@ use Rattle.std.proofs.lemmas.Str.Parse.{IsNumeralModel, numerals_by_fold}
 use Rattle.std.specs.Char.{is_ascii_alphabetic, is_ascii_digit, is_ascii_lowercase, is_ascii_uppercase}
 use Rattle.std.specs.Fmt.{decimal}
 use Rattle.std.specs.List.{list_all, prefix_len}
-use Rattle.angle_fraction.specs.Fraction.{Fraction, common_factor, fraction, greatest_common, is_small, lowest, most_part}
+use Rattle.angle_fraction.specs.Fraction.{common_factor, fraction, greatest_common, is_small, lowest, most_part}
 use Rattle.qasm_lexer.specs.Forms.{Bytes, is_space, is_word_byte}
 use Rattle.qasm_lexer.specs.Numbers.{begins_with, digit, has_point, number, number_after, decimal as value, scaled, has_value}
-use Rattle.qasm_lexer.specs.Lexemes.{is_blank, lexeme_by, lexeme_len, number_len, word_len, is_number, is_out_of_range, kind_of, number_kind}
+use Rattle.qasm_lexer.specs.Lexemes.{form_by, form_len, is_blank, is_number, is_out_of_range, is_stray, kind_of, lexeme_len, number_kind, number_len}
 use Rattle.qasm_lexer.specs.Tokens.{bytes_of}
-use Rattle.qasm_lexer.specs.Lexed.{lexed_from, then_more, token_at, with_lexeme}
+use Rattle.qasm_lexer.specs.Lexed.{lexed_from, then_more, token_at}
 use Rattle.qasm_lexer.specs.declared.Kind.TheVariants.{Real, Whole}
 use Rattle.qasm_lexer.specs.declared.Token.{Token}
 use Rattle.qasm_writer.specs.Words.{IsFreeWord}
@@ -66,7 +66,7 @@ behind_token front w rest ss e some token fine g =
       tokens = it ∷ g.tokens;
       lexed = shown ∙ ap (λ n. then_more it (lexed_from n rest)) place ∙ ap (λ r. then_more it r) g.lexed;
       spelt = λ i. ap (λ (z : Bytes). symbol_by (kind_of w) z) (bytes_there front w rest) i
-      ∷ (ap (λ (z : Bytes). symbols z g.tokens) (sym (append_assoc front w rest)) ∙ g.spelt) i;
+          ∷ (ap (λ (z : Bytes). symbols z g.tokens) (sym (append_assoc front w rest)) ∙ g.spelt) i;
     }
 
 pub Gives-token : (w rest : Bytes) (ss : List Symbol) → lexeme_len (w ++ rest) ≡ length w → 0 < length w → is_blank w ≡ false → is_out_of_range w ≡ false
@@ -91,11 +91,11 @@ pub Gives-blank : (w rest : Bytes) (ss : List Symbol) → lexeme_len (w ++ rest)
 Gives-blank w rest ss e some blank g = record { behind = λ front. behind_blank front w rest ss e some blank (g.behind (front ++ w)) }
 
 pub Gives-space : (rest : Bytes) (ss : List Symbol) → Gives rest ss → Gives (32 ∷ rest) ss
-unfolding lexeme_len
+unfolding lexeme_len form_len
 Gives-space rest ss g = Gives-blank (32 ∷ []) rest ss refl (lit< tt) refl g
 
 pub Gives-line : (rest : Bytes) (ss : List Symbol) → Gives rest ss → Gives (10 ∷ rest) ss
-unfolding lexeme_len
+unfolding lexeme_len form_len
 Gives-line rest ss g = Gives-blank (10 ∷ []) rest ss refl (lit< tt) refl g
 
 -- ---- names
@@ -136,19 +136,24 @@ small_point b e = grind (arith, nat_tests)
 small_slash : (b : ℕ) → is_ascii_lowercase b ≡ true → (b == 47) ≡ false
 small_slash b e = grind (arith, nat_tests)
 
-lexeme_by-letter : (b : ℕ) (x : Bytes) → is_space b ≡ false → is_ascii_alphabetic b ≡ true → lexeme_by b x ≡ word_len b x
-lexeme_by-letter b x e f = rw (e, f) refl
+form_by-letter : (b : ℕ) (x : Bytes) → is_space b ≡ false → is_ascii_alphabetic b ≡ true → form_by b x ≡ prefix_len is_word_byte x
+form_by-letter b x e f = rw (e, f) refl
 
-word_len-small : (b : ℕ) (x : Bytes) (n : ℕ) → is_ascii_uppercase b ≡ false → prefix_len is_word_byte x ≡ n → word_len b x ≡ n
-word_len-small b x n e f = rw (e, f) refl
+not_stray : (b : ℕ) (x : Bytes) (n : ℕ) → is_ascii_uppercase b ≡ false → is_stray (take n (b ∷ x)) ≡ false
+not_stray b x zero e = refl
+not_stray b x (suc n) e = rw e refl
+
+-- a lexeme that begins with no capital
+lexeme_len-plain : (b : ℕ) (x : Bytes) (n : ℕ) → is_ascii_uppercase b ≡ false → form_by b (b ∷ x) ≡ n → lexeme_len (b ∷ x) ≡ n
+unfolding lexeme_len form_len
+lexeme_len-plain b x n e f = rw (not_stray b x (form_by b (b ∷ x)) e) f
 
 lexeme_len-name : (b : ℕ) (t : Bytes) (c : ℕ) (rest : Bytes) → is_ascii_lowercase b ≡ true → list_all is_word_byte t ≡ true → is_word_byte c ≡ false
     → lexeme_len (b ∷ t ++ c ∷ rest) ≡ length (b ∷ t)
-unfolding lexeme_len
 lexeme_len-name b t c rest small word ends =
     let all : (is_word_byte b && list_all is_word_byte t) ≡ true = rw (small_word b small, word) refl in
-    lexeme_by-letter b (b ∷ t ++ c ∷ rest) (small_space b small) (small_letter b small)
-    ∙ word_len-small b (b ∷ t ++ c ∷ rest) (length (b ∷ t)) (small_capital b small) (prefix_len-run is_word_byte (b ∷ t) c rest all ends)
+    lexeme_len-plain b (t ++ c ∷ rest) (length (b ∷ t)) (small_capital b small)
+    (form_by-letter b (b ∷ t ++ c ∷ rest) (small_space b small) (small_letter b small) ∙ prefix_len-run is_word_byte (b ∷ t) c rest all ends)
 
 named : (w : Bytes) → keyword_of w ≡ None → function_of w ≡ None → word_symbol w (keyword_of w) ≡ name w
 unfolding word_symbol
@@ -215,7 +220,7 @@ value-decimal : (n : ℕ) → n < 2 ^ 64 → lowest (value (decimal n)) ≡ frac
 value-decimal n h =
     ap lowest (value-digits (decimal n) (all_digits n h) ∙ ap (λ m. fraction (pos m) 1) (number-decimal n h)) ∙ lowest-whole n
 
-small_whole : (n : ℕ) → n ≤ 4611686018427387904 → is_small (fraction (pos n) 1) ≡ true
+small_whole : (n : ℕ) → n ≤ most_part → is_small (fraction (pos n) 1) ≡ true
 unfolding is_small
 small_whole n h = grind (arith, nat_tests)
 
@@ -246,18 +251,21 @@ number_len-whole x n e f first = rw (e, f) (by_first (begins_with 48 x) n first)
     by_first true n (inl g) = cc
     by_first true n (inr g) = sym g
 
-lexeme_by-digit : (b : ℕ) (x : Bytes) → is_space b ≡ false → is_ascii_alphabetic b ≡ false → is_ascii_digit b ≡ true → lexeme_by b x ≡ number_len x
-lexeme_by-digit b x e f g = rw (e, f, g) refl
+digit_capital : (b : ℕ) → is_ascii_digit b ≡ true → is_ascii_uppercase b ≡ false
+digit_capital b e = grind (arith, nat_tests)
+
+form_by-digit : (b : ℕ) (x : Bytes) → is_space b ≡ false → is_ascii_alphabetic b ≡ false → is_ascii_digit b ≡ true → form_by b x ≡ number_len x
+form_by-digit b x e f g = rw (e, f, g) refl
 
 lexeme_len-number : (b : ℕ) (t rest : Bytes) → list_all is_ascii_digit (b ∷ t) ≡ true → ((b == 48) ≡ false) ⊎ (length (b ∷ t) ≡ 1)
     → lexeme_len (b ∷ t ++ 93 ∷ rest) ≡ length (b ∷ t)
-unfolding lexeme_len
 lexeme_len-number b t rest digits first =
     let digit = first_of_both (is_ascii_digit b) (list_all is_ascii_digit t) digits in
     let run = prefix_len-run is_ascii_digit (b ∷ t) 93 rest digits refl in
     let after : begins_with 46 (drop (length (b ∷ t)) ((b ∷ t) ++ 93 ∷ rest)) ≡ false = rw (back_of (b ∷ t) (93 ∷ rest)) refl in
-    lexeme_by-digit b (b ∷ t ++ 93 ∷ rest) (digit_space b digit) (digit_letter b digit) digit
-    ∙ number_len-whole (b ∷ t ++ 93 ∷ rest) (length (b ∷ t)) run after first
+    lexeme_len-plain b (t ++ 93 ∷ rest) (length (b ∷ t)) (digit_capital b digit)
+    (form_by-digit b (b ∷ t ++ 93 ∷ rest) (digit_space b digit) (digit_letter b digit) digit
+    ∙ number_len-whole (b ∷ t ++ 93 ∷ rest) (length (b ∷ t)) run after first)
 
 point_none : (x : Bytes) → prefix_len is_ascii_digit x ≡ length x → has_point x ≡ false
 point_none x run = let none = drop_whole x in rw (run, none) refl
@@ -275,7 +283,7 @@ kind-digits b t digits =
     kind_of-digit b t (digit_letter b digit) digit
     ∙ ap (λ p. if p then Real else Whole) (point_none (b ∷ t) (prefix_len-whole is_ascii_digit (b ∷ t) digits))
 
-number_by : (n : ℕ) (b : ℕ) (t rest : Bytes) (ss : List Symbol) → n ≤ 4611686018427387904 → list_all is_ascii_digit (b ∷ t) ≡ true
+number_by : (n : ℕ) (b : ℕ) (t rest : Bytes) (ss : List Symbol) → n ≤ most_part → list_all is_ascii_digit (b ∷ t) ≡ true
     → ((b == 48) ≡ false) ⊎ (length (b ∷ t) ≡ 1) → lowest (value (b ∷ t)) ≡ fraction (pos n) 1
     → Gives (93 ∷ rest) ss → Gives (b ∷ t ++ 93 ∷ rest) (whole_symbol n ∷ ss)
 unfolding symbol_by
@@ -288,13 +296,13 @@ number_by n b t rest ss h digits first is g =
     subst (λ (x : Symbol). Gives (b ∷ t ++ 93 ∷ rest) (x ∷ ss)) it
     (Gives-token (b ∷ t) (93 ∷ rest) ss (lexeme_len-number b t rest digits first) (omega arith) blank fine g)
 
-number_text : (n : ℕ) (t rest : Bytes) (ss : List Symbol) → n ≤ 4611686018427387904 → 0 < length t → list_all is_ascii_digit t ≡ true
+number_text : (n : ℕ) (t rest : Bytes) (ss : List Symbol) → n ≤ most_part → 0 < length t → list_all is_ascii_digit t ≡ true
     → (begins_with 48 t ≡ false) ⊎ (length t ≡ 1) → lowest (value t) ≡ fraction (pos n) 1
     → Gives (93 ∷ rest) ss → Gives (t ++ 93 ∷ rest) (whole_symbol n ∷ ss)
 number_text n [] rest ss h some digits first is g = absurd (omega arith)
 number_text n (b ∷ t) rest ss h some digits first is g = number_by n b t rest ss h digits first is g
 
-pub Gives-number : (n : ℕ) (rest : Bytes) (ss : List Symbol) → n ≤ 4611686018427387904 → Gives (93 ∷ rest) ss
+pub Gives-number : (n : ℕ) (rest : Bytes) (ss : List Symbol) → n ≤ most_part → Gives (93 ∷ rest) ss
     → Gives (decimal n ++ 93 ∷ rest) (whole_symbol n ∷ ss)
 Gives-number n rest ss h g =
     let small : n < 2 ^ 64 = omega arith in

@@ -1,14 +1,16 @@
 -- Names of the language as the grammar's tests see them.
 --   IsFreeWord-name     each name of the language is a free word
-use Rattle.std.proofs.Common.{◌≡◌, ◌⊎◌, inl, inr, ℕ, Bool, true, false, ◌&&◌, List, [], ◌∷◌, None, refl, sym, ap, ◌∙◌, subst, codes}
+--   IsName-underscores  `q` and underscores is a name of the language
+use Rattle.std.proofs.Common.{◌≡◌, inl, inr, ℕ, zero, suc, Bool, true, false, ◌||◌, List, [], ◌∷◌, None, refl, sym, ap, ◌∙◌, subst, codes, replicate}
 use Rattle.std.specs.Bool.{Decides}
 use Rattle.std.specs.Char.{is_ascii_lowercase}
-use Rattle.std.specs.List.{list_all}
+use Rattle.std.specs.List.{list_all, list_any}
 use Rattle.std.specs.Str.{bytes_eq}
 use Rattle.std.proofs.lemmas.Slice.Eq.{bytes_eq-Decides}
 use Rattle.qasm_lexer.specs.Forms.{Bytes, Each, OneOf, is_word_byte}
 use Rattle.qasm_lexer.specs.Names.{IsName, reserved}
 use Rattle.qasm_parser.specs.Symbols.{function_of, keyword_of}
+use Rattle.qasm_writer.specs.Texts.{with_underscores}
 use Rattle.qasm_writer.specs.Words.{IsFreeWord, is_small_word}
 
 all_of : (w : Bytes) → Each is_word_byte w → list_all is_word_byte w ≡ true
@@ -55,7 +57,7 @@ keyword_none w n =
 function_none : (w : Bytes) → IsName w → function_of w ≡ None
 function_none w n =
     let past : OneOf (codes "sin" ∷ codes "cos" ∷ codes "tan" ∷ codes "exp" ∷ codes "ln" ∷ codes "sqrt" ∷ []) w → ⊥ =
-        (λ x. n.free (inr (inr (inr (inr (inr (inr (inr (inr (inr (inr x))))))))))) in
+    (λ x. n.free (inr (inr (inr (inr (inr (inr (inr (inr (inr (inr x))))))))))) in
     let a = unlike w (codes "sin") (λ e. past (inl e)) in
     let b = unlike w (codes "cos") (λ e. past (inr (inl e))) in
     let c = unlike w (codes "tan") (λ e. past (inr (inr (inl e)))) in
@@ -66,3 +68,36 @@ function_none w n =
 
 pub IsFreeWord-name : (w : Bytes) → IsName w → IsFreeWord w
 IsFreeWord-name w n = record { word = small_of w n; free = keyword_none w n; no_function = function_none w n }
+
+-- ---- underscores
+or_left : (a b : Bool) → (a || b) ≡ false → a ≡ false
+or_left true b e = e
+or_left false b e = refl
+
+or_right : (a b : Bool) → (a || b) ≡ false → b ≡ false
+or_right true b e = cc
+or_right false b e = e
+
+none_of : (vs : List Bytes) (w : Bytes) → list_any (λ v. bytes_eq w v) vs ≡ false → OneOf vs w → ⊥
+none_of [] w e h = h
+none_of (v ∷ vs) w e (inl same) =
+    absurd (let both : true ≡ false = sym ((bytes_eq-Decides w v).1 same) ∙ or_left (bytes_eq w v) _ e in cc)
+none_of (v ∷ vs) w e (inr later) = none_of vs w (or_right (bytes_eq w v) _ e) later
+
+underscores_each : (k : ℕ) → Each is_word_byte (replicate k 95)
+underscores_each zero = tt
+underscores_each (suc k) = (refl, underscores_each k)
+
+underscores_free : (k : ℕ) → list_any (λ v. bytes_eq (with_underscores k) v) reserved ≡ false
+underscores_free zero = refl
+underscores_free (suc k) = refl
+
+pub IsName-underscores : (k : ℕ) → IsName (with_underscores k)
+IsName-underscores k = record {
+  first = 113;
+  more = replicate k 95;
+  word = refl;
+  small = refl;
+  each = underscores_each k;
+  free = none_of reserved (with_underscores k) (underscores_free k);
+}

@@ -2,12 +2,15 @@
 -- measurements in order of the bits. Each line ends with a line break.
 --   with_underscores k   `q` and so many underscores
 --   IsQubitsName rs q    q is the first of these names that no classical register has
---   gate_text a c        the name of U(a,0,c) as it is written, for the plain ones
+--   phase_text k         the name of the phase k pi/4 as it is written, for k from 1 to 7
+--   gate_text a c        that of U(a,0,c), for the plain ones
 --   index_text name i    name[i]
 --   op_line q u          the line of an operation on the register q
 --   wires_line q n       the line of the quantum register; nothing for no wires
 --   bits_line r          the line of a classical register
+--   read_line            the line of a measurement into a bit; nothing for a bit that reads nothing
 --   register_lines, read_lines   the lines of the measurements into one register, into all
+--   heading_text         the first two lines
 --   written_text ..      the whole text
 use Rattle.std.specs.Prelude.{◌≡◌, ℕ, ◌+◌, ◌<◌, ◌==◌, true, false, List, [], ◌∷◌, ◌++◌, Option, Some, None, if◌then◌else◌, codes, drop, replicate, take}
 use Rattle.std.specs.List.{flat_map}

@@ -1,9 +1,11 @@
 -- Working form. The tree of a written text.
 --   at name i            name[i], as an argument
 --   applied name es as   the application of the gate of this name
---   phase_statement, op_statement   the statement of an operation on the register q
+--   eighths_angle k      k*pi/4
+--   phase_statement, u_statement, op_statement   the statement of a phase, of U(a,0,c), of an operation on the register q
 --   wires_statements     that of the quantum register; none for no wires
 --   bits_statement       that of a classical register
+--   read_statement       the measurement into a bit; none for a bit that reads nothing
 --   register_statements, read_statements   the measurements into one register, into all
 --   written_tree         the whole tree
 use Rattle.std.specs.Prelude.{ℕ, ◌+◌, ◌==◌, true, false, List, [], ◌∷◌, ◌++◌, Option, Some, None, if◌then◌else◌, codes, drop, map, pos, take}

@@ -103,7 +103,13 @@ fn push_register(text: &mut String, register: Register) -> Result<(), AllocError
 }
 
 /// Writes the line of a measurement into a bit of a register, if there is one.
-fn push_read(text: &mut String, q: &str, name: &str, bit: usize, read: Option<u32>) -> Result<(), AllocError>
+fn push_read(
+    text: &mut String,
+    q: &str,
+    name: &str,
+    bit: usize,
+    read: Option<u32>,
+) -> Result<(), AllocError>
     ensures { OnOk result (string_bytes text.new ≡ string_bytes text.old ++ read_line q.now name.now bit read) }
 {
     if let Some(wire) = read {
@@ -116,8 +122,8 @@ fn push_read(text: &mut String, q: &str, name: &str, bit: usize, read: Option<u3
 fn push_registers(text: &mut String, registers: &[Register]) -> Result<(), AllocError>
     ensures { OnOk result (string_bytes text.new ≡ string_bytes text.old ++ flat_map bits_line (map bits_of registers.now)) }
 {
-    'registers: for register in registers {
-        push_register(text, *register)?;
+    'registers: for i in 0..registers.len() {
+        push_register(text, registers[i])?;
     }
     Ok(())
 }
@@ -133,7 +139,12 @@ fn push_gates(text: &mut String, q: &str, body: &Circuit) -> Result<(), AllocErr
 }
 
 /// Writes the lines of the measurements into one register.
-fn push_register_reads(text: &mut String, q: &str, name: &str, reads: &[Option<u32>]) -> Result<(), AllocError>
+fn push_register_reads(
+    text: &mut String,
+    q: &str,
+    name: &str,
+    reads: &[Option<u32>],
+) -> Result<(), AllocError>
     ensures { OnOk result (string_bytes text.new ≡ string_bytes text.old ++ register_lines q.now name.now 0 reads.now) }
 {
     'reads: for bit in 0..reads.len() {
@@ -143,7 +154,12 @@ fn push_register_reads(text: &mut String, q: &str, name: &str, reads: &[Option<u
 }
 
 /// Writes the lines of the measurements, register by register.
-fn push_reads(text: &mut String, q: &str, registers: &[Register], reads: &[Option<u32>]) -> Result<(), AllocError>
+fn push_reads(
+    text: &mut String,
+    q: &str,
+    registers: &[Register],
+    reads: &[Option<u32>],
+) -> Result<(), AllocError>
     requires { sum_by (λ r. r.size) (map bits_of registers.now) ≤ length reads.now }
     ensures { OnOk result (string_bytes text.new ≡ string_bytes text.old ++ read_lines q.now (map bits_of registers.now) reads.now) }
 {

@@ -8,4 +8,4 @@ use Rattle.qasm_writer.proofs.push_registers.Given as goal
 
 abbrev pub invariant-registers : goal.invariant-registers
 invariant-registers l =
-    string_bytes l.text ≡ string_bytes l.fn.text ++ flat_map bits_line (map bits_of (take l.register-index l.registers))
+    string_bytes l.text ≡ string_bytes l.fn.text ++ flat_map bits_line (map bits_of (take l.i l.registers))
