@@ -72,8 +72,9 @@ fn angles(alloc: Global, cursor: &mut Cursor<'_>) -> Result<(Vec<Expr>, Option<u
     ensures err { IfErr result (IsMisread (angles_of depth_limit cursor.old) (length cursor.old)) }
     ensures rest { OnOk result (length cursor.new ≤ length cursor.old) }
 {
-    let (list, deep) = angle_list(alloc, cursor)?;
+    let (mut list, deep) = angle_list(alloc, cursor)?;
     expect(cursor, Mark::Close)?;
+    list.shrink_to_fit();
     Ok((list, deep))
 }
 
