@@ -237,7 +237,7 @@ fn arg_list(alloc: Global, cursor: &mut Cursor<'_>, plain: bool) -> Result<Vec<A
     ensures err { IfErr result (IsMisread (list_of (arg_of plain) cursor.old) (length cursor.old)) }
     ensures rest { OnOk result (length cursor.new ≤ length cursor.old) }
 {
-    let mut list = Vec::new(alloc);
+    let mut list = Vec::with_capacity(alloc, 2)?;
     list.push(arg(alloc, cursor, plain)?)?;
     'members: while take(cursor, Mark::Comma) {
         list.push(arg(alloc, cursor, plain)?)?;
