@@ -1,5 +1,4 @@
--- Working form.
--- The longest lexeme at the front of a text, by its first byte.
+-- The longest lexeme at the front of a text, by its first byte: functions that the relations of `Forms` and `Tokens` determine.
 --   is_sign           the signs of one byte that begin no longer lexeme
 --   exponent_len      `e` or `E`, a sign or none, digits
 --   real_len, number_len   a real, or a whole number without a leading zero

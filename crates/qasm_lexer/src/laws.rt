@@ -1,10 +1,11 @@
 //! What holds of every text, as functions whose contracts are the laws. They take nothing and do nothing.
 
-ghost use Rattle.std.specs.Prelude.{◌≡◌, ◌≢◌, ◌⊎◌, ◌≤◌, List, All, Ok, Err, length};
+ghost use Rattle.std.specs.Prelude.{◌≡◌, ◌≢◌, ◌⊎◌, ◌<◌, ◌≤◌, ◌+◌, ℕ, List, [], All, Ok, Err, drop, length, take};
 ghost use Rattle.std.specs.Str.{IsAscii};
 ghost use Rattle.qasm_lexer.specs.Forms.{Bytes};
 ghost use Rattle.qasm_lexer.specs.Names.{IsName};
-ghost use Rattle.qasm_lexer.specs.Lexed.{lexed};
+ghost use Rattle.qasm_lexer.specs.Lexemes.{lexeme_len};
+ghost use Rattle.qasm_lexer.specs.Lexed.{lexed, lexed_from, with_lexeme};
 ghost use Rattle.qasm_lexer.specs.Tokens.{AreTokens, IsFaultOf, IsTokenOf};
 ghost use Rattle.qasm_lexer.specs.declared.Token.{Token as LexToken};
 ghost use Rattle.qasm_lexer.specs.declared.LexFault.{LexFault as Fault};
@@ -42,6 +43,13 @@ pub fn lexed_exactly()
     ensures has_tokens { (text : Bytes) (tokens : List LexToken) → lexed text ≡ Ok tokens → AreTokens text tokens }
     ensures fault { (text : Bytes) (fault : Fault) → fault ≢ NoMemory → IsFaultOf text fault → lexed text ≡ Err fault }
     ensures has_fault { (text : Bytes) (fault : Fault) → lexed text ≡ Err fault → IsFaultOf text fault }
+{}
+
+/// `lexed_from` goes lexeme by lexeme: a text that is put together is read by its parts.
+pub fn lexed_by_lexemes()
+    ensures step { (text : Bytes) (place size : ℕ) → lexeme_len text ≡ size → 0 < size
+        → lexed_from place text ≡ with_lexeme place (take size text) (lexed_from (place + size) (drop size text)) }
+    ensures none { (text : Bytes) (place : ℕ) → length text ≡ 0 → lexed_from place text ≡ Ok [] }
 {}
 
 /// A name is ASCII.

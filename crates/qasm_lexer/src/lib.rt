@@ -18,8 +18,8 @@ mod step;
 mod tests;
 
 pub use laws::{
-    accepted_has_no_fault, lexed_exactly, lexed_once, lexed_or_refused, names_are_ascii,
-    refused_once, tokens_are_lexemes,
+    accepted_has_no_fault, lexed_by_lexemes, lexed_exactly, lexed_once, lexed_or_refused,
+    names_are_ascii, refused_once, tokens_are_lexemes,
 };
 pub use reading::{lex, value};
 

@@ -123,7 +123,8 @@ pub fn body(alloc: Global, cursor: &mut Cursor<'_>) -> Result<(Vec<Stmt>, Option
     ensures err { IfErr result (IsMisread (body_of depth_limit cursor.old) (length cursor.old)) }
     ensures rest { OnOk result (length cursor.new ≤ length cursor.old) }
 {
-    let (list, deep) = items(alloc, cursor)?;
+    let (mut list, deep) = items(alloc, cursor)?;
     expect(cursor, Mark::CloseBrace)?;
+    list.shrink_to_fit();
     Ok((list, deep))
 }

@@ -46,7 +46,7 @@ fn angle_list(alloc: Global, cursor: &mut Cursor<'_>) -> Result<(Vec<Expr>, Opti
     ensures err { IfErr result (IsMisread (list_of (angle_of depth_limit) cursor.old) (length cursor.old)) }
     ensures rest { OnOk result (length cursor.new ≤ length cursor.old) }
 {
-    let mut list = Vec::new(alloc);
+    let mut list = Vec::with_capacity(alloc, 1)?;
     let (first, mut deep) = angle(alloc, cursor)?;
     list.push(first)?;
     'angles: while take(cursor, Mark::Comma) {
@@ -72,8 +72,9 @@ fn angles(alloc: Global, cursor: &mut Cursor<'_>) -> Result<(Vec<Expr>, Option<u
     ensures err { IfErr result (IsMisread (angles_of depth_limit cursor.old) (length cursor.old)) }
     ensures rest { OnOk result (length cursor.new ≤ length cursor.old) }
 {
-    let (list, deep) = angle_list(alloc, cursor)?;
+    let (mut list, deep) = angle_list(alloc, cursor)?;
     expect(cursor, Mark::Close)?;
+    list.shrink_to_fit();
     Ok((list, deep))
 }
 

@@ -226,6 +226,7 @@ pub fn names(alloc: Global, cursor: &mut Cursor<'_>) -> Result<Vec<Name>, Stop>
     'names: while take(cursor, Mark::Comma) {
         list.push(name(alloc, cursor)?)?;
     }
+    list.shrink_to_fit();
     Ok(list)
 }
 
@@ -236,7 +237,7 @@ fn arg_list(alloc: Global, cursor: &mut Cursor<'_>, plain: bool) -> Result<Vec<A
     ensures err { IfErr result (IsMisread (list_of (arg_of plain) cursor.old) (length cursor.old)) }
     ensures rest { OnOk result (length cursor.new ≤ length cursor.old) }
 {
-    let mut list = Vec::new(alloc);
+    let mut list = Vec::with_capacity(alloc, 2)?;
     list.push(arg(alloc, cursor, plain)?)?;
     'members: while take(cursor, Mark::Comma) {
         list.push(arg(alloc, cursor, plain)?)?;
@@ -251,7 +252,8 @@ pub fn args(alloc: Global, cursor: &mut Cursor<'_>, plain: bool) -> Result<Vec<A
     ensures err { IfErr result (IsMisread (args_of plain cursor.old) (length cursor.old)) }
     ensures rest { OnOk result (length cursor.new ≤ length cursor.old) }
 {
-    let list = arg_list(alloc, cursor, plain)?;
+    let mut list = arg_list(alloc, cursor, plain)?;
     expect(cursor, Mark::Semicolon)?;
+    list.shrink_to_fit();
     Ok(list)
 }
