@@ -3,7 +3,7 @@
 --   entry_symbols     how it is spelt
 --   entry_spelt       so it is, where each line has its form
 --   all_spelt         each text is that of its entry
-use Rattle.std.proofs.Common.{◌≡◌, ℕ, ◌+◌, ◌≤◌, List, [], ◌∷◌, ◌++◌, Bool, true, false, ◌&&◌, None, Result, Ok, Err, refl, sym, ap, subst, ◌∙◌, ◌⊎◌, inl, inr, length, lit≤, map, arith}
+use Rattle.std.proofs.Common.{◌≡◌, ℕ, ◌≤◌, List, [], ◌∷◌, ◌++◌, Bool, true, false, ◌&&◌, None, Result, Ok, Err, refl, sym, subst, inl, length, lit≤, map, arith}
 use Rattle.std.specs.Prelude.{codes, if◌then◌else◌, nat_le}
 use Rattle.std.specs.Str.{bytes_eq}
 use Rattle.std.proofs.lemmas.Bool.Decides.{nat_tests}
@@ -19,10 +19,10 @@ use Rattle.qasm_parser.specs.declared.tree.Arg.{Arg}
 use Rattle.qasm_parser.specs.declared.symbols.Keyword.TheVariants.{Gate, Pi, U, Cx}
 use Rattle.qasm_parser.specs.declared.symbols.Mark.TheVariants.{Semicolon, Comma, Open, Close, OpenBrace, CloseBrace}
 use Rattle.qasm_parser.specs.Expressions.{IsShaped, IsWritten, level}
-use Rattle.qasm_parser.specs.Spelling.{Form, by_u, by_cx, alone, empty, listed, Params, bare, given, vacant, Seen, seen, BehindComma, SpellsAngle, SpellsArg, SpellsArgs, SpellsEach, SpellsForm, SpellsItem, SpellsList, SpellsName, SpellsNames, SpellsParams, SpellsStatement}
-use Rattle.qasm_parser.specs.Symbols.{Symbol, mark_symbol, sign, symbol_by, symbols, unquoted, whole, word, word_symbol, name, mark}
-use Rattle.qasm_parser.specs.Tree.{Action, Application, Definition, Expression, apply, binary, depth, gate, negated, number, param, pi}
-use Rattle.gate_library.specs.Library.{gate_of, library, table_index, table_names, whole as whole_number}
+use Rattle.qasm_parser.specs.Spelling.{Form, by_u, by_cx, alone, empty, listed, Params, bare, given, Seen, seen, BehindComma, SpellsAngle, SpellsArg, SpellsArgs, SpellsEach, SpellsForm, SpellsItem, SpellsList, SpellsName, SpellsParams, SpellsStatement}
+use Rattle.qasm_parser.specs.Symbols.{Symbol, mark_symbol, sign, symbol_by, symbols, whole, word, word_symbol, name, mark}
+use Rattle.qasm_parser.specs.Tree.{Application, Definition, Expression, apply, binary, depth, gate, negated, number, param, pi}
+use Rattle.gate_library.specs.Library.{gate_of, table_index, table_names, whole as whole_number}
 use Rattle.gate_library.specs.Listing.{Angle, Entry, Line, added, minus, nought, over, param as by_name, pi as angle_pi, standard}
 use Rattle.qasm_check.specs.Steps.{bound_gate}
 use Rattle.qasm_check.specs.Texts.{AreSpelt, IsSpelt, included, texts}
@@ -101,16 +101,23 @@ more_spelt : (more : List Angle) (rest : List Symbol) → are_shaped more ≡ tr
     → SpellsEach (BehindComma SpellsAngle) (map expression_of more) (more_angles more rest) rest (more_seen more rest)
 more_spelt [] rest e = (refl, refl)
 more_spelt (a ∷ more) rest e = (
-  more_angles more rest, seen (length (angle_symbols a (more_angles more rest))) (depth (expression_of a)) ∷ [], more_seen more rest,
+  more_angles more rest,
+  seen (length (angle_symbols a (more_angles more rest))) (depth (expression_of a)) ∷ [],
+  more_seen more rest,
   (angle_symbols a (more_angles more rest), refl, angle_spelt a (more_angles more rest) (first _ _ e)),
-  more_spelt more rest (second _ _ e), refl,
+  more_spelt more rest (second _ _ e),
+  refl,
 )
 
 angles_spelt : (a : Angle) (more : List Angle) (rest : List Symbol) → are_shaped (a ∷ more) ≡ true
     → SpellsList SpellsAngle (map expression_of (a ∷ more)) (angles_symbols (a ∷ more) rest) rest (more_seen (a ∷ more) rest)
 angles_spelt a more rest e = (
-  more_angles more rest, seen (length (angle_symbols a (more_angles more rest))) (depth (expression_of a)) ∷ [], more_seen more rest,
-  angle_spelt a (more_angles more rest) (first _ _ e), more_spelt more rest (second _ _ e), refl,
+  more_angles more rest,
+  seen (length (angle_symbols a (more_angles more rest))) (depth (expression_of a)) ∷ [],
+  more_seen more rest,
+  angle_spelt a (more_angles more rest) (first _ _ e),
+  more_spelt more rest (second _ _ e),
+  refl,
 )
 
 -- ---- names and arguments behind one another
@@ -187,7 +194,9 @@ same_name a b e = (bytes_eq-Decides a b).0 e
 form_spelt : (form : Form) (l : Line) (rest : List Symbol) → has_form form l ≡ true
     → SpellsForm form (application_of l) (form_symbols form l rest) rest (form_seen form l rest)
 form_spelt by_u l rest e = (
-  same_name l.gate (codes "U") (first _ _ e), angles_symbols l.angles (mark Close ∷ rest), refl,
+  same_name l.gate (codes "U") (first _ _ e),
+  angles_symbols l.angles (mark Close ∷ rest),
+  refl,
   some_angles l.angles (mark Close ∷ rest) (second _ _ e),
 )
 form_spelt by_cx l rest e = (same_name l.gate (codes "CX") (first _ _ e), no_angles l.angles (second _ _ e), refl, refl)
@@ -210,7 +219,9 @@ some_args (n ∷ ns) rest e = args_spelt n ns rest
 
 line_spelt : (l : Line) (rest : List Symbol) → is_line l ≡ true → SpellsItem (apply (application_of l)) (line_symbols l rest) rest (line_seen l rest)
 line_spelt l rest e = (
-  form_of l, names_symbols l.qubits (mark Semicolon ∷ rest), form_spelt (form_of l) l (names_symbols l.qubits (mark Semicolon ∷ rest)) (first _ _ e),
+  form_of l,
+  names_symbols l.qubits (mark Semicolon ∷ rest),
+  form_spelt (form_of l) l (names_symbols l.qubits (mark Semicolon ∷ rest)) (first _ _ e),
   some_args l.qubits rest (second _ _ e),
 )
 
@@ -231,8 +242,12 @@ lines_spelt : (ls : List Line) (rest : List Symbol) → are_lines ls ≡ true
     → SpellsEach SpellsItem (map (λ l. apply (application_of l)) ls) (lines_symbols ls rest) rest (lines_seen ls rest)
 lines_spelt [] rest e = (refl, refl)
 lines_spelt (l ∷ ls) rest e = (
-  lines_symbols ls rest, line_seen l (lines_symbols ls rest), lines_seen ls rest,
-  line_spelt l (lines_symbols ls rest) (first _ _ e), lines_spelt ls rest (second _ _ e), refl,
+  lines_symbols ls rest,
+  line_seen l (lines_symbols ls rest),
+  lines_seen ls rest,
+  line_spelt l (lines_symbols ls rest) (first _ _ e),
+  lines_spelt ls rest (second _ _ e),
+  refl,
 )
 
 -- ---- definitions
@@ -267,10 +282,16 @@ some_names (n ∷ ns) rest e = named n ns rest
 entry_spelt : (e : Entry) (rest : List Symbol) → is_entry e ≡ true
     → SpellsStatement (gate (tree_of e)) (entry_symbols e rest) rest (lines_seen e.body (mark CloseBrace ∷ rest))
 entry_spelt e rest f = (
-  name e.name ∷ params_symbols e.params (qubits_symbols e rest), inner_symbols e rest, refl,
+  name e.name ∷ params_symbols e.params (qubits_symbols e rest),
+  inner_symbols e rest,
+  refl,
   (
-    params_symbols e.params (qubits_symbols e rest), qubits_symbols e rest, params_form e.params, refl,
-    params_spelt e.params (qubits_symbols e rest), some_names e.qubits (mark OpenBrace ∷ inner_symbols e rest) (first _ _ f),
+    params_symbols e.params (qubits_symbols e rest),
+    qubits_symbols e rest,
+    params_form e.params,
+    refl,
+    params_spelt e.params (qubits_symbols e rest),
+    some_names e.qubits (mark OpenBrace ∷ inner_symbols e rest) (first _ _ f),
   ),
   lines_spelt e.body (mark CloseBrace ∷ rest) (second _ _ f),
 )
@@ -294,33 +315,88 @@ spelt text e a b c d = record {
 
 pub all_spelt : AreSpelt texts (standard ++ added)
 unfolding texts standard added table_names table_index lexed_from lexeme_len digit digits_number scaled lowest common_factor greatest_common is_small symbol_by word_symbol mark_symbol
-all_spelt =
-    (spelt _ _ refl refl refl refl,
-    (spelt _ _ refl refl refl refl,
-    (spelt _ _ refl refl refl refl,
-    (spelt _ _ refl refl refl refl,
-    (spelt _ _ refl refl refl refl,
-    (spelt _ _ refl refl refl refl,
-    (spelt _ _ refl refl refl refl,
-    (spelt _ _ refl refl refl refl,
-    (spelt _ _ refl refl refl refl,
-    (spelt _ _ refl refl refl refl,
-    (spelt _ _ refl refl refl refl,
-    (spelt _ _ refl refl refl refl,
-    (spelt _ _ refl refl refl refl,
-    (spelt _ _ refl refl refl refl,
-    (spelt _ _ refl refl refl refl,
-    (spelt _ _ refl refl refl refl,
-    (spelt _ _ refl refl refl refl,
-    (spelt _ _ refl refl refl refl,
-    (spelt _ _ refl refl refl refl,
-    (spelt _ _ refl refl refl refl,
-    (spelt _ _ refl refl refl refl,
-    (spelt _ _ refl refl refl refl,
-    (spelt _ _ refl refl refl refl,
-    (spelt _ _ refl refl refl refl,
-    (spelt _ _ refl refl refl refl,
-    (spelt _ _ refl refl refl refl,
-    (spelt _ _ refl refl refl refl,
-    (spelt _ _ refl refl refl refl,
-    (spelt _ _ refl refl refl refl, tt)))))))))))))))))))))))))))))
+all_spelt = (
+  spelt _ _ refl refl refl refl,
+  (
+    spelt _ _ refl refl refl refl,
+    (
+      spelt _ _ refl refl refl refl,
+      (
+        spelt _ _ refl refl refl refl,
+        (
+          spelt _ _ refl refl refl refl,
+          (
+            spelt _ _ refl refl refl refl,
+            (
+              spelt _ _ refl refl refl refl,
+              (
+                spelt _ _ refl refl refl refl,
+                (
+                  spelt _ _ refl refl refl refl,
+                  (
+                    spelt _ _ refl refl refl refl,
+                    (
+                      spelt _ _ refl refl refl refl,
+                      (
+                        spelt _ _ refl refl refl refl,
+                        (
+                          spelt _ _ refl refl refl refl,
+                          (
+                            spelt _ _ refl refl refl refl,
+                            (
+                              spelt _ _ refl refl refl refl,
+                              (
+                                spelt _ _ refl refl refl refl,
+                                (
+                                  spelt _ _ refl refl refl refl,
+                                  (
+                                    spelt _ _ refl refl refl refl,
+                                    (
+                                      spelt _ _ refl refl refl refl,
+                                      (
+                                        spelt _ _ refl refl refl refl,
+                                        (
+                                          spelt _ _ refl refl refl refl,
+                                          (
+                                            spelt _ _ refl refl refl refl,
+                                            (
+                                              spelt _ _ refl refl refl refl,
+                                              (
+                                                spelt _ _ refl refl refl refl,
+                                                (
+                                                  spelt _ _ refl refl refl refl,
+                                                  (
+                                                    spelt _ _ refl refl refl refl,
+                                                    (
+                                                      spelt _ _ refl refl refl refl,
+                                                      (
+                                                        spelt _ _ refl refl refl refl,
+                                                        (spelt _ _ refl refl refl refl, tt),
+                                                      ),
+                                                    ),
+                                                  ),
+                                                ),
+                                              ),
+                                            ),
+                                          ),
+                                        ),
+                                      ),
+                                    ),
+                                  ),
+                                ),
+                              ),
+                            ),
+                          ),
+                        ),
+                      ),
+                    ),
+                  ),
+                ),
+              ),
+            ),
+          ),
+        ),
+      ),
+    ),
+  ),
+)
