@@ -3,7 +3,7 @@
 --   found-position, is_some-position   where the first element is that passes a test
 --   among-first                  it is among the first so many
 --   position-map                 an index among what is made of elements
-use Rattle.std.proofs.Common.{⊎_elim, zero, suc, Bool, cond, ◌≡◌, ℕ, ◌+◌, ◌<◌, ◌≤◌, List, [], ◌∷◌, Some, None, refl, sym, ap, ◌∙◌, ◌||◌, length, map, take, arith, true, false}
+use Rattle.std.proofs.Common.{⊎_elim, zero, suc, Bool, cond, ◌≡◌, ℕ, ◌+◌, ◌≤◌, List, [], ◌∷◌, Some, None, refl, sym, ap, ◌∙◌, ◌||◌, length, map, take, arith, true, false}
 use Rattle.std.specs.Prelude.{is_some, nat_lt}
 use Rattle.std.specs.List.{list_any, position, position_or_len}
 use Rattle.std.proofs.lemmas.Bool.{cases_Bool}

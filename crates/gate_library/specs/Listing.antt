@@ -71,21 +71,21 @@ standard =
     ∷ gate "cz" [] ("a" ∷ "b" ∷ []) (to "h" "b" ∷ to_two "cx" "a" "b" ∷ to "h" "b" ∷ [])
     ∷ gate "cy" [] ("a" ∷ "b" ∷ []) (to "sdg" "b" ∷ to_two "cx" "a" "b" ∷ to "s" "b" ∷ [])
     ∷ gate "ch" [] ("a" ∷ "b" ∷ []) (
-      to "h" "b" ∷ to "sdg" "b" ∷ to_two "cx" "a" "b" ∷ to "h" "b" ∷ to "t" "b" ∷ to_two "cx" "a" "b" ∷ to "t" "b"
-      ∷ to "h" "b" ∷ to "s" "b" ∷ to "x" "b" ∷ to "s" "a" ∷ []
+    to "h" "b" ∷ to "sdg" "b" ∷ to_two "cx" "a" "b" ∷ to "h" "b" ∷ to "t" "b" ∷ to_two "cx" "a" "b" ∷ to "t" "b"
+    ∷ to "h" "b" ∷ to "s" "b" ∷ to "x" "b" ∷ to "s" "a" ∷ []
     )
     ∷ gate "ccx" [] ("a" ∷ "b" ∷ "c" ∷ []) (
-      to "h" "c" ∷ to_two "cx" "b" "c" ∷ to "tdg" "c" ∷ to_two "cx" "a" "c" ∷ to "t" "c" ∷ to_two "cx" "b" "c" ∷ to "tdg" "c"
-      ∷ to_two "cx" "a" "c" ∷ to "t" "b" ∷ to "t" "c" ∷ to "h" "c" ∷ to_two "cx" "a" "b" ∷ to "t" "a" ∷ to "tdg" "b"
-      ∷ to_two "cx" "a" "b" ∷ []
+    to "h" "c" ∷ to_two "cx" "b" "c" ∷ to "tdg" "c" ∷ to_two "cx" "a" "c" ∷ to "t" "c" ∷ to_two "cx" "b" "c" ∷ to "tdg" "c"
+    ∷ to_two "cx" "a" "c" ∷ to "t" "b" ∷ to "t" "c" ∷ to "h" "c" ∷ to_two "cx" "a" "b" ∷ to "t" "a" ∷ to "tdg" "b"
+    ∷ to_two "cx" "a" "b" ∷ []
     )
     ∷ gate "crz" ("l" ∷ []) ("a" ∷ "b" ∷ []) (
-      turn "u1" (over (by "l") 2 ∷ []) "b" ∷ to_two "cx" "a" "b" ∷ turn "u1" (over (minus (by "l")) 2 ∷ []) "b"
-      ∷ to_two "cx" "a" "b" ∷ []
+    turn "u1" (over (by "l") 2 ∷ []) "b" ∷ to_two "cx" "a" "b" ∷ turn "u1" (over (minus (by "l")) 2 ∷ []) "b"
+    ∷ to_two "cx" "a" "b" ∷ []
     )
     ∷ gate "cu1" ("l" ∷ []) ("a" ∷ "b" ∷ []) (
-      turn "u1" (over (by "l") 2 ∷ []) "a" ∷ to_two "cx" "a" "b" ∷ turn "u1" (over (minus (by "l")) 2 ∷ []) "b"
-      ∷ to_two "cx" "a" "b" ∷ turn "u1" (over (by "l") 2 ∷ []) "b" ∷ []
+    turn "u1" (over (by "l") 2 ∷ []) "a" ∷ to_two "cx" "a" "b" ∷ turn "u1" (over (minus (by "l")) 2 ∷ []) "b"
+    ∷ to_two "cx" "a" "b" ∷ turn "u1" (over (by "l") 2 ∷ []) "b" ∷ []
     )
     ∷ []
 
@@ -95,8 +95,8 @@ added =
     gate "u" ("t" ∷ "p" ∷ "l" ∷ []) ("q" ∷ []) (turn "U" (by "t" ∷ by "p" ∷ by "l" ∷ []) "q" ∷ [])
     ∷ gate "p" ("l" ∷ []) ("q" ∷ []) (turn "U" (nought ∷ nought ∷ by "l" ∷ []) "q" ∷ [])
     ∷ gate "cp" ("l" ∷ []) ("a" ∷ "b" ∷ []) (
-      turn "u1" (over (by "l") 2 ∷ []) "a" ∷ to_two "cx" "a" "b" ∷ turn "u1" (over (minus (by "l")) 2 ∷ []) "b"
-      ∷ to_two "cx" "a" "b" ∷ turn "u1" (over (by "l") 2 ∷ []) "b" ∷ []
+    turn "u1" (over (by "l") 2 ∷ []) "a" ∷ to_two "cx" "a" "b" ∷ turn "u1" (over (minus (by "l")) 2 ∷ []) "b"
+    ∷ to_two "cx" "a" "b" ∷ turn "u1" (over (by "l") 2 ∷ []) "b" ∷ []
     )
     ∷ gate "swap" [] ("a" ∷ "b" ∷ []) (to_two "cx" "a" "b" ∷ to_two "cx" "b" "a" ∷ to_two "cx" "a" "b" ∷ [])
     ∷ gate "cswap" [] ("a" ∷ "b" ∷ "c" ∷ []) (to_two "cx" "c" "b" ∷ to_three "ccx" "a" "b" "c" ∷ to_two "cx" "c" "b" ∷ [])

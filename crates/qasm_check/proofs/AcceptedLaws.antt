@@ -6,7 +6,7 @@
 --   steps-length     it has a step for each of them
 use Rattle.std.proofs.Common.{◌≡◌, ℕ, suc, ◌+◌, ◌<◌, ◌≤◌, List, [], ◌∷◌, ◌++◌, Option, Some, None, Bool, true, false, refl, sym, ap, subst, ◌∙◌, ◌⊎◌, inl, inr, lit≤, length, map, fold, arith, ⊎_elim}
 use Rattle.std.proofs.Math.Nat.{le_refl}
-use Rattle.std.specs.Prelude.{◌==◌, if◌then◌else◌, is_none, nat_lt, option_map}
+use Rattle.std.specs.Prelude.{if◌then◌else◌, is_none, nat_lt, option_map}
 use Rattle.std.specs.Option.{option_or}
 use Rattle.std.specs.List.{list_all, list_any, filter_map, sum_by}
 use Rattle.std.specs.Str.{bytes_eq}

@@ -1,4 +1,5 @@
 mod AcceptedLaws
+mod ListingLaws
 mod LoopLaws
 mod OnceLaws
 mod ProgramLaws

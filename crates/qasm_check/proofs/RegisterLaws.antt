@@ -3,7 +3,7 @@
 --   registers_free     no table has their names
 --   registers_apart    no name is there twice
 --   registers_sum      together they have all bits
-use Rattle.std.proofs.Common.{◌≡◌, ℕ, ◌+◌, ◌<◌, List, [], ◌∷◌, Option, Some, None, Bool, true, false, not, ◌&&◌, ◌||◌, refl, sym, ap, subst, ◌∙◌, map, fold, arith, ⊎_elim}
+use Rattle.std.proofs.Common.{◌≡◌, ℕ, ◌+◌, List, [], ◌∷◌, Option, Some, None, true, false, refl, sym, ap, ◌∙◌, map, fold, arith, ⊎_elim}
 use Rattle.std.specs.Prelude.{◌==◌, is_some, nat_lt}
 use Rattle.std.specs.List.{filter_map, list_all, list_any, sum_by}
 use Rattle.std.specs.Str.{bytes_eq}
@@ -12,18 +12,17 @@ use Rattle.std.proofs.lemmas.Bool.Decides.{nat_tests}
 use Rattle.std.specs.Cmp.Lexicographic.{nat_list_eq_equiv}
 use Rattle.std.proofs.lemmas.List.Sums.{sum_by-cons}
 use Rattle.std.proofs.lemmas.Slice.Eq.{bytes_eq-Decides}
-use Rattle.qasm_parser.specs.Tree.{Action, apply, measure, reset as resets, barrier, Statement, include, register, gate, opaque, conditional, act}
+use Rattle.qasm_parser.specs.Tree.{apply, measure, reset as resets, barrier, Statement, include, register, gate, opaque, conditional, act}
 use Rattle.qasm_check.specs.Checking.{AllFine, bits_of}
 use Rattle.gate_library.specs.Known.{Known, with_measured}
 use Rattle.gate_library.specs.Library.{table_names}
 use Rattle.gate_library.specs.Names.{has_repeat, is_one_of, with}
 use Rattle.qasm_check.specs.Arguments.{operand}
-use Rattle.qasm_check.specs.Refusals.{IsFine}
 use Rattle.qasm_check.specs.Steps.{after}
 use Rattle.qasm_check.specs.declared.bits.Bits.{Bits}
 use Rattle.gate_library.specs.declared.operand.Operand.{Operand}
 use Rattle.qasm_check.specs.declared.refusal.Refusal.TheVariants.{NameTaken, EmptyRegister}
-use Rattle.qasm_check.proofs.SoundLaws.{both, first, neither_first, neither_second, not_false, second}
+use Rattle.qasm_check.proofs.SoundLaws.{both, neither_first, neither_second}
 
 pub registers_sizes : (k : Known) (xs : List Statement) → AllFine k xs → list_all (λ r. nat_lt 0 r.size) (filter_map bits_of xs) ≡ true
 registers_sizes k [] fine = refl

@@ -19,7 +19,7 @@ use Rattle.std.proofs.lemmas.List.{append-nil, append_assoc, length-map}
 use Rattle.std.proofs.lemmas.Slice.Eq.{bytes_eq-Decides}
 use Rattle.qasm_parser.specs.Tree.{Expression, number, pi, param, negated, paren, call, binary, Action, Application, Definition, apply, measure, reset as resets, barrier, gate as declares}
 use Rattle.qasm_parser.specs.declared.tree.Arg.{Arg}
-use Rattle.gate_library.specs.Gates.{Gate, u, cx, opaque, composed, Item, call as i-call, barrier as i-barrier, gate_at, gate_params, gate_qubits, is_opaque}
+use Rattle.gate_library.specs.Gates.{Gate, u, call as i-call, gate_at, gate_params, gate_qubits, is_opaque}
 use Rattle.gate_library.specs.Known.{Known, gate_number, meaning}
 use Rattle.gate_library.specs.Meanings.{is_register}
 use Rattle.qasm_check.specs.Refusals.{IsFine, applies_opaque, in_body, of_gate, params_differ, qubits_differ, repeats_name, unknown_in_body}

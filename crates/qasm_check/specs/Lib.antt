@@ -7,4 +7,5 @@ pub mod Refusals
 pub mod Sound
 pub mod StepViews
 pub mod Steps
+pub mod Texts
 pub mod Verdicts

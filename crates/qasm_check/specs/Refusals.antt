@@ -6,7 +6,7 @@
 --   code           its number
 --   IsLeast        the refusal applies, and none of a lesser number does
 --   IsFine         no refusal applies
-use Rattle.std.specs.Prelude.{◌≡◌, ℕ, ◌+◌, ◌<◌, List, [], ◌++◌, Option, Some, None, Bool, true, false, not, ◌&&◌, ◌||◌, ◌==◌, if◌then◌else◌, codes, is_none, is_some, length, map, nat_eq, nat_le, nat_lt, IsTrue}
+use Rattle.std.specs.Prelude.{◌≡◌, ℕ, ◌+◌, ◌<◌, List, [], ◌++◌, Option, Some, None, Bool, true, false, not, ◌&&◌, ◌||◌, ◌==◌, codes, is_none, is_some, length, map, nat_lt, IsTrue}
 use Rattle.std.specs.List.{list_any}
 use Rattle.std.specs.Str.{bytes_eq}
 use Rattle.qasm_parser.specs.Tree.{Action, Application, apply, measure, reset as resets, barrier, Definition, Statement, include as includes, register as registers, gate as declares, opaque as leaves_opaque, conditional as tests, act}

@@ -22,7 +22,6 @@ use Rattle.gate_library.specs.Operands.{broadcast, differs_from, repeats, sizes_
 use Rattle.gate_library.specs.declared.operand.Operand.{Operand}
 use Rattle.qasm_check.specs.Bound.{Bound}
 use Rattle.qasm_check.specs.Steps.{Step, applies, measures, bars, nothing}
-use Rattle.qasm_check.specs.declared.bits.Bits.{Bits}
 
 abbrev pub uses_below : ℕ → Formula → Bool
 uses_below n (number value) = true

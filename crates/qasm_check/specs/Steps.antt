@@ -6,7 +6,7 @@
 --   step         what a statement does
 --   after        what is known behind a statement
 --   known        what is known behind some statements
-use Rattle.std.specs.Prelude.{ℕ, List, [], ◌∷◌, Option, Some, None, Bool, true, false, fold, length, map}
+use Rattle.std.specs.Prelude.{ℕ, List, [], Option, Some, None, true, fold, length, map}
 use Rattle.qasm_parser.specs.Tree.{Expression, number, pi, param, negated, paren, call, binary, Action, apply, measure, reset, barrier, Definition, Statement, include, register, gate, opaque, conditional, act}
 use Rattle.gate_library.specs.Gates.{Formula, number as f-number, pi as f-pi, param as f-param, negated as f-negated, called as f-called, binary as f-binary, Item, call as i-call, barrier as i-barrier, Gate, opaque as g-opaque, composed}
 use Rattle.gate_library.specs.Known.{Known, fresh, meaning, gate_number, with_gate, with_measured, with_register}

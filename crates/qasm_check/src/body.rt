@@ -134,10 +134,11 @@ fn any_unknown<'a>(
     known: &Known<'a>,
     params: &Indices<'a>,
     qubits: &Indices<'a>,
-    body: &'a [Stmt],
+    definition: &'a GateDef,
 ) -> bool
-    ensures { result ≡ list_any (unknown_in_body (state known.now) params.now qubits.now) (map action body.now) }
+    ensures { result ≡ list_any (unknown_in_body (state known.now) params.now qubits.now) (map action definition.now.body.items) }
 {
+    let body: &'a [Stmt] = &definition.body;
     'items: for item in body {
         if is_unknown_in(known, params, qubits, item) {
             return true;
@@ -208,12 +209,12 @@ fn slices<'a>(alloc: Global, names: &'a [Name]) -> Result<Vec<&'a [u8]>, AllocEr
 }
 
 /// The names of a gate's parameters and qubits.
-fn local_names<'a>(alloc: Global, gate: &'a GateDef) -> Result<Vec<&'a [u8]>, AllocError>
-    ensures { IfOk result (λ v. map (λ n. n.now) v.items ≡ gate.now.params.items ++ gate.now.qubits.items) }
+fn local_names<'a>(alloc: Global, definition: &'a GateDef) -> Result<Vec<&'a [u8]>, AllocError>
+    ensures { IfOk result (λ v. map (λ n. n.now) v.items ≡ definition.now.params.items ++ definition.now.qubits.items) }
 {
     let mut names = Vec::new(alloc);
-    add_names(&mut names, &gate.params)?;
-    add_names(&mut names, &gate.qubits)?;
+    add_names(&mut names, &definition.params)?;
+    add_names(&mut names, &definition.qubits)?;
     Ok(names)
 }
 
@@ -225,13 +226,17 @@ fn is_name_taken<'a>(known: &Known<'a>, name: &'a [u8]) -> bool
 }
 
 /// Whether the names of the gate, its parameters or its qubits are taken.
-fn is_taken<'a>(alloc: Global, known: &Known<'a>, gate: &'a GateDef) -> Result<bool, AllocError>
-    ensures { IfOk result (λ b. b ≡ gate_taken (state known.now) (declaration gate.now)) }
+fn is_taken<'a>(
+    alloc: Global,
+    known: &Known<'a>,
+    definition: &'a GateDef,
+) -> Result<bool, AllocError>
+    ensures { IfOk result (λ b. b ≡ gate_taken (state known.now) (declaration definition.now)) }
 {
-    if is_name_taken(known, gate.name.as_bytes()) {
+    if is_name_taken(known, definition.name.as_bytes()) {
         return Ok(true);
     }
-    let names = local_names(alloc, gate)?;
+    let names = local_names(alloc, definition)?;
     let repeats = names_repeat(alloc, &names)?;
     Ok(repeats)
 }
@@ -295,62 +300,62 @@ fn tested<'a>(
     known: &Known<'a>,
     params: &Indices<'a>,
     qubits: &Indices<'a>,
-    gate: &'a GateDef,
+    definition: &'a GateDef,
 ) -> Result<(), Stop>
-    requires params { params.now ≡ gate.now.params.items }
-    requires qubits { qubits.now ≡ gate.now.qubits.items }
-    ensures ok { OnOk result (verdict (state known.now) (declares (declaration gate.now)) ≡ None) }
-    ensures err { IfErr result (IsStop (verdict (state known.now) (declares (declaration gate.now)))) }
+    requires params { params.now ≡ definition.now.params.items }
+    requires qubits { qubits.now ≡ definition.now.qubits.items }
+    ensures ok { OnOk result (verdict (state known.now) (declares (declaration definition.now)) ≡ None) }
+    ensures err { IfErr result (IsStop (verdict (state known.now) (declares (declaration definition.now)))) }
 {
-    if is_taken(alloc, known, gate)? {
+    if is_taken(alloc, known, definition)? {
         return Err(Stop::Refused(Refusal::NameTaken));
     }
-    if any_unknown(known, params, qubits, &gate.body) {
+    if any_unknown(known, params, qubits, definition) {
         return Err(Stop::Refused(Refusal::UnknownName));
     }
-    if any_register(known, &gate.body) {
+    if any_register(known, &definition.body) {
         return Err(Stop::Refused(Refusal::WrongKind));
     }
-    if any_params_differ(known, &gate.body) {
+    if any_params_differ(known, &definition.body) {
         return Err(Stop::Refused(Refusal::ParamCount));
     }
-    if any_qubits_differ(known, &gate.body) {
+    if any_qubits_differ(known, &definition.body) {
         return Err(Stop::Refused(Refusal::QubitCount));
     }
-    if any_repeating(alloc, &gate.body)? {
+    if any_repeating(alloc, &definition.body)? {
         return Err(Stop::Refused(Refusal::RepeatedQubit));
     }
-    if any_opaque(known, &gate.body) {
+    if any_opaque(known, &definition.body) {
         return Err(Stop::Refused(Refusal::OpaqueApplied));
     }
     Ok(())
 }
 
 /// A gate with a body.
-pub fn gate<'a>(alloc: Global, known: &Known<'a>, gate: &'a GateDef) -> Result<Gate, Stop>
-    ensures ok { IfOk result (λ g. (verdict (state known.now) (declares (declaration gate.now)) ≡ None) × (gate_view g ≡ bound_gate (state known.now) (declaration gate.now))) }
-    ensures err { IfErr result (IsStop (verdict (state known.now) (declares (declaration gate.now)))) }
+pub fn gate<'a>(alloc: Global, known: &Known<'a>, definition: &'a GateDef) -> Result<Gate, Stop>
+    ensures ok { IfOk result (λ g. (verdict (state known.now) (declares (declaration definition.now)) ≡ None) × (gate_view g ≡ bound_gate (state known.now) (declaration definition.now))) }
+    ensures err { IfErr result (IsStop (verdict (state known.now) (declares (declaration definition.now)))) }
 {
-    let params = Indices::of(alloc, slices(alloc, &gate.params)?)?;
-    let qubits = Indices::of(alloc, slices(alloc, &gate.qubits)?)?;
-    tested(alloc, known, &params, &qubits, gate)?;
+    let params = Indices::of(alloc, slices(alloc, &definition.params)?)?;
+    let qubits = Indices::of(alloc, slices(alloc, &definition.qubits)?)?;
+    tested(alloc, known, &params, &qubits, definition)?;
     Ok(Gate::Composed {
-        params: gate.params.len(),
-        qubits: gate.qubits.len(),
-        body: items(alloc, known, &params, &qubits, &gate.body)?,
+        params: definition.params.len(),
+        qubits: definition.qubits.len(),
+        body: items(alloc, known, &params, &qubits, &definition.body)?,
     })
 }
 
 /// A gate without a body.
-pub fn opaque<'a>(alloc: Global, known: &Known<'a>, gate: &'a GateDef) -> Result<Gate, Stop>
-    ensures ok { IfOk result (λ g. (verdict (state known.now) (leaves_opaque (declaration gate.now)) ≡ None) × (gate_view g ≡ without_body (length gate.now.params.items) (length gate.now.qubits.items))) }
-    ensures err { IfErr result (IsStop (verdict (state known.now) (leaves_opaque (declaration gate.now)))) }
+pub fn opaque<'a>(alloc: Global, known: &Known<'a>, definition: &'a GateDef) -> Result<Gate, Stop>
+    ensures ok { IfOk result (λ g. (verdict (state known.now) (leaves_opaque (declaration definition.now)) ≡ None) × (gate_view g ≡ without_body (length definition.now.params.items) (length definition.now.qubits.items))) }
+    ensures err { IfErr result (IsStop (verdict (state known.now) (leaves_opaque (declaration definition.now)))) }
 {
-    if is_taken(alloc, known, gate)? {
+    if is_taken(alloc, known, definition)? {
         return Err(Stop::Refused(Refusal::NameTaken));
     }
     Ok(Gate::Opaque {
-        params: gate.params.len(),
-        qubits: gate.qubits.len(),
+        params: definition.params.len(),
+        qubits: definition.qubits.len(),
     })
 }

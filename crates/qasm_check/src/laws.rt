@@ -1,9 +1,11 @@
 //! What holds of every tree, as functions whose contracts are the laws.
 
-ghost use Rattle.std.specs.Prelude.{◌≡◌, length};
+ghost use Rattle.std.specs.Prelude.{◌≡◌, ◌++◌, length};
+ghost use Rattle.gate_library.specs.Listing.{added, standard};
 ghost use Rattle.qasm_parser.specs.Tree.{Tree};
 ghost use Rattle.qasm_check.specs.Checking.{IsAccepted, IsFault, IsRefused, bound};
 ghost use Rattle.qasm_check.specs.Sound.{IsSound};
+ghost use Rattle.qasm_check.specs.Texts.{AreSpelt, texts};
 ghost use Rattle.qasm_check.specs.declared.refusal.CheckFault.{CheckFault as Fault};
 ghost use Rattle.qasm_check.specs.declared.refusal.CheckFault.TheVariants.{NoMemory};
 ghost use Rattle.qasm_check.specs.declared.refusal.Refused.{Refused as Told};
@@ -11,6 +13,11 @@ ghost use Rattle.qasm_check.specs.declared.refusal.Refused.{Refused as Told};
 /// A tree has one refusal at most: the statement and its code.
 pub fn refused_once()
     ensures { (t : Tree) (a b : Told) → IsRefused t a → IsRefused t b → a ≡ b }
+{}
+
+/// Each gate of the tables, written as a program would define it, spells a definition that is bound to the table's gate.
+pub fn listing_is_spelt()
+    ensures { AreSpelt texts (standard ++ added) }
 {}
 
 /// An accepted tree has no fault, so only want of memory is told of it.

@@ -24,7 +24,7 @@ mod tests;
 pub use bits::Bits;
 pub use checked::Checked;
 pub use gate_library::{Formula, Gate, Item, Operand};
-pub use laws::{accepted_has_no_fault, accepted_is_sound, refused_once};
+pub use laws::{accepted_has_no_fault, accepted_is_sound, listing_is_spelt, refused_once};
 pub use program::check;
 pub use refusal::{CheckFault, Refusal, Refused};
 pub use statement::Step;

@@ -49,7 +49,7 @@ fn behind_head(alloc: Global, body: &[u8]) -> Result<Vec<u8>, AllocError> {
 /// Each refusal with a smallest program, and one that nearly has it.
 #[test]
 fn refusals(rt: HostRuntime) -> Result<(), Fail> {
-    let rows: [(&[u8], u8, u32); 87] = [
+    let rows: [(&[u8], u8, u32); 90] = [
         (b"", 0, 0),
         // 20
         (b"include \"qelib1.inc\";", 20, 2),
@@ -63,6 +63,9 @@ fn refusals(rt: HostRuntime) -> Result<(), Fail> {
         (b"gate swap a,b { }", 0, 0),
         (b"gate swap a,b { } gate swap a,b { }", 21, 3),
         (b"opaque swap a;", 0, 0),
+        (b"gate cu1(l) a,b { }", 21, 2),
+        (b"gate u(t,p,l) q { }", 0, 0),
+        (b"gate u3(t,p,l) q { }", 21, 2),
         (b"opaque h a;", 21, 2),
         (b"gate g(a) a { }", 21, 2),
         (b"gate g(a,a) b { }", 21, 2),
@@ -181,7 +184,7 @@ fn refusals(rt: HostRuntime) -> Result<(), Fail> {
 /// Limits that are met, refusals that hide others, and texts without an include.
 #[test]
 fn borders(rt: HostRuntime) -> Result<(), Fail> {
-    let rows: [(&[u8], u8, u32); 26] = [
+    let rows: [(&[u8], u8, u32); 28] = [
         (b"OPENQASM 2.0;", 0, 0),
         (b"OPENQASM 2.0; qreg q[64]; creg c[1024];", 0, 0),
         (b"OPENQASM 2.0; qreg q[63]; qreg r[2];", 34, 2),
@@ -191,6 +194,12 @@ fn borders(rt: HostRuntime) -> Result<(), Fail> {
             2,
         ),
         (b"OPENQASM 2.0; creg c[1000]; creg d[24]; creg e[1];", 35, 3),
+        (
+            b"OPENQASM 2.0; qreg q[63]; qreg r[1]; creg c[1000]; creg d[24];",
+            0,
+            0,
+        ),
+        (b"OPENQASM 2.0; creg c[1024]; qreg q[65];", 34, 2),
         (
             b"OPENQASM 2.0; qreg q[2]; U(0,0,0) q[0]; CX q[0],q[1];",
             0,

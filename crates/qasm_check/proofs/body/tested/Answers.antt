@@ -12,111 +12,105 @@ use Rattle.qasm_check.proofs.body.tested.Goals as goal
 pub returns-then-any_register-clause-err : goal.returns-then-any_register-clause-err
 returns-then-any_register-clause-err c =
     let K = state c.args.known.now in
-    let g = c.args.gate.now in
+    let g = c.args.definition.now in
     let taken : gate_taken K (declaration g) ≡ false = sym c.in_ok-is_taken.ensures ∙ c.if-branch.false in
     let unknown : list_any (unknown_in_body K g.params.items g.qubits.items) (map action g.body.items) ≡ false =
     ap (λ (ps : List (List ℕ)). list_any (unknown_in_body K ps g.qubits.items) (map action g.body.items)) (sym c.requires.params)
     ∙ ap (λ (qs : List (List ℕ)). list_any (unknown_in_body K c.args.params.now qs) (map action g.body.items)) (sym c.requires.qubits)
-    ∙ ap (λ (xs : List Stmt). list_any (unknown_in_body K c.args.params.now c.args.qubits.now) (map action xs)) (sym c.deref.ensures.value)
     ∙ sym c.any_unknown.ensures ∙ c.if-any_unknown.false in
     let register : list_any (in_body (λ a. is_register (meaning K a.gate))) (map action g.body.items) ≡ true =
-    ap (λ (xs : List Stmt). list_any (in_body (λ a. is_register (meaning K a.gate))) (map action xs)) (sym c.deref-2.ensures.value) ∙ sym c.any_register.ensures ∙ c.if-any_register.true in
+    ap (λ (xs : List Stmt). list_any (in_body (λ a. is_register (meaning K a.gate))) (map action xs)) (sym c.deref.ensures.value) ∙ sym c.any_register.ensures ∙ c.if-any_register.true in
     rw (taken, unknown, register) refl
 
 pub returns-then-any_params_differ-clause-err : goal.returns-then-any_params_differ-clause-err
 returns-then-any_params_differ-clause-err c =
     let K = state c.args.known.now in
-    let g = c.args.gate.now in
+    let g = c.args.definition.now in
     let taken : gate_taken K (declaration g) ≡ false = sym c.in_ok-is_taken.ensures ∙ c.if-branch.false in
     let unknown : list_any (unknown_in_body K g.params.items g.qubits.items) (map action g.body.items) ≡ false =
     ap (λ (ps : List (List ℕ)). list_any (unknown_in_body K ps g.qubits.items) (map action g.body.items)) (sym c.requires.params)
     ∙ ap (λ (qs : List (List ℕ)). list_any (unknown_in_body K c.args.params.now qs) (map action g.body.items)) (sym c.requires.qubits)
-    ∙ ap (λ (xs : List Stmt). list_any (unknown_in_body K c.args.params.now c.args.qubits.now) (map action xs)) (sym c.deref.ensures.value)
     ∙ sym c.any_unknown.ensures ∙ c.if-any_unknown.false in
     let register : list_any (in_body (λ a. is_register (meaning K a.gate))) (map action g.body.items) ≡ false =
-    ap (λ (xs : List Stmt). list_any (in_body (λ a. is_register (meaning K a.gate))) (map action xs)) (sym c.deref-2.ensures.value) ∙ sym c.any_register.ensures ∙ c.if-any_register.false in
+    ap (λ (xs : List Stmt). list_any (in_body (λ a. is_register (meaning K a.gate))) (map action xs)) (sym c.deref.ensures.value) ∙ sym c.any_register.ensures ∙ c.if-any_register.false in
     let params : list_any (in_body (params_differ K)) (map action g.body.items) ≡ true =
-    ap (λ (xs : List Stmt). list_any (in_body (params_differ K)) (map action xs)) (sym c.deref-3.ensures.value) ∙ sym c.any_params_differ.ensures ∙ c.if-any_params_differ.true in
+    ap (λ (xs : List Stmt). list_any (in_body (params_differ K)) (map action xs)) (sym c.deref-2.ensures.value) ∙ sym c.any_params_differ.ensures ∙ c.if-any_params_differ.true in
     rw (taken, unknown, register, params) refl
 
 pub returns-then-any_qubits_differ-clause-err : goal.returns-then-any_qubits_differ-clause-err
 returns-then-any_qubits_differ-clause-err c =
     let K = state c.args.known.now in
-    let g = c.args.gate.now in
+    let g = c.args.definition.now in
     let taken : gate_taken K (declaration g) ≡ false = sym c.in_ok-is_taken.ensures ∙ c.if-branch.false in
     let unknown : list_any (unknown_in_body K g.params.items g.qubits.items) (map action g.body.items) ≡ false =
     ap (λ (ps : List (List ℕ)). list_any (unknown_in_body K ps g.qubits.items) (map action g.body.items)) (sym c.requires.params)
     ∙ ap (λ (qs : List (List ℕ)). list_any (unknown_in_body K c.args.params.now qs) (map action g.body.items)) (sym c.requires.qubits)
-    ∙ ap (λ (xs : List Stmt). list_any (unknown_in_body K c.args.params.now c.args.qubits.now) (map action xs)) (sym c.deref.ensures.value)
     ∙ sym c.any_unknown.ensures ∙ c.if-any_unknown.false in
     let register : list_any (in_body (λ a. is_register (meaning K a.gate))) (map action g.body.items) ≡ false =
-    ap (λ (xs : List Stmt). list_any (in_body (λ a. is_register (meaning K a.gate))) (map action xs)) (sym c.deref-2.ensures.value) ∙ sym c.any_register.ensures ∙ c.if-any_register.false in
+    ap (λ (xs : List Stmt). list_any (in_body (λ a. is_register (meaning K a.gate))) (map action xs)) (sym c.deref.ensures.value) ∙ sym c.any_register.ensures ∙ c.if-any_register.false in
     let params : list_any (in_body (params_differ K)) (map action g.body.items) ≡ false =
-    ap (λ (xs : List Stmt). list_any (in_body (params_differ K)) (map action xs)) (sym c.deref-3.ensures.value) ∙ sym c.any_params_differ.ensures ∙ c.if-any_params_differ.false in
+    ap (λ (xs : List Stmt). list_any (in_body (params_differ K)) (map action xs)) (sym c.deref-2.ensures.value) ∙ sym c.any_params_differ.ensures ∙ c.if-any_params_differ.false in
     let qubits : list_any (in_body (qubits_differ K)) (map action g.body.items) ≡ true =
-    ap (λ (xs : List Stmt). list_any (in_body (qubits_differ K)) (map action xs)) (sym c.deref-4.ensures.value) ∙ sym c.any_qubits_differ.ensures ∙ c.if-any_qubits_differ.true in
+    ap (λ (xs : List Stmt). list_any (in_body (qubits_differ K)) (map action xs)) (sym c.deref-3.ensures.value) ∙ sym c.any_qubits_differ.ensures ∙ c.if-any_qubits_differ.true in
     rw (taken, unknown, register, params, qubits) refl
 
 pub returns-then-branch-2-clause-err : goal.returns-then-branch-2-clause-err
 returns-then-branch-2-clause-err c =
     let K = state c.args.known.now in
-    let g = c.args.gate.now in
+    let g = c.args.definition.now in
     let taken : gate_taken K (declaration g) ≡ false = sym c.in_ok-is_taken.ensures ∙ c.if-branch.false in
     let unknown : list_any (unknown_in_body K g.params.items g.qubits.items) (map action g.body.items) ≡ false =
     ap (λ (ps : List (List ℕ)). list_any (unknown_in_body K ps g.qubits.items) (map action g.body.items)) (sym c.requires.params)
     ∙ ap (λ (qs : List (List ℕ)). list_any (unknown_in_body K c.args.params.now qs) (map action g.body.items)) (sym c.requires.qubits)
-    ∙ ap (λ (xs : List Stmt). list_any (unknown_in_body K c.args.params.now c.args.qubits.now) (map action xs)) (sym c.deref.ensures.value)
     ∙ sym c.any_unknown.ensures ∙ c.if-any_unknown.false in
     let register : list_any (in_body (λ a. is_register (meaning K a.gate))) (map action g.body.items) ≡ false =
-    ap (λ (xs : List Stmt). list_any (in_body (λ a. is_register (meaning K a.gate))) (map action xs)) (sym c.deref-2.ensures.value) ∙ sym c.any_register.ensures ∙ c.if-any_register.false in
+    ap (λ (xs : List Stmt). list_any (in_body (λ a. is_register (meaning K a.gate))) (map action xs)) (sym c.deref.ensures.value) ∙ sym c.any_register.ensures ∙ c.if-any_register.false in
     let params : list_any (in_body (params_differ K)) (map action g.body.items) ≡ false =
-    ap (λ (xs : List Stmt). list_any (in_body (params_differ K)) (map action xs)) (sym c.deref-3.ensures.value) ∙ sym c.any_params_differ.ensures ∙ c.if-any_params_differ.false in
+    ap (λ (xs : List Stmt). list_any (in_body (params_differ K)) (map action xs)) (sym c.deref-2.ensures.value) ∙ sym c.any_params_differ.ensures ∙ c.if-any_params_differ.false in
     let qubits : list_any (in_body (qubits_differ K)) (map action g.body.items) ≡ false =
-    ap (λ (xs : List Stmt). list_any (in_body (qubits_differ K)) (map action xs)) (sym c.deref-4.ensures.value) ∙ sym c.any_qubits_differ.ensures ∙ c.if-any_qubits_differ.false in
+    ap (λ (xs : List Stmt). list_any (in_body (qubits_differ K)) (map action xs)) (sym c.deref-3.ensures.value) ∙ sym c.any_qubits_differ.ensures ∙ c.if-any_qubits_differ.false in
     let repeated : list_any (in_body repeats_name) (map action g.body.items) ≡ true =
-    ap (λ (xs : List Stmt). list_any (in_body repeats_name) (map action xs)) (sym c.deref-5.ensures.value) ∙ sym c.in_ok-any_repeating.ensures ∙ c.if-branch-2.true in
+    ap (λ (xs : List Stmt). list_any (in_body repeats_name) (map action xs)) (sym c.deref-4.ensures.value) ∙ sym c.in_ok-any_repeating.ensures ∙ c.if-branch-2.true in
     rw (taken, unknown, register, params, qubits, repeated) refl
 
 pub returns-then-any_opaque-clause-err : goal.returns-then-any_opaque-clause-err
 returns-then-any_opaque-clause-err c =
     let K = state c.args.known.now in
-    let g = c.args.gate.now in
+    let g = c.args.definition.now in
     let taken : gate_taken K (declaration g) ≡ false = sym c.in_ok-is_taken.ensures ∙ c.if-branch.false in
     let unknown : list_any (unknown_in_body K g.params.items g.qubits.items) (map action g.body.items) ≡ false =
     ap (λ (ps : List (List ℕ)). list_any (unknown_in_body K ps g.qubits.items) (map action g.body.items)) (sym c.requires.params)
     ∙ ap (λ (qs : List (List ℕ)). list_any (unknown_in_body K c.args.params.now qs) (map action g.body.items)) (sym c.requires.qubits)
-    ∙ ap (λ (xs : List Stmt). list_any (unknown_in_body K c.args.params.now c.args.qubits.now) (map action xs)) (sym c.deref.ensures.value)
     ∙ sym c.any_unknown.ensures ∙ c.if-any_unknown.false in
     let register : list_any (in_body (λ a. is_register (meaning K a.gate))) (map action g.body.items) ≡ false =
-    ap (λ (xs : List Stmt). list_any (in_body (λ a. is_register (meaning K a.gate))) (map action xs)) (sym c.deref-2.ensures.value) ∙ sym c.any_register.ensures ∙ c.if-any_register.false in
+    ap (λ (xs : List Stmt). list_any (in_body (λ a. is_register (meaning K a.gate))) (map action xs)) (sym c.deref.ensures.value) ∙ sym c.any_register.ensures ∙ c.if-any_register.false in
     let params : list_any (in_body (params_differ K)) (map action g.body.items) ≡ false =
-    ap (λ (xs : List Stmt). list_any (in_body (params_differ K)) (map action xs)) (sym c.deref-3.ensures.value) ∙ sym c.any_params_differ.ensures ∙ c.if-any_params_differ.false in
+    ap (λ (xs : List Stmt). list_any (in_body (params_differ K)) (map action xs)) (sym c.deref-2.ensures.value) ∙ sym c.any_params_differ.ensures ∙ c.if-any_params_differ.false in
     let qubits : list_any (in_body (qubits_differ K)) (map action g.body.items) ≡ false =
-    ap (λ (xs : List Stmt). list_any (in_body (qubits_differ K)) (map action xs)) (sym c.deref-4.ensures.value) ∙ sym c.any_qubits_differ.ensures ∙ c.if-any_qubits_differ.false in
+    ap (λ (xs : List Stmt). list_any (in_body (qubits_differ K)) (map action xs)) (sym c.deref-3.ensures.value) ∙ sym c.any_qubits_differ.ensures ∙ c.if-any_qubits_differ.false in
     let repeated : list_any (in_body repeats_name) (map action g.body.items) ≡ false =
-    ap (λ (xs : List Stmt). list_any (in_body repeats_name) (map action xs)) (sym c.deref-5.ensures.value) ∙ sym c.in_ok-any_repeating.ensures ∙ c.if-branch-2.false in
+    ap (λ (xs : List Stmt). list_any (in_body repeats_name) (map action xs)) (sym c.deref-4.ensures.value) ∙ sym c.in_ok-any_repeating.ensures ∙ c.if-branch-2.false in
     let closed : list_any (in_body (applies_opaque K)) (map action g.body.items) ≡ true =
-    ap (λ (xs : List Stmt). list_any (in_body (applies_opaque K)) (map action xs)) (sym c.deref-6.ensures.value) ∙ sym c.any_opaque.ensures ∙ c.if-any_opaque.true in
+    ap (λ (xs : List Stmt). list_any (in_body (applies_opaque K)) (map action xs)) (sym c.deref-5.ensures.value) ∙ sym c.any_opaque.ensures ∙ c.if-any_opaque.true in
     rw (taken, unknown, register, params, qubits, repeated, closed) refl
 
 pub returns-clause-ok : goal.returns-clause-ok
 returns-clause-ok c =
     let K = state c.args.known.now in
-    let g = c.args.gate.now in
+    let g = c.args.definition.now in
     let taken : gate_taken K (declaration g) ≡ false = sym c.in_ok-is_taken.ensures ∙ c.if-branch.false in
     let unknown : list_any (unknown_in_body K g.params.items g.qubits.items) (map action g.body.items) ≡ false =
     ap (λ (ps : List (List ℕ)). list_any (unknown_in_body K ps g.qubits.items) (map action g.body.items)) (sym c.requires.params)
     ∙ ap (λ (qs : List (List ℕ)). list_any (unknown_in_body K c.args.params.now qs) (map action g.body.items)) (sym c.requires.qubits)
-    ∙ ap (λ (xs : List Stmt). list_any (unknown_in_body K c.args.params.now c.args.qubits.now) (map action xs)) (sym c.deref.ensures.value)
     ∙ sym c.any_unknown.ensures ∙ c.if-any_unknown.false in
     let register : list_any (in_body (λ a. is_register (meaning K a.gate))) (map action g.body.items) ≡ false =
-    ap (λ (xs : List Stmt). list_any (in_body (λ a. is_register (meaning K a.gate))) (map action xs)) (sym c.deref-2.ensures.value) ∙ sym c.any_register.ensures ∙ c.if-any_register.false in
+    ap (λ (xs : List Stmt). list_any (in_body (λ a. is_register (meaning K a.gate))) (map action xs)) (sym c.deref.ensures.value) ∙ sym c.any_register.ensures ∙ c.if-any_register.false in
     let params : list_any (in_body (params_differ K)) (map action g.body.items) ≡ false =
-    ap (λ (xs : List Stmt). list_any (in_body (params_differ K)) (map action xs)) (sym c.deref-3.ensures.value) ∙ sym c.any_params_differ.ensures ∙ c.if-any_params_differ.false in
+    ap (λ (xs : List Stmt). list_any (in_body (params_differ K)) (map action xs)) (sym c.deref-2.ensures.value) ∙ sym c.any_params_differ.ensures ∙ c.if-any_params_differ.false in
     let qubits : list_any (in_body (qubits_differ K)) (map action g.body.items) ≡ false =
-    ap (λ (xs : List Stmt). list_any (in_body (qubits_differ K)) (map action xs)) (sym c.deref-4.ensures.value) ∙ sym c.any_qubits_differ.ensures ∙ c.if-any_qubits_differ.false in
+    ap (λ (xs : List Stmt). list_any (in_body (qubits_differ K)) (map action xs)) (sym c.deref-3.ensures.value) ∙ sym c.any_qubits_differ.ensures ∙ c.if-any_qubits_differ.false in
     let repeated : list_any (in_body repeats_name) (map action g.body.items) ≡ false =
-    ap (λ (xs : List Stmt). list_any (in_body repeats_name) (map action xs)) (sym c.deref-5.ensures.value) ∙ sym c.in_ok-any_repeating.ensures ∙ c.if-branch-2.false in
+    ap (λ (xs : List Stmt). list_any (in_body repeats_name) (map action xs)) (sym c.deref-4.ensures.value) ∙ sym c.in_ok-any_repeating.ensures ∙ c.if-branch-2.false in
     let closed : list_any (in_body (applies_opaque K)) (map action g.body.items) ≡ false =
-    ap (λ (xs : List Stmt). list_any (in_body (applies_opaque K)) (map action xs)) (sym c.deref-6.ensures.value) ∙ sym c.any_opaque.ensures ∙ c.if-any_opaque.false in
+    ap (λ (xs : List Stmt). list_any (in_body (applies_opaque K)) (map action xs)) (sym c.deref-5.ensures.value) ∙ sym c.any_opaque.ensures ∙ c.if-any_opaque.false in
     rw (taken, unknown, register, params, qubits, repeated, closed) refl
