@@ -3,6 +3,7 @@
 --   eliminated-more       one column more
 --   raised-added, cleared-more      a column gets its row; one row more of a column
 --   eliminated-identity, eliminated-back      the additions make the identity, and backwards the matrix
+--   eliminated-times      and backwards, from any rows, the product with these
 --   eliminated-independent, eliminated-dependent, inverse-told      what the end tells of the rows, and of the inverse
 use Rattle.std.proofs.Common.{◌≡◌, ℕ, suc, ◌+◌, ◌-◌, ◌*◌, ◌%◌, ◌^◌, ◌<◌, ◌≤◌, cond, List, [], ◌∷◌, ◌++◌, length, take, reverse, get_or, true, false, refl, sym, ap, subst, ◌∙◌, arith, inl, inr}
 use Rattle.std.specs.Prelude.{All, bit_xor}
@@ -15,10 +16,11 @@ use Rattle.std.specs.Prelude.{slice_get, unwrap_or, Some}
 use Rattle.std.proofs.lemmas.Option.{unwrap_or-slice_get}
 use Rattle.std.proofs.lemmas.Nat.Bits.{bit_at_xor}
 use Rattle.std.proofs.lemmas.Bool.{cases_eq, cases_lt, eq-eqb, ne_eqb, false_from_ne_true}
-use Rattle.gf2_linear.specs.Matrices.{added, run, identity_rows, IsPair, IsInverse}
+use Rattle.gf2_linear.specs.Matrices.{added, run, identity_rows, product, IsPair, IsInverse}
 use Rattle.gf2_linear.specs.Eliminations.{Pairs, From, unit_bit, IsNoted, IsFirstFrom, HasUnitColumn, IsRowStep}
 use Rattle.gf2_linear.proofs.BasisLaws.{both_one}
-use Rattle.gf2_linear.proofs.RunLaws.{Columns, columns-kept, length-run, run-append, added-at, added-other, columns-identity, no_pivot-dependent, run-free, run-independent, run-synth, run-inverse}
+use Rattle.gf2_linear.proofs.RunLaws.{Columns, columns-kept, length-run, run-append, added-at, added-other, columns-identity, no_pivot-dependent, run-free, run-independent, run-synth, run-inverse, pairs-reverse}
+use Rattle.gf2_linear.proofs.ProductLaws.{run-times}
 use Rattle.gf2_linear.proofs.Spans.{Free}
 use Rattle.gf2_linear.proofs.Ranks.{Free-independent, independent-Free}
 use Rattle.gf2_linear.specs.Rows.{is_independent}
@@ -257,6 +259,11 @@ eliminated-identity source rest log i e b h =
 pub eliminated-back : (source rest : List ℕ) (log : List (ℕ × ℕ)) (i : ℕ) → i ≡ length source → ((k : ℕ) → get_or rest k 0 < 2 ^ length rest) → Eliminated source rest log i
     → run (identity_rows (length source)) (reverse log) ≡ source
 eliminated-back source rest log i e b h = run-synth source log h.pairs (eliminated-identity source rest log i e b h)
+
+pub eliminated-times : (source rest : List ℕ) (log : List (ℕ × ℕ)) (i : ℕ) → i ≡ length source → ((k : ℕ) → get_or rest k 0 < 2 ^ length rest) → Eliminated source rest log i
+    → (b : List ℕ) → length b ≡ length source → run b (reverse log) ≡ product source b
+eliminated-times source rest log i e b h =
+    run-times source (reverse log) (pairs-reverse (length source) log h.pairs) (eliminated-back source rest log i e b h)
 
 pub eliminated-independent : (source rest : List ℕ) (log : List (ℕ × ℕ)) (i : ℕ) → i ≡ length source → ((k : ℕ) → get_or rest k 0 < 2 ^ length rest) → Eliminated source rest log i
     → is_independent source ≡ true

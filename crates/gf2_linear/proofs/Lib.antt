@@ -8,6 +8,7 @@ pub mod BasisLaws
 pub mod SumLaws
 pub mod MatrixLaws
 pub mod RunLaws
+pub mod ProductLaws
 pub mod CompletionLaws
 pub mod EliminationLaws
 pub mod WorkedRows

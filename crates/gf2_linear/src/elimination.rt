@@ -1,22 +1,23 @@
 //! Elimination by additions of rows, and the inverse.
 
-ghost use Rattle.std.specs.Prelude.{◌≡◌, ℕ, ◌+◌, ◌*◌, ◌<◌, ◌≤◌, ◌^◌, ◌++◌, ◌∷◌, [], All, IfOk, IfSome, IfNone, true, false, length, reverse, slice_index};
+ghost use Rattle.std.specs.Prelude.{◌≡◌, ℕ, ◌+◌, ◌*◌, ◌<◌, ◌≤◌, ◌^◌, ◌++◌, ◌∷◌, [], List, All, IsTrue, IfOk, IfSome, IfNone, true, false, length, reverse, slice_index};
 ghost use Rattle.std.specs.Int.{bit_at};
 ghost use Rattle.gf2_linear.specs.Rows.{is_independent};
-ghost use Rattle.gf2_linear.specs.Matrices.{added, identity_rows, run, IsInverse, IsPair};
+ghost use Rattle.gf2_linear.specs.Matrices.{added, identity_rows, product, run, IsInverse, IsPair};
 ghost use Rattle.gf2_linear.specs.Eliminations.{HasUnitColumn, IsFirstFrom, IsNoted, IsRowStep};
 
 use crate::matrices::Matrix;
 use std::alloc::{AllocError, Global};
 
 /// The additions (from, to) of rows that make the identity of a matrix, in order; read backwards, they make the
-/// matrix of the identity. None exactly where the rows are dependent.
+/// matrix of the identity, and its product with them of any other rows. None exactly where the rows are dependent.
 ///
 /// Gaussian elimination, column by column: where the row of a column lacks it, the first later row that has it is
 /// added to it, and then it is added to each other row that has the column, ascending.
 pub fn additions(alloc: Global, matrix: &Matrix) -> Result<Option<Vec<(u32, u32)>>, AllocError>
     ensures ok { IfOk result (λ o. IfSome o (λ l. run matrix.now l.items ≡ identity_rows (length matrix.now))) }
     ensures back { IfOk result (λ o. IfSome o (λ l. run (identity_rows (length matrix.now)) (reverse l.items) ≡ matrix.now)) }
+    ensures times { IfOk result (λ o. IfSome o (λ l. (b : List ℕ) → length b ≡ length matrix.now → run b (reverse l.items) ≡ product matrix.now b)) }
     ensures pairs { IfOk result (λ o. IfSome o (λ l. All (IsPair (length matrix.now)) l.items)) }
     ensures few { IfOk result (λ o. IfSome o (λ l. length l.items ≤ length matrix.now * length matrix.now)) }
     ensures independent { IfOk result (λ o. IfSome o (λ _. is_independent matrix.now ≡ true)) }
@@ -139,6 +140,21 @@ pub fn invert(alloc: Global, matrix: &Matrix) -> Result<Option<Matrix>, AllocErr
             Ok(Some(inverse))
         }
     }
+}
+
+/// The matrix that is `to` when it is multiplied by `from`: `to` times the inverse of `from`.
+pub fn quotient(alloc: Global, to: &Matrix, from: &Matrix) -> Result<Matrix, AllocError>
+    requires wires { length to.now ≡ length from.now }
+    requires to { IsTrue (is_independent to.now) }
+    requires from { IsTrue (is_independent from.now) }
+    ensures wires { IfOk result (λ q. length q ≡ length from.now) }
+    ensures product { IfOk result (λ q. product q from.now ≡ to.now) }
+    ensures independent { IfOk result (λ q. is_independent q ≡ true) }
+{
+    let _wires = to.wires();
+    let inverse = invert(alloc, from)?.unwrap();
+    let quotient = to.product(alloc, &inverse)?;
+    Ok(quotient)
 }
 
 /// A matrix after additions of its rows.

@@ -16,7 +16,7 @@ mod rows;
 mod sums;
 
 pub use bases::Basis;
-pub use elimination::{additions, invert};
+pub use elimination::{additions, invert, quotient};
 pub use matrices::Matrix;
 pub use rows::{Row, WIRE_LIMIT};
 pub use sums::{basis_of, complete, express, is_independent, places_in, rank};

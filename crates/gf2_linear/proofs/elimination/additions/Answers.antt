@@ -1,5 +1,5 @@
 use Rattle.std.proofs.Common.{◌≡◌, ◌<◌, length, arith}
-use Rattle.gf2_linear.proofs.EliminationLaws.{eliminated-more, eliminated-length, eliminated-identity, eliminated-back, eliminated-independent, eliminated-dependent, pairs-All}
+use Rattle.gf2_linear.proofs.EliminationLaws.{eliminated-more, eliminated-length, eliminated-identity, eliminated-back, eliminated-times, eliminated-independent, eliminated-dependent, pairs-All}
 use Rattle.gf2_linear.proofs.elimination.additions.Goals as goal
 
 pub pivot_of-requires : goal.pivot_of-requires
@@ -29,6 +29,11 @@ pub returns-clause-back : goal.returns-clause-back
 returns-clause-back c =
     let n : c.columns.column ≡ length c.args.matrix.now = omega arith in
     eliminated-back c.args.matrix.now c.columns.rest c.columns.log.items c.columns.column n c.wires-wires.ensures.below c.columns.invariant
+
+pub returns-clause-times : goal.returns-clause-times
+returns-clause-times c =
+    let n : c.columns.column ≡ length c.args.matrix.now = omega arith in
+    eliminated-times c.args.matrix.now c.columns.rest c.columns.log.items c.columns.column n c.wires-wires.ensures.below c.columns.invariant
 
 pub returns-clause-pairs : goal.returns-clause-pairs
 returns-clause-pairs c = pairs-All (length c.args.matrix.now) c.columns.log.items c.columns.invariant.pairs
