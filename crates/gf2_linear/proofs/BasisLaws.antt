@@ -2,54 +2,25 @@
 --   clears-more, clears-added    one entry more
 --   echelon-zero             a sum of the entries that lacks all their pivots is 0
 --   told-at, pivot-at        what an entry keeps
---   free-few                 independent rows of n wires are at most n
-use Rattle.std.proofs.Common.{◌≡◌, ℕ, zero, suc, ◌+◌, ◌-◌, ◌*◌, ◌%◌, ◌^◌, ◌<◌, ◌≤◌, true, false, List, [], ◌∷◌, ◌++◌, length, get_or, refl, sym, ap, subst, ◌∙◌, arith, inl, inr}
+use Rattle.std.proofs.Common.{◌≡◌, ℕ, zero, suc, ◌+◌, ◌^◌, ◌<◌, ◌≤◌, true, false, List, [], ◌∷◌, ◌++◌, length, get_or, refl, sym, ap, subst, ◌∙◌, arith, inl, inr}
 use Rattle.std.specs.Prelude.{bit_xor}
 use Rattle.std.specs.Int.{bit_at}
-use Rattle.std.specs.Int.Bits.{xor_assoc, xor_zero_l}
-use Rattle.std.proofs.lemmas.Nat.{xor_block, pow_pos}
-use Rattle.std.proofs.Math.Nat.{pow-suc}
-use Rattle.std.proofs.lemmas.Nat.Bits.{bit_at_xor, bit_at-zero, bit_at-lt}
-use Rattle.std.proofs.lemmas.Bool.{cases_lt, both_ways, false_from_ne_true}
+use Rattle.std.specs.Int.Bits.{xor_assoc}
+use Rattle.std.proofs.lemmas.Nat.Bits.{bit_at-zero}
+use Rattle.std.proofs.lemmas.Bool.{both_ways, false_from_ne_true}
 use Rattle.gf2_linear.specs.declared.bases.Entry.{Entry}
 use Rattle.gf2_linear.specs.Rows.{combined, is_sum}
 use Rattle.gf2_linear.specs.Completions.{IsPivot, ArePivots}
 use Rattle.gf2_linear.specs.Bases.{Lack, IsEchelon, rows_of, pivots_of, AreTold, AreSums, AreFree, IsBasis, Clears}
-use Rattle.gf2_linear.proofs.Spans.{Span, All_span, Free, Span-same, Span-add, Span-within, Span-behind, Span-last, Free-append, steinitz}
+use Rattle.gf2_linear.proofs.Spans.{Span, All_span, Free, Span-same, Span-add, Span-within, Span-behind, Span-last, Free-append}
 use Rattle.std.proofs.lemmas.Nat.{xor_comm, xor_lt, pow_below}
 use Rattle.std.proofs.lemmas.List.{length-append}
 use Rattle.gf2_linear.specs.Rows.{IsLeast}
 use Rattle.gf2_linear.proofs.Xor.{xor_again, same_xor}
+use Rattle.gf2_linear.proofs.WireLaws.{both_zero, both_one, other_zero, below-append, free-few}
 use Rattle.gf2_linear.proofs.PivotLaws.{ArePivots-append}
 use Rattle.gf2_linear.proofs.Combined.{combined-span, combined-within, combined-new, combined-xor}
 use Rattle.gf2_linear.proofs.Ranks.{is_sum-spanned, Span-is_sum}
-
--- bits of a sum
-pub both_zero : (a b w : ℕ) → bit_at a w ≡ 0 → bit_at b w ≡ 0 → bit_at (bit_xor a b) w ≡ 0
-both_zero a b w p q = bit_at_xor a b w ∙ ap (λ k. (k + bit_at b w) % 2) p ∙ ap (λ k. (0 + k) % 2) q
-
-pub both_one : (a b w : ℕ) → bit_at a w ≡ 1 → bit_at b w ≡ 1 → bit_at (bit_xor a b) w ≡ 0
-both_one a b w p q = bit_at_xor a b w ∙ ap (λ k. (k + bit_at b w) % 2) p ∙ ap (λ k. (1 + k) % 2) q
-
--- a bit that isn't 1 is 0
-pub bit_or_not : (v w : ℕ) → (bit_at v w ≡ 1 → ⊥) → bit_at v w ≡ 0
-bit_or_not v w n = let l : bit_at v w < 2 = bit_at-lt v w in below_two (bit_at v w) l n
-  where
-    below_two : (x : ℕ) → x < 2 → (x ≡ 1 → ⊥) → x ≡ 0
-    below_two zero l n = refl
-    below_two (suc zero) l n = absurd (n refl)
-    below_two (suc (suc x)) l n = absurd (omega arith)
-
--- the other summand of a sum without a wire
-pub other_zero : (a b w : ℕ) → bit_at (bit_xor a b) w ≡ 0 → bit_at b w ≡ bit_at a w
-other_zero a b w h =
-    let e : bit_at (bit_xor a b) w ≡ (bit_at a w + bit_at b w) % 2 = bit_at_xor a b w in
-    let p : bit_at a w < 2 = bit_at-lt a w in
-    let q : bit_at b w < 2 = bit_at-lt b w in
-    same_bits (bit_at a w) (bit_at b w) p q (sym e ∙ h)
-  where
-    same_bits : (x y : ℕ) → x < 2 → y < 2 → (x + y) % 2 ≡ 0 → y ≡ x
-    same_bits x y hx hy e = omega arith
 
 pub Span-lack : (w : ℕ) (entries : List Entry) (v : ℕ) → Lack w entries → Span (rows_of entries) v → bit_at v w ≡ 0
 Span-lack w [] v l h = ap (λ k. bit_at k w) h ∙ bit_at-zero w
@@ -128,40 +99,6 @@ pub Free-free : (rows : List ℕ) → Free rows → AreFree rows
 Free-free [] h = tt
 Free-free (r ∷ rows) h = (false_from_ne_true (is_sum rows r) (λ t. h.0 (is_sum-spanned rows r t)), Free-free rows h.1)
 
--- ---- rows below 2 ^ n are sums of the n rows of one wire
-abbrev pub units : ℕ → List ℕ
-units zero = []
-units (suc n) = 2 ^ n ∷ units n
-
-length-units : (n : ℕ) → length (units n) ≡ n
-length-units zero = refl
-length-units (suc n) = ap suc (length-units n)
-
-pub units-span : (n v : ℕ) → v < 2 ^ n → Span (units n) v
-units-span zero v h = omega arith
-units-span (suc n) v h = elim (cases_lt v (2 ^ n)) [
-  | inl l ↦ inl (units-span n v l)
-  | inr g ↦
-      let e : 2 ^ suc n ≡ 2 ^ n * 2 = pow-suc 2 n in
-      let lo : v - 2 ^ n < 2 ^ n = omega (arith, e) in
-      let q : 1 * 2 ^ n + 0 ≡ 2 ^ n = omega arith in
-      let r : 1 * 2 ^ n + (v - 2 ^ n) ≡ v = omega arith in
-      let x : bit_xor (2 ^ n) v ≡ v - 2 ^ n =
-      ap (λ k. bit_xor k v) (sym q) ∙ ap (bit_xor (1 * 2 ^ n + 0)) (sym r) ∙ xor_block n 1 1 0 (v - 2 ^ n) (pow_pos n) lo
-      ∙ ap (λ k. 0 * 2 ^ n + k) (xor_zero_l (v - 2 ^ n)) ∙ omega arith in
-      inr (Span-same (units n) (v - 2 ^ n) (bit_xor (2 ^ n) v) (sym x) (units-span n (v - 2 ^ n) lo))
-]
-
-pub units-all : (n : ℕ) (rows : List ℕ) → ((k : ℕ) → get_or rows k 0 < 2 ^ n) → All_span (units n) rows
-units-all n [] h = tt
-units-all n (r ∷ rows) h = (units-span n r (h 0), units-all n rows (λ k. h (suc k)))
-
-pub free-few : (n : ℕ) (rows : List ℕ) → ((k : ℕ) → get_or rows k 0 < 2 ^ n) → Free rows → length rows ≤ n
-free-few n rows h f =
-    let s : length rows ≤ length (units n) = steinitz (units n) rows (units-all n rows h) f in
-    let e : length (units n) ≡ n = length-units n in
-    omega arith
-
 -- ---- a remainder
 pub remainder-sum : (rows : List ℕ) (v left m : ℕ) → left ≡ bit_xor v (combined rows m) → left ≡ 0 → combined rows m ≡ v
 remainder-sum rows v left m t z = sym (same_xor v (combined rows m) (sym t ∙ z))
@@ -184,12 +121,6 @@ pub least-nonzero : (v w : ℕ) → IsLeast v w → v ≡ 0 → ⊥
 least-nonzero v w l z = absurd (omega (arith, l.there, ap (λ k. bit_at k w) z ∙ bit_at-zero w))
 
 -- ---- one row more
-below-append : (w : ℕ) (rows : List ℕ) (v : ℕ) → ((k : ℕ) → get_or rows k 0 < 2 ^ w) → v < 2 ^ w → (k : ℕ) → get_or (rows ++ v ∷ []) k 0 < 2 ^ w
-below-append w [] v h g zero = g
-below-append w [] v h g (suc k) = pow_pos w
-below-append w (r ∷ rows) v h g zero = h 0
-below-append w (r ∷ rows) v h g (suc k) = below-append w rows v (λ j. h (suc j)) g k
-
 not-spanned : (rows : List ℕ) (v : ℕ) → is_sum rows v ≡ false → Span rows v → ⊥
 not-spanned rows v n s = both_ways (is_sum rows v) n (Span-is_sum rows v s)
 

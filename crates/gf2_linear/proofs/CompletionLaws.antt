@@ -5,13 +5,11 @@
 --   placed-more              one row more
 --   placed-independent       with all rows placed, the matrix spans every row, so it is independent
 --   placed-each, IsCompletion-placed   it has each row, and is the completion
-use Rattle.std.proofs.Common.{◌≡◌, ℕ, zero, suc, ◌+◌, ◌-◌, ◌*◌, ◌%◌, ◌^◌, ◌<◌, ◌≤◌, true, List, [], ◌∷◌, length, take, get_or, set, refl, sym, ap, subst, ◌∙◌, arith, ◌⊎◌, inl, inr}
+use Rattle.std.proofs.Common.{◌≡◌, ℕ, zero, suc, ◌+◌, ◌^◌, ◌<◌, ◌≤◌, true, List, [], ◌∷◌, length, take, get_or, set, refl, sym, ap, subst, ◌∙◌, arith, ◌⊎◌, inl, inr}
 use Rattle.std.specs.Prelude.{bit_xor, All, Contains}
 use Rattle.std.specs.Int.{bit_at}
-use Rattle.std.specs.Int.Bits.{xor_zero_l}
-use Rattle.std.proofs.Math.Nat.{pow-suc}
-use Rattle.std.proofs.lemmas.Nat.{xor_lt, xor_block, pow_pos}
-use Rattle.std.proofs.lemmas.Nat.Bits.{bit_at_above, bit_at_cat_low, bit_at_xor, bit_at-pow_same}
+use Rattle.std.proofs.lemmas.Nat.{xor_lt, pow_pos}
+use Rattle.std.proofs.lemmas.Nat.Bits.{bit_at_above}
 use Rattle.std.proofs.lemmas.Bool.{cases_eq, cases_lt}
 use Rattle.std.proofs.lemmas.List.{length-set, length-take-le, get_or-take}
 use Rattle.std.proofs.lemmas.List.Elements.{All-get_or, All-from_get_or, Contains-get_or}
@@ -21,10 +19,10 @@ use Rattle.gf2_linear.specs.Matrices.{identity_rows}
 use Rattle.gf2_linear.specs.Bases.{pivots_of}
 use Rattle.gf2_linear.specs.Completions.{IsPivot, ArePivots, IsCompletion}
 use Rattle.gf2_linear.proofs.Xor.{xor_again}
-use Rattle.gf2_linear.proofs.Spans.{Span, All_span, Span-same, Span-zero, Span-add, Span-within}
+use Rattle.gf2_linear.proofs.Spans.{Span, All_span, Span-same, Span-add, Span-within}
 use Rattle.gf2_linear.proofs.Ranks.{is_sum-spanned, Free-independent}
 use Rattle.gf2_linear.proofs.WordLaws.{set_there, set_elsewhere}
-use Rattle.gf2_linear.proofs.BasisLaws.{both_zero, both_one, bit_or_not}
+use Rattle.gf2_linear.proofs.WireLaws.{both_zero, both_one, bit_or_not, wires-span}
 use Rattle.gf2_linear.proofs.MatrixLaws.{length-identity, below-identity}
 use Rattle.gf2_linear.proofs.PivotLaws.{pivots-differ}
 use Rattle.gf2_linear.proofs.RunLaws.{Span-at, All_span-from, bounded-span, free-count, free-identity, get-identity}
@@ -108,32 +106,6 @@ pivot-or pivots w (suc i) = elim (pivot-or pivots w i) [
     ])
   ]
 ]
-
--- a row is spanned where the rows of its wires are
-wires-span : (m : List ℕ) (n v : ℕ) → v < 2 ^ n → ((w : ℕ) → w < n → bit_at v w ≡ 1 → Span m (2 ^ w)) → Span m v
-wires-span m zero v h s = let z : 0 ≡ v = omega arith in Span-same m 0 v z (Span-zero m)
-wires-span m (suc n) v h s = elim (cases_lt v (2 ^ n)) [
-  | inl l ↦ wires-span m n v l (λ w k. s w (omega arith))
-  | inr g ↦
-      let e : 2 ^ suc n ≡ 2 ^ n * 2 = pow-suc 2 n in
-      let lo : v - 2 ^ n < 2 ^ n = omega (arith, e) in
-      let q : 1 * 2 ^ n + 0 ≡ 2 ^ n = omega arith in
-      let r : 1 * 2 ^ n + (v - 2 ^ n) ≡ v = omega arith in
-      let x : bit_xor (2 ^ n) v ≡ v - 2 ^ n =
-      ap (λ k. bit_xor k v) (sym q) ∙ ap (bit_xor (1 * 2 ^ n + 0)) (sym r) ∙ xor_block n 1 1 0 (v - 2 ^ n) (pow_pos n) lo
-      ∙ ap (λ k. 0 * 2 ^ n + k) (xor_zero_l (v - 2 ^ n)) ∙ omega arith in
-      let top : bit_at v n ≡ 1 = last-bit n v x lo in
-      let rest : Span m (v - 2 ^ n) = wires-span m n (v - 2 ^ n) lo
-      (λ w k b. s w (omega arith) (ap (λ u. bit_at u w) (sym r) ∙ bit_at_cat_low 1 n (v - 2 ^ n) w k ∙ b)) in
-      Span-same m (bit_xor (2 ^ n) (v - 2 ^ n)) v (ap (bit_xor (2 ^ n)) (sym x) ∙ xor_again (2 ^ n) v)
-      (Span-add m (2 ^ n) (v - 2 ^ n) (s n (omega arith) top) rest)
-]
-  where
-    last-bit : (n v : ℕ) → bit_xor (2 ^ n) v ≡ v - 2 ^ n → v - 2 ^ n < 2 ^ n → bit_at v n ≡ 1
-    last-bit n v x l =
-        ap (λ k. bit_at k n) (sym (xor_again (2 ^ n) v)) ∙ bit_at_xor (2 ^ n) (bit_xor (2 ^ n) v) n
-        ∙ ap (λ k. (k + bit_at (bit_xor (2 ^ n) v) n) % 2) (bit_at-pow_same n)
-        ∙ ap (λ k. (1 + k) % 2) (ap (λ k. bit_at k n) x ∙ bit_at_above (v - 2 ^ n) n n l (omega arith))
 
 -- each given row stands in the matrix
 placed-span : (rows pivots : List ℕ) (wires : ℕ) (m : List ℕ) → ((j : ℕ) → j < length rows → get_or pivots j 0 < wires)

@@ -9,7 +9,7 @@ use Rattle.std.proofs.Common.{◌≡◌, ℕ, suc, ◌+◌, ◌-◌, ◌*◌, �
 use Rattle.std.specs.Prelude.{All, bit_xor}
 use Rattle.std.specs.Int.{bit_at}
 use Rattle.std.proofs.Math.Nat.{suc-mul}
-use Rattle.std.proofs.lemmas.List.{length-append}
+use Rattle.std.proofs.lemmas.List.{length-append, append-nil, append_assoc}
 use Rattle.std.proofs.lemmas.List.Elements.{All-from_recursion, recursion_from_All}
 use Rattle.std.specs.List.{AllByRecursion}
 use Rattle.std.specs.Prelude.{slice_get, unwrap_or, Some}
@@ -18,17 +18,13 @@ use Rattle.std.proofs.lemmas.Nat.Bits.{bit_at_xor}
 use Rattle.std.proofs.lemmas.Bool.{cases_eq, cases_lt, eq-eqb, ne_eqb, false_from_ne_true}
 use Rattle.gf2_linear.specs.Matrices.{added, run, identity_rows, product, IsPair, IsInverse}
 use Rattle.gf2_linear.specs.Eliminations.{Pairs, From, unit_bit, IsNoted, IsFirstFrom, HasUnitColumn, IsRowStep}
-use Rattle.gf2_linear.proofs.BasisLaws.{both_one}
-use Rattle.gf2_linear.proofs.RunLaws.{Columns, columns-kept, length-run, run-append, added-at, added-other, columns-identity, no_pivot-dependent, run-free, run-independent, run-synth, run-inverse, pairs-reverse}
+use Rattle.gf2_linear.proofs.WireLaws.{both_one}
+use Rattle.gf2_linear.proofs.RunLaws.{Columns, columns-kept, length-run, run-append, added-at, added-other, columns-identity, no_pivot-dependent, run-free, run-independent, run-synth, run-inverse, pairs-append, pairs-reverse}
 use Rattle.gf2_linear.proofs.ProductLaws.{run-times}
 use Rattle.gf2_linear.proofs.Spans.{Free}
 use Rattle.gf2_linear.proofs.Ranks.{Free-independent, independent-Free}
 use Rattle.gf2_linear.specs.Rows.{is_independent}
 use Rattle.std.proofs.Math.Seq.{take-suc}
-
-pairs-append : (n : ℕ) (xs ys : List (ℕ × ℕ)) → Pairs n xs → Pairs n ys → Pairs n (xs ++ ys)
-pairs-append n [] ys a b = b
-pairs-append n (x ∷ xs) ys a b = (a.0, pairs-append n xs ys a.1 b)
 
 from-append : (i : ℕ) (xs ys : List (ℕ × ℕ)) → From i xs → From i ys → From i (xs ++ ys)
 from-append i [] ys a b = b
@@ -48,8 +44,8 @@ eliminated-none source rest log e l = record {
   columns = record { units = λ k j a b. absurd (omega arith) };
 }
 
-length-eliminated : (source rest : List ℕ) (log : List (ℕ × ℕ)) (i : ℕ) → Eliminated source rest log i → length rest ≡ length source
-length-eliminated source rest log i h = ap length h.rows ∙ length-run source log
+pub eliminated-length : (source rest : List ℕ) (log : List (ℕ × ℕ)) (i : ℕ) → Eliminated source rest log i → length rest ≡ length source
+eliminated-length source rest log i h = ap length h.rows ∙ length-run source log
 
 noted-then : (source rest new : List ℕ) (log after : List (ℕ × ℕ)) (i most : ℕ) → length rest ≡ length source → rest ≡ run source log → Pairs (length source) log
     → IsNoted rest new log after i most → (new ≡ run source after) × Pairs (length source) after × (length after ≤ length log + most)
@@ -63,7 +59,7 @@ pub eliminated-more : (source rest mid new : List ℕ) (log log1 log2 : List (�
     → IsNoted rest mid log log1 i 1 → ((most : ℕ) → most + 1 ≡ length mid → IsNoted mid new log1 log2 i most) → HasUnitColumn new i
     → Eliminated source new log2 (i + 1)
 eliminated-more source rest mid new log log1 log2 i l h a b u =
-    let n : length rest ≡ length source = length-eliminated source rest log i h in
+    let n : length rest ≡ length source = eliminated-length source rest log i h in
     let first : (mid ≡ run source log1) × Pairs (length source) log1 × (length log1 ≤ length log + 1) =
     noted-then source rest mid log log1 i 1 n h.rows h.pairs a in
     let nm : length mid ≡ length source = ap length first.0 ∙ length-run source log1 in
@@ -89,11 +85,7 @@ eliminated-more source rest mid new log log1 log2 i l h a b u =
 
 -- ---- the row of a column
 pub raised-kept : (m new : List ℕ) (log after : List (ℕ × ℕ)) (i : ℕ) → new ≡ m → after ≡ log → IsNoted m new log after i 1
-raised-kept m new log after i e l = record { more = []; log = l ∙ sym (append_none log); rows = e; few = omega arith; pairs = tt; later = tt }
-  where
-    append_none : (xs : List (ℕ × ℕ)) → xs ++ [] ≡ xs
-    append_none [] = refl
-    append_none (x ∷ xs) = ap (λ k. x ∷ k) (append_none xs)
+raised-kept m new log after i e l = record { more = []; log = l ∙ sym (append-nil log); rows = e; few = omega arith; pairs = tt; later = tt }
 
 pub raised-added : (m new : List ℕ) (log after : List (ℕ × ℕ)) (i k : ℕ) → IsFirstFrom m i k → (k ≡ i → ⊥) → new ≡ added m (k, i) → after ≡ log ++ (k, i) ∷ [] → IsNoted m new log after i 1
 raised-added m new log after i k f n e l = record {
@@ -125,14 +117,10 @@ pub record Cleared (old now : List ℕ) (before after : List (ℕ × ℕ)) (i ro
   pub left : (k : ℕ) → row ≤ k → get_or now k 0 ≡ get_or old k 0
   pub pivot : get_or now i 0 ≡ get_or old i 0
 
-append_none : (xs : List (ℕ × ℕ)) → xs ++ [] ≡ xs
-append_none [] = refl
-append_none (x ∷ xs) = ap (λ k. x ∷ k) (append_none xs)
-
 pub cleared-none : (old : List ℕ) (before : List (ℕ × ℕ)) (i : ℕ) → Cleared old old before before i 0
 cleared-none old before i = record {
   more = [];
-  log = sym (append_none before);
+  log = sym (append-nil before);
   rows = refl;
   few = ((λ h. omega arith), (λ h. absurd (omega arith)));
   pairs = tt;
@@ -141,10 +129,6 @@ cleared-none old before i = record {
   left = λ k l. refl;
   pivot = refl;
 }
-
-assoc : (xs ys zs : List (ℕ × ℕ)) → (xs ++ ys) ++ zs ≡ xs ++ (ys ++ zs)
-assoc [] ys zs = refl
-assoc (x ∷ xs) ys zs = ap (λ k. x ∷ k) (assoc xs ys zs)
 
 pub cleared-more : (old now new : List ℕ) (before log after : List (ℕ × ℕ)) (i row : ℕ) → i < length old → bit_at (get_or old i 0) i ≡ 1 → row < length old
     → Cleared old now before log i row → IsRowStep now new log after i row → Cleared old new before after i (row + 1)
@@ -195,7 +179,7 @@ cleared-more old now new before log after i row li hi lr h s = elim s [
       λ k n. ap (λ (q : List ℕ). get_or q k 0) add.rows ∙ added-other now (i, row) k n in
       record {
         more = h.more ++ (i, row) ∷ [];
-        log = add.log ∙ ap (λ k. k ++ (i, row) ∷ []) h.log ∙ assoc before h.more ((i, row) ∷ []);
+        log = add.log ∙ ap (λ k. k ++ (i, row) ∷ []) h.log ∙ append_assoc before h.more ((i, row) ∷ []);
         rows = add.rows ∙ ap (λ (q : List ℕ). added q (i, row)) h.rows ∙ sym (run-append old h.more ((i, row) ∷ []));
         few = few;
         pairs = pairs-append (length old) h.more ((i, row) ∷ []) h.pairs (record { control = li; target = lr; other = λ e. add.other (sym e) }, tt);
@@ -247,9 +231,6 @@ pub within-run : (m : List ℕ) (es : List (ℕ × ℕ)) (k j : ℕ) (sum : List
 within-run m es k j sum h l = subst (λ n. j < n) (sym (ap length h ∙ length-run m (take k es))) l
 
 -- ---- the end
-pub eliminated-length : (source rest : List ℕ) (log : List (ℕ × ℕ)) (i : ℕ) → Eliminated source rest log i → length rest ≡ length source
-eliminated-length source rest log i h = ap length h.rows ∙ length-run source log
-
 pub eliminated-identity : (source rest : List ℕ) (log : List (ℕ × ℕ)) (i : ℕ) → i ≡ length source → ((k : ℕ) → get_or rest k 0 < 2 ^ length rest) → Eliminated source rest log i
     → run source log ≡ identity_rows (length source)
 eliminated-identity source rest log i e b h =

@@ -5,11 +5,8 @@
 --   length-product, length-inverse   they have as many rows
 --   product-quotient, quotient-independent   a matrix times the inverse of another, and times that again
 --   run-times                additions that make a matrix of the identity make its product with any rows of these
-use Rattle.std.proofs.Common.{◌≡◌, ℕ, zero, suc, ◌+◌, ◌-◌, ◌*◌, ◌/◌, ◌%◌, ◌^◌, ◌<◌, Bool, true, false, cond, List, [], ◌∷◌, ◌++◌, length, map, reverse, get_or, refl, sym, ap, subst, ◌∙◌, arith, inl, inr}
+use Rattle.std.proofs.Common.{◌≡◌, ℕ, zero, suc, ◌-◌, ◌/◌, ◌%◌, ◌^◌, ◌<◌, Bool, true, false, cond, List, [], ◌∷◌, ◌++◌, length, map, get_or, refl, sym, ap, subst, ◌∙◌, arith, inl, inr}
 use Rattle.std.specs.Prelude.{bit_xor, nat_eq}
-use Rattle.std.specs.Int.Bits.{xor_zero_l}
-use Rattle.std.proofs.Math.Nat.{pow-suc}
-use Rattle.std.proofs.lemmas.Nat.{xor_block, pow_pos}
 use Rattle.std.proofs.lemmas.Bool.{cases_lt}
 use Rattle.std.proofs.lemmas.List.{length-map}
 use Rattle.gf2_linear.specs.Rows.{combined, is_independent}
@@ -19,6 +16,7 @@ use Rattle.gf2_linear.proofs.Xor.{xor_again}
 use Rattle.gf2_linear.proofs.Spans.{Span, Free, Span-same}
 use Rattle.gf2_linear.proofs.Ranks.{Free-independent, independent-Free}
 use Rattle.gf2_linear.proofs.Combined.{combined-zero, combined-xor, combined-within, combined-last}
+use Rattle.gf2_linear.proofs.WireLaws.{top-rest}
 use Rattle.gf2_linear.proofs.MatrixLaws.{length-identity}
 use Rattle.gf2_linear.proofs.RunLaws.{product-run, identity-product}
 
@@ -28,18 +26,12 @@ combined-identity zero r h = omega arith
 combined-identity (suc n) r h = elim (cases_lt r (2 ^ n)) [
   | inl l ↦ within (combined-identity n) r l
   | inr g ↦
-      let e : 2 ^ suc n ≡ 2 ^ n * 2 = pow-suc 2 n in
-      let lo : r - 2 ^ n < 2 ^ n = omega (arith, e) in
-      let q : 1 * 2 ^ n + 0 ≡ 2 ^ n = omega arith in
-      let s : 1 * 2 ^ n + (r - 2 ^ n) ≡ r = omega arith in
-      let x : bit_xor (2 ^ n) r ≡ r - 2 ^ n =
-      ap (λ k. bit_xor k r) (sym q) ∙ ap (bit_xor (1 * 2 ^ n + 0)) (sym s) ∙ xor_block n 1 1 0 (r - 2 ^ n) (pow_pos n) lo
-      ∙ ap (λ k. 0 * 2 ^ n + k) (xor_zero_l (r - 2 ^ n)) ∙ omega arith in
-      let back : bit_xor (2 ^ n) (r - 2 ^ n) ≡ r = ap (bit_xor (2 ^ n)) (sym x) ∙ xor_again (2 ^ n) r in
+      let t : (bit_xor (2 ^ n) r ≡ r - 2 ^ n) × (r - 2 ^ n < 2 ^ n) = top-rest n r g h in
+      let back : bit_xor (2 ^ n) (r - 2 ^ n) ≡ r = ap (bit_xor (2 ^ n)) (sym t.0) ∙ xor_again (2 ^ n) r in
       ap (combined (identity_rows n ++ 2 ^ n ∷ [])) (sym back)
       ∙ combined-xor (identity_rows n ++ 2 ^ n ∷ []) (2 ^ n) (r - 2 ^ n)
       ∙ ap (λ k. bit_xor k (combined (identity_rows n ++ 2 ^ n ∷ []) (r - 2 ^ n))) last
-      ∙ ap (bit_xor (2 ^ n)) (within (combined-identity n) (r - 2 ^ n) lo) ∙ back
+      ∙ ap (bit_xor (2 ^ n)) (within (combined-identity n) (r - 2 ^ n) t.1) ∙ back
 ]
   where
     within : ((v : ℕ) → v < 2 ^ n → combined (identity_rows n) v ≡ v) → (v : ℕ) → v < 2 ^ n → combined (identity_rows n ++ 2 ^ n ∷ []) v ≡ v

@@ -11,10 +11,12 @@ use Rattle.std.proofs.Common.{◌≡◌, ℕ, zero, suc, ◌+◌, ◌-◌, ◌*�
 use Rattle.std.specs.Prelude.{bit_xor, nat_eq}
 use Rattle.std.specs.Int.{bit_at}
 use Rattle.std.specs.Int.Bits.{xor_assoc, xor_self, xor_zero_l, xor_zero_r}
-use Rattle.std.proofs.lemmas.Nat.{xor_block, xor_lt, pow_pos}
+use Rattle.std.proofs.lemmas.Nat.{xor_lt, pow_pos}
 use Rattle.std.proofs.Math.Nat.{pow-suc}
-use Rattle.std.proofs.lemmas.Nat.Bits.{bit_at-pow_same, bit_at-pow_other, bit_at_above, same_from_bits, bit_at-zero, bit_at-lt, bit_at_xor}
+use Rattle.std.proofs.lemmas.Nat.Bits.{bit_at-pow_same, bit_at-pow_other, bit_at_above, same_from_bits, bit_at-lt, bit_at_xor}
 use Rattle.std.proofs.lemmas.List.{ext_get_or, length-set, length-append, length-map, get_or-map, length-drop, get_or-drop, reverse-append}
+use Rattle.std.proofs.Math.ListN.{get_or-append}
+use Rattle.std.proofs.Math.Seq.{get_or-append_seam}
 use Rattle.std.proofs.lemmas.Bool.{cases_eq, cases_lt, eq-eqb, ne_eqb}
 use Rattle.gf2_linear.specs.Rows.{combined}
 use Rattle.gf2_linear.specs.Matrices.{added, run, identity_rows, product, IsPair, IsInverse}
@@ -22,7 +24,7 @@ use Rattle.gf2_linear.specs.Eliminations.{Pairs, From, unit_bit}
 use Rattle.gf2_linear.proofs.Xor.{xor_again}
 use Rattle.gf2_linear.proofs.Spans.{Span, All_span, Free, Span-same, Span-first, Span-add, All_span-more, All_span-self, All_span-within, Free-append, steinitz}
 use Rattle.gf2_linear.proofs.Combined.{combined-zero, combined-xor}
-use Rattle.gf2_linear.proofs.BasisLaws.{both_zero}
+use Rattle.gf2_linear.proofs.WireLaws.{highs, length-highs, highs-span}
 use Rattle.gf2_linear.proofs.MatrixLaws.{length-identity, below-identity}
 use Rattle.gf2_linear.proofs.WordLaws.{set_there, set_elsewhere}
 
@@ -133,7 +135,7 @@ free-count ss rs w f l = free-counted [] ss rs w f l
 pub run-free : (m : List ℕ) (es : List (ℕ × ℕ)) → Pairs (length m) es → Free m → Free (run m es)
 run-free m es p f = let e : length (run m es) ≡ length m = length-run m es in free-count (run m es) m (run-span m es p) f (omega (arith, e))
 
-pairs-append : (n : ℕ) (xs ys : List (ℕ × ℕ)) → Pairs n xs → Pairs n ys → Pairs n (xs ++ ys)
+pub pairs-append : (n : ℕ) (xs ys : List (ℕ × ℕ)) → Pairs n xs → Pairs n ys → Pairs n (xs ++ ys)
 pairs-append n [] ys a b = b
 pairs-append n (x ∷ xs) ys a b = (a.0, pairs-append n xs ys a.1 b)
 
@@ -185,19 +187,10 @@ bit_at-unit k j = elim (cases_eq k j) [
 pub get-identity : (n k : ℕ) → k < n → get_or (identity_rows n) k 0 ≡ 2 ^ k
 get-identity zero k l = absurd (omega arith)
 get-identity (suc n) k l = elim (cases_lt k n) [
-  | inl s ↦ left (identity_rows n) (2 ^ n) k (subst (λ j. k < j) (sym (length-identity n)) s) ∙ get-identity n k s
+  | inl s ↦ get_or-append (identity_rows n) (2 ^ n ∷ []) 0 k (subst (λ j. k < j) (sym (length-identity n)) s) ∙ get-identity n k s
   | inr g ↦ let e : k ≡ n = omega arith in
-      ap (λ j. get_or (identity_rows n ++ 2 ^ n ∷ []) j 0) (e ∙ sym (length-identity n)) ∙ last (identity_rows n) (2 ^ n) ∙ ap (λ j. 2 ^ j) (sym e)
+      ap (λ j. get_or (identity_rows n ++ 2 ^ n ∷ []) j 0) (e ∙ sym (length-identity n)) ∙ get_or-append_seam (identity_rows n) (2 ^ n) [] 0 ∙ ap (λ j. 2 ^ j) (sym e)
 ]
-  where
-    left : (xs : List ℕ) (x k : ℕ) → k < length xs → get_or (xs ++ x ∷ []) k 0 ≡ get_or xs k 0
-    left [] x k l = absurd (omega arith)
-    left (y ∷ xs) x zero l = refl
-    left (y ∷ xs) x (suc k) l = left xs x k (omega arith)
-
-    last : (xs : List ℕ) (x : ℕ) → get_or (xs ++ x ∷ []) (length xs) 0 ≡ x
-    last [] x = refl
-    last (y ∷ xs) x = last xs x
 
 pub columns-identity : (m : List ℕ) (n : ℕ) → length m ≡ n → ((k : ℕ) → get_or m k 0 < 2 ^ n) → Columns m n → m ≡ identity_rows n
 columns-identity m n e b c =
@@ -209,36 +202,6 @@ columns-identity m n e b c =
     ]) ∙ sym (get-identity n k s))
 
 -- ---- no pivot
-abbrev highs : ℕ → ℕ → List ℕ
-highs s zero = []
-highs s (suc d) = 2 ^ (s + d) ∷ highs s d
-
-length-highs : (s d : ℕ) → length (highs s d) ≡ d
-length-highs s zero = refl
-length-highs s (suc d) = ap suc (length-highs s d)
-
-highs-span : (s d v : ℕ) → v < 2 ^ (s + d) → ((j : ℕ) → j < s → bit_at v j ≡ 0) → Span (highs s d) v
-highs-span s zero v h z =
-    let l : v < 2 ^ s = subst (λ k. v < 2 ^ k) (omega arith) h in
-    same_from_bits v 0 (λ j. elim (cases_lt j s) [
-      | inl a ↦ z j a ∙ sym (bit_at-zero j)
-      | inr g ↦ bit_at_above v s j l g ∙ sym (bit_at-zero j)
-    ])
-highs-span s (suc d) v h z = elim (cases_lt v (2 ^ (s + d))) [
-  | inl l ↦ inl (highs-span s d v l z)
-  | inr g ↦
-      let n : s + suc d ≡ suc (s + d) = omega arith in
-      let e : 2 ^ (s + suc d) ≡ 2 ^ (s + d) * 2 = ap (λ k. 2 ^ k) n ∙ pow-suc 2 (s + d) in
-      let lo : v - 2 ^ (s + d) < 2 ^ (s + d) = omega (arith, e) in
-      let q : 1 * 2 ^ (s + d) + 0 ≡ 2 ^ (s + d) = omega arith in
-      let r : 1 * 2 ^ (s + d) + (v - 2 ^ (s + d)) ≡ v = omega arith in
-      let x : bit_xor (2 ^ (s + d)) v ≡ v - 2 ^ (s + d) =
-      ap (λ k. bit_xor k v) (sym q) ∙ ap (bit_xor (1 * 2 ^ (s + d) + 0)) (sym r) ∙ xor_block (s + d) 1 1 0 (v - 2 ^ (s + d)) (pow_pos (s + d)) lo
-      ∙ ap (λ k. 0 * 2 ^ (s + d) + k) (xor_zero_l (v - 2 ^ (s + d))) ∙ omega arith in
-      inr (highs-span s d (bit_xor (2 ^ (s + d)) v) (subst (λ k. k < 2 ^ (s + d)) (sym x) lo)
-      (λ j a. both_zero (2 ^ (s + d)) v j (bit_at-pow_other (s + d) j (λ k. absurd (omega (arith, k)))) (z j a)))
-]
-
 free-drop : (i : ℕ) (rows : List ℕ) → Free rows → Free (drop i rows)
 free-drop zero rows f = f
 free-drop (suc i) [] f = tt

@@ -10,8 +10,9 @@ use Rattle.std.specs.Bool.{MatchBool}
 use Rattle.std.specs.Int.{bit_at}
 use Rattle.std.specs.Int.Bits.{xor_assoc, xor_self, xor_zero_l, xor_zero_r}
 use Rattle.std.proofs.lemmas.Nat.{xor_comm}
-use Rattle.std.proofs.Math.Seq.{take-suc, take-length}
-use Rattle.std.proofs.lemmas.List.{length-append, length-take-le, map-append}
+use Rattle.std.proofs.Math.ListN.{get_or-append}
+use Rattle.std.proofs.Math.Seq.{take-suc, take-length, get_or-append_seam}
+use Rattle.std.proofs.lemmas.List.{length-append, length-take-le, map-append, append-nil}
 use Rattle.std.proofs.lemmas.Bool.{both_ways, eq-eqb, ne_eqb, cases_lt, false_from_ne_true}
 use Rattle.gf2_linear.specs.Rows.{row_sum, combined, is_sum, is_independent, rank, rows_at, places_in, IsSumAt}
 use Rattle.gf2_linear.proofs.Xor.{xor_again}
@@ -117,19 +118,6 @@ pub taken-independent : (rows : List ℕ) (i : ℕ) (basis : List ℕ) → i ≡
 taken-independent rows i basis e f g = sym (ap is_independent (sym (g ∙ ap (λ k. take k rows) e ∙ take-length rows)) ∙ f)
 
 -- ---- places
-append_nil : (xs : List ℕ) → xs ++ [] ≡ xs
-append_nil [] = refl
-append_nil (x ∷ xs) = ap (λ k. x ∷ k) (append_nil xs)
-
-get_or-append_left : (xs ys : List ℕ) (j d : ℕ) → j < length xs → get_or (xs ++ ys) j d ≡ get_or xs j d
-get_or-append_left [] ys j d h = absurd (omega arith)
-get_or-append_left (x ∷ xs) ys zero d h = refl
-get_or-append_left (x ∷ xs) ys (suc j) d h = get_or-append_left xs ys j d (omega arith)
-
-get_or-last : (xs : List ℕ) (x : ℕ) → get_or (xs ++ x ∷ []) (length xs) 0 ≡ x
-get_or-last [] x = refl
-get_or-last (y ∷ xs) x = get_or-last xs x
-
 pub row_sum-append : (xs ys : List ℕ) → row_sum (xs ++ ys) ≡ bit_xor (row_sum xs) (row_sum ys)
 unfolding row_sum
 row_sum-append [] ys = sym (xor_zero_l (row_sum ys))
@@ -158,7 +146,7 @@ places-sum rows set (suc n) h =
         ∙ ap (bit_xor (combined (take n rows) set)) (xor_zero_r (get_or rows n 0))
         ∙ sym (next l ∙ ap (λ b. bit_xor (combined (take n rows) set) (cond b (get_or rows n 0) 0)) e)
     go false e l ih =
-        ap (λ k. row_sum (map (λ j. get_or rows j 0) k)) (append_nil (places_in n set)) ∙ ih
+        ap (λ k. row_sum (map (λ j. get_or rows j 0) k)) (append-nil (places_in n set)) ∙ ih
         ∙ sym (next l ∙ ap (λ b. bit_xor (combined (take n rows) set) (cond b (get_or rows n 0) 0)) e ∙ xor_zero_r (combined (take n rows) set))
 
 -- the places are below n and ascend
@@ -170,11 +158,11 @@ places-below (suc n) set j h = go (nat_eq (bit_at set n) 1) h (places-below n se
         → get_or (places_in n set ++ cond b (n ∷ []) []) j 0 < suc n
     go true l ih = elim (cases_lt j (length (places_in n set))) [
       | inl s ↦ let m : get_or (places_in n set) j 0 < n = ih s in
-          subst (λ k. k < suc n) (sym (get_or-append_left (places_in n set) (n ∷ []) j 0 s)) (omega arith)
+          subst (λ k. k < suc n) (sym (get_or-append (places_in n set) (n ∷ []) 0 j s)) (omega arith)
       | inr g ↦ let e : j ≡ length (places_in n set) = omega (arith, length-append (places_in n set) (n ∷ [])) in
-          subst (λ k. k < suc n) (sym (ap (λ k. get_or (places_in n set ++ n ∷ []) k 0) e ∙ get_or-last (places_in n set) n)) (omega arith)
+          subst (λ k. k < suc n) (sym (ap (λ k. get_or (places_in n set ++ n ∷ []) k 0) e ∙ get_or-append_seam (places_in n set) n [] 0)) (omega arith)
     ]
-    go false l ih = subst (λ (k : List ℕ). j < length k → get_or k j 0 < suc n) (sym (append_nil (places_in n set)))
+    go false l ih = subst (λ (k : List ℕ). j < length k → get_or k j 0 < suc n) (sym (append-nil (places_in n set)))
         (λ s. let m : get_or (places_in n set) j 0 < n = ih s in omega arith) l
 
 places-ascend : (n set j k : ℕ) → j < k → k < length (places_in n set) → get_or (places_in n set) j 0 < get_or (places_in n set) k 0
@@ -184,15 +172,15 @@ places-ascend (suc n) set j k h l = go (nat_eq (bit_at set n) 1) l (places-ascen
     go : (b : Bool) → k < length (places_in n set ++ cond b (n ∷ []) []) → (k < length (places_in n set) → get_or (places_in n set) j 0 < get_or (places_in n set) k 0)
         → get_or (places_in n set ++ cond b (n ∷ []) []) j 0 < get_or (places_in n set ++ cond b (n ∷ []) []) k 0
     go true l ih = elim (cases_lt k (length (places_in n set))) [
-      | inl s ↦ subst (λ m. m < get_or (places_in n set ++ n ∷ []) k 0) (sym (get_or-append_left (places_in n set) (n ∷ []) j 0 (omega arith)))
-          (subst (λ m. get_or (places_in n set) j 0 < m) (sym (get_or-append_left (places_in n set) (n ∷ []) k 0 s)) (ih s))
+      | inl s ↦ subst (λ m. m < get_or (places_in n set ++ n ∷ []) k 0) (sym (get_or-append (places_in n set) (n ∷ []) 0 j (omega arith)))
+          (subst (λ m. get_or (places_in n set) j 0 < m) (sym (get_or-append (places_in n set) (n ∷ []) 0 k s)) (ih s))
       | inr g ↦ let e : k ≡ length (places_in n set) = omega (arith, length-append (places_in n set) (n ∷ [])) in
           let s : j < length (places_in n set) = omega arith in
-          subst (λ m. m < get_or (places_in n set ++ n ∷ []) k 0) (sym (get_or-append_left (places_in n set) (n ∷ []) j 0 s))
-          (subst (λ m. get_or (places_in n set) j 0 < m) (sym (ap (λ m. get_or (places_in n set ++ n ∷ []) m 0) e ∙ get_or-last (places_in n set) n))
+          subst (λ m. m < get_or (places_in n set ++ n ∷ []) k 0) (sym (get_or-append (places_in n set) (n ∷ []) 0 j s))
+          (subst (λ m. get_or (places_in n set) j 0 < m) (sym (ap (λ m. get_or (places_in n set ++ n ∷ []) m 0) e ∙ get_or-append_seam (places_in n set) n [] 0))
           (places-below n set j s))
     ]
-    go false l ih = subst (λ (q : List ℕ). k < length q → get_or q j 0 < get_or q k 0) (sym (append_nil (places_in n set))) ih l
+    go false l ih = subst (λ (q : List ℕ). k < length q → get_or q j 0 < get_or q k 0) (sym (append-nil (places_in n set))) ih l
 
 pub IsSumAt-places : (rows : List ℕ) (v set : ℕ) → combined rows set ≡ v → IsSumAt rows v (places_in (length rows) set)
 IsSumAt-places rows v set e = record {

@@ -1,4 +1,4 @@
-use Rattle.std.proofs.Common.{◌≡◌, List, ℕ, length, ap, subst, sym, ◌∙◌}
+use Rattle.std.proofs.Common.{List, ℕ, length, ap, sym, ◌∙◌}
 use Rattle.gf2_linear.specs.Matrices.{product, IsInverse, IsMatrix}
 use Rattle.gf2_linear.proofs.ProductLaws.{length-inverse, length-product, product-quotient, quotient-independent}
 use Rattle.gf2_linear.proofs.elimination.quotient.Goals as goal
