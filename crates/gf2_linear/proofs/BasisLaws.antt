@@ -1,7 +1,15 @@
 -- Reduction by entries.
---   clears-more, clears-added    one entry more
+--   Span-lack                a sum of entries that lack a wire lacks it
 --   echelon-zero             a sum of the entries that lacks all their pivots is 0
---   told-at, pivot-at        what an entry keeps
+--   pivot-at, told-at        what an entry keeps
+--   clears-more, clears-added, clears-same    one entry more: its pivot is lacking, or taken out
+--   told-more                one entry more is added
+--   sums-span, free-Free, Free-free           what a basis keeps, in the words of spans
+--   remainder-sum, remainder-is_sum, remainder-zero, remainder-none    what is left tells whether a row is a sum
+--   least-nonzero            a row with a least wire isn't 0
+--   room                     a row that is no sum finds fewer than 256
+--   All_span-behind, All_span-append          one row more that spans, or is spanned
+--   basis-push               a basis with one row more
 use Rattle.std.proofs.Common.{◌≡◌, ℕ, zero, suc, ◌+◌, ◌^◌, ◌<◌, ◌≤◌, true, false, List, [], ◌∷◌, ◌++◌, length, get_or, refl, sym, ap, subst, ◌∙◌, arith, inl, inr}
 use Rattle.std.specs.Prelude.{bit_xor}
 use Rattle.std.specs.Int.{bit_at}

@@ -2,9 +2,10 @@
 --   pivots-within            the pivot of a row is one of its wires, so it is below a bound on all of them
 --   length-pivots, pivot-read     the entries of a basis have the pivots of its rows
 --   Placed rows pivots wires i m   the first i rows stand on their pivots, and every other wire has itself alone
---   placed-more              one row more
+--   placed-none, placed-more       no row; one row more
 --   placed-independent       with all rows placed, the matrix spans every row, so it is independent
 --   placed-each, IsCompletion-placed   it has each row, and is the completion
+--   all-below                a bound on all rows, place by place
 use Rattle.std.proofs.Common.{◌≡◌, ℕ, zero, suc, ◌+◌, ◌^◌, ◌<◌, ◌≤◌, true, List, [], ◌∷◌, length, take, get_or, set, refl, sym, ap, subst, ◌∙◌, arith, ◌⊎◌, inl, inr}
 use Rattle.std.specs.Prelude.{bit_xor, All, Contains}
 use Rattle.std.specs.Int.{bit_at}

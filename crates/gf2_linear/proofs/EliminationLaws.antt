@@ -1,10 +1,15 @@
 -- The steps of an elimination, put together.
---   Eliminated source rest log i    the state before column i
---   eliminated-more       one column more
---   raised-added, cleared-more      a column gets its row; one row more of a column
+--   Eliminated source rest log i      the state before column i
+--   eliminated-none, eliminated-more, eliminated-length    the first column; one column more; as many rows
+--   raised-kept, raised-added, raised-has      the row of a column gets the column
+--   Cleared old now before after i row         the rows before this one are cleared of column i
+--   cleared-none, cleared-more, cleared-length, cleared-noted, cleared-unit     the first row; one row more; all rows
+--   pairs-All, All-pairs              the two forms of 'each of the pairs'
+--   run-more, within-run              one addition more
 --   eliminated-identity, eliminated-back      the additions make the identity, and backwards the matrix
---   eliminated-times      and backwards, from any rows, the product with these
+--   eliminated-times                  and backwards, from any rows, the product with these
 --   eliminated-independent, eliminated-dependent, inverse-told      what the end tells of the rows, and of the inverse
+--   row-read                          a row that is there
 use Rattle.std.proofs.Common.{◌≡◌, ℕ, suc, ◌+◌, ◌-◌, ◌*◌, ◌%◌, ◌^◌, ◌<◌, ◌≤◌, cond, List, [], ◌∷◌, ◌++◌, length, take, reverse, get_or, true, false, refl, sym, ap, subst, ◌∙◌, arith, inl, inr}
 use Rattle.std.specs.Prelude.{All, bit_xor}
 use Rattle.std.specs.Int.{bit_at}

@@ -1,12 +1,18 @@
 -- Additions of rows.
---   added-at, added-other, added-twice     one addition, and the same again
---   run-append, run-back                   additions in order, and backwards
+--   length-added, added-at, added-other, added-twice     one addition, and the same again
+--   length-run, run-append, run-back       additions in order, and backwards
+--   pairs-append, pairs-reverse            lists of additions, joined and backwards
+--   Span-at, All_span-from                 a row spans itself; rows that are spanned, place by place
 --   free-count                             as many rows as independent rows that they span are independent
---   run-free                               additions keep rows independent
+--   run-free, run-free_back                additions keep rows independent, and dependent
 --   Columns rows i                         the first i columns are those of the identity
+--   bit_at-unit, get-identity              the rows of the identity
 --   columns-kept, columns-identity         later additions keep them; all of them make the identity
 --   no_pivot-dependent                     rows without a pivot are dependent
---   product-run, identity-product          additions and products
+--   product-added, product-run, identity-product     additions and products
+--   run-synth, run-inverse                 additions that make the identity make the inverse of it, and backwards the matrix
+--   bounded-span                           what rows below a bound span is below it
+--   free-identity, run-independent         the identity is independent, and so is what additions turn into it
 use Rattle.std.proofs.Common.{◌≡◌, ℕ, zero, suc, ◌+◌, ◌-◌, ◌*◌, ◌/◌, ◌%◌, ◌^◌, ◌<◌, ◌≤◌, cond, List, [], ◌∷◌, ◌++◌, length, map, drop, reverse, get_or, refl, sym, ap, subst, ◌∙◌, arith, inl, inr}
 use Rattle.std.specs.Prelude.{bit_xor, nat_eq}
 use Rattle.std.specs.Int.{bit_at}

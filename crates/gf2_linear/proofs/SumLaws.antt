@@ -1,9 +1,11 @@
 -- Ranks and sums as loops gather them.
+--   item, take-more         a row that is read, and the rows up to it
 --   Gathered rows i basis   the basis is chosen among the first i rows and spans them
---   gathered-insert, gathered-rank   one row more; the rank of all
+--   gathered-none, gathered-insert, gathered-rank   no row; one row more; the rank of all
 --   taken-insert            independent rows all come in
 --   taken-new, taken-dependent, taken-independent   rows are independent exactly where all come in
---   places-sum, IsSumAt-places   the rows whose places are in a set sum to what the set combines
+--   row_sum-append          the sum of two lists
+--   places-sum, places-more, IsSumAt-places, IsSumAt-told   the rows whose places are in a set sum to what the set combines
 use Rattle.std.proofs.Common.{◌≡◌, ℕ, zero, suc, ◌+◌, ◌<◌, ◌≤◌, Bool, true, false, cond, List, [], ◌∷◌, ◌++◌, length, map, take, drop, get_or, refl, sym, ap, subst, ◌∙◌, arith, inl, inr}
 use Rattle.std.specs.Prelude.{bit_xor, nat_eq, IsTrue}
 use Rattle.std.specs.Bool.{MatchBool}

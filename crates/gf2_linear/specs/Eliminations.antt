@@ -4,6 +4,7 @@
 --   IsNoted old new before after i most    the additions noted since, at most so many, all of rows from i on, lead to the new rows
 --   IsFirstFrom rows i k       k is the first row from i on that has the wire i
 --   unit_bit k j, HasUnitColumn rows i    row i alone has the wire i
+--   IsKept, IsAdded            one row is left as it is, or gets the row of the column
 --   IsRowStep                  one row after the step that takes a wire out of it
 use Rattle.std.specs.Prelude.{◌≡◌, ◌⊎◌, ℕ, ◌<◌, ◌≤◌, cond, List, [], ◌∷◌, ◌++◌, length, nat_eq, slice_index}
 use Rattle.std.specs.Int.{bit_at}

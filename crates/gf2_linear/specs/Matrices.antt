@@ -4,6 +4,7 @@
 --   identity_rows n       row i is wire i alone
 --   product a b           row i is the sum of the rows of b that row i of a names
 --   added rows (c, t)     row c is added to row t, as a CNOT from c to t does
+--   IsPair n e            a control and another target, both below n
 --   run rows pairs        the additions in order
 --   IsInverse a b         both products are the identity
 use Rattle.std.specs.Prelude.{◌≡◌, ℕ, zero, suc, ◌^◌, ◌<◌, ◌≤◌, List, [], ◌∷◌, ◌++◌, length, map, slice_index, slice_set, bit_xor}
@@ -27,7 +28,6 @@ abbrev pub run : List ℕ → List (ℕ × ℕ) → List ℕ
 run rows [] = rows
 run rows (e ∷ pairs) = run (added rows e) pairs
 
--- a control and another target, both below n
 pub record IsPair (n : ℕ) (e : ℕ × ℕ) : Type 0 where
   pub control : e.0 < n
   pub target : e.1 < n

@@ -3,6 +3,7 @@
 --   row_sum rows           the sum modulo 2 of rows
 --   choices rows           every choice among the rows, each in the order of the rows, the empty one first
 --   is_sum rows v          some choice sums to v
+--   is_dependence rows     rows, at least one, that sum to 0
 --   is_independent rows    no nonempty choice sums to 0
 --   longest lists          the length of the longest list
 --   rank rows              the largest number of independent rows among them
@@ -26,7 +27,6 @@ choices (r ∷ rows) = choices rows ++ map (λ c. r ∷ c) (choices rows)
 unfoldable pub is_sum : List ℕ → ℕ → Bool
 is_sum rows v = list_any (λ c. row_sum c == v) (choices rows)
 
--- rows, at least one, that sum to 0
 unfoldable pub is_dependence : List ℕ → Bool
 is_dependence [] = false
 is_dependence (r ∷ rows) = row_sum (r ∷ rows) == 0

@@ -6,10 +6,10 @@ ghost use Rattle.gf2_linear.specs.Rows.{IsLeast};
 
 use std::marker::Model;
 
-/// The number of words of a row. No other number in this crate depends on the number of wires.
+/// The number of words of a row, which has room for `WIRE_LIMIT` wires.
 const WORDS: usize = 4;
 
-/// Wires are below this number.
+/// Wires are below this number, and a basis has at most so many rows.
 pub const WIRE_LIMIT: u32 = 256;
 
 /// A set of wires. Contracts see the number whose bit w is set for each wire w of the set.
