@@ -1,0 +1,15 @@
+pub mod Xor
+pub mod Spans
+pub mod Ranks
+pub mod WordLaws
+pub mod WireLaws
+pub mod PivotLaws
+pub mod Combined
+pub mod BasisLaws
+pub mod SumLaws
+pub mod MatrixLaws
+pub mod RunLaws
+pub mod ProductLaws
+pub mod CompletionLaws
+pub mod EliminationLaws
+pub mod WorkedRows

@@ -1,0 +1,12 @@
+-- Working form. A row in 64-bit words, the lowest first.
+--   number_of words     the number that the words spell
+--   AreWords words      as many words as a row has, each of 64 bits
+use Rattle.std.specs.Prelude.{◌≡◌, ℕ, ◌+◌, ◌*◌, ◌^◌, ◌<◌, List, [], ◌∷◌, length, slice_index}
+
+abbrev pub number_of : List ℕ → ℕ
+number_of [] = 0
+number_of (w ∷ words) = number_of words * 2 ^ 64 + w
+
+pub record AreWords (words : List ℕ) : Type 0 where
+  pub long : length words ≡ 4
+  pub fits : (k : ℕ) → slice_index words k < 2 ^ 64
