@@ -1,0 +1,6 @@
+pub mod PlaceLaws
+pub mod Exchanges
+pub mod Witnesses
+pub mod Trees
+pub mod WorkedParts
+pub mod BlockLaws
