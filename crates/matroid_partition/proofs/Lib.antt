@@ -4,3 +4,5 @@ pub mod Witnesses
 pub mod Trees
 pub mod WorkedParts
 pub mod BlockLaws
+pub mod StateLaws
+pub mod OpenLaws

@@ -144,6 +144,7 @@ fn close(
 ) -> Result<(), AllocError>
     requires there { number < length blocks.now }
     requires within { All (λ k. k < length blocks.now) unfilled.old.items }
+    requires listed { Has unfilled.old.items number }
     requires others { (k : ℕ) (d : Block) → k < length blocks.now → (Has unfilled.old.items k → ⊥) → (k ≡ number → ⊥) → length (slice_index_or blocks.now k d).basis ≡ full }
     ensures { IfOk result (λ _. IsOpen full blocks.now unfilled.new.items) }
 {
