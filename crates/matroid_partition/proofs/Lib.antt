@@ -6,3 +6,4 @@ pub mod WorkedParts
 pub mod BlockLaws
 pub mod StateLaws
 pub mod OpenLaws
+pub mod SearchLaws

@@ -1,17 +1,19 @@
 -- The blocks that may have room.
 --   IsOpen-all         where none is known to be full
 --   IsOpen-begun       a block more
-use Rattle.std.proofs.Common.{◌≡◌, ℕ, ◌+◌, ◌<◌, ◌≤◌, List, [], ◌∷◌, ◌++◌, length, get_or, refl, sym, ap, subst, ◌∙◌, arith, ◌⊎◌, inl, inr, zero-add}
-use Rattle.std.specs.Prelude.{All}
+--   filter-range_in, -out    the numbers that pass a test, one number more
+use Rattle.std.proofs.Common.{◌≡◌, ℕ, ◌+◌, ◌<◌, ◌≤◌, Bool, true, false, cond, List, [], ◌∷◌, ◌++◌, length, get_or, refl, sym, ap, subst, ◌∙◌, arith, ◌⊎◌, inl, inr, zero-add}
+use Rattle.std.specs.Prelude.{All, filter}
 use Rattle.std.specs.List.{range_with_len}
 use Rattle.std.proofs.lemmas.Bool.{cases_lt}
-use Rattle.std.proofs.lemmas.List.{length-append, get_or_append_left}
-use Rattle.std.proofs.lemmas.List.Elements.{All-push, All-weaker}
+use Rattle.std.proofs.lemmas.List.{length-append, get_or_append_left, append-nil}
+use Rattle.std.proofs.lemmas.List.Elements.{All-push, All-weaker, filter-append}
 use Rattle.std.proofs.lemmas.List.FromFn.{get_or-range_with_len, length-range_with_len}
 use Rattle.matroid_partition.specs.declared.blocks.Block.{Block}
 use Rattle.matroid_partition.specs.Places.{Has}
 use Rattle.matroid_partition.specs.Blocks.{IsOpen}
 use Rattle.matroid_partition.proofs.PlaceLaws.{at-Has}
+use Rattle.matroid_partition.proofs.BlockLaws.{range-more}
 
 pub Has-range : (n k : ℕ) → k < n → Has (range_with_len 0 n) k
 Has-range n k l =
@@ -48,3 +50,14 @@ IsOpen-begun full blocks unfilled b o = record {
         absurd (n (subst (λ m. Has (unfilled ++ length blocks ∷ []) m) e (Has-append_new unfilled (length blocks))))
   ];
 }
+
+-- the numbers below a bound that pass a test, one number more
+pub filter-range_in : (p : ℕ → Bool) (n : ℕ) (old new : List ℕ) → p n ≡ true → old ≡ filter p (range_with_len 0 n) → new ≡ old ++ n ∷ [] → new ≡ filter p (range_with_len 0 (n + 1))
+filter-range_in p n old new t h e =
+    e ∙ ap (λ k. k ++ n ∷ []) h ∙ ap (λ b. filter p (range_with_len 0 n) ++ cond b (n ∷ []) []) (sym t)
+    ∙ sym (ap (filter p) (range-more n) ∙ filter-append p (range_with_len 0 n) (n ∷ []))
+
+pub filter-range_out : (p : ℕ → Bool) (n : ℕ) (old new : List ℕ) → p n ≡ false → old ≡ filter p (range_with_len 0 n) → new ≡ old → new ≡ filter p (range_with_len 0 (n + 1))
+filter-range_out p n old new t h e =
+    e ∙ h ∙ sym (append-nil (filter p (range_with_len 0 n))) ∙ ap (λ b. filter p (range_with_len 0 n) ++ cond b (n ∷ []) []) (sym t)
+    ∙ sym (ap (filter p) (range-more n) ∙ filter-append p (range_with_len 0 n) (n ∷ []))

@@ -294,3 +294,8 @@ pub independent-one : (rows ps : List ℕ) (i : ℕ) → ps ≡ i ∷ [] → (ge
 unfolding rows_at
 independent-one rows ps i e n =
     subst (λ (q : List ℕ). is_independent (map (λ k. get_or rows k 0) q) ≡ true) (sym e) (Free-independent (get_or rows i 0 ∷ []) ((λ s. n s), tt))
+
+-- some block, where there is one
+pub any-block : (blocks : List Block) (k : ℕ) → k < length blocks → Block
+any-block [] k l = absurd (omega arith)
+any-block (b ∷ blocks) k l = b

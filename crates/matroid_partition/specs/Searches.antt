@@ -1,11 +1,14 @@
 -- Working form. What a breadth-first search has reached.
 --   parts rows places v       the places whose rows sum to v
 --   node_at nodes k           the k-th node
---   home_of, sum_of k         the block of its row; the places of this block that sum to the row of the node that found it
---   IsReached k               the k-th node was found by an earlier one, in whose row's sum it stands, in another block
---   IsTree                    each node but the first, the new row, is reached; a place that stands in a node's sum wasn't
---                             found by a later node than that node was
---   IsThrough j c             the j-th node's row is a sum of the rows of the block c, all of them seen, or c is its own block
+--   row_of, home_of n         the row of a node, the block that has it
+--   sum_of n q                the places of n's block that sum to the row of q
+--   IsOwn n c                 the row of n stands in the block c
+--   IsReached k n q           the k-th node n was found by an earlier one q, in whose row's sum it stands, from another block
+--   IsTree nodes              each node but the first, the new row, is reached; a place that stands in a node's sum was found
+--                             by the same node or an earlier one
+--   IsSeen, trues             a place is seen; how many are
+--   IsThrough n c             the row of n is a sum of rows of the block c, all of them seen, or c is its own block
 --   IsFront .. node number    the nodes before `node` went through all blocks, `node` itself through those before `number`
 --   IsGrown                   more nodes behind those that were there, more of the rows seen
 --   IsStart new nodes seen    the new row alone
@@ -28,31 +31,32 @@ parts rows (p ∷ places) v =
 abbrev pub node_at : List Node → ℕ → Node
 node_at nodes k = slice_index_or nodes k (record { place = 0; parent = 0 })
 
-abbrev pub row_of : List ℕ → List Node → ℕ → ℕ
-row_of rows nodes k = slice_index rows (node_at nodes k).place
+-- the row of a node, and the block that has it
+abbrev pub row_of : List ℕ → Node → ℕ
+row_of rows n = slice_index rows n.place
 
-abbrev pub home_of : List ℕ → List Node → ℕ → ℕ
-home_of homes nodes k = slice_index homes (node_at nodes k).place
+abbrev pub home_of : List ℕ → Node → ℕ
+home_of homes n = slice_index homes n.place
 
-abbrev pub sum_of : List ℕ → List ℕ → List Block → List Node → ℕ → List ℕ
-sum_of rows homes blocks nodes k = parts rows (places_at blocks (home_of homes nodes k)) (row_of rows nodes (node_at nodes k).parent)
+abbrev pub sum_of : List ℕ → List ℕ → List Block → Node → Node → List ℕ
+sum_of rows homes blocks n q = parts rows (places_at blocks (home_of homes n)) (row_of rows q)
 
--- the k-th node's row stands in the block c
-abbrev pub IsOwn : List ℕ → List Node → ℕ → ℕ → Type 0
-IsOwn homes nodes k c = ((node_at nodes k).place < length homes) × (home_of homes nodes k ≡ c)
+abbrev pub IsOwn : List ℕ → Node → ℕ → Type 0
+IsOwn homes n c = (n.place < length homes) × (home_of homes n ≡ c)
 
-pub record IsReached (rows homes : List ℕ) (blocks : List Block) (nodes : List Node) (k : ℕ) : Type 0 where
-  pub earlier : (node_at nodes k).parent < k
-  pub old : (node_at nodes k).place < length homes
-  pub stands : Has (sum_of rows homes blocks nodes k) (node_at nodes k).place
-  pub told : row_sum (map (slice_index rows) (sum_of rows homes blocks nodes k)) ≡ row_of rows nodes (node_at nodes k).parent
-  pub apart : IsOwn homes nodes (node_at nodes k).parent (home_of homes nodes k) → ⊥
+pub record IsReached (rows homes : List ℕ) (blocks : List Block) (k : ℕ) (n q : Node) : Type 0 where
+  pub earlier : n.parent < k
+  pub old : n.place < length homes
+  pub stands : Has (sum_of rows homes blocks n q) n.place
+  pub told : row_sum (map (slice_index rows) (sum_of rows homes blocks n q)) ≡ row_of rows q
+  pub apart : IsOwn homes q (home_of homes n) → ⊥
 
 pub record IsTree (rows homes : List ℕ) (blocks : List Block) (nodes : List Node) : Type 0 where
   pub some : 0 < length nodes
   pub root : (node_at nodes 0).place ≡ length homes
-  pub each : (k : ℕ) → 0 < k → k < length nodes → IsReached rows homes blocks nodes k
-  pub order : (k m : ℕ) → 0 < k → k < length nodes → 0 < m → m < length nodes → Has (sum_of rows homes blocks nodes k) (node_at nodes m).place
+  pub each : (k : ℕ) → 0 < k → k < length nodes → IsReached rows homes blocks k (node_at nodes k) (node_at nodes (node_at nodes k).parent)
+  pub order : (k m : ℕ) → 0 < k → k < length nodes → 0 < m → m < length nodes
+      → Has (sum_of rows homes blocks (node_at nodes k) (node_at nodes (node_at nodes k).parent)) (node_at nodes m).place
       → (node_at nodes m).parent ≤ (node_at nodes k).parent
 
 abbrev pub IsSeen : List Bool → ℕ → Type 0
@@ -66,8 +70,8 @@ pub record IsSpread (rows : List ℕ) (blocks : List Block) (seen : List Bool) (
   pub spanned : is_sum (rows_at rows (places_at blocks c)) v ≡ true
   pub reached : (p : ℕ) → Has (parts rows (places_at blocks c) v) p → IsSeen seen p
 
-abbrev pub IsThrough : List ℕ → List ℕ → List Block → List Node → List Bool → ℕ → ℕ → Type 0
-IsThrough rows homes blocks nodes seen j c = IsOwn homes nodes j c ⊎ IsSpread rows blocks seen (row_of rows nodes j) c
+abbrev pub IsThrough : List ℕ → List ℕ → List Block → List Bool → Node → ℕ → Type 0
+IsThrough rows homes blocks seen n c = IsOwn homes n c ⊎ IsSpread rows blocks seen (row_of rows n) c
 
 pub record IsFront (rows homes : List ℕ) (blocks : List Block) (nodes : List Node) (seen : List Bool) (node number : ℕ) : Type 0 where
   pub tree : IsTree rows homes blocks nodes
@@ -76,8 +80,8 @@ pub record IsFront (rows homes : List ℕ) (blocks : List Block) (nodes : List N
   pub marked : (k : ℕ) → k < length nodes → IsSeen seen (node_at nodes k).place
   pub known : (p : ℕ) → IsSeen seen p → (k : ℕ) × (k < length nodes) × ((node_at nodes k).place ≡ p)
   pub latest : (k : ℕ) → 0 < k → k < length nodes → (node_at nodes k).parent ≤ node
-  pub before : (j c : ℕ) → j < node → c < length blocks → IsThrough rows homes blocks nodes seen j c
-  pub here : (c : ℕ) → c < number → IsThrough rows homes blocks nodes seen node c
+  pub before : (j c : ℕ) → j < node → c < length blocks → IsThrough rows homes blocks seen (node_at nodes j) c
+  pub here : (c : ℕ) → c < number → IsThrough rows homes blocks seen (node_at nodes node) c
 
 pub record IsGrown (old new : List Node) (before after : List Bool) : Type 0 where
   pub more : length old ≤ length new
@@ -94,17 +98,17 @@ pub record IsGround (rows homes : List ℕ) (blocks : List Block) (unfilled : Li
   pub within : All (λ k. k < length blocks) unfilled
   pub others : (i : ℕ) → i ≤ length homes → OthersSpan blocks unfilled (slice_index rows i)
 
-pub record IsMember (rows homes : List ℕ) (blocks : List Block) (nodes : List Node) (node number place : ℕ) : Type 0 where
-  pub stands : Has (parts rows (places_at blocks number) (row_of rows nodes node)) place
-  pub told : row_sum (map (slice_index rows) (parts rows (places_at blocks number) (row_of rows nodes node))) ≡ row_of rows nodes node
-  pub apart : IsOwn homes nodes node number → ⊥
+pub record IsMember (rows homes : List ℕ) (blocks : List Block) (n : Node) (number place : ℕ) : Type 0 where
+  pub stands : Has (parts rows (places_at blocks number) (row_of rows n)) place
+  pub told : row_sum (map (slice_index rows) (parts rows (places_at blocks number) (row_of rows n))) ≡ row_of rows n
+  pub apart : IsOwn homes n number → ⊥
 
-pub record IsSet (rows homes : List ℕ) (blocks : List Block) (nodes : List Node) (node number set : ℕ) : Type 0 where
-  pub told : combined (rows_at rows (places_at blocks number)) set ≡ row_of rows nodes node
-  pub apart : IsOwn homes nodes node number → ⊥
+pub record IsSet (rows homes : List ℕ) (blocks : List Block) (n : Node) (number set : ℕ) : Type 0 where
+  pub told : combined (rows_at rows (places_at blocks number)) set ≡ row_of rows n
+  pub apart : IsOwn homes n number → ⊥
 
 pub record IsChain (rows homes : List ℕ) (blocks : List Block) (nodes : List Node) (last into : ℕ) : Type 0 where
   pub tree : IsTree rows homes blocks nodes
   pub there : last < length nodes
-  pub apart : IsOwn homes nodes last into → ⊥
-  pub room : HasRoomAt (row_of rows nodes last) blocks into
+  pub apart : IsOwn homes (node_at nodes last) into → ⊥
+  pub room : HasRoomAt (row_of rows (node_at nodes last)) blocks into

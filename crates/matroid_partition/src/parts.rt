@@ -89,7 +89,7 @@ fn places_of(alloc: Global, blocks: Vec<Block>) -> Result<Vec<Vec<usize>>, Alloc
     ensures { IfOk result (λ v. map (λ b. b.items) v.items ≡ map (λ b. b.places.items) blocks.items) }
 {
     let mut lists = Vec::new(alloc);
-    'blocks: for block in blocks {
+    'lists: for block in blocks {
         lists.push(block.places)?;
     }
     Ok(lists)

@@ -1,7 +1,7 @@
 //! The search for a chain of exchanges, breadth first.
 
 ghost use Rattle.std.specs.Prelude.{◌≡◌, ℕ, ◌+◌, ◌<◌, ◌≤◌, IfOk, IfSome, IfNone, length, slice_index, true, false};
-ghost use Rattle.matroid_partition.specs.Searches.{IsChain, IsFront, IsGround, IsGrown, IsMember, IsSeen, IsSet, IsStart};
+ghost use Rattle.matroid_partition.specs.Searches.{IsChain, IsFront, IsGround, IsGrown, IsMember, IsSeen, IsSet, IsStart, node_at};
 
 use crate::blocks::{Block, first_fit};
 use gf2_linear::Row;
@@ -121,7 +121,7 @@ fn reach(
     requires there { node < length front.old.nodes.items }
     requires block { number < length ground.now.blocks.now }
     requires front { IsFront ground.now.rows.now ground.now.homes.now ground.now.blocks.now front.old.nodes.items front.old.seen.items node number }
-    requires set { IsSet ground.now.rows.now ground.now.homes.now ground.now.blocks.now front.old.nodes.items node number set.now }
+    requires set { IsSet ground.now.rows.now ground.now.homes.now ground.now.blocks.now (node_at front.old.nodes.items node) number set.now }
     ensures some { IfOk result (λ o. IfSome o (λ c. IsChain ground.now.rows.now ground.now.homes.now ground.now.blocks.now front.new.nodes.items c.last c.into)) }
     ensures none { IfOk result (λ o. IfNone o (IsFront ground.now.rows.now ground.now.homes.now ground.now.blocks.now front.new.nodes.items front.new.seen.items node (number + 1))) }
     ensures there { IfOk result (λ o. IfNone o (node < length front.new.nodes.items)) }
@@ -142,7 +142,7 @@ fn visit(ground: &Ground, node: usize, place: usize, front: &mut Front) -> Resul
     requires ground { IsGround ground.now.rows.now ground.now.homes.now ground.now.blocks.now ground.now.unfilled.now }
     requires there { node < length front.old.nodes.items }
     requires front { let number = slice_index ground.now.homes.now place in IsFront ground.now.rows.now ground.now.homes.now ground.now.blocks.now front.old.nodes.items front.old.seen.items node number }
-    requires member { let number = slice_index ground.now.homes.now place in IsMember ground.now.rows.now ground.now.homes.now ground.now.blocks.now front.old.nodes.items node number place }
+    requires member { let number = slice_index ground.now.homes.now place in IsMember ground.now.rows.now ground.now.homes.now ground.now.blocks.now (node_at front.old.nodes.items node) number place }
     ensures some { IfOk result (λ o. IfSome o (λ c. IsChain ground.now.rows.now ground.now.homes.now ground.now.blocks.now front.new.nodes.items c.last c.into)) }
     ensures none { let number = slice_index ground.now.homes.now place in IfOk result (λ o. IfNone o (IsFront ground.now.rows.now ground.now.homes.now ground.now.blocks.now front.new.nodes.items front.new.seen.items node number)) }
     ensures seen { IfOk result (λ o. IfNone o (IsSeen front.new.seen.items place)) }
