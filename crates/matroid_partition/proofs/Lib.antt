@@ -7,3 +7,4 @@ pub mod BlockLaws
 pub mod StateLaws
 pub mod OpenLaws
 pub mod SearchLaws
+pub mod ShiftLaws

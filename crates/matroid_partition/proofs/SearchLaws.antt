@@ -6,6 +6,8 @@
 --   front-through        a block more for the same node
 --   front-next           the next node
 --   chain-grown          the row that was reached has room in some block
+--   Reaching, reaching-in, -out    the members of a block, one after the other
+--   set-member, set-through, set-told    a set of members: its rows, all of them, where it comes from
 use Rattle.std.proofs.Common.{◌≡◌, ℕ, zero, suc, ◌+◌, ◌/◌, ◌%◌, ◌<◌, ◌≤◌, Bool, true, false, cond, List, [], ◌∷◌, ◌++◌, length, map, get_or, set, replicate, refl, sym, ap, subst, ◌∙◌, arith, ◌⊎◌, inl, inr}
 use Rattle.std.specs.Prelude.{nat_eq, bit_xor}
 use Rattle.std.specs.Int.{bit_at}
@@ -13,8 +15,9 @@ use Rattle.std.specs.Int.Bits.{xor_zero_l}
 use Rattle.std.proofs.lemmas.Bool.{both_ways, eqb-true, eqb-false, eq-eqb, ne_eqb, cases_eq, cases_lt, cases_Bool}
 use Rattle.std.proofs.lemmas.Nat.Bits.{bit_at_lowest, bit_at-suc}
 use Rattle.std.proofs.lemmas.Nat.{xor_comm}
-use Rattle.std.proofs.lemmas.List.{length-append, length-set, length-replicate, get_or_append_left, get_or_push, get_or_past, get_or-replicate, get_or-set_same, get_or-set_other}
+use Rattle.std.proofs.lemmas.List.{length-append, length-map, length-set, length-replicate, get_or_append_left, get_or_push, get_or_past, get_or-replicate, get_or-set_same, get_or-set_other}
 use Rattle.matroid_partition.specs.declared.blocks.Block.{Block}
+use Rattle.matroid_partition.specs.declared.search.Front.{Front}
 use Rattle.matroid_partition.specs.declared.search.Node.{Node}
 use Rattle.matroid_partition.specs.Places.{Has, IsAscending}
 use Rattle.matroid_partition.specs.Blocks.{HasRoomAt, IsState, places_at}
@@ -26,7 +29,7 @@ use Rattle.gf2_linear.proofs.Ranks.{is_sum-spanned, Span-is_sum}
 use Rattle.gf2_linear.proofs.Combined.{combined-span}
 use Rattle.matroid_partition.proofs.Exchanges.{All_in, Lacks, Uses}
 use Rattle.matroid_partition.proofs.Trees.{Lacks-from}
-use Rattle.matroid_partition.proofs.StateLaws.{room-apart}
+use Rattle.matroid_partition.proofs.StateLaws.{places_at-is, block-free, room-apart}
 
 -- ---- the places that sum to a row
 abbrev r_of : List ℕ → ℕ → ℕ
@@ -371,4 +374,86 @@ front-next rows homes blocks nodes seen node number e fr = record {
         subst (λ (k : ℕ). IsThrough rows homes blocks seen (node_at nodes k) c) (sym q) (fr.here c (subst (λ m. c < m) (sym e) b))
   ];
   here = λ c l. absurd (omega arith);
+}
+
+-- ---- a set of members
+pub block-few : (rows homes : List ℕ) (blocks : List Block) (k n : ℕ) (b : Block) → IsState rows homes blocks → k < length blocks → length (get_or blocks k b).basis ≤ n
+    → length (places_at blocks k) ≤ n
+unfolding rows_at
+block-few rows homes blocks k n b st l h =
+    let e : length (get_or blocks k b).basis ≡ length (places_at blocks k) =
+    ap length (st.block k b l).basis ∙ length-map (get_or blocks k b).places.items (r_of rows) ∙ ap length (sym (places_at-is blocks k b l)) in
+    subst (λ m. m ≤ n) e h
+
+set-span : (rows homes : List ℕ) (blocks : List Block) (n : Node) (number s : ℕ) → IsSet rows homes blocks n number s → Span (map (r_of rows) (places_at blocks number)) (row_of rows n)
+unfolding rows_at
+set-span rows homes blocks n number s w =
+    Span-same (map (r_of rows) (places_at blocks number)) (combined (map (r_of rows) (places_at blocks number)) s) (row_of rows n) w.told
+    (combined-span (map (r_of rows) (places_at blocks number)) s)
+
+pub set-member : (rows homes : List ℕ) (blocks : List Block) (n : Node) (number s m : ℕ) → IsState rows homes blocks → IsSet rows homes blocks n number s
+    → m < length (places_at blocks number) → bit_at s m ≡ 1 → IsMember rows homes blocks n number (get_or (places_at blocks number) m 0)
+unfolding rows_at
+set-member rows homes blocks n number s m st w l b = record {
+  stands = set-has rows (places_at blocks number) s (row_of rows n) m (block-free rows homes blocks st number) w.told l b;
+  told = parts-sum rows (places_at blocks number) (row_of rows n) (set-span rows homes blocks n number s w);
+  apart = w.apart;
+}
+
+pub set-through : (rows homes : List ℕ) (blocks : List Block) (seen : List Bool) (n : Node) (number s : ℕ) → IsState rows homes blocks → IsSet rows homes blocks n number s
+    → ((m : ℕ) → m < length (places_at blocks number) → bit_at s m ≡ 1 → IsSeen seen (get_or (places_at blocks number) m 0)) → IsThrough rows homes blocks seen n number
+unfolding rows_at
+set-through rows homes blocks seen n number s st w k = inr (record {
+  spanned = Span-is_sum (map (r_of rows) (places_at blocks number)) (row_of rows n) (set-span rows homes blocks n number s w);
+  reached = λ p h.
+      let r : (m : ℕ) × (m < length (places_at blocks number)) × (bit_at s m ≡ 1) × (get_or (places_at blocks number) m 0 ≡ p) =
+      has-set rows (places_at blocks number) s (row_of rows n) p (block-free rows homes blocks st number) w.told h in
+      subst (IsSeen seen) r.3 (k r.0 r.1 r.2);
+})
+
+-- what an expression by the basis says
+pub set-told : (rows homes : List ℕ) (blocks : List Block) (n : Node) (number s : ℕ) (b : Block) (v : ℕ) → IsState rows homes blocks → number < length blocks
+    → combined (get_or blocks number b).basis s ≡ v → v ≡ row_of rows n → (IsOwn homes n number → ⊥) → IsSet rows homes blocks n number s
+set-told rows homes blocks n number s b v st l e f a = record {
+  told = ap (λ (q : List ℕ). combined (rows_at rows q) s) (places_at-is blocks number b l) ∙ ap (λ (q : List ℕ). combined q s) (sym (st.block number b l).basis) ∙ e ∙ f;
+  apart = a;
+}
+
+-- the row of a node stands among the rows
+pub node-row : (rows homes : List ℕ) (blocks : List Block) (nodes : List Node) (k : ℕ) → IsTree rows homes blocks nodes → length homes < length rows → k < length nodes
+    → (node_at nodes k).place < length rows
+node-row rows homes blocks nodes zero t n l = subst (λ m. m < length rows) (sym t.root) n
+node-row rows homes blocks nodes (suc k) t n l = let o : (node_at nodes (suc k)).place < length homes = (t.each (suc k) (omega arith) l).old in omega arith
+
+-- the members of a block before the m-th are gone through
+pub record Reaching (rows homes : List ℕ) (blocks : List Block) (start : Node) (front : Front) (node number set : ℕ) (ps : List ℕ) (m : ℕ) : Type 0 where
+  pub kept : IsFront rows homes blocks front.nodes.items front.seen.items node number
+  pub there : node < length front.nodes.items
+  pub same : node_at front.nodes.items node ≡ start
+  pub part : (j : ℕ) → j < m → bit_at set j ≡ 1 → IsSeen front.seen.items (get_or ps j 0)
+
+pub reaching-in : (rows homes : List ℕ) (blocks : List Block) (start : Node) (old new : Front) (node number set : ℕ) (ps : List ℕ) (m : ℕ)
+    → Reaching rows homes blocks start old node number set ps m → get_or homes (get_or ps m 0) 0 ≡ number
+    → IsFront rows homes blocks new.nodes.items new.seen.items node (get_or homes (get_or ps m 0) 0) → IsSeen new.seen.items (get_or ps m 0)
+    → IsGrown old.nodes.items new.nodes.items old.seen.items new.seen.items → Reaching rows homes blocks start new node number set ps (m + 1)
+reaching-in rows homes blocks start old new node number set ps m r h f s g = record {
+  kept = subst (λ k. IsFront rows homes blocks new.nodes.items new.seen.items node k) h f;
+  there = let l : node < length old.nodes.items = r.there in omega (arith, g.more);
+  same = g.same node r.there ∙ r.same;
+  part = λ j l b. elim (cases_eq j m) [
+    | inl e ↦ subst (λ k. IsSeen new.seen.items (get_or ps k 0)) (sym e) s
+    | inr n ↦ g.kept (get_or ps j 0) (r.part j (omega arith) b)
+  ];
+}
+
+pub reaching-out : (rows homes : List ℕ) (blocks : List Block) (start : Node) (front : Front) (node number set : ℕ) (ps : List ℕ) (m : ℕ)
+    → Reaching rows homes blocks start front node number set ps m → (bit_at set m ≡ 1 → ⊥) → Reaching rows homes blocks start front node number set ps (m + 1)
+reaching-out rows homes blocks start front node number set ps m r n = record {
+  kept = r.kept;
+  there = r.there;
+  same = r.same;
+  part = λ j l b. elim (cases_eq j m) [
+    | inl e ↦ absurd (n (ap (bit_at set) (sym e) ∙ b))
+    | inr k ↦ r.part j (omega arith) b
+  ];
 }

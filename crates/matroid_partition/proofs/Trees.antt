@@ -41,7 +41,7 @@ pub Lacks-from : (y : ℕ) (es : List ℕ) → (Has es y → ⊥) → Lacks y es
 Lacks-from y [] n = tt
 Lacks-from y (e ∷ es) n = ((λ q. n (inl q)), Lacks-from y es (λ h. n (inr h)))
 
-taker-chain : (t : Found) (fuel k : ℕ) → k ≤ fuel → taker (t.place 0) (chain t fuel k) ≡ t.place k
+pub taker-chain : (t : Found) (fuel k : ℕ) → k ≤ fuel → taker (t.place 0) (chain t fuel k) ≡ t.place k
 taker-chain t fuel zero h = refl
 taker-chain t zero (suc k) h = absurd (omega arith)
 taker-chain t (suc fuel) (suc k) h = refl
@@ -57,7 +57,7 @@ unused-chain r B count t w m hm lm (suc fuel) (suc q) g l =
       unused-chain r B count t w m hm lm fuel (t.parent (suc q)) (omega arith) (omega arith),
     )
 
-apart-chain : (t : Found) (fuel q b : ℕ) → (0 < q → t.home q ≡ b → ⊥) → Apart b (chain t fuel q)
+pub apart-chain : (t : Found) (fuel q b : ℕ) → (0 < q → t.home q ≡ b → ⊥) → Apart b (chain t fuel q)
 apart-chain t fuel zero b n = tt
 apart-chain t zero (suc q) b n = tt
 apart-chain t (suc fuel) (suc q) b n = n (omega arith)

@@ -78,7 +78,7 @@ fn spread(ground: &Ground, node: usize, front: &mut Front) -> Result<Option<Chai
     ensures none { IfOk result (λ o. IfNone o (IsFront ground.now.rows.now ground.now.homes.now ground.now.blocks.now front.new.nodes.items front.new.seen.items (node + 1) 0)) }
     ensures there { IfOk result (λ o. IfNone o (node < length front.new.nodes.items)) }
 {
-    'blocks: for number in 0..ground.blocks.len() {
+    'numbers: for number in 0..ground.blocks.len() {
         if let Some(chain) = cross(ground, node, number, front)? {
             return Ok(Some(chain));
         }
