@@ -243,7 +243,7 @@ room-left r B n t f a u e h s =
     (ap (λ k. bit_xor (bit_xor (r n.place) k) (r t)) e ∙ xor_assoc (r n.place) (r t) (r t) ∙ ap (bit_xor (r n.place)) (xor_self (r t)) ∙ xor_zero_r (r n.place))
     (Span-add (map r (taken_out n.place (B n.home))) (bit_xor (r n.place) (row_sum (map r n.sum))) (r t) (sum-using r n.place n.sum (B n.home) a u) s))
 
-lost-here : (B : ℕ → List ℕ) (c x h : ℕ) → (h ≡ c → ⊥) → lost (gained B c x) h x h ≡ taken_out x (B h)
+pub lost-here : (B : ℕ → List ℕ) (c x h : ℕ) → (h ≡ c → ⊥) → lost (gained B c x) h x h ≡ taken_out x (B h)
 unfolding gained lost
 lost-here B c x h n =
     ap (λ t. cond t (taken_out x (cond (nat_eq h c) (put_in x (B h)) (B h))) (cond (nat_eq h c) (put_in x (B h)) (B h))) (eq-eqb h h refl)

@@ -8,3 +8,4 @@ pub mod StateLaws
 pub mod OpenLaws
 pub mod SearchLaws
 pub mod ShiftLaws
+pub mod PartLaws

@@ -1,0 +1,288 @@
+-- From the search and the blocks to the contract.
+--   full-spans, others-span     a block with as many rows as the rank of all spans them all
+--   basis-length, sizes-kept    how many rows a block has
+--   times-none, times-one       how often a place stands in the blocks
+--   witness-shown               closed places are more than the blocks times their rank
+--   all-shown                   all places, where each block is full
+--   seen-shown                  the places that a search has reached
+--   Underway, underway-..       the rows that have come in so far
+--   IsPartition-underway, ..    all rows
+use Rattle.std.proofs.Common.{◌≡◌, ℕ, zero, suc, ◌+◌, ◌-◌, ◌*◌, ◌<◌, ◌≤◌, Bool, true, false, cond, List, [], ◌∷◌, ◌++◌, length, map, get_or, refl, sym, ap, subst, ◌∙◌, arith, ◌⊎◌, inl, inr, zero-add}
+use Rattle.std.specs.Prelude.{nat_eq, All, IsTrue, filter}
+use Rattle.std.specs.List.{range_with_len}
+use Rattle.std.specs.List.Sorted.{IsStrictlyIncreasing}
+use Rattle.std.proofs.lemmas.Bool.{both_ways, eqb-true, eqb-false, eq-eqb, ne_eqb, cases_eq, cases_lt, cases_Bool}
+use Rattle.std.proofs.lemmas.List.{length-map, get_or_past}
+use Rattle.std.proofs.lemmas.List.Elements.{All-map, All-weaker, All-from_recursion}
+use Rattle.std.proofs.lemmas.List.FromFn.{length-range_with_len}
+use Rattle.matroid_partition.specs.declared.blocks.Block.{Block}
+use Rattle.matroid_partition.specs.declared.search.Node.{Node}
+use Rattle.matroid_partition.specs.Partitions.{count_of, times, IsPartition, IsWitness}
+use Rattle.matroid_partition.specs.Places.{Has, IsAscending}
+use Rattle.matroid_partition.specs.Blocks.{IsBlock, IsOpen, IsShown, IsState, OthersSpan, SpansFirst, places_at}
+use Rattle.matroid_partition.specs.Searches.{parts, node_at, row_of, IsFront, IsSeen, IsSpread}
+use Rattle.gf2_linear.specs.Rows.{is_independent, is_sum, rank, row_sum, rows_at}
+use Rattle.gf2_linear.proofs.Spans.{Span, All_span, Free, Span-zero, Span-same, Span-add, steinitz}
+use Rattle.gf2_linear.proofs.Ranks.{is_sum-spanned, Span-is_sum, independent-Free}
+use Rattle.matroid_partition.proofs.PlaceLaws.{Has-at, at-Has, count_of-none, count_of-one, IsStrictlyIncreasing-ascending}
+use Rattle.matroid_partition.proofs.Exchanges.{All_in, Has-span}
+use Rattle.matroid_partition.proofs.Witnesses.{is_in, kept, Distinct, At_most_once, At_least_once, All_close, All_free, witness-more, least-by_witness}
+use Rattle.matroid_partition.proofs.StateLaws.{any-block, block-free, places_at-is, places_at-within}
+use Rattle.matroid_partition.proofs.OpenLaws.{Has-range, range-below}
+use Rattle.matroid_partition.proofs.SearchLaws.{Has-parts, parts-sum}
+
+abbrev r_of : List ℕ → ℕ → ℕ
+r_of rows i = get_or rows i 0
+
+-- ---- full blocks
+all_span-from : (all : List ℕ) (r : ℕ → ℕ) (ps : List ℕ) → ((y : ℕ) → Has ps y → Span all (r y)) → All_span all (map r ps)
+all_span-from all r [] h = tt
+all_span-from all r (p ∷ ps) h = (h p (inl refl), all_span-from all r ps (λ y t. h y (inr t)))
+
+pub full-spans : (rows homes : List ℕ) (blocks : List Block) (all : List ℕ) (k : ℕ) (d : Block) (i : ℕ) → IsState rows homes blocks → SpansFirst (length homes + 1) rows all → k < length blocks
+    → length (get_or blocks k d).basis ≡ length all → i ≤ length homes → is_sum (get_or blocks k d).basis (get_or rows i 0) ≡ true
+unfolding rows_at
+full-spans rows homes blocks all k d i st sp l f il = elim (cases_Bool (is_sum (get_or blocks k d).basis (get_or rows i 0))) [
+  | inl t ↦ t
+  | inr n ↦
+      let b : (get_or blocks k d).basis ≡ map (r_of rows) (get_or blocks k d).places.items = (st.block k d l).basis in
+      let free : Free (get_or blocks k d).basis =
+      subst Free (sym b) (independent-Free (map (r_of rows) (get_or blocks k d).places.items) (st.block k d l).independent) in
+      let spans : All_span all (get_or blocks k d).basis =
+      subst (All_span all) (sym b) (all_span-from all (r_of rows) (get_or blocks k d).places.items
+      (λ y h. is_sum-spanned all (get_or rows y 0) (sp y
+      (let s : y < length homes = (st.only k y (subst (λ (q : List ℕ). Has q y) (sym (places_at-is blocks k d l)) h)).0 in omega arith)))) in
+      let s : length (get_or rows i 0 ∷ (get_or blocks k d).basis) ≤ length all =
+      steinitz all (get_or rows i 0 ∷ (get_or blocks k d).basis) (is_sum-spanned all (get_or rows i 0) (sp i (omega arith)), spans)
+      ((λ w. both_ways (is_sum (get_or blocks k d).basis (get_or rows i 0)) n (Span-is_sum (get_or blocks k d).basis (get_or rows i 0) w)), free) in
+      absurd (omega (arith, f, s))
+]
+
+pub others-span : (rows homes : List ℕ) (blocks : List Block) (all unfilled : List ℕ) (i : ℕ) → IsState rows homes blocks → SpansFirst (length homes + 1) rows all
+    → IsOpen (length all) blocks unfilled → i ≤ length homes → OthersSpan blocks unfilled (get_or rows i 0)
+others-span rows homes blocks all unfilled i st sp o il k d l n = full-spans rows homes blocks all k d i st sp l (o.others k d l n) il
+
+pub basis-length : (rows homes : List ℕ) (blocks : List Block) (k : ℕ) (d : Block) → IsState rows homes blocks → k < length blocks
+    → length (get_or blocks k d).basis ≡ length (places_at blocks k)
+unfolding rows_at
+basis-length rows homes blocks k d st l =
+    ap length (st.block k d l).basis ∙ length-map (get_or blocks k d).places.items (r_of rows) ∙ ap length (sym (places_at-is blocks k d l))
+
+-- what a chain leaves of the sizes
+pub sizes-kept : (rows homes homes' : List ℕ) (blocks blocks' : List Block) (unfilled : List ℕ) (full end : ℕ) → IsState rows homes blocks → IsState rows homes' blocks'
+    → length blocks' ≡ length blocks → ((k : ℕ) → length (places_at blocks' k) ≡ length (places_at blocks k) + cond (nat_eq k end) 1 0) → IsOpen full blocks unfilled
+    → (k : ℕ) (d : Block) → k < length blocks' → (Has unfilled k → ⊥) → (k ≡ end → ⊥) → length (get_or blocks' k d).basis ≡ full
+sizes-kept rows homes homes' blocks blocks' unfilled full end st st' e s o k d l n m =
+    let l' : k < length blocks = subst (λ q. k < q) e l in
+    let z : cond (nat_eq k end) 1 0 ≡ 0 = one (nat_eq k end) (ne_eqb k end m) in
+    let a : length (get_or blocks' k d).basis ≡ length (places_at blocks' k) = basis-length rows homes' blocks' k d st' l in
+    let b : length (get_or blocks k d).basis ≡ length (places_at blocks k) = basis-length rows homes blocks k d st l' in
+    let f : length (get_or blocks k d).basis ≡ full = o.others k d l' n in
+    let t : length (places_at blocks' k) ≡ length (places_at blocks k) + cond (nat_eq k end) 1 0 = s k in
+    omega arith
+  where
+    one : (t : Bool) → t ≡ false → cond t 1 0 ≡ 0
+    one true e = absurd (both_ways true e refl)
+    one false e = refl
+
+-- ---- how often a place stands in the blocks
+abbrev pub lists_of : List Block → List (List ℕ)
+lists_of blocks = map (λ b. b.places.items) blocks
+
+pub times-none : (blocks : List Block) (i : ℕ) → ((k : ℕ) → Has (places_at blocks k) i → ⊥) → times i (lists_of blocks) ≡ 0
+times-none [] i n = refl
+times-none (b ∷ blocks) i n =
+    let a : count_of i b.places.items ≡ 0 = count_of-none i b.places.items (n 0) in
+    let c : times i (lists_of blocks) ≡ 0 = times-none blocks i (λ k. n (suc k)) in
+    omega arith
+
+pub times-one : (blocks : List Block) (h i : ℕ) → h < length blocks → Has (places_at blocks h) i → ((k : ℕ) → Has (places_at blocks k) i → k ≡ h)
+    → ((k : ℕ) → k < length blocks → IsAscending (places_at blocks k)) → times i (lists_of blocks) ≡ 1
+times-one [] h i l s o a = absurd (omega arith)
+times-one (b ∷ blocks) zero i l s o a =
+    let x : count_of i b.places.items ≡ 1 = count_of-one i b.places.items (a 0 (omega arith)) s in
+    let y : times i (lists_of blocks) ≡ 0 = times-none blocks i (λ k t. let e : suc k ≡ 0 = o (suc k) t in absurd (omega arith)) in
+    omega arith
+times-one (b ∷ blocks) (suc h) i l s o a =
+    let x : count_of i b.places.items ≡ 0 = count_of-none i b.places.items (λ t. let e : 0 ≡ suc h = o 0 t in absurd (omega arith)) in
+    let y : times i (lists_of blocks) ≡ 1 =
+    times-one blocks h i (omega arith) s (λ k t. let e : suc k ≡ suc h = o (suc k) t in omega arith) (λ k m. a (suc k) (omega arith)) in
+    omega arith
+
+block-ascending : (rows homes : List ℕ) (blocks : List Block) → IsState rows homes blocks → (k : ℕ) → k < length blocks → IsAscending (places_at blocks k)
+block-ascending rows homes blocks st k l =
+    subst IsAscending (sym (places_at-is blocks k (any-block blocks k l) l)) (st.block k (any-block blocks k l) l).ascending
+
+pub state-once : (rows homes : List ℕ) (blocks : List Block) → IsState rows homes blocks → (i : ℕ) → i < length homes → times i (lists_of blocks) ≡ 1
+state-once rows homes blocks st i l =
+    times-one blocks (get_or homes i 0) i (st.home i l).0 (st.home i l).1 (λ k h. sym (st.only k i h).1) (block-ascending rows homes blocks st)
+
+pub state-none : (rows homes : List ℕ) (blocks : List Block) → IsState rows homes blocks → (i : ℕ) → length homes ≤ i → times i (lists_of blocks) ≡ 0
+state-none rows homes blocks st i g = times-none blocks i (λ k h. let l : i < length homes = (st.only k i h).0 in absurd (omega arith))
+
+-- ---- witnesses
+has-is_in : (S : List ℕ) (y : ℕ) → Has S y → is_in S y ≡ true
+has-is_in [] y h = absurd h
+has-is_in (s ∷ S) y h = elim h [
+  | inl e ↦ ap (λ t. cond t true (is_in S y)) (eq-eqb y s (sym e))
+  | inr t ↦ go (nat_eq y s) (has-is_in S y t)
+]
+  where
+    go : (b : Bool) → is_in S y ≡ true → cond b true (is_in S y) ≡ true
+    go true k = refl
+    go false k = k
+
+is_in-none : (S : List ℕ) (y : ℕ) → (Has S y → ⊥) → is_in S y ≡ false
+is_in-none [] y n = refl
+is_in-none (s ∷ S) y n = ap (λ t. cond t true (is_in S y)) (ne_eqb y s (λ e. n (inl (sym e)))) ∙ is_in-none S y (λ h. n (inr h))
+
+distinct-ascending : (S : List ℕ) → IsAscending S → Distinct S
+distinct-ascending [] a = tt
+distinct-ascending (s ∷ S) a = (is_in-none S s (λ h. let l : s < s = a.0 s h in absurd (omega arith)), distinct-ascending S a.1)
+
+kept-has : (S ps : List ℕ) (y : ℕ) → Has ps y → Has S y → Has (kept S ps) y
+kept-has S [] y h m = absurd h
+kept-has S (p ∷ ps) y h m = elim h [
+  | inl e ↦ subst (λ (t : Bool). Has (cond t (p ∷ kept S ps) (kept S ps)) y) (sym (ap (is_in S) e ∙ has-is_in S y m)) (inl e)
+  | inr t ↦ go (is_in S p) (kept-has S ps y t m)
+]
+  where
+    go : (b : Bool) → Has (kept S ps) y → Has (cond b (p ∷ kept S ps) (kept S ps)) y
+    go true k = inr k
+    go false k = k
+
+kept-all : (S ps : List ℕ) → ((y : ℕ) → Has ps y → Has S y) → kept S ps ≡ ps
+kept-all S [] h = refl
+kept-all S (p ∷ ps) h =
+    ap (λ t. cond t (p ∷ kept S ps) (kept S ps)) (has-is_in S p (h p (inl refl))) ∙ ap (λ k. p ∷ k) (kept-all S ps (λ y t. h y (inr t)))
+
+at_most-from : (S : List ℕ) (lists : List (List ℕ)) → ((y : ℕ) → times y lists ≤ 1) → At_most_once S lists
+at_most-from [] lists h = tt
+at_most-from (s ∷ S) lists h = (h s, at_most-from S lists h)
+
+close-from : (r : ℕ → ℕ) (S : List ℕ) (blocks : List Block) → ((k : ℕ) → k < length blocks → (y : ℕ) → Has S y → Span (map r (kept S (places_at blocks k))) (r y)) → All_close r S (lists_of blocks)
+close-from r S [] h = tt
+close-from r S (b ∷ blocks) h = (
+  all_span-from (map r (kept S b.places.items)) r S (λ y s. h 0 (omega arith) y s),
+  close-from r S blocks (λ k l y s. h (suc k) (omega arith) y s),
+)
+
+within-from : (n : ℕ) (S : List ℕ) → ((y : ℕ) → Has S y → y < n) → All (λ i. i < n) S
+within-from n S h k d l = h (get_or S k d) (at-Has S k d l)
+
+pub witness-shown : (rows homes : List ℕ) (blocks : List Block) (S : List ℕ) → IsState rows homes blocks → IsAscending S → ((y : ℕ) → Has S y → y < length homes + 1) → Has S (length homes)
+    → ((k : ℕ) → k < length blocks → (y : ℕ) → Has S y → Span (map (r_of rows) (kept S (places_at blocks k))) (r_of rows y)) → IsShown rows (length homes + 1) (length blocks) S
+unfolding rows_at
+witness-shown rows homes blocks S st a w e c = record {
+  within = within-from (length homes + 1) S w;
+  ascending = IsStrictlyIncreasing-ascending S a;
+  more = subst (λ k. k * rank (map (r_of rows) S) < length S) (length-map blocks (λ b. b.places.items))
+      (witness-more (r_of rows) S (lists_of blocks) (length homes) (distinct-ascending S a) (at_most-from S (lists_of blocks) most) e
+      (state-none rows homes blocks st (length homes) (omega arith)) (close-from (r_of rows) S blocks c));
+}
+  where
+    most : (y : ℕ) → times y (lists_of blocks) ≤ 1
+    most y = elim (cases_lt y (length homes)) [
+      | inl l ↦ let t : times y (lists_of blocks) ≡ 1 = state-once rows homes blocks st y l in omega arith
+      | inr g ↦ let t : times y (lists_of blocks) ≡ 0 = state-none rows homes blocks st y g in omega arith
+    ]
+
+-- ---- ranges
+range-from : (a n y : ℕ) → Has (range_with_len a n) y → a ≤ y
+range-from a zero y h = absurd h
+range-from a (suc n) y h = elim h [ inl e ↦ omega arith | inr t ↦ let l : a + 1 ≤ y = range-from (a + 1) n y t in omega arith ]
+
+range-ascending : (a n : ℕ) → IsAscending (range_with_len a n)
+range-ascending a zero = tt
+range-ascending a (suc n) = ((λ y h. let l : a + 1 ≤ y = range-from (a + 1) n y h in omega arith), range-ascending (a + 1) n)
+
+filter-from : (p : ℕ → Bool) (xs : List ℕ) (y : ℕ) → Has (filter p xs) y → Has xs y × (p y ≡ true)
+filter-from p [] y h = absurd h
+filter-from p (x ∷ xs) y h = go (p x) refl h (filter-from p xs y)
+  where
+    go : (b : Bool) → p x ≡ b → Has (cond b (x ∷ filter p xs) (filter p xs)) y → (Has (filter p xs) y → Has xs y × (p y ≡ true)) → ((x ≡ y) ⊎ Has xs y) × (p y ≡ true)
+    go true e h k = elim h [ inl q ↦ (inl q, ap p (sym q) ∙ e) | inr t ↦ let r : Has xs y × (p y ≡ true) = k t in (inr r.0, r.1) ]
+    go false e h k = let r : Has xs y × (p y ≡ true) = k h in (inr r.0, r.1)
+
+filter-has : (p : ℕ → Bool) (xs : List ℕ) (y : ℕ) → Has xs y → p y ≡ true → Has (filter p xs) y
+filter-has p [] y h t = absurd h
+filter-has p (x ∷ xs) y h t = elim h [
+  | inl e ↦ subst (λ (b : Bool). Has (cond b (x ∷ filter p xs) (filter p xs)) y) (sym (ap p e ∙ t)) (inl e)
+  | inr k ↦ go (p x) (filter-has p xs y k t)
+]
+  where
+    go : (b : Bool) → Has (filter p xs) y → Has (cond b (x ∷ filter p xs) (filter p xs)) y
+    go true k = inr k
+    go false k = k
+
+filter-ascending : (p : ℕ → Bool) (xs : List ℕ) → IsAscending xs → IsAscending (filter p xs)
+filter-ascending p [] a = tt
+filter-ascending p (x ∷ xs) a = go (p x) (filter-ascending p xs a.1)
+  where
+    go : (b : Bool) → IsAscending (filter p xs) → IsAscending (cond b (x ∷ filter p xs) (filter p xs))
+    go true k = ((λ y h. a.0 y (filter-from p xs y h).0), k)
+    go false k = k
+
+range-to : (n y : ℕ) → Has (range_with_len 0 n) y → y < n
+range-to n y h = let r : (j : ℕ) × (j < length (range_with_len 0 n)) × (get_or (range_with_len 0 n) j 0 ≡ y) = Has-at (range_with_len 0 n) y h in
+    subst (λ m. m < n) r.2 (range-below n r.0 0 r.1)
+
+-- ---- the two witnesses
+pub all-shown : (rows homes : List ℕ) (blocks : List Block) (all S : List ℕ) → IsState rows homes blocks → SpansFirst (length homes + 1) rows all → IsOpen (length all) blocks []
+    → S ≡ range_with_len 0 (length homes + 1) → IsShown rows (length homes + 1) (length blocks) S
+unfolding rows_at
+all-shown rows homes blocks all S st sp o e =
+    subst (λ (q : List ℕ). IsShown rows (length homes + 1) (length blocks) q) (sym e)
+    (witness-shown rows homes blocks (range_with_len 0 (length homes + 1)) st (range-ascending 0 (length homes + 1)) (range-to (length homes + 1))
+    (Has-range (length homes + 1) (length homes) (omega arith))
+    (λ k l y h.
+        let d : Block = any-block blocks k l in
+        let yl : y < length homes + 1 = range-to (length homes + 1) y h in
+        subst (λ (q : List ℕ). Span (map (r_of rows) q) (r_of rows y))
+        (sym (kept-all (range_with_len 0 (length homes + 1)) (places_at blocks k)
+        (λ z t. Has-range (length homes + 1) z (let s : z < length homes = (st.only k z t).0 in omega arith))))
+        (subst (λ (q : List ℕ). Span (map (r_of rows) q) (r_of rows y)) (sym (places_at-is blocks k d l))
+        (is_sum-spanned (map (r_of rows) (get_or blocks k d).places.items) (r_of rows y)
+        (subst (λ (q : List ℕ). is_sum q (r_of rows y) ≡ true) (st.block k d l).basis (full-spans rows homes blocks all k d y st sp l (o.others k d l (λ z. z)) (omega arith)))))))
+
+all_in-span : (r : ℕ → ℕ) (ps es : List ℕ) → ((y : ℕ) → Has es y → Has ps y) → Span (map r ps) (row_sum (map r es))
+unfolding row_sum
+all_in-span r ps [] h = Span-zero (map r ps)
+all_in-span r ps (e ∷ es) h = Span-add (map r ps) (r e) (row_sum (map r es)) (Has-span r e ps (h e (inl refl))) (all_in-span r ps es (λ y t. h y (inr t)))
+
+pub seen-shown : (rows homes : List ℕ) (blocks : List Block) (nodes : List Node) (seen : List Bool) (node number : ℕ) (S : List ℕ) → IsState rows homes blocks
+    → IsFront rows homes blocks nodes seen node number → length nodes ≤ node → S ≡ filter (λ p. get_or seen p false) (range_with_len 0 (length seen))
+    → IsShown rows (length homes + 1) (length blocks) S
+unfolding rows_at
+seen-shown rows homes blocks nodes seen node number S st fr g e =
+    subst (λ (q : List ℕ). IsShown rows (length homes + 1) (length blocks) q) (sym e)
+    (witness-shown rows homes blocks (filter (λ p. get_or seen p false) (range_with_len 0 (length seen))) st
+    (filter-ascending (λ p. get_or seen p false) (range_with_len 0 (length seen)) (range-ascending 0 (length seen)))
+    (λ y h. subst (λ n. y < n) fr.long (range-to (length seen) y (filter-from (λ p. get_or seen p false) (range_with_len 0 (length seen)) y h).0))
+    (in-seen (length homes) (subst (IsSeen seen) fr.tree.root (fr.marked 0 fr.tree.some)))
+    (λ k l y h.
+        let s : IsSeen seen y = (filter-from (λ p. get_or seen p false) (range_with_len 0 (length seen)) y h).1 in
+        let r : (j : ℕ) × (j < length nodes) × ((node_at nodes j).place ≡ y) = fr.known y s in
+        let b : r.0 < length nodes = r.1 in
+        subst (λ (q : ℕ). Span (map (r_of rows) (kept (filter (λ p. get_or seen p false) (range_with_len 0 (length seen))) (places_at blocks k))) (r_of rows q)) r.2
+        (elim (fr.before r.0 k (omega arith) l) [
+          | inl o ↦ Has-span (r_of rows) (node_at nodes r.0).place (kept (filter (λ p. get_or seen p false) (range_with_len 0 (length seen))) (places_at blocks k))
+              (kept-has (filter (λ p. get_or seen p false) (range_with_len 0 (length seen))) (places_at blocks k) (node_at nodes r.0).place
+              (subst (λ (q : ℕ). Has (places_at blocks q) (node_at nodes r.0).place) o.1 (st.home (node_at nodes r.0).place o.0).1)
+              (in-seen (node_at nodes r.0).place (fr.marked r.0 b)))
+          | inr t ↦ spread k (row_of rows (node_at nodes r.0)) t
+        ])))
+  where
+    in-seen : (y : ℕ) → IsSeen seen y → Has (filter (λ p. get_or seen p false) (range_with_len 0 (length seen))) y
+    in-seen y s = filter-has (λ p. get_or seen p false) (range_with_len 0 (length seen)) y
+        (elim (cases_lt y (length seen)) [
+          | inl l ↦ Has-range (length seen) y l
+          | inr g ↦ absurd (both_ways (get_or seen y false) (get_or_past seen y false g) s)
+        ]) s
+
+    spread : (k v : ℕ) → IsSpread rows blocks seen v k → Span (map (r_of rows) (kept (filter (λ p. get_or seen p false) (range_with_len 0 (length seen))) (places_at blocks k))) v
+    spread k v t =
+        Span-same (map (r_of rows) (kept (filter (λ p. get_or seen p false) (range_with_len 0 (length seen))) (places_at blocks k)))
+        (row_sum (map (r_of rows) (parts rows (places_at blocks k) v))) v (parts-sum rows (places_at blocks k) v (is_sum-spanned (map (r_of rows) (places_at blocks k)) v t.spanned))
+        (all_in-span (r_of rows) (kept (filter (λ p. get_or seen p false) (range_with_len 0 (length seen))) (places_at blocks k)) (parts rows (places_at blocks k) v)
+        (λ y h. kept-has (filter (λ p. get_or seen p false) (range_with_len 0 (length seen))) (places_at blocks k) y (Has-parts rows (places_at blocks k) v y h) (in-seen y (t.reached y h))))
