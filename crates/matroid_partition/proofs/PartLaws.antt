@@ -1,6 +1,7 @@
 -- From the search and the blocks to the contract.
 --   full-spans, others-span     a block with as many rows as the rank of all spans them all
 --   basis-length, sizes-kept    how many rows a block has
+--   chain-listed                a chain ends in a block that is not full
 --   times-none, times-one       how often a place stands in the blocks
 --   witness-shown               closed places are more than the blocks times their rank
 --   all-shown                   all places, where each block is full
@@ -20,14 +21,14 @@ use Rattle.matroid_partition.specs.declared.search.Node.{Node}
 use Rattle.matroid_partition.specs.Partitions.{count_of, times, IsPartition, IsWitness}
 use Rattle.matroid_partition.specs.Places.{Has, IsAscending}
 use Rattle.matroid_partition.specs.Blocks.{IsBlock, IsOpen, IsShown, IsState, OthersSpan, SpansFirst, places_at}
-use Rattle.matroid_partition.specs.Searches.{parts, node_at, row_of, IsFront, IsSeen, IsSpread}
+use Rattle.matroid_partition.specs.Searches.{parts, node_at, row_of, IsChain, IsFront, IsSeen, IsSpread}
 use Rattle.gf2_linear.specs.Rows.{is_independent, is_sum, rank, row_sum, rows_at}
 use Rattle.gf2_linear.proofs.Spans.{Span, All_span, Free, Span-zero, Span-same, Span-add, steinitz}
 use Rattle.gf2_linear.proofs.Ranks.{is_sum-spanned, Span-is_sum, independent-Free}
 use Rattle.matroid_partition.proofs.PlaceLaws.{Has-at, at-Has, count_of-none, count_of-one, IsStrictlyIncreasing-ascending}
 use Rattle.matroid_partition.proofs.Exchanges.{All_in, Has-span}
 use Rattle.matroid_partition.proofs.Witnesses.{is_in, kept, Distinct, At_most_once, At_least_once, All_close, All_free, witness-more, least-by_witness}
-use Rattle.matroid_partition.proofs.StateLaws.{any-block, block-free, places_at-is, places_at-within}
+use Rattle.matroid_partition.proofs.StateLaws.{any-block, block-free, listed, places_at-is, places_at-within}
 use Rattle.matroid_partition.proofs.OpenLaws.{Has-range, range-below}
 use Rattle.matroid_partition.proofs.SearchLaws.{Has-parts, parts-sum}
 
@@ -74,16 +75,22 @@ pub sizes-kept : (rows homes homes' : List ℕ) (blocks blocks' : List Block) (u
     → (k : ℕ) (d : Block) → k < length blocks' → (Has unfilled k → ⊥) → (k ≡ end → ⊥) → length (get_or blocks' k d).basis ≡ full
 sizes-kept rows homes homes' blocks blocks' unfilled full end st st' e s o k d l n m =
     let l' : k < length blocks = subst (λ q. k < q) e l in
-    let z : cond (nat_eq k end) 1 0 ≡ 0 = one (nat_eq k end) (ne_eqb k end m) in
     let a : length (get_or blocks' k d).basis ≡ length (places_at blocks' k) = basis-length rows homes' blocks' k d st' l in
     let b : length (get_or blocks k d).basis ≡ length (places_at blocks k) = basis-length rows homes blocks k d st l' in
     let f : length (get_or blocks k d).basis ≡ full = o.others k d l' n in
-    let t : length (places_at blocks' k) ≡ length (places_at blocks k) + cond (nat_eq k end) 1 0 = s k in
+    let t : length (places_at blocks' k) ≡ length (places_at blocks k) + 0 = s k ∙ ap (λ b. length (places_at blocks k) + cond b 1 0) (ne_eqb k end m) in
     omega arith
+
+-- the block that the chain ends in wasn't full
+pub chain-listed : (rows homes : List ℕ) (blocks : List Block) (all unfilled : List ℕ) (nodes : List Node) (last into : ℕ) → IsState rows homes blocks
+    → SpansFirst (length homes + 1) rows all → IsOpen (length all) blocks unfilled → IsChain rows homes blocks nodes last into → Has unfilled into
+chain-listed rows homes blocks all unfilled nodes last into st sp o c =
+    listed blocks unfilled (row_of rows (node_at nodes last)) into (any-block blocks into c.room.there)
+    (others-span rows homes blocks all unfilled (node_at nodes last).place st sp o (most last c.there)) c.room
   where
-    one : (t : Bool) → t ≡ false → cond t 1 0 ≡ 0
-    one true e = absurd (both_ways true e refl)
-    one false e = refl
+    most : (k : ℕ) → k < length nodes → (node_at nodes k).place ≤ length homes
+    most zero l = let e : (node_at nodes 0).place ≡ length homes = c.tree.root in omega arith
+    most (suc k) l = let s : (node_at nodes (suc k)).place < length homes = (c.tree.each (suc k) (omega arith) l).old in omega arith
 
 -- ---- how often a place stands in the blocks
 abbrev pub lists_of : List Block → List (List ℕ)
@@ -286,3 +293,10 @@ seen-shown rows homes blocks nodes seen node number S st fr g e =
         (row_sum (map (r_of rows) (parts rows (places_at blocks k) v))) v (parts-sum rows (places_at blocks k) v (is_sum-spanned (map (r_of rows) (places_at blocks k)) v t.spanned))
         (all_in-span (r_of rows) (kept (filter (λ p. get_or seen p false) (range_with_len 0 (length seen))) (places_at blocks k)) (parts rows (places_at blocks k) v)
         (λ y h. kept-has (filter (λ p. get_or seen p false) (range_with_len 0 (length seen))) (places_at blocks k) y (Has-parts rows (places_at blocks k) v y h) (in-seen y (t.reached y h))))
+
+none-left : (xs : List ℕ) → length xs ≡ 0 → xs ≡ []
+none-left [] e = refl
+none-left (x ∷ xs) e = absurd (omega (arith, e))
+
+pub open-none : (full : ℕ) (blocks : List Block) (unfilled : List ℕ) → length unfilled ≡ 0 → IsOpen full blocks unfilled → IsOpen full blocks []
+open-none full blocks unfilled e o = subst (λ (q : List ℕ). IsOpen full blocks q) (none-left unfilled e) o
