@@ -300,3 +300,185 @@ none-left (x ∷ xs) e = absurd (omega (arith, e))
 
 pub open-none : (full : ℕ) (blocks : List Block) (unfilled : List ℕ) → length unfilled ≡ 0 → IsOpen full blocks unfilled → IsOpen full blocks []
 open-none full blocks unfilled e o = subst (λ (q : List ℕ). IsOpen full blocks q) (none-left unfilled e) o
+
+-- ---- row after row
+pub record Underway (rows : List ℕ) (n : ℕ) (homes : List ℕ) (blocks : List Block) (unfilled all witness : List ℕ) : Type 0 where
+  pub count : length homes ≡ n
+  pub state : IsState rows homes blocks
+  pub rooms : IsOpen (length all) blocks unfilled
+  pub spans : SpansFirst n rows all
+  pub shown : 0 < length blocks → IsShown rows n (length blocks - 1) witness
+  pub none : length blocks ≡ 0 → witness ≡ []
+
+pub underway-start : (rows homes : List ℕ) (blocks : List Block) (unfilled all witness : List ℕ) → homes ≡ [] → blocks ≡ [] → unfilled ≡ [] → witness ≡ []
+    → Underway rows 0 homes blocks unfilled all witness
+underway-start rows homes blocks unfilled all witness h b u w =
+    subst (λ (q : List ℕ). Underway rows 0 q blocks unfilled all witness) (sym h)
+    (subst (λ (q : List Block). Underway rows 0 [] q unfilled all witness) (sym b) (record {
+      count = refl;
+      state = record {
+        few = omega arith;
+        block = λ k d l. absurd (omega arith);
+        home = λ i l. absurd (omega arith);
+        only = λ k i t. absurd t;
+      };
+      rooms = subst (λ (q : List ℕ). IsOpen (length all) [] q) (sym u) (record {
+        within = λ k d l. absurd (omega arith);
+        others = λ k d l n. absurd (omega arith);
+      });
+      spans = λ i l. absurd (omega arith);
+      shown = λ l. absurd (omega arith);
+      none = λ e. w;
+    }))
+
+-- one row more is spanned
+pub spans-more : (rows : List ℕ) (n x : ℕ) (old new : List ℕ) → x ≡ get_or rows n 0 → SpansFirst n rows old → ((v : ℕ) → is_sum old v ≡ true → is_sum new v ≡ true) → is_sum new x ≡ true
+    → SpansFirst (n + 1) rows new
+spans-more rows n x old new e s k h i l = elim (cases_eq i n) [
+  | inl q ↦ ap (λ j. is_sum new (get_or rows j 0)) q ∙ ap (is_sum new) (sym e) ∙ h
+  | inr m ↦ k (get_or rows i 0) (s i (omega arith))
+]
+
+pub underway-opened : (rows : List ℕ) (n : ℕ) (homes homes' : List ℕ) (blocks blocks' : List Block) (unfilled' all witness : List ℕ) → length homes ≡ n → length homes' ≡ length homes + 1
+    → IsState rows homes' blocks' → IsOpen (length all) blocks' unfilled' → SpansFirst (n + 1) rows all → length blocks' ≡ length blocks + 1
+    → IsShown rows (length homes') (length blocks) witness → Underway rows (n + 1) homes' blocks' unfilled' all witness
+underway-opened rows n homes homes' blocks blocks' unfilled' all witness c h st o sp b w =
+    let m : length homes' ≡ n + 1 = h ∙ ap (λ k. k + 1) c in record {
+      count = m;
+      state = st;
+      rooms = o;
+      spans = sp;
+      shown = λ l. let e : length blocks ≡ length blocks' - 1 = omega arith in
+          subst (λ k. IsShown rows k (length blocks' - 1) witness) m (subst (λ k. IsShown rows (length homes') k witness) e w);
+      none = λ e. absurd (omega arith);
+    }
+
+pub underway-entered : (rows : List ℕ) (n : ℕ) (homes homes' : List ℕ) (blocks blocks' : List Block) (unfilled unfilled' old all witness : List ℕ)
+    → Underway rows n homes blocks unfilled old witness → length homes' ≡ length homes + 1
+    → IsState rows homes' blocks' → IsOpen (length all) blocks' unfilled' → SpansFirst (n + 1) rows all → length blocks' ≡ length blocks
+    → Underway rows (n + 1) homes' blocks' unfilled' all witness
+underway-entered rows n homes homes' blocks blocks' unfilled unfilled' old all witness u h st o sp b = record {
+  count = h ∙ ap (λ k. k + 1) u.count;
+  state = st;
+  rooms = o;
+  spans = sp;
+  shown = λ l. let s : IsShown rows n (length blocks - 1) witness = u.shown (subst (λ k. 0 < k) b l) in
+      subst (λ k. IsShown rows (n + 1) (k - 1) witness) (sym b) (record {
+        within = All-weaker (λ i. i < n) (λ i. i < n + 1) (λ i a. omega arith) witness s.within;
+        ascending = s.ascending;
+        more = s.more;
+      });
+  none = λ e. u.none (sym b ∙ e);
+}
+
+-- ---- the end
+pub IsPartition-state : (rows homes : List ℕ) (blocks : List Block) (lists : List (List ℕ)) → IsState rows homes blocks → length homes ≡ length rows → lists ≡ lists_of blocks
+    → IsPartition rows lists
+IsPartition-state rows homes blocks lists st n e =
+    subst (IsPartition rows) (sym e) (record {
+      once = λ i l. state-once rows homes blocks st i (subst (λ k. i < k) (sym n) l);
+      within = All-map (λ b. All (λ i. i < length rows) b) (λ (b : Block). b.places.items) blocks (λ k d l. (st.block k d l).within);
+      independent = All-map (λ b. IsTrue (is_independent (rows_at rows b))) (λ (b : Block). b.places.items) blocks (λ k d l. (st.block k d l).independent);
+    })
+
+pub ascending-state : (rows homes : List ℕ) (blocks : List Block) (lists : List (List ℕ)) → IsState rows homes blocks → lists ≡ lists_of blocks → All IsStrictlyIncreasing lists
+ascending-state rows homes blocks lists st e =
+    subst (All IsStrictlyIncreasing) (sym e)
+    (All-map IsStrictlyIncreasing (λ (b : Block). b.places.items) blocks (λ k d l. IsStrictlyIncreasing-ascending (get_or blocks k d).places.items (st.block k d l).ascending))
+
+range-shown : (rows : List ℕ) (n : ℕ) → n ≡ length rows → 0 < n → IsShown rows n 0 (range_with_len 0 n)
+range-shown rows n e l = record {
+  within = range-below n;
+  ascending = IsStrictlyIncreasing-ascending (range_with_len 0 n) (range-ascending 0 n);
+  more = let m : length (range_with_len 0 n) ≡ n = length-range_with_len 0 n in omega arith;
+}
+
+pub IsWitness-shown : (rows : List ℕ) (n : ℕ) (homes : List ℕ) (blocks : List Block) (unfilled all witness shown : List ℕ) (count : ℕ) (lists : List (List ℕ))
+    → Underway rows n homes blocks unfilled all witness → n ≡ length rows → count ≡ length blocks → length lists ≡ count
+    → (count ≡ 1 → shown ≡ range_with_len 0 (length rows)) → ((count ≡ 1 → ⊥) → shown ≡ witness) → IsWitness rows lists shown
+IsWitness-shown rows n homes blocks unfilled all witness shown count lists u e c l one other = elim (cases_eq count 1) [
+  | inl q ↦ let p : 0 < length blocks = omega arith in
+      subst (IsWitness rows lists) (sym (one q)) (record {
+        within = range-below (length rows);
+        ascending = IsStrictlyIncreasing-ascending (range_with_len 0 (length rows)) (range-ascending 0 (length rows));
+        more = λ h. let m : length (range_with_len 0 (length rows)) ≡ length rows = length-range_with_len 0 (length rows) in
+            let z : length lists - 1 ≡ 0 = omega arith in
+            subst (λ k. k * rank (rows_at rows (range_with_len 0 (length rows))) < length (range_with_len 0 (length rows))) (sym z) (omega arith);
+      })
+  | inr m ↦ subst (IsWitness rows lists) (sym (other m)) (elim (cases_eq count 0) [
+    | inl z ↦ let w : witness ≡ [] = u.none (sym c ∙ z) in
+        subst (IsWitness rows lists) (sym w) (record {
+          within = λ k d h. absurd (omega arith);
+          ascending = λ k h. absurd (omega arith);
+          more = λ h. let t : times 0 (lists_of blocks) ≡ 1 = state-once rows homes blocks u.state 0 (omega (arith, u.count, e)) in
+              absurd (nowhere blocks 0 (sym c ∙ z) t);
+        })
+    | inr k ↦ let p : 0 < length blocks = omega arith in
+        let s : IsShown rows n (length blocks - 1) witness = u.shown p in record {
+          within = subst (λ j. All (λ i. i < j) witness) e s.within;
+          ascending = s.ascending;
+          more = λ h. subst (λ j. (j - 1) * rank (rows_at rows witness) < length witness) (sym (l ∙ c)) s.more;
+        }
+  ])
+]
+  where
+    nowhere : (bs : List Block) (i : ℕ) → length bs ≡ 0 → times i (lists_of bs) ≡ 1 → ⊥
+    nowhere [] i z t = absurd (omega (arith, t))
+    nowhere (b ∷ bs) i z t = absurd (omega (arith, z))
+
+ascending-increasing : (xs : List ℕ) → IsStrictlyIncreasing xs → IsAscending xs
+ascending-increasing [] a = tt
+ascending-increasing (x ∷ xs) a = (above xs x (head xs x a) later, ascending-increasing xs later)
+  where
+    later : IsStrictlyIncreasing xs
+    later k l = let e : suc k + 1 ≡ suc (k + 1) = omega arith in
+        subst (λ m. get_or xs k 0 < get_or (x ∷ xs) m 0) e (a (suc k) (omega arith))
+
+    head : (ys : List ℕ) (y : ℕ) → IsStrictlyIncreasing (y ∷ ys) → 0 < length ys → y < get_or ys 0 0
+    head ys y b l = let e : 0 + 1 ≡ 1 = omega arith in b 0 (omega arith)
+
+    above : (ys : List ℕ) (y : ℕ) → (0 < length ys → y < get_or ys 0 0) → IsStrictlyIncreasing ys → (z : ℕ) → Has ys z → y < z
+    above [] y f b z h = absurd h
+    above (w ∷ ys) y f b z h =
+        let l : y < w = f (omega arith) in
+        elim h [
+          | inl e ↦ subst (λ m. y < m) e l
+          | inr t ↦ above ys y
+              (λ g. let s : w < get_or ys 0 0 = head ys w b g in omega arith)
+              (λ k g. let e : suc k + 1 ≡ suc (k + 1) = omega arith in subst (λ m. get_or ys k 0 < get_or (w ∷ ys) m 0) e (b (suc k) (omega arith))) z t
+        ]
+
+distinct-increasing : (xs : List ℕ) → IsStrictlyIncreasing xs → Distinct xs
+distinct-increasing xs a = distinct-ascending xs (ascending-increasing xs a)
+
+at_least-from : (rows : List ℕ) (other : List (List ℕ)) → IsPartition rows other → (S : List ℕ) → ((y : ℕ) → Has S y → y < length rows) → At_least_once S other
+at_least-from rows other p [] h = tt
+at_least-from rows other p (s ∷ S) h = (
+  (let t : times s other ≡ 1 = p.once s (h s (inl refl)) in omega arith),
+  at_least-from rows other p S (λ y m. h y (inr m)),
+)
+
+all_free-from : (rows : List ℕ) (other : List (List ℕ)) → All (λ b. IsTrue (is_independent (rows_at rows b))) other → All_free (r_of rows) other
+unfolding rows_at
+all_free-from rows [] h = tt
+all_free-from rows (b ∷ other) h = (
+  independent-Free (map (r_of rows) b) (h 0 b (omega arith)),
+  all_free-from rows other (λ k d l. h (suc k) d (omega arith)),
+)
+
+pub least-shown : (rows : List ℕ) (n : ℕ) (homes : List ℕ) (blocks : List Block) (unfilled all witness : List ℕ) → Underway rows n homes blocks unfilled all witness → n ≡ length rows
+    → (other : List (List ℕ)) → IsPartition rows other → length blocks ≤ length other
+unfolding rows_at
+least-shown rows n homes blocks unfilled all witness u e other p = elim (cases_eq (length blocks) 0) [
+  | inl z ↦ omega arith
+  | inr m ↦
+      let s : IsShown rows n (length blocks - 1) witness = u.shown (omega arith) in
+      let l : length blocks - 1 < length other =
+      least-by_witness (r_of rows) witness (length blocks - 1) other (distinct-increasing witness s.ascending)
+      (at_least-from rows other p witness (λ y h. inside witness y h s.within)) (all_free-from rows other p.independent) s.more in
+      omega arith
+]
+  where
+    inside : (w : List ℕ) (y : ℕ) → Has w y → All (λ i. i < n) w → y < length rows
+    inside w y h a = let r : (j : ℕ) × (j < length w) × (get_or w j 0 ≡ y) = Has-at w y h in
+        let l : get_or w r.0 0 < n = a r.0 0 r.1 in subst (λ k. k < length rows) r.2 (omega arith)
