@@ -1,16 +1,18 @@
 -- Blocks as loops make them.
---   range-more              one number more
---   taken_out-append        one place more, without one
---   block-insert            one row more of a block
---   HasRoomAt, AllSpan      the first block with room
-use Rattle.std.proofs.Common.{◌≡◌, ℕ, zero, suc, ◌+◌, ◌<◌, ◌≤◌, Bool, true, false, cond, List, [], ◌∷◌, ◌++◌, length, map, take, get_or, refl, sym, ap, subst, ◌∙◌, arith, ◌⊎◌, inl, inr, zero-add}
+--   range-more                      one number more below a bound
+--   taken_out-kept, taken_out-gone  one place more, in a list without one
+--   block-none, -insert, -done      the basis of a block, row by row
+--   within-.., independent-..       a block after a place came in or went out
+--   room-absent                     a block with room for a row doesn't have it
+--   basis-append                    the basis with a row behind
+use Rattle.std.proofs.Common.{◌≡◌, ℕ, suc, ◌+◌, ◌<◌, Bool, true, false, cond, List, [], ◌∷◌, ◌++◌, length, map, take, get_or, refl, sym, ap, subst, ◌∙◌, arith, inl, inr, zero-add}
 use Rattle.std.specs.Prelude.{nat_eq, All}
 use Rattle.std.specs.List.{range_with_len, AllByRecursion}
 use Rattle.std.proofs.lemmas.List.Elements.{All-from_recursion, recursion_from_All}
 use Rattle.gf2_linear.proofs.Ranks.{Free-independent, independent-Free}
 use Rattle.matroid_partition.proofs.Exchanges.{Free-taken_out}
 use Rattle.std.specs.Bool.{MatchBool}
-use Rattle.std.proofs.lemmas.Bool.{eq-eqb, ne_eqb, cases_eq}
+use Rattle.std.proofs.lemmas.Bool.{eq-eqb, ne_eqb}
 use Rattle.std.proofs.lemmas.List.{map-id, map-append, get_or-map, length-map}
 use Rattle.std.proofs.lemmas.List.FromFn.{map-range_with_len_more}
 use Rattle.std.proofs.Math.Seq.{take-suc, take-length}
@@ -19,8 +21,7 @@ use Rattle.gf2_linear.proofs.SumLaws.{taken-insert, item}
 use Rattle.matroid_partition.specs.Places.{Has, put_in, taken_out}
 use Rattle.matroid_partition.proofs.PlaceLaws.{Has-at, Has-put_in, at-Has}
 use Rattle.matroid_partition.proofs.Exchanges.{Has-span, Free-put_in}
-use Rattle.gf2_linear.proofs.Spans.{Span}
-use Rattle.gf2_linear.proofs.Ranks.{Span-is_sum, is_sum-spanned}
+use Rattle.gf2_linear.proofs.Ranks.{Span-is_sum}
 use Rattle.std.proofs.lemmas.Bool.{both_ways}
 
 append_nil : (xs : List ℕ) → xs ++ [] ≡ xs

@@ -1,15 +1,18 @@
 -- The augmentation: a row comes in by a chain of exchanges, and all blocks stay independent.
 -- Here blocks are a function from the number of a block to its places, and r gives the row of a place.
---   Free-put_in             a row that isn't spanned goes in
---   Free-taken_out          a row goes out
---   Link, Linked            a chain, from its end to its beginning; no node is used by an earlier one
---   shifted                 the blocks after the exchanges along a chain
---   shifted-free            they are independent
-use Rattle.std.proofs.Common.{◌≡◌, ℕ, zero, suc, ◌+◌, ◌<◌, ◌≤◌, Bool, true, false, cond, List, [], ◌∷◌, ◌++◌, length, map, refl, sym, ap, subst, ◌∙◌, arith, ◌⊎◌, inl, inr}
+--   Free-put_in, Free-taken_out    a row that isn't spanned goes in; a row goes out
+--   All_in, Lacks, Uses            places in a list; a list without a place; with it once
+--   sum-without, sum-using         the row that places sum to, once a place is taken out
+--   Free-other                     a row of independent rows isn't spanned by the others
+--   Link, Linked                   a chain, from its end to its beginning; no link's place is used by an earlier one
+--   gained, lost                   the blocks with a place put in, taken out
+--   linked-moved                   the rest of a chain stays linked after its last exchange
+--   room-left, lost-here           the block that a place left has room for its taker
+use Rattle.std.proofs.Common.{◌≡◌, ℕ, Bool, true, false, cond, List, [], ◌∷◌, map, refl, sym, ap, subst, ◌∙◌, ◌⊎◌, inl, inr}
 use Rattle.std.specs.Prelude.{bit_xor, nat_eq, nat_lt}
-use Rattle.std.specs.Int.Bits.{xor_assoc, xor_self, xor_zero_l, xor_zero_r}
+use Rattle.std.specs.Int.Bits.{xor_assoc, xor_self, xor_zero_r}
 use Rattle.std.proofs.lemmas.Nat.{xor_comm}
-use Rattle.std.proofs.lemmas.Bool.{both_ways, eqb-true, eqb-false, eq-eqb, ne_eqb, cases_eq}
+use Rattle.std.proofs.lemmas.Bool.{eqb-true, eqb-false, eq-eqb, ne_eqb}
 use Rattle.gf2_linear.specs.Rows.{row_sum}
 use Rattle.gf2_linear.proofs.Xor.{xor_again, xor_exchange}
 use Rattle.gf2_linear.proofs.Spans.{Span, All_span, Free, Span-zero, Span-same, Span-first, Span-add, Span-within, All_span-more, All_span-self, All_span-within}
@@ -28,14 +31,6 @@ all_span-put_in r x (p ∷ ps) = go (nat_lt x p) (all_span-put_in r x ps)
       All_span-within (r x ∷ (r p ∷ map r ps)) (r x ∷ map r ps) (map r (put_in x ps))
           (Span-first (r x) (r p ∷ map r ps), All_span-more (r x) (r p ∷ map r ps) (map r ps) (All_span-more (r p) (map r ps) (map r ps) (All_span-self (map r ps)))) h,
     )
-
-pub put_in-all_span : (r : ℕ → ℕ) (x : ℕ) (ps : List ℕ) → All_span (map r (put_in x ps)) (map r ps)
-put_in-all_span r x [] = tt
-put_in-all_span r x (p ∷ ps) = go (nat_lt x p) (put_in-all_span r x ps)
-  where
-    go : (b : Bool) → All_span (map r (put_in x ps)) (map r ps) → All_span (map r (cond b (x ∷ (p ∷ ps)) (p ∷ put_in x ps))) (r p ∷ map r ps)
-    go true h = All_span-more (r x) (r p ∷ map r ps) (r p ∷ map r ps) (All_span-self (r p ∷ map r ps))
-    go false h = (Span-first (r p) (map r (put_in x ps)), All_span-more (r p) (map r (put_in x ps)) (map r ps) h)
 
 pub Free-put_in : (r : ℕ → ℕ) (x : ℕ) (ps : List ℕ) → Free (map r ps) → (Span (map r ps) (r x) → ⊥) → Free (map r (put_in x ps))
 Free-put_in r x [] f n = (n, tt)
@@ -178,27 +173,6 @@ gained B c x b = cond (nat_eq b c) (put_in x (B b)) (B b)
 unfoldable pub lost : (ℕ → List ℕ) → ℕ → ℕ → ℕ → List ℕ
 lost B h y b = cond (nat_eq b h) (taken_out y (B b)) (B b)
 
--- the last place goes into the block c, which has room; its taker into the block that it leaves, and so on
-abbrev pub shifted : (ℕ → List ℕ) → ℕ → List Link → ℕ → ℕ → List ℕ
-shifted B new [] c = gained B c new
-shifted B new (n ∷ chain) c = shifted (lost (gained B c n.place) n.home n.place) new chain n.home
-
-pub gained-free : (r : ℕ → ℕ) (B : ℕ → List ℕ) (c x : ℕ) → ((b : ℕ) → Free (map r (B b))) → (Span (map r (B c)) (r x) → ⊥) → (b : ℕ) → Free (map r (gained B c x b))
-unfolding gained
-gained-free r B c x f n b = go (nat_eq b c) refl
-  where
-    go : (t : Bool) → nat_eq b c ≡ t → Free (map r (cond t (put_in x (B b)) (B b)))
-    go true e = Free-put_in r x (B b) (f b) (λ s. n (subst (λ k. Span (map r (B k)) (r x)) (eqb-true b c e) s))
-    go false e = f b
-
-pub lost-free : (r : ℕ → ℕ) (B : ℕ → List ℕ) (h y : ℕ) → ((b : ℕ) → Free (map r (B b))) → (b : ℕ) → Free (map r (lost B h y b))
-unfolding lost
-lost-free r B h y f b = go (nat_eq b h)
-  where
-    go : (t : Bool) → Free (map r (cond t (taken_out y (B b)) (B b)))
-    go true = Free-taken_out r y (B b) (f b)
-    go false = f b
-
 -- what is in the blocks is still there, but for the place taken out
 pub Has-moved : (B : ℕ → List ℕ) (c x h : ℕ) (b y : ℕ) → Has (B b) y → (y ≡ x → ⊥) → Has (lost (gained B c x) h x b) y
 unfolding gained lost
@@ -248,15 +222,3 @@ unfolding gained lost
 lost-here B c x h n =
     ap (λ t. cond t (taken_out x (cond (nat_eq h c) (put_in x (B h)) (B h))) (cond (nat_eq h c) (put_in x (B h)) (B h))) (eq-eqb h h refl)
     ∙ ap (λ t. taken_out x (cond t (put_in x (B h)) (B h))) (ne_eqb h c n)
-
--- where the blocks are independent, the chain is linked and the last place has room in c, the blocks stay independent
-pub shifted-free : (r : ℕ → ℕ) (B : ℕ → List ℕ) (new : ℕ) (chain : List Link) (c : ℕ) → ((b : ℕ) → Free (map r (B b))) → Linked r B new chain
-    → Apart c chain → (Span (map r (B c)) (r (taker new chain)) → ⊥) → (b : ℕ) → Free (map r (shifted B new chain c b))
-shifted-free r B new [] c f l p n = gained-free r B c new f n
-shifted-free r B new (m ∷ chain) c f l p n =
-    shifted-free r (lost (gained B c m.place) m.home m.place) new chain m.home
-    (lost-free r (gained B c m.place) m.home m.place (gained-free r B c m.place f n))
-    (linked-moved r B new c m.place m.home chain l.6 l.4)
-    l.5
-    (λ s. room-left r B m (taker new chain) (f m.home) l.0 l.1 l.2 l.3
-    (subst (λ (q : List ℕ). Span (map r q) (r (taker new chain))) (lost-here B c m.place m.home p) s))

@@ -6,29 +6,30 @@
 --   witness-shown               closed places are more than the blocks times their rank
 --   all-shown                   all places, where each block is full
 --   seen-shown                  the places that a search has reached
---   Underway, underway-..       the rows that have come in so far
---   IsPartition-underway, ..    all rows
-use Rattle.std.proofs.Common.{◌≡◌, ℕ, zero, suc, ◌+◌, ◌-◌, ◌*◌, ◌<◌, ◌≤◌, Bool, true, false, cond, List, [], ◌∷◌, ◌++◌, length, map, get_or, refl, sym, ap, subst, ◌∙◌, arith, ◌⊎◌, inl, inr, zero-add}
+--   open-none                   no block is open
+--   Underway, spans-more, underway-opened, -entered    the rows that have come in so far, one more
+--   IsPartition-state, ascending-state, IsWitness-shown, least-shown    all rows
+use Rattle.std.proofs.Common.{◌≡◌, ℕ, zero, suc, ◌+◌, ◌-◌, ◌*◌, ◌<◌, ◌≤◌, Bool, true, false, cond, List, [], ◌∷◌, length, map, get_or, refl, sym, ap, subst, ◌∙◌, arith, ◌⊎◌, inl, inr}
 use Rattle.std.specs.Prelude.{nat_eq, All, IsTrue, filter}
 use Rattle.std.specs.List.{range_with_len}
 use Rattle.std.specs.List.Sorted.{IsStrictlyIncreasing}
-use Rattle.std.proofs.lemmas.Bool.{both_ways, eqb-true, eqb-false, eq-eqb, ne_eqb, cases_eq, cases_lt, cases_Bool}
+use Rattle.std.proofs.lemmas.Bool.{both_ways, eq-eqb, ne_eqb, cases_eq, cases_lt, cases_Bool}
 use Rattle.std.proofs.lemmas.List.{length-map, get_or_past}
-use Rattle.std.proofs.lemmas.List.Elements.{All-map, All-weaker, All-from_recursion}
+use Rattle.std.proofs.lemmas.List.Elements.{All-map, All-weaker}
 use Rattle.std.proofs.lemmas.List.FromFn.{length-range_with_len}
 use Rattle.matroid_partition.specs.declared.blocks.Block.{Block}
 use Rattle.matroid_partition.specs.declared.search.Node.{Node}
 use Rattle.matroid_partition.specs.Partitions.{count_of, times, IsPartition, IsWitness}
 use Rattle.matroid_partition.specs.Places.{Has, IsAscending}
-use Rattle.matroid_partition.specs.Blocks.{IsBlock, IsOpen, IsShown, IsState, OthersSpan, SpansFirst, places_at}
+use Rattle.matroid_partition.specs.Blocks.{IsOpen, IsShown, IsState, OthersSpan, SpansFirst, places_at}
 use Rattle.matroid_partition.specs.Searches.{parts, node_at, row_of, IsChain, IsFront, IsSeen, IsSpread}
 use Rattle.gf2_linear.specs.Rows.{is_independent, is_sum, rank, row_sum, rows_at}
 use Rattle.gf2_linear.proofs.Spans.{Span, All_span, Free, Span-zero, Span-same, Span-add, steinitz}
 use Rattle.gf2_linear.proofs.Ranks.{is_sum-spanned, Span-is_sum, independent-Free}
 use Rattle.matroid_partition.proofs.PlaceLaws.{Has-at, at-Has, count_of-none, count_of-one, IsStrictlyIncreasing-ascending}
-use Rattle.matroid_partition.proofs.Exchanges.{All_in, Has-span}
+use Rattle.matroid_partition.proofs.Exchanges.{Has-span}
 use Rattle.matroid_partition.proofs.Witnesses.{is_in, kept, Distinct, At_most_once, At_least_once, All_close, All_free, witness-more, least-by_witness}
-use Rattle.matroid_partition.proofs.StateLaws.{any-block, block-free, listed, places_at-is, places_at-within}
+use Rattle.matroid_partition.proofs.StateLaws.{any-block, listed, places_at-is}
 use Rattle.matroid_partition.proofs.OpenLaws.{Has-range, range-below}
 use Rattle.matroid_partition.proofs.SearchLaws.{Has-parts, parts-sum}
 
@@ -243,14 +244,14 @@ all-shown rows homes blocks all S st sp o e =
     (witness-shown rows homes blocks (range_with_len 0 (length homes + 1)) st (range-ascending 0 (length homes + 1)) (range-to (length homes + 1))
     (Has-range (length homes + 1) (length homes) (omega arith))
     (λ k l y h.
-        let d : Block = any-block blocks k l in
-        let yl : y < length homes + 1 = range-to (length homes + 1) y h in
-        subst (λ (q : List ℕ). Span (map (r_of rows) q) (r_of rows y))
-        (sym (kept-all (range_with_len 0 (length homes + 1)) (places_at blocks k)
-        (λ z t. Has-range (length homes + 1) z (let s : z < length homes = (st.only k z t).0 in omega arith))))
-        (subst (λ (q : List ℕ). Span (map (r_of rows) q) (r_of rows y)) (sym (places_at-is blocks k d l))
-        (is_sum-spanned (map (r_of rows) (get_or blocks k d).places.items) (r_of rows y)
-        (subst (λ (q : List ℕ). is_sum q (r_of rows y) ≡ true) (st.block k d l).basis (full-spans rows homes blocks all k d y st sp l (o.others k d l (λ z. z)) (omega arith)))))))
+    let d : Block = any-block blocks k l in
+    let yl : y < length homes + 1 = range-to (length homes + 1) y h in
+    subst (λ (q : List ℕ). Span (map (r_of rows) q) (r_of rows y))
+    (sym (kept-all (range_with_len 0 (length homes + 1)) (places_at blocks k)
+    (λ z t. Has-range (length homes + 1) z (let s : z < length homes = (st.only k z t).0 in omega arith))))
+    (subst (λ (q : List ℕ). Span (map (r_of rows) q) (r_of rows y)) (sym (places_at-is blocks k d l))
+    (is_sum-spanned (map (r_of rows) (get_or blocks k d).places.items) (r_of rows y)
+    (subst (λ (q : List ℕ). is_sum q (r_of rows y) ≡ true) (st.block k d l).basis (full-spans rows homes blocks all k d y st sp l (o.others k d l (λ z. z)) (omega arith)))))))
 
 all_in-span : (r : ℕ → ℕ) (ps es : List ℕ) → ((y : ℕ) → Has es y → Has ps y) → Span (map r ps) (row_sum (map r es))
 unfolding row_sum
@@ -268,17 +269,17 @@ seen-shown rows homes blocks nodes seen node number S st fr g e =
     (λ y h. subst (λ n. y < n) fr.long (range-to (length seen) y (filter-from (λ p. get_or seen p false) (range_with_len 0 (length seen)) y h).0))
     (in-seen (length homes) (subst (IsSeen seen) fr.tree.root (fr.marked 0 fr.tree.some)))
     (λ k l y h.
-        let s : IsSeen seen y = (filter-from (λ p. get_or seen p false) (range_with_len 0 (length seen)) y h).1 in
-        let r : (j : ℕ) × (j < length nodes) × ((node_at nodes j).place ≡ y) = fr.known y s in
-        let b : r.0 < length nodes = r.1 in
-        subst (λ (q : ℕ). Span (map (r_of rows) (kept (filter (λ p. get_or seen p false) (range_with_len 0 (length seen))) (places_at blocks k))) (r_of rows q)) r.2
-        (elim (fr.before r.0 k (omega arith) l) [
-          | inl o ↦ Has-span (r_of rows) (node_at nodes r.0).place (kept (filter (λ p. get_or seen p false) (range_with_len 0 (length seen))) (places_at blocks k))
-              (kept-has (filter (λ p. get_or seen p false) (range_with_len 0 (length seen))) (places_at blocks k) (node_at nodes r.0).place
-              (subst (λ (q : ℕ). Has (places_at blocks q) (node_at nodes r.0).place) o.1 (st.home (node_at nodes r.0).place o.0).1)
-              (in-seen (node_at nodes r.0).place (fr.marked r.0 b)))
-          | inr t ↦ spread k (row_of rows (node_at nodes r.0)) t
-        ])))
+    let s : IsSeen seen y = (filter-from (λ p. get_or seen p false) (range_with_len 0 (length seen)) y h).1 in
+    let r : (j : ℕ) × (j < length nodes) × ((node_at nodes j).place ≡ y) = fr.known y s in
+    let b : r.0 < length nodes = r.1 in
+    subst (λ (q : ℕ). Span (map (r_of rows) (kept (filter (λ p. get_or seen p false) (range_with_len 0 (length seen))) (places_at blocks k))) (r_of rows q)) r.2
+    (elim (fr.before r.0 k (omega arith) l) [
+      | inl o ↦ Has-span (r_of rows) (node_at nodes r.0).place (kept (filter (λ p. get_or seen p false) (range_with_len 0 (length seen))) (places_at blocks k))
+          (kept-has (filter (λ p. get_or seen p false) (range_with_len 0 (length seen))) (places_at blocks k) (node_at nodes r.0).place
+          (subst (λ (q : ℕ). Has (places_at blocks q) (node_at nodes r.0).place) o.1 (st.home (node_at nodes r.0).place o.0).1)
+          (in-seen (node_at nodes r.0).place (fr.marked r.0 b)))
+      | inr t ↦ spread k (row_of rows (node_at nodes r.0)) t
+    ])))
   where
     in-seen : (y : ℕ) → IsSeen seen y → Has (filter (λ p. get_or seen p false) (range_with_len 0 (length seen))) y
     in-seen y s = filter-has (λ p. get_or seen p false) (range_with_len 0 (length seen)) y
@@ -309,27 +310,6 @@ pub record Underway (rows : List ℕ) (n : ℕ) (homes : List ℕ) (blocks : Lis
   pub spans : SpansFirst n rows all
   pub shown : 0 < length blocks → IsShown rows n (length blocks - 1) witness
   pub none : length blocks ≡ 0 → witness ≡ []
-
-pub underway-start : (rows homes : List ℕ) (blocks : List Block) (unfilled all witness : List ℕ) → homes ≡ [] → blocks ≡ [] → unfilled ≡ [] → witness ≡ []
-    → Underway rows 0 homes blocks unfilled all witness
-underway-start rows homes blocks unfilled all witness h b u w =
-    subst (λ (q : List ℕ). Underway rows 0 q blocks unfilled all witness) (sym h)
-    (subst (λ (q : List Block). Underway rows 0 [] q unfilled all witness) (sym b) (record {
-      count = refl;
-      state = record {
-        few = omega arith;
-        block = λ k d l. absurd (omega arith);
-        home = λ i l. absurd (omega arith);
-        only = λ k i t. absurd t;
-      };
-      rooms = subst (λ (q : List ℕ). IsOpen (length all) [] q) (sym u) (record {
-        within = λ k d l. absurd (omega arith);
-        others = λ k d l n. absurd (omega arith);
-      });
-      spans = λ i l. absurd (omega arith);
-      shown = λ l. absurd (omega arith);
-      none = λ e. w;
-    }))
 
 -- one row more is spanned
 pub spans-more : (rows : List ℕ) (n x : ℕ) (old new : List ℕ) → x ≡ get_or rows n 0 → SpansFirst n rows old → ((v : ℕ) → is_sum old v ≡ true → is_sum new v ≡ true) → is_sum new x ≡ true
@@ -385,13 +365,6 @@ pub ascending-state : (rows homes : List ℕ) (blocks : List Block) (lists : Lis
 ascending-state rows homes blocks lists st e =
     subst (All IsStrictlyIncreasing) (sym e)
     (All-map IsStrictlyIncreasing (λ (b : Block). b.places.items) blocks (λ k d l. IsStrictlyIncreasing-ascending (get_or blocks k d).places.items (st.block k d l).ascending))
-
-range-shown : (rows : List ℕ) (n : ℕ) → n ≡ length rows → 0 < n → IsShown rows n 0 (range_with_len 0 n)
-range-shown rows n e l = record {
-  within = range-below n;
-  ascending = IsStrictlyIncreasing-ascending (range_with_len 0 n) (range-ascending 0 n);
-  more = let m : length (range_with_len 0 n) ≡ n = length-range_with_len 0 n in omega arith;
-}
 
 pub IsWitness-shown : (rows : List ℕ) (n : ℕ) (homes : List ℕ) (blocks : List Block) (unfilled all witness shown : List ℕ) (count : ℕ) (lists : List (List ℕ))
     → Underway rows n homes blocks unfilled all witness → n ≡ length rows → count ≡ length blocks → length lists ≡ count

@@ -1,17 +1,16 @@
 -- Lists of places.
 --   Has-cases, Has-at, at-Has            a place is one of them or not; where it stands
 --   Has-put_in, put_in-has, taken_out-has    what is there after a place came in or went out
---   IsAscending-put_in, -taken_out, -unit    they stay ascending
+--   IsAscending-put_in, -taken_out       they stay ascending
 --   IsStrictlyIncreasing-ascending       in std's word
 --   put_in-behind                        a place behind all others
---   IsHalfPut, half-..                   put_in as a loop makes it
+--   IsHalfPut                            put_in as a loop makes it
 --   length-put_in, length-taken_out      one more, one fewer
 --   count_of-one, count_of-none          a place stands in an ascending list once or not at all
-use Rattle.std.proofs.Common.{◌≡◌, ℕ, zero, suc, ◌+◌, ◌<◌, ◌≤◌, Bool, true, false, cond, List, [], ◌∷◌, ◌++◌, length, take, drop, get_or, refl, sym, ap, subst, ◌∙◌, arith, ◌⊎◌, inl, inr}
+use Rattle.std.proofs.Common.{◌≡◌, ℕ, zero, suc, ◌+◌, ◌<◌, ◌≤◌, Bool, true, false, cond, List, [], ◌∷◌, ◌++◌, length, drop, get_or, refl, sym, ap, subst, ◌∙◌, arith, ◌⊎◌, inl, inr}
 use Rattle.std.specs.Prelude.{nat_eq, nat_lt}
 use Rattle.std.specs.List.Sorted.{IsStrictlyIncreasing}
-use Rattle.std.proofs.lemmas.Bool.{eqb-true, eqb-false, eq-eqb, ne_eqb, cases_eq, cases_lt, lt-ltb, le-ltb, ltb-true, ltb-false}
-use Rattle.std.proofs.lemmas.List.{append-nil, append_assoc, drop_more, drop_all}
+use Rattle.std.proofs.lemmas.Bool.{eqb-false, eq-eqb, ne_eqb, cases_eq, le-ltb, ltb-true, ltb-false}
 use Rattle.matroid_partition.specs.Places.{Has, IsAscending, put_in, taken_out}
 use Rattle.matroid_partition.specs.Partitions.{count_of}
 
@@ -60,14 +59,13 @@ IsAscending-put_in x (p ∷ ps) a n = go (nat_lt x p) refl (IsAscending-put_in x
         let l : x < p = ltb-true x p e in
         ((λ y h. elim h [ inl q ↦ subst (λ m. x < m) q l | inr t ↦ let m : p < y = a.0 y t in omega arith ]), a)
     go false e k =
-        let l : p ≤ x = ltb-false x p e in
-        ((λ y h. elim (Has-put_in x y ps h) [
-          | inl q ↦ elim (cases_eq p x) [ inl r ↦ absurd (n (inl r)) | inr d ↦ subst (λ m. p < m) q (omega arith) ]
-          | inr t ↦ a.0 y t
-        ]), k)
-
-pub IsAscending-unit : (x : ℕ) → IsAscending (x ∷ [])
-IsAscending-unit x = ((λ y h. absurd h), tt)
+        let l : p ≤ x = ltb-false x p e in (
+          (λ y h. elim (Has-put_in x y ps h) [
+            | inl q ↦ elim (cases_eq p x) [ inl r ↦ absurd (n (inl r)) | inr d ↦ subst (λ m. p < m) q (omega arith) ]
+            | inr t ↦ a.0 y t
+          ]),
+          k,
+        )
 
 pub length-put_in : (x : ℕ) (ps : List ℕ) → length (put_in x ps) ≡ length ps + 1
 length-put_in x [] = refl
@@ -86,31 +84,6 @@ put_in-behind x (p ∷ ps) h =
 -- put_in, half way through the list: what is written so far, and whether x is in
 abbrev pub IsHalfPut : ℕ → List ℕ → ℕ → List ℕ → Bool → Type 0
 IsHalfPut x ps i more b = put_in x ps ≡ more ++ cond b (drop i ps) (put_in x (drop i ps))
-
-pub half-in : (x i p : ℕ) (ps old new : List ℕ) → i < length ps → p ≡ get_or ps i 0 → IsHalfPut x ps i old true → new ≡ old ++ p ∷ [] → IsHalfPut x ps (i + 1) new true
-half-in x i p ps old new l e h n =
-    h ∙ ap (λ k. old ++ k) (drop_more ps i 0 l) ∙ ap (λ k. old ++ k ∷ drop (i + 1) ps) (sym e)
-    ∙ sym (append_assoc old (p ∷ []) (drop (i + 1) ps)) ∙ ap (λ k. k ++ drop (i + 1) ps) (sym n)
-
-pub half-now : (x i p : ℕ) (ps old mid new : List ℕ) → i < length ps → p ≡ get_or ps i 0 → x < p → IsHalfPut x ps i old false → mid ≡ old ++ x ∷ [] → new ≡ mid ++ p ∷ []
-    → IsHalfPut x ps (i + 1) new true
-half-now x i p ps old mid new l e s h m n =
-    h ∙ ap (λ k. old ++ put_in x k) (drop_more ps i 0 l) ∙ ap (λ k. old ++ put_in x (k ∷ drop (i + 1) ps)) (sym e)
-    ∙ ap (λ b. old ++ cond b (x ∷ (p ∷ drop (i + 1) ps)) (p ∷ put_in x (drop (i + 1) ps))) (lt-ltb x p s)
-    ∙ sym (append_assoc old (x ∷ []) (p ∷ drop (i + 1) ps)) ∙ ap (λ k. k ++ p ∷ drop (i + 1) ps) (sym m)
-    ∙ sym (append_assoc mid (p ∷ []) (drop (i + 1) ps)) ∙ ap (λ k. k ++ drop (i + 1) ps) (sym n)
-
-pub half-not : (x i p : ℕ) (ps old new : List ℕ) → i < length ps → p ≡ get_or ps i 0 → p ≤ x → IsHalfPut x ps i old false → new ≡ old ++ p ∷ [] → IsHalfPut x ps (i + 1) new false
-half-not x i p ps old new l e s h n =
-    h ∙ ap (λ k. old ++ put_in x k) (drop_more ps i 0 l) ∙ ap (λ k. old ++ put_in x (k ∷ drop (i + 1) ps)) (sym e)
-    ∙ ap (λ b. old ++ cond b (x ∷ (p ∷ drop (i + 1) ps)) (p ∷ put_in x (drop (i + 1) ps))) (le-ltb x p s)
-    ∙ sym (append_assoc old (p ∷ []) (put_in x (drop (i + 1) ps))) ∙ ap (λ k. k ++ put_in x (drop (i + 1) ps)) (sym n)
-
-pub half-end : (x i : ℕ) (ps old : List ℕ) → length ps ≤ i → IsHalfPut x ps i old true → old ≡ put_in x ps
-half-end x i ps old l h = sym (h ∙ ap (λ k. old ++ k) (drop_all i ps l) ∙ append-nil old)
-
-pub half-last : (x i : ℕ) (ps old new : List ℕ) → length ps ≤ i → IsHalfPut x ps i old false → new ≡ old ++ x ∷ [] → new ≡ put_in x ps
-half-last x i ps old new l h n = n ∙ sym (h ∙ ap (λ k. old ++ put_in x k) (drop_all i ps l))
 
 -- ---- one place out
 pub taken_out-has : (x y : ℕ) (ps : List ℕ) → Has (taken_out x ps) y → Has ps y × (y ≡ x → ⊥)

@@ -1,18 +1,20 @@
 -- The search, step by step.
---   parts-..             the places of a block that sum to a row: some of its places, each once; they are what a set names
+--   parts-inside, -uses, -sum    the places of a block that sum to a row: some of its places, each once
+--   parts-chosen, set-has, has-set    they are the members that a set names
 --   trues-set, trues-most    one place more is seen; no more than all are
---   front-start          the new row alone
---   front-grown          a row more is reached
---   front-through        a block more for the same node
---   front-next           the next node
---   chain-grown          the row that was reached has room in some block
---   Reaching, reaching-in, -out    the members of a block, one after the other
+--   front-start              the new row alone
+--   tree-grown, front-grown  a row more is reached
+--   chain-grown              it has room in some block
+--   front-through            a block more for the same node
+--   block-few                a block has no more places than rows in its basis
 --   set-member, set-through, set-told    a set of members: its rows, all of them, where it comes from
+--   node-row                 the row of a node is one of the rows
+--   Reaching, reaching-in, -out    the members of a block, one after the other
 use Rattle.std.proofs.Common.{◌≡◌, ℕ, zero, suc, ◌+◌, ◌/◌, ◌%◌, ◌<◌, ◌≤◌, Bool, true, false, cond, List, [], ◌∷◌, ◌++◌, length, map, get_or, set, replicate, refl, sym, ap, subst, ◌∙◌, arith, ◌⊎◌, inl, inr}
 use Rattle.std.specs.Prelude.{nat_eq, bit_xor}
 use Rattle.std.specs.Int.{bit_at}
 use Rattle.std.specs.Int.Bits.{xor_zero_l}
-use Rattle.std.proofs.lemmas.Bool.{both_ways, eqb-true, eqb-false, eq-eqb, ne_eqb, cases_eq, cases_lt, cases_Bool}
+use Rattle.std.proofs.lemmas.Bool.{both_ways, eqb-true, eq-eqb, cases_eq, cases_lt, cases_Bool}
 use Rattle.std.proofs.lemmas.Nat.Bits.{bit_at_lowest, bit_at-suc}
 use Rattle.std.proofs.lemmas.Nat.{xor_comm}
 use Rattle.std.proofs.lemmas.List.{length-append, length-map, length-set, length-replicate, get_or_append_left, get_or_push, get_or_past, get_or-replicate, get_or-set_same, get_or-set_other}
@@ -21,13 +23,13 @@ use Rattle.matroid_partition.specs.declared.search.Front.{Front}
 use Rattle.matroid_partition.specs.declared.search.Node.{Node}
 use Rattle.matroid_partition.specs.Places.{Has, IsAscending}
 use Rattle.matroid_partition.specs.Blocks.{HasRoomAt, IsState, places_at}
-use Rattle.matroid_partition.specs.Searches.{parts, node_at, row_of, home_of, sum_of, IsOwn, IsReached, IsTree, IsSeen, trues, IsSpread, IsThrough, IsFront, IsGrown, IsStart, IsMember, IsSet, IsChain}
+use Rattle.matroid_partition.specs.Searches.{parts, node_at, row_of, home_of, sum_of, IsOwn, IsReached, IsTree, IsSeen, trues, IsThrough, IsFront, IsGrown, IsStart, IsMember, IsSet, IsChain}
 use Rattle.gf2_linear.specs.Rows.{combined, is_sum, row_sum, rows_at}
 use Rattle.gf2_linear.proofs.Xor.{xor_again}
 use Rattle.gf2_linear.proofs.Spans.{Span, Free, Span-same, Span-add}
 use Rattle.gf2_linear.proofs.Ranks.{is_sum-spanned, Span-is_sum}
 use Rattle.gf2_linear.proofs.Combined.{combined-span}
-use Rattle.matroid_partition.proofs.Exchanges.{All_in, Lacks, Uses}
+use Rattle.matroid_partition.proofs.Exchanges.{All_in, Uses}
 use Rattle.matroid_partition.proofs.Trees.{Lacks-from}
 use Rattle.matroid_partition.proofs.StateLaws.{places_at-is, block-free, room-apart}
 
@@ -60,8 +62,11 @@ parts-uses rows (p ∷ ps) v y a h = go (is_sum (map (r_of rows) ps) v) h (parts
         → Uses y (cond b (parts rows ps v) (p ∷ parts rows ps (bit_xor (r_of rows p) v)))
     go true h k m = k h
     go false h k m = elim h [
-      | inl e ↦ inl (e, Lacks-from y (parts rows ps (bit_xor (r_of rows p) v))
-          (λ t. let l : p < y = a.0 y (Has-parts rows ps (bit_xor (r_of rows p) v) y t) in absurd (omega arith)))
+      | inl e ↦ inl (
+        e,
+        Lacks-from y (parts rows ps (bit_xor (r_of rows p) v))
+            (λ t. let l : p < y = a.0 y (Has-parts rows ps (bit_xor (r_of rows p) v) y t) in absurd (omega arith)),
+      )
       | inr t ↦ inr ((λ e. let l : p < y = a.0 y (Has-parts rows ps (bit_xor (r_of rows p) v) y t) in absurd (omega arith)), m t)
     ]
 
@@ -92,8 +97,8 @@ parts-chosen rows (p ∷ ps) s f = go (nat_eq (s % 2) 1) (parts-chosen rows ps (
   where
     go : (b : Bool) → parts rows ps (combined (map (r_of rows) ps) (s / 2)) ≡ chosen ps (s / 2) → Span (map (r_of rows) ps) (combined (map (r_of rows) ps) (s / 2))
         → cond (is_sum (map (r_of rows) ps) (bit_xor (cond b (r_of rows p) 0) (combined (map (r_of rows) ps) (s / 2))))
-            (parts rows ps (bit_xor (cond b (r_of rows p) 0) (combined (map (r_of rows) ps) (s / 2))))
-            (p ∷ parts rows ps (bit_xor (r_of rows p) (bit_xor (cond b (r_of rows p) 0) (combined (map (r_of rows) ps) (s / 2)))))
+        (parts rows ps (bit_xor (cond b (r_of rows p) 0) (combined (map (r_of rows) ps) (s / 2))))
+        (p ∷ parts rows ps (bit_xor (r_of rows p) (bit_xor (cond b (r_of rows p) 0) (combined (map (r_of rows) ps) (s / 2)))))
         ≡ cond b (p ∷ chosen ps (s / 2)) (chosen ps (s / 2))
     go true ih w = elim (cases_Bool (is_sum (map (r_of rows) ps) (bit_xor (r_of rows p) (combined (map (r_of rows) ps) (s / 2))))) [
       | inl t ↦ absurd (f.0 (Span-same (map (r_of rows) ps) (bit_xor (combined (map (r_of rows) ps) (s / 2)) (bit_xor (r_of rows p) (combined (map (r_of rows) ps) (s / 2)))) (r_of rows p)
@@ -108,7 +113,7 @@ parts-chosen rows (p ∷ ps) s f = go (nat_eq (s % 2) 1) (parts-chosen rows ps (
         let z : bit_xor 0 (combined (map (r_of rows) ps) (s / 2)) ≡ combined (map (r_of rows) ps) (s / 2) = xor_zero_l (combined (map (r_of rows) ps) (s / 2)) in
         ap (λ v. cond (is_sum (map (r_of rows) ps) v) (parts rows ps v) (p ∷ parts rows ps (bit_xor (r_of rows p) v))) z
         ∙ ap (λ b. cond b (parts rows ps (combined (map (r_of rows) ps) (s / 2))) (p ∷ parts rows ps (bit_xor (r_of rows p) (combined (map (r_of rows) ps) (s / 2)))))
-            (Span-is_sum (map (r_of rows) ps) (combined (map (r_of rows) ps) (s / 2)) w) ∙ ih
+        (Span-is_sum (map (r_of rows) ps) (combined (map (r_of rows) ps) (s / 2)) w) ∙ ih
 
 chosen-has : (ps : List ℕ) (s m : ℕ) → m < length ps → bit_at s m ≡ 1 → Has (chosen ps s) (get_or ps m 0)
 chosen-has [] s m l b = absurd (omega arith)
@@ -316,20 +321,6 @@ front-grown rows homes blocks nodes seen node place st there fr m unseen = recor
     within : place < length seen
     within = let l : place < length homes = member-old rows homes blocks (node_at nodes node) (get_or homes place 0) place st m in omega (arith, fr.long)
 
-pub grown-by : (nodes : List Node) (n : Node) (seen : List Bool) (place : ℕ) → place < length seen → IsGrown nodes (nodes ++ n ∷ []) seen (set seen place true)
-grown-by nodes n seen place l = record {
-  more = omega (arith, length-append nodes (n ∷ []));
-  same = λ k s. node-old nodes n k s;
-  kept = λ p h. seen-kept seen place p l h;
-}
-
-pub grown-none : (nodes : List Node) (seen : List Bool) → IsGrown nodes nodes seen seen
-grown-none nodes seen = record {
-  more = omega arith;
-  same = λ k s. refl;
-  kept = λ p h. h;
-}
-
 pub chain-grown : (rows homes : List ℕ) (blocks : List Block) (nodes : List Node) (seen : List Bool) (node place into : ℕ) (d : Block) → IsState rows homes blocks → node < length nodes
     → IsFront rows homes blocks nodes seen node (get_or homes place 0) → IsMember rows homes blocks (node_at nodes node) (get_or homes place 0) place
     → get_or seen place false ≡ false → HasRoomAt (get_or rows place 0) blocks into
@@ -357,23 +348,6 @@ front-through rows homes blocks nodes seen node number fr t = record {
     | inl e ↦ subst (λ (k : ℕ). IsThrough rows homes blocks seen (node_at nodes node) k) (sym e) t
     | inr n ↦ fr.here c (omega arith)
   ];
-}
-
-pub front-next : (rows homes : List ℕ) (blocks : List Block) (nodes : List Node) (seen : List Bool) (node number : ℕ) → number ≡ length blocks
-    → IsFront rows homes blocks nodes seen node number → IsFront rows homes blocks nodes seen (node + 1) 0
-front-next rows homes blocks nodes seen node number e fr = record {
-  tree = fr.tree;
-  long = fr.long;
-  count = fr.count;
-  marked = fr.marked;
-  known = fr.known;
-  latest = λ k h l. let s : (node_at nodes k).parent ≤ node = fr.latest k h l in omega arith;
-  before = λ j c l b. elim (cases_lt j node) [
-    | inl s ↦ fr.before j c s b
-    | inr g ↦ let q : j ≡ node = omega arith in
-        subst (λ (k : ℕ). IsThrough rows homes blocks seen (node_at nodes k) c) (sym q) (fr.here c (subst (λ m. c < m) (sym e) b))
-  ];
-  here = λ c l. absurd (omega arith);
 }
 
 -- ---- a set of members

@@ -3,23 +3,23 @@
 --   Shifting                the blocks after some of the exchanges: the rest of the chain is linked, and its last row
 --                           has room in the block that the exchange before left
 --   shifting-start, -step   before the first, one more
---   shifting-room, -old     what an exchange asks
+--   room-spanned, spanned-room    having room, in two words
+--   shifting-room           what an exchange asks
 --   shifting-size           the sizes at the end
-use Rattle.std.proofs.Common.{◌≡◌, ℕ, zero, suc, ◌+◌, ◌<◌, ◌≤◌, Bool, true, false, cond, List, [], ◌∷◌, length, map, get_or, set, refl, sym, ap, subst, ◌∙◌, arith, ◌⊎◌, inl, inr, add-zero}
+use Rattle.std.proofs.Common.{◌≡◌, ℕ, zero, suc, ◌+◌, ◌<◌, ◌≤◌, true, cond, List, length, map, get_or, set, refl, sym, ap, subst, ◌∙◌, arith, inl, inr, add-zero}
 use Rattle.std.specs.Prelude.{nat_eq}
-use Rattle.std.proofs.lemmas.Bool.{both_ways, eqb-true, eqb-false, eq-eqb, ne_eqb, cases_eq, cases_lt, false_from_ne_true}
-use Rattle.std.proofs.lemmas.List.{length-set}
+use Rattle.std.proofs.lemmas.Bool.{both_ways, eq-eqb, ne_eqb, cases_eq, false_from_ne_true}
 use Rattle.matroid_partition.specs.declared.blocks.Block.{Block}
 use Rattle.matroid_partition.specs.declared.search.Node.{Node}
 use Rattle.matroid_partition.specs.Places.{Has, IsAscending, put_in, taken_out}
-use Rattle.matroid_partition.specs.Blocks.{HasRoomAt, IsBlock, IsState, moved, places_at}
+use Rattle.matroid_partition.specs.Blocks.{HasRoomAt, IsState, moved, places_at}
 use Rattle.matroid_partition.specs.Searches.{node_at, row_of, home_of, sum_of, IsTree, IsReached, IsChain}
 use Rattle.gf2_linear.specs.Rows.{is_sum, rows_at}
-use Rattle.gf2_linear.proofs.Spans.{Span, Free, Span-same}
+use Rattle.gf2_linear.proofs.Spans.{Span, Free}
 use Rattle.gf2_linear.proofs.Ranks.{is_sum-spanned, Span-is_sum}
 use Rattle.matroid_partition.proofs.PlaceLaws.{length-put_in}
-use Rattle.matroid_partition.proofs.Exchanges.{Link, Linked, Apart, taker, gained, lost, linked-moved, lost-here, room-left}
-use Rattle.matroid_partition.proofs.Trees.{Found, Tree, IsFound, chain, chain-linked, taker-chain, apart-chain}
+use Rattle.matroid_partition.proofs.Exchanges.{Linked, Apart, gained, lost, linked-moved, lost-here, room-left}
+use Rattle.matroid_partition.proofs.Trees.{Found, Tree, chain, chain-linked, taker-chain, apart-chain}
 use Rattle.matroid_partition.proofs.StateLaws.{any-block, block-free, places_at-is, places_at-set_same, places_at-set_other, length-moved}
 use Rattle.matroid_partition.proofs.SearchLaws.{parts-inside, parts-uses}
 
@@ -115,11 +115,6 @@ head rows t start first homes blocks end (suc k) into zero e st l a h = absurd (
 head rows t start first homes blocks end (suc k) into (suc f) e st l a h =
     let o : (t.place (suc k) < length homes) × (get_or homes (t.place (suc k)) 0 ≡ t.home (suc k)) = st.only (t.home (suc k)) (t.place (suc k)) l.3 in
     record { old = o.0; home = o.1; other = λ q. a (sym q) }
-
-pub shifting-old : (rows : List ℕ) (t : Found) (start : List Block) (first homes : List ℕ) (blocks : List Block) (end node into : ℕ)
-    → Shifting rows t start first homes blocks end node into → 0 < node → t.place node < length homes
-shifting-old rows t start first homes blocks end node into s h =
-    (head rows t start first homes blocks end node into s.fuel s.enough s.state s.linked s.apart h).old
 
 pub shifting-room : (rows : List ℕ) (t : Found) (start : List Block) (first homes : List ℕ) (blocks : List Block) (end node into : ℕ)
     → Shifting rows t start first homes blocks end node into → HasRoomAt (get_or rows (t.place node) 0) blocks into

@@ -4,15 +4,16 @@
 --   state-begun            the next row opened a block
 --   moved-at, state-moved  a row moved from its block into another
 --   length-moved           what that does to the sizes
---   block-independent      the places of a block have independent rows
+--   block-free             the places of a block have independent rows
 --   listed                 a block that has room for a row is no full one
 --   room-apart             nor is it the home of the row
 --   read-places            the places of what an index reads
 --   independent-one        a nonzero row alone
+--   any-block              some block, where there is one
 use Rattle.std.proofs.Common.{◌≡◌, ℕ, zero, suc, ◌+◌, ◌<◌, ◌≤◌, Bool, true, false, cond, List, [], ◌∷◌, ◌++◌, length, map, get_or, set, refl, sym, ap, subst, ◌∙◌, arith, ◌⊎◌, inl, inr}
-use Rattle.std.specs.Prelude.{nat_eq, All}
+use Rattle.std.specs.Prelude.{nat_eq}
 use Rattle.std.proofs.lemmas.Bool.{both_ways, eqb-true, eqb-false, eq-eqb, ne_eqb, cases_eq, cases_lt}
-use Rattle.std.proofs.lemmas.List.{length-append, length-set, get_or_append_left, get_or_push, get_or-set_same, get_or-set_other, get_or_default}
+use Rattle.std.proofs.lemmas.List.{length-append, length-set, get_or_append_left, get_or_push, get_or-set_same, get_or-set_other}
 use Rattle.matroid_partition.specs.declared.blocks.Block.{Block}
 use Rattle.matroid_partition.specs.Places.{Has, IsAscending, put_in, taken_out}
 use Rattle.matroid_partition.specs.Blocks.{HasRoomAt, IsBlock, IsState, OthersSpan, moved, places_at}
@@ -86,10 +87,10 @@ state-entered rows homes blocks k b st n kl blk pl = record {
   only = λ j i h. elim (cases_eq j k) [
     | inl e ↦ elim (Has-put_in (length homes) i (places_at blocks k)
         (subst (λ (q : List ℕ). Has q i) (ap (places_at (set blocks k b)) e ∙ places_at-set_same blocks k b kl ∙ pl) h)) [
-      | inl q ↦ (omega (arith, length-append homes (k ∷ [])), ap (λ m. get_or (homes ++ k ∷ []) m 0) (sym q) ∙ home-new homes k ∙ sym e)
-      | inr t ↦ let o : (i < length homes) × (get_or homes i 0 ≡ k) = st.only k i t in let s : i < length homes = o.0 in
-          (omega (arith, length-append homes (k ∷ [])), home-old homes k i s ∙ o.1 ∙ sym e)
-    ]
+          | inl q ↦ (omega (arith, length-append homes (k ∷ [])), ap (λ m. get_or (homes ++ k ∷ []) m 0) (sym q) ∙ home-new homes k ∙ sym e)
+          | inr t ↦ let o : (i < length homes) × (get_or homes i 0 ≡ k) = st.only k i t in let s : i < length homes = o.0 in
+              (omega (arith, length-append homes (k ∷ [])), home-old homes k i s ∙ o.1 ∙ sym e)
+        ]
     | inr m ↦ let o : (i < length homes) × (get_or homes i 0 ≡ j) = st.only j i (subst (λ (q : List ℕ). Has q i) (places_at-set_other blocks k b j m) h) in
         let s : i < length homes = o.0 in
         (omega (arith, length-append homes (k ∷ [])), home-old homes k i s ∙ o.1)

@@ -2,15 +2,13 @@
 --   Tree                the reached rows in order: node 0 is the new row; each other node was found by an earlier one,
 --                       in whose sum it stands; a place that stands in a sum wasn't found after it
 --   chain place .. k    the nodes from k back to the root
---   chain-linked        it is linked, so the exchanges along it keep all blocks independent
---   augmented-free      they do, where the last row has room in a block
-use Rattle.std.proofs.Common.{◌≡◌, ℕ, zero, suc, ◌+◌, ◌<◌, ◌≤◌, Bool, true, false, cond, List, [], ◌∷◌, map, refl, sym, ap, subst, ◌∙◌, arith, ◌⊎◌, inl, inr}
-use Rattle.std.specs.Prelude.{nat_eq}
-use Rattle.std.proofs.lemmas.Bool.{cases_eq}
+--   taker-chain         its first node's row is the one that goes out of its block, or the new one
+--   chain-linked        it is linked, so that exchanges along it, from its end on, keep all blocks independent
+--   apart-chain         a node's block is another one than that into which its row goes
+use Rattle.std.proofs.Common.{◌≡◌, ℕ, zero, suc, ◌<◌, ◌≤◌, List, [], ◌∷◌, map, refl, sym, ap, ◌∙◌, arith, inl, inr}
 use Rattle.gf2_linear.specs.Rows.{row_sum}
-use Rattle.gf2_linear.proofs.Spans.{Span, Free, Span-same}
 use Rattle.matroid_partition.specs.Places.{Has}
-use Rattle.matroid_partition.proofs.Exchanges.{All_in, Lacks, Uses, Link, taker, Unused, Apart, Linked, shifted, shifted-free}
+use Rattle.matroid_partition.proofs.Exchanges.{All_in, Lacks, Uses, Link, taker, Unused, Apart, Linked}
 
 -- of each node: its place, the node that found it, the block that has it, and the places of this block that sum to the finder's row
 pub record Found : Type 0 where
@@ -77,9 +75,3 @@ chain-linked r B count t w (suc fuel) (suc k) h l =
       apart-chain t fuel (t.parent (suc k)) (t.home (suc k)) f.apart,
       chain-linked r B count t w fuel (t.parent (suc k)) (omega arith) (omega arith),
     )
-
-pub augmented-free : (r : ℕ → ℕ) (B : ℕ → List ℕ) (count : ℕ) (t : Found) → Tree r B count t → (k c : ℕ) → k < count → ((b : ℕ) → Free (map r (B b)))
-    → (0 < k → t.home k ≡ c → ⊥) → (Span (map r (B c)) (r (t.place k)) → ⊥) → (b : ℕ) → Free (map r (shifted B (t.place 0) (chain t k k) c b))
-augmented-free r B count t w k c l f n s =
-    shifted-free r B (t.place 0) (chain t k k) c f (chain-linked r B count t w k k (omega arith) l) (apart-chain t k k c n)
-    (λ a. s (Span-same (map r (B c)) (r (taker (t.place 0) (chain t k k))) (r (t.place k)) (ap r (taker-chain t k k (omega arith))) a))

@@ -5,13 +5,13 @@
 --   witness-more            k blocks, and a reached row that stands in none: k * rank < number
 --   rank-spanned            independent rows that rows span are no more than their rank
 --   least-by_witness        a partition into independent blocks has more blocks than k
-use Rattle.std.proofs.Common.{◌≡◌, ℕ, zero, suc, ◌+◌, ◌*◌, ◌<◌, ◌≤◌, Bool, true, false, cond, List, [], ◌∷◌, length, map, refl, sym, ap, subst, ◌∙◌, arith, ◌⊎◌, inl, inr, zero-add, add_assoc}
+use Rattle.std.proofs.Common.{◌≡◌, ℕ, suc, ◌+◌, ◌*◌, ◌<◌, ◌≤◌, Bool, true, false, cond, List, [], ◌∷◌, length, map, refl, sym, ap, ◌∙◌, arith, ◌⊎◌, inl, inr, zero-add}
 use Rattle.std.specs.Prelude.{nat_eq}
-use Rattle.std.proofs.lemmas.Bool.{both_ways, eqb-true, eqb-false, eq-eqb, ne_eqb, cases_eq, cases_lt, cases_Bool}
+use Rattle.std.proofs.lemmas.Bool.{both_ways, eq-eqb, ne_eqb, cases_eq, cases_lt, cases_Bool}
 use Rattle.std.proofs.lemmas.List.{length-map}
 use Rattle.std.proofs.lemmas.Nat.{mul-le}
 use Rattle.gf2_linear.specs.Rows.{rank, is_sum}
-use Rattle.gf2_linear.proofs.Spans.{Span, All_span, Free, Span-first, Span-within, All_span-more, All_span-within, steinitz}
+use Rattle.gf2_linear.proofs.Spans.{All_span, Free, Span-first, Span-within, All_span-more, All_span-within, steinitz}
 use Rattle.gf2_linear.proofs.Ranks.{Choice, is_sum-spanned, Span-is_sum, rank-below, rank-least}
 use Rattle.std.proofs.Math.Nat.{suc-mul}
 use Rattle.matroid_partition.specs.Partitions.{count_of, times}

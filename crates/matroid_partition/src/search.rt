@@ -87,7 +87,12 @@ fn spread(ground: &Ground, node: usize, front: &mut Front) -> Result<Option<Chai
 }
 
 /// Reaches the rows of one block that a node's row could take the place of.
-fn cross(ground: &Ground, node: usize, number: usize, front: &mut Front) -> Result<Option<Chain>, AllocError>
+fn cross(
+    ground: &Ground,
+    node: usize,
+    number: usize,
+    front: &mut Front,
+) -> Result<Option<Chain>, AllocError>
     requires ground { IsGround ground.now.rows.now ground.now.homes.now ground.now.blocks.now ground.now.unfilled.now }
     requires there { node < length front.old.nodes.items }
     requires block { number < length ground.now.blocks.now }
@@ -138,7 +143,12 @@ fn reach(
 }
 
 /// Reaches one row, unless it was reached before.
-fn visit(ground: &Ground, node: usize, place: usize, front: &mut Front) -> Result<Option<Chain>, AllocError>
+fn visit(
+    ground: &Ground,
+    node: usize,
+    place: usize,
+    front: &mut Front,
+) -> Result<Option<Chain>, AllocError>
     requires ground { IsGround ground.now.rows.now ground.now.homes.now ground.now.blocks.now ground.now.unfilled.now }
     requires there { node < length front.old.nodes.items }
     requires front { let number = slice_index ground.now.homes.now place in IsFront ground.now.rows.now ground.now.homes.now ground.now.blocks.now front.old.nodes.items front.old.seen.items node number }

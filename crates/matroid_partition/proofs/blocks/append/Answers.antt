@@ -1,4 +1,4 @@
-use Rattle.std.proofs.Common.{◌≡◌, ◌∙◌, ◌++◌, ◌∷◌, ◌<◌, [], List, ℕ, length, sym, ap, subst}
+use Rattle.std.proofs.Common.{◌≡◌, ◌∙◌, ◌<◌, List, ℕ, length, sym, ap, subst}
 use Rattle.std.specs.Prelude.{All}
 use Rattle.gf2_linear.specs.Rows.{rows_at}
 use Rattle.matroid_partition.specs.Places.{IsAscending, put_in}

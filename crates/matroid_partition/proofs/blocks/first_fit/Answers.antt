@@ -1,8 +1,6 @@
-use Rattle.std.proofs.Common.{◌≡◌, ◌<◌, ℕ, List, length, get_or, subst, sym, ap, ◌∙◌, arith, inl, inr, ◌⊎◌}
+use Rattle.std.proofs.Common.{◌≡◌, ◌<◌, ℕ, length, get_or, subst, arith, inl, inr}
 use Rattle.std.specs.Prelude.{true}
 use Rattle.gf2_linear.specs.Rows.{is_sum}
-use Rattle.matroid_partition.specs.Places.{Has}
-use Rattle.matroid_partition.specs.declared.blocks.Block.{Block}
 use Rattle.matroid_partition.proofs.PlaceLaws.{Has-at, Has-cases}
 use Rattle.matroid_partition.proofs.blocks.first_fit.Goals as goal
 

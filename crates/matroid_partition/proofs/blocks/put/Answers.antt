@@ -1,4 +1,4 @@
-use Rattle.std.proofs.Common.{◌≡◌, ◌<◌, List, ℕ, length, subst, sym, ap, ◌∙◌}
+use Rattle.std.proofs.Common.{◌<◌, List, ℕ, length, subst, sym, ap, ◌∙◌}
 use Rattle.std.specs.Prelude.{All}
 use Rattle.matroid_partition.specs.Places.{IsAscending, put_in}
 use Rattle.matroid_partition.proofs.PlaceLaws.{IsAscending-put_in}

@@ -1,4 +1,4 @@
-use Rattle.std.proofs.Common.{◌≡◌, ◌<◌, List, ℕ, length, subst, sym, ap, ◌∙◌}
+use Rattle.std.proofs.Common.{◌<◌, List, ℕ, length, subst, sym, ap, ◌∙◌}
 use Rattle.std.specs.Prelude.{All}
 use Rattle.gf2_linear.specs.Rows.{is_independent}
 use Rattle.matroid_partition.specs.Places.{IsAscending, taken_out}

@@ -1,9 +1,8 @@
-use Rattle.std.proofs.Common.{◌≡◌, ◌<◌, ◌≤◌, ◌+◌, ℕ, Bool, false, List, length, get_or, subst, sym, ap, ◌∙◌, arith}
+use Rattle.std.proofs.Common.{◌<◌, ℕ, Bool, false, List, length, get_or, subst, sym, ap, ◌∙◌, arith}
 use Rattle.std.specs.Prelude.{filter}
 use Rattle.std.specs.List.{range_with_len}
 use Rattle.matroid_partition.specs.declared.blocks.Block.{Block}
 use Rattle.matroid_partition.specs.declared.search.Node.{Node}
-use Rattle.matroid_partition.specs.Places.{Has}
 use Rattle.matroid_partition.specs.Blocks.{IsShown}
 use Rattle.matroid_partition.specs.Searches.{IsChain, IsFront, IsGround}
 use Rattle.matroid_partition.proofs.PartLaws.{chain-listed, others-span, seen-shown, sizes-kept}
@@ -32,8 +31,8 @@ pub close-requires-clause-others : goal.close-requires-clause-others
 close-requires-clause-others c k d l n m =
     ap (λ (q : List Block). length (get_or q k d).basis) c.deref-in-Some-2.ensures.value
     ∙ sizes-kept c.args.rows.now c.args.homes.now.items c.shift.new.homes.items c.args.blocks.now.items c.shift.new.blocks.items c.args.unfilled.now.items (length c.args.all.now)
-        c.in-Some.chain.into c.requires.state c.in_ok-shift-in-Some.ensures.state c.in_ok-shift-in-Some.ensures.blocks c.in_ok-shift-in-Some.ensures.sizes c.requires.unfilled
-        k d (subst (λ (q : List Block). k < length q) c.deref-in-Some-2.ensures.value l) n m
+    c.in-Some.chain.into c.requires.state c.in_ok-shift-in-Some.ensures.state c.in_ok-shift-in-Some.ensures.blocks c.in_ok-shift-in-Some.ensures.sizes c.requires.unfilled
+    k d (subst (λ (q : List Block). k < length q) c.deref-in-Some-2.ensures.value l) n m
     ∙ sym c.len-in-Some.ensures.count
 
 pub returns-clause-unfilled : goal.returns-clause-unfilled

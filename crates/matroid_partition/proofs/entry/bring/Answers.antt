@@ -1,11 +1,10 @@
-use Rattle.std.proofs.Common.{◌≡◌, ◌<◌, ◌≤◌, ◌+◌, ℕ, List, [], length, get_or, subst, sym, ap, ◌∙◌, arith}
+use Rattle.std.proofs.Common.{◌≡◌, ◌<◌, ◌+◌, ℕ, List, length, get_or, subst, sym, ap, ◌∙◌, arith}
 use Rattle.std.specs.Prelude.{vec_len}
 use Rattle.std.specs.List.{range_with_len}
 use Rattle.std.proofs.lemmas.Bool.{eqb-true}
 use Rattle.std.proofs.lemmas.List.{get_or_read}
 use Rattle.matroid_partition.specs.declared.blocks.Block.{Block}
-use Rattle.matroid_partition.specs.Places.{Has}
-use Rattle.matroid_partition.specs.Blocks.{HasRoomAt, IsOpen, IsShown, OthersSpan}
+use Rattle.matroid_partition.specs.Blocks.{HasRoomAt, IsShown, OthersSpan}
 use Rattle.matroid_partition.proofs.StateLaws.{any-block, listed}
 use Rattle.matroid_partition.proofs.PartLaws.{others-span, all-shown, open-none}
 use Rattle.matroid_partition.proofs.entry.bring.Goals as goal

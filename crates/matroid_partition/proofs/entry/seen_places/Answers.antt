@@ -1,5 +1,4 @@
-use Rattle.std.proofs.Common.{◌≡◌, ◌∙◌, ◌++◌, ◌∷◌, [], ℕ, List, Bool, true, false, get_or, sym, ap}
-use Rattle.std.proofs.lemmas.List.{get_or_read}
+use Rattle.std.proofs.Common.{◌∙◌, false, get_or, ap}
 use Rattle.matroid_partition.proofs.OpenLaws.{filter-range_in, filter-range_out}
 use Rattle.matroid_partition.proofs.entry.seen_places.Goals as goal
 use Rattle.matroid_partition.proofs.entry.seen_places.Goals.{then-is_seen+in_ok-push, else-is_seen}

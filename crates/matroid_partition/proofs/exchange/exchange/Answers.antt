@@ -25,7 +25,7 @@ returns-clause-state c =
     let home : c.index-home.result.now ≡ get_or homes c.args.place 0 = get_or_read homes c.args.place c.index-home.result.now c.requires.old c.index-home.ensures 0 in
     let hl : c.index-home.result.now < length blocks = subst (λ m. m < length blocks) (sym home) (c.requires.state.home c.args.place c.requires.old).0 in
     let at : (k : ℕ) → places_at (set (set blocks c.args.into c.put.new.block) c.index-home.result.now c.take.new.block) k
-        ≡ moved (places_at blocks) c.args.into c.args.place c.index-home.result.now k =
+    ≡ moved (places_at blocks) c.args.into c.args.place c.index-home.result.now k =
     moved-at blocks c.args.into c.args.place c.index-home.result.now c.put.new.block c.take.new.block c.requires.room.there hl
     (c.in_ok-put.ensures.places ∙ ap (put_in c.args.place) (read-places blocks c.args.into c.index_mut.result.now c.requires.room.there c.index_mut.ensures.value))
     (c.in_ok-take.ensures.places ∙ ap (taken_out c.args.place)

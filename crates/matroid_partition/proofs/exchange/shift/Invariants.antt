@@ -1,4 +1,4 @@
-use Rattle.std.proofs.Common.{◌≡◌, ◌<◌, length}
+use Rattle.std.proofs.Common.{◌<◌, length}
 use Rattle.matroid_partition.proofs.ShiftLaws.{Shifting, found}
 use Rattle.matroid_partition.proofs.exchange.shift.Given as goal
 

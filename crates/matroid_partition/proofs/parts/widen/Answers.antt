@@ -1,5 +1,4 @@
-use Rattle.std.proofs.Common.{◌≡◌, ℕ, List, [], ◌∷◌, ◌++◌, true, length, subst, sym, ap, ◌∙◌}
-use Rattle.std.specs.List.{range_with_len}
+use Rattle.std.proofs.Common.{◌≡◌, ℕ, List, [], ◌∷◌, ◌++◌, true, length, subst, sym}
 use Rattle.std.specs.Bool.{MatchBool}
 use Rattle.gf2_linear.specs.Rows.{is_sum}
 use Rattle.gf2_linear.proofs.Spans.{Span-behind, Span-last}

@@ -1,4 +1,4 @@
-use Rattle.std.proofs.Common.{◌≡◌, ◌<◌, ◌≤◌, ℕ, List, length, get_or, refl, subst, sym, ap, ◌∙◌, arith}
+use Rattle.std.proofs.Common.{◌≡◌, ◌<◌, ◌≤◌, ℕ, List, length, get_or, refl, subst, ap, ◌∙◌, arith}
 use Rattle.std.proofs.lemmas.List.{get_or_default, get_or_read}
 use Rattle.matroid_partition.specs.declared.blocks.Block.{Block}
 use Rattle.matroid_partition.specs.declared.search.Node.{Node}

@@ -1,6 +1,5 @@
-use Rattle.std.proofs.Common.{◌≡◌, ◌<◌, ◌≤◌, ◌+◌, ℕ, List, length, get_or, refl, subst, sym, ap, ◌∙◌, arith}
-use Rattle.std.specs.Int.{bit_at}
-use Rattle.std.proofs.lemmas.Bool.{cases_eq, both_ways}
+use Rattle.std.proofs.Common.{◌≡◌, ◌<◌, ◌≤◌, ◌+◌, ℕ, List, length, get_or, subst, sym, ap, ◌∙◌, arith}
+use Rattle.std.proofs.lemmas.Bool.{both_ways}
 use Rattle.matroid_partition.specs.declared.blocks.Block.{Block}
 use Rattle.matroid_partition.specs.declared.search.Front.{Front}
 use Rattle.matroid_partition.specs.declared.search.Node.{Node}

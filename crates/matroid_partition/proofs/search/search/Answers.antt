@@ -1,4 +1,4 @@
-use Rattle.std.proofs.Common.{◌≡◌, ◌<◌, ◌≤◌, ◌+◌, ◌-◌, ℕ, List, length, get_or, subst, sym, ap, ◌∙◌, arith}
+use Rattle.std.proofs.Common.{◌≤◌, length, arith}
 use Rattle.matroid_partition.specs.Searches.{trues}
 use Rattle.matroid_partition.proofs.SearchLaws.{front-start, trues-most}
 use Rattle.matroid_partition.proofs.search.search.Goals as goal

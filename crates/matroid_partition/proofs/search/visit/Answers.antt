@@ -1,13 +1,11 @@
-use Rattle.std.proofs.Common.{◌≡◌, ◌<◌, ◌≤◌, ◌+◌, ◌++◌, ◌∷◌, [], ℕ, List, Bool, true, false, set, length, get_or, subst, sym, ap, ◌∙◌, arith}
+use Rattle.std.proofs.Common.{◌≡◌, ◌<◌, ◌++◌, ◌∷◌, [], List, true, false, set, length, get_or, subst, sym, ◌∙◌, arith}
 use Rattle.std.proofs.lemmas.List.{get_or_default, get_or_read, get_or-set_same}
-use Rattle.gf2_linear.proofs.SumLaws.{item}
 use Rattle.gf2_linear.specs.Rows.{is_sum}
-use Rattle.matroid_partition.specs.declared.blocks.Block.{Block}
 use Rattle.matroid_partition.specs.declared.search.Node.{Node}
 use Rattle.matroid_partition.specs.Blocks.{HasRoomAt}
-use Rattle.matroid_partition.specs.Searches.{IsChain, IsFront, IsSeen, node_at}
+use Rattle.matroid_partition.specs.Searches.{IsChain, IsFront, node_at}
 use Rattle.matroid_partition.proofs.StateLaws.{any-block}
-use Rattle.matroid_partition.proofs.SearchLaws.{front-grown, member-old, grown-by, chain-grown}
+use Rattle.matroid_partition.proofs.SearchLaws.{front-grown, member-old, chain-grown}
 use Rattle.matroid_partition.proofs.search.visit.Goals as goal
 
 pub index-requires : goal.index-requires
