@@ -1,0 +1,457 @@
+-- From the search and the blocks to the contract.
+--   full-spans, others-span     a block with as many rows as the rank of all spans them all
+--   basis-length, sizes-kept    how many rows a block has
+--   chain-listed                a chain ends in a block that is not full
+--   times-none, times-one       how often a place stands in the blocks
+--   witness-shown               closed places are more than the blocks times their rank
+--   all-shown                   all places, where each block is full
+--   seen-shown                  the places that a search has reached
+--   open-none                   no block is open
+--   Underway, spans-more, underway-opened, -entered    the rows that have come in so far, one more
+--   IsPartition-state, ascending-state, IsWitness-shown, least-shown    all rows
+use Rattle.std.proofs.Common.{◌≡◌, ℕ, zero, suc, ◌+◌, ◌-◌, ◌*◌, ◌<◌, ◌≤◌, Bool, true, false, cond, List, [], ◌∷◌, length, map, get_or, refl, sym, ap, subst, ◌∙◌, arith, ◌⊎◌, inl, inr}
+use Rattle.std.specs.Prelude.{nat_eq, All, IsTrue, filter}
+use Rattle.std.specs.List.{range_with_len}
+use Rattle.std.specs.List.Sorted.{IsStrictlyIncreasing}
+use Rattle.std.proofs.lemmas.Bool.{both_ways, eq-eqb, ne_eqb, cases_eq, cases_lt, cases_Bool}
+use Rattle.std.proofs.lemmas.List.{length-map, get_or_past}
+use Rattle.std.proofs.lemmas.List.Elements.{All-map, All-weaker}
+use Rattle.std.proofs.lemmas.List.FromFn.{length-range_with_len}
+use Rattle.matroid_partition.specs.declared.blocks.Block.{Block}
+use Rattle.matroid_partition.specs.declared.search.Node.{Node}
+use Rattle.matroid_partition.specs.Partitions.{count_of, times, IsPartition, IsWitness}
+use Rattle.matroid_partition.specs.Places.{Has, IsAscending}
+use Rattle.matroid_partition.specs.Blocks.{IsOpen, IsShown, IsState, OthersSpan, SpansFirst, places_at}
+use Rattle.matroid_partition.specs.Searches.{parts, node_at, row_of, IsChain, IsFront, IsSeen, IsSpread}
+use Rattle.gf2_linear.specs.Rows.{is_independent, is_sum, rank, row_sum, rows_at}
+use Rattle.gf2_linear.proofs.Spans.{Span, All_span, Free, Span-zero, Span-same, Span-add, steinitz}
+use Rattle.gf2_linear.proofs.Ranks.{is_sum-spanned, Span-is_sum, independent-Free}
+use Rattle.matroid_partition.proofs.PlaceLaws.{Has-at, at-Has, count_of-none, count_of-one, IsStrictlyIncreasing-ascending}
+use Rattle.matroid_partition.proofs.Exchanges.{Has-span}
+use Rattle.matroid_partition.proofs.Witnesses.{is_in, kept, Distinct, At_most_once, At_least_once, All_close, All_free, witness-more, least-by_witness}
+use Rattle.matroid_partition.proofs.StateLaws.{any-block, listed, places_at-is}
+use Rattle.matroid_partition.proofs.OpenLaws.{Has-range, range-below}
+use Rattle.matroid_partition.proofs.SearchLaws.{Has-parts, parts-sum}
+
+abbrev r_of : List ℕ → ℕ → ℕ
+r_of rows i = get_or rows i 0
+
+-- ---- full blocks
+all_span-from : (all : List ℕ) (r : ℕ → ℕ) (ps : List ℕ) → ((y : ℕ) → Has ps y → Span all (r y)) → All_span all (map r ps)
+all_span-from all r [] h = tt
+all_span-from all r (p ∷ ps) h = (h p (inl refl), all_span-from all r ps (λ y t. h y (inr t)))
+
+pub full-spans : (rows homes : List ℕ) (blocks : List Block) (all : List ℕ) (k : ℕ) (d : Block) (i : ℕ) → IsState rows homes blocks → SpansFirst (length homes + 1) rows all → k < length blocks
+    → length (get_or blocks k d).basis ≡ length all → i ≤ length homes → is_sum (get_or blocks k d).basis (get_or rows i 0) ≡ true
+unfolding rows_at
+full-spans rows homes blocks all k d i st sp l f il = elim (cases_Bool (is_sum (get_or blocks k d).basis (get_or rows i 0))) [
+  | inl t ↦ t
+  | inr n ↦
+      let b : (get_or blocks k d).basis ≡ map (r_of rows) (get_or blocks k d).places.items = (st.block k d l).basis in
+      let free : Free (get_or blocks k d).basis =
+      subst Free (sym b) (independent-Free (map (r_of rows) (get_or blocks k d).places.items) (st.block k d l).independent) in
+      let spans : All_span all (get_or blocks k d).basis =
+      subst (All_span all) (sym b) (all_span-from all (r_of rows) (get_or blocks k d).places.items
+      (λ y h. is_sum-spanned all (get_or rows y 0) (sp y
+      (let s : y < length homes = (st.only k y (subst (λ (q : List ℕ). Has q y) (sym (places_at-is blocks k d l)) h)).0 in omega arith)))) in
+      let s : length (get_or rows i 0 ∷ (get_or blocks k d).basis) ≤ length all =
+      steinitz all (get_or rows i 0 ∷ (get_or blocks k d).basis) (is_sum-spanned all (get_or rows i 0) (sp i (omega arith)), spans)
+      ((λ w. both_ways (is_sum (get_or blocks k d).basis (get_or rows i 0)) n (Span-is_sum (get_or blocks k d).basis (get_or rows i 0) w)), free) in
+      absurd (omega (arith, f, s))
+]
+
+pub others-span : (rows homes : List ℕ) (blocks : List Block) (all unfilled : List ℕ) (i : ℕ) → IsState rows homes blocks → SpansFirst (length homes + 1) rows all
+    → IsOpen (length all) blocks unfilled → i ≤ length homes → OthersSpan blocks unfilled (get_or rows i 0)
+others-span rows homes blocks all unfilled i st sp o il k d l n = full-spans rows homes blocks all k d i st sp l (o.others k d l n) il
+
+pub basis-length : (rows homes : List ℕ) (blocks : List Block) (k : ℕ) (d : Block) → IsState rows homes blocks → k < length blocks
+    → length (get_or blocks k d).basis ≡ length (places_at blocks k)
+unfolding rows_at
+basis-length rows homes blocks k d st l =
+    ap length (st.block k d l).basis ∙ length-map (get_or blocks k d).places.items (r_of rows) ∙ ap length (sym (places_at-is blocks k d l))
+
+-- what a chain leaves of the sizes
+pub sizes-kept : (rows homes homes' : List ℕ) (blocks blocks' : List Block) (unfilled : List ℕ) (full end : ℕ) → IsState rows homes blocks → IsState rows homes' blocks'
+    → length blocks' ≡ length blocks → ((k : ℕ) → length (places_at blocks' k) ≡ length (places_at blocks k) + cond (nat_eq k end) 1 0) → IsOpen full blocks unfilled
+    → (k : ℕ) (d : Block) → k < length blocks' → (Has unfilled k → ⊥) → (k ≡ end → ⊥) → length (get_or blocks' k d).basis ≡ full
+sizes-kept rows homes homes' blocks blocks' unfilled full end st st' e s o k d l n m =
+    let l' : k < length blocks = subst (λ q. k < q) e l in
+    let a : length (get_or blocks' k d).basis ≡ length (places_at blocks' k) = basis-length rows homes' blocks' k d st' l in
+    let b : length (get_or blocks k d).basis ≡ length (places_at blocks k) = basis-length rows homes blocks k d st l' in
+    let f : length (get_or blocks k d).basis ≡ full = o.others k d l' n in
+    let t : length (places_at blocks' k) ≡ length (places_at blocks k) + 0 = s k ∙ ap (λ b. length (places_at blocks k) + cond b 1 0) (ne_eqb k end m) in
+    omega arith
+
+-- the block that the chain ends in wasn't full
+pub chain-listed : (rows homes : List ℕ) (blocks : List Block) (all unfilled : List ℕ) (nodes : List Node) (last into : ℕ) → IsState rows homes blocks
+    → SpansFirst (length homes + 1) rows all → IsOpen (length all) blocks unfilled → IsChain rows homes blocks nodes last into → Has unfilled into
+chain-listed rows homes blocks all unfilled nodes last into st sp o c =
+    listed blocks unfilled (row_of rows (node_at nodes last)) into (any-block blocks into c.room.there)
+    (others-span rows homes blocks all unfilled (node_at nodes last).place st sp o (most last c.there)) c.room
+  where
+    most : (k : ℕ) → k < length nodes → (node_at nodes k).place ≤ length homes
+    most zero l = let e : (node_at nodes 0).place ≡ length homes = c.tree.root in omega arith
+    most (suc k) l = let s : (node_at nodes (suc k)).place < length homes = (c.tree.each (suc k) (omega arith) l).old in omega arith
+
+-- ---- how often a place stands in the blocks
+abbrev pub lists_of : List Block → List (List ℕ)
+lists_of blocks = map (λ b. b.places.items) blocks
+
+pub times-none : (blocks : List Block) (i : ℕ) → ((k : ℕ) → Has (places_at blocks k) i → ⊥) → times i (lists_of blocks) ≡ 0
+times-none [] i n = refl
+times-none (b ∷ blocks) i n =
+    let a : count_of i b.places.items ≡ 0 = count_of-none i b.places.items (n 0) in
+    let c : times i (lists_of blocks) ≡ 0 = times-none blocks i (λ k. n (suc k)) in
+    omega arith
+
+pub times-one : (blocks : List Block) (h i : ℕ) → h < length blocks → Has (places_at blocks h) i → ((k : ℕ) → Has (places_at blocks k) i → k ≡ h)
+    → ((k : ℕ) → k < length blocks → IsAscending (places_at blocks k)) → times i (lists_of blocks) ≡ 1
+times-one [] h i l s o a = absurd (omega arith)
+times-one (b ∷ blocks) zero i l s o a =
+    let x : count_of i b.places.items ≡ 1 = count_of-one i b.places.items (a 0 (omega arith)) s in
+    let y : times i (lists_of blocks) ≡ 0 = times-none blocks i (λ k t. let e : suc k ≡ 0 = o (suc k) t in absurd (omega arith)) in
+    omega arith
+times-one (b ∷ blocks) (suc h) i l s o a =
+    let x : count_of i b.places.items ≡ 0 = count_of-none i b.places.items (λ t. let e : 0 ≡ suc h = o 0 t in absurd (omega arith)) in
+    let y : times i (lists_of blocks) ≡ 1 =
+    times-one blocks h i (omega arith) s (λ k t. let e : suc k ≡ suc h = o (suc k) t in omega arith) (λ k m. a (suc k) (omega arith)) in
+    omega arith
+
+block-ascending : (rows homes : List ℕ) (blocks : List Block) → IsState rows homes blocks → (k : ℕ) → k < length blocks → IsAscending (places_at blocks k)
+block-ascending rows homes blocks st k l =
+    subst IsAscending (sym (places_at-is blocks k (any-block blocks k l) l)) (st.block k (any-block blocks k l) l).ascending
+
+pub state-once : (rows homes : List ℕ) (blocks : List Block) → IsState rows homes blocks → (i : ℕ) → i < length homes → times i (lists_of blocks) ≡ 1
+state-once rows homes blocks st i l =
+    times-one blocks (get_or homes i 0) i (st.home i l).0 (st.home i l).1 (λ k h. sym (st.only k i h).1) (block-ascending rows homes blocks st)
+
+pub state-none : (rows homes : List ℕ) (blocks : List Block) → IsState rows homes blocks → (i : ℕ) → length homes ≤ i → times i (lists_of blocks) ≡ 0
+state-none rows homes blocks st i g = times-none blocks i (λ k h. let l : i < length homes = (st.only k i h).0 in absurd (omega arith))
+
+-- ---- witnesses
+has-is_in : (S : List ℕ) (y : ℕ) → Has S y → is_in S y ≡ true
+has-is_in [] y h = absurd h
+has-is_in (s ∷ S) y h = elim h [
+  | inl e ↦ ap (λ t. cond t true (is_in S y)) (eq-eqb y s (sym e))
+  | inr t ↦ go (nat_eq y s) (has-is_in S y t)
+]
+  where
+    go : (b : Bool) → is_in S y ≡ true → cond b true (is_in S y) ≡ true
+    go true k = refl
+    go false k = k
+
+is_in-none : (S : List ℕ) (y : ℕ) → (Has S y → ⊥) → is_in S y ≡ false
+is_in-none [] y n = refl
+is_in-none (s ∷ S) y n = ap (λ t. cond t true (is_in S y)) (ne_eqb y s (λ e. n (inl (sym e)))) ∙ is_in-none S y (λ h. n (inr h))
+
+distinct-ascending : (S : List ℕ) → IsAscending S → Distinct S
+distinct-ascending [] a = tt
+distinct-ascending (s ∷ S) a = (is_in-none S s (λ h. let l : s < s = a.0 s h in absurd (omega arith)), distinct-ascending S a.1)
+
+kept-has : (S ps : List ℕ) (y : ℕ) → Has ps y → Has S y → Has (kept S ps) y
+kept-has S [] y h m = absurd h
+kept-has S (p ∷ ps) y h m = elim h [
+  | inl e ↦ subst (λ (t : Bool). Has (cond t (p ∷ kept S ps) (kept S ps)) y) (sym (ap (is_in S) e ∙ has-is_in S y m)) (inl e)
+  | inr t ↦ go (is_in S p) (kept-has S ps y t m)
+]
+  where
+    go : (b : Bool) → Has (kept S ps) y → Has (cond b (p ∷ kept S ps) (kept S ps)) y
+    go true k = inr k
+    go false k = k
+
+kept-all : (S ps : List ℕ) → ((y : ℕ) → Has ps y → Has S y) → kept S ps ≡ ps
+kept-all S [] h = refl
+kept-all S (p ∷ ps) h =
+    ap (λ t. cond t (p ∷ kept S ps) (kept S ps)) (has-is_in S p (h p (inl refl))) ∙ ap (λ k. p ∷ k) (kept-all S ps (λ y t. h y (inr t)))
+
+at_most-from : (S : List ℕ) (lists : List (List ℕ)) → ((y : ℕ) → times y lists ≤ 1) → At_most_once S lists
+at_most-from [] lists h = tt
+at_most-from (s ∷ S) lists h = (h s, at_most-from S lists h)
+
+close-from : (r : ℕ → ℕ) (S : List ℕ) (blocks : List Block) → ((k : ℕ) → k < length blocks → (y : ℕ) → Has S y → Span (map r (kept S (places_at blocks k))) (r y)) → All_close r S (lists_of blocks)
+close-from r S [] h = tt
+close-from r S (b ∷ blocks) h = (
+  all_span-from (map r (kept S b.places.items)) r S (λ y s. h 0 (omega arith) y s),
+  close-from r S blocks (λ k l y s. h (suc k) (omega arith) y s),
+)
+
+within-from : (n : ℕ) (S : List ℕ) → ((y : ℕ) → Has S y → y < n) → All (λ i. i < n) S
+within-from n S h k d l = h (get_or S k d) (at-Has S k d l)
+
+pub witness-shown : (rows homes : List ℕ) (blocks : List Block) (S : List ℕ) → IsState rows homes blocks → IsAscending S → ((y : ℕ) → Has S y → y < length homes + 1) → Has S (length homes)
+    → ((k : ℕ) → k < length blocks → (y : ℕ) → Has S y → Span (map (r_of rows) (kept S (places_at blocks k))) (r_of rows y)) → IsShown rows (length homes + 1) (length blocks) S
+unfolding rows_at
+witness-shown rows homes blocks S st a w e c = record {
+  within = within-from (length homes + 1) S w;
+  ascending = IsStrictlyIncreasing-ascending S a;
+  more = subst (λ k. k * rank (map (r_of rows) S) < length S) (length-map blocks (λ b. b.places.items))
+      (witness-more (r_of rows) S (lists_of blocks) (length homes) (distinct-ascending S a) (at_most-from S (lists_of blocks) most) e
+      (state-none rows homes blocks st (length homes) (omega arith)) (close-from (r_of rows) S blocks c));
+}
+  where
+    most : (y : ℕ) → times y (lists_of blocks) ≤ 1
+    most y = elim (cases_lt y (length homes)) [
+      | inl l ↦ let t : times y (lists_of blocks) ≡ 1 = state-once rows homes blocks st y l in omega arith
+      | inr g ↦ let t : times y (lists_of blocks) ≡ 0 = state-none rows homes blocks st y g in omega arith
+    ]
+
+-- ---- ranges
+range-from : (a n y : ℕ) → Has (range_with_len a n) y → a ≤ y
+range-from a zero y h = absurd h
+range-from a (suc n) y h = elim h [ inl e ↦ omega arith | inr t ↦ let l : a + 1 ≤ y = range-from (a + 1) n y t in omega arith ]
+
+range-ascending : (a n : ℕ) → IsAscending (range_with_len a n)
+range-ascending a zero = tt
+range-ascending a (suc n) = ((λ y h. let l : a + 1 ≤ y = range-from (a + 1) n y h in omega arith), range-ascending (a + 1) n)
+
+filter-from : (p : ℕ → Bool) (xs : List ℕ) (y : ℕ) → Has (filter p xs) y → Has xs y × (p y ≡ true)
+filter-from p [] y h = absurd h
+filter-from p (x ∷ xs) y h = go (p x) refl h (filter-from p xs y)
+  where
+    go : (b : Bool) → p x ≡ b → Has (cond b (x ∷ filter p xs) (filter p xs)) y → (Has (filter p xs) y → Has xs y × (p y ≡ true)) → ((x ≡ y) ⊎ Has xs y) × (p y ≡ true)
+    go true e h k = elim h [ inl q ↦ (inl q, ap p (sym q) ∙ e) | inr t ↦ let r : Has xs y × (p y ≡ true) = k t in (inr r.0, r.1) ]
+    go false e h k = let r : Has xs y × (p y ≡ true) = k h in (inr r.0, r.1)
+
+filter-has : (p : ℕ → Bool) (xs : List ℕ) (y : ℕ) → Has xs y → p y ≡ true → Has (filter p xs) y
+filter-has p [] y h t = absurd h
+filter-has p (x ∷ xs) y h t = elim h [
+  | inl e ↦ subst (λ (b : Bool). Has (cond b (x ∷ filter p xs) (filter p xs)) y) (sym (ap p e ∙ t)) (inl e)
+  | inr k ↦ go (p x) (filter-has p xs y k t)
+]
+  where
+    go : (b : Bool) → Has (filter p xs) y → Has (cond b (x ∷ filter p xs) (filter p xs)) y
+    go true k = inr k
+    go false k = k
+
+filter-ascending : (p : ℕ → Bool) (xs : List ℕ) → IsAscending xs → IsAscending (filter p xs)
+filter-ascending p [] a = tt
+filter-ascending p (x ∷ xs) a = go (p x) (filter-ascending p xs a.1)
+  where
+    go : (b : Bool) → IsAscending (filter p xs) → IsAscending (cond b (x ∷ filter p xs) (filter p xs))
+    go true k = ((λ y h. a.0 y (filter-from p xs y h).0), k)
+    go false k = k
+
+range-to : (n y : ℕ) → Has (range_with_len 0 n) y → y < n
+range-to n y h = let r : (j : ℕ) × (j < length (range_with_len 0 n)) × (get_or (range_with_len 0 n) j 0 ≡ y) = Has-at (range_with_len 0 n) y h in
+    subst (λ m. m < n) r.2 (range-below n r.0 0 r.1)
+
+-- ---- the two witnesses
+pub all-shown : (rows homes : List ℕ) (blocks : List Block) (all S : List ℕ) → IsState rows homes blocks → SpansFirst (length homes + 1) rows all → IsOpen (length all) blocks []
+    → S ≡ range_with_len 0 (length homes + 1) → IsShown rows (length homes + 1) (length blocks) S
+unfolding rows_at
+all-shown rows homes blocks all S st sp o e =
+    subst (λ (q : List ℕ). IsShown rows (length homes + 1) (length blocks) q) (sym e)
+    (witness-shown rows homes blocks (range_with_len 0 (length homes + 1)) st (range-ascending 0 (length homes + 1)) (range-to (length homes + 1))
+    (Has-range (length homes + 1) (length homes) (omega arith))
+    (λ k l y h.
+    let d : Block = any-block blocks k l in
+    let yl : y < length homes + 1 = range-to (length homes + 1) y h in
+    subst (λ (q : List ℕ). Span (map (r_of rows) q) (r_of rows y))
+    (sym (kept-all (range_with_len 0 (length homes + 1)) (places_at blocks k)
+    (λ z t. Has-range (length homes + 1) z (let s : z < length homes = (st.only k z t).0 in omega arith))))
+    (subst (λ (q : List ℕ). Span (map (r_of rows) q) (r_of rows y)) (sym (places_at-is blocks k d l))
+    (is_sum-spanned (map (r_of rows) (get_or blocks k d).places.items) (r_of rows y)
+    (subst (λ (q : List ℕ). is_sum q (r_of rows y) ≡ true) (st.block k d l).basis (full-spans rows homes blocks all k d y st sp l (o.others k d l (λ z. z)) (omega arith)))))))
+
+all_in-span : (r : ℕ → ℕ) (ps es : List ℕ) → ((y : ℕ) → Has es y → Has ps y) → Span (map r ps) (row_sum (map r es))
+unfolding row_sum
+all_in-span r ps [] h = Span-zero (map r ps)
+all_in-span r ps (e ∷ es) h = Span-add (map r ps) (r e) (row_sum (map r es)) (Has-span r e ps (h e (inl refl))) (all_in-span r ps es (λ y t. h y (inr t)))
+
+pub seen-shown : (rows homes : List ℕ) (blocks : List Block) (nodes : List Node) (seen : List Bool) (node number : ℕ) (S : List ℕ) → IsState rows homes blocks
+    → IsFront rows homes blocks nodes seen node number → length nodes ≤ node → S ≡ filter (λ p. get_or seen p false) (range_with_len 0 (length seen))
+    → IsShown rows (length homes + 1) (length blocks) S
+unfolding rows_at
+seen-shown rows homes blocks nodes seen node number S st fr g e =
+    subst (λ (q : List ℕ). IsShown rows (length homes + 1) (length blocks) q) (sym e)
+    (witness-shown rows homes blocks (filter (λ p. get_or seen p false) (range_with_len 0 (length seen))) st
+    (filter-ascending (λ p. get_or seen p false) (range_with_len 0 (length seen)) (range-ascending 0 (length seen)))
+    (λ y h. subst (λ n. y < n) fr.long (range-to (length seen) y (filter-from (λ p. get_or seen p false) (range_with_len 0 (length seen)) y h).0))
+    (in-seen (length homes) (subst (IsSeen seen) fr.tree.root (fr.marked 0 fr.tree.some)))
+    (λ k l y h.
+    let s : IsSeen seen y = (filter-from (λ p. get_or seen p false) (range_with_len 0 (length seen)) y h).1 in
+    let r : (j : ℕ) × (j < length nodes) × ((node_at nodes j).place ≡ y) = fr.known y s in
+    let b : r.0 < length nodes = r.1 in
+    subst (λ (q : ℕ). Span (map (r_of rows) (kept (filter (λ p. get_or seen p false) (range_with_len 0 (length seen))) (places_at blocks k))) (r_of rows q)) r.2
+    (elim (fr.before r.0 k (omega arith) l) [
+      | inl o ↦ Has-span (r_of rows) (node_at nodes r.0).place (kept (filter (λ p. get_or seen p false) (range_with_len 0 (length seen))) (places_at blocks k))
+          (kept-has (filter (λ p. get_or seen p false) (range_with_len 0 (length seen))) (places_at blocks k) (node_at nodes r.0).place
+          (subst (λ (q : ℕ). Has (places_at blocks q) (node_at nodes r.0).place) o.1 (st.home (node_at nodes r.0).place o.0).1)
+          (in-seen (node_at nodes r.0).place (fr.marked r.0 b)))
+      | inr t ↦ spread k (row_of rows (node_at nodes r.0)) t
+    ])))
+  where
+    in-seen : (y : ℕ) → IsSeen seen y → Has (filter (λ p. get_or seen p false) (range_with_len 0 (length seen))) y
+    in-seen y s = filter-has (λ p. get_or seen p false) (range_with_len 0 (length seen)) y
+        (elim (cases_lt y (length seen)) [
+          | inl l ↦ Has-range (length seen) y l
+          | inr g ↦ absurd (both_ways (get_or seen y false) (get_or_past seen y false g) s)
+        ]) s
+
+    spread : (k v : ℕ) → IsSpread rows blocks seen v k → Span (map (r_of rows) (kept (filter (λ p. get_or seen p false) (range_with_len 0 (length seen))) (places_at blocks k))) v
+    spread k v t =
+        Span-same (map (r_of rows) (kept (filter (λ p. get_or seen p false) (range_with_len 0 (length seen))) (places_at blocks k)))
+        (row_sum (map (r_of rows) (parts rows (places_at blocks k) v))) v (parts-sum rows (places_at blocks k) v (is_sum-spanned (map (r_of rows) (places_at blocks k)) v t.spanned))
+        (all_in-span (r_of rows) (kept (filter (λ p. get_or seen p false) (range_with_len 0 (length seen))) (places_at blocks k)) (parts rows (places_at blocks k) v)
+        (λ y h. kept-has (filter (λ p. get_or seen p false) (range_with_len 0 (length seen))) (places_at blocks k) y (Has-parts rows (places_at blocks k) v y h) (in-seen y (t.reached y h))))
+
+none-left : (xs : List ℕ) → length xs ≡ 0 → xs ≡ []
+none-left [] e = refl
+none-left (x ∷ xs) e = absurd (omega (arith, e))
+
+pub open-none : (full : ℕ) (blocks : List Block) (unfilled : List ℕ) → length unfilled ≡ 0 → IsOpen full blocks unfilled → IsOpen full blocks []
+open-none full blocks unfilled e o = subst (λ (q : List ℕ). IsOpen full blocks q) (none-left unfilled e) o
+
+-- ---- row after row
+pub record Underway (rows : List ℕ) (n : ℕ) (homes : List ℕ) (blocks : List Block) (unfilled all witness : List ℕ) : Type 0 where
+  pub count : length homes ≡ n
+  pub state : IsState rows homes blocks
+  pub rooms : IsOpen (length all) blocks unfilled
+  pub spans : SpansFirst n rows all
+  pub shown : 0 < length blocks → IsShown rows n (length blocks - 1) witness
+  pub none : length blocks ≡ 0 → witness ≡ []
+
+-- one row more is spanned
+pub spans-more : (rows : List ℕ) (n x : ℕ) (old new : List ℕ) → x ≡ get_or rows n 0 → SpansFirst n rows old → ((v : ℕ) → is_sum old v ≡ true → is_sum new v ≡ true) → is_sum new x ≡ true
+    → SpansFirst (n + 1) rows new
+spans-more rows n x old new e s k h i l = elim (cases_eq i n) [
+  | inl q ↦ ap (λ j. is_sum new (get_or rows j 0)) q ∙ ap (is_sum new) (sym e) ∙ h
+  | inr m ↦ k (get_or rows i 0) (s i (omega arith))
+]
+
+pub underway-opened : (rows : List ℕ) (n : ℕ) (homes homes' : List ℕ) (blocks blocks' : List Block) (unfilled' all witness : List ℕ) → length homes ≡ n → length homes' ≡ length homes + 1
+    → IsState rows homes' blocks' → IsOpen (length all) blocks' unfilled' → SpansFirst (n + 1) rows all → length blocks' ≡ length blocks + 1
+    → IsShown rows (length homes') (length blocks) witness → Underway rows (n + 1) homes' blocks' unfilled' all witness
+underway-opened rows n homes homes' blocks blocks' unfilled' all witness c h st o sp b w =
+    let m : length homes' ≡ n + 1 = h ∙ ap (λ k. k + 1) c in record {
+      count = m;
+      state = st;
+      rooms = o;
+      spans = sp;
+      shown = λ l. let e : length blocks ≡ length blocks' - 1 = omega arith in
+          subst (λ k. IsShown rows k (length blocks' - 1) witness) m (subst (λ k. IsShown rows (length homes') k witness) e w);
+      none = λ e. absurd (omega arith);
+    }
+
+pub underway-entered : (rows : List ℕ) (n : ℕ) (homes homes' : List ℕ) (blocks blocks' : List Block) (unfilled unfilled' old all witness : List ℕ)
+    → Underway rows n homes blocks unfilled old witness → length homes' ≡ length homes + 1
+    → IsState rows homes' blocks' → IsOpen (length all) blocks' unfilled' → SpansFirst (n + 1) rows all → length blocks' ≡ length blocks
+    → Underway rows (n + 1) homes' blocks' unfilled' all witness
+underway-entered rows n homes homes' blocks blocks' unfilled unfilled' old all witness u h st o sp b = record {
+  count = h ∙ ap (λ k. k + 1) u.count;
+  state = st;
+  rooms = o;
+  spans = sp;
+  shown = λ l. let s : IsShown rows n (length blocks - 1) witness = u.shown (subst (λ k. 0 < k) b l) in
+      subst (λ k. IsShown rows (n + 1) (k - 1) witness) (sym b) (record {
+        within = All-weaker (λ i. i < n) (λ i. i < n + 1) (λ i a. omega arith) witness s.within;
+        ascending = s.ascending;
+        more = s.more;
+      });
+  none = λ e. u.none (sym b ∙ e);
+}
+
+-- ---- the end
+pub IsPartition-state : (rows homes : List ℕ) (blocks : List Block) (lists : List (List ℕ)) → IsState rows homes blocks → length homes ≡ length rows → lists ≡ lists_of blocks
+    → IsPartition rows lists
+IsPartition-state rows homes blocks lists st n e =
+    subst (IsPartition rows) (sym e) (record {
+      once = λ i l. state-once rows homes blocks st i (subst (λ k. i < k) (sym n) l);
+      within = All-map (λ b. All (λ i. i < length rows) b) (λ (b : Block). b.places.items) blocks (λ k d l. (st.block k d l).within);
+      independent = All-map (λ b. IsTrue (is_independent (rows_at rows b))) (λ (b : Block). b.places.items) blocks (λ k d l. (st.block k d l).independent);
+    })
+
+pub ascending-state : (rows homes : List ℕ) (blocks : List Block) (lists : List (List ℕ)) → IsState rows homes blocks → lists ≡ lists_of blocks → All IsStrictlyIncreasing lists
+ascending-state rows homes blocks lists st e =
+    subst (All IsStrictlyIncreasing) (sym e)
+    (All-map IsStrictlyIncreasing (λ (b : Block). b.places.items) blocks (λ k d l. IsStrictlyIncreasing-ascending (get_or blocks k d).places.items (st.block k d l).ascending))
+
+pub IsWitness-shown : (rows : List ℕ) (n : ℕ) (homes : List ℕ) (blocks : List Block) (unfilled all witness shown : List ℕ) (count : ℕ) (lists : List (List ℕ))
+    → Underway rows n homes blocks unfilled all witness → n ≡ length rows → count ≡ length blocks → length lists ≡ count
+    → (count ≡ 1 → shown ≡ range_with_len 0 (length rows)) → ((count ≡ 1 → ⊥) → shown ≡ witness) → IsWitness rows lists shown
+IsWitness-shown rows n homes blocks unfilled all witness shown count lists u e c l one other = elim (cases_eq count 1) [
+  | inl q ↦ let p : 0 < length blocks = omega arith in
+      subst (IsWitness rows lists) (sym (one q)) (record {
+        within = range-below (length rows);
+        ascending = IsStrictlyIncreasing-ascending (range_with_len 0 (length rows)) (range-ascending 0 (length rows));
+        more = λ h. let m : length (range_with_len 0 (length rows)) ≡ length rows = length-range_with_len 0 (length rows) in
+            let z : length lists - 1 ≡ 0 = omega arith in
+            subst (λ k. k * rank (rows_at rows (range_with_len 0 (length rows))) < length (range_with_len 0 (length rows))) (sym z) (omega arith);
+      })
+  | inr m ↦ subst (IsWitness rows lists) (sym (other m)) (elim (cases_eq count 0) [
+    | inl z ↦ let w : witness ≡ [] = u.none (sym c ∙ z) in
+        subst (IsWitness rows lists) (sym w) (record {
+          within = λ k d h. absurd (omega arith);
+          ascending = λ k h. absurd (omega arith);
+          more = λ h. let t : times 0 (lists_of blocks) ≡ 1 = state-once rows homes blocks u.state 0 (omega (arith, u.count, e)) in
+              absurd (nowhere blocks 0 (sym c ∙ z) t);
+        })
+    | inr k ↦ let p : 0 < length blocks = omega arith in
+        let s : IsShown rows n (length blocks - 1) witness = u.shown p in record {
+          within = subst (λ j. All (λ i. i < j) witness) e s.within;
+          ascending = s.ascending;
+          more = λ h. subst (λ j. (j - 1) * rank (rows_at rows witness) < length witness) (sym (l ∙ c)) s.more;
+        }
+  ])
+]
+  where
+    nowhere : (bs : List Block) (i : ℕ) → length bs ≡ 0 → times i (lists_of bs) ≡ 1 → ⊥
+    nowhere [] i z t = absurd (omega (arith, t))
+    nowhere (b ∷ bs) i z t = absurd (omega (arith, z))
+
+ascending-increasing : (xs : List ℕ) → IsStrictlyIncreasing xs → IsAscending xs
+ascending-increasing [] a = tt
+ascending-increasing (x ∷ xs) a = (above xs x (head xs x a) later, ascending-increasing xs later)
+  where
+    later : IsStrictlyIncreasing xs
+    later k l = let e : suc k + 1 ≡ suc (k + 1) = omega arith in
+        subst (λ m. get_or xs k 0 < get_or (x ∷ xs) m 0) e (a (suc k) (omega arith))
+
+    head : (ys : List ℕ) (y : ℕ) → IsStrictlyIncreasing (y ∷ ys) → 0 < length ys → y < get_or ys 0 0
+    head ys y b l = let e : 0 + 1 ≡ 1 = omega arith in b 0 (omega arith)
+
+    above : (ys : List ℕ) (y : ℕ) → (0 < length ys → y < get_or ys 0 0) → IsStrictlyIncreasing ys → (z : ℕ) → Has ys z → y < z
+    above [] y f b z h = absurd h
+    above (w ∷ ys) y f b z h =
+        let l : y < w = f (omega arith) in
+        elim h [
+          | inl e ↦ subst (λ m. y < m) e l
+          | inr t ↦ above ys y
+              (λ g. let s : w < get_or ys 0 0 = head ys w b g in omega arith)
+              (λ k g. let e : suc k + 1 ≡ suc (k + 1) = omega arith in subst (λ m. get_or ys k 0 < get_or (w ∷ ys) m 0) e (b (suc k) (omega arith))) z t
+        ]
+
+distinct-increasing : (xs : List ℕ) → IsStrictlyIncreasing xs → Distinct xs
+distinct-increasing xs a = distinct-ascending xs (ascending-increasing xs a)
+
+at_least-from : (rows : List ℕ) (other : List (List ℕ)) → IsPartition rows other → (S : List ℕ) → ((y : ℕ) → Has S y → y < length rows) → At_least_once S other
+at_least-from rows other p [] h = tt
+at_least-from rows other p (s ∷ S) h = (
+  (let t : times s other ≡ 1 = p.once s (h s (inl refl)) in omega arith),
+  at_least-from rows other p S (λ y m. h y (inr m)),
+)
+
+all_free-from : (rows : List ℕ) (other : List (List ℕ)) → All (λ b. IsTrue (is_independent (rows_at rows b))) other → All_free (r_of rows) other
+unfolding rows_at
+all_free-from rows [] h = tt
+all_free-from rows (b ∷ other) h = (
+  independent-Free (map (r_of rows) b) (h 0 b (omega arith)),
+  all_free-from rows other (λ k d l. h (suc k) d (omega arith)),
+)
+
+pub least-shown : (rows : List ℕ) (n : ℕ) (homes : List ℕ) (blocks : List Block) (unfilled all witness : List ℕ) → Underway rows n homes blocks unfilled all witness → n ≡ length rows
+    → (other : List (List ℕ)) → IsPartition rows other → length blocks ≤ length other
+unfolding rows_at
+least-shown rows n homes blocks unfilled all witness u e other p = elim (cases_eq (length blocks) 0) [
+  | inl z ↦ omega arith
+  | inr m ↦
+      let s : IsShown rows n (length blocks - 1) witness = u.shown (omega arith) in
+      let l : length blocks - 1 < length other =
+      least-by_witness (r_of rows) witness (length blocks - 1) other (distinct-increasing witness s.ascending)
+      (at_least-from rows other p witness (λ y h. inside witness y h s.within)) (all_free-from rows other p.independent) s.more in
+      omega arith
+]
+  where
+    inside : (w : List ℕ) (y : ℕ) → Has w y → All (λ i. i < n) w → y < length rows
+    inside w y h a = let r : (j : ℕ) × (j < length w) × (get_or w j 0 ≡ y) = Has-at w y h in
+        let l : get_or w r.0 0 < n = a r.0 0 r.1 in subst (λ k. k < length rows) r.2 (omega arith)

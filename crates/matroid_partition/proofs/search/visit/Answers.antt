@@ -1,0 +1,98 @@
+use Rattle.std.proofs.Common.{◌≡◌, ◌<◌, ◌++◌, ◌∷◌, [], List, true, false, set, length, get_or, subst, sym, ◌∙◌, arith}
+use Rattle.std.proofs.lemmas.List.{get_or_default, get_or_read, get_or-set_same}
+use Rattle.gf2_linear.specs.Rows.{is_sum}
+use Rattle.matroid_partition.specs.declared.search.Node.{Node}
+use Rattle.matroid_partition.specs.Blocks.{HasRoomAt}
+use Rattle.matroid_partition.specs.Searches.{IsChain, IsFront, node_at}
+use Rattle.matroid_partition.proofs.StateLaws.{any-block}
+use Rattle.matroid_partition.proofs.SearchLaws.{front-grown, member-old, chain-grown}
+use Rattle.matroid_partition.proofs.search.visit.Goals as goal
+
+pub index-requires : goal.index-requires
+index-requires c =
+    let l : c.args.place < length c.args.ground.now.homes.now =
+    member-old c.args.ground.now.rows.now c.args.ground.now.homes.now c.args.ground.now.blocks.now (node_at c.args.front.now.nodes.items c.args.node)
+    (get_or c.args.ground.now.homes.now c.args.place 0) c.args.place c.requires.ground.state c.requires.member in
+    omega (arith, c.requires.front.long, c.args.front.now.seen.ok.0)
+
+pub returns-then-index-clause-seen : goal.returns-then-index-clause-seen
+returns-then-index-clause-seen c =
+    let l : c.args.place < length c.args.ground.now.homes.now =
+    member-old c.args.ground.now.rows.now c.args.ground.now.homes.now c.args.ground.now.blocks.now (node_at c.args.front.now.nodes.items c.args.node)
+    (get_or c.args.ground.now.homes.now c.args.place 0) c.args.place c.requires.ground.state c.requires.member in
+    let s : c.args.place < length c.args.front.now.seen.items = omega (arith, c.requires.front.long) in
+    sym (get_or_read c.args.front.now.seen.items c.args.place c.index.result.now s c.index.ensures false) ∙ c.if-index.true
+
+pub index_mut-requires : goal.index_mut-requires
+index_mut-requires c =
+    let l : c.args.place < length c.args.ground.now.homes.now =
+    member-old c.args.ground.now.rows.now c.args.ground.now.homes.now c.args.ground.now.blocks.now (node_at c.args.front.now.nodes.items c.args.node)
+    (get_or c.args.ground.now.homes.now c.args.place 0) c.args.place c.requires.ground.state c.requires.member in
+    omega (arith, c.requires.front.long, c.args.front.now.seen.ok.0)
+
+pub bounds-ground-place : goal.bounds-ground-place
+bounds-ground-place c =
+    let l : c.args.place < length c.args.ground.now.homes.now =
+    member-old c.args.ground.now.rows.now c.args.ground.now.homes.now c.args.ground.now.blocks.now (node_at c.args.front.now.nodes.items c.args.node)
+    (get_or c.args.ground.now.homes.now c.args.place 0) c.args.place c.requires.ground.state c.requires.member in
+    let n : length c.args.ground.now.homes.now < length c.args.ground.now.rows.now = c.requires.ground.next in
+    omega arith
+
+pub offset_bounds-ground-place : goal.offset_bounds-ground-place
+offset_bounds-ground-place c =
+    let l : c.args.place < length c.args.ground.now.homes.now =
+    member-old c.args.ground.now.rows.now c.args.ground.now.homes.now c.args.ground.now.blocks.now (node_at c.args.front.now.nodes.items c.args.node)
+    (get_or c.args.ground.now.homes.now c.args.place 0) c.args.place c.requires.ground.state c.requires.member in
+    let n : length c.args.ground.now.homes.now < length c.args.ground.now.rows.now = c.requires.ground.next in
+    let m : c.args.place < length c.args.ground.now.rows.now = omega arith in
+    omega arith
+
+pub first_fit-requires-clause-others : goal.first_fit-requires-clause-others
+first_fit-requires-clause-others c k d kl n =
+    let l : c.args.place < length c.args.ground.now.homes.now =
+    member-old c.args.ground.now.rows.now c.args.ground.now.homes.now c.args.ground.now.blocks.now (node_at c.args.front.now.nodes.items c.args.node)
+    (get_or c.args.ground.now.homes.now c.args.place 0) c.args.place c.requires.ground.state c.requires.member in
+    let m : length c.args.ground.now.homes.now < length c.args.ground.now.rows.now = c.requires.ground.next in
+    subst (λ v. is_sum (get_or c.args.ground.now.blocks.now k d).basis v ≡ true) (get_or_default c.args.ground.now.rows.now c.args.place 0 c.index-ground-place.result (omega arith))
+    (c.requires.ground.others c.args.place (omega arith) k d kl n)
+
+pub returns-in-None-clause-none : goal.returns-in-None-clause-none
+returns-in-None-clause-none c =
+    let l : c.args.place < length c.args.ground.now.homes.now =
+    member-old c.args.ground.now.rows.now c.args.ground.now.homes.now c.args.ground.now.blocks.now (node_at c.args.front.now.nodes.items c.args.node)
+    (get_or c.args.ground.now.homes.now c.args.place 0) c.args.place c.requires.ground.state c.requires.member in
+    let s : c.args.place < length c.args.front.now.seen.items = omega (arith, c.requires.front.long) in
+    let unseen : get_or c.args.front.now.seen.items c.args.place false ≡ false =
+    sym (get_or_read c.args.front.now.seen.items c.args.place c.index.result.now s c.index.ensures false) ∙ c.if-index.false in
+    subst (λ (q : List Node). IsFront c.args.ground.now.rows.now c.args.ground.now.homes.now c.args.ground.now.blocks.now q (set c.args.front.now.seen.items c.args.place true)
+    c.args.node (get_or c.args.ground.now.homes.now c.args.place 0)) (sym c.in_ok-push.ensures.items)
+    (front-grown c.args.ground.now.rows.now c.args.ground.now.homes.now c.args.ground.now.blocks.now c.args.front.now.nodes.items c.args.front.now.seen.items c.args.node c.args.place
+    c.requires.ground.state c.requires.there c.requires.front c.requires.member unseen)
+
+pub returns-in-None-clause-seen : goal.returns-in-None-clause-seen
+returns-in-None-clause-seen c =
+    let l : c.args.place < length c.args.ground.now.homes.now =
+    member-old c.args.ground.now.rows.now c.args.ground.now.homes.now c.args.ground.now.blocks.now (node_at c.args.front.now.nodes.items c.args.node)
+    (get_or c.args.ground.now.homes.now c.args.place 0) c.args.place c.requires.ground.state c.requires.member in
+    let s : c.args.place < length c.args.front.now.seen.items = omega (arith, c.requires.front.long) in
+    get_or-set_same c.args.front.now.seen.items c.args.place true false s
+
+pub returns-in-Some-clause-some : goal.returns-in-Some-clause-some
+returns-in-Some-clause-some c =
+    let l : c.args.place < length c.args.ground.now.homes.now =
+    member-old c.args.ground.now.rows.now c.args.ground.now.homes.now c.args.ground.now.blocks.now (node_at c.args.front.now.nodes.items c.args.node)
+    (get_or c.args.ground.now.homes.now c.args.place 0) c.args.place c.requires.ground.state c.requires.member in
+    let s : c.args.place < length c.args.front.now.seen.items = omega (arith, c.requires.front.long) in
+    let unseen : get_or c.args.front.now.seen.items c.args.place false ≡ false =
+    sym (get_or_read c.args.front.now.seen.items c.args.place c.index.result.now s c.index.ensures false) ∙ c.if-index.false in
+    let m : length c.args.ground.now.homes.now < length c.args.ground.now.rows.now = c.requires.ground.next in
+    let room : HasRoomAt (get_or c.args.ground.now.rows.now c.args.place 0) c.args.ground.now.blocks.now c.in-Some.into =
+    subst (λ v. HasRoomAt v c.args.ground.now.blocks.now c.in-Some.into) (get_or_default c.args.ground.now.rows.now c.args.place c.index-ground-place.result 0 (omega arith))
+    c.in-Some.ensures.some in
+    subst (λ (q : List Node). IsChain c.args.ground.now.rows.now c.args.ground.now.homes.now c.args.ground.now.blocks.now q c.len-last.result c.in-Some.into)
+    (sym c.in_ok-push.ensures.items)
+    (subst (λ k. IsChain c.args.ground.now.rows.now c.args.ground.now.homes.now c.args.ground.now.blocks.now
+    (c.args.front.now.nodes.items ++ record { place = c.args.place; parent = c.args.node } ∷ []) k c.in-Some.into) (sym (c.len-last.ensures ∙ c.args.front.now.nodes.ok.0))
+    (chain-grown c.args.ground.now.rows.now c.args.ground.now.homes.now c.args.ground.now.blocks.now c.args.front.now.nodes.items c.args.front.now.seen.items c.args.node c.args.place
+    c.in-Some.into (any-block c.args.ground.now.blocks.now c.in-Some.into room.there)
+    c.requires.ground.state c.requires.there c.requires.front c.requires.member unseen room))

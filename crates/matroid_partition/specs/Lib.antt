@@ -1,0 +1,4 @@
+pub mod Partitions
+pub mod Places
+pub mod Blocks
+pub mod Searches

@@ -1,0 +1,174 @@
+//! The search for a chain of exchanges, breadth first.
+
+ghost use Rattle.std.specs.Prelude.{◌≡◌, ℕ, ◌+◌, ◌<◌, ◌≤◌, IfOk, IfSome, IfNone, length, slice_index, true, false};
+ghost use Rattle.matroid_partition.specs.Searches.{IsChain, IsFront, IsGround, IsGrown, IsMember, IsSeen, IsSet, IsStart, node_at};
+
+use crate::blocks::{Block, first_fit};
+use gf2_linear::Row;
+use std::alloc::{AllocError, Global};
+
+/// A row that the search reached, and the node of the row that would take its place.
+#[derive(Drop)]
+pub struct Node {
+    pub place: usize,
+    pub parent: usize,
+}
+
+/// What the search has reached so far: the nodes in order, and for each row whether it is among them.
+#[derive(Drop)]
+pub struct Front {
+    pub nodes: Vec<Node>,
+    pub seen: Vec<bool>,
+}
+
+/// A chain: the row of its last node goes into the block `into`.
+#[derive(Drop)]
+pub struct Chain {
+    pub last: usize,
+    pub into: usize,
+}
+
+/// What stands still while a search runs.
+#[derive(Drop)]
+pub struct Ground<'a> {
+    pub rows: &'a [Row],
+    pub blocks: &'a [Block],
+    /// The block of each row before the new one.
+    pub homes: &'a [usize],
+    /// The blocks that may have room for one of the rows.
+    pub unfilled: &'a [usize],
+}
+
+/// A front with the new row alone.
+pub fn front_at(alloc: Global, place: usize) -> Result<Front, AllocError>
+    requires { place < 18446744073709551615 }
+    ensures { IfOk result (λ f. IsStart place f.nodes.items f.seen.items) }
+{
+    let mut seen = vec![in alloc; false; place]?;
+    seen.push(true)?;
+    let mut nodes = Vec::new(alloc);
+    nodes.push(Node { place, parent: 0 })?;
+    Ok(Front { nodes, seen })
+}
+
+/// Searches from the row behind those that have a home: breadth first, blocks ascending, members ascending.
+/// None where no chain brings it in: then the front has all rows that are reached.
+pub fn search(ground: &Ground, front: &mut Front) -> Result<Option<Chain>, AllocError>
+    requires ground { IsGround ground.now.rows.now ground.now.homes.now ground.now.blocks.now ground.now.unfilled.now }
+    requires start { IsStart (length ground.now.homes.now) front.old.nodes.items front.old.seen.items }
+    ensures some { IfOk result (λ o. IfSome o (λ c. IsChain ground.now.rows.now ground.now.homes.now ground.now.blocks.now front.new.nodes.items c.last c.into)) }
+    ensures none { IfOk result (λ o. IfNone o (IsFront ground.now.rows.now ground.now.homes.now ground.now.blocks.now front.new.nodes.items front.new.seen.items (length front.new.nodes.items) 0)) }
+{
+    let mut node = 0;
+    'nodes: while node < front.nodes.len() {
+        if let Some(chain) = spread(ground, node, front)? {
+            return Ok(Some(chain));
+        }
+        node += 1;
+    }
+    Ok(None)
+}
+
+/// Reaches all rows that a node's row could take the place of.
+fn spread(ground: &Ground, node: usize, front: &mut Front) -> Result<Option<Chain>, AllocError>
+    requires ground { IsGround ground.now.rows.now ground.now.homes.now ground.now.blocks.now ground.now.unfilled.now }
+    requires there { node < length front.old.nodes.items }
+    requires front { IsFront ground.now.rows.now ground.now.homes.now ground.now.blocks.now front.old.nodes.items front.old.seen.items node 0 }
+    ensures some { IfOk result (λ o. IfSome o (λ c. IsChain ground.now.rows.now ground.now.homes.now ground.now.blocks.now front.new.nodes.items c.last c.into)) }
+    ensures none { IfOk result (λ o. IfNone o (IsFront ground.now.rows.now ground.now.homes.now ground.now.blocks.now front.new.nodes.items front.new.seen.items (node + 1) 0)) }
+    ensures there { IfOk result (λ o. IfNone o (node < length front.new.nodes.items)) }
+{
+    'numbers: for number in 0..ground.blocks.len() {
+        if let Some(chain) = cross(ground, node, number, front)? {
+            return Ok(Some(chain));
+        }
+    }
+    Ok(None)
+}
+
+/// Reaches the rows of one block that a node's row could take the place of.
+fn cross(
+    ground: &Ground,
+    node: usize,
+    number: usize,
+    front: &mut Front,
+) -> Result<Option<Chain>, AllocError>
+    requires ground { IsGround ground.now.rows.now ground.now.homes.now ground.now.blocks.now ground.now.unfilled.now }
+    requires there { node < length front.old.nodes.items }
+    requires block { number < length ground.now.blocks.now }
+    requires front { IsFront ground.now.rows.now ground.now.homes.now ground.now.blocks.now front.old.nodes.items front.old.seen.items node number }
+    ensures some { IfOk result (λ o. IfSome o (λ c. IsChain ground.now.rows.now ground.now.homes.now ground.now.blocks.now front.new.nodes.items c.last c.into)) }
+    ensures none { IfOk result (λ o. IfNone o (IsFront ground.now.rows.now ground.now.homes.now ground.now.blocks.now front.new.nodes.items front.new.seen.items node (number + 1))) }
+    ensures there { IfOk result (λ o. IfNone o (node < length front.new.nodes.items)) }
+{
+    let place = front.nodes[node].place;
+    if place < ground.homes.len() && ground.homes[place] == number {
+        return Ok(None);
+    }
+    match ground.blocks[number].basis.express(&ground.rows[place]) {
+        None => Ok(Some(Chain {
+            last: node,
+            into: number,
+        })),
+        Some(set) => reach(ground, node, number, &set, front),
+    }
+}
+
+/// Reaches the rows of a set of members of a block, and tells the first that some block has room for.
+fn reach(
+    ground: &Ground,
+    node: usize,
+    number: usize,
+    set: &Row,
+    front: &mut Front,
+) -> Result<Option<Chain>, AllocError>
+    requires ground { IsGround ground.now.rows.now ground.now.homes.now ground.now.blocks.now ground.now.unfilled.now }
+    requires there { node < length front.old.nodes.items }
+    requires block { number < length ground.now.blocks.now }
+    requires front { IsFront ground.now.rows.now ground.now.homes.now ground.now.blocks.now front.old.nodes.items front.old.seen.items node number }
+    requires set { IsSet ground.now.rows.now ground.now.homes.now ground.now.blocks.now (node_at front.old.nodes.items node) number set.now }
+    ensures some { IfOk result (λ o. IfSome o (λ c. IsChain ground.now.rows.now ground.now.homes.now ground.now.blocks.now front.new.nodes.items c.last c.into)) }
+    ensures none { IfOk result (λ o. IfNone o (IsFront ground.now.rows.now ground.now.homes.now ground.now.blocks.now front.new.nodes.items front.new.seen.items node (number + 1))) }
+    ensures there { IfOk result (λ o. IfNone o (node < length front.new.nodes.items)) }
+{
+    let _few = ground.blocks[number].basis.len();
+    'members: for (member, place) in ground.blocks[number].places.iter().enumerate() {
+        if set.has(member as u32) {
+            if let Some(chain) = visit(ground, node, *place, front)? {
+                return Ok(Some(chain));
+            }
+        }
+    }
+    Ok(None)
+}
+
+/// Reaches one row, unless it was reached before.
+fn visit(
+    ground: &Ground,
+    node: usize,
+    place: usize,
+    front: &mut Front,
+) -> Result<Option<Chain>, AllocError>
+    requires ground { IsGround ground.now.rows.now ground.now.homes.now ground.now.blocks.now ground.now.unfilled.now }
+    requires there { node < length front.old.nodes.items }
+    requires front { let number = slice_index ground.now.homes.now place in IsFront ground.now.rows.now ground.now.homes.now ground.now.blocks.now front.old.nodes.items front.old.seen.items node number }
+    requires member { let number = slice_index ground.now.homes.now place in IsMember ground.now.rows.now ground.now.homes.now ground.now.blocks.now (node_at front.old.nodes.items node) number place }
+    ensures some { IfOk result (λ o. IfSome o (λ c. IsChain ground.now.rows.now ground.now.homes.now ground.now.blocks.now front.new.nodes.items c.last c.into)) }
+    ensures none { let number = slice_index ground.now.homes.now place in IfOk result (λ o. IfNone o (IsFront ground.now.rows.now ground.now.homes.now ground.now.blocks.now front.new.nodes.items front.new.seen.items node number)) }
+    ensures seen { IfOk result (λ o. IfNone o (IsSeen front.new.seen.items place)) }
+    ensures grown { IfOk result (λ o. IfNone o (IsGrown front.old.nodes.items front.new.nodes.items front.old.seen.items front.new.seen.items)) }
+{
+    if front.seen[place] {
+        return Ok(None);
+    }
+    let last = front.nodes.len();
+    front.seen[place] = true;
+    front.nodes.push(Node {
+        place,
+        parent: node,
+    })?;
+    match first_fit(ground.blocks, ground.unfilled, &ground.rows[place]) {
+        None => Ok(None),
+        Some(into) => Ok(Some(Chain { last, into })),
+    }
+}
