@@ -1,1 +1,4 @@
+pub mod CircuitLaws
+pub mod EntryLaws
 pub mod GateLaws
+pub mod TreeLaws
