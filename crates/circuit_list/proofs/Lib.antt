@@ -1,4 +1,5 @@
 pub mod CircuitLaws
 pub mod EntryLaws
 pub mod GateLaws
+pub mod SlotLaws
 pub mod TreeLaws

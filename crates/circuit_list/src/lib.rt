@@ -82,6 +82,7 @@ impl Circuit {
         ensures wires { self.new.wires ≡ self.old.wires }
         ensures gates { OnOk result (self.new.gates ≡ self.old.gates ++ g ∷ []) }
         ensures slots { OnOk result ((s : ℕ) × (self.new.slots ≡ self.old.slots ++ s ∷ [])) }
+        ensures others { (t : ℕ) → IsLive self.old t → place_of t self.new.slots ≡ place_of t self.old.slots }
         ensures err { OnErr result (self.new ≡ self.old) }
     {
         self.tree.push(g)
@@ -93,6 +94,8 @@ impl Circuit {
         ensures wires { self.new.wires ≡ self.old.wires }
         ensures gates { self.new.gates ≡ remove self.old.gates i }
         ensures slots { self.new.slots ≡ remove self.old.slots i }
+        ensures earlier { (t : ℕ) → place_of t self.old.slots < i → place_of t self.new.slots ≡ place_of t self.old.slots }
+        ensures later { (t : ℕ) → i < place_of t self.old.slots → place_of t self.new.slots + 1 ≡ place_of t self.old.slots }
     {
         let slot = self.slot(i);
         self.remove_at(slot);
@@ -231,6 +234,8 @@ impl Circuit {
         ensures wires { self.new.wires ≡ self.old.wires }
         ensures gates { self.new.gates ≡ remove self.old.gates (place_of s self.old.slots) }
         ensures slots { self.new.slots ≡ remove self.old.slots (place_of s self.old.slots) }
+        ensures earlier { (t : ℕ) → place_of t self.old.slots < place_of s self.old.slots → place_of t self.new.slots ≡ place_of t self.old.slots }
+        ensures later { (t : ℕ) → place_of s self.old.slots < place_of t self.old.slots → place_of t self.new.slots + 1 ≡ place_of t self.old.slots }
     {
         self.tree.set(s.index(), None);
     }

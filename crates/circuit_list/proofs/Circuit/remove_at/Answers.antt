@@ -7,6 +7,7 @@ use Rattle.circuit_list.specs.Gates.{IsFine}
 use Rattle.circuit_list.specs.Slots.{Ascend, IsLive, IsNextOn, IsPrevOn, NoneBefore, NoneBehind, is_on_at, place_of}
 use Rattle.circuit_list.proofs.CircuitLaws.{live_entry, place-entry, gone-fine}
 use Rattle.circuit_list.proofs.EntryLaws.{gates_of-gone, slots_from-gone, slot_below}
+use Rattle.circuit_list.proofs.SlotLaws.{place_of-earlier, place_of-later}
 use Rattle.circuit_list.proofs.Circuit.remove_at.Goals as goal
 
 pub set-requires : goal.set-requires
@@ -29,10 +30,21 @@ returns-clause-gates c =
         ap (rank c.self.inside.tree) c.index.ensures ∙ sym (place-entry c.self.inside.tree c.args.s l.0 l.1) ∙ ap (λ (b : Body). place_of c.args.s b.slots) c.self.view_is in
     ap gates_of c.set.ensures ∙ gates_of-gone c.self.inside.tree c.index.result l.0 here ∙ (λ i. remove (ap (λ (b : Body). b.gates) c.self.view_is i) (place i))
 
-pub returns-clause-slots : goal.returns-clause-slots
-returns-clause-slots c =
+slots_gone : goal.returns-clause-slots
+slots_gone c =
     let l = live_entry c.self.inside.tree c.args.s (subst (λ (b : Body). IsLive b c.args.s) (sym c.self.view_is) c.requires) in
     let here : entry c.self.inside.tree c.index.result ≡ Some l.0 = ap (entry c.self.inside.tree) c.index.ensures ∙ l.1 in
     let place : rank c.self.inside.tree c.index.result ≡ place_of c.args.s c.args.self.now.slots =
         ap (rank c.self.inside.tree) c.index.ensures ∙ sym (place-entry c.self.inside.tree c.args.s l.0 l.1) ∙ ap (λ (b : Body). place_of c.args.s b.slots) c.self.view_is in
     ap (slots_from 0) c.set.ensures ∙ slots_from-gone 0 c.self.inside.tree c.index.result l.0 here ∙ (λ i. remove (ap (λ (b : Body). b.slots) c.self.view_is i) (place i))
+
+pub returns-clause-slots : goal.returns-clause-slots
+returns-clause-slots c = slots_gone c
+
+pub returns-clause-earlier : goal.returns-clause-earlier
+returns-clause-earlier c = λ t lt.
+    ap (place_of t) (slots_gone c) ∙ place_of-earlier t (place_of c.args.s c.args.self.now.slots) c.args.self.now.slots lt
+
+pub returns-clause-later : goal.returns-clause-later
+returns-clause-later c = λ t lt.
+    ap (λ xs. place_of t xs + 1) (slots_gone c) ∙ place_of-later t (place_of c.args.s c.args.self.now.slots) c.args.self.now.slots lt
