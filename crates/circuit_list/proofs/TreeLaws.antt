@@ -10,7 +10,7 @@ use Rattle.std.proofs.Common.{◌≡◌, ◌≢◌, ℕ, zero, suc, ◌+◌, ◌
 use Rattle.std.proofs.Math.Nat.{one-mul, add-mul, mul-add, two-mul, two-pow-succ, one-le-pow, pow-le-pow_right, le-mul_of_pos_right, add-sub_cancel_left}
 use Rattle.std.proofs.lemmas.List.{get_or_past, get_or_default, get_or-set_same, get_or-set_other, length-set}
 use Rattle.std.proofs.lemmas.Nat.{shl_whole}
-use Rattle.std.proofs.lemmas.Nat.Bits.{bit_at-zero, bit_at_or, bit_at-lt, bit_at-pow_same, bit_at-pow_other, shr_and_one}
+use Rattle.std.proofs.lemmas.Nat.Bits.{bit_at_or, bit_at-lt, bit_at-pow_same, bit_at-pow_other, shr_and_one}
 use Rattle.std.proofs.lemmas.Bool.{eqb-true, eqb-false}
 use Rattle.std.specs.Int.{bit_at}
 use Rattle.std.specs.Int.Bits.{bit_or}
@@ -18,7 +18,7 @@ use Rattle.circuit_list.specs.declared.Gate.{Gate}
 use Rattle.circuit_list.specs.declared.tree.Node.{Node}
 use Rattle.circuit_list.specs.declared.tree.Part.{Part}
 use Rattle.circuit_list.specs.Entries.{entry, is_live, rank}
-use Rattle.circuit_list.specs.Tree.{Covers, IsJoined, IsTree, NoneOn, IsLastOn, has_wire, join, leaf, meets, node_at, wire_bit, wires_of}
+use Rattle.circuit_list.specs.Tree.{Covers, IsJoined, IsTree, IsBefore, IsBehind, IsFirstOn, IsLastOn, NoneOn, has_wire, join, leaf, meets, node_at, wire_bit, wires_of}
 use Rattle.circuit_list.proofs.EntryLaws.{rank-next, rank_le, rank_past, rank-zero, rank_mono}
 
 -- ---- numbers
@@ -129,6 +129,10 @@ or_false false b h = (refl, h)
 pub or_true : (a b : Bool) → (a || b) ≡ true → a ≡ false → b ≡ true
 or_true true b h f = absurd (cc)
 or_true false b h f = h
+
+pub or_true_left : (a b : Bool) → (a || b) ≡ true → b ≡ false → a ≡ true
+or_true_left true b h f = refl
+or_true_left false b h f = absurd (cc)
 
 pub wires-joined : (w : ℕ) (es : List (Option Gate)) (ns : List Node) (i : ℕ) → IsJoined es ns i
     → has_wire w (node_at es ns i).wires ≡ (has_wire w (node_at es ns (2 * i)).wires || has_wire w (node_at es ns (2 * i + 1)).wires)
@@ -249,27 +253,41 @@ rank_root h es fs p r s e g k =
     omega arith
 
 -- ---- the next slot on a wire
-pub meets-past : (w : ℕ) (es : List (Option Gate)) (s : ℕ) → length es ≤ s → meets w (entry es s) ≡ false
-unfolding has_wire
-meets-past w es s le = ap (meets w) (get_or_past es s None le) ∙ ap (λ n. n == 1) (bit_at-zero (w % 64))
-
--- the last slot below an end past the last slot
-pub last_root : (w h k : ℕ) (es fs : List (Option Gate)) (ns : List Node) (p : Part) (r : Option ℕ) → IsTree h es ns → fs ≡ es → p ≡ record { node = 1; from = 0; height = h }
-    → MatchOption r (NoneOn w fs p.from (min k (p.from + 2 ^ p.height))) (λ s. (p.from ≤ s) × IsLastOn w fs (min k (p.from + 2 ^ p.height)) s)
-    → MatchOption r (NoneOn w es 0 k) (IsLastOn w es k)
-last_root w h k es fs ns p r t e g m =
-    at r (subst (λ (q : Part). MatchOption r (NoneOn w es q.from (min k (q.from + 2 ^ q.height))) (λ s. (q.from ≤ s) × IsLastOn w es (min k (q.from + 2 ^ q.height)) s)) g
-    (subst (λ (xs : List (Option Gate)). MatchOption r (NoneOn w xs p.from (min k (p.from + 2 ^ p.height))) (λ s. (p.from ≤ s) × IsLastOn w xs (min k (p.from + 2 ^ p.height)) s)) e m))
+pub joined-none : (w : ℕ) (es : List (Option Gate)) (a m b : ℕ) → NoneOn w es a m → NoneOn w es m b → NoneOn w es a b
+joined-none w es a m b left right s ge lt = at (order s m)
   where
-    beyond : (a s : ℕ) → NoneOn w es a (min k (0 + 2 ^ h)) → a ≤ s → s < k → meets w (entry es s) ≡ false
-    beyond a s none ge lt = step (order s (0 + 2 ^ h))
-      where
-        step : (s < 0 + 2 ^ h) ⊎ (0 + 2 ^ h ≤ s) → meets w (entry es s) ≡ false
-        step (inl low) = none s ge (omega arith)
-        step (inr high) = meets-past w es s (omega (arith, t.size, t.room))
-    at : (r : Option ℕ) → MatchOption r (NoneOn w es 0 (min k (0 + 2 ^ h))) (λ s. (0 ≤ s) × IsLastOn w es (min k (0 + 2 ^ h)) s) → MatchOption r (NoneOn w es 0 k) (IsLastOn w es k)
-    at None none = λ s ge lt. beyond 0 s none ge lt
-    at (Some s) found = record { below = omega (arith, found.1.below); on = found.1.on; none = λ u ge lt. beyond (s + 1) u found.1.none ge lt }
+    at : (s < m) ⊎ (m ≤ s) → meets w (entry es s) ≡ false
+    at (inl low) = left s ge low
+    at (inr high) = right s high lt
+
+pub first-right : (w : ℕ) (es : List (Option Gate)) (a m s : ℕ) → a ≤ m → NoneOn w es a m → IsFirstOn w es m s → IsFirstOn w es a s
+first-right w es a m s le none f = record { from = omega (arith, f.from); on = f.on; none = λ u ge lt. joined-none w es a m s none f.none u ge lt }
+
+pub last-left : (w : ℕ) (es : List (Option Gate)) (m b s : ℕ) → m ≤ b → NoneOn w es m b → IsLastOn w es m s → IsLastOn w es b s
+last-left w es m b s le none f = record { below = omega (arith, f.below); on = f.on; none = λ u ge lt. joined-none w es (s + 1) m b f.none none u ge lt }
+-- behind a part's left half: nothing on the wire in the right half, so what is nearest behind the part is
+pub behind-left : (w : ℕ) (es : List (Option Gate)) (ns : List Node) (a m e : ℕ) (best : Option Part) → a ≤ m → NoneOn w es a m
+    → MatchOption best (NoneOn w es m e) (IsBehind w es ns m) → MatchOption best (NoneOn w es a e) (IsBehind w es ns a)
+behind-left w es ns a m e None le none rest = λ s ge lt. joined-none w es a m e none rest s ge lt
+behind-left w es ns a m e (Some p) le none rest = record {
+  covers = rest.covers;
+  low = rest.low;
+  on = rest.on;
+  from = omega (arith, rest.from);
+  none = λ s ge lt. joined-none w es a m p.from none rest.none s ge lt;
+}
+
+-- before a part's right half: the same with the left half
+pub before-right : (w : ℕ) (es : List (Option Gate)) (ns : List Node) (m b : ℕ) (best : Option Part) → m ≤ b → NoneOn w es m b
+    → MatchOption best (NoneOn w es 0 m) (IsBefore w es ns m) → MatchOption best (NoneOn w es 0 b) (IsBefore w es ns b)
+before-right w es ns m b None le none rest = λ s ge lt. joined-none w es 0 m b rest none s ge lt
+before-right w es ns m b (Some p) le none rest = record {
+  covers = rest.covers;
+  low = rest.low;
+  on = rest.on;
+  below = omega (arith, rest.below);
+  none = λ s ge lt. joined-none w es (p.from + 2 ^ p.height) m b rest.none none s ge lt;
+}
 
 -- a slot that counts has a gate, and counts as one
 pub leaf_live : (e : Option Gate) → 0 < (leaf e).count → (is_live e ≡ true) × ((leaf e).count ≡ 1)

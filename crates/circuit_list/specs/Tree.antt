@@ -9,6 +9,7 @@
 --   Covers es ns h i lo                      below node i stand the slots from lo on, 2^h of them
 --   NoneOn w es a b                          no gate on wire w stands in the slots from a to below b
 --   IsFirstOn w es a s                       slot s is the first from a on whose gate is on wire w
+--   IsBehind w es ns a p, IsBefore w es ns b p    p is the nearest part from a on, or below b, with a gate on wire w
 --   IsLastOn w es b s                        slot s is the last below b whose gate is on wire w
 use Rattle.std.specs.Prelude.{◌≡◌, ℕ, zero, suc, ◌+◌, ◌-◌, ◌*◌, ◌^◌, ◌%◌, ◌<◌, ◌≤◌, Bool, true, false, ◌==◌, List, length, min, Option, None, Some}
 use Rattle.std.specs.Int.{bit_at}
@@ -17,6 +18,7 @@ use Rattle.std.proofs.Common.{get_or}
 use Rattle.circuit_list.specs.declared.Gate.{Gate}
 use Rattle.circuit_list.specs.declared.Gate.TheVariants.{H, X, P, Cx}
 use Rattle.circuit_list.specs.declared.tree.Node.{Node}
+use Rattle.circuit_list.specs.declared.tree.Part.{Part}
 use Rattle.circuit_list.specs.Entries.{entry}
 
 unfoldable pub wire_bit : ℕ → ℕ
@@ -70,3 +72,17 @@ pub record IsLastOn (w : ℕ) (es : List (Option Gate)) (b s : ℕ) : Type 0 whe
   pub below : s < b
   pub on : meets w (entry es s) ≡ true
   pub none : NoneOn w es (s + 1) b
+
+pub record IsBehind (w : ℕ) (es : List (Option Gate)) (ns : List Node) (a : ℕ) (p : Part) : Type 0 where
+  pub covers : Covers es ns p.height p.node p.from
+  pub low : p.height < 64
+  pub on : has_wire w (node_at es ns p.node).wires ≡ true
+  pub from : a ≤ p.from
+  pub none : NoneOn w es a p.from
+
+pub record IsBefore (w : ℕ) (es : List (Option Gate)) (ns : List Node) (b : ℕ) (p : Part) : Type 0 where
+  pub covers : Covers es ns p.height p.node p.from
+  pub low : p.height < 64
+  pub on : has_wire w (node_at es ns p.node).wires ≡ true
+  pub below : p.from + 2 ^ p.height ≤ b
+  pub none : NoneOn w es (p.from + 2 ^ p.height) b

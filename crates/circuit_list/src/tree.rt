@@ -5,7 +5,7 @@
 ghost use Rattle.std.specs.Prelude.{◌≡◌, ℕ, ◌+◌, ◌*◌, ◌^◌, ◌/◌, ◌<◌, ◌≤◌, ◌≢◌, ◌++◌, ◌∷◌, [], List, length, max, min, IfOk, OnOk, OnErr, MatchOption, slice_set, None, Some, true};
 ghost use Rattle.circuit_list.specs.declared.Gate.{Gate};
 ghost use Rattle.circuit_list.specs.Entries.{entry, is_live, rank};
-ghost use Rattle.circuit_list.specs.Tree.{Covers, IsFirstOn, IsJoined, IsLastOn, IsTree, NoneOn, has_wire, join, leaf, node_at, wire_bit, wires_of};
+ghost use Rattle.circuit_list.specs.Tree.{Covers, IsFirstOn, IsJoined, IsBefore, IsBehind, IsLastOn, IsTree, NoneOn, has_wire, join, leaf, node_at, wire_bit, wires_of};
 
 use crate::Gate;
 use std::alloc::{AllocError, Global};
@@ -131,15 +131,21 @@ impl Tree {
         requires { slot < length self.now }
         ensures { MatchOption result (NoneOn wire self.now (slot + 1) (length self.now)) (IsFirstOn wire self.now (slot + 1)) }
     {
-        let _slots = self.gates.len();
-        first_on_in(&self.gates, &self.nodes, root(self.height), slot + 1, wire)
+        match behind(&self.gates, &self.nodes, root(self.height), None, slot, wire) {
+            Some(part) => Some(first_in(&self.gates, &self.nodes, part, wire)),
+            None => None,
+        }
     }
 
     /// The last slot before one whose gate is on the wire.
     pub(crate) fn prev_on(&self, slot: usize, wire: u32) -> Option<usize>
+        requires { slot < length self.now }
         ensures { MatchOption result (NoneOn wire self.now 0 slot) (IsLastOn wire self.now slot) }
     {
-        last_on_in(&self.gates, &self.nodes, root(self.height), slot, wire)
+        match before(&self.gates, &self.nodes, root(self.height), None, slot, wire) {
+            Some(part) => Some(last_in(&self.gates, &self.nodes, part, wire)),
+            None => None,
+        }
     }
 
     /// The same slots again.
@@ -347,46 +353,84 @@ fn has_wire(wires: u64, wire: u32) -> bool
     (wires >> (wire % 64)) & 1 == 1
 }
 
-fn first_on_in(gates: &[Option<Gate>], nodes: &[Node], part: Part, start: usize, wire: u32) -> Option<usize>
+/// The nearest part behind a slot with a gate on the wire: of those that leave the slot's way from
+/// the root to the right the last one, or `best` where there is none in this part.
+fn behind(gates: &[Option<Gate>], nodes: &[Node], part: Part, best: Option<Part>, slot: usize, wire: u32) -> Option<Part>
     requires covers { Covers gates.now nodes.now part.height part.node part.from }
     requires low { part.height < 64 }
-    ensures { MatchOption result (NoneOn wire gates.now (max start part.from) (part.from + 2 ^ part.height))
-        (λ s. (s < part.from + 2 ^ part.height) × IsFirstOn wire gates.now (max start part.from) s) }
+    requires begin { part.from ≤ slot }
+    requires end { slot < part.from + 2 ^ part.height }
+    requires best { MatchOption best (NoneOn wire gates.now (part.from + 2 ^ part.height) (length nodes.now))
+        (IsBehind wire gates.now nodes.now (part.from + 2 ^ part.height)) }
+    ensures { MatchOption result (NoneOn wire gates.now (slot + 1) (length nodes.now)) (IsBehind wire gates.now nodes.now (slot + 1)) }
 {
-    if !has_wire(node_at(gates, nodes, part.node).wires, wire) {
-        return None;
-    }
     if part.height == 0 {
-        return if start <= part.from { Some(part.from) } else { None };
+        return best;
     }
     let (left, right) = halves(gates, nodes, part);
-    if start >= right.from {
-        return first_on_in(gates, nodes, right, start, wire);
+    if slot >= right.from {
+        return behind(gates, nodes, right, best, slot, wire);
     }
-    match first_on_in(gates, nodes, left, start, wire) {
-        Some(slot) => Some(slot),
-        None => first_on_in(gates, nodes, right, start, wire),
+    if has_wire(node_at(gates, nodes, right.node).wires, wire) {
+        return behind(gates, nodes, left, Some(right), slot, wire);
+    }
+    behind(gates, nodes, left, best, slot, wire)
+}
+
+/// The first slot of a part whose gate is on the wire.
+fn first_in(gates: &[Option<Gate>], nodes: &[Node], part: Part, wire: u32) -> usize
+    requires covers { Covers gates.now nodes.now part.height part.node part.from }
+    requires low { part.height < 64 }
+    requires on { has_wire wire (node_at gates.now nodes.now part.node).wires ≡ true }
+    ensures { IsFirstOn wire gates.now part.from result }
+{
+    if part.height == 0 {
+        return part.from;
+    }
+    let (left, right) = halves(gates, nodes, part);
+    if has_wire(node_at(gates, nodes, left.node).wires, wire) {
+        first_in(gates, nodes, left, wire)
+    } else {
+        first_in(gates, nodes, right, wire)
     }
 }
 
-fn last_on_in(gates: &[Option<Gate>], nodes: &[Node], part: Part, end: usize, wire: u32) -> Option<usize>
+/// The nearest part before a slot with a gate on the wire, or `best` where there is none in this part.
+fn before(gates: &[Option<Gate>], nodes: &[Node], part: Part, best: Option<Part>, slot: usize, wire: u32) -> Option<Part>
     requires covers { Covers gates.now nodes.now part.height part.node part.from }
     requires low { part.height < 64 }
-    ensures { MatchOption result (NoneOn wire gates.now part.from (min end (part.from + 2 ^ part.height)))
-        (λ s. (part.from ≤ s) × IsLastOn wire gates.now (min end (part.from + 2 ^ part.height)) s) }
+    requires begin { part.from ≤ slot }
+    requires end { slot < part.from + 2 ^ part.height }
+    requires best { MatchOption best (NoneOn wire gates.now 0 part.from) (IsBefore wire gates.now nodes.now part.from) }
+    ensures { MatchOption result (NoneOn wire gates.now 0 slot) (IsBefore wire gates.now nodes.now slot) }
 {
-    if !has_wire(node_at(gates, nodes, part.node).wires, wire) {
-        return None;
-    }
     if part.height == 0 {
-        return if part.from < end { Some(part.from) } else { None };
+        return best;
     }
     let (left, right) = halves(gates, nodes, part);
-    if end <= right.from {
-        return last_on_in(gates, nodes, left, end, wire);
+    if slot < right.from {
+        return before(gates, nodes, left, best, slot, wire);
     }
-    match last_on_in(gates, nodes, right, end, wire) {
-        Some(slot) => Some(slot),
-        None => last_on_in(gates, nodes, left, end, wire),
+    if has_wire(node_at(gates, nodes, left.node).wires, wire) {
+        return before(gates, nodes, right, Some(left), slot, wire);
+    }
+    before(gates, nodes, right, best, slot, wire)
+}
+
+/// The last slot of a part whose gate is on the wire.
+fn last_in(gates: &[Option<Gate>], nodes: &[Node], part: Part, wire: u32) -> usize
+    requires covers { Covers gates.now nodes.now part.height part.node part.from }
+    requires low { part.height < 64 }
+    requires on { has_wire wire (node_at gates.now nodes.now part.node).wires ≡ true }
+    ensures { IsLastOn wire gates.now (part.from + 2 ^ part.height) result }
+{
+    if part.height == 0 {
+        return part.from;
+    }
+    let (left, right) = halves(gates, nodes, part);
+    if has_wire(node_at(gates, nodes, right.node).wires, wire) {
+        last_in(gates, nodes, right, wire)
+    } else {
+        last_in(gates, nodes, left, wire)
     }
 }

@@ -11,6 +11,12 @@ use Rattle.circuit_list.proofs.CircuitLaws.{live_entry, prev-some, prev-none, wi
 use Rattle.circuit_list.proofs.EntryLaws.{slot_below}
 use Rattle.circuit_list.proofs.Circuit.prev_on.Goals as goal
 
+pub prev_on-requires : goal.prev_on-requires
+prev_on-requires c =
+    let l = live_entry c.self.inside.tree c.args.s (subst (λ (b : Body). IsLive b c.args.s) (sym c.self.view_is) c.requires.live) in
+    let here : entry c.self.inside.tree c.index.result ≡ Some l.0 = ap (entry c.self.inside.tree) c.index.ensures ∙ l.1 in
+    slot_below c.self.inside.tree c.index.result l.0 here
+
 pub returns-in_err-slot : goal.returns-in_err-slot
 returns-in_err-slot c =
     let l = live_entry c.self.inside.tree c.args.s (subst (λ (b : Body). IsLive b c.args.s) (sym c.self.view_is) c.requires.live) in
