@@ -1,5 +1,5 @@
 -- Slots with a gate or none: ranks, and the gates and slots of a circuit.
---   rank-next, rank_mono, rank-length, rank_le, rank_past    the number of gates in front of a slot
+--   rank-next, rank_mono, rank-length, rank_le, rank_past, rank_full    the number of gates in front of a slot
 --   gates_of-rank, slots_from-rank, place_of-rank     a gate stands at the rank of its slot
 --   slot_of-gate, live_of-place                       and each place is the rank of a slot
 --   gates_of-gone, slots_from-gone                    a gate taken away
@@ -53,6 +53,13 @@ rank_past [] s h = refl
 rank_past (e ∷ es) zero h = absurd (omega arith)
 rank_past (None ∷ es) (suc s) h = rank_past es s (omega arith)
 rank_past (Some g ∷ es) (suc s) h = ap suc (rank_past es s (omega arith))
+
+-- where no slot is empty, a slot is its own rank
+pub rank_full : (es : List (Option Gate)) (s : ℕ) → rank es (length es) ≡ length es → s < length es → (rank es s ≡ s) × (is_live (entry es s) ≡ true)
+rank_full [] s e h = absurd (omega arith)
+rank_full (None ∷ es) s e h = absurd (omega (arith, rank_le es (length es)))
+rank_full (Some g ∷ es) zero e h = (refl, refl)
+rank_full (Some g ∷ es) (suc s) e h = let r = rank_full es s (omega arith) (omega arith) in (ap suc r.0, r.1)
 
 pub rank_below : (es : List (Option Gate)) (s : ℕ) (g : Gate) → entry es s ≡ Some g → rank es s < length (gates_of es)
 rank_below [] s g h = cc

@@ -109,11 +109,14 @@ impl Tree {
         refresh(&self.gates, &mut self.nodes, slot);
     }
 
-    /// The number of gates in the slots before one.
+    /// The number of gates in the slots before one, which is the slot itself where none is empty.
     pub(crate) fn rank(&self, slot: usize) -> usize
         requires { slot < length self.now }
         ensures { result ≡ rank self.now slot }
     {
+        if self.count() == self.entries().len() {
+            return slot;
+        }
         rank_in(&self.gates, &self.nodes, root(self.height), slot)
     }
 
@@ -123,6 +126,9 @@ impl Tree {
         ensures live { is_live (entry self.now result) ≡ true }
         ensures rank { rank self.now result ≡ place }
     {
+        if self.count() == self.entries().len() {
+            return place;
+        }
         select_in(&self.gates, &self.nodes, root(self.height), place)
     }
 

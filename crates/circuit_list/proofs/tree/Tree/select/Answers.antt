@@ -3,6 +3,7 @@ use Rattle.circuit_list.specs.Entries.{rank}
 use Rattle.circuit_list.specs.Tree.{node_at}
 use Rattle.circuit_list.specs.declared.Gate.{Gate}
 use Rattle.circuit_list.specs.declared.tree.Part.{Part}
+use Rattle.circuit_list.proofs.EntryLaws.{rank_full}
 use Rattle.circuit_list.proofs.TreeLaws.{count_root, covers_at}
 use Rattle.circuit_list.proofs.tree.Tree.select.Goals as goal
 
@@ -19,3 +20,13 @@ select_in-requires-clause-there c =
         ∙ count_root c.self.inside.height c.self.inside.gates.items c.self.inside.nodes.items (omega (arith, ap (λ (xs : List (Option Gate)). length xs) c.deref.ensures.value)) c.self.invariant
         ∙ ap (λ (xs : List (Option Gate)). rank xs (length xs)) c.self.view_is in
     omega (arith, c.requires)
+
+pub returns-then-count-entries-clause-live : goal.returns-then-count-entries-clause-live
+returns-then-count-entries-clause-live c =
+    let full : rank c.args.self.now (length c.args.self.now) ≡ length c.args.self.now = sym c.count.ensures ∙ c.if-count-entries.true ∙ ap (λ (xs : List (Option Gate)). length xs) c.entries.ensures in
+    (rank_full c.args.self.now c.args.place full (omega (arith, c.requires))).1
+
+pub returns-then-count-entries-clause-rank : goal.returns-then-count-entries-clause-rank
+returns-then-count-entries-clause-rank c =
+    let full : rank c.args.self.now (length c.args.self.now) ≡ length c.args.self.now = sym c.count.ensures ∙ c.if-count-entries.true ∙ ap (λ (xs : List (Option Gate)). length xs) c.entries.ensures in
+    (rank_full c.args.self.now c.args.place full (omega (arith, c.requires))).0
