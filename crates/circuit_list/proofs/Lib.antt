@@ -3,3 +3,4 @@ pub mod EntryLaws
 pub mod GateLaws
 pub mod SlotLaws
 pub mod TreeLaws
+pub mod UseLaws

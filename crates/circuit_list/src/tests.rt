@@ -1,5 +1,7 @@
-ghost use Rattle.std.specs.Prelude.{◌≡◌, ◌<◌, true};
+ghost use Rattle.std.specs.Prelude.{◌≡◌, ℕ, ◌<◌, drop, false, remove, true};
+ghost use Rattle.std.specs.List.{count_by};
 ghost use Rattle.circuit_list.specs.Gates.{IsFine, is_on};
+ghost use Rattle.circuit_list.specs.Slots.{IsLive, IsNextOn, NoneBehind, is_on_at, place_of};
 
 use crate::{Circuit, Gate, Slot};
 use std::process::Abort;
@@ -209,5 +211,60 @@ fn answers_as_a_plain_list_does(rt: HostRuntime) -> Result<(), Fail> {
             compare(&rt, &circuit, &plain, random.below(len));
         }
     }
+    Ok(())
+}
+
+/// The number of gates on a wire from a gate on it on, by a walk along the wire.
+fn gates_on(circuit: &Circuit, start: Slot, wire: u32) -> usize
+    requires live { IsLive circuit.now start }
+    requires on { is_on_at wire circuit.now.gates (place_of start circuit.now.slots) ≡ true }
+    ensures { result ≡ count_by (is_on wire) (drop (place_of start circuit.now.slots) circuit.now.gates) }
+{
+    let _gates = circuit.len();
+    let mut count = 1;
+    let mut slot = start;
+    'walk: while let Some(next) = circuit.next_on(slot, wire) {
+        count += 1;
+        slot = next;
+    }
+    count
+}
+
+/// Takes a gate and the next one on a wire out, where there is a next one.
+fn take_out_pair(circuit: &mut Circuit, first: Slot, wire: u32) -> bool
+    requires live { IsLive circuit.old first }
+    requires on { is_on_at wire circuit.old.gates (place_of first circuit.old.slots) ≡ true }
+    ensures wires { circuit.new.wires ≡ circuit.old.wires }
+    ensures taken { result ≡ true → (j : ℕ) × (IsNextOn wire circuit.old.gates (place_of first circuit.old.slots) j
+        × (circuit.new.gates ≡ remove (remove circuit.old.gates j) (place_of first circuit.old.slots))) }
+    ensures alone { result ≡ false → NoneBehind wire circuit.old.gates (place_of first circuit.old.slots) }
+{
+    let Some(second) = circuit.next_on(first, wire) else {
+        return false;
+    };
+    circuit.remove_at(second);
+    circuit.remove_at(first);
+    true
+}
+
+#[test]
+fn walks_along_a_wire(rt: HostRuntime) -> Result<(), Fail> {
+    let mut circuit = Circuit::empty(rt.alloc(), 3)?;
+    circuit.push(Gate::Cx { c: 0, t: 2 })?;
+    circuit.push(Gate::H { q: 1 })?;
+    circuit.push(Gate::H { q: 0 })?;
+    circuit.push(Gate::Cx { c: 1, t: 2 })?;
+    circuit.push(Gate::H { q: 0 })?;
+    circuit.push(Gate::P { k: 1, q: 0 })?;
+    let first = circuit.slot(0);
+    assert_eq!(rt; gates_on(&circuit, first, 0), 4);
+    assert_eq!(rt; gates_on(&circuit, first, 2), 2);
+    let pair = circuit.slot(2);
+    assert!(rt; take_out_pair(&mut circuit, pair, 0));
+    assert_eq!(rt; circuit.len(), 4);
+    assert_eq!(rt; circuit.gate(3), Gate::P { k: 1, q: 0 });
+    let last = circuit.slot(3);
+    assert!(rt; !take_out_pair(&mut circuit, last, 0));
+    assert_eq!(rt; circuit.len(), 4);
     Ok(())
 }
