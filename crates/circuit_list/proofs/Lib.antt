@@ -1,1 +1,6 @@
+pub mod CircuitLaws
+pub mod EntryLaws
 pub mod GateLaws
+pub mod SlotLaws
+pub mod TreeLaws
+pub mod UseLaws

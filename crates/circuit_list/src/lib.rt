@@ -1,18 +1,32 @@
 //! A circuit over H, X, CNOT and phases, as the list of its gates.
 //!
 //! In go gates, one by one; out come the same gates, and the counts that a report tells. Contracts
-//! see a circuit as its number of wires and the list of its gates, whose meaning is a list of
-//! operations. Every circuit keeps that its wires are there, that a control isn't its target and
-//! that a phase is from 1 to 7, so a reader of gates need not test it again.
+//! see a circuit as its number of wires, the list of its gates, whose meaning is a list of
+//! operations, and the slot of each gate. Every circuit keeps that its wires are there, that a
+//! control isn't its target and that a phase is from 1 to 7, so a reader of gates need not test it
+//! again.
+//!
+//! A slot is a gate's name: it stays while other gates are put in, taken out or replaced. From a
+//! gate's slot the next and the previous gate on one of its wires are found without a look at the
+//! gates between, and a gate is taken out without moving the others. Each such call takes as many
+//! steps as the logarithm of the number of gates that were ever put in, and no memory.
 #![tactic(auto)]
 
-ghost use Rattle.std.specs.Prelude.{◌≡◌, ℕ, ◌+◌, ◌%◌, ◌<◌, ◌≤◌, length, IfOk, OnErr, OnOk, slice_get, All, Some, remove, slice_set, [], ◌∷◌, ◌++◌, List};
+mod slot;
+mod tree;
+
+pub use slot::Slot;
+
+ghost use Rattle.std.specs.Prelude.{◌≡◌, ℕ, ◌+◌, ◌-◌, ◌%◌, ◌<◌, ◌≤◌, length, IfOk, OnErr, OnOk, MatchOption, slice_get, All, Some, true, remove, slice_set, [], ◌∷◌, ◌++◌, List};
 ghost use Rattle.std.specs.List.{count_by};
+ghost use Rattle.circuit_list.specs.Entries.{holds};
 ghost use Rattle.circuit_list.specs.Gates.{IsFine, h_count, is_cx, is_h, is_t, most_wires, ops};
+ghost use Rattle.circuit_list.specs.Slots.{Ascend, IsLive, IsNextOn, IsPrevOn, NoneBefore, NoneBehind, is_on_at, place_of};
 ghost use Rattle.unitary_model.specs.Operations.{cx_count, t_count};
 
 use std::alloc::{AllocError, Global};
 use std::marker::Model;
+use tree::Tree;
 
 /// The most wires that a circuit has.
 pub const MOST_WIRES: u32 = 64;
@@ -34,19 +48,20 @@ pub enum Gate {
 #[derive(Drop)]
 pub struct Circuit {
     wires: u32,
-    gates: Vec<Gate>,
+    tree: Tree,
 }
 
 impl Model for Circuit {
     ghost use Rattle.std.specs.Prelude.{◌≤◌, All};
     ghost use Rattle.circuit_list.specs.Body.{Body};
+    ghost use Rattle.circuit_list.specs.Entries.{gates_of, slots_from};
     ghost use Rattle.circuit_list.specs.Gates.{IsFine, most_wires};
 
     ghost Value = { Body };
 
-    ghost view = { λ a. record { wires = a.wires; gates = a.gates.items } };
+    ghost view = { λ a. record { wires = a.wires; gates = gates_of a.tree; slots = slots_from 0 a.tree } };
 
-    ghost invariant = { λ a. (a.wires ≤ most_wires) × All (IsFine a.wires) a.gates.items };
+    ghost invariant = { λ a. (a.wires ≤ most_wires) × All (IsFine a.wires) (gates_of a.tree) };
 }
 
 impl Circuit {
@@ -55,22 +70,22 @@ impl Circuit {
         requires { wires ≤ most_wires }
         ensures wires { IfOk result (λ c. c.wires ≡ wires) }
         ensures gates { IfOk result (λ c. c.gates ≡ []) }
+        ensures slots { IfOk result (λ c. c.slots ≡ []) }
     {
-        Ok(Circuit {
-            wires,
-            gates: Vec::new(alloc),
-        })
+        let tree = Tree::new(alloc)?;
+        Ok(Circuit { wires, tree })
     }
 
-    /// Puts a gate behind the others. After want of memory the circuit is as it was.
+    /// Puts a gate behind the others, in a new slot. After want of memory the circuit is as it was.
     pub fn push(&mut self, g: Gate) -> Result<(), AllocError>
         requires { IsFine self.old.wires g }
         ensures wires { self.new.wires ≡ self.old.wires }
         ensures gates { OnOk result (self.new.gates ≡ self.old.gates ++ g ∷ []) }
+        ensures slots { OnOk result ((s : ℕ) × (self.new.slots ≡ self.old.slots ++ s ∷ [])) }
+        ensures others { (t : ℕ) → IsLive self.old t → place_of t self.new.slots ≡ place_of t self.old.slots }
         ensures err { OnErr result (self.new ≡ self.old) }
     {
-        self.gates.push(g)?;
-        Ok(())
+        self.tree.push(g)
     }
 
     /// Takes the gate at a place away.
@@ -78,8 +93,12 @@ impl Circuit {
         requires { i < length self.old.gates }
         ensures wires { self.new.wires ≡ self.old.wires }
         ensures gates { self.new.gates ≡ remove self.old.gates i }
+        ensures slots { self.new.slots ≡ remove self.old.slots i }
+        ensures earlier { (t : ℕ) → place_of t self.old.slots < i → place_of t self.new.slots ≡ place_of t self.old.slots }
+        ensures later { (t : ℕ) → i < place_of t self.old.slots → place_of t self.new.slots + 1 ≡ place_of t self.old.slots }
     {
-        let _gone = self.gates.remove(i);
+        let slot = self.slot(i);
+        self.remove_at(slot);
     }
 
     /// Puts a gate in the place of another.
@@ -88,15 +107,19 @@ impl Circuit {
         requires fine { IsFine self.old.wires g }
         ensures wires { self.new.wires ≡ self.old.wires }
         ensures gates { self.new.gates ≡ slice_set self.old.gates i g }
+        ensures slots { self.new.slots ≡ self.old.slots }
     {
-        self.gates[i] = g;
+        let slot = self.slot(i);
+        self.replace_at(slot, g);
     }
 
     /// The number of gates.
     pub fn len(&self) -> usize
-        ensures { result ≡ length self.now.gates }
+        ensures len { result ≡ length self.now.gates }
+        ensures slots { length self.now.slots ≡ length self.now.gates }
+        ensures ascend { Ascend self.now.slots }
     {
-        self.gates.len()
+        self.tree.count()
     }
 
     /// The number of wires, at most [`MOST_WIRES`].
@@ -114,41 +137,180 @@ impl Circuit {
         ensures there { slice_get self.now.gates i ≡ Some result }
         ensures fine { IsFine self.now.wires result }
     {
-        self.gates[i]
+        self.gate_at(self.slot(i))
+    }
+
+    /// The slot of the gate at a place.
+    pub fn slot(&self, i: usize) -> Slot
+        requires { i < length self.now.gates }
+        ensures there { slice_get self.now.slots i ≡ Some result }
+        ensures place { place_of result self.now.slots ≡ i }
+    {
+        Slot::new(self.tree.select(i))
+    }
+
+    /// The place of the gate in a slot.
+    pub fn place(&self, s: Slot) -> usize
+        requires { IsLive self.now s }
+        ensures { result ≡ place_of s self.now.slots }
+    {
+        self.tree.rank(s.index())
+    }
+
+    /// The slot of the first gate.
+    pub fn first(&self) -> Option<Slot>
+        ensures { MatchOption result (length self.now.gates ≡ 0) (λ t. IsLive self.now t × (place_of t self.now.slots ≡ 0)) }
+    {
+        if self.len() > 0 {
+            Some(self.slot(0))
+        } else {
+            None
+        }
+    }
+
+    /// The slot of the gate behind the one in a slot.
+    pub fn after(&self, s: Slot) -> Option<Slot>
+        requires { IsLive self.now s }
+        ensures { MatchOption result (place_of s self.now.slots + 1 ≡ length self.now.gates)
+            (λ t. IsLive self.now t × (place_of t self.now.slots ≡ place_of s self.now.slots + 1)) }
+    {
+        let len = self.len();
+        let next = self.place(s) + 1;
+        if next < len {
+            Some(self.slot(next))
+        } else {
+            None
+        }
+    }
+
+    /// The slot of the gate before the one in a slot.
+    pub fn before(&self, s: Slot) -> Option<Slot>
+        requires { IsLive self.now s }
+        ensures { MatchOption result (place_of s self.now.slots ≡ 0)
+            (λ t. IsLive self.now t × (place_of t self.now.slots + 1 ≡ place_of s self.now.slots)) }
+    {
+        let place = self.place(s);
+        if place > 0 {
+            Some(self.slot(place - 1))
+        } else {
+            None
+        }
+    }
+
+    /// The gate in a slot.
+    pub fn gate_at(&self, s: Slot) -> Gate
+        requires { IsLive self.now s }
+        ensures there { slice_get self.now.gates (place_of s self.now.slots) ≡ Some result }
+        ensures fine { IsFine self.now.wires result }
+    {
+        self.tree.gate(s.index())
+    }
+
+    /// The slot of the next gate on one of a gate's wires.
+    pub fn next_on(&self, s: Slot, wire: u32) -> Option<Slot>
+        requires live { IsLive self.now s }
+        requires on { is_on_at wire self.now.gates (place_of s self.now.slots) ≡ true }
+        ensures { MatchOption result (NoneBehind wire self.now.gates (place_of s self.now.slots))
+            (λ t. IsLive self.now t × IsNextOn wire self.now.gates (place_of s self.now.slots) (place_of t self.now.slots)) }
+    {
+        let slot = self.tree.next_on(s.index(), wire)?;
+        Some(Slot::new(slot))
+    }
+
+    /// The slot of the last gate before it on one of a gate's wires.
+    pub fn prev_on(&self, s: Slot, wire: u32) -> Option<Slot>
+        requires live { IsLive self.now s }
+        requires on { is_on_at wire self.now.gates (place_of s self.now.slots) ≡ true }
+        ensures { MatchOption result (NoneBefore wire self.now.gates (place_of s self.now.slots))
+            (λ t. IsLive self.now t × IsPrevOn wire self.now.gates (place_of s self.now.slots) (place_of t self.now.slots)) }
+    {
+        let slot = self.tree.prev_on(s.index(), wire)?;
+        Some(Slot::new(slot))
+    }
+
+    /// Takes the gate in a slot away. The other slots stay those of their gates.
+    pub fn remove_at(&mut self, s: Slot)
+        requires { IsLive self.old s }
+        ensures wires { self.new.wires ≡ self.old.wires }
+        ensures gates { self.new.gates ≡ remove self.old.gates (place_of s self.old.slots) }
+        ensures slots { self.new.slots ≡ remove self.old.slots (place_of s self.old.slots) }
+        ensures earlier { (t : ℕ) → place_of t self.old.slots < place_of s self.old.slots → place_of t self.new.slots ≡ place_of t self.old.slots }
+        ensures later { (t : ℕ) → place_of s self.old.slots < place_of t self.old.slots → place_of t self.new.slots + 1 ≡ place_of t self.old.slots }
+    {
+        self.tree.set(s.index(), None);
+    }
+
+    /// Puts a gate in the place of the one in a slot, in the same slot.
+    pub fn replace_at(&mut self, s: Slot, g: Gate)
+        requires live { IsLive self.old s }
+        requires fine { IsFine self.old.wires g }
+        ensures wires { self.new.wires ≡ self.old.wires }
+        ensures gates { self.new.gates ≡ slice_set self.old.gates (place_of s self.old.slots) g }
+        ensures slots { self.new.slots ≡ self.old.slots }
+    {
+        self.tree.set(s.index(), Some(g));
     }
 
     /// The number of T gates: phases with an odd `k`.
-    #[tactic(auto, using(crate::proofs::GateLaws::gate_laws))]
+    #[tactic(auto, using(crate::proofs::CircuitLaws::counts))]
     pub fn count_t(&self) -> usize
         ensures { result ≡ t_count (ops self.now.gates) }
     {
-        self.gates.iter().filter(|g| is_t(**g)).count()
+        self.tree.entries().iter().filter(|entry| holds_t(**entry)).count()
     }
 
     /// The number of CNOTs.
-    #[tactic(auto, using(crate::proofs::GateLaws::gate_laws))]
+    #[tactic(auto, using(crate::proofs::CircuitLaws::counts))]
     pub fn count_cx(&self) -> usize
         ensures { result ≡ cx_count (ops self.now.gates) }
     {
-        self.gates.iter().filter(|g| is_cx(**g)).count()
+        self.tree.entries().iter().filter(|entry| holds_cx(**entry)).count()
     }
 
     /// The number of H.
+    #[tactic(auto, using(crate::proofs::CircuitLaws::counts))]
     pub fn count_h(&self) -> usize
         ensures { result ≡ h_count self.now.gates }
     {
-        self.gates.iter().filter(|g| is_h(**g)).count()
+        self.tree.entries().iter().filter(|entry| holds_h(**entry)).count()
     }
 
-    /// The same circuit again.
+    /// The same circuit again, with the same slots.
     pub fn copy(&self) -> Result<Circuit, AllocError>
         ensures { IfOk result (λ c. c ≡ self.now) }
     {
-        let gates = self.gates.clone()?;
+        let tree = self.tree.copy()?;
         Ok(Circuit {
             wires: self.wires,
-            gates,
+            tree,
         })
+    }
+}
+
+fn holds_h(entry: Option<Gate>) -> bool
+    ensures { result ≡ holds is_h entry }
+{
+    match entry {
+        Some(gate) => is_h(gate),
+        None => false,
+    }
+}
+
+fn holds_cx(entry: Option<Gate>) -> bool
+    ensures { result ≡ holds is_cx entry }
+{
+    match entry {
+        Some(gate) => is_cx(gate),
+        None => false,
+    }
+}
+
+fn holds_t(entry: Option<Gate>) -> bool
+    ensures { result ≡ holds is_t entry }
+{
+    match entry {
+        Some(gate) => is_t(gate),
+        None => false,
     }
 }
 

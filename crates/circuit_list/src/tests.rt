@@ -1,4 +1,10 @@
-use crate::{Circuit, Gate};
+ghost use Rattle.std.specs.Prelude.{◌≡◌, ℕ, ◌<◌, drop, false, remove, true};
+ghost use Rattle.std.specs.List.{count_by};
+ghost use Rattle.circuit_list.specs.Gates.{IsFine, is_on};
+ghost use Rattle.circuit_list.specs.Slots.{IsLive, IsNextOn, NoneBehind, is_on_at, place_of};
+
+use crate::{Circuit, Gate, Slot};
+use std::process::Abort;
 use std::test::Fail;
 
 #[test]
@@ -26,5 +32,239 @@ fn keeps_gates_and_counts_them(rt: HostRuntime) -> Result<(), Fail> {
     assert_eq!(rt; copy.gate(1), Gate::X { q: 2 });
     assert_eq!(rt; copy.count_cx(), 0);
     assert_eq!(rt; circuit.count_cx(), 1);
+    Ok(())
+}
+
+#[test]
+fn finds_the_next_gate_on_a_wire(rt: HostRuntime) -> Result<(), Fail> {
+    let mut circuit = Circuit::empty(rt.alloc(), 2)?;
+    circuit.push(Gate::H { q: 0 })?;
+    circuit.push(Gate::Cx { c: 0, t: 1 })?;
+    circuit.push(Gate::P { k: 1, q: 1 })?;
+    let first = circuit.slot(0);
+    let second = circuit.slot(1);
+    let third = circuit.slot(2);
+    assert_eq!(rt; circuit.next_on(first, 0), Some(second));
+    assert_eq!(rt; circuit.next_on(second, 1), Some(third));
+    assert_eq!(rt; circuit.next_on(third, 1), None);
+    assert_eq!(rt; circuit.prev_on(third, 1), Some(second));
+    circuit.remove(1);
+    assert_eq!(rt; circuit.next_on(first, 0), None);
+    let last = circuit.slot(1);
+    assert_eq!(rt; last, third);
+    assert_eq!(rt; circuit.prev_on(last, 1), None);
+    Ok(())
+}
+
+/// The wires of a gate, the same one twice where it has one.
+fn wires_of(gate: Gate) -> (u32, u32)
+    ensures first { is_on result.0 gate ≡ true }
+    ensures second { is_on result.1 gate ≡ true }
+{
+    match gate {
+        Gate::H { q } | Gate::X { q } | Gate::P { k: _, q } => (q, q),
+        Gate::Cx { c, t } => (c, t),
+    }
+}
+
+/// Numbers that look random, the same at each run.
+#[derive(Drop)]
+struct Random {
+    state: u64,
+}
+
+impl Random {
+    fn below(&mut self, limit: usize) -> usize
+        requires { 0 < limit }
+        ensures { result < limit }
+    {
+        self.state = self.state.wrapping_mul(6364136223846793005).wrapping_add(1442695040888963407);
+        (self.state >> 33) as usize % limit
+    }
+
+    fn gate(&mut self) -> Gate
+        ensures { IsFine 5 result }
+    {
+        let wire = self.below(5) as u32;
+        match self.below(4) {
+            0 => Gate::H { q: wire },
+            1 => Gate::X { q: wire },
+            2 => Gate::P {
+                k: self.below(7) as u8 + 1,
+                q: wire,
+            },
+            _ => Gate::Cx {
+                c: wire,
+                t: (wire + 1 + self.below(4) as u32) % 5,
+            },
+        }
+    }
+}
+
+/// The circuit as a plain list: each gate with its slot.
+#[derive(Drop)]
+struct Plain {
+    gates: Vec<Gate>,
+    slots: Vec<Slot>,
+}
+
+impl Plain {
+    /// The slot of the next gate on a wire, by a look at each.
+    fn next_on(&self, place: usize, wire: u32) -> Option<Slot> {
+        let mut found = None;
+        'gates: for (gate, slot) in self.gates.iter().zip(self.slots.iter()).skip(place).skip(1) {
+            let (first, second) = wires_of(*gate);
+            if found.is_none() && (first == wire || second == wire) {
+                found = Some(*slot);
+            }
+        }
+        found
+    }
+
+    /// The slot of the last gate on a wire before a place.
+    fn prev_on(&self, place: usize, wire: u32) -> Option<Slot> {
+        let mut found = None;
+        'gates: for (gate, slot) in self.gates.iter().zip(self.slots.iter()).take(place) {
+            let (first, second) = wires_of(*gate);
+            if first == wire || second == wire {
+                found = Some(*slot);
+            }
+        }
+        found
+    }
+}
+
+/// One edit of both, each kind as often as the others, but for more pushes.
+fn edit(rt: &impl Abort, circuit: &mut Circuit, plain: &mut Plain, random: &mut Random) -> Result<(), Fail>
+    requires { circuit.old.wires ≡ 5 }
+    ensures { circuit.new.wires ≡ 5 }
+{
+    let gate = random.gate();
+    let len = circuit.len();
+    let choice = random.below(6);
+    if len == 0 || choice < 2 {
+        circuit.push(gate)?;
+        plain.gates.push(gate)?;
+        let place = plain.slots.len();
+        assert!(rt; place < circuit.len());
+        plain.slots.push(circuit.slot(place))?;
+        return Ok(());
+    }
+    let place = random.below(len);
+    assert!(rt; plain.gates.len() == len && plain.slots.len() == len);
+    let slot = circuit.slot(place);
+    if choice < 4 {
+        let _gate = plain.gates.remove(place);
+        let _slot = plain.slots.remove(place);
+        if choice == 2 {
+            circuit.remove(place);
+        } else {
+            circuit.remove_at(slot);
+        }
+    } else {
+        plain.gates[place] = gate;
+        if choice == 4 {
+            circuit.replace(place, gate);
+        } else {
+            circuit.replace_at(slot, gate);
+        }
+    }
+    Ok(())
+}
+
+/// All answers at one place.
+fn compare(rt: &impl Abort, circuit: &Circuit, plain: &Plain, place: usize) {
+    assert_eq!(rt; circuit.len(), plain.gates.len());
+    assert!(rt; place < circuit.len() && place < plain.gates.len() && plain.gates.len() == plain.slots.len());
+    let gate = plain.gates[place];
+    let slot = circuit.slot(place);
+    assert_eq!(rt; slot, plain.slots[place]);
+    assert_eq!(rt; circuit.place(slot), place);
+    assert_eq!(rt; circuit.gate(place), gate);
+    let here = circuit.gate_at(slot);
+    assert_eq!(rt; here, gate);
+    assert_eq!(rt; circuit.first(), plain.slots.first().copied());
+    assert_eq!(rt; circuit.after(slot), plain.slots.get(place + 1).copied());
+    let before = if place == 0 { None } else { Some(plain.slots[place - 1]) };
+    assert_eq!(rt; circuit.before(slot), before);
+    let (first, second) = wires_of(here);
+    assert_eq!(rt; circuit.next_on(slot, first), plain.next_on(place, first));
+    assert_eq!(rt; circuit.next_on(slot, second), plain.next_on(place, second));
+    assert_eq!(rt; circuit.prev_on(slot, first), plain.prev_on(place, first));
+    assert_eq!(rt; circuit.prev_on(slot, second), plain.prev_on(place, second));
+}
+
+/// Five kinds of edits, more than a thousand of each, and all answers after each of them.
+#[test]
+fn answers_as_a_plain_list_does(rt: HostRuntime) -> Result<(), Fail> {
+    let alloc = rt.alloc();
+    let mut random = Random { state: 1 };
+    let mut circuit = Circuit::empty(alloc, 5)?;
+    let mut plain = Plain {
+        gates: Vec::new(alloc),
+        slots: Vec::new(alloc),
+    };
+    'steps: for _ in 0..7000 {
+        edit(&rt, &mut circuit, &mut plain, &mut random)?;
+        let len = circuit.len();
+        if len > 0 {
+            compare(&rt, &circuit, &plain, random.below(len));
+        }
+    }
+    Ok(())
+}
+
+/// The number of gates on a wire from a gate on it on, by a walk along the wire.
+fn gates_on(circuit: &Circuit, start: Slot, wire: u32) -> usize
+    requires live { IsLive circuit.now start }
+    requires on { is_on_at wire circuit.now.gates (place_of start circuit.now.slots) ≡ true }
+    ensures { result ≡ count_by (is_on wire) (drop (place_of start circuit.now.slots) circuit.now.gates) }
+{
+    let _gates = circuit.len();
+    let mut count = 1;
+    let mut slot = start;
+    'walk: while let Some(next) = circuit.next_on(slot, wire) {
+        count += 1;
+        slot = next;
+    }
+    count
+}
+
+/// Takes a gate and the next one on a wire out, where there is a next one.
+fn take_out_pair(circuit: &mut Circuit, first: Slot, wire: u32) -> bool
+    requires live { IsLive circuit.old first }
+    requires on { is_on_at wire circuit.old.gates (place_of first circuit.old.slots) ≡ true }
+    ensures wires { circuit.new.wires ≡ circuit.old.wires }
+    ensures taken { result ≡ true → (j : ℕ) × (IsNextOn wire circuit.old.gates (place_of first circuit.old.slots) j
+        × (circuit.new.gates ≡ remove (remove circuit.old.gates j) (place_of first circuit.old.slots))) }
+    ensures alone { result ≡ false → NoneBehind wire circuit.old.gates (place_of first circuit.old.slots) }
+{
+    let Some(second) = circuit.next_on(first, wire) else {
+        return false;
+    };
+    circuit.remove_at(second);
+    circuit.remove_at(first);
+    true
+}
+
+#[test]
+fn walks_along_a_wire(rt: HostRuntime) -> Result<(), Fail> {
+    let mut circuit = Circuit::empty(rt.alloc(), 3)?;
+    circuit.push(Gate::Cx { c: 0, t: 2 })?;
+    circuit.push(Gate::H { q: 1 })?;
+    circuit.push(Gate::H { q: 0 })?;
+    circuit.push(Gate::Cx { c: 1, t: 2 })?;
+    circuit.push(Gate::H { q: 0 })?;
+    circuit.push(Gate::P { k: 1, q: 0 })?;
+    let first = circuit.slot(0);
+    assert_eq!(rt; gates_on(&circuit, first, 0), 4);
+    assert_eq!(rt; gates_on(&circuit, first, 2), 2);
+    let pair = circuit.slot(2);
+    assert!(rt; take_out_pair(&mut circuit, pair, 0));
+    assert_eq!(rt; circuit.len(), 4);
+    assert_eq!(rt; circuit.gate(3), Gate::P { k: 1, q: 0 });
+    let last = circuit.slot(3);
+    assert!(rt; !take_out_pair(&mut circuit, last, 0));
+    assert_eq!(rt; circuit.len(), 4);
     Ok(())
 }

@@ -1,0 +1,20 @@
+use Rattle.std.proofs.Common.{◌≡◌, ◌≢◌, ◌∙◌, ℕ, ◌+◌, ◌-◌, ◌*◌, ◌/◌, ◌^◌, ◌<◌, ◌≤◌, ◌++◌, ◌∷◌, [], true, false, refl, sym, ap, subst, arith, length, set, slice_get, List, Option, None, Some, OnOk, OnErr}
+use Rattle.circuit_list.specs.Body.{Body}
+use Rattle.circuit_list.specs.declared.Gate.{Gate}
+use Rattle.circuit_list.specs.Entries.{entry, gates_of, is_live, rank, slots_from}
+use Rattle.circuit_list.specs.Gates.{IsFine}
+use Rattle.circuit_list.specs.Slots.{Ascend, IsLive, IsNextOn, IsPrevOn, NoneBefore, NoneBehind, is_on_at, place_of}
+use Rattle.circuit_list.proofs.CircuitLaws.{live_entry, place-entry}
+use Rattle.circuit_list.proofs.EntryLaws.{slot_below}
+use Rattle.circuit_list.proofs.Circuit.place.Goals as goal
+
+pub rank-requires : goal.rank-requires
+rank-requires c =
+    let l = live_entry c.self.inside.tree c.args.s (subst (λ (b : Body). IsLive b c.args.s) (sym c.self.view_is) c.requires) in
+    let here : entry c.self.inside.tree c.index.result ≡ Some l.0 = ap (entry c.self.inside.tree) c.index.ensures ∙ l.1 in
+    slot_below c.self.inside.tree c.index.result l.0 here
+
+pub returns : goal.returns
+returns c =
+    let l = live_entry c.self.inside.tree c.args.s (subst (λ (b : Body). IsLive b c.args.s) (sym c.self.view_is) c.requires) in
+    c.rank.ensures ∙ ap (rank c.self.inside.tree) c.index.ensures ∙ sym (place-entry c.self.inside.tree c.args.s l.0 l.1) ∙ ap (λ (b : Body). place_of c.args.s b.slots) c.self.view_is

@@ -1,0 +1,27 @@
+use Rattle.std.proofs.Common.{◌≡◌, ◌≢◌, ◌∙◌, ℕ, ◌+◌, ◌-◌, ◌*◌, ◌/◌, ◌^◌, ◌<◌, ◌≤◌, ◌++◌, ◌∷◌, [], true, false, refl, sym, ap, subst, arith, length, set, slice_get, List, Option, None, Some, OnOk, OnErr}
+use Rattle.circuit_list.specs.Body.{Body}
+use Rattle.circuit_list.specs.declared.Gate.{Gate}
+use Rattle.circuit_list.specs.Entries.{entry, gates_of, is_live, rank, slots_from}
+use Rattle.circuit_list.specs.Gates.{IsFine}
+use Rattle.circuit_list.specs.Slots.{Ascend, IsLive, IsNextOn, IsPrevOn, NoneBefore, NoneBehind, is_on_at, place_of}
+use Rattle.circuit_list.proofs.CircuitLaws.{live_gate, place-entry, slot-entry}
+use Rattle.circuit_list.proofs.EntryLaws.{rank-length}
+use Rattle.circuit_list.proofs.Circuit.slot.Goals as goal
+
+pub select-requires : goal.select-requires
+select-requires c =
+    let all = rank-length c.self.inside.tree in
+    let same = ap (λ (b : Body). length b.gates) c.self.view_is in
+    omega (arith, c.requires)
+
+pub returns-clause-there : goal.returns-clause-there
+returns-clause-there c =
+    let l = live_gate (entry c.self.inside.tree c.select.result) c.select.ensures.live in
+    ap (λ (b : Body). slice_get b.slots c.args.i) (sym c.self.view_is) ∙ ap (slice_get (slots_from 0 c.self.inside.tree)) (sym c.select.ensures.rank)
+    ∙ slot-entry c.self.inside.tree c.select.result l.0 l.1 ∙ ap Some (sym c.new.ensures)
+
+pub returns-clause-place : goal.returns-clause-place
+returns-clause-place c =
+    let l = live_gate (entry c.self.inside.tree c.select.result) c.select.ensures.live in
+    ap (λ (b : Body). place_of c.new.result b.slots) (sym c.self.view_is) ∙ ap (λ n. place_of n (slots_from 0 c.self.inside.tree)) c.new.ensures
+    ∙ place-entry c.self.inside.tree c.select.result l.0 l.1 ∙ c.select.ensures.rank

@@ -1,0 +1,233 @@
+-- From slots with a gate or none to what a contract sees of a circuit.
+--   live_entry, live_gate      a live slot has a gate
+--   place-entry, gate-entry, slot-entry    its place, the gate there and the slot there
+--   All-slice_get, All-gone    what holds of each gate
+--   meets-on, on_below         bits of wires
+--   next-some, next-none, prev-some, prev-none    the gates on a wire
+--   t_count-entries, cx_count-entries, h_count-entries    counts over the slots
+use Rattle.std.proofs.Common.{◌≡◌, ◌≢◌, ℕ, zero, suc, ◌+◌, ◌-◌, ◌%◌, ◌^◌, ◌<◌, ◌≤◌, ◌==◌, ◌||◌, Bool, true, false, cond, List, [], ◌∷◌, ◌++◌, Option, None, Some, Ok, Err, Result, OnOk, OnErr, refl, sym, ap, ◌∙◌, subst, arith, inl, inr, ◌⊎◌, All, length, get_or, set, slice_get, zero-add}
+use Rattle.std.specs.List.{count_by, remove}
+use Rattle.std.specs.Int.{bit_at}
+use Rattle.std.proofs.lemmas.Bool.{eq-eqb, eqb-true, eqb-false}
+use Rattle.std.proofs.lemmas.List.Elements.{All-from_recursion, All-get_or, All-append, All-set, All-take, All-drop}
+
+use Rattle.std.proofs.lemmas.List.Sums.{sum_by-cons}
+use Rattle.std.proofs.lemmas.Nat.Bits.{bit_at-zero, bit_at-pow_same, bit_at-pow_other}
+use Rattle.std.proofs.lemmas.Option.{get_or_from_slice_get, slice_get_within}
+use Rattle.std.specs.declared.alloc.AllocError.{AllocError}
+use Rattle.circuit_list.specs.declared.Gate.{Gate}
+use Rattle.circuit_list.specs.declared.Gate.TheVariants.{H, X, P, Cx}
+use Rattle.circuit_list.specs.Entries.{entry, is_live, holds, rank, gates_of, slots_from}
+use Rattle.circuit_list.specs.Gates.{IsFine, h_count, is_cx, is_h, is_on, is_t, ops}
+use Rattle.circuit_list.specs.Slots.{IsNextOn, IsPrevOn, NoneBefore, NoneBehind, is_on_at, is_on_some, place_of}
+use Rattle.circuit_list.specs.Tree.{IsFirstOn, IsLastOn, NoneOn, has_wire, leaf, meets, wire_bit, wires_of}
+use Rattle.circuit_list.proofs.EntryLaws.{IsSlot, gates_of-gone, gates_of-push, gates_of-put, gates_of-rank, live_of-place, place_of-rank, rank_below, rank_later, rank_mono, slot_below, slot_of-gate, slots_from-rank}
+use Rattle.circuit_list.proofs.GateLaws.{cx_count-ops, t_count-ops}
+use Rattle.circuit_list.proofs.TreeLaws.{has_wire-or, order}
+use Rattle.unitary_model.specs.Operations.{cx_count, t_count}
+
+-- ---- live slots
+pub live_entry : (es : List (Option Gate)) (s : ℕ) → place_of s (slots_from 0 es) < length (gates_of es) → (g : Gate) × (entry es s ≡ Some g)
+live_entry es s h =
+    let r = live_of-place 0 es s h in
+    let same : s ≡ r.slot = r.is ∙ zero-add r.slot in
+    (r.gate, ap (entry es) same ∙ r.there)
+
+pub live_gate : (e : Option Gate) → is_live e ≡ true → (g : Gate) × (e ≡ Some g)
+live_gate None h = cc
+live_gate (Some g) h = (g, refl)
+
+pub place-entry : (es : List (Option Gate)) (s : ℕ) (g : Gate) → entry es s ≡ Some g → place_of s (slots_from 0 es) ≡ rank es s
+place-entry es s g h = place_of-rank 0 es s s g (sym (zero-add s)) h
+
+pub slot-entry : (es : List (Option Gate)) (s : ℕ) (g : Gate) → entry es s ≡ Some g → slice_get (slots_from 0 es) (rank es s) ≡ Some s
+slot-entry es s g h = slots_from-rank 0 es s s g (sym (zero-add s)) h
+
+pub gate-entry : (es : List (Option Gate)) (s : ℕ) (g : Gate) → entry es s ≡ Some g → slice_get (gates_of es) (place_of s (slots_from 0 es)) ≡ Some g
+gate-entry es s g h = ap (slice_get (gates_of es)) (place-entry es s g h) ∙ gates_of-rank es s g h
+
+pub live-place : (es : List (Option Gate)) (s : ℕ) (g : Gate) → entry es s ≡ Some g → place_of s (slots_from 0 es) < length (gates_of es)
+live-place es s g h = let e = place-entry es s g h in let lt = rank_below es s g h in omega arith
+
+-- ---- all gates
+pub All-slice_get : (Q : Gate → Type 0) (gs : List Gate) (i : ℕ) (g : Gate) → slice_get gs i ≡ Some g → All Q gs → Q g
+All-slice_get Q gs i g h all = subst Q (get_or_from_slice_get gs i g g h) (All-get_or Q gs i g (slice_get_within gs i g h) all)
+
+pub All-gone : (Q : Gate → Type 0) (gs : List Gate) (i : ℕ) → All Q gs → All Q (remove gs i)
+All-gone Q gs i all = All-append Q _ _ (All-take Q i gs all) (All-drop Q (suc i) gs all)
+
+All-one : (n : ℕ) (g : Gate) → IsFine n g → All (IsFine n) (g ∷ [])
+All-one n g f = All-from_recursion (IsFine n) (g ∷ []) (f, tt)
+
+pub fine-entry : (n : ℕ) (es : List (Option Gate)) (s : ℕ) (g : Gate) → entry es s ≡ Some g → All (IsFine n) (gates_of es) → IsFine n g
+fine-entry n es s g h all = All-slice_get (IsFine n) (gates_of es) (rank es s) g (gates_of-rank es s g h) all
+
+-- ---- wires as bits
+test-false : (b : Bool) → (b ≡ true → ⊥) → b ≡ false
+test-false true h = absurd (h refl)
+test-false false h = refl
+
+same_bit : (w q : ℕ) → w < 64 → q < 64 → has_wire w (wire_bit q) ≡ (w == q)
+unfolding has_wire wire_bit
+same_bit w q v r = at (w == q) refl
+  where
+    at : (b : Bool) → (w == q) ≡ b → (bit_at (2 ^ (q % 64)) (w % 64) == 1) ≡ (w == q)
+    at true e =
+        let same : w % 64 ≡ q % 64 = ap (λ n. n % 64) (eqb-true w q e) in
+        ap (λ n. bit_at (2 ^ (q % 64)) n == 1) same ∙ ap (λ n. n == 1) (bit_at-pow_same (q % 64)) ∙ sym e
+    at false e =
+        let other : w % 64 ≢ q % 64 = λ h. eqb-false w q e (omega arith) in
+        ap (λ n. n == 1) (bit_at-pow_other (q % 64) (w % 64) other) ∙ sym e
+
+pub meets-on : (n w : ℕ) (g : Gate) → w < 64 → n ≤ 64 → IsFine n g → meets w (Some g) ≡ is_on w g
+unfolding wires_of
+meets-on n w (H q) v le f = same_bit w q v (omega (arith, f))
+meets-on n w (X q) v le f = same_bit w q v (omega (arith, f))
+meets-on n w (P k q) v le f = same_bit w q v (omega (arith, f.0))
+meets-on n w (Cx c t) v le f =
+    has_wire-or w (wire_bit c) (wire_bit t) ∙ (λ i. same_bit w c v (omega (arith, f.0)) i || same_bit w t v (omega (arith, f.1.0)) i)
+
+or_cases : (a b : Bool) → (a || b) ≡ true → (a ≡ true) ⊎ (b ≡ true)
+or_cases true b h = inl refl
+or_cases false b h = inr h
+
+pub on_below : (n w : ℕ) (g : Gate) → IsFine n g → is_on w g ≡ true → w < n
+on_below n w (H q) f h = omega (arith, f, eqb-true w q h)
+on_below n w (X q) f h = omega (arith, f, eqb-true w q h)
+on_below n w (P k q) f h = omega (arith, f.0, eqb-true w q h)
+on_below n w (Cx c t) f h = at (or_cases (w == c) (w == t) h)
+  where
+    at : ((w == c) ≡ true) ⊎ ((w == t) ≡ true) → w < n
+    at (inl e) = omega (arith, f.0, eqb-true w c e)
+    at (inr e) = omega (arith, f.1.0, eqb-true w t e)
+
+pub meets_live : (w : ℕ) (e : Option Gate) → meets w e ≡ true → (g : Gate) × (e ≡ Some g)
+unfolding has_wire
+meets_live w None h = let zero' : (bit_at 0 (w % 64) == 1) ≡ false = ap (λ n. n == 1) (bit_at-zero (w % 64)) in cc
+meets_live w (Some g) h = (g, refl)
+
+-- ---- gates on a wire
+on_some-none : (w : ℕ) (o : Option Gate) → ((g : Gate) → o ≡ Some g → is_on w g ≡ false) → is_on_some w o ≡ false
+on_some-none w None h = refl
+on_some-none w (Some g) h = h g refl
+
+-- where no slot between two numbers is on the wire, no gate at a place of such a slot is
+quiet : (n w a b k : ℕ) (es : List (Option Gate)) → w < 64 → n ≤ 64 → All (IsFine n) (gates_of es) → NoneOn w es a b
+    → ((s : ℕ) (g : Gate) → entry es s ≡ Some g → rank es s ≡ k → (a ≤ s) × (s < b)) → is_on_at w (gates_of es) k ≡ false
+quiet n w a b k es low few fine none within =
+    on_some-none w (slice_get (gates_of es) k) (λ g e.
+        let r = slot_of-gate es k g e in
+        let h = within r.0 g r.1.0 r.1.1 in
+        sym (meets-on n w g low few (fine-entry n es r.0 g r.1.0 fine)) ∙ ap (meets w) (sym r.1.0) ∙ none r.0 h.0 h.1)
+
+-- a slot between two others stands between their places
+behind : (es : List (Option Gate)) (s t : ℕ) (g : Gate) → entry es t ≡ Some g → rank es s < rank es t → s < t
+behind es s t g h lt = at (order s t)
+  where
+    at : (s < t) ⊎ (t ≤ s) → s < t
+    at (inl below) = below
+    at (inr le) = absurd (omega (arith, rank_mono es t s le))
+
+before : (es : List (Option Gate)) (s t : ℕ) → rank es s < rank es t → s < t
+before es s t lt = at (order s t)
+  where
+    at : (s < t) ⊎ (t ≤ s) → s < t
+    at (inl below) = below
+    at (inr le) = absurd (omega (arith, rank_mono es t s le))
+
+-- a slot whose bits have the wire has a gate on it
+found : (n w t : ℕ) (es : List (Option Gate)) → w < 64 → n ≤ 64 → All (IsFine n) (gates_of es) → meets w (entry es t) ≡ true
+    → (h : Gate) × ((entry es t ≡ Some h) × (is_on_at w (gates_of es) (rank es t) ≡ true))
+found n w t es low few fine on =
+    let r = meets_live w (entry es t) on in
+    (r.0, (r.1, ap (is_on_some w) (gates_of-rank es t r.0 r.1) ∙ sym (meets-on n w r.0 low few (fine-entry n es t r.0 r.1 fine)) ∙ ap (meets w) (sym r.1) ∙ on))
+
+pub next-none : (n w s : ℕ) (es : List (Option Gate)) (g : Gate) → w < 64 → n ≤ 64 → All (IsFine n) (gates_of es) → entry es s ≡ Some g
+    → NoneOn w es (s + 1) (length es) → NoneBehind w (gates_of es) (place_of s (slots_from 0 es))
+next-none n w s es g low few fine e none k lt =
+    let place = place-entry es s g e in
+    quiet n w (s + 1) (length es) k es low few fine none (λ u h there at.
+        let later : s < u = before es s u (omega arith) in
+        let within = slot_below es u h there in
+        (omega arith, within))
+
+pub next-some : (n w s t : ℕ) (es : List (Option Gate)) (g : Gate) → w < 64 → n ≤ 64 → All (IsFine n) (gates_of es) → entry es s ≡ Some g → IsFirstOn w es (s + 1) t
+    → (place_of t (slots_from 0 es) < length (gates_of es)) × IsNextOn w (gates_of es) (place_of s (slots_from 0 es)) (place_of t (slots_from 0 es))
+next-some n w s t es g low few fine e first =
+    let f = found n w t es low few fine first.on in
+    let place = place-entry es s g e in
+    let end = place-entry es t f.0 f.1.0 in
+    let later = rank_later es s t g e (omega (arith, first.from)) in
+    (live-place es t f.0 f.1.0, record {
+      behind = omega arith;
+      on = ap (is_on_at w (gates_of es)) end ∙ f.1.1;
+      none = λ k gt lt. quiet n w (s + 1) t k es low few fine first.none (λ u h there at.
+          let after : s < u = before es s u (omega arith) in
+          let ahead : u < t = before es u t (omega arith) in
+          (omega arith, ahead));
+    })
+
+pub prev-none : (n w s : ℕ) (es : List (Option Gate)) (g : Gate) → w < 64 → n ≤ 64 → All (IsFine n) (gates_of es) → entry es s ≡ Some g
+    → NoneOn w es 0 s → NoneBefore w (gates_of es) (place_of s (slots_from 0 es))
+prev-none n w s es g low few fine e none k lt =
+    let place = place-entry es s g e in
+    quiet n w 0 s k es low few fine none (λ u h there at.
+        let ahead : u < s = before es u s (omega arith) in
+        (omega arith, ahead))
+
+pub prev-some : (n w s t : ℕ) (es : List (Option Gate)) (g : Gate) → w < 64 → n ≤ 64 → All (IsFine n) (gates_of es) → entry es s ≡ Some g → IsLastOn w es s t
+    → (place_of t (slots_from 0 es) < length (gates_of es)) × IsPrevOn w (gates_of es) (place_of s (slots_from 0 es)) (place_of t (slots_from 0 es))
+prev-some n w s t es g low few fine e last =
+    let f = found n w t es low few fine last.on in
+    let place = place-entry es s g e in
+    let end = place-entry es t f.0 f.1.0 in
+    let earlier = rank_later es t s f.0 f.1.0 last.below in
+    (live-place es t f.0 f.1.0, record {
+      before = omega arith;
+      on = ap (is_on_at w (gates_of es)) end ∙ f.1.1;
+      none = λ k gt lt. quiet n w (t + 1) s k es low few fine last.none (λ u h there at.
+          let after : t < u = before es t u (omega arith) in
+          let ahead : u < s = before es u s (omega arith) in
+          (omega arith, ahead));
+    })
+
+-- the wire that a caller names is one of the gate's, so its bit is there
+pub wire_low : (n w s : ℕ) (es : List (Option Gate)) (g : Gate) → n ≤ 64 → All (IsFine n) (gates_of es) → entry es s ≡ Some g
+    → is_on_at w (gates_of es) (place_of s (slots_from 0 es)) ≡ true → w < 64
+wire_low n w s es g few fine e on =
+    let on' : is_on w g ≡ true = ap (is_on_some w) (sym (gate-entry es s g e)) ∙ on in
+    omega (arith, on_below n w g (fine-entry n es s g e fine) on')
+
+-- ---- one gate more, and one gate written
+pub push-fine : (n : ℕ) (es fs : List (Option Gate)) (g : Gate) (r : Result (Unit {0}) AllocError) → OnOk r (fs ≡ es ++ Some g ∷ []) → OnErr r (fs ≡ es) → IsFine n g
+    → All (IsFine n) (gates_of es) → All (IsFine n) (gates_of fs)
+push-fine n es fs g (Ok u) ok err f all =
+    subst (λ gs. All (IsFine n) gs) (sym (ap gates_of ok ∙ gates_of-push es g)) (All-append (IsFine n) (gates_of es) (g ∷ []) all (All-one n g f))
+push-fine n es fs g (Err e) ok err f all = subst (λ (xs : List (Option Gate)). All (IsFine n) (gates_of xs)) (sym err) all
+
+pub gone-fine : (n : ℕ) (es fs : List (Option Gate)) (s : ℕ) (g : Gate) → entry es s ≡ Some g → fs ≡ set es s None → All (IsFine n) (gates_of es) → All (IsFine n) (gates_of fs)
+gone-fine n es fs s g h e all =
+    subst (λ gs. All (IsFine n) gs) (sym (ap gates_of e ∙ gates_of-gone es s g h)) (All-gone (IsFine n) (gates_of es) (rank es s) all)
+
+pub put-fine : (n : ℕ) (es fs : List (Option Gate)) (s : ℕ) (g y : Gate) → entry es s ≡ Some g → fs ≡ set es s (Some y) → IsFine n y → All (IsFine n) (gates_of es) → All (IsFine n) (gates_of fs)
+put-fine n es fs s g y h e f all =
+    subst (λ gs. All (IsFine n) gs) (sym (ap gates_of e ∙ gates_of-put es s g y h)) (All-set (IsFine n) (gates_of es) (rank es s) y f all)
+
+-- ---- counts
+count_by-holds : (p : Gate → Bool) (es : List (Option Gate)) → count_by (holds p) es ≡ count_by p (gates_of es)
+count_by-holds p [] = refl
+count_by-holds p (None ∷ es) = count_by-holds p es
+count_by-holds p (Some g ∷ es) =
+    sum_by-cons (λ (e : Option Gate). cond (holds p e) 1 0) (Some g) es ∙ ap (λ n. cond (p g) 1 0 + n) (count_by-holds p es)
+    ∙ sym (sum_by-cons (λ (x : Gate). cond (p x) 1 0) g (gates_of es))
+
+pub t_count-entries : (es : List (Option Gate)) → count_by (holds is_t) es ≡ t_count (ops (gates_of es))
+t_count-entries es = count_by-holds is_t es ∙ t_count-ops (gates_of es)
+
+pub cx_count-entries : (es : List (Option Gate)) → count_by (holds is_cx) es ≡ cx_count (ops (gates_of es))
+cx_count-entries es = count_by-holds is_cx es ∙ cx_count-ops (gates_of es)
+
+pub h_count-entries : (es : List (Option Gate)) → count_by (holds is_h) es ≡ h_count (gates_of es)
+h_count-entries es = count_by-holds is_h es
+
+pub ruleset counts = (t_count-entries, cx_count-entries, h_count-entries)

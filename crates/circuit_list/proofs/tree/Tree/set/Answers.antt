@@ -1,0 +1,12 @@
+use Rattle.std.proofs.Common.{◌≡◌, ◌≢◌, ◌∙◌, ℕ, ◌+◌, ◌-◌, ◌*◌, ◌/◌, ◌^◌, ◌<◌, ◌≤◌, ◌++◌, ◌∷◌, [], true, false, refl, sym, ap, subst, arith, length, set, slice_get, List, Option, None, Some, OnOk, OnErr}
+use Rattle.std.proofs.lemmas.List.{get_or-set_other}
+use Rattle.circuit_list.specs.declared.Gate.{Gate}
+use Rattle.circuit_list.specs.declared.tree.Node.{Node}
+use Rattle.circuit_list.specs.Entries.{entry}
+use Rattle.circuit_list.proofs.TreeLaws.{joined_written}
+use Rattle.circuit_list.proofs.tree.Tree.set.Goals as goal
+
+pub refresh-requires-clause-others : goal.refresh-requires-clause-others
+refresh-requires-clause-others c =
+    joined_written c.self.inside.height c.self.inside.gates.items c.deref.result.now c.self.inside.nodes.items c.deref_mut.result.now c.args.slot c.self.invariant
+    (λ s n. ap (λ (xs : List (Option Gate)). entry xs s) c.deref.ensures.value ∙ get_or-set_other c.self.inside.gates.items c.args.slot s c.args.entry None n) c.deref_mut.ensures.value
