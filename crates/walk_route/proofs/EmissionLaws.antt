@@ -21,7 +21,7 @@ use Rattle.unitary_model.proofs.Windows.{Agree, in_place}
 use Rattle.unitary_model.proofs.HadamardWindows.{had}
 use Rattle.unitary_model.proofs.Steps.{t_count-append, cx_count-append}
 use Rattle.std.proofs.lemmas.List.{map-append}
-use Rattle.walk_route.specs.Edges.{FollowsEdge}
+use Rattle.coupling_map.specs.Edges.{FollowsEdge}
 use Rattle.walk_route.specs.Emission.{cx_gates, cx_turn, low_order, emitted, emitted_turn, apart}
 
 -- ---- a CNOT turned round
