@@ -13,9 +13,10 @@ use Rattle.circuit_list.specs.declared.Gate.{Gate}
 use Rattle.circuit_list.specs.declared.Gate.TheVariants.{H, X, P, Cx}
 use Rattle.unitary_model.specs.declared.Op.{Op}
 use Rattle.unitary_model.specs.declared.Op.TheVariants.{U, Cx as OpCx}
+use Rattle.unitary_model.specs.Limits.{most_qubits}
 
 abbrev pub most_wires : ℕ
-most_wires = 64
+most_wires = most_qubits
 
 -- H is U(pi/2, 0, pi), X is U(pi, 0, pi), and P(k) is diag(1, w^k)
 abbrev pub op_of : Gate → Op

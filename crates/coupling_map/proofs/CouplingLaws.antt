@@ -1,49 +1,29 @@
--- Laws of a device: what its distances are, and the step toward a qubit.
---   IsCoupling-made       a graph with the distances of all pairs
---   dist-below            a distance is below the number of qubits
---   dist-symmetric        the distance both ways
---   dist-zero, dist-self  distance 0 is a qubit's own
---   dist-one, dist-near   distance 1 is a near qubit's
---   dist-step             near qubits differ by at most 1
---   dist-diameter, diameter-below
---   nearer                some near qubit is one nearer
---   IsToward-found        the first of the near qubits that is one nearer
-use Rattle.std.proofs.Common.{◌≡◌, ℕ, zero, suc, ◌+◌, ◌*◌, ◌<◌, ◌≤◌, Bool, true, false, List, [], ◌∷◌, length, get_or, refl, sym, ap, ◌∙◌, subst, arith, ◌⊎◌, inl, inr}
-use Rattle.std.specs.Prelude.{All, IsTrue, fold, max, ◌==◌, ◌&&◌, ◌||◌}
+-- Laws of a device: that it is connected, and the step toward a qubit.
+--   IsCoupling-made        a graph with the distances of all pairs
+--   not_near_itself        no qubit is near itself
+--   zero-distance, one-distance  which qubits are at distance 0 and at distance 1
+--   IsNearer-by, IsNearer-not    what the test of two distances says
+--   before-more            one more of the near qubits isn't nearer
+--   nearer                 some near qubit is one nearer
+--   IsToward-found         the first of the near qubits that is one nearer
+--   toward_exists          one of them is
+use Rattle.std.proofs.Common.{◌≡◌, ℕ, zero, suc, ◌+◌, ◌<◌, ◌≤◌, Bool, true, false, List, [], ◌∷◌, length, get_or, refl, sym, ap, ◌∙◌, subst, arith, ◌⊎◌, inl, inr}
+use Rattle.std.specs.Prelude.{All, IsTrue, ◌==◌, ◌&&◌, ◌||◌, ◌↔◌}
 use Rattle.std.specs.List.{list_any}
 use Rattle.std.proofs.lemmas.List.{get_or_default}
 use Rattle.std.proofs.lemmas.List.Elements.{All-get_or, All-head, All-tail}
 use Rattle.std.proofs.lemmas.Bool.{cases_eq, cases_lt}
 use Rattle.std.proofs.lemmas.Bool.Decides.{nat_tests}
-use Rattle.std.proofs.lemmas.Nat.{mul-add-lt}
 use Rattle.coupling_map.specs.Walks.{is_edge, is_near, IsWalk, IsDistance}
-use Rattle.coupling_map.specs.Coupling.{Coupling, dist, diameter, IsGraph, IsCoupling, IsNeighbours, IsToward}
+use Rattle.coupling_map.specs.Coupling.{Coupling, IsGraph, IsCoupling, IsNeighbours, IsNearer, IsToward}
 use Rattle.coupling_map.specs.Tables.{AreDistances}
-use Rattle.coupling_map.proofs.WalkLaws.{is_near-below, IsDistance-symmetric, IsDistance-same, IsDistance-self, IsDistance-zero, IsDistance-near, IsDistance-one}
+use Rattle.coupling_map.proofs.WalkLaws.{is_near-below, IsDistance-same, IsDistance-self, IsDistance-zero, IsDistance-near, IsDistance-one}
 
-pub IsCoupling-made : (d : Coupling) → IsGraph d.size d.edges → AreDistances d.size d.edges d.size d.distances → IsCoupling d
-unfolding dist
-IsCoupling-made d g t = record { graph = g; long = t.long; exact = t.exact; short = t.short }
-
-pub place-below : (d : Coupling) (a b : ℕ) → IsCoupling d → a < d.size → b < d.size → b * d.size + a < length d.distances
-place-below d a b h la lb = omega (arith, h.long, mul-add-lt b d.size a d.size lb la)
-
-pub dist-below : (d : Coupling) (a b : ℕ) → IsCoupling d → a < d.size → b < d.size → dist d a b < d.size
-unfolding dist
-dist-below d a b h la lb = All-get_or (λ k. k < d.size) d.distances (b * d.size + a) 0 (place-below d a b h la lb) h.short
-
-pub dist-symmetric : (d : Coupling) (a b : ℕ) → IsCoupling d → a < d.size → b < d.size → dist d a b ≡ dist d b a
-dist-symmetric d a b h la lb = IsDistance-same d.edges a b _ _ (h.exact a b la lb) (IsDistance-symmetric d.edges b a _ (h.exact b a lb la))
-
-pub dist-zero : (d : Coupling) (a b : ℕ) → IsCoupling d → a < d.size → b < d.size → dist d a b ≡ 0 → a ≡ b
-dist-zero d a b h la lb e = IsDistance-zero d.edges a b (subst (IsDistance d.edges a b) e (h.exact a b la lb))
-
-pub dist-self : (d : Coupling) (a b : ℕ) → IsCoupling d → a < d.size → b < d.size → a ≡ b → dist d a b ≡ 0
-dist-self d a b h la lb e =
-    IsDistance-same d.edges a b _ 0 (h.exact a b la lb) (subst (λ c. IsDistance d.edges a c 0) e (IsDistance-self d.edges a))
-
-pub dist-one : (d : Coupling) (a b : ℕ) → IsCoupling d → a < d.size → b < d.size → dist d a b ≡ 1 → IsTrue (is_near d.edges a b)
-dist-one d a b h la lb e = IsDistance-one d.edges a b (subst (IsDistance d.edges a b) e (h.exact a b la lb))
+pub IsCoupling-made : (d : Coupling) (table : List ℕ) → IsGraph d.size d.edges → AreDistances d.size d.edges d.size table → IsCoupling d
+IsCoupling-made d table g t = record {
+  graph = g;
+  connected = λ a b la lb. let w = (t.exact a b la lb).walked in (w.0, w.2);
+}
 
 -- no qubit is near itself
 or_cases : (p q : Bool) → (p || q) ≡ true → (p ≡ true) ⊎ (q ≡ true)
@@ -68,65 +48,57 @@ not_near_itself n es a g t = no_edge es a g.loopless (twice (list_any (λ e. e.0
     twice true t = t
     twice false t = t
 
-pub dist-near : (d : Coupling) (a b : ℕ) → IsCoupling d → a < d.size → b < d.size → IsTrue (is_near d.edges a b) → dist d a b ≡ 1
-dist-near d a b h la lb t =
-    IsDistance-same d.edges a b _ 1 (h.exact a b la lb)
-    (IsDistance-near d.edges a b (λ e. not_near_itself d.size d.edges a h.graph (subst (λ c. IsTrue (is_near d.edges a c)) (sym e) t)) t)
+pub zero-distance : (es : List (ℕ × ℕ)) (a b k : ℕ) → IsDistance es a b k → (k ≡ 0) ↔ (a ≡ b)
+zero-distance es a b k h = (
+  λ e. IsDistance-zero es a b (subst (IsDistance es a b) e h),
+  λ e. IsDistance-same es a b k 0 h (subst (λ c. IsDistance es a c 0) e (IsDistance-self es a)),
+)
 
-pub dist-step : (d : Coupling) (a b c : ℕ) → IsCoupling d → a < d.size → b < d.size → c < d.size → IsTrue (is_near d.edges a c) → dist d a b ≤ dist d c b + 1
-dist-step d a b c h la lb lc t =
-    let w = (h.exact c b lc lb).walked in
-    omega (arith, (h.exact a b la lb).least (c ∷ w.0) (t, w.2), w.1)
-
--- ---- the diameter
-
-start-fold : (m : ℕ) (xs : List ℕ) → m ≤ fold max m xs
-start-fold m [] = omega arith
-start-fold m (x ∷ xs) = omega (arith, start-fold (max m x) xs)
-
-entry-fold : (m : ℕ) (xs : List ℕ) (k : ℕ) → k < length xs → get_or xs k 0 ≤ fold max m xs
-entry-fold m [] k l = absurd (omega arith)
-entry-fold m (x ∷ xs) zero l = omega (arith, start-fold (max m x) xs)
-entry-fold m (x ∷ xs) (suc k) l = entry-fold (max m x) xs k (omega arith)
-
-fold-below : (n m : ℕ) (xs : List ℕ) → m < n → All (λ k. k < n) xs → fold max m xs < n
-fold-below n m [] l h = l
-fold-below n m (x ∷ xs) l h = fold-below n (max m x) xs (omega (arith, All-head (λ k. k < n) x xs h)) (All-tail (λ k. k < n) x xs h)
-
-pub dist-diameter : (d : Coupling) (a b : ℕ) → IsCoupling d → a < d.size → b < d.size → dist d a b ≤ diameter d
-unfolding dist diameter
-dist-diameter d a b h la lb = entry-fold 0 d.distances (b * d.size + a) (place-below d a b h la lb)
-
-pub diameter-below : (d : Coupling) → IsCoupling d → diameter d < d.size
-unfolding diameter
-diameter-below d h = fold-below d.size 0 d.distances h.graph.positive h.short
+pub one-distance : (n : ℕ) (es : List (ℕ × ℕ)) (a b k : ℕ) → IsGraph n es → IsDistance es a b k → (k ≡ 1) ↔ IsTrue (is_near es a b)
+one-distance n es a b k g h = (
+  λ e. IsDistance-one es a b (subst (IsDistance es a b) e h),
+  λ t. IsDistance-same es a b k 1 h
+      (IsDistance-near es a b (λ e. not_near_itself n es a g (subst (λ c. IsTrue (is_near es a c)) (sym e) t)) t),
+)
 
 -- ---- the step toward a qubit
 
-pub nearer : (d : Coupling) (a b : ℕ) → IsCoupling d → a < d.size → b < d.size → (a ≡ b → ⊥)
-    → (c : ℕ) × (c < d.size) × IsTrue (is_near d.edges a c) × (dist d c b + 1 ≡ dist d a b)
-nearer d a b h la lb ne = go w.0 w.1 w.2
+pub IsNearer-by : (es : List (ℕ × ℕ)) (a b c j k : ℕ) → IsDistance es c b j → IsDistance es a b k → j + 1 ≡ k → IsNearer es a b c
+IsNearer-by es a b c j k h g e = (j, h, subst (IsDistance es a b) (sym e) g)
+
+pub IsNearer-not : (es : List (ℕ × ℕ)) (a b c j k : ℕ) → IsDistance es c b j → IsDistance es a b k → (j + 1 ≡ k → ⊥) → IsNearer es a b c → ⊥
+IsNearer-not es a b c j k h g ne t =
+    ne (ap (λ m. m + 1) (IsDistance-same es c b j t.0 h t.1) ∙ IsDistance-same es a b (t.0 + 1) k t.2 g)
+
+pub before-more : (es : List (ℕ × ℕ)) (a b j k i : ℕ) (near : List ℕ) → IsDistance es (get_or near i 0) b j → IsDistance es a b k → (j + 1 ≡ k → ⊥)
+    → ((m : ℕ) → m < i → IsNearer es a b (get_or near m 0) → ⊥) → (m : ℕ) → m < i + 1 → IsNearer es a b (get_or near m 0) → ⊥
+before-more es a b j k i near h g ne before m l t = elim (cases_eq m i) [
+  | inl same ↦ IsNearer-not es a b (get_or near i 0) j k h g ne (subst (λ x. IsNearer es a b (get_or near x 0)) same t)
+  | inr other ↦ before m (omega (arith, l, other)) t
+]
+
+pub nearer : (es : List (ℕ × ℕ)) (a b k : ℕ) → IsDistance es a b k → (a ≡ b → ⊥) → (c : ℕ) × IsTrue (is_near es a c) × IsNearer es a b c
+nearer es a b k h ne = go h.walked.0 h.walked.1 h.walked.2
   where
-    w : (cs : List ℕ) × (length cs ≡ dist d a b) × IsWalk d.edges a cs b
-    w = (h.exact a b la lb).walked
+    go : (cs : List ℕ) → length cs ≡ k → IsWalk es a cs b → (c : ℕ) × IsTrue (is_near es a c) × IsNearer es a b c
+    go [] e w = absurd (ne w)
+    go (c ∷ cs) e w =
+        let rest : IsDistance es c b (length cs) = record {
+          walked = (cs, refl, w.1);
+          least = λ ds v. let l = h.least (c ∷ ds) (w.0, v) in omega (arith, l, e);
+        } in
+        (c, w.0, IsNearer-by es a b c (length cs) k rest h (omega (arith, e)))
 
-    go : (cs : List ℕ) → length cs ≡ dist d a b → IsWalk d.edges a cs b
-        → (c : ℕ) × (c < d.size) × IsTrue (is_near d.edges a c) × (dist d c b + 1 ≡ dist d a b)
-    go [] e v = absurd (ne v)
-    go (c ∷ cs) e v =
-        let lc = (is_near-below d.size d.edges a c h.graph.within v.0).1 in
-        (c, lc, v.0, omega (arith, dist-step d a b c h la lb lc v.0, (h.exact c b lc lb).least cs v.1, e))
-
-pub IsToward-found : (d : Coupling) (a b c k : ℕ) (near : List ℕ) → IsCoupling d → IsNeighbours d.size d.edges a near → k < length near → c ≡ get_or near k 0
-    → ((j : ℕ) → j < k → dist d (get_or near j 0) b + 1 ≡ dist d a b → ⊥) → dist d c b + 1 ≡ dist d a b → IsToward d a b c
-IsToward-found d a b c k near h g l e before here = record {
-  near = subst (λ x. IsTrue (is_near d.edges a x)) (sym e) (All-get_or (λ x. (x < d.size) × IsTrue (is_near d.edges a x)) near k 0 l g.each).1;
+pub IsToward-found : (n : ℕ) (es : List (ℕ × ℕ)) (a b c k : ℕ) (near : List ℕ) → IsGraph n es → IsNeighbours n es a near → k < length near → c ≡ get_or near k 0
+    → ((j : ℕ) → j < k → IsNearer es a b (get_or near j 0) → ⊥) → IsNearer es a b c → IsToward es a b c
+IsToward-found n es a b c k near h g l e before here = record {
+  near = subst (λ x. IsTrue (is_near es a x)) (sym e) (All-get_or (λ x. (x < n) × IsTrue (is_near es a x)) near k 0 l g.each).1;
   nearer = here;
   least = λ x lx t f.
-      let s = g.every x (is_near-below d.size d.edges a x h.graph.within t).1 t in
+      let s = g.every x (is_near-below n es a x h.within t).1 t in
       let r : get_or near s.0 0 ≡ x = get_or_default near s.0 0 x s.1 ∙ s.2 in
       elim (cases_lt s.0 k) [
-        | inl earlier ↦ before s.0 earlier (ap (λ y. dist d y b + 1) r ∙ f)
+        | inl earlier ↦ before s.0 earlier (subst (IsNearer es a b) (sym r) f)
         | inr later ↦ elim (cases_eq s.0 k) [
           | inl same ↦ let z : c ≡ x = e ∙ ap (λ i. get_or near i 0) (sym same) ∙ r in omega (arith, lx, z)
           | inr ne ↦ let up : get_or near k 0 < get_or near s.0 0 = g.ascending k s.0 (omega (arith, later, ne)) s.1 in omega (arith, lx, e, r, up)
@@ -134,9 +106,9 @@ IsToward-found d a b c k near h g l e before here = record {
       ];
 }
 
-pub toward_exists : (d : Coupling) (a b : ℕ) (near : List ℕ) → IsCoupling d → IsNeighbours d.size d.edges a near → a < d.size → b < d.size → (a ≡ b → ⊥)
-    → ((j : ℕ) → j < length near → dist d (get_or near j 0) b + 1 ≡ dist d a b → ⊥) → ⊥
-toward_exists d a b near h g la lb ne without =
-    let c = nearer d a b h la lb ne in
-    let s = g.every c.0 c.1 c.2 in
-    without s.0 s.1 (ap (λ y. dist d y b + 1) (get_or_default near s.0 0 c.0 s.1 ∙ s.2) ∙ c.3)
+pub toward_exists : (n : ℕ) (es : List (ℕ × ℕ)) (a b k : ℕ) (near : List ℕ) → IsGraph n es → IsNeighbours n es a near → IsDistance es a b k → (a ≡ b → ⊥)
+    → ((j : ℕ) → j < length near → IsNearer es a b (get_or near j 0) → ⊥) → ⊥
+toward_exists n es a b k near h g d ne without =
+    let c = nearer es a b k d ne in
+    let s = g.every c.0 (is_near-below n es a c.0 h.within c.1).1 c.1 in
+    without s.0 s.1 (subst (IsNearer es a b) (sym (get_or_default near s.0 0 c.0 s.1 ∙ s.2)) c.2)

@@ -6,4 +6,5 @@ pub mod TableLaws
 pub mod NeighbourLaws
 pub mod SearchLaws
 pub mod RowLaws
+pub mod DistanceLaws
 pub mod CouplingLaws

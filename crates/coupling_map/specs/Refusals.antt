@@ -1,7 +1,11 @@
 -- Why a text is refused, one equation for each refusal. Want of memory may come at any time.
 --   IsRefusal text fault   the text is refused by this fault
 --   IsCause text error     the same of an error, which may also be want of memory
---   the others             the same of one stage of the reading
+--   IsTextCause            the same where no table is read
+--   IsShapeCause           the same where a value has not its shape
+--   IsRangeCause           the same where a number is out of its range
+--   IsTableCause           the same where the table says no graph
+--   IsGraphCause           the same where the graph is not connected
 use Rattle.std.specs.Prelude.{◌≡◌, ℕ, List, Option, None, ⊤}
 use Rattle.coupling_map.specs.declared.faults.DeviceFault.{DeviceFault}
 use Rattle.coupling_map.specs.declared.faults.DeviceFault.TheVariants as fault
@@ -22,25 +26,21 @@ abbrev pub IsCause : List ℕ → DeviceError → Type 0
 IsCause text error.NoMemory = ⊤
 IsCause text (error.Refused f) = IsRefusal text f
 
--- the text has no table
 abbrev pub IsTextCause : List ℕ → DeviceError → Type 0
 IsTextCause text error.NoMemory = ⊤
 IsTextCause text (error.Refused fault.Text) = HasNoTable text
 IsTextCause text (error.Refused other) = ⊥
 
--- a value has not its shape
 abbrev pub IsShapeCause : {A : Type 0} → Option A → DeviceError → Type 0
 IsShapeCause o error.NoMemory = ⊤
 IsShapeCause o (error.Refused fault.Shape) = o ≡ None
 IsShapeCause o (error.Refused other) = ⊥
 
--- a number is out of its range
 abbrev pub IsRangeCause : {A : Type 0} → Option A → DeviceError → Type 0
 IsRangeCause o error.NoMemory = ⊤
 IsRangeCause o (error.Refused fault.Range) = o ≡ None
 IsRangeCause o (error.Refused other) = ⊥
 
--- the table says no graph
 abbrev pub IsTableCause : Outcome → DeviceError → Type 0
 IsTableCause o error.NoMemory = ⊤
 IsTableCause o (error.Refused fault.Text) = ⊥
@@ -49,7 +49,6 @@ IsTableCause o (error.Refused fault.Range) = o ≡ range
 IsTableCause o (error.Refused (fault.SelfEdge qubit)) = o ≡ self_edge qubit
 IsTableCause o (error.Refused (fault.NotConnected from to)) = ⊥
 
--- the graph is not connected
 abbrev pub IsGraphCause : ℕ → List (ℕ × ℕ) → DeviceError → Type 0
 IsGraphCause n es error.NoMemory = ⊤
 IsGraphCause n es (error.Refused (fault.NotConnected from to)) = (from ≡ 0) × IsLeastApart n es to

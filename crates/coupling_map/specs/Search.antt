@@ -1,4 +1,4 @@
--- The search by layers from one qubit: a row has the distance of each qubit that was reached.
+-- Working form. The search by layers from one qubit: a row has the distance of each qubit that was reached.
 --   distance_in row y    the distance of y in a row
 --   IsReached row y      y was reached
 --   unreached row        how many were not

@@ -1,16 +1,26 @@
 -- What a device text says, from toml's table of the text.
 --   IsTable text table   the table of the text
 --   HasNoTable text      there is none
+--   list_of items        the elements of an array
+--   pair_of_two, pair_in, pair_of
+--                        two whole numbers: of two values, of a list of two, of an array of two
 --   qubits_of table      the whole number at `qubits`
 --   edges_of table       the pairs of whole numbers at `edges`
---   size_of, ends_below  the numbers within their ranges
---   Outcome, outcome_of  what the table says, in the order of the refusals
+--   size_of x            a number of qubits from 1 to the limit
+--   below n x            a qubit below n
+--   ends_of_two, ends_below n e
+--                        the ends of an edge, if both are there; if both are below n
+--   is_self_edge e       an edge from a qubit to itself
+--   Outcome              what a table may say: a wrong shape, a number out of its range, the first edge from a qubit to itself,
+--                        or a number of qubits with edges between different qubits
+--   without_self_edge, in_range, in_shape, outcome_of
+--                        what the table says, in the order of the refusals: the last is of the table itself
 --   Says text o          the text has a table that says o
 use Rattle.std.specs.Prelude.{◌≡◌, ℕ, ◌==◌, ◌||◌, Bool, ℤ, pos, negsuc, List, [], ◌∷◌, Option, Some, None, if◌then◌else◌, codes, find, nat_lt, option_and_then, IsUtf8}
 use Rattle.std.specs.Option.{option_map_or}
 use Rattle.toml.specs.Data.{Data, Items, no_items, item, Members, get_member, as_array, as_integer}
 use Rattle.toml.specs.Parse.{parse_document}
-use Rattle.coupling_map.specs.declared.TheConstants.{QUBIT_LIMIT}
+use Rattle.unitary_model.specs.Limits.{most_qubits}
 use Rattle.coupling_map.specs.Lists.{all_some}
 
 -- the text is UTF-8, and toml reads it as this table
@@ -22,22 +32,18 @@ pub record IsTable (text : List ℕ) (table : Members) : Type 0 where
 abbrev pub HasNoTable : List ℕ → Type 0
 HasNoTable text = IsUtf8 text → parse_document text ≡ None
 
--- the elements of an array
 abbrev pub list_of : Items → List Data
 list_of no_items = []
 list_of (item d ds) = d ∷ list_of ds
 
--- two whole numbers
 abbrev pub pair_of_two : Option ℤ → Option ℤ → Option (ℤ × ℤ)
 pair_of_two (Some a) (Some b) = Some (a, b)
 pair_of_two _ _ = None
 
--- the two whole numbers of a list of two
 abbrev pub pair_in : List Data → Option (ℤ × ℤ)
 pair_in (a ∷ b ∷ []) = pair_of_two (as_integer a) (as_integer b)
 pair_in ds = None
 
--- the two whole numbers of an array of two
 abbrev pub pair_of : Data → Option (ℤ × ℤ)
 pair_of d = option_and_then (λ ds. pair_in (list_of ds)) (as_array d)
 
@@ -50,12 +56,10 @@ abbrev pub edges_of : Members → Option (List (ℤ × ℤ))
 edges_of table = option_and_then (λ ds. all_some pair_of (list_of ds))
     (option_and_then as_array (get_member (codes "edges") table))
 
--- a number of qubits from 1 to the limit
 abbrev pub size_of : ℤ → Option ℕ
-size_of (pos n) = if nat_lt n 1 || nat_lt QUBIT_LIMIT n then None else Some n
+size_of (pos n) = if nat_lt n 1 || nat_lt most_qubits n then None else Some n
 size_of (negsuc n) = None
 
--- a qubit below n
 abbrev pub below : ℕ → ℤ → Option ℕ
 below n (pos k) = if nat_lt k n then Some k else None
 below n (negsuc k) = None
@@ -64,16 +68,12 @@ abbrev pub ends_of_two : Option ℕ → Option ℕ → Option (ℕ × ℕ)
 ends_of_two (Some a) (Some b) = Some (a, b)
 ends_of_two _ _ = None
 
--- the ends of an edge, both below n
 abbrev pub ends_below : ℕ → ℤ × ℤ → Option (ℕ × ℕ)
 ends_below n e = ends_of_two (below n e.0) (below n e.1)
 
--- an edge from a qubit to itself
 abbrev pub is_self_edge : ℕ × ℕ → Bool
 is_self_edge e = e.0 == e.1
 
--- what a table says of a device: a wrong shape, a number out of its range, the first edge from a qubit to
--- itself, or a number of qubits with edges between different qubits
 pub data Outcome : Type 0 where
   shape : Outcome
   range : Outcome
@@ -92,10 +92,8 @@ abbrev pub in_shape : Option ℤ → Option (List (ℤ × ℤ)) → Outcome
 in_shape (Some n) (Some pairs) = in_range (size_of n) pairs
 in_shape _ _ = shape
 
--- what the table says
 abbrev pub outcome_of : Members → Outcome
 outcome_of table = in_shape (qubits_of table) (edges_of table)
 
--- the text has a table that says this
 abbrev pub Says : List ℕ → Outcome → Type 0
 Says text o = (table : Members) × IsTable text table × (outcome_of table ≡ o)

@@ -1,10 +1,10 @@
 //! The device: its edges, its distances, and how it is read.
 
-ghost use Rattle.std.specs.Prelude.{◌≡◌, ◌≢◌, ℕ, ◌+◌, ◌<◌, ◌≤◌, ◌↔◌, IfErr, IfOk, IsTrue};
-ghost use Rattle.coupling_map.specs.Coupling.{diameter, dist, IsCoupling, IsGraph, IsNeighbours, IsToward};
+ghost use Rattle.std.specs.Prelude.{◌≡◌, ◌≢◌, ◌<◌, ◌↔◌, IfErr, IfOk, IsTrue};
+ghost use Rattle.coupling_map.specs.Coupling.{IsCoupling, IsGraph, IsNeighbours, IsToward};
 ghost use Rattle.coupling_map.specs.Refusals.{IsCause, IsGraphCause};
 ghost use Rattle.coupling_map.specs.Text.{graph, Says};
-ghost use Rattle.coupling_map.specs.Walks.{is_edge, is_near, IsDistance};
+ghost use Rattle.coupling_map.specs.Walks.{is_edge, is_near, IsDiameter, IsDistance};
 
 use crate::faults::DeviceError;
 use crate::graph::{Graph, neighbour_lists, place};
@@ -31,10 +31,10 @@ impl Model for Device {
 
     ghost Value = { Coupling };
 
-    ghost view = { λ a. record { size = a.graph.size; edges = a.graph.edges; distances = a.distances.items } };
+    ghost view = { λ a. record { size = a.graph.size; edges = a.graph.edges } };
 
-    ghost invariant = { λ a. IsKept (record { size = a.graph.size; edges = a.graph.edges; distances = a.distances.items })
-        (map (λ v. v.items) a.neighbours.items) a.diameter };
+    ghost invariant = { λ a. IsKept (record { size = a.graph.size; edges = a.graph.edges })
+        (map (λ v. v.items) a.neighbours.items) a.distances.items a.diameter };
 }
 
 impl Device {
@@ -76,10 +76,9 @@ impl Device {
     pub fn dist(&self, a: u32, b: u32) -> u64
         requires first { a < self.now.size }
         requires second { b < self.now.size }
-        ensures dist { result ≡ dist self.now a b }
         ensures exact { IsDistance self.now.edges a b result }
+        ensures symmetric { IsDistance self.now.edges b a result }
         ensures short { result < self.now.size }
-        ensures symmetric { result ≡ dist self.now b a }
         ensures zero { (result ≡ 0) ↔ (a ≡ b) }
         ensures one { (result ≡ 1) ↔ IsTrue (is_near self.now.edges a b) }
     {
@@ -91,7 +90,7 @@ impl Device {
         requires first { a < self.now.size }
         requires second { b < self.now.size }
         requires apart { a ≢ b }
-        ensures toward { IsToward self.now a b result }
+        ensures toward { IsToward self.now.edges a b result }
         ensures below { result < self.now.size }
     {
         // The size's contract says that the device is connected.
@@ -107,8 +106,7 @@ impl Device {
 
     /// The greatest distance of two qubits.
     pub fn diameter(&self) -> u64
-        ensures diameter { result ≡ diameter self.now }
-        ensures greatest { (a b : ℕ) → a < self.now.size → b < self.now.size → dist self.now a b ≤ result }
+        ensures diameter { IsDiameter self.now.size self.now.edges result }
         ensures short { result < self.now.size }
     {
         u64::from(self.diameter)

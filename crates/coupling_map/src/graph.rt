@@ -1,17 +1,17 @@
 //! A device's edges as a table, and the qubits near each.
 
 ghost use Rattle.std.specs.Prelude.{◌≡◌, ◌+◌, ◌*◌, ◌<◌, ◌≤◌, All, IfOk, map};
+ghost use Rattle.unitary_model.specs.Limits.{most_qubits};
 ghost use Rattle.coupling_map.specs.Coupling.{IsGraph, IsNeighbours};
 ghost use Rattle.coupling_map.specs.Tables.{AreNeighbours, IsEdgeTable};
 ghost use Rattle.coupling_map.specs.Walks.{is_edge, is_near};
 
-use crate::QUBIT_LIMIT;
 use std::alloc::{AllocError, Global};
 use std::marker::Model;
 
 /// The place of a row and a column in a table of `n` rows and columns.
 pub fn place(n: u32, row: u32, column: u32) -> usize
-    requires limit { n ≤ QUBIT_LIMIT }
+    requires limit { n ≤ most_qubits }
     requires row { row < n }
     requires column { column < n }
     ensures place { result ≡ row * n + column }
@@ -23,7 +23,7 @@ pub fn place(n: u32, row: u32, column: u32) -> usize
 /// Whether an edge leads from each qubit to each.
 #[tactic(auto, using(crate::proofs::TableLaws::edges))]
 fn edge_table(alloc: Global, n: u32, edges: &[(u32, u32)]) -> Result<Vec<bool>, AllocError>
-    requires limit { n ≤ QUBIT_LIMIT }
+    requires limit { n ≤ most_qubits }
     requires within { All (λ e. (e.0 < n) × (e.1 < n)) edges.now }
     ensures { IfOk result (λ t. IsEdgeTable n edges.now t.items) }
 {
@@ -43,9 +43,10 @@ pub struct Graph {
 }
 
 impl Model for Graph {
-    ghost use Rattle.coupling_map.specs.Tables.{EdgeList, IsStored};
+    ghost use Rattle.coupling_map.specs.Coupling.{Coupling};
+    ghost use Rattle.coupling_map.specs.Tables.{IsStored};
 
-    ghost Value = { EdgeList };
+    ghost Value = { Coupling };
 
     ghost view = { λ a. record { size = a.size; edges = a.edges.items } };
 

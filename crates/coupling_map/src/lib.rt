@@ -14,6 +14,7 @@
 mod coupling;
 mod faults;
 mod graph;
+pub mod laws;
 mod search;
 mod text;
 

@@ -14,8 +14,8 @@ use Rattle.std.proofs.lemmas.Bool.Decides.{nat_tests, eqb_tells}
 use Rattle.std.proofs.lemmas.Bool.{cases_eq}
 use Rattle.std.proofs.lemmas.List.FromFn.{length-range_with_len, map-range_with_len_more, get_or-range_with_len}
 use Rattle.std.specs.Prelude.{nat_eq, slice_index}
-use Rattle.unitary_model.specs.Placement.{identity, position_of, IsPlacement}
-use Rattle.placement.specs.Exchange.{exchanged, AreInverse}
+use Rattle.unitary_model.specs.Placement.{exchanged, identity, position_of, IsPlacement}
+use Rattle.placement.specs.Inverse.{AreInverse}
 
 pub identity-more : (n : ℕ) → identity (n + 1) ≡ identity n ++ n ∷ []
 identity-more n =

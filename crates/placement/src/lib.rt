@@ -9,8 +9,7 @@
 #![tactic(auto)]
 
 ghost use Rattle.std.specs.Prelude.{◌≡◌, ◌<◌, IfOk, length, map, slice_index};
-ghost use Rattle.unitary_model.specs.Placement.{identity, position_of, IsPlacement};
-ghost use Rattle.placement.specs.Exchange.{exchanged};
+ghost use Rattle.unitary_model.specs.Placement.{exchanged, identity, position_of, IsPlacement};
 
 use std::alloc::{AllocError, Global};
 use std::marker::Model;
@@ -26,7 +25,7 @@ pub struct Placement {
 
 impl Model for Placement {
     ghost use Rattle.std.specs.Prelude.{List, ℕ};
-    ghost use Rattle.placement.specs.Exchange.{AreInverse};
+    ghost use Rattle.placement.specs.Inverse.{AreInverse};
 
     ghost Value = { List ℕ };
 

@@ -8,7 +8,7 @@ use Rattle.serde_json.specs.Data.{Data, member, no_members, object, string}
 use Rattle.route_report.specs.declared.faults.Fault.{Fault}
 use Rattle.route_report.specs.declared.faults.Fault.TheVariants as fault
 use Rattle.route_report.specs.Compact.{line, whole}
-use Rattle.route_report.specs.Refusals.{name_of, stops_with}
+use Rattle.route_report.specs.Refusals.{name_of, not_connected, self_edge, stops_with, too_few_qubits}
 
 abbrev pub status_of : Fault → ℕ
 status_of fault.Words = 2
@@ -19,9 +19,9 @@ status_of fault.Absent = 9
 status_of (fault.Plain code) = stops_with code
 status_of (fault.Place code place) = stops_with code
 status_of (fault.Statement code statement) = stops_with code
-status_of (fault.SelfEdge qubit) = stops_with 53
-status_of (fault.NotConnected from to) = stops_with 54
-status_of (fault.TooFewQubits device qubits) = stops_with 56
+status_of (fault.SelfEdge qubit) = stops_with self_edge
+status_of (fault.NotConnected from to) = stops_with not_connected
+status_of (fault.TooFewQubits device qubits) = stops_with too_few_qubits
 
 abbrev pub outside_data : List ℕ → ℕ → Data
 outside_data name status = object
@@ -49,22 +49,22 @@ fault_data (fault.Statement code statement) = object
     (member (codes "statement") (whole statement)
     (member (codes "status") (whole (stops_with code)) no_members))))
 fault_data (fault.SelfEdge qubit) = object
-    (member (codes "code") (whole 53)
-    (member (codes "fault") (string (name_of 53))
+    (member (codes "code") (whole self_edge)
+    (member (codes "fault") (string (name_of self_edge))
     (member (codes "qubit") (whole qubit)
-    (member (codes "status") (whole (stops_with 53)) no_members))))
+    (member (codes "status") (whole (stops_with self_edge)) no_members))))
 fault_data (fault.NotConnected from to) = object
-    (member (codes "code") (whole 54)
-    (member (codes "fault") (string (name_of 54))
+    (member (codes "code") (whole not_connected)
+    (member (codes "fault") (string (name_of not_connected))
     (member (codes "from") (whole from)
-    (member (codes "status") (whole (stops_with 54))
+    (member (codes "status") (whole (stops_with not_connected))
     (member (codes "to") (whole to) no_members)))))
 fault_data (fault.TooFewQubits device qubits) = object
-    (member (codes "code") (whole 56)
+    (member (codes "code") (whole too_few_qubits)
     (member (codes "device") (whole device)
-    (member (codes "fault") (string (name_of 56))
+    (member (codes "fault") (string (name_of too_few_qubits))
     (member (codes "qubits") (whole qubits)
-    (member (codes "status") (whole (stops_with 56)) no_members)))))
+    (member (codes "status") (whole (stops_with too_few_qubits)) no_members)))))
 
 abbrev pub fault_line : Fault → List ℕ
 fault_line f = line (fault_data f)

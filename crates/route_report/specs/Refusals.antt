@@ -1,9 +1,20 @@
 -- The refusals of a program's text and of a device's text, by their codes.
+--   self_edge, not_connected, too_few_qubits
+--               the codes of the refusals that tell more than their code
 --   refusals    the table: code and name
 --   name_of     the name of a code ("Unknown" where the table has none)
 --   stops_with  the status that a refusal ends with
 use Rattle.std.specs.Prelude.{ℕ, List, [], ◌∷◌, ◌==◌, ◌&&◌, if◌then◌else◌, codes, find, nat_le}
 use Rattle.std.specs.Option.{option_map_or}
+
+abbrev pub self_edge : ℕ
+self_edge = 53
+
+abbrev pub not_connected : ℕ
+not_connected = 54
+
+abbrev pub too_few_qubits : ℕ
+too_few_qubits = 56
 
 abbrev pub refusals : List (ℕ × List ℕ)
 refusals =
@@ -36,10 +47,10 @@ refusals =
     (50, codes "DeviceText") ∷
     (51, codes "DeviceShape") ∷
     (52, codes "DeviceRange") ∷
-    (53, codes "SelfEdge") ∷
-    (54, codes "NotConnected") ∷
+    (self_edge, codes "SelfEdge") ∷
+    (not_connected, codes "NotConnected") ∷
     (55, codes "DeviceTooLong") ∷
-    (56, codes "TooFewQubits") ∷
+    (too_few_qubits, codes "TooFewQubits") ∷
     (60, codes "TextTooLong") ∷
     []
 

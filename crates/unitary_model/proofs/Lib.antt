@@ -16,6 +16,7 @@ pub mod Steps
 pub mod RealisedLaws
 pub mod PlacementLaws
 pub mod RealisesLaws
+pub mod ReachedLaws
 pub mod HadamardWindows
 pub mod TokenLaws
 pub mod NumeralLaws

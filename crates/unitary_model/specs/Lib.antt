@@ -12,3 +12,5 @@ pub mod SmallProgram
 pub mod Tokens
 pub mod WrittenProgram
 pub mod Realised
+pub mod Reached
+pub mod Limits

@@ -4,7 +4,8 @@
 --     identity n          the list 0, 1, .. n-1
 --     moved size p x      the bits x, bit i at place p(i)
 --     composed p q        each wire from its place by p on by q
-use Rattle.std.specs.Prelude.{◌≡◌, ℕ, suc, ◌<◌, Bool, cond, List, [], ◌∷◌, length, map, nat_eq, slice_index}
+--     exchanged a b j     the place that j becomes when a and b are exchanged
+use Rattle.std.specs.Prelude.{◌≡◌, ℕ, suc, ◌<◌, ◌==◌, Bool, cond, if◌then◌else◌, List, [], ◌∷◌, length, map, nat_eq, slice_index}
 use Rattle.std.specs.List.{range_with_len}
 use Rattle.unitary_model.specs.Amplitude.{bit_of}
 
@@ -31,3 +32,7 @@ moved size p x = map (λ j. bit_of x (position_of j p)) (identity size)
 -- the place of wire i is q(p(i))
 abbrev pub composed : List ℕ → List ℕ → List ℕ
 composed p q = map (slice_index q) p
+
+-- a becomes b, b becomes a, and each other place stays
+unfoldable pub exchanged : ℕ → ℕ → ℕ → ℕ
+exchanged a b j = if j == a then b else (if j == b then a else j)

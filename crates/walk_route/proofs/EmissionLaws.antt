@@ -21,7 +21,7 @@ use Rattle.unitary_model.proofs.Windows.{Agree, in_place}
 use Rattle.unitary_model.proofs.HadamardWindows.{had}
 use Rattle.unitary_model.proofs.Steps.{t_count-append, cx_count-append}
 use Rattle.std.proofs.lemmas.List.{map-append}
-use Rattle.walk_route.specs.Edges.{FollowsEdge}
+use Rattle.coupling_map.specs.Edges.{FollowsEdge}
 use Rattle.walk_route.specs.Emission.{cx_gates, cx_turn, low_order, emitted, emitted_turn, apart}
 
 -- ---- a CNOT turned round
@@ -89,25 +89,6 @@ near-turned es a b h = go (is_edge es a b) (is_edge es b a) h
     go true false h = refl
     go false true h = refl
     go false false h = h
-
--- the two qubits in either order
-pub low_order-ends : (es : List (ℕ × ℕ)) (a b : ℕ) → (((low_order es a b).0 ≡ a) × ((low_order es a b).1 ≡ b)) ⊎ (((low_order es a b).0 ≡ b) × ((low_order es a b).1 ≡ a))
-unfolding low_order
-low_order-ends es a b = go (is_edge es (min a b) (max a b)) (cases_lt a b)
-  where
-    go : (s : Bool) → (a < b) ⊎ (b ≤ a) → (((either s (min a b) (max a b)).0 ≡ a) × ((either s (min a b) (max a b)).1 ≡ b)) ⊎ (((either s (min a b) (max a b)).0 ≡ b) × ((either s (min a b) (max a b)).1 ≡ a))
-    go true (inl lt) = inl (omega arith, omega arith)
-    go true (inr le) = inr (omega arith, omega arith)
-    go false (inl lt) = inr (omega arith, omega arith)
-    go false (inr le) = inl (omega arith, omega arith)
-
-pub low_order-fine : (es : List (ℕ × ℕ)) (size a b : ℕ) → a < size → b < size → a ≢ b
-    → ((low_order es a b).0 < size) × (((low_order es a b).1 < size) × ((low_order es a b).0 ≢ (low_order es a b).1))
-low_order-fine es size a b ha hb ne = go (low_order es a b).0 (low_order es a b).1 (low_order-ends es a b)
-  where
-    go : (u v : ℕ) → ((u ≡ a) × (v ≡ b)) ⊎ ((u ≡ b) × (v ≡ a)) → (u < size) × ((v < size) × (u ≢ v))
-    go u v (inl (e, f)) = (omega (arith, e, ha), (omega (arith, f, hb), λ d. ne (sym e ∙ d ∙ f)))
-    go u v (inr (e, f)) = (omega (arith, e, hb), (omega (arith, f, ha), λ d. ne (sym f ∙ sym d ∙ e)))
 
 near_by : (es : List (ℕ × ℕ)) (u v : ℕ) → is_edge es u v ≡ true → is_near es v u ≡ true
 unfolding is_near

@@ -1,7 +1,6 @@
 pub mod RestLaws
 pub mod FrontLaws
 pub mod EmissionLaws
-pub mod ReachedLaws
 pub mod UnderwayLaws
 pub mod WalkLaws
 pub mod WriteLaws

@@ -14,25 +14,25 @@ use Rattle.circuit_list.specs.declared.Gate.TheVariants.{H, X, P, Cx}
 use Rattle.circuit_list.specs.Gates.{IsFine, op_of, ops}
 use Rattle.circuit_list.proofs.GateLaws.{WiresBelow-ops}
 use Rattle.coupling_map.specs.Walks.{is_near}
-use Rattle.placement.specs.Exchange.{exchanged}
 use Rattle.unitary_model.specs.declared.Op.{Op}
 use Rattle.unitary_model.specs.declared.Op.TheVariants.{U, Cx as OpCx}
 use Rattle.unitary_model.specs.Operations.{cx_count, t_count, WiresBelow}
 use Rattle.unitary_model.specs.Acts.{Turns, place}
-use Rattle.unitary_model.specs.Placement.{IsPlacement}
+use Rattle.unitary_model.specs.Placement.{exchanged, IsPlacement}
 use Rattle.unitary_model.specs.Realises.{Realises}
 use Rattle.unitary_model.proofs.Slide.{Off, OffOp, Turns_slide_back}
 use Rattle.unitary_model.proofs.Steps.{t_count-append, cx_count-append}
 use Rattle.unitary_model.proofs.TurnsLaws.{Turns_refl, Turns_trans, Turns_inside}
 use Rattle.unitary_model.proofs.RealisesLaws.{realises_by}
 use Rattle.walk_route.specs.declared.router.Routed.{Routed}
-use Rattle.walk_route.specs.Edges.{FollowsEdge, FollowsEdges}
+use Rattle.coupling_map.specs.Edges.{FollowsEdge, FollowsEdges}
 use Rattle.walk_route.specs.Emission.{apart, emitted, emitted_turn, low_order, swap_gates, swap_turn, cx_gates, cx_turn}
 use Rattle.walk_route.specs.Front.{first_wire, second_wire, rest, AreHeads, HasPassed, IsFirst}
-use Rattle.walk_route.specs.Underway.{CanEmit, HasSwapped, HasWritten, IsFitting, IsOnTheWay, IsUnderway, Keeps, Reached}
+use Rattle.walk_route.specs.Underway.{CanEmit, HasSwapped, HasWritten, IsFitting, IsOnTheWay, IsUnderway, Keeps}
+use Rattle.unitary_model.specs.Reached.{Reached}
 use Rattle.walk_route.proofs.EmissionLaws.{gate-written, low_order-is, swap-written, WiresBelow-append}
 use Rattle.walk_route.proofs.FrontLaws.{IsOffGate, heads-passed, passing}
-use Rattle.walk_route.proofs.ReachedLaws.{Reached-start, Reached-more, Reached-swapped, Reached-mod, Reached-source, exchanged-comm}
+use Rattle.unitary_model.proofs.ReachedLaws.{Reached-start, Reached-more, Reached-swapped, Reached-mod, Reached-source, exchanged-comm}
 
 pub ops-append : (gs hs : List Gate) → ops (gs ++ hs) ≡ ops gs ++ ops hs
 ops-append gs hs = map-append op_of gs hs

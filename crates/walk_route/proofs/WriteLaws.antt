@@ -11,8 +11,7 @@ use Rattle.circuit_list.specs.declared.Gate.TheVariants.{H, X, P, Cx}
 use Rattle.circuit_list.specs.Body.{Body}
 use Rattle.circuit_list.specs.Gates.{IsFine}
 use Rattle.coupling_map.specs.Walks.{is_edge}
-use Rattle.placement.specs.Exchange.{exchanged}
-use Rattle.unitary_model.specs.Placement.{IsPlacement}
+use Rattle.unitary_model.specs.Placement.{exchanged, IsPlacement}
 use Rattle.walk_route.specs.declared.router.Routed.{Routed}
 use Rattle.walk_route.specs.Emission.{cx_gates, cx_turn, low_order, swap_gates, swap_turn, emitted, emitted_turn}
 use Rattle.walk_route.specs.Underway.{HasSwapped, HasWritten, IsFitting}

@@ -1,4 +1,3 @@
-pub mod Edges
 pub mod Emission
 pub mod Front
 pub mod Underway

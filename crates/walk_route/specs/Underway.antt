@@ -1,5 +1,4 @@
--- A route that is underway.
---   Reached size first S R last k     R is w^k times S, from the placement `first` to the placement `last`
+-- Working form. A route that is underway.
 --   IsUnderway es size first S r      what was written so far realises S, on the edges, and the counts are right
 --   IsFitting size r                  the parts of a route fit together
 --   HasWritten gs k old new           the gates gs were written, with turn k
@@ -11,23 +10,15 @@
 use Rattle.std.specs.Prelude.{◌≡◌, ℕ, ◌+◌, ◌*◌, ◌%◌, ◌<◌, ◌≤◌, List, ◌++◌, None, Some, length, map, slice_get}
 use Rattle.circuit_list.specs.declared.Gate.{Gate}
 use Rattle.circuit_list.specs.Gates.{ops}
-use Rattle.placement.specs.Exchange.{exchanged}
 use Rattle.unitary_model.specs.declared.Op.{Op}
 use Rattle.unitary_model.specs.Acts.{Turns}
 use Rattle.unitary_model.specs.Operations.{cx_count, t_count, WiresBelow}
-use Rattle.unitary_model.specs.Placement.{IsPlacement}
-use Rattle.unitary_model.specs.Realised.{Placing, PlacedBy, Realised}
+use Rattle.unitary_model.specs.Placement.{exchanged, IsPlacement}
+use Rattle.unitary_model.specs.Reached.{Reached}
 use Rattle.walk_route.specs.declared.router.Routed.{Routed}
-use Rattle.walk_route.specs.Edges.{FollowsEdges}
+use Rattle.coupling_map.specs.Edges.{FollowsEdges}
 use Rattle.walk_route.specs.Emission.{apart, swap_gates, swap_turn}
 use Rattle.walk_route.specs.Front.{AreHeads, IsFirst, rest}
-
-pub record Reached (size : ℕ) (first : List ℕ) (S R : List Op) (last : List ℕ) (k : ℕ) : Type 0 where
-  pub from : Placing
-  pub to : Placing
-  pub starts : PlacedBy size first from
-  pub ends : PlacedBy size last to
-  pub realised : Realised S R from to k
 
 pub record IsUnderway (es : List (ℕ × ℕ)) (size : ℕ) (first : List ℕ) (S : List Op) (r : Routed) : Type 0 where
   pub wires : r.body.wires ≡ size

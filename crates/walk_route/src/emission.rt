@@ -19,7 +19,11 @@ use unitary_model::turn_sum;
 fn low_order(device: &Device, a: u32, b: u32) -> (u32, u32)
     requires first { a < device.now.size }
     requires second { b < device.now.size }
-    ensures { result ≡ low_order device.now.edges a b }
+    requires apart { a ≢ b }
+    ensures order { result ≡ low_order device.now.edges a b }
+    ensures first { result.0 < device.now.size }
+    ensures second { result.1 < device.now.size }
+    ensures apart { result.0 ≢ result.1 }
 {
     let low = a.min(b);
     let high = a.max(b);

@@ -2,11 +2,10 @@
 
 ghost use Rattle.std.specs.Prelude.{◌≡◌, ◌+◌, ◌*◌, ◌≤◌, ◌↔◌, ℕ, IfOk, IsTrue, MatchOption, OnOk, length};
 ghost use Rattle.circuit_list.specs.Gates.{ops};
-ghost use Rattle.coupling_map.specs.Coupling.{IsCoupling};
+ghost use Rattle.coupling_map.specs.Edges.{FollowsEdges};
 ghost use Rattle.unitary_model.specs.Operations.{cx_count, t_count};
 ghost use Rattle.unitary_model.specs.Placement.{IsPlacement};
 ghost use Rattle.unitary_model.specs.Realises.{Realises};
-ghost use Rattle.walk_route.specs.Edges.{FollowsEdges};
 ghost use Rattle.walk_route.specs.Front.{IsEarliest};
 ghost use Rattle.walk_route.specs.Underway.{IsEarliestReady, IsFitting, IsReady, Keeps};
 
@@ -14,6 +13,7 @@ use crate::emission::apart;
 use crate::front::{earliest, heads_of, is_first, pass};
 use circuit_list::Circuit;
 use coupling_map::Device;
+use coupling_map::laws::{distance_is_computed, distance_is_one};
 use placement::Placement;
 use std::alloc::{AllocError, Global};
 
@@ -96,11 +96,17 @@ fn walk(
     ensures fitting { OnOk result (IsFitting device.now.size routed.new) }
     ensures keeps { OnOk result (Keeps device.now.edges device.now.size routed.old routed.new) }
 {
+    // What a distance is, and that the device is connected.
+    distance_is_one();
+    distance_is_computed();
+    let _size = device.size();
     let gate = circuit.gate(first);
     'walk: while let Some((control, target)) = apart(device, &routed.last, gate) {
         if let Some(place) = earliest_ready(circuit, device, heads, &routed.last) {
             return Ok(place);
         }
+        // Its contract says that there is a distance.
+        let _distance = device.dist(control, target);
         let next = device.toward(control, target);
         routed.write_swap(device, control, next)?;
     }

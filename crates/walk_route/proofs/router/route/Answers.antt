@@ -1,4 +1,5 @@
-use Rattle.std.proofs.Common.{◌≡◌, ◌∙◌, ℕ, List, [], refl, ap, subst}
+use Rattle.std.proofs.Common.{◌≡◌, ◌∙◌, ℕ, List, [], get_or, refl, ap, subst}
+use Rattle.std.proofs.lemmas.Option.{slice_get-get_or}
 use Rattle.unitary_model.specs.Placement.{IsPlacement}
 use Rattle.walk_route.specs.Front.{IsFirst, rest}
 use Rattle.walk_route.proofs.UnderwayLaws.{IsFitting-underway, IsOnTheWay-start, IsOnTheWay-walked, IsOnTheWay-emitted, rest-passed, Realises-end}
@@ -16,8 +17,12 @@ walk-requires-clause-fitting c = IsFitting-underway c.args.device.now.edges c.ar
 
 pub gates-smaller : goal.gates-smaller
 gates-smaller c =
-    rest-passed c.args.circuit.now.wires c.args.circuit.now.gates c.in_ok-place.place c.gate.result c.gates.heads.items c.pass.new.heads.items c.gate.ensures.there c.gates.invariant.are_heads
-    (subst (λ (h : List ℕ). IsFirst c.args.circuit.now.gates h c.in_ok-place.place) c.deref-in-Some.ensures.value c.in_ok-place.ensures.earliest.ready.first) (c.pass.ensures c.gate.result c.gate.ensures.there)
+    let gs = c.args.circuit.now.gates in
+    let j = c.in_ok-place.place in
+    let first = subst (λ (h : List ℕ). IsFirst gs h j) c.deref-in-Some.ensures.value c.in_ok-place.ensures.earliest.ready.first in
+    let g = get_or gs j c.gate.result in
+    let there = slice_get-get_or gs j c.gate.result first.within in
+    rest-passed c.args.circuit.now.wires gs j g c.gates.heads.items c.pass.new.heads.items there c.gates.invariant.are_heads first (c.pass.ensures g there)
 
 pub gates-preserved : goal.gates-preserved
 gates-preserved c =

@@ -1,9 +1,19 @@
 use Rattle.std.proofs.Common.{◌<◌, ◌∙◌, ℕ, List, sym, subst}
 use Rattle.walk_route.proofs.ReadyLaws.{IsEarliestReady-first}
 use Rattle.walk_route.proofs.UnderwayLaws.{Keeps-swapped, Keeps_trans}
-use Rattle.walk_route.proofs.WalkLaws.{apart-apart, differ, distance, distance-nearer}
+use Rattle.walk_route.proofs.WalkLaws.{apart-apart, differ, gap, gap-nearer, step-less}
 use Rattle.walk_route.proofs.WriteLaws.{fine_more, IsFitting-swapped}
 use Rattle.walk_route.proofs.router.walk.Goals as goal
+
+pub dist-distance-requires-clause-first : goal.dist-distance-requires-clause-first
+dist-distance-requires-clause-first c =
+    (apart-apart c.args.device.now.edges c.args.device.now.size c.walk.routed.last c.gate-gate.result c.in-Some.control c.in-Some.target c.walk.invariant.0.placed
+    (fine_more c.args.circuit.now.wires c.args.device.now.size c.gate-gate.result c.requires.fits c.gate-gate.ensures.fine) c.in-Some.ensures).first
+
+pub dist-distance-requires-clause-second : goal.dist-distance-requires-clause-second
+dist-distance-requires-clause-second c =
+    (apart-apart c.args.device.now.edges c.args.device.now.size c.walk.routed.last c.gate-gate.result c.in-Some.control c.in-Some.target c.walk.invariant.0.placed
+    (fine_more c.args.circuit.now.wires c.args.device.now.size c.gate-gate.result c.requires.fits c.gate-gate.ensures.fine) c.in-Some.ensures).second
 
 pub toward-next-requires-clause-first : goal.toward-next-requires-clause-first
 toward-next-requires-clause-first c =
@@ -30,9 +40,11 @@ walk-smaller c =
     let d = c.args.device.now in
     let g = c.gate-gate.result in
     let q = c.walk.routed.last in
-    subst (λ (r : List ℕ). distance d r g < distance d q g) (sym c.in_ok-write_swap.ensures.swapped.last)
-    (distance-nearer d q g c.in-Some.control c.in-Some.target c.toward-next.result c.walk.invariant.0.placed
-    (fine_more c.args.circuit.now.wires d.size g c.requires.fits c.gate-gate.ensures.fine) c.in-Some.ensures c.toward-next.ensures.toward)
+    subst (λ (r : List ℕ). gap d r g < gap d q g) (sym c.in_ok-write_swap.ensures.swapped.last)
+    (gap-nearer d q g c.in-Some.control c.in-Some.target c.toward-next.result c.walk.invariant.0.placed
+    (fine_more c.args.circuit.now.wires d.size g c.requires.fits c.gate-gate.ensures.fine) c.in-Some.ensures c.toward-next.ensures.toward.near
+    (step-less c.distance_is_one.ensures.one c.distance_is_computed.ensures.computed d c.in-Some.control c.in-Some.target c.toward-next.result c.dist-distance.result
+    c.size-size.ensures.coupling c.dist-distance.ensures.exact c.dist-distance.ensures.short c.toward-next.ensures.toward))
 
 pub walk-preserved : goal.walk-preserved
 walk-preserved c =
@@ -46,7 +58,7 @@ walk-preserved c =
     let e = c.in_ok-write_swap.ensures in (
       IsFitting-swapped d.edges d.size a b old new c.walk.invariant.0 e.swapped e.placed,
       Keeps_trans d.edges d.size c.args.routed.now old new c.walk.invariant.1
-          (Keeps-swapped d.edges d.size a b old new far.first c.toward-next.ensures.below (differ d a c.in-Some.target b c.toward-next.ensures.toward) c.toward-next.ensures.toward.near e.placed e.swapped),
+          (Keeps-swapped d.edges d.size a b old new far.first c.toward-next.ensures.below (differ c.distance_is_one.ensures.one d.edges a c.in-Some.target b c.toward-next.ensures.toward) c.toward-next.ensures.toward.near e.placed e.swapped),
     )
 
 pub returns-clause-earliest : goal.returns-clause-earliest

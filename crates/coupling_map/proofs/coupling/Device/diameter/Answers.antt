@@ -1,14 +1,16 @@
-use Rattle.std.proofs.Common.{◌≡◌, ap, ◌∙◌, subst}
-use Rattle.coupling_map.specs.Coupling.{diameter, IsCoupling}
-use Rattle.coupling_map.proofs.CouplingLaws.{dist-diameter, diameter-below}
+use Rattle.std.proofs.Common.{◌<◌, ◌∙◌, subst, sym}
+use Rattle.coupling_map.specs.Coupling.{Coupling}
+use Rattle.coupling_map.specs.Walks.{IsDiameter}
+use Rattle.coupling_map.proofs.DistanceLaws.{IsDiameter-below}
 use Rattle.coupling_map.proofs.coupling.Device.diameter.Goals as goal
 
-pub returns-clause-greatest : goal.returns-clause-greatest
-returns-clause-greatest c a b la lb =
-    let value : c.from.result ≡ diameter c.args.self.now = c.from.ensures ∙ c.self.invariant.greatest ∙ ap diameter c.self.view_is in
-    rw value (dist-diameter c.args.self.now a b (subst IsCoupling c.self.view_is c.self.invariant.coupling) la lb)
+pub returns-clause-diameter : goal.returns-clause-diameter
+returns-clause-diameter c =
+    subst (λ (d : Coupling). IsDiameter d.size d.edges c.from.result) c.self.view_is
+    (subst (λ k. IsDiameter c.self.inside.graph.size c.self.inside.graph.edges k) (sym c.from.ensures) c.self.invariant.greatest)
 
 pub returns-clause-short : goal.returns-clause-short
 returns-clause-short c =
-    let value : c.from.result ≡ diameter c.args.self.now = c.from.ensures ∙ c.self.invariant.greatest ∙ ap diameter c.self.view_is in
-    rw value (diameter-below c.args.self.now (subst IsCoupling c.self.view_is c.self.invariant.coupling))
+    subst (λ (d : Coupling). c.from.result < d.size) c.self.view_is
+    (subst (λ k. k < c.self.inside.graph.size) (sym c.from.ensures)
+    (IsDiameter-below _ _ _ _ c.self.invariant.distances c.self.invariant.greatest))

@@ -1,39 +1,44 @@
 use Rattle.std.proofs.Common.{◌+◌, ◌*◌, ◌<◌, length, get_or, sym, ap, ◌∙◌, subst}
 use Rattle.std.proofs.lemmas.List.{get_or_read}
-use Rattle.coupling_map.specs.Coupling.{Coupling, dist, IsCoupling}
-use Rattle.coupling_map.proofs.CouplingLaws.{dist-symmetric, dist-zero, dist-self, dist-one, dist-near}
+use Rattle.std.proofs.lemmas.List.Elements.{All-get_or}
+use Rattle.coupling_map.specs.Coupling.{Coupling, IsCoupling}
+use Rattle.coupling_map.specs.Walks.{IsDistance}
+use Rattle.coupling_map.proofs.CouplingLaws.{one-distance, zero-distance}
+use Rattle.coupling_map.proofs.WalkLaws.{IsDistance-symmetric}
 use Rattle.coupling_map.proofs.coupling.Device.dist.Goals as goal
-
-pub returns-clause-dist : goal.returns-clause-dist
-unfolding dist
-returns-clause-dist c =
-    let table = c.self.inside.distances.items in
-    let inside : c.place.result < length table =
-    subst (λ m. c.place.result < m) (sym c.self.invariant.coupling.long) (rw c.size.ensures.size at c.place.ensures.within) in
-    c.from.ensures ∙ get_or_read table c.place.result c.index.result.now inside c.index.ensures 0
-    ∙ ap (λ k. get_or table k 0) (c.place.ensures.place ∙ ap (λ n. c.args.b * n + c.args.a) c.size.ensures.size)
-    ∙ ap (λ (d : Coupling). dist d c.args.a c.args.b) c.self.view_is
 
 pub returns-clause-exact : goal.returns-clause-exact
 returns-clause-exact c =
-    let h : IsCoupling c.args.self.now = subst IsCoupling c.self.view_is c.self.invariant.coupling in
-    rw (returns-clause-dist c) (h.exact c.args.a c.args.b c.requires.first c.requires.second)
+    let n = c.self.inside.graph.size in
+    let table = c.self.inside.distances.items in
+    let a = c.args.a in
+    let b = c.args.b in
+    let la : a < n = subst (λ (d : Coupling). a < d.size) (sym c.self.view_is) c.requires.first in
+    let lb : b < n = subst (λ (d : Coupling). b < d.size) (sym c.self.view_is) c.requires.second in
+    let inside : c.place.result < length table =
+    subst (λ m. c.place.result < m) (sym c.self.invariant.distances.long) (rw c.size.ensures.size at c.place.ensures.within) in
+    let value = c.from.ensures ∙ get_or_read table c.place.result c.index.result.now inside c.index.ensures 0
+    ∙ ap (λ k. get_or table k 0) (c.place.ensures.place ∙ ap (λ m. b * m + a) c.size.ensures.size) in
+    subst (λ (d : Coupling). IsDistance d.edges a b c.from.result) c.self.view_is
+    (subst (IsDistance c.self.inside.graph.edges a b) (sym value) (c.self.invariant.distances.exact a b la lb))
 
 pub returns-clause-symmetric : goal.returns-clause-symmetric
-returns-clause-symmetric c =
-    let h : IsCoupling c.args.self.now = subst IsCoupling c.self.view_is c.self.invariant.coupling in
-    returns-clause-dist c ∙ dist-symmetric c.args.self.now c.args.a c.args.b h c.requires.first c.requires.second
+returns-clause-symmetric c = IsDistance-symmetric c.args.self.now.edges c.args.a c.args.b c.from.result (returns-clause-exact c)
+
+pub returns-clause-short : goal.returns-clause-short
+returns-clause-short c =
+    let n = c.self.inside.graph.size in
+    let table = c.self.inside.distances.items in
+    let inside : c.place.result < length table =
+    subst (λ m. c.place.result < m) (sym c.self.invariant.distances.long) (rw c.size.ensures.size at c.place.ensures.within) in
+    let value = c.from.ensures ∙ get_or_read table c.place.result c.index.result.now inside c.index.ensures 0 in
+    subst (λ (d : Coupling). c.from.result < d.size) c.self.view_is
+    (subst (λ m. m < n) (sym value) (All-get_or (λ m. m < n) table c.place.result 0 inside c.self.invariant.distances.short))
 
 pub returns-clause-zero : goal.returns-clause-zero
-returns-clause-zero c =
-    let h : IsCoupling c.args.self.now = subst IsCoupling c.self.view_is c.self.invariant.coupling in (
-      λ e. dist-zero c.args.self.now c.args.a c.args.b h c.requires.first c.requires.second (sym (returns-clause-dist c) ∙ e),
-      λ e. returns-clause-dist c ∙ dist-self c.args.self.now c.args.a c.args.b h c.requires.first c.requires.second e,
-    )
+returns-clause-zero c = zero-distance c.args.self.now.edges c.args.a c.args.b c.from.result (returns-clause-exact c)
 
 pub returns-clause-one : goal.returns-clause-one
 returns-clause-one c =
-    let h : IsCoupling c.args.self.now = subst IsCoupling c.self.view_is c.self.invariant.coupling in (
-      λ e. dist-one c.args.self.now c.args.a c.args.b h c.requires.first c.requires.second (sym (returns-clause-dist c) ∙ e),
-      λ e. returns-clause-dist c ∙ dist-near c.args.self.now c.args.a c.args.b h c.requires.first c.requires.second e,
-    )
+    let h : IsCoupling c.args.self.now = subst IsCoupling c.self.view_is c.self.invariant.coupling in
+    one-distance c.args.self.now.size c.args.self.now.edges c.args.a c.args.b c.from.result h.graph (returns-clause-exact c)

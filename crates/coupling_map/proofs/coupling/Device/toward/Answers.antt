@@ -1,16 +1,23 @@
-use Rattle.std.proofs.Common.{◌+◌, refl, sym, ap, ◌∙◌, arith}
-use Rattle.coupling_map.proofs.CouplingLaws.{IsToward-found, toward_exists}
+use Rattle.std.proofs.Common.{◌≡◌, ◌+◌, ℕ, nat_eq, Bool, true, false, refl, sym, ◌∙◌, arith}
+use Rattle.std.proofs.lemmas.Bool.Decides.{nat_tests}
+use Rattle.coupling_map.proofs.CouplingLaws.{before-more, IsNearer-by, IsToward-found, toward_exists}
 use Rattle.coupling_map.proofs.coupling.Device.toward.Goals as goal
 
 pub returns-then-dist-distance-clause-toward : goal.returns-then-dist-distance-clause-toward
 returns-then-dist-distance-clause-toward c =
-    IsToward-found c.args.self.now c.args.a c.args.b _ c.near.qubit-index c.neighbours-qubit-items.result.now
-    c.size-size.ensures.coupling c.neighbours-qubit-items.ensures c.near-test.true refl
-    (λ j l e. c.near.invariant j l (e ∙ sym c.dist-distance.ensures.dist))
-    (ap (λ k. k + 1) (sym c.dist.ensures.dist) ∙ c.if-dist-distance.true ∙ c.dist-distance.ensures.dist)
+    let d = c.args.self.now in
+    IsToward-found d.size d.edges c.args.a c.args.b _ c.near.qubit-index c.neighbours-qubit-items.result.now
+    c.size-size.ensures.coupling.graph c.neighbours-qubit-items.ensures c.near-test.true refl c.near.invariant
+    (IsNearer-by d.edges c.args.a c.args.b _ _ _ c.dist.ensures.exact c.dist-distance.ensures.exact c.if-dist-distance.true)
 
 pub unreachable-requires : goal.unreachable-requires
 unreachable-requires c =
-    toward_exists c.args.self.now c.args.a c.args.b c.neighbours-qubit-items.result.now
-    c.size-size.ensures.coupling c.neighbours-qubit-items.ensures c.requires.first c.requires.second c.requires.apart
-    (λ j l e. c.near.invariant j (omega (arith, l, c.near-test.false)) (e ∙ sym c.dist-distance.ensures.dist))
+    let d = c.args.self.now in
+    toward_exists d.size d.edges c.args.a c.args.b _ c.neighbours-qubit-items.result.now
+    c.size-size.ensures.coupling.graph c.neighbours-qubit-items.ensures c.dist-distance.ensures.exact c.requires.apart
+    (λ j l. c.near.invariant j (omega (arith, l, c.near-test.false)))
+
+pub near-preserved : goal.near-preserved
+near-preserved c =
+    before-more c.args.self.now.edges c.args.a c.args.b _ _ c.near.qubit-index c.neighbours-qubit-items.result.now
+    c.dist.ensures.exact c.dist-distance.ensures.exact (λ e. grind (arith, nat_tests)) c.near.invariant

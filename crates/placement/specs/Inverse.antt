@@ -1,11 +1,6 @@
--- Two device qubits exchanged, and a list with its inverse.
---   exchanged a b j   the qubit that j becomes when a and b are exchanged
+-- Working form. A list with its inverse.
 --   AreInverse p q    each of the two lists says where the numbers stand in the other
-use Rattle.std.specs.Prelude.{◌≡◌, ℕ, ◌<◌, ◌^◌, ◌==◌, List, length, slice_index, if◌then◌else◌}
-
--- a becomes b, b becomes a, and each other qubit stays
-unfoldable pub exchanged : ℕ → ℕ → ℕ → ℕ
-exchanged a b j = if j == a then b else (if j == b then a else j)
+use Rattle.std.specs.Prelude.{◌≡◌, ℕ, ◌<◌, ◌^◌, List, length, slice_index}
 
 -- The two lists have one length, which fits 32 bits, and each undoes the other.
 pub record AreInverse (p q : List ℕ) : Type 0 where

@@ -4,24 +4,24 @@
 --   Reached-swapped      a swap of two qubits
 --   Reached-mod          turns count modulo 8
 --   Reached-source       the same for operations of the same unitary
+--   exchanged-comm       an exchange of two qubits, named either way
 use Rattle.std.proofs.Common.{◌≡◌, ◌≢◌, ℕ, ◌+◌, ◌%◌, ◌<◌, ◌≤◌, Bool, true, false, cond, List, [], ◌∷◌, ◌++◌, length, map, slice_index, nat_eq, refl, sym, ◌∙◌, ap, subst, arith, append-nil}
 use Rattle.std.proofs.Math.Path.{fun_ext}
 use Rattle.std.proofs.lemmas.Bool.Decides.{nat_tests}
 use Rattle.std.proofs.lemmas.List.{get_or-map}
-use Rattle.placement.specs.Exchange.{exchanged}
 use Rattle.unitary_model.specs.declared.Op.{Op}
 use Rattle.unitary_model.specs.declared.Op.TheVariants.{U, Cx}
 use Rattle.unitary_model.specs.Ring.{Ring, turn, double}
 use Rattle.unitary_model.specs.Operations.{weight, WiresBelow}
 use Rattle.unitary_model.specs.Acts.{Bits, applied, put, Turns, place}
-use Rattle.unitary_model.specs.Placement.{IsPlacement}
+use Rattle.unitary_model.specs.Placement.{exchanged, IsPlacement}
 use Rattle.unitary_model.specs.Realised.{Placing, PlacedBy, carried, Realised}
 use Rattle.unitary_model.proofs.RingLaws.{double-swap, double-turn, double_cancel}
 use Rattle.unitary_model.proofs.AmplitudeLaws.{turn_mod}
 use Rattle.unitary_model.proofs.PlacementLaws.{placing, from_low, from_high}
 use Rattle.unitary_model.proofs.Slide.{bit_put, bit_off}
 use Rattle.unitary_model.proofs.RealisedLaws.{Realised_then, Realised_emit, Realised_turns, applied_cx, flipped_by}
-use Rattle.walk_route.specs.Underway.{Reached}
+use Rattle.unitary_model.specs.Reached.{Reached}
 
 -- ---- an exchange of two qubits
 exchanged-twice : (a b j : ℕ) → exchanged a b (exchanged a b j) ≡ j

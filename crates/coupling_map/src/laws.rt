@@ -1,0 +1,16 @@
+//! Laws of distances: each function's contract is one law. They take nothing and do nothing.
+
+ghost use Rattle.std.specs.Prelude.{◌≡◌, ℕ, ◌<◌, All, List};
+ghost use Rattle.coupling_map.specs.Walks.{distance, IsDistance};
+
+/// Two qubits have one distance at most.
+pub fn distance_is_one()
+    ensures one { (es : List (ℕ × ℕ)) (a b j k : ℕ) → IsDistance es a b j → IsDistance es a b k → j ≡ k }
+{}
+
+/// The distance of two qubits below `n` is the number that `distance` computes, for edges between
+/// qubits below `n`, if it is below `n`; so are all distances of a [`crate::Device`] of `n` qubits.
+pub fn distance_is_computed()
+    ensures computed { (n : ℕ) (es : List (ℕ × ℕ)) (a b k : ℕ) → All (λ e. (e.0 < n) × (e.1 < n)) es →
+        IsDistance es a b k → k < n → distance n es a b ≡ k }
+{}
