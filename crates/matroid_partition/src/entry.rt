@@ -134,7 +134,7 @@ fn begin(
     Ok(())
 }
 
-/// Strikes a block that has grown off the unfilled ones, if it now has as many rows as their rank allows.
+/// Takes a block that has grown off the list of those that may have room, if it has `full` rows now.
 fn close(
     alloc: Global,
     full: usize,
