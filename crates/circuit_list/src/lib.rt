@@ -114,9 +114,7 @@ impl Circuit {
 
     /// The number of gates.
     pub fn len(&self) -> usize
-        ensures len { result ≡ length self.now.gates }
-        ensures slots { length self.now.slots ≡ length self.now.gates }
-        ensures ascend { Ascend self.now.slots }
+        ensures { result ≡ length self.now.gates }
     {
         self.tree.count()
     }
@@ -126,6 +124,8 @@ impl Circuit {
         ensures wires { result ≡ self.now.wires }
         ensures few { self.now.wires ≤ most_wires }
         ensures fine { All (IsFine self.now.wires) self.now.gates }
+        ensures slots { length self.now.slots ≡ length self.now.gates }
+        ensures ascend { Ascend self.now.slots }
     {
         self.wires
     }

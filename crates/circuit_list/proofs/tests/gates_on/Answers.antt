@@ -22,7 +22,7 @@ overflow_add-count c =
     let all = c.walk.invariant.counted in
     let few = count_by-le-length (is_on c.args.wire) (drop (place_of c.args.start c.args.circuit.now.slots) gs) in
     let fewer = length-drop (place_of c.args.start c.args.circuit.now.slots) gs in
-    omega (arith, c.len-gates.ensures.len)
+    omega (arith, c.len-gates.ensures)
 
 pub walk-preserved : goal.walk-preserved
 walk-preserved c =
