@@ -18,6 +18,3 @@ pub mod PlacementLaws
 pub mod RealisesLaws
 pub mod ReachedLaws
 pub mod HadamardWindows
-pub mod TokenLaws
-pub mod NumeralLaws
-pub mod StatementLaws

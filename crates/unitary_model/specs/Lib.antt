@@ -8,9 +8,6 @@ pub mod Realises
 pub mod Acts
 pub mod Paths
 pub mod SameUpTo
-pub mod SmallProgram
-pub mod Tokens
-pub mod WrittenProgram
 pub mod Realised
 pub mod Reached
 pub mod Limits

@@ -25,15 +25,6 @@ pub enum Op {
     Cx { c: u32, t: u32 },
 }
 
-/// A statement of a program of the small form.
-#[derive(Clone, Copy, Debug, PartialEq, Eq)]
-pub enum Statement {
-    /// Applies an operation.
-    Apply(Op),
-    /// Measures the wire `qubit` into the classical bit `bit`.
-    Measure { qubit: u32, bit: u32 },
-}
-
 /// The sum of two turns, in eighths of a circle: what two powers of w make together.
 pub fn turn_sum(a: u8, b: u8) -> u8
     requires a_below { a < 8 }

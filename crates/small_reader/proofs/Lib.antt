@@ -1,4 +1,0 @@
-pub mod NextLaws
-pub mod ReadingLaws
-pub mod SpellingLaws
-pub mod ListingLaws
