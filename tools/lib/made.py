@@ -42,25 +42,35 @@ def clauses(crate):
     return "\n".join(lines).strip("\n")
 
 
-def modules(crate):
-    """The modules of a crate, with the first sentence of each."""
-    lines = ["| module | what it is |", "|---|---|"]
-    folder = os.path.join(sources.TOP, "crates", crate, "src")
-    for name in sorted(os.listdir(folder)):
-        if name.endswith(".rt") and not name.endswith("tests.rt"):
-            says = sources.first_sentence(f"crates/{crate}/src/{name}").replace("|", "\\|")
-            lines.append(f"| `{name}` | {says} |")
+def modules():
+    """The modules of each crate, with the first sentence of each; tests left out."""
+    lines = ["| crate and module | what it is |", "|---|---|"]
+    for crate in sources.crates():
+        folder = os.path.join(sources.TOP, "crates", crate, "src")
+        names = sorted(os.listdir(folder), key=lambda it: (it not in ("lib.rt", "main.rt"), it))
+        for name in names:
+            if name.endswith(".rt") and not name.endswith("tests.rt"):
+                says = sources.first_sentence(f"crates/{crate}/src/{name}").replace("|", "\\|")
+                lines.append(f"| `{crate}/src/{name}` | {says} |")
+    return "\n".join(lines)
+
+
+def laws():
+    """The laws: public functions of modules `laws`, with the first sentence of what is said of each."""
+    lines = ["| law | crate | what it says |", "|---|---|---|"]
+    for it in sources.functions():
+        if it.module == "laws" and it.is_public:
+            lines.append(f"| `{it.name}` | `{it.crate}` | {sources.doc_sentence(it.file, it.line).replace('|', chr(92) + '|')} |")
     return "\n".join(lines)
 
 
 def part(name):
-    """What a part says."""
-    if name == "definitions":
-        return reach.table(reach.reached())
+    """What a part says; None for one that nothing makes."""
+    whole = {"definitions": lambda: reach.table(reach.reached()), "laws": laws, "modules": modules}
+    if name in whole:
+        return whole[name]()
     kind, _, crate = name.partition(" of ")
-    if crate not in sources.crates():
-        return None
-    return {"clauses": clauses, "modules": modules}[kind](crate) if kind in ("clauses", "modules") else None
+    return clauses(crate) if kind == "clauses" and crate in sources.crates() else None
 
 
 def mended(text):

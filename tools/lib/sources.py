@@ -87,6 +87,21 @@ def first_sentence(path, top=TOP):
     return re.split(r"(?<=\.)\s", " ".join(said))[0].rstrip(".")
 
 
+def doc_sentence(path, line, top=TOP):
+    """The first sentence of the comment above a line of code."""
+    with open(os.path.join(top, path), encoding="utf-8") as file:
+        lines = file.read().split("\n")[: line - 1]
+    said = []
+    for it in reversed(lines):
+        it = it.strip()
+        if it.startswith("///"):
+            said.insert(0, it[3:].strip())
+        elif not it.startswith("#["):
+            break
+    said = said[: said.index("")] if "" in said else said
+    return re.split(r"(?<=\.)\s", " ".join(said))[0].rstrip(".")
+
+
 def functions_of(crate, path, top=TOP):
     """The functions of one file, with the clauses of their contracts."""
     found = []
