@@ -64,9 +64,18 @@ def laws():
     return "\n".join(lines)
 
 
+def reading():
+    """What has to be read, in one sentence."""
+    files, lines = reach.sizes(reach.reached())
+    return (
+        f"Who wants to believe it reads that contract and {files} short files of definitions, {lines} lines in all;"
+        " [docs/CLAIMS.md](docs/CLAIMS.md) lists them from the ground up."
+    )
+
+
 def part(name):
     """What a part says; None for one that nothing makes."""
-    whole = {"definitions": lambda: reach.table(reach.reached()), "laws": laws, "modules": modules}
+    whole = {"definitions": lambda: reach.table(reach.reached()), "laws": laws, "modules": modules, "reading": reading}
     if name in whole:
         return whole[name]()
     kind, _, crate = name.partition(" of ")

@@ -232,6 +232,11 @@ def where_of(crate, name, top):
     return f"crate `{crate}`"
 
 
+def sizes(found):
+    """How many files are reached, and how many lines."""
+    return len(found.parts), sum(lines_of(found, it)[0] for it in found.parts)
+
+
 def table(found, names=False):
     """The table in Markdown."""
     rows = ["| | file | lines | what it says |", "|---|---|---|---|"]
@@ -246,11 +251,11 @@ def table(found, names=False):
         rows.append(f"| {number} | `{file.path}` | {lines} | {says} |")
     rows.append(f"| | {len(found.parts)} files | {total} of {whole} | |")
     rows.append("")
-    rows.append("Types of the code that they name, each with a line or two on what it is:")
+    rows += ["Types of the code that they name:", ""]
     rows += [f"- `{name}` ({where_of(crate, name, found.top)})" for crate, name in sorted(found.types)]
     rows.append("")
     if found.constants:
-        rows.append("Constants of the code that they name:")
+        rows += ["Constants of the code that they name:", ""]
         rows += [f"- `{name}` ({where_of(crate, name, found.top)})" for crate, name in sorted(found.constants)]
         rows.append("")
     libraries = {}
