@@ -49,7 +49,7 @@ def modules():
         folder = os.path.join(sources.TOP, "crates", crate, "src")
         names = sorted(os.listdir(folder), key=lambda it: (it not in ("lib.rt", "main.rt"), it))
         for name in names:
-            if name.endswith(".rt") and not name.endswith("tests.rt"):
+            if name.endswith(".rt") and not sources.is_test(f"crates/{crate}/src/{name}"):
                 says = sources.first_sentence(f"crates/{crate}/src/{name}").replace("|", "\\|")
                 lines.append(f"| `{crate}/src/{name}` | {says} |")
     return "\n".join(lines)

@@ -52,6 +52,17 @@ def module_of(path):
     return "" if name in ("lib", "main") else name
 
 
+def is_test(path, top=TOP):
+    """Whether a file of src/ is a module of tests: by its name, or by what the root says of it."""
+    if path.endswith("tests.rt"):
+        return True
+    root = os.path.join(top, os.path.dirname(path), "lib.rt")
+    if not os.path.exists(root):
+        return False
+    with open(root, encoding="utf-8") as file:
+        return bool(re.search(rf"^#\[cfg\(test\)\]\nmod {module_of(path)};", file.read(), re.MULTILINE))
+
+
 def exported(crate, top=TOP):
     """The modules that are public, and the names that the root hands on."""
     modules, names = {""}, set()
@@ -127,7 +138,7 @@ def functions(top=TOP):
     found = []
     for crate in crates(top):
         for path in sorted(glob.glob(f"crates/{crate}/src/**/*.rt", root_dir=top, recursive=True)):
-            if not path.endswith("tests.rt"):
+            if not is_test(path, top):
                 found += functions_of(crate, path, top)
     return found
 
