@@ -8,7 +8,7 @@ import re
 import sources
 
 WORD = re.compile(r"[^\s(){}\[\],;]+")
-USE = re.compile(r"^(?:pub |ghost )*use ([\w.]+?)(?:\.\{(.*)\}|(?: as (\w+)))?;?$")
+USE = re.compile(r"^(?:pub |ghost |unfoldable )*use ([\w.]+?)(?:\.\{(.*)\}|(?: as (\w+)))?;?$")
 DEFINES = re.compile(r"^(?:(?:abbrev|unfoldable|pub|record|data|syntax|inline|opaque|postulate)\b ?)*([^\s(){}:,.]+)")
 
 
