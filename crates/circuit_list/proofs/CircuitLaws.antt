@@ -5,12 +5,11 @@
 --   meets-on, on_below         bits of wires
 --   next-some, next-none, prev-some, prev-none    the gates on a wire
 --   t_count-entries, cx_count-entries, h_count-entries    counts over the slots
-use Rattle.std.proofs.Common.{◌≡◌, ◌≢◌, ℕ, zero, suc, ◌+◌, ◌-◌, ◌%◌, ◌^◌, ◌<◌, ◌≤◌, ◌==◌, ◌||◌, Bool, true, false, cond, List, [], ◌∷◌, ◌++◌, Option, None, Some, Ok, Err, Result, OnOk, OnErr, refl, sym, ap, ◌∙◌, subst, arith, inl, inr, ◌⊎◌, All, length, get_or, set, slice_get, zero-add}
+use Rattle.std.proofs.Common.{◌≡◌, ◌≢◌, ℕ, suc, ◌+◌, ◌%◌, ◌^◌, ◌<◌, ◌≤◌, ◌==◌, ◌||◌, Bool, true, false, cond, List, [], ◌∷◌, ◌++◌, Option, None, Some, Ok, Err, Result, OnOk, OnErr, refl, sym, ap, ◌∙◌, subst, arith, inl, inr, ◌⊎◌, All, length, set, slice_get, zero-add}
 use Rattle.std.specs.List.{count_by, remove}
 use Rattle.std.specs.Int.{bit_at}
-use Rattle.std.proofs.lemmas.Bool.{eq-eqb, eqb-true, eqb-false}
+use Rattle.std.proofs.lemmas.Bool.{eqb-true, eqb-false}
 use Rattle.std.proofs.lemmas.List.Elements.{All-from_recursion, All-get_or, All-append, All-set, All-take, All-drop}
-
 use Rattle.std.proofs.lemmas.List.Sums.{sum_by-cons}
 use Rattle.std.proofs.lemmas.Nat.Bits.{bit_at-zero, bit_at-pow_same, bit_at-pow_other}
 use Rattle.std.proofs.lemmas.Option.{get_or_from_slice_get, slice_get_within}
@@ -20,8 +19,8 @@ use Rattle.circuit_list.specs.declared.Gate.TheVariants.{H, X, P, Cx}
 use Rattle.circuit_list.specs.Entries.{entry, is_live, holds, rank, gates_of, slots_from}
 use Rattle.circuit_list.specs.Gates.{IsFine, h_count, is_cx, is_h, is_on, is_t, ops}
 use Rattle.circuit_list.specs.Slots.{IsNextOn, IsPrevOn, NoneBefore, NoneBehind, is_on_at, is_on_some, place_of}
-use Rattle.circuit_list.specs.Tree.{IsFirstOn, IsLastOn, NoneOn, has_wire, leaf, meets, wire_bit, wires_of}
-use Rattle.circuit_list.proofs.EntryLaws.{IsSlot, gates_of-gone, gates_of-push, gates_of-put, gates_of-rank, live_of-place, place_of-rank, rank_below, rank_later, rank_mono, slot_below, slot_of-gate, slots_from-rank}
+use Rattle.circuit_list.specs.Tree.{IsFirstOn, IsLastOn, NoneOn, has_wire, meets, wire_bit, wires_of}
+use Rattle.circuit_list.proofs.EntryLaws.{gates_of-gone, gates_of-push, gates_of-put, gates_of-rank, live_of-place, place_of-rank, rank_below, rank_later, rank_mono, slot_below, slot_of-gate, slots_from-rank}
 use Rattle.circuit_list.proofs.GateLaws.{cx_count-ops, t_count-ops}
 use Rattle.circuit_list.proofs.TreeLaws.{has_wire-or, order}
 use Rattle.unitary_model.specs.Operations.{cx_count, t_count}
@@ -116,9 +115,9 @@ quiet : (n w a b k : ℕ) (es : List (Option Gate)) → w < 64 → n ≤ 64 → 
     → ((s : ℕ) (g : Gate) → entry es s ≡ Some g → rank es s ≡ k → (a ≤ s) × (s < b)) → is_on_at w (gates_of es) k ≡ false
 quiet n w a b k es low few fine none within =
     on_some-none w (slice_get (gates_of es) k) (λ g e.
-        let r = slot_of-gate es k g e in
-        let h = within r.0 g r.1.0 r.1.1 in
-        sym (meets-on n w g low few (fine-entry n es r.0 g r.1.0 fine)) ∙ ap (meets w) (sym r.1.0) ∙ none r.0 h.0 h.1)
+    let r = slot_of-gate es k g e in
+    let h = within r.0 g r.1.0 r.1.1 in
+    sym (meets-on n w g low few (fine-entry n es r.0 g r.1.0 fine)) ∙ ap (meets w) (sym r.1.0) ∙ none r.0 h.0 h.1)
 
 -- a slot between two others stands between their places
 behind : (es : List (Option Gate)) (s t : ℕ) (g : Gate) → entry es t ≡ Some g → rank es s < rank es t → s < t
@@ -147,9 +146,9 @@ pub next-none : (n w s : ℕ) (es : List (Option Gate)) (g : Gate) → w < 64 �
 next-none n w s es g low few fine e none k lt =
     let place = place-entry es s g e in
     quiet n w (s + 1) (length es) k es low few fine none (λ u h there at.
-        let later : s < u = before es s u (omega arith) in
-        let within = slot_below es u h there in
-        (omega arith, within))
+    let later : s < u = before es s u (omega arith) in
+    let within = slot_below es u h there in
+    (omega arith, within))
 
 pub next-some : (n w s t : ℕ) (es : List (Option Gate)) (g : Gate) → w < 64 → n ≤ 64 → All (IsFine n) (gates_of es) → entry es s ≡ Some g → IsFirstOn w es (s + 1) t
     → (place_of t (slots_from 0 es) < length (gates_of es)) × IsNextOn w (gates_of es) (place_of s (slots_from 0 es)) (place_of t (slots_from 0 es))
@@ -157,23 +156,25 @@ next-some n w s t es g low few fine e first =
     let f = found n w t es low few fine first.on in
     let place = place-entry es s g e in
     let end = place-entry es t f.0 f.1.0 in
-    let later = rank_later es s t g e (omega (arith, first.from)) in
-    (live-place es t f.0 f.1.0, record {
-      behind = omega arith;
-      on = ap (is_on_at w (gates_of es)) end ∙ f.1.1;
-      none = λ k gt lt. quiet n w (s + 1) t k es low few fine first.none (λ u h there at.
-          let after : s < u = before es s u (omega arith) in
-          let ahead : u < t = before es u t (omega arith) in
-          (omega arith, ahead));
-    })
+    let later = rank_later es s t g e (omega (arith, first.from)) in (
+      live-place es t f.0 f.1.0,
+      record {
+        behind = omega arith;
+        on = ap (is_on_at w (gates_of es)) end ∙ f.1.1;
+        none = λ k gt lt. quiet n w (s + 1) t k es low few fine first.none (λ u h there at.
+            let after : s < u = before es s u (omega arith) in
+            let ahead : u < t = before es u t (omega arith) in
+            (omega arith, ahead));
+      },
+    )
 
 pub prev-none : (n w s : ℕ) (es : List (Option Gate)) (g : Gate) → w < 64 → n ≤ 64 → All (IsFine n) (gates_of es) → entry es s ≡ Some g
     → NoneOn w es 0 s → NoneBefore w (gates_of es) (place_of s (slots_from 0 es))
 prev-none n w s es g low few fine e none k lt =
     let place = place-entry es s g e in
     quiet n w 0 s k es low few fine none (λ u h there at.
-        let ahead : u < s = before es u s (omega arith) in
-        (omega arith, ahead))
+    let ahead : u < s = before es u s (omega arith) in
+    (omega arith, ahead))
 
 pub prev-some : (n w s t : ℕ) (es : List (Option Gate)) (g : Gate) → w < 64 → n ≤ 64 → All (IsFine n) (gates_of es) → entry es s ≡ Some g → IsLastOn w es s t
     → (place_of t (slots_from 0 es) < length (gates_of es)) × IsPrevOn w (gates_of es) (place_of s (slots_from 0 es)) (place_of t (slots_from 0 es))
@@ -181,15 +182,17 @@ prev-some n w s t es g low few fine e last =
     let f = found n w t es low few fine last.on in
     let place = place-entry es s g e in
     let end = place-entry es t f.0 f.1.0 in
-    let earlier = rank_later es t s f.0 f.1.0 last.below in
-    (live-place es t f.0 f.1.0, record {
-      before = omega arith;
-      on = ap (is_on_at w (gates_of es)) end ∙ f.1.1;
-      none = λ k gt lt. quiet n w (t + 1) s k es low few fine last.none (λ u h there at.
-          let after : t < u = before es t u (omega arith) in
-          let ahead : u < s = before es u s (omega arith) in
-          (omega arith, ahead));
-    })
+    let earlier = rank_later es t s f.0 f.1.0 last.below in (
+      live-place es t f.0 f.1.0,
+      record {
+        before = omega arith;
+        on = ap (is_on_at w (gates_of es)) end ∙ f.1.1;
+        none = λ k gt lt. quiet n w (t + 1) s k es low few fine last.none (λ u h there at.
+            let after : t < u = before es t u (omega arith) in
+            let ahead : u < s = before es u s (omega arith) in
+            (omega arith, ahead));
+      },
+    )
 
 -- the wire that a caller names is one of the gate's, so its bit is there
 pub wire_low : (n w s : ℕ) (es : List (Option Gate)) (g : Gate) → n ≤ 64 → All (IsFine n) (gates_of es) → entry es s ≡ Some g

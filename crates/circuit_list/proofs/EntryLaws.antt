@@ -6,9 +6,9 @@
 --   gates_of-put, slots_from-put                      a gate replaced
 --   gates_of-push, slots_from-push                    one gate more
 --   slots_from-ascend                                 slots are in order
-use Rattle.std.proofs.Common.{◌≡◌, ◌≢◌, ℕ, zero, suc, ◌+◌, ◌-◌, ◌<◌, ◌≤◌, ◌==◌, Bool, true, false, cond, List, [], ◌∷◌, ◌++◌, Option, None, Some, refl, sym, ap, ◌∙◌, subst, arith, inl, inr, ◌⊎◌, take, drop, length, get_or, set, slice_get, add-one, one-add, zero-add, add-zero, add_assoc}
+use Rattle.std.proofs.Common.{◌≡◌, ◌≢◌, ℕ, zero, suc, ◌+◌, ◌<◌, ◌≤◌, ◌==◌, Bool, true, false, cond, List, [], ◌∷◌, ◌++◌, Option, None, Some, refl, ap, ◌∙◌, subst, arith, length, set, slice_get, add-one}
 use Rattle.std.specs.List.{remove}
-use Rattle.std.proofs.lemmas.Bool.{eq-eqb, eqb-true, eqb-false}
+use Rattle.std.proofs.lemmas.Bool.{eq-eqb, eqb-true}
 use Rattle.circuit_list.specs.declared.Gate.{Gate}
 use Rattle.circuit_list.specs.Entries.{entry, is_live, rank, gates_of, slots_from}
 use Rattle.circuit_list.specs.Slots.{place_of, Ascend}
@@ -137,7 +137,7 @@ live_of-place n (Some y ∷ es) x h = at (λ k. live_of-place (n + 1) es x k) (x
     at later true e = record { slot = 0; gate = y; is = omega (arith, eqb-true x n e); there = refl }
     at later false e =
         let below : suc (place_of x (slots_from (n + 1) es)) < suc (length (gates_of es)) =
-            subst (λ b. cond b 0 (suc (place_of x (slots_from (n + 1) es))) < suc (length (gates_of es))) e h in
+        subst (λ b. cond b 0 (suc (place_of x (slots_from (n + 1) es))) < suc (length (gates_of es))) e h in
         let r = later (omega arith) in
         record { slot = suc r.slot; gate = r.gate; is = omega (arith, r.is); there = r.there }
 

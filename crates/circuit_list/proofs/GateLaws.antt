@@ -1,14 +1,13 @@
 -- A circuit's gates as operations: counts, wires, plainness.
 --   t_count-ops, cx_count-ops     the counts of the operations are counts of gates
 --   WiresBelow-ops, IsPlain-ops   a circuit's operations are plain ones on its wires
-use Rattle.std.proofs.Common.{◌≡◌, ℕ, ◌+◌, ◌%◌, ◌<◌, ◌≤◌, ◌==◌, Bool, true, false, cond, List, [], ◌∷◌, refl, sym, ap, ◌∙◌, arith, inl, inr, map, All, nat_eq, suc, zero-add, one-add}
+use Rattle.std.proofs.Common.{◌≡◌, ℕ, ◌+◌, ◌%◌, cond, List, [], ◌∷◌, refl, sym, ap, ◌∙◌, arith, inl, inr, All, nat_eq, zero-add, one-add}
 use Rattle.std.specs.List.{count_by, AllByRecursion}
 use Rattle.std.proofs.lemmas.List.Sums.{sum_by-cons}
 use Rattle.std.proofs.lemmas.List.Elements.{recursion_from_All, All-from_recursion}
 use Rattle.circuit_list.specs.declared.Gate.{Gate}
 use Rattle.circuit_list.specs.declared.Gate.TheVariants.{H, X, P, Cx}
 use Rattle.circuit_list.specs.Gates.{IsFine, is_cx, is_t, op_of, ops}
-use Rattle.unitary_model.specs.declared.Op.{Op}
 use Rattle.unitary_model.specs.Operations.{IsPlain, WiresBelow, cx_count, t_count}
 
 odd_phase : (k : ℕ) → cond (nat_eq (k % 2) 1) 1 0 ≡ k % 2

@@ -1,7 +1,7 @@
 -- The places of slots when one is taken out or put behind the others.
 --   place_of-earlier, place_of-later    one is taken out behind it, and before it
 --   place_of-push                       one more
-use Rattle.std.proofs.Common.{◌≡◌, ◌≢◌, ℕ, zero, suc, ◌+◌, ◌<◌, ◌≤◌, ◌==◌, Bool, true, false, cond, List, [], ◌∷◌, ◌++◌, refl, sym, ap, ◌∙◌, subst, arith, length}
+use Rattle.std.proofs.Common.{◌≡◌, ℕ, zero, suc, ◌+◌, ◌<◌, ◌==◌, Bool, true, false, cond, List, [], ◌∷◌, ◌++◌, refl, ap, arith, length}
 use Rattle.std.specs.List.{remove}
 use Rattle.circuit_list.specs.Slots.{place_of}
 

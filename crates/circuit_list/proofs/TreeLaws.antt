@@ -6,11 +6,11 @@
 --   IsTree-more                               twice as many nodes
 --   count_root, rank_root                     what the root tells
 --   covers-count, covers-none                 what a node tells of the slots below it
-use Rattle.std.proofs.Common.{◌≡◌, ◌≢◌, ℕ, zero, suc, ◌+◌, ◌-◌, ◌*◌, ◌^◌, ◌/◌, ◌%◌, ◌<◌, ◌≤◌, ◌==◌, ◌||◌, Bool, true, false, cond, List, [], ◌∷◌, ◌++◌, Option, None, Some, refl, sym, ap, ◌∙◌, subst, arith, inl, inr, ◌⊎◌, length, get_or, set, min, max, lit<, MatchOption, add-one, zero-add, add-zero, add_assoc}
-use Rattle.std.proofs.Math.Nat.{one-mul, add-mul, mul-add, two-mul, two-pow-succ, one-le-pow, pow-le-pow_right, le-mul_of_pos_right, add-sub_cancel_left}
+use Rattle.std.proofs.Common.{◌≡◌, ◌≢◌, ℕ, zero, suc, ◌+◌, ◌-◌, ◌*◌, ◌^◌, ◌/◌, ◌%◌, ◌<◌, ◌≤◌, ◌==◌, ◌||◌, Bool, true, false, List, Option, None, Some, refl, sym, ap, ◌∙◌, subst, arith, inl, inr, ◌⊎◌, length, get_or, set, min, max, lit<, MatchOption, add-one, add_assoc}
+use Rattle.std.proofs.Math.Nat.{one-mul, add-mul, mul-add, two-mul, two-pow-succ, one-le-pow, pow-le-pow_right, le-mul_of_pos_right}
 use Rattle.std.proofs.lemmas.List.{get_or_past, get_or_default, get_or-set_same, get_or-set_other, length-set}
 use Rattle.std.proofs.lemmas.Nat.{shl_whole}
-use Rattle.std.proofs.lemmas.Nat.Bits.{bit_at_or, bit_at-lt, bit_at-pow_same, bit_at-pow_other, shr_and_one}
+use Rattle.std.proofs.lemmas.Nat.Bits.{bit_at_or, bit_at-lt}
 use Rattle.std.proofs.lemmas.Bool.{eqb-true, eqb-false}
 use Rattle.std.specs.Int.{bit_at}
 use Rattle.std.specs.Int.Bits.{bit_or}
@@ -18,8 +18,8 @@ use Rattle.circuit_list.specs.declared.Gate.{Gate}
 use Rattle.circuit_list.specs.declared.tree.Node.{Node}
 use Rattle.circuit_list.specs.declared.tree.Part.{Part}
 use Rattle.circuit_list.specs.Entries.{entry, is_live, rank}
-use Rattle.circuit_list.specs.Tree.{Covers, IsJoined, IsTree, IsBefore, IsBehind, IsFirstOn, IsLastOn, NoneOn, has_wire, join, leaf, meets, node_at, wire_bit, wires_of}
-use Rattle.circuit_list.proofs.EntryLaws.{rank-next, rank_le, rank_past, rank-zero, rank_mono}
+use Rattle.circuit_list.specs.Tree.{Covers, IsJoined, IsTree, IsBefore, IsBehind, IsFirstOn, IsLastOn, NoneOn, has_wire, join, leaf, meets, node_at}
+use Rattle.circuit_list.proofs.EntryLaws.{rank-next, rank_le, rank_past, rank-zero}
 
 -- ---- numbers
 pub order : (a b : ℕ) → (a < b) ⊎ (b ≤ a)
@@ -72,9 +72,13 @@ covers_all es ns joined (suc h) i lo pos e le =
     let left : 2 * i * p ≡ i * p + i * p = ap (λ n. n * p) (two-mul i) ∙ add-mul i i p in
     let right : (2 * i + 1) * p ≡ 2 * i * p + 1 * p = add-mul (2 * i) 1 p in
     let more : i ≤ i * p = le-mul_of_pos_right i (omega arith) in
-    let inner : i < length ns = omega arith in
-    (inner, omega arith, joined i pos inner, covers_all es ns joined h (2 * i) lo (omega arith) (omega arith) (omega arith),
-    covers_all es ns joined h (2 * i + 1) (lo + p) (omega arith) (omega arith) (omega arith))
+    let inner : i < length ns = omega arith in (
+      inner,
+      omega arith,
+      joined i pos inner,
+      covers_all es ns joined h (2 * i) lo (omega arith) (omega arith) (omega arith),
+      covers_all es ns joined h (2 * i + 1) (lo + p) (omega arith) (omega arith) (omega arith),
+    )
 
 pub covers_root : (h : ℕ) (es : List (Option Gate)) (ns : List Node) → IsTree h es ns → Covers es ns h 1 0
 covers_root h es ns t = covers_all es ns t.joined h 1 0 (omega arith) (omega (arith, t.size)) (omega (arith, t.size))
@@ -190,6 +194,7 @@ joined-up es ns m k v pos lt ek e old j jpos jlt n = at (same_or_not j m)
   where
     below : j < length ns
     below = omega (arith, length-set ns m v)
+
     at : (j ≡ m) ⊎ (j ≢ m) → IsJoined es (set ns m v) j
     at (inl same) = subst (λ i. IsJoined es (set ns m v) i) (sym same) (IsJoined-written es ns m v pos lt e)
     at (inr other) = IsJoined-kept es ns m j v other (λ h. n (omega arith)) (λ h. n (omega arith)) (old j jpos below other)
@@ -203,6 +208,7 @@ joined-down es ns m v pos lt e old j le jlt = at (same_or_not j m)
   where
     below : j < length ns
     below = omega (arith, length-set ns m v)
+
     at : (j ≡ m) ⊎ (j ≢ m) → IsJoined es (set ns m v) j
     at (inl same) = subst (λ i. IsJoined es (set ns m v) i) (sym same) (IsJoined-written es ns m v pos lt e)
     at (inr other) = IsJoined-kept es ns m j v other (λ h. omega arith) (λ h. omega arith) (old j (omega arith) below)
@@ -265,6 +271,7 @@ first-right w es a m s le none f = record { from = omega (arith, f.from); on = f
 
 pub last-left : (w : ℕ) (es : List (Option Gate)) (m b s : ℕ) → m ≤ b → NoneOn w es m b → IsLastOn w es m s → IsLastOn w es b s
 last-left w es m b s le none f = record { below = omega (arith, f.below); on = f.on; none = λ u ge lt. joined-none w es (s + 1) m b f.none none u ge lt }
+
 -- behind a part's left half: nothing on the wire in the right half, so what is nearest behind the part is
 pub behind-left : (w : ℕ) (es : List (Option Gate)) (ns : List Node) (a m e : ℕ) (best : Option Part) → a ≤ m → NoneOn w es a m
     → MatchOption best (NoneOn w es m e) (IsBehind w es ns m) → MatchOption best (NoneOn w es a e) (IsBehind w es ns a)

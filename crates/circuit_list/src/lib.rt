@@ -15,8 +15,6 @@
 mod slot;
 mod tree;
 
-pub use slot::Slot;
-
 ghost use Rattle.std.specs.Prelude.{◌≡◌, ℕ, ◌+◌, ◌-◌, ◌%◌, ◌<◌, ◌≤◌, length, IfOk, OnErr, OnOk, MatchOption, slice_get, All, Some, true, remove, slice_set, [], ◌∷◌, ◌++◌, List};
 ghost use Rattle.std.specs.List.{count_by};
 ghost use Rattle.circuit_list.specs.Entries.{holds};
@@ -24,6 +22,7 @@ ghost use Rattle.circuit_list.specs.Gates.{IsFine, h_count, is_cx, is_h, is_t, m
 ghost use Rattle.circuit_list.specs.Slots.{Ascend, IsLive, IsNextOn, IsPrevOn, NoneBefore, NoneBehind, is_on_at, place_of};
 ghost use Rattle.unitary_model.specs.Operations.{cx_count, t_count};
 
+pub use slot::Slot;
 use std::alloc::{AllocError, Global};
 use std::marker::Model;
 use tree::Tree;
@@ -256,7 +255,11 @@ impl Circuit {
     pub fn count_t(&self) -> usize
         ensures { result ≡ t_count (ops self.now.gates) }
     {
-        self.tree.entries().iter().filter(|entry| holds_t(**entry)).count()
+        self.tree
+            .entries()
+            .iter()
+            .filter(|entry| holds_t(**entry))
+            .count()
     }
 
     /// The number of CNOTs.
@@ -264,7 +267,11 @@ impl Circuit {
     pub fn count_cx(&self) -> usize
         ensures { result ≡ cx_count (ops self.now.gates) }
     {
-        self.tree.entries().iter().filter(|entry| holds_cx(**entry)).count()
+        self.tree
+            .entries()
+            .iter()
+            .filter(|entry| holds_cx(**entry))
+            .count()
     }
 
     /// The number of H.
@@ -272,7 +279,11 @@ impl Circuit {
     pub fn count_h(&self) -> usize
         ensures { result ≡ h_count self.now.gates }
     {
-        self.tree.entries().iter().filter(|entry| holds_h(**entry)).count()
+        self.tree
+            .entries()
+            .iter()
+            .filter(|entry| holds_h(**entry))
+            .count()
     }
 
     /// The same circuit again, with the same slots.

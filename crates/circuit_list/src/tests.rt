@@ -78,7 +78,10 @@ impl Random {
         requires { 0 < limit }
         ensures { result < limit }
     {
-        self.state = self.state.wrapping_mul(6364136223846793005).wrapping_add(1442695040888963407);
+        self.state = self
+            .state
+            .wrapping_mul(6364136223846793005)
+            .wrapping_add(1442695040888963407);
         (self.state >> 33) as usize % limit
     }
 
@@ -135,7 +138,12 @@ impl Plain {
 }
 
 /// One edit of both, each kind as often as the others, but for more pushes.
-fn edit(rt: &impl Abort, circuit: &mut Circuit, plain: &mut Plain, random: &mut Random) -> Result<(), Fail>
+fn edit(
+    rt: &impl Abort,
+    circuit: &mut Circuit,
+    plain: &mut Plain,
+    random: &mut Random,
+) -> Result<(), Fail>
     requires { circuit.old.wires ≡ 5 }
     ensures { circuit.new.wires ≡ 5 }
 {
@@ -175,7 +183,9 @@ fn edit(rt: &impl Abort, circuit: &mut Circuit, plain: &mut Plain, random: &mut 
 /// All answers at one place.
 fn compare(rt: &impl Abort, circuit: &Circuit, plain: &Plain, place: usize) {
     assert_eq!(rt; circuit.len(), plain.gates.len());
-    assert!(rt; place < circuit.len() && place < plain.gates.len() && plain.gates.len() == plain.slots.len());
+    assert!(rt;
+        place < circuit.len() && place < plain.gates.len() && plain.gates.len() == plain.slots.len()
+    );
     let gate = plain.gates[place];
     let slot = circuit.slot(place);
     assert_eq!(rt; slot, plain.slots[place]);
@@ -185,7 +195,11 @@ fn compare(rt: &impl Abort, circuit: &Circuit, plain: &Plain, place: usize) {
     assert_eq!(rt; here, gate);
     assert_eq!(rt; circuit.first(), plain.slots.first().copied());
     assert_eq!(rt; circuit.after(slot), plain.slots.get(place + 1).copied());
-    let before = if place == 0 { None } else { Some(plain.slots[place - 1]) };
+    let before = if place == 0 {
+        None
+    } else {
+        Some(plain.slots[place - 1])
+    };
     assert_eq!(rt; circuit.before(slot), before);
     let (first, second) = wires_of(here);
     assert_eq!(rt; circuit.next_on(slot, first), plain.next_on(place, first));

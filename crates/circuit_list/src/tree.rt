@@ -137,7 +137,14 @@ impl Tree {
         requires { slot < length self.now }
         ensures { MatchOption result (NoneOn wire self.now (slot + 1) (length self.now)) (IsFirstOn wire self.now (slot + 1)) }
     {
-        match behind(&self.gates, &self.nodes, root(self.height), None, slot, wire) {
+        match behind(
+            &self.gates,
+            &self.nodes,
+            root(self.height),
+            None,
+            slot,
+            wire,
+        ) {
             Some(part) => Some(first_in(&self.gates, &self.nodes, part, wire)),
             None => None,
         }
@@ -148,7 +155,14 @@ impl Tree {
         requires { slot < length self.now }
         ensures { MatchOption result (NoneOn wire self.now 0 slot) (IsLastOn wire self.now slot) }
     {
-        match before(&self.gates, &self.nodes, root(self.height), None, slot, wire) {
+        match before(
+            &self.gates,
+            &self.nodes,
+            root(self.height),
+            None,
+            slot,
+            wire,
+        ) {
             Some(part) => Some(last_in(&self.gates, &self.nodes, part, wire)),
             None => None,
         }
@@ -202,7 +216,11 @@ fn leaf(entry: Option<Gate>) -> Node
 fn entry(gates: &[Option<Gate>], slot: usize) -> Option<Gate>
     ensures { result ≡ entry gates.now slot }
 {
-    if slot < gates.len() { gates[slot] } else { None }
+    if slot < gates.len() {
+        gates[slot]
+    } else {
+        None
+    }
 }
 
 fn node_at(gates: &[Option<Gate>], nodes: &[Node], node: usize) -> Node
@@ -260,7 +278,11 @@ fn grow(gates: &[Option<Gate>], nodes: &mut Vec<Node>) -> Result<(), AllocError>
 }
 
 /// Sees to it that there is room for one slot more.
-fn make_room(gates: &[Option<Gate>], nodes: &mut Vec<Node>, height: &mut u32) -> Result<(), AllocError>
+fn make_room(
+    gates: &[Option<Gate>],
+    nodes: &mut Vec<Node>,
+    height: &mut u32,
+) -> Result<(), AllocError>
     requires { IsTree height.old gates.now nodes.old.items }
     ensures tree { IsTree height.new gates.now nodes.new.items }
     ensures room { OnOk result (length gates.now < length nodes.new.items) }
@@ -361,7 +383,14 @@ fn has_wire(wires: u64, wire: u32) -> bool
 
 /// The nearest part behind a slot with a gate on the wire: of those that leave the slot's way from
 /// the root to the right the last one, or `best` where there is none in this part.
-fn behind(gates: &[Option<Gate>], nodes: &[Node], part: Part, best: Option<Part>, slot: usize, wire: u32) -> Option<Part>
+fn behind(
+    gates: &[Option<Gate>],
+    nodes: &[Node],
+    part: Part,
+    best: Option<Part>,
+    slot: usize,
+    wire: u32,
+) -> Option<Part>
     requires covers { Covers gates.now nodes.now part.height part.node part.from }
     requires low { part.height < 64 }
     requires begin { part.from ≤ slot }
@@ -402,7 +431,14 @@ fn first_in(gates: &[Option<Gate>], nodes: &[Node], part: Part, wire: u32) -> us
 }
 
 /// The nearest part before a slot with a gate on the wire, or `best` where there is none in this part.
-fn before(gates: &[Option<Gate>], nodes: &[Node], part: Part, best: Option<Part>, slot: usize, wire: u32) -> Option<Part>
+fn before(
+    gates: &[Option<Gate>],
+    nodes: &[Node],
+    part: Part,
+    best: Option<Part>,
+    slot: usize,
+    wire: u32,
+) -> Option<Part>
     requires covers { Covers gates.now nodes.now part.height part.node part.from }
     requires low { part.height < 64 }
     requires begin { part.from ≤ slot }

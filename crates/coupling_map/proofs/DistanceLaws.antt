@@ -5,7 +5,7 @@
 --   IsDiameter-greatest  the greatest entry of the table of all distances
 --   IsDiameter-below     it is below the number of qubits
 use Rattle.std.proofs.Common.{◌≡◌, ℕ, zero, suc, ◌+◌, ◌*◌, ◌/◌, ◌%◌, ◌<◌, ◌≤◌, Bool, true, false, List, [], ◌∷◌, length, get_or, refl, sym, ap, ◌∙◌, subst, arith, zero-add, ◌⊎◌, inl, inr}
-use Rattle.std.specs.Prelude.{All, IsTrue, fold, max, ◌==◌, ◌&&◌, ◌||◌}
+use Rattle.std.specs.Prelude.{All, fold, max, ◌==◌, ◌&&◌, ◌||◌}
 use Rattle.std.specs.List.{list_any, range_with_len}
 use Rattle.std.proofs.lemmas.List.Elements.{All-get_or}
 use Rattle.std.proofs.lemmas.List.Folds.{list_any_at}

@@ -3,8 +3,8 @@
 --   HasRoom rows b i            the row at i is no sum of the block's rows
 --   HasRoomAt v blocks k        v is no sum of the rows of the k-th block
 --   AllSpan v blocks            v is a sum of the rows of each block
---   OthersSpan blocks unfilled v    v is a sum of the rows of each block that is full
---   IsOpen full blocks unfilled     each block that is full has `full` rows
+--   OthersSpan blocks unfilled v   v is a sum of the rows of each block that isn't listed
+--   IsOpen full blocks unfilled    each block that isn't listed has `full` rows
 --   places_at blocks k          the places of the k-th block
 --   IsState rows homes blocks   the first rows, each in its home and nowhere else
 --   moved B c x h               the blocks B with x put into the c-th and taken out of the h-th

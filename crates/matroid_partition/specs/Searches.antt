@@ -12,15 +12,19 @@
 --   IsFront .. node number    the nodes before `node` went through all blocks, `node` itself through those before `number`
 --   IsGrown                   more nodes behind those that were there, more of the rows seen
 --   IsStart new nodes seen    the new row alone
---   IsGround                  the rows with a home; the blocks that are full span them and the new one
+--   IsGround                  the rows with a home; the blocks that are not listed span them and the new one
 --   IsMember place            one of the rows of another block that sum to the node's row
 --   IsSet set                 the members of another block that sum to the node's row
+--   IsStill g, IsFrontOf g f, IsChainOf g f c    IsGround, IsFront and IsChain of what the code passes on
 --   IsChain last into         the row of the last node has room in another block
 use Rattle.std.specs.Prelude.{◌≡◌, ◌⊎◌, ℕ, ◌+◌, ◌<◌, ◌≤◌, Bool, true, false, cond, List, [], ◌∷◌, ◌++◌, All, length, map, replicate, slice_index, slice_index_or, bit_xor}
 use Rattle.matroid_partition.specs.Places.{Has}
 use Rattle.matroid_partition.specs.Blocks.{HasRoomAt, IsState, OthersSpan, places_at}
 use Rattle.gf2_linear.specs.Rows.{combined, is_sum, row_sum, rows_at}
 use Rattle.matroid_partition.specs.declared.blocks.Block.{Block}
+use Rattle.matroid_partition.specs.declared.search.Chain.{Chain}
+use Rattle.matroid_partition.specs.declared.search.Front.{Front}
+use Rattle.matroid_partition.specs.declared.search.Ground.{Ground}
 use Rattle.matroid_partition.specs.declared.search.Node.{Node}
 
 abbrev pub parts : List ℕ → List ℕ → ℕ → List ℕ
@@ -112,3 +116,13 @@ pub record IsChain (rows homes : List ℕ) (blocks : List Block) (nodes : List N
   pub there : last < length nodes
   pub apart : IsOwn homes (node_at nodes last) into → ⊥
   pub room : HasRoomAt (row_of rows (node_at nodes last)) blocks into
+
+-- the same, of what the code passes on
+abbrev pub IsStill : Ground → Type 0
+IsStill g = IsGround g.rows.now g.homes.now g.blocks.now g.unfilled.now
+
+abbrev pub IsFrontOf : Ground → Front → ℕ → ℕ → Type 0
+IsFrontOf g f node number = IsFront g.rows.now g.homes.now g.blocks.now f.nodes.items f.seen.items node number
+
+abbrev pub IsChainOf : Ground → Front → Chain → Type 0
+IsChainOf g f c = IsChain g.rows.now g.homes.now g.blocks.now f.nodes.items c.last c.into

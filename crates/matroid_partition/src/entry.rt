@@ -102,7 +102,7 @@ fn enter(
     requires room { HasRoomAt (slice_index rows.now (length homes.old.items)) blocks.old.items number }
     ensures state { IfOk result (λ _. IsState rows.now homes.new.items blocks.new.items) }
     ensures homes { IfOk result (λ _. length homes.new.items ≡ length homes.old.items + 1) }
-    ensures blocks { IfOk result (λ _. length blocks.new.items ≡ length blocks.old.items) }
+    ensures count { IfOk result (λ _. length blocks.new.items ≡ length blocks.old.items) }
     ensures others { IfOk result (λ _. (k : ℕ) (d : Block) → (k ≡ number → ⊥) → slice_index_or blocks.new.items k d ≡ slice_index_or blocks.old.items k d) }
 {
     append(rows, &mut blocks[number], homes.len())?;
@@ -123,7 +123,7 @@ fn begin(
     requires nonzero { slice_index rows.now (length homes.old.items) ≡ 0 → ⊥ }
     ensures state { IfOk result (λ _. IsState rows.now homes.new.items blocks.new.items) }
     ensures homes { IfOk result (λ _. length homes.new.items ≡ length homes.old.items + 1) }
-    ensures blocks { IfOk result (λ _. length blocks.new.items ≡ length blocks.old.items + 1) }
+    ensures count { IfOk result (λ _. length blocks.new.items ≡ length blocks.old.items + 1) }
     ensures unfilled { IfOk result (λ _. (full : ℕ) → IsOpen full blocks.old.items unfilled.old.items → IsOpen full blocks.new.items unfilled.new.items) }
 {
     let places = vec![in alloc; homes.len()]?;
@@ -134,7 +134,7 @@ fn begin(
     Ok(())
 }
 
-/// Strikes a block that has grown off the unfilled ones, if it now has as many rows as their rank allows.
+/// Takes a block that has grown off the list of those that may have room, if it has `full` rows now.
 fn close(
     alloc: Global,
     full: usize,

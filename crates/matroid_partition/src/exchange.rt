@@ -23,7 +23,7 @@ pub fn shift(
     requires chain { IsChain rows.now homes.old.items blocks.old.items nodes.now chain.last chain.into }
     ensures state { IfOk result (λ _. IsState rows.now homes.new.items blocks.new.items) }
     ensures homes { IfOk result (λ _. length homes.new.items ≡ length homes.old.items + 1) }
-    ensures blocks { IfOk result (λ _. length blocks.new.items ≡ length blocks.old.items) }
+    ensures count { IfOk result (λ _. length blocks.new.items ≡ length blocks.old.items) }
     ensures sizes { IfOk result (λ _. (k : ℕ) → length (places_at blocks.new.items k) ≡ length (places_at blocks.old.items k) + cond (k == chain.into) 1 0) }
 {
     let Chain { last, mut into } = chain;
@@ -53,7 +53,7 @@ fn exchange(
     ensures home { IfOk result (λ h. h ≡ slice_index homes.old.items place) }
     ensures state { IfOk result (λ _. IsState rows.now homes.new.items blocks.new.items) }
     ensures homes { IfOk result (λ _. length homes.new.items ≡ length homes.old.items) }
-    ensures blocks { IfOk result (λ _. length blocks.new.items ≡ length blocks.old.items) }
+    ensures count { IfOk result (λ _. length blocks.new.items ≡ length blocks.old.items) }
     ensures moved { IfOk result (λ h. (k : ℕ) → places_at blocks.new.items k ≡ moved (places_at blocks.old.items) into place h k) }
 {
     let home = homes[place];

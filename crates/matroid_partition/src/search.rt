@@ -1,7 +1,7 @@
 //! The search for a chain of exchanges, breadth first.
 
 ghost use Rattle.std.specs.Prelude.{◌≡◌, ℕ, ◌+◌, ◌<◌, ◌≤◌, IfOk, IfSome, IfNone, length, slice_index, true, false};
-ghost use Rattle.matroid_partition.specs.Searches.{IsChain, IsFront, IsGround, IsGrown, IsMember, IsSeen, IsSet, IsStart, node_at};
+ghost use Rattle.matroid_partition.specs.Searches.{IsChainOf, IsFrontOf, IsGrown, IsMember, IsSeen, IsSet, IsStart, IsStill, node_at};
 
 use crate::blocks::{Block, first_fit};
 use gf2_linear::Row;
@@ -54,10 +54,10 @@ pub fn front_at(alloc: Global, place: usize) -> Result<Front, AllocError>
 /// Searches from the row behind those that have a home: breadth first, blocks ascending, members ascending.
 /// None where no chain brings it in: then the front has all rows that are reached.
 pub fn search(ground: &Ground, front: &mut Front) -> Result<Option<Chain>, AllocError>
-    requires ground { IsGround ground.now.rows.now ground.now.homes.now ground.now.blocks.now ground.now.unfilled.now }
+    requires ground { IsStill ground.now }
     requires start { IsStart (length ground.now.homes.now) front.old.nodes.items front.old.seen.items }
-    ensures some { IfOk result (λ o. IfSome o (λ c. IsChain ground.now.rows.now ground.now.homes.now ground.now.blocks.now front.new.nodes.items c.last c.into)) }
-    ensures none { IfOk result (λ o. IfNone o (IsFront ground.now.rows.now ground.now.homes.now ground.now.blocks.now front.new.nodes.items front.new.seen.items (length front.new.nodes.items) 0)) }
+    ensures some { IfOk result (λ o. IfSome o (λ c. IsChainOf ground.now front.new c)) }
+    ensures none { IfOk result (λ o. IfNone o (IsFrontOf ground.now front.new (length front.new.nodes.items) 0)) }
 {
     let mut node = 0;
     'nodes: while node < front.nodes.len() {
@@ -71,11 +71,11 @@ pub fn search(ground: &Ground, front: &mut Front) -> Result<Option<Chain>, Alloc
 
 /// Reaches all rows that a node's row could take the place of.
 fn spread(ground: &Ground, node: usize, front: &mut Front) -> Result<Option<Chain>, AllocError>
-    requires ground { IsGround ground.now.rows.now ground.now.homes.now ground.now.blocks.now ground.now.unfilled.now }
+    requires ground { IsStill ground.now }
     requires there { node < length front.old.nodes.items }
-    requires front { IsFront ground.now.rows.now ground.now.homes.now ground.now.blocks.now front.old.nodes.items front.old.seen.items node 0 }
-    ensures some { IfOk result (λ o. IfSome o (λ c. IsChain ground.now.rows.now ground.now.homes.now ground.now.blocks.now front.new.nodes.items c.last c.into)) }
-    ensures none { IfOk result (λ o. IfNone o (IsFront ground.now.rows.now ground.now.homes.now ground.now.blocks.now front.new.nodes.items front.new.seen.items (node + 1) 0)) }
+    requires front { IsFrontOf ground.now front.old node 0 }
+    ensures some { IfOk result (λ o. IfSome o (λ c. IsChainOf ground.now front.new c)) }
+    ensures none { IfOk result (λ o. IfNone o (IsFrontOf ground.now front.new (node + 1) 0)) }
     ensures there { IfOk result (λ o. IfNone o (node < length front.new.nodes.items)) }
 {
     'numbers: for number in 0..ground.blocks.len() {
@@ -93,12 +93,12 @@ fn cross(
     number: usize,
     front: &mut Front,
 ) -> Result<Option<Chain>, AllocError>
-    requires ground { IsGround ground.now.rows.now ground.now.homes.now ground.now.blocks.now ground.now.unfilled.now }
+    requires ground { IsStill ground.now }
     requires there { node < length front.old.nodes.items }
     requires block { number < length ground.now.blocks.now }
-    requires front { IsFront ground.now.rows.now ground.now.homes.now ground.now.blocks.now front.old.nodes.items front.old.seen.items node number }
-    ensures some { IfOk result (λ o. IfSome o (λ c. IsChain ground.now.rows.now ground.now.homes.now ground.now.blocks.now front.new.nodes.items c.last c.into)) }
-    ensures none { IfOk result (λ o. IfNone o (IsFront ground.now.rows.now ground.now.homes.now ground.now.blocks.now front.new.nodes.items front.new.seen.items node (number + 1))) }
+    requires front { IsFrontOf ground.now front.old node number }
+    ensures some { IfOk result (λ o. IfSome o (λ c. IsChainOf ground.now front.new c)) }
+    ensures none { IfOk result (λ o. IfNone o (IsFrontOf ground.now front.new node (number + 1))) }
     ensures there { IfOk result (λ o. IfNone o (node < length front.new.nodes.items)) }
 {
     let place = front.nodes[node].place;
@@ -122,13 +122,13 @@ fn reach(
     set: &Row,
     front: &mut Front,
 ) -> Result<Option<Chain>, AllocError>
-    requires ground { IsGround ground.now.rows.now ground.now.homes.now ground.now.blocks.now ground.now.unfilled.now }
+    requires ground { IsStill ground.now }
     requires there { node < length front.old.nodes.items }
     requires block { number < length ground.now.blocks.now }
-    requires front { IsFront ground.now.rows.now ground.now.homes.now ground.now.blocks.now front.old.nodes.items front.old.seen.items node number }
+    requires front { IsFrontOf ground.now front.old node number }
     requires set { IsSet ground.now.rows.now ground.now.homes.now ground.now.blocks.now (node_at front.old.nodes.items node) number set.now }
-    ensures some { IfOk result (λ o. IfSome o (λ c. IsChain ground.now.rows.now ground.now.homes.now ground.now.blocks.now front.new.nodes.items c.last c.into)) }
-    ensures none { IfOk result (λ o. IfNone o (IsFront ground.now.rows.now ground.now.homes.now ground.now.blocks.now front.new.nodes.items front.new.seen.items node (number + 1))) }
+    ensures some { IfOk result (λ o. IfSome o (λ c. IsChainOf ground.now front.new c)) }
+    ensures none { IfOk result (λ o. IfNone o (IsFrontOf ground.now front.new node (number + 1))) }
     ensures there { IfOk result (λ o. IfNone o (node < length front.new.nodes.items)) }
 {
     let _few = ground.blocks[number].basis.len();
@@ -149,12 +149,12 @@ fn visit(
     place: usize,
     front: &mut Front,
 ) -> Result<Option<Chain>, AllocError>
-    requires ground { IsGround ground.now.rows.now ground.now.homes.now ground.now.blocks.now ground.now.unfilled.now }
+    requires ground { IsStill ground.now }
     requires there { node < length front.old.nodes.items }
-    requires front { let number = slice_index ground.now.homes.now place in IsFront ground.now.rows.now ground.now.homes.now ground.now.blocks.now front.old.nodes.items front.old.seen.items node number }
+    requires front { let number = slice_index ground.now.homes.now place in IsFrontOf ground.now front.old node number }
     requires member { let number = slice_index ground.now.homes.now place in IsMember ground.now.rows.now ground.now.homes.now ground.now.blocks.now (node_at front.old.nodes.items node) number place }
-    ensures some { IfOk result (λ o. IfSome o (λ c. IsChain ground.now.rows.now ground.now.homes.now ground.now.blocks.now front.new.nodes.items c.last c.into)) }
-    ensures none { let number = slice_index ground.now.homes.now place in IfOk result (λ o. IfNone o (IsFront ground.now.rows.now ground.now.homes.now ground.now.blocks.now front.new.nodes.items front.new.seen.items node number)) }
+    ensures some { IfOk result (λ o. IfSome o (λ c. IsChainOf ground.now front.new c)) }
+    ensures none { let number = slice_index ground.now.homes.now place in IfOk result (λ o. IfNone o (IsFrontOf ground.now front.new node number)) }
     ensures seen { IfOk result (λ o. IfNone o (IsSeen front.new.seen.items place)) }
     ensures grown { IfOk result (λ o. IfNone o (IsGrown front.old.nodes.items front.new.nodes.items front.old.seen.items front.new.seen.items)) }
 {

@@ -1,9 +1,8 @@
-use Rattle.std.proofs.Common.{◌≡◌, ◌≢◌, ◌∙◌, ℕ, ◌+◌, ◌-◌, ◌*◌, ◌/◌, ◌^◌, ◌<◌, ◌≤◌, ◌++◌, ◌∷◌, [], true, false, refl, sym, ap, subst, arith, length, set, slice_get, List, Option, None, Some, OnOk, OnErr}
+use Rattle.std.proofs.Common.{◌≡◌, ◌∙◌, sym, ap, subst, slice_get, Some}
 use Rattle.circuit_list.specs.Body.{Body}
-use Rattle.circuit_list.specs.declared.Gate.{Gate}
-use Rattle.circuit_list.specs.Entries.{entry, gates_of, is_live, rank, slots_from}
+use Rattle.circuit_list.specs.Entries.{entry, is_live}
 use Rattle.circuit_list.specs.Gates.{IsFine}
-use Rattle.circuit_list.specs.Slots.{Ascend, IsLive, IsNextOn, IsPrevOn, NoneBefore, NoneBehind, is_on_at, place_of}
+use Rattle.circuit_list.specs.Slots.{IsLive, place_of}
 use Rattle.circuit_list.proofs.CircuitLaws.{fine-entry, gate-entry, live_entry}
 use Rattle.circuit_list.proofs.Circuit.gate_at.Goals as goal
 

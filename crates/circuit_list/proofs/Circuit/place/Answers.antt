@@ -1,9 +1,7 @@
-use Rattle.std.proofs.Common.{◌≡◌, ◌≢◌, ◌∙◌, ℕ, ◌+◌, ◌-◌, ◌*◌, ◌/◌, ◌^◌, ◌<◌, ◌≤◌, ◌++◌, ◌∷◌, [], true, false, refl, sym, ap, subst, arith, length, set, slice_get, List, Option, None, Some, OnOk, OnErr}
+use Rattle.std.proofs.Common.{◌≡◌, ◌∙◌, sym, ap, subst, Some}
 use Rattle.circuit_list.specs.Body.{Body}
-use Rattle.circuit_list.specs.declared.Gate.{Gate}
-use Rattle.circuit_list.specs.Entries.{entry, gates_of, is_live, rank, slots_from}
-use Rattle.circuit_list.specs.Gates.{IsFine}
-use Rattle.circuit_list.specs.Slots.{Ascend, IsLive, IsNextOn, IsPrevOn, NoneBefore, NoneBehind, is_on_at, place_of}
+use Rattle.circuit_list.specs.Entries.{entry, rank}
+use Rattle.circuit_list.specs.Slots.{IsLive, place_of}
 use Rattle.circuit_list.proofs.CircuitLaws.{live_entry, place-entry}
 use Rattle.circuit_list.proofs.EntryLaws.{slot_below}
 use Rattle.circuit_list.proofs.Circuit.place.Goals as goal

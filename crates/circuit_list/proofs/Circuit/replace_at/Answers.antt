@@ -1,9 +1,8 @@
-use Rattle.std.proofs.Common.{◌≡◌, ◌≢◌, ◌∙◌, ℕ, ◌+◌, ◌-◌, ◌*◌, ◌/◌, ◌^◌, ◌<◌, ◌≤◌, ◌++◌, ◌∷◌, [], true, false, refl, sym, ap, subst, arith, length, set, slice_get, List, Option, None, Some, OnOk, OnErr}
+use Rattle.std.proofs.Common.{◌≡◌, ◌∙◌, sym, ap, subst, set, Some}
 use Rattle.circuit_list.specs.Body.{Body}
-use Rattle.circuit_list.specs.declared.Gate.{Gate}
-use Rattle.circuit_list.specs.Entries.{entry, gates_of, is_live, rank, slots_from}
+use Rattle.circuit_list.specs.Entries.{entry, gates_of, rank, slots_from}
 use Rattle.circuit_list.specs.Gates.{IsFine}
-use Rattle.circuit_list.specs.Slots.{Ascend, IsLive, IsNextOn, IsPrevOn, NoneBefore, NoneBehind, is_on_at, place_of}
+use Rattle.circuit_list.specs.Slots.{IsLive, place_of}
 use Rattle.circuit_list.proofs.CircuitLaws.{live_entry, place-entry, put-fine}
 use Rattle.circuit_list.proofs.EntryLaws.{gates_of-put, slots_from-put, slot_below}
 use Rattle.circuit_list.proofs.Circuit.replace_at.Goals as goal
@@ -25,7 +24,7 @@ returns-clause-gates c =
     let l = live_entry c.self.inside.tree c.args.s (subst (λ (b : Body). IsLive b c.args.s) (sym c.self.view_is) c.requires.live) in
     let here : entry c.self.inside.tree c.index.result ≡ Some l.0 = ap (entry c.self.inside.tree) c.index.ensures ∙ l.1 in
     let place : rank c.self.inside.tree c.index.result ≡ place_of c.args.s c.args.self.now.slots =
-        ap (rank c.self.inside.tree) c.index.ensures ∙ sym (place-entry c.self.inside.tree c.args.s l.0 l.1) ∙ ap (λ (b : Body). place_of c.args.s b.slots) c.self.view_is in
+    ap (rank c.self.inside.tree) c.index.ensures ∙ sym (place-entry c.self.inside.tree c.args.s l.0 l.1) ∙ ap (λ (b : Body). place_of c.args.s b.slots) c.self.view_is in
     ap gates_of c.set.ensures ∙ gates_of-put c.self.inside.tree c.index.result l.0 c.args.g here ∙ (λ i. set (ap (λ (b : Body). b.gates) c.self.view_is i) (place i) c.args.g)
 
 pub returns-clause-slots : goal.returns-clause-slots

@@ -1,9 +1,7 @@
-use Rattle.std.proofs.Common.{◌≡◌, ◌≢◌, ◌∙◌, ℕ, ◌+◌, ◌-◌, ◌*◌, ◌/◌, ◌^◌, ◌<◌, ◌≤◌, ◌++◌, ◌∷◌, [], true, false, refl, sym, ap, subst, arith, length, set, slice_get, List, Option, None, Some, OnOk, OnErr}
+use Rattle.std.proofs.Common.{◌∙◌, sym, ap, arith, length, slice_get, Some}
 use Rattle.circuit_list.specs.Body.{Body}
-use Rattle.circuit_list.specs.declared.Gate.{Gate}
-use Rattle.circuit_list.specs.Entries.{entry, gates_of, is_live, rank, slots_from}
-use Rattle.circuit_list.specs.Gates.{IsFine}
-use Rattle.circuit_list.specs.Slots.{Ascend, IsLive, IsNextOn, IsPrevOn, NoneBefore, NoneBehind, is_on_at, place_of}
+use Rattle.circuit_list.specs.Entries.{entry, slots_from}
+use Rattle.circuit_list.specs.Slots.{place_of}
 use Rattle.circuit_list.proofs.CircuitLaws.{live_gate, place-entry, slot-entry}
 use Rattle.circuit_list.proofs.EntryLaws.{rank-length}
 use Rattle.circuit_list.proofs.Circuit.slot.Goals as goal

@@ -1,8 +1,7 @@
-use Rattle.std.proofs.Common.{rules, ◌≡◌, ◌∙◌, ℕ, ◌+◌, ◌-◌, ◌<◌, ◌≤◌, true, refl, sym, ap, subst, arith, drop, length, length-drop}
-use Rattle.std.specs.List.{count_by}
+use Rattle.std.proofs.Common.{sym, arith, drop, length-drop}
 use Rattle.std.proofs.lemmas.List.Sums.{count_by-le-length}
 use Rattle.circuit_list.specs.Gates.{is_on}
-use Rattle.circuit_list.specs.Slots.{IsLive, is_on_at, place_of}
+use Rattle.circuit_list.specs.Slots.{place_of}
 use Rattle.circuit_list.proofs.UseLaws.{count_end, count_here, count_next}
 use Rattle.circuit_list.proofs.tests.gates_on.Goals as goal
 

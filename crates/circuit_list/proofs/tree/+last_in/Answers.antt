@@ -1,5 +1,4 @@
-use Rattle.std.proofs.Common.{rules, ◌≡◌, ◌∙◌, ℕ, ◌+◌, ◌-◌, ◌*◌, ◌^◌, ◌<◌, ◌≤◌, true, false, refl, sym, ap, subst, arith, length, List, Option, None, Some, MatchOption, lit<}
-use Rattle.std.proofs.Math.Nat.{one-le-pow}
+use Rattle.std.proofs.Common.{rules, ◌≡◌, ◌∙◌, ◌+◌, ◌^◌, true, false, sym, ap, arith}
 use Rattle.circuit_list.specs.declared.tree.Node.{Node}
 use Rattle.circuit_list.specs.Entries.{entry}
 use Rattle.circuit_list.specs.Tree.{NoneOn, has_wire, meets, node_at}
@@ -11,7 +10,7 @@ pub returns-then-part-eq0 : goal.returns-then-part-eq0
 returns-then-part-eq0 t c =
     let leaf' = covers_leaf c.args.gates.now c.args.nodes.now c.args.part.height c.args.part.node c.args.part.from c.if-part-eq0.true c.requires.covers in
     let on : meets c.args.wire (entry c.args.gates.now c.args.part.from) ≡ true =
-        ap (λ (n : Node). has_wire c.args.wire n.wires) (sym leaf') ∙ c.requires.on in
+    ap (λ (n : Node). has_wire c.args.wire n.wires) (sym leaf') ∙ c.requires.on in
     let one = ap (λ n. 2 ^ n) c.if-part-eq0.true in
     record { below = omega arith; on = on; none = λ s ge lt. absurd (omega arith) }
 
@@ -20,9 +19,9 @@ last_in-requires-else-has_wire t c =
     let left = c.halves.result.0 in
     let right = c.halves.result.1 in
     let lacks : has_wire c.args.wire (node_at c.args.gates.now c.args.nodes.now right.node).wires ≡ false =
-        ap (λ (n : Node). has_wire c.args.wire n.wires) (sym c.node_at.ensures) ∙ sym c.has_wire.ensures ∙ c.if-has_wire.false in
+    ap (λ (n : Node). has_wire c.args.wire n.wires) (sym c.node_at.ensures) ∙ sym c.has_wire.ensures ∙ c.if-has_wire.false in
     let either : (has_wire c.args.wire (node_at c.args.gates.now c.args.nodes.now left.node).wires || has_wire c.args.wire (node_at c.args.gates.now c.args.nodes.now right.node).wires) ≡ true =
-        sym (ap (λ (n : Node). has_wire c.args.wire n.wires) c.halves.ensures.joined ∙ has_wire-or c.args.wire (node_at c.args.gates.now c.args.nodes.now left.node).wires (node_at c.args.gates.now c.args.nodes.now right.node).wires) ∙ c.requires.on in
+    sym (ap (λ (n : Node). has_wire c.args.wire n.wires) c.halves.ensures.joined ∙ has_wire-or c.args.wire (node_at c.args.gates.now c.args.nodes.now left.node).wires (node_at c.args.gates.now c.args.nodes.now right.node).wires) ∙ c.requires.on in
     (search rules, (c.halves.ensures.left, (omega (arith, c.requires.low, c.halves.ensures.below, c.halves.ensures.same), or_true_left _ _ either lacks)))
 
 pub returns-else-has_wire : goal.returns-else-has_wire
@@ -34,7 +33,7 @@ returns-else-has_wire t c =
     let end = c.halves.ensures.end in
     let same = ap (λ n. 2 ^ n) c.halves.ensures.same in
     let lacks : has_wire c.args.wire (node_at c.args.gates.now c.args.nodes.now right.node).wires ≡ false =
-        ap (λ (n : Node). has_wire c.args.wire n.wires) (sym c.node_at.ensures) ∙ sym c.has_wire.ensures ∙ c.if-has_wire.false in
+    ap (λ (n : Node). has_wire c.args.wire n.wires) (sym c.node_at.ensures) ∙ sym c.has_wire.ensures ∙ c.if-has_wire.false in
     let none : NoneOn c.args.wire c.args.gates.now (left.from + 2 ^ left.height) (c.args.part.from + 2 ^ c.args.part.height) =
-        λ s ge lt. covers-none c.args.wire c.args.gates.now c.args.nodes.now right.height right.node right.from c.halves.ensures.right lacks s (omega arith) (omega arith) in
+    λ s ge lt. covers-none c.args.wire c.args.gates.now c.args.nodes.now right.height right.node right.from c.halves.ensures.right lacks s (omega arith) (omega arith) in
     last-left c.args.wire c.args.gates.now (left.from + 2 ^ left.height) (c.args.part.from + 2 ^ c.args.part.height) c.last_in-else-has_wire.result (omega arith) none c.last_in-else-has_wire.ensures

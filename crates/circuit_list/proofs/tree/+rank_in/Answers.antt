@@ -1,4 +1,4 @@
-use Rattle.std.proofs.Common.{◌≡◌, ◌∙◌, ℕ, ◌+◌, ◌-◌, ◌*◌, ◌^◌, ◌<◌, ◌≤◌, true, false, refl, sym, ap, subst, arith, length, List, Option, None, Some, OnOk, OnErr}
+use Rattle.std.proofs.Common.{◌≡◌, ◌+◌, ◌^◌, ap, arith}
 use Rattle.circuit_list.specs.declared.tree.Node.{Node}
 use Rattle.circuit_list.specs.Entries.{rank}
 use Rattle.circuit_list.proofs.EntryLaws.{rank_le}

@@ -1,6 +1,6 @@
-use Rattle.std.proofs.Common.{◌≡◌, ◌∙◌, ℕ, ◌+◌, ◌-◌, ◌*◌, ◌^◌, ◌<◌, ◌≤◌, true, false, refl, sym, ap, subst, arith, length, List, Option, None, Some, OnOk, OnErr}
+use Rattle.std.proofs.Common.{◌≡◌, ◌+◌, ◌^◌, ap, arith}
 use Rattle.circuit_list.specs.declared.tree.Node.{Node}
-use Rattle.circuit_list.specs.Entries.{is_live, entry, rank}
+use Rattle.circuit_list.specs.Entries.{entry, rank}
 use Rattle.circuit_list.proofs.TreeLaws.{covers-count, covers_leaf, leaf_live}
 use Rattle.circuit_list.proofs.tree.+select_in.Goals as goal
 

@@ -1,5 +1,5 @@
 -- The nodes from the last one that was told on are told.
-use Rattle.std.proofs.Common.{◌≡◌, ℕ, ◌+◌, ◌*◌, ◌<◌, ◌≤◌, length}
+use Rattle.std.proofs.Common.{◌≡◌, ℕ, ◌*◌, ◌<◌, ◌≤◌, length}
 use Rattle.circuit_list.specs.Tree.{IsJoined}
 use Rattle.circuit_list.proofs.tree.grow.Given as goal
 

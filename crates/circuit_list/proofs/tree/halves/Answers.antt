@@ -1,4 +1,4 @@
-use Rattle.std.proofs.Common.{◌≡◌, ◌∙◌, ℕ, ◌+◌, ◌-◌, ◌*◌, ◌^◌, ◌%◌, ◌<◌, ◌≤◌, ◌==◌, refl, sym, ap, subst, arith}
+use Rattle.std.proofs.Common.{◌+◌, ◌-◌, ◌*◌, sym, subst, arith}
 use Rattle.circuit_list.specs.Tree.{Covers}
 use Rattle.circuit_list.proofs.TreeLaws.{covers_halves, shl_one}
 use Rattle.circuit_list.proofs.tree.halves.Goals as goal
@@ -14,8 +14,11 @@ overflow_add-right c = omega (arith, (covers_halves c.args.gates.now c.args.node
 
 pub overflow_add-right-2 : goal.overflow_add-right-2
 overflow_add-right-2 c =
-    omega (arith, shl_one (c.args.part.height - 1) (omega arith),
-    (covers_halves c.args.gates.now c.args.nodes.now c.args.part.height (c.args.part.height - 1) c.args.part.node c.args.part.from (omega arith) c.requires.covers).room)
+    omega (
+      arith,
+      shl_one (c.args.part.height - 1) (omega arith),
+      (covers_halves c.args.gates.now c.args.nodes.now c.args.part.height (c.args.part.height - 1) c.args.part.node c.args.part.from (omega arith) c.requires.covers).room,
+    )
 
 pub returns-clause-left : goal.returns-clause-left
 returns-clause-left c = (covers_halves c.args.gates.now c.args.nodes.now c.args.part.height (c.args.part.height - 1) c.args.part.node c.args.part.from (omega arith) c.requires.covers).left

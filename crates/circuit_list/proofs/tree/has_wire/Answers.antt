@@ -1,4 +1,4 @@
-use Rattle.std.proofs.Common.{◌≡◌, ◌∙◌, ℕ, ◌+◌, ◌-◌, ◌*◌, ◌^◌, ◌%◌, ◌<◌, ◌≤◌, ◌==◌, refl, sym, ap, subst, arith}
+use Rattle.std.proofs.Common.{◌%◌, ◌==◌, ap}
 use Rattle.std.proofs.lemmas.Nat.Bits.{shr_and_one}
 use Rattle.circuit_list.specs.Tree.{has_wire}
 use Rattle.circuit_list.proofs.tree.has_wire.Goals as goal

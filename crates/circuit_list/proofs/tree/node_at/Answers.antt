@@ -1,4 +1,4 @@
-use Rattle.std.proofs.Common.{◌≡◌, ◌∙◌, ℕ, ◌+◌, ◌-◌, ◌*◌, ◌^◌, ◌%◌, ◌<◌, ◌≤◌, ◌==◌, refl, sym, ap, subst, arith}
+use Rattle.std.proofs.Common.{◌∙◌, sym, ap, arith}
 use Rattle.circuit_list.specs.Tree.{leaf}
 use Rattle.circuit_list.proofs.TreeLaws.{node_at-inner, node_at-slot}
 use Rattle.circuit_list.proofs.tree.node_at.Goals as goal

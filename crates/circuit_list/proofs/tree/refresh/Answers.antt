@@ -1,4 +1,4 @@
-use Rattle.std.proofs.Common.{◌≡◌, ◌∙◌, ℕ, ◌+◌, ◌-◌, ◌*◌, ◌^◌, ◌<◌, ◌≤◌, true, false, refl, sym, ap, subst, arith, length, List, Option, None, Some, OnOk, OnErr}
+use Rattle.std.proofs.Common.{refl, arith}
 use Rattle.std.proofs.Common.{◌/◌}
 use Rattle.std.proofs.lemmas.List.{length-set}
 use Rattle.circuit_list.proofs.TreeLaws.{joined-up}

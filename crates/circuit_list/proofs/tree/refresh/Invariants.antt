@@ -1,5 +1,5 @@
 -- Only the node above the last one that was told may tell what was.
-use Rattle.std.proofs.Common.{◌≡◌, ◌≢◌, ℕ, ◌+◌, ◌*◌, ◌/◌, ◌<◌, length}
+use Rattle.std.proofs.Common.{◌≢◌, ℕ, ◌*◌, ◌/◌, ◌<◌, length}
 use Rattle.circuit_list.specs.Tree.{IsJoined}
 use Rattle.circuit_list.proofs.tree.refresh.Given as goal
 

@@ -1,4 +1,4 @@
-use Rattle.std.proofs.Common.{◌≡◌, ◌∙◌, ℕ, ◌+◌, ◌-◌, ◌*◌, ◌^◌, ◌%◌, ◌<◌, ◌≤◌, ◌==◌, refl, sym, ap, subst, arith}
+use Rattle.std.proofs.Common.{◌%◌, arith}
 use Rattle.circuit_list.specs.Tree.{wire_bit}
 use Rattle.circuit_list.proofs.TreeLaws.{shl_one}
 use Rattle.circuit_list.proofs.tree.wire_bit.Goals as goal

@@ -31,7 +31,7 @@ pub close-requires-clause-others : goal.close-requires-clause-others
 close-requires-clause-others c k d l n m =
     ap (λ (q : List Block). length (get_or q k d).basis) c.deref-in-Some-2.ensures.value
     ∙ sizes-kept c.args.rows.now c.args.homes.now.items c.shift.new.homes.items c.args.blocks.now.items c.shift.new.blocks.items c.args.unfilled.now.items (length c.args.all.now)
-    c.in-Some.chain.into c.requires.state c.in_ok-shift-in-Some.ensures.state c.in_ok-shift-in-Some.ensures.blocks c.in_ok-shift-in-Some.ensures.sizes c.requires.unfilled
+    c.in-Some.chain.into c.requires.state c.in_ok-shift-in-Some.ensures.state c.in_ok-shift-in-Some.ensures.count c.in_ok-shift-in-Some.ensures.sizes c.requires.unfilled
     k d (subst (λ (q : List Block). k < length q) c.deref-in-Some-2.ensures.value l) n m
     ∙ sym c.len-in-Some.ensures.count
 

@@ -42,7 +42,7 @@ close-requires-clause-others c k d l n m =
     let s : k < length c.enter.new.blocks.items = subst (λ (q : List Block). k < length q) c.deref-in-Some.ensures.value l in
     ap (λ (q : List Block). length (get_or q k d).basis) c.deref-in-Some.ensures.value
     ∙ ap (λ (b : Block). length b.basis) (c.in_ok-enter.ensures.others k d m)
-    ∙ c.requires.unfilled.others k d (subst (λ q. k < q) c.in_ok-enter.ensures.blocks s) n ∙ sym c.len.ensures.count
+    ∙ c.requires.unfilled.others k d (subst (λ q. k < q) c.in_ok-enter.ensures.count s) n ∙ sym c.len.ensures.count
 
 pub returns-then-is_empty-clause-unfilled : goal.returns-then-is_empty-clause-unfilled
 returns-then-is_empty-clause-unfilled c = c.in_ok-begin.ensures.unfilled (length c.args.all.now) c.requires.unfilled

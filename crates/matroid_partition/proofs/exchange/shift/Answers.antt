@@ -29,7 +29,7 @@ nodes-preserved c =
           c.exchange.new.homes.items c.exchange.new.blocks.items c.args.chain.into n.parent k) (sym c.in_ok-into.ensures.home)
           (shifting-step c.args.rows.now (found c.args.rows.now c.args.homes.now.items c.args.blocks.now.items c.args.nodes.now) c.args.blocks.now.items c.args.homes.now.items
           c.nodes.homes.items c.nodes.blocks.items c.args.chain.into c.nodes.node c.nodes.into c.exchange.new.homes.items c.exchange.new.blocks.items c.nodes.invariant.shifting
-          c.nodes-test.true e c.in_ok-into.ensures.state c.in_ok-into.ensures.homes c.in_ok-into.ensures.blocks
+          c.nodes-test.true e c.in_ok-into.ensures.state c.in_ok-into.ensures.homes c.in_ok-into.ensures.count
           (subst (λ h. (k : ℕ) → places_at c.exchange.new.blocks.items k ≡ moved (places_at c.nodes.blocks.items) c.nodes.into n.place h k) c.in_ok-into.ensures.home c.in_ok-into.ensures.moved));
       there = let l : c.nodes.node < length c.args.nodes.now = c.nodes.invariant.there in omega arith;
     }

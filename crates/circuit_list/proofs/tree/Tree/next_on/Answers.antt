@@ -1,4 +1,3 @@
-use Rattle.std.proofs.Common.{rules, ◌≡◌, ◌∙◌, ℕ, ◌+◌, ◌-◌, ◌*◌, ◌^◌, ◌<◌, ◌≤◌, true, false, refl, sym, ap, subst, arith, length, List, Option, None, Some, MatchOption, lit<}
 use Rattle.circuit_list.proofs.TreeLaws.{covers_at}
 use Rattle.circuit_list.proofs.tree.Tree.next_on.Goals as goal
 

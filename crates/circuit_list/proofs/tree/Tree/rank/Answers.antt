@@ -1,4 +1,4 @@
-use Rattle.std.proofs.Common.{◌≡◌, ◌∙◌, ℕ, ◌+◌, ◌-◌, ◌*◌, ◌^◌, ◌<◌, ◌≤◌, true, false, refl, sym, ap, subst, arith, length, List, Option, None, Some, OnOk, OnErr}
+use Rattle.std.proofs.Common.{◌≡◌, ◌∙◌, sym, ap, length, List, Option}
 use Rattle.circuit_list.specs.Entries.{rank}
 use Rattle.circuit_list.specs.declared.Gate.{Gate}
 use Rattle.circuit_list.proofs.EntryLaws.{rank_full}

@@ -1,4 +1,4 @@
-use Rattle.std.proofs.Common.{◌≡◌, ◌∙◌, ℕ, ◌+◌, ◌-◌, ◌*◌, ◌^◌, ◌<◌, ◌≤◌, true, false, refl, sym, ap, subst, arith, length, List, Option, None, Some, OnOk, OnErr}
+use Rattle.std.proofs.Common.{◌≡◌, ◌∙◌, sym, ap, arith, length, List, Option}
 use Rattle.circuit_list.specs.Entries.{rank}
 use Rattle.circuit_list.specs.Tree.{node_at}
 use Rattle.circuit_list.specs.declared.Gate.{Gate}
@@ -16,9 +16,9 @@ pub select_in-requires-clause-there : goal.select_in-requires-clause-there
 select_in-requires-clause-there c =
     let node = ap (λ (p : Part). p.node) c.root.ensures in
     let count : (node_at c.deref.result.now c.deref-2.result.now c.root.result.node).count ≡ rank c.args.self.now (length c.args.self.now) =
-        (λ i. (node_at (c.deref.ensures.value i) (c.deref-2.ensures.value i) (node i)).count)
-        ∙ count_root c.self.inside.height c.self.inside.gates.items c.self.inside.nodes.items (omega (arith, ap (λ (xs : List (Option Gate)). length xs) c.deref.ensures.value)) c.self.invariant
-        ∙ ap (λ (xs : List (Option Gate)). rank xs (length xs)) c.self.view_is in
+    (λ i. (node_at (c.deref.ensures.value i) (c.deref-2.ensures.value i) (node i)).count)
+    ∙ count_root c.self.inside.height c.self.inside.gates.items c.self.inside.nodes.items (omega (arith, ap (λ (xs : List (Option Gate)). length xs) c.deref.ensures.value)) c.self.invariant
+    ∙ ap (λ (xs : List (Option Gate)). rank xs (length xs)) c.self.view_is in
     omega (arith, c.requires)
 
 pub returns-then-count-entries-clause-live : goal.returns-then-count-entries-clause-live

@@ -1,7 +1,6 @@
-use Rattle.std.proofs.Common.{◌≡◌, ◌≢◌, ◌∙◌, ℕ, ◌+◌, ◌-◌, ◌*◌, ◌/◌, ◌^◌, ◌<◌, ◌≤◌, ◌++◌, ◌∷◌, [], true, false, refl, sym, ap, subst, arith, length, set, slice_get, List, Option, None, Some, OnOk, OnErr}
+use Rattle.std.proofs.Common.{◌∙◌, ap, List, Option, None}
 use Rattle.std.proofs.lemmas.List.{get_or-set_other}
 use Rattle.circuit_list.specs.declared.Gate.{Gate}
-use Rattle.circuit_list.specs.declared.tree.Node.{Node}
 use Rattle.circuit_list.specs.Entries.{entry}
 use Rattle.circuit_list.proofs.TreeLaws.{joined_written}
 use Rattle.circuit_list.proofs.tree.Tree.set.Goals as goal

@@ -1,4 +1,4 @@
-use Rattle.std.proofs.Common.{◌<◌, ◌∙◌, subst, sym}
+use Rattle.std.proofs.Common.{◌<◌, subst, sym}
 use Rattle.coupling_map.specs.Coupling.{Coupling}
 use Rattle.coupling_map.specs.Walks.{IsDiameter}
 use Rattle.coupling_map.proofs.DistanceLaws.{IsDiameter-below}

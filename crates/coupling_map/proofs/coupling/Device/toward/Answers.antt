@@ -1,4 +1,4 @@
-use Rattle.std.proofs.Common.{◌≡◌, ◌+◌, ℕ, nat_eq, Bool, true, false, refl, sym, ◌∙◌, arith}
+use Rattle.std.proofs.Common.{refl, arith}
 use Rattle.std.proofs.lemmas.Bool.Decides.{nat_tests}
 use Rattle.coupling_map.proofs.CouplingLaws.{before-more, IsNearer-by, IsToward-found, toward_exists}
 use Rattle.coupling_map.proofs.coupling.Device.toward.Goals as goal
