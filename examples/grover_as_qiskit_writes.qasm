@@ -1,0 +1,51 @@
+// Grover's search for 101 among three bits in two rounds, in the form in which Qiskit writes programs: a gate of its own
+// with its body, barriers, and a classical register meas with a measurement for each bit.
+// The bits are 101, bit 0 last, in all but about one in eighteen runs.
+OPENQASM 2.0;
+include "qelib1.inc";
+gate ccz q0,q1,q2 { h q2; ccx q0,q1,q2; h q2; }
+qreg q[3];
+creg meas[3];
+h q[0];
+h q[1];
+h q[2];
+barrier q[0],q[1],q[2];
+x q[1];
+ccz q[0],q[1],q[2];
+x q[1];
+barrier q[0],q[1],q[2];
+h q[0];
+h q[1];
+h q[2];
+x q[0];
+x q[1];
+x q[2];
+ccz q[0],q[1],q[2];
+x q[0];
+x q[1];
+x q[2];
+h q[0];
+h q[1];
+h q[2];
+barrier q[0],q[1],q[2];
+x q[1];
+ccz q[0],q[1],q[2];
+x q[1];
+barrier q[0],q[1],q[2];
+h q[0];
+h q[1];
+h q[2];
+x q[0];
+x q[1];
+x q[2];
+ccz q[0],q[1],q[2];
+x q[0];
+x q[1];
+x q[2];
+h q[0];
+h q[1];
+h q[2];
+barrier q[0],q[1],q[2];
+measure q[0] -> meas[0];
+measure q[1] -> meas[1];
+measure q[2] -> meas[2];

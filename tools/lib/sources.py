@@ -1,0 +1,158 @@
+"""The sources of the repository as text: functions with their clauses, files of definitions, types, edits.
+
+Nothing here understands the language: it goes by the layout that `rt fmt` keeps, one item at the left margin or in an `impl`
+or a `trait`, one `ensures` at the beginning of a line.
+"""
+
+import dataclasses
+import glob
+import os
+import re
+
+TOP = os.path.dirname(os.path.dirname(os.path.dirname(os.path.realpath(__file__))))
+FUNCTION = re.compile(r"(\s*)(pub(?:\(\w+\))? )?(?:const )?fn (\w+)")
+CLAUSE = re.compile(r"(?<![\w`])ensures (?:(\w+) )?\{")
+OPENING = re.compile(r"(pub(?:\(\w+\))? )?(impl|trait)\b.*\{$")
+
+
+def crates(top=TOP):
+    """The crates of the repository with what they stand on, lowest first."""
+    found = {}
+    with open(os.path.join(top, "crates.txt"), encoding="utf-8") as file:
+        for line in file:
+            line = line.split("#")[0].strip()
+            if line:
+                name, below = line.split(":")
+                found[name.split()[0]] = below.split()
+    return found
+
+
+@dataclasses.dataclass
+class Function:
+    crate: str
+    name: str
+    owner: str  # the type or the trait that it is a method of, or nothing
+    file: str
+    line: int
+    is_public: bool
+    clauses: list  # a clause without a name is ""
+    module: str = ""
+
+
+def owner_of(line):
+    """The type of `impl .. for T`, of `impl T`, or the name of a trait."""
+    line = re.sub(r"<[^<>]*>", "", re.sub(r"<[^<>]*>", "", line))
+    found = re.search(r"\bfor (?:crate::)?([\w:]+)", line) or re.search(r"(?:impl|trait) ([\w:]+)", line)
+    return found.group(1).split("::")[-1] if found else ""
+
+
+def module_of(path):
+    """The module of a file, nothing for the root."""
+    name = os.path.basename(path)[: -len(".rt")]
+    return "" if name in ("lib", "main") else name
+
+
+def is_test(path, top=TOP):
+    """Whether a file of src/ is a module of tests: by its name, or by what the root says of it."""
+    if path.endswith("tests.rt"):
+        return True
+    root = os.path.join(top, os.path.dirname(path), "lib.rt")
+    if not os.path.exists(root):
+        return False
+    with open(root, encoding="utf-8") as file:
+        return bool(re.search(rf"^#\[cfg\(test\)\]\nmod {module_of(path)};", file.read(), re.MULTILINE))
+
+
+def exported(crate, top=TOP):
+    """The modules that are public, and the names that the root hands on."""
+    modules, names = {""}, set()
+    root = os.path.join(top, "crates", crate, "src", "lib.rt")
+    if not os.path.exists(root):
+        return modules, names
+    with open(root, encoding="utf-8") as file:
+        text = file.read()
+    modules |= set(re.findall(r"^pub mod (\w+);", text, re.MULTILINE))
+    for listed in re.findall(r"^pub use [\w:]+?::(\{[^}]*\}|\w+);", text, re.MULTILINE):
+        names |= {it.split(" as ")[-1].split("::")[-1].strip() for it in listed.strip("{}").split(",")}
+    return modules, names
+
+
+def public_functions(crate, top=TOP):
+    """The functions that other crates may call, with clauses."""
+    modules, names = exported(crate, top)
+    return [
+        it
+        for it in functions(top)
+        if it.crate == crate and it.is_public and it.clauses and (it.module in modules or it.owner in names or it.name in names)
+    ]
+
+
+def first_sentence(path, top=TOP):
+    """The first sentence of the comment at the head of a file of code."""
+    said = []
+    with open(os.path.join(top, path), encoding="utf-8") as file:
+        for line in file:
+            if not line.startswith("//!") or (said and not line[3:].strip()):
+                break
+            said.append(line[3:].strip())
+    return re.split(r"(?<=\.)\s", " ".join(said))[0].rstrip(".")
+
+
+def doc_sentence(path, line, top=TOP):
+    """The first sentence of the comment above a line of code."""
+    with open(os.path.join(top, path), encoding="utf-8") as file:
+        lines = file.read().split("\n")[: line - 1]
+    said = []
+    for it in reversed(lines):
+        it = it.strip()
+        if it.startswith("///"):
+            said.insert(0, it[3:].strip())
+        elif not it.startswith("#["):
+            break
+    said = said[: said.index("")] if "" in said else said
+    return re.split(r"(?<=\.)\s", " ".join(said))[0].rstrip(".")
+
+
+def functions_of(crate, path, top=TOP):
+    """The functions of one file, with the clauses of their contracts."""
+    found = []
+    owner = ""
+    is_trait = False
+    with open(os.path.join(top, path), encoding="utf-8") as file:
+        for number, line in enumerate(file, 1):
+            if OPENING.match(line.rstrip()):
+                owner = owner_of(line)
+                is_trait = bool(re.match(r"(pub(?:\(\w+\))? )?trait", line))
+            elif line.startswith("}"):
+                owner = ""
+                is_trait = False
+            if match := FUNCTION.match(line):
+                is_public = (match.group(2) or "").strip() == "pub" or is_trait
+                found.append(Function(crate, match.group(3), owner, path, number, is_public, [], module_of(path)))
+            if found and not line.lstrip().startswith("//"):
+                found[-1].clauses += [it.group(1) or "" for it in CLAUSE.finditer(line)]
+    return found
+
+
+def functions(top=TOP):
+    found = []
+    for crate in crates(top):
+        for path in sorted(glob.glob(f"crates/{crate}/src/**/*.rt", root_dir=top, recursive=True)):
+            if not is_test(path, top):
+                found += functions_of(crate, path, top)
+    return found
+
+
+def edits(crate, top=TOP):
+    """The names of the edits that must be refused."""
+    found = glob.glob(f"crates/{crate}/must-fail/*.edit", root_dir=top)
+    return sorted(os.path.basename(it)[: -len(".edit")] for it in found)
+
+
+def tracked(top=TOP):
+    """All files of the repository but what is built."""
+    found = []
+    for folder, folders, files in os.walk(top):
+        folders[:] = [it for it in folders if it not in ("out", ".git", "__pycache__")]
+        found += [os.path.relpath(os.path.join(folder, it), top) for it in files]
+    return sorted(found)

@@ -1,0 +1,90 @@
+import json
+
+from tool import ToolTest
+
+HEAD = 'OPENQASM 2.0;\ninclude "qelib1.inc";\n'
+BELL = HEAD + "qreg q[2];\ncreg c[2];\nh q[0];\ncx q[0],q[1];\nmeasure q[0] -> c[0];\nmeasure q[1] -> c[1];\n"
+# a CNOT turned round by four Hadamards is w^4 times it, each of them being w times the Hadamard matrix
+TURNED = (
+    HEAD + "qreg q[2];\ncreg c[2];\nh q[0];\nh q[0];\nh q[1];\ncx q[1],q[0];\nh q[0];\nh q[1];\n"
+    "measure q[0] -> c[0];\nmeasure q[1] -> c[1];\n"
+)
+DEVICE = "qubits = 2\nedges = [[1, 0]]\n"
+
+
+def report(**told):
+    known = {
+        "barriers": 0, "cx_after": 1, "cx_before": 1, "device": 2, "final": [0, 1], "format": 1, "initial": [0, 1],
+        "phase": 4, "qubits": 2, "swaps": 0, "t_after": 0, "t_before": 0,
+    }  # fmt: skip
+    return json.dumps({**known, **told}) + "\n"
+
+
+class CheckSmall(ToolTest):
+    def checked(self, source, output, told, *words):
+        files = [self.file(name, text) for name, text in (("s", source), ("o", output), ("r", told))]
+        return self.run_tool("check-small", *files, *words)
+
+    def test_what_agrees(self):
+        device = self.file("d", DEVICE)
+        status, out, err = self.checked(BELL, TURNED, report(), "--device", device)
+        self.assertEqual((status, err), (0, ""))
+        self.assertTrue(out.startswith("agrees on each of 4 basis states"), out)
+
+    def test_the_phase(self):
+        status, out, _ = self.checked(BELL, TURNED, report(phase=0))
+        self.assertEqual(status, 1)
+        self.assertIn("from |00> (wire 0 first) the amplitude of |00> is -0.5", out)
+
+    def test_the_edges(self):
+        status, out, _ = self.checked(BELL, BELL, report(phase=0), "--device", self.file("d", DEVICE))
+        self.assertEqual(status, 1)
+        self.assertIn("the CNOT from qubit 0 to 1 follows no edge", out)
+
+    def test_a_swap_and_a_spare_qubit(self):
+        # wire 0 on qubit 0, wire 1 on qubit 2 of a line of three: a swap of the qubits 1 and 2, which moves a spare wire
+        source = HEAD + "qreg q[2];\ncreg c[1];\ncx q[0],q[1];\nt q[1];\nmeasure q[1] -> c[0];\n"
+        output = (
+            HEAD + "qreg q[3];\ncreg c[1];\ncx q[1],q[2];\ncx q[2],q[1];\ncx q[1],q[2];\ncx q[0],q[1];\nt q[1];\n"
+            "measure q[1] -> c[0];\n"
+        )
+        told = report(phase=0, device=3, initial=[0, 2, 1], final=[0, 1, 2], swaps=1, cx_after=4, t_after=1, t_before=1)
+        self.assertEqual(self.checked(source, output, told)[0], 0)
+        wrong = report(phase=0, device=3, initial=[0, 2, 1], final=[0, 2, 1], swaps=1, cx_after=4, t_after=1, t_before=1)
+        status, out, _ = self.checked(source, output, wrong)
+        self.assertEqual(status, 1)
+        self.assertIn("c[0] reads qubit 1 in place of 2", out)
+
+    def test_the_counts(self):
+        status, out, _ = self.checked(BELL, TURNED, report(cx_after=2, t_before=3))
+        self.assertEqual(status, 1)
+        self.assertIn("the report says cx_after 2, the programs say 1", out)
+        self.assertIn("the report says t_before 3, the programs say 0", out)
+
+    def test_the_whole_language(self):
+        # u2(0,pi) is h by definition, and p(pi/4) is t; the gate's body swaps by three CNOTs
+        source = (
+            "OPENQASM 2.0;\ninclude \"qelib1.inc\";\ngate g(x) a,b { u2(0,pi) a; p(x/2) b; swap a,b; }\n"
+            "qreg a[1];\nqreg b[1];\ncreg m[2];\nbarrier a,b;\ng(pi/2) a[0],b[0];\nmeasure a -> m;\n"
+        ).replace("measure a -> m", "measure a[0] -> m[1]")
+        output = HEAD + "qreg q[2];\ncreg m[2];\nh q[0];\nt q[1];\ncx q[0],q[1];\ncx q[1],q[0];\ncx q[0],q[1];\nmeasure q[0] -> m[1];\n"
+        told = report(barriers=1, phase=0, cx_before=3, cx_after=3, t_before=1, t_after=1)
+        self.assertEqual(self.checked(source, output, told)[:2], (0, "agrees on each of 4 basis states: 2 wires, 2 qubits, phase 0\n"))
+
+    def test_larger_programs_by_one_superposition(self):
+        body = "".join(f"h q[{i % 9}];\nt q[{i % 9}];\ncx q[{i % 9}],q[{(i + 4) % 9}];\n" for i in range(18))
+        text = HEAD + "qreg q[9];\n" + body
+        told = report(phase=0, device=9, qubits=9, cx_before=18, cx_after=18, t_before=18, t_after=18, initial=list(range(9)), final=list(range(9)))
+        status, out, _ = self.checked(text, text, told)
+        self.assertEqual(status, 0)
+        self.assertIn("on one superposition of 512 basis states", out)
+        wrong = text[: text.rindex("t q")] + text[text.rindex("t q") :].replace("t q", "tdg q", 1)
+        status, out, _ = self.checked(text, wrong, told)
+        self.assertEqual(status, 1)
+        self.assertIn("differs: from |", out)
+
+    def test_what_cannot_be_checked(self):
+        status, out, err = self.checked(BELL, "OPENQASM 2.0;\nqreg q[2]", report())
+        self.assertEqual((status, out), (2, ""))
+        self.assertIn("check-small: ", err)
+        self.assertEqual(self.checked(BELL, TURNED, "no line\n")[0], 2)

@@ -1,0 +1,44 @@
+import os
+import shutil
+import subprocess
+import unittest
+
+from tool import TOP
+
+FOLDER = os.path.join(TOP, "tools/completions")
+
+
+def said(*words):
+    return subprocess.run(words, capture_output=True, text=True, check=True, cwd=TOP, timeout=60).stdout
+
+
+class Completions(unittest.TestCase):
+    """Each shell is asked itself; one that isn't installed is skipped."""
+
+    def test_bash(self):
+        script = f"""
+        source {FOLDER}/qroute.bash
+        asked() {{ COMP_WORDS=("$@"); COMP_CWORD=$(($# - 1)); _qroute; echo "${{COMPREPLY[*]}}"; }}
+        asked qroute ''; asked qroute r; asked qroute route --; asked qroute route --trivial --; asked qroute opt ''
+        asked qroute route --device devices/line
+        """
+        self.assertEqual(
+            said("bash", "-c", script).splitlines(),
+            ["opt route check", "route", "--device --trivial", "--device", "", "devices/line_5.toml"],
+        )
+
+    @unittest.skipUnless(shutil.which("fish"), "fish isn't here")
+    def test_fish(self):
+        def asked(line):
+            out = said("fish", "--no-config", "-c", f"source {FOLDER}/qroute.fish; complete -C '{line}'")
+            return [it.split("\t")[0] for it in out.splitlines()]
+
+        self.assertEqual(sorted(asked("qroute ")), ["check", "opt", "route"])
+        self.assertEqual(asked("qroute route --"), ["--device", "--trivial"])
+        self.assertEqual(asked("qroute route --device devices/line"), ["devices/line_5.toml"])
+
+    @unittest.skipUnless(shutil.which("zsh"), "zsh isn't here")
+    def test_zsh(self):
+        script = f"fpath=({FOLDER} $fpath); autoload -Uz compinit && compinit -u -D; echo $_comps[qroute]"
+        self.assertEqual(said("zsh", "-f", "-c", script), "_qroute\n")
+        said("zsh", "-n", os.path.join(FOLDER, "_qroute"))

@@ -1,0 +1,46 @@
+import tomllib
+
+from tool import ToolTest
+
+
+class Device(ToolTest):
+    def table(self, text, *words):
+        status, out, err = self.run_tool("device", *words, given=text)
+        self.assertEqual((status, err), (0, ""))
+        return tomllib.loads(out)
+
+    def test_a_map_of_qiskit(self):
+        wanted = {"qubits": 3, "edges": [[0, 1], [1, 2]]}
+        for text in (
+            "[[0, 1], [1, 2]]",
+            "[(0, 1), (1, 2)]",
+            "EdgeList[(0, 1), (1, 2)]",
+            "CouplingMap([[0, 1], [1, 2]])",
+            "{0: [1], 1: [2]}",
+            '{"backend_name": "x", "n_qubits": 3, "coupling_map": [[0, 1], [1, 2]]}',
+        ):
+            self.assertEqual(self.table(text), wanted, text)
+
+    def test_a_map_of_tket(self):
+        wanted = {"qubits": 3, "edges": [[0, 1], [1, 2]]}
+        self.assertEqual(self.table("[(node[0], node[1]), (node[1], node[2])]"), wanted)
+        listed = "{'links': [{'link': [['node', [0]], ['node', [1]]], 'weight': 1}], 'nodes': [['node', [0]], ['node', [1]]]}"
+        self.assertEqual(self.table(listed), {"qubits": 2, "edges": [[0, 1]]})
+
+    def test_names_are_numbered_and_told(self):
+        text = "[(gridNode[0, 1, 0], gridNode[0, 0, 0]), (gridNode[0, 1, 0], gridNode[1, 1, 0])]"
+        self.assertEqual(self.table(text), {"qubits": 3, "edges": [[1, 0], [1, 2]]})
+        _, out, _ = self.run_tool("device", given=text)
+        self.assertIn("# qubit 1 is gridNode[0, 1, 0]\n", out)
+
+    def test_options(self):
+        self.assertEqual(self.table("[[0, 1], [1, 0]]", "--both", "--qubits", "4"), {"qubits": 4, "edges": [[0, 1], [1, 0]]})
+        path = self.file("map", "[[0, 1]]")
+        _, out, _ = self.run_tool("device", path, "--say", "Source: a map.")
+        self.assertTrue(out.startswith("# Source: a map.\n"))
+
+    def test_what_is_no_map(self):
+        for text in ("", "hello", "[[0, 1, 2]]", "3", "[[0, -1]]", "[[true, 1]]", '{"links": 3}'):
+            status, out, err = self.run_tool("device", given=text)
+            self.assertEqual((status, out), (1, ""), text)
+            self.assertTrue(err.startswith("device: "), text)

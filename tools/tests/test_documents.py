@@ -1,0 +1,195 @@
+import os
+import shutil
+import subprocess
+
+from tool import TOP, ToolTest
+
+TOP_LIB = """//! The top call. More of it.
+
+ghost use Rattle.low.specs.Words.{IsEven as Even};
+ghost use Rattle.low.specs.declared.Kind.{Kind};
+
+/// Runs.
+pub fn run<I: Source>(input: &mut I) -> u8
+    ensures headline { Even result }
+    ensures calm { (k : Kind) → k ≡ k }
+{
+    0
+}
+"""
+OUTSIDE_LIB = """//! Traits.
+
+pub trait Source {
+    /// Reads.
+    fn read(&mut self) -> u8
+        ensures bound { true };
+}
+
+pub trait Sink {
+}
+
+pub trait Shelf {
+}
+"""
+LOW_LIB = """//! Numbers: even ones.
+
+pub mod laws;
+
+pub enum Kind {
+    One,
+}
+"""
+LOW_LAWS = """//! Laws.
+
+/// Two is even. It does nothing.
+pub fn two_is_even()
+    ensures even { IsEven 2 }
+{}
+"""
+WORDS = """-- Even numbers.
+--   IsEven n    n is even
+use Rattle.std.specs.Prelude.{ℕ, suc}
+use Rattle.low.specs.Ground.{half}
+
+abbrev pub IsEven : ℕ → Type 0
+IsEven n = twice (half n) ≡ n
+
+-- not reached by itself, only through IsEven
+abbrev pub twice : ℕ → ℕ
+twice n = n + n
+
+abbrev pub unused : ℕ
+unused = 3
+"""
+GROUND = """-- Halves.
+use Rattle.std.specs.Prelude.{ℕ}
+
+abbrev pub half : ℕ → ℕ
+half 0 = 0
+half (suc n) = n
+"""
+README = """# It
+
+Read `low/specs/Words.antt`, as a whole.
+
+| crate | what |
+|---|---|
+| `low` | `two_is_even`: `even` |
+| `outside_io` | `read`: `bound` |
+| `qroute_top` | `run`: `headline`, `calm` |
+| `qroute` | |
+"""
+ARCHITECTURE = """# Architecture
+
+| crate | stands on | what |
+|---|---|---|
+| `low` | | |
+| `outside_io` | | |
+| `qroute_top` | `low`, `outside_io` | |
+| `qroute` | `qroute_top` | |
+"""
+CLAIMS = "# Claims\n" + "".join(
+    f"\n<!-- made: {it} -->\n<!-- /made -->\n"
+    for it in ("definitions", "laws", *(f"clauses of {crate}" for crate in ("low", "outside_io", "qroute_top", "qroute")))
+)
+
+
+class Documents(ToolTest):
+    """A small repository with the scripts in it."""
+
+    def setUp(self):
+        super().setUp()
+        shutil.copytree(os.path.join(TOP, "tools"), os.path.join(self.room, "tools"))
+        for name, text in {
+            "crates.txt": "low:\noutside_io:\nqroute_top: low outside_io\nqroute: qroute_top\n",
+            "crates/low/src/lib.rt": LOW_LIB,
+            "crates/low/src/laws.rt": LOW_LAWS,
+            "crates/low/specs/Words.antt": WORDS,
+            "crates/low/specs/Ground.antt": GROUND,
+            "crates/low/must-fail/two_is_odd.edit": "file: src/lib.rt\n",
+            "crates/outside_io/src/lib.rt": OUTSIDE_LIB,
+            "crates/qroute_top/src/lib.rt": TOP_LIB,
+            "crates/qroute/src/main.rt": "//! The program.\n",
+            "README.md": README,
+            "docs/ARCHITECTURE.md": ARCHITECTURE,
+            "docs/CLAIMS.md": CLAIMS,
+        }.items():
+            self.file(name, text)
+
+    def script(self, name, *words):
+        ran = subprocess.run([os.path.join(self.room, "tools", name), *words], capture_output=True, text=True, timeout=60)
+        self.assertEqual(ran.stderr, "")
+        return ran.returncode, ran.stdout
+
+    def change(self, name, old, new):
+        path = os.path.join(self.room, name)
+        with open(path, encoding="utf-8") as file:
+            text = file.read()
+        self.assertIn(old, text)
+        self.file(name, text.replace(old, new, 1))
+
+    def found(self):
+        return self.script("check-docs")[1].splitlines()
+
+    def test_definitions(self):
+        out = self.script("definitions")[1]
+        rows = [line for line in out.splitlines() if line.startswith("| 1 ") or line.startswith("| 2 ")]
+        self.assertEqual(
+            rows,
+            ["| 1 | `crates/low/specs/Ground.antt` | 3 | Halves |", "| 2 | `crates/low/specs/Words.antt` | 5 of 7 | Even numbers |"],
+        )
+        self.assertIn("| | 2 files | 8 of 10 | |", out)
+        self.assertIn("- `Kind` (`crates/low/src/lib.rt`)", out)
+        # suc is imported and not used
+        self.assertIn("1 of `std`", out)
+
+    def test_parts_are_made(self):
+        self.assertIn("docs/CLAIMS.md:1: a part is stale: clauses of low", self.found())
+        self.assertEqual(self.script("check-docs", "--mend")[1].splitlines()[-1], "nothing found")
+        with open(os.path.join(self.room, "docs/CLAIMS.md"), encoding="utf-8") as file:
+            text = file.read()
+        self.assertIn("| `run` | `headline`, `calm` |", text)
+        self.assertIn("| `two_is_even` | `low` | Two is even |", text)
+        self.assertIn("must refuse, 1: `two_is_odd`.", text)
+        self.assertEqual(self.found(), ["nothing found"])
+        self.file("crates/low/must-fail/three_is_even.edit", "file: src/lib.rt\n")
+        self.assertEqual(self.found(), ["docs/CLAIMS.md:1: a part is stale: clauses of low"])
+
+    def test_findings(self):
+        self.script("check-docs", "--mend")
+        for name, old, new, wanted in (
+            ("README.md", "Words.antt`", "Word.antt`", "README.md:3: no file low/specs/Word.antt"),
+            ("README.md", ", as a whole.", ". It is short.", "README.md:3: more than one sentence on a line"),
+            ("README.md", "as a whole", "as `whole_thing`", "README.md:3: `whole_thing` stands nowhere"),
+            ("README.md", "`even`", "`odd`", "README.md:7: two_is_even has no clause odd"),
+            ("README.md", "| `low` | `two", "| `lower` | `two", "README.md:7: there is no crate lower"),
+            ("README.md", "| `qroute` | |\n", "", "README.md:1: no table has the crate qroute"),
+            ("docs/ARCHITECTURE.md", "`low`, `outside_io`", "`low`", "docs/ARCHITECTURE.md:7: qroute_top stands on low outside_io by crates.txt"),
+        ):
+            with open(os.path.join(self.room, name), encoding="utf-8") as file:
+                before = file.read()
+            self.change(name, old, new)
+            self.assertIn(wanted, self.found())
+            self.file(name, before)
+        self.assertEqual(self.found(), ["nothing found"])
+
+    def test_words_of_heads(self):
+        status, out = self.script("check-docs", "--words")
+        self.assertEqual(status, 1)
+        self.assertEqual(out, "crates/low/specs/Ground.antt: half\ncrates/low/specs/Words.antt: twice unused\n")
+
+    def test_transcripts(self):
+        self.file("qroute", "#!/bin/sh\n[ $1 = opt ] || echo no command >&2\necho program $1\n")
+        os.chmod(os.path.join(self.room, "qroute"), 0o755)
+        for name in ("examples/a", "devices/a", "bench/a", "docs/made.svg"):
+            self.file(name, "<x y='1.2'/>\n")
+        body = "$ ./qroute opt\nprogram opt\n$ ./qroute what\nno command\nprogram what\n$ echo \"<x y='1.4'/>\" > docs/made.svg\n"
+        self.file("README.md", f"{README}\n```\n{body}```\n")
+        self.assertEqual(self.script("check-transcripts"), (0, "nothing differs in 1 transcripts\n"))
+        self.change("README.md", "program what", "program that")
+        self.change("README.md", "1.4", "7.4")
+        status, out = self.script("check-transcripts", "--mend")
+        self.assertEqual(status, 1)
+        self.assertIn("README.md:12: what comes out is\n", out)
+        self.assertIn("docs/made.svg isn't what is written\n", out)
+        self.assertEqual(self.script("check-transcripts"), (0, "nothing differs in 1 transcripts\n"))

@@ -1,0 +1,51 @@
+from tool import ToolTest
+
+HEAD = 'OPENQASM 2.0;\ninclude "qelib1.inc";\n'
+
+
+class Explain(ToolTest):
+    def explained(self, line, *words):
+        return self.run_tool("explain", *words, given=line + "\n")
+
+    def test_a_place_is_a_line_and_a_column(self):
+        path = self.file("p.qasm", HEAD + "qreg q[2];\nh q[0];\n  cx q[0],q[0];\n")
+        place = (HEAD + "qreg q[2];\nh q[0];\n  cx q[0],").encode()
+        line = '{"code":12,"fault":"Syntax","place":%d,"status":3}' % len(place)
+        status, out, _ = self.explained(line, path)
+        self.assertEqual(status, 0)
+        self.assertEqual(out, f"{path}:5:11: Syntax: this doesn't fit here\n      cx q[0],q[0];\n              ^\n")
+
+    def test_the_end_of_the_text(self):
+        text = "OPENQASM 2.0;\nqreg q[1]\n"
+        path = self.file("p.qasm", text)
+        _, out, _ = self.explained('{"code":12,"fault":"Syntax","place":%d,"status":3}' % len(text), path)
+        self.assertEqual(out.splitlines()[0], f"{path}:2:10: Syntax: this doesn't fit here; the text ends here")
+
+    def test_columns_count_characters(self):
+        path = self.file("p.qasm", "// größer\n/* é */".encode())
+        place = len("// größer\n/* é ".encode())
+        _, out, _ = self.explained('{"code":10,"fault":"BadByte","place":%d,"status":3}' % place, path)
+        self.assertEqual(out, f"{path}:2:6: BadByte: no token begins here\n    /* é */\n         ^\n")
+
+    def test_statements_count_behind_the_header(self):
+        text = HEAD + "// a; comment\ngate g a { h a; x a; }\nqreg q[2]; cx q[0],q;\n"
+        path = self.file("p.qasm", text)
+        _, out, _ = self.explained('{"code":29,"fault":"RepeatedQubit","statement":4,"status":3}', path)
+        self.assertEqual(out.splitlines()[0], f"{path}:5:12: RepeatedQubit: a qubit stands twice (statement 4)")
+        self.assertEqual(out.splitlines()[2].index("^"), 4 + 11)
+
+    def test_faults_of_a_device(self):
+        device = self.file("d.toml", "qubits = 3\nedges = [ # [2, 2] isn't one\n  [0, 1], [2, 2]]\n")
+        _, out, _ = self.explained('{"code":53,"fault":"SelfEdge","qubit":2,"status":4}', "p.qasm", "--device", device)
+        self.assertEqual(out.splitlines()[0], f"{device}:3:11: SelfEdge: an edge leads from qubit 2 to itself")
+        line = '{"code":56,"device":4,"fault":"TooFewQubits","qubits":5,"status":4}'
+        _, out, _ = self.explained(line, "p.qasm", "--device", device)
+        self.assertEqual(out, f"{device}: TooFewQubits: the device has 4 qubits, and the program 5\n")
+
+    def test_other_lines_are_passed_over(self):
+        status, out, _ = self.explained('qroute: built in 3 seconds\n{"fault":"Words","status":2}')
+        self.assertEqual(status, 0)
+        self.assertTrue(out.startswith("Words: "))
+        status, out, err = self.explained('{"format":1,"phase":0}')
+        self.assertEqual((status, out), (1, ""))
+        self.assertIn("no fault line", err)

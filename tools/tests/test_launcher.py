@@ -1,0 +1,178 @@
+import os
+import shutil
+import subprocess
+import time
+
+from tool import TOP, ToolTest
+
+# Stands for rt: notes each build, waits or fails as it is told, and builds a program that says what it was built of.
+FAKE_RT = """#!/bin/bash
+here=$(dirname -- "$(readlink -f -- "$0")")/..
+[ "$1" = version ] && { cat "$here/kit"; exit; }
+echo build >>"$here/builds"
+[ -e "$here/meanwhile" ] && { eval "$(cat "$here/meanwhile")"; rm "$here/meanwhile"; }
+sleep "$(cat "$here/seconds" 2>/dev/null || echo 0)"
+[ -e "$here/fails" ] && { echo "one goal is open" >&2; exit 1; }
+mkdir -p out
+if [ -e "$here/shell" ]; then cp /bin/bash out/qroute; exit 3; fi
+{ echo '#!/bin/bash'; echo "echo $(cat src/main.rt)" '"$@"'; } >out/qroute
+chmod +x out/qroute
+exit 3
+"""
+CRATES = "# a comment\nlow: kit_crate\nqroute: top low # and more\ntop: low\nother: low\n"
+
+
+class Launcher(ToolTest):
+    def setUp(self):
+        super().setUp()
+        self.top = os.path.join(self.room, "checkout")
+        self.checkout(self.top)
+        self.write("bin/rt", FAKE_RT)
+        os.chmod(os.path.join(self.room, "bin/rt"), 0o755)
+        self.write("kit", "kit 1\n")
+
+    def checkout(self, top):
+        for crate in ("low", "top", "other", "qroute"):
+            os.makedirs(os.path.join(top, "crates", crate, "src"))
+            os.makedirs(os.path.join(top, "crates", crate, "specs"))
+        self.put(top, "crates.txt", CRATES)
+        self.put(top, "crates/qroute/src/main.rt", "one")
+        self.put(top, "crates/low/src/lib.rt", "low")
+        self.put(top, "crates/low/src/tests.rt", "tests")
+        self.put(top, "crates/low/specs/Lib.antt", "specs")
+        self.put(top, "crates/other/src/lib.rt", "other")
+        shutil.copy(os.path.join(TOP, "qroute"), top)
+
+    def put(self, top, name, text):
+        with open(os.path.join(top, name), "w", encoding="utf-8") as file:
+            file.write(text)
+
+    def write(self, name, text):
+        path = os.path.join(self.room, name)
+        os.makedirs(os.path.dirname(path), exist_ok=True)
+        with open(path, "w", encoding="utf-8") as file:
+            file.write(text)
+
+    def builds(self):
+        path = os.path.join(self.room, "builds")
+        return open(path, encoding="utf-8").read().count("build") if os.path.exists(path) else 0
+
+    def command(self, *words, top=None, before=()):
+        path = f"{self.room}/bin:{os.environ['PATH']}"
+        top = self.top if top is None else top
+        name = os.path.join(os.fsencode(top), b"qroute")
+        return [*before, name, *words], {"PATH": path, "HOME": self.room}
+
+    def launch(self, *words, **more):
+        line, env = self.command(*words, **more)
+        ran = subprocess.run(line, capture_output=True, env=env, timeout=60, cwd="/")
+        return ran.returncode, ran.stdout.decode(), ran.stderr.decode("utf-8", "replace")
+
+    def assert_runs(self, says, builds, **more):
+        status, out, err = self.launch("a word", **more)
+        self.assertEqual((status, out, self.builds()), (0, f"{says} a word\n", builds), err)
+        return err
+
+    def test_builds_once(self):
+        err = self.assert_runs("one", 1)
+        self.assertIn("qroute: building the program, and proving it first", err)
+        self.assertIn("qroute: built in ", err)
+        self.assertEqual(self.assert_runs("one", 1), "")
+
+    def test_looks_at_what_it_stands_on(self):
+        self.assert_runs("one", 1)
+        self.put(self.top, "crates/other/src/lib.rt", "changed")
+        self.put(self.top, "crates/low/src/tests.rt", "changed")
+        self.put(self.top, "crates.txt", CRATES + "another: low\n")
+        self.assert_runs("one", 1)
+        for builds, name in enumerate(("crates/low/src/lib.rt", "crates/low/specs/Lib.antt", "crates/top/src/lib.rt"), 2):
+            self.put(self.top, name, "changed")
+            self.assert_runs("one", builds)
+        self.put(self.top, "crates.txt", CRATES.replace("top: low", "top: low other"))
+        self.assert_runs("one", 5)
+
+    def test_times_count_for_nothing(self):
+        self.assert_runs("one", 1)
+        main = os.path.join(self.top, "crates/qroute/src/main.rt")
+        later = time.time() + 100_000
+        os.utime(main, (later, later))
+        self.assert_runs("one", 1)
+        self.put(self.top, "crates/qroute/src/main.rt", "two")
+        os.utime(main, (0, 0))
+        self.assert_runs("two", 2)
+
+    def test_a_failed_build_leaves_the_old_program(self):
+        self.assert_runs("one", 1)
+        self.put(self.top, "crates/qroute/src/main.rt", "two")
+        self.write("fails", "")
+        for builds in (2, 3):
+            status, out, err = self.launch("a word")
+            self.assertEqual((status, out, self.builds()), (70, "", builds))
+            self.assertIn("one goal is open\n", err)
+            self.assertIn("qroute: the build failed after ", err)
+        # what rt had built is where it was, too
+        with open(os.path.join(self.top, "crates/qroute/out/qroute"), encoding="utf-8") as file:
+            self.assertIn("echo one", file.read())
+        self.put(self.top, "crates/qroute/src/main.rt", "one")
+        self.assertEqual(self.assert_runs("one", 3), "")
+
+    def test_another_kit(self):
+        self.assert_runs("one", 1)
+        self.write("kit", "kit 2\n")
+        self.assert_runs("one", 2)
+
+    def test_sources_that_change_during_the_build(self):
+        self.write("meanwhile", f"echo two >{self.top}/crates/qroute/src/main.rt")
+        err = self.assert_runs("two", 2)
+        self.assertIn("the sources changed during the build; building again", err)
+
+    def test_a_second_call_waits(self):
+        self.write("seconds", "2")
+        line, env = self.command("first")
+        first = subprocess.Popen(line, stdout=subprocess.PIPE, stderr=subprocess.PIPE, env=env)
+        while self.builds() == 0:
+            time.sleep(0.05)
+        status, out, err = self.launch("second")
+        self.assertEqual((status, out), (0, "one second\n"))
+        self.assertEqual(err, "qroute: waiting for a build that another call began\n")
+        self.assertEqual(first.communicate(timeout=60)[0], b"one first\n")
+        self.assertEqual(self.builds(), 1)
+
+    def test_the_plain_name(self):
+        self.write("shell", "")
+        self.assertEqual(self.launch("-c", "echo $0")[:2], (0, "qroute\n"))
+
+    def test_a_path_that_is_no_utf_8(self):
+        top = os.path.join(os.fsencode(self.room), b"caf\xe9 *\n")
+        self.checkout_bytes(top)
+        self.assert_runs("one", 1, top=top)
+        self.assert_runs("one", 1, top=top)
+
+    def checkout_bytes(self, top):
+        shutil.copytree(os.fsencode(self.top), top)
+
+    def test_a_checkout_that_cannot_be_written(self):
+        # as another user where this is root, whom no mode stops
+        before = ["setpriv", "--reuid=65534", "--clear-groups"] if os.geteuid() == 0 else []
+        if before and shutil.which("setpriv") is None:
+            self.skipTest("setpriv isn't here")
+        os.chmod(self.room, 0o755)
+        for folder, _, _ in os.walk(self.top):
+            os.chmod(folder, 0o555)
+        status, out, err = self.launch("a word", before=before)
+        self.assertEqual((status, out), (70, ""))
+        self.assertEqual(err, f"qroute: can't write to {self.top}/out, and the program has to be built\n")
+        for folder, _, _ in os.walk(self.top):
+            os.chmod(folder, 0o755)
+        self.assert_runs("one", 1)
+        for folder, _, _ in os.walk(self.top):
+            os.chmod(folder, 0o555)
+        self.assertEqual(self.assert_runs("one", 1, before=before), "")
+        for folder, _, _ in os.walk(self.top):
+            os.chmod(folder, 0o755)
+
+    def test_no_program_at_all(self):
+        os.remove(os.path.join(self.top, "crates/qroute/src/main.rt"))
+        status, out, err = self.launch("opt")
+        self.assertEqual((status, out), (70, ""))
+        self.assertIn("qroute: no program at ", err)
