@@ -10,6 +10,8 @@ mod laws;
 mod reading;
 mod refusal;
 mod source;
+#[cfg(test)]
+mod tests;
 
 pub use laws::{accepted_has_no_refusal, means_once};
 pub use reading::read_program;

@@ -1,13 +1,18 @@
 -- What is planned for a source is what is to be delivered.
 --   plain_of             the operations of a circuit are plain
 --   reads_wider          reads of fewer wires are reads of more
---   some_IsUtf8          a name of the language is UTF-8
---   few_counts           the counts of few operations fit
+--   NamesAreAscii, name_is_utf8, ok_of   a register's name is UTF-8
+--   few_cx_counts, few_t_counts   the counts of few operations fit
 --   Makes-planned        a target that stands for the source is made as it should be
 --   Rewrites-in_place, Rewrites-routed     on its own wires, and on a device
-use Rattle.std.proofs.Common.{◌≡◌, ℕ, ◌+◌, ◌*◌, ◌<◌, ◌≤◌, List, [], ◌∷◌, Option, Some, None, All, refl, sym, ap, ◌∙◌, arith, inl, inr, length, map}
+use Rattle.std.proofs.Common.{◌≡◌, ℕ, suc, ◌+◌, ◌*◌, ◌%◌, ◌<◌, ◌≤◌, Bool, true, false, List, [], ◌∷◌, Option, Some, None, Result, Ok, Err, All, refl, sym, ap, subst, ◌∙◌, arith, inl, inr, length, map, get_or}
 use Rattle.std.proofs.lemmas.List.Elements.{recursion_from_All, All-from_recursion}
 use Rattle.std.specs.List.{AllByRecursion}
+use Rattle.std.specs.Prelude.{IsOk, MatchResult, cond, nat_eq}
+use Rattle.std.specs.Str.{IsAscii, IsUtf8}
+use Rattle.std.proofs.lemmas.Str.{IsUtf8-from_ascii}
+use Rattle.qasm_check.specs.declared.bits.Bits.{Bits}
+use Rattle.qasm_lexer.specs.Names.{IsName}
 use Rattle.unitary_model.specs.declared.Op.{Op}
 use Rattle.unitary_model.specs.declared.Op.TheVariants.{U, Cx as OpCx}
 use Rattle.unitary_model.specs.Operations.{IsPlain, cx_count, t_count}
@@ -16,7 +21,7 @@ use Rattle.circuit_list.specs.declared.Gate.{Gate}
 use Rattle.circuit_list.specs.declared.Gate.TheVariants.{H, X, P, Cx}
 use Rattle.circuit_list.specs.Gates.{IsFine, ops}
 use Rattle.coupling_map.specs.Coupling.{Coupling}
-use Rattle.gate_inline.specs.Registers.{IsRead}
+use Rattle.gate_inline.specs.Registers.{IsFree, IsRead}
 use Rattle.program_reader.specs.Refusals.{program_of}
 use Rattle.program_reader.specs.declared.source.Source.{Source}
 use Rattle.walk_route.specs.Edges.{FollowsEdges}
@@ -103,7 +108,36 @@ few_cx [] = omega arith
 few_cx (OpCx c t ∷ us) = let more = few_cx us in omega (arith, more)
 few_cx (U a b c q ∷ us) = let more = few_cx us in omega (arith, more)
 
-pub few_counts : (us : List Op) → length us ≤ 65536 → cx_count us < 2 ^ 64
-few_counts us few = let more = few_cx us in omega (arith, few, more)
+few_t : (us : List Op) → t_count us ≤ 3 * length us
+few_t [] = omega arith
+few_t (OpCx c t ∷ us) = let more = few_t us in omega (arith, more)
+few_t (U a b c q ∷ us) = by_angle (nat_eq a 0) (few_t us)
+  where
+    by_angle : (x : Bool) → t_count us ≤ 3 * length us
+        → cond x ((b + c) % 2) (a % 2 + b % 2 + c % 2) + t_count us ≤ 3 * suc (length us)
+    by_angle true more = omega (arith, more)
+    by_angle false more = omega (arith, more)
 
-pub ruleset plans = (Rewrites-in_place, Rewrites-routed, few_counts)
+pub few_cx_counts : (us : List Op) → length us ≤ 65536 → cx_count us < 18446744073709551616
+few_cx_counts us few = let more = few_cx us in omega (arith, few, more)
+
+pub few_t_counts : (us : List Op) → length us ≤ 65536 → t_count us < 18446744073709551616
+few_t_counts us few = let more = few_t us in omega (arith, few, more)
+
+pub ruleset plans = (Rewrites-in_place, Rewrites-routed, reads_wider)
+
+pub ruleset counts = (few_cx_counts, few_t_counts)
+
+-- ---- names
+abbrev pub NamesAreAscii : Type 0
+NamesAreAscii = (name : List ℕ) → IsName name → IsAscii name
+
+pub name_is_utf8 : NamesAreAscii → (bits : List Bits) (i : ℕ) (b : Bits) (bytes : List ℕ) → All IsFree bits → i < length bits → b ≡ get_or bits i b
+    → bytes ≡ b.name → IsUtf8 bytes
+name_is_utf8 law bits i b bytes each there at same =
+    let free : IsFree b = subst IsFree (sym at) (each i b there) in
+    subst IsUtf8 (sym same) (IsUtf8-from_ascii b.name (law b.name free.name))
+
+pub ok_of : {T E U : Type 0} (good : T → Type 0) (bad : E → Type 0) (r : Result T E) → MatchResult r good (λ e. ¬ U × bad e) → U → IsOk r
+ok_of good bad (Ok x) m u = refl
+ok_of good bad (Err e) m u = absurd (m.0 u)

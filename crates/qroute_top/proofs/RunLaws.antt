@@ -15,12 +15,11 @@ use Rattle.gate_inline.specs.Programs.{IsAccepted, IsWritten, Program}
 use Rattle.program_reader.specs.Refusals.{IsRefusal}
 use Rattle.program_reader.specs.declared.refusal.Refusal.{Refusal}
 use Rattle.command_words.specs.Commands.{command_of}
-use Rattle.command_words.specs.Demands.{device_name, reads_input, writes_out}
+use Rattle.command_words.specs.Demands.{device_name, reads_input}
 use Rattle.command_words.specs.declared.commands.Command.{Command}
 use Rattle.command_words.specs.declared.commands.Command.TheVariants.{Opt, Route, Check}
-use Rattle.route_report.specs.declared.lines.Report.{Report}
 use Rattle.route_report.specs.Lines.{check_line}
-use Rattle.qroute_top.specs.Causes.{Handed, IsCause, IsDeviceCause, IsRefused, IsRefusedDevice, IsSourceCause, Reaches, Reads, stop_status}
+use Rattle.qroute_top.specs.Causes.{Handed, IsCause, IsDeviceCause, IsRefused, IsRefusedDevice, IsSourceCause, Reaches, Reads}
 use Rattle.qroute_top.specs.Delivered.{Content, Delivers, IsAnswer, IsInPlace, IsOnDevice, Rewrites, counts_of}
 use Rattle.qroute_top.specs.Devices.{HasDevice, IsDevice, IsDeviceRefusal}
 use Rattle.qroute_top.specs.Plans.{IsRouted}
@@ -428,3 +427,24 @@ stopped-two stop.Absent n e two = absurd (grind arith)
 stopped-two (stop.Device r) n e two = absurd (grind arith)
 
 pub ruleset decided = (IsCause-words, IsCause-source)
+
+pub device_failed : {T : Type 0} (r : Result T DeviceStop) (s t : DeviceStop) → r ≡ Err s → r ≡ Err t → s ≡ t
+device_failed r s t e f = cc
+
+-- ---- what a plan's end says
+some_or_none : {A : Type 0} (o : Option A) → is_some o ≡ false → o ≡ None
+some_or_none None e = refl
+some_or_none (Some x) e = absurd (cc)
+
+pub no_text : {A : Type 0} (o : Option A) (b : Bool) → is_some o ≡ b → b ≡ false → o ≡ None
+no_text o b e f = some_or_none o (e ∙ f)
+
+pub planned-complete : {A : Type 0} (o : Option A) (writes : Bool) (n : ℕ) (out report : Type 0) → (n ≡ 0) ⊎ ((n ≡ 6) ⊎ (n ≡ 8)) → is_some o ≡ writes
+    → (n ≡ 6 → out) → (n ≡ 8 → report) → (o ≡ None → n ≡ 6 → ⊥) → (writes ≡ true → out → ⊥) → (report → ⊥) → (n ≡ 0) ⊎ (n ≡ 7)
+planned-complete o writes n out report (inl zero) has f g none calm told = inl zero
+planned-complete o true n out report (inr (inl six)) has f g none calm told = absurd (calm refl (f six))
+planned-complete o false n out report (inr (inl six)) has f g none calm told = absurd (none (some_or_none o has) six)
+planned-complete o writes n out report (inr (inr eight)) has f g none calm told = absurd (told (g eight))
+
+pub no_reader : (c : Command) → reads_input c ≡ false → ⊥
+no_reader c unread = let h : true ≡ false = sym (reads_all c) ∙ unread in cc

@@ -2,8 +2,12 @@
 --   status-stop           the status of the fault that a stop is told as
 --   Ends s n              a stop ends with want of memory or with its status
 --   not_late              it is none of those that a plan ends with
+--   failed_of             what holds of an error
+--   written_text, written_fault   what a plan has for the output
 --   Gains-nothing         what is untouched gained no bytes
-use Rattle.std.proofs.Common.{◌≡◌, ◌⊎◌, ℕ, List, [], Option, Some, None, refl, sym, arith, append-nil}
+use Rattle.std.proofs.Common.{◌≡◌, ◌⊎◌, ℕ, List, [], Option, Some, None, Result, Ok, Err, true, refl, sym, ap, subst, arith, append-nil}
+use Rattle.std.specs.Prelude.{OnErr}
+use Rattle.std.specs.Result.{is_err}
 use Rattle.outside_io.specs.Bytes.{Gains}
 use Rattle.coupling_map.specs.declared.faults.DeviceFault.TheVariants as device_fault_is
 use Rattle.program_reader.specs.declared.refusal.Refusal.{Refusal}
@@ -18,7 +22,9 @@ use Rattle.route_report.specs.Faults.{status_of}
 use Rattle.route_report.specs.Refusals.{stops_with}
 use Rattle.route_report.specs.declared.faults.Fault.{Fault}
 use Rattle.route_report.specs.declared.faults.Fault.TheVariants as fault
-use Rattle.qroute_top.specs.Causes.{device_fault, fault_of, refusal_fault, stop_status}
+use Rattle.qroute_top.specs.Causes.{device_fault, fault_of, output_fault_line, refusal_fault, stop_status}
+use Rattle.qroute_top.specs.Plans.{tells_fault, text_in}
+use Rattle.qroute_top.specs.declared.plan.Written.{Written}
 use Rattle.qroute_top.specs.declared.stops.DeviceRefusal.{DeviceRefusal}
 use Rattle.qroute_top.specs.declared.stops.DeviceRefusal.TheVariants as device
 use Rattle.qroute_top.specs.declared.stops.Stop.{Stop}
@@ -102,4 +108,17 @@ Gains-nothing (Some bytes) = sym (append-nil bytes)
 
 pub ruleset told = (status-stop)
 
-pub ruleset emitted = (Gains-nothing)
+-- what a plan writes, where it does
+pub written_text : (o : Option Written) (w : Written) → o ≡ Some w → text_in o ≡ w.text.items
+written_text o w e = ap text_in e
+
+pub written_fault : (o : Option Written) (w : Written) → o ≡ Some w → tells_fault o → w.fault.items ≡ output_fault_line
+written_fault None w e h = absurd (cc)
+written_fault (Some x) w e h = let same : x ≡ w = cc in subst (λ (y : Written). y.fault.items ≡ output_fault_line) same h
+
+-- what holds of an error
+pub failed_of : {A E P : Type 0} (r : Result A E) → is_err r ≡ true → OnErr r P → P
+failed_of (Ok x) e h = absurd (cc)
+failed_of (Err x) e h = h
+
+pub ruleset emitted = (Gains-nothing, written_text, written_fault)

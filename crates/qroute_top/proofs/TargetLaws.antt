@@ -2,7 +2,7 @@
 --   IsOptimised-expanded   where every count stays
 --   Stands-in_place        wire for wire
 --   Stands-routed          on the qubits of a device
-use Rattle.std.proofs.Common.{◌≡◌, ℕ, ◌+◌, ◌*◌, ◌%◌, ◌<◌, ◌≤◌, List, refl, sym, ap, ◌∙◌, arith, subst}
+use Rattle.std.proofs.Common.{◌≡◌, ℕ, ◌+◌, ◌*◌, ◌%◌, ◌<◌, List, ap, arith}
 use Rattle.circuit_list.specs.Gates.{ops}
 use Rattle.circuit_list.specs.declared.Passed.{Passed}
 use Rattle.unitary_model.specs.declared.Op.{Op}

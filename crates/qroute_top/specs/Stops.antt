@@ -4,7 +4,7 @@
 --   IsUndescribed text n e   why a text that isn't too long gives no device for a program on n wires
 --   IsUnasked words s    why words give no command
 --   source_stopped e, device_stopped e   a stop of reading, or of the device, as one of the run
-use Rattle.std.specs.Prelude.{◌≡◌, ℕ, List, None, ⊤, ⊥}
+use Rattle.std.specs.Prelude.{◌≡◌, ℕ, List, None, ⊤}
 use Rattle.command_words.specs.Commands.{command_of}
 use Rattle.outside_io.specs.declared.TextFault.{TextFault}
 use Rattle.outside_io.specs.declared.TextFault.TheVariants as text_fault

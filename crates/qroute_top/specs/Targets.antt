@@ -1,8 +1,8 @@
 -- Working form. Circuits that stand for a source of operations S on n wires.
 --   IsOptimised n S c    the circuit c has the source's unitary up to its turn, and no more T gates and CNOTs
 --   Stands n S t         the target t realises the source between its placements, and no count rises but for swaps
-use Rattle.std.specs.Prelude.{◌≡◌, ℕ, ◌+◌, ◌*◌, ◌<◌, ◌≤◌, List, All, length}
-use Rattle.circuit_list.specs.Gates.{IsFine, ops}
+use Rattle.std.specs.Prelude.{◌≡◌, ℕ, ◌+◌, ◌*◌, ◌<◌, ◌≤◌, List}
+use Rattle.circuit_list.specs.Gates.{ops}
 use Rattle.circuit_list.specs.declared.Passed.{Passed}
 use Rattle.unitary_model.specs.declared.Op.{Op}
 use Rattle.unitary_model.specs.Operations.{cx_count, t_count}

@@ -1,6 +1,6 @@
 //! What goes out: the text and the line of a plan, or the line of a fault.
 
-ghost use Rattle.std.specs.Prelude.{◌≡◌, ◌⊎◌, ℕ, None, Some, true, is_some};
+ghost use Rattle.std.specs.Prelude.{◌≡◌, ◌⊎◌, ℕ, None, OnErr, OnOk, Some, true, is_some};
 ghost use Rattle.outside_io.specs.Bytes.{Gains, GainsPrefix, GainsUnlessFault};
 ghost use Rattle.outside_io.specs.Causes.{Rose};
 ghost use Rattle.route_report.specs.Faults.{fault_line, status_of};
@@ -8,10 +8,10 @@ ghost use Rattle.route_report.specs.declared.faults.Fault.{Fault as Told};
 ghost use Rattle.qroute_top.specs.Causes.{device_fault, fault_of, output_fault_line, refusal_fault, stop_status};
 ghost use Rattle.qroute_top.specs.Plans.{TellsOutputFault, text_of};
 
-use crate::plan::Plan;
+use crate::plan::{Plan, Written};
 use crate::stops::{DeviceRefusal, Stop};
 use coupling_map::DeviceFault;
-use outside_io::{Sink, send};
+use outside_io::{Failed, Sink, send};
 use program_reader::Refusal;
 use route_report::{Fault, fault_line, status};
 use std::alloc::{AllocError, Global};
@@ -101,6 +101,28 @@ pub fn tell<R: Sink>(alloc: Global, stop: Stop, report: &mut R) -> u8
     }
 }
 
+/// Writes a text and flushes it; where that fails, its fault line goes to the report.
+fn send_text<O: Sink, R: Sink>(
+    written: &Written,
+    out: &mut O,
+    report: &mut R,
+) -> Result<(), Failed>
+    requires { written.now.fault.items ≡ output_fault_line }
+    ensures ok { OnOk result (Gains (O.held out.old) (O.held out.new) written.now.text.items) }
+    ensures flushed { OnOk result (O.flushed out.new ≡ true) }
+    ensures calm { OnOk result ((O.faults out.new ≡ O.faults out.old) × (report.new ≡ report.old)) }
+    ensures err { OnErr result (GainsPrefix (O.held out.old) (O.held out.new) written.now.text.items × Rose (O.faults out.old) (O.faults out.new)
+        × GainsUnlessFault (R.held report.old) (R.held report.new) (R.faults report.old) (R.faults report.new) output_fault_line) }
+{
+    match send(out, &written.text) {
+        Ok(()) => Ok(()),
+        Err(failed) => {
+            let _ = send(report, &written.fault);
+            Err(failed)
+        }
+    }
+}
+
 /// Writes the text, where there is one, and then the line of the report.
 #[tactic(auto, using(crate::proofs::StatusLaws::emitted))]
 pub fn emit<O: Sink, R: Sink>(plan: &Plan, out: &mut O, report: &mut R) -> u8
@@ -119,8 +141,7 @@ pub fn emit<O: Sink, R: Sink>(plan: &Plan, out: &mut O, report: &mut R) -> u8
     ensures no_out { plan.now.written ≡ None → out.new ≡ out.old }
 {
     if let Some(written) = &plan.written {
-        if send(out, &written.text).is_err() {
-            let _ = send(report, &written.fault);
+        if send_text(written, out, report).is_err() {
             return OUTPUT_FAILED;
         }
     }

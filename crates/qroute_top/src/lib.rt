@@ -30,6 +30,7 @@ ghost use Rattle.qroute_top.specs.Delivered.{Delivered};
 use decision::decide;
 use emission::{emit, tell};
 use outside_io::{Shelf, Sink, Source};
+use program_reader::{accepted_has_no_refusal, means_once};
 use std::alloc::Global;
 
 pub use command_words::{commands, name, words};
@@ -131,6 +132,8 @@ pub fn run<I: Source, F: Shelf, O: Sink, R: Sink>(
     ensures no_shelf { (c : Asked) → command_of (map (λ w. w.now) words.now) ≡ Some c → device_name c ≡ None → shelf.new ≡ shelf.old }
     ensures no_out { (c : Asked) → command_of (map (λ w. w.now) words.now) ≡ Some c → writes_out c ≡ false → out.new ≡ out.old }
 {
+    accepted_has_no_refusal();
+    means_once();
     match decide(alloc, words, input, shelf) {
         Ok(plan) => emit(&plan, out, report),
         Err(stop) => tell(alloc, stop, report),

@@ -14,6 +14,7 @@ use crate::target::Target;
 use placement::Placement;
 use program_reader::Source;
 use qasm_check::Bits;
+use qasm_lexer::names_are_ascii;
 use qasm_writer::output::{Output, Register};
 use qasm_writer::program_text;
 use route_report::{Counts, Fault, Report, Wires, check_line, fault_line, report_line};
@@ -35,8 +36,10 @@ pub struct Plan {
 }
 
 /// What the line tells of a program.
-pub fn counts_of(source: &Source) -> Counts
-    requires { length source.now.ops.list ≤ 65536 }
+#[tactic(auto, using(crate::proofs::PlanLaws::counts))]
+fn counts_of(source: &Source) -> Counts
+    requires short { length source.now.ops.list ≤ 65536 }
+    requires bits { length source.now.ops.reads ≤ 1024 }
     ensures { result ≡ counts_of (program_of source.now) }
 {
     let ops = source.ops.list.as_slice();
@@ -84,6 +87,7 @@ fn registers_of<'a>(alloc: Global, bits: &'a [Bits]) -> Result<Vec<Register<'a>>
     requires { All IsFree bits.now }
     ensures { IfOk result (λ v. map bits_of v.items ≡ bits.now) }
 {
+    names_are_ascii();
     let mut registers = Vec::new(alloc);
     'registers: for it in bits {
         // A name of the language is ASCII.
@@ -117,7 +121,8 @@ fn written_text(alloc: Global, source: &Source, target: &Target) -> Result<Vec<u
 
 /// The report of a target that stands for a source.
 fn report_of(alloc: Global, source: &Source, target: Target) -> Result<Report, AllocError>
-    requires { length source.now.ops.list ≤ 65536 }
+    requires short { length source.now.ops.list ≤ 65536 }
+    requires bits { length source.now.ops.reads ≤ 1024 }
     ensures { IfOk result (IsReport source.now target) }
 {
     let counts = counts_of(source);
@@ -161,7 +166,8 @@ pub fn plan_of(alloc: Global, source: &Source, target: Target) -> Result<Plan, A
 
 /// The line that tells what a program has; nothing goes to the output.
 pub fn check_plan(alloc: Global, source: &Source) -> Result<Plan, AllocError>
-    requires { length source.now.ops.list ≤ 65536 }
+    requires short { length source.now.ops.list ≤ 65536 }
+    requires bits { length source.now.ops.reads ≤ 1024 }
     ensures line { IfOk result (λ p. p.line.items ≡ check_line (counts_of (program_of source.now))) }
     ensures written { IfOk result (λ p. p.written ≡ None) }
 {

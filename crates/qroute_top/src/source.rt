@@ -1,6 +1,6 @@
 //! The source: the program that the input spells.
 
-ghost use Rattle.std.specs.Prelude.{◌≡◌, ◌×◌, ◌≤◌, ℕ, List, All, IfOk, IfErr, Err, length};
+ghost use Rattle.std.specs.Prelude.{◌≡◌, ◌≤◌, ℕ, List, All, IfOk, IfErr, Err, length};
 ghost use Rattle.outside_io.specs.Bytes.{TakesAll};
 ghost use Rattle.gate_expand.specs.Expansion.{IsFineOp};
 ghost use Rattle.gate_inline.specs.Programs.{IsAccepted};
@@ -21,6 +21,7 @@ const TEXT_LIMIT: usize = 4_194_304;
 pub fn read_source<I: Input>(alloc: Global, input: &mut I) -> Result<Source, SourceStop>
     ensures ok { IfOk result (λ s. (text : List ℕ) × TakesAll (I.left input.old) (I.left input.new) text × IsAccepted text (program_of s)) }
     ensures few { IfOk result (λ s. s.ops.wires ≤ 64) }
+    ensures short { IfOk result (λ s. length s.ops.list ≤ 65536) }
     ensures fine { IfOk result (λ s. All (IsFineOp s.ops.wires) s.ops.list) }
     ensures registers { IfOk result (λ s. AreRegisters s.registers.items (length s.ops.reads)) }
     ensures reads { IfOk result (λ s. All (IsRead s.ops.wires) s.ops.reads) }

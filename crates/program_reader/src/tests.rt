@@ -1,0 +1,111 @@
+//! What is read of texts, and the borders of the limits.
+
+use crate::{ReadFault, Refusal, Source, read_program};
+use std::alloc::{AllocError, Global};
+use std::test::Fail;
+
+/// A text behind the two first lines.
+fn headed(alloc: Global, text: &str) -> Result<Vec<u8>, AllocError> {
+    let mut headed = String::from_str(alloc, "OPENQASM 2.0;\ninclude \"qelib1.inc\";\n")?;
+    headed.push_str(text)?;
+    Ok(headed.into_bytes())
+}
+
+/// Wires, operations, bits, registers and barriers of a text; else its refusal's code with the place or statement.
+fn told(alloc: Global, text: &[u8]) -> Result<String, AllocError> {
+    match read_program(alloc, text) {
+        Ok(source) => told_source(alloc, &source),
+        Err(ReadFault::Refused(refusal)) => told_refusal(alloc, refusal),
+        Err(ReadFault::NoMemory) => Ok(String::new(alloc)),
+    }
+}
+
+fn told_source(alloc: Global, source: &Source) -> Result<String, AllocError> {
+    let operations = source.ops.list.as_slice().len();
+    let bits = source.ops.reads.as_slice().len();
+    let mut text = format!(in alloc; "{} {operations} {bits} {}", source.ops.wires, source.barriers)?;
+    for register in &source.registers {
+        let name = str::from_utf8(register.name.as_bytes()).unwrap_or("?");
+        write!(text, " {name}[{}]", register.size)?;
+    }
+    Ok(text)
+}
+
+fn told_refusal(alloc: Global, refusal: Refusal) -> Result<String, AllocError> {
+    match refusal {
+        Refusal::TooLong => format!(in alloc; "too long"),
+        Refusal::BadByte { place } => format!(in alloc; "bad byte {place}"),
+        Refusal::Number { place } => format!(in alloc; "number {place}"),
+        Refusal::Syntax { place } => format!(in alloc; "syntax {place}"),
+        Refusal::Version { place } => format!(in alloc; "version {place}"),
+        Refusal::Depth { place } => format!(in alloc; "depth {place}"),
+        Refusal::Check(refused) => {
+            format!(in alloc; "check {} {}", refused.refusal.code(), refused.statement)
+        }
+        Refusal::Inline(refused) => {
+            format!(in alloc; "inline {} {}", refused.refusal.code(), refused.statement)
+        }
+    }
+}
+
+#[test]
+fn reads_programs(rt: HostRuntime) -> Result<(), Fail> {
+    let alloc = rt.alloc();
+    let rows = [
+        ("qreg q[2]; creg c[1]; creg d[3]; h q; barrier q; measure q[0] -> d[2];", "2 2 4 1 c[1] d[3]"),
+        // a gate with a bad angle that is never applied
+        ("gate g a { u1(1/0) a; } qreg q[1]; x q[0];", "1 1 0 0"),
+        // the first refusal is that of an earlier stage
+        ("qreg q[1]; u1(1/0) q[0]; h r;", "check 22 4"),
+        ("qreg q[1]; u1(1/0) q[0]; $", "bad byte 61"),
+        ("qreg q[1]; h q[0]; u1(1/0) q[0];", "inline 41 4"),
+    ];
+    for (text, want) in rows {
+        let text = headed(alloc, text)?;
+        let got = told(alloc, &text)?;
+        assert_eq!(rt; got.as_str(), want);
+    }
+    Ok(())
+}
+
+/// `count` gates of a name and a number, each the one before twice.
+fn tower(alloc: Global, name: &str, first: &str, count: u32) -> Result<String, AllocError> {
+    let mut text = format!(in alloc; "gate {name}0 a {{ {first} }} ")?;
+    for i in 1..count {
+        let below = i - 1;
+        write!(text, "gate {name}{i} a {{ {name}{below} a; {name}{below} a; }} ")?;
+    }
+    Ok(text)
+}
+
+/// 2^16 operations are written out, and one more isn't; an angle without a value isn't looked at then.
+#[test]
+fn counts_operations_to_the_limit(rt: HostRuntime) -> Result<(), Fail> {
+    let alloc = rt.alloc();
+    let gates = tower(alloc, "g", "U(0,0,0) a;", 17)?;
+    for (more, want) in [
+        ("", "1 65536 0 0"),
+        ("U(0,0,0) q[0];", "inline 44 21"),
+        ("U(1/0,0,0) q[0];", "inline 44 21"),
+    ] {
+        let text = format!(in alloc; "{gates}qreg q[1]; g16 q[0]; {more}")?;
+        let text = headed(alloc, text.as_str())?;
+        let got = told(alloc, &text)?;
+        assert_eq!(rt; got.as_str(), want);
+    }
+    Ok(())
+}
+
+/// A gate of the number k has 2^(k+1) - 1 items, so these are 2^20, and then one more.
+#[test]
+fn counts_items_to_the_limit(rt: HostRuntime) -> Result<(), Fail> {
+    let alloc = rt.alloc();
+    let gates = tower(alloc, "e", "", 20)?;
+    for (more, want) in [("e0 q[0];", "1 0 0 0"), ("e0 q[0]; e0 q[0];", "inline 44 25")] {
+        let text = format!(in alloc; "{gates}qreg q[1]; e19 q[0]; {more}")?;
+        let text = headed(alloc, text.as_str())?;
+        let got = told(alloc, &text)?;
+        assert_eq!(rt; got.as_str(), want);
+    }
+    Ok(())
+}

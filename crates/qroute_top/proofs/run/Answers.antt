@@ -1,0 +1,87 @@
+-- What follows of each status, from the cause of a stop or from what a plan delivers.
+use Rattle.std.proofs.Common.{inl, inr, ◌∙◌, ap, Err, map}
+use Rattle.qroute_top.specs.Causes.{Handed}
+use Rattle.qroute_top.proofs.RunLaws.{asked_of, planned-refuses, planned-refuses_device, same_stop, stopped-absent, stopped-complete, stopped-read, stopped-refuses, stopped-refuses_device, stopped-two}
+use Rattle.qroute_top.proofs.StatusLaws.{not_late}
+use Rattle.qroute_top.proofs.run.Goals as goal
+
+pub returns-in-Ok-clause-refuses : goal.returns-in-Ok-clause-refuses
+returns-in-Ok-clause-refuses g c =
+    λ a text r asked reads told is calm. absurd (planned-refuses c.accepted_has_no_refusal.ensures _ _ _ _ _ _ text r c.in-Ok.ensures.plan told is)
+
+pub returns-in-Ok-clause-refuses_device : goal.returns-in-Ok-clause-refuses_device
+returns-in-Ok-clause-refuses_device g c =
+    λ a name text device_text p r asked wants told ok calm shelf_calm here refusal. absurd
+    (planned-refuses_device c.means_once.ensures _ _ _ _ _ _ name a text device_text p r c.in-Ok.ensures.plan asked wants told ok here refusal)
+
+pub returns-in-Err-clause-calm : goal.returns-in-Err-clause-calm
+returns-in-Err-clause-calm g c = λ e. absurd (not_late c.in-Err.stop c.tell.result c.tell.ensures.status (inl e))
+
+pub returns-in-Err-clause-read : goal.returns-in-Err-clause-read
+returns-in-Err-clause-read g c = λ e. c.in-Err.ensures.calm (λ is. stopped-read c.in-Err.stop c.tell.result c.tell.ensures.status e (same_stop c.decide.result _ _ c.in-Err.is (c.in-Err.is ∙ is)))
+
+pub returns-in-Err-clause-words_only : goal.returns-in-Err-clause-words_only
+returns-in-Err-clause-words_only g c =
+    λ two. c.in-Err.ensures.words_only (ap (λ s. Err s) (stopped-two c.in-Err.stop c.tell.result c.tell.ensures.status two))
+
+pub returns-in-Err-clause-refuses : goal.returns-in-Err-clause-refuses
+returns-in-Err-clause-refuses g c =
+    let handed : Handed = record {
+      words = map (λ w. w.now) c.args.words.now;
+      input = g.I.Source.left c.args.input.now;
+      faults_before = g.I.Source.faults c.args.input.now;
+      faults_after = g.I.Source.faults c.decide.new.input;
+      content = g.F.Shelf.content c.args.shelf.now;
+      shelf_before = g.F.Shelf.faults c.args.shelf.now;
+      shelf_after = g.F.Shelf.faults c.decide.new.shelf;
+    } in
+    λ a text r asked reads told is calm. stopped-refuses c.accepted_has_no_refusal.ensures handed c.in-Err.stop c.tell.result a text r c.in-Err.ensures.stop
+    c.tell.ensures.status asked told is calm
+
+pub returns-in-Err-clause-output : goal.returns-in-Err-clause-output
+returns-in-Err-clause-output g c = λ e. absurd (not_late c.in-Err.stop c.tell.result c.tell.ensures.status (inr (inl e)))
+
+pub returns-in-Err-clause-report : goal.returns-in-Err-clause-report
+returns-in-Err-clause-report g c = λ e. absurd (not_late c.in-Err.stop c.tell.result c.tell.ensures.status (inr (inr e)))
+
+pub returns-in-Err-clause-absent : goal.returns-in-Err-clause-absent
+returns-in-Err-clause-absent g c =
+    let handed : Handed = record {
+      words = map (λ w. w.now) c.args.words.now;
+      input = g.I.Source.left c.args.input.now;
+      faults_before = g.I.Source.faults c.args.input.now;
+      faults_after = g.I.Source.faults c.decide.new.input;
+      content = g.F.Shelf.content c.args.shelf.now;
+      shelf_before = g.F.Shelf.faults c.args.shelf.now;
+      shelf_after = g.F.Shelf.faults c.decide.new.shelf;
+    } in
+    λ a name text p asked wants told ok calm shelf_calm none. stopped-absent c.accepted_has_no_refusal.ensures handed c.in-Err.stop c.tell.result a name p c.in-Err.ensures.stop
+    c.tell.ensures.status (asked_of handed a text p asked told ok calm (λ w. shelf_calm)) wants none
+
+pub returns-in-Err-clause-refuses_device : goal.returns-in-Err-clause-refuses_device
+returns-in-Err-clause-refuses_device g c =
+    let handed : Handed = record {
+      words = map (λ w. w.now) c.args.words.now;
+      input = g.I.Source.left c.args.input.now;
+      faults_before = g.I.Source.faults c.args.input.now;
+      faults_after = g.I.Source.faults c.decide.new.input;
+      content = g.F.Shelf.content c.args.shelf.now;
+      shelf_before = g.F.Shelf.faults c.args.shelf.now;
+      shelf_after = g.F.Shelf.faults c.decide.new.shelf;
+    } in
+    λ a name text device_text p r asked wants told ok calm shelf_calm here refusal. stopped-refuses_device c.accepted_has_no_refusal.ensures handed c.in-Err.stop c.tell.result a name
+    device_text p c.in-Err.ensures.stop c.tell.ensures.status (asked_of handed a text p asked told ok calm (λ w. shelf_calm)) wants here
+
+pub returns-in-Err-clause-complete : goal.returns-in-Err-clause-complete
+returns-in-Err-clause-complete g c =
+    let handed : Handed = record {
+      words = map (λ w. w.now) c.args.words.now;
+      input = g.I.Source.left c.args.input.now;
+      faults_before = g.I.Source.faults c.args.input.now;
+      faults_after = g.I.Source.faults c.decide.new.input;
+      content = g.F.Shelf.content c.args.shelf.now;
+      shelf_before = g.F.Shelf.faults c.args.shelf.now;
+      shelf_after = g.F.Shelf.faults c.decide.new.shelf;
+    } in
+    λ a text p asked told ok has calm shelf_calm out_calm report_calm. stopped-complete c.accepted_has_no_refusal.ensures c.means_once.ensures handed c.in-Err.stop c.tell.result a p
+    c.in-Err.ensures.stop c.tell.ensures.status (asked_of handed a text p asked told ok calm shelf_calm) has
