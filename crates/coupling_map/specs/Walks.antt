@@ -3,7 +3,7 @@
 --   is_near es a b        an edge leads from a to b or from b to a
 --   IsWalk es a cs b      a walk from a by the qubits cs, each near the one before, ends at b
 --   IsJoined es a b       some walk leads from a to b
---   IsDistance es a b k   k is the least number of near pairs in a walk from a to b
+--   IsDistance es a b k   some walk from a to b has k near pairs, and none has fewer
 --   IsDiameter n es k     k is the greatest distance of two qubits below n
 --   IsConnected n es      a walk leads from each qubit below n to each
 --   IsLeastApart n es q   q is the least qubit below n to which no walk from qubit 0 leads

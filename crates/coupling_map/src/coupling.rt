@@ -72,7 +72,7 @@ impl Device {
         self.neighbours[a as usize].as_slice()
     }
 
-    /// The distance from `a` to `b`: the least number of near pairs in a walk.
+    /// The distance from `a` to `b`, in near pairs along a shortest walk.
     pub fn dist(&self, a: u32, b: u32) -> u64
         requires first { a < self.now.size }
         requires second { b < self.now.size }

@@ -6,7 +6,7 @@
 //! the diameter. All distances are computed once, by a breadth-first search from each qubit.
 //!
 //! The contracts promise that the device is the text's, by toml's own meaning of it, that it is
-//! connected, and that each distance is the least number of near pairs in a walk. A text that
+//! connected, and that each distance counts the near pairs of a shortest walk. A text that
 //! describes no device is refused by the first fault of [`DeviceFault`] that applies; the contract of
 //! [`read_device`] says of each fault when it comes. Want of memory is an error of its own.
 #![tactic(auto)]

@@ -101,16 +101,16 @@ absent_at : (gates : List Gate) (i : ℕ) (angles : List Angle) (wires : List �
     → AtMost (meaning_at (meanings gates) i angles wires) (size_at (sizes gates) i).operations
 absent_at gates i angles wires e =
     let none : meaning_at (meanings gates) i ≡ no_meaning =
-        ap (λ x. unwrap_or x no_meaning) (in_order-get gate_meaning gates i ∙ ap (option_map (gate_meaning (meanings (take i gates)))) e) in
+    ap (λ x. unwrap_or x no_meaning) (in_order-get gate_meaning gates i ∙ ap (option_map (gate_meaning (meanings (take i gates)))) e) in
     subst (λ (f : Meaning). AtMost (f angles wires) (size_at (sizes gates) i).operations) (sym none) (none_at _)
 
 there_at : (gates : List Gate) (i : ℕ) (g : Gate) (angles : List Angle) (wires : List ℕ) → slice_get gates i ≡ Some g
     → AreAtMost (meanings (take i gates)) (sizes (take i gates)) → AtMost (meaning_at (meanings gates) i angles wires) (size_at (sizes gates) i).operations
 there_at gates i g angles wires e h =
     let means : meaning_at (meanings gates) i ≡ gate_meaning (meanings (take i gates)) g =
-        ap (λ x. unwrap_or x no_meaning) (in_order-get gate_meaning gates i ∙ ap (option_map (gate_meaning (meanings (take i gates)))) e) in
+    ap (λ x. unwrap_or x no_meaning) (in_order-get gate_meaning gates i ∙ ap (option_map (gate_meaning (meanings (take i gates)))) e) in
     let sized : size_at (sizes gates) i ≡ gate_size (sizes (take i gates)) g =
-        ap (λ x. unwrap_or x (size 0 1)) (in_order-get gate_size gates i ∙ ap (option_map (gate_size (sizes (take i gates)))) e) in
+    ap (λ x. unwrap_or x (size 0 1)) (in_order-get gate_size gates i ∙ ap (option_map (gate_size (sizes (take i gates)))) e) in
     subst (λ (n : Size). AtMost (meaning_at (meanings gates) i angles wires) n.operations) (sym sized)
     (subst (λ (f : Meaning). AtMost (f angles wires) (gate_size (sizes (take i gates)) g).operations) (sym means)
     (gate_at_most (meanings (take i gates)) (sizes (take i gates)) g h angles wires))
@@ -135,7 +135,7 @@ upto_at : (m : ℕ → Answer) (k n : ℕ) → ((j : ℕ) → AtMost (m j) k) �
 upto_at m k zero h = subst (λ a. AtMost a (zero * k)) (sym (upto_none m)) (none_at (zero * k))
 upto_at m k (suc n) h =
     let more : joined (map m (upto (suc n))) ≡ followed (joined (map m (upto n))) (m n) =
-        ap (λ x. joined (map m (upto x))) (sym (add-one n)) ∙ upto-more m n in
+    ap (λ x. joined (map m (upto x))) (sym (add-one n)) ∙ upto-more m n in
     let both = followed_at (joined (map m (upto n))) (m n) (n * k) k (upto_at m k n h) (h n) in
     let sum : n * k + k ≡ suc n * k = omega arith in
     subst (λ x. AtMost (joined (map m (upto (suc n)))) x) sum (subst (λ a. AtMost a (n * k + k)) (sym more) both)

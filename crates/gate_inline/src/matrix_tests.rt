@@ -3,8 +3,8 @@
 
 ghost use Rattle.std.specs.Prelude.{◌≤◌, length};
 
-use gate_expand::Ops;
 use crate::inline_tests::{behind_head, inlined};
+use gate_expand::Ops;
 use std::alloc::{AllocError, Global};
 use std::test::Fail;
 use unitary_model::Op;

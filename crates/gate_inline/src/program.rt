@@ -15,10 +15,10 @@ ghost use Rattle.gate_inline.specs.Stops.{IsStop};
 use crate::body::{Call, write_out};
 use crate::refusal::{InlineFault, Refusal, Refused};
 use crate::size::{broadcast, sizes, too_much};
-use gate_expand::{OpList, Ops, ReadList};
 use crate::stop::{Stop, Unvalued};
 use crate::value::values;
 use angle_fraction::Angle;
+use gate_expand::{OpList, Ops, ReadList};
 use qasm_check::{Gate, Operand, Step};
 use std::alloc::{AllocError, Global};
 use unitary_model::Op;
@@ -83,7 +83,9 @@ fn write_step(alloc: Global, gates: &[Gate], step: &Step, list: &mut Vec<Op>) ->
             Ok(angles) => write_broadcast(alloc, gates, *gate, &angles, operands, list),
             Err(stop) => Err(stop),
         },
-        Step::Measure { qubit: _, bit: _ } | Step::Barrier { operands: _ } | Step::Nothing => Ok(()),
+        Step::Measure { qubit: _, bit: _ } | Step::Barrier { operands: _ } | Step::Nothing => Ok(
+            (),
+        ),
     }
 }
 

@@ -48,7 +48,7 @@ named_by (act it ∷ rest) h = named_by rest h.1
 pub named_registers : (t : Tree) (b : Bound) → All (HasNames IsName) t.list → b ≡ bound t → All (λ r. IsName r.name) b.registers
 named_registers t b h same =
     let named : All (λ r. IsName r.name) (bound t).registers =
-        All-from_recursion (λ r. IsName r.name) (filter_map bits_of t.list) (named_by t.list (recursion_from_All (HasNames IsName) t.list h)) in
+    All-from_recursion (λ r. IsName r.name) (filter_map bits_of t.list) (named_by t.list (recursion_from_All (HasNames IsName) t.list h)) in
     subst (λ (x : Bound). All (λ r. IsName r.name) x.registers) (sym same) named
 
 left : (a b : Bool) → (a && b) ≡ true → a ≡ true

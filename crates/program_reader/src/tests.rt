@@ -23,7 +23,10 @@ fn told(alloc: Global, text: &[u8]) -> Result<String, AllocError> {
 fn told_source(alloc: Global, source: &Source) -> Result<String, AllocError> {
     let operations = source.ops.list.as_slice().len();
     let bits = source.ops.reads.as_slice().len();
-    let mut text = format!(in alloc; "{} {operations} {bits} {}", source.ops.wires, source.barriers)?;
+    let mut text = format!(in alloc;
+        "{} {operations} {bits} {}",
+        source.ops.wires, source.barriers
+    )?;
     for register in &source.registers {
         let name = str::from_utf8(register.name.as_bytes()).unwrap_or("?");
         write!(text, " {name}[{}]", register.size)?;
@@ -52,7 +55,10 @@ fn told_refusal(alloc: Global, refusal: Refusal) -> Result<String, AllocError> {
 fn reads_programs(rt: HostRuntime) -> Result<(), Fail> {
     let alloc = rt.alloc();
     let rows = [
-        ("qreg q[2]; creg c[1]; creg d[3]; h q; barrier q; measure q[0] -> d[2];", "2 2 4 1 c[1] d[3]"),
+        (
+            "qreg q[2]; creg c[1]; creg d[3]; h q; barrier q; measure q[0] -> d[2];",
+            "2 2 4 1 c[1] d[3]",
+        ),
         // a gate with a bad angle that is never applied
         ("gate g a { u1(1/0) a; } qreg q[1]; x q[0];", "1 1 0 0"),
         // the first refusal is that of an earlier stage
@@ -73,7 +79,10 @@ fn tower(alloc: Global, name: &str, first: &str, count: u32) -> Result<String, A
     let mut text = format!(in alloc; "gate {name}0 a {{ {first} }} ")?;
     for i in 1..count {
         let below = i - 1;
-        write!(text, "gate {name}{i} a {{ {name}{below} a; {name}{below} a; }} ")?;
+        write!(
+            text,
+            "gate {name}{i} a {{ {name}{below} a; {name}{below} a; }} "
+        )?;
     }
     Ok(text)
 }
@@ -101,7 +110,10 @@ fn counts_operations_to_the_limit(rt: HostRuntime) -> Result<(), Fail> {
 fn counts_items_to_the_limit(rt: HostRuntime) -> Result<(), Fail> {
     let alloc = rt.alloc();
     let gates = tower(alloc, "e", "", 20)?;
-    for (more, want) in [("e0 q[0];", "1 0 0 0"), ("e0 q[0]; e0 q[0];", "inline 44 25")] {
+    for (more, want) in [
+        ("e0 q[0];", "1 0 0 0"),
+        ("e0 q[0]; e0 q[0];", "inline 44 25"),
+    ] {
         let text = format!(in alloc; "{gates}qreg q[1]; e19 q[0]; {more}")?;
         let text = headed(alloc, text.as_str())?;
         let got = told(alloc, &text)?;

@@ -14,7 +14,7 @@ pub enum Refusal {
     NameTaken,
     /// A name that stands for nothing.
     UnknownName,
-    /// A register where a gate is asked for, or a gate or a register of the other kind where a register is.
+    /// A name that stands for something else than is wanted: a gate, qubits or classical bits.
     WrongKind,
     /// An index that isn't below its register's size.
     IndexRange,

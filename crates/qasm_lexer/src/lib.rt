@@ -38,7 +38,7 @@ pub enum Kind {
     Sign,
 }
 
-/// A token of a text: its bytes stand at the places from `from` on and below `to`.
+/// A token of a text: what stands there between the offsets `from` and `to`.
 #[derive(Clone, Copy, Debug, PartialEq, Eq)]
 pub struct Token {
     /// What it is.

@@ -12,8 +12,7 @@ use Rattle.qasm_parser.specs.declared.symbols.Mark.TheVariants.{Open, Close}
 use Rattle.qasm_parser.specs.Symbols.{Symbol, word, function, name, whole, real, mark, sign}
 use Rattle.qasm_parser.specs.Tree.{Expression, number, pi, param, negated, paren, call, binary}
 
--- a sum is product, then any number of + or - product; a product is signed, then any number of * or / signed;
--- signed is - signed, or a power; a power is an atom, or atom ^ signed
+-- how tightly a sign binds: + and - least, * and / more, then a minus in front, and ^ most, with or without a minus behind it
 abbrev pub sign_level : Binary → ℕ
 sign_level Add = 1
 sign_level Sub = 1

@@ -6,7 +6,7 @@ use angle_fraction::{Binary, Frac, Function};
 use std::alloc::{AllocError, Global};
 use std::marker::Model;
 
-/// A text that contracts see as a list of bytes.
+/// A name of a program, or the file that it includes; contracts see its bytes.
 #[derive(Drop)]
 pub struct Name {
     bytes: Vec<u8>,

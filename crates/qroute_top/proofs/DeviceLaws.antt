@@ -53,8 +53,8 @@ IsDevice-refused text d n (device.Fault (fault.NotConnected from to)) is fits (s
     let e = Says-once text _ _ says is.says in
     let size : m ≡ d.size = ap size_said e in
     let edges : es ≡ d.edges = ap edges_said e in
-    let walk = is.coupling.exact 0 to is.coupling.graph.positive (omega (arith, apart.below, size)) in
-    let joined : IsJoined es 0 to = rw edges (walk.walked.0, walk.walked.2) in
+    let there : IsJoined d.edges 0 to = is.coupling.connected 0 to is.coupling.graph.positive (omega (arith, apart.below, size)) in
+    let joined : IsJoined es 0 to = rw edges there in
     apart.apart joined
 IsDevice-refused text d n (device.TooFewQubits size qubits) is fits (c, other, a, b, few) =
     let e = Says-once text _ _ other.says is.says in

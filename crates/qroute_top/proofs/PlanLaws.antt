@@ -24,7 +24,7 @@ use Rattle.coupling_map.specs.Coupling.{Coupling}
 use Rattle.gate_inline.specs.Registers.{IsFree, IsRead}
 use Rattle.program_reader.specs.Refusals.{program_of}
 use Rattle.program_reader.specs.declared.source.Source.{Source}
-use Rattle.walk_route.specs.Edges.{FollowsEdges}
+use Rattle.coupling_map.specs.Edges.{FollowsEdges}
 use Rattle.qroute_top.specs.Delivered.{IsInPlace, Makes, Rewrites, placed_read}
 use Rattle.qroute_top.specs.Plans.{IsPlanned, IsRouted, target_program}
 use Rattle.qroute_top.specs.Targets.{Stands}

@@ -20,7 +20,7 @@ use Rattle.route_report.specs.Lines.{check_line, report_line}
 use Rattle.unitary_model.specs.Operations.{IsPlain, cx_count, t_count}
 use Rattle.unitary_model.specs.Placement.{identity}
 use Rattle.unitary_model.specs.Realises.{Realises}
-use Rattle.walk_route.specs.Edges.{FollowsEdges}
+use Rattle.coupling_map.specs.Edges.{FollowsEdges}
 use Rattle.gate_inline.specs.Programs.{IsAccepted, IsWritten, Program}
 use Rattle.command_words.specs.declared.commands.Command.{Command}
 use Rattle.command_words.specs.declared.commands.Command.TheVariants.{Opt, Route, Check}

@@ -9,7 +9,7 @@ use Rattle.std.specs.Prelude.{◌≡◌, ℕ, List, [], Option, Some, None, map}
 use Rattle.circuit_list.specs.Gates.{ops}
 use Rattle.coupling_map.specs.Coupling.{Coupling}
 use Rattle.unitary_model.specs.Placement.{identity}
-use Rattle.walk_route.specs.Edges.{FollowsEdges}
+use Rattle.coupling_map.specs.Edges.{FollowsEdges}
 use Rattle.gate_inline.specs.Programs.{IsWritten, Program}
 use Rattle.program_reader.specs.declared.source.Source.{Source}
 use Rattle.route_report.specs.declared.lines.Report.{Report}

@@ -134,7 +134,6 @@ pub fn stop(alloc: Global, rt: &impl Abort, rows: &[Stopped<'_>]) -> Result<(), 
     Ok(())
 }
 
-
 /// Texts that `opt` writes with these lines behind the heading, and the phase that it reports.
 pub fn optimise(alloc: Global, rt: &impl Abort, rows: &[(&str, &str, u8)]) -> Result<(), Fail> {
     for (text, written, phase) in rows {
@@ -149,9 +148,16 @@ pub fn optimise(alloc: Global, rt: &impl Abort, rows: &[(&str, &str, u8)]) -> Re
             },
         )?;
         assert_eq!(rt; got.status, 0, "{written}");
-        assert_eq!(rt; got.out.as_slice(), headed(alloc, written)?.as_slice(), "{written}");
+        assert_eq!(rt;
+            got.out.as_slice(),
+            headed(alloc, written)?.as_slice(),
+            "{written}"
+        );
         let told = String::from_utf8(got.report).unwrap();
-        assert!(rt; told.contains(&format!(in alloc; "\"phase\":{phase},")?), "{told}");
+        assert!(rt;
+            told.contains(&format!(in alloc; "\"phase\":{phase},")?),
+            "{told}"
+        );
     }
     Ok(())
 }

@@ -102,11 +102,7 @@ pub fn tell<R: Sink>(alloc: Global, stop: Stop, report: &mut R) -> u8
 }
 
 /// Writes a text and flushes it; where that fails, its fault line goes to the report.
-fn send_text<O: Sink, R: Sink>(
-    written: &Written,
-    out: &mut O,
-    report: &mut R,
-) -> Result<(), Failed>
+fn send_text<O: Sink, R: Sink>(written: &Written, out: &mut O, report: &mut R) -> Result<(), Failed>
     requires { written.now.fault.items ≡ output_fault_line }
     ensures ok { OnOk result (Gains (O.held out.old) (O.held out.new) written.now.text.items) }
     ensures flushed { OnOk result (O.flushed out.new ≡ true) }

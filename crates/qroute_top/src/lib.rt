@@ -27,13 +27,12 @@ ghost use Rattle.qroute_top.specs.Devices.{HasDevice, IsDeviceRefusal};
 ghost use Rattle.qroute_top.specs.Causes.{EndsWithFault, is_early_fault, output_fault_line};
 ghost use Rattle.qroute_top.specs.Delivered.{Delivered};
 
+pub use command_words::{commands, name, words};
 use decision::decide;
 use emission::{emit, tell};
 use outside_io::{Shelf, Sink, Source};
 use program_reader::{accepted_has_no_refusal, means_once};
 use std::alloc::Global;
-
-pub use command_words::{commands, name, words};
 
 mod decision;
 mod device;

@@ -67,14 +67,30 @@ fn writes_on_the_own_wires(rt: HostRuntime) -> Result<(), Fail> {
 #[test]
 fn writes_exact_angles(rt: HostRuntime) -> Result<(), Fail> {
     let rows = [
-        ("OPENQASM 2.0; qreg q[1]; U(pi/4,0,0) q[0];", "qreg q[1];\nsdg q[0];\nh q[0];\nt q[0];\nh q[0];\ns q[0];\n", 2),
+        (
+            "OPENQASM 2.0; qreg q[1]; U(pi/4,0,0) q[0];",
+            "qreg q[1];\nsdg q[0];\nh q[0];\nt q[0];\nh q[0];\ns q[0];\n",
+            2,
+        ),
         ("qreg q[1]; u1(0.25*pi) q[0];", "qreg q[1];\nt q[0];\n", 0),
         ("qreg q[1]; u1(-pi/2^2) q[0];", "qreg q[1];\ntdg q[0];\n", 0),
-        ("qreg q[1]; u1(-2^2*pi/16) q[0];", "qreg q[1];\ntdg q[0];\n", 0),
+        (
+            "qreg q[1]; u1(-2^2*pi/16) q[0];",
+            "qreg q[1];\ntdg q[0];\n",
+            0,
+        ),
         ("qreg q[1]; u1(2^-1*pi) q[0];", "qreg q[1];\ns q[0];\n", 0),
-        ("qreg q[1]; u1(-3*pi/4) q[0];", "qreg q[1];\nu1(5*pi/4) q[0];\n", 0),
+        (
+            "qreg q[1]; u1(-3*pi/4) q[0];",
+            "qreg q[1];\nu1(5*pi/4) q[0];\n",
+            0,
+        ),
         ("qreg q[1]; u1(2^62*pi) q[0];", "qreg q[1];\n", 0),
-        ("gate g a,b { crz(pi/4) a,b; } qreg q[1]; t q[0];", "qreg q[1];\nt q[0];\n", 0),
+        (
+            "gate g a,b { crz(pi/4) a,b; } qreg q[1]; t q[0];",
+            "qreg q[1];\nt q[0];\n",
+            0,
+        ),
     ];
     optimise(rt.alloc(), &rt, &rows)
 }
@@ -82,7 +98,11 @@ fn writes_exact_angles(rt: HostRuntime) -> Result<(), Fail> {
 #[test]
 fn writes_registers_by_their_names(rt: HostRuntime) -> Result<(), Fail> {
     let rows = [
-        ("qreg a[1]; creg q[1]; measure a -> q;", "qreg q_[1];\ncreg q[1];\nmeasure q_[0] -> q[0];\n", 0),
+        (
+            "qreg a[1]; creg q[1]; measure a -> q;",
+            "qreg q_[1];\ncreg q[1];\nmeasure q_[0] -> q[0];\n",
+            0,
+        ),
         (
             "qreg q[1]; creg c[1]; creg d[1]; measure q[0]->c[0]; measure q[0]->d[0];",
             "qreg q[1];\ncreg c[1];\ncreg d[1];\nmeasure q[0] -> c[0];\nmeasure q[0] -> d[0];\n",
@@ -93,7 +113,11 @@ fn writes_registers_by_their_names(rt: HostRuntime) -> Result<(), Fail> {
             "qreg q[3];\ncreg d[2];\ncreg c[1];\nh q[1];\nh q[2];\ncx q[0],q[2];\nmeasure q[1] -> d[0];\nmeasure q[2] -> d[1];\nmeasure q[0] -> c[0];\n",
             0,
         ),
-        ("qreg q[2]; creg c[1]; measure q[0]->c[0]; h q[1]; measure q[1]->c[0];", "qreg q[2];\ncreg c[1];\nh q[1];\nmeasure q[1] -> c[0];\n", 0),
+        (
+            "qreg q[2]; creg c[1]; measure q[0]->c[0]; h q[1]; measure q[1]->c[0];",
+            "qreg q[2];\ncreg c[1];\nh q[1];\nmeasure q[1] -> c[0];\n",
+            0,
+        ),
     ];
     optimise(rt.alloc(), &rt, &rows)
 }

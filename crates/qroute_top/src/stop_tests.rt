@@ -164,23 +164,50 @@ fn takes_no_other_words(rt: HostRuntime) -> Result<(), Fail> {
 #[test]
 fn refuses_texts(rt: HostRuntime) -> Result<(), Fail> {
     let rows = [
-        ("OPENQASM 2.0;\nqreg q[1]", "{\"code\":12,\"fault\":\"Syntax\",\"place\":23,\"status\":3}\n"),
-        ("OPENQASM 2.0;\nqreg q[1];\n$", "{\"code\":10,\"fault\":\"BadByte\",\"place\":25,\"status\":3}\n"),
-        ("OPENQASM 3.0;", "{\"code\":13,\"fault\":\"Version\",\"place\":9,\"status\":3}\n"),
+        (
+            "OPENQASM 2.0;\nqreg q[1]",
+            "{\"code\":12,\"fault\":\"Syntax\",\"place\":23,\"status\":3}\n",
+        ),
+        (
+            "OPENQASM 2.0;\nqreg q[1];\n$",
+            "{\"code\":10,\"fault\":\"BadByte\",\"place\":25,\"status\":3}\n",
+        ),
+        (
+            "OPENQASM 3.0;",
+            "{\"code\":13,\"fault\":\"Version\",\"place\":9,\"status\":3}\n",
+        ),
         (
             "qreg q[1]; u1(0.00000000000000000001) q[0];",
             "{\"code\":11,\"fault\":\"Number\",\"place\":50,\"status\":3}\n",
         ),
-        ("qreg q[1]; u1(1e5) q[0];", "{\"code\":12,\"fault\":\"Syntax\",\"place\":51,\"status\":3}\n"),
-        ("qreg q[2]; cx q[0],q[0];", "{\"code\":29,\"fault\":\"RepeatedQubit\",\"statement\":3,\"status\":3}\n"),
-        ("qreg q[2]; cx q[0],q;", "{\"code\":29,\"fault\":\"RepeatedQubit\",\"statement\":3,\"status\":3}\n"),
-        ("qreg a[2]; qreg b[3]; cx a,b;", "{\"code\":28,\"fault\":\"SizeDiffers\",\"statement\":4,\"status\":3}\n"),
-        ("qreg q[65];", "{\"code\":34,\"fault\":\"TooManyQubits\",\"statement\":2,\"status\":3}\n"),
+        (
+            "qreg q[1]; u1(1e5) q[0];",
+            "{\"code\":12,\"fault\":\"Syntax\",\"place\":51,\"status\":3}\n",
+        ),
+        (
+            "qreg q[2]; cx q[0],q[0];",
+            "{\"code\":29,\"fault\":\"RepeatedQubit\",\"statement\":3,\"status\":3}\n",
+        ),
+        (
+            "qreg q[2]; cx q[0],q;",
+            "{\"code\":29,\"fault\":\"RepeatedQubit\",\"statement\":3,\"status\":3}\n",
+        ),
+        (
+            "qreg a[2]; qreg b[3]; cx a,b;",
+            "{\"code\":28,\"fault\":\"SizeDiffers\",\"statement\":4,\"status\":3}\n",
+        ),
+        (
+            "qreg q[65];",
+            "{\"code\":34,\"fault\":\"TooManyQubits\",\"statement\":2,\"status\":3}\n",
+        ),
         (
             "qreg q[2]; creg c[1]; measure q[0]->c[0]; h q[1]; measure q[1]->c[0]; h q[1];",
             "{\"code\":33,\"fault\":\"AfterMeasure\",\"statement\":7,\"status\":3}\n",
         ),
-        ("creg h[1];", "{\"code\":21,\"fault\":\"NameTaken\",\"statement\":2,\"status\":3}\n"),
+        (
+            "creg h[1];",
+            "{\"code\":21,\"fault\":\"NameTaken\",\"statement\":2,\"status\":3}\n",
+        ),
         (
             "qreg q[2]; crz(pi/4) q[0],q[1];",
             "{\"code\":43,\"fault\":\"AngleStep\",\"statement\":3,\"status\":3}\n",
@@ -189,11 +216,26 @@ fn refuses_texts(rt: HostRuntime) -> Result<(), Fail> {
             "qreg q[1]; u1(0.7853981633974483) q[0];",
             "{\"code\":43,\"fault\":\"AngleStep\",\"statement\":3,\"status\":3}\n",
         ),
-        ("qreg q[1]; u1(1.) q[0];", "{\"code\":43,\"fault\":\"AngleStep\",\"statement\":3,\"status\":3}\n"),
-        ("qreg q[1]; u1(pi*pi) q[0];", "{\"code\":40,\"fault\":\"AngleForm\",\"statement\":3,\"status\":3}\n"),
-        ("qreg q[1]; u1(sin(0)) q[0];", "{\"code\":40,\"fault\":\"AngleForm\",\"statement\":3,\"status\":3}\n"),
-        ("qreg q[1]; u1(pi/(1-1)) q[0];", "{\"code\":41,\"fault\":\"AngleZero\",\"statement\":3,\"status\":3}\n"),
-        ("qreg q[1]; u1(2^62*2*pi) q[0];", "{\"code\":42,\"fault\":\"AngleRange\",\"statement\":3,\"status\":3}\n"),
+        (
+            "qreg q[1]; u1(1.) q[0];",
+            "{\"code\":43,\"fault\":\"AngleStep\",\"statement\":3,\"status\":3}\n",
+        ),
+        (
+            "qreg q[1]; u1(pi*pi) q[0];",
+            "{\"code\":40,\"fault\":\"AngleForm\",\"statement\":3,\"status\":3}\n",
+        ),
+        (
+            "qreg q[1]; u1(sin(0)) q[0];",
+            "{\"code\":40,\"fault\":\"AngleForm\",\"statement\":3,\"status\":3}\n",
+        ),
+        (
+            "qreg q[1]; u1(pi/(1-1)) q[0];",
+            "{\"code\":41,\"fault\":\"AngleZero\",\"statement\":3,\"status\":3}\n",
+        ),
+        (
+            "qreg q[1]; u1(2^62*2*pi) q[0];",
+            "{\"code\":42,\"fault\":\"AngleRange\",\"statement\":3,\"status\":3}\n",
+        ),
     ];
     refuse(rt.alloc(), &rt, &rows)
 }

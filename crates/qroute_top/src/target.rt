@@ -5,7 +5,7 @@ ghost use Rattle.coupling_map.specs.Coupling.{Coupling};
 ghost use Rattle.circuit_list.specs.Gates.{IsFine, ops};
 ghost use Rattle.gate_expand.specs.Expansion.{IsFineOp};
 ghost use Rattle.unitary_model.specs.Placement.{identity};
-ghost use Rattle.walk_route.specs.Edges.{FollowsEdges};
+ghost use Rattle.coupling_map.specs.Edges.{FollowsEdges};
 ghost use Rattle.qroute_top.specs.Targets.{IsOptimised, Stands};
 
 use circuit_list::{Circuit, Passed};
