@@ -43,7 +43,8 @@ pub enum Gate {
     Cx { c: u32, t: u32 },
 }
 
-/// The gates in circuit order, the first gate first.
+/// The gates in circuit order, the first gate first. A slot whose gate was taken out is not used again, and counting and
+/// copying go through all slots that there ever were.
 #[derive(Drop)]
 pub struct Circuit {
     wires: u32,

@@ -208,7 +208,7 @@ fn compare(rt: &impl Abort, circuit: &Circuit, plain: &Plain, place: usize) {
     assert_eq!(rt; circuit.prev_on(slot, second), plain.prev_on(place, second));
 }
 
-/// Five kinds of edits, more than a thousand of each, and all answers after each of them.
+/// Five kinds of edits, more than a thousand of each, and after each of them the answers at a drawn place.
 #[test]
 fn answers_as_a_plain_list_does(rt: HostRuntime) -> Result<(), Fail> {
     let alloc = rt.alloc();

@@ -6,7 +6,7 @@
 --   is_dependence rows     rows, at least one, that sum to 0
 --   is_independent rows    no nonempty choice sums to 0
 --   longest lists          the length of the longest list
---   rank rows              the largest number of independent rows among them
+--   rank rows              how many rows an independent choice of them has at most
 --   rows_at rows places    the rows that stand at the places
 --   combined rows set      the sum of the rows whose places are in a set of places, which is a number as a row is
 --   places_in n set        the numbers below n that are in a set, ascending

@@ -12,8 +12,8 @@ use std::alloc::{AllocError, Global};
 /// The additions (from, to) of rows that make the identity of a matrix, in order; read backwards, they make the
 /// matrix of the identity, and its product with them of any other rows. None exactly where the rows are dependent.
 ///
-/// Gaussian elimination, column by column: where the row of a column lacks it, the first later row that has it is
-/// added to it, and then it is added to each other row that has the column, ascending.
+/// This is Gaussian elimination. At each column the row of the same number gets the column, if it hasn't it yet, from the
+/// next row below that has it, and takes it out of the others, from the first to the last.
 pub fn additions(alloc: Global, matrix: &Matrix) -> Result<Option<Vec<(u32, u32)>>, AllocError>
     ensures ok { IfOk result (λ o. IfSome o (λ l. run matrix.now l.items ≡ identity_rows (length matrix.now))) }
     ensures back { IfOk result (λ o. IfSome o (λ l. run (identity_rows (length matrix.now)) (reverse l.items) ≡ matrix.now)) }

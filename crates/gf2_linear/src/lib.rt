@@ -3,7 +3,7 @@
 //! In go rows, each a set of wires; their sum is the symmetric difference. Out come the rank of rows, whether they are
 //! independent, the places of rows that sum to another, a square matrix that has given rows, and the inverse of a matrix.
 //! Contracts see a row as the number whose bits are its wires, and a matrix as the list of its rows. Independence and
-//! rank are told by trying every choice of rows, and each call is exact both ways: where it answers that there is no sum
+//! rank are defined by all choices of rows, and each call is exact both ways: where it answers that there is no sum
 //! or no inverse, there is none. A `Basis` keeps independent rows in reduced form, so that a row is brought in, or told
 //! as a sum, in time linear in their number. There is no bad input: callers keep wires below the limit, and ask
 //! `is_independent` where a call wants independent rows. Want of memory leaves nothing behind.

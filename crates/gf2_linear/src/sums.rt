@@ -9,7 +9,7 @@ use crate::matrices::Matrix;
 use crate::rows::Row;
 use std::alloc::{AllocError, Global};
 
-/// The largest number of independent rows among the rows.
+/// The rank of the rows: how many rows an independent choice of them has at most.
 pub fn rank(alloc: Global, rows: &[Row]) -> Result<usize, AllocError>
     ensures { IfOk result (λ k. k ≡ rank rows.now) }
 {

@@ -19,8 +19,8 @@ pub struct Parts {
     pub witness: Vec<usize>,
 }
 
-/// The least partition of nonzero rows into independent blocks. With one block the witness is all rows, with
-/// none it is empty.
+/// As few independent blocks of nonzero rows as there can be, and a witness. Where all rows fit one block, each
+/// row is in the witness; without rows there is neither a block nor a witness.
 pub fn partition(alloc: Global, rows: &[Row]) -> Result<Parts, AllocError>
     requires nonzero { All (λ r. r ≡ 0 → ⊥) rows.now }
     ensures partition { IfOk result (λ p. IsPartition rows.now (blocks_of p)) }

@@ -51,7 +51,7 @@ pub fn front_at(alloc: Global, place: usize) -> Result<Front, AllocError>
     Ok(Front { nodes, seen })
 }
 
-/// Searches from the row behind those that have a home: breadth first, blocks ascending, members ascending.
+/// Searches from the row behind those that have a home, the nearest rows first, and of these by the numbers of blocks and members.
 /// None where no chain brings it in: then the front has all rows that are reached.
 pub fn search(ground: &Ground, front: &mut Front) -> Result<Option<Chain>, AllocError>
     requires ground { IsStill ground.now }

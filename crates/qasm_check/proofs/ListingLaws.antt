@@ -10,7 +10,7 @@ use Rattle.std.proofs.lemmas.Bool.Decides.{nat_tests}
 use Rattle.std.proofs.lemmas.Slice.Eq.{bytes_eq-Decides}
 use Rattle.angle_fraction.specs.Fraction.{lowest, common_factor, greatest_common, is_small}
 use Rattle.angle_fraction.specs.declared.signs.Binary.TheVariants.{Sub, Div}
-use Rattle.qasm_lexer.specs.Lexemes.{lexeme_len}
+use Rattle.qasm_lexer.specs.Lexemes.{form_len, lexeme_len}
 use Rattle.qasm_lexer.specs.Numbers.{digit, number as digits_number, scaled}
 use Rattle.qasm_lexer.specs.Tokens.{lexed, lexed_from}
 use Rattle.qasm_lexer.specs.declared.Token.{Token}
@@ -314,7 +314,7 @@ spelt text e a b c d = record {
 }
 
 pub all_spelt : AreSpelt texts (standard ++ added)
-unfolding texts standard added table_names table_index lexed_from lexeme_len digit digits_number scaled lowest common_factor greatest_common is_small symbol_by word_symbol mark_symbol
+unfolding texts standard added table_names table_index lexed_from form_len lexeme_len digit digits_number scaled lowest common_factor greatest_common is_small symbol_by word_symbol mark_symbol
 all_spelt = (
   spelt _ _ refl refl refl refl,
   (
