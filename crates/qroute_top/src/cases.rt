@@ -153,7 +153,7 @@ pub fn optimise(alloc: Global, rt: &impl Abort, rows: &[(&str, &str, u8)]) -> Re
             headed(alloc, written)?.as_slice(),
             "{written}"
         );
-        let told = String::from_utf8(got.report).unwrap();
+        let told = String::from_utf8(got.report).expect(rt, "a report in UTF-8");
         assert!(rt;
             told.contains(&format!(in alloc; "\"phase\":{phase},")?),
             "{told}"
@@ -166,21 +166,32 @@ pub fn optimise(alloc: Global, rt: &impl Abort, rows: &[(&str, &str, u8)]) -> Re
 pub fn refuse(alloc: Global, rt: &impl Abort, rows: &[(&str, &str)]) -> Result<(), Fail> {
     for (text, told) in rows {
         let text = headed(alloc, text)?;
-        for words in [OPT.as_slice(), CHECK.as_slice(), ROUTE.as_slice()] {
-            // No output is written, and no device is loaded.
-            let got = run_case(
-                alloc,
-                Case {
-                    words,
-                    text: &text,
-                    device: "?",
-                    fails: [0, 1, 1, 0],
-                },
-            )?;
-            assert_eq!(rt; got.status, 3, "{told}");
-            assert!(rt; got.out.as_slice().is_empty(), "{told}");
-            assert_eq!(rt; got.report.as_slice(), told.as_bytes(), "{told}");
-        }
+        refuse_by(alloc, rt, &OPT, &text, told)?;
+        refuse_by(alloc, rt, &CHECK, &text, told)?;
+        refuse_by(alloc, rt, &ROUTE, &text, told)?;
     }
+    Ok(())
+}
+
+/// One command on a text that it refuses: no output is written, and no device is loaded.
+fn refuse_by(
+    alloc: Global,
+    rt: &impl Abort,
+    words: &[&str],
+    text: &[u8],
+    told: &str,
+) -> Result<(), Fail> {
+    let got = run_case(
+        alloc,
+        Case {
+            words,
+            text,
+            device: "?",
+            fails: [0, 1, 1, 0],
+        },
+    )?;
+    assert_eq!(rt; got.status, 3, "{told}");
+    assert!(rt; got.out.as_slice().is_empty(), "{told}");
+    assert_eq!(rt; got.report.as_slice(), told.as_bytes(), "{told}");
     Ok(())
 }
