@@ -27,14 +27,14 @@ pub fn is_gate(meaning: Option<Meaning>) -> bool
     matches!(meaning, Some(Meaning::Gate(_)))
 }
 
-/// Whether it is a register, where a gate is asked for.
+/// Whether what should be a gate is a register.
 pub fn is_register(meaning: Option<Meaning>) -> bool
     ensures { result ≡ is_register meaning }
 {
     matches!(meaning, Some(Meaning::Register(_)))
 }
 
-/// Whether it is a gate or a register of the other kind, where a register of wires or one of bits is asked for.
+/// Whether what should be a register of wires, or of bits, is something else.
 pub fn is_other(quantum: bool, meaning: Option<Meaning>) -> bool
     ensures { result ≡ is_other quantum meaning }
 {

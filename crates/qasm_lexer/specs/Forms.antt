@@ -110,7 +110,7 @@ IsLexeme w = IsBlank w ⊎ ((kind : Kind) × IsOfKind kind w)
 abbrev pub capitals : List Bytes
 capitals = codes "OPENQASM" ∷ codes "U" ∷ codes "CX" ∷ []
 
--- a word is taken whole, and then it must be one of these if it begins with a capital
+-- a word goes as far as it can, and of those with a capital in front there are only these
 abbrev pub IsAllowed : Bytes → Type 0
 IsAllowed [] = ⊤
 IsAllowed (b ∷ w) = is_ascii_uppercase b ≡ true → OneOf capitals (b ∷ w)
