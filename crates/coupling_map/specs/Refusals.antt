@@ -1,11 +1,11 @@
 -- Why a text is refused, one equation for each refusal. Want of memory may come at any time.
---   IsRefusal text fault   the text is refused by this fault
---   IsCause text error     the same of an error, which may also be want of memory
---   IsTextCause            the same where no table is read
---   IsShapeCause           the same where a value has not its shape
---   IsRangeCause           the same where a number is out of its range
---   IsTableCause           the same where the table says no graph
---   IsGraphCause           the same where the graph is not connected
+--   IsDeviceFault text fault   the text is refused by this fault
+--   IsCause text error         the same of an error, which may also be want of memory
+--   IsDeviceTextCause          the same where no table is read
+--   IsShapeCause               the same where a value has not its shape
+--   IsRangeCause               the same where a number is out of its range
+--   IsTableCause               the same where the table says no graph
+--   IsGraphCause               the same where the graph is not connected
 use Rattle.std.specs.Prelude.{◌≡◌, ℕ, List, Option, None, ⊤}
 use Rattle.coupling_map.specs.declared.faults.DeviceFault.{DeviceFault}
 use Rattle.coupling_map.specs.declared.faults.DeviceFault.TheVariants as fault
@@ -14,22 +14,22 @@ use Rattle.coupling_map.specs.declared.faults.DeviceError.TheVariants as error
 use Rattle.coupling_map.specs.Text.{HasNoTable, Outcome, Says, shape, range, self_edge, graph}
 use Rattle.coupling_map.specs.Walks.{IsLeastApart}
 
-abbrev pub IsRefusal : List ℕ → DeviceFault → Type 0
-IsRefusal text fault.Text = HasNoTable text
-IsRefusal text fault.Shape = Says text shape
-IsRefusal text fault.Range = Says text range
-IsRefusal text (fault.SelfEdge qubit) = Says text (self_edge qubit)
-IsRefusal text (fault.NotConnected from to) =
+abbrev pub IsDeviceFault : List ℕ → DeviceFault → Type 0
+IsDeviceFault text fault.Text = HasNoTable text
+IsDeviceFault text fault.Shape = Says text shape
+IsDeviceFault text fault.Range = Says text range
+IsDeviceFault text (fault.SelfEdge qubit) = Says text (self_edge qubit)
+IsDeviceFault text (fault.NotConnected from to) =
     (n : ℕ) × (es : List (ℕ × ℕ)) × Says text (graph n es) × (from ≡ 0) × IsLeastApart n es to
 
 abbrev pub IsCause : List ℕ → DeviceError → Type 0
 IsCause text error.NoMemory = ⊤
-IsCause text (error.Refused f) = IsRefusal text f
+IsCause text (error.Refused f) = IsDeviceFault text f
 
-abbrev pub IsTextCause : List ℕ → DeviceError → Type 0
-IsTextCause text error.NoMemory = ⊤
-IsTextCause text (error.Refused fault.Text) = HasNoTable text
-IsTextCause text (error.Refused other) = ⊥
+abbrev pub IsDeviceTextCause : List ℕ → DeviceError → Type 0
+IsDeviceTextCause text error.NoMemory = ⊤
+IsDeviceTextCause text (error.Refused fault.Text) = HasNoTable text
+IsDeviceTextCause text (error.Refused other) = ⊥
 
 abbrev pub IsShapeCause : {A : Type 0} → Option A → DeviceError → Type 0
 IsShapeCause o error.NoMemory = ⊤

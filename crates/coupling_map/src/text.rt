@@ -5,7 +5,7 @@ ghost use Rattle.toml.specs.Data.{as_array, as_integer, get_member};
 ghost use Rattle.toml.specs.View.{items_view, table_view, view};
 ghost use Rattle.coupling_map.specs.Coupling.{IsGraph};
 ghost use Rattle.coupling_map.specs.Lists.{all_some};
-ghost use Rattle.coupling_map.specs.Refusals.{IsRangeCause, IsShapeCause, IsTableCause, IsTextCause};
+ghost use Rattle.coupling_map.specs.Refusals.{IsDeviceTextCause, IsRangeCause, IsShapeCause, IsTableCause};
 ghost use Rattle.coupling_map.specs.Text.{IsTable, below, edges_of, ends_below, graph, is_self_edge, outcome_of, pair_in, pair_of, size_of};
 
 use crate::QUBIT_LIMIT;
@@ -23,7 +23,7 @@ pub struct Listed {
 /// The table of a text.
 pub fn read_table(alloc: Global, text: &[u8]) -> Result<Table, DeviceError>
     ensures ok { IfOk result (λ t. IsTable text.now (table_view t)) }
-    ensures err { IfErr result (IsTextCause text.now) }
+    ensures err { IfErr result (IsDeviceTextCause text.now) }
 {
     match toml::table_from_slice(alloc, text) {
         Ok(table) => Ok(table),

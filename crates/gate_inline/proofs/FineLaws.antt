@@ -20,7 +20,7 @@ use Rattle.gate_library.specs.declared.operand.Operand.{Operand}
 use Rattle.qasm_check.specs.Sound.{IsSound, are_gates, is_distinct, is_gate, is_item, is_step}
 use Rattle.qasm_check.specs.Steps.{Step, applies, measures, bars, nothing}
 use Rattle.gate_expand.specs.Expansion.{IsFineOp}
-use Rattle.gate_inline.specs.Inlined.{IsFault, IsFirstUnvalued, IsInlined, IsRefused, IsTooMany, operations}
+use Rattle.gate_inline.specs.Inlined.{IsFirstUnvalued, IsInlineFault, IsInlineRefused, IsInlined, IsTooMany, operations}
 use Rattle.gate_inline.specs.Reads.{reads}
 use Rattle.gate_inline.specs.Sizes.{is_too_much, total}
 use Rattle.gate_inline.specs.declared.refusal.Refusal.{Refusal}
@@ -260,14 +260,14 @@ operations-fine b us s e = fine_steps b.gates b.wires b.bits b.steps us (fine_ga
 moved : (b c : Bound) (P : List Gate → List Step → Type 0) → b.gates ≡ c.gates → b.steps ≡ c.steps → P b.gates b.steps → P c.gates c.steps
 moved b c P g s h = subst (λ (gates : List Gate). P gates c.steps) g (subst (λ (steps : List Step). P b.gates steps) s h)
 
-refused_same : (b c : Bound) (r : Refusal) (n : ℕ) → b.gates ≡ c.gates → b.steps ≡ c.steps → IsRefused b r n → IsRefused c r n
+refused_same : (b c : Bound) (r : Refusal) (n : ℕ) → b.gates ≡ c.gates → b.steps ≡ c.steps → IsInlineRefused b r n → IsInlineRefused c r n
 refused_same b c TooManyOps n g s h = moved b c (λ gates steps. IsTooMany gates steps n) g s h
 refused_same b c AngleForm n g s h = moved b c (λ gates steps. (is_too_much (total gates steps) ≡ false) × IsFirstUnvalued gates steps NoForm n) g s h
 refused_same b c AngleZero n g s h = moved b c (λ gates steps. (is_too_much (total gates steps) ≡ false) × IsFirstUnvalued gates steps ByZero n) g s h
 refused_same b c AngleRange n g s h = moved b c (λ gates steps. (is_too_much (total gates steps) ≡ false) × IsFirstUnvalued gates steps TooLarge n) g s h
 refused_same b c AngleStep n g s h = moved b c (λ gates steps. (is_too_much (total gates steps) ≡ false) × IsFirstUnvalued gates steps NoStep n) g s h
 
-pub fault_same : (b c : Bound) (f : InlineFault) → b.gates ≡ c.gates → b.steps ≡ c.steps → IsFault b f → IsFault c f
+pub fault_same : (b c : Bound) (f : InlineFault) → b.gates ≡ c.gates → b.steps ≡ c.steps → IsInlineFault b f → IsInlineFault c f
 fault_same b c (Refuses r) g s h = refused_same b c r.refusal r.statement g s h
 fault_same b c NoMemory g s h = tt
 

@@ -10,7 +10,7 @@ use Rattle.qasm_check.specs.Bound.{Bound}
 use Rattle.gate_library.specs.Gates.{Gate}
 use Rattle.qasm_check.specs.Steps.{Step}
 use Rattle.gate_expand.specs.declared.source.Ops.{Ops}
-use Rattle.gate_inline.specs.Inlined.{IsFault, IsFirstUnvalued, IsInlined, IsRefused, IsTooMany, operations, refusal_of}
+use Rattle.gate_inline.specs.Inlined.{IsFirstUnvalued, IsInlineFault, IsInlineRefused, IsInlined, IsTooMany, operations, refusal_of}
 use Rattle.gate_inline.specs.Meanings.{Answer, followed, joined, meanings, step_answer}
 use Rattle.gate_inline.specs.Sizes.{is_too_much, size_plus, sizes, step_size, total}
 use Rattle.gate_inline.specs.declared.refusal.InlineFault.{InlineFault}
@@ -92,11 +92,11 @@ is_ok : {A E : Type 0} (r : Result A E) (x : A) → r ≡ Ok x → IsOk r
 is_ok (Ok y) x e = refl
 is_ok (Err y) x e = cc
 
-pub inlined-no_fault : (b : Bound) (o : Ops) (f : InlineFault) → IsInlined b o → IsFault b f → f ≡ NoMemory
+pub inlined-no_fault : (b : Bound) (o : Ops) (f : InlineFault) → IsInlined b o → IsInlineFault b f → f ≡ NoMemory
 inlined-no_fault b o NoMemory h f = refl
 inlined-no_fault b o (Refuses r) h f = absurd (by_refusal r.refusal f)
   where
-    by_refusal : (q : Refusal) → IsRefused b q r.statement → ⊥
+    by_refusal : (q : Refusal) → IsInlineRefused b q r.statement → ⊥
     by_refusal TooManyOps f = none_too_many b.gates b.steps r.statement h.small f
     by_refusal AngleForm f = none_unvalued b.gates b.steps NoForm r.statement (is_ok _ o.list h.list) f.1
     by_refusal AngleZero f = none_unvalued b.gates b.steps ByZero r.statement (is_ok _ o.list h.list) f.1
@@ -153,14 +153,14 @@ abbrev IsRefusedAs : Bound → Refusal → ℕ → Type 0
 IsRefusedAs b r n = ((r ≡ TooManyOps) × IsTooMany b.gates b.steps n)
     ⊎ ((is_too_much (total b.gates b.steps) ≡ false) × ((e : Unvalued) × (refusal_of e ≡ r) × IsFirstUnvalued b.gates b.steps e n))
 
-told_as : (b : Bound) (r : Refusal) (n : ℕ) → IsRefused b r n → IsRefusedAs b r n
+told_as : (b : Bound) (r : Refusal) (n : ℕ) → IsInlineRefused b r n → IsRefusedAs b r n
 told_as b TooManyOps n f = inl (refl, f)
 told_as b AngleForm n f = inr (f.0, (NoForm, refl, f.1))
 told_as b AngleZero n f = inr (f.0, (ByZero, refl, f.1))
 told_as b AngleRange n f = inr (f.0, (TooLarge, refl, f.1))
 told_as b AngleStep n f = inr (f.0, (NoStep, refl, f.1))
 
-pub refused_once : (b : Bound) (q r : Refused) → IsRefused b q.refusal q.statement → IsRefused b r.refusal r.statement → q ≡ r
+pub refused_once : (b : Bound) (q r : Refused) → IsInlineRefused b q.refusal q.statement → IsInlineRefused b r.refusal r.statement → q ≡ r
 refused_once b q r f g = both (told_as b q.refusal q.statement f) (told_as b r.refusal r.statement g)
   where
     same : (x y : Refused) → x.refusal ≡ y.refusal → x.statement ≡ y.statement → x ≡ y

@@ -13,7 +13,7 @@ use Rattle.qasm_check.specs.Steps.{Step}
 use Rattle.gate_library.specs.Operands.{upto}
 use Rattle.gate_inline.specs.Meanings.{Answer, followed, joined, meanings, step_answer}
 use Rattle.gate_inline.specs.Capped.{capped}
-use Rattle.gate_inline.specs.Inlined.{IsFault, IsFirstUnvalued, IsRefused, IsTooMany, IsUnwritten, operations, refusal_of, stopped_at, unwritten_fault}
+use Rattle.gate_inline.specs.Inlined.{IsFirstUnvalued, IsInlineFault, IsInlineRefused, IsTooMany, IsUnwritten, operations, refusal_of, stopped_at, unwritten_fault}
 use Rattle.gate_inline.specs.declared.program.Unwritten.{Unwritten}
 use Rattle.gate_inline.specs.declared.program.Unwritten.TheVariants.{Unvalued as Unvalues, NoMemory as Short}
 use Rattle.gate_inline.specs.Sizes.{is_too_much, sizes, steps_size, total}
@@ -123,7 +123,7 @@ too_many v gates xs ss i n h number same small large =
 pub not_too_much : (gates : List Gate) (steps : List Step) (ss : List Size) → ss ≡ map capped (sizes gates) → is_too_much (steps_size ss steps) ≡ false → is_too_much (total gates steps) ≡ false
 not_too_much gates steps ss same small = sym (too_much-capped (sizes gates) steps) ∙ ap (λ s. is_too_much (steps_size s steps)) (sym same) ∙ small
 
-pub unvalued_refused : (b : Bound) (e : Unvalued) (n : ℕ) → is_too_much (total b.gates b.steps) ≡ false → IsFirstUnvalued b.gates b.steps e n → IsRefused b (refusal_of e) n
+pub unvalued_refused : (b : Bound) (e : Unvalued) (n : ℕ) → is_too_much (total b.gates b.steps) ≡ false → IsFirstUnvalued b.gates b.steps e n → IsInlineRefused b (refusal_of e) n
 unvalued_refused b NoForm n small first = (small, first)
 unvalued_refused b ByZero n small first = (small, first)
 unvalued_refused b TooLarge n small first = (small, first)
@@ -134,6 +134,6 @@ pub stopped_unwritten : {X : Type 0} (v : X → Step) (gates : List Gate) (xs : 
 stopped_unwritten v gates xs i n x us NoMemory h there number before stop = tt
 stopped_unwritten v gates xs i n x us (Unexact e) h there number before stop = first_unvalued v gates xs i n x us e h there number before stop
 
-pub unwritten_fault-told : (b : Bound) (u : Unwritten) → is_too_much (total b.gates b.steps) ≡ false → IsUnwritten b.gates b.steps u → IsFault b (unwritten_fault u)
+pub unwritten_fault-told : (b : Bound) (u : Unwritten) → is_too_much (total b.gates b.steps) ≡ false → IsUnwritten b.gates b.steps u → IsInlineFault b (unwritten_fault u)
 unwritten_fault-told b Short small h = tt
 unwritten_fault-told b (Unvalues e n) small h = unvalued_refused b e n small h

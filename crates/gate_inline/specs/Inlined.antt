@@ -6,9 +6,9 @@
 --     IsFirstUnvalued gates steps e n     step n is the first with an angle that isn't exact, which is told by e
 --     code r              its number
 --     refusal_of e        the refusal of such an angle
---     IsRefused b r n     the program's refusal: too much anywhere comes before angles
+--     IsInlineRefused b r n     the program's refusal: too much anywhere comes before angles
 --     stopped_at s n, unwritten_fault u   a stop at step n, and what is told of it
---     IsFault b e         what may be told of the program;  IsUnwritten gates steps e: where there isn't too much
+--     IsInlineFault b e   what may be told of the program;  IsUnwritten gates steps e: where there isn't too much
 use Rattle.std.specs.Prelude.{◌≡◌, ℕ, ◌+◌, List, [], ◌∷◌, ◌++◌, Ok, Err, true, false, length, map, IsOk}
 use Rattle.gate_library.specs.Gates.{Gate}
 use Rattle.qasm_check.specs.Bound.{Bound}
@@ -65,16 +65,16 @@ refusal_of ByZero = AngleZero
 refusal_of TooLarge = AngleRange
 refusal_of NoStep = AngleStep
 
-abbrev pub IsRefused : Bound → Refusal → ℕ → Type 0
-IsRefused b TooManyOps n = IsTooMany b.gates b.steps n
-IsRefused b AngleForm n = (is_too_much (total b.gates b.steps) ≡ false) × IsFirstUnvalued b.gates b.steps NoForm n
-IsRefused b AngleZero n = (is_too_much (total b.gates b.steps) ≡ false) × IsFirstUnvalued b.gates b.steps ByZero n
-IsRefused b AngleRange n = (is_too_much (total b.gates b.steps) ≡ false) × IsFirstUnvalued b.gates b.steps TooLarge n
-IsRefused b AngleStep n = (is_too_much (total b.gates b.steps) ≡ false) × IsFirstUnvalued b.gates b.steps NoStep n
+abbrev pub IsInlineRefused : Bound → Refusal → ℕ → Type 0
+IsInlineRefused b TooManyOps n = IsTooMany b.gates b.steps n
+IsInlineRefused b AngleForm n = (is_too_much (total b.gates b.steps) ≡ false) × IsFirstUnvalued b.gates b.steps NoForm n
+IsInlineRefused b AngleZero n = (is_too_much (total b.gates b.steps) ≡ false) × IsFirstUnvalued b.gates b.steps ByZero n
+IsInlineRefused b AngleRange n = (is_too_much (total b.gates b.steps) ≡ false) × IsFirstUnvalued b.gates b.steps TooLarge n
+IsInlineRefused b AngleStep n = (is_too_much (total b.gates b.steps) ≡ false) × IsFirstUnvalued b.gates b.steps NoStep n
 
-abbrev pub IsFault : Bound → InlineFault → Type 0
-IsFault b (Refuses r) = IsRefused b r.refusal r.statement
-IsFault b NoMemory = Unit {0}
+abbrev pub IsInlineFault : Bound → InlineFault → Type 0
+IsInlineFault b (Refuses r) = IsInlineRefused b r.refusal r.statement
+IsInlineFault b NoMemory = Unit {0}
 
 abbrev pub stopped_at : Stop → ℕ → Unwritten
 stopped_at Empty n = Short

@@ -1,6 +1,6 @@
 -- The operations of gates and of a program whose names are bound.
 --     Answer              a list of operations, or why there is none
---     unvalued e          the refusal of an angle that has a fault
+--     unvalued_of e, unvalued r   the refusal of an angle that has a fault; the same of what may have one
 --     followed a b        one list and then the other, or the first refusal
 --     joined answers      all lists one after another, or the first refusal
 --     eighth a            an angle in units of pi/4, below 8
@@ -29,14 +29,14 @@ use Rattle.gate_inline.specs.declared.stop.Unvalued.TheVariants.{NoForm, ByZero,
 abbrev pub Answer : Type 0
 Answer = Result (List Op) Unvalued
 
-abbrev pub fault_of : AngleFault → Unvalued
-fault_of Form = NoForm
-fault_of ZeroDivisor = ByZero
-fault_of Range = TooLarge
+abbrev pub unvalued_of : AngleFault → Unvalued
+unvalued_of Form = NoForm
+unvalued_of ZeroDivisor = ByZero
+unvalued_of Range = TooLarge
 
 abbrev pub unvalued : {A : Type 0} → Result A AngleFault → Result A Unvalued
 unvalued (Ok x) = Ok x
-unvalued (Err e) = Err (fault_of e)
+unvalued (Err e) = Err (unvalued_of e)
 
 abbrev pub followed : Answer → Answer → Answer
 followed a b = and_next a (λ us. and_next b (λ vs. Ok (us ++ vs)))

@@ -15,7 +15,7 @@ use Rattle.qasm_parser.specs.Parsing.{IsProgram}
 use Rattle.qasm_parser.specs.Tree.{Tree}
 use Rattle.qasm_check.specs.declared.bits.Bits.{Bits}
 use Rattle.qasm_check.specs.Bound.{Bound, barriers}
-use Rattle.qasm_check.specs.Checking.{IsAccepted as IsFineTree, bound}
+use Rattle.qasm_check.specs.Checking.{IsFineTree, bound}
 use Rattle.unitary_model.specs.declared.Op.{Op}
 use Rattle.gate_inline.specs.Inlined.{operations}
 use Rattle.gate_inline.specs.Reads.{reads}

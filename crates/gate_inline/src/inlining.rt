@@ -4,7 +4,7 @@ ghost use Rattle.std.specs.Prelude.{◌≡◌, ◌≤◌, All, IfOk, IfErr, leng
 ghost use Rattle.circuit_list.specs.Gates.{most_wires};
 ghost use Rattle.qasm_check.specs.CheckedView.{program};
 ghost use Rattle.gate_expand.specs.Expansion.{IsFineOp};
-ghost use Rattle.gate_inline.specs.Inlined.{IsFault, IsInlined};
+ghost use Rattle.gate_inline.specs.Inlined.{IsInlineFault, IsInlined};
 ghost use Rattle.gate_inline.specs.Registers.{IsRead};
 ghost use Rattle.gate_inline.specs.Sizes.{operation_limit};
 
@@ -23,7 +23,7 @@ pub fn inline(alloc: Global, checked: &Checked) -> Result<Ops, InlineFault>
     ensures fine { IfOk result (λ o. All (IsFineOp o.wires) o.list) }
     ensures bits { IfOk result (λ o. length o.reads ≡ (program checked.now).bits) }
     ensures reads { IfOk result (λ o. All (IsRead o.wires) o.reads) }
-    ensures err { IfErr result (IsFault (program checked.now)) }
+    ensures err { IfErr result (IsInlineFault (program checked.now)) }
 {
     written_out(
         alloc,

@@ -3,17 +3,17 @@
 ghost use Rattle.std.specs.Prelude.{◌≡◌};
 ghost use Rattle.qasm_check.specs.Bound.{Bound};
 ghost use Rattle.gate_expand.specs.declared.source.Ops.{Ops as Source};
-ghost use Rattle.gate_inline.specs.Inlined.{IsFault, IsInlined, IsRefused};
+ghost use Rattle.gate_inline.specs.Inlined.{IsInlineFault, IsInlineRefused, IsInlined};
 ghost use Rattle.gate_inline.specs.declared.refusal.InlineFault.{InlineFault as Fault};
 ghost use Rattle.gate_inline.specs.declared.refusal.InlineFault.TheVariants.{NoMemory};
 ghost use Rattle.gate_inline.specs.declared.refusal.Refused.{Refused as Told};
 
 /// A program with its names bound has one refusal at most: its statement and its code.
 pub fn refused_once()
-    ensures { (b : Bound) (p q : Told) → IsRefused b p.refusal p.statement → IsRefused b q.refusal q.statement → p ≡ q }
+    ensures { (b : Bound) (p q : Told) → IsInlineRefused b p.refusal p.statement → IsInlineRefused b q.refusal q.statement → p ≡ q }
 {}
 
 /// A program with operations and reads has no fault, so only want of memory is told of it.
 pub fn inlined_has_no_fault()
-    ensures { (b : Bound) (o : Source) (fault : Fault) → IsInlined b o → IsFault b fault → fault ≡ NoMemory }
+    ensures { (b : Bound) (o : Source) (fault : Fault) → IsInlined b o → IsInlineFault b fault → fault ≡ NoMemory }
 {}

@@ -6,7 +6,7 @@ ghost use Rattle.qasm_check.specs.Steps.{measures};
 ghost use Rattle.gate_library.specs.Operands.{broadcast as broadcast_of, times, wire_at as wire_there};
 ghost use Rattle.qasm_check.specs.StepViews.{step as step_view};
 ghost use Rattle.gate_library.specs.Views.{gate as gate_view};
-ghost use Rattle.gate_inline.specs.Inlined.{IsFault, IsInlined, IsUnwritten, operations as operations_of, refusal_of as refusal_there, stopped_at, unwritten_fault as fault_there};
+ghost use Rattle.gate_inline.specs.Inlined.{IsInlineFault, IsInlined, IsUnwritten, operations as operations_of, refusal_of as refusal_there, stopped_at, unwritten_fault};
 ghost use Rattle.gate_inline.specs.Meanings.{broadcast_answer, followed, meanings, step_answer};
 ghost use Rattle.gate_inline.specs.Placed.{IsPlaced};
 ghost use Rattle.gate_inline.specs.Reads.{reads as reads_of, step_read};
@@ -181,8 +181,8 @@ fn refusal_of(unvalued: Unvalued) -> Refusal
 }
 
 /// What is told of a program with such a step.
-fn fault_of(unwritten: Unwritten) -> InlineFault
-    ensures { result ≡ fault_there unwritten }
+fn unwritten_fault(unwritten: Unwritten) -> InlineFault
+    ensures { result ≡ unwritten_fault unwritten }
 {
     match unwritten {
         Unwritten::NoMemory => InlineFault::NoMemory,
@@ -204,7 +204,7 @@ pub fn written_out(
     requires few { length steps.now < 2 ^ 32 }
     requires placed { All (IsPlaced (2 ^ 32) bits) (map step_view steps.now) }
     ensures ok { IfOk result (IsInlined (record { gates = map gate_view gates.now; steps = map step_view steps.now; wires = wires; bits = bits; registers = [] })) }
-    ensures err { IfErr result (IsFault (record { gates = map gate_view gates.now; steps = map step_view steps.now; wires = wires; bits = bits; registers = [] })) }
+    ensures err { IfErr result (IsInlineFault (record { gates = map gate_view gates.now; steps = map step_view steps.now; wires = wires; bits = bits; registers = [] })) }
 {
     let sizes = sizes(alloc, gates)?;
     if let Some(index) = too_much(&sizes, steps) {
@@ -215,7 +215,7 @@ pub fn written_out(
     }
     let list = match operations(alloc, gates, steps) {
         Ok(list) => list,
-        Err(unwritten) => return Err(fault_of(unwritten)),
+        Err(unwritten) => return Err(unwritten_fault(unwritten)),
     };
     let reads = reads(alloc, bits, steps)?;
     Ok(Ops {

@@ -47,10 +47,10 @@ impl<T: Drop> From<AllocFailed<T>> for Stop {
 
 impl From<AngleFault> for Stop {
     ghost use Rattle.std.specs.Prelude.{◌≡◌};
-    ghost use Rattle.gate_inline.specs.Meanings.{fault_of};
+    ghost use Rattle.gate_inline.specs.Meanings.{unvalued_of};
     ghost use Rattle.gate_inline.specs.declared.stop.Stop.TheVariants.{Angle};
 
-    ghost from_gives = { λ e s. s ≡ Angle (fault_of e) };
+    ghost from_gives = { λ e s. s ≡ Angle (unvalued_of e) };
 
     fn from(fault: AngleFault) -> Stop {
         Stop::Angle(match fault {

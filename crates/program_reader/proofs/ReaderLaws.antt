@@ -9,28 +9,28 @@
 --   IsRefusal-checked, IsRefusal-written     from the stages' refusals to the text's
 use Rattle.std.proofs.Common.{◌≡◌, ℕ, ◌<◌, ◌≤◌, List, All, Option, Result, Ok, Err, IfOk, IfErr, refl, sym, subst, ◌∙◌, ap, arith, length}
 use Rattle.unitary_model.specs.declared.Op.{Op}
-use Rattle.qasm_lexer.specs.Tokens.{AreTokens, IsFaultOf as IsLexFault, IsTokenOf}
+use Rattle.qasm_lexer.specs.Tokens.{AreTokens, IsLexFault, IsTokenOf}
 use Rattle.qasm_lexer.specs.declared.LexFault.{LexFault}
 use Rattle.qasm_lexer.specs.declared.LexFault.TheVariants as lexing
 use Rattle.qasm_lexer.specs.declared.Token.{Token}
 use Rattle.qasm_lexer.specs.Names.{IsName}
 use Rattle.qasm_parser.specs.DeclaredNames.{HasNames}
-use Rattle.qasm_parser.specs.Parsing.{IsFault as IsParseFault, IsProgram, Spells, first_deep_of}
+use Rattle.qasm_parser.specs.Parsing.{IsParseFault, IsProgram, Spells, first_deep_of}
 use Rattle.qasm_parser.specs.Spelling.{Seen}
 use Rattle.qasm_parser.specs.Tree.{Tree}
 use Rattle.qasm_parser.specs.declared.ParseFault.{ParseFault}
 use Rattle.qasm_parser.specs.declared.ParseFault.TheVariants as parsing
 use Rattle.qasm_check.specs.Bound.{Bound}
-use Rattle.qasm_check.specs.Checking.{IsAccepted as IsFineTree, IsFault as IsCheckFault, bound}
+use Rattle.qasm_check.specs.Checking.{IsCheckFault, IsFineTree, bound}
 use Rattle.qasm_check.specs.declared.bits.Bits.{Bits}
 use Rattle.qasm_check.specs.declared.refusal.CheckFault.{CheckFault}
 use Rattle.qasm_check.specs.declared.refusal.CheckFault.TheVariants as checking
 use Rattle.gate_expand.specs.declared.source.Ops.{Ops}
-use Rattle.gate_inline.specs.Inlined.{IsFault as IsInlineFault, IsInlined, operations}
+use Rattle.gate_inline.specs.Inlined.{IsInlineFault, IsInlined, operations}
 use Rattle.gate_inline.specs.Programs.{IsAccepted, IsSource, IsTreeOf, IsWithinLimits, IsWritten, Means, Program}
 use Rattle.gate_inline.specs.declared.refusal.InlineFault.{InlineFault}
 use Rattle.gate_inline.specs.declared.refusal.InlineFault.TheVariants as inlining
-use Rattle.program_reader.specs.Refusals.{IsFaultOf, IsRefusal, IsUnparsed, IsWithin, lex_fault, parse_fault}
+use Rattle.program_reader.specs.Refusals.{IsReadFault, IsRefusal, IsUnparsed, IsWithin, lex_fault, parse_fault}
 use Rattle.program_reader.specs.Stages.{IsUnchecked, IsUnwritten}
 use Rattle.program_reader.specs.declared.refusal.Refusal.{Refusal}
 use Rattle.program_reader.specs.declared.refusal.Refusal.TheVariants.{TooLong, BadByte, Number, Syntax, Version, Depth, Check, Inline}
@@ -138,40 +138,40 @@ pub names_of : DeclaresNames → (text : List ℕ) (tokens : List Token) (t : Tr
 names_of law text tokens t each (found, spells, version, shallow) = law text tokens t found each spells
 
 -- ---- from the stages
-pub IsFaultOf-lexed : (text : List ℕ) (e : LexFault) (f : ReadFault) → IsWithin text → IsLexFault text e → f ≡ lex_fault e → IsFaultOf text f
-IsFaultOf-lexed text (lexing.BadByte place) f short is e = rw e (short, is)
-IsFaultOf-lexed text (lexing.Number place) f short is e = rw e (short, is)
-IsFaultOf-lexed text lexing.NoMemory f short is e = rw e tt
+pub IsReadFault-lexed : (text : List ℕ) (e : LexFault) (f : ReadFault) → IsWithin text → IsLexFault text e → f ≡ lex_fault e → IsReadFault text f
+IsReadFault-lexed text (lexing.BadByte place) f short is e = rw e (short, is)
+IsReadFault-lexed text (lexing.Number place) f short is e = rw e (short, is)
+IsReadFault-lexed text lexing.NoMemory f short is e = rw e tt
 
-pub IsFaultOf-parsed : (text : List ℕ) (tokens : List Token) (e : ParseFault) (f : ReadFault) → IsWithin text → AreTokens text tokens
-    → IsParseFault text tokens e → f ≡ parse_fault e → IsFaultOf text f
-IsFaultOf-parsed text tokens (parsing.Syntax place) f short lx is e = rw e (short, (tokens, lx, is))
-IsFaultOf-parsed text tokens (parsing.Version place) f short lx is e = rw e (short, (tokens, lx, is))
-IsFaultOf-parsed text tokens (parsing.Depth place) f short lx is e = rw e (short, (tokens, lx, is))
-IsFaultOf-parsed text tokens parsing.NoMemory f short lx is e = rw e tt
+pub IsReadFault-parsed : (text : List ℕ) (tokens : List Token) (e : ParseFault) (f : ReadFault) → IsWithin text → AreTokens text tokens
+    → IsParseFault text tokens e → f ≡ parse_fault e → IsReadFault text f
+IsReadFault-parsed text tokens (parsing.Syntax place) f short lx is e = rw e (short, (tokens, lx, is))
+IsReadFault-parsed text tokens (parsing.Version place) f short lx is e = rw e (short, (tokens, lx, is))
+IsReadFault-parsed text tokens (parsing.Depth place) f short lx is e = rw e (short, (tokens, lx, is))
+IsReadFault-parsed text tokens parsing.NoMemory f short lx is e = rw e tt
 
-pub IsFaultOf-checked : (text : List ℕ) (t : Tree) (e : ReadFault) → IsWithin text → IsTreeOf text t → IsUnchecked t e → IsFaultOf text e
-IsFaultOf-checked text t NoMemory short is u = tt
-IsFaultOf-checked text t (Refused (Check r)) short is u = (short, t, is, u)
-IsFaultOf-checked text t (Refused TooLong) short is u = absurd u
-IsFaultOf-checked text t (Refused (BadByte place)) short is u = absurd u
-IsFaultOf-checked text t (Refused (Number place)) short is u = absurd u
-IsFaultOf-checked text t (Refused (Syntax place)) short is u = absurd u
-IsFaultOf-checked text t (Refused (Version place)) short is u = absurd u
-IsFaultOf-checked text t (Refused (Depth place)) short is u = absurd u
-IsFaultOf-checked text t (Refused (Inline r)) short is u = absurd u
+pub IsReadFault-checked : (text : List ℕ) (t : Tree) (e : ReadFault) → IsWithin text → IsTreeOf text t → IsUnchecked t e → IsReadFault text e
+IsReadFault-checked text t NoMemory short is u = tt
+IsReadFault-checked text t (Refused (Check r)) short is u = (short, t, is, u)
+IsReadFault-checked text t (Refused TooLong) short is u = absurd u
+IsReadFault-checked text t (Refused (BadByte place)) short is u = absurd u
+IsReadFault-checked text t (Refused (Number place)) short is u = absurd u
+IsReadFault-checked text t (Refused (Syntax place)) short is u = absurd u
+IsReadFault-checked text t (Refused (Version place)) short is u = absurd u
+IsReadFault-checked text t (Refused (Depth place)) short is u = absurd u
+IsReadFault-checked text t (Refused (Inline r)) short is u = absurd u
 
-pub IsFaultOf-written : (text : List ℕ) (t : Tree) (b : Bound) (e : ReadFault) → IsWithin text → IsTreeOf text t → IsFineTree t → b ≡ bound t → IsUnwritten b e → IsFaultOf text e
-IsFaultOf-written text t b NoMemory short is fine same u = tt
-IsFaultOf-written text t b (Refused (Inline r)) short is fine same u =
+pub IsReadFault-written : (text : List ℕ) (t : Tree) (b : Bound) (e : ReadFault) → IsWithin text → IsTreeOf text t → IsFineTree t → b ≡ bound t → IsUnwritten b e → IsReadFault text e
+IsReadFault-written text t b NoMemory short is fine same u = tt
+IsReadFault-written text t b (Refused (Inline r)) short is fine same u =
     (short, t, (is, fine), subst (λ (x : Bound). IsUnwritten x (Refused (Inline r))) same u)
-IsFaultOf-written text t b (Refused TooLong) short is fine same u = absurd u
-IsFaultOf-written text t b (Refused (BadByte place)) short is fine same u = absurd u
-IsFaultOf-written text t b (Refused (Number place)) short is fine same u = absurd u
-IsFaultOf-written text t b (Refused (Syntax place)) short is fine same u = absurd u
-IsFaultOf-written text t b (Refused (Version place)) short is fine same u = absurd u
-IsFaultOf-written text t b (Refused (Depth place)) short is fine same u = absurd u
-IsFaultOf-written text t b (Refused (Check r)) short is fine same u = absurd u
+IsReadFault-written text t b (Refused TooLong) short is fine same u = absurd u
+IsReadFault-written text t b (Refused (BadByte place)) short is fine same u = absurd u
+IsReadFault-written text t b (Refused (Number place)) short is fine same u = absurd u
+IsReadFault-written text t b (Refused (Syntax place)) short is fine same u = absurd u
+IsReadFault-written text t b (Refused (Version place)) short is fine same u = absurd u
+IsReadFault-written text t b (Refused (Depth place)) short is fine same u = absurd u
+IsReadFault-written text t b (Refused (Check r)) short is fine same u = absurd u
 
 pub IsAccepted-read : (text : List ℕ) (t : Tree) (b : Bound) (p : Program) → IsWithin text → IsTreeOf text t → IsFineTree t → b ≡ bound t
     → IsWithinLimits b × Means b p → IsAccepted text p
@@ -191,4 +191,4 @@ pub in_err : {A E : Type 0} (P Q : E → Type 0) (r : Result A E) → ((x : E) �
 in_err P Q (Ok x) f h = tt
 in_err P Q (Err e) f h = f e h
 
-pub ruleset reader = (IsFaultOf-lexed, IsFaultOf-parsed, IsFaultOf-checked, IsFaultOf-written, IsAccepted-read)
+pub ruleset reader = (IsReadFault-lexed, IsReadFault-parsed, IsReadFault-checked, IsReadFault-written, IsAccepted-read)

@@ -3,20 +3,20 @@
 --                        that is too large, whichever comes first; else that no program is spelt, or one of another version, or
 --                        with an expression that is too deep; else that of the first statement which has one, with the least
 --                        code; else that there is too much to write out; else the first angle that isn't exact
---   IsFaultOf text e     what may be told of a text: its first refusal, or want of memory
+--   IsReadFault text e   what may be told of a text: its first refusal, or want of memory
 --   program_of s         the program that a source stands for
 --   lex_fault, parse_fault   a fault of the tokens or of the grammar, as it is told
 use Rattle.std.specs.Prelude.{ℕ, ◌<◌, ◌≤◌, List, length}
-use Rattle.qasm_lexer.specs.Tokens.{AreTokens, IsFaultOf as IsLexFault}
+use Rattle.qasm_lexer.specs.Tokens.{AreTokens, IsLexFault}
 use Rattle.qasm_lexer.specs.declared.Token.{Token}
 use Rattle.qasm_lexer.specs.declared.LexFault.{LexFault}
 use Rattle.qasm_lexer.specs.declared.LexFault.TheVariants as lexing
-use Rattle.qasm_parser.specs.Parsing.{IsFault as IsParseFault}
+use Rattle.qasm_parser.specs.Parsing.{IsParseFault}
 use Rattle.qasm_parser.specs.Tree.{Tree}
 use Rattle.qasm_parser.specs.declared.ParseFault.{ParseFault}
 use Rattle.qasm_parser.specs.declared.ParseFault.TheVariants as parsing
-use Rattle.qasm_check.specs.Checking.{IsRefused as IsCheckRefused, bound}
-use Rattle.gate_inline.specs.Inlined.{IsRefused as IsInlineRefused}
+use Rattle.qasm_check.specs.Checking.{IsCheckRefused, bound}
+use Rattle.gate_inline.specs.Inlined.{IsInlineRefused}
 use Rattle.gate_inline.specs.Programs.{IsSource, IsTreeOf, Program, text_limit}
 use Rattle.program_reader.specs.declared.refusal.Refusal.{Refusal}
 use Rattle.program_reader.specs.declared.refusal.Refusal.TheVariants.{TooLong, BadByte, Number, Syntax, Version, Depth, Check, Inline}
@@ -41,9 +41,9 @@ IsRefusal text (Depth place) = IsWithin text × IsUnparsed text (parsing.Depth p
 IsRefusal text (Check r) = IsWithin text × (t : Tree) × IsTreeOf text t × IsCheckRefused t r
 IsRefusal text (Inline r) = IsWithin text × (t : Tree) × IsSource text t × IsInlineRefused (bound t) r.refusal r.statement
 
-abbrev pub IsFaultOf : List ℕ → ReadFault → Type 0
-IsFaultOf text (Refused r) = IsRefusal text r
-IsFaultOf text NoMemory = Unit {0}
+abbrev pub IsReadFault : List ℕ → ReadFault → Type 0
+IsReadFault text (Refused r) = IsRefusal text r
+IsReadFault text NoMemory = Unit {0}
 
 abbrev pub program_of : Source → Program
 program_of s = record {

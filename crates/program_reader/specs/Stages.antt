@@ -2,9 +2,9 @@
 --   IsUnchecked t e      of a tree: its refusal by the checks, or want of memory
 --   IsUnwritten b e      of a program with its names bound: its refusal where gates are written out, or want of memory
 use Rattle.qasm_check.specs.Bound.{Bound}
-use Rattle.qasm_check.specs.Checking.{IsRefused as IsCheckRefused}
+use Rattle.qasm_check.specs.Checking.{IsCheckRefused}
 use Rattle.qasm_parser.specs.Tree.{Tree}
-use Rattle.gate_inline.specs.Inlined.{IsRefused as IsInlineRefused}
+use Rattle.gate_inline.specs.Inlined.{IsInlineRefused}
 use Rattle.program_reader.specs.declared.refusal.Refusal.{Refusal}
 use Rattle.program_reader.specs.declared.refusal.Refusal.TheVariants.{TooLong, BadByte, Number, Syntax, Version, Depth, Check, Inline}
 use Rattle.program_reader.specs.declared.refusal.ReadFault.{ReadFault}

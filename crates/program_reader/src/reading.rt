@@ -4,9 +4,9 @@ ghost use Rattle.std.specs.Prelude.{◌≡◌, ◌<◌, ◌≤◌, All, IfOk, If
 ghost use Rattle.gate_expand.specs.Expansion.{IsFineOp};
 ghost use Rattle.gate_inline.specs.Programs.{IsAccepted, IsTreeOf, IsWithinLimits, Means, text_limit};
 ghost use Rattle.gate_inline.specs.Registers.{AreRegisters, IsRead};
-ghost use Rattle.program_reader.specs.Refusals.{IsFaultOf, program_of};
+ghost use Rattle.program_reader.specs.Refusals.{IsReadFault, program_of};
 ghost use Rattle.program_reader.specs.Stages.{IsUnchecked, IsUnwritten};
-ghost use Rattle.qasm_check.specs.Checking.{IsAccepted as IsFineTree, bound};
+ghost use Rattle.qasm_check.specs.Checking.{IsFineTree, bound};
 ghost use Rattle.qasm_check.specs.CheckedView.{program as bound_program};
 ghost use Rattle.qasm_lexer.specs.Names.{IsName};
 ghost use Rattle.qasm_parser.specs.DeclaredNames.{HasNames};
@@ -30,7 +30,7 @@ fn read_tree(alloc: Global, text: &[u8]) -> Result<Program, ReadFault>
     ensures ok { IfOk result (λ p. IsTreeOf text.now (tree_of p)) }
     ensures few { IfOk result (λ p. length p.list.items < 2 ^ 32) }
     ensures names { IfOk result (λ p. All (HasNames IsName) (tree_of p).list) }
-    ensures err { IfErr result (IsFaultOf text.now) }
+    ensures err { IfErr result (IsReadFault text.now) }
 {
     tokens_are_lexemes();
     few_statements();
@@ -101,7 +101,7 @@ pub fn read_program(alloc: Global, text: &[u8]) -> Result<Source, ReadFault>
     ensures fine { IfOk result (λ s. All (IsFineOp s.ops.wires) s.ops.list) }
     ensures registers { IfOk result (λ s. AreRegisters s.registers.items (length s.ops.reads)) }
     ensures reads { IfOk result (λ s. All (IsRead s.ops.wires) s.ops.reads) }
-    ensures err { IfErr result (IsFaultOf text.now) }
+    ensures err { IfErr result (IsReadFault text.now) }
 {
     if text.len() > TEXT_LIMIT {
         return Err(ReadFault::Refused(Refusal::TooLong));

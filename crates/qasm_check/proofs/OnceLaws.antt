@@ -5,7 +5,7 @@ use Rattle.std.proofs.Common.{◌≡◌, ℕ, suc, ◌+◌, ◌<◌, List, [], �
 use Rattle.std.specs.Prelude.{if◌then◌else◌, nat_eq}
 use Rattle.std.proofs.lemmas.Bool.{cases_order}
 use Rattle.qasm_parser.specs.Tree.{Statement, Tree}
-use Rattle.qasm_check.specs.Checking.{AllFine, IsAccepted, IsFault, IsRefused}
+use Rattle.qasm_check.specs.Checking.{AllFine, IsCheckFault, IsCheckRefused, IsFineTree}
 use Rattle.gate_library.specs.Known.{Known, fresh}
 use Rattle.qasm_check.specs.Refusals.{IsFine, IsLeast, code}
 use Rattle.qasm_check.specs.Steps.{after}
@@ -54,7 +54,7 @@ AllFine-at : (k : Known) (before : List Statement) (s : Statement) (rest : List 
 AllFine-at k [] s rest fine = fine.0
 AllFine-at k (x ∷ before) s rest fine = AllFine-at (after k x) before s rest fine.1
 
-pub accepted_fine : (t : Tree) (fault : CheckFault) → IsAccepted t → IsFault t fault → fault ≡ NoMemory
+pub accepted_fine : (t : Tree) (fault : CheckFault) → IsFineTree t → IsCheckFault t fault → fault ≡ NoMemory
 accepted_fine t NoMemory fine f = refl
 accepted_fine t (Refuses r) fine f =
     absurd (fine-least _ _ r.refusal (AllFine-at fresh f.0 f.1 f.2 (subst (AllFine fresh) f.3 fine)) f.6)
@@ -75,7 +75,7 @@ once k (x ∷ b) (y ∷ c) s t rest others q r e fb fc lq lr =
     (subst (λ (z : Statement). IsLeast (fold after (after k z) c) t r) (sym same) lr) in
     (ap suc h.0, h.1)
 
-pub refused_once : (t : Tree) (a b : Refused) → IsRefused t a → IsRefused t b → a ≡ b
+pub refused_once : (t : Tree) (a b : Refused) → IsCheckRefused t a → IsCheckRefused t b → a ≡ b
 refused_once t a b f g =
     let h = once fresh f.0 g.0 f.1 g.1 f.2 g.2 a.refusal b.refusal (sym f.3 ∙ g.3) f.5 g.5 f.6 g.6 in
     let refusal : a.refusal ≡ b.refusal = h.1 in

@@ -16,7 +16,7 @@ use Rattle.qasm_check.specs.Checking.{AllFine, IsFaultIn, IsRefusedIn, bits_of, 
 use Rattle.gate_library.specs.Known.{Known, fresh}
 use Rattle.qasm_check.specs.Refusals.{IsFine}
 use Rattle.qasm_check.specs.Steps.{Step, after, known, step}
-use Rattle.qasm_check.specs.Verdicts.{IsStop, fault_of, verdict}
+use Rattle.qasm_check.specs.Verdicts.{IsStop, check_fault, verdict}
 use Rattle.qasm_check.specs.declared.stop.Stop.{Stop}
 use Rattle.qasm_check.specs.declared.stop.Stop.TheVariants.{NoMemory, Refused as Stopped}
 use Rattle.qasm_check.specs.declared.refusal.Refusal.TheVariants.{TooManyBits}
@@ -86,6 +86,6 @@ module _ (xs : List Stmt) (i : ℕ) (d : Stmt) where
       (map tree (take i xs), tree (get_or xs i d), map tree (drop (i + 1) xs), split, place, fine, least-verdict _ _ r.refusal e)
 
   pub fault_at : (stop : Stop) → i < length xs → AllFine fresh (map tree (take i xs))
-      → IsStop (verdict (known (map tree (take i xs))) (tree (get_or xs i d))) stop → IsFaultIn (map tree xs) (fault_of stop (i + 1))
+      → IsStop (verdict (known (map tree (take i xs))) (tree (get_or xs i d))) stop → IsFaultIn (map tree xs) (check_fault stop (i + 1))
   fault_at NoMemory lt fine e = tt
   fault_at (Stopped r) lt fine e = refused_at (record { refusal = r; statement = i + 1 }) lt fine e refl

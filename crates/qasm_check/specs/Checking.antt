@@ -1,8 +1,8 @@
 -- Whole programs.
 --   AllFine        no refusal applies to any of these statements, each with what is known before it
---   IsAccepted     no refusal applies to a statement of the program
---   IsRefusedIn, IsRefused   the first statement to which a refusal applies, counted from 1, and the least such refusal
---   IsFaultIn, IsFault   what may be told of the program
+--   IsFineTree     no refusal applies to a statement of the program
+--   IsRefusedIn, IsCheckRefused   the first statement to which a refusal applies, counted from 1, and the least such refusal
+--   IsFaultIn, IsCheckFault   what may be told of the program
 --   bound_of, bound   the program with its names bound, of statements; of a tree
 use Rattle.std.specs.Prelude.{◌≡◌, ◌+◌, List, [], ◌∷◌, ◌++◌, Option, Some, None, true, false, length}
 use Rattle.std.specs.List.{filter_map}
@@ -20,8 +20,8 @@ abbrev pub AllFine : Known → List Statement → Type 0
 AllFine k [] = Unit {0}
 AllFine k (s ∷ rest) = IsFine k s × AllFine (after k s) rest
 
-abbrev pub IsAccepted : Tree → Type 0
-IsAccepted t = AllFine fresh t.list
+abbrev pub IsFineTree : Tree → Type 0
+IsFineTree t = AllFine fresh t.list
 
 abbrev pub IsRefusedIn : List Statement → Refused → Type 0
 IsRefusedIn list r =
@@ -29,15 +29,15 @@ IsRefusedIn list r =
     × (list ≡ before ++ s ∷ rest) × (r.statement ≡ length before + 1)
     × AllFine fresh before × IsLeast (known before) s r.refusal
 
-abbrev pub IsRefused : Tree → Refused → Type 0
-IsRefused t r = IsRefusedIn t.list r
+abbrev pub IsCheckRefused : Tree → Refused → Type 0
+IsCheckRefused t r = IsRefusedIn t.list r
 
 abbrev pub IsFaultIn : List Statement → CheckFault → Type 0
 IsFaultIn list (Refuses r) = IsRefusedIn list r
 IsFaultIn list NoMemory = Unit {0}
 
-abbrev pub IsFault : Tree → CheckFault → Type 0
-IsFault t fault = IsFaultIn t.list fault
+abbrev pub IsCheckFault : Tree → CheckFault → Type 0
+IsCheckFault t fault = IsFaultIn t.list fault
 
 -- ---- names bound
 abbrev pub bits_of : Statement → Option Bits

@@ -2,7 +2,7 @@
 --   first_of     the first refusal whose test is met
 --   verdict      the refusal of the least code that applies to a statement
 --   IsStop       why the check of a statement stops, where this is its refusal
---   fault_of     what is told then
+--   check_fault  what is told then
 use Rattle.std.specs.Prelude.{◌≡◌, ℕ, Option, Some, None, Bool, if◌then◌else◌}
 use Rattle.qasm_parser.specs.Tree.{Statement}
 use Rattle.gate_library.specs.Known.{Known}
@@ -30,6 +30,6 @@ abbrev pub IsStop : Option Refusal → Stop → Type 0
 IsStop o NoMemory = Unit {0}
 IsStop o (Refused r) = o ≡ Some r
 
-abbrev pub fault_of : Stop → ℕ → CheckFault
-fault_of NoMemory statement = OutOfMemory
-fault_of (Refused r) statement = Refuses (record { refusal = r; statement = statement })
+abbrev pub check_fault : Stop → ℕ → CheckFault
+check_fault NoMemory statement = OutOfMemory
+check_fault (Refused r) statement = Refuses (record { refusal = r; statement = statement })

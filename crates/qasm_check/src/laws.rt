@@ -3,7 +3,7 @@
 ghost use Rattle.std.specs.Prelude.{◌≡◌, ◌++◌, length};
 ghost use Rattle.gate_library.specs.Listing.{added, standard};
 ghost use Rattle.qasm_parser.specs.Tree.{Tree};
-ghost use Rattle.qasm_check.specs.Checking.{IsAccepted, IsFault, IsRefused, bound};
+ghost use Rattle.qasm_check.specs.Checking.{IsCheckFault, IsCheckRefused, IsFineTree, bound};
 ghost use Rattle.qasm_check.specs.Sound.{IsSound};
 ghost use Rattle.qasm_check.specs.Texts.{AreSpelt, texts};
 ghost use Rattle.qasm_check.specs.declared.refusal.CheckFault.{CheckFault as Fault};
@@ -12,7 +12,7 @@ ghost use Rattle.qasm_check.specs.declared.refusal.Refused.{Refused as Told};
 
 /// A tree has one refusal at most: the statement and its code.
 pub fn refused_once()
-    ensures { (t : Tree) (a b : Told) → IsRefused t a → IsRefused t b → a ≡ b }
+    ensures { (t : Tree) (a b : Told) → IsCheckRefused t a → IsCheckRefused t b → a ≡ b }
 {}
 
 /// Each gate of the tables, written as a program would define it, spells a definition that is bound to the table's gate.
@@ -22,12 +22,12 @@ pub fn listing_is_spelt()
 
 /// An accepted tree has no fault, so only want of memory is told of it.
 pub fn accepted_has_no_fault()
-    ensures { (t : Tree) (fault : Fault) → IsAccepted t → IsFault t fault → fault ≡ NoMemory }
+    ensures { (t : Tree) (fault : Fault) → IsFineTree t → IsCheckFault t fault → fault ≡ NoMemory }
 {}
 
 /// An accepted tree is sound with its names bound, and has a step for each statement: numbers, indices and wires are in
 /// range, no wire stands twice, and the classical registers have different names, which no table has, and together all bits.
 pub fn accepted_is_sound()
-    ensures sound { (t : Tree) → IsAccepted t → IsSound (bound t) }
+    ensures sound { (t : Tree) → IsFineTree t → IsSound (bound t) }
     ensures steps { (t : Tree) → length (bound t).steps ≡ length t.list }
 {}

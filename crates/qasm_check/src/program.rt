@@ -3,14 +3,14 @@
 ghost use Rattle.std.specs.Prelude.{◌≡◌, ◌<◌, ◌≤◌, ◌+◌, ◌++◌, ◌∷◌, ◌^◌, [], None, IfOk, IfErr, OnOk, length, map, vec_len};
 ghost use Rattle.std.specs.Option.{ForSome, option_to_list};
 ghost use Rattle.qasm_parser.specs.Tree.{program as tree_of, statement as tree};
-ghost use Rattle.qasm_check.specs.Checking.{AllFine, IsAccepted, IsFault, IsFaultIn, bits_of, bound, bound_of};
+ghost use Rattle.qasm_check.specs.Checking.{AllFine, IsCheckFault, IsFaultIn, IsFineTree, bits_of, bound, bound_of};
 ghost use Rattle.qasm_check.specs.CheckedView.{program as bound_program};
 ghost use Rattle.gate_library.specs.Known.{fresh};
 ghost use Rattle.gate_library.specs.State.{state};
 ghost use Rattle.qasm_check.specs.Sound.{IsSound};
 ghost use Rattle.qasm_check.specs.StepViews.{step};
 ghost use Rattle.qasm_check.specs.Steps.{after, step as step_of};
-ghost use Rattle.qasm_check.specs.Verdicts.{IsStop, fault_of, verdict};
+ghost use Rattle.qasm_check.specs.Verdicts.{IsStop, check_fault, verdict};
 
 use crate::bits::Bits;
 use crate::checked::Checked;
@@ -87,7 +87,7 @@ fn add<'a>(
 
 /// What is told where the check of this statement stops.
 fn fault(stop: Stop, statement: u32) -> CheckFault
-    ensures { result ≡ fault_of stop statement }
+    ensures { result ≡ check_fault stop statement }
 {
     match stop {
         Stop::NoMemory => CheckFault::NoMemory,
@@ -125,9 +125,9 @@ fn checked(alloc: Global, statements: &[Stmt]) -> Result<Checked, CheckFault>
 /// the least code. The program has fewer than 2^32 statements.
 pub fn check(alloc: Global, program: Program) -> Result<Checked, CheckFault>
     requires { length program.list.items < 2 ^ 32 }
-    ensures ok { IfOk result (λ c. IsAccepted (tree_of program) × (bound_program c ≡ bound (tree_of program))) }
+    ensures ok { IfOk result (λ c. IsFineTree (tree_of program) × (bound_program c ≡ bound (tree_of program))) }
     ensures sound { IfOk result (λ c. IsSound (bound_program c)) }
-    ensures err { IfErr result (IsFault (tree_of program)) }
+    ensures err { IfErr result (IsCheckFault (tree_of program)) }
 {
     checked(alloc, &program.list)
 }

@@ -16,7 +16,7 @@ use Rattle.qasm_lexer.specs.Forms.{Bytes, IsAllowed, IsBlank, IsLexeme, IsNumber
 use Rattle.qasm_lexer.specs.Numbers.{has_value}
 use Rattle.qasm_lexer.specs.Lexemes.{is_blank, is_out_of_range, kind_of}
 use Rattle.qasm_lexer.specs.Lexed.{lexed, lexed_from, then_more, token_at, with_lexeme}
-use Rattle.qasm_lexer.specs.Tokens.{AreLexemes, AreTokens, AreTokensAt, IsBadByte, IsBadNumber, IsFaultOf, IsKept, IsLongest, IsNumberToken, IsStuck, IsTokenOf, Leads, bytes_of, token}
+use Rattle.qasm_lexer.specs.Tokens.{AreLexemes, AreTokens, AreTokensAt, IsBadByte, IsBadNumber, IsKept, IsLexFault, IsLongest, IsNumberToken, IsStuck, IsTokenOf, Leads, bytes_of, token}
 use Rattle.qasm_lexer.specs.declared.Kind.{Kind}
 use Rattle.qasm_lexer.specs.declared.Kind.TheVariants.{Whole, Real}
 use Rattle.qasm_lexer.specs.declared.Token.{Token}
@@ -124,7 +124,7 @@ told (suc n) start (b ∷ t) le = by_next (next (b ∷ t)) (λ w mid h. told n (
 leads : (ws : List Bytes) (t : Bytes) (place : ℕ) (rest : Bytes) → LeadsFrom 0 ws t place rest → Leads ws t place rest
 leads ws t place rest l = let reached = l.reached in record { lexemes = l.lexemes; kept = l.kept; reached = omega arith }
 
-fault-told : (t : Bytes) (e : LexFault) → Told 0 t (Err e) → IsFaultOf t e
+fault-told : (t : Bytes) (e : LexFault) → Told 0 t (Err e) → IsLexFault t e
 unfolding IsBadByte IsBadNumber
 fault-told t (BadByte place) (ws, rest, l, some, stuck) = (ws, rest, leads ws t place rest l, some, stuck)
 fault-told t (Number place) (ws, w, rest, end, l, longest, number, none) = (ws, w, rest, end, leads ws t place rest l, longest, number, none)
@@ -134,7 +134,7 @@ pub lexed-tokens : (t : Bytes) (ks : List Token) → lexed t ≡ Ok ks → AreTo
 unfolding AreTokens
 lexed-tokens t ks e = subst (λ r. Told 0 t r) e (told (length t) 0 t (omega arith))
 
-pub lexed-fault : (t : Bytes) (e : LexFault) → lexed t ≡ Err e → IsFaultOf t e
+pub lexed-fault : (t : Bytes) (e : LexFault) → lexed t ≡ Err e → IsLexFault t e
 lexed-fault t e h = fault-told t e (subst (λ r. Told 0 t r) h (told (length t) 0 t (omega arith)))
 
 -- ---- what is so is read
@@ -171,7 +171,7 @@ fault-from (w ∷ ws) start place t rest e (mid, h, allowed, more) (one, kept) r
     ∙ ap (with_lexeme start w) (fault-from ws (start + length w) place mid rest e more kept (omega arith) f)
     ∙ kept-fault w start e (range-false w h.lexeme one)
 
-pub fault-lexed : (t : Bytes) (e : LexFault) → e ≢ NoMemory → IsFaultOf t e → lexed t ≡ Err e
+pub fault-lexed : (t : Bytes) (e : LexFault) → e ≢ NoMemory → IsLexFault t e → lexed t ≡ Err e
 unfolding IsBadByte IsBadNumber
 fault-lexed t (BadByte place) some (ws, rest, l, left, stuck) =
     fault-from ws 0 place t rest (BadByte place) l.lexemes l.kept (let reached = l.reached in omega arith)
@@ -187,20 +187,20 @@ pub tokens_once : (t : Bytes) (a b : List Token) → AreTokens t a → AreTokens
 tokens_once t a b h k =
     let e : Ok a ≡ Ok b = sym (tokens-lexed t a h) ∙ tokens-lexed t b k in cc
 
-pub refused_once : (t : Bytes) (a b : LexFault) → IsFaultOf t a → IsFaultOf t b → a ≢ NoMemory → b ≢ NoMemory → a ≡ b
+pub refused_once : (t : Bytes) (a b : LexFault) → IsLexFault t a → IsLexFault t b → a ≢ NoMemory → b ≢ NoMemory → a ≡ b
 refused_once t a b h k some other =
     let e : Err a ≡ Err b = sym (fault-lexed t a some h) ∙ fault-lexed t b other k in cc
 
-pub no_fault : (t : Bytes) (ks : List Token) (e : LexFault) → AreTokens t ks → IsFaultOf t e → e ≡ NoMemory
+pub no_fault : (t : Bytes) (ks : List Token) (e : LexFault) → AreTokens t ks → IsLexFault t e → e ≡ NoMemory
 no_fault t ks (BadByte place) h k = absurd (let e : Ok ks ≡ Err (BadByte place) = sym (tokens-lexed t ks h) ∙ fault-lexed t (BadByte place) (λ f. cc) k in cc)
 no_fault t ks (Number place) h k = absurd (let e : Ok ks ≡ Err (Number place) = sym (tokens-lexed t ks h) ∙ fault-lexed t (Number place) (λ f. cc) k in cc)
 no_fault t ks NoMemory h k = refl
 
-pub lexed_or_refused : (t : Bytes) → ((ks : List Token) × AreTokens t ks) ⊎ ((e : LexFault) × (e ≢ NoMemory) × IsFaultOf t e)
+pub lexed_or_refused : (t : Bytes) → ((ks : List Token) × AreTokens t ks) ⊎ ((e : LexFault) × (e ≢ NoMemory) × IsLexFault t e)
 unfolding AreTokens
 lexed_or_refused t = by_result (lexed t) (told (length t) 0 t (omega arith))
   where
-    by_result : (r : Result (List Token) LexFault) → Told 0 t r → ((ks : List Token) × AreTokens t ks) ⊎ ((e : LexFault) × (e ≢ NoMemory) × IsFaultOf t e)
+    by_result : (r : Result (List Token) LexFault) → Told 0 t r → ((ks : List Token) × AreTokens t ks) ⊎ ((e : LexFault) × (e ≢ NoMemory) × IsLexFault t e)
     by_result (Ok ks) h = inl (ks, h)
     by_result (Err (BadByte place)) h = inr (BadByte place, (λ f. cc), fault-told t (BadByte place) h)
     by_result (Err (Number place)) h = inr (Number place, (λ f. cc), fault-told t (Number place) h)
@@ -266,5 +266,5 @@ number_token t k h number = record { ordered = le_of_lt h.ordered; within = h.wi
 
 -- ---- a fault at a place, behind the tokens that are read
 pub fault_read : (t : Bytes) (ts : List Token) (place : ℕ) (e : LexFault) → joined ts (lexed_from place (drop place t)) ≡ lexed t
-    → lexed_from place (drop place t) ≡ Err e → IsFaultOf t e
+    → lexed_from place (drop place t) ≡ Err e → IsLexFault t e
 fault_read t ts place e same at = lexed-fault t e (sym same ∙ ap (joined ts) at)

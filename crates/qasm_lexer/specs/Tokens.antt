@@ -9,7 +9,7 @@
 --   IsStuck           no lexeme can be taken: there is none, or the longest is a word with a capital that there isn't
 --   IsBadByte         at the place, behind such lexemes, no lexeme can be taken
 --   IsBadNumber       at the place, behind such lexemes, stands a number whose value isn't kept
---   IsFaultOf         a fault that a text has; want of memory is told of no text
+--   IsLexFault        a fault that a text has; want of memory is told of no text
 --   bytes_of          a token's bytes
 --   IsTokenOf         the token is one whole lexeme of the text, of its kind, and a number's value is kept
 --   IsNumberToken     the token's place in the text holds a number whose value is kept
@@ -64,10 +64,10 @@ unfoldable pub IsBadNumber : Bytes → ℕ → Type 0
 IsBadNumber t place = (ws : List Bytes) × (w : Bytes) × (rest : Bytes) × (end : Bytes)
     × Leads ws t place rest × IsLongest w rest end × IsNumber w × (has_value w ≡ false)
 
-abbrev pub IsFaultOf : Bytes → LexFault → Type 0
-IsFaultOf t (BadByte place) = IsBadByte t place
-IsFaultOf t (Number place) = IsBadNumber t place
-IsFaultOf t NoMemory = Unit {0}
+abbrev pub IsLexFault : Bytes → LexFault → Type 0
+IsLexFault t (BadByte place) = IsBadByte t place
+IsLexFault t (Number place) = IsBadNumber t place
+IsLexFault t NoMemory = Unit {0}
 
 -- ---- one token
 abbrev pub bytes_of : Bytes → Token → Bytes

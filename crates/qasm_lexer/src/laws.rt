@@ -6,7 +6,7 @@ ghost use Rattle.qasm_lexer.specs.Forms.{Bytes};
 ghost use Rattle.qasm_lexer.specs.Names.{IsName};
 ghost use Rattle.qasm_lexer.specs.Lexemes.{lexeme_len};
 ghost use Rattle.qasm_lexer.specs.Lexed.{lexed, lexed_from, with_lexeme};
-ghost use Rattle.qasm_lexer.specs.Tokens.{AreTokens, IsFaultOf, IsTokenOf};
+ghost use Rattle.qasm_lexer.specs.Tokens.{AreTokens, IsLexFault, IsTokenOf};
 ghost use Rattle.qasm_lexer.specs.declared.Token.{Token as LexToken};
 ghost use Rattle.qasm_lexer.specs.declared.LexFault.{LexFault as Fault};
 ghost use Rattle.qasm_lexer.specs.declared.LexFault.TheVariants.{NoMemory};
@@ -18,17 +18,17 @@ pub fn lexed_once()
 
 /// A text has one refusal at most.
 pub fn refused_once()
-    ensures { (text : Bytes) (a b : Fault) → IsFaultOf text a → IsFaultOf text b → a ≢ NoMemory → b ≢ NoMemory → a ≡ b }
+    ensures { (text : Bytes) (a b : Fault) → IsLexFault text a → IsLexFault text b → a ≢ NoMemory → b ≢ NoMemory → a ≡ b }
 {}
 
 /// A text that has tokens has no fault, so only want of memory is told of it.
 pub fn accepted_has_no_fault()
-    ensures { (text : Bytes) (tokens : List LexToken) (fault : Fault) → AreTokens text tokens → IsFaultOf text fault → fault ≡ NoMemory }
+    ensures { (text : Bytes) (tokens : List LexToken) (fault : Fault) → AreTokens text tokens → IsLexFault text fault → fault ≡ NoMemory }
 {}
 
 /// A text has tokens, or a fault.
 pub fn lexed_or_refused()
-    ensures { (text : Bytes) → ((tokens : List LexToken) × AreTokens text tokens) ⊎ ((fault : Fault) × (fault ≢ NoMemory) × IsFaultOf text fault) }
+    ensures { (text : Bytes) → ((tokens : List LexToken) × AreTokens text tokens) ⊎ ((fault : Fault) × (fault ≢ NoMemory) × IsLexFault text fault) }
 {}
 
 /// Each token is one whole lexeme of the text, and there are no more tokens than bytes.
@@ -41,8 +41,8 @@ pub fn tokens_are_lexemes()
 pub fn lexed_exactly()
     ensures tokens { (text : Bytes) (tokens : List LexToken) → AreTokens text tokens → lexed text ≡ Ok tokens }
     ensures has_tokens { (text : Bytes) (tokens : List LexToken) → lexed text ≡ Ok tokens → AreTokens text tokens }
-    ensures fault { (text : Bytes) (fault : Fault) → fault ≢ NoMemory → IsFaultOf text fault → lexed text ≡ Err fault }
-    ensures has_fault { (text : Bytes) (fault : Fault) → lexed text ≡ Err fault → IsFaultOf text fault }
+    ensures fault { (text : Bytes) (fault : Fault) → fault ≢ NoMemory → IsLexFault text fault → lexed text ≡ Err fault }
+    ensures has_fault { (text : Bytes) (fault : Fault) → lexed text ≡ Err fault → IsLexFault text fault }
 {}
 
 /// `lexed_from` goes lexeme by lexeme: a text that is put together is read by its parts.

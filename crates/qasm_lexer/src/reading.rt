@@ -4,7 +4,7 @@ ghost use Rattle.std.specs.Prelude.{◌≡◌, ℕ, ◌<◌, ◌^◌, length, If
 ghost use Rattle.angle_fraction.specs.Fraction.{lowest};
 ghost use Rattle.qasm_lexer.specs.Numbers.{decimal};
 ghost use Rattle.qasm_lexer.specs.Lexed.{kept, lexed};
-ghost use Rattle.qasm_lexer.specs.Tokens.{AreTokens, IsFaultOf, IsNumberToken, IsTokenOf, bytes_of};
+ghost use Rattle.qasm_lexer.specs.Tokens.{AreTokens, IsLexFault, IsNumberToken, IsTokenOf, bytes_of};
 
 use crate::number::number;
 use crate::step::lexeme_at;
@@ -33,7 +33,7 @@ pub fn lex(alloc: Global, text: &[u8]) -> Result<Vec<Token>, LexFault>
     ensures lexemes { IfOk result (λ v. AreTokens text.now v.items) }
     ensures tokens { IfOk result (λ v. lexed text.now ≡ Ok v.items) }
     ensures each { IfOk result (λ v. All (IsTokenOf text.now) v.items) }
-    ensures fault { IfErr result (IsFaultOf text.now) }
+    ensures fault { IfErr result (IsLexFault text.now) }
 {
     let mut tokens = Vec::new(alloc);
     let mut place = 0usize;

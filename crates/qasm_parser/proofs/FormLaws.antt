@@ -17,7 +17,7 @@ use Rattle.qasm_parser.specs.Symbols.{Symbol, word, function, name, whole, real,
 use Rattle.qasm_parser.specs.Tree.{Expression, number, pi, param, negated, paren, call, binary, depth, Application, Action, apply, measure, reset, barrier, depth_limit}
 use Rattle.qasm_parser.specs.Expressions.{IsWritten}
 use Rattle.qasm_parser.specs.Machine.{capped, sum_of}
-use Rattle.qasm_parser.specs.Spelling.{Form, by_u, by_cx, alone, empty, listed, IsAllowed, Seen, seen, Spells, SpellsAction, IsConditional, SpellsAngle, SpellsApplication, SpellsArg, SpellsArgs, SpellsBarrier, SpellsEach, SpellsForm, SpellsItem, SpellsList, SpellsName, BehindComma, index_symbols, whole_symbol, first_deep}
+use Rattle.qasm_parser.specs.Spelling.{Form, by_u, by_cx, alone, empty, listed, IsAllowed, Seen, seen, Grammar, SpellsAction, IsConditional, SpellsAngle, SpellsApplication, SpellsArg, SpellsArgs, SpellsBarrier, SpellsEach, SpellsForm, SpellsItem, SpellsList, SpellsName, BehindComma, index_symbols, whole_symbol, first_deep}
 use Rattle.qasm_parser.specs.Reading.{Head, Read, action_of, angle_of, angles_of, angles_of_u, application_of, applied, arg_of, args_of, argument, barrier_of, bracketed_of, deep_from, head, head_of, index_of, is_mark, item_of, kept, list_of, measure_of, more_of, name_of, natural, optional_of, read, reset_of, skip, whole_number, whole_of, with_apply, with_gate, word_action, word_head, word_item}
 use Rattle.qasm_parser.proofs.ExpressionLaws.{NoSign, sum_of-spelt}
 use Rattle.qasm_parser.proofs.SumLaws.{sum_of-sound}
@@ -184,12 +184,12 @@ name-takes limit n ts rest found s =
     omega arith
 
 -- nothing is found in what has no expressions
-each-found : {A : Type 0} (R : Spells A) → ((x : A) (ts rest : List Symbol) (found : List Seen) → R x ts rest found → found ≡ [])
+each-found : {A : Type 0} (R : Grammar A) → ((x : A) (ts rest : List Symbol) (found : List Seen) → R x ts rest found → found ≡ [])
     → (xs : List A) (ts rest : List Symbol) (found : List Seen) → SpellsEach R xs ts rest found → found ≡ []
 each-found R none [] ts rest found s = s.1
 each-found R none (x ∷ xs) ts rest found s = s.5 ∙ ap (λ f. f ++ s.2) (none x ts s.0 s.1 s.3) ∙ each-found R none xs s.0 rest s.2 s.4
 
-list-found : {A : Type 0} (R : Spells A) → ((x : A) (ts rest : List Symbol) (found : List Seen) → R x ts rest found → found ≡ [])
+list-found : {A : Type 0} (R : Grammar A) → ((x : A) (ts rest : List Symbol) (found : List Seen) → R x ts rest found → found ≡ [])
     → (xs : List A) (ts rest : List Symbol) (found : List Seen) → SpellsList R xs ts rest found → SpellsList R xs ts rest []
 list-found R none [] ts rest found s = absurd s
 list-found R none (x ∷ xs) ts rest found s =
@@ -687,7 +687,7 @@ module _ (limit : ℕ) (positive : 1 ≤ limit) where
   item-complete (reset a) ts rest found s ends = absurd s
 
 -- ---- how many symbols
-pub each-long : {A : Type 0} (R : Spells A) → ((x : A) (ts rest : List Symbol) (found : List Seen) → R x ts rest found → length rest < length ts)
+pub each-long : {A : Type 0} (R : Grammar A) → ((x : A) (ts rest : List Symbol) (found : List Seen) → R x ts rest found → length rest < length ts)
     → (xs : List A) (ts rest : List Symbol) (found : List Seen) → SpellsEach R xs ts rest found → length rest ≤ length ts
 each-long R takes [] ts rest found s = let k : length ts ≡ length rest = ap length s.0 in omega arith
 each-long R takes (x ∷ xs) ts rest found s =
@@ -695,7 +695,7 @@ each-long R takes (x ∷ xs) ts rest found s =
     let more = each-long R takes xs s.0 rest s.2 s.4 in
     omega arith
 
-list-long : {A : Type 0} (R : Spells A) → ((x : A) (ts rest : List Symbol) (found : List Seen) → R x ts rest found → length rest < length ts)
+list-long : {A : Type 0} (R : Grammar A) → ((x : A) (ts rest : List Symbol) (found : List Seen) → R x ts rest found → length rest < length ts)
     → (xs : List A) (ts rest : List Symbol) (found : List Seen) → SpellsList R xs ts rest found → length rest < length ts
 list-long R takes [] ts rest found s = absurd s
 list-long R takes (x ∷ xs) ts rest found s =

@@ -29,8 +29,8 @@ use Rattle.qasm_parser.specs.DeclaredNames.{HasGateNames, HasNames}
 use Rattle.qasm_parser.specs.Symbols.{Symbol, name, whole, real, mark, sign, function_of, function_or_name, keyword_of, mark_of, mark_symbol, sign_of, sign_or_other, symbol_by, symbol_of, symbols, word_symbol}
 use Rattle.qasm_parser.specs.Tree.{Expression, number, pi, param, negated, paren, call, binary, Application, Action, apply, measure, reset, barrier, Definition, Statement, include, register, gate, opaque, conditional, act, Tree, depth_limit}
 use Rattle.qasm_parser.specs.Expressions.{IsWritten}
-use Rattle.qasm_parser.specs.Spelling.{BehindComma, Form, by_u, by_cx, alone, empty, listed, Params, bare, vacant, given, Seen, Spells, SpellsAction, SpellsAngle, SpellsApplication, SpellsArg, SpellsArgs, SpellsBarrier, SpellsEach, SpellsForm, SpellsItem, SpellsList, SpellsName, SpellsNames, SpellsParams, SpellsStatement, SpellsTree, index_symbols}
-use Rattle.qasm_parser.specs.Parsing.{Spells as SpellsText}
+use Rattle.qasm_parser.specs.Spelling.{BehindComma, Form, by_u, by_cx, alone, empty, listed, Params, bare, vacant, given, Seen, Grammar, SpellsAction, SpellsAngle, SpellsApplication, SpellsArg, SpellsArgs, SpellsBarrier, SpellsEach, SpellsForm, SpellsItem, SpellsList, SpellsName, SpellsNames, SpellsParams, SpellsStatement, SpellsTree, index_symbols}
+use Rattle.qasm_parser.specs.Parsing.{Spells}
 use Rattle.qasm_parser.proofs.StatementLaws.{statement-long}
 
 -- ---- symbols
@@ -130,10 +130,10 @@ expression-gives (paren part) ts rest s h = (expression-gives part s.0 (mark Clo
 expression-gives (call f part) ts rest s h = (expression-gives part s.0 (mark Close ∷ rest) s.2 (at ts _ s.1 h).1.1).1
 expression-gives (binary b left right) ts rest s h = expression-gives right s.0 rest s.2 (expression-gives left ts (sign b ∷ s.0) s.1 h).1
 
-abbrev pub Gives : {A : Type 0} → (A → Type 0) → Spells A → Type 0
+abbrev pub Gives : {A : Type 0} → (A → Type 0) → Grammar A → Type 0
 Gives {A} Q R = (x : A) (ts rest : List Symbol) (found : List Seen) → R x ts rest found → AllFine ts → Q x × AllFine rest
 
-each-gives : {A : Type 0} (Q : A → Type 0) (R : Spells A) → Gives Q R → (xs : List A) (ts rest : List Symbol) (found : List Seen) → SpellsEach R xs ts rest found
+each-gives : {A : Type 0} (Q : A → Type 0) (R : Grammar A) → Gives Q R → (xs : List A) (ts rest : List Symbol) (found : List Seen) → SpellsEach R xs ts rest found
     → AllFine ts → AllByRecursion Q xs × AllFine rest
 each-gives Q R gives [] ts rest found s h = (tt, at ts rest s.0 h)
 each-gives Q R gives (x ∷ xs) ts rest found s h =
@@ -141,7 +141,7 @@ each-gives Q R gives (x ∷ xs) ts rest found s h =
     let more = each-gives Q R gives xs s.0 rest s.2 s.4 one.1 in
     ((one.0, more.0), more.1)
 
-list-gives : {A : Type 0} (Q : A → Type 0) (R : Spells A) → Gives Q R → (xs : List A) (ts rest : List Symbol) (found : List Seen) → SpellsList R xs ts rest found
+list-gives : {A : Type 0} (Q : A → Type 0) (R : Grammar A) → Gives Q R → (xs : List A) (ts rest : List Symbol) (found : List Seen) → SpellsList R xs ts rest found
     → AllFine ts → AllByRecursion Q xs × AllFine rest
 list-gives Q R gives [] ts rest found s h = absurd s
 list-gives Q R gives (x ∷ xs) ts rest found s h =
@@ -231,7 +231,7 @@ tree-gives : (t : Tree) (ts : List Symbol) (found : List Seen) → SpellsTree t 
 tree-gives t ts found s h =
     All-from_recursion (HasNames IsName) t.list (each-gives (HasNames IsName) SpellsStatement statement-gives t.list s.0 [] found s.2 (at ts _ s.1 h).1.1.1).0
 
-pub tree-names : (text : List ℕ) (tokens : List Token) (t : Tree) (found : List Seen) → All (IsTokenOf text) tokens → SpellsText text tokens t found
+pub tree-names : (text : List ℕ) (tokens : List Token) (t : Tree) (found : List Seen) → All (IsTokenOf text) tokens → Spells text tokens t found
     → All (HasNames IsName) t.list
 tree-names text tokens t found h s = tree-gives t (symbols text tokens) found s (symbols-fine text tokens h)
 
@@ -243,7 +243,7 @@ each-few (x ∷ xs) ts rest found s =
     let more = each-few xs s.0 rest s.2 s.4 in
     omega arith
 
-pub few_statements : (text : List ℕ) (tokens : List Token) (t : Tree) (found : List Seen) → SpellsText text tokens t found → length t.list ≤ length tokens
+pub few_statements : (text : List ℕ) (tokens : List Token) (t : Tree) (found : List Seen) → Spells text tokens t found → length t.list ≤ length tokens
 few_statements text tokens t found s =
     let size : length (symbols text tokens) ≡ length tokens = length-map tokens (symbol_of text) in
     let all = ap length s.1 in

@@ -14,9 +14,9 @@ use Rattle.qasm_parser.specs.declared.ParseFault.TheVariants.{Syntax, Version, D
 use Rattle.qasm_parser.specs.declared.symbols.Mark.TheVariants.{CloseBrace, Close}
 use Rattle.qasm_parser.specs.Tree.{depth, Application, apply, measure, reset, barrier, definition, include, register, gate, opaque, conditional, act, Tree, depth_limit}
 use Rattle.qasm_parser.specs.Machine.{capped}
-use Rattle.qasm_parser.specs.Spelling.{BehindComma, Form, by_u, by_cx, alone, empty, listed, Seen, Spells, SpellsAction, SpellsAngle, SpellsApplication, SpellsEach, SpellsForm, SpellsItem, SpellsList, SpellsStatement, SpellsTree, first_deep}
+use Rattle.qasm_parser.specs.Spelling.{BehindComma, Form, by_u, by_cx, alone, empty, listed, Seen, Grammar, SpellsAction, SpellsAngle, SpellsApplication, SpellsEach, SpellsForm, SpellsItem, SpellsList, SpellsStatement, SpellsTree, first_deep}
 use Rattle.qasm_parser.specs.Reading.{Read, first_of, kept, read, tree_of}
-use Rattle.qasm_parser.specs.Parsing.{IsAlike, IsFault, IsProgram, first_deep_of, real_place, two, Spells as SpellsText}
+use Rattle.qasm_parser.specs.Parsing.{IsAlike, IsParseFault, IsProgram, first_deep_of, real_place, two, Spells}
 use Rattle.qasm_parser.proofs.RepeatLaws.{first_deep-append}
 use Rattle.qasm_parser.proofs.FormLaws.{shown, shown_action, shown_application}
 use Rattle.qasm_parser.proofs.StatementLaws.{shown_statement, shown_tree, tree-complete, tree-sound}
@@ -48,17 +48,17 @@ parts limit here later found is e =
 
 -- ---- what is read as it is
 module _ (limit : ℕ) (positive : 1 ≤ limit) where
-  abbrev Kept : {A : Type 0} → (A → A) → Spells A → Type 0
+  abbrev Kept : {A : Type 0} → (A → A) → Grammar A → Type 0
   Kept {A} cap R = (x : A) (ts rest : List Symbol) (found : List Seen) → R x ts rest found → first_deep limit found ≡ None → cap x ≡ x
 
-  each-shown : {A : Type 0} (cap : A → A) (R : Spells A) → Kept cap R → (xs : List A) (ts rest : List Symbol) (found : List Seen) → SpellsEach R xs ts rest found
+  each-shown : {A : Type 0} (cap : A → A) (R : Grammar A) → Kept cap R → (xs : List A) (ts rest : List Symbol) (found : List Seen) → SpellsEach R xs ts rest found
       → first_deep limit found ≡ None → map cap xs ≡ xs
   each-shown cap R kept [] ts rest found s e = refl
   each-shown cap R kept (x ∷ xs) ts rest found s e =
       let p = parts limit s.1 s.2 found s.5 e in
       ap (λ y. y ∷ map cap xs) (kept x ts s.0 s.1 s.3 p.0) ∙ ap (λ ys. x ∷ ys) (each-shown cap R kept xs s.0 rest s.2 s.4 p.1)
 
-  list-shown : {A : Type 0} (cap : A → A) (R : Spells A) → Kept cap R → (xs : List A) (ts rest : List Symbol) (found : List Seen) → SpellsList R xs ts rest found
+  list-shown : {A : Type 0} (cap : A → A) (R : Grammar A) → Kept cap R → (xs : List A) (ts rest : List Symbol) (found : List Seen) → SpellsList R xs ts rest found
       → first_deep limit found ≡ None → map cap xs ≡ xs
   list-shown cap R kept [] ts rest found s e = absurd s
   list-shown cap R kept (x ∷ xs) ts rest found s e =
@@ -137,19 +137,19 @@ pub accepted : (text : List ℕ) (tokens : List Token) (t : Tree) (rest : List S
 accepted text tokens t rest e version =
     let s = tree-sound depth_limit (lit≤ tt) (symbols text tokens) (read t None rest) e in
     let same : t ≡ s.it = s.value ∙ tree-shown depth_limit (lit≤ tt) s.it (symbols text tokens) s.found s.spells (sym s.deep) in
-    (s.found, subst (λ (x : Tree). SpellsText text tokens x s.found) (sym same) s.spells, version, sym s.deep)
+    (s.found, subst (λ (x : Tree). Spells text tokens x s.found) (sym same) s.spells, version, sym s.deep)
 
-pub refused : (text : List ℕ) (tokens : List Token) → tree_of depth_limit (symbols text tokens) ≡ None → (t : Tree) (found : List Seen) → SpellsText text tokens t found → ⊥
+pub refused : (text : List ℕ) (tokens : List Token) → tree_of depth_limit (symbols text tokens) ≡ None → (t : Tree) (found : List Seen) → Spells text tokens t found → ⊥
 refused text tokens e t found s = let k = tree-complete depth_limit (lit≤ tt) t (symbols text tokens) found s in cc
 
 pub other_version : (text : List ℕ) (tokens : List Token) (t : Tree) (d : Option ℕ) (rest : List Symbol) → tree_of depth_limit (symbols text tokens) ≡ Some (read t d rest)
-    → t.version ≢ two → IsFault text tokens (Version (real_place text tokens))
+    → t.version ≢ two → IsParseFault text tokens (Version (real_place text tokens))
 other_version text tokens t d rest e version =
     let s = tree-sound depth_limit (lit≤ tt) (symbols text tokens) (read t d rest) e in
     (s.it, s.found, s.spells, (λ is. version (ap (λ (x : Tree). x.version) s.value ∙ is)), refl)
 
 pub too_deep : (text : List ℕ) (tokens : List Token) (t : Tree) (left : ℕ) (rest : List Symbol) → tree_of depth_limit (symbols text tokens) ≡ Some (read t (Some left) rest)
-    → t.version ≡ two → IsFault text tokens (Depth (place_of text tokens left))
+    → t.version ≡ two → IsParseFault text tokens (Depth (place_of text tokens left))
 too_deep text tokens t left rest e version =
     let s = tree-sound depth_limit (lit≤ tt) (symbols text tokens) (read t (Some left) rest) e in
     (s.it, s.found, left, s.spells, sym (ap (λ (x : Tree). x.version) s.value) ∙ version, sym s.deep, refl)
@@ -157,11 +157,11 @@ too_deep text tokens t left rest e version =
 pub ruleset verdicts = (accepted, refused, other_version, too_deep)
 
 -- ---- exactness
-pub spelt_once : (text : List ℕ) (tokens : List Token) (a b : Tree) (f g : List Seen) → SpellsText text tokens a f → SpellsText text tokens b g
+pub spelt_once : (text : List ℕ) (tokens : List Token) (a b : Tree) (f g : List Seen) → Spells text tokens a f → Spells text tokens b g
     → (a ≡ b) × (first_deep_of f ≡ first_deep_of g)
 spelt_once text tokens a b f g s t = only_one (symbols text tokens) a b f g s t
 
-pub no_fault : (text : List ℕ) (tokens : List Token) (t : Tree) (fault : ParseFault) → IsProgram text tokens t → IsFault text tokens fault → fault ≡ NoMemory
+pub no_fault : (text : List ℕ) (tokens : List Token) (t : Tree) (fault : ParseFault) → IsProgram text tokens t → IsParseFault text tokens fault → fault ≡ NoMemory
 no_fault text tokens t (Syntax place) p f = absurd (f.0 t p.0 p.1)
 no_fault text tokens t (Version place) p f =
     let same = only_one (symbols text tokens) t f.0 p.0 f.1 p.1 f.2 in
@@ -173,12 +173,12 @@ no_fault text tokens t (Depth place) p f =
 no_fault text tokens t NoMemory p f = refl
 
 -- a version and an expression that is too deep are never both told
-not_both : (text : List ℕ) (tokens : List Token) (a b : ℕ) → IsFault text tokens (Version a) → IsFault text tokens (Depth b) → ⊥
+not_both : (text : List ℕ) (tokens : List Token) (a b : ℕ) → IsParseFault text tokens (Version a) → IsParseFault text tokens (Depth b) → ⊥
 not_both text tokens a b f g =
     let same = only_one (symbols text tokens) f.0 g.0 f.1 g.1 f.2 g.3 in
     f.3 (ap (λ (x : Tree). x.version) same.0 ∙ g.4)
 
-pub refused_once : (text : List ℕ) (tokens : List Token) (a b : ParseFault) → IsFault text tokens a → IsFault text tokens b
+pub refused_once : (text : List ℕ) (tokens : List Token) (a b : ParseFault) → IsParseFault text tokens a → IsParseFault text tokens b
     → a ≢ NoMemory → b ≢ NoMemory → IsAlike a b
 refused_once text tokens (Syntax a) (Syntax b) f g some other = tt
 refused_once text tokens (Syntax a) (Version b) f g some other = absurd (f.0 g.0 g.1 g.2)

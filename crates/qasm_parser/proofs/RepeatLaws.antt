@@ -9,7 +9,7 @@ use Rattle.std.proofs.lemmas.Bool.Decides.{nat_tests}
 use Rattle.qasm_parser.specs.declared.symbols.Mark.{Mark}
 use Rattle.qasm_parser.specs.declared.symbols.Mark.TheVariants.{Semicolon, Comma, Open, Close, OpenBracket, CloseBracket, OpenBrace, CloseBrace, Arrow, Equals}
 use Rattle.qasm_parser.specs.Symbols.{Symbol, word, function, name, whole, real, quoted, mark, sign, other}
-use Rattle.qasm_parser.specs.Spelling.{BehindComma, Seen, Spells, SpellsEach, SpellsList, first_deep}
+use Rattle.qasm_parser.specs.Spelling.{BehindComma, Grammar, Seen, SpellsEach, SpellsList, first_deep}
 use Rattle.qasm_parser.specs.Reading.{Read, all, first_of, is_mark, list_of, mark_code, more_of, onto, read, repeat, skip}
 
 -- ---- places
@@ -69,7 +69,7 @@ module _ {A : Type 0} (step : List Symbol → Option (Option (Read A))) where
 
 -- ---- readers and what they read
 -- cap is what a reader makes of too deep parts
-module _ {A : Type 0} (limit : ℕ) (cap : A → A) (R : Spells A) where
+module _ {A : Type 0} (limit : ℕ) (cap : A → A) (R : Grammar A) where
   -- what a reader gives is spelt
   pub record Spelt (ts : List Symbol) (r : Read A) : Type 0 where
     pub it : A
@@ -89,12 +89,12 @@ module _ {A : Type 0} (limit : ℕ) (cap : A → A) (R : Spells A) where
   abbrev pub Takes : Type 0
   Takes = (x : A) (ts rest : List Symbol) (found : List Seen) → R x ts rest found → length rest < length ts
 
-pub shrinks_by : {A : Type 0} (limit : ℕ) (cap : A → A) (R : Spells A) (f : List Symbol → Option (Read A)) → Sound limit cap R f → Takes limit cap R
+pub shrinks_by : {A : Type 0} (limit : ℕ) (cap : A → A) (R : Grammar A) (f : List Symbol → Option (Read A)) → Sound limit cap R f → Takes limit cap R
     → (ts : List Symbol) (r : Read A) → f ts ≡ Some r → length r.rest < length ts
 shrinks_by limit cap R f sound takes ts r e = let s = sound ts r e in takes s.it ts r.rest s.found s.spells
 
 -- ---- each of a list
-module _ {A : Type 0} (limit : ℕ) (cap : A → A) (R : Spells A) (step : List Symbol → Option (Option (Read A))) where
+module _ {A : Type 0} (limit : ℕ) (cap : A → A) (R : Grammar A) (step : List Symbol → Option (Option (Read A))) where
   abbrev pub StepSound : Type 0
   StepSound = (ts : List Symbol) (r : Read A) → step ts ≡ Some (Some r) → Spelt limit cap R ts r
 
@@ -184,7 +184,7 @@ skip-sound m (t ∷ ts) rest e = by_test (is_mark m t) refl e
     by_test false is e' = cc
 
 -- ---- lists with commas
-module _ {A : Type 0} (limit : ℕ) (cap : A → A) (R : Spells A) (item : List Symbol → Option (Read A)) (sound : Sound limit cap R item) where
+module _ {A : Type 0} (limit : ℕ) (cap : A → A) (R : Grammar A) (item : List Symbol → Option (Read A)) (sound : Sound limit cap R item) where
   more-some : (o : Option (Read A)) (r : Read A) → option_map Some o ≡ Some (Some r) → o ≡ Some r
   more-some None r e = cc
   more-some (Some x) r e = let same : ◌≡◌ {A = Option (Read A)} (Some x) (Some r) = cc in same

@@ -4,7 +4,7 @@
 --   first_deep_of the first expression deeper than the limit: how many tokens there are from its first to the end
 --   real_place    where the second token stands
 --   IsProgram     the tree of the text is accepted
---   IsFault       a fault that the text has
+--   IsParseFault  a fault that the text has
 --   IsAlike       two faults are of one kind and at one place; the place of Syntax aside
 use Rattle.std.specs.Prelude.{◌≡◌, ◌≢◌, ◌≤◌, ℕ, List, Option, Some, None, pos, drop, length}
 use Rattle.angle_fraction.specs.Fraction.{Fraction, fraction}
@@ -31,14 +31,14 @@ real_place text tokens = first_place (length text) (drop 1 tokens)
 abbrev pub IsProgram : List ℕ → List Token → Tree → Type 0
 IsProgram text tokens t = (found : List Seen) × Spells text tokens t found × (t.version ≡ two) × (first_deep_of found ≡ None)
 
-abbrev pub IsFault : List ℕ → List Token → ParseFault → Type 0
-IsFault text tokens (Syntax place) = ((t : Tree) (found : List Seen) → Spells text tokens t found → ⊥) × (place ≤ length text)
-IsFault text tokens (Version place) =
+abbrev pub IsParseFault : List ℕ → List Token → ParseFault → Type 0
+IsParseFault text tokens (Syntax place) = ((t : Tree) (found : List Seen) → Spells text tokens t found → ⊥) × (place ≤ length text)
+IsParseFault text tokens (Version place) =
     (t : Tree) × (found : List Seen) × Spells text tokens t found × (t.version ≢ two) × (place ≡ real_place text tokens)
-IsFault text tokens (Depth place) =
+IsParseFault text tokens (Depth place) =
     (t : Tree) × (found : List Seen) × (left : ℕ) × Spells text tokens t found × (t.version ≡ two)
     × (first_deep_of found ≡ Some left) × (place ≡ place_of text tokens left)
-IsFault text tokens NoMemory = Unit {0}
+IsParseFault text tokens NoMemory = Unit {0}
 
 abbrev pub IsAlike : ParseFault → ParseFault → Type 0
 IsAlike (Syntax a) (Syntax b) = Unit {0}

@@ -2,7 +2,7 @@
 -- found are the expressions in it, from left to right.
 --   Seen, seen      an expression: how many symbols there are from its first to the end, and how deep it is
 --   first_deep      where the first expression begins that is deeper than a limit
---   Spells          the relations of this kind
+--   Grammar         the relations of this kind
 --   SpellsEach      all of a list, one after the other
 --   BehindComma, SpellsList   one behind a comma; at least one, with commas between
 --   SpellsAngle, SpellsName, SpellsArg, SpellsArgs   members of lists; arguments up to the semicolon
@@ -35,18 +35,18 @@ first_deep limit [] = None
 first_deep limit (s ∷ found) = if nat_le s.depth limit then first_deep limit found else Some s.left
 
 -- ---- lists
-abbrev pub Spells : Type 0 → Type 1
-Spells A = A → List Symbol → List Symbol → List Seen → Type 0
+abbrev pub Grammar : Type 0 → Type 1
+Grammar A = A → List Symbol → List Symbol → List Seen → Type 0
 
-abbrev pub SpellsEach : {A : Type 0} → Spells A → List A → List Symbol → List Symbol → List Seen → Type 0
+abbrev pub SpellsEach : {A : Type 0} → Grammar A → List A → List Symbol → List Symbol → List Seen → Type 0
 SpellsEach R [] ts rest found = (ts ≡ rest) × (found ≡ [])
 SpellsEach R (x ∷ xs) ts rest found =
     (mid : List Symbol) × (here : List Seen) × (later : List Seen) × R x ts mid here × SpellsEach R xs mid rest later × (found ≡ here ++ later)
 
-abbrev pub BehindComma : {A : Type 0} → Spells A → A → List Symbol → List Symbol → List Seen → Type 0
+abbrev pub BehindComma : {A : Type 0} → Grammar A → A → List Symbol → List Symbol → List Seen → Type 0
 BehindComma R x ts rest found = (mid : List Symbol) × (ts ≡ mark Comma ∷ mid) × R x mid rest found
 
-abbrev pub SpellsList : {A : Type 0} → Spells A → List A → List Symbol → List Symbol → List Seen → Type 0
+abbrev pub SpellsList : {A : Type 0} → Grammar A → List A → List Symbol → List Symbol → List Seen → Type 0
 SpellsList R [] ts rest found = ⊥
 SpellsList R (x ∷ xs) ts rest found =
     (mid : List Symbol) × (here : List Seen) × (later : List Seen) × R x ts mid here × SpellsEach (BehindComma R) xs mid rest later × (found ≡ here ++ later)

@@ -7,7 +7,7 @@ ghost use Rattle.qasm_lexer.specs.declared.Token.{Token as LexToken};
 ghost use Rattle.qasm_parser.specs.Tree.{Tree};
 ghost use Rattle.qasm_parser.specs.Spelling.{Seen};
 ghost use Rattle.qasm_parser.specs.DeclaredNames.{HasNames};
-ghost use Rattle.qasm_parser.specs.Parsing.{IsAlike, IsFault, IsProgram, Spells, first_deep_of};
+ghost use Rattle.qasm_parser.specs.Parsing.{IsAlike, IsParseFault, IsProgram, Spells, first_deep_of};
 ghost use Rattle.qasm_parser.specs.declared.ParseFault.{ParseFault as Fault};
 ghost use Rattle.qasm_parser.specs.declared.ParseFault.TheVariants.{NoMemory};
 
@@ -19,12 +19,12 @@ pub fn spelt_once()
 
 /// A text whose tree is accepted has no fault, so only want of memory is told of it.
 pub fn accepted_has_no_fault()
-    ensures { (text : List ℕ) (tokens : List LexToken) (t : Tree) (fault : Fault) → IsProgram text tokens t → IsFault text tokens fault → fault ≡ NoMemory }
+    ensures { (text : List ℕ) (tokens : List LexToken) (t : Tree) (fault : Fault) → IsProgram text tokens t → IsParseFault text tokens fault → fault ≡ NoMemory }
 {}
 
 /// A text with its tokens has one refusal at most, the place of Syntax aside.
 pub fn refused_once()
-    ensures { (text : List ℕ) (tokens : List LexToken) (a b : Fault) → IsFault text tokens a → IsFault text tokens b
+    ensures { (text : List ℕ) (tokens : List LexToken) (a b : Fault) → IsParseFault text tokens a → IsParseFault text tokens b
         → a ≢ NoMemory → b ≢ NoMemory → IsAlike a b }
 {}
 

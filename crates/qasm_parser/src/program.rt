@@ -5,7 +5,7 @@ ghost use Rattle.qasm_parser.specs.Misread.{IsMisread};
 ghost use Rattle.qasm_parser.specs.Tree.{depth_limit, program, statement};
 ghost use Rattle.qasm_parser.specs.Symbols.{place_of};
 ghost use Rattle.qasm_lexer.specs.Tokens.{IsTokenOf};
-ghost use Rattle.qasm_parser.specs.Parsing.{IsFault, IsProgram, real_place, two};
+ghost use Rattle.qasm_parser.specs.Parsing.{IsParseFault, IsProgram, real_place, two};
 ghost use Rattle.qasm_parser.specs.Reading.{all, header_of, more_statements, read, tree_of, version_of};
 
 use crate::ParseFault;
@@ -119,7 +119,7 @@ pub fn parse(alloc: Global, text: &[u8], tokens: &[Token]) -> Result<Program, Pa
     requires short { length text.now < 2 ^ 32 }
     requires tokens { All (IsTokenOf text.now) tokens.now }
     ensures ok { IfOk result (λ p. IsProgram text.now tokens.now (program p)) }
-    ensures err { IfErr result (IsFault text.now tokens.now) }
+    ensures err { IfErr result (IsParseFault text.now tokens.now) }
 {
     let mut cursor = Cursor::new(text, tokens);
     let (program, deep) = match tree(alloc, &mut cursor) {

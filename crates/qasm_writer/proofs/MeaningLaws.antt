@@ -12,7 +12,7 @@ use Rattle.std.proofs.lemmas.List.Elements.{recursion_from_All}
 use Rattle.std.proofs.lemmas.List.Sums.{fold-append}
 use Rattle.unitary_model.specs.declared.Op.{Op}
 use Rattle.qasm_parser.specs.Tree.{Statement, include}
-use Rattle.qasm_check.specs.Checking.{IsAccepted, bound, steps}
+use Rattle.qasm_check.specs.Checking.{IsFineTree, bound, steps}
 use Rattle.gate_library.specs.Gates.{Gate, u, cx}
 use Rattle.gate_library.specs.Known.{Known, fresh}
 use Rattle.gate_library.specs.Library.{library, table_names}
@@ -136,7 +136,7 @@ whole_tree q n us rs reads h =
     }
 
 pub written_tree-fine : (q : List ℕ) (n : ℕ) (us : List Op) (rs : List Bits) (reads : List (Option ℕ)) → AreParts q n us rs reads
-    → IsAccepted (written_tree q n us rs reads)
+    → IsFineTree (written_tree q n us rs reads)
 written_tree-fine q n us rs reads h = (whole_tree q n us rs reads h).run.fine
 
 pub written_tree-means : (q : List ℕ) (n : ℕ) (us : List Op) (rs : List Bits) (reads : List (Option ℕ)) → AreParts q n us rs reads

@@ -19,7 +19,7 @@ use Rattle.command_words.specs.Demands.{device_name, reads_input}
 use Rattle.command_words.specs.declared.commands.Command.{Command}
 use Rattle.command_words.specs.declared.commands.Command.TheVariants.{Opt, Route, Check}
 use Rattle.route_report.specs.Lines.{check_line}
-use Rattle.qroute_top.specs.Causes.{Handed, IsCause, IsDeviceCause, IsRefused, IsRefusedDevice, IsSourceCause, Reaches, Reads}
+use Rattle.qroute_top.specs.Causes.{Handed, IsCause, IsDeviceCause, IsRefusedDevice, IsRefusedSource, IsSourceCause, Reaches, Reads}
 use Rattle.qroute_top.specs.Delivered.{Content, Delivers, IsAnswer, IsInPlace, IsOnDevice, Rewrites, counts_of}
 use Rattle.qroute_top.specs.Devices.{HasDevice, IsDevice, IsDeviceRefusal}
 use Rattle.qroute_top.specs.Plans.{IsRouted}
@@ -176,7 +176,7 @@ told_text : (input : Option (List ℕ)) (t text : List ℕ) → input ≡ Some t
 told_text None t text e h = cc
 told_text (Some x) t text e h = cc
 
-refused_or_accepted : NoRefusal → (input : Option (List ℕ)) (t : List ℕ) (p : Program) (r : Refusal) → input ≡ Some t → IsAccepted t p → IsRefused input r → ⊥
+refused_or_accepted : NoRefusal → (input : Option (List ℕ)) (t : List ℕ) (p : Program) (r : Refusal) → input ≡ Some t → IsAccepted t p → IsRefusedSource input r → ⊥
 refused_or_accepted law input t p r e a (text, tells, refusal) =
     let same = told_text input t text e tells in
     law t p r a (rw same at refusal)

@@ -1,16 +1,16 @@
 -- Why the program isn't read.
---   IsRefused-long         an input that is longer than the limit
+--   IsRefusedSource-long   an input that is longer than the limit
 --   Tells-taken            what was taken to the end is what the input told
 --   IsSourceCause-fault    a fault of the reader on what was taken
 use Rattle.std.proofs.Common.{◌≡◌, ℕ, ◌+◌, ◌<◌, List, Option, Some, None, refl, ◌∙◌, length, replicate, arith, append-nil}
 use Rattle.std.proofs.lemmas.Grind.{common_steps}
 use Rattle.outside_io.specs.Bytes.{IsLongerThan, TakesAll, Tells}
 use Rattle.gate_inline.specs.Programs.{text_limit}
-use Rattle.program_reader.specs.Refusals.{IsFaultOf}
+use Rattle.program_reader.specs.Refusals.{IsReadFault}
 use Rattle.program_reader.specs.declared.refusal.ReadFault.{ReadFault}
 use Rattle.program_reader.specs.declared.refusal.ReadFault.TheVariants as read_fault
 use Rattle.program_reader.specs.declared.refusal.Refusal.TheVariants.{TooLong}
-use Rattle.qroute_top.specs.Causes.{IsRefused, IsSourceCause}
+use Rattle.qroute_top.specs.Causes.{IsRefusedSource, IsSourceCause}
 use Rattle.qroute_top.specs.Stops.{unread}
 use Rattle.qroute_top.specs.declared.stops.SourceStop.{SourceStop}
 
@@ -24,8 +24,8 @@ longer_told : (input : Option (List ℕ)) (max : ℕ) → IsLongerThan input max
 longer_told None max h = ((long_list max).0, tt, (long_list max).1)
 longer_told (Some text) max h = (text, refl, h)
 
-pub IsRefused-long : (input : Option (List ℕ)) → IsLongerThan input text_limit → IsRefused input TooLong
-IsRefused-long input h = longer_told input text_limit h
+pub IsRefusedSource-long : (input : Option (List ℕ)) → IsLongerThan input text_limit → IsRefusedSource input TooLong
+IsRefusedSource-long input h = longer_told input text_limit h
 
 pub Tells-taken : (old new : Option (List ℕ)) (source : List ℕ) → TakesAll old new source → Tells old source
 Tells-taken None new source t = tt
@@ -33,8 +33,8 @@ Tells-taken (Some xs) None source t = absurd t.0
 Tells-taken (Some xs) (Some ys) source t = t.0 ∙ rw t.1 (append-nil source)
 
 pub IsSourceCause-fault : (old new : Option (List ℕ)) (before after : ℕ) (source : List ℕ) (f : ReadFault) (s : SourceStop) → TakesAll old new source
-    → IsFaultOf source f → s ≡ unread f → IsSourceCause old before after s
+    → IsReadFault source f → s ≡ unread f → IsSourceCause old before after s
 IsSourceCause-fault old new before after source read_fault.NoMemory s t is e = rw e tt
 IsSourceCause-fault old new before after source (read_fault.Refused r) s t is e = rw e (source, Tells-taken old new source t, is)
 
-pub ruleset read = (IsRefused-long, IsSourceCause-fault)
+pub ruleset read = (IsRefusedSource-long, IsSourceCause-fault)

@@ -2,7 +2,7 @@
 --   Handed                what the program is handed, and its counts of faults at the entry and at the return
 --   Reads h               the words mean a command that reads the input
 --   Reaches h name        they mean a command that loads the device of this name, and the program that it works on is accepted
---   IsRefused input r     the input has a text, the told one where one is told, and r is its first refusal
+--   IsRefusedSource input r   the input has a text, the told one where one is told, and r is its first refusal
 --   IsRefusedDevice ..    the same of the text of a device, for a program on n wires
 --   IsCause h s           the stop s has its cause; want of memory is free
 --   IsSourceCause, IsDeviceCause   why the program isn't read, and why the device isn't had
@@ -62,8 +62,8 @@ pub record Reaches (h : Handed) (name : List ℕ) : Type 0 where
   pub source : Program
   pub accepted : IsAccepted text source
 
-abbrev pub IsRefused : Option (List ℕ) → Refusal → Type 0
-IsRefused input r = (text : List ℕ) × Tells input text × IsRefusal text r
+abbrev pub IsRefusedSource : Option (List ℕ) → Refusal → Type 0
+IsRefusedSource input r = (text : List ℕ) × Tells input text × IsRefusal text r
 
 abbrev pub IsRefusedDevice : Option (Option (List ℕ)) → ℕ → DeviceRefusal → Type 0
 IsRefusedDevice content n r = (text : List ℕ) × TellsText content text × IsDeviceRefusal text n r
@@ -72,7 +72,7 @@ abbrev pub IsCause : Handed → Stop → Type 0
 IsCause h stop.NoMemory = ⊤
 IsCause h stop.Words = command_of h.words ≡ None
 IsCause h stop.Input = Reads h × Rose h.faults_before h.faults_after
-IsCause h (stop.Program r) = Reads h × IsRefused h.input r
+IsCause h (stop.Program r) = Reads h × IsRefusedSource h.input r
 IsCause h stop.Shelf = (name : List ℕ) × Reaches h name × Rose h.shelf_before h.shelf_after
 IsCause h stop.Absent = (name : List ℕ) × Reaches h name × HasNoText (h.content name) × (h.shelf_after ≡ h.shelf_before)
 IsCause h (stop.Device r) = (name : List ℕ) × (asked : Reaches h name) × IsRefusedDevice (h.content name) asked.source.wires r
@@ -82,7 +82,7 @@ IsCause h (stop.Device r) = (name : List ℕ) × (asked : Reaches h name) × IsR
 abbrev pub IsSourceCause : Option (List ℕ) → ℕ → ℕ → SourceStop → Type 0
 IsSourceCause input before after source_stop.NoMemory = ⊤
 IsSourceCause input before after source_stop.Failed = Rose before after
-IsSourceCause input before after (source_stop.Refused r) = IsRefused input r
+IsSourceCause input before after (source_stop.Refused r) = IsRefusedSource input r
 
 -- why the device isn't had, for a program on n wires
 abbrev pub IsDeviceCause : Option (Option (List ℕ)) → ℕ → ℕ → ℕ → DeviceStop → Type 0

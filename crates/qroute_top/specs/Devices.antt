@@ -6,7 +6,7 @@
 --   HasDevice content o n      where a device of a name is wanted, the shelf has its text, which describes one with n qubits at least
 use Rattle.std.specs.Prelude.{◌≡◌, ℕ, ◌<◌, ◌≤◌, List, Option, Some, None, length}
 use Rattle.coupling_map.specs.Coupling.{Coupling, IsCoupling}
-use Rattle.coupling_map.specs.Refusals.{IsRefusal}
+use Rattle.coupling_map.specs.Refusals.{IsDeviceFault}
 use Rattle.coupling_map.specs.Text.{Says, graph}
 use Rattle.qroute_top.specs.declared.stops.DeviceRefusal.{DeviceRefusal}
 use Rattle.qroute_top.specs.declared.stops.DeviceRefusal.TheVariants as device
@@ -21,7 +21,7 @@ pub record IsDevice (text : List ℕ) (d : Coupling) : Type 0 where
 
 abbrev pub IsDeviceRefusal : List ℕ → ℕ → DeviceRefusal → Type 0
 IsDeviceRefusal text n device.TooLong = device_limit < length text
-IsDeviceRefusal text n (device.Fault f) = (length text ≤ device_limit) × IsRefusal text f
+IsDeviceRefusal text n (device.Fault f) = (length text ≤ device_limit) × IsDeviceFault text f
 IsDeviceRefusal text n (device.TooFewQubits size qubits) = (d : Coupling) × IsDevice text d × (size ≡ d.size) × (qubits ≡ n) × (size < n)
 
 abbrev pub HasDevice : (List ℕ → Option (Option (List ℕ))) → Option (List ℕ) → ℕ → Type 0

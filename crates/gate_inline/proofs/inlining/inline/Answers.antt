@@ -5,7 +5,7 @@ use Rattle.qasm_check.specs.CheckedView.{program}
 use Rattle.qasm_check.specs.StepViews.{step as step_view}
 use Rattle.gate_library.specs.Views.{gate as gate_view}
 use Rattle.gate_expand.specs.Expansion.{IsFineOp}
-use Rattle.gate_inline.specs.Inlined.{IsFault, IsInlined}
+use Rattle.gate_inline.specs.Inlined.{IsInlineFault, IsInlined}
 use Rattle.qasm_check.specs.Sound.{IsSound}
 use Rattle.qasm_check.specs.Steps.{Step}
 use Rattle.gate_inline.specs.Placed.{IsPlaced}
@@ -58,7 +58,7 @@ returns-clause-err c =
       bits = c.bits.result;
       registers = [];
     } in
-    in_err (IsFault b) (IsFault (program c.args.checked.now)) c.written_out.result
+    in_err (IsInlineFault b) (IsInlineFault (program c.args.checked.now)) c.written_out.result
     (λ f h. fault_same b (program c.args.checked.now) f c.gates.ensures c.steps.ensures h) c.written_out.ensures.err
 
 pub written_out-requires-clause-placed : goal.written_out-requires-clause-placed

@@ -3,7 +3,7 @@ use Rattle.std.proofs.Common.{[], map, ap, sym, subst, ◌∙◌, Ok, refl}
 use Rattle.qasm_check.specs.Bound.{Bound}
 use Rattle.qasm_check.specs.StepViews.{step as step_view}
 use Rattle.gate_library.specs.Views.{gate as gate_view}
-use Rattle.gate_inline.specs.Inlined.{IsFault}
+use Rattle.gate_inline.specs.Inlined.{IsInlineFault}
 use Rattle.gate_inline.specs.declared.refusal.InlineFault.{InlineFault}
 use Rattle.gate_inline.proofs.StepLaws.{not_too_much, too_many, unwritten_fault-told}
 use Rattle.gate_inline.proofs.program.written_out.Goals as goal
@@ -18,7 +18,7 @@ returns-in-Err-clause-err c =
     let gates = map gate_view c.args.gates.now in
     let steps = map step_view c.args.steps.now in
     let b : Bound = record { gates = gates; steps = steps; wires = c.args.wires; bits = c.args.bits; registers = [] } in
-    subst (λ (f : InlineFault). IsFault b f) (sym c.fault_of.ensures)
+    subst (λ (f : InlineFault). IsInlineFault b f) (sym c.unwritten_fault.ensures)
     (unwritten_fault-told b c.in-Err.unwritten (not_too_much gates steps c.deref.result.now (c.deref.ensures.value ∙ c.in_ok-sizes.ensures) c.in_default.ensures.none) c.in-Err.ensures.err)
 
 pub returns-clause-ok : goal.returns-clause-ok

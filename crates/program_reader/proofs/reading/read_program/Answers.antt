@@ -3,9 +3,9 @@ use Rattle.std.proofs.Common.{arith}
 use Rattle.qasm_check.specs.CheckedView.{program as bound_program}
 use Rattle.qasm_parser.specs.Tree.{program as tree_of}
 use Rattle.gate_inline.specs.Programs.{IsAccepted}
-use Rattle.program_reader.specs.Refusals.{IsFaultOf, program_of}
+use Rattle.program_reader.specs.Refusals.{IsReadFault, program_of}
 use Rattle.program_reader.specs.Stages.{IsUnwritten}
-use Rattle.program_reader.proofs.ReaderLaws.{IsAccepted-read, IsFaultOf-written, in_err, in_ok}
+use Rattle.program_reader.proofs.ReaderLaws.{IsAccepted-read, IsReadFault-written, in_err, in_ok}
 use Rattle.program_reader.proofs.RegisterLaws.{named_registers}
 use Rattle.program_reader.proofs.reading.read_program.Goals as goal
 
@@ -21,6 +21,6 @@ returns-clause-ok c =
 
 pub returns-clause-err : goal.returns-clause-err
 returns-clause-err c =
-    in_err (IsUnwritten (bound_program c.in_ok-checked.checked)) (IsFaultOf c.args.text.now) c.write_out.result
-    (λ e h. IsFaultOf-written c.args.text.now (tree_of c.in_ok-program.program) (bound_program c.in_ok-checked.checked) e (omega (arith, c.if-text-gt-TEXT_LIMIT.false))
+    in_err (IsUnwritten (bound_program c.in_ok-checked.checked)) (IsReadFault c.args.text.now) c.write_out.result
+    (λ e h. IsReadFault-written c.args.text.now (tree_of c.in_ok-program.program) (bound_program c.in_ok-checked.checked) e (omega (arith, c.if-text-gt-TEXT_LIMIT.false))
     c.in_ok-program.ensures.ok c.in_ok-checked.ensures.ok.0 c.in_ok-checked.ensures.ok.1 h) c.write_out.ensures.err
