@@ -8,11 +8,10 @@
 use Rattle.std.proofs.Common.{◌≡◌, ◌≢◌, ℕ, ◌+◌, ◌*◌, ◌%◌, ◌<◌, ◌≤◌, ◌⊎◌, inl, inr, true, List, [], ◌∷◌, ◌++◌, All, Some, None, length, map, slice_get, slice_index, refl, sym, ◌∙◌, ap, subst, arith, append-nil, append_assoc, add-zero, zero-add}
 use Rattle.std.specs.List.{AllByRecursion}
 use Rattle.std.proofs.lemmas.List.{map-append, length-append}
-use Rattle.std.proofs.lemmas.List.Elements.{All-append, All-from_recursion}
+use Rattle.std.proofs.lemmas.List.Elements.{All-append, All-from_recursion, recursion_from_All}
 use Rattle.circuit_list.specs.declared.Gate.{Gate}
 use Rattle.circuit_list.specs.declared.Gate.TheVariants.{H, X, P, Cx}
 use Rattle.circuit_list.specs.Gates.{IsFine, op_of, ops}
-use Rattle.circuit_list.proofs.GateLaws.{WiresBelow-ops}
 use Rattle.coupling_map.specs.Walks.{is_near}
 use Rattle.unitary_model.specs.declared.Op.{Op}
 use Rattle.unitary_model.specs.declared.Op.TheVariants.{U, Cx as OpCx}
@@ -241,13 +240,20 @@ IsOnTheWay-emitted es size first n gs heads heads' j g old new le fine e at can 
     }
 
 -- ---- where no gate is left
+wires_below : (n : ℕ) (gs : List Gate) → AllByRecursion (IsFine n) gs → WiresBelow n (ops gs)
+wires_below n [] h = tt
+wires_below n (H q ∷ gs) h = (h.0, wires_below n gs h.1)
+wires_below n (X q ∷ gs) h = (h.0, wires_below n gs h.1)
+wires_below n (P k q ∷ gs) h = (h.0.0, wires_below n gs h.1)
+wires_below n (Cx c t ∷ gs) h = (h.0.0, (h.0.1.0, wires_below n gs h.1))
+
 pub Realises-end : (es : List (ℕ × ℕ)) (size : ℕ) (first : List ℕ) (n : ℕ) (gs : List Gate) (heads : List ℕ) (r : Routed) → n ≤ size → All (IsFine n) gs → IsPlacement size first
     → IsOnTheWay es size first n gs heads r → rest heads gs ≡ [] → Realises (ops gs) n (ops r.body.gates) size first r.last r.turn
 Realises-end es size first n gs heads r le fine placed w none =
     let order : Turns 0 (ops gs) w.done = subst (λ (us : List Op). Turns 0 (ops gs) us) (ap (λ xs. w.done ++ ops xs) none ∙ append-nil w.done) w.order in
     let q = Reached-source size first (ops gs) w.done (ops r.body.gates) r.last r.turn order w.underway.reached in
     realises_by (ops gs) (ops r.body.gates) n size first r.last q.from q.to r.turn le w.underway.below placed w.underway.placed q.starts q.ends
-    (WiresBelow-ops n gs fine) w.underway.within q.realised
+    (wires_below n gs (recursion_from_All (IsFine n) gs fine)) w.underway.within q.realised
 
 pub t_count-end : (es : List (ℕ × ℕ)) (size : ℕ) (first : List ℕ) (n : ℕ) (gs : List Gate) (heads : List ℕ) (r : Routed)
     → IsOnTheWay es size first n gs heads r → rest heads gs ≡ [] → t_count (ops r.body.gates) ≡ t_count (ops gs)
