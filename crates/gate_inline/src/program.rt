@@ -14,11 +14,12 @@ ghost use Rattle.gate_inline.specs.Stops.{IsStop};
 
 use crate::body::{Call, write_out};
 use crate::refusal::{InlineFault, Refusal, Refused};
-use crate::size::{broadcast, sizes, too_much};
+use crate::size::{sizes, too_much};
 use crate::stop::{Stop, Unvalued};
 use crate::value::values;
 use angle_fraction::Angle;
 use gate_expand::{OpList, Ops, ReadList};
+use gate_library::broadcast;
 use qasm_check::{Gate, Operand, Step};
 use std::alloc::{AllocError, Global};
 use unitary_model::Op;

@@ -1,14 +1,14 @@
 //! How much a program becomes, before anything is written out.
 
 ghost use Rattle.std.specs.Prelude.{◌≡◌, ◌+◌, ◌<◌, false, true, IfNone, IfOk, IfSome, length, map, take};
-ghost use Rattle.gate_library.specs.Operands.{broadcast as broadcast_of};
 ghost use Rattle.qasm_check.specs.StepViews.{step as step_view};
 ghost use Rattle.gate_library.specs.Views.{gate as gate_view, item as item_view};
 ghost use Rattle.gate_inline.specs.Capped.{capped};
 ghost use Rattle.gate_inline.specs.Sizes.{gate_size as size_of_gate, is_too_much, size as size_from, item_size as size_of_item, size_all, size_at as size_there, size_plus, size_times, sizes as sizes_of, step_size as size_of_step, steps_size};
 
 use crate::{ITEM_LIMIT, OPERATION_LIMIT};
-use qasm_check::{Gate, Item, Operand, Step};
+use gate_library::broadcast;
+use qasm_check::{Gate, Item, Step};
 use std::alloc::{AllocError, Global};
 
 /// So many operations, and so many items of bodies; at most 2^64 - 1 of each.
@@ -112,18 +112,6 @@ pub fn sizes(alloc: Global, gates: &[Gate]) -> Result<Vec<Size>, AllocError>
         list.push(size)?;
     }
     Ok(list)
-}
-
-/// How often a gate is applied to these places: once for each wire of a whole register, or once.
-pub fn broadcast(places: &[Operand]) -> u32
-    ensures { result ≡ broadcast_of places.now }
-{
-    'places: for place in places {
-        if place.index.is_none() {
-            return place.size;
-        }
-    }
-    1
 }
 
 fn step_size(sizes: &[Size], step: &Step) -> Size
