@@ -15,8 +15,8 @@ const MOST_PART: u128 = 1 << 62;
 /// A fraction in lowest terms, its denominator above 0, both parts at most 2^62 in size.
 #[derive(Clone, Copy, Debug, PartialEq, Eq)]
 pub struct Frac {
-    num: i128,
-    den: i128,
+    num: i64,
+    den: i64,
 }
 
 impl Model for Frac {
@@ -54,7 +54,7 @@ impl Frac {
         ensures value { result ≡ self.now.num }
         ensures size { unsigned_abs result ≤ most_part }
     {
-        self.num
+        i128::from(self.num)
     }
 
     /// The denominator, from 1 to 2^62.
@@ -63,7 +63,7 @@ impl Frac {
         ensures lowest { IsLowest self.now }
         ensures size { self.now.den ≤ most_part }
     {
-        self.den
+        i128::from(self.den)
     }
 
     /// Whether the value is 0.
@@ -105,6 +105,25 @@ fn divided(num: i128, by: i128) -> i128
     num / by
 }
 
+/// A part of a fraction in half the space.
+fn narrow(part: i128) -> i64
+    requires { unsigned_abs part ≤ most_part }
+    ensures { result ≡ part }
+{
+    part as i64
+}
+
+/// The fraction of two parts.
+fn keep(num: i128, den: i128) -> Frac
+    requires { IsKept num den }
+    ensures { result ≡ fraction num (unsigned_abs den) }
+{
+    Frac {
+        num: narrow(num),
+        den: narrow(den),
+    }
+}
+
 /// The value of two parts in lowest terms; Range where a part is above 2^62.
 pub fn lowest(num: i128, den: i128) -> Result<Frac, AngleFault>
     requires { pos 0 <ℤ den }
@@ -116,7 +135,7 @@ pub fn lowest(num: i128, den: i128) -> Result<Frac, AngleFault>
     if num.unsigned_abs() > MOST_PART || den.unsigned_abs() > MOST_PART {
         return Err(AngleFault::Range);
     }
-    Ok(Frac { num, den })
+    Ok(keep(num, den))
 }
 
 /// The product of two parts, at most 2^124 in size.
@@ -179,14 +198,6 @@ fn negated(part: i128) -> i128
     ensures { result ≡ neg_ℤ part }
 {
     -part
-}
-
-/// The fraction of two parts.
-fn keep(num: i128, den: i128) -> Frac
-    requires { IsKept num den }
-    ensures { result ≡ fraction num (unsigned_abs den) }
-{
-    Frac { num, den }
 }
 
 /// 1 over a fraction that isn't 0.

@@ -1,6 +1,7 @@
 //! Tokens as the grammar sees them.
 
 ghost use Rattle.std.specs.Prelude.{◌≡◌, ◌<◌, ◌^◌, ◌∷◌, List, length};
+ghost use Rattle.std.specs.Str.{bytes_eq};
 ghost use Rattle.qasm_parser.specs.Symbols.{function_of, keyword_of, mark_of, sign_of, symbol_by, unquoted, word_symbol, mark_symbol, symbol_of, value_of, first_value, Symbol as SpecSymbol};
 ghost use Rattle.qasm_lexer.specs.Tokens.{IsTokenOf};
 ghost use Rattle.angle_fraction.specs.Fraction.{Fraction};
@@ -56,35 +57,51 @@ pub enum Symbol<'a> {
     Other,
 }
 
+/// Whether these are the bytes of a spelling, told by the first byte where it is another.
+fn spells(bytes: &[u8], spelling: &[u8]) -> bool
+    ensures { result ≡ bytes_eq bytes.now spelling.now }
+{
+    let [first, ..] = bytes else {
+        return bytes == spelling;
+    };
+    let [other, ..] = spelling else {
+        return bytes == spelling;
+    };
+    if *first != *other {
+        return false;
+    }
+    bytes == spelling
+}
+
 /// The reserved word that these bytes spell.
 fn keyword_of(word: &[u8]) -> Option<Keyword>
     ensures { result ≡ keyword_of word.now }
 {
-    let keyword = if word == b"OPENQASM".as_slice() {
+    let keyword = if spells(word, b"OPENQASM".as_slice()) {
         Keyword::OpenQasm
-    } else if word == b"include".as_slice() {
+    } else if spells(word, b"include".as_slice()) {
         Keyword::Include
-    } else if word == b"qreg".as_slice() {
+    } else if spells(word, b"qreg".as_slice()) {
         Keyword::Qreg
-    } else if word == b"creg".as_slice() {
+    } else if spells(word, b"creg".as_slice()) {
         Keyword::Creg
-    } else if word == b"gate".as_slice() {
+    } else if spells(word, b"gate".as_slice()) {
         Keyword::Gate
-    } else if word == b"opaque".as_slice() {
+    } else if spells(word, b"opaque".as_slice()) {
         Keyword::Opaque
-    } else if word == b"measure".as_slice() {
+    } else if spells(word, b"measure".as_slice()) {
         Keyword::Measure
-    } else if word == b"reset".as_slice() {
+    } else if spells(word, b"reset".as_slice()) {
         Keyword::Reset
-    } else if word == b"if".as_slice() {
+    } else if spells(word, b"if".as_slice()) {
         Keyword::If
-    } else if word == b"barrier".as_slice() {
+    } else if spells(word, b"barrier".as_slice()) {
         Keyword::Barrier
-    } else if word == b"pi".as_slice() {
+    } else if spells(word, b"pi".as_slice()) {
         Keyword::Pi
-    } else if word == b"U".as_slice() {
+    } else if spells(word, b"U".as_slice()) {
         Keyword::U
-    } else if word == b"CX".as_slice() {
+    } else if spells(word, b"CX".as_slice()) {
         Keyword::Cx
     } else {
         return None;
@@ -96,17 +113,17 @@ fn keyword_of(word: &[u8]) -> Option<Keyword>
 fn function_of(word: &[u8]) -> Option<Function>
     ensures { result ≡ function_of word.now }
 {
-    let function = if word == b"sin".as_slice() {
+    let function = if spells(word, b"sin".as_slice()) {
         Function::Sin
-    } else if word == b"cos".as_slice() {
+    } else if spells(word, b"cos".as_slice()) {
         Function::Cos
-    } else if word == b"tan".as_slice() {
+    } else if spells(word, b"tan".as_slice()) {
         Function::Tan
-    } else if word == b"exp".as_slice() {
+    } else if spells(word, b"exp".as_slice()) {
         Function::Exp
-    } else if word == b"ln".as_slice() {
+    } else if spells(word, b"ln".as_slice()) {
         Function::Ln
-    } else if word == b"sqrt".as_slice() {
+    } else if spells(word, b"sqrt".as_slice()) {
         Function::Sqrt
     } else {
         return None;
@@ -118,25 +135,25 @@ fn function_of(word: &[u8]) -> Option<Function>
 fn mark_of(sign: &[u8]) -> Option<Mark>
     ensures { result ≡ mark_of sign.now }
 {
-    let mark = if sign == b";".as_slice() {
+    let mark = if spells(sign, b";".as_slice()) {
         Mark::Semicolon
-    } else if sign == b",".as_slice() {
+    } else if spells(sign, b",".as_slice()) {
         Mark::Comma
-    } else if sign == b"(".as_slice() {
+    } else if spells(sign, b"(".as_slice()) {
         Mark::Open
-    } else if sign == b")".as_slice() {
+    } else if spells(sign, b")".as_slice()) {
         Mark::Close
-    } else if sign == b"[".as_slice() {
+    } else if spells(sign, b"[".as_slice()) {
         Mark::OpenBracket
-    } else if sign == b"]".as_slice() {
+    } else if spells(sign, b"]".as_slice()) {
         Mark::CloseBracket
-    } else if sign == b"{".as_slice() {
+    } else if spells(sign, b"{".as_slice()) {
         Mark::OpenBrace
-    } else if sign == b"}".as_slice() {
+    } else if spells(sign, b"}".as_slice()) {
         Mark::CloseBrace
-    } else if sign == b"->".as_slice() {
+    } else if spells(sign, b"->".as_slice()) {
         Mark::Arrow
-    } else if sign == b"==".as_slice() {
+    } else if spells(sign, b"==".as_slice()) {
         Mark::Equals
     } else {
         return None;
@@ -148,15 +165,15 @@ fn mark_of(sign: &[u8]) -> Option<Mark>
 fn sign_of(sign: &[u8]) -> Option<Binary>
     ensures { result ≡ sign_of sign.now }
 {
-    let binary = if sign == b"+".as_slice() {
+    let binary = if spells(sign, b"+".as_slice()) {
         Binary::Add
-    } else if sign == b"-".as_slice() {
+    } else if spells(sign, b"-".as_slice()) {
         Binary::Sub
-    } else if sign == b"*".as_slice() {
+    } else if spells(sign, b"*".as_slice()) {
         Binary::Mul
-    } else if sign == b"/".as_slice() {
+    } else if spells(sign, b"/".as_slice()) {
         Binary::Div
-    } else if sign == b"^".as_slice() {
+    } else if spells(sign, b"^".as_slice()) {
         Binary::Pow
     } else {
         return None;

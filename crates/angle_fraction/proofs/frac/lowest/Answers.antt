@@ -1,4 +1,4 @@
-use Rattle.std.proofs.Common.{◌≤◌, inl, inr, arith, rules, FitsSigned}
+use Rattle.std.proofs.Common.{◌≤◌, ◌∙◌, ap, Ok, inl, inr, arith, rules, FitsSigned}
 use Rattle.std.specs.Prelude.{unsigned_abs}
 use Rattle.std.specs.Int.{w128}
 use Rattle.std.proofs.lemmas.Int.{to_z-of_z}
@@ -25,8 +25,8 @@ returns-then-unsigned_abs-gt-MOST_PART c =
           past c.args.num c.args.den c.common_factor-factor.result c.divided-num.result c.divided-den.result c.requires c.common_factor-factor.ensures.positive gcd num den (inr (omega arith))
     ]
 
-pub invariant_of-result : goal.invariant_of-result
-invariant_of-result c =
+pub keep-requires : goal.keep-requires
+keep-requires c =
     let n_fits : FitsSigned w128 c.args.num = c.ranges.num in
     let d_fits : FitsSigned w128 c.args.den = c.ranges.den in
     let f_fits : FitsSigned w128 c.common_factor-factor.result = search rules in
@@ -55,4 +55,4 @@ returns c =
     let second = simp to_z-of_z at c.unsigned_abs-else-unsigned_abs-gt-MOST_PART.ensures.value in
     let small : unsigned_abs c.divided-num.result ≤ most_part = omega arith in
     let low : unsigned_abs c.divided-den.result ≤ most_part = omega arith in
-    simp to_z-of_z (fits c.args.num c.args.den c.common_factor-factor.result c.divided-num.result c.divided-den.result c.requires c.common_factor-factor.ensures.positive gcd num den small low)
+    ap Ok c.keep.ensures ∙ simp to_z-of_z (fits c.args.num c.args.den c.common_factor-factor.result c.divided-num.result c.divided-den.result c.requires c.common_factor-factor.ensures.positive gcd num den small low)
