@@ -1,0 +1,2 @@
+pub mod PathForm
+pub mod PathSum
