@@ -1,2 +1,3 @@
+pub mod OddLabels
 pub mod PathForm
 pub mod PathSum
