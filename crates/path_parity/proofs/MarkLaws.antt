@@ -6,7 +6,7 @@
 --     odd_sets-marks, odd_paths-marks     these are the odd sets; so there are as many odd path parities
 --     t_count-marks           and as many T gates as odd marks
 --     marks-eighths           each k is below 8
-use Rattle.std.proofs.Common.{◌≡◌, ◌≢◌, ℕ, suc, ◌+◌, ◌%◌, ◌^◌, ◌<◌, Bool, true, false, cond, List, [], ◌∷◌, map, length, refl, ◌∙◌, ap, arith, zero-add, All}
+use Rattle.std.proofs.Common.{◌≡◌, ◌≢◌, ℕ, suc, ◌+◌, ◌%◌, ◌^◌, ◌<◌, Bool, true, false, cond, List, [], ◌∷◌, ◌++◌, map, length, refl, ◌∙◌, ap, arith, zero-add, All}
 use Rattle.std.specs.Prelude.{nat_eq, nat_lt}
 use Rattle.std.proofs.lemmas.Bool.Decides.{nat_tests}
 use Rattle.std.proofs.lemmas.List.Elements.{recursion_from_All}
@@ -95,7 +95,11 @@ pub odd_sets-marks : (gs : List Gate) (w : Wires) (n : ℕ) → odd_sets gs w n 
 odd_sets-marks [] w n = refl
 odd_sets-marks (H q ∷ gs) w n = odd_sets-marks gs (with_label w q (fresh n)) (suc n)
 odd_sets-marks (X q ∷ gs) w n = odd_sets-marks gs (with_label w q (flipped (w q))) n
-odd_sets-marks (P k q ∷ gs) w n = λ i. cond (nat_eq (k % 2) 1) ((w q).variables ∷ odd_sets-marks gs w n i) (odd_sets-marks gs w n i)
+odd_sets-marks (P k q ∷ gs) w n = ap (λ r. cond (nat_eq (k % 2) 1) ((w q).variables ∷ []) [] ++ r) (odd_sets-marks gs w n) ∙ go (nat_eq (k % 2) 1) (odd_marks (marks gs w n))
+  where
+    go : (b : Bool) (r : List ℕ) → cond b ((w q).variables ∷ []) [] ++ r ≡ cond b ((w q).variables ∷ r) r
+    go true r = refl
+    go false r = refl
 odd_sets-marks (Cx c t ∷ gs) w n = odd_sets-marks gs (with_label w t (add_labels (w t) (w c))) n
 
 pub odd_paths-marks : (gs : List Gate) (n : ℕ) → odd_paths n (ops gs) ≡ odd_size (odd_marks (marks gs (own_labels n) n))

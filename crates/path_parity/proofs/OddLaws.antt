@@ -7,7 +7,7 @@
 --     odd_size-same           lists with the same parities leave as many
 --     odd_size-map            a map of the labels leaves no more
 --     odd_paths-sets          the odd path parities of a circuit are those of its odd sets
-use Rattle.std.proofs.Common.{◌≡◌, ℕ, suc, ◌%◌, ◌^◌, ◌≤◌, Bool, true, false, cond, not, List, [], ◌∷◌, map, length, refl, sym, ◌∙◌, ap, arith, zero-add}
+use Rattle.std.proofs.Common.{◌≡◌, ℕ, suc, ◌%◌, ◌^◌, ◌≤◌, Bool, true, false, cond, not, List, [], ◌∷◌, ◌++◌, map, length, refl, sym, ◌∙◌, ap, arith, zero-add}
 use Rattle.std.proofs.lemmas.List.{length-map}
 use Rattle.std.proofs.Math.Path.{fun_ext}
 use Rattle.std.specs.Prelude.{nat_eq, bit_xor}
@@ -130,7 +130,7 @@ odd-sets (X q ∷ gs) w n k h = odd-sets gs (with_label w q (flipped (w q))) n k
 odd-sets (P j q ∷ gs) w n k h = ap (λ m. (walked_all (ops gs) (paths.toggle_odd m q k)).odd) (zero-add j) ∙ go (nat_eq (j % 2) 1) (λ z g. odd-sets gs w n z g)
   where
     go : (b : Bool) → ((z : Walk) → Follows w n z → (walked_all (ops gs) z).odd ≡ toggled_all (odd_sets gs w n) z.odd) →
-        (walked_all (ops gs) (cond b (paths.toggle_at q k) k)).odd ≡ toggled_all (cond b ((w q).variables ∷ odd_sets gs w n) (odd_sets gs w n)) k.odd
+        (walked_all (ops gs) (cond b (paths.toggle_at q k) k)).odd ≡ toggled_all (cond b ((w q).variables ∷ []) [] ++ odd_sets gs w n) k.odd
     go true r = r (paths.toggle_at q k) (record { labels = h.labels; unused = h.unused }) ∙ ap (λ m. toggled_all (odd_sets gs w n) (toggle m k.odd)) (h.labels q)
     go false r = r k h
 odd-sets (Cx c t ∷ gs) w n k h = odd-sets gs (with_label w t (add_labels (w t) (w c))) n (paths.add_at c t k)

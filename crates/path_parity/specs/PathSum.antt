@@ -11,11 +11,14 @@
 --     flipped l           l with the other bit
 --     fresh n             variable n alone
 --     own_labels n        each of the n wires has its own variable alone
---     phase_labels gs w n the label at each P of gs, in order; w before gs, and n the least variable not used so far
---     last_labels gs w n  the labels after gs
+--     labels_after g w n  the labels after gate g, where w are those before it and n is the least variable not used so far
+--     unused_after g n    the least variable not used so far, after gate g
+--     last_labels gs w n  the labels after a list of gates
+--     phase_label g w     the label at a P, no label at another gate
+--     phase_labels gs w n the label at each P of a list, in order
 --     exponent N v gs w n the power of w that a path collects, where N variables have the values v: at each P(k) on a wire of
 --                         value 1 it is k, at each X it is 2, and at each H whose wire has value 1 before and after it is 4
-use Rattle.std.specs.Prelude.{ℕ, zero, suc, ◌+◌, ◌^◌, Bool, true, false, not, cond, List, [], ◌∷◌, nat_eq, bit_xor}
+use Rattle.std.specs.Prelude.{ℕ, zero, suc, ◌+◌, ◌^◌, Bool, true, false, not, cond, List, [], ◌∷◌, ◌++◌, nat_eq, bit_xor}
 use Rattle.std.specs.Int.{bit_at}
 use Rattle.circuit_list.specs.declared.Gate.{Gate}
 use Rattle.circuit_list.specs.declared.Gate.TheVariants.{H, X, P, Cx}
@@ -58,19 +61,31 @@ fresh n = label (2 ^ n) false
 abbrev pub own_labels : ℕ → Wires
 own_labels n = λ q. label (own_variables n q) false
 
-abbrev pub phase_labels : List Gate → Wires → ℕ → List PathLabel
-phase_labels [] w n = []
-phase_labels (H q ∷ gs) w n = phase_labels gs (with_label w q (fresh n)) (suc n)
-phase_labels (X q ∷ gs) w n = phase_labels gs (with_label w q (flipped (w q))) n
-phase_labels (P k q ∷ gs) w n = w q ∷ phase_labels gs w n
-phase_labels (Cx c t ∷ gs) w n = phase_labels gs (with_label w t (add_labels (w t) (w c))) n
+abbrev pub labels_after : Gate → Wires → ℕ → Wires
+labels_after (H q) w n = with_label w q (fresh n)
+labels_after (X q) w n = with_label w q (flipped (w q))
+labels_after (P k q) w n = w
+labels_after (Cx c t) w n = with_label w t (add_labels (w t) (w c))
+
+abbrev pub unused_after : Gate → ℕ → ℕ
+unused_after (H q) n = suc n
+unused_after (X q) n = n
+unused_after (P k q) n = n
+unused_after (Cx c t) n = n
 
 abbrev pub last_labels : List Gate → Wires → ℕ → Wires
 last_labels [] w n = w
-last_labels (H q ∷ gs) w n = last_labels gs (with_label w q (fresh n)) (suc n)
-last_labels (X q ∷ gs) w n = last_labels gs (with_label w q (flipped (w q))) n
-last_labels (P k q ∷ gs) w n = last_labels gs w n
-last_labels (Cx c t ∷ gs) w n = last_labels gs (with_label w t (add_labels (w t) (w c))) n
+last_labels (g ∷ gs) w n = last_labels gs (labels_after g w n) (unused_after g n)
+
+abbrev pub phase_label : Gate → Wires → List PathLabel
+phase_label (H q) w = []
+phase_label (X q) w = []
+phase_label (P k q) w = w q ∷ []
+phase_label (Cx c t) w = []
+
+abbrev pub phase_labels : List Gate → Wires → ℕ → List PathLabel
+phase_labels [] w n = []
+phase_labels (g ∷ gs) w n = phase_label g w ++ phase_labels gs (labels_after g w n) (unused_after g n)
 
 abbrev pub exponent : ℕ → Bits → List Gate → Wires → ℕ → ℕ
 exponent N v [] w n = 0
