@@ -1,6 +1,6 @@
 -- The odd set of a list of labels, and of a circuit.
 --     par-is_odd              parities are those of `is_odd`
---     IsOnce s                no label stands twice in s
+--     is_odd-toggle, IsOnce-toggle, toggle-shorter, toggle-longer     one toggle of a list without repeats
 --     shortest                of the lists with the same parities one without repeats is shortest
 --     toggled_all-once        what is left has no repeats
 --     par-toggled_all         what is left has the parities of the list
@@ -21,7 +21,7 @@ use Rattle.unitary_model.specs.OddPaths as paths
 use Rattle.unitary_model.proofs.PathLaws.{par, par_toggle, toggled_twice, toggled_comm, toggle_shorter}
 use Rattle.unitary_model.proofs.FlatPaths.{par-map}
 use Rattle.path_parity.specs.PathSum.{PathLabel, Wires, with_label, add_labels, flipped, fresh, own_labels}
-use Rattle.path_parity.specs.OddLabels.{odd_sets, toggled_all, odd_size, is_odd}
+use Rattle.path_parity.specs.OddLabels.{odd_sets, toggled_all, odd_size, is_odd, IsOnce}
 
 pub par-is_odd : (l : ℕ) (ls : List ℕ) → par ls l ≡ is_odd l ls
 unfolding par
@@ -31,25 +31,51 @@ par-is_odd l (m ∷ ls) = λ i. cond (nat_eq l m) (not (par-is_odd l ls i)) (par
 pub par_from_odd : (ls ks : List ℕ) → ((l : ℕ) → is_odd l ls ≡ is_odd l ks) → par ls ≡ par ks
 par_from_odd ls ks h = fun_ext (λ l. par-is_odd l ls ∙ h l ∙ sym (par-is_odd l ks))
 
--- no label stands twice
-abbrev pub IsOnce : List ℕ → Type 0
-IsOnce [] = Unit {0}
-IsOnce (m ∷ s) = (par s m ≡ false) × IsOnce s
+pub is_odd-toggle : (l : ℕ) (s : List ℕ) (m : ℕ) → is_odd m (toggle l s) ≡ cond (nat_eq m l) (not (is_odd m s)) (is_odd m s)
+is_odd-toggle l s m = sym (par-is_odd m (toggle l s)) ∙ ap (λ p. p m) (par_toggle l s) ∙ (λ i. cond (nat_eq m l) (not (par-is_odd m s i)) (par-is_odd m s i))
 
 pub IsOnce-toggle : (l : ℕ) (s : List ℕ) → IsOnce s → IsOnce (toggle l s)
-unfolding par
 IsOnce-toggle l [] c = (refl, tt)
 IsOnce-toggle l (m ∷ s) c = go (nat_eq m l) refl (IsOnce-toggle l s c.1)
   where
     go : (t : Bool) → nat_eq m l ≡ t → IsOnce (toggle l s) → IsOnce (cond t s (m ∷ toggle l s))
     go true e h = c.1
-    go false e h = (ap (λ p. p m) (par_toggle l s) ∙ ap (λ b. cond b (not (par s m)) (par s m)) e ∙ c.0, h)
+    go false e h = (is_odd-toggle l s m ∙ ap (λ b. cond b (not (is_odd m s)) (is_odd m s)) e ∙ c.0, h)
+
+pub toggle-shorter : (l : ℕ) (s : List ℕ) → is_odd l s ≡ true → suc (length (toggle l s)) ≡ length s
+toggle-shorter l s h = toggle_shorter l s (par-is_odd l s ∙ h)
+
+pub toggle-longer : (l : ℕ) (s : List ℕ) → IsOnce s → is_odd l s ≡ false → length (toggle l s) ≡ suc (length s)
+toggle-longer l [] c h = refl
+toggle-longer l (m ∷ s) c h = go (nat_eq m l) refl (λ e. toggle-longer l s c.1 e)
+  where
+    other_way : nat_eq m l ≡ false → nat_eq l m ≡ false
+    other_way e = grind (arith, nat_tests)
+
+    is : nat_eq m l ≡ true → m ≡ l
+    is e = grind (arith, nat_tests)
+
+    one : nat_eq m l ≡ true → nat_eq l m ≡ true
+    one e = grind (arith, nat_tests)
+
+    twice : (a b : Bool) → a ≡ true → b ≡ false → cond a (not b) b ≡ false → ⊥
+    twice true true e f g = absurd (cc)
+    twice true false e f g = absurd (cc)
+    twice false b e f g = absurd (cc)
+
+    off : (a b : Bool) → a ≡ false → cond a (not b) b ≡ false → b ≡ false
+    off true b e g = absurd (cc)
+    off false b e g = g
+
+    go : (t : Bool) → nat_eq m l ≡ t → (is_odd l s ≡ false → length (toggle l s) ≡ suc (length s)) → length (cond t s (m ∷ toggle l s)) ≡ suc (suc (length s))
+    go true e r = absurd (twice (nat_eq l m) (is_odd l s) (one e) (ap (λ z. is_odd z s) (sym (is e)) ∙ c.0) h)
+    go false e r = ap (λ n. suc n) (r (off (nat_eq l m) (is_odd l s) (other_way e) h))
 
 pub shortest : (o s : List ℕ) → IsOnce o → par o ≡ par s → length o ≤ length s
 unfolding par
 shortest [] s c h = omega arith
 shortest (m ∷ o) s c h =
-    let odd_there : par s m ≡ true = sym (ap (λ p. p m) h) ∙ here (nat_eq m m) (par o m) (same m) c.0 in
+    let odd_there : par s m ≡ true = sym (ap (λ p. p m) h) ∙ here (nat_eq m m) (par o m) (same m) (par-is_odd m o ∙ c.0) in
     let rest : par o ≡ par (toggle m s) = sym (toggled_twice m (par o)) ∙ ap (toggled m) h ∙ sym (par_toggle m s) in
     omega (arith, toggle_shorter m s odd_there, shortest o (toggle m s) c.1 rest)
   where

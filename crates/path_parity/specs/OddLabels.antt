@@ -5,6 +5,7 @@
 --     odd_size ls         how many are left at the end, from none
 --     IsLinear f          f of a symmetric difference is the symmetric difference of the values of f
 --     is_odd l ls         whether l stands an odd number of times in ls
+--     IsOnce ls           no label stands twice in ls
 use Rattle.std.specs.Prelude.{◌≡◌, ℕ, ◌%◌, Bool, false, not, cond, List, [], ◌∷◌, ◌++◌, length, nat_eq, bit_xor}
 use Rattle.circuit_list.specs.declared.Gate.{Gate}
 use Rattle.circuit_list.specs.declared.Gate.TheVariants.{H, X, P, Cx}
@@ -34,3 +35,7 @@ IsLinear f = (x y : ℕ) → f (bit_xor x y) ≡ bit_xor (f x) (f y)
 abbrev pub is_odd : ℕ → List ℕ → Bool
 is_odd l [] = false
 is_odd l (m ∷ ls) = cond (nat_eq l m) (not (is_odd l ls)) (is_odd l ls)
+
+abbrev pub IsOnce : List ℕ → Type 0
+IsOnce [] = Unit {0}
+IsOnce (l ∷ ls) = (is_odd l ls ≡ false) × IsOnce ls
