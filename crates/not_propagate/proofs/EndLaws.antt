@@ -4,8 +4,7 @@
 --     none_on             what waits from wire i on isn't on a wire below
 --     more_x, more_none   one wire more, with a flag and without
 --     last_x              behind gates without an X each X that waits is the last gate on its wire
-use Rattle.std.proofs.Common.{◌≡◌, ℕ, zero, suc, ◌+◌, ◌<◌, Bool, true, false, cond, List, [], ◌∷◌, ◌++◌, length, get_or, replicate, take, refl, sym, subst, ◌∙◌, ap, arith, add-one, append_assoc, append-nil, Some}
-use Rattle.std.specs.Prelude.{slice_get, nat_eq}
+use Rattle.std.proofs.Common.{◌≡◌, ℕ, zero, suc, ◌+◌, ◌<◌, Bool, true, false, cond, List, [], ◌∷◌, ◌++◌, length, get_or, replicate, take, refl, sym, ◌∙◌, ap, arith, add-one, append_assoc, append-nil, Some}
 use Rattle.std.specs.List.{AllByRecursion}
 use Rattle.std.proofs.Math.Seq.{take-suc}
 use Rattle.std.proofs.lemmas.List.{length-take-le}
@@ -13,9 +12,9 @@ use Rattle.std.proofs.lemmas.List.Elements.{recursion_from_All}
 use Rattle.std.proofs.lemmas.Bool.Decides.{nat_tests}
 use Rattle.circuit_list.specs.declared.Gate.{Gate}
 use Rattle.circuit_list.specs.declared.Gate.TheVariants.{H, X, P, Cx}
-use Rattle.circuit_list.specs.Slots.{NoneBehind, is_on_at}
+use Rattle.circuit_list.specs.Slots.{is_on_at}
 use Rattle.not_propagate.specs.LastX.{XLast}
-use Rattle.not_propagate.specs.Walks.{flag_of, waiting_from, waiting, is_x, NoX}
+use Rattle.not_propagate.specs.Walks.{waiting_from, waiting, is_x, NoX}
 
 pub waiting_none : (i n : ℕ) → waiting_from i (replicate n false) ≡ []
 waiting_none i zero = refl

@@ -6,7 +6,7 @@
 --     take_flag           a waiting X goes to the end
 --     meets               a waiting X meets a gate
 --     pass_by, pass_first     a gate without flagged wires goes before the X that wait
-use Rattle.std.proofs.Common.{◌≡◌, ◌≢◌, ℕ, zero, suc, ◌+◌, ◌<◌, Bool, true, false, not, cond, List, [], ◌∷◌, ◌++◌, length, get_or, refl, sym, subst, ◌∙◌, ap, arith, append_assoc, append-nil}
+use Rattle.std.proofs.Common.{◌≡◌, ℕ, zero, suc, ◌+◌, ◌<◌, Bool, true, false, not, cond, List, [], ◌∷◌, ◌++◌, length, get_or, refl, sym, subst, arith, append_assoc, append-nil}
 use Rattle.std.proofs.Math.ListN.{set}
 use Rattle.unitary_model.specs.declared.Op.{Op}
 use Rattle.unitary_model.specs.declared.Op.TheVariants.{U}
@@ -14,7 +14,7 @@ use Rattle.unitary_model.specs.Ring.{nought, unit, plus, turn1}
 use Rattle.unitary_model.proofs.PathLaws.{Covers_refl}
 use Rattle.unitary_model.proofs.Slide.{Off, OffOp}
 use Rattle.unitary_model.proofs.Steps.{Step, Step_trans, Step_then, Step_inside, Step_slide, Step_slide_back}
-use Rattle.unitary_model.proofs.Windows.{Agree, in_place, Distinct}
+use Rattle.unitary_model.proofs.Windows.{Agree, in_place}
 use Rattle.circuit_list.specs.Gates.{ops}
 use Rattle.not_propagate.specs.Walks.{flag_of, waiting_from, waiting, turned}
 

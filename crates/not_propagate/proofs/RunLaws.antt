@@ -3,7 +3,7 @@
 --     goes_on             one gate more
 --     ends, ends_x        at the end no gate is left: the law, and the shape
 --     fits_on, none_more  one flag for each wire, and no X among what is written
-use Rattle.std.proofs.Common.{◌≡◌, ℕ, suc, ◌+◌, ◌-◌, ◌%◌, ◌<◌, ◌≤◌, Bool, true, false, cond, List, [], ◌∷◌, ◌++◌, length, get_or, replicate, drop, refl, sym, subst, ◌∙◌, ap, arith, add-one, append_assoc, append-nil, Some, All}
+use Rattle.std.proofs.Common.{◌≡◌, ℕ, ◌+◌, ◌-◌, ◌≤◌, Bool, true, false, cond, List, [], ◌∷◌, ◌++◌, length, replicate, drop, refl, sym, subst, ◌∙◌, ap, arith, add-one, append_assoc, append-nil, Some, All}
 use Rattle.std.specs.Prelude.{slice_get}
 use Rattle.std.specs.List.{AllByRecursion}
 use Rattle.std.proofs.Math.ListN.{set}
@@ -51,15 +51,15 @@ goes_on n gs i g old new fits there fine walked so_far =
     let fs : List Bool = old.flags.items in
     let rest : List Gate = drop (i + 1) gs in
     let before : Turned n gs (old.written.gates ++ ((waiting fs ++ g ∷ []) ++ rest)) old.turn =
-        subst (λ us. Turned n gs (old.written.gates ++ us) old.turn) (ap (λ us. waiting fs ++ us) (next_gate gs i g there) ∙ sym (append_assoc (waiting fs) (g ∷ []) rest)) so_far in
+    subst (λ us. Turned n gs (old.written.gates ++ us) old.turn) (ap (λ us. waiting fs ++ us) (next_gate gs i g there) ∙ sym (append_assoc (waiting fs) (g ∷ []) rest)) so_far in
     let fine_here : IsFine (length fs) g = subst (λ m. IsFine m g) (sym fits.flags) fine in
     let after : Turned n gs (old.written.gates ++ ((gates_at g fs ++ waiting (flags_at g fs)) ++ rest)) new.turn =
-        Turned_step n gs old.written.gates (waiting fs ++ g ∷ []) (gates_at g fs ++ waiting (flags_at g fs)) rest old.turn (turn_at g fs) new.turn before
-        (turn_small (length fs) g fs fine_here) (walk_step g fs fine_here) walked.turn in
+    Turned_step n gs old.written.gates (waiting fs ++ g ∷ []) (gates_at g fs ++ waiting (flags_at g fs)) rest old.turn (turn_at g fs) new.turn before
+    (turn_small (length fs) g fs fine_here) (walk_step g fs fine_here) walked.turn in
     subst (λ us. Turned n gs us new.turn) (
-      ap (λ us. old.written.gates ++ us) (append_assoc (gates_at g fs) (waiting (flags_at g fs)) rest)
-      ∙ sym (append_assoc old.written.gates (gates_at g fs) (waiting (flags_at g fs) ++ rest))
-      ∙ (λ j. sym walked.gates j ++ (waiting (sym walked.flags j) ++ rest))
+    ap (λ us. old.written.gates ++ us) (append_assoc (gates_at g fs) (waiting (flags_at g fs)) rest)
+    ∙ sym (append_assoc old.written.gates (gates_at g fs) (waiting (flags_at g fs) ++ rest))
+    ∙ (λ j. sym walked.gates j ++ (waiting (sym walked.flags j) ++ rest))
     ) after
 
 length-flags_at : (g : Gate) (fs : List Bool) → length (flags_at g fs) ≡ length fs

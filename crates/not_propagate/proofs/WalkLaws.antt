@@ -3,7 +3,7 @@
 --     put_back            an X taken to the end goes back to its place
 --     walk_step           the X that wait and a gate become what is written for it and the X that wait behind it
 --     turn_small          the turn is below 8
-use Rattle.std.proofs.Common.{◌≡◌, ◌≢◌, ℕ, zero, suc, ◌+◌, ◌-◌, ◌%◌, ◌<◌, Bool, true, false, not, cond, List, [], ◌∷◌, ◌++◌, length, get_or, refl, sym, subst, ◌∙◌, ap, arith, append_assoc}
+use Rattle.std.proofs.Common.{◌≡◌, ◌≢◌, ℕ, zero, suc, ◌+◌, ◌-◌, ◌%◌, ◌<◌, Bool, true, false, cond, List, [], ◌∷◌, ◌++◌, length, refl, sym, subst, ◌∙◌, ap, arith, append_assoc}
 use Rattle.std.specs.Prelude.{nat_eq}
 use Rattle.std.proofs.Math.ListN.{set}
 use Rattle.std.proofs.lemmas.List.{map-append, length-set, set-get_or, get_or-set_same, get_or-set_other}
@@ -11,7 +11,7 @@ use Rattle.unitary_model.specs.declared.Op.{Op}
 use Rattle.unitary_model.specs.declared.Op.TheVariants.{U, Cx as OpCx}
 use Rattle.unitary_model.specs.Ring.{nought, unit, plus, turn1}
 use Rattle.unitary_model.specs.Paths.Event.{Toggle, Fresh, Add}
-use Rattle.unitary_model.specs.Paths.{Event, Covers, toggle_where_odd}
+use Rattle.unitary_model.specs.Paths.{Covers, toggle_where_odd}
 use Rattle.unitary_model.proofs.PathLaws.{Covers_refl}
 use Rattle.unitary_model.proofs.Steps.{Step, Step_trans, Step_then}
 use Rattle.unitary_model.proofs.Windows.{Agree, in_place, Distinct}

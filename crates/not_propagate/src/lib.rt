@@ -9,6 +9,8 @@
 //! in the gates, but for the logarithm that putting one in takes.
 #![tactic(auto)]
 
+#[cfg(test)]
+mod tests;
 mod walk;
 
 ghost use Rattle.std.specs.Prelude.{ℕ, List};
