@@ -1,0 +1,4 @@
+pub mod FlagLaws
+pub mod WalkLaws
+pub mod EndLaws
+pub mod RunLaws

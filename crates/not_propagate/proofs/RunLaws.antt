@@ -1,0 +1,115 @@
+-- The loop over the gates.
+--     fits_first, none_first, begins    at first nothing is written, and all gates are left
+--     goes_on             one gate more
+--     ends, ends_x        at the end no gate is left: the law, and the shape
+--     fits_on, none_more  one flag for each wire, and no X among what is written
+use Rattle.std.proofs.Common.{◌≡◌, ℕ, ◌+◌, ◌-◌, ◌≤◌, Bool, true, false, cond, List, [], ◌∷◌, ◌++◌, length, replicate, drop, refl, sym, subst, ◌∙◌, ap, arith, add-one, append_assoc, append-nil, Some, All}
+use Rattle.std.specs.Prelude.{slice_get}
+use Rattle.std.specs.List.{AllByRecursion}
+use Rattle.std.proofs.Math.ListN.{set}
+use Rattle.std.proofs.Math.Seq.{drop-cons}
+use Rattle.std.proofs.lemmas.List.{drop_all, length-replicate, length-set}
+use Rattle.std.proofs.lemmas.List.Elements.{All-append, All-from_recursion}
+use Rattle.std.proofs.lemmas.Option.{slice_get_within, get_or_from_slice_get}
+use Rattle.circuit_list.specs.declared.Gate.{Gate}
+use Rattle.circuit_list.specs.declared.Gate.TheVariants.{H, X, P, Cx}
+use Rattle.circuit_list.specs.declared.Passed.{Passed}
+use Rattle.circuit_list.specs.Gates.{IsFine}
+use Rattle.rewrite_pass.specs.Law.{IsRewriting}
+use Rattle.rewrite_pass.proofs.RewritingLaws.{Turned, Turned_refl, Turned_step, Turned-IsRewriting}
+use Rattle.not_propagate.specs.declared.walk.Walk.{Walk}
+use Rattle.not_propagate.specs.LastX.{XLast}
+use Rattle.not_propagate.specs.Walks.{flag_of, waiting, turned, gates_at, flags_at, turn_at, is_x, NoX, IsFitting, HasWalked, HasFinished}
+use Rattle.not_propagate.proofs.WalkLaws.{walk_step, turn_small}
+use Rattle.not_propagate.proofs.EndLaws.{waiting_none, last_x}
+
+pub fits_first : (m : ℕ) (w : Walk) → w.written.wires ≡ m → w.flags.items ≡ replicate m false → w.turn ≡ 0 → IsFitting w
+fits_first m w n f t = record { flags = ap length f ∙ length-replicate m false ∙ sym n; turn = omega (arith, t) }
+
+pub none_first : (w : Walk) → w.written.gates ≡ [] → NoX w.written.gates
+none_first w g = subst NoX (sym g) (All-from_recursion (λ g. is_x g ≡ false) [] tt)
+
+pub begins : (n m : ℕ) (gs : List Gate) (w : Walk) → w.written.gates ≡ [] → w.flags.items ≡ replicate m false → w.turn ≡ 0 →
+    Turned n gs (w.written.gates ++ (waiting w.flags.items ++ drop 0 gs)) w.turn
+begins n m gs w g f t = subst (λ out. Turned n gs (out ++ (waiting w.flags.items ++ gs)) w.turn) (sym g)
+    (subst (λ fs. Turned n gs (waiting fs ++ gs) w.turn) (sym f)
+    (subst (λ xs. Turned n gs (xs ++ gs) w.turn) (sym (waiting_none 0 m))
+    (subst (Turned n gs gs) (sym t) (Turned_refl n gs))))
+
+-- the gates from place i on
+next_gate : (gs : List Gate) (i : ℕ) (g : Gate) → slice_get gs i ≡ Some g → drop i gs ≡ g ∷ drop (i + 1) gs
+next_gate gs i g e =
+    drop-cons gs i g (slice_get_within gs i g e)
+    ∙ (λ j. get_or_from_slice_get gs i g g e j ∷ drop (sym (add-one i) j) gs)
+
+pub goes_on : (n : ℕ) (gs : List Gate) (i : ℕ) (g : Gate) (old new : Walk) →
+    IsFitting old → slice_get gs i ≡ Some g → IsFine old.written.wires g →
+    HasWalked (gates_at g old.flags.items) (flags_at g old.flags.items) (turn_at g old.flags.items) old new →
+    Turned n gs (old.written.gates ++ (waiting old.flags.items ++ drop i gs)) old.turn →
+    Turned n gs (new.written.gates ++ (waiting new.flags.items ++ drop (i + 1) gs)) new.turn
+goes_on n gs i g old new fits there fine walked so_far =
+    let fs : List Bool = old.flags.items in
+    let rest : List Gate = drop (i + 1) gs in
+    let before : Turned n gs (old.written.gates ++ ((waiting fs ++ g ∷ []) ++ rest)) old.turn =
+    subst (λ us. Turned n gs (old.written.gates ++ us) old.turn) (ap (λ us. waiting fs ++ us) (next_gate gs i g there) ∙ sym (append_assoc (waiting fs) (g ∷ []) rest)) so_far in
+    let fine_here : IsFine (length fs) g = subst (λ m. IsFine m g) (sym fits.flags) fine in
+    let after : Turned n gs (old.written.gates ++ ((gates_at g fs ++ waiting (flags_at g fs)) ++ rest)) new.turn =
+    Turned_step n gs old.written.gates (waiting fs ++ g ∷ []) (gates_at g fs ++ waiting (flags_at g fs)) rest old.turn (turn_at g fs) new.turn before
+    (turn_small (length fs) g fs fine_here) (walk_step g fs fine_here) walked.turn in
+    subst (λ us. Turned n gs us new.turn) (
+    ap (λ us. old.written.gates ++ us) (append_assoc (gates_at g fs) (waiting (flags_at g fs)) rest)
+    ∙ sym (append_assoc old.written.gates (gates_at g fs) (waiting (flags_at g fs) ++ rest))
+    ∙ (λ j. sym walked.gates j ++ (waiting (sym walked.flags j) ++ rest))
+    ) after
+
+length-flags_at : (g : Gate) (fs : List Bool) → length (flags_at g fs) ≡ length fs
+length-flags_at (H q) fs = go (flag_of fs q)
+  where
+    go : (b : Bool) → length (cond b (set fs q false) fs) ≡ length fs
+    go true = length-set fs q false
+    go false = refl
+length-flags_at (X q) fs = length-set fs q _
+length-flags_at (P k q) fs = refl
+length-flags_at (Cx c t) fs = go (flag_of fs c)
+  where
+    go : (b : Bool) → length (cond b (turned fs t) fs) ≡ length fs
+    go true = length-set fs t _
+    go false = refl
+
+pub fits_on : (g : Gate) (old new : Walk) → IsFitting old →
+    HasWalked (gates_at g old.flags.items) (flags_at g old.flags.items) (turn_at g old.flags.items) old new → IsFitting new
+fits_on g old new fits walked = record {
+  flags = ap length walked.flags ∙ length-flags_at g old.flags.items ∙ fits.flags ∙ sym walked.wires;
+  turn = omega (arith, walked.turn);
+}
+
+no_x_at : (g : Gate) (fs : List Bool) → AllByRecursion (λ g. is_x g ≡ false) (gates_at g fs)
+no_x_at (H q) fs = go (flag_of fs q)
+  where
+    go : (b : Bool) → AllByRecursion (λ g. is_x g ≡ false) (cond b (H q ∷ P 4 q ∷ []) (H q ∷ []))
+    go true = (refl, (refl, tt))
+    go false = (refl, tt)
+no_x_at (X q) fs = tt
+no_x_at (P k q) fs = go (flag_of fs q)
+  where
+    go : (b : Bool) → AllByRecursion (λ g. is_x g ≡ false) (cond b (P (8 - k) q ∷ []) (P k q ∷ []))
+    go true = (refl, tt)
+    go false = (refl, tt)
+no_x_at (Cx c t) fs = (refl, tt)
+
+pub none_more : (g : Gate) (old new : Walk) →
+    HasWalked (gates_at g old.flags.items) (flags_at g old.flags.items) (turn_at g old.flags.items) old new → NoX old.written.gates → NoX new.written.gates
+none_more g old new walked none = subst NoX (sym walked.gates)
+    (All-append (λ g. is_x g ≡ false) old.written.gates (gates_at g old.flags.items) none
+    (All-from_recursion (λ g. is_x g ≡ false) (gates_at g old.flags.items) (no_x_at g old.flags.items)))
+
+-- ---- the end
+pub ends : (n : ℕ) (gs : List Gate) (i : ℕ) (w : Walk) (p : Passed) → All (IsFine n) gs → length gs ≤ i → w.written.wires ≡ n →
+    Turned n gs (w.written.gates ++ (waiting w.flags.items ++ drop i gs)) w.turn → HasFinished w p → IsRewriting n gs p.body.gates p.turn
+ends n gs i w p fine past wires so_far done =
+    Turned-IsRewriting n gs p.body.gates p.turn fine (subst (λ m. All (IsFine m) p.body.gates) (done.wires ∙ wires) done.fine)
+    (subst (Turned n gs p.body.gates) (sym done.turn)
+    (subst (λ us. Turned n gs us w.turn) (ap (λ us. w.written.gates ++ us) (ap (λ us. waiting w.flags.items ++ us) (drop_all i gs past) ∙ append-nil (waiting w.flags.items)) ∙ sym done.gates) so_far))
+
+pub ends_x : (w : Walk) (p : Passed) → NoX w.written.gates → HasFinished w p → XLast p.body.gates
+ends_x w p none done = subst XLast (sym done.gates) (last_x w.written.gates w.flags.items none)

@@ -1,0 +1,2 @@
+pub mod LastX
+pub mod Walks

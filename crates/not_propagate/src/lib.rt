@@ -1,0 +1,41 @@
+//! NOT propagation: X gates go to the end of the circuit.
+//!
+//! In goes a circuit; out comes one without an X but for the last gates of wires, and its turn. The
+//! contract is that of a pass (`rewrite_pass`): the circuit is the same up to w^turn, with no more T
+//! gates, CNOTs and odd path parities; and each X is the last gate on its wire, so each wire has one
+//! at most (`specs/LastX.antt`).
+//!
+//! A circuit is always fine, so nothing is refused: the only error is want of memory. Time is linear
+//! in the gates, but for the logarithm that putting one in takes.
+#![tactic(auto)]
+
+#[cfg(test)]
+mod tests;
+mod walk;
+
+ghost use Rattle.std.specs.Prelude.{ℕ, List};
+ghost use Rattle.circuit_list.specs.declared.Gate.{Gate};
+ghost use Rattle.not_propagate.specs.LastX.{XLast};
+
+use circuit_list::{Circuit, Passed};
+use rewrite_pass::Pass;
+use std::alloc::{AllocError, Global};
+use walk::Walk;
+
+/// NOT propagation (Nam et al. 2018, section 4.1; VOQC): each X moves behind the gates of its wire. Two on one wire vanish, a
+/// phase is inverted on the way, an H becomes H and Z, and a CNOT takes the X of its control to its target too.
+pub struct NotPass;
+
+impl Pass for NotPass {
+    ghost shape = { λ _ gates. XLast gates };
+
+    ghost kept = { λ _ _ _. Unit {0} };
+
+    fn run(&self, alloc: Global, body: Circuit) -> Result<Passed, AllocError> {
+        let mut walk = Walk::start(alloc, body.wires())?;
+        'gates: for i in 0..body.len() {
+            walk.step(body.gate(i))?;
+        }
+        walk.finish()
+    }
+}
