@@ -1,0 +1,3 @@
+pub mod GateSteps
+pub mod GateWindows
+pub mod WindowSteps
