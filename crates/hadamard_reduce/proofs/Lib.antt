@@ -1,3 +1,4 @@
+pub mod FoundLaws
 pub mod PieceLaws
 pub mod GateSteps
 pub mod GateWindows

@@ -1,10 +1,6 @@
 //! Hadamard reduction.
 #![tactic(auto)]
 
-ghost use Rattle.std.specs.Prelude.{◌≡◌};
-
-fn stub(x: usize) -> usize
-    ensures { result ≡ x }
-{
-    x
-}
+mod change;
+mod walk;
+mod window;
