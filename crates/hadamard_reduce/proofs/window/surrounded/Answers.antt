@@ -1,6 +1,5 @@
-use Rattle.std.proofs.Common.{◌≡◌, ◌≢◌, ◌⊎◌, ℕ, inl, inr, subst, sym, rules}
-use Rattle.std.specs.Prelude.{min, max}
-use Rattle.circuit_list.specs.declared.Gate.TheVariants.{Cx}
+use Rattle.std.proofs.Common.{◌≡◌, ◌≢◌, ◌⊎◌, ℕ, inl, inr, subst, sym}
+use Rattle.std.specs.Prelude.{min}
 use Rattle.hadamard_reduce.specs.Found.{IsSurroundedAt}
 use Rattle.hadamard_reduce.specs.Windows.{Follows}
 use Rattle.hadamard_reduce.proofs.FoundLaws.{surrounded_found}
