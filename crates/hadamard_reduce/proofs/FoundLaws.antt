@@ -68,13 +68,31 @@ behind gs c t m d e h f g = go (order d e)
         let low : d ≡ min d e = omega arith in
         let high : e ≡ max d e = omega arith in
         subst (λ (i : ℕ). Behind gs c t m i (max d e)) low (subst (λ (i : ℕ). Behind gs c t m d i) high (record {
-          u = c; v = t; wires = inl (refl, refl); fourth = f.there; fifth = g.there; third_fourth = f.next.behind; fourth_fifth = lt; fourth_quiet = f.next.none; fifth_quiet = g.next.none }))
+          u = c;
+          v = t;
+          wires = inl (refl, refl);
+          fourth = f.there;
+          fifth = g.there;
+          third_fourth = f.next.behind;
+          fourth_fifth = lt;
+          fourth_quiet = f.next.none;
+          fifth_quiet = g.next.none;
+        }))
     go (inr (inl e')) = absurd (h (same_wire c t (same_gate gs d (H c) (H t) f.there (subst (λ n. At gs n (H t)) (sym e') g.there))))
     go (inr (inr lt)) =
         let low : e ≡ min d e = omega arith in
         let high : d ≡ max d e = omega arith in
         subst (λ (i : ℕ). Behind gs c t m i (max d e)) low (subst (λ (i : ℕ). Behind gs c t m e i) high (record {
-          u = t; v = c; wires = inr (refl, refl); fourth = g.there; fifth = f.there; third_fourth = g.next.behind; fourth_fifth = lt; fourth_quiet = g.next.none; fifth_quiet = f.next.none }))
+          u = t;
+          v = c;
+          wires = inr (refl, refl);
+          fourth = g.there;
+          fifth = f.there;
+          third_fourth = g.next.behind;
+          fourth_fifth = lt;
+          fourth_quiet = g.next.none;
+          fifth_quiet = f.next.none;
+        }))
 
 pub surrounded_found : (n : ℕ) (gs : List Gate) (c t q r i a m d e : ℕ) → All (IsFine n) gs → At gs i (H q) → Follows q gs i (Cx c t) m
     → ((q ≡ c) × (r ≡ t)) ⊎ ((q ≢ c) × (r ≡ c)) → At gs a (H r) → IsPrevOn r gs m a → i ≤ a → Follows c gs m (H c) d → Follows t gs m (H t) e
@@ -165,7 +183,13 @@ surrounded_is gs c t i a m d e s = go s.before
 
     go : Others c t s.q s.r → IsSurrounded gs i
     go (inl (x, y)) = record {
-      c = c; t = t; a = i; b = a; m = m; d = back.d; e = back.e;
+      c = c;
+      t = t;
+      a = i;
+      b = a;
+      m = m;
+      d = back.d;
+      e = back.e;
       control_before = subst (λ n. At gs i (H n)) x s.first;
       target_before = subst (λ n. At gs a (H n)) y s.second;
       middle_control = reaches c gs c t i m s.third (both_ends c t).0 (omega (arith, s.first_second, s.second_third)) (subst (λ n. Quiet n gs i m) x s.first_quiet);
@@ -175,7 +199,13 @@ surrounded_is gs c t i a m d e s = go s.before
       begins = omega (arith, s.first_second);
     }
     go (inr (x, y)) = record {
-      c = c; t = t; a = a; b = i; m = m; d = back.d; e = back.e;
+      c = c;
+      t = t;
+      a = a;
+      b = i;
+      m = m;
+      d = back.d;
+      e = back.e;
       control_before = subst (λ n. At gs a (H n)) y s.second;
       target_before = subst (λ n. At gs i (H n)) x s.first;
       middle_control = reaches c gs c t a m s.third (both_ends c t).0 s.second_third (subst (λ n. Quiet n gs a m) y s.second_quiet);

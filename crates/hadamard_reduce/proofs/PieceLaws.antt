@@ -108,10 +108,10 @@ changed-made c gs s (m ∷ ms) h e =
     changed-append c s front (m.gate ∷ rest)
     ∙ (λ i. untouched c s front (λ k le lt. e k le ∙ before_marks gs p (m ∷ ms) (omega arith, h.1) k (omega arith)) i ++ changed_from c (end i) (m.gate ∷ rest))
     ∙ ap (λ xs. front ++ xs) (
-        edited c p m.gate rest (Some m.put) (e p h.0 ∙ ap (λ b. cond b (Some m.put) (put_at (edits_of ms) (length ms) p)) (here p))
-        ∙ ap (λ xs. instead (Some m.put) m.gate ++ xs) (
-            ap (λ k. changed_from c k rest) (let one : p + 1 ≡ suc p = omega arith in one)
-            ∙ changed-made c gs (suc p) ms h.1.1 (λ k le. e k (omega (arith, h.0)) ∙ ap (λ b. cond b (Some m.put) (put_at (edits_of ms) (length ms) k)) (apart_behind p k (omega arith)))))
+    edited c p m.gate rest (Some m.put) (e p h.0 ∙ ap (λ b. cond b (Some m.put) (put_at (edits_of ms) (length ms) p)) (here p))
+    ∙ ap (λ xs. instead (Some m.put) m.gate ++ xs) (
+    ap (λ k. changed_from c k rest) (let one : p + 1 ≡ suc p = omega arith in one)
+    ∙ changed-made c gs (suc p) ms h.1.1 (λ k le. e k (omega (arith, h.0)) ∙ ap (λ b. cond b (Some m.put) (put_at (edits_of ms) (length ms) k)) (apart_behind p k (omega arith)))))
 
 -- ---- what is counted, and fine gates
 abbrev pub gates_of : List Mark → List Gate
@@ -132,8 +132,16 @@ h_count-split gs s (m ∷ ms) =
     let old = split_at gs (suc m.place) ms in
     let new = made_at gs (suc m.place) ms in
     let x = instead (Some m.put) m.gate in
-    omega (arith, h_count-append F (m.gate ∷ old), h_count-append (m.gate ∷ []) old, h_count-append F (x ++ new), h_count-append x new,
-        h_count-append x (puts_of ms), h_count-append (m.gate ∷ []) (gates_of ms), h_count-split gs (suc m.place) ms)
+    omega (
+      arith,
+      h_count-append F (m.gate ∷ old),
+      h_count-append (m.gate ∷ []) old,
+      h_count-append F (x ++ new),
+      h_count-append x new,
+      h_count-append x (puts_of ms),
+      h_count-append (m.gate ∷ []) (gates_of ms),
+      h_count-split gs (suc m.place) ms,
+    )
 
 abbrev pub PutsFine : ℕ → List Mark → Type 0
 PutsFine n [] = Unit {0}

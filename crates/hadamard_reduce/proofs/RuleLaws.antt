@@ -66,7 +66,7 @@ turned_z n gs q i j k all h =
     (tt, (f, (tt, tt)))
     (lit< tt)
     (flattened 0 (H q) (P 4 q) (H q) (X q) (between gs 0 i) (between gs (suc i) j) (between gs (suc j) k) (drop (suc k) gs)
-        (off q gs i j h.second.next.none) (off q gs j k h.third.next.none) (had_z_had q))
+    (off q gs i j h.second.next.none) (off q gs j k h.third.next.none) (had_z_had q))
 
 turned_not : (n : ℕ) (gs : List Gate) (q i j k : ℕ) → All (IsFine n) gs → IsTurnedAt X gs q i j k → Lawful n gs (change_of i (Turned Not q j k))
 turned_not n gs q i j k all h =
@@ -77,7 +77,7 @@ turned_not n gs q i j k all h =
     (tt, ((f, (lit< tt, lit< tt)), (tt, tt)))
     (lit< tt)
     (flattened 4 (H q) (X q) (H q) (P 4 q) (between gs 0 i) (between gs (suc i) j) (between gs (suc j) k) (drop (suc k) gs)
-        (off q gs i j h.second.next.none) (off q gs j k h.third.next.none) (had_x_had q))
+    (off q gs i j h.second.next.none) (off q gs j k h.third.next.none) (had_x_had q))
 
 -- ---- two wires
 -- what is off a wire up to a place is off it up to an earlier one, or from a later one on
@@ -94,15 +94,15 @@ surrounded_law n gs c t i a m d e all h =
     (tt, (tt, ((f.1.0, (f.0, λ z. f.1.1 (sym z))), (tt, (tt, tt)))))
     (lit< tt)
     (surrounded_kept 4 (H h.q) (H h.r) (Cx c t) (H h.u) (H h.v) (Cx t c) (between gs 0 i) (between gs (suc i) a) (between gs (suc a) m) (between gs (suc m) d) (between gs (suc d) e) (drop (suc e) gs)
-        (record {
-          first = off h.q gs i a (fewer h.q gs i i a m (omega arith) (omega (arith, h.second_third)) h.first_quiet);
-          first_later = off h.q gs a m (fewer h.q gs i a m m (omega (arith, h.first_second)) (omega arith) h.first_quiet);
-          second = off h.r gs a m h.second_quiet;
-          fourth = off h.u gs m d h.fourth_quiet;
-          fifth_earlier = off h.v gs m d (fewer h.v gs m m d e (omega arith) (omega (arith, h.fourth_fifth)) h.fifth_quiet);
-          fifth = off h.v gs d e (fewer h.v gs m d e e (omega (arith, h.third_fourth)) (omega arith) h.fifth_quiet);
-        })
-        (four_hads c t h.q h.r h.u h.v f.1.1 h.before h.behind))
+    (record {
+      first = off h.q gs i a (fewer h.q gs i i a m (omega arith) (omega (arith, h.second_third)) h.first_quiet);
+      first_later = off h.q gs a m (fewer h.q gs i a m m (omega (arith, h.first_second)) (omega arith) h.first_quiet);
+      second = off h.r gs a m h.second_quiet;
+      fourth = off h.u gs m d h.fourth_quiet;
+      fifth_earlier = off h.v gs m d (fewer h.v gs m m d e (omega arith) (omega (arith, h.fourth_fifth)) h.fifth_quiet);
+      fifth = off h.v gs d e (fewer h.v gs m d e e (omega (arith, h.third_fourth)) (omega arith) h.fifth_quiet);
+    })
+    (four_hads c t h.q h.r h.u h.v f.1.1 h.before h.behind))
 
 -- the phases k and j, which are 2 and 6 in one of the two orders
 conjugated_by : (n : ℕ) (gs : List Gate) (k j c t i a m b e : ℕ) → All (IsFine n) gs → j ≡ 8 - k → 0 < k → k < 8
@@ -122,8 +122,8 @@ conjugated_by n gs k j c t i a m b e all is low high window h =
     (tt, ((f.1.0, (omega arith, omega arith)), (f, ((f.1.0, (low, high)), (tt, tt)))))
     (lit< tt)
     (conjugated_kept 6 (H t) (P k t) (Cx c t) (P r t) (H t) (P r t) (Cx c t) (P k t) (between gs 0 i) (between gs (suc i) a) (between gs (suc a) m) (between gs (suc m) b) (between gs (suc b) e) (drop (suc e) gs)
-        (record { first = b1; first_later = b2; second = b2; fourth = b3; fifth_earlier = b3; fifth = b4 }) b2 b3
-        (subst (λ l. Keeps 6 (H t ∷ P k t ∷ Cx c t ∷ P l t ∷ H t ∷ []) (P l t ∷ Cx c t ∷ P k t ∷ [])) is (window f.1.1)))
+    (record { first = b1; first_later = b2; second = b2; fourth = b3; fifth_earlier = b3; fifth = b4 }) b2 b3
+    (subst (λ l. Keeps 6 (H t ∷ P k t ∷ Cx c t ∷ P l t ∷ H t ∷ []) (P l t ∷ Cx c t ∷ P k t ∷ [])) is (window f.1.1)))
 
 conjugated_law : (n : ℕ) (gs : List Gate) (k c t i a m b e : ℕ) → All (IsFine n) gs → IsConjugatedAt k gs c t i a m b e → Lawful n gs (change_of i (Conjugated k c t a m b e))
 conjugated_law n gs k c t i a m b e all h = go h.phase h

@@ -40,21 +40,61 @@ pub(crate) fn change_of(place: usize, window: Window) -> Change
     ensures { result ≡ change_of place window }
 {
     match window {
-        Window::Turned { middle: Middle::S, q, second, third } => {
+        Window::Turned {
+            middle: Middle::S,
+            q,
+            second,
+            third,
+        } => {
             let phase = Gate::P { k: 6, q };
-            three_edits(put(place, phase), put(second, Gate::H { q }), put(third, phase), 6)
+            three_edits(
+                put(place, phase),
+                put(second, Gate::H { q }),
+                put(third, phase),
+                6,
+            )
         }
-        Window::Turned { middle: Middle::Sdg, q, second, third } => {
+        Window::Turned {
+            middle: Middle::Sdg,
+            q,
+            second,
+            third,
+        } => {
             let phase = Gate::P { k: 2, q };
-            three_edits(put(place, phase), put(second, Gate::H { q }), put(third, phase), 0)
+            three_edits(
+                put(place, phase),
+                put(second, Gate::H { q }),
+                put(third, phase),
+                0,
+            )
         }
-        Window::Turned { middle: Middle::Z, q, second, third } => {
-            three_edits(gone(place), put(second, Gate::X { q }), gone(third), 0)
+        Window::Turned {
+            middle: Middle::Z,
+            q,
+            second,
+            third,
+        } => { three_edits(gone(place), put(second, Gate::X { q }), gone(third), 0) }
+        Window::Turned {
+            middle: Middle::Not,
+            q,
+            second,
+            third,
+        } => {
+            three_edits(
+                gone(place),
+                put(second, Gate::P { k: 4, q }),
+                gone(third),
+                4,
+            )
         }
-        Window::Turned { middle: Middle::Not, q, second, third } => {
-            three_edits(gone(place), put(second, Gate::P { k: 4, q }), gone(third), 4)
-        }
-        Window::Surrounded { c, t, second, third, fourth, fifth } => Change {
+        Window::Surrounded {
+            c,
+            t,
+            second,
+            third,
+            fourth,
+            fifth,
+        } => Change {
             edits: [
                 gone(place),
                 gone(second),
@@ -65,7 +105,15 @@ pub(crate) fn change_of(place: usize, window: Window) -> Change
             count: 5,
             turn: 4,
         },
-        Window::Conjugated { k, c, t, second, third, fourth, fifth } => Change {
+        Window::Conjugated {
+            k,
+            c,
+            t,
+            second,
+            third,
+            fourth,
+            fifth,
+        } => Change {
             edits: [
                 gone(place),
                 put(second, Gate::P { k: 8 - k, q: t }),

@@ -21,6 +21,9 @@ use circuit_list::Circuit;
 use rewrite_pass::{Change, Rule};
 use window::window_at;
 
+#[cfg(test)]
+mod tests;
+
 /// The rules of Hadamard reduction (Nam et al. 2018, section 4.2). Each gate that a window is left with stands in the place of
 /// one of the window's gates; the turn is the power of w that the change takes:
 ///
