@@ -1,2 +1,3 @@
 pub mod RewritingLaws
 pub mod EditLaws
+pub mod MakeLaws
