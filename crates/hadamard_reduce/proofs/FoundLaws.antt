@@ -3,6 +3,7 @@
 --   on_gate                 a gate at a place, on a wire or not
 --   differ, an_end          the wires of a CNOT
 --   surrounded_found        H on both wires of a CNOT, in order
+--   conjugated_found        H and phases around the target of a CNOT
 --   window_found            what was found is a window
 --   no_window               where none of the seven windows begins
 use Rattle.std.proofs.Common.{◌≡◌, ◌≢◌, ◌⊎◌, inl, inr, ℕ, suc, ◌+◌, ◌-◌, ◌<◌, ◌≤◌, ◌||◌, ◌==◌, Bool, true, false, List, refl, sym, subst, ◌∙◌, ap, arith, Option, Some, None, MatchOption, All, eq-eqb}
@@ -141,6 +142,21 @@ surrounded_found n gs c t q r i a m d e fine first middle ends there prev le con
         go (inr (inl x)) = absurd (h (same_wire q r (same_gate gs i (H q) (H r) first (subst (λ n. At gs n (H r)) (sym x) there))))
         go (inr (inr gt)) = absurd (omega arith)
 
+-- ---- H, a phase, a CNOT, a phase, H
+pub conjugated_found : (k : ℕ) (gs : List Gate) (t i : ℕ) (g : Gate) (a : ℕ) (h : Gate) (m c target b e : ℕ) → (k ≡ 2) ⊎ (k ≡ 6) → At gs i (H t)
+    → Follows t gs i g a → g ≡ P k t → Follows t gs a h m → h ≡ Cx c target → target ≡ t → Follows t gs m (P (8 - k) t) b → Follows t gs b (H t) e
+    → IsConjugatedAt k gs t i a b e
+conjugated_found k gs t i g a h m c target b e phase first second is third cnot here fourth fifth = record {
+  c = c;
+  m = m;
+  phase = phase;
+  first = first;
+  second = subst (λ (x : Gate). Follows t gs i x a) is second;
+  third = subst (λ (x : Gate). Follows t gs a x m) (cnot ∙ ap (λ n. Cx c n) here) third;
+  fourth = fourth;
+  fifth = fifth;
+}
+
 -- ---- what was found is a window
 both_ends : (c t : ℕ) → (is_on c (Cx c t) ≡ true) × (is_on t (Cx c t) ≡ true)
 both_ends c t = (ap (λ b. b || (c == t)) (eq-eqb c c refl), last (t == c) (eq-eqb t t refl))
@@ -218,8 +234,8 @@ surrounded_is gs c t i a m d e s = go s.before
 turned_is : (middle : ℕ → Gate) (gs : List Gate) (q i j k : ℕ) → IsTurnedAt middle gs q i j k → IsTurned middle gs i
 turned_is middle gs q i j k h = record { q = q; j = j; k = k; first = h.first; second = h.second; third = h.third }
 
-conjugated_is : (k : ℕ) (gs : List Gate) (c t i a m b e : ℕ) → IsConjugatedAt k gs c t i a m b e → IsConjugated k gs i
-conjugated_is k gs c t i a m b e h = record { c = c; t = t; a = a; m = m; b = b; e = e; first = h.first; second = h.second; third = h.third; fourth = h.fourth; fifth = h.fifth }
+conjugated_is : (k : ℕ) (gs : List Gate) (t i a b e : ℕ) → IsConjugatedAt k gs t i a b e → IsConjugated k gs i
+conjugated_is k gs t i a b e h = record { c = h.c; t = t; a = a; m = h.m; b = b; e = e; first = h.first; second = h.second; third = h.third; fourth = h.fourth; fifth = h.fifth }
 
 pub window_found : (gs : List Gate) (i : ℕ) (w : Window) → IsFound gs i w → IsWindow gs i
 window_found gs i (Turned S q j k) h = HadSHad (turned_is (P 2) gs q i j k h)
@@ -227,10 +243,10 @@ window_found gs i (Turned Sdg q j k) h = HadSdgHad (turned_is (P 6) gs q i j k h
 window_found gs i (Turned Z q j k) h = HadZHad (turned_is (P 4) gs q i j k h)
 window_found gs i (Turned Not q j k) h = HadXHad (turned_is X gs q i j k h)
 window_found gs i (Surrounded c t a m d e) h = FourHads (surrounded_is gs c t i a m d e h)
-window_found gs i (Conjugated k c t a m b e) h = go h.phase
+window_found gs i (Conjugated k t a b e) h = go h.phase
   where
     is : IsConjugated k gs i
-    is = conjugated_is k gs c t i a m b e h
+    is = conjugated_is k gs t i a b e h
 
     go : (k ≡ 2) ⊎ (k ≡ 6) → IsWindow gs i
     go (inl x) = SCxSdg (subst (λ n. IsConjugated n gs i) x is)

@@ -1,6 +1,5 @@
 -- The seven windows, as gates side by side.
 --   had_s_had, had_sdg_had, had_z_had, had_x_had, s_cx_sdg, sdg_cx_s      as in the table
---   Others c t q r          q and r are c and t, in one of the two orders
 --   four_hads               H on both wires of a CNOT before it and behind it, in any order
 use Rattle.std.proofs.Common.{◌≡◌, ◌≢◌, ◌⊎◌, inl, inr, ℕ, false, List, [], ◌∷◌, ◌++◌, refl, sym, subst, ◌∙◌, ap}
 use Rattle.circuit_list.specs.declared.Gate.{Gate}
@@ -9,6 +8,7 @@ use Rattle.std.proofs.lemmas.Bool.{ne_eqb}
 use Rattle.circuit_list.specs.Gates.{ops}
 use Rattle.unitary_model.proofs.HadamardWindows as windows
 use Rattle.unitary_model.proofs.Steps.{Step_refl}
+use Rattle.hadamard_reduce.specs.Found.{Others}
 use Rattle.hadamard_reduce.proofs.GateSteps.{Keeps, Keeps_along, Keeps_then, AllOff, slides}
 
 pub had_s_had : (q : ℕ) → Keeps 6 (H q ∷ P 2 q ∷ H q ∷ []) (P 6 q ∷ H q ∷ P 6 q ∷ [])
@@ -28,9 +28,6 @@ s_cx_sdg c t h = windows.s_cx_sdg c t h
 
 pub sdg_cx_s : (c t : ℕ) → c ≢ t → Keeps 6 (H t ∷ P 6 t ∷ Cx c t ∷ P 2 t ∷ H t ∷ []) (P 2 t ∷ Cx c t ∷ P 6 t ∷ [])
 sdg_cx_s c t h = windows.sdg_cx_s c t h
-
-abbrev pub Others : ℕ → ℕ → ℕ → ℕ → Type 0
-Others c t q r = ((q ≡ c) × (r ≡ t)) ⊎ ((q ≡ t) × (r ≡ c))
 
 alone : (c t : ℕ) → c ≢ t → AllOff t (H c ∷ [])
 unfolding AllOff

@@ -5,12 +5,13 @@
 --   Stand gs s ms           the marks ascend from place s on, and their gates are there
 --   split-whole             the list is what it is split into
 --   changed-made            the change of a list is what is made of its pieces
+--   between-at              what stands between two places, split at a gate there
 --   Lawful n gs c, by_marks what a rule owes for a change, from the marks
 --   off_between             gates between two places that are not on a wire
 use Rattle.std.proofs.Common.{◌≡◌, ◌≢◌, ℕ, zero, suc, ◌+◌, ◌-◌, ◌<◌, ◌≤◌, Bool, true, false, cond, List, [], ◌∷◌, ◌++◌, take, drop, length, refl, sym, subst, ◌∙◌, ap, arith, Option, Some, None, All, nat_eq, length-drop, length-append}
 use Rattle.std.specs.Prelude.{IfSome, slice_get}
 use Rattle.std.specs.List.{AllByRecursion}
-use Rattle.std.proofs.Math.Seq.{drop-nil}
+use Rattle.std.proofs.Math.Seq.{drop-nil, take-append-add}
 use Rattle.std.proofs.lemmas.Bool.Decides.{nat_tests}
 use Rattle.std.proofs.lemmas.List.{take-append-drop, length-take-le}
 use Rattle.std.proofs.lemmas.List.Elements.{All-from_recursion, All-append, All-take, All-drop}
@@ -92,6 +93,15 @@ length-between : (gs : List Gate) (s p : ℕ) (g : Gate) → s ≤ p → At gs p
 length-between gs s p g le h =
     let within : p < length gs = slice_get_within gs p g h in
     length-take-le (p - s) (drop s gs) (omega (arith, length-drop s gs))
+
+-- a gate between
+pub between-at : (gs : List Gate) (s m b : ℕ) (g : Gate) → s ≤ m → m < b → At gs m g → between gs s b ≡ between gs s m ++ (g ∷ between gs (suc m) b)
+between-at gs s m b g le lt h =
+    let n : length (between gs s m) ≡ m - s = length-between gs s m g le h in
+    let e : b - s ≡ length (between gs s m) + suc (b - suc m) = omega arith in
+    ap (take (b - s)) (piece gs s m g le h)
+    ∙ ap (λ k. take k (between gs s m ++ (g ∷ drop (suc m) gs))) e
+    ∙ take-append-add (between gs s m) (g ∷ drop (suc m) gs) (suc (b - suc m))
 
 no_edits : (c : Change) (s : ℕ) (gs : List Gate) → ((k : ℕ) → s ≤ k → put_at c.edits c.count k ≡ None) → changed_from c s gs ≡ gs
 no_edits c s gs h = untouched c s gs (λ k le lt. h k le)

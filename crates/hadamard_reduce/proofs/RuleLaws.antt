@@ -1,8 +1,8 @@
 -- What the change for each window owes.
 --   fine_at                 the gate at a place is fine
 --   turned_s, turned_sdg, turned_z, turned_not, surrounded_law, conjugated_law      window by window
---   window_law              for each window that was found;  fine_phase  its phase
-use Rattle.std.proofs.Common.{◌≡◌, ◌≢◌, ◌⊎◌, inl, inr, ℕ, suc, ◌-◌, ◌<◌, ◌≤◌, false, List, [], ◌∷◌, ◌++◌, drop, length, refl, sym, subst, ◌∙◌, ap, arith, Option, None, Some, All, lit<, lit≤}
+--   window_law              for each window that was found
+use Rattle.std.proofs.Common.{◌≡◌, ◌≢◌, ◌⊎◌, inl, inr, ℕ, suc, ◌-◌, ◌<◌, ◌≤◌, false, List, [], ◌∷◌, ◌++◌, drop, length, refl, sym, subst, ◌∙◌, ap, append_assoc, arith, Option, None, Some, All, lit<, lit≤}
 use Rattle.circuit_list.specs.declared.Gate.{Gate}
 use Rattle.circuit_list.specs.declared.Gate.TheVariants.{H, X, P, Cx}
 use Rattle.circuit_list.specs.Gates.{IsFine, h_count}
@@ -13,10 +13,10 @@ use Rattle.hadamard_reduce.specs.declared.window.Middle.TheVariants.{S, Sdg, Z, 
 use Rattle.hadamard_reduce.specs.declared.window.Window.{Window}
 use Rattle.hadamard_reduce.specs.declared.window.Window.TheVariants.{Turned, Surrounded, Conjugated}
 use Rattle.hadamard_reduce.specs.Windows.{At, Follows}
-use Rattle.hadamard_reduce.specs.Found.{Quiet, IsFound, IsTurnedAt, IsConjugatedAt, IsSurroundedAt, HasFinePhase, change_of}
-use Rattle.hadamard_reduce.proofs.GateSteps.{AllOff, Keeps}
+use Rattle.hadamard_reduce.specs.Found.{Quiet, IsFound, IsTurnedAt, IsConjugatedAt, IsSurroundedAt, change_of}
+use Rattle.hadamard_reduce.proofs.GateSteps.{AllOff, Keeps, Keeps_along}
 use Rattle.hadamard_reduce.proofs.GateWindows.{had_s_had, had_sdg_had, had_z_had, had_x_had, four_hads, s_cx_sdg, sdg_cx_s}
-use Rattle.hadamard_reduce.proofs.PieceLaws.{Mark, Marks, Stand, Lawful, by_marks, between, off_between}
+use Rattle.hadamard_reduce.proofs.PieceLaws.{Mark, Marks, Stand, Lawful, by_marks, between, between-at, off_between}
 use Rattle.hadamard_reduce.proofs.WindowSteps.{turned_kept, flattened, surrounded_kept, conjugated_kept, Clear}
 
 fine_at : (n : ℕ) (gs : List Gate) (i : ℕ) (g : Gate) → All (IsFine n) gs → At gs i g → IsFine n g
@@ -105,34 +105,44 @@ surrounded_law n gs c t i a m d e all h =
     (four_hads c t h.q h.r h.u h.v f.1.1 h.before h.behind))
 
 -- the phases k and j, which are 2 and 6 in one of the two orders
-conjugated_by : (n : ℕ) (gs : List Gate) (k j c t i a m b e : ℕ) → All (IsFine n) gs → j ≡ 8 - k → 0 < k → k < 8
-    → (c ≢ t → Keeps 6 (H t ∷ P k t ∷ Cx c t ∷ P j t ∷ H t ∷ []) (P j t ∷ Cx c t ∷ P k t ∷ []))
-    → IsConjugatedAt k gs c t i a m b e → Lawful n gs (change_of i (Conjugated k c t a m b e))
-conjugated_by n gs k j c t i a m b e all is low high window h =
-    let f : (c < n) × ((t < n) × (c ≢ t)) = fine_at n gs m (Cx c t) all h.third.there in
-    let b1 = off t gs i a h.second.next.none in
-    let b2 = off t gs a m h.third.next.none in
-    let b3 = off t gs m b h.fourth.next.none in
-    let b4 = off t gs b e h.fifth.next.none in
+conjugated_by : (n : ℕ) (gs : List Gate) (k j t i a b e : ℕ) → All (IsFine n) gs → j ≡ 8 - k → 0 < k → k < 8
+    → ((c : ℕ) → c ≢ t → Keeps 6 (H t ∷ P k t ∷ Cx c t ∷ P j t ∷ H t ∷ []) (P j t ∷ Cx c t ∷ P k t ∷ []))
+    → IsConjugatedAt k gs t i a b e → Lawful n gs (change_of i (Conjugated k t a b e))
+conjugated_by n gs k j t i a b e all is low high window h =
+    let m = h.m in
+    let g : Gate = Cx h.c t in
+    let f : (h.c < n) × ((t < n) × (h.c ≢ t)) = fine_at n gs m g all h.third.there in
+    let front = between gs 0 i in
+    let b1 = between gs (suc i) a in
+    let b2 = between gs (suc a) m in
+    let b3 = between gs (suc m) b in
+    let b4 = between gs (suc b) e in
+    let end = drop (suc e) gs in
+    let o2 = off t gs a m h.third.next.none in
+    let o3 = off t gs m b h.fourth.next.none in
     let r : ℕ = 8 - k in
-    by_marks n gs (change_of i (Conjugated k c t a m b e))
-    (mark i (H t) None ∷ mark a (P k t) (Some (P r t)) ∷ mark m (Cx c t) (Some (Cx c t)) ∷ mark b (P r t) (Some (P k t)) ∷ mark e (H t) None ∷ []) all
-    (omega arith, (h.first, (h.second.next.behind, (h.second.there, (h.third.next.behind, (h.third.there, (h.fourth.next.behind, (h.fourth.there, (h.fifth.next.behind, (h.fifth.there, tt))))))))))
-    (record { few = lit≤ tt; edits = refl; told = λ m. refl; below = lit< tt })
-    (tt, ((f.1.0, (omega arith, omega arith)), (f, ((f.1.0, (low, high)), (tt, tt)))))
+    let whole = λ (ys : List Gate). sym (ap (λ xs. xs ++ ys) (between-at gs (suc a) m b g h.third.next.behind h.fourth.next.behind h.third.there) ∙ append_assoc b2 (g ∷ b3) ys) in
+    by_marks n gs (change_of i (Conjugated k t a b e))
+    (mark i (H t) None ∷ mark a (P k t) (Some (P r t)) ∷ mark b (P r t) (Some (P k t)) ∷ mark e (H t) None ∷ []) all
+    (omega arith, (h.first, (h.second.next.behind, (h.second.there, (omega (arith, h.third.next.behind, h.fourth.next.behind), (h.fourth.there, (h.fifth.next.behind, (h.fifth.there, tt))))))))
+    (record { few = lit≤ tt; edits = refl; told = λ l. refl; below = lit< tt })
+    (tt, ((f.1.0, (omega arith, omega arith)), ((f.1.0, (low, high)), (tt, tt))))
     (lit< tt)
-    (conjugated_kept 6 (H t) (P k t) (Cx c t) (P r t) (H t) (P r t) (Cx c t) (P k t) (between gs 0 i) (between gs (suc i) a) (between gs (suc a) m) (between gs (suc m) b) (between gs (suc b) e) (drop (suc e) gs)
-    (record { first = b1; first_later = b2; second = b2; fourth = b3; fifth_earlier = b3; fifth = b4 }) b2 b3
-    (subst (λ l. Keeps 6 (H t ∷ P k t ∷ Cx c t ∷ P l t ∷ H t ∷ []) (P l t ∷ Cx c t ∷ P k t ∷ [])) is (window f.1.1)))
+    (Keeps_along 6 _ _ _ _
+    (ap (λ ys. front ++ (H t ∷ (b1 ++ (P k t ∷ ys)))) (whole (P r t ∷ (b4 ++ (H t ∷ end)))))
+    (ap (λ ys. front ++ (b1 ++ (P r t ∷ ys))) (whole (P k t ∷ (b4 ++ end))))
+    (conjugated_kept 6 (H t) (P k t) g (P r t) (H t) (P r t) g (P k t) front b1 b2 b3 b4 end
+    (record { first = off t gs i a h.second.next.none; first_later = o2; second = o2; fourth = o3; fifth_earlier = o3; fifth = off t gs b e h.fifth.next.none }) o2 o3
+    (subst (λ l. Keeps 6 (H t ∷ P k t ∷ g ∷ P l t ∷ H t ∷ []) (P l t ∷ g ∷ P k t ∷ [])) is (window h.c f.1.1))))
 
-conjugated_law : (n : ℕ) (gs : List Gate) (k c t i a m b e : ℕ) → All (IsFine n) gs → IsConjugatedAt k gs c t i a m b e → Lawful n gs (change_of i (Conjugated k c t a m b e))
-conjugated_law n gs k c t i a m b e all h = go h.phase h
+conjugated_law : (n : ℕ) (gs : List Gate) (k t i a b e : ℕ) → All (IsFine n) gs → IsConjugatedAt k gs t i a b e → Lawful n gs (change_of i (Conjugated k t a b e))
+conjugated_law n gs k t i a b e all h = go h.phase h
   where
-    go : (k ≡ 2) ⊎ (k ≡ 6) → IsConjugatedAt k gs c t i a m b e → Lawful n gs (change_of i (Conjugated k c t a m b e))
-    go (inl x) s = subst (λ l. Lawful n gs (change_of i (Conjugated l c t a m b e))) (sym x)
-        (conjugated_by n gs 2 6 c t i a m b e all refl (lit< tt) (lit< tt) (s_cx_sdg c t) (subst (λ l. IsConjugatedAt l gs c t i a m b e) x s))
-    go (inr x) s = subst (λ l. Lawful n gs (change_of i (Conjugated l c t a m b e))) (sym x)
-        (conjugated_by n gs 6 2 c t i a m b e all refl (lit< tt) (lit< tt) (sdg_cx_s c t) (subst (λ l. IsConjugatedAt l gs c t i a m b e) x s))
+    go : (k ≡ 2) ⊎ (k ≡ 6) → IsConjugatedAt k gs t i a b e → Lawful n gs (change_of i (Conjugated k t a b e))
+    go (inl x) s = subst (λ l. Lawful n gs (change_of i (Conjugated l t a b e))) (sym x)
+        (conjugated_by n gs 2 6 t i a b e all refl (lit< tt) (lit< tt) (λ c. s_cx_sdg c t) (subst (λ l. IsConjugatedAt l gs t i a b e) x s))
+    go (inr x) s = subst (λ l. Lawful n gs (change_of i (Conjugated l t a b e))) (sym x)
+        (conjugated_by n gs 6 2 t i a b e all refl (lit< tt) (lit< tt) (λ c. sdg_cx_s c t) (subst (λ l. IsConjugatedAt l gs t i a b e) x s))
 
 -- ---- each window
 pub window_law : (n : ℕ) (gs : List Gate) (i : ℕ) (w : Window) → All (IsFine n) gs → IsFound gs i w → Lawful n gs (change_of i w)
@@ -141,13 +151,4 @@ window_law n gs i (Turned Sdg q j k) all h = turned_sdg n gs q i j k all h
 window_law n gs i (Turned Z q j k) all h = turned_z n gs q i j k all h
 window_law n gs i (Turned Not q j k) all h = turned_not n gs q i j k all h
 window_law n gs i (Surrounded c t a m d e) all h = surrounded_law n gs c t i a m d e all h
-window_law n gs i (Conjugated k c t a m b e) all h = conjugated_law n gs k c t i a m b e all h
-
-pub fine_phase : (gs : List Gate) (i : ℕ) (w : Window) → IsFound gs i w → HasFinePhase w
-fine_phase gs i (Turned middle q j k) h = tt
-fine_phase gs i (Surrounded c t a m d e) h = tt
-fine_phase gs i (Conjugated k c t a m b e) h = go h.phase
-  where
-    go : (k ≡ 2) ⊎ (k ≡ 6) → k ≤ 8
-    go (inl x) = omega arith
-    go (inr x) = omega arith
+window_law n gs i (Conjugated k t a b e) all h = conjugated_law n gs k t i a b e all h

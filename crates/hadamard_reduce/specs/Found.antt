@@ -36,7 +36,9 @@ pub record IsTurnedAt (middle : ℕ → Gate) (gs : List Gate) (q i j k : ℕ) :
   pub second : Follows q gs i (middle q) j
   pub third : Follows q gs j (H q) k
 
-pub record IsConjugatedAt (k : ℕ) (gs : List Gate) (c t i a m b e : ℕ) : Type 0 where
+pub record IsConjugatedAt (k : ℕ) (gs : List Gate) (t i a b e : ℕ) : Type 0 where
+  pub c : ℕ
+  pub m : ℕ
   pub phase : (k ≡ 2) ⊎ (k ≡ 6)
   pub first : At gs i (H t)
   pub second : Follows t gs i (P k t) a
@@ -69,13 +71,13 @@ pub record IsSurroundedAt (gs : List Gate) (c t i a m d e : ℕ) : Type 0 where
 abbrev pub IsFound : List Gate → ℕ → Window → Type 0
 IsFound gs i (Turned middle q j k) = IsTurnedAt (gate_between middle) gs q i j k
 IsFound gs i (Surrounded c t a m d e) = IsSurroundedAt gs c t i a m d e
-IsFound gs i (Conjugated k c t a m b e) = IsConjugatedAt k gs c t i a m b e
+IsFound gs i (Conjugated k t a b e) = IsConjugatedAt k gs t i a b e
 
 -- a phase from 0 to 8, so that its rest to 8 is there
 abbrev pub HasFinePhase : Window → Type 0
 HasFinePhase (Turned middle q j k) = Unit {0}
 HasFinePhase (Surrounded c t a m d e) = Unit {0}
-HasFinePhase (Conjugated k c t a m b e) = k ≤ 8
+HasFinePhase (Conjugated k t a b e) = k ≤ 8
 
 abbrev pub gone : ℕ → Edit
 gone i = record { place = i; put = None }
@@ -86,13 +88,10 @@ put i g = record { place = i; put = Some g }
 abbrev pub three_edits : Edit → Edit → Edit → ℕ → Change
 three_edits a b c turn = record { edits = a ∷ b ∷ c ∷ c ∷ c ∷ []; count = 3; turn = turn }
 
-abbrev pub five_edits : Edit → Edit → Edit → Edit → Edit → ℕ → Change
-five_edits a b c d e turn = record { edits = a ∷ b ∷ c ∷ d ∷ e ∷ []; count = 5; turn = turn }
-
 abbrev pub change_of : ℕ → Window → Change
 change_of i (Turned S q j k) = three_edits (put i (P 6 q)) (put j (H q)) (put k (P 6 q)) 6
 change_of i (Turned Sdg q j k) = three_edits (put i (P 2 q)) (put j (H q)) (put k (P 2 q)) 0
 change_of i (Turned Z q j k) = three_edits (gone i) (put j (X q)) (gone k) 0
 change_of i (Turned Not q j k) = three_edits (gone i) (put j (P 4 q)) (gone k) 4
-change_of i (Surrounded c t a m d e) = five_edits (gone i) (gone a) (put m (Cx t c)) (gone d) (gone e) 4
-change_of i (Conjugated k c t a m b e) = five_edits (gone i) (put a (P (8 - k) t)) (put m (Cx c t)) (put b (P k t)) (gone e) 6
+change_of i (Surrounded c t a m d e) = record { edits = gone i ∷ gone a ∷ put m (Cx t c) ∷ gone d ∷ gone e ∷ []; count = 5; turn = 4 }
+change_of i (Conjugated k t a b e) = record { edits = gone i ∷ put a (P (8 - k) t) ∷ put b (P k t) ∷ gone e ∷ gone e ∷ []; count = 4; turn = 6 }

@@ -5,7 +5,8 @@
 --   IsConjugated k gs i     from place i on, on one wire t: H, P(k), a CNOT with target t, P(8 - k), H
 --   IsSurrounded gs i       H on both wires of a CNOT right before it and right behind it, and the first of these H at place i
 --   IsWindow gs i           one of the seven windows begins at place i
-use Rattle.std.specs.Prelude.{◌≡◌, ℕ, ◌-◌, List, Some, min, slice_get}
+--   HasNoWindow gs          none begins at any place
+use Rattle.std.specs.Prelude.{◌≡◌, ℕ, ◌-◌, ◌<◌, List, Some, length, min, slice_get}
 use Rattle.circuit_list.specs.declared.Gate.{Gate}
 use Rattle.circuit_list.specs.declared.Gate.TheVariants.{H, X, P, Cx}
 use Rattle.circuit_list.specs.Slots.{IsNextOn}
@@ -62,3 +63,6 @@ pub data IsWindow (gs : List Gate) (i : ℕ) : Type 0 where
   FourHads : IsSurrounded gs i → IsWindow gs i
   SCxSdg : IsConjugated 2 gs i → IsWindow gs i
   SdgCxS : IsConjugated 6 gs i → IsWindow gs i
+
+abbrev pub HasNoWindow : List Gate → Type 0
+HasNoWindow gs = (i : ℕ) → i < length gs → ¬ IsWindow gs i

@@ -107,21 +107,19 @@ pub(crate) fn change_of(place: usize, window: Window) -> Change
         },
         Window::Conjugated {
             k,
-            c,
             t,
             second,
-            third,
             fourth,
             fifth,
         } => Change {
             edits: [
                 gone(place),
                 put(second, Gate::P { k: 8 - k, q: t }),
-                put(third, Gate::Cx { c, t }),
                 put(fourth, Gate::P { k, q: t }),
                 gone(fifth),
+                gone(fifth),
             ],
-            count: 5,
+            count: 4,
             turn: 6,
         },
     }

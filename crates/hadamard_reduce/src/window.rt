@@ -40,13 +40,11 @@ pub(crate) enum Window {
         fourth: usize,
         fifth: usize,
     },
-    /// H, P(k), a CNOT, P(8 - k) and H on the target `t` of the CNOT.
+    /// H, P(k), a CNOT, P(8 - k) and H on the target `t` of the CNOT, which is the third and stays.
     Conjugated {
         k: u8,
-        c: u32,
         t: u32,
         second: usize,
-        third: usize,
         fourth: usize,
         fifth: usize,
     },
@@ -103,22 +101,19 @@ fn conjugated(body: &Circuit, start: Start, k: u8) -> Option<Window>
         return None;
     }
     let second = start.second.place;
-    let middle = next_gate(body, second, t)?;
-    let Gate::Cx { c, t: target } = middle.gate else {
+    let third = next_gate(body, second, t)?;
+    let Gate::Cx { c: _, t: target } = third.gate else {
         return None;
     };
     if target != t {
         return None;
     }
-    let third = middle.place;
-    let fourth = next_is(body, third, t, Gate::P { k: 8 - k, q: t })?;
+    let fourth = next_is(body, third.place, t, Gate::P { k: 8 - k, q: t })?;
     let fifth = next_is(body, fourth, t, Gate::H { q: t })?;
     Some(Window::Conjugated {
         k,
-        c,
         t,
         second,
-        third,
         fourth,
         fifth,
     })
