@@ -1,0 +1,269 @@
+-- Windows that were found.
+--   same_gate               one gate stands at a place
+--   on_gate                 a gate at a place, on a wire or not
+--   differ, an_end          the wires of a CNOT
+--   surrounded_found        H on both wires of a CNOT, in order
+--   conjugated_found        H and phases around the target of a CNOT
+--   window_found            what was found is a window
+--   no_window               where none of the seven windows begins
+use Rattle.std.proofs.Common.{◌≡◌, ◌≢◌, ◌⊎◌, inl, inr, ℕ, suc, ◌+◌, ◌-◌, ◌<◌, ◌≤◌, ◌||◌, ◌==◌, Bool, true, false, List, refl, sym, subst, ◌∙◌, ap, arith, Option, Some, None, MatchOption, All, eq-eqb}
+use Rattle.std.specs.Prelude.{min, max}
+use Rattle.std.proofs.lemmas.Bool.{eqb-true}
+use Rattle.circuit_list.specs.declared.Gate.{Gate}
+use Rattle.circuit_list.specs.declared.Gate.TheVariants.{H, X, P, Cx}
+use Rattle.circuit_list.specs.Gates.{IsFine, is_on}
+use Rattle.circuit_list.proofs.CircuitLaws.{All-slice_get}
+use Rattle.circuit_list.specs.Slots.{IsPrevOn, is_on_at, is_on_some}
+use Rattle.hadamard_reduce.specs.Found.{Quiet, Others, IsFound, IsTurnedAt, IsConjugatedAt, IsSurroundedAt}
+use Rattle.hadamard_reduce.specs.Windows.{At, Follows, IsTurned, IsConjugated, IsSurrounded, IsWindow}
+use Rattle.hadamard_reduce.specs.Windows.IsWindow.{HadSHad, HadSdgHad, HadZHad, HadXHad, FourHads, SCxSdg, SdgCxS}
+use Rattle.hadamard_reduce.specs.declared.window.Middle.TheVariants.{S, Sdg, Z, Not}
+use Rattle.hadamard_reduce.specs.declared.window.Window.{Window}
+use Rattle.hadamard_reduce.specs.declared.window.Window.TheVariants.{Turned, Surrounded, Conjugated}
+
+-- ---- one gate at a place, one gate behind it
+pub same_gate : (gs : List Gate) (i : ℕ) (g h : Gate) → At gs i g → At gs i h → g ≡ h
+same_gate gs i g h d e = cc
+
+pub on_gate : (w : ℕ) (gs : List Gate) (i : ℕ) (g : Gate) → At gs i g → is_on_at w gs i ≡ is_on w g
+on_gate w gs i g h = ap (is_on_some w) h
+
+order : (a b : ℕ) → (a < b) ⊎ ((a ≡ b) ⊎ (b < a))
+order a b = grind arith
+
+same_wire : (q r : ℕ) → H q ≡ H r → q ≡ r
+same_wire q r e = cc
+
+-- ---- H on both wires of a CNOT, before it and behind it
+differ : (n : ℕ) (gs : List Gate) (m c t : ℕ) → All (IsFine n) gs → At gs m (Cx c t) → c ≢ t
+differ n gs m c t fine h = (All-slice_get (IsFine n) gs m (Cx c t) h fine).1.1
+
+or_true : (a b : Bool) → (a || b) ≡ true → (a ≡ true) ⊎ (b ≡ true)
+or_true true b h = inl refl
+or_true false b h = inr h
+
+-- a wire that a CNOT is on is its control or its target
+pub an_end : (q c t : ℕ) → is_on q (Cx c t) ≡ true → (q ≡ c) ⊎ (q ≡ t)
+an_end q c t h = go (or_true (q == c) (q == t) h)
+  where
+    go : ((q == c) ≡ true) ⊎ ((q == t) ≡ true) → (q ≡ c) ⊎ (q ≡ t)
+    go (inl e) = inl (eqb-true q c e)
+    go (inr e) = inr (eqb-true q t e)
+
+pub record Behind (gs : List Gate) (c t m d e : ℕ) : Type 0 where
+  pub u : ℕ
+  pub v : ℕ
+  pub wires : Others c t u v
+  pub fourth : At gs d (H u)
+  pub fifth : At gs e (H v)
+  pub third_fourth : m < d
+  pub fourth_fifth : d < e
+  pub fourth_quiet : Quiet u gs m d
+  pub fifth_quiet : Quiet v gs m e
+
+behind : (gs : List Gate) (c t m d e : ℕ) → c ≢ t → Follows c gs m (H c) d → Follows t gs m (H t) e → Behind gs c t m (min d e) (max d e)
+behind gs c t m d e h f g = go (order d e)
+  where
+    go : (d < e) ⊎ ((d ≡ e) ⊎ (e < d)) → Behind gs c t m (min d e) (max d e)
+    go (inl lt) =
+        let low : d ≡ min d e = omega arith in
+        let high : e ≡ max d e = omega arith in
+        subst (λ (i : ℕ). Behind gs c t m i (max d e)) low (subst (λ (i : ℕ). Behind gs c t m d i) high (record {
+          u = c;
+          v = t;
+          wires = inl (refl, refl);
+          fourth = f.there;
+          fifth = g.there;
+          third_fourth = f.next.behind;
+          fourth_fifth = lt;
+          fourth_quiet = f.next.none;
+          fifth_quiet = g.next.none;
+        }))
+    go (inr (inl e')) = absurd (h (same_wire c t (same_gate gs d (H c) (H t) f.there (subst (λ n. At gs n (H t)) (sym e') g.there))))
+    go (inr (inr lt)) =
+        let low : e ≡ min d e = omega arith in
+        let high : d ≡ max d e = omega arith in
+        subst (λ (i : ℕ). Behind gs c t m i (max d e)) low (subst (λ (i : ℕ). Behind gs c t m e i) high (record {
+          u = t;
+          v = c;
+          wires = inr (refl, refl);
+          fourth = g.there;
+          fifth = f.there;
+          third_fourth = g.next.behind;
+          fourth_fifth = lt;
+          fourth_quiet = g.next.none;
+          fifth_quiet = f.next.none;
+        }))
+
+pub surrounded_found : (n : ℕ) (gs : List Gate) (c t q r i a m d e : ℕ) → All (IsFine n) gs → At gs i (H q) → Follows q gs i (Cx c t) m
+    → ((q ≡ c) × (r ≡ t)) ⊎ ((q ≢ c) × (r ≡ c)) → At gs a (H r) → IsPrevOn r gs m a → i ≤ a → Follows c gs m (H c) d → Follows t gs m (H t) e
+    → IsSurroundedAt gs c t i a m (min d e) (max d e)
+surrounded_found n gs c t q r i a m d e fine first middle ends there prev le control target =
+    let h : c ≢ t = differ n gs m c t fine middle.there in
+    let on : is_on q (Cx c t) ≡ true = sym (on_gate q gs m (Cx c t) middle.there) ∙ middle.next.on in
+    let wires : Others c t q r = which ends (an_end q c t on) in
+    let back = behind gs c t m d e h control target in
+    record {
+      q = q;
+      r = r;
+      u = back.u;
+      v = back.v;
+      before = wires;
+      behind = back.wires;
+      first = first;
+      second = there;
+      third = middle.there;
+      fourth = back.fourth;
+      fifth = back.fifth;
+      first_second = strictly (apart h wires);
+      second_third = prev.before;
+      third_fourth = back.third_fourth;
+      fourth_fifth = back.fourth_fifth;
+      first_quiet = middle.next.none;
+      second_quiet = prev.none;
+      fourth_quiet = back.fourth_quiet;
+      fifth_quiet = back.fifth_quiet;
+    }
+  where
+    which : ((q ≡ c) × (r ≡ t)) ⊎ ((q ≢ c) × (r ≡ c)) → (q ≡ c) ⊎ (q ≡ t) → Others c t q r
+    which (inl x) y = inl x
+    which (inr x) (inl y) = absurd (x.0 y)
+    which (inr x) (inr y) = inr (y, x.1)
+
+    apart : c ≢ t → Others c t q r → q ≢ r
+    apart h (inl (x, y)) z = h (sym x ∙ z ∙ y)
+    apart h (inr (x, y)) z = h (sym y ∙ sym z ∙ x)
+
+    strictly : q ≢ r → i < a
+    strictly h = go (order i a)
+      where
+        go : (i < a) ⊎ ((i ≡ a) ⊎ (a < i)) → i < a
+        go (inl lt) = lt
+        go (inr (inl x)) = absurd (h (same_wire q r (same_gate gs i (H q) (H r) first (subst (λ n. At gs n (H r)) (sym x) there))))
+        go (inr (inr gt)) = absurd (omega arith)
+
+-- ---- H, a phase, a CNOT, a phase, H
+pub conjugated_found : (k : ℕ) (gs : List Gate) (t i : ℕ) (g : Gate) (a : ℕ) (h : Gate) (m c target b e : ℕ) → (k ≡ 2) ⊎ (k ≡ 6) → At gs i (H t)
+    → Follows t gs i g a → g ≡ P k t → Follows t gs a h m → h ≡ Cx c target → target ≡ t → Follows t gs m (P (8 - k) t) b → Follows t gs b (H t) e
+    → IsConjugatedAt k gs t i a b e
+conjugated_found k gs t i g a h m c target b e phase first second is third cnot here fourth fifth = record {
+  c = c;
+  m = m;
+  phase = phase;
+  first = first;
+  second = subst (λ (x : Gate). Follows t gs i x a) is second;
+  third = subst (λ (x : Gate). Follows t gs a x m) (cnot ∙ ap (λ n. Cx c n) here) third;
+  fourth = fourth;
+  fifth = fifth;
+}
+
+-- ---- what was found is a window
+both_ends : (c t : ℕ) → (is_on c (Cx c t) ≡ true) × (is_on t (Cx c t) ≡ true)
+both_ends c t = (ap (λ b. b || (c == t)) (eq-eqb c c refl), last (t == c) (eq-eqb t t refl))
+  where
+    last : (a : Bool) → (t == t) ≡ true → (a || (t == t)) ≡ true
+    last true e = refl
+    last false e = e
+
+reaches : (w : ℕ) (gs : List Gate) (c t i m : ℕ) → At gs m (Cx c t) → is_on w (Cx c t) ≡ true → i < m → Quiet w gs i m → Follows w gs i (Cx c t) m
+reaches w gs c t i m h on lt quiet = record { next = record { behind = lt; on = on_gate w gs m (Cx c t) h ∙ on; none = quiet }; there = h }
+
+leaves : (w : ℕ) (gs : List Gate) (i j : ℕ) → At gs j (H w) → i < j → Quiet w gs i j → Follows w gs i (H w) j
+leaves w gs i j h lt quiet = record { next = record { behind = lt; on = on_gate w gs j (H w) h ∙ eq-eqb w w refl; none = quiet }; there = h }
+
+-- the H of each wire on its side of the CNOT
+record Ends (gs : List Gate) (c t m : ℕ) : Type 0 where
+  d : ℕ
+  e : ℕ
+  control : Follows c gs m (H c) d
+  target : Follows t gs m (H t) e
+
+ends_behind : (gs : List Gate) (c t i a m d e : ℕ) → IsSurroundedAt gs c t i a m d e → Ends gs c t m
+ends_behind gs c t i a m d e s = go s.behind
+  where
+    at_fourth : Follows s.u gs m (H s.u) d
+    at_fourth = leaves s.u gs m d s.fourth s.third_fourth s.fourth_quiet
+
+    at_fifth : Follows s.v gs m (H s.v) e
+    at_fifth = leaves s.v gs m e s.fifth (omega (arith, s.third_fourth, s.fourth_fifth)) s.fifth_quiet
+
+    go : Others c t s.u s.v → Ends gs c t m
+    go (inl (x, y)) = record { d = d; e = e; control = subst (λ n. Follows n gs m (H n) d) x at_fourth; target = subst (λ n. Follows n gs m (H n) e) y at_fifth }
+    go (inr (x, y)) = record { d = e; e = d; control = subst (λ n. Follows n gs m (H n) e) y at_fifth; target = subst (λ n. Follows n gs m (H n) d) x at_fourth }
+
+surrounded_is : (gs : List Gate) (c t i a m d e : ℕ) → IsSurroundedAt gs c t i a m d e → IsSurrounded gs i
+surrounded_is gs c t i a m d e s = go s.before
+  where
+    back : Ends gs c t m
+    back = ends_behind gs c t i a m d e s
+
+    go : Others c t s.q s.r → IsSurrounded gs i
+    go (inl (x, y)) = record {
+      c = c;
+      t = t;
+      a = i;
+      b = a;
+      m = m;
+      d = back.d;
+      e = back.e;
+      control_before = subst (λ n. At gs i (H n)) x s.first;
+      target_before = subst (λ n. At gs a (H n)) y s.second;
+      middle_control = reaches c gs c t i m s.third (both_ends c t).0 (omega (arith, s.first_second, s.second_third)) (subst (λ n. Quiet n gs i m) x s.first_quiet);
+      middle_target = reaches t gs c t a m s.third (both_ends c t).1 s.second_third (subst (λ n. Quiet n gs a m) y s.second_quiet);
+      control_behind = back.control;
+      target_behind = back.target;
+      begins = omega (arith, s.first_second);
+    }
+    go (inr (x, y)) = record {
+      c = c;
+      t = t;
+      a = a;
+      b = i;
+      m = m;
+      d = back.d;
+      e = back.e;
+      control_before = subst (λ n. At gs a (H n)) y s.second;
+      target_before = subst (λ n. At gs i (H n)) x s.first;
+      middle_control = reaches c gs c t a m s.third (both_ends c t).0 s.second_third (subst (λ n. Quiet n gs a m) y s.second_quiet);
+      middle_target = reaches t gs c t i m s.third (both_ends c t).1 (omega (arith, s.first_second, s.second_third)) (subst (λ n. Quiet n gs i m) x s.first_quiet);
+      control_behind = back.control;
+      target_behind = back.target;
+      begins = omega (arith, s.first_second);
+    }
+
+turned_is : (middle : ℕ → Gate) (gs : List Gate) (q i j k : ℕ) → IsTurnedAt middle gs q i j k → IsTurned middle gs i
+turned_is middle gs q i j k h = record { q = q; j = j; k = k; first = h.first; second = h.second; third = h.third }
+
+conjugated_is : (k : ℕ) (gs : List Gate) (t i a b e : ℕ) → IsConjugatedAt k gs t i a b e → IsConjugated k gs i
+conjugated_is k gs t i a b e h = record { c = h.c; t = t; a = a; m = h.m; b = b; e = e; first = h.first; second = h.second; third = h.third; fourth = h.fourth; fifth = h.fifth }
+
+pub window_found : (gs : List Gate) (i : ℕ) (w : Window) → IsFound gs i w → IsWindow gs i
+window_found gs i (Turned S q j k) h = HadSHad (turned_is (P 2) gs q i j k h)
+window_found gs i (Turned Sdg q j k) h = HadSdgHad (turned_is (P 6) gs q i j k h)
+window_found gs i (Turned Z q j k) h = HadZHad (turned_is (P 4) gs q i j k h)
+window_found gs i (Turned Not q j k) h = HadXHad (turned_is X gs q i j k h)
+window_found gs i (Surrounded c t a m d e) h = FourHads (surrounded_is gs c t i a m d e h)
+window_found gs i (Conjugated k t a b e) h = go h.phase
+  where
+    is : IsConjugated k gs i
+    is = conjugated_is k gs t i a b e h
+
+    go : (k ≡ 2) ⊎ (k ≡ 6) → IsWindow gs i
+    go (inl x) = SCxSdg (subst (λ n. IsConjugated n gs i) x is)
+    go (inr x) = SdgCxS (subst (λ n. IsConjugated n gs i) x is)
+
+-- ---- where there is none
+pub no_window : (gs : List Gate) (i : ℕ) → (IsTurned (P 2) gs i → ⊥) → (IsTurned (P 6) gs i → ⊥) → (IsTurned (P 4) gs i → ⊥) → (IsTurned X gs i → ⊥)
+    → (IsSurrounded gs i → ⊥) → (IsConjugated 2 gs i → ⊥) → (IsConjugated 6 gs i → ⊥) → IsWindow gs i → ⊥
+no_window gs i a b c d e f g (HadSHad w) = a w
+no_window gs i a b c d e f g (HadSdgHad w) = b w
+no_window gs i a b c d e f g (HadZHad w) = c w
+no_window gs i a b c d e f g (HadXHad w) = d w
+no_window gs i a b c d e f g (FourHads w) = e w
+no_window gs i a b c d e f g (SCxSdg w) = f w
+no_window gs i a b c d e f g (SdgCxS w) = g w
+
+-- the last of seven tries tells
+pub last_try : (A B : Type 0) (Q : Window → Type 0) (r : Option Window) → ((A → ⊥) → B → ⊥) → MatchOption r (A → ⊥) Q → MatchOption r (B → ⊥) Q
+last_try A B Q None f h = f h
+last_try A B Q (Some w) f h = h

@@ -1,0 +1,69 @@
+//! Hadamard reduction: seven local rules, each of which takes H away.
+//!
+//! In goes a circuit and a place; out comes the change for the window that begins there, or nothing where none does
+//! ([`HadamardRules`]); or in goes a circuit, and out comes one where no window is left ([`HadamardPass`]). A window is a few gates around H that follow each other on their wires, whatever stands between on
+//! others (`specs/Windows.antt`): H, a phase or X, H on one wire; H on both wires of a CNOT, before it and behind it; H and
+//! phases around the target of a CNOT. The contract says that `None` comes exactly where no window begins, that a change keeps
+//! the amplitudes up to its power of w and adds no T gate, CNOT or odd path parity, and that it leaves fewer H.
+//!
+//! A circuit is always fine, so none is refused; the only error, of the pass alone, is want of memory. A look at a place takes
+//! no memory, and as many steps as the logarithm of the number of gates.
+#![tactic(auto)]
+
+mod change;
+mod walk;
+mod window;
+
+ghost use Rattle.std.specs.Prelude.{◌≡◌, ◌<◌, length};
+
+use change::change_of;
+use circuit_list::{Circuit, Passed};
+use rewrite_pass::{Change, Pass, Rule, Sweep};
+use std::alloc::{AllocError, Global};
+use window::window_at;
+
+/// The rules of Hadamard reduction (Nam et al. 2018, section 4.2). Each gate that a window is left with stands in the place of
+/// one of the window's gates; the turn is the power of w that the change takes:
+///
+/// | window | becomes | turn |
+/// |---|---|---|
+/// | H, P(2), H | P(6), H, P(6) | 6 |
+/// | H, P(6), H | P(2), H, P(2) | 0 |
+/// | H, P(4), H | X, in the middle | 0 |
+/// | H, X, H | P(4), in the middle | 4 |
+/// | H on both wires, Cx c t, H on both wires | Cx t c | 4 |
+/// | on t: H, P(2), Cx c t, P(6), H | P(6), Cx c t, P(2) | 6 |
+/// | on t: H, P(6), Cx c t, P(2), H | P(2), Cx c t, P(6) | 6 |
+#[derive(Clone, Copy, Debug)]
+pub struct HadamardRules;
+
+impl Rule for HadamardRules {
+    ghost use Rattle.hadamard_reduce.specs.Windows.{IsWindow};
+
+    ghost window = { IsWindow };
+
+    fn at(&self, body: &Circuit, place: usize) -> Option<Change> {
+        let _wires = body.wires();
+        let window = window_at(body, place)?;
+        Some(change_of(place, window))
+    }
+}
+
+/// The changes of [`HadamardRules`], until no window is left.
+#[derive(Clone, Copy, Debug)]
+pub struct HadamardPass;
+
+impl Pass for HadamardPass {
+    ghost use Rattle.hadamard_reduce.specs.Windows.{HasNoWindow};
+
+    ghost shape = { λ n gs. HasNoWindow gs };
+
+    ghost kept = { λ n old new. Unit {0} };
+
+    fn run(&self, alloc: Global, body: Circuit) -> Result<Passed, AllocError> {
+        Sweep(HadamardRules).run(alloc, body)
+    }
+}
+
+#[cfg(test)]
+mod tests;
