@@ -1,28 +1,39 @@
 -- A circuit that was rewritten, and then routed, stands for the source.
---   IsOptimised-expanded   where every count stays
+--   IsOptimised-rewritten  expanded, and then rewritten to as many T gates as odd path parities
 --   Stands-in_place        wire for wire
 --   Stands-routed          on the qubits of a device
-use Rattle.std.proofs.Common.{◌≡◌, ℕ, ◌+◌, ◌*◌, ◌%◌, ◌<◌, List, ap, arith}
+use Rattle.std.proofs.Common.{◌≡◌, ℕ, ◌+◌, ◌*◌, ◌%◌, ◌<◌, ◌≤◌, List, ◌∙◌, ap, arith}
 use Rattle.circuit_list.specs.Gates.{ops}
 use Rattle.circuit_list.specs.declared.Passed.{Passed}
 use Rattle.unitary_model.specs.declared.Op.{Op}
+use Rattle.unitary_model.specs.OddPaths.{odd_paths}
 use Rattle.unitary_model.specs.Operations.{cx_count, t_count}
 use Rattle.unitary_model.specs.Placement.{identity}
 use Rattle.unitary_model.specs.Realises.{Realises}
 use Rattle.unitary_model.specs.SameUpTo.{SameUpTo}
+use Rattle.unitary_model.proofs.AmplitudeLaws.{SameUpTo_trans}
 use Rattle.unitary_model.proofs.RealisesLaws.{Realises_chain, Realises_same}
+use Rattle.rewrite_pass.specs.Law.{IsRewriting}
 use Rattle.qroute_top.specs.Targets.{IsOptimised, Stands}
 use Rattle.qroute_top.specs.declared.target.Target.{Target}
 
-pub IsOptimised-expanded : (n : ℕ) (S : List Op) (c : Passed) → c.body.wires ≡ n → c.turn < 8 → SameUpTo c.turn n S (ops c.body.gates)
-    → t_count (ops c.body.gates) ≡ t_count S → cx_count (ops c.body.gates) ≡ cx_count S → IsOptimised n S c
-IsOptimised-expanded n S c wires below same t cx = record {
-  wires = wires;
-  below = below;
-  same = same;
-  t_gates = omega (arith, t);
-  cx_gates = omega (arith, cx);
-}
+pub IsOptimised-rewritten : (n : ℕ) (S : List Op) (e c r : Passed) → e.body.wires ≡ n → e.turn < 8 → SameUpTo e.turn n S (ops e.body.gates)
+    → odd_paths n (ops e.body.gates) ≡ odd_paths n S → cx_count (ops e.body.gates) ≡ cx_count S
+    → r.body.wires ≡ e.body.wires → IsRewriting e.body.wires e.body.gates r.body.gates r.turn
+    → t_count (ops r.body.gates) ≡ odd_paths e.body.wires (ops r.body.gates) → c.body ≡ r.body → c.turn ≡ (e.turn + r.turn) % 8 → IsOptimised n S c
+IsOptimised-rewritten n S e c r wires below same odd cx r_wires law least body turn =
+    let E = ops e.body.gates in
+    let R = ops r.body.gates in
+    let both = SameUpTo_trans e.turn r.turn n S E R below law.below same (rw wires at law.same) in
+    let t : t_count R ≡ odd_paths n R = rw wires at least in
+    let fewer : odd_paths n R ≤ odd_paths n E = rw wires at law.odd_paths in
+    record {
+      wires = ap (λ b. b.wires) body ∙ (r_wires ∙ wires);
+      below = omega (arith, turn);
+      same = rw (body, turn) both;
+      t_gates = rw body (omega (arith, t, fewer, odd));
+      cx_gates = rw body (omega (arith, law.cx_gates, cx));
+    }
 
 -- the target's own wires, placements and turn are variables here, which the caller has equations for
 pub Stands-in_place : (n : ℕ) (S : List Op) (c : Passed) (t : Target) → IsOptimised n S c → t.body ≡ c.body → t.initial ≡ identity n → t.last ≡ identity n
@@ -49,4 +60,4 @@ Stands-routed n m S c t first j is wires realises initial turn t_same cx_more =
       cx_gates = omega (arith, is.cx_gates, cx_more);
     }
 
-pub ruleset targets = (IsOptimised-expanded, Stands-in_place, Stands-routed)
+pub ruleset targets = (IsOptimised-rewritten, Stands-in_place, Stands-routed)

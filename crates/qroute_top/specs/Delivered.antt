@@ -17,6 +17,7 @@ use Rattle.coupling_map.specs.Coupling.{Coupling}
 use Rattle.route_report.specs.declared.lines.Counts.{Counts}
 use Rattle.route_report.specs.declared.lines.Report.{Report}
 use Rattle.route_report.specs.Lines.{check_line, report_line}
+use Rattle.unitary_model.specs.OddPaths.{odd_paths}
 use Rattle.unitary_model.specs.Operations.{IsPlain, cx_count, t_count}
 use Rattle.unitary_model.specs.Placement.{identity}
 use Rattle.unitary_model.specs.Realises.{Realises}
@@ -54,7 +55,8 @@ pub record Makes (source target : Program) (told : Report) (text line : List ℕ
   pub unitary : Realises source.ops source.wires target.ops target.wires told.initial told.last told.phase
   -- each bit reads its wire of the source, where it ends
   pub reads : target.reads ≡ map (placed_read told.last) source.reads
-  pub t_gates : t_count target.ops ≤ t_count source.ops
+  -- no more T gates than the source has odd path parities, and no more CNOTs but three a swap
+  pub t_gates : t_count target.ops ≤ odd_paths source.wires source.ops
   pub cx_gates : cx_count target.ops ≤ cx_count source.ops + 3 * told.swaps
 
 pub record Rewrites (source : Program) (IsPlaced : Program → Report → Type 0) (text line : List ℕ) : Type 0 where

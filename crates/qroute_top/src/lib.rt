@@ -3,8 +3,8 @@
 //! Words, a source, a shelf and two sinks go in; what is written is an equivalent program on `out` and a line of report, or
 //! of a fault, on `report`, and the status comes out. The contract of `run` is the promise of the whole program: the text
 //! that is written spells a program whose unitary is the source's, up to the reported power of the eighth root of unity and
-//! the reported placements; no count of T gates rises, and that of CNOTs by three for each swap at most; each measured bit
-//! reads its wire of the source; on a device each CNOT follows an edge; and each status comes exactly where its cause is. A
+//! the reported placements; T gates number at most the source's odd path parities, and CNOTs at most its own and three for
+//! each swap; each measured bit reads its wire of the source; on a device each CNOT follows an edge; and each status comes exactly where its cause is. A
 //! text that is refused is told with its place or statement, a device with its reason, and nothing is written then.
 //!
 //! `source` reads the input, over all of the readers, `device` loads the device of a name, `target` makes the circuit that is
@@ -37,6 +37,7 @@ use std::alloc::Global;
 mod decision;
 mod device;
 mod emission;
+mod passes;
 mod pipeline;
 mod plan;
 mod source;

@@ -17,8 +17,8 @@ fn writes_on_the_own_wires(rt: HostRuntime) -> Result<(), Fail> {
             &["", "opt", "--"],
             "qreg q[1]; t q[0]; t q[0];",
             "",
-            "qreg q[1];\nt q[0];\nt q[0];\n",
-            "{\"barriers\":0,\"cx_after\":0,\"cx_before\":0,\"device\":1,\"final\":[0],\"format\":1,\"initial\":[0],\"phase\":0,\"qubits\":1,\"swaps\":0,\"t_after\":2,\"t_before\":2}\n",
+            "qreg q[1];\ns q[0];\n",
+            "{\"barriers\":0,\"cx_after\":0,\"cx_before\":0,\"device\":1,\"final\":[0],\"format\":1,\"initial\":[0],\"phase\":0,\"qubits\":1,\"swaps\":0,\"t_after\":0,\"t_before\":2}\n",
         ),
         // a pair in a Bell state, its measures in the order of the bits
         (
@@ -39,10 +39,10 @@ fn writes_on_the_own_wires(rt: HostRuntime) -> Result<(), Fail> {
         // each of the ten gates
         (
             &OPT,
-            "qreg q[2]; h q[0]; x q[1]; cx q[1],q[0]; t q[0]; s q[0]; u1(3*pi/4) q[1]; z q[0]; u1(5*pi/4) q[1]; sdg q[0]; tdg q[0];",
+            "qreg q[11]; h q[0]; x q[1]; cx q[2],q[3]; t q[4]; s q[5]; u1(3*pi/4) q[6]; z q[7]; u1(5*pi/4) q[8]; sdg q[9]; tdg q[10];",
             "",
-            "qreg q[2];\nh q[0];\nx q[1];\ncx q[1],q[0];\nt q[0];\ns q[0];\nu1(3*pi/4) q[1];\nz q[0];\nu1(5*pi/4) q[1];\nsdg q[0];\ntdg q[0];\n",
-            "{\"barriers\":0,\"cx_after\":1,\"cx_before\":1,\"device\":2,\"final\":[0,1],\"format\":1,\"initial\":[0,1],\"phase\":0,\"qubits\":2,\"swaps\":0,\"t_after\":4,\"t_before\":4}\n",
+            "qreg q[11];\nh q[0];\ncx q[2],q[3];\nt q[4];\ns q[5];\nu1(3*pi/4) q[6];\nz q[7];\nu1(5*pi/4) q[8];\nsdg q[9];\ntdg q[10];\nx q[1];\n",
+            "{\"barriers\":0,\"cx_after\":1,\"cx_before\":1,\"device\":11,\"final\":[0,1,2,3,4,5,6,7,8,9,10],\"format\":1,\"initial\":[0,1,2,3,4,5,6,7,8,9,10],\"phase\":0,\"qubits\":11,\"swaps\":0,\"t_after\":4,\"t_before\":4}\n",
         ),
         // no wires at all
         (
@@ -117,6 +117,78 @@ fn writes_registers_by_their_names(rt: HostRuntime) -> Result<(), Fail> {
             "qreg q[2]; creg c[1]; measure q[0]->c[0]; h q[1]; measure q[1]->c[0];",
             "qreg q[2];\ncreg c[1];\nh q[1];\nmeasure q[1] -> c[0];\n",
             0,
+        ),
+    ];
+    optimise(rt.alloc(), &rt, &rows)
+}
+
+/// Each pass by itself, and all of them together.
+#[test]
+fn writes_what_the_passes_leave(rt: HostRuntime) -> Result<(), Fail> {
+    let rows = [
+        ("qreg q[1]; h q[0]; h q[0];", "qreg q[1];\n", 6),
+        ("qreg q[1]; x q[0]; x q[0];", "qreg q[1];\n", 4),
+        (
+            "qreg q[1]; x q[0]; t q[0];",
+            "qreg q[1];\ntdg q[0];\nx q[0];\n",
+            7,
+        ),
+        (
+            "qreg q[1]; t q[0]; x q[0]; t q[0];",
+            "qreg q[1];\nx q[0];\n",
+            7,
+        ),
+        (
+            "qreg q[2]; x q[0]; cx q[0],q[1];",
+            "qreg q[2];\ncx q[0],q[1];\nx q[0];\nx q[1];\n",
+            2,
+        ),
+        (
+            "qreg q[1]; y q[0];",
+            "qreg q[1];\nz q[0];\nx q[0];\n",
+            6,
+        ),
+        (
+            "qreg q[1]; h q[0]; s q[0]; h q[0];",
+            "qreg q[1];\nsdg q[0];\nh q[0];\nsdg q[0];\n",
+            6,
+        ),
+        (
+            "qreg q[2]; h q[0]; h q[1]; cx q[0],q[1]; h q[0]; h q[1];",
+            "qreg q[2];\ncx q[1],q[0];\n",
+            4,
+        ),
+        (
+            "qreg q[2]; h q[1]; s q[1]; cx q[0],q[1]; sdg q[1]; h q[1];",
+            "qreg q[2];\nsdg q[1];\ncx q[0],q[1];\ns q[1];\n",
+            6,
+        ),
+        (
+            "qreg q[3]; cx q[0],q[1]; cx q[0],q[2]; t q[0]; cx q[0],q[1];",
+            "qreg q[3];\ncx q[0],q[2];\nt q[0];\n",
+            0,
+        ),
+        (
+            "qreg q[1]; t q[0]; h q[0]; h q[0]; t q[0];",
+            "qreg q[1];\ns q[0];\n",
+            6,
+        ),
+        (
+            "qreg q[1]; t q[0]; h q[0]; t q[0];",
+            "qreg q[1];\nt q[0];\nh q[0];\nt q[0];\n",
+            0,
+        ),
+        // rotations of one parity on two wires
+        (
+            "qreg q[3]; cx q[0],q[1]; t q[1]; cx q[0],q[1]; h q[2]; cx q[1],q[0]; t q[0]; cx q[1],q[0];",
+            "qreg q[3];\ncx q[0],q[1];\ns q[1];\ncx q[0],q[1];\nh q[2];\n",
+            0,
+        ),
+        // a Toffoli gate twice takes two rounds
+        (
+            "qreg q[3]; ccx q[0],q[1],q[2]; ccx q[0],q[1],q[2];",
+            "qreg q[3];\nh q[2];\ncx q[1],q[2];\nsdg q[2];\ncx q[0],q[2];\ns q[2];\ncx q[1],q[2];\nsdg q[2];\ncx q[0],q[2];\ns q[1];\ns q[2];\ncx q[0],q[1];\ns q[0];\nsdg q[1];\ncx q[0],q[1];\nh q[2];\n",
+            6,
         ),
     ];
     optimise(rt.alloc(), &rt, &rows)

@@ -48,7 +48,7 @@ fn says_what_failed(rt: HostRuntime) -> Result<(), Fail> {
             "",
             [0, 0, 0, 1],
             8,
-            "OPENQASM 2.0;\ninclude \"qelib1.inc\";\nqreg q[1];\nt q[0];\nt q[0];\n",
+            "OPENQASM 2.0;\ninclude \"qelib1.inc\";\nqreg q[1];\ns q[0];\n",
             "",
         ),
         (
@@ -57,8 +57,8 @@ fn says_what_failed(rt: HostRuntime) -> Result<(), Fail> {
             "",
             [0, 0, 0, 2],
             8,
-            "OPENQASM 2.0;\ninclude \"qelib1.inc\";\nqreg q[1];\nt q[0];\nt q[0];\n",
-            "{\"barriers\":0,\"cx_after\":0,\"cx_before\":0,\"device\":1,\"final\":[0],\"format\":1,\"initial\":[0],\"phase\":0,\"qubits\":1,\"swaps\":0,\"t_after\":2,\"t_before\":2}\n",
+            "OPENQASM 2.0;\ninclude \"qelib1.inc\";\nqreg q[1];\ns q[0];\n",
+            "{\"barriers\":0,\"cx_after\":0,\"cx_before\":0,\"device\":1,\"final\":[0],\"format\":1,\"initial\":[0],\"phase\":0,\"qubits\":1,\"swaps\":0,\"t_after\":0,\"t_before\":2}\n",
         ),
         (
             &CHECK,

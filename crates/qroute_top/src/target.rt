@@ -8,6 +8,7 @@ ghost use Rattle.unitary_model.specs.Placement.{identity};
 ghost use Rattle.coupling_map.specs.Edges.{FollowsEdges};
 ghost use Rattle.qroute_top.specs.Targets.{IsOptimised, Stands};
 
+use crate::passes::rewritten;
 use circuit_list::{Circuit, Passed};
 use coupling_map::Device;
 use gate_expand::{Ops, expand};
@@ -33,12 +34,18 @@ pub struct Target {
 }
 
 /// The circuit of a source's operations after all passes, and its turn against the source.
+#[tactic(auto, using(crate::proofs::TargetLaws::targets))]
 pub fn optimised(alloc: Global, source: &Ops) -> Result<Passed, AllocError>
     requires few { source.now.wires ≤ 64 }
     requires fine { All (IsFineOp source.now.wires) source.now.list }
     ensures { IfOk result (IsOptimised source.now.wires source.now.list) }
 {
-    expand(alloc, source)
+    let expanded = expand(alloc, source)?;
+    let passed = rewritten(alloc, expanded.body)?;
+    Ok(Passed {
+        body: passed.body,
+        turn: turn_sum(expanded.turn, passed.turn),
+    })
 }
 
 /// The qubit of each wire.
