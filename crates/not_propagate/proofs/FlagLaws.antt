@@ -1,5 +1,5 @@
 -- The X that wait on flagged wires, and how they move past gates and meet them.
---     flip q, xs fs       the gate X, and the X that wait, as operations
+--     xs fs               the X that wait, as operations
 --     Step_cons, Step_after, Step_before, Step_last       steps in a list
 --     off_flags           no X waits on a wire without a flag
 --     x_set               an X behind those that wait turns its wire's flag; where it was set they make a turn of 4
@@ -9,17 +9,14 @@
 use Rattle.std.proofs.Common.{◌≡◌, ℕ, zero, suc, ◌+◌, ◌<◌, Bool, true, false, not, cond, List, [], ◌∷◌, ◌++◌, length, get_or, refl, sym, subst, arith, append_assoc, append-nil}
 use Rattle.std.proofs.Math.ListN.{set}
 use Rattle.unitary_model.specs.declared.Op.{Op}
-use Rattle.unitary_model.specs.declared.Op.TheVariants.{U}
 use Rattle.unitary_model.specs.Ring.{nought, unit, plus, turn1}
+use Rattle.unitary_model.proofs.HadamardWindows.{flip}
 use Rattle.unitary_model.proofs.PathLaws.{Covers_refl}
 use Rattle.unitary_model.proofs.Slide.{Off, OffOp}
 use Rattle.unitary_model.proofs.Steps.{Step, Step_trans, Step_then, Step_inside, Step_slide, Step_slide_back}
 use Rattle.unitary_model.proofs.Windows.{Agree, in_place}
 use Rattle.circuit_list.specs.Gates.{ops}
 use Rattle.not_propagate.specs.Walks.{flag_of, waiting_from, waiting, turned}
-
-abbrev pub flip : ℕ → Op
-flip q = U 4 0 4 q
 
 abbrev pub xs : List Bool → List Op
 xs fs = ops (waiting fs)

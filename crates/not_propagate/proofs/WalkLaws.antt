@@ -8,10 +8,11 @@ use Rattle.std.specs.Prelude.{nat_eq}
 use Rattle.std.proofs.Math.ListN.{set}
 use Rattle.std.proofs.lemmas.List.{map-append, length-set, set-get_or, get_or-set_same, get_or-set_other}
 use Rattle.unitary_model.specs.declared.Op.{Op}
-use Rattle.unitary_model.specs.declared.Op.TheVariants.{U, Cx as OpCx}
+use Rattle.unitary_model.specs.declared.Op.TheVariants.{Cx as OpCx}
 use Rattle.unitary_model.specs.Ring.{nought, unit, plus, turn1}
 use Rattle.unitary_model.specs.Paths.Event.{Toggle, Fresh, Add}
 use Rattle.unitary_model.specs.Paths.{Covers, toggle_where_odd}
+use Rattle.unitary_model.proofs.HadamardWindows.{had, flip, phase}
 use Rattle.unitary_model.proofs.PathLaws.{Covers_refl}
 use Rattle.unitary_model.proofs.Steps.{Step, Step_trans, Step_then}
 use Rattle.unitary_model.proofs.Windows.{Agree, in_place, Distinct}
@@ -19,13 +20,7 @@ use Rattle.circuit_list.specs.declared.Gate.{Gate}
 use Rattle.circuit_list.specs.declared.Gate.TheVariants.{H, X, P, Cx}
 use Rattle.circuit_list.specs.Gates.{IsFine, op_of, ops}
 use Rattle.not_propagate.specs.Walks.{flag_of, waiting, turned, gates_at, flags_at, turn_at}
-use Rattle.not_propagate.proofs.FlagLaws.{flip, xs, Step_cons, Step_after, Step_last, off_flags, put_flag, x_set, pass_by, pass_first, meets}
-
-abbrev had : ℕ → Op
-had q = U 2 0 4 q
-
-abbrev phase : ℕ → ℕ → Op
-phase k q = U 0 0 k q
+use Rattle.not_propagate.proofs.FlagLaws.{xs, Step_cons, Step_after, Step_last, off_flags, put_flag, x_set, pass_by, pass_first, meets}
 
 -- ---- an X before a gate
 one_wire : (q : ℕ) → Distinct q (q + 1) (q + 2)
