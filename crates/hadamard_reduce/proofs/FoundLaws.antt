@@ -6,7 +6,7 @@
 --   conjugated_found        H and phases around the target of a CNOT
 --   window_found            what was found is a window
 --   no_window               where none of the seven windows begins
-use Rattle.std.proofs.Common.{◌≡◌, ◌≢◌, ◌⊎◌, inl, inr, ℕ, suc, ◌+◌, ◌-◌, ◌<◌, ◌≤◌, ◌||◌, ◌==◌, Bool, true, false, List, refl, sym, subst, ◌∙◌, ap, arith, Option, Some, None, MatchOption, All, eq-eqb}
+use Rattle.std.proofs.Common.{◌≡◌, ◌≢◌, ◌⊎◌, inl, inr, ℕ, ◌-◌, ◌<◌, ◌≤◌, ◌||◌, ◌==◌, Bool, true, false, List, refl, sym, subst, ◌∙◌, ap, arith, Option, Some, None, MatchOption, All, eq-eqb}
 use Rattle.std.specs.Prelude.{min, max}
 use Rattle.std.proofs.lemmas.Bool.{eqb-true}
 use Rattle.circuit_list.specs.declared.Gate.{Gate}

@@ -8,8 +8,8 @@
 --   between-at              what stands between two places, split at a gate there
 --   Lawful n gs c, by_marks what a rule owes for a change, from the marks
 --   off_between             gates between two places that are not on a wire
-use Rattle.std.proofs.Common.{◌≡◌, ◌≢◌, ℕ, zero, suc, ◌+◌, ◌-◌, ◌<◌, ◌≤◌, Bool, true, false, cond, List, [], ◌∷◌, ◌++◌, take, drop, length, refl, sym, subst, ◌∙◌, ap, arith, Option, Some, None, All, nat_eq, length-drop, length-append}
-use Rattle.std.specs.Prelude.{IfSome, slice_get}
+use Rattle.std.proofs.Common.{◌≡◌, ℕ, zero, suc, ◌+◌, ◌-◌, ◌<◌, ◌≤◌, true, false, cond, List, [], ◌∷◌, ◌++◌, take, drop, length, refl, sym, subst, ◌∙◌, ap, arith, Option, Some, None, All, nat_eq, length-drop}
+use Rattle.std.specs.Prelude.{IfSome}
 use Rattle.std.specs.List.{AllByRecursion}
 use Rattle.std.proofs.Math.Seq.{drop-nil, take-append-add}
 use Rattle.std.proofs.lemmas.Bool.Decides.{nat_tests}
