@@ -1,18 +1,19 @@
 -- Windows that were found.
 --   same_gate               one gate stands at a place
---   on_gate                 a gate at a place, on a wire or not
+--   on_gate, fine_at        the gate at a place is on a wire, or isn't; it is fine
 --   differ, an_end          the wires of a CNOT
 --   surrounded_found        H on both wires of a CNOT, in order
 --   conjugated_found        H and phases around the target of a CNOT
 --   window_found            what was found is a window
 --   no_window               where none of the seven windows begins
-use Rattle.std.proofs.Common.{◌≡◌, ◌≢◌, ◌⊎◌, inl, inr, ℕ, suc, ◌+◌, ◌-◌, ◌<◌, ◌≤◌, ◌||◌, ◌==◌, Bool, true, false, List, refl, sym, subst, ◌∙◌, ap, arith, Option, Some, None, MatchOption, All, eq-eqb}
+use Rattle.std.proofs.Common.{◌≡◌, ◌≢◌, ◌⊎◌, inl, inr, ℕ, ◌-◌, ◌<◌, ◌≤◌, ◌||◌, ◌==◌, Bool, true, false, List, refl, sym, subst, ◌∙◌, ap, arith, Option, Some, None, MatchOption, All, eq-eqb}
 use Rattle.std.specs.Prelude.{min, max}
 use Rattle.std.proofs.lemmas.Bool.{eqb-true}
+use Rattle.std.proofs.lemmas.List.Elements.{All-get_or}
+use Rattle.std.proofs.lemmas.Option.{get_or_from_slice_get, slice_get_within}
 use Rattle.circuit_list.specs.declared.Gate.{Gate}
 use Rattle.circuit_list.specs.declared.Gate.TheVariants.{H, X, P, Cx}
 use Rattle.circuit_list.specs.Gates.{IsFine, is_on}
-use Rattle.circuit_list.proofs.CircuitLaws.{All-slice_get}
 use Rattle.circuit_list.specs.Slots.{IsPrevOn, is_on_at, is_on_some}
 use Rattle.hadamard_reduce.specs.Found.{Quiet, Others, IsFound, IsTurnedAt, IsConjugatedAt, IsSurroundedAt}
 use Rattle.hadamard_reduce.specs.Windows.{At, Follows, IsTurned, IsConjugated, IsSurrounded, IsWindow}
@@ -28,6 +29,9 @@ same_gate gs i g h d e = cc
 pub on_gate : (w : ℕ) (gs : List Gate) (i : ℕ) (g : Gate) → At gs i g → is_on_at w gs i ≡ is_on w g
 on_gate w gs i g h = ap (is_on_some w) h
 
+pub fine_at : (n : ℕ) (gs : List Gate) (i : ℕ) (g : Gate) → All (IsFine n) gs → At gs i g → IsFine n g
+fine_at n gs i g all h = subst (IsFine n) (get_or_from_slice_get gs i g g h) (All-get_or (IsFine n) gs i g (slice_get_within gs i g h) all)
+
 order : (a b : ℕ) → (a < b) ⊎ ((a ≡ b) ⊎ (b < a))
 order a b = grind arith
 
@@ -36,7 +40,7 @@ same_wire q r e = cc
 
 -- ---- H on both wires of a CNOT, before it and behind it
 differ : (n : ℕ) (gs : List Gate) (m c t : ℕ) → All (IsFine n) gs → At gs m (Cx c t) → c ≢ t
-differ n gs m c t fine h = (All-slice_get (IsFine n) gs m (Cx c t) h fine).1.1
+differ n gs m c t fine h = (fine_at n gs m (Cx c t) fine h).1.1
 
 or_true : (a b : Bool) → (a || b) ≡ true → (a ≡ true) ⊎ (b ≡ true)
 or_true true b h = inl refl

@@ -4,15 +4,14 @@
 --   Keeps_inside, Keeps_then, Keeps_after      a congruence; what leaves all as it was adds no power
 --   AllOff w gs, OffGate g gs       no gate of gs is on wire w; none is on a wire of g
 --   slides, slides_back     a gate past others that are on none of its wires
-use Rattle.std.proofs.Common.{◌≡◌, ◌≢◌, ℕ, ◌+◌, ◌||◌, ◌==◌, Bool, true, false, List, [], ◌∷◌, ◌++◌, refl, sym, subst, ◌∙◌, ap, arith, append_assoc, append-nil, add-zero}
+use Rattle.std.proofs.Common.{◌≡◌, ◌≢◌, ℕ, ◌||◌, ◌==◌, Bool, true, false, List, [], ◌∷◌, ◌++◌, refl, sym, subst, ◌∙◌, ap, append_assoc, add-zero}
 use Rattle.std.proofs.lemmas.Bool.{eqb-false}
 use Rattle.std.proofs.lemmas.List.{map-append}
 use Rattle.circuit_list.specs.declared.Gate.{Gate}
 use Rattle.circuit_list.specs.declared.Gate.TheVariants.{H, X, P, Cx}
 use Rattle.circuit_list.specs.Gates.{is_on, op_of, ops}
-use Rattle.unitary_model.specs.declared.Op.{Op}
 use Rattle.unitary_model.proofs.Slide.{Off, OffOp}
-use Rattle.unitary_model.proofs.Steps.{Step, Step_refl, Step_trans, Step_then, Step_inside, Step_slide, Step_slide_back}
+use Rattle.unitary_model.proofs.Steps.{Step, Step_trans, Step_then, Step_inside, Step_slide, Step_slide_back}
 
 abbrev pub Keeps : ℕ → List Gate → List Gate → Type 1
 Keeps k A B = Step k (ops A) (ops B)

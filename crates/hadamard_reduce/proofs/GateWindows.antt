@@ -1,7 +1,7 @@
 -- The seven windows, as gates side by side.
 --   had_s_had, had_sdg_had, had_z_had, had_x_had, s_cx_sdg, sdg_cx_s      as in the table
 --   four_hads               H on both wires of a CNOT before it and behind it, in any order
-use Rattle.std.proofs.Common.{◌≡◌, ◌≢◌, ◌⊎◌, inl, inr, ℕ, false, List, [], ◌∷◌, ◌++◌, refl, sym, subst, ◌∙◌, ap}
+use Rattle.std.proofs.Common.{◌≢◌, inl, inr, ℕ, List, [], ◌∷◌, ◌++◌, refl, sym}
 use Rattle.circuit_list.specs.declared.Gate.{Gate}
 use Rattle.circuit_list.specs.declared.Gate.TheVariants.{H, X, P, Cx}
 use Rattle.std.proofs.lemmas.Bool.{ne_eqb}

@@ -8,13 +8,11 @@
 --   between-at              what stands between two places, split at a gate there
 --   Lawful n gs c, by_marks what a rule owes for a change, from the marks
 --   off_between             gates between two places that are not on a wire
-use Rattle.std.proofs.Common.{◌≡◌, ◌≢◌, ℕ, zero, suc, ◌+◌, ◌-◌, ◌<◌, ◌≤◌, Bool, true, false, cond, List, [], ◌∷◌, ◌++◌, take, drop, length, refl, sym, subst, ◌∙◌, ap, arith, Option, Some, None, All, nat_eq, length-drop, length-append}
-use Rattle.std.specs.Prelude.{IfSome, slice_get}
-use Rattle.std.specs.List.{AllByRecursion}
+use Rattle.std.proofs.Common.{◌≡◌, ℕ, zero, suc, ◌+◌, ◌-◌, ◌<◌, ◌≤◌, true, false, cond, List, [], ◌∷◌, ◌++◌, take, drop, length, refl, sym, subst, ◌∙◌, ap, arith, Option, Some, None, All, nat_eq, length-drop}
+use Rattle.std.specs.Prelude.{IfSome}
 use Rattle.std.proofs.Math.Seq.{drop-nil, take-append-add}
 use Rattle.std.proofs.lemmas.Bool.Decides.{nat_tests}
 use Rattle.std.proofs.lemmas.List.{take-append-drop, length-take-le}
-use Rattle.std.proofs.lemmas.List.Elements.{All-from_recursion, All-append, All-take, All-drop}
 use Rattle.std.proofs.lemmas.List.Sums.{sum_by-append}
 use Rattle.std.proofs.lemmas.Option.{slice_get_within, same_Some}
 use Rattle.circuit_list.specs.declared.Gate.{Gate}
@@ -24,7 +22,7 @@ use Rattle.rewrite_pass.specs.declared.rule.Edit.{Edit}
 use Rattle.rewrite_pass.specs.declared.rule.Change.{Change}
 use Rattle.rewrite_pass.specs.Edits.{put_at, instead, changed_from, changed, first_edits, IsChange}
 use Rattle.rewrite_pass.specs.Law.{IsRewriting}
-use Rattle.rewrite_pass.proofs.EditLaws.{NoneAt, AreEdits, by_edits, changed-append, untouched, edited}
+use Rattle.rewrite_pass.proofs.EditLaws.{NoneAt, AreEdits, by_edits, changed_fine, changed-append, untouched, edited}
 use Rattle.rewrite_pass.proofs.RewritingLaws.{Step-IsRewriting}
 use Rattle.hadamard_reduce.specs.Windows.{At}
 use Rattle.hadamard_reduce.proofs.GateSteps.{AllOff, Keeps, Keeps_along}
@@ -157,16 +155,6 @@ abbrev pub PutsFine : ℕ → List Mark → Type 0
 PutsFine n [] = Unit {0}
 PutsFine n (m ∷ ms) = IfSome m.put (IsFine n) × PutsFine n ms
 
-put_fine : (n : ℕ) (o : Option Gate) (g : Gate) → IfSome o (IsFine n) → AllByRecursion (IsFine n) (instead (Some o) g)
-put_fine n None g h = tt
-put_fine n (Some x) g h = (h, tt)
-
-fine_made : (n : ℕ) (gs : List Gate) (s : ℕ) (ms : List Mark) → All (IsFine n) gs → PutsFine n ms → All (IsFine n) (made_at gs s ms)
-fine_made n gs s [] all h = All-drop (IsFine n) s gs all
-fine_made n gs s (m ∷ ms) all h =
-    All-append (IsFine n) (between gs s m.place) (instead (Some m.put) m.gate ++ made_at gs (suc m.place) ms) (All-take (IsFine n) (m.place - s) (drop s gs) (All-drop (IsFine n) s gs all))
-    (All-append (IsFine n) (instead (Some m.put) m.gate) (made_at gs (suc m.place) ms) (All-from_recursion (IsFine n) (instead (Some m.put) m.gate) (put_fine n m.put m.gate h.0)) (fine_made n gs (suc m.place) ms all h.1))
-
 no_mark : (i s : ℕ) (gs : List Gate) (ms : List Mark) → Stand gs s ms → i < s → NoneAt i (edits_of ms)
 no_mark i s gs [] h lt = tt
 no_mark i s gs (m ∷ ms) h lt = ((λ e. absurd (omega (arith, h.0))), no_mark i (suc m.place) gs ms h.1.1 (omega (arith, h.0)))
@@ -193,9 +181,10 @@ pub by_marks : (n : ℕ) (gs : List Gate) (c : Change) (ms : List Mark) → All 
 by_marks n gs c ms all h a f less keeps =
     let split : gs ≡ split_at gs 0 ms = split-whole gs 0 ms h in
     let new : changed c gs ≡ made_at gs 0 ms = ap (changed_from c 0) split ∙ changed-made c gs 0 ms h (λ k le. a.told k) in
+    let change : IsChange n gs c = by_edits n gs c a.few (subst (AreEdits n gs) (sym a.edits) (marked n 0 gs ms h f)) in
     record {
-      change = by_edits n gs c a.few (subst (AreEdits n gs) (sym a.edits) (marked n 0 gs ms h f));
-      law = Step-IsRewriting n gs (changed c gs) c.turn all (subst (All (IsFine n)) (sym new) (fine_made n gs 0 ms all f)) a.below
+      change = change;
+      law = Step-IsRewriting n gs (changed c gs) c.turn all (changed_fine n gs c change all) a.below
           (Keeps_along c.turn (split_at gs 0 ms) gs (made_at gs 0 ms) (changed c gs) (sym split) (sym new) keeps);
       fewer = omega (arith, ap h_count new, ap h_count split, h_count-split gs 0 ms, less);
     }

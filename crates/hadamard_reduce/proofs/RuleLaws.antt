@@ -1,26 +1,19 @@
 -- What the change for each window owes.
---   fine_at                 the gate at a place is fine
 --   turned_s, turned_sdg, turned_z, turned_not, surrounded_law, conjugated_law      window by window
 --   window_law              for each window that was found
-use Rattle.std.proofs.Common.{◌≡◌, ◌≢◌, ◌⊎◌, inl, inr, ℕ, suc, ◌-◌, ◌<◌, ◌≤◌, false, List, [], ◌∷◌, ◌++◌, drop, length, refl, sym, subst, ◌∙◌, ap, append_assoc, arith, Option, None, Some, All, lit<, lit≤}
+use Rattle.std.proofs.Common.{◌≡◌, ◌≢◌, ◌⊎◌, inl, inr, ℕ, suc, ◌-◌, ◌<◌, ◌≤◌, List, [], ◌∷◌, ◌++◌, drop, refl, sym, subst, ◌∙◌, ap, append_assoc, arith, Option, None, Some, All, lit<, lit≤}
 use Rattle.circuit_list.specs.declared.Gate.{Gate}
 use Rattle.circuit_list.specs.declared.Gate.TheVariants.{H, X, P, Cx}
-use Rattle.circuit_list.specs.Gates.{IsFine, h_count}
-use Rattle.circuit_list.specs.Slots.{is_on_at}
-use Rattle.circuit_list.proofs.CircuitLaws.{All-slice_get}
-use Rattle.rewrite_pass.specs.declared.rule.Change.{Change}
+use Rattle.circuit_list.specs.Gates.{IsFine}
 use Rattle.hadamard_reduce.specs.declared.window.Middle.TheVariants.{S, Sdg, Z, Not}
 use Rattle.hadamard_reduce.specs.declared.window.Window.{Window}
 use Rattle.hadamard_reduce.specs.declared.window.Window.TheVariants.{Turned, Surrounded, Conjugated}
-use Rattle.hadamard_reduce.specs.Windows.{At, Follows}
 use Rattle.hadamard_reduce.specs.Found.{Quiet, IsFound, IsTurnedAt, IsConjugatedAt, IsSurroundedAt, change_of}
+use Rattle.hadamard_reduce.proofs.FoundLaws.{fine_at}
 use Rattle.hadamard_reduce.proofs.GateSteps.{AllOff, Keeps, Keeps_along}
 use Rattle.hadamard_reduce.proofs.GateWindows.{had_s_had, had_sdg_had, had_z_had, had_x_had, four_hads, s_cx_sdg, sdg_cx_s}
-use Rattle.hadamard_reduce.proofs.PieceLaws.{Mark, Marks, Stand, Lawful, by_marks, between, between-at, off_between}
-use Rattle.hadamard_reduce.proofs.WindowSteps.{turned_kept, flattened, surrounded_kept, conjugated_kept, Clear}
-
-fine_at : (n : ℕ) (gs : List Gate) (i : ℕ) (g : Gate) → All (IsFine n) gs → At gs i g → IsFine n g
-fine_at n gs i g all h = All-slice_get (IsFine n) gs i g h all
+use Rattle.hadamard_reduce.proofs.PieceLaws.{Mark, Stand, Lawful, by_marks, between, between-at, off_between}
+use Rattle.hadamard_reduce.proofs.WindowSteps.{turned_kept, flattened, surrounded_kept, conjugated_kept}
 
 off : (w : ℕ) (gs : List Gate) (i j : ℕ) → Quiet w gs i j → AllOff w (between gs (suc i) j)
 off w gs i j h = off_between w gs (suc i) j (λ k le lt. h k (omega arith) lt)

@@ -3,10 +3,9 @@
 --   five_gathered                       two gates before one, and two behind it
 --   turned_kept, flattened              a window of three becomes three gates, or one
 --   conjugated_kept, surrounded_kept    a window of five becomes three gates, or one
-use Rattle.std.proofs.Common.{◌≡◌, ◌≢◌, ℕ, ◌+◌, List, [], ◌∷◌, ◌++◌, refl, sym, subst, ◌∙◌, ap, append_assoc, append-nil}
+use Rattle.std.proofs.Common.{ℕ, List, [], ◌∷◌, ◌++◌, refl, append_assoc}
 use Rattle.circuit_list.specs.declared.Gate.{Gate}
-use Rattle.circuit_list.specs.declared.Gate.TheVariants.{H, X, P, Cx}
-use Rattle.hadamard_reduce.proofs.GateSteps.{Keeps, Keeps_along, Keeps_inside, Keeps_then, Keeps_after, AllOff, OffGate, slides, slides_back}
+use Rattle.hadamard_reduce.proofs.GateSteps.{Keeps, Keeps_along, Keeps_inside, Keeps_then, Keeps_after, OffGate, slides, slides_back}
 
 -- A, then the gates f, g and h with B and C between, then D
 abbrev pub three : Gate → Gate → Gate → List Gate → List Gate → List Gate → List Gate → List Gate

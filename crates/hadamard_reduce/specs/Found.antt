@@ -73,7 +73,7 @@ IsFound gs i (Turned middle q j k) = IsTurnedAt (gate_between middle) gs q i j k
 IsFound gs i (Surrounded c t a m d e) = IsSurroundedAt gs c t i a m d e
 IsFound gs i (Conjugated k t a b e) = IsConjugatedAt k gs t i a b e
 
--- a phase from 0 to 8, so that its rest to 8 is there
+-- the phase k is at most 8, so 8 - k is there
 abbrev pub HasFinePhase : Window → Type 0
 HasFinePhase (Turned middle q j k) = Unit {0}
 HasFinePhase (Surrounded c t a m d e) = Unit {0}
@@ -85,6 +85,7 @@ gone i = record { place = i; put = None }
 abbrev pub put : ℕ → Gate → Edit
 put i g = record { place = i; put = Some g }
 
+-- the edits behind those that count are there for the length alone
 abbrev pub three_edits : Edit → Edit → Edit → ℕ → Change
 three_edits a b c turn = record { edits = a ∷ b ∷ c ∷ c ∷ c ∷ []; count = 3; turn = turn }
 

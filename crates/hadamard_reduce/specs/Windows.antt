@@ -1,4 +1,5 @@
 -- The windows around H: named gates that follow each other on their wires. What stands between on other wires doesn't matter.
+-- In the records c, t and q are wires, and the other numbers are places.
 --   At gs i g               gate g stands at place i
 --   Follows w gs i g j      g is the next gate on wire w behind place i, and stands at place j
 --   IsTurned mid gs i       from place i on, on one wire: H, the gate mid, H

@@ -34,59 +34,35 @@ fn three_edits(first: Edit, second: Edit, third: Edit, turn: u8) -> Change
     }
 }
 
-/// The change that takes a window away.
+/// The change for H, a gate and H on wire `q`, at three places.
+fn change_of_three(middle: Middle, q: u32, first: usize, second: usize, third: usize) -> Change
+    ensures { result ≡ change_of first (Window.Turned middle q second third) }
+{
+    let had = Gate::H { q };
+    let s = Gate::P { k: 2, q };
+    let sdg = Gate::P { k: 6, q };
+    let z = Gate::P { k: 4, q };
+    let not = Gate::X { q };
+    match middle {
+        Middle::S => three_edits(put(first, sdg), put(second, had), put(third, sdg), 6),
+        Middle::Sdg => three_edits(put(first, s), put(second, had), put(third, s), 0),
+        Middle::Z => three_edits(gone(first), put(second, not), gone(third), 0),
+        Middle::Not => three_edits(gone(first), put(second, z), gone(third), 4),
+    }
+}
+
+/// The change for a window that begins at a place.
 pub(crate) fn change_of(place: usize, window: Window) -> Change
     requires { HasFinePhase window }
     ensures { result ≡ change_of place window }
 {
     match window {
         Window::Turned {
-            middle: Middle::S,
+            middle,
             q,
             second,
             third,
-        } => {
-            let phase = Gate::P { k: 6, q };
-            three_edits(
-                put(place, phase),
-                put(second, Gate::H { q }),
-                put(third, phase),
-                6,
-            )
-        }
-        Window::Turned {
-            middle: Middle::Sdg,
-            q,
-            second,
-            third,
-        } => {
-            let phase = Gate::P { k: 2, q };
-            three_edits(
-                put(place, phase),
-                put(second, Gate::H { q }),
-                put(third, phase),
-                0,
-            )
-        }
-        Window::Turned {
-            middle: Middle::Z,
-            q,
-            second,
-            third,
-        } => { three_edits(gone(place), put(second, Gate::X { q }), gone(third), 0) }
-        Window::Turned {
-            middle: Middle::Not,
-            q,
-            second,
-            third,
-        } => {
-            three_edits(
-                gone(place),
-                put(second, Gate::P { k: 4, q }),
-                gone(third),
-                4,
-            )
-        }
+        } => change_of_three(middle, q, place, second, third),
         Window::Surrounded {
             c,
             t,

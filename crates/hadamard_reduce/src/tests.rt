@@ -6,9 +6,9 @@
 ghost use Rattle.std.specs.Prelude.{◌≡◌, ◌<◌, ◌≤◌, length, IfOk, IsTrue};
 ghost use Rattle.circuit_list.specs.Gates.{IsFine};
 
-use crate::HadamardRules;
+use crate::{HadamardPass, HadamardRules};
 use circuit_list::{Circuit, Gate};
-use rewrite_pass::{Change, Rule};
+use rewrite_pass::{Change, Pass, Rule};
 use std::alloc::{AllocError, Global};
 use std::process::Abort;
 use std::test::Fail;
@@ -237,6 +237,30 @@ fn nothing_where_no_window_begins(rt: HostRuntime) -> Result<(), Fail> {
         let body = circuit_of(&rt, rt.alloc(), text)?;
         assert!(rt; place < body.len());
         assert_eq!(rt; HadamardRules.at(&body, place), None, "at {text}");
+    }
+    Ok(())
+}
+
+#[test]
+fn sweeps_all_windows_away(rt: HostRuntime) -> Result<(), Fail> {
+    let alloc = rt.alloc();
+    let rows = [
+        ("", "", 0),
+        ("h.0 1.0 h.0", "h.0 1.0 h.0 ", 0),
+        ("h.0 4.0 h.0 h.0 x.0 h.0", "x.0 4.0 ", 4),
+        ("h.0 h.0 4.0 h.0 h.0", "4.0 ", 4),
+        (
+            "h.1 2.1 c01 6.1 h.1 h.0 2.0 h.0",
+            "6.1 c01 2.1 6.0 h.0 6.0 ",
+            4,
+        ),
+    ];
+    'rows: for (text, want, turn) in rows {
+        let body = circuit_of(&rt, alloc, text)?;
+        let passed = HadamardPass.run(alloc, body)?;
+        let made = told(alloc, &passed.body)?;
+        assert_eq!(rt; made.as_str(), want);
+        assert_eq!(rt; passed.turn, turn, "at {text}");
     }
     Ok(())
 }

@@ -1,6 +1,4 @@
-use Rattle.std.proofs.Common.{◌≡◌, sym, subst}
-use Rattle.rewrite_pass.specs.declared.rule.Change.{Change}
-use Rattle.hadamard_reduce.specs.Found.{change_of}
+use Rattle.std.proofs.Common.{sym, subst}
 use Rattle.hadamard_reduce.proofs.FoundLaws.{window_found}
 use Rattle.hadamard_reduce.proofs.PieceLaws.{Lawful}
 use Rattle.hadamard_reduce.proofs.RuleLaws.{window_law}
