@@ -1,7 +1,7 @@
 -- Gates that commute may be exchanged: each row of the table is a step.
 --   pair g h         the two gates as operations
 --   IsApart g        a control is not its target;  fine_apart: it is so of a fine gate
---   commute_step     commuting gates, exchanged
+--   commute_step     commuting gates, exchanged;  commutes_comm: the table goes both ways, so the step does
 use Rattle.std.proofs.Common.{◌≡◌, ◌≢◌, ℕ, ◌+◌, Bool, true, false, cond, not, List, [], ◌∷◌, ◌++◌, refl, sym, subst, ◌∙◌, ap, arith, append-nil}
 use Rattle.std.proofs.Math.Nat.{add_comm}
 use Rattle.std.specs.Prelude.{nat_eq, ◌&&◌}
@@ -209,3 +209,34 @@ fine_apart n (H q) h = tt
 fine_apart n (X q) h = tt
 fine_apart n (P k q) h = tt
 fine_apart n (Cx c t) h = h.1.1
+
+equal_back : (q r : ℕ) → nat_eq q r ≡ nat_eq r q
+equal_back q r = go (nat_eq q r) refl
+  where
+    go : (b : Bool) → nat_eq q r ≡ b → nat_eq q r ≡ nat_eq r q
+    go true e = grind (arith, nat_tests)
+    go false e = grind (arith, nat_tests)
+
+crossed : (a b c d : Bool) → a ≡ c → b ≡ d → (not a && not b) ≡ (not d && not c)
+crossed true true c d e f = (λ i. not (f i) && not (e i))
+crossed true false c d e f = (λ i. not (f i) && not (e i))
+crossed false true c d e f = (λ i. not (f i) && not (e i))
+crossed false false c d e f = (λ i. not (f i) && not (e i))
+
+pub commutes_comm : (g h : Gate) → commutes g h ≡ commutes h g
+commutes_comm (P j q) (P k r) = refl
+commutes_comm (X q) (X r) = refl
+commutes_comm (P k q) (Cx c t) = refl
+commutes_comm (Cx c t) (P k q) = refl
+commutes_comm (X q) (Cx c t) = refl
+commutes_comm (Cx c t) (X q) = refl
+commutes_comm (H q) (Cx c t) = refl
+commutes_comm (Cx c t) (H q) = refl
+commutes_comm (H q) (H r) = ap not (equal_back q r)
+commutes_comm (H q) (X r) = ap not (equal_back q r)
+commutes_comm (X q) (H r) = ap not (equal_back q r)
+commutes_comm (H q) (P k r) = ap not (equal_back q r)
+commutes_comm (P k q) (H r) = ap not (equal_back q r)
+commutes_comm (X q) (P k r) = ap not (equal_back q r)
+commutes_comm (P k q) (X r) = ap not (equal_back q r)
+commutes_comm (Cx c t) (Cx d u) = crossed (nat_eq c u) (nat_eq t d) (nat_eq u c) (nat_eq d t) (equal_back c u) (equal_back t d)
