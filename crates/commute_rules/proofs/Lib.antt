@@ -1,0 +1,3 @@
+pub mod CommuteLaws
+pub mod CancelLaws
+pub mod TableLaws

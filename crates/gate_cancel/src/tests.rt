@@ -1,0 +1,201 @@
+//! Worked rows, and the list of a plain program.
+
+ghost use Rattle.std.specs.Prelude.{◌≡◌, ℕ, ◌<◌, ◌≤◌, IfOk, true};
+ghost use Rattle.circuit_list.specs.Gates.{IsFine};
+
+use crate::CancelPass;
+use circuit_list::{Circuit, Gate, Passed};
+use commute_rules::{Cancel, cancels, commute};
+use rewrite_pass::Pass;
+use std::alloc::Global;
+use std::process::Abort;
+use std::test::Fail;
+use unitary_model::turn_sum;
+
+const H0: Gate = Gate::H { q: 0 };
+const H1: Gate = Gate::H { q: 1 };
+const X0: Gate = Gate::X { q: 0 };
+const X1: Gate = Gate::X { q: 1 };
+const T0: Gate = Gate::P { k: 1, q: 0 };
+const T1: Gate = Gate::P { k: 1, q: 1 };
+const S0: Gate = Gate::P { k: 2, q: 0 };
+const TDG0: Gate = Gate::P { k: 7, q: 0 };
+const CX01: Gate = Gate::Cx { c: 0, t: 1 };
+const CX02: Gate = Gate::Cx { c: 0, t: 2 };
+
+fn is_fine(wires: u32, gate: Gate) -> bool
+    ensures { result ≡ true → IsFine wires gate }
+{
+    match gate {
+        Gate::H { q } | Gate::X { q } => q < wires,
+        Gate::P { k, q } => q < wires && 0 < k && k < 8,
+        Gate::Cx { c, t } => c < wires && t < wires && c != t,
+    }
+}
+
+fn circuit(rt: &impl Abort, alloc: Global, wires: u32, gates: &[Gate]) -> Result<Circuit, Fail>
+    requires { wires ≤ 64 }
+{
+    let mut circuit = Circuit::empty(alloc, wires)?;
+    'gates: for gate in gates {
+        assert!(rt; is_fine(wires, *gate));
+        circuit.push(*gate)?;
+    }
+    Ok(circuit)
+}
+
+/// Whether the pass makes these gates, with this turn, of others.
+fn makes(rt: &impl Abort, alloc: Global, wires: u32, gates: &[Gate], expected: &[Gate], turn: u8) -> Result<bool, Fail>
+    requires { wires ≤ 64 }
+{
+    let body = circuit(rt, alloc, wires, gates)?;
+    let passed = CancelPass.run(alloc, body)?;
+    let mut same = passed.turn == turn && passed.body.len() == expected.len();
+    'places: for (place, gate) in expected.iter().enumerate() {
+        same = same && place < passed.body.len() && passed.body.gate(place) == *gate;
+    }
+    Ok(same)
+}
+
+#[test]
+fn reduces_pairs(rt: HostRuntime) -> Result<(), Fail> {
+    let alloc = rt.alloc();
+    assert!(rt; makes(&rt, alloc, 1, &[H0, H0], &[], 6)?);
+    assert!(rt; makes(&rt, alloc, 1, &[X0, X0], &[], 4)?);
+    assert!(rt; makes(&rt, alloc, 1, &[T0, T0], &[S0], 0)?);
+    assert!(rt; makes(&rt, alloc, 1, &[T0, TDG0], &[], 0)?);
+    assert!(rt; makes(&rt, alloc, 1, &[H0, X0, H0], &[H0, X0, H0], 0)?);
+    assert!(rt; makes(&rt, alloc, 1, &[T0, H0, H0, T0], &[S0], 6)?);
+    Ok(())
+}
+
+#[test]
+fn reduces_past_commuting_gates(rt: HostRuntime) -> Result<(), Fail> {
+    let alloc = rt.alloc();
+    assert!(rt; makes(&rt, alloc, 2, &[CX01, T0, CX01], &[T0], 0)?);
+    assert!(rt; makes(&rt, alloc, 3, &[CX01, CX02, T0, CX01], &[CX02, T0], 0)?);
+    assert!(rt; makes(&rt, alloc, 2, &[CX01, T1, CX01], &[CX01, T1, CX01], 0)?);
+    assert!(rt; makes(&rt, alloc, 2, &[X1, CX01, X1], &[CX01], 4)?);
+    assert!(rt; makes(&rt, alloc, 2, &[X0, CX01, X0], &[X0, CX01, X0], 0)?);
+    assert!(rt; makes(&rt, alloc, 2, &[CX01, H1, CX01], &[CX01, H1, CX01], 0)?);
+    Ok(())
+}
+
+/// The place of the partner of the gate at a place, by a look at each later gate.
+fn partner(gates: &[Gate], place: usize) -> Option<usize> {
+    let gate = *gates.get(place)?;
+    'later: for (later, other) in gates.iter().enumerate().skip(place).skip(1) {
+        if cancels(gate, *other) != Cancel::No {
+            return Some(later);
+        }
+        if !commute(gate, *other) {
+            return None;
+        }
+    }
+    None
+}
+
+/// One walk by the book. Whether it changed anything, and its turn.
+fn plain_walk(rt: &impl Abort, gates: &mut Vec<Gate>) -> (bool, u8)
+    ensures { result.1 < 8 }
+{
+    let mut changed = false;
+    let mut turn = 0;
+    let mut place = 0;
+    'steps: for _ in 0..u64::MAX {
+        if place >= gates.len() {
+            break;
+        }
+        let Some(later) = partner(gates, place) else {
+            place += 1;
+            continue;
+        };
+        assert!(rt; place < later && later < gates.len());
+        changed = true;
+        match (gates[place], cancels(gates[place], gates[later])) {
+            (Gate::P { k: _, q }, Cancel::Merge { k }) => {
+                let _merged = gates.remove(later);
+                gates[place] = Gate::P { k, q };
+            }
+            (_, Cancel::Both { turn: more }) => {
+                let _second = gates.remove(later);
+                let _first = gates.remove(place);
+                assert!(rt; more < 8);
+                turn = turn_sum(turn, more);
+            }
+            _ => {}
+        }
+    }
+    (changed, turn)
+}
+
+/// Such walks until one changes nothing. The turn of all.
+fn plain_walks(rt: &impl Abort, gates: &mut Vec<Gate>) -> u8 {
+    let mut turn = 0;
+    'walks: for _ in 0..u64::MAX {
+        let (changed, more) = plain_walk(rt, gates);
+        turn = turn_sum(turn, more);
+        if !changed {
+            break;
+        }
+    }
+    turn
+}
+
+/// Numbers that look random, the same at each run.
+#[derive(Drop)]
+struct Random {
+    state: u64,
+}
+
+impl Random {
+    fn below(&mut self, limit: u64) -> u32
+        requires positive { 0 < limit }
+        requires few { limit < 1000 }
+        ensures { result < limit }
+    {
+        self.state = self
+            .state
+            .wrapping_mul(6364136223846793005)
+            .wrapping_add(1442695040888963407);
+        ((self.state >> 33) % limit) as u32
+    }
+
+    /// A gate on four wires.
+    fn gate(&mut self) -> Gate {
+        let q = self.below(4);
+        match self.below(5) {
+            0 => Gate::H { q },
+            1 => Gate::X { q },
+            2 => Gate::P {
+                k: self.below(7) as u8 + 1,
+                q,
+            },
+            _ => Gate::Cx {
+                c: q,
+                t: (q + 1 + self.below(3)) % 4,
+            },
+        }
+    }
+}
+
+/// Random circuits, and random ones in a nest: the list and the turn are those of the plain walks.
+#[test]
+fn cancels_as_the_plain_walks_do(rt: HostRuntime) -> Result<(), Fail> {
+    let alloc = rt.alloc();
+    let mut random = Random { state: 1 };
+    'circuits: for round in 0..400 {
+        let mut gates = Vec::new(alloc);
+        'front: for _ in 0..60 {
+            gates.push(random.gate())?;
+        }
+        if round % 2 == 0 {
+            let mirrored = gates.iter().rev().copied().collect::<Vec<Gate>>(alloc)?;
+            gates.extend_from_slice(&mirrored)?;
+        }
+        let mut plain = gates.clone()?;
+        let turn = plain_walks(&rt, &mut plain);
+        assert!(rt; makes(&rt, alloc, 4, &gates, &plain, turn)?);
+    }
+    Ok(())
+}
