@@ -1,0 +1,6 @@
+pub mod LabelWalks
+pub mod OddLabels
+pub mod OddSets
+pub mod PathForm
+pub mod PathSum
+pub mod Sets
