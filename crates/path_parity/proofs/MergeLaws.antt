@@ -83,7 +83,7 @@ weight-frame (H q ∷ gs) = omega (arith, weight-frame gs)
 weight-frame (X q ∷ gs) = omega (arith, weight-frame gs)
 weight-frame (Cx c t ∷ gs) = weight-frame gs
 
-double-skew : (n : ℕ) (r : Ring) → double n (skew r) ≡ skew (double n r)
+pub double-skew : (n : ℕ) (r : Ring) → double n (skew r) ≡ skew (double n r)
 double-skew n r = double-plus n r (turn 2 r) ∙ ap (plus (double n r)) (double-turn n 2 r)
 
 norm-frame : (gs : List Gate) (r : Ring) → norm gs r ≡ double (pcount gs) (norm (frame gs) r)
