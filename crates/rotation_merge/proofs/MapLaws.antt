@@ -72,7 +72,7 @@ pub gathers_phase : (w : Wires) (T : ℕ → ℕ) (old new : Totals) (l : Label)
     new.constant % 8 ≡ (old.constant + constant_phase (label_of l) k) % 8 → HasTotals old T → Gathers (P k q) w T old new
 gathers_phase w T old new l k q e f c d h = record {
   totals = subst (λ (U : ℕ → ℕ). HasTotals new U) (λ i. with_total ((e i).variables) ((had i + signed_phase (e i) k) % 8) T)
-  (HasTotals-changed old new l.variables.items ((total_in old l.variables.items + signed_phase (label_of l) k) % 8) T f (below (total_in old l.variables.items + signed_phase (label_of l) k)) c h);
+      (HasTotals-changed old new l.variables.items ((total_in old l.variables.items + signed_phase (label_of l) k) % 8) T f (below (total_in old l.variables.items + signed_phase (label_of l) k)) c h);
   constant = d ∙ (λ i. (old.constant + constant_phase (e i) k) % 8);
 }
   where

@@ -11,13 +11,11 @@ use Rattle.std.proofs.Common.{◌≡◌, ◌≢◌, ℕ, ◌+◌, ◌-◌, ◌%�
 use Rattle.std.specs.Prelude.{nat_eq}
 use Rattle.std.proofs.lemmas.Bool.Decides.{nat_tests}
 use Rattle.std.proofs.lemmas.Bool.{cases_lt}
-use Rattle.unitary_model.proofs.PathLaws.{par}
 use Rattle.path_parity.specs.PathSum.{PathLabel}
-use Rattle.path_parity.specs.OddLabels.{is_odd}
+use Rattle.path_parity.specs.OddLabels.{is_odd, IsOnce}
 use Rattle.path_parity.proofs.Totals.{total}
 use Rattle.path_parity.proofs.MergeSums.{signed, Eighths}
 use Rattle.path_parity.proofs.MarkLaws.{odd_marks}
-use Rattle.path_parity.proofs.OddLaws.{IsOnce, par-is_odd}
 use Rattle.rotation_merge.specs.Merging.{signed_phase, with_total}
 
 abbrev pub kept_mark : (PathLabel × ℕ) → (ℕ → ℕ) → List (PathLabel × ℕ)
@@ -136,7 +134,7 @@ once-kept (m ∷ ms) T = go (nat_eq (T (m.0).variables) 0) (once-kept ms (with_t
 
     more : (o : Bool) → IsOnce (odd_marks (kept_marks ms (with_total (m.0).variables 0 T))) →
         IsOnce (cond o ((m.0).variables ∷ odd_marks (kept_marks ms (with_total (m.0).variables 0 T))) (odd_marks (kept_marks ms (with_total (m.0).variables 0 T))))
-    more true r = (par-is_odd (m.0).variables (odd_marks (kept_marks ms (with_total (m.0).variables 0 T))) ∙ is_odd-kept (m.0).variables ms (with_total (m.0).variables 0 T) gone, r)
+    more true r = (is_odd-kept (m.0).variables ms (with_total (m.0).variables 0 T) gone, r)
     more false r = r
 
     go : (z : Bool) → IsOnce (odd_marks (kept_marks ms (with_total (m.0).variables 0 T))) →

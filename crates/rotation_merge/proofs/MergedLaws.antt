@@ -122,8 +122,11 @@ pub merged-short : (gs : List Gate) (w : Wires) (n : ℕ) (T : ℕ → ℕ) → 
 merged-short [] w n T = omega arith
 merged-short (H q ∷ gs) w n T = omega (arith, merged-short gs (with_label w q (fresh n)) (suc n) T)
 merged-short (X q ∷ gs) w n T = omega (arith, merged-short gs (with_label w q (flipped (w q))) n T)
-merged-short (P k q ∷ gs) w n T = omega (arith, merged-short gs w n (with_total (w q).variables 0 T),
-    at_most_one (nat_eq (T (w q).variables) 0) (P (signed_phase (w q) (T (w q).variables)) q) (merged_from gs w n (with_total (w q).variables 0 T)))
+merged-short (P k q ∷ gs) w n T = omega (
+  arith,
+  merged-short gs w n (with_total (w q).variables 0 T),
+  at_most_one (nat_eq (T (w q).variables) 0) (P (signed_phase (w q) (T (w q).variables)) q) (merged_from gs w n (with_total (w q).variables 0 T)),
+)
 merged-short (Cx c t ∷ gs) w n T = omega (arith, merged-short gs (with_label w t (add_labels (w t) (w c))) n T)
 
 pub merged-gone : (s : ℕ) (gs : List Gate) (w : Wires) (n : ℕ) (T : ℕ → ℕ) → T s ≡ 0 → has s (marks gs w n) ≡ true → length (merged_from gs w n T) < length gs
@@ -204,8 +207,11 @@ merged-same (P k q ∷ gs) w n m T f h = go (has (w q).variables (marks gs w n))
 
     go : (b : Bool) → has (w q).variables (marks gs w n) ≡ b → (HasAll gs w n (with_total (w q).variables 0 T) → IsSmallerOrSame gs (merged_from gs w n (with_total (w q).variables 0 T))) →
         IsSmallerOrSame (P k q ∷ gs) (kept_phase (w q) (T (w q).variables) q ++ merged_from gs w n (with_total (w q).variables 0 T))
-    go true e r = inl (omega (arith, merged-gone (w q).variables gs w n (with_total (w q).variables 0 T) nothing e,
-        at_most_one (nat_eq (T (w q).variables) 0) (P (signed_phase (w q) (T (w q).variables)) q) (merged_from gs w n (with_total (w q).variables 0 T))))
+    go true e r = inl (omega (
+      arith,
+      merged-gone (w q).variables gs w n (with_total (w q).variables 0 T) nothing e,
+      at_most_one (nat_eq (T (w q).variables) 0) (P (signed_phase (w q) (T (w q).variables)) q) (merged_from gs w n (with_total (w q).variables 0 T)),
+    ))
     go false e r = stays (w q) k q (T (w q).variables) gs (merged_from gs w n (with_total (w q).variables 0 T)) f.0.1.0 f.0.1.1
         (h (w q).variables ∙ alone_total (nat_eq (w q).variables (w q).variables) (signed_phase (w q) k) (total (w q).variables (signed (marks gs w n)))
         (own (w q).variables) (signed_small (w q) k f.0.1.0 f.0.1.1) (total-has (w q).variables (marks gs w n) e))

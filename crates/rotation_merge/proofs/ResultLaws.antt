@@ -19,12 +19,12 @@ use Rattle.circuit_list.specs.declared.Gate.TheVariants.{H, X, P, Cx}
 use Rattle.circuit_list.specs.declared.Passed.{Passed}
 use Rattle.circuit_list.specs.Gates.{IsFine, ops}
 use Rattle.path_parity.specs.PathSum.{PathLabel, own_labels}
-use Rattle.path_parity.specs.OddLabels.{is_odd, odd_size, toggled_all}
+use Rattle.path_parity.specs.OddLabels.{is_odd, IsOnce}
 use Rattle.path_parity.proofs.Totals.{total}
 use Rattle.path_parity.proofs.MergeLaws.{marks, frame, start}
 use Rattle.path_parity.proofs.MergeSums.{signed, constant, Eighths, merge_pass_law}
 use Rattle.path_parity.proofs.MarkLaws.{AreFine, fine_from_all, marks-start, odd_marks, odd_paths-marks, t_count-marks, marks-eighths}
-use Rattle.path_parity.proofs.OddLaws.{par_from_odd, odd_size-same, odd_size-shortest, shortest, par-toggled_all, IsOnce}
+use Rattle.path_parity.proofs.OddLaws.{par_from_odd, odd_size-same, odd_size-once}
 use Rattle.rewrite_pass.specs.Law.{IsRewriting, IsSmallerOrSame}
 use Rattle.rewrite_pass.proofs.RewritingLaws.{Turned, Turned-IsRewriting}
 use Rattle.rotation_merge.specs.Merging.{totals_of, merged, constant_of}
@@ -73,16 +73,10 @@ result-odd_paths n gs f =
         ∙ ap (λ k. nat_eq k 1) (halves (total s (signed (own_marks n (merged n gs)))) (total s (signed (own_marks n gs))) (total-result n gs s))
         ∙ sym (is_odd-total s (own_marks n gs) (marks-eighths gs n n (own_labels n) f))
 
-once-size : (ls : List ℕ) → IsOnce ls → length ls ≡ odd_size ls
-once-size ls h =
-    let a : length ls ≤ odd_size ls = shortest ls (toggled_all ls []) h (sym (par-toggled_all ls)) in
-    let b : odd_size ls ≤ length ls = odd_size-shortest ls ls refl in
-    omega arith
-
 pub result-shape : (n : ℕ) (gs : List Gate) → t_count (ops (merged n gs)) ≡ odd_paths n (ops (merged n gs))
 result-shape n gs =
     t_count-marks (merged n gs) (own_labels n) n
-    ∙ once-size (odd_marks (own_marks n (merged n gs))) (subst (λ ms. IsOnce (odd_marks ms)) (sym (marks-result n gs)) (once-kept (own_marks n gs) (totals_of n gs)))
+    ∙ sym (odd_size-once (odd_marks (own_marks n (merged n gs))) (subst (λ ms. IsOnce (odd_marks ms)) (sym (marks-result n gs)) (once-kept (own_marks n gs) (totals_of n gs))))
     ∙ sym (odd_paths-marks (merged n gs) n)
 
 -- ---- CNOTs

@@ -120,8 +120,8 @@ writing-more n gs i g walk walk' t t' b b' there p same put h =
       so_far = left;
       has = step.totals;
       gates = (λ j. step.gates j ++ merged_from rest (p.labels j) (p.unused j) left)
-      ∙ append_assoc b.gates (merged_gate g w T) (merged_from rest (labels_after g w u) (unused_after g u) left)
-      ∙ sym (λ j. b.gates ++ merged_from (next_gate gs i g there j) w u T) ∙ h.gates;
+          ∙ append_assoc b.gates (merged_gate g w T) (merged_from rest (labels_after g w u) (unused_after g u) left)
+          ∙ sym (λ j. b.gates ++ merged_from (next_gate gs i g there j) w u T) ∙ h.gates;
       constant = omega (arith, first, later, step.constant, h.constant);
     }
 

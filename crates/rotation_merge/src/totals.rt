@@ -66,7 +66,12 @@ impl Totals {
     }
 
     /// Writes what is left of the total of this label's set as a phase on a wire with this label.
-    fn write_phase(&mut self, written: &mut Circuit, label: &Label, q: u32) -> Result<(), AllocError>
+    fn write_phase(
+        &mut self,
+        written: &mut Circuit,
+        label: &Label,
+        q: u32,
+    ) -> Result<(), AllocError>
         requires there { q < written.old.wires }
         requires small { total_in self.old label.now.variables.items < 8 }
         ensures wires { written.new.wires ≡ written.old.wires }
@@ -97,7 +102,12 @@ impl Totals {
     }
 
     /// Writes what is left at a gate, where the walk has come to it.
-    pub fn write(&mut self, written: &mut Circuit, walk: &Walk, gate: Gate) -> Result<(), AllocError>
+    pub fn write(
+        &mut self,
+        written: &mut Circuit,
+        walk: &Walk,
+        gate: Gate,
+    ) -> Result<(), AllocError>
         requires fine { IsFine written.old.wires gate }
         requires wires { length walk.now.labels ≡ written.old.wires }
         requires small { AreSmall self.old }

@@ -1,7 +1,7 @@
--- The walk begins and goes on.
-use Rattle.std.proofs.Common.{◌∙◌, ap}
+-- The walk begins, goes on, and ends.
+use Rattle.std.proofs.Common.{◌∙◌, ap, arith}
 use Rattle.path_parity.specs.PathSum.{own_labels}
-use Rattle.rotation_merge.proofs.RunLaws.{gathering-start, gathering-more}
+use Rattle.rotation_merge.proofs.RunLaws.{gathering-start, gathering-more, gathering-end}
 use Rattle.rotation_merge.proofs.gathered.Goals as goal
 
 pub gates-init : goal.gates-init
@@ -17,3 +17,9 @@ pub gates-preserved : goal.gates-preserved
 gates-preserved c = gathering-more c.args.body.now.wires c.args.body.now.gates c.gates.i c.gate-gate.result c.gates.walk c.pass.new.self c.gates.totals c.gather.new.self c.gate-gate.ensures.there
     (record { wires = c.in_ok-pass.ensures.wires; labels = c.in_ok-pass.ensures.labels; unused = c.in_ok-pass.ensures.unused })
     c.in_ok-gather.ensures c.gates.invariant
+
+pub returns-clause-totals : goal.returns-clause-totals
+returns-clause-totals c = (gathering-end c.args.body.now.wires c.args.body.now.gates c.gates.i c.gates.walk c.gates.totals (omega arith) c.gates.invariant).0
+
+pub returns-clause-constant : goal.returns-clause-constant
+returns-clause-constant c = (gathering-end c.args.body.now.wires c.args.body.now.gates c.gates.i c.gates.walk c.gates.totals (omega arith) c.gates.invariant).1
