@@ -1,0 +1,13 @@
+-- A phase was added.
+use Rattle.std.proofs.Common.{sym, subst}
+use Rattle.circuit_list.specs.declared.Gate.{Gate}
+use Rattle.path_parity.specs.LabelWalks.{labels_at}
+use Rattle.rotation_merge.specs.Sums.{Gathers}
+use Rattle.rotation_merge.proofs.MapLaws.{gathers_phase}
+use Rattle.rotation_merge.proofs.totals.Totals.gather.Goals as goal
+
+pub returns-in_ok-add_phase-in-P : goal.returns-in_ok-add_phase-in-P
+returns-in_ok-add_phase-in-P c = λ T h.
+    subst (λ (g : Gate). Gathers g (labels_at c.args.walk.now) T c.args.self.now c.add_phase.new.self) (sym c.in-P.is)
+    (gathers_phase (labels_at c.args.walk.now) T c.args.self.now c.add_phase.new.self c.label.result.now c.in-P.k c.in-P.q c.label.ensures.label c.label.ensures.increasing
+    c.in_ok-add_phase-in-P.ensures.total c.in_ok-add_phase-in-P.ensures.constant h)

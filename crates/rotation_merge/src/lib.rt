@@ -1,0 +1,84 @@
+//! Rotation merging: the phases of one set of path variables become one.
+//!
+//! In goes a circuit; out comes one with at most one phase for each set of path variables, and its turn. The contract is
+//! that of a pass (`rewrite_pass`): the circuit is the same up to w^turn, with no more T gates, CNOTs and odd path parities;
+//! it takes exactly as many T gates as it has odd path parities; and either it has fewer gates, or it is what went in.
+//!
+//! A circuit is always fine, so nothing is refused: the only error is want of memory. A CNOT and a phase take time and
+//! memory in the number of path variables of their wires, and each other gate takes the time to put one in.
+#![tactic(auto)]
+
+#[cfg(test)]
+mod tests;
+mod totals;
+
+ghost use Rattle.std.specs.Prelude.{◌≡◌, ℕ, ◌%◌, List, All, IfOk};
+ghost use Rattle.circuit_list.specs.declared.Gate.{Gate};
+ghost use Rattle.circuit_list.specs.Gates.{IsFine, ops};
+ghost use Rattle.rewrite_pass.specs.Law.{IsSmallerOrSame};
+ghost use Rattle.rotation_merge.specs.Merging.{constant_of, totals_of};
+ghost use Rattle.rotation_merge.specs.Sums.{HasTotals, IsMerged};
+ghost use Rattle.unitary_model.specs.Operations.{t_count};
+ghost use Rattle.unitary_model.specs.OddPaths.{odd_paths};
+
+use circuit_list::{Circuit, Passed};
+use path_parity::Walk;
+use rewrite_pass::{Pass, Shrinks};
+use std::alloc::{AllocError, Global};
+use totals::Totals;
+
+/// Rotation merging (Nam et al. 2018, section 4.4; VOQC; Amy, Maslov and Mosca 2014). Each phase has the label of its wire: a set
+/// of path variables and a complement bit. Of the phases with one set the first takes the total, in units of pi/4 modulo 8, and
+/// the others go; it goes too where the total is 0. A phase whose bit is set counts inverted, and its angle goes to the turn.
+pub struct MergePass;
+
+impl Pass for MergePass {
+    ghost shape = { λ n gates. t_count (ops gates) ≡ odd_paths n (ops gates) };
+
+    ghost kept = { λ _ old new. IsSmallerOrSame old new };
+
+    fn run(&self, alloc: Global, body: Circuit) -> Result<Passed, AllocError> {
+        let totals = gathered(alloc, &body)?;
+        rewritten(alloc, &body, totals)
+    }
+}
+
+impl Shrinks for MergePass {
+    ghost shrinks = { λ _ _ _ holds. holds };
+}
+
+/// The totals of a circuit.
+fn gathered(alloc: Global, body: &Circuit) -> Result<Totals, AllocError>
+    ensures totals { IfOk result (λ t. HasTotals t (totals_of body.now.wires body.now.gates)) }
+    ensures constant { IfOk result (λ t. t.constant % 8 ≡ constant_of body.now.wires body.now.gates % 8) }
+{
+    let mut walk = Walk::new(alloc, body.wires())?;
+    let mut totals = Totals::new(alloc);
+    'gates: for i in 0..body.len() {
+        let gate = body.gate(i);
+        totals.gather(alloc, &walk, gate)?;
+        walk.pass(alloc, gate)?;
+    }
+    Ok(totals)
+}
+
+/// The circuit with its totals in the place of its phases.
+fn rewritten(alloc: Global, body: &Circuit, mut totals: Totals) -> Result<Passed, AllocError>
+    requires totals { HasTotals totals (totals_of body.now.wires body.now.gates) }
+    requires constant { totals.constant % 8 ≡ constant_of body.now.wires body.now.gates % 8 }
+    ensures fine { All (IsFine body.now.wires) body.now.gates }
+    ensures merged { IfOk result (IsMerged body.now.wires body.now.gates) }
+{
+    let mut walk = Walk::new(alloc, body.wires())?;
+    let mut written = Circuit::empty(alloc, body.wires())?;
+    'gates: for i in 0..body.len() {
+        let gate = body.gate(i);
+        totals.write(&mut written, &walk, gate)?;
+        walk.pass(alloc, gate)?;
+    }
+    let turn = (8 - totals.constant % 8) % 8;
+    Ok(Passed {
+        body: written,
+        turn,
+    })
+}
