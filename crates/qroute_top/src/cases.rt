@@ -137,17 +137,7 @@ pub fn stop(alloc: Global, rt: &impl Abort, rows: &[Stopped<'_>]) -> Result<(), 
 /// Texts that `opt` writes with these lines behind the heading, and the phase that it reports.
 pub fn optimise(alloc: Global, rt: &impl Abort, rows: &[(&str, &str, u8)]) -> Result<(), Fail> {
     for (text, written, phase) in rows {
-        let text = headed(alloc, text)?;
-        let got = run_case(
-            alloc,
-            Case {
-                words: &OPT,
-                text: &text,
-                device: "",
-                fails: [0, 1, 0, 0],
-            },
-        )?;
-        assert_eq!(rt; got.status, 0, "{written}");
+        let got = optimised(alloc, rt, text)?;
         assert_eq!(rt;
             got.out.as_slice(),
             headed(alloc, written)?.as_slice(),
@@ -160,6 +150,35 @@ pub fn optimise(alloc: Global, rt: &impl Abort, rows: &[(&str, &str, u8)]) -> Re
         );
     }
     Ok(())
+}
+
+/// Texts, and the T gates that `opt` leaves of each.
+pub fn count_t(alloc: Global, rt: &impl Abort, rows: &[(&str, u64)]) -> Result<(), Fail> {
+    for (text, left) in rows {
+        let got = optimised(alloc, rt, text)?;
+        let told = String::from_utf8(got.report).expect(rt, "a report in UTF-8");
+        assert!(rt;
+            told.contains(&format!(in alloc; "\"t_after\":{left},")?),
+            "{told}"
+        );
+    }
+    Ok(())
+}
+
+/// What `opt` makes of a text that it accepts. No device is loaded.
+fn optimised(alloc: Global, rt: &impl Abort, text: &str) -> Result<Outcome, Fail> {
+    let text = headed(alloc, text)?;
+    let got = run_case(
+        alloc,
+        Case {
+            words: &OPT,
+            text: &text,
+            device: "",
+            fails: [0, 1, 0, 0],
+        },
+    )?;
+    assert_eq!(rt; got.status, 0);
+    Ok(got)
 }
 
 /// Texts that each command on a program refuses, and the line that tells why.

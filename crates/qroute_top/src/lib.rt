@@ -145,6 +145,8 @@ mod cases;
 #[cfg(test)]
 mod check_tests;
 #[cfg(test)]
+mod literature_tests;
+#[cfg(test)]
 mod opt_tests;
 #[cfg(test)]
 mod route_tests;
