@@ -7,14 +7,13 @@
 --     AreBegun-recalled, answer_recalled  operations of a call that is remembered
 --     AreBegun-ended, answer_ended, kept_ended    a body at its end, which is a call that can be kept
 --     some_room               each call has room
-use Rattle.std.proofs.Common.{◌≡◌, ℕ, ◌+◌, ◌*◌, ◌<◌, ◌≤◌, List, [], ◌∷◌, ◌++◌, length, refl, sym, ◌∙◌, ap, subst, arith, Ok, Err, IfSome, Option, Some, None, append-nil, drop, map, slice_get, take}
+use Rattle.std.proofs.Common.{◌≡◌, ℕ, ◌+◌, ◌*◌, ◌<◌, ◌≤◌, List, [], ◌∷◌, ◌++◌, length, refl, sym, ◌∙◌, ap, subst, arith, Ok, IfSome, Option, Some, None, append-nil, drop, map, slice_get, take}
 use Rattle.unitary_model.specs.declared.Op.{Op}
 use Rattle.gate_library.specs.Gates.{Gate, u, cx, opaque, composed}
 use Rattle.gate_library.specs.Views.{item as item_view}
-use Rattle.gate_library.specs.declared.gate.Item.{Item as CodeItem}
 use Rattle.gate_inline.specs.Frames.{body_answer, call_answer, frame_answer, frames_answer, one_frame}
 use Rattle.gate_inline.specs.Meanings.{Answer, followed, item_answer, joined, meaning_at, meanings}
-use Rattle.gate_inline.specs.Remembered.{AreBegun, IsBegun, IsKept, IsPart, frame_meaning, part}
+use Rattle.gate_inline.specs.Remembered.{AreBegun, IsBegun, IsPart, frame_meaning}
 use Rattle.gate_inline.specs.Sizes.{gate_size, size_at, sizes}
 use Rattle.gate_inline.specs.declared.body.Call.{Call}
 use Rattle.gate_inline.specs.declared.body.Frame.{Frame}
@@ -24,7 +23,7 @@ use Rattle.gate_inline.proofs.KeptLaws.{drop-more, part-whole, within-more}
 
 -- ---- what an answer after an operation is
 same_begun : (gates : List Gate) (us : List Op) (a b : Answer) (f : Frame) → a ≡ b → IsBegun gates us a f → IsBegun gates us b f
-same_begun gates us a b f e h = record { within = h.within; same = ap (followed (Ok (drop f.start us))) (sym e) ∙ h.same; }
+same_begun gates us a b f e h = record { within = h.within; same = ap (followed (Ok (drop f.start us))) (sym e) ∙ h.same }
 
 pub AreBegun-same : (gates : List Gate) (us : List Op) (a b : Answer) (fs : List Frame) → a ≡ b → AreBegun gates us a fs → AreBegun gates us b fs
 AreBegun-same gates us a b fs e h = subst (λ (x : Answer). AreBegun gates us x fs) e h
@@ -36,9 +35,9 @@ pub AreBegun-push : (gates : List Gate) (us : List Op) (a : Answer) (fs : List F
 AreBegun-push gates us a [] f h g = (same_begun gates us _ _ f (ap (followed a) (sym (nil-followed (frame_answer gates f)))) g, tt)
 AreBegun-push gates us a (x ∷ fs) f h g = (
   same_begun gates us _ _ x
-  (followed-followed a (frame_answer gates f) (frames_answer gates (x ∷ fs))
-  ∙ ap (followed a) (sym (frames_answer-push gates (x ∷ fs) f)))
-  h.0,
+      (followed-followed a (frame_answer gates f) (frames_answer gates (x ∷ fs))
+      ∙ ap (followed a) (sym (frames_answer-push gates (x ∷ fs) f)))
+      h.0,
   AreBegun-push gates us a fs f h.1 g,
 )
 
@@ -47,9 +46,9 @@ pub AreBegun-front : (gates : List Gate) (us : List Op) (a : Answer) (fs : List 
 AreBegun-front gates us a [] f h = tt
 AreBegun-front gates us a (x ∷ fs) f h = (
   same_begun gates us _ _ x
-  (ap (followed a) (frames_answer-push gates (x ∷ fs) f)
-  ∙ sym (followed-followed a (frame_answer gates f) (frames_answer gates (x ∷ fs))))
-  h.0,
+      (ap (followed a) (frames_answer-push gates (x ∷ fs) f)
+      ∙ sym (followed-followed a (frame_answer gates f) (frames_answer gates (x ∷ fs))))
+      h.0,
   AreBegun-front gates us a fs f h.1,
 )
 
@@ -72,7 +71,7 @@ pub AreBegun-written : (gates : List Gate) (us ops : List Op) (a : Answer) (fs :
 AreBegun-written gates us ops a [] h = tt
 AreBegun-written gates us ops a (f ∷ fs) h = (
   written gates us ops (followed a (frames_answer gates (f ∷ fs))) f
-  (same_begun gates us _ _ f (followed-followed (Ok ops) a (frames_answer gates (f ∷ fs))) h.0),
+      (same_begun gates us _ _ f (followed-followed (Ok ops) a (frames_answer gates (f ∷ fs))) h.0),
   AreBegun-written gates us ops a fs h.1,
 )
 
@@ -134,7 +133,7 @@ pub AreBegun-line : (gates : List Gate) (us : List Op) (A C : Answer) (fs : List
     g.start ≡ f.start → frame_meaning gates g ≡ frame_meaning gates f → AreBegun gates us (Ok []) (fs ++ f ∷ []) → AreBegun gates us C (fs ++ g ∷ [])
 AreBegun-line gates us A C fs f g e a s m h =
     let same : followed (Ok []) (frame_answer gates f) ≡ followed C (frame_answer gates g) =
-        nil-followed (frame_answer gates f) ∙ e ∙ ap (λ x. followed x (frame_answer gates g)) a in
+    nil-followed (frame_answer gates f) ∙ e ∙ ap (λ x. followed x (frame_answer gates g)) a in
     let last = AreBegun-last gates us (Ok []) fs f h in
     AreBegun-push gates us C fs g (AreBegun-same gates us _ _ fs same (AreBegun-front gates us (Ok []) fs f h))
     (record {

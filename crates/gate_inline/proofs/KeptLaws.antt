@@ -3,14 +3,14 @@
 --     part-more, AreKept-more     what is written later changes no part
 --     part-whole              a part up to the end
 --     quiet                   a gate without operations is the same on all wires
-use Rattle.std.proofs.Common.{◌≡◌, ℕ, zero, suc, ◌+◌, ◌-◌, ◌<◌, ◌≤◌, List, [], ◌∷◌, ◌++◌, All, length, refl, sym, ◌∙◌, ap, subst, arith, Ok, Err, Option, Some, None, drop, map, min, slice_get, take, unwrap_or}
+use Rattle.std.proofs.Common.{◌≡◌, ℕ, zero, suc, ◌+◌, ◌-◌, ◌<◌, ◌≤◌, List, [], ◌∷◌, ◌++◌, length, refl, sym, ◌∙◌, ap, subst, arith, Ok, Option, Some, None, drop, map, min, slice_get, take, unwrap_or}
 use Rattle.std.specs.Option.{option_map}
 use Rattle.angle_fraction.specs.declared.Angle.{Angle}
 use Rattle.unitary_model.specs.declared.Op.{Op}
 use Rattle.gate_library.specs.Gates.{Gate, Item, call, barrier, u, cx, opaque, composed}
 use Rattle.gate_inline.specs.Capped.{capped, most}
-use Rattle.gate_inline.specs.Meanings.{Answer, Meaning, body_answer, followed, gate_meaning, item_answer, joined, meaning_at, meanings, no_meaning, unvalued, wire_of}
-use Rattle.gate_inline.specs.Remembered.{AreKept, IsKept, IsKeptPlace, IsPart, part}
+use Rattle.gate_inline.specs.Meanings.{Answer, Meaning, body_answer, followed, gate_meaning, item_answer, meaning_at, meanings, no_meaning, unvalued, wire_of}
+use Rattle.gate_inline.specs.Remembered.{AreKept, IsKeptPlace, IsPart, part}
 use Rattle.gate_inline.specs.Sizes.{gate_size, item_size, size, size_all, size_at, sizes}
 use Rattle.gate_inline.specs.Values.{and_next, values}
 use Rattle.gate_inline.specs.declared.memo.Kept.{Kept}
@@ -131,7 +131,7 @@ quiet_none : (gates : List Gate) (i : ℕ) (angles : List Angle) (ws vs : List �
     meaning_at (meanings gates) i angles ws ≡ meaning_at (meanings gates) i angles vs
 quiet_none gates i angles ws vs s =
     let p : meaning_at (meanings gates) i ≡ no_meaning =
-        ap (λ o. unwrap_or o no_meaning) (in_order-get gate_meaning gates i ∙ ap (option_map (gate_meaning (meanings (take i gates)))) s) in
+    ap (λ o. unwrap_or o no_meaning) (in_order-get gate_meaning gates i ∙ ap (option_map (gate_meaning (meanings (take i gates)))) s) in
     ap (λ (m : Meaning). m angles ws) p ∙ sym (ap (λ (m : Meaning). m angles vs) p)
 
 quiet_some : (gates : List Gate) (i : ℕ) (angles : List Angle) (ws vs : List ℕ) (g : Gate) → slice_get gates i ≡ Some g →
@@ -139,9 +139,9 @@ quiet_some : (gates : List Gate) (i : ℕ) (angles : List Angle) (ws vs : List �
     (size_at (sizes gates) i).operations ≡ 0 → meaning_at (meanings gates) i angles ws ≡ meaning_at (meanings gates) i angles vs
 quiet_some gates i angles ws vs g s f e =
     let p : meaning_at (meanings gates) i ≡ gate_meaning (meanings (take i gates)) g =
-        ap (λ o. unwrap_or o no_meaning) (in_order-get gate_meaning gates i ∙ ap (option_map (gate_meaning (meanings (take i gates)))) s) in
+    ap (λ o. unwrap_or o no_meaning) (in_order-get gate_meaning gates i ∙ ap (option_map (gate_meaning (meanings (take i gates)))) s) in
     let q : size_at (sizes gates) i ≡ gate_size (sizes (take i gates)) g =
-        ap (λ o. unwrap_or o (size 0 1)) (in_order-get gate_size gates i ∙ ap (option_map (gate_size (sizes (take i gates)))) s) in
+    ap (λ o. unwrap_or o (size 0 1)) (in_order-get gate_size gates i ∙ ap (option_map (gate_size (sizes (take i gates)))) s) in
     ap (λ (m : Meaning). m angles ws) p
     ∙ quiet_gate (meanings (take i gates)) (sizes (take i gates)) f g angles ws vs (sym (ap (λ (z : Size). z.operations) q) ∙ e)
     ∙ sym (ap (λ (m : Meaning). m angles vs) p)

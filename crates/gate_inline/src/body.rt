@@ -122,12 +122,7 @@ struct Entered<'a> {
 }
 
 /// What a call of one of the first `below` gates comes to, where so many operations are written.
-fn enter<'a>(
-    gates: &'a [Gate],
-    below: usize,
-    call: Call,
-    start: usize,
-) -> Result<Entered<'a>, Stop>
+fn enter<'a>(gates: &'a [Gate], below: usize, call: Call, start: usize) -> Result<Entered<'a>, Stop>
     ensures ok { IfOk result (λ e. call_answer (map gate_view gates.now) below call ≡ entered_answer (map gate_view gates.now) e) }
     ensures err { IfErr result (IsStop (call_answer (map gate_view gates.now) below call)) }
     ensures begun { IfOk result (λ e. IfSome e.body (λ f. (f.start ≡ start) × (frame_meaning (map gate_view gates.now) f ≡ call_answer (map gate_view gates.now) below call))) }

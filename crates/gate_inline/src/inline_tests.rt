@@ -245,8 +245,20 @@ fn nests(rt: HostRuntime) -> Result<(), Fail> {
         ("w(1/(x0-13)) a; ", 12, 20, "x0+1", "|"),
         ("w(1/(x0-12)) a; ", 12, 20, "x0+1", "code 41 at 16"),
         // operations
-        ("U(x0*pi/4,0,0) a; ", 3, 20, "x0", "100.0 100.0 100.0 100.0 |"),
-        ("U(x0*pi/4,0,0) a; ", 3, 20, "x0+1", "100.0 200.0 200.0 300.0 |"),
+        (
+            "U(x0*pi/4,0,0) a; ",
+            3,
+            20,
+            "x0",
+            "100.0 100.0 100.0 100.0 |",
+        ),
+        (
+            "U(x0*pi/4,0,0) a; ",
+            3,
+            20,
+            "x0+1",
+            "100.0 200.0 200.0 300.0 |",
+        ),
     ];
     for (bottom, gates, params, other, wanted) in rows {
         let text = nest(alloc, bottom, gates, params, other)?;

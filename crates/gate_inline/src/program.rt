@@ -99,7 +99,9 @@ fn write_step(
             angles,
             operands,
         } => match values(alloc, &[], angles) {
-            Ok(angles) => write_broadcast(alloc, gates, sizes, *gate, &angles, operands, memo, list),
+            Ok(angles) => write_broadcast(
+                alloc, gates, sizes, *gate, &angles, operands, memo, list,
+            ),
             Err(stop) => Err(stop),
         },
         Step::Measure { qubit: _, bit: _ } | Step::Barrier { operands: _ } | Step::Nothing => Ok(

@@ -1,9 +1,9 @@
 -- One line of a body: its operations, those of the rest, and those that wait.
-use Rattle.std.proofs.Common.{◌≡◌, ◌+◌, ◌*◌, List, [], map, sym, subst, ap, ◌∙◌, Ok, Some, take, refl, ℕ}
+use Rattle.std.proofs.Common.{◌+◌, ◌*◌, List, [], map, sym, subst, ap, ◌∙◌, Ok, take, refl, ℕ}
 use Rattle.std.proofs.lemmas.Result.{err_from_is_err_and}
 use Rattle.angle_fraction.specs.declared.Angle.{Angle}
 use Rattle.gate_library.specs.Views.{gate as gate_view, item as item_view}
-use Rattle.gate_inline.specs.Frames.{asked_answer, asked_size, call_answer, frame_answer, frame_room, frames_room}
+use Rattle.gate_inline.specs.Frames.{asked_answer, asked_size, call_answer, frame_answer, frames_room}
 use Rattle.gate_inline.specs.Meanings.{item_answer, joined, meanings}
 use Rattle.gate_inline.specs.Sizes.{item_size, size_all, size_at, sizes}
 use Rattle.gate_inline.specs.Remembered.{AreBegun}
@@ -43,7 +43,7 @@ pub returns-in_default-call-clause-ok : goal.returns-in_default-call-clause-ok
 returns-in_default-call-clause-ok c =
     let gs = map gate_view c.args.gates.now in
     let f = c.args.frame in
-    let g : Frame = record { own = f.own; start = f.start; rest = c.in-Some.rest; angles = f.angles; wires = f.wires; } in
+    let g : Frame = record { own = f.own; start = f.start; rest = c.in-Some.rest; angles = f.angles; wires = f.wires } in
     let ms = meanings (take f.own gs) in
     let answer = λ (angles : List Angle) (wires : List ℕ). item_answer ms angles wires (item_view c.in-Some.item.now) in
     let line = frame_answer-cons gs f c.in-Some.item.now c.in-Some.rest.now c.in-Some.ensures in
@@ -54,7 +54,7 @@ pub returns-in_default-call-clause-begun : goal.returns-in_default-call-clause-b
 returns-in_default-call-clause-begun c =
     let gs = map gate_view c.args.gates.now in
     let f = c.args.frame in
-    let g : Frame = record { own = f.own; start = f.start; rest = c.in-Some.rest; angles = f.angles; wires = f.wires; } in
+    let g : Frame = record { own = f.own; start = f.start; rest = c.in-Some.rest; angles = f.angles; wires = f.wires } in
     let ms = meanings (take f.own gs) in
     let answer = λ (angles : List Angle) (wires : List ℕ). item_answer ms angles wires (item_view c.in-Some.item.now) in
     let line = frame_answer-cons gs f c.in-Some.item.now c.in-Some.rest.now c.in-Some.ensures in
@@ -66,7 +66,7 @@ pub returns-in_default-call-clause-room : goal.returns-in_default-call-clause-ro
 returns-in_default-call-clause-room c =
     let gs = map gate_view c.args.gates.now in
     let f = c.args.frame in
-    let g : Frame = record { own = f.own; start = f.start; rest = c.in-Some.rest; angles = f.angles; wires = f.wires; } in
+    let g : Frame = record { own = f.own; start = f.start; rest = c.in-Some.rest; angles = f.angles; wires = f.wires } in
     let ss = sizes (take f.own gs) in
     room_line_none _ _ _ _ (size_all (map (item_size ss) (map item_view c.in-Some.rest.now))).items
     (ap (frames_room gs) c.in_ok-push.ensures.items ∙ frames_room-push gs c.args.frames.now.items g)
@@ -77,7 +77,7 @@ pub apply-requires-clause-begun : goal.apply-requires-clause-begun
 apply-requires-clause-begun c =
     let gs = map gate_view c.args.gates.now in
     let f = c.args.frame in
-    let g : Frame = record { own = f.own; start = f.start; rest = c.in-Some.rest; angles = f.angles; wires = f.wires; } in
+    let g : Frame = record { own = f.own; start = f.start; rest = c.in-Some.rest; angles = f.angles; wires = f.wires } in
     let ms = meanings (take f.own gs) in
     let answer = λ (angles : List Angle) (wires : List ℕ). item_answer ms angles wires (item_view c.in-Some.item.now) in
     let line = frame_answer-cons gs f c.in-Some.item.now c.in-Some.rest.now c.in-Some.ensures in
@@ -89,7 +89,7 @@ pub returns-clause-ok : goal.returns-clause-ok
 returns-clause-ok c =
     let gs = map gate_view c.args.gates.now in
     let f = c.args.frame in
-    let g : Frame = record { own = f.own; start = f.start; rest = c.in-Some.rest; angles = f.angles; wires = f.wires; } in
+    let g : Frame = record { own = f.own; start = f.start; rest = c.in-Some.rest; angles = f.angles; wires = f.wires } in
     let ms = meanings (take f.own gs) in
     let answer = λ (angles : List Angle) (wires : List ℕ). item_answer ms angles wires (item_view c.in-Some.item.now) in
     let line = frame_answer-cons gs f c.in-Some.item.now c.in-Some.rest.now c.in-Some.ensures in
@@ -101,7 +101,7 @@ pub returns-clause-room : goal.returns-clause-room
 returns-clause-room c =
     let gs = map gate_view c.args.gates.now in
     let f = c.args.frame in
-    let g : Frame = record { own = f.own; start = f.start; rest = c.in-Some.rest; angles = f.angles; wires = f.wires; } in
+    let g : Frame = record { own = f.own; start = f.start; rest = c.in-Some.rest; angles = f.angles; wires = f.wires } in
     let ss = sizes (take f.own gs) in
     let rest = (size_all (map (item_size ss) (map item_view c.in-Some.rest.now))).items in
     room_line _ _ _ _ (size_at ss c.in-Some-call.call.gate).items rest
@@ -114,7 +114,7 @@ pub returns-in_err-apply-clause-err : goal.returns-in_err-apply-clause-err
 returns-in_err-apply-clause-err c =
     let gs = map gate_view c.args.gates.now in
     let f = c.args.frame in
-    let g : Frame = record { own = f.own; start = f.start; rest = c.in-Some.rest; angles = f.angles; wires = f.wires; } in
+    let g : Frame = record { own = f.own; start = f.start; rest = c.in-Some.rest; angles = f.angles; wires = f.wires } in
     let ms = meanings (take f.own gs) in
     let answer = λ (angles : List Angle) (wires : List ℕ). item_answer ms angles wires (item_view c.in-Some.item.now) in
     let line = frame_answer-cons gs f c.in-Some.item.now c.in-Some.rest.now c.in-Some.ensures in

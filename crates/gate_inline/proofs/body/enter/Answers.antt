@@ -50,10 +50,10 @@ pub returns-in-Some-Composed-clause-begun : goal.returns-in-Some-Composed-clause
 returns-in-Some-Composed-clause-begun c = (
   refl,
   ap (λ (m : Meaning). m c.args.call.angles.items c.args.call.wires.items)
-  (meaning_at-called (map gate_view c.args.gates.now) c.args.below c.args.call.gate
-  (composed c.in-Some-Composed.field-0-0 c.in-Some-Composed.field-0-1 (map item_view c.deref-in-Some-Composed.result.now))
-  (sym c.in-Some-Composed.ensures ∙ ap (λ g. Some (gate_view g)) c.in-Some-Composed.field-0-is
-  ∙ ap (λ items. Some (composed c.in-Some-Composed.field-0-0 c.in-Some-Composed.field-0-1 (map item_view items))) (sym c.deref-in-Some-Composed.ensures.value))),
+      (meaning_at-called (map gate_view c.args.gates.now) c.args.below c.args.call.gate
+      (composed c.in-Some-Composed.field-0-0 c.in-Some-Composed.field-0-1 (map item_view c.deref-in-Some-Composed.result.now))
+      (sym c.in-Some-Composed.ensures ∙ ap (λ g. Some (gate_view g)) c.in-Some-Composed.field-0-is
+      ∙ ap (λ items. Some (composed c.in-Some-Composed.field-0-0 c.in-Some-Composed.field-0-1 (map item_view items))) (sym c.deref-in-Some-Composed.ensures.value))),
 )
 
 pub returns-in-Some-Composed-clause-room : goal.returns-in-Some-Composed-clause-room

@@ -1,5 +1,5 @@
 -- The first angles are the same, and there are as many.
-use Rattle.std.proofs.Common.{◌≡◌, length, take}
+use Rattle.std.proofs.Common.{◌≡◌, take}
 use Rattle.gate_inline.proofs.memo.are_same_angles.Given as goal
 
 abbrev pub invariant-angles : goal.invariant-angles

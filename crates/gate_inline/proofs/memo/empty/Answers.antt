@@ -1,5 +1,5 @@
 -- One more place without a call.
-use Rattle.std.proofs.Common.{◌∷◌, ◌++◌, List, Option, None, sym, subst}
+use Rattle.std.proofs.Common.{List, Option, None, sym, subst}
 use Rattle.std.proofs.lemmas.List.Elements.{All-push}
 use Rattle.gate_inline.specs.Remembered.{AreKept, IsKeptPlace}
 use Rattle.gate_inline.specs.declared.memo.Kept.{Kept}

@@ -9,8 +9,8 @@ use Rattle.gate_inline.proofs.ReadLaws.{holds_at}
 use Rattle.gate_inline.proofs.StepLaws.{more_operations, stopped_unwritten}
 use Rattle.gate_inline.proofs.program.operations.Goals as goal
 
-pub write_step-requires : goal.write_step-requires
-write_step-requires c =
+pub write_step-requires-clause-placed : goal.write_step-requires-clause-placed
+write_step-requires-clause-placed c =
     holds_at (IsPlaced 4294967296 4294967296) step_view c.args.steps.now c.requires.placed c.steps.i c.index-steps-i.result (omega arith) c.index-steps-i.is
 
 pub returns-in-Err-clause-err : goal.returns-in-Err-clause-err

@@ -12,7 +12,7 @@ use Rattle.gate_inline.proofs.program.write_broadcast.Goals as goal
 pub indices-init : goal.indices-init
 indices-init c =
     let m : ℕ → Answer = λ j. meaning_at (meanings (map gate_view c.args.gates.now)) c.args.gate c.args.angles.now (map (wire_there j) c.args.places.now) in
-    record { same = sym (ap (followed (Ok c.args.list.now.items)) (upto_none m) ∙ followed-nil (Ok c.args.list.now.items)); kept = c.requires.kept; }
+    record { same = sym (ap (followed (Ok c.args.list.now.items)) (upto_none m) ∙ followed-nil (Ok c.args.list.now.items)); kept = c.requires.kept }
 
 pub returns-in-Err-clause-err : goal.returns-in-Err-clause-err
 returns-in-Err-clause-err c =
