@@ -8,3 +8,5 @@ pub mod PlacedLaws
 pub mod LengthLaws
 pub mod OnceLaws
 pub mod ReadWires
+pub mod KeptLaws
+pub mod BegunLaws

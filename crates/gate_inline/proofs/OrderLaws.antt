@@ -54,7 +54,7 @@ take-take_less (suc i) zero xs h = absurd (omega arith)
 take-take_less (suc i) (suc n) [] h = refl
 take-take_less (suc i) (suc n) (x ∷ xs) h = ap (λ ys. x ∷ ys) (take-take_less i n xs (omega arith))
 
-get_take-within : {A : Type 0} (xs : List A) (n i : ℕ) (x : A) → slice_get (take n xs) i ≡ Some x → i < n
+pub get_take-within : {A : Type 0} (xs : List A) (n i : ℕ) (x : A) → slice_get (take n xs) i ≡ Some x → i < n
 get_take-within xs zero i x h = absurd (cc)
 get_take-within [] (suc n) i x h = absurd (cc)
 get_take-within (y ∷ xs) (suc n) zero x h = omega arith

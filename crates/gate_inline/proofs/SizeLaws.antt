@@ -80,7 +80,7 @@ next_sum v f xs i x s h e same =
     ∙ ap (λ ss. capped (size_all ss)) (sym spelt)
 
 -- ---- sizes by capped sizes
-size_at-capped : (ss : List Size) (i : ℕ) → size_at (map capped ss) i ≡ capped (size_at ss i)
+pub size_at-capped : (ss : List Size) (i : ℕ) → size_at (map capped ss) i ≡ capped (size_at ss i)
 size_at-capped ss i = ap (λ o. unwrap_or o (size 0 1)) (slice_get-map capped ss i) ∙ go (slice_get ss i)
   where
     go : (o : Option Size) → unwrap_or (option_map capped o) (size 0 1) ≡ capped (unwrap_or o (size 0 1))

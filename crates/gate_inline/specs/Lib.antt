@@ -7,5 +7,6 @@ pub mod Inlined
 pub mod Stops
 pub mod Placed
 pub mod Frames
+pub mod Remembered
 pub mod Registers
 pub mod Programs

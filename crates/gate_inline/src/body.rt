@@ -1,6 +1,6 @@
 //! Gates' bodies written out.
 
-ghost use Rattle.std.specs.Prelude.{◌≡◌, ◌+◌, ◌*◌, ◌<◌, ◌≤◌, [], ◌∷◌, ◌++◌, List, MatchOption, Ok, IfOk, IfErr, OnOk, map, slice_get, take};
+ghost use Rattle.std.specs.Prelude.{◌≡◌, ◌+◌, ◌*◌, ◌<◌, ◌≤◌, [], ◌∷◌, ◌++◌, List, MatchOption, Ok, IfOk, IfErr, IfSome, OnOk, length, map, slice_get, take};
 ghost use Rattle.std.specs.Option.{option_map};
 ghost use Rattle.gate_library.specs.Views.{gate as gate_view, item as item_view};
 ghost use Rattle.gate_inline.specs.declared.size.Size.{Size};
@@ -8,9 +8,13 @@ ghost use Rattle.gate_inline.specs.declared.stop.Stop.TheVariants.{NoMemory};
 ghost use Rattle.gate_inline.specs.Frames.{asked_answer, asked_size, body_answer, body_room, call_answer, entered_answer, frame_answer, frame_room, frames_answer, frames_room, one_frame};
 ghost use Rattle.gate_library.specs.Gates.{Gate as BoundGate};
 ghost use Rattle.gate_inline.specs.Meanings.{Meaning, controlled as controlled_of, followed, item_answer, meaning_at, meanings, one_op, rotation as rotation_of, wire_of as wire_there};
-ghost use Rattle.gate_inline.specs.Sizes.{item_size, size_at, sizes};
+ghost use Rattle.gate_inline.specs.Capped.{capped};
+ghost use Rattle.gate_inline.specs.Remembered.{AreBegun, AreKept, IsPart, frame_meaning, part};
+ghost use Rattle.gate_inline.specs.Sizes.{item_size, size_at, sizes as sizes_of};
 ghost use Rattle.gate_inline.specs.Stops.{IsStop};
 
+use crate::memo::{Kept, Memo};
+use crate::size::Size;
 use crate::stop::Stop;
 use crate::value::{eighth, values};
 use angle_fraction::Angle;
@@ -26,10 +30,11 @@ pub struct Call {
     pub wires: Vec<u32>,
 }
 
-/// What is left of a body: that of gate `own`, for these angles and wires.
+/// What is left of a body: that of gate `own`, for these angles and wires; its operations begin at `start` of the list.
 #[derive(Drop)]
 pub struct Frame<'a> {
     own: usize,
+    start: usize,
     rest: &'a [Item],
     angles: Vec<Angle>,
     wires: Vec<u32>,
@@ -116,11 +121,12 @@ struct Entered<'a> {
     body: Option<Frame<'a>>,
 }
 
-/// What a call of one of the first `below` gates comes to.
-fn enter<'a>(gates: &'a [Gate], below: usize, call: Call) -> Result<Entered<'a>, Stop>
+/// What a call of one of the first `below` gates comes to, where so many operations are written.
+fn enter<'a>(gates: &'a [Gate], below: usize, call: Call, start: usize) -> Result<Entered<'a>, Stop>
     ensures ok { IfOk result (λ e. call_answer (map gate_view gates.now) below call ≡ entered_answer (map gate_view gates.now) e) }
     ensures err { IfErr result (IsStop (call_answer (map gate_view gates.now) below call)) }
-    ensures room { IfOk result (λ e. body_room (map gate_view gates.now) e.body < 2 * (size_at (sizes (take below (map gate_view gates.now))) call.gate).items) }
+    ensures begun { IfOk result (λ e. IfSome e.body (λ f. (f.start ≡ start) × (frame_meaning (map gate_view gates.now) f ≡ call_answer (map gate_view gates.now) below call))) }
+    ensures room { IfOk result (λ e. body_room (map gate_view gates.now) e.body < 2 * (size_at (sizes_of (take below (map gate_view gates.now))) call.gate).items) }
 {
     let Call {
         gate: number,
@@ -146,6 +152,7 @@ fn enter<'a>(gates: &'a [Gate], below: usize, call: Call) -> Result<Entered<'a>,
             op: None,
             body: Some(Frame {
                 own: number,
+                start,
                 rest: body,
                 angles,
                 wires,
@@ -176,18 +183,6 @@ fn push_body<'a>(frames: &mut Vec<Frame<'a>>, body: Option<Frame<'a>>) -> Result
         frames.push(body)?;
     }
     Ok(())
-}
-
-/// What is left of a body behind its first line, if there is anything.
-fn rest_of<'a>(frame: Frame<'a>) -> Option<Frame<'a>>
-    ensures answer { (gates : List BoundGate) → body_answer gates result ≡ frame_answer gates frame.entry }
-    ensures room { (gates : List BoundGate) → body_room gates result ≤ frame_room gates frame.entry }
-{
-    if frame.rest.is_empty() {
-        None
-    } else {
-        Some(frame)
-    }
 }
 
 /// The call of a line, with its angles' values and its wires; none where it is a barrier.
@@ -226,60 +221,146 @@ fn split<'a>(items: &'a [Item]) -> Option<(&'a Item, &'a [Item])>
     items.split_first()
 }
 
-/// One line of a body that isn't at its end.
-fn advance<'a>(
-    alloc: Global,
+/// Where the operations of a call of one of the first `below` gates stand in the list, if it is remembered.
+fn recalled(memo: &Memo, sizes: &[Size], below: usize, call: &Call) -> Option<(usize, usize)>
+    ensures { IfSome result (λ p. (gates : List BoundGate) (us : List Op) → sizes.now ≡ map capped (sizes_of gates) → AreKept gates us memo.now.places.items →
+        IsPart (call_answer gates below call.now) us p.0 p.1) }
+{
+    if call.gate >= below {
+        return None;
+    }
+    match memo.recall(sizes, call.gate, &call.angles, &call.wires) {
+        Some((start, end)) => Some((start, end)),
+        None => None,
+    }
+}
+
+/// How many operations are written.
+fn written(list: &Vec<Op>) -> usize
+    ensures { result ≡ length list.now.items }
+{
+    list.len()
+}
+
+/// Puts a part of the list behind it once more.
+fn write_again(list: &mut Vec<Op>, start: usize, end: usize) -> Result<(), Stop>
+    requires order { start ≤ end }
+    requires within { end ≤ length list.old.items }
+    ensures ok { OnOk result (list.new.items ≡ list.old.items ++ part list.old.items start end) }
+    ensures err { IfErr result (λ e. e ≡ NoMemory) }
+{
+    list.extend_from_within(start..end)?;
+    Ok(())
+}
+
+/// A call of one of the first `below` gates: its operations, or its body behind those that wait.
+fn apply<'a>(
     gates: &'a [Gate],
-    frame: Frame<'a>,
+    sizes: &[Size],
+    memo: &Memo,
+    below: usize,
+    call: Call,
     frames: &mut Vec<Frame<'a>>,
     list: &mut Vec<Op>,
 ) -> Result<(), Stop>
+    requires sized { sizes.now ≡ map capped (sizes_of (map gate_view gates.now)) }
+    requires kept { AreKept (map gate_view gates.now) list.old.items memo.now.places.items }
+    requires begun { AreBegun (map gate_view gates.now) list.old.items (call_answer (map gate_view gates.now) below call) frames.old.items }
     ensures ok { OnOk result (followed (Ok list.new.items) (frames_answer (map gate_view gates.now) frames.new.items)
-        ≡ followed (Ok list.old.items) (followed (frame_answer (map gate_view gates.now) frame.entry) (frames_answer (map gate_view gates.now) frames.old.items))) }
-    ensures err { IfErr result (IsStop (frame_answer (map gate_view gates.now) frame.entry)) }
+        ≡ followed (Ok list.old.items) (followed (call_answer (map gate_view gates.now) below call) (frames_answer (map gate_view gates.now) frames.old.items))) }
+    ensures err { IfErr result (IsStop (call_answer (map gate_view gates.now) below call)) }
+    ensures kept { OnOk result (AreKept (map gate_view gates.now) list.new.items memo.now.places.items) }
+    ensures begun { OnOk result (AreBegun (map gate_view gates.now) list.new.items (Ok []) frames.new.items) }
     ensures room { OnOk result (frames_room (map gate_view gates.now) frames.new.items
-        < frames_room (map gate_view gates.now) frames.old.items + frame_room (map gate_view gates.now) frame.entry) }
+        < frames_room (map gate_view gates.now) frames.old.items + 2 * (size_at (sizes_of (take below (map gate_view gates.now))) call.gate).items) }
 {
-    let Frame {
-        own,
-        rest,
-        angles,
-        wires,
-    } = frame;
-    let Some((item, rest)) = split(rest) else {
+    if let Some((start, end)) = recalled(memo, sizes, below, &call) {
+        write_again(list, start, end)?;
         return Ok(());
-    };
-    let call = call_of(alloc, item, &angles, &wires)?;
-    push_body(
-        frames,
-        rest_of(Frame {
-            own,
-            rest,
-            angles,
-            wires,
-        }),
-    )?;
-    let Some(call) = call else {
-        return Ok(());
-    };
-    let Entered { op, body } = enter(gates, own, call)?;
+    }
+    let Entered { op, body } = enter(gates, below, call, written(list))?;
     push_op(list, op)?;
     push_body(frames, body)?;
     Ok(())
 }
 
+/// One line of a body; a body at its end is remembered.
+fn advance<'a>(
+    alloc: Global,
+    gates: &'a [Gate],
+    sizes: &[Size],
+    memo: &mut Memo,
+    frame: Frame<'a>,
+    frames: &mut Vec<Frame<'a>>,
+    list: &mut Vec<Op>,
+) -> Result<(), Stop>
+    requires sized { sizes.now ≡ map capped (sizes_of (map gate_view gates.now)) }
+    requires kept { AreKept (map gate_view gates.now) list.old.items memo.old.places.items }
+    requires begun { AreBegun (map gate_view gates.now) list.old.items (Ok []) (frames.old.items ++ frame ∷ []) }
+    ensures ok { OnOk result (followed (Ok list.new.items) (frames_answer (map gate_view gates.now) frames.new.items)
+        ≡ followed (Ok list.old.items) (followed (frame_answer (map gate_view gates.now) frame.entry) (frames_answer (map gate_view gates.now) frames.old.items))) }
+    ensures err { IfErr result (IsStop (frame_answer (map gate_view gates.now) frame.entry)) }
+    ensures kept { OnOk result (AreKept (map gate_view gates.now) list.new.items memo.new.places.items) }
+    ensures begun { OnOk result (AreBegun (map gate_view gates.now) list.new.items (Ok []) frames.new.items) }
+    ensures room { OnOk result (frames_room (map gate_view gates.now) frames.new.items
+        < frames_room (map gate_view gates.now) frames.old.items + frame_room (map gate_view gates.now) frame.entry) }
+{
+    let Frame {
+        own,
+        start,
+        rest,
+        angles,
+        wires,
+    } = frame;
+    let Some((item, rest)) = split(rest) else {
+        let end = written(list);
+        memo.keep(
+            alloc,
+            Kept {
+                gate: own,
+                angles,
+                wires,
+                start,
+                end,
+            },
+        )?;
+        return Ok(());
+    };
+    let call = call_of(alloc, item, &angles, &wires)?;
+    frames.push(Frame {
+        own,
+        start,
+        rest,
+        angles,
+        wires,
+    })?;
+    let Some(call) = call else {
+        return Ok(());
+    };
+    apply(gates, sizes, memo, own, call, frames, list)?;
+    Ok(())
+}
+
 /// Puts the operations of a gate behind the others. Bodies that wait for others are kept in a list, so that a long chain
-/// of gates needs no deep stack; one at its end isn't kept, so that the list stays short.
-pub fn write_out(alloc: Global, gates: &[Gate], call: Call, list: &mut Vec<Op>) -> Result<(), Stop>
+/// of gates needs no deep stack.
+pub fn write_out(
+    alloc: Global,
+    gates: &[Gate],
+    sizes: &[Size],
+    call: Call,
+    memo: &mut Memo,
+    list: &mut Vec<Op>,
+) -> Result<(), Stop>
+    requires sized { sizes.now ≡ map capped (sizes_of (map gate_view gates.now)) }
+    requires kept { AreKept (map gate_view gates.now) list.old.items memo.old.places.items }
     ensures ok { OnOk result (Ok list.new.items ≡ followed (Ok list.old.items) (meaning_at (meanings (map gate_view gates.now)) call.gate call.angles.items call.wires.items)) }
     ensures err { IfErr result (IsStop (meaning_at (meanings (map gate_view gates.now)) call.gate call.angles.items call.wires.items)) }
+    ensures kept { OnOk result (AreKept (map gate_view gates.now) list.new.items memo.new.places.items) }
 {
     let mut frames = Vec::new(alloc);
-    let Entered { op, body } = enter(gates, gates.len(), call)?;
-    push_op(list, op)?;
-    push_body(&mut frames, body)?;
+    apply(gates, sizes, memo, gates.len(), call, &mut frames, list)?;
     'frames: while let Some(frame) = frames.pop() {
-        advance(alloc, gates, frame, &mut frames, list)?;
+        advance(alloc, gates, sizes, memo, frame, &mut frames, list)?;
     }
     Ok(())
 }

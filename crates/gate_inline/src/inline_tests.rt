@@ -179,3 +179,95 @@ fn chains(rt: HostRuntime) -> Result<(), Fail> {
     assert_eq!(rt; found.as_str(), "|");
     Ok(())
 }
+
+/// So many names from `x0` on, the first of them written as `first`.
+fn listed(alloc: Global, first: &str, names: u32) -> Result<String, AllocError> {
+    let mut text = String::new(alloc);
+    text.push_str(first)?;
+    for i in 1..names {
+        let name = format!(in alloc; ",x{i}")?;
+        text.push_str(name.as_str())?;
+    }
+    Ok(text)
+}
+
+/// A gate of the name with so many parameters and this body.
+fn gate_text(alloc: Global, name: u32, params: u32, body: &str) -> Result<String, AllocError> {
+    let names = listed(alloc, "x0", params)?;
+    let names = names.as_str();
+    let mut text = format!(in alloc; "gate g{name}({names}) a ")?;
+    text.push_str("{ ")?;
+    text.push_str(body)?;
+    text.push_str("}\n")?;
+    Ok(text)
+}
+
+/// Gates of so many parameters, each of which applies the one before it twice: with its own parameters, and with another
+/// first one; and an application of the last to 1, 0, 0 and so on.
+fn nest(
+    alloc: Global,
+    bottom: &str,
+    gates: u32,
+    params: u32,
+    other: &str,
+) -> Result<String, AllocError> {
+    let mut text = String::new(alloc);
+    text.push_str("OPENQASM 2.0;\ninclude \"qelib1.inc\";\ngate w(y) a { }\n")?;
+    let first = gate_text(alloc, 0, params, bottom)?;
+    text.push_str(first.as_str())?;
+    let same = listed(alloc, "x0", params)?;
+    let same = same.as_str();
+    let others = listed(alloc, other, params)?;
+    let others = others.as_str();
+    let mut last = 0u32;
+    for i in 1..gates {
+        let body = format!(in alloc; "g{last}({same}) a; g{last}({others}) a; ")?;
+        let gate = gate_text(alloc, i, params, body.as_str())?;
+        text.push_str(gate.as_str())?;
+        last = i;
+    }
+    let head = format!(in alloc; "qreg q[1];\ng{last}(1")?;
+    text.push_str(head.as_str())?;
+    for _ in 1..params {
+        text.push_str(",0")?;
+    }
+    text.push_str(") q[0];\n")?;
+    Ok(text)
+}
+
+#[test]
+fn nests(rt: HostRuntime) -> Result<(), Fail> {
+    let alloc = rt.alloc();
+    let rows: [(&str, u32, u32, &str, &str); 5] = [
+        // the same values again
+        ("", 12, 20, "x0", "|"),
+        // other values: the first goes from 1 to 12, and 12 is met last of all
+        ("w(1/(x0-13)) a; ", 12, 20, "x0+1", "|"),
+        ("w(1/(x0-12)) a; ", 12, 20, "x0+1", "code 41 at 16"),
+        // operations
+        (
+            "U(x0*pi/4,0,0) a; ",
+            3,
+            20,
+            "x0",
+            "100.0 100.0 100.0 100.0 |",
+        ),
+        (
+            "U(x0*pi/4,0,0) a; ",
+            3,
+            20,
+            "x0+1",
+            "100.0 200.0 200.0 300.0 |",
+        ),
+    ];
+    for (bottom, gates, params, other, wanted) in rows {
+        let text = nest(alloc, bottom, gates, params, other)?;
+        let found = told(alloc, text.as_bytes())?;
+        assert_eq!(rt; found.as_str(), wanted);
+    }
+    // more gates and parameters
+    let text = nest(alloc, "", 18, 200, "x0")?;
+    let found = told(alloc, text.as_bytes())?;
+    assert_eq!(rt; found.as_str(), "|");
+    Ok(())
+}

@@ -4,7 +4,9 @@
 //! registers index by index. Else the contract says why there are none: with which statement there is too much, before
 //! anything is written out; else which is the first with an angle that isn't exact. Bodies are kept in a list on the heap, so
 //! a long chain of gates needs no deep stack. Each operation is such as `gate_expand::expand` asks for. Time is linear in the
-//! operations and items.
+//! operations and items, and in the expressions of the angles of each; a gate that was applied to the same values of its
+//! parameters before, and to the same wires if it has an operation, is copied and not worked out again. So many calls are
+//! remembered as 64 MiB of values have.
 #![tactic(auto)]
 
 mod body;
@@ -14,6 +16,7 @@ mod inlining;
 mod laws;
 #[cfg(test)]
 mod matrix_tests;
+mod memo;
 mod program;
 mod refusal;
 mod size;

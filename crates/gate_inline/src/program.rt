@@ -8,13 +8,17 @@ ghost use Rattle.qasm_check.specs.StepViews.{step as step_view};
 ghost use Rattle.gate_library.specs.Views.{gate as gate_view};
 ghost use Rattle.gate_inline.specs.Inlined.{IsInlineFault, IsInlined, IsUnwritten, operations as operations_of, refusal_of as refusal_there, stopped_at, unwritten_fault};
 ghost use Rattle.gate_inline.specs.Meanings.{broadcast_answer, followed, meanings, step_answer};
+ghost use Rattle.gate_inline.specs.Capped.{capped};
 ghost use Rattle.gate_inline.specs.Placed.{IsPlaced};
+ghost use Rattle.gate_inline.specs.Remembered.{AreKept};
+ghost use Rattle.gate_inline.specs.Sizes.{sizes as sizes_of};
 ghost use Rattle.gate_inline.specs.Reads.{reads as reads_of, step_read};
 ghost use Rattle.gate_inline.specs.Stops.{IsStop};
 
 use crate::body::{Call, write_out};
+use crate::memo::Memo;
 use crate::refusal::{InlineFault, Refusal, Refused};
-use crate::size::{sizes, too_much};
+use crate::size::{Size, sizes, too_much};
 use crate::stop::{Stop, Unvalued};
 use crate::value::values;
 use angle_fraction::Angle;
@@ -46,14 +50,19 @@ fn copied(alloc: Global, angles: &[Angle]) -> Result<Vec<Angle>, AllocError>
 fn write_broadcast(
     alloc: Global,
     gates: &[Gate],
+    sizes: &[Size],
     gate: usize,
     angles: &[Angle],
     places: &[Operand],
+    memo: &mut Memo,
     list: &mut Vec<Op>,
 ) -> Result<(), Stop>
-    requires { (j : ℕ) → j < broadcast_of places.now → All (λ p. wire_there j p < 2 ^ 32) places.now }
+    requires placed { (j : ℕ) → j < broadcast_of places.now → All (λ p. wire_there j p < 2 ^ 32) places.now }
+    requires sized { sizes.now ≡ map capped (sizes_of (map gate_view gates.now)) }
+    requires kept { AreKept (map gate_view gates.now) list.old.items memo.old.places.items }
     ensures ok { OnOk result (Ok list.new.items ≡ followed (Ok list.old.items) (broadcast_answer (meanings (map gate_view gates.now)) gate angles.now places.now (broadcast_of places.now))) }
     ensures err { IfErr result (IsStop (broadcast_answer (meanings (map gate_view gates.now)) gate angles.now places.now (broadcast_of places.now))) }
+    ensures kept { OnOk result (AreKept (map gate_view gates.now) list.new.items memo.new.places.items) }
 {
     'indices: for j in 0..broadcast(places) {
         let call = Call {
@@ -61,7 +70,7 @@ fn write_broadcast(
             angles: copied(alloc, angles)?,
             wires: wires_at(alloc, places, j)?,
         };
-        match write_out(alloc, gates, call, list) {
+        match write_out(alloc, gates, sizes, call, memo, list) {
             Ok(()) => {}
             Err(stop) => return Err(stop),
         }
@@ -70,10 +79,20 @@ fn write_broadcast(
 }
 
 /// Puts the operations of a step behind the others.
-fn write_step(alloc: Global, gates: &[Gate], step: &Step, list: &mut Vec<Op>) -> Result<(), Stop>
-    requires { IsPlaced (2 ^ 32) (2 ^ 32) (step_view step.now) }
+fn write_step(
+    alloc: Global,
+    gates: &[Gate],
+    sizes: &[Size],
+    step: &Step,
+    memo: &mut Memo,
+    list: &mut Vec<Op>,
+) -> Result<(), Stop>
+    requires placed { IsPlaced (2 ^ 32) (2 ^ 32) (step_view step.now) }
+    requires sized { sizes.now ≡ map capped (sizes_of (map gate_view gates.now)) }
+    requires kept { AreKept (map gate_view gates.now) list.old.items memo.old.places.items }
     ensures ok { OnOk result (Ok list.new.items ≡ followed (Ok list.old.items) (step_answer (meanings (map gate_view gates.now)) (step_view step.now))) }
     ensures err { IfErr result (IsStop (step_answer (meanings (map gate_view gates.now)) (step_view step.now))) }
+    ensures kept { OnOk result (AreKept (map gate_view gates.now) list.new.items memo.new.places.items) }
 {
     match step {
         Step::Apply {
@@ -81,7 +100,9 @@ fn write_step(alloc: Global, gates: &[Gate], step: &Step, list: &mut Vec<Op>) ->
             angles,
             operands,
         } => match values(alloc, &[], angles) {
-            Ok(angles) => write_broadcast(alloc, gates, *gate, &angles, operands, list),
+            Ok(angles) => write_broadcast(
+                alloc, gates, sizes, *gate, &angles, operands, memo, list,
+            ),
             Err(stop) => Err(stop),
         },
         Step::Measure { qubit: _, bit: _ } | Step::Barrier { operands: _ } | Step::Nothing => Ok(
@@ -153,15 +174,22 @@ fn at_statement(stop: Stop, statement: u32) -> Unwritten
 }
 
 /// The operations of all steps.
-fn operations(alloc: Global, gates: &[Gate], steps: &[Step]) -> Result<Vec<Op>, Unwritten>
+fn operations(
+    alloc: Global,
+    gates: &[Gate],
+    sizes: &[Size],
+    steps: &[Step],
+) -> Result<Vec<Op>, Unwritten>
     requires few { length steps.now < 2 ^ 32 }
     requires placed { All (IsPlaced (2 ^ 32) (2 ^ 32)) (map step_view steps.now) }
+    requires sized { sizes.now ≡ map capped (sizes_of (map gate_view gates.now)) }
     ensures ok { IfOk result (λ v. operations_of (map gate_view gates.now) (map step_view steps.now) ≡ Ok v.items) }
     ensures err { IfErr result (IsUnwritten (map gate_view gates.now) (map step_view steps.now)) }
 {
+    let mut memo = Memo::new(alloc);
     let mut list = Vec::new(alloc);
     'steps: for (i, step) in steps.iter().enumerate() {
-        match write_step(alloc, gates, step, &mut list) {
+        match write_step(alloc, gates, sizes, step, &mut memo, &mut list) {
             Ok(()) => {}
             Err(stop) => return Err(at_statement(stop, number(i))),
         }
@@ -214,7 +242,7 @@ pub fn written_out(
             statement: number(index),
         }));
     }
-    let list = match operations(alloc, gates, steps) {
+    let list = match operations(alloc, gates, &sizes, steps) {
         Ok(list) => list,
         Err(unwritten) => return Err(unwritten_fault(unwritten)),
     };

@@ -1,19 +1,35 @@
 -- One line of a body: its operations, those of the rest, and those that wait.
-use Rattle.std.proofs.Common.{◌≡◌, ◌*◌, ◌<◌, ℕ, List, map, sym, subst, ap, ◌∙◌, Ok, Some, take}
+use Rattle.std.proofs.Common.{◌+◌, ◌*◌, List, [], map, sym, subst, ap, ◌∙◌, Ok, take, refl, ℕ}
 use Rattle.std.proofs.lemmas.Result.{err_from_is_err_and}
 use Rattle.angle_fraction.specs.declared.Angle.{Angle}
 use Rattle.gate_library.specs.Views.{gate as gate_view, item as item_view}
-use Rattle.gate_inline.specs.Frames.{asked_answer, asked_size, body_room, frame_answer, frames_answer, frames_room}
-use Rattle.gate_inline.specs.Meanings.{followed, item_answer, joined, meanings, one_op}
+use Rattle.gate_inline.specs.Frames.{asked_answer, asked_size, call_answer, frame_answer, frames_room}
+use Rattle.gate_inline.specs.Meanings.{item_answer, joined, meanings}
 use Rattle.gate_inline.specs.Sizes.{item_size, size_all, size_at, sizes}
-use Rattle.gate_inline.specs.declared.size.Size.{Size}
+use Rattle.gate_inline.specs.Remembered.{AreBegun}
 use Rattle.gate_inline.specs.Stops.{IsStop}
-use Rattle.gate_inline.proofs.FrameLaws.{advanced, advanced_none, frame_answer-cons, frame_room-cons, frames_room-body, room_called, room_kept, stop_of_first}
+use Rattle.gate_inline.specs.declared.body.Frame.{Frame}
+use Rattle.gate_inline.specs.declared.size.Size.{Size}
+use Rattle.gate_inline.proofs.BegunLaws.{AreBegun-ended, AreBegun-line, answer_ended, answer_line, answer_line_none, kept_ended, room_line, room_line_none}
+use Rattle.gate_inline.proofs.FrameLaws.{frame_answer-cons, frame_room-cons, frames_room-push, stop_of_first}
 use Rattle.gate_inline.proofs.body.advance.Goals as goal
+
+pub returns-in_default-clause-ok : goal.returns-in_default-clause-ok
+returns-in_default-clause-ok c = answer_ended (map gate_view c.args.gates.now) c.args.list.now.items c.args.frames.now.items c.args.frame c.in_default.ensures
+
+pub returns-in_default-clause-begun : goal.returns-in_default-clause-begun
+returns-in_default-clause-begun c =
+    AreBegun-ended (map gate_view c.args.gates.now) c.args.list.now.items c.args.frames.now.items c.args.frame c.in_default.ensures c.requires.begun
+
+pub returns-in_default-clause-kept : goal.returns-in_default-clause-kept
+returns-in_default-clause-kept c =
+    let gs = map gate_view c.args.gates.now in
+    c.in_ok-keep.ensures gs c.args.list.now.items c.requires.kept
+    (kept_ended gs c.args.list.now.items c.args.frames.now.items c.args.frame c.written-end.result c.written-end.ensures c.in_default.ensures c.requires.begun)
 
 pub returns-in_err-call-clause-err : goal.returns-in_err-call-clause-err
 returns-in_err-call-clause-err c =
-    let p = err_from_is_err_and c.from_residual.result c.from_residual.ensures.1 in
+    let p = err_from_is_err_and c.from_residual-in_err-call.result c.from_residual-in_err-call.ensures.1 in
     let gs = map gate_view c.args.gates.now in
     let f = c.args.frame in
     let ms = meanings (take f.own gs) in
@@ -27,49 +43,81 @@ pub returns-in_default-call-clause-ok : goal.returns-in_default-call-clause-ok
 returns-in_default-call-clause-ok c =
     let gs = map gate_view c.args.gates.now in
     let f = c.args.frame in
+    let g : Frame = record { own = f.own; start = f.start; rest = c.in-Some.rest; angles = f.angles; wires = f.wires } in
     let ms = meanings (take f.own gs) in
     let answer = λ (angles : List Angle) (wires : List ℕ). item_answer ms angles wires (item_view c.in-Some.item.now) in
-    let rest = joined (map (item_answer ms f.angles.items f.wires.items) (map item_view c.in-Some.rest.now)) in
-    advanced_none gs c.args.frames.now.items c.push_body.new.frames.items c.rest_of.result c.args.list.now.items (answer f.angles.items f.wires.items) rest
-    c.in_ok-push_body.ensures.ok (c.rest_of.ensures.answer gs)
+    let line = frame_answer-cons gs f c.in-Some.item.now c.in-Some.rest.now c.in-Some.ensures in
+    answer_line_none gs c.args.list.now.items c.args.frames.now.items c.push.new.self.items f g (answer f.angles.items f.wires.items) c.in_ok-push.ensures.items line
     ((λ i. answer (sym c.deref.ensures.value i) (sym c.deref-2.ensures.value i)) ∙ c.in_ok-call.ensures.ok ms ∙ ap (asked_answer ms) c.in_default-call.is)
-    ∙ ap (λ a. followed (Ok c.args.list.now.items) (followed a (frames_answer gs c.args.frames.now.items))) (sym (frame_answer-cons gs f c.in-Some.item.now c.in-Some.rest.now c.in-Some.ensures))
+
+pub returns-in_default-call-clause-begun : goal.returns-in_default-call-clause-begun
+returns-in_default-call-clause-begun c =
+    let gs = map gate_view c.args.gates.now in
+    let f = c.args.frame in
+    let g : Frame = record { own = f.own; start = f.start; rest = c.in-Some.rest; angles = f.angles; wires = f.wires } in
+    let ms = meanings (take f.own gs) in
+    let answer = λ (angles : List Angle) (wires : List ℕ). item_answer ms angles wires (item_view c.in-Some.item.now) in
+    let line = frame_answer-cons gs f c.in-Some.item.now c.in-Some.rest.now c.in-Some.ensures in
+    subst (λ (fs : List Frame). AreBegun gs c.args.list.now.items (Ok []) fs) (sym c.in_ok-push.ensures.items)
+    (AreBegun-line gs c.args.list.now.items (answer f.angles.items f.wires.items) (Ok []) c.args.frames.now.items f g line
+    ((λ i. answer (sym c.deref.ensures.value i) (sym c.deref-2.ensures.value i)) ∙ c.in_ok-call.ensures.ok ms ∙ ap (asked_answer ms) c.in_default-call.is) refl refl c.requires.begun)
 
 pub returns-in_default-call-clause-room : goal.returns-in_default-call-clause-room
 returns-in_default-call-clause-room c =
     let gs = map gate_view c.args.gates.now in
     let f = c.args.frame in
+    let g : Frame = record { own = f.own; start = f.start; rest = c.in-Some.rest; angles = f.angles; wires = f.wires } in
     let ss = sizes (take f.own gs) in
-    room_kept _ _ _ _ _ (size_all (map (item_size ss) (map item_view c.in-Some.rest.now))).items
-    (ap (frames_room gs) c.in_ok-push_body.ensures.ok ∙ frames_room-body gs c.args.frames.now.items c.rest_of.result)
-    (c.rest_of.ensures.room gs)
+    room_line_none _ _ _ _ (size_all (map (item_size ss) (map item_view c.in-Some.rest.now))).items
+    (ap (frames_room gs) c.in_ok-push.ensures.items ∙ frames_room-push gs c.args.frames.now.items g)
     (frame_room-cons gs f c.in-Some.item.now c.in-Some.rest.now c.in-Some.ensures)
     (ap (λ (s : Size). s.items) (c.in_ok-call.ensures.size ss ∙ ap (asked_size ss) c.in_default-call.is))
+
+pub apply-requires-clause-begun : goal.apply-requires-clause-begun
+apply-requires-clause-begun c =
+    let gs = map gate_view c.args.gates.now in
+    let f = c.args.frame in
+    let g : Frame = record { own = f.own; start = f.start; rest = c.in-Some.rest; angles = f.angles; wires = f.wires } in
+    let ms = meanings (take f.own gs) in
+    let answer = λ (angles : List Angle) (wires : List ℕ). item_answer ms angles wires (item_view c.in-Some.item.now) in
+    let line = frame_answer-cons gs f c.in-Some.item.now c.in-Some.rest.now c.in-Some.ensures in
+    subst (λ (fs : List Frame). AreBegun gs c.args.list.now.items (call_answer gs f.own c.in-Some-call.call) fs) (sym c.in_ok-push.ensures.items)
+    (AreBegun-line gs c.args.list.now.items (answer f.angles.items f.wires.items) (call_answer gs f.own c.in-Some-call.call) c.args.frames.now.items f g line
+    ((λ i. answer (sym c.deref.ensures.value i) (sym c.deref-2.ensures.value i)) ∙ c.in_ok-call.ensures.ok ms ∙ ap (asked_answer ms) c.in-Some-call.is) refl refl c.requires.begun)
 
 pub returns-clause-ok : goal.returns-clause-ok
 returns-clause-ok c =
     let gs = map gate_view c.args.gates.now in
     let f = c.args.frame in
+    let g : Frame = record { own = f.own; start = f.start; rest = c.in-Some.rest; angles = f.angles; wires = f.wires } in
     let ms = meanings (take f.own gs) in
     let answer = λ (angles : List Angle) (wires : List ℕ). item_answer ms angles wires (item_view c.in-Some.item.now) in
-    let rest = joined (map (item_answer ms f.angles.items f.wires.items) (map item_view c.in-Some.rest.now)) in
-    ap (λ l. followed (Ok l) (frames_answer gs c.push_body-2.new.frames.items)) c.in_ok-push_op.ensures.ok
-    ∙ advanced gs c.args.frames.now.items c.push_body.new.frames.items c.push_body-2.new.frames.items c.rest_of.result c.in_ok-op.field-0.body
-    c.args.list.now.items (one_op c.in_ok-op.field-0.op) (answer f.angles.items f.wires.items) rest (asked_answer ms (Some c.in-Some-call.call))
-    c.in_ok-push_body.ensures.ok c.in_ok-push_body-2.ensures.ok (c.rest_of.ensures.answer gs)
+    let line = frame_answer-cons gs f c.in-Some.item.now c.in-Some.rest.now c.in-Some.ensures in
+    c.in_ok-apply.ensures.ok
+    ∙ answer_line gs c.args.list.now.items c.args.frames.now.items c.push.new.self.items f g (answer f.angles.items f.wires.items) (call_answer gs f.own c.in-Some-call.call) c.in_ok-push.ensures.items line
     ((λ i. answer (sym c.deref.ensures.value i) (sym c.deref-2.ensures.value i)) ∙ c.in_ok-call.ensures.ok ms ∙ ap (asked_answer ms) c.in-Some-call.is)
-    c.in_ok-op.ensures.ok
-    ∙ ap (λ a. followed (Ok c.args.list.now.items) (followed a (frames_answer gs c.args.frames.now.items))) (sym (frame_answer-cons gs f c.in-Some.item.now c.in-Some.rest.now c.in-Some.ensures))
 
 pub returns-clause-room : goal.returns-clause-room
 returns-clause-room c =
     let gs = map gate_view c.args.gates.now in
     let f = c.args.frame in
+    let g : Frame = record { own = f.own; start = f.start; rest = c.in-Some.rest; angles = f.angles; wires = f.wires } in
     let ss = sizes (take f.own gs) in
-    let first : item_size ss (item_view c.in-Some.item.now) ≡ size_at ss c.in-Some-call.call.gate = c.in_ok-call.ensures.size ss ∙ ap (asked_size ss) c.in-Some-call.is in
-    room_called _ _ _ _ _ _ (item_size ss (item_view c.in-Some.item.now)).items (size_all (map (item_size ss) (map item_view c.in-Some.rest.now))).items
-    (ap (frames_room gs) c.in_ok-push_body-2.ensures.ok ∙ frames_room-body gs c.push_body.new.frames.items c.in_ok-op.field-0.body)
-    (ap (frames_room gs) c.in_ok-push_body.ensures.ok ∙ frames_room-body gs c.args.frames.now.items c.rest_of.result)
-    (c.rest_of.ensures.room gs)
-    (subst (λ (s : Size). body_room gs c.in_ok-op.field-0.body < 2 * s.items) (sym first) c.in_ok-op.ensures.room)
-    (frame_room-cons gs f c.in-Some.item.now c.in-Some.rest.now c.in-Some.ensures)
+    let rest = (size_all (map (item_size ss) (map item_view c.in-Some.rest.now))).items in
+    room_line _ _ _ _ (size_at ss c.in-Some-call.call.gate).items rest
+    c.in_ok-apply.ensures.room
+    (ap (frames_room gs) c.in_ok-push.ensures.items ∙ frames_room-push gs c.args.frames.now.items g)
+    (frame_room-cons gs f c.in-Some.item.now c.in-Some.rest.now c.in-Some.ensures
+    ∙ ap (λ (s : Size). 2 * (s.items + rest) + 1) (c.in_ok-call.ensures.size ss ∙ ap (asked_size ss) c.in-Some-call.is))
+
+pub returns-in_err-apply-clause-err : goal.returns-in_err-apply-clause-err
+returns-in_err-apply-clause-err c =
+    let gs = map gate_view c.args.gates.now in
+    let f = c.args.frame in
+    let g : Frame = record { own = f.own; start = f.start; rest = c.in-Some.rest; angles = f.angles; wires = f.wires } in
+    let ms = meanings (take f.own gs) in
+    let answer = λ (angles : List Angle) (wires : List ℕ). item_answer ms angles wires (item_view c.in-Some.item.now) in
+    let line = frame_answer-cons gs f c.in-Some.item.now c.in-Some.rest.now c.in-Some.ensures in
+    let p = err_from_is_err_and c.from_residual-in_err-apply.result c.from_residual-in_err-apply.ensures.1 in
+    rw (p.1, p.2) (stop_of_first (answer f.angles.items f.wires.items) (frame_answer gs g) (frame_answer gs f) c.in_err-apply.field-0.0 line
+    (subst (λ a. IsStop a c.in_err-apply.field-0.0) (sym ((λ i. answer (sym c.deref.ensures.value i) (sym c.deref-2.ensures.value i)) ∙ c.in_ok-call.ensures.ok ms ∙ ap (asked_answer ms) c.in-Some-call.is)) c.in_err-apply.ensures.err))

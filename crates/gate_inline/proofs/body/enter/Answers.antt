@@ -3,9 +3,10 @@ use Rattle.std.proofs.Common.{ℕ, List, [], map, sym, ap, ◌∙◌, arith, Som
 use Rattle.angle_fraction.specs.declared.Angle.{Angle}
 use Rattle.gate_library.specs.Gates.{u, cx, opaque, composed}
 use Rattle.gate_library.specs.Views.{gate as gate_view, item as item_view}
-use Rattle.gate_inline.specs.Meanings.{controlled, one_op, rotation}
+use Rattle.gate_inline.specs.Meanings.{Meaning, controlled, one_op, rotation}
 use Rattle.gate_inline.specs.Stops.{IsStop}
 use Rattle.gate_inline.proofs.FrameLaws.{called_op, called_stop, called_body, called_none, called_size, called_size_none, called_room}
+use Rattle.gate_inline.proofs.KeptLaws.{meaning_at-called}
 use Rattle.gate_inline.proofs.body.enter.Goals as goal
 
 pub returns-in-Ok-clause-ok : goal.returns-in-Ok-clause-ok
@@ -44,6 +45,16 @@ returns-in-Some-Composed-clause-ok c =
     c.args.call.angles.items c.args.call.wires.items
     (sym c.in-Some-Composed.ensures ∙ ap (λ g. Some (gate_view g)) c.in-Some-Composed.field-0-is
     ∙ ap (λ items. Some (composed c.in-Some-Composed.field-0-0 c.in-Some-Composed.field-0-1 (map item_view items))) (sym c.deref-in-Some-Composed.ensures.value))
+
+pub returns-in-Some-Composed-clause-begun : goal.returns-in-Some-Composed-clause-begun
+returns-in-Some-Composed-clause-begun c = (
+  refl,
+  ap (λ (m : Meaning). m c.args.call.angles.items c.args.call.wires.items)
+      (meaning_at-called (map gate_view c.args.gates.now) c.args.below c.args.call.gate
+      (composed c.in-Some-Composed.field-0-0 c.in-Some-Composed.field-0-1 (map item_view c.deref-in-Some-Composed.result.now))
+      (sym c.in-Some-Composed.ensures ∙ ap (λ g. Some (gate_view g)) c.in-Some-Composed.field-0-is
+      ∙ ap (λ items. Some (composed c.in-Some-Composed.field-0-0 c.in-Some-Composed.field-0-1 (map item_view items))) (sym c.deref-in-Some-Composed.ensures.value))),
+)
 
 pub returns-in-Some-Composed-clause-room : goal.returns-in-Some-Composed-clause-room
 returns-in-Some-Composed-clause-room c =

@@ -1,0 +1,5 @@
+-- What was kept, and one more call.
+use Rattle.gate_inline.proofs.memo.Memo.keep.Goals as goal
+
+pub returns : goal.returns
+returns c = λ gates us h k. c.put.ensures gates us (c.in_ok-make_room.ensures gates us h) k
