@@ -22,7 +22,7 @@ use rewrite_pass::Pass;
 use std::alloc::{AllocError, Global};
 use walk::Walk;
 
-/// NOT propagation (Nam et al. 2018, section 4.1; VOQC): each X moves behind the gates of its wire. Two on one wire vanish, a
+/// NOT propagation (Nam et al. 2018, section 4; VOQC, section 4.3): each X moves behind the gates of its wire. Two on one wire vanish, a
 /// phase is inverted on the way, an H becomes H and Z, and a CNOT takes the X of its control to its target too.
 #[derive(Clone, Copy, Debug)]
 pub struct NotPass;
