@@ -1,9 +1,10 @@
 //! Hadamard reduction: seven local rules, each of which takes H away.
 //!
 //! In goes a circuit and a place; out comes the change for the window that begins there, or nothing where none does
-//! ([`HadamardRules`]); or in goes a circuit, and out comes one where no window is left ([`HadamardPass`]). A window is a few gates around H that follow each other on their wires, whatever stands between on
-//! others (`specs/Windows.antt`): H, a phase or X, H on one wire; H on both wires of a CNOT, before it and behind it; H and
-//! phases around the target of a CNOT. The contract says that `None` comes exactly where no window begins, that a change keeps
+//! ([`HadamardRules`]). Or in goes a circuit, and out comes one in which no window is left ([`HadamardPass`]). A window is a few
+//! gates around H that follow each other on their wires, whatever stands between on others (`specs/Windows.antt`): H, a phase
+//! or X, H on one wire; H on both wires of a CNOT, before it and behind it; H and phases around the target of a CNOT. It begins
+//! at the place of its first gate. The contract says that nothing is found exactly where no window begins, that a change keeps
 //! the amplitudes up to its power of w and adds no T gate, CNOT or odd path parity, and that it leaves fewer H.
 //!
 //! A circuit is always fine, so none is refused; the only error, of the pass alone, is want of memory. A look at a place takes

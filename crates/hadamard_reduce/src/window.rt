@@ -132,6 +132,7 @@ fn surrounded(body: &Circuit, start: Start) -> Option<Window>
     let third = start.second.place;
     let other = if start.q == c { t } else { c };
     let second = prev_is(body, third, other, Gate::H { q: other })?;
+    // The window begins at the first of the two H, and so at `second`.
     if second < start.place {
         return None;
     }
