@@ -28,6 +28,7 @@ use walk::{walk_all, walk_queue};
 /// section 4.2). It goes from the first place to the last; the partner of a gate is the first later one that cancels or merges
 /// with it, where it commutes with all between. A pair is taken out, or merged in the first one's place, and the walk goes on
 /// at this place. Such walks are repeated until one changes nothing.
+#[derive(Clone, Copy, Debug)]
 pub struct CancelPass;
 
 impl Pass for CancelPass {
@@ -61,5 +62,5 @@ impl Shrinks for CancelPass {
     ghost shrinks = { λ n old new k. k.1 };
 }
 
-#[cfg(test)]
-mod tests;
+
+
