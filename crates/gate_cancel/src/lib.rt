@@ -62,5 +62,5 @@ impl Shrinks for CancelPass {
     ghost shrinks = { λ n old new k. k.1 };
 }
 
-
-
+#[cfg(test)]
+mod tests;

@@ -5,7 +5,7 @@
 //! pair such a gate stands in the last run of gates in front that commute with each other there, since each earlier one is
 //! blocked by the run. It can newly go on only where the gate behind the first of the pair doesn't block the run too.
 
-ghost use Rattle.std.specs.Prelude.{◌≡◌, ℕ, ◌<◌, true};
+ghost use Rattle.std.specs.Prelude.{◌≡◌, ℕ, IfSome, true};
 ghost use Rattle.circuit_list.specs.Slots.{IsLive, is_on_at, place_of};
 ghost use Rattle.commute_rules.specs.Reducible.{IsReducible};
 
@@ -34,7 +34,8 @@ impl Queue {
 
     /// The slots in order, which leaves none.
     pub(crate) fn take(&mut self, alloc: Global) -> Vec<Slot> {
-        self.noted = [None; 64];
+        let none = [None; 64];
+        self.noted = none;
         let mut slots = mem::replace(&mut self.slots, Vec::new(alloc));
         slots.sort_unstable();
         slots
@@ -89,7 +90,7 @@ impl Queue {
         let mut slot = front;
         self.slots.push(slot)?;
         'run: while let Some(earlier) = body.prev_on(slot, wire) {
-            if is_noted(before, slot) || !commute(gate, body.gate_at(earlier)) {
+            if is_noted(&before, slot) || !commute(gate, body.gate_at(earlier)) {
                 break;
             }
             self.slots.push(earlier)?;
@@ -100,9 +101,9 @@ impl Queue {
 }
 
 /// Whether a slot isn't behind the last one noted.
-fn is_noted(last: Option<Slot>, slot: Slot) -> bool {
+fn is_noted(last: &Option<Slot>, slot: Slot) -> bool {
     match last {
-        Some(last) => slot <= last,
+        Some(last) => slot <= *last,
         None => false,
     }
 }
@@ -113,6 +114,7 @@ fn behind_pair(body: &Circuit, first: Slot, second: Slot, wire: u32) -> Option<S
     requires second { IsLive body.now second }
     requires first_on { is_on_at wire body.now.gates (place_of first body.now.slots) ≡ true }
     requires second_on { is_on_at wire body.now.gates (place_of second body.now.slots) ≡ true }
+    ensures { IfSome result (IsLive body.now) }
 {
     match body.next_on(first, wire) {
         Some(next) => {

@@ -1,10 +1,10 @@
 //! Worked rows, and the list of a plain program.
 
-ghost use Rattle.std.specs.Prelude.{◌≡◌, ℕ, ◌<◌, ◌≤◌, IfOk, true};
+ghost use Rattle.std.specs.Prelude.{◌≡◌, ◌<◌, ◌≤◌, true};
 ghost use Rattle.circuit_list.specs.Gates.{IsFine};
 
 use crate::CancelPass;
-use circuit_list::{Circuit, Gate, Passed};
+use circuit_list::{Circuit, Gate};
 use commute_rules::{Cancel, cancels, commute};
 use rewrite_pass::Pass;
 use std::alloc::Global;
