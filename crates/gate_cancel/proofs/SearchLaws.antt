@@ -172,15 +172,17 @@ blocked b s r t far g h p e f alone stops j red =
     let here : red.first ≡ g = same_gate b.gates i red.first g red.at_first e in
     let le : n ≤ j = p.none j red in
     elim (cases_lt n j) [
-    inl l ↦ clash (commutes red.first h) (red.commute n h p.behind l f) (subst (λ z. commutes z h ≡ false) (sym here) stops)
-    | inr l ↦ clash (is_partner red.first h)
-    (subst (λ z. is_partner red.first z ≡ true) (same_gate b.gates j red.second h red.at_second (ap (slice_get b.gates) (let q : j ≡ n = omega arith in q) ∙ f)) (cancels-partner red.first red.second red.cancel))
-    (subst (λ z. is_partner z h ≡ false) (sym here) alone) ]
+      | inl l ↦ clash (commutes red.first h) (red.commute n h p.behind l f) (subst (λ z. commutes z h ≡ false) (sym here) stops)
+      | inr l ↦ clash (is_partner red.first h)
+          (subst (λ z. is_partner red.first z ≡ true) (same_gate b.gates j red.second h red.at_second (ap (slice_get b.gates) (let q : j ≡ n = omega arith in q) ∙ f)) (cancels-partner red.first red.second red.cancel))
+          (subst (λ z. is_partner z h ≡ false) (sym here) alone)
+    ]
 
 -- a partner is behind the reach
 pub reach_before : (b : Body) (s : ℕ) (r : Reach) (j : ℕ) → IsReach b s r → IsReducible b.gates (place_of s b.slots) j → (place_of r.first b.slots < j) × (place_of r.second b.slots < j)
 reach_before b s r j p red =
     let i : ℕ = place_of s b.slots in
-    let is : is_partner red.first red.second ≡ true = cancels-partner red.first red.second red.cancel in
-    (partner_past red.first (first_wire red.first) b.gates i (place_of r.first b.slots) j red.second (p.first red.first red.at_first) red.before red.at_second (partner_first red.first red.second is) is,
-    partner_past red.first (second_wire red.first) b.gates i (place_of r.second b.slots) j red.second (p.second red.first red.at_first) red.before red.at_second (partner_second red.first red.second is) is)
+    let is : is_partner red.first red.second ≡ true = cancels-partner red.first red.second red.cancel in (
+      partner_past red.first (first_wire red.first) b.gates i (place_of r.first b.slots) j red.second (p.first red.first red.at_first) red.before red.at_second (partner_first red.first red.second is) is,
+      partner_past red.first (second_wire red.first) b.gates i (place_of r.second b.slots) j red.second (p.second red.first red.at_first) red.before red.at_second (partner_second red.first red.second is) is,
+    )

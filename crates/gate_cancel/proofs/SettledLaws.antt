@@ -166,8 +166,9 @@ walked_same false n turn i old now new w e h = (w.0, (e ∙ w.1.0, λ k j lt r. 
   where
     at : (k j : ℕ) → k < i + 1 → IsReducible now k j → ⊥
     at k j lt r = elim (cases_order k i) [
-        inl m ↦ h j (subst (λ z. IsReducible now z j) m r)
-        | inr m ↦ elim m [ inl l ↦ w.1.1 k j l r | inr l ↦ absurd (omega arith) ] ]
+      | inl m ↦ h j (subst (λ z. IsReducible now z j) m r)
+      | inr m ↦ elim m [ inl l ↦ w.1.1 k j l r | inr l ↦ absurd (omega arith) ]
+    ]
 
 pub walked_low : (b : Bool) (n turn i : ℕ) (old now : List Gate) → IsWalked b n old now turn i → turn < 8
 walked_low true n turn i old now w = w.law.below

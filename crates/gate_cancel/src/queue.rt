@@ -42,7 +42,12 @@ impl Queue {
     }
 
     /// Notes the gates in front of a pair, which is about to be taken out, that it alone kept from going on.
-    pub(crate) fn note(&mut self, body: &Circuit, first: Slot, second: Slot) -> Result<(), AllocError>
+    pub(crate) fn note(
+        &mut self,
+        body: &Circuit,
+        first: Slot,
+        second: Slot,
+    ) -> Result<(), AllocError>
         requires first { IsLive body.now first }
         requires second { IsLive body.now second }
         requires pair { IsReducible body.now.gates (place_of first body.now.slots) (place_of second body.now.slots) }
@@ -56,7 +61,13 @@ impl Queue {
     }
 
     /// The same on one wire.
-    fn note_wire(&mut self, body: &Circuit, first: Slot, second: Slot, wire: u32) -> Result<(), AllocError>
+    fn note_wire(
+        &mut self,
+        body: &Circuit,
+        first: Slot,
+        second: Slot,
+        wire: u32,
+    ) -> Result<(), AllocError>
         requires first { IsLive body.now first }
         requires second { IsLive body.now second }
         requires first_on { is_on_at wire body.now.gates (place_of first body.now.slots) ≡ true }

@@ -67,12 +67,19 @@ fn merge(body: &mut Circuit, first: Slot, second: Slot, k: u8)
 }
 
 /// Cancels or merges the gate in a slot with its partners, one after the other. After want of memory the circuit is of no use.
-pub(crate) fn settle(body: &mut Circuit, slot: Slot, queue: &mut Queue) -> Result<Settled, AllocError>
+pub(crate) fn settle(
+    body: &mut Circuit,
+    slot: Slot,
+    queue: &mut Queue,
+) -> Result<Settled, AllocError>
     requires { IsLive body.old slot }
     ensures wires { IfOk result (λ s. body.new.wires ≡ body.old.wires) }
     ensures settled { IfOk result (IsSettled body.old.wires body.old.gates body.new.gates (place_of slot body.old.slots)) }
 {
-    let mut reach = Reach { first: slot, second: slot };
+    let mut reach = Reach {
+        first: slot,
+        second: slot,
+    };
     let mut settled = Settled::Same;
     'partners: loop {
         let (found, further) = search(body, slot, reach);

@@ -52,14 +52,26 @@ fn ahead(body: &Circuit, slot: Slot, reach: &Reach) -> Option<(Slot, Reach)>
     let place = body.place(a);
     let other = body.place(b);
     if place < other {
-        let further = Reach { first: a, second: reach.second };
+        let further = Reach {
+            first: a,
+            second: reach.second,
+        };
         return Some((a, further));
     }
     if other < place {
-        let further = Reach { first: reach.first, second: b };
+        let further = Reach {
+            first: reach.first,
+            second: b,
+        };
         return Some((b, further));
     }
-    Some((a, Reach { first: a, second: b }))
+    Some((
+        a,
+        Reach {
+            first: a,
+            second: b,
+        },
+    ))
 }
 
 /// What the next gate on the wires is to the gate in a slot.

@@ -37,7 +37,11 @@ pub(crate) fn walk_all(body: &mut Circuit, queue: &mut Queue) -> Result<Option<u
 }
 
 /// Walks over the queue, until it is empty.
-pub(crate) fn walk_queue(alloc: Global, body: &mut Circuit, queue: &mut Queue) -> Result<u8, AllocError>
+pub(crate) fn walk_queue(
+    alloc: Global,
+    body: &mut Circuit,
+    queue: &mut Queue,
+) -> Result<u8, AllocError>
     ensures wires { IfOk result (λ t. body.new.wires ≡ body.old.wires) }
     ensures cancelled { IfOk result (IsCancelled body.old.wires body.old.gates body.new.gates) }
 {

@@ -13,8 +13,8 @@ walks-preserved c =
     let more = subst (λ o. MatchOption o (NoReducible all.gates × (all.gates ≡ now.gates)) (IsReduced now.wires now.gates all.gates)) c.in-Some.is c.in_ok-more.ensures.walked in
     let same = c.in_ok-more.ensures.wires ∙ c.walks.invariant.wires in
     let both = IsCancelled_trans n now.gates all.gates last.gates c.in-Some.more c.in_ok-rest.rest c.turn_sum.result
-        (subst (λ w. IsCancelled w now.gates all.gates c.in-Some.more) c.walks.invariant.wires (reduced-cancelled now.wires now.gates all.gates c.in-Some.more more))
-        (subst (λ w. IsCancelled w all.gates last.gates c.in_ok-rest.rest) same c.in_ok-rest.ensures.cancelled) c.turn_sum.ensures.sum in
+    (subst (λ w. IsCancelled w now.gates all.gates c.in-Some.more) c.walks.invariant.wires (reduced-cancelled now.wires now.gates all.gates c.in-Some.more more))
+    (subst (λ w. IsCancelled w all.gates last.gates c.in_ok-rest.rest) same c.in_ok-rest.ensures.cancelled) c.turn_sum.ensures.sum in
     record {
       wires = c.in_ok-rest.ensures.wires ∙ same;
       so_far = IsCancelled_trans n c.args.body.gates now.gates last.gates c.walks.turn c.turn_sum.result c.turn_sum-turn.result c.walks.invariant.so_far both c.turn_sum-turn.ensures.sum;

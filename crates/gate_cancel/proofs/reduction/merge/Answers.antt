@@ -26,9 +26,9 @@ returns-clause-reach c = λ r p.
     let one : length (remove (set b.gates i m) j) + 1 ≡ length (set b.gates i m) = length-remove (set b.gates i m) j (omega arith) in
     reach_merged b c.remove_at.new.self c.args.first c.args.k j g r c.gate_at.ensures.there gates
     (λ t l.
-        let here : place_of t c.replace_at.new.self.slots ≡ place_of t b.slots = ap (place_of t) c.replace_at.ensures.slots in
-        let there : place_of c.args.second c.replace_at.new.self.slots ≡ j = ap (place_of c.args.second) c.replace_at.ensures.slots in
-        c.remove_at.ensures.earlier t (omega arith) ∙ here)
+    let here : place_of t c.replace_at.new.self.slots ≡ place_of t b.slots = ap (place_of t) c.replace_at.ensures.slots in
+    let there : place_of c.args.second c.replace_at.new.self.slots ≡ j = ap (place_of c.args.second) c.replace_at.ensures.slots in
+    c.remove_at.ensures.earlier t (omega arith) ∙ here)
     (ap (λ (xs : List Gate). length xs + 1) gates ∙ one ∙ long) red before.0 before.1 p
 
 pub returns-clause-reduced : goal.returns-clause-reduced
