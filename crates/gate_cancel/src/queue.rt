@@ -5,7 +5,7 @@
 //! pair such a gate stands in the last run of gates in front that commute with each other there, since each earlier one is
 //! blocked by the run. It can newly go on only where the gate behind the first of the pair doesn't block the run too.
 
-ghost use Rattle.std.specs.Prelude.{◌≡◌, ℕ, ◌<◌, true};
+ghost use Rattle.std.specs.Prelude.{◌≡◌, ℕ, IfSome, true};
 ghost use Rattle.circuit_list.specs.Slots.{IsLive, is_on_at, place_of};
 ghost use Rattle.commute_rules.specs.Reducible.{IsReducible};
 
@@ -34,14 +34,20 @@ impl Queue {
 
     /// The slots in order, which leaves none.
     pub(crate) fn take(&mut self, alloc: Global) -> Vec<Slot> {
-        self.noted = [None; 64];
+        let none = [None; 64];
+        self.noted = none;
         let mut slots = mem::replace(&mut self.slots, Vec::new(alloc));
         slots.sort_unstable();
         slots
     }
 
     /// Notes the gates in front of a pair, which is about to be taken out, that it alone kept from going on.
-    pub(crate) fn note(&mut self, body: &Circuit, first: Slot, second: Slot) -> Result<(), AllocError>
+    pub(crate) fn note(
+        &mut self,
+        body: &Circuit,
+        first: Slot,
+        second: Slot,
+    ) -> Result<(), AllocError>
         requires first { IsLive body.now first }
         requires second { IsLive body.now second }
         requires pair { IsReducible body.now.gates (place_of first body.now.slots) (place_of second body.now.slots) }
@@ -55,7 +61,13 @@ impl Queue {
     }
 
     /// The same on one wire.
-    fn note_wire(&mut self, body: &Circuit, first: Slot, second: Slot, wire: u32) -> Result<(), AllocError>
+    fn note_wire(
+        &mut self,
+        body: &Circuit,
+        first: Slot,
+        second: Slot,
+        wire: u32,
+    ) -> Result<(), AllocError>
         requires first { IsLive body.now first }
         requires second { IsLive body.now second }
         requires first_on { is_on_at wire body.now.gates (place_of first body.now.slots) ≡ true }
@@ -89,7 +101,7 @@ impl Queue {
         let mut slot = front;
         self.slots.push(slot)?;
         'run: while let Some(earlier) = body.prev_on(slot, wire) {
-            if is_noted(before, slot) || !commute(gate, body.gate_at(earlier)) {
+            if is_noted(&before, slot) || !commute(gate, body.gate_at(earlier)) {
                 break;
             }
             self.slots.push(earlier)?;
@@ -100,9 +112,9 @@ impl Queue {
 }
 
 /// Whether a slot isn't behind the last one noted.
-fn is_noted(last: Option<Slot>, slot: Slot) -> bool {
+fn is_noted(last: &Option<Slot>, slot: Slot) -> bool {
     match last {
-        Some(last) => slot <= last,
+        Some(last) => slot <= *last,
         None => false,
     }
 }
@@ -113,6 +125,7 @@ fn behind_pair(body: &Circuit, first: Slot, second: Slot, wire: u32) -> Option<S
     requires second { IsLive body.now second }
     requires first_on { is_on_at wire body.now.gates (place_of first body.now.slots) ≡ true }
     requires second_on { is_on_at wire body.now.gates (place_of second body.now.slots) ≡ true }
+    ensures { IfSome result (IsLive body.now) }
 {
     match body.next_on(first, wire) {
         Some(next) => {

@@ -1,11 +1,12 @@
 //! What is done at one place: the gate there with its partners, until it has none or is gone.
 
-ghost use Rattle.std.specs.Prelude.{◌≡◌, ℕ, ◌<◌, IfOk, Some, remove, slice_get, slice_set};
-ghost use Rattle.circuit_list.specs.declared.Gate.{Gate};
-ghost use Rattle.circuit_list.specs.Gates.{IsFine};
+ghost use Rattle.std.specs.Prelude.{◌≡◌, ℕ, IfOk};
 ghost use Rattle.circuit_list.specs.Slots.{IsLive, place_of};
 ghost use Rattle.commute_rules.specs.Cancels.{with_phase};
-ghost use Rattle.gate_cancel.specs.Reductions.{IsSettled};
+ghost use Rattle.commute_rules.specs.Reducible.{IsReducible};
+ghost use Rattle.gate_cancel.specs.declared.search.Reach.{Reach};
+ghost use Rattle.gate_cancel.specs.Reaches.{IsReach};
+ghost use Rattle.gate_cancel.specs.Reductions.{IsOutcome, IsReduced, IsSettled};
 
 use crate::queue::Queue;
 use crate::search::{Reach, search};
@@ -34,58 +35,69 @@ fn with_phase(gate: Gate, k: u8) -> Gate
     }
 }
 
-/// Takes two gates out.
-fn take_out(body: &mut Circuit, first: Slot, second: Slot)
+/// Takes two gates out that cancel.
+fn take_out(body: &mut Circuit, first: Slot, second: Slot, turn: u8)
     requires first { IsLive body.old first }
     requires second { IsLive body.old second }
-    requires order { place_of first body.old.slots < place_of second body.old.slots }
+    requires pair { IsReducible body.old.gates (place_of first body.old.slots) (place_of second body.old.slots) }
+    requires told { IsOutcome body.old.gates (place_of first body.old.slots) (place_of second body.old.slots) (Cancel.Both turn) }
     ensures wires { body.new.wires ≡ body.old.wires }
-    ensures gates { body.new.gates ≡ remove (remove body.old.gates (place_of second body.old.slots)) (place_of first body.old.slots) }
+    ensures reduced { IsReduced body.old.wires body.old.gates body.new.gates turn }
 {
+    let _wires = body.wires();
     body.remove_at(second);
     body.remove_at(first);
 }
 
-/// Puts a phase of this `k` in the first one's place, and takes the second one out.
-fn merge(body: &mut Circuit, first: Slot, second: Slot, gate: Gate)
+/// Puts what two phases make in the first one's place, and takes the second one out. A reach of the first stays one.
+fn merge(body: &mut Circuit, first: Slot, second: Slot, k: u8)
     requires first { IsLive body.old first }
     requires second { IsLive body.old second }
-    requires order { place_of first body.old.slots < place_of second body.old.slots }
-    requires fine { IsFine body.old.wires gate }
+    requires pair { IsReducible body.old.gates (place_of first body.old.slots) (place_of second body.old.slots) }
+    requires told { IsOutcome body.old.gates (place_of first body.old.slots) (place_of second body.old.slots) (Cancel.Merge k) }
     ensures wires { body.new.wires ≡ body.old.wires }
-    ensures gates { body.new.gates ≡ remove (slice_set body.old.gates (place_of first body.old.slots) gate) (place_of second body.old.slots) }
-    ensures earlier { (t : ℕ) → place_of t body.old.slots < place_of second body.old.slots → place_of t body.new.slots ≡ place_of t body.old.slots }
+    ensures live { IsLive body.new first }
+    ensures reach { (r : Reach) → IsReach body.old first r → IsReach body.new first r }
+    ensures reduced { IsReduced body.old.wires body.old.gates body.new.gates 0 }
 {
+    let _wires = body.wires();
+    let gate = with_phase(body.gate_at(first), k);
     body.replace_at(first, gate);
     body.remove_at(second);
 }
 
 /// Cancels or merges the gate in a slot with its partners, one after the other. After want of memory the circuit is of no use.
-pub(crate) fn settle(body: &mut Circuit, slot: Slot, queue: &mut Queue) -> Result<Settled, AllocError>
+pub(crate) fn settle(
+    body: &mut Circuit,
+    slot: Slot,
+    queue: &mut Queue,
+) -> Result<Settled, AllocError>
     requires { IsLive body.old slot }
     ensures wires { IfOk result (λ s. body.new.wires ≡ body.old.wires) }
     ensures settled { IfOk result (IsSettled body.old.wires body.old.gates body.new.gates (place_of slot body.old.slots)) }
 {
-    let mut reach = Reach { first: slot, second: slot };
-    let mut merged = false;
-    'partners: while let Some(partner) = search(body, slot, &mut reach) {
-        let gate = body.gate_at(slot);
-        match cancels(gate, body.gate_at(partner)) {
+    let mut reach = Reach {
+        first: slot,
+        second: slot,
+    };
+    let mut settled = Settled::Same;
+    'partners: loop {
+        let (found, further) = search(body, slot, reach);
+        let Some(partner) = found else {
+            return Ok(settled);
+        };
+        match cancels(body.gate_at(slot), body.gate_at(partner)) {
             Cancel::Merge { k } => {
-                merge(body, slot, partner, with_phase(gate, k));
-                merged = true;
+                merge(body, slot, partner, k);
+                reach = further;
+                settled = Settled::Merged;
             }
             Cancel::Both { turn } => {
                 queue.note(body, slot, partner)?;
-                take_out(body, slot, partner);
+                take_out(body, slot, partner, turn);
                 return Ok(Settled::Gone { turn });
             }
             Cancel::No => unreachable!(),
         }
-    }
-    if merged {
-        Ok(Settled::Merged)
-    } else {
-        Ok(Settled::Same)
     }
 }

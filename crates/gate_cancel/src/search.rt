@@ -36,11 +36,11 @@ pub(crate) fn wires_of(gate: Gate) -> (u32, u32)
 }
 
 /// The next gate on one of the wires, and the reach with it; none where one of the wires has no gate behind.
-fn ahead(body: &Circuit, slot: Slot, reach: Reach) -> Option<(Slot, Reach)>
+fn ahead(body: &Circuit, slot: Slot, reach: &Reach) -> Option<(Slot, Reach)>
     requires live { IsLive body.now slot }
-    requires reach { IsReach body.now slot reach }
+    requires reach { IsReach body.now slot reach.now }
     ensures { MatchOption result ((j : ℕ) → ¬ (IsReducible body.now.gates (place_of slot body.now.slots) j))
-        (λ p. IsAhead body.now slot reach p.0 p.1) }
+        (λ p. IsAhead body.now slot reach.now p.0 p.1) }
 {
     let (first, second) = wires_of(body.gate_at(slot));
     let Some(a) = body.next_on(reach.first, first) else {
@@ -52,55 +52,61 @@ fn ahead(body: &Circuit, slot: Slot, reach: Reach) -> Option<(Slot, Reach)>
     let place = body.place(a);
     let other = body.place(b);
     if place < other {
-        let further = Reach { first: a, second: reach.second };
+        let further = Reach {
+            first: a,
+            second: reach.second,
+        };
         return Some((a, further));
     }
     if other < place {
-        let further = Reach { first: reach.first, second: b };
+        let further = Reach {
+            first: reach.first,
+            second: b,
+        };
         return Some((b, further));
     }
-    Some((a, Reach { first: a, second: b }))
+    Some((
+        a,
+        Reach {
+            first: a,
+            second: b,
+        },
+    ))
 }
 
 /// What the next gate on the wires is to the gate in a slot.
-fn meet(body: &Circuit, slot: Slot, reach: Reach) -> Met
+fn meet(body: &Circuit, slot: Slot, reach: &Reach) -> Met
     requires live { IsLive body.now slot }
-    requires reach { IsReach body.now slot reach }
-    ensures { IsMet body.now slot reach result }
+    requires reach { IsReach body.now slot reach.now }
+    ensures { IsMet body.now slot reach.now result }
 {
-    let Some((next, further)) = ahead(body, slot, reach) else {
+    let Some(found) = ahead(body, slot, reach) else {
         return Met::Blocked;
     };
     let gate = body.gate_at(slot);
-    let other = body.gate_at(next);
+    let other = body.gate_at(found.0);
     if is_partner(gate, other) {
-        return Met::Partner(next);
+        return Met::Partner(found.0);
     }
     if commute(gate, other) {
-        return Met::Passed(further);
+        return Met::Passed(found.1);
     }
     Met::Blocked
 }
 
-/// The partner of the gate in a slot, from a reach on, which goes along.
-pub(crate) fn search(body: &Circuit, slot: Slot, reach: &mut Reach) -> Option<Slot>
+/// The partner of the gate in a slot, from a reach on, and the reach that the search comes to.
+pub(crate) fn search(body: &Circuit, slot: Slot, reach: Reach) -> (Option<Slot>, Reach)
     requires live { IsLive body.now slot }
-    requires reach { IsReach body.now slot reach.old }
-    ensures reach { IsReach body.now slot reach.new }
-    ensures partner { MatchOption result ((j : ℕ) → ¬ (IsReducible body.now.gates (place_of slot body.now.slots) j))
+    requires reach { IsReach body.now slot reach }
+    ensures reach { IsReach body.now slot result.1 }
+    ensures partner { MatchOption result.0 ((j : ℕ) → ¬ (IsReducible body.now.gates (place_of slot body.now.slots) j))
         (λ t. IsLive body.now t × IsReducible body.now.gates (place_of slot body.now.slots) (place_of t body.now.slots)) }
 {
-    let mut here = *reach;
+    let mut here = reach;
     'along: loop {
-        match meet(body, slot, here) {
-            Met::Partner(partner) => {
-                *reach = here;
-                return Some(partner);
-            }
-            Met::Blocked => {
-                *reach = here;
-                return None;
-            }
+        match meet(body, slot, &here) {
+            Met::Partner(partner) => return (Some(partner), here),
+            Met::Blocked => return (None, here),
             Met::Passed(further) => here = further,
         }
     }

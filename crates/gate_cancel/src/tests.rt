@@ -1,10 +1,10 @@
 //! Worked rows, and the list of a plain program.
 
-ghost use Rattle.std.specs.Prelude.{◌≡◌, ℕ, ◌<◌, ◌≤◌, IfOk, true};
+ghost use Rattle.std.specs.Prelude.{◌≡◌, ◌<◌, ◌≤◌, true};
 ghost use Rattle.circuit_list.specs.Gates.{IsFine};
 
 use crate::CancelPass;
-use circuit_list::{Circuit, Gate, Passed};
+use circuit_list::{Circuit, Gate};
 use commute_rules::{Cancel, cancels, commute};
 use rewrite_pass::Pass;
 use std::alloc::Global;
@@ -13,14 +13,23 @@ use std::test::Fail;
 use unitary_model::turn_sum;
 
 const H0: Gate = Gate::H { q: 0 };
+
 const H1: Gate = Gate::H { q: 1 };
+
 const X0: Gate = Gate::X { q: 0 };
+
 const X1: Gate = Gate::X { q: 1 };
+
 const T0: Gate = Gate::P { k: 1, q: 0 };
+
 const T1: Gate = Gate::P { k: 1, q: 1 };
+
 const S0: Gate = Gate::P { k: 2, q: 0 };
+
 const TDG0: Gate = Gate::P { k: 7, q: 0 };
+
 const CX01: Gate = Gate::Cx { c: 0, t: 1 };
+
 const CX02: Gate = Gate::Cx { c: 0, t: 2 };
 
 fn is_fine(wires: u32, gate: Gate) -> bool
@@ -45,7 +54,14 @@ fn circuit(rt: &impl Abort, alloc: Global, wires: u32, gates: &[Gate]) -> Result
 }
 
 /// Whether the pass makes these gates, with this turn, of others.
-fn makes(rt: &impl Abort, alloc: Global, wires: u32, gates: &[Gate], expected: &[Gate], turn: u8) -> Result<bool, Fail>
+fn makes(
+    rt: &impl Abort,
+    alloc: Global,
+    wires: u32,
+    gates: &[Gate],
+    expected: &[Gate],
+    turn: u8,
+) -> Result<bool, Fail>
     requires { wires ≤ 64 }
 {
     let body = circuit(rt, alloc, wires, gates)?;
@@ -95,6 +111,29 @@ fn partner(gates: &[Gate], place: usize) -> Option<usize> {
     None
 }
 
+/// What the book does with a pair. Its turn.
+fn plain_step(rt: &impl Abort, gates: &mut Vec<Gate>, place: usize, later: usize) -> u8
+    ensures { result < 8 }
+{
+    assert!(rt; place < later && later < gates.len());
+    let first = gates[place];
+    let second = gates.remove(later);
+    match cancels(first, second) {
+        Cancel::No => 0,
+        Cancel::Merge { k } => {
+            if let Gate::P { k: _, q } = first {
+                gates[place] = Gate::P { k, q };
+            }
+            0
+        }
+        Cancel::Both { turn } => {
+            let _first = gates.remove(place);
+            assert!(rt; turn < 8);
+            turn
+        }
+    }
+}
+
 /// One walk by the book. Whether it changed anything, and its turn.
 fn plain_walk(rt: &impl Abort, gates: &mut Vec<Gate>) -> (bool, u8)
     ensures { result.1 < 8 }
@@ -106,24 +145,12 @@ fn plain_walk(rt: &impl Abort, gates: &mut Vec<Gate>) -> (bool, u8)
         if place >= gates.len() {
             break;
         }
-        let Some(later) = partner(gates, place) else {
-            place += 1;
-            continue;
-        };
-        assert!(rt; place < later && later < gates.len());
-        changed = true;
-        match (gates[place], cancels(gates[place], gates[later])) {
-            (Gate::P { k: _, q }, Cancel::Merge { k }) => {
-                let _merged = gates.remove(later);
-                gates[place] = Gate::P { k, q };
+        match partner(gates, place) {
+            Some(later) => {
+                changed = true;
+                turn = turn_sum(turn, plain_step(rt, gates, place, later));
             }
-            (_, Cancel::Both { turn: more }) => {
-                let _second = gates.remove(later);
-                let _first = gates.remove(place);
-                assert!(rt; more < 8);
-                turn = turn_sum(turn, more);
-            }
-            _ => {}
+            None => place += 1,
         }
     }
     (changed, turn)

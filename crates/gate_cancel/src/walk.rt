@@ -13,35 +13,35 @@ use unitary_model::turn_sum;
 /// Goes from the first place to the last. Its turn, or none where no gate has a partner.
 pub(crate) fn walk_all(body: &mut Circuit, queue: &mut Queue) -> Result<Option<u8>, AllocError>
     ensures wires { IfOk result (λ o. body.new.wires ≡ body.old.wires) }
-    ensures walked { IfOk result (λ o. MatchOption o (NoReducible body.old.gates × (body.new.gates ≡ body.old.gates))
+    ensures walked { IfOk result (λ o. MatchOption o (NoReducible body.new.gates × (body.new.gates ≡ body.old.gates))
         (IsReduced body.old.wires body.old.gates body.new.gates)) }
 {
-    let mut turn = None;
+    let mut changed = false;
+    let mut turn = 0;
     let mut place = 0;
     'places: while place < body.len() {
         let slot = body.slot(place);
         match settle(body, slot, queue)? {
             Settled::Same => place += 1,
             Settled::Merged => {
-                turn = Some(with_turn(turn, 0));
+                changed = true;
                 place += 1;
             }
-            Settled::Gone { turn: more } => turn = Some(with_turn(turn, more)),
+            Settled::Gone { turn: more } => {
+                changed = true;
+                turn = turn_sum(turn, more);
+            }
         }
     }
-    Ok(turn)
-}
-
-/// The sum of two turns, of which the first may be none.
-fn with_turn(turn: Option<u8>, more: u8) -> u8 {
-    match turn {
-        Some(turn) => turn_sum(turn, more),
-        None => more,
-    }
+    Ok(if changed { Some(turn) } else { None })
 }
 
 /// Walks over the queue, until it is empty.
-pub(crate) fn walk_queue(alloc: Global, body: &mut Circuit, queue: &mut Queue) -> Result<u8, AllocError>
+pub(crate) fn walk_queue(
+    alloc: Global,
+    body: &mut Circuit,
+    queue: &mut Queue,
+) -> Result<u8, AllocError>
     ensures wires { IfOk result (λ t. body.new.wires ≡ body.old.wires) }
     ensures cancelled { IfOk result (IsCancelled body.old.wires body.old.gates body.new.gates) }
 {
@@ -65,18 +65,31 @@ fn visit(body: &mut Circuit, slots: &[Slot], queue: &mut Queue) -> Result<u8, Al
 {
     let mut turn = 0;
     'slots: for slot in slots {
-        let place = place_in(body, *slot);
-        if place < body.len() {
-            let here = body.slot(place);
-            if here == *slot {
-                match settle(body, here, queue)? {
-                    Settled::Same | Settled::Merged => {}
-                    Settled::Gone { turn: more } => turn = turn_sum(turn, more),
-                }
-            }
-        }
+        let more = revisit(body, *slot, queue)?;
+        turn = turn_sum(turn, more);
     }
     Ok(turn)
+}
+
+/// Settles the gate in a slot, if it is still there. Its turn.
+#[tactic(auto, using(crate::proofs::SettledLaws::cancelled_laws))]
+fn revisit(body: &mut Circuit, slot: Slot, queue: &mut Queue) -> Result<u8, AllocError>
+    ensures wires { IfOk result (λ t. body.new.wires ≡ body.old.wires) }
+    ensures cancelled { IfOk result (IsCancelled body.old.wires body.old.gates body.new.gates) }
+{
+    let place = place_in(body, slot);
+    if place == body.len() {
+        return Ok(0);
+    }
+    let here = body.slot(place);
+    if here != slot {
+        return Ok(0);
+    }
+    match settle(body, here, queue)? {
+        Settled::Same => Ok(0),
+        Settled::Merged => Ok(0),
+        Settled::Gone { turn } => Ok(turn),
+    }
 }
 
 /// The first place whose slot isn't before a slot, which may be gone.

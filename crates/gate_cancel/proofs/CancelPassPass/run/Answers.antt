@@ -1,0 +1,21 @@
+use Rattle.std.proofs.Common.{◌≡◌, subst, ◌∙◌, MatchOption}
+use Rattle.commute_rules.specs.Reducible.{NoReducible}
+use Rattle.gate_cancel.specs.Reductions.{IsCancelled, IsReduced}
+use Rattle.gate_cancel.proofs.SettledLaws.{IsCancelled_trans, reduced-cancelled}
+use Rattle.gate_cancel.proofs.CancelPassPass.run.Goals as goal
+
+pub walks-preserved : goal.walks-preserved
+walks-preserved c =
+    let n = c.args.body.wires in
+    let now = c.walks.body in
+    let all = c.walk_all.new.body in
+    let last = c.walk_queue.new.body in
+    let more = subst (λ o. MatchOption o (NoReducible all.gates × (all.gates ≡ now.gates)) (IsReduced now.wires now.gates all.gates)) c.in-Some.is c.in_ok-more.ensures.walked in
+    let same = c.in_ok-more.ensures.wires ∙ c.walks.invariant.wires in
+    let both = IsCancelled_trans n now.gates all.gates last.gates c.in-Some.more c.in_ok-rest.rest c.turn_sum.result
+    (subst (λ w. IsCancelled w now.gates all.gates c.in-Some.more) c.walks.invariant.wires (reduced-cancelled now.wires now.gates all.gates c.in-Some.more more))
+    (subst (λ w. IsCancelled w all.gates last.gates c.in_ok-rest.rest) same c.in_ok-rest.ensures.cancelled) c.turn_sum.ensures.sum in
+    record {
+      wires = c.in_ok-rest.ensures.wires ∙ same;
+      so_far = IsCancelled_trans n c.args.body.gates now.gates last.gates c.walks.turn c.turn_sum.result c.turn_sum-turn.result c.walks.invariant.so_far both c.turn_sum-turn.ensures.sum;
+    }

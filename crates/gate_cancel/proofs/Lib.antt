@@ -1,0 +1,5 @@
+pub mod GateLaws
+pub mod SearchLaws
+pub mod ListLaws
+pub mod ReductionLaws
+pub mod SettledLaws

@@ -1,0 +1,9 @@
+use Rattle.std.proofs.Common.{◌≡◌}
+use Rattle.gate_cancel.specs.Reductions.{IsCancelled}
+use Rattle.gate_cancel.proofs.walk.walk_queue.Given as goal
+
+abbrev pub invariant-walks : goal.invariant-walks
+invariant-walks l = record {
+  wires : l.body.wires ≡ l.fn.body.wires;
+  so_far : IsCancelled l.fn.body.wires l.fn.body.gates l.body.gates l.turn;
+}
