@@ -30,6 +30,7 @@ use totals::Totals;
 /// Rotation merging (Nam et al. 2018, section 4.4; VOQC; Amy, Maslov and Mosca 2014). Each phase has the label of its wire: a set
 /// of path variables and a complement bit. Of the phases with one set the first takes the total, in units of pi/4 modulo 8, and
 /// the others go; it goes too where the total is 0. A phase whose bit is set counts inverted, and its angle goes to the turn.
+#[derive(Clone, Copy, Debug)]
 pub struct MergePass;
 
 impl Pass for MergePass {
