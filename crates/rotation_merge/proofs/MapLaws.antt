@@ -11,7 +11,7 @@ use Rattle.std.specs.Cmp.Lexicographic.{pointwise, bytes_decides}
 use Rattle.std.specs.declared.alloc.Global.{Global}
 use Rattle.std.proofs.lemmas.Bool.Decides.{nat_tests}
 use Rattle.circuit_list.specs.declared.Gate.{Gate}
-use Rattle.circuit_list.specs.declared.Gate.TheVariants.{H, X, P, Cx}
+use Rattle.circuit_list.specs.declared.Gate.TheVariants.{P}
 use Rattle.path_parity.specs.declared.label.Label.{Label}
 use Rattle.path_parity.specs.PathSum.{PathLabel, Wires}
 use Rattle.path_parity.specs.Sets.{set_of, label_of, IsIncreasing, IsLabel}

@@ -8,7 +8,7 @@
 --     merged-short            merging adds no gate
 --     merged-gone             a P of a set with nothing left goes
 --     merged-same             either there are fewer gates, or all stay as they are
-use Rattle.std.proofs.Common.{◌≡◌, ◌≢◌, ℕ, suc, ◌+◌, ◌-◌, ◌%◌, ◌<◌, ◌≤◌, Bool, true, false, cond, List, [], ◌∷◌, ◌++◌, length, refl, sym, ◌∙◌, ap, subst, arith, zero-add, ◌⊎◌, inl, inr}
+use Rattle.std.proofs.Common.{◌≡◌, ℕ, suc, ◌+◌, ◌-◌, ◌%◌, ◌<◌, ◌≤◌, Bool, true, false, cond, List, [], ◌∷◌, ◌++◌, length, refl, sym, ◌∙◌, ap, subst, arith, zero-add, inl, inr}
 use Rattle.std.specs.Prelude.{nat_eq}
 use Rattle.std.proofs.lemmas.Bool.Decides.{nat_tests}
 use Rattle.circuit_list.specs.declared.Gate.{Gate}
@@ -19,8 +19,8 @@ use Rattle.path_parity.proofs.MergeLaws.{marks, frame}
 use Rattle.path_parity.proofs.MergeSums.{signed, constant}
 use Rattle.path_parity.proofs.MarkLaws.{AreFine}
 use Rattle.rewrite_pass.specs.Law.{IsSmallerOrSame}
-use Rattle.rotation_merge.specs.Merging.{signed_phase, with_total, totals_from, constant_from, constant_phase, kept_phase, kept_constant, merged_constant, merged_from, left_after, totals_after}
-use Rattle.rotation_merge.proofs.MarkLists.{kept_mark, kept_marks, has, equal, own, zero_test, none_left, still_none, small_left, signed-signed, total-has}
+use Rattle.rotation_merge.specs.Merging.{signed_phase, with_total, totals_from, constant_from, constant_phase, kept_phase, merged_constant, merged_from, left_after}
+use Rattle.rotation_merge.proofs.MarkLists.{kept_marks, has, equal, own, zero_test, none_left, small_left, signed-signed, total-has}
 
 pub frame-merged : (gs : List Gate) (w : Wires) (n : ℕ) (T : ℕ → ℕ) → frame (merged_from gs w n T) ≡ frame gs
 frame-merged [] w n T = refl

@@ -6,11 +6,11 @@
 --     result-rewriting        the law
 --     result-smaller          fewer gates, or the same
 --     merged-law, merged-shape, merged-kept       the same of what the code gives
-use Rattle.std.proofs.Common.{◌≡◌, ℕ, suc, ◌+◌, ◌%◌, ◌<◌, ◌≤◌, false, List, [], ◌∷◌, All, length, refl, sym, ◌∙◌, ap, subst, arith, zero-add}
+use Rattle.std.proofs.Common.{◌≡◌, ℕ, suc, ◌+◌, ◌%◌, ◌<◌, ◌≤◌, List, [], ◌∷◌, All, refl, sym, ◌∙◌, ap, subst, arith, zero-add}
 use Rattle.std.specs.Prelude.{nat_eq}
 use Rattle.std.specs.List.{AllByRecursion}
 use Rattle.std.proofs.lemmas.List.Elements.{All-from_recursion}
-use Rattle.unitary_model.specs.Acts.{Turns, Bits}
+use Rattle.unitary_model.specs.Acts.{Turns}
 use Rattle.unitary_model.specs.Operations.{t_count, cx_count}
 use Rattle.unitary_model.specs.OddPaths.{odd_paths}
 use Rattle.unitary_model.proofs.OddCount.{odd_paths-t_count}
@@ -22,14 +22,14 @@ use Rattle.path_parity.specs.PathSum.{PathLabel, own_labels}
 use Rattle.path_parity.specs.OddLabels.{is_odd, IsOnce}
 use Rattle.path_parity.proofs.Totals.{total}
 use Rattle.path_parity.proofs.MergeLaws.{marks, frame, start}
-use Rattle.path_parity.proofs.MergeSums.{signed, constant, Eighths, merge_pass_law}
+use Rattle.path_parity.proofs.MergeSums.{signed, constant, merge_pass_law}
 use Rattle.path_parity.proofs.MarkLaws.{AreFine, fine_from_all, marks-start, odd_marks, odd_paths-marks, t_count-marks, marks-eighths}
 use Rattle.path_parity.proofs.OddLaws.{par_from_odd, odd_size-same, odd_size-once}
 use Rattle.rewrite_pass.specs.Law.{IsRewriting, IsSmallerOrSame}
-use Rattle.rewrite_pass.proofs.RewritingLaws.{Turned, Turned-IsRewriting}
+use Rattle.rewrite_pass.proofs.RewritingLaws.{Turned-IsRewriting}
 use Rattle.rotation_merge.specs.Merging.{totals_of, merged, constant_of}
 use Rattle.rotation_merge.specs.Sums.{IsMerged}
-use Rattle.rotation_merge.proofs.MarkLists.{kept_marks, has, total-has, total-kept, once-kept, is_odd-total}
+use Rattle.rotation_merge.proofs.MarkLists.{kept_marks, total-has, total-kept, once-kept, is_odd-total}
 use Rattle.rotation_merge.proofs.MergedLaws.{frame-merged, marks-merged, merged-fine, totals_from-marks, constant_from-marks, merged-same}
 
 -- the marks from the wires' own labels

@@ -1,5 +1,5 @@
 -- The walk begins, goes on, and ends.
-use Rattle.std.proofs.Common.{◌+◌, ◌-◌, ◌%◌, ◌∙◌, ap, refl, arith}
+use Rattle.std.proofs.Common.{◌-◌, ◌%◌, ◌∙◌, ap, refl, arith}
 use Rattle.path_parity.specs.PathSum.{own_labels}
 use Rattle.rotation_merge.proofs.RunLaws.{writing-start, writing-more, writing-end}
 use Rattle.rotation_merge.proofs.rewritten.Goals as goal
