@@ -17,22 +17,23 @@ use Rattle.rewrite_pass.specs.Law.{IsRewriting}
 use Rattle.qroute_top.specs.Targets.{IsOptimised, Stands}
 use Rattle.qroute_top.specs.declared.target.Target.{Target}
 
-pub IsOptimised-rewritten : (n : ℕ) (S : List Op) (e c r : Passed) → e.body.wires ≡ n → e.turn < 8 → SameUpTo e.turn n S (ops e.body.gates)
+pub IsOptimised-rewritten : (n : ℕ) (S : List Op) (e r : Passed) (t : ℕ) → e.body.wires ≡ n → e.turn < 8 → SameUpTo e.turn n S (ops e.body.gates)
     → odd_paths n (ops e.body.gates) ≡ odd_paths n S → cx_count (ops e.body.gates) ≡ cx_count S
     → r.body.wires ≡ e.body.wires → IsRewriting e.body.wires e.body.gates r.body.gates r.turn
-    → t_count (ops r.body.gates) ≡ odd_paths e.body.wires (ops r.body.gates) → c.body ≡ r.body → c.turn ≡ (e.turn + r.turn) % 8 → IsOptimised n S c
-IsOptimised-rewritten n S e c r wires below same odd cx r_wires law least body turn =
+    → t_count (ops r.body.gates) ≡ odd_paths e.body.wires (ops r.body.gates) → t ≡ (e.turn + r.turn) % 8
+    → IsOptimised n S (record { body = r.body; turn = t })
+IsOptimised-rewritten n S e r t wires below same odd cx r_wires law least turn =
     let E = ops e.body.gates in
     let R = ops r.body.gates in
     let both = SameUpTo_trans e.turn r.turn n S E R below law.below same (rw wires at law.same) in
-    let t : t_count R ≡ odd_paths n R = rw wires at least in
+    let all : t_count R ≡ odd_paths n R = rw wires at least in
     let fewer : odd_paths n R ≤ odd_paths n E = rw wires at law.odd_paths in
     record {
-      wires = ap (λ b. b.wires) body ∙ (r_wires ∙ wires);
+      wires = r_wires ∙ wires;
       below = omega (arith, turn);
-      same = rw (body, turn) both;
-      t_gates = rw body (omega (arith, t, fewer, odd));
-      cx_gates = rw body (omega (arith, law.cx_gates, cx));
+      same = rw turn both;
+      t_gates = omega (arith, all, fewer, odd);
+      cx_gates = omega (arith, law.cx_gates, cx);
     }
 
 -- the target's own wires, placements and turn are variables here, which the caller has equations for
@@ -60,4 +61,4 @@ Stands-routed n m S c t first j is wires realises initial turn t_same cx_more =
       cx_gates = omega (arith, is.cx_gates, cx_more);
     }
 
-pub ruleset targets = (IsOptimised-rewritten, Stands-in_place, Stands-routed)
+pub ruleset targets = (Stands-in_place, Stands-routed)

@@ -34,17 +34,19 @@ pub struct Target {
 }
 
 /// The circuit of a source's operations after all passes, and its turn against the source.
-#[tactic(auto, using(crate::proofs::TargetLaws::targets))]
 pub fn optimised(alloc: Global, source: &Ops) -> Result<Passed, AllocError>
     requires few { source.now.wires ≤ 64 }
     requires fine { All (IsFineOp source.now.wires) source.now.list }
     ensures { IfOk result (IsOptimised source.now.wires source.now.list) }
 {
-    let expanded = expand(alloc, source)?;
-    let passed = rewritten(alloc, expanded.body)?;
+    let Passed { body, turn } = expand(alloc, source)?;
+    let Passed {
+        body,
+        turn: further,
+    } = rewritten(alloc, body)?;
     Ok(Passed {
-        body: passed.body,
-        turn: turn_sum(expanded.turn, passed.turn),
+        body,
+        turn: turn_sum(turn, further),
     })
 }
 
