@@ -3,14 +3,15 @@
 //! Two gates that cancel are of one kind and on the same wires, and the gates between them commute with both. So only a gate
 //! in front of both can have met either as the first that blocks it, and that was the first of the two. On a wire of the
 //! pair such a gate stands in the last run of gates in front that commute with each other there, since each earlier one is
-//! blocked by the run. It can newly go on only where the gate behind the first of the pair doesn't block the run too.
+//! blocked by the run, and of gates that cancel with each other the last one, which is the partner of those before it. It can
+//! newly go on only where the gate behind the first of the pair doesn't block the run too.
 
 ghost use Rattle.std.specs.Prelude.{◌≡◌, ℕ, IfSome, true};
 ghost use Rattle.circuit_list.specs.Slots.{IsLive, is_on_at, place_of};
 ghost use Rattle.commute_rules.specs.Reducible.{IsReducible};
 
 use crate::search::{is_partner, wires_of};
-use circuit_list::{Circuit, Slot};
+use circuit_list::{Circuit, Gate, Slot};
 use commute_rules::commute;
 use std::alloc::{AllocError, Global};
 use std::mem;
@@ -19,7 +20,7 @@ use std::mem;
 #[derive(Drop)]
 pub(crate) struct Queue {
     slots: Vec<Slot>,
-    /// For each wire the last slot noted along it; all earlier gates of its run are noted too.
+    /// For each wire the last slot noted along it; what stands before it in its run is noted too, as far as need be.
     noted: [Option<Slot>; 64],
 }
 
@@ -89,7 +90,7 @@ impl Queue {
         Ok(())
     }
 
-    /// Notes a gate and those in front of it on a wire, up to the first that doesn't commute with it.
+    /// Notes a gate and those in front of it on a wire, the last of each kind, up to the first that doesn't commute with it.
     fn note_run(&mut self, body: &Circuit, front: Slot, wire: u32) -> Result<(), AllocError>
         requires live { IsLive body.now front }
         requires on { is_on_at wire body.now.gates (place_of front body.now.slots) ≡ true }
@@ -98,17 +99,32 @@ impl Queue {
         let index = (wire % 64) as usize;
         let before = self.noted[index];
         self.noted[index] = Some(front);
+        let mut kinds = kind(gate, wire);
         let mut slot = front;
         self.slots.push(slot)?;
         'run: while let Some(earlier) = body.prev_on(slot, wire) {
-            if is_noted(&before, slot) || !commute(gate, body.gate_at(earlier)) {
+            let other = body.gate_at(earlier);
+            if is_noted(&before, slot) || !commute(gate, other) {
                 break;
             }
-            self.slots.push(earlier)?;
+            let kind = kind(other, wire);
+            if kinds & kind == 0 {
+                kinds |= kind;
+                self.slots.push(earlier)?;
+            }
             slot = earlier;
         }
         Ok(())
     }
+}
+
+/// Of the gates of a run on a wire a bit for each kind: those of one kind cancel or merge with each other.
+fn kind(gate: Gate, wire: u32) -> u64 {
+    let other = match gate {
+        Gate::H { q } | Gate::X { q } | Gate::P { k: _, q } => q,
+        Gate::Cx { c, t } => { if c == wire { t } else { c } }
+    };
+    1 << (other % 64)
 }
 
 /// Whether a slot isn't behind the last one noted.
