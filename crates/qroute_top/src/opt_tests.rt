@@ -143,11 +143,7 @@ fn writes_what_the_passes_leave(rt: HostRuntime) -> Result<(), Fail> {
             "qreg q[2];\ncx q[0],q[1];\nx q[0];\nx q[1];\n",
             2,
         ),
-        (
-            "qreg q[1]; y q[0];",
-            "qreg q[1];\nz q[0];\nx q[0];\n",
-            6,
-        ),
+        ("qreg q[1]; y q[0];", "qreg q[1];\nz q[0];\nx q[0];\n", 6),
         (
             "qreg q[1]; h q[0]; s q[0]; h q[0];",
             "qreg q[1];\nsdg q[0];\nh q[0];\nsdg q[0];\n",
