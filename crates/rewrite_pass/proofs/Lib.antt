@@ -1,0 +1,4 @@
+pub mod RewritingLaws
+pub mod EditLaws
+pub mod MakeLaws
+pub mod FlipLaws

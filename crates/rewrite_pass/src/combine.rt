@@ -1,0 +1,98 @@
+//! Passes made of passes.
+
+ghost use Rattle.std.specs.Prelude.{◌≡◌, ℕ, ◌<◌, ◌≤◌, List, length, IfOk};
+ghost use Rattle.circuit_list.specs.declared.Gate.{Gate};
+ghost use Rattle.rewrite_pass.specs.Law.{IsRewriting};
+
+use crate::pass::{Pass, Shrinks};
+use crate::rule::Rule;
+use crate::sweep::swept_by;
+use circuit_list::{Circuit, Passed};
+use std::alloc::{AllocError, Global};
+use unitary_model::turn_sum;
+
+/// One pass after another. The results have the shape of the second.
+pub struct Then<A, B>(pub A, pub B);
+
+impl<A: Pass, B: Pass> Pass for Then<A, B> {
+    ghost shape = { B.shape };
+
+    ghost kept = { λ _ _ _. Unit {0} };
+
+    fn run(&self, alloc: Global, body: Circuit) -> Result<Passed, AllocError> {
+        let first = self.0.run(alloc, body)?;
+        let second = self.1.run(alloc, first.body)?;
+        let turn = turn_sum(first.turn, second.turn);
+        Ok(Passed {
+            body: second.body,
+            turn,
+        })
+    }
+}
+
+/// A pass again and again, while that makes the circuit smaller: the last result that has fewer gates than the one before.
+pub struct WhileSmaller<P>(pub P);
+
+impl<P: Pass> Pass for WhileSmaller<P> {
+    ghost shape = { P.shape };
+
+    ghost kept = { λ _ _ _. Unit {0} };
+
+    fn run(&self, alloc: Global, body: Circuit) -> Result<Passed, AllocError> {
+        smallest(alloc, &self.0, body)
+    }
+}
+
+/// What [`WhileSmaller`] gives: a result which one more round does not make smaller.
+fn smallest<P: Pass>(alloc: Global, pass: &P, body: Circuit) -> Result<Passed, AllocError>
+    ensures wires { IfOk result (λ p. p.body.wires ≡ body.wires) }
+    ensures law { IfOk result (λ p. IsRewriting body.wires body.gates p.body.gates p.turn) }
+    ensures shape { IfOk result (λ p. P.shape body.wires p.body.gates) }
+    ensures again { IfOk result (λ p. (gs : List Gate) × (P.kept body.wires p.body.gates gs × (length p.body.gates ≤ length gs))) }
+{
+    let mut keep = pass.run(alloc, body)?;
+    'rounds: loop {
+        let copy = keep.body.copy()?;
+        let next = pass.run(alloc, copy)?;
+        if next.body.len() >= keep.body.len() {
+            return Ok(keep);
+        }
+        let turn = turn_sum(keep.turn, next.turn);
+        keep = Passed {
+            body: next.body,
+            turn,
+        };
+    }
+}
+
+/// A rule's sweep and two passes, again and again, until the passes leave as many gates as the sweep did. Nothing is left to
+/// do then: no window, and each pass's shape.
+pub struct Settle<R, A, B>(pub R, pub A, pub B);
+
+impl<R: Rule, A: Shrinks, B: Shrinks> Pass for Settle<R, A, B> {
+    ghost use Rattle.std.specs.Prelude.{ℕ, ◌<◌, length};
+
+    ghost shape = { λ n gs. ((i : ℕ) → i < length gs → R.window gs i → ⊥) × A.shape n gs × B.shape n gs };
+
+    ghost kept = { λ _ _ _. Unit {0} };
+
+    fn run(&self, alloc: Global, body: Circuit) -> Result<Passed, AllocError> {
+        let mut keep = Passed { body, turn: 0 };
+        'rounds: loop {
+            let swept = swept_by(alloc, &self.0, keep.body)?;
+            let count = swept.body.len();
+            let first = self.1.run(alloc, swept.body)?;
+            let second = self.2.run(alloc, first.body)?;
+            let one = turn_sum(keep.turn, swept.turn);
+            let two = turn_sum(one, first.turn);
+            let turn = turn_sum(two, second.turn);
+            keep = Passed {
+                body: second.body,
+                turn,
+            };
+            if keep.body.len() >= count {
+                return Ok(keep);
+            }
+        }
+    }
+}
