@@ -1,0 +1,77 @@
+//! Path labels of a circuit over H, X, CNOT and phases.
+#![tactic(auto)]
+
+mod label;
+mod odd_set;
+mod walk;
+
+ghost use Rattle.std.specs.Prelude.{◌≡◌, ◌++◌, All, IfOk, OnOk, length, map};
+ghost use Rattle.circuit_list.specs.Gates.{IsFine, ops};
+ghost use Rattle.path_parity.specs.LabelWalks.{labels_at};
+ghost use Rattle.path_parity.specs.PathSum.{own_labels, phase_label, phase_labels};
+ghost use Rattle.path_parity.specs.Sets.{IsLabel, label_of};
+ghost use Rattle.unitary_model.specs.OddPaths.{odd_paths};
+
+pub use label::Label;
+pub use walk::Walk;
+
+use circuit_list::{Circuit, Gate};
+use odd_set::OddSet;
+use std::alloc::{AllocError, Global};
+
+/// Labels, in order.
+#[derive(Debug, Drop)]
+pub struct Labels {
+    pub list: Vec<Label>,
+}
+
+/// The label at each P gate of a circuit, in order. Fails for want of memory alone.
+pub fn labels_of(alloc: Global, circuit: &Circuit) -> Result<Labels, AllocError>
+    ensures labels { IfOk result (λ ls. map label_of ls.list.items ≡ phase_labels circuit.now.gates (own_labels circuit.now.wires) circuit.now.wires) }
+    ensures increasing { IfOk result (λ ls. All IsLabel ls.list.items) }
+{
+    let mut walk = Walk::new(alloc, circuit.wires())?;
+    let mut list = Vec::new(alloc);
+    'places: for place in 0..circuit.len() {
+        let gate = circuit.gate(place);
+        note(alloc, &mut list, &walk, gate)?;
+        walk.pass(alloc, gate)?;
+    }
+    Ok(Labels { list })
+}
+
+/// Puts the label at a P behind the others.
+fn note(
+    alloc: Global,
+    list: &mut Vec<Label>,
+    walk: &Walk,
+    gate: Gate,
+) -> Result<(), AllocError>
+    requires fine { IsFine (length walk.now.labels) gate }
+    requires increasing { All IsLabel list.old.items }
+    ensures labels { OnOk result (map label_of list.new.items ≡ map label_of list.old.items ++ phase_label gate (labels_at walk.now)) }
+    ensures increasing { OnOk result (All IsLabel list.new.items) }
+{
+    match gate {
+        Gate::P { k: _, q } => {
+            let label = walk.label(q).copy(alloc)?;
+            list.push(label)?;
+        }
+        Gate::H { q: _ } | Gate::X { q: _ } | Gate::Cx { c: _, t: _ } => {}
+    }
+    Ok(())
+}
+
+/// The number of odd path parities of a circuit. Fails for want of memory alone.
+pub fn odd_paths(alloc: Global, circuit: &Circuit) -> Result<u64, AllocError>
+    ensures size { IfOk result (λ size. size ≡ odd_paths circuit.now.wires (ops circuit.now.gates)) }
+{
+    let mut walk = Walk::new(alloc, circuit.wires())?;
+    let mut odd = OddSet::new(alloc);
+    'places: for place in 0..circuit.len() {
+        let gate = circuit.gate(place);
+        odd.toggle_at(alloc, &walk, gate)?;
+        walk.pass(alloc, gate)?;
+    }
+    Ok(odd.len() as u64)
+}

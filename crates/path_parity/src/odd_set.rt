@@ -1,0 +1,66 @@
+//! The labels that were met an odd number of times.
+
+ghost use Rattle.std.specs.Prelude.{◌≡◌, ℕ, List, [], OnOk, length};
+ghost use Rattle.circuit_list.specs.Gates.{IsFine};
+ghost use Rattle.path_parity.specs.LabelWalks.{labels_at};
+ghost use Rattle.path_parity.specs.OddLabels.{odd_set, toggled_all};
+ghost use Rattle.path_parity.specs.OddSets.{IsOddSet};
+ghost use Rattle.path_parity.specs.Sets.{IsIncreasing, set_of};
+ghost use Rattle.unitary_model.specs.OddPaths.{toggle};
+
+use crate::walk::Walk;
+use circuit_list::Gate;
+use indexmap::IndexSet;
+use std::alloc::{AllocError, Global};
+
+/// Sets of path variables, each by its variables in order.
+#[derive(Drop)]
+pub struct OddSet {
+    sets: IndexSet<Vec<u64>>,
+}
+
+impl OddSet {
+    /// No set.
+    pub fn new(alloc: Global) -> OddSet
+        ensures none { IsOddSet result [] }
+    {
+        OddSet {
+            sets: IndexSet::new(alloc),
+        }
+    }
+
+    /// The number of sets.
+    pub fn len(&self) -> usize
+        ensures size { (s : List ℕ) → IsOddSet self.now s → result ≡ length s }
+    {
+        self.sets.len()
+    }
+
+    /// Puts a set in, or takes it out.
+    fn toggle(&mut self, alloc: Global, set: &[u64]) -> Result<(), AllocError>
+        requires increasing { IsIncreasing set.now }
+        ensures toggled { OnOk result ((s : List ℕ) → IsOddSet self.old s → IsOddSet self.new (toggle (set_of set.now) s)) }
+    {
+        let key = Vec::from_slice(alloc, set)?;
+        if !self.sets.swap_remove(&key) {
+            self.sets.insert(key)?;
+        }
+        Ok(())
+    }
+
+    /// Puts the set of the label at a P with an odd `k` in, or takes it out.
+    pub fn toggle_at(&mut self, alloc: Global, walk: &Walk, gate: Gate) -> Result<(), AllocError>
+        requires fine { IsFine (length walk.now.labels) gate }
+        ensures toggled { OnOk result ((s : List ℕ) → IsOddSet self.old s → IsOddSet self.new (toggled_all (odd_set gate (labels_at walk.now)) s)) }
+    {
+        match gate {
+            Gate::P { k, q } => {
+                if k % 2 == 1 {
+                    self.toggle(alloc, &walk.label(q).variables)?;
+                }
+            }
+            Gate::H { q: _ } | Gate::X { q: _ } | Gate::Cx { c: _, t: _ } => {}
+        }
+        Ok(())
+    }
+}
