@@ -6,7 +6,7 @@
 --     sum-filter              a sum over those that pass a test
 --     start-own_labels        the first labels, where the bits are those of a list
 --     amplitude-paths         the law
-use Rattle.std.proofs.Common.{◌≡◌, ℕ, zero, suc, ◌+◌, ◌^◌, ◌<◌, ◌≤◌, Bool, true, false, cond, List, [], ◌∷◌, ◌++◌, map, filter, length, refl, sym, subst, ◌∙◌, ap, arith, append_assoc, length-append, zero-add, add-one}
+use Rattle.std.proofs.Common.{◌≡◌, ℕ, zero, suc, ◌+◌, ◌^◌, ◌<◌, ◌≤◌, Bool, true, false, cond, List, [], ◌∷◌, ◌++◌, map, filter, length, refl, sym, subst, ◌∙◌, ap, arith, append_assoc, append-nil, length-append}
 use Rattle.std.proofs.Math.Path.{fun_ext}
 use Rattle.std.specs.Prelude.{nat_eq, nat_lt}
 use Rattle.std.proofs.lemmas.Bool.Decides.{nat_tests}
@@ -23,7 +23,7 @@ use Rattle.unitary_model.specs.Sums.{sum_over, all_bits}
 use Rattle.unitary_model.proofs.AmplitudeLaws.{front, amplitude-applied}
 use Rattle.unitary_model.proofs.JoinedAmplitude.{sum_over-append, sum_over-map}
 use Rattle.unitary_model.proofs.PlacementLaws.{front-identity}
-use Rattle.unitary_model.proofs.RingLaws.{nought-plus, turn-nought, double-double}
+use Rattle.unitary_model.proofs.RingLaws.{nought-plus, plus-nought, turn-nought, double-double}
 use Rattle.unitary_model.proofs.GateActs.{skew}
 use Rattle.path_parity.specs.PathSum.{PathLabel, label, value, Wires, fresh, own_labels, last_labels, exponent}
 use Rattle.path_parity.specs.PathForm.{hcount, over, norm}
@@ -80,19 +80,27 @@ put-last x b = fun_ext (λ p. at x p)
     at (a ∷ x) (suc p) = (λ i. cond (same p (length x) i) b (bit_of x p)) ∙ at x p
 
 pub over-sum : (h n : ℕ) (K : Bits → Ring) (x : List Bool) → length x ≡ n → over h n K (bit_of x) ≡ sum_over (all_bits h) (λ z. K (bit_of (x ++ z)))
-over-sum zero n K x e = ?
-over-sum (suc h) n K x e = (λ i. plus (half false i) (half true i)) ∙ sym (sum_over-append (map (λ z. false ∷ z) (all_bits h)) (map (λ z. true ∷ z) (all_bits h)) (λ z. K (bit_of (x ++ z))))
+over-sum zero n K x e = ap (λ z. K (bit_of z)) (sym (append-nil x)) ∙ sym (plus-nought (K (bit_of (x ++ []))))
+over-sum (suc h) n K x e =
+    (λ i. plus (half false (over-sum h (suc n) K (x ++ false ∷ []) (longer false)) i) (half true (over-sum h (suc n) K (x ++ true ∷ []) (longer true)) i))
+    ∙ sym (sum_over-append (map (λ z. false ∷ z) (all_bits h)) (map (λ z. true ∷ z) (all_bits h)) (λ z. K (bit_of (x ++ z))))
   where
-    half : (b : Bool) → over h (suc n) K (put (bit_of x) n b) ≡ sum_over (map (λ z. b ∷ z) (all_bits h)) (λ z. K (bit_of (x ++ z)))
-    half b = ?
+    longer : (b : Bool) → length (x ++ b ∷ []) ≡ suc n
+    longer b = omega (arith, length-append x (b ∷ []), e)
 
-pub sum-filter : {X : Type 0} (p : X → Bool) (xs : List X) (f : X → Ring) → sum_over xs (λ x. cond (p x) (f x) nought) ≡ sum_over (filter p xs) f
+    half : (b : Bool) → over h (suc n) K (bit_of (x ++ b ∷ [])) ≡ sum_over (all_bits h) (λ z. K (bit_of ((x ++ b ∷ []) ++ z))) →
+        over h (suc n) K (put (bit_of x) n b) ≡ sum_over (map (λ z. b ∷ z) (all_bits h)) (λ z. K (bit_of (x ++ z)))
+    half b r = ap (over h (suc n) K) ((λ i. put (bit_of x) (sym e i) b) ∙ put-last x b) ∙ r
+        ∙ ap (sum_over (all_bits h)) (fun_ext (λ z. ap (λ v. K (bit_of v)) (append_assoc x (b ∷ []) z)))
+        ∙ sym (sum_over-map (λ z. b ∷ z) (all_bits h) (λ z. K (bit_of (x ++ z))))
+
+pub sum-filter : {A : Type 0} (p : A → Bool) (xs : List A) (f : A → Ring) → sum_over xs (λ x. cond (p x) (f x) nought) ≡ sum_over (filter p xs) f
 sum-filter p [] f = refl
-sum-filter {X = X} p (x ∷ xs) f = ap (plus (cond (p x) (f x) nought)) (sum-filter p xs f) ∙ go (p x)
+sum-filter p (x ∷ xs) f = ap (plus (cond (p x) (f x) nought)) (sum-filter p xs f) ∙ go p x xs f (p x)
   where
-    go : (b : Bool) → plus (cond b (f x) nought) (sum_over (filter p xs) f) ≡ sum_over (cond b (x ∷ filter p xs) (filter p xs)) f
-    go true = refl
-    go false = nought-plus (sum_over (filter p xs) f)
+    go : {A : Type 0} (p : A → Bool) (x : A) (xs : List A) (f : A → Ring) (b : Bool) → plus (cond b (f x) nought) (sum_over (filter p xs) f) ≡ sum_over (cond b (x ∷ filter p xs) (filter p xs)) f
+    go p x xs f true = refl
+    go p x xs f false = nought-plus (sum_over (filter p xs) f)
 
 -- ---- the law
 pub start-own_labels : (n : ℕ) (x : List Bool) → length x ≡ n → start n (bit_of x) ≡ own_labels n
@@ -113,7 +121,32 @@ start-own_labels n x e = fun_ext (λ q. go q (nat_lt q n) refl)
 
 turned : (e : ℕ) (b : Bool) → turn e (cond b unit nought) ≡ cond b (turn e unit) nought
 turned e true = refl
-turned e false = sym (turn-nought e)
+turned e false = turn-nought e
+
+-- where the list has as many bits as there are wires
+paths-whole : (gs : List Gate) (x y : List Bool) → WiresBelow (length x) (ops gs) → amplitude (ops gs) x y ≡ path_amplitude (length x) gs x y
+unfolding bits_of
+paths-whole gs x y below =
+    let n = length x in
+    let h = hcount gs in
+    let w = start n (bit_of x) in
+    let m = x_and_p_count gs in
+    let f : Bits → Ring = λ z. cond (same_bits (front n z) y) unit nought in
+    let K : Bits → Ring = λ z. turn (exponent (h + n) z gs w n) (f (bits_of (h + n) z (last_labels gs w n))) in
+    let ends : (k : ℕ) (u : Wires) (v : List Bool) → List Bool = λ k u v. map (λ q. value (k + n) (bit_of v) (last_labels gs u n q)) (identity n) in
+    let T : (k : ℕ) (u : Wires) → Ring = λ k u. sum_over (all_bits k) (λ z. cond (same_bits (ends k u (x ++ z)) y) (turn (exponent (k + n) (bit_of (x ++ z)) gs u n) unit) nought) in
+    let each : (z : List Bool) → K (bit_of (x ++ z)) ≡ cond (same_bits (ends h w (x ++ z)) y) (turn (exponent (h + n) (bit_of (x ++ z)) gs w n) unit) nought =
+    λ z. ap (λ r. turn (exponent (h + n) (bit_of (x ++ z)) gs w n) (cond (same_bits r y) unit nought)) (front-identity n (bits_of (h + n) (bit_of (x ++ z)) (last_labels gs w n)))
+    ∙ turned (exponent (h + n) (bit_of (x ++ z)) gs w n) (same_bits (ends h w (x ++ z)) y) in
+    amplitude-applied (ops gs) x y below
+    ∙ ap (applied (ops gs) f) (sym (start_bits (h + n) n (bit_of x) (omega arith)))
+    ∙ path_law (h + n) gs w n (start_low n (bit_of x)) (omega arith) f (bit_of x)
+    ∙ norm-skewed gs (over h n K (bit_of x))
+    ∙ ap (λ r. double m (skewed h r)) (over-sum h n K x refl ∙ ap (sum_over (all_bits h)) (fun_ext each))
+    ∙ (λ i. double m (skewed (hcount-h_count gs i) (T (hcount-h_count gs i) (start-own_labels n x refl i))))
+    ∙ ap (λ r. double m (skewed (h_count gs) r))
+    (sym (sum_over-map (λ z. x ++ z) (all_bits (h_count gs)) (λ v. cond (same_bits (path_end n gs v) y) (turn (path_exponent n gs v) unit) nought))
+    ∙ sum-filter (λ v. same_bits (path_end n gs v) y) (paths_from n gs x) (λ v. turn (path_exponent n gs v) unit))
 
 pub amplitude-paths : (n : ℕ) (gs : List Gate) (x y : List Bool) → length x ≡ n → WiresBelow n (ops gs) → amplitude (ops gs) x y ≡ path_amplitude n gs x y
-amplitude-paths n gs x y e below = ?
+amplitude-paths n gs x y e below = subst (λ k. amplitude (ops gs) x y ≡ path_amplitude k gs x y) e (paths-whole gs x y (subst (λ k. WiresBelow k (ops gs)) (sym e) below))

@@ -5,8 +5,9 @@
 --     odd_marks ms            the sets of the marks with an odd k
 --     odd_sets-marks, odd_paths-marks     these are the odd sets; so there are as many odd path parities
 --     t_count-marks           and as many T gates as odd marks
+--     odd_paths-once          where no odd set stands twice, there are as many odd path parities as T gates
 --     marks-eighths           each k is below 8
-use Rattle.std.proofs.Common.{◌≡◌, ◌≢◌, ℕ, suc, ◌+◌, ◌%◌, ◌^◌, ◌<◌, Bool, true, false, cond, List, [], ◌∷◌, ◌++◌, map, length, refl, ◌∙◌, ap, arith, zero-add, All}
+use Rattle.std.proofs.Common.{◌≡◌, ◌≢◌, ℕ, suc, ◌+◌, ◌%◌, ◌^◌, ◌<◌, Bool, true, false, cond, List, [], ◌∷◌, ◌++◌, map, length, refl, sym, ◌∙◌, ap, arith, zero-add, All}
 use Rattle.std.specs.Prelude.{nat_eq, nat_lt}
 use Rattle.std.proofs.lemmas.Bool.Decides.{nat_tests}
 use Rattle.std.proofs.lemmas.List.Elements.{recursion_from_All}
@@ -18,10 +19,10 @@ use Rattle.unitary_model.specs.Acts.{Bits}
 use Rattle.unitary_model.specs.Operations.{t_count}
 use Rattle.unitary_model.specs.OddPaths.{odd_paths}
 use Rattle.path_parity.specs.PathSum.{PathLabel, label, Wires, with_label, add_labels, flipped, fresh, own_labels, phase_labels, last_labels}
-use Rattle.path_parity.specs.OddLabels.{odd_sets, odd_size}
+use Rattle.path_parity.specs.OddLabels.{odd_sets, odd_size, IsOnce}
 use Rattle.path_parity.proofs.MergeLaws.{marks, start}
 use Rattle.path_parity.proofs.MergeSums.{Eighths}
-use Rattle.path_parity.proofs.OddLaws.{odd_paths-sets}
+use Rattle.path_parity.proofs.OddLaws.{odd_paths-sets, odd_size-once}
 
 -- each gate on wires below n, with a phase below 8
 abbrev pub AreFine : ℕ → List Gate → Type 0
@@ -122,6 +123,9 @@ t_count-marks (P k q ∷ gs) w n = go (nat_eq (k % 2) 1) refl (t_count-marks gs 
     go true e h = omega (arith, one e, h)
     go false e h = omega (arith, none e, h)
 t_count-marks (Cx c t ∷ gs) w n = t_count-marks gs (with_label w t (add_labels (w t) (w c))) n
+
+pub odd_paths-once : (gs : List Gate) (n : ℕ) → IsOnce (odd_sets gs (own_labels n) n) → odd_paths n (ops gs) ≡ t_count (ops gs)
+odd_paths-once gs n h = odd_paths-sets gs n ∙ odd_size-once (odd_sets gs (own_labels n) n) h ∙ ap (λ (s : List ℕ). length s) (odd_sets-marks gs (own_labels n) n) ∙ sym (t_count-marks gs (own_labels n) n)
 
 pub marks-eighths : (gs : List Gate) (n m : ℕ) (w : Wires) → AreFine n gs → Eighths (marks gs w m)
 marks-eighths [] n m w f = tt

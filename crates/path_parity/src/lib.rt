@@ -2,6 +2,7 @@
 #![tactic(auto)]
 
 mod label;
+pub mod laws;
 mod odd_set;
 mod walk;
 
@@ -75,3 +76,6 @@ pub fn odd_paths(alloc: Global, circuit: &Circuit) -> Result<u64, AllocError>
     }
     Ok(odd.len() as u64)
 }
+
+#[cfg(test)]
+mod tests;
