@@ -2,13 +2,13 @@
 --   singles s n         the blocks of one place each, for the n places from s on
 --   singles-partition   they are a partition of rows that aren't empty
 --   some_blocks         so the rows of each plain layer have one
-use Rattle.std.proofs.Common.{◌≡◌, ◌≢◌, ℕ, zero, suc, ◌+◌, ◌<◌, ◌≤◌, Bool, true, false, cond, List, [], ◌∷◌, All, IsTrue, length, refl, sym, subst, ◌∙◌, ap, arith, get_or}
-use Rattle.std.specs.Prelude.{nat_eq, ◌==◌}
+use Rattle.std.proofs.Common.{◌≡◌, ◌≢◌, ℕ, zero, suc, ◌+◌, ◌<◌, ◌≤◌, Bool, true, false, cond, List, [], ◌∷◌, All, IsTrue, length, refl, ap, arith, get_or}
+use Rattle.std.specs.Prelude.{nat_eq}
 use Rattle.std.proofs.lemmas.Bool.Decides.{nat_tests}
 use Rattle.circuit_list.specs.declared.Gate.{Gate}
 use Rattle.gf2_linear.specs.Rows.{is_independent, rows_at}
 use Rattle.gf2_linear.proofs.Ranks.{Free-independent}
-use Rattle.matroid_partition.specs.Partitions.{count_of, times, IsPartition}
+use Rattle.matroid_partition.specs.Partitions.{times, IsPartition}
 use Rattle.phase_poly.specs.Layers.{LayerBody}
 use Rattle.phase_poly.specs.Polys.{ArePlain, poly_of}
 use Rattle.phase_poly.specs.Resynthesis.{rows_of}

@@ -3,18 +3,18 @@
 --   rewriting_new       they are a rewriting
 --   bound_new, bound_old   the bound, where they are taken and where not
 --   plain_told, told    the layers are plain, and the gates are replaced layers, as the function knows it
-use Rattle.std.proofs.Common.{◌≡◌, ◌≢◌, ℕ, zero, suc, ◌+◌, ◌%◌, ◌<◌, ◌≤◌, Bool, true, false, cond, All, List, [], ◌∷◌, ◌++◌, length, refl, sym, subst, ◌∙◌, ap, arith, get_or, inl, inr}
+use Rattle.std.proofs.Common.{◌≡◌, ℕ, zero, suc, ◌<◌, ◌≤◌, Bool, true, false, cond, All, List, [], ◌∷◌, ◌++◌, sym, subst, arith, inl, inr}
 use Rattle.std.specs.Prelude.{nat_lt}
 use Rattle.unitary_model.specs.Operations.{cx_count}
 use Rattle.circuit_list.specs.declared.Gate.{Gate}
 use Rattle.circuit_list.specs.declared.Gate.TheVariants.{H, X, P, Cx}
 use Rattle.circuit_list.specs.Gates.{ops, IsFine}
 use Rattle.phase_poly.specs.Layers.{LayerBody, level_of, inserted, with_gate, no_gates, at_layer, Walk, first_walk, walked, walked_all, layers_of, hadamards, line, linked}
-use Rattle.phase_poly.specs.Polys.{IsPlain, ArePlain}
+use Rattle.phase_poly.specs.Polys.{ArePlain}
 use Rattle.phase_poly.specs.Resynthesis.{AllBelow}
 use Rattle.phase_poly.specs.Replaced.{IsTaken, IsReplaced, AreFine, PlainLayers, AreBlocks, IsRelinked, KeepsBound, lesser}
 use Rattle.rewrite_pass.specs.Law.{IsRewriting}
-use Rattle.rewrite_pass.proofs.RewritingLaws.{IsRewriting_refl, Step-IsRewriting}
+use Rattle.rewrite_pass.proofs.RewritingLaws.{Step-IsRewriting}
 use Rattle.phase_poly.proofs.BlockLaws.{some_blocks}
 use Rattle.phase_poly.proofs.PassLaws.{layers_plain, resynth_step, resynth_few}
 

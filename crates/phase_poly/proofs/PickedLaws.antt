@@ -1,7 +1,7 @@
 -- Terms taken block by block are the terms in another order.
 --   picked_coefficient, picked_odd  where each place stands once, coefficients and odd terms are the same
-use Rattle.std.proofs.Common.{◌≡◌, ◌≢◌, ℕ, zero, suc, ◌+◌, ◌-◌, ◌*◌, ◌/◌, ◌%◌, ◌^◌, ◌<◌, ◌≤◌, Bool, true, false, cond, not, List, [], ◌∷◌, ◌++◌, map, length, refl, sym, subst, ◌∙◌, ap, arith, zero-add, append_assoc, append-nil, get_or, set, length-append}
-use Rattle.std.specs.Prelude.{nat_eq, nat_lt, ◌==◌, bit_xor}
+use Rattle.std.proofs.Common.{◌≡◌, ℕ, zero, suc, ◌+◌, ◌*◌, ◌%◌, ◌<◌, ◌≤◌, true, false, cond, List, [], ◌∷◌, ◌++◌, length, refl, sym, ◌∙◌, ap, arith, zero-add, get_or}
+use Rattle.std.specs.Prelude.{nat_eq}
 use Rattle.std.proofs.lemmas.Bool.Decides.{nat_tests}
 use Rattle.std.proofs.Math.Nat.{add-mul}
 use Rattle.matroid_partition.specs.Partitions.{count_of, times}

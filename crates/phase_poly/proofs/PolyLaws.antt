@@ -4,38 +4,37 @@
 --   same_turns          lists with the same polynomial, but t more in the constant, are `Turns t`
 --   same_covers, covers_back    and they cover one another
 --   same_odd_paths      so they have as many odd path parities
-use Rattle.std.proofs.Common.{◌≡◌, ◌≢◌, ℕ, zero, suc, ◌+◌, ◌-◌, ◌*◌, ◌/◌, ◌%◌, ◌^◌, ◌<◌, ◌≤◌, Bool, true, false, cond, not, List, [], ◌∷◌, ◌++◌, map, length, refl, sym, subst, ◌∙◌, ap, arith, zero-add, append_assoc, append-nil, get_or, set, ◌⊎◌, inl, inr}
+use Rattle.std.proofs.Common.{◌≡◌, ◌≢◌, ℕ, zero, suc, ◌+◌, ◌-◌, ◌%◌, ◌^◌, ◌<◌, ◌≤◌, Bool, true, false, cond, not, List, [], ◌∷◌, ◌++◌, length, refl, sym, ◌∙◌, ap, arith, zero-add, get_or, set, ◌⊎◌, inl, inr}
 use Rattle.std.specs.Prelude.{nat_eq, nat_lt, ◌==◌, bit_xor, filter}
 use Rattle.std.specs.Int.{bit_at}
 use Rattle.std.proofs.Math.Path.{fun_ext}
 use Rattle.std.proofs.lemmas.Bool.{cases_lt}
 use Rattle.std.proofs.lemmas.Bool.Decides.{nat_tests}
-use Rattle.std.proofs.lemmas.List.{get_or-set_same, get_or-set_other, length-set, length-append}
+use Rattle.std.proofs.lemmas.List.{get_or-set_same, get_or-set_other, length-set}
 use Rattle.std.proofs.lemmas.Nat.Bits.{bit_at_xor, bit_at-pow_same, bit_at-pow_other, bit_at-zero, bit_at-lt}
 use Rattle.unitary_model.specs.Acts.{Bits, Turns}
-use Rattle.unitary_model.specs.Operations.{t_count, cx_count}
 use Rattle.unitary_model.specs.OddPaths.{Labels, own_variables, odd_paths}
 use Rattle.unitary_model.specs.OddPaths as paths
-use Rattle.unitary_model.specs.Paths.{Event, Covers, events, toggled}
-use Rattle.unitary_model.specs.Paths.Event.{Toggle, Fresh, Add}
+use Rattle.unitary_model.specs.Paths.{Covers, events}
+use Rattle.unitary_model.specs.Paths.Event.{Toggle}
 use Rattle.unitary_model.proofs.FlatPaths.{Flat, final, toggled_labels, flat_covers}
 use Rattle.unitary_model.proofs.PathLaws.{par, Covers-size}
 use Rattle.unitary_model.proofs.OddPathsForm.{odd_paths-events}
 use Rattle.circuit_list.specs.declared.Gate.{Gate}
 use Rattle.circuit_list.specs.declared.Gate.TheVariants.{H, X, P, Cx}
-use Rattle.circuit_list.specs.Gates.{op_of, ops}
-use Rattle.path_parity.specs.PathSum.{PathLabel, label, xor, Wires, with_label, add_labels, flipped, fresh, last_labels, exponent, odd_over, value}
+use Rattle.circuit_list.specs.Gates.{ops}
+use Rattle.path_parity.specs.PathSum.{label, xor, Wires, with_label, add_labels, flipped, fresh, last_labels, exponent, odd_over, value}
 use Rattle.path_parity.specs.PathForm.{hcount}
 use Rattle.path_parity.proofs.PathSumLaws.{bits_of}
-use Rattle.path_parity.proofs.Totals.{sum_on, total, by_totals}
+use Rattle.path_parity.proofs.Totals.{total, by_totals}
 use Rattle.path_parity.proofs.MergeLaws.{marks, phase_sum, start}
 use Rattle.path_parity.proofs.MergeSums.{signed, constant, Eighths, phase_sum-signed}
 use Rattle.path_parity.proofs.LayerLaws.{layer_law}
-use Rattle.gf2_linear.specs.Matrices.{identity_rows, added}
+use Rattle.gf2_linear.specs.Matrices.{added}
 use Rattle.gf2_linear.proofs.MatrixLaws.{length-identity}
 use Rattle.gf2_linear.proofs.RunLaws.{get-identity}
 use Rattle.phase_poly.specs.Rows.{has}
-use Rattle.phase_poly.specs.Polys.{IsPlain, ArePlain, Term, coefficient, with_term, PolyBody, first_poly, polyed, polyed_all, walked_poly, poly_of, SamePoly}
+use Rattle.phase_poly.specs.Polys.{ArePlain, Term, coefficient, with_term, PolyBody, first_poly, polyed, polyed_all, walked_poly, SamePoly}
 
 -- ---- terms
 coefficient-total : (m : ℕ) (ts : List Term) → coefficient m ts ≡ total m ts

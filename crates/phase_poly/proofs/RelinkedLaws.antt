@@ -3,13 +3,13 @@
 --   relinked-next, relinked_none   so for the list of all layers; for none
 --   plain_layer         each of the layers is plain
 --   cx-more, hadamards-more        one gate more is counted; one H more is put
-use Rattle.std.proofs.Common.{◌≡◌, ◌≢◌, ℕ, zero, suc, ◌+◌, ◌*◌, ◌%◌, ◌<◌, ◌≤◌, List, [], ◌∷◌, ◌++◌, length, take, refl, sym, subst, ◌∙◌, ap, arith, append_assoc, append-nil, get_or, inl, inr}
+use Rattle.std.proofs.Common.{◌≡◌, ℕ, zero, suc, ◌+◌, ◌%◌, ◌<◌, List, [], ◌∷◌, ◌++◌, length, take, refl, sym, subst, ◌∙◌, ap, arith, append_assoc, append-nil, get_or}
 use Rattle.std.proofs.Math.Seq.{take-suc}
 use Rattle.unitary_model.specs.Operations.{cx_count}
 use Rattle.circuit_list.specs.declared.Gate.{Gate}
-use Rattle.circuit_list.specs.declared.Gate.TheVariants.{H, X, P, Cx}
+use Rattle.circuit_list.specs.declared.Gate.TheVariants.{H}
 use Rattle.circuit_list.specs.Gates.{ops}
-use Rattle.phase_poly.specs.Layers.{LayerBody, hadamards, line, linked, no_gates}
+use Rattle.phase_poly.specs.Layers.{LayerBody, hadamards, line, linked}
 use Rattle.phase_poly.specs.Polys.{ArePlain}
 use Rattle.phase_poly.specs.Replaced.{IsTaken, IsReplaced, PlainLayers, HasBlocks, AreBlocks, IsRelinked}
 use Rattle.phase_poly.proofs.BuildLaws.{cx_ops}

@@ -1,7 +1,7 @@
 -- A built list, with X at the end, is a resynthesis.
-use Rattle.std.proofs.Common.{◌≡◌, ◌≢◌, ℕ, zero, suc, ◌+◌, ◌-◌, ◌*◌, ◌%◌, ◌^◌, ◌<◌, ◌≤◌, true, All, List, [], ◌∷◌, ◌++◌, length, map, get_or, refl, sym, subst, ◌∙◌, ap, arith}
+use Rattle.std.proofs.Common.{◌≡◌, ◌≢◌, ℕ, zero, suc, ◌+◌, ◌-◌, ◌*◌, ◌%◌, ◌^◌, ◌<◌, ◌≤◌, true, All, List, [], ◌∷◌, ◌++◌, length, map, get_or, sym, subst, ◌∙◌, ap, arith}
 use Rattle.std.proofs.Math.Nat.{add-mul}
-use Rattle.unitary_model.specs.Operations.{t_count, cx_count}
+use Rattle.unitary_model.specs.Operations.{cx_count}
 use Rattle.circuit_list.specs.declared.Gate.{Gate}
 use Rattle.circuit_list.specs.Gates.{ops}
 use Rattle.gf2_linear.specs.Rows.{is_independent, rows_at}
@@ -9,8 +9,8 @@ use Rattle.gf2_linear.specs.Matrices.{identity_rows}
 use Rattle.gf2_linear.proofs.Ranks.{Free-independent}
 use Rattle.gf2_linear.proofs.RunLaws.{free-identity}
 use Rattle.matroid_partition.specs.Partitions.{times, IsPartition}
-use Rattle.phase_poly.specs.Polys.{ArePlain, Term, PolyBody, coefficient, walked_poly, poly_of, SamePoly}
-use Rattle.phase_poly.specs.Resynthesis.{odd_terms, picked, term_rows, rows_of, BlocksBelow, flip_gates, resynth_turn, IsBuilt, cx_bound, IsResynthesis}
+use Rattle.phase_poly.specs.Polys.{ArePlain, Term, PolyBody, walked_poly, poly_of}
+use Rattle.phase_poly.specs.Resynthesis.{picked, term_rows, rows_of, BlocksBelow, flip_gates, resynth_turn, IsBuilt, cx_bound, IsResynthesis}
 use Rattle.phase_poly.proofs.PolyLaws.{coefficient-filter}
 use Rattle.phase_poly.proofs.BuildLaws.{plain-append, plain_flips, built_none, built_flips, flips_t, flips_cx, t_ops, cx_ops, odd_terms-poly}
 use Rattle.phase_poly.proofs.PickedLaws.{picked_coefficient, picked_odd}

@@ -3,7 +3,7 @@
 --   below-with          coefficients stay below 8
 --   filter-next, filter-below   the terms that are kept, one further; they are below 8
 --   plain-at, map-length, polyed-more    the gates of a list, one further
-use Rattle.std.proofs.Common.{◌≡◌, ◌≢◌, ℕ, zero, suc, ◌+◌, ◌-◌, ◌%◌, ◌<◌, ◌≤◌, Bool, true, false, cond, not, List, [], ◌∷◌, ◌++◌, All, length, take, Option, Some, None, slice_get, refl, sym, subst, ◌∙◌, ap, arith, get_or}
+use Rattle.std.proofs.Common.{◌≡◌, ℕ, zero, suc, ◌+◌, ◌-◌, ◌%◌, ◌<◌, Bool, true, false, cond, not, List, [], ◌∷◌, ◌++◌, All, length, take, Some, slice_get, refl, sym, subst, ◌∙◌, ap, arith, get_or}
 use Rattle.std.specs.Prelude.{nat_eq, ◌==◌, filter, unwrap_or}
 use Rattle.std.specs.Map.{lookup}
 use Rattle.std.proofs.lemmas.Bool.Decides.{nat_tests}

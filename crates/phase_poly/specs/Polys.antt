@@ -10,7 +10,7 @@
 --   walked_poly n gs      the polynomial of a list, with the terms whose coefficient is 0
 --   poly_of n gs          the polynomial of a list
 --   SamePoly n t A B      B has the map, the flips and the coefficients of A, and a constant that is t more
-use Rattle.std.specs.Prelude.{◌≡◌, ◌≢◌, ℕ, ◌+◌, ◌-◌, ◌%◌, ◌^◌, ◌<◌, ◌==◌, not, cond, List, [], ◌∷◌, ◌++◌, filter, slice_index, bit_xor}
+use Rattle.std.specs.Prelude.{◌≡◌, ◌≢◌, ℕ, ◌+◌, ◌-◌, ◌%◌, ◌^◌, ◌<◌, ◌==◌, not, cond, List, [], ◌∷◌, filter, slice_index, bit_xor}
 use Rattle.circuit_list.specs.declared.Gate.{Gate}
 use Rattle.circuit_list.specs.declared.Gate.TheVariants.{H, X, P, Cx}
 use Rattle.gf2_linear.specs.Matrices.{identity_rows, added}

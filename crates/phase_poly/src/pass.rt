@@ -15,6 +15,7 @@ use std::alloc::{AllocError, Global};
 /// followed by its H on ascending wires. Where no layer is replaced the circuit comes back as it is. Results are any
 /// circuits; their CNOTs are at most, layer by layer, the lesser of the layer's own and `(b + 1) * n * n` for b
 /// independent blocks of its sums, on n wires.
+#[derive(Clone, Copy, Debug)]
 pub struct ResynthPass;
 
 impl Pass for ResynthPass {

@@ -1,4 +1,4 @@
-use Rattle.std.proofs.Common.{◌≡◌, List, ℕ, Contains, length, subst, sym, ◌∙◌, ◌^◌, ◌<◌, slice_index_or, All, arith}
+use Rattle.std.proofs.Common.{◌≡◌, List, ℕ, Contains, length, subst, sym, ◌^◌, ◌<◌, slice_index_or, All, arith}
 use Rattle.std.proofs.lemmas.Grind.{common_steps}
 use Rattle.phase_poly.specs.Resynthesis.{term_rows}
 use Rattle.phase_poly.proofs.BuildingLaws.{rows-below}

@@ -1,7 +1,7 @@
-use Rattle.std.proofs.Common.{◌≡◌, ◌<◌, Contains, List, [], ◌∷◌, ◌++◌, length, slice_index_or, subst, sym, ◌∙◌, ap, arith}
+use Rattle.std.proofs.Common.{◌≡◌, ◌<◌, Contains, List, length, slice_index_or, subst, sym, ◌∙◌, ap, arith}
 use Rattle.std.proofs.lemmas.Grind.{common_steps}
 use Rattle.phase_poly.specs.Polys.{Term}
-use Rattle.phase_poly.specs.Resynthesis.{at_places, IsBuilt}
+use Rattle.phase_poly.specs.Resynthesis.{IsBuilt}
 use Rattle.phase_poly.proofs.BuildingLaws.{term_rows-length, term_rows-get, places-more}
 use Rattle.phase_poly.proofs.building.put_terms.Goals as goal
 

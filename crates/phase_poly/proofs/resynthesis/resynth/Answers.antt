@@ -1,13 +1,11 @@
-use Rattle.std.proofs.Common.{◌≡◌, ◌≤◌, ◌*◌, ◌+◌, ◌++◌, List, [], length, map, All, subst, sym, ◌∙◌, ap, arith}
+use Rattle.std.proofs.Common.{◌≡◌, ◌≤◌, ◌*◌, ◌+◌, ◌++◌, List, length, map, subst, sym, ◌∙◌, ap, arith}
 use Rattle.std.proofs.lemmas.Grind.{common_steps}
 use Rattle.std.proofs.lemmas.List.{length-map}
 use Rattle.unitary_model.specs.Operations.{cx_count}
 use Rattle.circuit_list.specs.Gates.{ops}
 use Rattle.gf2_linear.specs.Rows.{is_independent}
-use Rattle.gf2_linear.specs.Matrices.{identity_rows}
 use Rattle.gf2_linear.proofs.MatrixLaws.{length-identity}
 use Rattle.matroid_partition.specs.Partitions.{IsPartition}
-use Rattle.phase_poly.specs.Polys.{PolyBody, poly_of}
 use Rattle.phase_poly.specs.Resynthesis.{picked, rows_of, flip_gates}
 use Rattle.phase_poly.proofs.ResynthLaws.{partition-nonzero, identity_independent, blocks-within, blocks-independent, poly-terms, poly-map, mid_built, mid_few, resynth_told}
 use Rattle.phase_poly.proofs.resynthesis.resynth.Goals as goal

@@ -1,4 +1,4 @@
-use Rattle.std.proofs.Common.{◌≡◌, ◌%◌, ◌^◌, ◌≤◌, ◌<◌, subst, ap, ◌∙◌, arith}
+use Rattle.std.proofs.Common.{◌≡◌, ◌%◌, ◌^◌, ◌<◌, subst, ◌∙◌, arith}
 use Rattle.gf2_linear.proofs.WireLaws.{bit_or_not}
 use Rattle.phase_poly.proofs.WordLaws.{word_end, word_none, word_set}
 use Rattle.phase_poly.proofs.rows.row_of.Goals as goal

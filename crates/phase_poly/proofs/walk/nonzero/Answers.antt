@@ -1,7 +1,5 @@
-use Rattle.std.proofs.Common.{◌≡◌, ◌<◌, ◌++◌, ◌∷◌, [], List, Some, not, slice_get, sym, ◌∙◌, ap, option_map, arith}
-use Rattle.std.specs.Prelude.{◌==◌, filter}
+use Rattle.std.proofs.Common.{◌≡◌, Some, slice_get, sym, ◌∙◌, ap, option_map}
 use Rattle.std.specs.Map.Iter.{deref_pair}
-use Rattle.std.proofs.lemmas.Grind.{common_steps}
 use Rattle.phase_poly.proofs.TermLaws.{filter-next}
 use Rattle.phase_poly.proofs.walk.nonzero.Goals as goal
 
