@@ -2,9 +2,10 @@
 --     three_edits i g k       the change of the rule at place i, which puts g
 --     flip_found, flip_none   what the rule finds, and where it finds nothing
 --     flip_change, flip_law, flip_fewer   what the change is
---     pair_law                the pass's law;  pair_shrinks, pair_keeps: its traits' laws
-use Rattle.std.proofs.Common.{◌≡◌, ◌≢◌, ℕ, zero, suc, ◌+◌, ◌<◌, ◌≤◌, ◌==◌, ◌&&◌, Bool, true, false, cond, List, [], ◌∷◌, ◌++◌, take, drop, length, All, Contains, slice_get, refl, sym, subst, ◌∙◌, ap, arith, add-one, inl, inr, ◌⊎◌, Option, Some, None}
-use Rattle.std.specs.Prelude.{nat_eq, if◌then◌else◌}
+--     front_pair              the list with its two NOT
+--     pair_law                the pass's law;  pair_shrinks, pair_keeps: what it keeps
+use Rattle.std.proofs.Common.{◌≡◌, ◌≢◌, ℕ, suc, ◌+◌, ◌<◌, ◌==◌, ◌&&◌, Bool, true, false, cond, List, [], ◌∷◌, ◌++◌, take, drop, length, All, Contains, slice_get, refl, sym, subst, ◌∙◌, ap, arith, add-one, inl, Some, None}
+use Rattle.std.specs.Prelude.{nat_eq, if◌then◌else◌, remove}
 use Rattle.std.proofs.Math.Seq.{drop-cons}
 use Rattle.std.proofs.lemmas.Bool.Decides.{nat_tests}
 use Rattle.std.proofs.lemmas.List.{length-take-le, take-append-drop}
@@ -21,7 +22,7 @@ use Rattle.unitary_model.proofs.Windows.{Agree, in_place}
 use Rattle.rewrite_pass.specs.declared.rule.Change.{Change}
 use Rattle.rewrite_pass.specs.Edits.{put_at, changed, changed_from, IsChange}
 use Rattle.rewrite_pass.specs.Law.{IsRewriting, IsSmallerOrSame, KeepsCnots}
-use Rattle.rewrite_pass.specs.Flips.{IsFlip, IsPairGone, between, flipped, turn_of}
+use Rattle.rewrite_pass.specs.Flips.{IsFlip, between, flipped, turn_of}
 use Rattle.rewrite_pass.proofs.EditLaws.{by_edits, changed_fine, edited, passed, untouched}
 use Rattle.rewrite_pass.proofs.RewritingLaws.{Step-IsRewriting, ops_joined}
 
@@ -193,6 +194,13 @@ x_x q = record {
   cx_gates = omega arith;
 }
 
+pub front_pair : (q r : ℕ) (gs mid new : List Gate) → slice_get gs 0 ≡ Some (X q) → slice_get gs 1 ≡ Some (X r) → q ≡ r → mid ≡ remove gs 0 → new ≡ remove mid 0 → gs ≡ X q ∷ X q ∷ new
+front_pair q r [] mid new a b e f g = absurd (none-some (X q) a)
+front_pair q r (x ∷ []) mid new a b e f g = absurd (none-some (X r) b)
+front_pair q r (x ∷ y ∷ gs) mid new a b e f g =
+    let rest : new ≡ gs = g ∙ ap (λ xs. remove xs 0) f in
+    λ i. same_Some x (X q) a i ∷ (same_Some y (X r) b ∙ ap X (sym e)) i ∷ sym rest i
+
 pub pair_law : (n q : ℕ) (gs new : List Gate) → gs ≡ X q ∷ X q ∷ new → All (IsFine n) gs → IsRewriting n gs new 4
 pair_law n q gs new e all = Step-IsRewriting n gs new 4 all rest (omega arith)
     (subst (λ xs. Step 4 (ops xs) (ops new)) (sym e) (Step_inside 4 [] (op_of (X q) ∷ op_of (X q) ∷ []) [] (ops new) (x_x q)))
@@ -200,10 +208,8 @@ pair_law n q gs new e all = Step-IsRewriting n gs new 4 all rest (omega arith)
     rest : All (IsFine n) new
     rest k d lt = (subst (All (IsFine n)) e all) (suc (suc k)) d (omega arith)
 
-pub pair_shrinks : (n : ℕ) (old new : List Gate) → IsPairGone n old new → IsSmallerOrSame old new
-pair_shrinks n old new (inl p) = let e : length old ≡ length (X p.0 ∷ X p.0 ∷ new) = ap length p.1 in inl (omega arith)
-pair_shrinks n old new (inr e) = inr e
+pub pair_shrinks : (q : ℕ) (old new : List Gate) → old ≡ X q ∷ X q ∷ new → IsSmallerOrSame old new
+pair_shrinks q old new e = let l : length old ≡ length (X q ∷ X q ∷ new) = ap length e in inl (omega arith)
 
-pub pair_keeps : (n : ℕ) (old new : List Gate) → IsPairGone n old new → KeepsCnots old new
-pair_keeps n old new (inl p) c t h = subst (λ xs. Contains xs (Cx c t)) (sym p.1) (suc (suc h.0), omega (arith, h.1), h.2)
-pair_keeps n old new (inr e) c t h = subst (λ xs. Contains xs (Cx c t)) e h
+pub pair_keeps : (q : ℕ) (old new : List Gate) → old ≡ X q ∷ X q ∷ new → KeepsCnots old new
+pair_keeps q old new e c t h = subst (λ xs. Contains xs (Cx c t)) (sym e) (suc (suc h.0), omega (arith, h.1), h.2)

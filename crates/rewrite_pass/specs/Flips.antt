@@ -1,10 +1,9 @@
--- Working form. What the tests' own rule and pass do: the rule to gates next to each other in the list, the pass to its first two.
+-- Working form. The tests' own rule, on gates next to each other in the list.
 --     between a g c       what becomes of gate g between H on wires a and c: NOT is the phase 4, and the phase 4 is NOT
 --     flipped f g h       the same of three gates
 --     turn_of g           the turn that comes with what becomes of it
 --     IsFlip gs i         three such gates stand at place i
---     IsPairGone n old new    two NOT of a wire are gone from the front, or all is as it was
-use Rattle.std.specs.Prelude.{◌≡◌, ℕ, ◌+◌, ◌==◌, ◌&&◌, ◌⊎◌, if◌then◌else◌, List, ◌∷◌, Option, None, Some, slice_get}
+use Rattle.std.specs.Prelude.{◌≡◌, ℕ, ◌+◌, ◌==◌, ◌&&◌, if◌then◌else◌, List, Option, None, Some, slice_get}
 use Rattle.circuit_list.specs.declared.Gate.{Gate}
 use Rattle.circuit_list.specs.declared.Gate.TheVariants.{H, X, P, Cx}
 
@@ -31,6 +30,3 @@ pub record IsFlip (gs : List Gate) (i : ℕ) : Type 0 where
   pub second : slice_get gs (i + 1) ≡ Some g
   pub third : slice_get gs (i + 2) ≡ Some h
   pub flips : flipped f g h ≡ Some put
-
-abbrev pub IsPairGone : ℕ → List Gate → List Gate → Type 0
-IsPairGone n old new = ((q : ℕ) × (old ≡ X q ∷ X q ∷ new)) ⊎ (new ≡ old)

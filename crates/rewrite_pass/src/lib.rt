@@ -21,3 +21,6 @@ pub use combine::{Settle, Then, WhileSmaller};
 pub use pass::{KeepsPairs, Pass, Shrinks};
 pub use rule::{Change, Edit, Rule};
 pub use sweep::Sweep;
+
+#[cfg(test)]
+mod tests;
