@@ -6,7 +6,7 @@
 --     sum-filter              a sum over those that pass a test
 --     start-own_labels        the first labels, where the bits are those of a list
 --     amplitude-paths         the law
-use Rattle.std.proofs.Common.{◌≡◌, ℕ, zero, suc, ◌+◌, ◌^◌, ◌<◌, ◌≤◌, Bool, true, false, cond, List, [], ◌∷◌, ◌++◌, map, filter, length, refl, sym, subst, ◌∙◌, ap, arith, append_assoc, append-nil, length-append}
+use Rattle.std.proofs.Common.{◌≡◌, ℕ, zero, suc, ◌+◌, ◌^◌, ◌≤◌, Bool, true, false, cond, List, [], ◌∷◌, ◌++◌, map, filter, length, refl, sym, subst, ◌∙◌, ap, arith, append_assoc, append-nil, length-append}
 use Rattle.std.proofs.Math.Path.{fun_ext}
 use Rattle.std.specs.Prelude.{nat_eq, nat_lt}
 use Rattle.std.proofs.lemmas.Bool.Decides.{nat_tests}
@@ -15,7 +15,7 @@ use Rattle.circuit_list.specs.declared.Gate.{Gate}
 use Rattle.circuit_list.specs.declared.Gate.TheVariants.{H, X, P, Cx}
 use Rattle.circuit_list.specs.Gates.{ops, h_count, is_h}
 use Rattle.unitary_model.specs.Acts.{Bits, put, applied}
-use Rattle.unitary_model.specs.Amplitude.{bit_of, same_bits, one_plus, amplitude}
+use Rattle.unitary_model.specs.Amplitude.{bit_of, same_bits, amplitude}
 use Rattle.unitary_model.specs.Operations.{WiresBelow}
 use Rattle.unitary_model.specs.Placement.{identity}
 use Rattle.unitary_model.specs.Ring.{Ring, nought, unit, plus, turn, double}
@@ -25,9 +25,9 @@ use Rattle.unitary_model.proofs.JoinedAmplitude.{sum_over-append, sum_over-map}
 use Rattle.unitary_model.proofs.PlacementLaws.{front-identity}
 use Rattle.unitary_model.proofs.RingLaws.{nought-plus, plus-nought, turn-nought, double-double}
 use Rattle.unitary_model.proofs.GateActs.{skew}
-use Rattle.path_parity.specs.PathSum.{PathLabel, label, value, Wires, fresh, own_labels, last_labels, exponent}
+use Rattle.path_parity.specs.PathSum.{label, value, Wires, fresh, own_labels, last_labels, exponent}
 use Rattle.path_parity.specs.PathForm.{hcount, over, norm}
-use Rattle.path_parity.specs.PathAmplitude.{variables, paths_from, path_end, paths, path_exponent, x_and_p_count, skewed, path_amplitude}
+use Rattle.path_parity.specs.PathAmplitude.{paths_from, path_end, path_exponent, x_and_p_count, skewed, path_amplitude}
 use Rattle.path_parity.proofs.PathSumLaws.{bits_of, path_law}
 use Rattle.path_parity.proofs.MergeLaws.{start, start_low, start_bits, double-skew}
 

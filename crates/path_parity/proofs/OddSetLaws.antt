@@ -1,14 +1,14 @@
 -- The keys that hold an odd set.
 --     holds-none              no key holds no label
 --     holds-in, holds-out     a set that is put in, and one that is taken out
-use Rattle.std.proofs.Common.{◌≡◌, ℕ, suc, ◌+◌, Bool, true, false, cond, not, List, [], length, refl, sym, subst, ◌∙◌, ap, arith}
+use Rattle.std.proofs.Common.{◌≡◌, ℕ, ◌+◌, Bool, true, false, cond, not, List, [], length, refl, sym, ◌∙◌, ap, arith}
 use Rattle.std.specs.Prelude.{nat_eq}
 use Rattle.std.specs.List.{list_any}
 use Rattle.std.specs.Cmp.Lexicographic.{same_text, other_text}
 use Rattle.std.proofs.lemmas.Bool.Decides.{nat_tests}
 use lib.Pointwise.{pointwise}
 use Rattle.unitary_model.specs.OddPaths.{toggle}
-use Rattle.path_parity.specs.OddLabels.{is_odd, IsOnce}
+use Rattle.path_parity.specs.OddLabels.{is_odd}
 use Rattle.path_parity.specs.OddSets.{HoldsSets}
 use Rattle.path_parity.specs.Sets.{set_of, IsIncreasing}
 use Rattle.path_parity.proofs.OddLaws.{is_odd-toggle, IsOnce-toggle, toggle-shorter, toggle-longer}

@@ -6,7 +6,7 @@ ghost use Rattle.path_parity.specs.Sets.{IsIncreasing, IsLabel, label_of, set_of
 
 use std::alloc::{AllocError, Global};
 
-/// A label: path variables, increasing, and one complement bit.
+/// A label: path variables, increasing, and one complement bit. Its value is the sum modulo 2 of its variables' values and the bit.
 #[derive(Debug, Drop)]
 pub struct Label {
     pub variables: Vec<u64>,
@@ -39,7 +39,7 @@ impl Label {
         })
     }
 
-    /// The sum with another label.
+    /// The sum with another label, in time in proportion to the sizes of both.
     pub fn plus(&self, alloc: Global, other: &Label) -> Result<Label, AllocError>
         requires own { IsLabel self.now }
         requires other { IsLabel other.now }
@@ -54,7 +54,7 @@ impl Label {
     }
 }
 
-/// The variables that stand in one of two sets and not in both.
+/// The variables that stand in one of two sets and not in both, by one pass along both.
 fn symmetric_difference(alloc: Global, xs: &[u64], ys: &[u64]) -> Result<Vec<u64>, AllocError>
     requires left { IsIncreasing xs.now }
     requires right { IsIncreasing ys.now }

@@ -1,4 +1,14 @@
 //! Path labels of a circuit over H, X, CNOT and phases.
+//!
+//! In goes a circuit; out come the label of the wire at each phase, and the number of odd path parities. A label is a set of
+//! path variables and one complement bit: each wire begins with a variable of its own, a CNOT adds the control's label to the
+//! target's, X turns the bit, and H gives the least variable not used so far. The contracts carry that these are exactly the
+//! labels and the number of the definitions, and the laws say what labels are for: an amplitude is a sum over the values of
+//! the variables, and a linear map of the variables never makes the odd set larger. [`Walk`] is the walk itself, for passes
+//! that go along a circuit.
+//!
+//! Every circuit is fine, so nothing is refused; each call may fail for want of memory. A CNOT takes time in proportion to
+//! the sizes of its two labels, a phase in proportion to the size of its label, and any other gate the same time always.
 #![tactic(auto)]
 
 mod label;
@@ -13,20 +23,20 @@ ghost use Rattle.path_parity.specs.PathSum.{own_labels, phase_label, phase_label
 ghost use Rattle.path_parity.specs.Sets.{IsLabel, label_of};
 ghost use Rattle.unitary_model.specs.OddPaths.{odd_paths};
 
-pub use label::Label;
-pub use walk::Walk;
-
 use circuit_list::{Circuit, Gate};
+pub use label::Label;
 use odd_set::OddSet;
 use std::alloc::{AllocError, Global};
+pub use walk::Walk;
 
-/// Labels, in order.
+/// The labels at some gates, in circuit order.
 #[derive(Debug, Drop)]
 pub struct Labels {
     pub list: Vec<Label>,
 }
 
-/// The label at each P gate of a circuit, in order. Fails for want of memory alone.
+/// The label of the wire at each P of a circuit, in order: variables 0 to n-1 are those of the n wires, and the H in order have
+/// the variables from n on. Fails for want of memory alone.
 pub fn labels_of(alloc: Global, circuit: &Circuit) -> Result<Labels, AllocError>
     ensures labels { IfOk result (λ ls. map label_of ls.list.items ≡ phase_labels circuit.now.gates (own_labels circuit.now.wires) circuit.now.wires) }
     ensures increasing { IfOk result (λ ls. All IsLabel ls.list.items) }
@@ -42,12 +52,7 @@ pub fn labels_of(alloc: Global, circuit: &Circuit) -> Result<Labels, AllocError>
 }
 
 /// Puts the label at a P behind the others.
-fn note(
-    alloc: Global,
-    list: &mut Vec<Label>,
-    walk: &Walk,
-    gate: Gate,
-) -> Result<(), AllocError>
+fn note(alloc: Global, list: &mut Vec<Label>, walk: &Walk, gate: Gate) -> Result<(), AllocError>
     requires fine { IsFine (length walk.now.labels) gate }
     requires increasing { All IsLabel list.old.items }
     ensures labels { OnOk result (map label_of list.new.items ≡ map label_of list.old.items ++ phase_label gate (labels_at walk.now)) }
@@ -63,7 +68,8 @@ fn note(
     Ok(())
 }
 
-/// The number of odd path parities of a circuit. Fails for want of memory alone.
+/// The number of odd path parities of a circuit: of the sets that stand at an odd number of P with an odd `k`. So many T gates
+/// are left where phases on the same set are merged (Nam et al. 2018, section 4.4). Fails for want of memory alone.
 pub fn odd_paths(alloc: Global, circuit: &Circuit) -> Result<u64, AllocError>
     ensures size { IfOk result (λ size. size ≡ odd_paths circuit.now.wires (ops circuit.now.gates)) }
 {

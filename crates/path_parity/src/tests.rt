@@ -4,7 +4,7 @@ ghost use Rattle.std.specs.Prelude.{◌≤◌};
 ghost use Rattle.unitary_model.specs.OddPaths.{first_walk, walked_all};
 ghost use Rattle.unitary_model.specs.Operations.{WiresBelow};
 
-use crate::{labels_of, odd_paths, Labels};
+use crate::{Labels, labels_of, odd_paths};
 use circuit_list::{Circuit, Gate};
 use std::alloc::{AllocError, Global};
 use std::process::Abort;
@@ -13,9 +13,13 @@ use unitary_model::Op;
 use unitary_plain::paths::odd_paths_of;
 
 const T: Gate = Gate::P { k: 1, q: 0 };
+
 const H: Gate = Gate::H { q: 0 };
+
 const X: Gate = Gate::X { q: 0 };
+
 const CX: Gate = Gate::Cx { c: 0, t: 1 };
+
 const BELOW: Gate = Gate::P { k: 1, q: 1 };
 
 /// Puts a gate behind the others if it may stand in the circuit.
@@ -94,14 +98,136 @@ fn odd_paths_by_hand(rt: HostRuntime) -> Result<(), Fail> {
     Ok(())
 }
 
+/// Whether a circuit on three wires and its operations have as many odd path parities as the slow program counts.
+fn agrees(alloc: Global, gates: &[Gate], ops: &[Op]) -> Result<bool, AllocError>
+    requires below { WiresBelow 3 ops.now }
+    requires variables { (walked_all ops.now (first_walk 3)).unused ≤ 64 }
+{
+    Ok(odd(alloc, gates)? == odd_paths_of(alloc, 3, ops)? as u64)
+}
+
 #[test]
-fn growth(rt: HostRuntime) -> Result<(), Fail> {
-    let alloc = rt.alloc();
-    let mut circuit = Circuit::empty(alloc, 3)?;
-    for _ in 0..32768 {
-        put(&mut circuit, H)?;
-        put(&mut circuit, CX)?;
-    }
-    assert_eq!(rt; odd_paths(alloc, &circuit)?, 0);
+fn agrees_with_the_slow_program(rt: HostRuntime) -> Result<(), Fail> {
+    let gates = [
+        Gate::Cx { c: 1, t: 0 },
+        Gate::P { k: 7, q: 2 },
+        Gate::P { k: 7, q: 1 },
+        Gate::P { k: 1, q: 0 },
+        Gate::P { k: 1, q: 0 },
+        Gate::H { q: 1 },
+        Gate::Cx { c: 2, t: 0 },
+        Gate::P { k: 1, q: 2 },
+        Gate::Cx { c: 2, t: 1 },
+    ];
+    let ops = [
+        Op::Cx { c: 1, t: 0 },
+        Op::U {
+            a: 0,
+            b: 0,
+            c: 7,
+            q: 2,
+        },
+        Op::U {
+            a: 0,
+            b: 0,
+            c: 7,
+            q: 1,
+        },
+        Op::U {
+            a: 0,
+            b: 0,
+            c: 1,
+            q: 0,
+        },
+        Op::U {
+            a: 0,
+            b: 0,
+            c: 1,
+            q: 0,
+        },
+        Op::U {
+            a: 2,
+            b: 0,
+            c: 4,
+            q: 1,
+        },
+        Op::Cx { c: 2, t: 0 },
+        Op::U {
+            a: 0,
+            b: 0,
+            c: 1,
+            q: 2,
+        },
+        Op::Cx { c: 2, t: 1 },
+    ];
+    assert!(rt; agrees(rt.alloc(), &gates, &ops)?);
+    Ok(())
+}
+
+#[test]
+fn agrees_with_the_slow_program_again(rt: HostRuntime) -> Result<(), Fail> {
+    let gates = [
+        Gate::P { k: 3, q: 2 },
+        Gate::P { k: 7, q: 2 },
+        Gate::X { q: 0 },
+        Gate::H { q: 1 },
+        Gate::P { k: 3, q: 0 },
+        Gate::Cx { c: 1, t: 2 },
+        Gate::P { k: 3, q: 0 },
+        Gate::X { q: 2 },
+        Gate::P { k: 1, q: 0 },
+    ];
+    let ops = [
+        Op::U {
+            a: 0,
+            b: 0,
+            c: 3,
+            q: 2,
+        },
+        Op::U {
+            a: 0,
+            b: 0,
+            c: 7,
+            q: 2,
+        },
+        Op::U {
+            a: 4,
+            b: 0,
+            c: 4,
+            q: 0,
+        },
+        Op::U {
+            a: 2,
+            b: 0,
+            c: 4,
+            q: 1,
+        },
+        Op::U {
+            a: 0,
+            b: 0,
+            c: 3,
+            q: 0,
+        },
+        Op::Cx { c: 1, t: 2 },
+        Op::U {
+            a: 0,
+            b: 0,
+            c: 3,
+            q: 0,
+        },
+        Op::U {
+            a: 4,
+            b: 0,
+            c: 4,
+            q: 2,
+        },
+        Op::U {
+            a: 0,
+            b: 0,
+            c: 1,
+            q: 0,
+        },
+    ];
+    assert!(rt; agrees(rt.alloc(), &gates, &ops)?);
     Ok(())
 }

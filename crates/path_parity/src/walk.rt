@@ -1,6 +1,6 @@
 //! A walk along a circuit that keeps the label of each wire.
 
-ghost use Rattle.std.specs.Prelude.{◌≡◌, ◌<◌, All, IfOk, OnOk, length, map};
+ghost use Rattle.std.specs.Prelude.{◌≡◌, ◌<◌, All, IfOk, OnErr, OnOk, length, map};
 ghost use Rattle.circuit_list.specs.Gates.{IsFine};
 ghost use Rattle.path_parity.specs.LabelWalks.{labels_at, labels_of_list};
 ghost use Rattle.path_parity.specs.PathSum.{labels_after, own_labels, unused_after};
@@ -11,7 +11,8 @@ use circuit_list::Gate;
 use std::alloc::{AllocError, Global};
 use std::marker::Model;
 
-/// The labels of all wires at a place of a circuit, and the least variable not used so far.
+/// The labels of all wires at a place of a circuit, and the least variable not used so far. Contracts see the list of the labels
+/// and that variable.
 #[derive(Drop)]
 pub struct Walk {
     labels: Vec<Label>,
@@ -44,12 +45,13 @@ impl Walk {
         })
     }
 
-    /// Walks past a gate. Fails for want of memory, and where no variable is left.
+    /// Walks past a gate. Fails for want of memory alone, 2^64 variables aside, and is then where it was.
     pub fn pass(&mut self, alloc: Global, gate: Gate) -> Result<(), AllocError>
         requires fine { IsFine (length self.old.labels) gate }
         ensures wires { length self.new.labels ≡ length self.old.labels }
         ensures labels { OnOk result (labels_at self.new ≡ labels_after gate (labels_at self.old) self.old.unused) }
         ensures unused { OnOk result (self.new.unused ≡ unused_after gate self.old.unused) }
+        ensures err { OnErr result (self.new ≡ self.old) }
     {
         match gate {
             Gate::H { q } => {
@@ -69,7 +71,7 @@ impl Walk {
         Ok(())
     }
 
-    /// The label of a wire.
+    /// The label of a wire, its variables increasing.
     pub fn label(&self, q: u32) -> &Label
         requires { q < length self.now.labels }
         ensures label { label_of result.now ≡ labels_at self.now q }

@@ -1,4 +1,4 @@
-use Rattle.std.proofs.Common.{◌∙◌, drop, map}
+use Rattle.std.proofs.Common.{◌∙◌, map}
 use Rattle.path_parity.specs.LabelWalks.{labels_at}
 use Rattle.path_parity.specs.PathSum.{own_labels, phase_labels}
 use Rattle.path_parity.specs.Sets.{label_of}

@@ -1,4 +1,4 @@
-use Rattle.std.proofs.Common.{◌≡◌, ◌∙◌, [], length, sym, ap}
+use Rattle.std.proofs.Common.{◌≡◌, ◌∙◌, [], sym, ap}
 use Rattle.circuit_list.specs.Gates.{ops}
 use Rattle.unitary_model.specs.OddPaths.{odd_paths}
 use Rattle.path_parity.specs.LabelWalks.{labels_at}
@@ -14,8 +14,11 @@ places-init c =
     let n : c.in_ok-walk.walk.unused ≡ b.wires = c.in_ok-walk.ensures.unused ∙ c.wires.ensures.wires in
     record {
       wires = c.in_ok-walk.ensures.wires ∙ c.wires.ensures.wires;
-      odd = ([], c.new-odd.ensures.none,
-      (λ i. odd_size (odd_sets b.gates ((c.in_ok-walk.ensures.labels ∙ ap own_labels c.wires.ensures.wires) i) (n i))) ∙ sym (odd_paths-sets b.gates b.wires));
+      odd = (
+        [],
+        c.new-odd.ensures.none,
+        (λ i. odd_size (odd_sets b.gates ((c.in_ok-walk.ensures.labels ∙ ap own_labels c.wires.ensures.wires) i) (n i))) ∙ sym (odd_paths-sets b.gates b.wires),
+      );
     }
 
 pub places-preserved : goal.places-preserved
@@ -24,7 +27,10 @@ places-preserved c =
     let o = c.places.invariant.odd in
     record {
       wires = c.in_ok-pass.ensures.wires ∙ c.places.invariant.wires;
-      odd = (toggled_all (odd_set c.gate-gate.result (labels_at c.places.walk)) o.0, c.in_ok-toggle_at.ensures.toggled o.0 o.1,
-      odd-step b.gates c.places.place c.gate-gate.result o.0 (labels_at c.places.walk) (labels_at c.pass.new.self) c.places.walk.unused c.pass.new.self.unused (odd_paths b.wires (ops b.gates))
-      c.gate-gate.ensures.there c.in_ok-pass.ensures.labels c.in_ok-pass.ensures.unused o.2);
+      odd = (
+        toggled_all (odd_set c.gate-gate.result (labels_at c.places.walk)) o.0,
+        c.in_ok-toggle_at.ensures.toggled o.0 o.1,
+        odd-step b.gates c.places.place c.gate-gate.result o.0 (labels_at c.places.walk) (labels_at c.pass.new.self) c.places.walk.unused c.pass.new.self.unused (odd_paths b.wires (ops b.gates))
+            c.gate-gate.ensures.there c.in_ok-pass.ensures.labels c.in_ok-pass.ensures.unused o.2,
+      );
     }
