@@ -1,0 +1,29 @@
+use Rattle.std.proofs.Common.{◌≡◌, ◌+◌, ◌++◌, [], ◌∷◌, take, string_bytes, slice_index_or, subst, sym, arith}
+use Rattle.std.proofs.lemmas.Grind.{common_steps}
+use Rattle.phase_poly.specs.Layers.{LayerBody, layers_of}
+use Rattle.phase_poly.specs.Polys.{ArePlain}
+use Rattle.phase_poly.specs.Replaced.{PlainLayers}
+use Rattle.phase_poly.proofs.RelinkedLaws.{plain_layer}
+use Rattle.phase_poly.proofs.FineLaws.{plain_told}
+use Rattle.layer_stages.specs.Stages.{IsSoFar}
+use Rattle.layer_stages.proofs.StageLaws.{so_far_next}
+use Rattle.layer_stages.proofs.lines.stage_lines.Goals as goal
+
+pub push_layer-requires-clause-plain : goal.push_layer-requires-clause-plain
+push_layer-requires-clause-plain c =
+    let layers : c.deref-layer-items.result.now ≡ layers_of c.args.body.now.gates = grind (arith, common_steps) in
+    let plain : PlainLayers c.wires.result c.deref-layer-items.result.now = plain_told c.args.body.now.wires c.wires.result c.args.body.now.gates c.deref-layer-items.result.now c.wires.ensures.wires layers c.wires.ensures.fine in
+    subst (λ (l : LayerBody). ArePlain c.wires.result l.gates) (sym c.layer-item.is) (plain_layer c.wires.result c.deref-layer-items.result.now c.layers.layer-index c.layer-item.result c.layers-test.true plain)
+
+pub layers-preserved : goal.layers-preserved
+layers-preserved c =
+    let here : IsSoFar c.wires.result (take c.layers.layer-index c.deref-layer-items.result.now) (string_bytes c.layers.text) c.layers.next =
+    subst (λ n. IsSoFar n (take c.layers.layer-index c.deref-layer-items.result.now) (string_bytes c.layers.text) c.layers.next) (sym c.wires.ensures.wires) c.layers.invariant.lines in
+    let more : IsSoFar c.wires.result (take c.layers.layer-index c.deref-layer-items.result.now ++ c.layer-item.result ∷ []) (string_bytes c.push_layer.new.text) c.in_ok-next.next = c.in_ok-next.ensures.lines _ here in
+    let read : IsSoFar c.wires.result (take c.layers.layer-index c.deref-layer-items.result.now ++ slice_index_or c.deref-layer-items.result.now c.layers.layer-index c.layer-item.result ∷ []) (string_bytes c.push_layer.new.text) c.in_ok-next.next =
+    subst (λ (l : LayerBody). IsSoFar c.wires.result (take c.layers.layer-index c.deref-layer-items.result.now ++ l ∷ []) (string_bytes c.push_layer.new.text) c.in_ok-next.next) c.layer-item.is more in
+    record {
+      lines = subst (λ n. IsSoFar n (take (c.layers.layer-index + 1) c.deref-layer-items.result.now) (string_bytes c.push_layer.new.text) c.in_ok-next.next) c.wires.ensures.wires
+          (so_far_next c.wires.result c.deref-layer-items.result.now c.layers.layer-index c.layer-item.result (string_bytes c.push_layer.new.text) c.in_ok-next.next c.layers-test.true read);
+      few = let a = c.in_ok-next.ensures.next in let b = c.layers.invariant.few in omega (arith, a, b);
+    }

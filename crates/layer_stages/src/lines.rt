@@ -1,0 +1,65 @@
+//! The lines of all layers.
+
+ghost use Rattle.std.specs.Prelude.{◌≡◌, ◌+◌, ◌≤◌, ◌<◌, ◌++◌, ◌∷◌, ◌^◌, [], List, IfOk, OnOk, string_bytes};
+ghost use Rattle.circuit_list.specs.Gates.{most_wires};
+ghost use Rattle.phase_poly.specs.Layers.{LayerBody, layers_of};
+ghost use Rattle.phase_poly.specs.Polys.{ArePlain};
+ghost use Rattle.layer_stages.specs.Stages.{IsSoFar, IsStageText, stage_line};
+
+use crate::stage::{Stage, stage_of};
+use circuit_list::Circuit;
+use phase_poly::{Layer, layers};
+use std::alloc::{AllocError, Global};
+
+/// For each layer with a gate other than H a line `layer I gates G parities P blocks B witness A rank R` and a line
+/// break. I counts these layers from 1; the P sums with an odd coefficient are taken apart into B independent blocks,
+/// and no fewer blocks could take the A sums of a choice of them, which has the rank R.
+pub fn stage_lines(alloc: Global, body: &Circuit) -> Result<Vec<u8>, AllocError>
+    ensures { IfOk result (λ t. IsStageText body.now.wires (layers_of body.now.gates) t.items) }
+{
+    let layers = layers(alloc, body)?;
+    let mut text = String::new(alloc);
+    let mut next = 1;
+    'layers: for layer in &layers {
+        next = push_layer(alloc, &mut text, body.wires(), layer, next)?;
+    }
+    Ok(text.into_bytes())
+}
+
+/// Writes the line of a layer, if it has a gate other than H, and tells the number of the next line.
+fn push_layer(
+    alloc: Global,
+    text: &mut String,
+    wires: u32,
+    layer: &Layer,
+    number: usize,
+) -> Result<usize, AllocError>
+    requires few { wires ≤ most_wires }
+    requires plain { ArePlain wires layer.now.gates }
+    requires room { number < 2 ^ 63 }
+    ensures lines { IfOk result (λ next. (ls : List LayerBody) → IsSoFar wires ls (string_bytes text.old) number →
+        IsSoFar wires (ls ++ layer.now ∷ []) (string_bytes text.new) next) }
+    ensures next { IfOk result (λ next. next ≤ number + 1) }
+{
+    if layer.gates().is_empty() {
+        return Ok(number);
+    }
+    let stage = stage_of(alloc, wires, layer.gates())?;
+    push_stage(text, number, stage)?;
+    Ok(number + 1)
+}
+
+/// Writes a line.
+fn push_stage(text: &mut String, number: usize, stage: Stage) -> Result<(), AllocError>
+    ensures { OnOk result (string_bytes text.new ≡ string_bytes text.old ++ stage_line number stage) }
+{
+    let gates = stage.gates;
+    let parities = stage.parities;
+    let blocks = stage.blocks;
+    let witness = stage.witness;
+    let rank = stage.rank;
+    write!(
+        text,
+        "layer {number} gates {gates} parities {parities} blocks {blocks} witness {witness} rank {rank}\n"
+    )
+}

@@ -1,0 +1,76 @@
+//! The numbers of one layer.
+
+ghost use Rattle.std.specs.Prelude.{◌≡◌, ◌≤◌, ◌<◌, ◌++◌, ◌∷◌, [], All, IfOk, OnOk, length};
+ghost use Rattle.circuit_list.specs.Gates.{most_wires};
+ghost use Rattle.gf2_linear.specs.Rows.{rows_at};
+ghost use Rattle.phase_poly.specs.Polys.{ArePlain};
+ghost use Rattle.layer_stages.specs.Stages.{IsStage, odd_rows};
+
+use circuit_list::Gate;
+use gf2_linear::{Row, rank};
+use matroid_partition::partition;
+use phase_poly::poly;
+use std::alloc::{AllocError, Global};
+
+/// What the line of a layer tells.
+#[derive(Clone, Copy)]
+pub(crate) struct Stage {
+    pub(crate) gates: usize,
+    pub(crate) parities: usize,
+    pub(crate) blocks: usize,
+    pub(crate) witness: usize,
+    pub(crate) rank: usize,
+}
+
+/// The numbers of a layer with these gates.
+pub(crate) fn stage_of(alloc: Global, wires: u32, gates: &[Gate]) -> Result<Stage, AllocError>
+    requires few { wires ≤ most_wires }
+    requires plain { ArePlain wires gates.now }
+    ensures { IfOk result (λ s. IsStage wires gates.now s) }
+{
+    let sum = poly(alloc, wires, gates)?;
+    let rows = odd_rows(alloc, sum.terms())?;
+    let parts = partition(alloc, &rows)?;
+    let choice = rows_at(alloc, &rows, &parts.witness)?;
+    let rank = rank(alloc, &choice)?;
+    Ok(Stage {
+        gates: gates.len(),
+        parities: rows.len(),
+        blocks: parts.blocks.len(),
+        witness: parts.witness.len(),
+        rank,
+    })
+}
+
+/// The sums with an odd coefficient, in order.
+fn odd_rows(alloc: Global, terms: &[(Row, u8)]) -> Result<Vec<Row>, AllocError>
+    ensures { IfOk result (λ v. v.items ≡ odd_rows terms.now) }
+{
+    let mut rows = Vec::new(alloc);
+    'terms: for term in terms {
+        keep_odd(&mut rows, term)?;
+    }
+    Ok(rows)
+}
+
+/// Puts the sum of a term behind the others where its coefficient is odd.
+fn keep_odd(rows: &mut Vec<Row>, term: &(Row, u8)) -> Result<(), AllocError>
+    ensures { OnOk result (rows.new.items ≡ rows.old.items ++ odd_rows (term.now ∷ [])) }
+{
+    if term.1 % 2 == 1 {
+        rows.push(term.0.copy())?;
+    }
+    Ok(())
+}
+
+/// The rows at some places.
+fn rows_at(alloc: Global, rows: &[Row], places: &[usize]) -> Result<Vec<Row>, AllocError>
+    requires { All (λ i. i < length rows.now) places.now }
+    ensures { IfOk result (λ v. v.items ≡ rows_at rows.now places.now) }
+{
+    let mut chosen = Vec::new(alloc);
+    'places: for place in places {
+        chosen.push(rows[*place].copy())?;
+    }
+    Ok(chosen)
+}

@@ -1,0 +1,64 @@
+use crate::stage_lines;
+use circuit_list::{Circuit, Gate};
+use std::alloc::AllocError;
+use std::test::Fail;
+
+/// The Toffoli gate: thirteen gates between its H, and seven sums of three wires, of which a block takes three.
+#[test]
+fn toffoli(rt: HostRuntime) -> Result<(), Fail> {
+    let mut body = Circuit::empty(rt.alloc(), 3)?;
+    let gates: [Gate; 15] = [
+        Gate::H { q: 2 },
+        Gate::Cx { c: 1, t: 2 },
+        Gate::P { k: 7, q: 2 },
+        Gate::Cx { c: 0, t: 2 },
+        Gate::P { k: 1, q: 2 },
+        Gate::Cx { c: 1, t: 2 },
+        Gate::P { k: 7, q: 2 },
+        Gate::Cx { c: 0, t: 2 },
+        Gate::P { k: 1, q: 1 },
+        Gate::P { k: 1, q: 2 },
+        Gate::H { q: 2 },
+        Gate::Cx { c: 0, t: 1 },
+        Gate::P { k: 1, q: 0 },
+        Gate::P { k: 7, q: 1 },
+        Gate::Cx { c: 0, t: 1 },
+    ];
+    for gate in gates.as_slice() {
+        push_fine(&mut body, *gate)?;
+    }
+    let text = stage_lines(rt.alloc(), &body)?;
+    assert!(rt;
+        text.as_slice() == b"layer 1 gates 13 parities 7 blocks 3 witness 7 rank 3\n".as_slice()
+    );
+    Ok(())
+}
+
+/// Puts a gate behind the others where it may stand on three wires.
+fn push_fine(body: &mut Circuit, gate: Gate) -> Result<(), AllocError> {
+    let wires = body.wires();
+    let fine = match gate {
+        Gate::H { q } | Gate::X { q } => q < wires,
+        Gate::P { k, q } => q < wires && 0 < k && k < 8,
+        Gate::Cx { c, t } => c < wires && t < wires && c != t,
+    };
+    if fine {
+        body.push(gate)?;
+    }
+    Ok(())
+}
+
+/// An H between two T makes two layers, each with one odd sum.
+#[test]
+fn two_layers(rt: HostRuntime) -> Result<(), Fail> {
+    let mut body = Circuit::empty(rt.alloc(), 1)?;
+    body.push(Gate::P { k: 1, q: 0 })?;
+    body.push(Gate::H { q: 0 })?;
+    body.push(Gate::P { k: 1, q: 0 })?;
+    let text = stage_lines(rt.alloc(), &body)?;
+    assert!(rt;
+        text.as_slice()
+            == b"layer 1 gates 1 parities 1 blocks 1 witness 1 rank 1\nlayer 2 gates 1 parities 1 blocks 1 witness 1 rank 1\n".as_slice()
+    );
+    Ok(())
+}

@@ -1,0 +1,16 @@
+pub mod BlockLaws
+pub mod BuildLaws
+pub mod BuildingLaws
+pub mod FineLaws
+pub mod LayerExamples
+pub mod LayerLaws
+pub mod MapLaws
+pub mod PassLaws
+pub mod PickedLaws
+pub mod PolyExamples
+pub mod PolyLaws
+pub mod RelinkedLaws
+pub mod ResynthLaws
+pub mod TermLaws
+pub mod WalkLaws
+pub mod WordLaws
