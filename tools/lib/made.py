@@ -32,6 +32,11 @@ def clauses(crate):
     if named:
         lines += ["| call | its clauses |", "|---|---|"]
         lines += [f"| {call_name(it)} | {clause_list(it)} |" for it in named]
+    promises = sources.promises(crate)
+    if promises:
+        lines += [""] if lines else []
+        lines += ["| what its passes and rules promise by the trait's clauses | |", "|---|---|"]
+        lines += [f"| `{it.owner}`, `{it.trait}`: `{it.name}` | `{it.says}` |" for it in promises]
     rest = [call_name(it) for it in listed if not any(it.clauses)]
     if rest:
         lines += ["", f"{'Besides these, calls' if named else 'Calls'} whose clauses have no name: {', '.join(rest)}."]

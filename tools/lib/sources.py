@@ -143,6 +143,36 @@ def functions(top=TOP):
     return found
 
 
+@dataclasses.dataclass
+class Promise:
+    owner: str  # the type that the trait is written for
+    trait: str
+    name: str
+    says: str
+
+
+PROMISE = re.compile(r"    ghost (\w+) = \{ (.*) \};$")
+WRITTEN_FOR = re.compile(r"impl(?:<.*?>)? (Pass|Rule|KeepsPairs|Shrinks) for (\w+)")
+
+
+def promises(crate, top=TOP):
+    """What the passes and rules of a crate put in for the words that their trait leaves open."""
+    found = []
+    for path in sorted(glob.glob(f"crates/{crate}/src/**/*.rt", root_dir=top, recursive=True)):
+        if is_test(path, top):
+            continue
+        trait = None
+        with open(os.path.join(top, path), encoding="utf-8") as file:
+            for line in file:
+                if match := WRITTEN_FOR.match(line):
+                    trait, owner = match.groups()
+                elif line.startswith("}"):
+                    trait = None
+                elif trait and (match := PROMISE.match(line)) and match.group(2) != "λ _ _ _. Unit {0}":
+                    found.append(Promise(owner, trait, *match.groups()))
+    return found
+
+
 def edits(crate, top=TOP):
     """The names of the edits that must be refused."""
     found = glob.glob(f"crates/{crate}/must-fail/*.edit", root_dir=top)

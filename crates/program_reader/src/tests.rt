@@ -92,12 +92,14 @@ fn tower(alloc: Global, name: &str, first: &str, count: u32) -> Result<String, A
 fn counts_operations_to_the_limit(rt: HostRuntime) -> Result<(), Fail> {
     let alloc = rt.alloc();
     let gates = tower(alloc, "g", "U(0,0,0) a;", 17)?;
-    for (more, want) in [
-        ("", "1 65536 0 0"),
-        ("U(0,0,0) q[0];", "inline 44 21"),
-        ("U(1/0,0,0) q[0];", "inline 44 21"),
+    for (applied, want) in [
+        ("g16 q[0];", "1 65536 0 0"),
+        ("g16 q[0]; U(0,0,0) q[0];", "inline 44 21"),
+        ("g16 q[0]; U(1/0,0,0) q[0];", "inline 44 21"),
+        ("U(1/0,0,0) q[0]; g16 q[0];", "inline 44 21"),
+        ("U(1/0,0,0) q[0]; g15 q[0];", "inline 41 20"),
     ] {
-        let text = format!(in alloc; "{gates}qreg q[1]; g16 q[0]; {more}")?;
+        let text = format!(in alloc; "{gates}qreg q[1]; {applied}")?;
         let text = headed(alloc, text.as_str())?;
         let got = told(alloc, &text)?;
         assert_eq!(rt; got.as_str(), want);

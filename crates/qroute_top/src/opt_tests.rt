@@ -5,7 +5,7 @@ use std::test::Fail;
 
 #[test]
 fn writes_on_the_own_wires(rt: HostRuntime) -> Result<(), Fail> {
-    let rows: [Written; 7] = [
+    let rows: [Written; 8] = [
         (
             &OPT,
             "qreg q[1]; h q[0]; t q[0];",
@@ -47,6 +47,13 @@ fn writes_on_the_own_wires(rt: HostRuntime) -> Result<(), Fail> {
         // no wires at all
         (
             &OPT,
+            "OPENQASM 2.0;",
+            "",
+            "",
+            "{\"barriers\":0,\"cx_after\":0,\"cx_before\":0,\"device\":0,\"final\":[],\"format\":1,\"initial\":[],\"phase\":0,\"qubits\":0,\"swaps\":0,\"t_after\":0,\"t_before\":0}\n",
+        ),
+        (
+            &OPT,
             "creg c[2];",
             "",
             "creg c[2];\n",
@@ -62,6 +69,17 @@ fn writes_on_the_own_wires(rt: HostRuntime) -> Result<(), Fail> {
         ),
     ];
     write(rt.alloc(), &rt, &rows)
+}
+
+#[test]
+fn writes_each_wire_of_a_register(rt: HostRuntime) -> Result<(), Fail> {
+    let alloc = rt.alloc();
+    let mut want = String::new(alloc);
+    want.push_str("qreg q[64];\n")?;
+    for q in 0..64u32 {
+        write!(want, "h q[{q}];\n")?;
+    }
+    optimise(alloc, &rt, &[("qreg q[64]; h q;", want.as_str(), 0)])
 }
 
 #[test]

@@ -1,6 +1,6 @@
 //! Runs that end early: failing ends, other words, and texts that are refused.
 
-use crate::cases::{CHECK, Case, OPT, PAIR, Stopped, refuse, run_case, stop};
+use crate::cases::{CHECK, Case, OPT, PAIR, Stopped, optimise, refuse, run_case, stop};
 use std::test::Fail;
 
 #[test]
@@ -236,8 +236,65 @@ fn refuses_texts(rt: HostRuntime) -> Result<(), Fail> {
             "qreg q[1]; u1(2^62*2*pi) q[0];",
             "{\"code\":42,\"fault\":\"AngleRange\",\"statement\":3,\"status\":3}\n",
         ),
+        (
+            "include \"other.inc\";",
+            "{\"code\":20,\"fault\":\"Include\",\"statement\":2,\"status\":3}\n",
+        ),
+        (
+            "h r[0];",
+            "{\"code\":22,\"fault\":\"UnknownName\",\"statement\":2,\"status\":3}\n",
+        ),
+        (
+            "qreg q[1]; creg c[1]; h c[0];",
+            "{\"code\":23,\"fault\":\"WrongKind\",\"statement\":4,\"status\":3}\n",
+        ),
+        (
+            "qreg q[1]; h q[1];",
+            "{\"code\":24,\"fault\":\"IndexRange\",\"statement\":3,\"status\":3}\n",
+        ),
+        (
+            "creg c[0];",
+            "{\"code\":25,\"fault\":\"EmptyRegister\",\"statement\":2,\"status\":3}\n",
+        ),
+        (
+            "qreg q[1]; u1(pi,pi) q[0];",
+            "{\"code\":26,\"fault\":\"ParamCount\",\"statement\":3,\"status\":3}\n",
+        ),
+        (
+            "qreg q[2]; h q[0],q[1];",
+            "{\"code\":27,\"fault\":\"QubitCount\",\"statement\":3,\"status\":3}\n",
+        ),
+        (
+            "qreg q[1]; creg c[1]; if(c==1) h q[0];",
+            "{\"code\":30,\"fault\":\"Conditional\",\"statement\":4,\"status\":3}\n",
+        ),
+        (
+            "qreg q[1]; reset q[0];",
+            "{\"code\":31,\"fault\":\"Reset\",\"statement\":3,\"status\":3}\n",
+        ),
+        (
+            "opaque g a; qreg q[1]; g q[0];",
+            "{\"code\":32,\"fault\":\"OpaqueApplied\",\"statement\":4,\"status\":3}\n",
+        ),
+        (
+            "creg c[1025];",
+            "{\"code\":35,\"fault\":\"TooManyBits\",\"statement\":2,\"status\":3}\n",
+        ),
     ];
     refuse(rt.alloc(), &rt, &rows)
+}
+
+/// An expression in 63 pairs of parentheses is read, one in 64 is too deep.
+#[test]
+fn refuses_an_expression_that_is_too_deep(rt: HostRuntime) -> Result<(), Fail> {
+    let alloc = rt.alloc();
+    let open = "(".repeat(alloc, 63)?;
+    let close = ")".repeat(alloc, 63)?;
+    let text = format!(in alloc; "qreg q[1]; u1({open}pi{close}) q[0];")?;
+    optimise(alloc, &rt, &[(text.as_str(), "qreg q[1];\nz q[0];\n", 0)])?;
+    let text = format!(in alloc; "qreg q[1]; u1(({open}pi{close})) q[0];")?;
+    let told = "{\"code\":14,\"fault\":\"Depth\",\"place\":50,\"status\":3}\n";
+    refuse(alloc, &rt, &[(text.as_str(), told)])
 }
 
 /// Sixty gates, each the one before twice, on one qubit.
@@ -260,23 +317,29 @@ fn refuses_a_tower_of_gates(rt: HostRuntime) -> Result<(), Fail> {
 #[test]
 fn refuses_a_text_that_is_too_long(rt: HostRuntime) -> Result<(), Fail> {
     let alloc = rt.alloc();
-    let text = vec![in alloc; b' '; 4_194_400]?;
-    let got = run_case(
-        alloc,
-        Case {
-            words: &OPT,
-            text: &text,
-            device: "",
-            fails: [0, 0, 0, 0],
-        },
-    )?;
-    assert_eq!(rt; got.status, 3);
-    assert!(rt; got.out.as_slice().is_empty());
+    let told = "{\"code\":60,\"fault\":\"TextTooLong\",\"status\":3}\n";
+    // a text of spaces alone has no header
+    let empty = "{\"code\":12,\"fault\":\"Syntax\",\"place\":4194304,\"status\":3}\n";
     // The input isn't read past the limit and one byte.
-    assert_eq!(rt; got.left, 95);
-    assert_eq!(rt;
-        got.report.as_slice(),
-        b"{\"code\":60,\"fault\":\"TextTooLong\",\"status\":3}\n".as_slice()
-    );
+    for (len, report, left) in [
+        (4_194_304, empty, 0),
+        (4_194_305, told, 0),
+        (4_194_400, told, 95),
+    ] {
+        let text = vec![in alloc; b' '; len]?;
+        let got = run_case(
+            alloc,
+            Case {
+                words: &OPT,
+                text: &text,
+                device: "",
+                fails: [0, 0, 0, 0],
+            },
+        )?;
+        assert_eq!(rt; got.status, 3);
+        assert!(rt; got.out.as_slice().is_empty());
+        assert_eq!(rt; got.left, left);
+        assert_eq!(rt; got.report.as_slice(), report.as_bytes());
+    }
     Ok(())
 }
