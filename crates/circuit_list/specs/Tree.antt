@@ -9,6 +9,7 @@
 --   Lacks e es ns i                          what node i tells lacks slot e alone
 --   IsTree h es ns                           a tree of this height over the slots
 --   Covers es ns h i lo                      below node i stand the slots from lo on, 2^h of them
+--   Spans ns h i lo                          the same of a node in a tree whose nodes are as many as a power of 2
 --   NoneOn m es a b                          no gate on a wire of m stands in the slots from a to below b
 --   IsFirstOn m es a s                       slot s is the first from a on whose gate is on a wire of m
 --   IsLastOn m es b s                        slot s is the last below b whose gate is on a wire of m
@@ -64,6 +65,13 @@ unfoldable pub Covers : List (Option Gate) → List Node → ℕ → ℕ → ℕ
 Covers es ns zero i lo = (i ≡ length ns + lo) × (lo + 1 ≤ length ns)
 Covers es ns (suc h) i lo =
     (i < length ns) × (lo + (2 ^ h + 2 ^ h) ≤ length ns) × IsJoined es ns i × Covers es ns h (2 * i) lo × Covers es ns h (2 * i + 1) (lo + 2 ^ h)
+
+pub record Spans (ns : List Node) (h i lo : ℕ) : Type 0 where
+  pub depth : ℕ
+  pub size : length ns ≡ 2 ^ depth * 2 ^ h
+  pub low : 2 ^ depth ≤ i
+  pub high : i < 2 ^ depth + 2 ^ depth
+  pub begin : i * 2 ^ h ≡ length ns + lo
 
 abbrev pub NoneOn : ℕ → List (Option Gate) → ℕ → ℕ → Type 0
 NoneOn m es a b = (s : ℕ) → a ≤ s → s < b → meets m (entry es s) ≡ false
