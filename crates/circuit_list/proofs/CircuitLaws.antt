@@ -12,7 +12,7 @@ use Rattle.std.specs.Int.{bit_at}
 use Rattle.std.proofs.lemmas.Bool.{eqb-true, eqb-false}
 use Rattle.std.proofs.lemmas.List.Elements.{All-from_recursion, All-get_or, All-append, All-set, All-take, All-drop}
 use Rattle.std.proofs.lemmas.List.Sums.{sum_by-cons}
-use Rattle.std.proofs.lemmas.Nat.Bits.{bit_at-zero, bit_at-pow_same, bit_at-pow_other}
+use Rattle.std.proofs.lemmas.Nat.Bits.{bit_at-pow_same, bit_at-pow_other}
 use Rattle.std.proofs.lemmas.Option.{get_or_from_slice_get, slice_get_within}
 use Rattle.std.specs.declared.alloc.AllocError.{AllocError}
 use Rattle.circuit_list.specs.declared.Gate.{Gate}
@@ -20,7 +20,6 @@ use Rattle.circuit_list.specs.declared.Gate.TheVariants.{H, X, P, Cx}
 use Rattle.circuit_list.specs.Entries.{entry, is_live, holds, rank, gates_of, slots_from}
 use Rattle.circuit_list.specs.Gates.{IsFine, h_count, is_cx, is_h, is_on, is_t, ops}
 use Rattle.circuit_list.specs.Slots.{IsFirstFrom, IsNextOn, IsPrevOn, NoneBefore, NoneBehind, NoneFrom, is_on_at, is_on_some, place_of}
-use Rattle.circuit_list.specs.Body.{Body}
 use Rattle.circuit_list.specs.Tree.{IsFirstOn, IsLastOn, NoneOn, any_wire, has_any, leaf, meets, wire_bit, wires_of}
 use Rattle.circuit_list.proofs.EntryLaws.{gates_of-gone, gates_of-push, gates_of-put, gates_of-rank, live_of-place, place_of-rank, rank-length, rank-next, rank-zero, rank_below, rank_later, rank_mono, slot_below, slot_of-gate, slots_from-rank}
 use Rattle.circuit_list.proofs.GateLaws.{cx_count-ops, t_count-ops}

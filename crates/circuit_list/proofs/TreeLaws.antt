@@ -9,12 +9,13 @@
 --   IsTree-more                               twice as many nodes
 --   count_root                                what the root tells
 --   covers-count, covers-none                 what a node tells of the slots below it
-use Rattle.std.proofs.Common.{◌≡◌, ◌≢◌, ℕ, zero, suc, ◌+◌, ◌-◌, ◌*◌, ◌^◌, ◌/◌, ◌%◌, ◌<◌, ◌≤◌, ◌==◌, ◌||◌, Bool, true, false, List, Option, None, Some, refl, sym, ap, ◌∙◌, subst, arith, inl, inr, ◌⊎◌, length, get_or, set, min, max, lit<, add_assoc, add-one, nat_lt}
+use Rattle.std.proofs.Common.{◌≡◌, ◌≢◌, ℕ, zero, suc, ◌+◌, ◌-◌, ◌*◌, ◌^◌, ◌/◌, ◌%◌, ◌<◌, ◌≤◌, ◌==◌, ◌||◌, Bool, true, false, List, Option, None, Some, refl, sym, ap, ◌∙◌, subst, arith, inl, inr, ◌⊎◌, ◌++◌, length, get_or, take, drop, set, min, lit<, add_assoc, add-one, nat_lt}
 use Rattle.std.proofs.Math.Nat.{one-mul, zero-mul, add-mul, mul-add, two-mul, two-pow-succ, one-le-pow, pow-le-pow_right, le-mul_of_pos_right}
-use Rattle.std.proofs.lemmas.List.{get_or_past, get_or_default, get_or-set_same, get_or-set_other, length-set}
+use Rattle.std.proofs.Math.ListN.{drop_of_length-le}
+use Rattle.std.proofs.lemmas.List.{append-nil, take_all, get_or_past, get_or_default, get_or-set_same, get_or-set_other, length-set}
 use Rattle.std.proofs.lemmas.Nat.{and_comm, and_le_l, and_le_r, shl_whole}
-use Rattle.std.proofs.lemmas.Nat.Bits.{and_pow, bit_at_and, bit_at_ones, bit_at_or, bit_at-lt, bit_at-pow_other, bit_at-pow_same, bit_at-zero, same_from_bits}
-use Rattle.std.proofs.lemmas.Bool.{eqb-true, eqb-false}
+use Rattle.std.proofs.lemmas.Nat.Bits.{and_pow, bit_at_and, bit_at_ones, bit_at_or, bit_at-lt, bit_at-zero, same_from_bits}
+use Rattle.std.proofs.lemmas.Bool.{eqb-true, eqb-false, lt-ltb}
 use Rattle.std.specs.Int.{bit_at}
 use Rattle.std.specs.Int.Bits.{bit_and, bit_or, or_add_and}
 use Rattle.circuit_list.specs.declared.Gate.{Gate}
@@ -70,16 +71,17 @@ or_and a b m = same_from_bits (bit_and (bit_or a b) m) (bit_or (bit_and a m) (bi
     omega arith)
 
 positive : (n : ℕ) → 0 < n → nat_lt 0 n ≡ true
-positive zero h = absurd (omega arith)
-positive (suc n) h = refl
+positive n h = lt-ltb 0 n h
 
 nothing : (n : ℕ) → n ≡ 0 → nat_lt 0 n ≡ false
 nothing n h = ap (nat_lt 0) h
 
 positive_or : (x y : ℕ) → nat_lt 0 (bit_or x y) ≡ (nat_lt 0 x || nat_lt 0 y)
 positive_or zero zero = nothing (bit_or 0 0) (zero_or 0)
-positive_or zero (suc y) = positive (bit_or 0 (suc y)) (omega (arith, zero_or (suc y)))
-positive_or (suc x) y = positive (bit_or (suc x) y) (let sum = or_add_and (suc x) y in let le = and_le_r (suc x) y in omega arith)
+positive_or zero (suc y) = positive (bit_or 0 (suc y)) (omega (arith, zero_or (suc y))) ∙ sym (positive (suc y) (omega arith))
+positive_or (suc x) y =
+    positive (bit_or (suc x) y) (let sum = or_add_and (suc x) y in let le = and_le_r (suc x) y in omega arith)
+    ∙ ap (λ b. b || nat_lt 0 y) (sym (positive (suc x) (omega arith)))
 
 pub has_any-or : (m a b : ℕ) → has_any m (bit_or a b) ≡ (has_any m a || has_any m b)
 unfolding has_any
@@ -334,7 +336,7 @@ joined-entries es fs ns slot same old j pos lt n =
     ∙ (λ i. join (sym (node_at-entries es fs ns slot (2 * j) same (λ h. n (omega arith))) i) (sym (node_at-entries es fs ns slot (2 * j + 1) same (λ h. n (omega arith))) i))
 
 -- ---- more nodes
-low_power : (h : ℕ) → 2 ^ h < 2 ^ 64 → h < 64
+pub low_power : (h : ℕ) → 2 ^ h < 2 ^ 64 → h < 64
 low_power h lt = at (order h 64)
   where
     at : (h < 64) ⊎ (64 ≤ h) → h < 64
@@ -432,3 +434,17 @@ lacks-up es ns m k e v pos lt half above new old = at (order m (2 * k + 1))
         let same : 2 * k + 1 ≡ m = omega arith in
         ap (λ (n : Node). join n (leaf e)) was ∙ join-beside (node_at es ns (2 * k)) (node_at es ns (2 * k + 1)) (leaf e)
         ∙ (λ i. join (sym other i) (sym (got (2 * k + 1) same) i))
+
+pub lacks_written : (h : ℕ) (es fs : List (Option Gate)) (ns ms : List Node) (slot : ℕ) (g : Gate) → IsTree h es ns → ((s : ℕ) → s ≢ slot → entry fs s ≡ entry es s)
+    → entry es slot ≡ None → entry fs slot ≡ Some g → ms ≡ ns → slot < length ns → 0 < (length ms + slot) / 2 → Lacks (Some g) fs ms ((length ms + slot) / 2)
+lacks_written h es fs ns ms slot g t same empty put e =
+    subst (λ (ys : List Node). slot < length ns → 0 < (length ys + slot) / 2 → Lacks (Some g) fs ys ((length ys + slot) / 2)) (sym e)
+    (λ lt pos.
+    let inner : (length ns + slot) / 2 < length ns = omega arith in
+    lacks_leaf es fs ns slot ((length ns + slot) / 2) g same empty put refl inner (t.joined ((length ns + slot) / 2) pos inner))
+
+-- what a slice of a vector got stands in the vector
+pub written-back : (n : ℕ) (xs ys : List Node) → length xs ≡ length ys → n ≡ length ys → take n (xs ++ drop (length xs) ys) ≡ xs
+written-back n xs ys same all =
+    ap (λ zs. take n (xs ++ zs)) (drop_of_length-le ys (let le : length ys ≤ length xs = omega arith in le))
+    ∙ ap (take n) (append-nil xs) ∙ take_all n xs (omega arith)

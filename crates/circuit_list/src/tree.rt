@@ -147,7 +147,7 @@ impl Tree {
         if slot >= self.gates.len() {
             return None;
         }
-        if self.gates[slot].is_some() {
+        if entry(&self.gates, slot).is_some() {
             return Some(slot);
         }
         first_behind(&self.gates, &self.nodes, slot, ANY_WIRE)
@@ -177,7 +177,7 @@ impl Tree {
         if self.count() == self.entries().len() {
             return Ok(());
         }
-        let gates = live(&self.gates)?;
+        let gates = live(*self.gates.allocator(), &self.gates)?;
         *self = planted(gates)?;
         Ok(())
     }
@@ -197,11 +197,11 @@ impl Tree {
 }
 
 /// The slots with gates alone.
-fn live(gates: &Vec<Option<Gate>>) -> Result<Vec<Option<Gate>>, AllocError>
-    ensures { IfOk result (λ v. gates_of v.items ≡ gates_of gates.now.items) }
+fn live(alloc: Global, entries: &[Option<Gate>]) -> Result<Vec<Option<Gate>>, AllocError>
+    ensures { IfOk result (λ v. gates_of v.items ≡ gates_of entries.now) }
 {
-    let mut kept = Vec::new(*gates.allocator());
-    'slots: for entry in gates {
+    let mut kept = Vec::new(alloc);
+    'slots: for entry in entries {
         if entry.is_some() {
             kept.push(*entry)?;
         }

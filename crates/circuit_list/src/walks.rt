@@ -40,7 +40,7 @@ pub(crate) fn slot_at(gates: &[Option<Gate>], nodes: &[Node], place: usize) -> u
     let mut rest = place;
     let mut node = 1;
     'down: while node < len {
-        node *= 2;
+        node = 2 * node;
         let count = node_at(gates, nodes, node).count;
         if rest >= count {
             rest -= count;
@@ -59,7 +59,7 @@ fn first_in(gates: &[Option<Gate>], nodes: &[Node], top: usize, wires: u64) -> u
     let len = nodes.len();
     let mut node = top;
     'down: while node < len {
-        node *= 2;
+        node = 2 * node;
         if !has_any(node_at(gates, nodes, node).wires, wires) {
             node += 1;
         }

@@ -2,4 +2,4 @@ use Rattle.circuit_list.proofs.GateLaws.{WiresBelow-ops}
 use Rattle.circuit_list.proofs.laws.fine_below.Goals as goal
 
 pub returns : goal.returns
-returns c = WiresBelow-ops
+returns c = record { below = WiresBelow-ops }

@@ -1,10 +1,9 @@
 -- Behind the slot there is nothing on the wires below the node.
-use Rattle.std.proofs.Common.{ℕ, ◌+◌, ◌^◌, ◌<◌, ◌≤◌}
-use Rattle.circuit_list.specs.Tree.{NoneOn, Spans}
+use Rattle.circuit_list.proofs.WalkLaws.{Ahead}
 use Rattle.circuit_list.proofs.walks.first_behind.Given as goal
 
 abbrev pub invariant-up : goal.invariant-up
-invariant-up l = (h lo : ℕ) × (Spans l.nodes h l.node lo × ((lo ≤ l.slot) × ((l.slot < lo + 2 ^ h) × NoneOn l.wires l.gates (l.slot + 1) (lo + 2 ^ h))))
+invariant-up l = Ahead l.wires l.gates l.nodes l.slot l.node
 
 abbrev pub decreases-up : goal.decreases-up
 decreases-up l = l.node

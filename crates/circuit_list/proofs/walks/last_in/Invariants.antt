@@ -1,14 +1,10 @@
--- The slot stands below the node, and behind that nothing on the wires stands below the top.
-use Rattle.std.proofs.Common.{◌≡◌, ℕ, ◌+◌, ◌*◌, ◌-◌, ◌^◌, ◌≤◌, true, length}
-use Rattle.circuit_list.specs.Tree.{Covers, NoneOn, has_any, node_at}
+-- The slot stands below the node, and nothing on the wires stands behind that below the top.
+use Rattle.std.proofs.Common.{◌*◌, ◌-◌, length}
+use Rattle.circuit_list.proofs.WalkLaws.{Last}
 use Rattle.circuit_list.proofs.walks.last_in.Given as goal
 
 abbrev pub invariant-down : goal.invariant-down
-invariant-down l =
-    (h lo : ℕ)
-    × (Covers l.gates l.nodes h l.node lo
-    × ((has_any l.wires (node_at l.gates l.nodes l.node).wires ≡ true)
-    × ((k from : ℕ) → Covers l.gates l.nodes k l.top from → (lo + 2 ^ h ≤ from + 2 ^ k) × NoneOn l.wires l.gates (lo + 2 ^ h) (from + 2 ^ k))))
+invariant-down l = Last l.wires l.gates l.nodes l.top l.node
 
 abbrev pub decreases-down : goal.decreases-down
 decreases-down l = 2 * length l.nodes - l.node
