@@ -91,10 +91,9 @@ fn joined(gates: &[Option<Gate>], nodes: &[Node], node: usize) -> Node
     ensures { result ≡ join (node_at gates.now nodes.now (2 * node)) (node_at gates.now nodes.now (2 * node + 1)) }
 {
     let _nodes = nodes.len();
-    join(
-        node_at(gates, nodes, 2 * node),
-        node_at(gates, nodes, 2 * node + 1),
-    )
+    let left = node_at(gates, nodes, 2 * node);
+    let right = node_at(gates, nodes, 2 * node + 1);
+    join(left, right)
 }
 
 /// Tells the nodes above a slot anew.
