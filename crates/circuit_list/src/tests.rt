@@ -56,15 +56,59 @@ fn finds_the_next_gate_on_a_wire(rt: HostRuntime) -> Result<(), Fail> {
     Ok(())
 }
 
-/// The wires of a gate, the same one twice where it has one.
-fn wires_of(gate: Gate) -> (u32, u32)
-    ensures first { is_on result.0 gate ≡ true }
-    ensures second { is_on result.1 gate ≡ true }
-{
-    match gate {
-        Gate::H { q } | Gate::X { q } | Gate::P { k: _, q } => (q, q),
-        Gate::Cx { c, t } => (c, t),
+#[test]
+fn finds_gates_far_away(rt: HostRuntime) -> Result<(), Fail> {
+    let mut circuit = Circuit::empty(rt.alloc(), 2)?;
+    circuit.push(Gate::H { q: 1 })?;
+    'pushes: for _ in 0..300 {
+        circuit.push(Gate::X { q: 0 })?;
     }
+    circuit.push(Gate::H { q: 1 })?;
+    circuit.push(Gate::X { q: 0 })?;
+    assert!(rt; circuit.len() == 303);
+    let first = circuit.slot(0);
+    let second = circuit.slot(1);
+    let far = circuit.slot(301);
+    let last = circuit.slot(302);
+    let here = circuit.gate_at(first);
+    let there = circuit.gate_at(far);
+    let (wire, other) = here.wires();
+    assert!(rt; wire == 1 && other.is_none() && there == here);
+    assert_eq!(rt; circuit.next_on(first, wire), Some(far));
+    let (wire, _) = there.wires();
+    assert_eq!(rt; circuit.next_on(far, wire), None);
+    assert_eq!(rt; circuit.prev_on(far, wire), Some(first));
+    'removals: for _ in 0..300 {
+        assert!(rt; circuit.len() > 1);
+        circuit.remove(1);
+    }
+    assert!(rt; circuit.len() == 3);
+    assert_eq!(rt; circuit.slot(1), far);
+    assert_eq!(rt; circuit.slot_from(first), Some(first));
+    assert_eq!(rt; circuit.slot_from(second), Some(far));
+    assert_eq!(rt; circuit.slot_from(Slot::new(300)), Some(far));
+    assert_eq!(rt; circuit.slot_from(last), Some(last));
+    assert_eq!(rt; circuit.slot_from(Slot::new(303)), None);
+    assert_eq!(rt; circuit.slot_from(Slot::new(usize::MAX)), None);
+    let first = circuit.slot(0);
+    let far = circuit.slot(1);
+    assert_eq!(rt; circuit.after(first), Some(far));
+    assert_eq!(rt; circuit.before(far), Some(first));
+    circuit.compact()?;
+    assert!(rt; circuit.len() == 3 && circuit.wires() == 2);
+    assert_eq!(rt; circuit.gate(0), Gate::H { q: 1 });
+    assert_eq!(rt; circuit.gate(1), Gate::H { q: 1 });
+    assert_eq!(rt; circuit.gate(2), Gate::X { q: 0 });
+    assert_eq!(rt; circuit.slot(2), Slot::new(2));
+    Ok(())
+}
+
+#[test]
+fn tells_the_wires_of_a_gate(rt: HostRuntime) {
+    assert!(rt; Gate::H { q: 3 }.wires() == (3, None));
+    assert!(rt; Gate::X { q: 0 }.wires() == (0, None));
+    assert!(rt; Gate::P { k: 5, q: 63 }.wires() == (63, None));
+    assert!(rt; Gate::Cx { c: 4, t: 2 }.wires() == (4, Some(2)));
 }
 
 /// Numbers that look random, the same at each run.
@@ -116,8 +160,8 @@ impl Plain {
     fn next_on(&self, place: usize, wire: u32) -> Option<Slot> {
         let mut found = None;
         'gates: for (gate, slot) in self.gates.iter().zip(self.slots.iter()).skip(place).skip(1) {
-            let (first, second) = wires_of(*gate);
-            if found.is_none() && (first == wire || second == wire) {
+            let (first, second) = gate.wires();
+            if found.is_none() && (first == wire || second == Some(wire)) {
                 found = Some(*slot);
             }
         }
@@ -128,12 +172,32 @@ impl Plain {
     fn prev_on(&self, place: usize, wire: u32) -> Option<Slot> {
         let mut found = None;
         'gates: for (gate, slot) in self.gates.iter().zip(self.slots.iter()).take(place) {
-            let (first, second) = wires_of(*gate);
-            if first == wire || second == wire {
+            let (first, second) = gate.wires();
+            if first == wire || second == Some(wire) {
                 found = Some(*slot);
             }
         }
         found
+    }
+
+    /// The first slot that isn't before one, by a look at each.
+    fn slot_from(&self, slot: Slot) -> Option<Slot> {
+        let mut found = None;
+        'slots: for other in &self.slots {
+            if found.is_none() && *other >= slot {
+                found = Some(*other);
+            }
+        }
+        found
+    }
+
+    /// New slots from 0 on.
+    fn compact(&mut self) {
+        let mut index = 0;
+        'slots: for slot in &mut self.slots {
+            *slot = Slot::new(index);
+            index += 1;
+        }
     }
 }
 
@@ -180,8 +244,8 @@ fn edit(
     Ok(())
 }
 
-/// All answers at one place.
-fn compare(rt: &impl Abort, circuit: &Circuit, plain: &Plain, place: usize) {
+/// All answers at one place, and the first slot from some other slot on, which may have had a gate or never been there.
+fn compare(rt: &impl Abort, circuit: &Circuit, plain: &Plain, place: usize, other: usize) {
     assert_eq!(rt; circuit.len(), plain.gates.len());
     assert!(rt;
         place < circuit.len() && place < plain.gates.len() && plain.gates.len() == plain.slots.len()
@@ -201,14 +265,19 @@ fn compare(rt: &impl Abort, circuit: &Circuit, plain: &Plain, place: usize) {
         Some(plain.slots[place - 1])
     };
     assert_eq!(rt; circuit.before(slot), before);
-    let (first, second) = wires_of(here);
+    let (first, second) = here.wires();
+    let second = second.unwrap_or(first);
     assert_eq!(rt; circuit.next_on(slot, first), plain.next_on(place, first));
     assert_eq!(rt; circuit.next_on(slot, second), plain.next_on(place, second));
     assert_eq!(rt; circuit.prev_on(slot, first), plain.prev_on(place, first));
     assert_eq!(rt; circuit.prev_on(slot, second), plain.prev_on(place, second));
+    assert_eq!(rt; circuit.slot_from(slot), Some(slot));
+    let other = Slot::new(other);
+    assert_eq!(rt; circuit.slot_from(other), plain.slot_from(other));
 }
 
-/// Five kinds of edits, more than a thousand of each, and after each of them the answers at a drawn place.
+/// Five kinds of edits, more than a thousand of each, with empty slots dropped now and then, and after each of them the
+/// answers at a drawn place.
 #[test]
 fn answers_as_a_plain_list_does(rt: HostRuntime) -> Result<(), Fail> {
     let alloc = rt.alloc();
@@ -220,9 +289,15 @@ fn answers_as_a_plain_list_does(rt: HostRuntime) -> Result<(), Fail> {
     };
     'steps: for _ in 0..7000 {
         edit(&rt, &mut circuit, &mut plain, &mut random)?;
+        if random.below(60) == 0 {
+            circuit.compact()?;
+            plain.compact();
+        }
         let len = circuit.len();
         if len > 0 {
-            compare(&rt, &circuit, &plain, random.below(len));
+            let place = random.below(len);
+            let other = random.below(len.saturating_add(40));
+            compare(&rt, &circuit, &plain, place, other);
         }
     }
     Ok(())
