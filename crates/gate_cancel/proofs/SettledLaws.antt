@@ -2,7 +2,7 @@
 --   IsReduced_trans                one after the other
 --   reduced_gone, reduced_merged   a pair taken out, or merged
 --   reach_merged                   a reach stays one when its gate takes a phase in
---   settled_now, merged_more, gone_after     what was done at a place
+--   settled_now, standing_now, gone_after    what was done at a place
 --   walked_start, walked_same, walked_more, walked_low, walked_none     a walk, place by place
 --   IsCancelled_refl, IsCancelled_trans, reduced-cancelled, short     with or without a change
 use Rattle.std.proofs.Common.{◌≡◌, ◌≢◌, ℕ, suc, ◌+◌, ◌%◌, ◌<◌, ◌≤◌, ◌==◌, Bool, true, false, cond, List, [], ◌∷◌, length, Some, refl, sym, subst, ◌∙◌, ap, arith, inl, inr, ◌⊎◌, set, slice_get, All}
@@ -27,7 +27,7 @@ use Rattle.gate_cancel.specs.declared.search.Reach.{Reach}
 use Rattle.gate_cancel.specs.declared.reduction.Settled.{Settled}
 use Rattle.gate_cancel.specs.declared.reduction.Settled.TheVariants.{Same, Merged, Gone}
 use Rattle.gate_cancel.specs.Reaches.{first_wire, second_wire, IsPassed, IsReach}
-use Rattle.gate_cancel.specs.Reductions.{IsCancelled, IsOutcome, IsReduced, IsSettled, IsSoFar, IsWalked}
+use Rattle.gate_cancel.specs.Reductions.{IsCancelled, IsOutcome, IsReduced, IsSettled, IsSoFar, IsStanding, IsWalked}
 use Rattle.gate_cancel.proofs.GateLaws.{on-phase, first-phase, second-phase, passes_phase}
 use Rattle.gate_cancel.proofs.ListLaws.{remove-get, set-get, set-get_same, within, length-set_gate, contains_remove, contains_set, all_remove, all_set}
 use Rattle.gate_cancel.proofs.ReductionLaws.{pair_gone, pair_merged}
@@ -151,6 +151,11 @@ pub settled_now : (s : Settled) (old now : Body) (slot : ℕ) → IsSoFar s old 
 settled_now Same old now slot f h = (ap (λ (b : Body). b.gates) f, subst (λ (b : Body). (j : ℕ) → IsReducible b.gates (place_of slot b.slots) j → ⊥) f h)
 settled_now Merged old now slot f h = f
 settled_now (Gone turn) old now slot f h = absurd f
+
+pub standing_now : (s : Settled) (old now : Body) (slot : ℕ) → IsSoFar s old now → IsLive now slot → IsStanding s old now slot
+standing_now Same old now slot f live = f
+standing_now Merged old now slot f live = live
+standing_now (Gone turn) old now slot f live = tt
 
 pub gone_after : (s : Settled) (old now : Body) (next : List Gate) (turn : ℕ) → IsSoFar s old now → now.wires ≡ old.wires → IsReduced now.wires now.gates next turn → IsReduced old.wires old.gates next turn
 gone_after Same old now next turn f w r = subst (λ (b : Body). IsReduced b.wires b.gates next turn) f r
