@@ -3,26 +3,27 @@
 --   place-entry, gate-entry, slot-entry    its place, the gate there and the slot there
 --   All-slice_get, All-gone    what holds of each gate
 --   meets-on, on_below         bits of wires
+--   after-some, after-none, before-some, before-none, from-some, from-none    the next gate on any wire
 --   next-some, next-none, prev-some, prev-none    the gates on a wire
 --   t_count-entries, cx_count-entries, h_count-entries    counts over the slots
-use Rattle.std.proofs.Common.{◌≡◌, ◌≢◌, ℕ, suc, ◌+◌, ◌%◌, ◌^◌, ◌<◌, ◌≤◌, ◌==◌, ◌||◌, Bool, true, false, cond, List, [], ◌∷◌, ◌++◌, Option, None, Some, Ok, Err, Result, OnOk, OnErr, refl, sym, ap, ◌∙◌, subst, arith, inl, inr, ◌⊎◌, All, length, set, slice_get, zero-add}
+use Rattle.std.proofs.Common.{◌≡◌, ◌≢◌, ℕ, zero, suc, ◌+◌, ◌-◌, ◌%◌, ◌^◌, ◌<◌, ◌≤◌, ◌==◌, ◌||◌, Bool, true, false, cond, List, [], ◌∷◌, ◌++◌, Option, None, Some, Ok, Err, Result, OnOk, OnErr, refl, sym, ap, ◌∙◌, subst, arith, inl, inr, ◌⊎◌, All, length, set, slice_get, zero-add, add-zero}
 use Rattle.std.specs.List.{count_by, remove}
 use Rattle.std.specs.Int.{bit_at}
 use Rattle.std.proofs.lemmas.Bool.{eqb-true, eqb-false}
 use Rattle.std.proofs.lemmas.List.Elements.{All-from_recursion, All-get_or, All-append, All-set, All-take, All-drop}
 use Rattle.std.proofs.lemmas.List.Sums.{sum_by-cons}
-use Rattle.std.proofs.lemmas.Nat.Bits.{bit_at-zero, bit_at-pow_same, bit_at-pow_other}
+use Rattle.std.proofs.lemmas.Nat.Bits.{bit_at-pow_same, bit_at-pow_other}
 use Rattle.std.proofs.lemmas.Option.{get_or_from_slice_get, slice_get_within}
 use Rattle.std.specs.declared.alloc.AllocError.{AllocError}
 use Rattle.circuit_list.specs.declared.Gate.{Gate}
 use Rattle.circuit_list.specs.declared.Gate.TheVariants.{H, X, P, Cx}
 use Rattle.circuit_list.specs.Entries.{entry, is_live, holds, rank, gates_of, slots_from}
 use Rattle.circuit_list.specs.Gates.{IsFine, h_count, is_cx, is_h, is_on, is_t, ops}
-use Rattle.circuit_list.specs.Slots.{IsNextOn, IsPrevOn, NoneBefore, NoneBehind, is_on_at, is_on_some, place_of}
-use Rattle.circuit_list.specs.Tree.{IsFirstOn, IsLastOn, NoneOn, has_wire, meets, wire_bit, wires_of}
-use Rattle.circuit_list.proofs.EntryLaws.{gates_of-gone, gates_of-push, gates_of-put, gates_of-rank, live_of-place, place_of-rank, rank_below, rank_later, rank_mono, slot_below, slot_of-gate, slots_from-rank}
+use Rattle.circuit_list.specs.Slots.{IsFirstFrom, IsNextOn, IsPrevOn, NoneBefore, NoneBehind, NoneFrom, is_on_at, is_on_some, place_of}
+use Rattle.circuit_list.specs.Tree.{IsFirstOn, IsLastOn, NoneOn, any_wire, has_any, leaf, meets, wire_bit, wires_of}
+use Rattle.circuit_list.proofs.EntryLaws.{gates_of-gone, gates_of-push, gates_of-put, gates_of-rank, live_of-place, place_of-rank, rank-length, rank-next, rank-zero, rank_below, rank_later, rank_mono, slot_below, slot_of-gate, slots_from-rank}
 use Rattle.circuit_list.proofs.GateLaws.{cx_count-ops, t_count-ops}
-use Rattle.circuit_list.proofs.TreeLaws.{has_wire-or, order}
+use Rattle.circuit_list.proofs.TreeLaws.{has_any-bit, has_any-or, meets_any, meets_live, order}
 use Rattle.unitary_model.specs.Operations.{cx_count, t_count}
 
 -- ---- live slots
@@ -66,9 +67,9 @@ test-false : (b : Bool) → (b ≡ true → ⊥) → b ≡ false
 test-false true h = absurd (h refl)
 test-false false h = refl
 
-same_bit : (w q : ℕ) → w < 64 → q < 64 → has_wire w (wire_bit q) ≡ (w == q)
-unfolding has_wire wire_bit
-same_bit w q v r = at (w == q) refl
+same_bit : (w q : ℕ) → w < 64 → q < 64 → has_any (wire_bit w) (wire_bit q) ≡ (w == q)
+unfolding has_any wire_bit
+same_bit w q v r = has_any-bit (2 ^ (q % 64)) (w % 64) ∙ at (w == q) refl
   where
     at : (b : Bool) → (w == q) ≡ b → (bit_at (2 ^ (q % 64)) (w % 64) == 1) ≡ (w == q)
     at true e =
@@ -78,13 +79,13 @@ same_bit w q v r = at (w == q) refl
         let other : w % 64 ≢ q % 64 = λ h. eqb-false w q e (omega arith) in
         ap (λ n. n == 1) (bit_at-pow_other (q % 64) (w % 64) other) ∙ sym e
 
-pub meets-on : (n w : ℕ) (g : Gate) → w < 64 → n ≤ 64 → IsFine n g → meets w (Some g) ≡ is_on w g
+pub meets-on : (n w : ℕ) (g : Gate) → w < 64 → n ≤ 64 → IsFine n g → meets (wire_bit w) (Some g) ≡ is_on w g
 unfolding wires_of
 meets-on n w (H q) v le f = same_bit w q v (omega (arith, f))
 meets-on n w (X q) v le f = same_bit w q v (omega (arith, f))
 meets-on n w (P k q) v le f = same_bit w q v (omega (arith, f.0))
 meets-on n w (Cx c t) v le f =
-    has_wire-or w (wire_bit c) (wire_bit t) ∙ (λ i. same_bit w c v (omega (arith, f.0)) i || same_bit w t v (omega (arith, f.1.0)) i)
+    has_any-or (wire_bit w) (wire_bit c) (wire_bit t) ∙ (λ i. same_bit w c v (omega (arith, f.0)) i || same_bit w t v (omega (arith, f.1.0)) i)
 
 or_cases : (a b : Bool) → (a || b) ≡ true → (a ≡ true) ⊎ (b ≡ true)
 or_cases true b h = inl refl
@@ -100,24 +101,19 @@ on_below n w (Cx c t) f h = at (or_cases (w == c) (w == t) h)
     at (inl e) = omega (arith, f.0, eqb-true w c e)
     at (inr e) = omega (arith, f.1.0, eqb-true w t e)
 
-pub meets_live : (w : ℕ) (e : Option Gate) → meets w e ≡ true → (g : Gate) × (e ≡ Some g)
-unfolding has_wire
-meets_live w None h = let zero' : (bit_at 0 (w % 64) == 1) ≡ false = ap (λ n. n == 1) (bit_at-zero (w % 64)) in cc
-meets_live w (Some g) h = (g, refl)
-
 -- ---- gates on a wire
 on_some-none : (w : ℕ) (o : Option Gate) → ((g : Gate) → o ≡ Some g → is_on w g ≡ false) → is_on_some w o ≡ false
 on_some-none w None h = refl
 on_some-none w (Some g) h = h g refl
 
 -- where no slot between two numbers is on the wire, no gate at a place of such a slot is
-quiet : (n w a b k : ℕ) (es : List (Option Gate)) → w < 64 → n ≤ 64 → All (IsFine n) (gates_of es) → NoneOn w es a b
+quiet : (n w a b k : ℕ) (es : List (Option Gate)) → w < 64 → n ≤ 64 → All (IsFine n) (gates_of es) → NoneOn (wire_bit w) es a b
     → ((s : ℕ) (g : Gate) → entry es s ≡ Some g → rank es s ≡ k → (a ≤ s) × (s < b)) → is_on_at w (gates_of es) k ≡ false
 quiet n w a b k es low few fine none within =
     on_some-none w (slice_get (gates_of es) k) (λ g e.
     let r = slot_of-gate es k g e in
     let h = within r.0 g r.1.0 r.1.1 in
-    sym (meets-on n w g low few (fine-entry n es r.0 g r.1.0 fine)) ∙ ap (meets w) (sym r.1.0) ∙ none r.0 h.0 h.1)
+    sym (meets-on n w g low few (fine-entry n es r.0 g r.1.0 fine)) ∙ ap (meets (wire_bit w)) (sym r.1.0) ∙ none r.0 h.0 h.1)
 
 -- a slot between two others stands between their places
 behind : (es : List (Option Gate)) (s t : ℕ) (g : Gate) → entry es t ≡ Some g → rank es s < rank es t → s < t
@@ -135,14 +131,14 @@ before es s t lt = at (order s t)
     at (inr le) = absurd (omega (arith, rank_mono es t s le))
 
 -- a slot whose bits have the wire has a gate on it
-found : (n w t : ℕ) (es : List (Option Gate)) → w < 64 → n ≤ 64 → All (IsFine n) (gates_of es) → meets w (entry es t) ≡ true
+found : (n w t : ℕ) (es : List (Option Gate)) → w < 64 → n ≤ 64 → All (IsFine n) (gates_of es) → meets (wire_bit w) (entry es t) ≡ true
     → (h : Gate) × ((entry es t ≡ Some h) × (is_on_at w (gates_of es) (rank es t) ≡ true))
 found n w t es low few fine on =
-    let r = meets_live w (entry es t) on in
-    (r.0, (r.1, ap (is_on_some w) (gates_of-rank es t r.0 r.1) ∙ sym (meets-on n w r.0 low few (fine-entry n es t r.0 r.1 fine)) ∙ ap (meets w) (sym r.1) ∙ on))
+    let r = meets_live (wire_bit w) (entry es t) on in
+    (r.0, (r.1, ap (is_on_some w) (gates_of-rank es t r.0 r.1) ∙ sym (meets-on n w r.0 low few (fine-entry n es t r.0 r.1 fine)) ∙ ap (meets (wire_bit w)) (sym r.1) ∙ on))
 
 pub next-none : (n w s : ℕ) (es : List (Option Gate)) (g : Gate) → w < 64 → n ≤ 64 → All (IsFine n) (gates_of es) → entry es s ≡ Some g
-    → NoneOn w es (s + 1) (length es) → NoneBehind w (gates_of es) (place_of s (slots_from 0 es))
+    → NoneOn (wire_bit w) es (s + 1) (length es) → NoneBehind w (gates_of es) (place_of s (slots_from 0 es))
 next-none n w s es g low few fine e none k lt =
     let place = place-entry es s g e in
     quiet n w (s + 1) (length es) k es low few fine none (λ u h there at.
@@ -150,7 +146,7 @@ next-none n w s es g low few fine e none k lt =
     let within = slot_below es u h there in
     (omega arith, within))
 
-pub next-some : (n w s t : ℕ) (es : List (Option Gate)) (g : Gate) → w < 64 → n ≤ 64 → All (IsFine n) (gates_of es) → entry es s ≡ Some g → IsFirstOn w es (s + 1) t
+pub next-some : (n w s t : ℕ) (es : List (Option Gate)) (g : Gate) → w < 64 → n ≤ 64 → All (IsFine n) (gates_of es) → entry es s ≡ Some g → IsFirstOn (wire_bit w) es (s + 1) t
     → (place_of t (slots_from 0 es) < length (gates_of es)) × IsNextOn w (gates_of es) (place_of s (slots_from 0 es)) (place_of t (slots_from 0 es))
 next-some n w s t es g low few fine e first =
     let f = found n w t es low few fine first.on in
@@ -169,14 +165,14 @@ next-some n w s t es g low few fine e first =
     )
 
 pub prev-none : (n w s : ℕ) (es : List (Option Gate)) (g : Gate) → w < 64 → n ≤ 64 → All (IsFine n) (gates_of es) → entry es s ≡ Some g
-    → NoneOn w es 0 s → NoneBefore w (gates_of es) (place_of s (slots_from 0 es))
+    → NoneOn (wire_bit w) es 0 s → NoneBefore w (gates_of es) (place_of s (slots_from 0 es))
 prev-none n w s es g low few fine e none k lt =
     let place = place-entry es s g e in
     quiet n w 0 s k es low few fine none (λ u h there at.
     let ahead : u < s = before es u s (omega arith) in
     (omega arith, ahead))
 
-pub prev-some : (n w s t : ℕ) (es : List (Option Gate)) (g : Gate) → w < 64 → n ≤ 64 → All (IsFine n) (gates_of es) → entry es s ≡ Some g → IsLastOn w es s t
+pub prev-some : (n w s t : ℕ) (es : List (Option Gate)) (g : Gate) → w < 64 → n ≤ 64 → All (IsFine n) (gates_of es) → entry es s ≡ Some g → IsLastOn (wire_bit w) es s t
     → (place_of t (slots_from 0 es) < length (gates_of es)) × IsPrevOn w (gates_of es) (place_of s (slots_from 0 es)) (place_of t (slots_from 0 es))
 prev-some n w s t es g low few fine e last =
     let f = found n w t es low few fine last.on in
@@ -193,6 +189,84 @@ prev-some n w s t es g low few fine e last =
             (omega arith, ahead));
       },
     )
+
+-- ---- the next gate on any wire
+-- slots without a gate count nothing
+rank-none : (es : List (Option Gate)) (a k : ℕ) → NoneOn any_wire es a (a + k) → rank es (a + k) ≡ rank es a
+rank-none es a zero none = ap (rank es) (add-zero a)
+rank-none es a (suc k) none =
+    let next = rank-next es (a + k) in
+    let here = empty (entry es (a + k)) (none (a + k) (omega arith) (omega arith)) in
+    let before = rank-none es a k (λ s ge lt. none s ge (omega arith)) in
+    let end = ap (rank es) (let e : a + suc k ≡ a + k + 1 = omega arith in e) in
+    omega arith
+  where
+    empty : (e : Option Gate) → meets any_wire e ≡ false → (leaf e).count ≡ 0
+    empty None h = refl
+    empty (Some g) h = let live = meets_any (Some g) in cc
+
+rank-quiet : (es : List (Option Gate)) (a b : ℕ) → a ≤ b → NoneOn any_wire es a b → rank es b ≡ rank es a
+rank-quiet es a b le none =
+    let whole : a + (b - a) ≡ b = omega arith in
+    ap (rank es) (sym whole) ∙ rank-none es a (b - a) (λ s ge lt. none s ge (omega arith))
+
+rank-one : (es : List (Option Gate)) (s : ℕ) (g : Gate) → entry es s ≡ Some g → rank es (s + 1) ≡ rank es s + 1
+rank-one es s g e = rank-next es s ∙ ap (λ (x : Option Gate). rank es s + (leaf x).count) e
+
+pub after-none : (es : List (Option Gate)) (s : ℕ) (g : Gate) → entry es s ≡ Some g → NoneOn any_wire es (s + 1) (length es)
+    → place_of s (slots_from 0 es) + 1 ≡ length (gates_of es)
+after-none es s g e none =
+    let place = place-entry es s g e in
+    let one = rank-one es s g e in
+    let within = slot_below es s g e in
+    let all = rank-length es in
+    let same = rank-quiet es (s + 1) (length es) (omega arith) none in
+    omega arith
+
+pub after-some : (es : List (Option Gate)) (s t : ℕ) (g : Gate) → entry es s ≡ Some g → IsFirstOn any_wire es (s + 1) t
+    → (place_of t (slots_from 0 es) < length (gates_of es)) × (place_of t (slots_from 0 es) ≡ place_of s (slots_from 0 es) + 1)
+after-some es s t g e first =
+    let r = meets_live any_wire (entry es t) first.on in
+    let place = place-entry es s g e in
+    let end = place-entry es t r.0 r.1 in
+    let one = rank-one es s g e in
+    let same = rank-quiet es (s + 1) t first.from first.none in
+    (live-place es t r.0 r.1, omega arith)
+
+pub before-none : (es : List (Option Gate)) (s : ℕ) (g : Gate) → entry es s ≡ Some g → NoneOn any_wire es 0 s → place_of s (slots_from 0 es) ≡ 0
+before-none es s g e none = place-entry es s g e ∙ rank-quiet es 0 s (omega arith) none ∙ rank-zero es
+
+pub before-some : (es : List (Option Gate)) (s t : ℕ) (g : Gate) → entry es s ≡ Some g → IsLastOn any_wire es s t
+    → (place_of t (slots_from 0 es) < length (gates_of es)) × (place_of t (slots_from 0 es) + 1 ≡ place_of s (slots_from 0 es))
+before-some es s t g e last =
+    let r = meets_live any_wire (entry es t) last.on in
+    let place = place-entry es s g e in
+    let end = place-entry es t r.0 r.1 in
+    let one = rank-one es t r.0 r.1 in
+    let same = rank-quiet es (t + 1) s (omega (arith, last.below)) last.none in
+    (live-place es t r.0 r.1, omega arith)
+
+-- the slots from one on
+live_meets : (es : List (Option Gate)) (u : ℕ) → place_of u (slots_from 0 es) < length (gates_of es) → (meets any_wire (entry es u) ≡ true) × (u < length es)
+live_meets es u live =
+    let l = live_entry es u live in
+    (meets_any (entry es u) ∙ ap is_live l.1, slot_below es u l.0 l.1)
+
+pub from-none : (n s : ℕ) (es : List (Option Gate)) → NoneOn any_wire es s (length es) → NoneFrom (record { wires = n; gates = gates_of es; slots = slots_from 0 es }) s
+from-none n s es none u live = at (order u s)
+  where
+    at : (u < s) ⊎ (s ≤ u) → u < s
+    at (inl below) = below
+    at (inr le) = let m = live_meets es u live in let no = none u le m.1 in absurd (cc)
+
+pub from-some : (n s t : ℕ) (es : List (Option Gate)) → IsFirstOn any_wire es s t → IsFirstFrom (record { wires = n; gates = gates_of es; slots = slots_from 0 es }) s t
+from-some n s t es first =
+    let r = meets_live any_wire (entry es t) first.on in
+    record { live = live-place es t r.0 r.1; from = first.from; first = λ u live le. at u live le (order u t) }
+  where
+    at : (u : ℕ) → place_of u (slots_from 0 es) < length (gates_of es) → s ≤ u → (u < t) ⊎ (t ≤ u) → t ≤ u
+    at u live le (inl lt) = let m = live_meets es u live in let no = first.none u le lt in absurd (cc)
+    at u live le (inr ge) = ge
 
 -- the wire that a caller names is one of the gate's, so its bit is there
 pub wire_low : (n w s : ℕ) (es : List (Option Gate)) (g : Gate) → n ≤ 64 → All (IsFine n) (gates_of es) → entry es s ≡ Some g

@@ -5,8 +5,10 @@
 --   gates_of-gone, slots_from-gone                    a gate taken away
 --   gates_of-put, slots_from-put                      a gate replaced
 --   gates_of-push, slots_from-push                    one gate more
+--   entry-past, entry-pushed                          the slot behind the last one
+--   kept-more, kept-same                              slots with gates alone
 --   slots_from-ascend                                 slots are in order
-use Rattle.std.proofs.Common.{◌≡◌, ◌≢◌, ℕ, zero, suc, ◌+◌, ◌<◌, ◌≤◌, ◌==◌, Bool, true, false, cond, List, [], ◌∷◌, ◌++◌, Option, None, Some, refl, ap, ◌∙◌, subst, arith, length, set, slice_get, add-one}
+use Rattle.std.proofs.Common.{◌≡◌, ◌≢◌, ℕ, zero, suc, ◌+◌, ◌<◌, ◌≤◌, ◌==◌, Bool, true, false, cond, List, [], ◌∷◌, ◌++◌, Option, None, Some, is_some, refl, sym, ap, ◌∙◌, subst, arith, length, set, slice_get, take, add-one}
 use Rattle.std.specs.List.{remove}
 use Rattle.std.proofs.lemmas.Bool.{eq-eqb, eqb-true}
 use Rattle.circuit_list.specs.declared.Gate.{Gate}
@@ -205,3 +207,42 @@ pub slots_from-push : (n : ℕ) (es : List (Option Gate)) (g : Gate) → (s : �
 slots_from-push n [] g = (n, refl)
 slots_from-push n (None ∷ es) g = slots_from-push (n + 1) es g
 slots_from-push n (Some x ∷ es) g = let r = slots_from-push (n + 1) es g in (r.0, ap (λ ss. n ∷ ss) r.1)
+
+pub entry-past : (es : List (Option Gate)) (s : ℕ) → length es ≤ s → entry es s ≡ None
+entry-past [] s h = refl
+entry-past (e ∷ es) zero h = absurd (omega arith)
+entry-past (e ∷ es) (suc s) h = entry-past es s (omega arith)
+
+pub entry-pushed : (es : List (Option Gate)) (e : Option Gate) → entry (es ++ e ∷ []) (length es) ≡ e
+entry-pushed [] e = refl
+entry-pushed (x ∷ es) e = entry-pushed es e
+
+-- ---- empty slots left out
+pub gates_of-more : (es : List (Option Gate)) (i : ℕ) (g : Gate) → entry es i ≡ Some g → gates_of (take (suc i) es) ≡ gates_of (take i es) ++ g ∷ []
+gates_of-more [] i g h = cc
+gates_of-more (None ∷ es) zero g h = cc
+gates_of-more (Some x ∷ es) zero g h = let same : x ≡ g = cc in ap (λ y. y ∷ []) same
+gates_of-more (None ∷ es) (suc i) g h = gates_of-more es i g h
+gates_of-more (Some x ∷ es) (suc i) g h = ap (λ gs. x ∷ gs) (gates_of-more es i g h)
+
+pub gates_of-same : (es : List (Option Gate)) (i : ℕ) → entry es i ≡ None → gates_of (take (suc i) es) ≡ gates_of (take i es)
+gates_of-same [] zero h = refl
+gates_of-same [] (suc i) h = refl
+gates_of-same (None ∷ es) zero h = refl
+gates_of-same (Some x ∷ es) zero h = cc
+gates_of-same (None ∷ es) (suc i) h = gates_of-same es i h
+gates_of-same (Some x ∷ es) (suc i) h = ap (λ gs. x ∷ gs) (gates_of-same es i h)
+
+pub kept-more : (es ks : List (Option Gate)) (i : ℕ) → is_some (entry es i) ≡ true → gates_of ks ≡ gates_of (take i es) → gates_of (ks ++ entry es i ∷ []) ≡ gates_of (take (i + 1) es)
+kept-more es ks i h e = at (entry es i) refl h
+  where
+    at : (o : Option Gate) → entry es i ≡ o → is_some o ≡ true → gates_of (ks ++ o ∷ []) ≡ gates_of (take (i + 1) es)
+    at None here none = cc
+    at (Some g) here some = gates_of-push ks g ∙ ap (λ gs. gs ++ g ∷ []) e ∙ sym (gates_of-more es i g here) ∙ ap (λ n. gates_of (take n es)) (sym (add-one i))
+
+pub kept-same : (es ks : List (Option Gate)) (i : ℕ) → is_some (entry es i) ≡ false → gates_of ks ≡ gates_of (take i es) → gates_of ks ≡ gates_of (take (i + 1) es)
+kept-same es ks i h e = at (entry es i) refl h
+  where
+    at : (o : Option Gate) → entry es i ≡ o → is_some o ≡ false → gates_of ks ≡ gates_of (take (i + 1) es)
+    at None here none = e ∙ sym (gates_of-same es i here) ∙ ap (λ n. gates_of (take n es)) (sym (add-one i))
+    at (Some g) here some = cc

@@ -1,7 +1,8 @@
 -- A circuit's gates as operations: counts, wires, plainness.
 --   t_count-ops, cx_count-ops     the counts of the operations are counts of gates
+--   ops-joined                    joined lists
 --   WiresBelow-ops, IsPlain-ops   a circuit's operations are plain ones on its wires
-use Rattle.std.proofs.Common.{◌≡◌, ℕ, ◌+◌, ◌%◌, cond, List, [], ◌∷◌, refl, sym, ap, ◌∙◌, arith, inl, inr, All, nat_eq, zero-add, one-add}
+use Rattle.std.proofs.Common.{◌≡◌, ℕ, ◌+◌, ◌%◌, cond, List, [], ◌∷◌, ◌++◌, refl, sym, ap, ◌∙◌, arith, inl, inr, All, nat_eq, zero-add, one-add}
 use Rattle.std.specs.List.{count_by, AllByRecursion}
 use Rattle.std.proofs.lemmas.List.Sums.{sum_by-cons}
 use Rattle.std.proofs.lemmas.List.Elements.{recursion_from_All, All-from_recursion}
@@ -33,6 +34,10 @@ cx_count-ops (P k q ∷ gs) = cx_count-ops gs
 cx_count-ops (Cx c t ∷ gs) =
     let front = sum_by-cons (λ g. cond (is_cx g) 1 0) (Cx c t) gs in
     front ∙ ap (λ n. 1 + n) (cx_count-ops gs) ∙ one-add (cx_count (ops gs))
+
+pub ops-joined : (gs hs : List Gate) → ops (gs ++ hs) ≡ ops gs ++ ops hs
+ops-joined [] hs = refl
+ops-joined (g ∷ gs) hs = ap (λ us. op_of g ∷ us) (ops-joined gs hs)
 
 wires_of_recursion : (n : ℕ) (gs : List Gate) → AllByRecursion (IsFine n) gs → WiresBelow n (ops gs)
 wires_of_recursion n [] h = tt

@@ -4,3 +4,4 @@ pub mod GateLaws
 pub mod SlotLaws
 pub mod TreeLaws
 pub mod UseLaws
+pub mod WalkLaws

@@ -6,7 +6,9 @@
 --   IsNextOn w gs i j   the next gate on wire w behind place i stands at place j
 --   IsPrevOn w gs i j   the last gate on wire w before place i stands at place j
 --   NoneBehind w gs i, NoneBefore w gs i    there is none
-use Rattle.std.specs.Prelude.{◌≡◌, ℕ, suc, ◌<◌, ◌==◌, Bool, true, false, cond, List, [], ◌∷◌, length, Option, None, Some, slice_get}
+--   IsFirstFrom b s t   the first slot of a gate of b that isn't before slot s is t
+--   NoneFrom b s        all slots of gates of b are before slot s
+use Rattle.std.specs.Prelude.{◌≡◌, ℕ, suc, ◌<◌, ◌≤◌, ◌==◌, Bool, true, false, cond, List, [], ◌∷◌, length, Option, None, Some, slice_get}
 use Rattle.circuit_list.specs.Body.{Body}
 use Rattle.circuit_list.specs.declared.Gate.{Gate}
 use Rattle.circuit_list.specs.Gates.{is_on}
@@ -43,3 +45,11 @@ NoneBehind w gs i = (k : ℕ) → i < k → is_on_at w gs k ≡ false
 
 abbrev pub NoneBefore : ℕ → List Gate → ℕ → Type 0
 NoneBefore w gs i = (k : ℕ) → k < i → is_on_at w gs k ≡ false
+
+pub record IsFirstFrom (b : Body) (s t : ℕ) : Type 0 where
+  pub live : IsLive b t
+  pub from : s ≤ t
+  pub first : (u : ℕ) → IsLive b u → s ≤ u → t ≤ u
+
+abbrev pub NoneFrom : Body → ℕ → Type 0
+NoneFrom b s = (u : ℕ) → IsLive b u → u < s

@@ -8,18 +8,22 @@
 //!
 //! A slot is a gate's name: it stays while other gates are put in, taken out or replaced. From a
 //! gate's slot the next and the previous gate on one of its wires are found without a look at the
-//! gates between, and a gate is taken out without moving the others. Each such call takes as many
-//! steps as the logarithm of the number of gates that were ever put in, and no memory.
+//! gates between, and a gate is taken out without moving the others. Such a call takes no memory,
+//! and as many steps as the logarithm of the number of slots, or of the distance alone where a
+//! neighbour is asked for.
 #![tactic(auto)]
 
+pub mod laws;
+mod nodes;
 mod slot;
 mod tree;
+mod walks;
 
-ghost use Rattle.std.specs.Prelude.{◌≡◌, ℕ, ◌+◌, ◌-◌, ◌%◌, ◌<◌, ◌≤◌, length, IfOk, OnErr, OnOk, MatchOption, slice_get, All, Some, true, remove, slice_set, [], ◌∷◌, ◌++◌, List};
+ghost use Rattle.std.specs.Prelude.{◌≡◌, ℕ, ◌+◌, ◌-◌, ◌%◌, ◌<◌, ◌≤◌, length, IfOk, IfSome, OnErr, OnOk, MatchOption, ◌⊎◌, slice_get, All, Some, true, remove, slice_set, [], ◌∷◌, ◌++◌, List};
 ghost use Rattle.std.specs.List.{count_by};
 ghost use Rattle.circuit_list.specs.Entries.{holds};
-ghost use Rattle.circuit_list.specs.Gates.{IsFine, h_count, is_cx, is_h, is_t, most_wires, ops};
-ghost use Rattle.circuit_list.specs.Slots.{Ascend, IsLive, IsNextOn, IsPrevOn, NoneBefore, NoneBehind, is_on_at, place_of};
+ghost use Rattle.circuit_list.specs.Gates.{IsFine, h_count, is_cx, is_h, is_on, is_t, most_wires, ops};
+ghost use Rattle.circuit_list.specs.Slots.{Ascend, IsFirstFrom, IsLive, IsNextOn, IsPrevOn, NoneBefore, NoneBehind, NoneFrom, is_on_at, place_of};
 ghost use Rattle.unitary_model.specs.Operations.{cx_count, t_count};
 
 pub use slot::Slot;
@@ -43,8 +47,30 @@ pub enum Gate {
     Cx { c: u32, t: u32 },
 }
 
-/// The gates in circuit order, the first gate first. A slot whose gate was taken out is not used again, and counting and
-/// copying go through all slots that there ever were.
+impl Gate {
+    /// The wires that the gate is on: the control and then the target of a CNOT, else the gate's one wire.
+    pub fn wires(self) -> (u32, Option<u32>)
+        ensures first { is_on result.0 self ≡ true }
+        ensures second { IfSome result.1 (λ w. is_on w self ≡ true) }
+        ensures all { (w : ℕ) → is_on w self ≡ true → (w ≡ result.0) ⊎ (result.1 ≡ Some w) }
+    {
+        match self {
+            Gate::H { q } | Gate::X { q } | Gate::P { k: _, q } => (q, None),
+            Gate::Cx { c, t } => (c, Some(t)),
+        }
+    }
+}
+
+/// The gates in circuit order, the first gate first.
+///
+/// A slot whose gate was taken out is not used again. It stays, empty, and takes room and time until [`Circuit::compact`]:
+/// counting and copying go through all slots, and so does `compact` itself, in linear time.
+///
+/// The number of gates and the gate in a slot are at hand. [`Circuit::place`] and [`Circuit::slot`] take as many steps as
+/// the logarithm of the number of slots, and one where no slot is empty; an edit takes as many as the logarithm, and a push
+/// now and then tells all slots anew, which spreads over the pushes before it. [`Circuit::after`], [`Circuit::before`],
+/// [`Circuit::slot_from`], [`Circuit::next_on`] and [`Circuit::prev_on`] take as many as the logarithm of the number of slots
+/// between the given slot and the answer.
 #[derive(Drop)]
 pub struct Circuit {
     wires: u32,
@@ -174,13 +200,8 @@ impl Circuit {
         ensures { MatchOption result (place_of s self.now.slots + 1 ≡ length self.now.gates)
             (λ t. IsLive self.now t × (place_of t self.now.slots ≡ place_of s self.now.slots + 1)) }
     {
-        let len = self.len();
-        let next = self.place(s) + 1;
-        if next < len {
-            Some(self.slot(next))
-        } else {
-            None
-        }
+        let slot = self.tree.next(s.index())?;
+        Some(Slot::new(slot))
     }
 
     /// The slot of the gate before the one in a slot.
@@ -189,12 +210,16 @@ impl Circuit {
         ensures { MatchOption result (place_of s self.now.slots ≡ 0)
             (λ t. IsLive self.now t × (place_of t self.now.slots + 1 ≡ place_of s self.now.slots)) }
     {
-        let place = self.place(s);
-        if place > 0 {
-            Some(self.slot(place - 1))
-        } else {
-            None
-        }
+        let slot = self.tree.prev(s.index())?;
+        Some(Slot::new(slot))
+    }
+
+    /// The first slot of a gate that isn't before a slot, whether this one has a gate, had one or never was.
+    pub fn slot_from(&self, s: Slot) -> Option<Slot>
+        ensures { MatchOption result (NoneFrom self.now s) (IsFirstFrom self.now s) }
+    {
+        let slot = self.tree.from(s.index())?;
+        Some(Slot::new(slot))
     }
 
     /// The gate in a slot.
@@ -249,6 +274,16 @@ impl Circuit {
         ensures slots { self.new.slots ≡ self.old.slots }
     {
         self.tree.set(s.index(), Some(g));
+    }
+
+    /// Drops the slots whose gates were taken out; where there is none, nothing changes. Else the gates get new slots, and
+    /// those of before name none of them. After want of memory the circuit is as it was.
+    pub fn compact(&mut self) -> Result<(), AllocError>
+        ensures wires { self.new.wires ≡ self.old.wires }
+        ensures gates { self.new.gates ≡ self.old.gates }
+        ensures err { OnErr result (self.new ≡ self.old) }
+    {
+        self.tree.compact()
     }
 
     /// The number of T gates: phases with an odd `k`.

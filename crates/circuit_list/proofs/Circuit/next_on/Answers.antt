@@ -1,4 +1,4 @@
-use Rattle.circuit_list.specs.Tree.{IsFirstOn, NoneOn}
+use Rattle.circuit_list.specs.Tree.{IsFirstOn, NoneOn, wire_bit}
 use Rattle.std.proofs.Common.{◌≡◌, ◌∙◌, ℕ, ◌+◌, true, sym, ap, subst, length, Option, Some}
 use Rattle.circuit_list.specs.Body.{Body}
 use Rattle.circuit_list.specs.Entries.{entry}
@@ -23,7 +23,7 @@ returns-in_err-slot c =
     (λ t. IsLive c.args.self.now t × IsNextOn c.args.wire c.args.self.now.gates (place_of c.args.s c.args.self.now.slots) (place_of t c.args.self.now.slots))) (sym c.from_residual.ensures)
     (subst (λ (b : Body). NoneBehind c.args.wire b.gates (place_of c.args.s b.slots)) c.self.view_is
     (next-none c.self.inside.wires c.args.wire c.args.s c.self.inside.tree l.0 low c.self.invariant.0 c.self.invariant.1 l.1
-    (subst (λ n. NoneOn c.args.wire c.self.inside.tree (n + 1) (length c.self.inside.tree)) c.index.ensures c.in_err-slot.ensures)))
+    (subst (λ n. NoneOn (wire_bit c.args.wire) c.self.inside.tree (n + 1) (length c.self.inside.tree)) c.index.ensures c.in_err-slot.ensures)))
 
 pub returns : goal.returns
 returns c =
@@ -33,4 +33,4 @@ returns c =
     subst (λ t. IsLive c.args.self.now t × IsNextOn c.args.wire c.args.self.now.gates (place_of c.args.s c.args.self.now.slots) (place_of t c.args.self.now.slots)) (sym c.new.ensures)
     (subst (λ (b : Body). IsLive b c.in_ok-slot.slot × IsNextOn c.args.wire b.gates (place_of c.args.s b.slots) (place_of c.in_ok-slot.slot b.slots)) c.self.view_is
     (next-some c.self.inside.wires c.args.wire c.args.s c.in_ok-slot.slot c.self.inside.tree l.0 low c.self.invariant.0 c.self.invariant.1 l.1
-    (subst (λ n. IsFirstOn c.args.wire c.self.inside.tree (n + 1) c.in_ok-slot.slot) c.index.ensures c.in_ok-slot.ensures)))
+    (subst (λ n. IsFirstOn (wire_bit c.args.wire) c.self.inside.tree (n + 1) c.in_ok-slot.slot) c.index.ensures c.in_ok-slot.ensures)))

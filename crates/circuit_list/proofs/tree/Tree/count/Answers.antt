@@ -1,5 +1,5 @@
 use Rattle.std.proofs.Common.{◌∙◌, ap, arith, length, List, Option}
-use Rattle.circuit_list.specs.declared.tree.Node.{Node}
+use Rattle.circuit_list.specs.declared.nodes.Node.{Node}
 use Rattle.circuit_list.specs.Entries.{rank}
 use Rattle.circuit_list.specs.Tree.{node_at}
 use Rattle.circuit_list.specs.declared.Gate.{Gate}

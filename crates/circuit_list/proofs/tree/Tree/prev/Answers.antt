@@ -1,0 +1,19 @@
+use Rattle.std.proofs.Common.{◌≡◌, ◌∙◌, ◌-◌, true, sym, ap, subst, arith, List, Option, MatchOption, is_some}
+use Rattle.circuit_list.specs.declared.Gate.{Gate}
+use Rattle.circuit_list.specs.Entries.{entry}
+use Rattle.circuit_list.specs.Tree.{IsLastOn, NoneOn, any_wire, meets}
+use Rattle.circuit_list.proofs.WalkLaws.{some_meets}
+use Rattle.circuit_list.proofs.tree.Tree.prev.Goals as goal
+
+pub returns-then-is_some : goal.returns-then-is_some
+returns-then-is_some c =
+    let here : c.entry.result ≡ entry c.args.self.now (c.args.slot - 1) =
+    c.entry.ensures ∙ ap (λ (xs : List (Option Gate)). entry xs (c.args.slot - 1)) (c.deref.ensures.value ∙ c.self.view_is) in
+    let on : meets any_wire (entry c.args.self.now (c.args.slot - 1)) ≡ true =
+    some_meets (entry c.args.self.now (c.args.slot - 1)) (ap is_some (sym here) ∙ sym c.is_some.ensures ∙ c.if-is_some.true) in
+    record { below = omega arith; on = on; none = λ s ge lt. absurd (omega arith) }
+
+pub returns : goal.returns
+unfolding any_wire
+returns c =
+    subst (λ (xs : List (Option Gate)). MatchOption c.last_before.result (NoneOn any_wire xs 0 c.args.slot) (IsLastOn any_wire xs c.args.slot)) (c.deref-2.ensures.value ∙ c.self.view_is) c.last_before.ensures

@@ -1,7 +1,0 @@
-use Rattle.circuit_list.proofs.TreeLaws.{covers_at}
-use Rattle.circuit_list.proofs.tree.Tree.prev_on.Goals as goal
-
-pub before-requires-clause-covers : goal.before-requires-clause-covers
-before-requires-clause-covers c =
-    covers_at c.self.inside.height c.self.inside.gates.items c.deref.result.now c.self.inside.nodes.items c.deref-2.result.now c.root.result c.self.invariant
-    c.deref.ensures.value c.deref-2.ensures.value c.root.ensures

@@ -1,8 +1,0 @@
-use Rattle.std.proofs.Common.{◌%◌, arith}
-use Rattle.circuit_list.specs.Tree.{wire_bit}
-use Rattle.circuit_list.proofs.TreeLaws.{shl_one}
-use Rattle.circuit_list.proofs.tree.wire_bit.Goals as goal
-
-pub returns : goal.returns
-unfolding wire_bit
-returns c = shl_one (c.args.wire % 64) (omega arith)

@@ -1,0 +1,9 @@
+-- Before the slot there is nothing on the wires below the node.
+use Rattle.circuit_list.proofs.WalkLaws.{Back}
+use Rattle.circuit_list.proofs.walks.last_before.Given as goal
+
+abbrev pub invariant-up : goal.invariant-up
+invariant-up l = Back l.wires l.gates l.nodes l.slot l.node
+
+abbrev pub decreases-up : goal.decreases-up
+decreases-up l = l.node

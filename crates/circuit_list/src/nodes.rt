@@ -1,0 +1,138 @@
+//! A complete binary tree over slots: what each of its nodes tells, and how the nodes are kept right.
+//!
+//! The nodes stand in one list: below node `i` stand the nodes `2 * i` and `2 * i + 1`, and behind the
+//! last node stand the slots. Node 0 tells nothing.
+
+ghost use Rattle.std.specs.Prelude.{◌≡◌, ℕ, ◌+◌, ◌*◌, ◌/◌, ◌<◌, ◌≢◌, List, length, max, min, Some};
+ghost use Rattle.circuit_list.specs.Entries.{entry};
+ghost use Rattle.circuit_list.specs.Tree.{IsJoined, Lacks, has_any, join, leaf, node_at, wire_bit, wires_of};
+
+use crate::Gate;
+
+/// What stands in some slots: the number of gates and the wires that they are on, one bit a wire.
+#[derive(Clone, Copy)]
+pub(crate) struct Node {
+    pub(crate) count: usize,
+    pub(crate) wires: u64,
+}
+
+/// The bit of a wire.
+#[tactic(auto, unfolding(crate::specs::Tree::wire_bit))]
+pub(crate) fn wire_bit(wire: u32) -> u64
+    ensures { result ≡ wire_bit wire }
+{
+    1 << (wire % 64)
+}
+
+#[tactic(auto, unfolding(crate::specs::Tree::wires_of))]
+fn wires_of(gate: Gate) -> u64
+    ensures { result ≡ wires_of gate }
+{
+    match gate {
+        Gate::H { q } | Gate::X { q } | Gate::P { k: _, q } => wire_bit(q),
+        Gate::Cx { c, t } => wire_bit(c) | wire_bit(t),
+    }
+}
+
+/// Whether a set of wires has one of some.
+#[tactic(auto, unfolding(crate::specs::Tree::has_any))]
+pub(crate) fn has_any(wires: u64, some: u64) -> bool
+    ensures { result ≡ has_any some wires }
+{
+    wires & some > 0
+}
+
+fn leaf(entry: Option<Gate>) -> Node
+    ensures { result ≡ leaf entry }
+{
+    match entry {
+        Some(gate) => Node {
+            count: 1,
+            wires: wires_of(gate),
+        },
+        None => Node { count: 0, wires: 0 },
+    }
+}
+
+/// The gate in a slot, and none behind the last slot.
+pub(crate) fn entry(gates: &[Option<Gate>], slot: usize) -> Option<Gate>
+    ensures { result ≡ entry gates.now slot }
+{
+    if slot < gates.len() {
+        gates[slot]
+    } else {
+        None
+    }
+}
+
+/// A node; from the number of nodes on, a slot.
+pub(crate) fn node_at(gates: &[Option<Gate>], nodes: &[Node], node: usize) -> Node
+    ensures { result ≡ node_at gates.now nodes.now node }
+{
+    if node < nodes.len() {
+        nodes[node]
+    } else {
+        leaf(entry(gates, node - nodes.len()))
+    }
+}
+
+fn join(left: Node, right: Node) -> Node
+    ensures { result ≡ join left right }
+{
+    Node {
+        count: left.count.saturating_add(right.count),
+        wires: left.wires | right.wires,
+    }
+}
+
+/// What a node tells, from the two below it.
+fn joined(gates: &[Option<Gate>], nodes: &[Node], node: usize) -> Node
+    requires { node < length nodes.now }
+    ensures { result ≡ join (node_at gates.now nodes.now (2 * node)) (node_at gates.now nodes.now (2 * node + 1)) }
+{
+    let _nodes = nodes.len();
+    join(
+        node_at(gates, nodes, 2 * node),
+        node_at(gates, nodes, 2 * node + 1),
+    )
+}
+
+/// Tells the nodes above a slot anew.
+pub(crate) fn refresh(gates: &[Option<Gate>], nodes: &mut [Node], slot: usize)
+    requires within { slot < length nodes.old }
+    requires others { (j : ℕ) → 0 < j → j < length nodes.old → j ≢ (length nodes.old + slot) / 2 → IsJoined gates.now nodes.old j }
+    ensures { (j : ℕ) → 0 < j → j < length nodes.old → IsJoined gates.now nodes.new j }
+{
+    let mut node = nodes.len() + slot;
+    'up: while node > 1 {
+        node /= 2;
+        nodes[node] = joined(gates, nodes, node);
+    }
+}
+
+/// Adds a gate, which a slot has got, to the nodes above the slot.
+pub(crate) fn add(gates: &[Option<Gate>], nodes: &mut [Node], slot: usize, gate: Gate)
+    requires within { slot < length nodes.old }
+    requires others { (j : ℕ) → 0 < j → j < length nodes.old → j ≢ (length nodes.old + slot) / 2 → IsJoined gates.now nodes.old j }
+    requires lacks { 0 < (length nodes.old + slot) / 2 → Lacks (Some gate) gates.now nodes.old ((length nodes.old + slot) / 2) }
+    ensures { (j : ℕ) → 0 < j → j < length nodes.old → IsJoined gates.now nodes.new j }
+{
+    let more = leaf(Some(gate));
+    let mut node = (nodes.len() + slot) / 2;
+    'up: while node > 0 {
+        nodes[node] = join(nodes[node], more);
+        node /= 2;
+    }
+}
+
+/// Tells all nodes anew.
+pub(crate) fn tell(gates: &[Option<Gate>], nodes: &mut [Node])
+    ensures len { length nodes.new ≡ length nodes.old }
+    ensures joined { (j : ℕ) → 0 < j → j < length nodes.new → IsJoined gates.now nodes.new j }
+{
+    let mut node = nodes.len();
+    'down: while node > 1 {
+        node -= 1;
+        nodes[node] = joined(gates, nodes, node);
+    }
+}
