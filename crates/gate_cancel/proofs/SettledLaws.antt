@@ -6,8 +6,8 @@
 --   walked_start, walked_same, walked_more, walked_low, walked_none     a walk, place by place
 --   after_here, from_here, at_end  where the walk goes on
 --   IsCancelled_refl, IsCancelled_trans, reduced-cancelled, short     with or without a change
-use Rattle.std.proofs.Common.{◌≡◌, ◌≢◌, ℕ, suc, ◌+◌, ◌%◌, ◌<◌, ◌≤◌, ◌==◌, Bool, true, false, cond, List, [], ◌∷◌, length, Option, None, Some, MatchOption, refl, sym, subst, ◌∙◌, ap, arith, inl, inr, ◌⊎◌, set, slice_get, All}
-use Rattle.std.specs.Prelude.{◌&&◌, Contains}
+use Rattle.std.proofs.Common.{◌≡◌, ◌≢◌, ℕ, ◌+◌, ◌%◌, ◌<◌, ◌≤◌, ◌==◌, Bool, true, false, cond, List, length, Option, None, Some, MatchOption, refl, sym, subst, ◌∙◌, ap, arith, inl, inr, ◌⊎◌, set, slice_get, All}
+use Rattle.std.specs.Prelude.{◌&&◌}
 use Rattle.std.specs.List.{remove}
 use Rattle.std.proofs.lemmas.Bool.{cases_order}
 use Rattle.std.proofs.lemmas.List.Edits.{length-remove}
@@ -15,14 +15,14 @@ use Rattle.std.proofs.lemmas.List.Elements.{recursion_from_All, All-from_recursi
 use Rattle.circuit_list.specs.declared.Gate.{Gate}
 use Rattle.circuit_list.specs.declared.Gate.TheVariants.{H, X, P, Cx}
 use Rattle.circuit_list.specs.Body.{Body}
-use Rattle.circuit_list.specs.Gates.{IsFine, is_on}
+use Rattle.circuit_list.specs.Gates.{IsFine}
 use Rattle.circuit_list.specs.Slots.{IsFirstFrom, IsLive, NoneFrom, is_on_at, is_on_some, place_of}
 use Rattle.commute_rules.specs.declared.Cancel.TheVariants.{No, Both, Merge}
 use Rattle.commute_rules.specs.Cancels.{cancel_of, with_phase}
 use Rattle.commute_rules.specs.Commutes.{commutes}
 use Rattle.commute_rules.specs.Reducible.{IsReducible}
 use Rattle.commute_rules.proofs.CancelLaws.{cancel_below, merge_fine}
-use Rattle.rewrite_pass.specs.Law.{IsRewriting, IsSmallerOrSame, KeepsCnots}
+use Rattle.rewrite_pass.specs.Law.{IsSmallerOrSame}
 use Rattle.rewrite_pass.proofs.RewritingLaws.{IsRewriting_refl, IsRewriting_trans, Step-IsRewriting}
 use Rattle.gate_cancel.specs.declared.search.Reach.{Reach}
 use Rattle.gate_cancel.specs.declared.reduction.Settled.{Settled}

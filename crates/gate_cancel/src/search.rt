@@ -45,13 +45,7 @@ fn next_gate(body: &Circuit, slot: Slot, known: Slot, wire: u32) -> Option<Slot>
 
 /// The next gate on each of the wires behind a reach; none where one of them has no gate behind. A known one is looked for
 /// only where the reach has come to it.
-fn next_gates(
-    body: &Circuit,
-    slot: Slot,
-    gate: Gate,
-    reach: &Reach,
-    known: &Reach,
-) -> Option<Reach>
+fn next_gates(body: &Circuit, slot: Slot, gate: Gate, reach: &Reach, known: &Reach) -> Option<Reach>
     requires gate { slice_get body.now.gates (place_of slot body.now.slots) ≡ Some gate }
     requires reach { IsReach body.now slot reach.now }
     requires known { IsKnown body.now gate reach.now known.now }

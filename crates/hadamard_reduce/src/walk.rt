@@ -48,7 +48,7 @@ pub(crate) fn prev_is(body: &Circuit, slot: Slot, wire: u32, gate: Gate) -> Opti
     requires on { is_on_at wire body.now.gates (place_of slot body.now.slots) ≡ true }
     ensures { MatchOption result ((j : ℕ) → At body.now.gates j gate → ¬ IsPrevOn wire body.now.gates (place_of slot body.now.slots) j)
         (λ t. IsLive body.now t × At body.now.gates (place_of t body.now.slots) gate
-            × IsPrevOn wire body.now.gates (place_of slot body.now.slots) (place_of t body.now.slots)) }
+        × IsPrevOn wire body.now.gates (place_of slot body.now.slots) (place_of t body.now.slots)) }
 {
     let prev = body.prev_on(slot, wire)?;
     if body.gate_at(prev) == gate {

@@ -1,7 +1,6 @@
-use Rattle.std.proofs.Common.{◌≡◌, ℕ, ◌+◌, ◌%◌, ◌<◌, sym, subst, ◌∙◌, ap, arith, length}
+use Rattle.std.proofs.Common.{◌≡◌, ◌+◌, ◌<◌, sym, subst, ◌∙◌, ap, arith, length}
 use Rattle.circuit_list.specs.Body.{Body}
 use Rattle.circuit_list.specs.Slots.{place_of}
-use Rattle.commute_rules.specs.Reducible.{IsReducible}
 use Rattle.gate_cancel.specs.Reductions.{IsReduced, IsSettled, IsStanding, IsWalked, place_here}
 use Rattle.gate_cancel.proofs.ListLaws.{within}
 use Rattle.gate_cancel.proofs.SettledLaws.{after_here, at_end, from_here, walked_low, walked_more, walked_same}
