@@ -1,12 +1,13 @@
 -- The tables in any list of gates.
 --   ops-append       joined lists, as operations
 --   ops_inside       a step of gates inside a list
---   commuting_in, cancelling_in, merging_in     the laws of the tables
+--   Below            the law of `fine_below`: fine gates are operations on wires that are there
+--   commuting_in, cancelling_in, merging_in     the laws of the tables, from it
 use Rattle.std.proofs.Common.{◌≡◌, ℕ, true, List, [], ◌∷◌, ◌++◌, refl, sym, subst, ◌∙◌, ap, All}
 use Rattle.std.proofs.lemmas.List.Elements.{All-append, All-from_recursion, recursion_from_All}
 use Rattle.circuit_list.specs.declared.Gate.{Gate}
 use Rattle.circuit_list.specs.Gates.{IsFine, op_of, ops}
-use Rattle.circuit_list.proofs.GateLaws.{WiresBelow-ops}
+use Rattle.unitary_model.specs.Operations.{WiresBelow}
 use Rattle.unitary_model.specs.SameUpTo.{SameUpTo}
 use Rattle.unitary_model.proofs.Steps.{Step, Step_inside, Step-amplitude}
 use Rattle.commute_rules.specs.declared.Cancel.TheVariants.{Both, Merge}
@@ -34,20 +35,23 @@ fine_two n before after g h b a p q = All-append (IsFine n) before (g ∷ h ∷ 
 fine_one : (n : ℕ) (before after : List Gate) (g : Gate) → All (IsFine n) before → All (IsFine n) after → IsFine n g → All (IsFine n) (before ++ (g ∷ after))
 fine_one n before after g b a p = All-append (IsFine n) before (g ∷ after) b (All-from_recursion (IsFine n) (g ∷ after) (p, recursion_from_All (IsFine n) after a))
 
-pub commuting_in : (n : ℕ) (before after : List Gate) (g h : Gate) → All (IsFine n) before → All (IsFine n) after → IsFine n g → IsFine n h → commutes g h ≡ true →
+abbrev pub Below : Type 0
+Below = (n : ℕ) (gs : List Gate) → All (IsFine n) gs → WiresBelow n (ops gs)
+
+pub commuting_in : Below → (n : ℕ) (before after : List Gate) (g h : Gate) → All (IsFine n) before → All (IsFine n) after → IsFine n g → IsFine n h → commutes g h ≡ true →
     SameUpTo 0 n (ops (before ++ (g ∷ h ∷ after))) (ops (before ++ (h ∷ g ∷ after)))
-commuting_in n before after g h b a p q e =
-    Step-amplitude 0 n _ _ (WiresBelow-ops n _ (fine_two n before after g h b a p q)) (WiresBelow-ops n _ (fine_two n before after h g b a q p))
+commuting_in below n before after g h b a p q e =
+    Step-amplitude 0 n _ _ (below n _ (fine_two n before after g h b a p q)) (below n _ (fine_two n before after h g b a q p))
     (ops_inside 0 before (g ∷ h ∷ []) (h ∷ g ∷ []) after (commute_step g h e (fine_apart n g p) (fine_apart n h q)))
 
-pub cancelling_in : (n turn : ℕ) (before after : List Gate) (g h : Gate) → All (IsFine n) before → All (IsFine n) after → IsFine n g → IsFine n h → cancel_of g h ≡ Both turn →
+pub cancelling_in : Below → (n turn : ℕ) (before after : List Gate) (g h : Gate) → All (IsFine n) before → All (IsFine n) after → IsFine n g → IsFine n h → cancel_of g h ≡ Both turn →
     SameUpTo turn n (ops (before ++ (g ∷ h ∷ after))) (ops (before ++ after))
-cancelling_in n turn before after g h b a p q e =
-    Step-amplitude turn n _ _ (WiresBelow-ops n _ (fine_two n before after g h b a p q)) (WiresBelow-ops n _ (All-append (IsFine n) before after b a))
+cancelling_in below n turn before after g h b a p q e =
+    Step-amplitude turn n _ _ (below n _ (fine_two n before after g h b a p q)) (below n _ (All-append (IsFine n) before after b a))
     (ops_inside turn before (g ∷ h ∷ []) [] after (cancel_step g h turn e (fine_apart n g p)))
 
-pub merging_in : (n k : ℕ) (before after : List Gate) (g h : Gate) → All (IsFine n) before → All (IsFine n) after → IsFine n g → IsFine n h → cancel_of g h ≡ Merge k →
+pub merging_in : Below → (n k : ℕ) (before after : List Gate) (g h : Gate) → All (IsFine n) before → All (IsFine n) after → IsFine n g → IsFine n h → cancel_of g h ≡ Merge k →
     SameUpTo 0 n (ops (before ++ (g ∷ h ∷ after))) (ops (before ++ (with_phase k g ∷ after)))
-merging_in n k before after g h b a p q e =
-    Step-amplitude 0 n _ _ (WiresBelow-ops n _ (fine_two n before after g h b a p q)) (WiresBelow-ops n _ (fine_one n before after (with_phase k g) b a (merge_fine n g h k e p)))
+merging_in below n k before after g h b a p q e =
+    Step-amplitude 0 n _ _ (below n _ (fine_two n before after g h b a p q)) (below n _ (fine_one n before after (with_phase k g) b a (merge_fine n g h k e p)))
     (ops_inside 0 before (g ∷ h ∷ []) (with_phase k g ∷ []) after (merge_step g h k e))

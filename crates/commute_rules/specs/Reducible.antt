@@ -1,4 +1,4 @@
--- Pairs of a list that can be cancelled or merged past the gates between them, and lists that are settled.
+-- Pairs of a list that can be cancelled or merged past the gates between them, and lists without such a pair.
 --   IsReducible gs i j    the gates at the places i < j cancel or merge, and the one at i commutes with each between
 --   NoReducible gs        there is no such pair
 use Rattle.std.specs.Prelude.{◌≡◌, ℕ, ◌<◌, true, List, Some, slice_get}

@@ -1,7 +1,7 @@
 -- Pairs taken out, and merged, in the middle of a list.
 --   gone_past, merged_past       a gate in front of the list in which its partner stands
 --   pair_gone, pair_merged       anywhere
-use Rattle.std.proofs.Common.{◌≡◌, ℕ, zero, suc, ◌+◌, ◌<◌, ◌≤◌, true, List, [], ◌∷◌, ◌++◌, length, Some, refl, sym, subst, ◌∙◌, ap, arith, append-nil, set, slice_get}
+use Rattle.std.proofs.Common.{◌≡◌, ℕ, zero, suc, ◌<◌, true, List, [], ◌∷◌, ◌++◌, Some, refl, sym, subst, ◌∙◌, arith, append-nil, set, slice_get}
 use Rattle.std.specs.List.{remove, AllByRecursion}
 use Rattle.circuit_list.specs.declared.Gate.{Gate}
 use Rattle.circuit_list.specs.Gates.{IsFine, op_of, ops}

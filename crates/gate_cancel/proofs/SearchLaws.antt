@@ -4,12 +4,12 @@
 --   ended                          no partner where a wire has no gate behind
 --   clear_until                    all gates up to the next on both wires commute
 --   reach_start                    a search begins at the gate itself
---   IsSpread, ahead_at             the next gates on both wires, and that the nearer one is ahead
+--   IsSpread, ahead_at             a search with the next gates on both wires, and that the nearer one is ahead
 --   ahead_first, ahead_second, ahead_both     with the reach behind it
 --   nothing_first, nothing_second  a wire without a next gate
 --   reducible, blocked             the gate ahead is the partner, or there is none
 --   reach_before                   a partner is behind the reach
-use Rattle.std.proofs.Common.{◌≡◌, ℕ, ◌+◌, ◌<◌, ◌≤◌, Bool, true, false, List, Some, refl, sym, subst, ap, ◌∙◌, arith, inl, inr, ◌⊎◌, slice_get}
+use Rattle.std.proofs.Common.{◌≡◌, ℕ, ◌<◌, ◌≤◌, Bool, true, false, List, Some, refl, sym, subst, ap, ◌∙◌, arith, inl, inr, slice_get}
 use Rattle.std.proofs.lemmas.Bool.{cases_lt}
 use Rattle.circuit_list.specs.declared.Gate.{Gate}
 use Rattle.circuit_list.specs.Body.{Body}
@@ -18,7 +18,7 @@ use Rattle.circuit_list.specs.Slots.{IsLive, IsNextOn, NoneBehind, is_on_at, is_
 use Rattle.commute_rules.specs.Commutes.{commutes}
 use Rattle.commute_rules.specs.Reducible.{IsReducible}
 use Rattle.gate_cancel.specs.declared.search.Reach.{Reach}
-use Rattle.gate_cancel.specs.Reaches.{first_wire, second_wire, is_partner, Passes, IsPassed, IsReach, IsAhead, length_of}
+use Rattle.gate_cancel.specs.Reaches.{first_wire, second_wire, is_partner, AreNext, Passes, IsPassed, IsReach, IsAhead, IsKnown, length_of}
 use Rattle.gate_cancel.proofs.GateLaws.{on_first, on_second, off_commutes, partner_first, partner_second, partner-cancels, cancels-partner}
 
 at_place : (w : ℕ) (gs : List Gate) (k : ℕ) (h : Gate) → slice_get gs k ≡ Some h → is_on_at w gs k ≡ is_on w h
@@ -80,71 +80,71 @@ reach_start b s live = record {
   second = λ g e. passed_start g (second_wire g) b.gates (place_of s b.slots) e (on_second g);
 }
 
--- the next gates on both wires
-pub record IsSpread (b : Body) (s : ℕ) (r : Reach) (x y : ℕ) (g : Gate) : Type 0 where
+-- a search, and the next gates on both wires
+pub record IsSpread (b : Body) (s : ℕ) (r n : Reach) (g : Gate) : Type 0 where
   pub there : slice_get b.gates (place_of s b.slots) ≡ Some g
   pub reach : IsReach b s r
-  pub first_live : IsLive b x
-  pub second_live : IsLive b y
-  pub first : IsNextOn (first_wire g) b.gates (place_of r.first b.slots) (place_of x b.slots)
-  pub second : IsNextOn (second_wire g) b.gates (place_of r.second b.slots) (place_of y b.slots)
+  pub next : AreNext b g r n
 
 same_gate : (gs : List Gate) (i : ℕ) (g h : Gate) → slice_get gs i ≡ Some g → slice_get gs i ≡ Some h → g ≡ h
 same_gate gs i g h e f = cc
 
-no_nearer : (b : Body) (s : ℕ) (r : Reach) (x y : ℕ) (g : Gate) → IsSpread b s r x y g → (j : ℕ) → IsReducible b.gates (place_of s b.slots) j → place_of x b.slots ≤ j
-no_nearer b s r x y g p j red =
+no_nearer : (b : Body) (s : ℕ) (r n : Reach) (g : Gate) → IsSpread b s r n g → (j : ℕ) → IsReducible b.gates (place_of s b.slots) j → place_of n.first b.slots ≤ j
+no_nearer b s r n g p j red =
     let i : ℕ = place_of s b.slots in
     let here : red.first ≡ g = same_gate b.gates i red.first g red.at_first p.there in
     let is : is_partner g red.second ≡ true = subst (λ z. is_partner z red.second ≡ true) here (cancels-partner red.first red.second red.cancel) in
-    partner_behind g (first_wire g) b.gates i (place_of r.first b.slots) (place_of x b.slots) j red.second (p.reach.first g p.there) p.first red.before red.at_second (partner_first g red.second is) is
+    partner_behind g (first_wire g) b.gates i (place_of r.first b.slots) (place_of n.first b.slots) j red.second (p.reach.first g p.there) p.next.first red.before red.at_second (partner_first g red.second is) is
 
-ahead_at : (b : Body) (s : ℕ) (r : Reach) (x y : ℕ) (g : Gate) → IsSpread b s r x y g → (t : ℕ) (far : Reach) → IsLive b t → place_of s b.slots < place_of t b.slots →
-    place_of t b.slots ≤ place_of x b.slots → place_of t b.slots ≤ place_of y b.slots →
-    ((h : Gate) → slice_get b.gates (place_of t b.slots) ≡ Some h → Passes g h → IsReach b s far) → length_of b r < length_of b far → IsAhead b s r t far
-ahead_at b s r x y g p t far live lt tx ty passed more = record {
+ahead_at : (b : Body) (s : ℕ) (r n : Reach) (g : Gate) → IsSpread b s r n g → (t : ℕ) (far : Reach) → IsLive b t → place_of s b.slots < place_of t b.slots →
+    place_of t b.slots ≤ place_of n.first b.slots → place_of t b.slots ≤ place_of n.second b.slots →
+    ((h : Gate) → slice_get b.gates (place_of t b.slots) ≡ Some h → Passes g h → IsReach b s far) → IsKnown b g far n → length_of b r < length_of b far → IsAhead b s g r n t far
+ahead_at b s r n g p t far live lt tx ty passed known more = record {
   live = live;
   behind = lt;
-  clear = λ f e k h l m k'. subst (λ z. commutes z h ≡ true) (same_gate b.gates (place_of s b.slots) g f p.there e)
-      (clear_until g b.gates (place_of s b.slots) (place_of r.first b.slots) (place_of r.second b.slots) (place_of x b.slots) (place_of y b.slots) k h
-      (p.reach.first g p.there) (p.reach.second g p.there) p.first p.second l (omega arith) (omega arith) k');
-  none = λ j red. let n = no_nearer b s r x y g p j red in omega arith;
-  passed = λ f h e e' ok. passed h e' (subst (λ z. Passes z h) (same_gate b.gates (place_of s b.slots) f g e p.there) ok);
+  clear = λ k h l m k'. clear_until g b.gates (place_of s b.slots) (place_of r.first b.slots) (place_of r.second b.slots) (place_of n.first b.slots) (place_of n.second b.slots) k h
+      (p.reach.first g p.there) (p.reach.second g p.there) p.next.first p.next.second l (omega arith) (omega arith) k';
+  none = λ j red. let q = no_nearer b s r n g p j red in omega arith;
+  passed = passed;
+  known = known;
   further = more;
 }
 
 -- the wire's reach, gone on to the next gate
-first_on : (b : Body) (s : ℕ) (r : Reach) (x y : ℕ) (g : Gate) → IsSpread b s r x y g → (h : Gate) → slice_get b.gates (place_of x b.slots) ≡ Some h → Passes g h →
-    (f : Gate) → slice_get b.gates (place_of s b.slots) ≡ Some f → IsPassed f (first_wire f) b.gates (place_of s b.slots) (place_of x b.slots)
-first_on b s r x y g p h e ok f e' = subst (λ z. IsPassed z (first_wire z) b.gates (place_of s b.slots) (place_of x b.slots)) (same_gate b.gates (place_of s b.slots) g f p.there e')
-    (passed_more g (first_wire g) b.gates (place_of s b.slots) (place_of r.first b.slots) (place_of x b.slots) h (p.reach.first g p.there) p.first e ok)
+first_on : (b : Body) (s : ℕ) (r n : Reach) (g : Gate) → IsSpread b s r n g → (h : Gate) → slice_get b.gates (place_of n.first b.slots) ≡ Some h → Passes g h →
+    (f : Gate) → slice_get b.gates (place_of s b.slots) ≡ Some f → IsPassed f (first_wire f) b.gates (place_of s b.slots) (place_of n.first b.slots)
+first_on b s r n g p h e ok f e' = subst (λ z. IsPassed z (first_wire z) b.gates (place_of s b.slots) (place_of n.first b.slots)) (same_gate b.gates (place_of s b.slots) g f p.there e')
+    (passed_more g (first_wire g) b.gates (place_of s b.slots) (place_of r.first b.slots) (place_of n.first b.slots) h (p.reach.first g p.there) p.next.first e ok)
 
-second_on : (b : Body) (s : ℕ) (r : Reach) (x y : ℕ) (g : Gate) → IsSpread b s r x y g → (h : Gate) → slice_get b.gates (place_of y b.slots) ≡ Some h → Passes g h →
-    (f : Gate) → slice_get b.gates (place_of s b.slots) ≡ Some f → IsPassed f (second_wire f) b.gates (place_of s b.slots) (place_of y b.slots)
-second_on b s r x y g p h e ok f e' = subst (λ z. IsPassed z (second_wire z) b.gates (place_of s b.slots) (place_of y b.slots)) (same_gate b.gates (place_of s b.slots) g f p.there e')
-    (passed_more g (second_wire g) b.gates (place_of s b.slots) (place_of r.second b.slots) (place_of y b.slots) h (p.reach.second g p.there) p.second e ok)
+second_on : (b : Body) (s : ℕ) (r n : Reach) (g : Gate) → IsSpread b s r n g → (h : Gate) → slice_get b.gates (place_of n.second b.slots) ≡ Some h → Passes g h →
+    (f : Gate) → slice_get b.gates (place_of s b.slots) ≡ Some f → IsPassed f (second_wire f) b.gates (place_of s b.slots) (place_of n.second b.slots)
+second_on b s r n g p h e ok f e' = subst (λ z. IsPassed z (second_wire z) b.gates (place_of s b.slots) (place_of n.second b.slots)) (same_gate b.gates (place_of s b.slots) g f p.there e')
+    (passed_more g (second_wire g) b.gates (place_of s b.slots) (place_of r.second b.slots) (place_of n.second b.slots) h (p.reach.second g p.there) p.next.second e ok)
 
-pub ahead_first : (b : Body) (s : ℕ) (r : Reach) (x y : ℕ) (g : Gate) → IsSpread b s r x y g → place_of x b.slots < place_of y b.slots → IsAhead b s r x (record { first = x; second = r.second })
-ahead_first b s r x y g p lt =
+pub ahead_first : (b : Body) (s : ℕ) (r n : Reach) (g : Gate) → IsSpread b s r n g → place_of n.first b.slots < place_of n.second b.slots → IsAhead b s g r n n.first (record { first = n.first; second = r.second })
+ahead_first b s r n g p lt =
     let from = (p.reach.first g p.there).from in
-    let more = p.first.behind in
-    ahead_at b s r x y g p x (record { first = x; second = r.second }) p.first_live (omega arith) (omega arith) (omega arith)
-    (λ h e ok. record { first_live = p.first_live; second_live = p.reach.second_live; first = first_on b s r x y g p h e ok; second = p.reach.second }) (omega arith)
+    let more = p.next.first.behind in
+    ahead_at b s r n g p n.first (record { first = n.first; second = r.second }) p.next.first_live (omega arith) (omega arith) (omega arith)
+    (λ h e ok. record { first_live = p.next.first_live; second_live = p.reach.second_live; first = first_on b s r n g p h e ok; second = p.reach.second })
+    (record { first_live = p.next.first_live; second_live = p.next.second_live; first = inl refl; second = inr p.next.second }) (omega arith)
 
-pub ahead_second : (b : Body) (s : ℕ) (r : Reach) (x y : ℕ) (g : Gate) → IsSpread b s r x y g → place_of y b.slots < place_of x b.slots → IsAhead b s r y (record { first = r.first; second = y })
-ahead_second b s r x y g p lt =
+pub ahead_second : (b : Body) (s : ℕ) (r n : Reach) (g : Gate) → IsSpread b s r n g → place_of n.second b.slots < place_of n.first b.slots → IsAhead b s g r n n.second (record { first = r.first; second = n.second })
+ahead_second b s r n g p lt =
     let from = (p.reach.second g p.there).from in
-    let more = p.second.behind in
-    ahead_at b s r x y g p y (record { first = r.first; second = y }) p.second_live (omega arith) (omega arith) (omega arith)
-    (λ h e ok. record { first_live = p.reach.first_live; second_live = p.second_live; first = p.reach.first; second = second_on b s r x y g p h e ok }) (omega arith)
+    let more = p.next.second.behind in
+    ahead_at b s r n g p n.second (record { first = r.first; second = n.second }) p.next.second_live (omega arith) (omega arith) (omega arith)
+    (λ h e ok. record { first_live = p.reach.first_live; second_live = p.next.second_live; first = p.reach.first; second = second_on b s r n g p h e ok })
+    (record { first_live = p.next.first_live; second_live = p.next.second_live; first = inr p.next.first; second = inl refl }) (omega arith)
 
-pub ahead_both : (b : Body) (s : ℕ) (r : Reach) (x y : ℕ) (g : Gate) → IsSpread b s r x y g → place_of x b.slots ≡ place_of y b.slots → IsAhead b s r x (record { first = x; second = y })
-ahead_both b s r x y g p same =
+pub ahead_both : (b : Body) (s : ℕ) (r n : Reach) (g : Gate) → IsSpread b s r n g → place_of n.first b.slots ≡ place_of n.second b.slots → IsAhead b s g r n n.first n
+ahead_both b s r n g p same =
     let from = (p.reach.first g p.there).from in
-    let more = p.first.behind in
-    let more' = p.second.behind in
-    ahead_at b s r x y g p x (record { first = x; second = y }) p.first_live (omega arith) (omega arith) (omega arith)
-    (λ h e ok. record { first_live = p.first_live; second_live = p.second_live; first = first_on b s r x y g p h e ok; second = second_on b s r x y g p h (ap (slice_get b.gates) (sym same) ∙ e) ok }) (omega arith)
+    let more = p.next.first.behind in
+    let more' = p.next.second.behind in
+    ahead_at b s r n g p n.first n p.next.first_live (omega arith) (omega arith) (omega arith)
+    (λ h e ok. record { first_live = p.next.first_live; second_live = p.next.second_live; first = first_on b s r n g p h e ok; second = second_on b s r n g p h (ap (slice_get b.gates) (sym same) ∙ e) ok })
+    (record { first_live = p.next.first_live; second_live = p.next.second_live; first = inl refl; second = inl refl }) (omega arith)
 
 pub nothing_first : (b : Body) (s : ℕ) (r : Reach) (g : Gate) → IsReach b s r → slice_get b.gates (place_of s b.slots) ≡ Some g → NoneBehind (first_wire g) b.gates (place_of r.first b.slots) →
     (j : ℕ) → IsReducible b.gates (place_of s b.slots) j → ⊥
@@ -160,21 +160,21 @@ nothing_second b s r g p there n j red =
     let is : is_partner g red.second ≡ true = subst (λ z. is_partner z red.second ≡ true) (same_gate b.gates i red.first g red.at_first there) (cancels-partner red.first red.second red.cancel) in
     ended g (second_wire g) b.gates i (place_of r.second b.slots) j red.second (p.second g there) n red.before red.at_second (partner_second g red.second is) is
 
-pub reducible : (b : Body) (s : ℕ) (r : Reach) (t : ℕ) (far : Reach) (g h : Gate) → IsAhead b s r t far → slice_get b.gates (place_of s b.slots) ≡ Some g → slice_get b.gates (place_of t b.slots) ≡ Some h →
+pub reducible : (b : Body) (s : ℕ) (r n : Reach) (t : ℕ) (far : Reach) (g h : Gate) → IsAhead b s g r n t far → slice_get b.gates (place_of s b.slots) ≡ Some g → slice_get b.gates (place_of t b.slots) ≡ Some h →
     is_partner g h ≡ true → IsReducible b.gates (place_of s b.slots) (place_of t b.slots)
-reducible b s r t far g h p e f is = record { first = g; second = h; at_first = e; at_second = f; before = p.behind; cancel = partner-cancels g h is; commute = λ k o l m n. p.clear g e k o l m n }
+reducible b s r n t far g h p e f is = record { first = g; second = h; at_first = e; at_second = f; before = p.behind; cancel = partner-cancels g h is; commute = λ k o l m q. p.clear k o l m q }
 
-pub blocked : (b : Body) (s : ℕ) (r : Reach) (t : ℕ) (far : Reach) (g h : Gate) → IsAhead b s r t far → slice_get b.gates (place_of s b.slots) ≡ Some g → slice_get b.gates (place_of t b.slots) ≡ Some h →
+pub blocked : (b : Body) (s : ℕ) (r n : Reach) (t : ℕ) (far : Reach) (g h : Gate) → IsAhead b s g r n t far → slice_get b.gates (place_of s b.slots) ≡ Some g → slice_get b.gates (place_of t b.slots) ≡ Some h →
     is_partner g h ≡ false → commutes g h ≡ false → (j : ℕ) → IsReducible b.gates (place_of s b.slots) j → ⊥
-blocked b s r t far g h p e f alone stops j red =
+blocked b s r n t far g h p e f alone stops j red =
     let i : ℕ = place_of s b.slots in
-    let n : ℕ = place_of t b.slots in
+    let m : ℕ = place_of t b.slots in
     let here : red.first ≡ g = same_gate b.gates i red.first g red.at_first e in
-    let le : n ≤ j = p.none j red in
-    elim (cases_lt n j) [
-      | inl l ↦ clash (commutes red.first h) (red.commute n h p.behind l f) (subst (λ z. commutes z h ≡ false) (sym here) stops)
+    let le : m ≤ j = p.none j red in
+    elim (cases_lt m j) [
+      | inl l ↦ clash (commutes red.first h) (red.commute m h p.behind l f) (subst (λ z. commutes z h ≡ false) (sym here) stops)
       | inr l ↦ clash (is_partner red.first h)
-          (subst (λ z. is_partner red.first z ≡ true) (same_gate b.gates j red.second h red.at_second (ap (slice_get b.gates) (let q : j ≡ n = omega arith in q) ∙ f)) (cancels-partner red.first red.second red.cancel))
+          (subst (λ z. is_partner red.first z ≡ true) (same_gate b.gates j red.second h red.at_second (ap (slice_get b.gates) (let q : j ≡ m = omega arith in q) ∙ f)) (cancels-partner red.first red.second red.cancel))
           (subst (λ z. is_partner z h ≡ false) (sym here) alone)
     ]
 

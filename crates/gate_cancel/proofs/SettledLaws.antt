@@ -2,11 +2,12 @@
 --   IsReduced_trans                one after the other
 --   reduced_gone, reduced_merged   a pair taken out, or merged
 --   reach_merged                   a reach stays one when its gate takes a phase in
---   settled_now, merged_more, gone_after     what was done at a place
+--   settled_now, standing_now, gone_after    what was done at a place
 --   walked_start, walked_same, walked_more, walked_low, walked_none     a walk, place by place
+--   after_here, from_here, at_end  where the walk goes on
 --   IsCancelled_refl, IsCancelled_trans, reduced-cancelled, short     with or without a change
-use Rattle.std.proofs.Common.{◌≡◌, ◌≢◌, ℕ, suc, ◌+◌, ◌%◌, ◌<◌, ◌≤◌, ◌==◌, Bool, true, false, cond, List, [], ◌∷◌, length, Some, refl, sym, subst, ◌∙◌, ap, arith, inl, inr, ◌⊎◌, set, slice_get, All}
-use Rattle.std.specs.Prelude.{◌&&◌, Contains}
+use Rattle.std.proofs.Common.{◌≡◌, ◌≢◌, ℕ, ◌+◌, ◌%◌, ◌<◌, ◌≤◌, ◌==◌, Bool, true, false, cond, List, length, Option, None, Some, MatchOption, refl, sym, subst, ◌∙◌, ap, arith, inl, inr, ◌⊎◌, set, slice_get, All}
+use Rattle.std.specs.Prelude.{◌&&◌}
 use Rattle.std.specs.List.{remove}
 use Rattle.std.proofs.lemmas.Bool.{cases_order}
 use Rattle.std.proofs.lemmas.List.Edits.{length-remove}
@@ -14,20 +15,20 @@ use Rattle.std.proofs.lemmas.List.Elements.{recursion_from_All, All-from_recursi
 use Rattle.circuit_list.specs.declared.Gate.{Gate}
 use Rattle.circuit_list.specs.declared.Gate.TheVariants.{H, X, P, Cx}
 use Rattle.circuit_list.specs.Body.{Body}
-use Rattle.circuit_list.specs.Gates.{IsFine, is_on}
-use Rattle.circuit_list.specs.Slots.{IsLive, is_on_at, is_on_some, place_of}
+use Rattle.circuit_list.specs.Gates.{IsFine}
+use Rattle.circuit_list.specs.Slots.{IsFirstFrom, IsLive, NoneFrom, is_on_at, is_on_some, place_of}
 use Rattle.commute_rules.specs.declared.Cancel.TheVariants.{No, Both, Merge}
 use Rattle.commute_rules.specs.Cancels.{cancel_of, with_phase}
 use Rattle.commute_rules.specs.Commutes.{commutes}
 use Rattle.commute_rules.specs.Reducible.{IsReducible}
 use Rattle.commute_rules.proofs.CancelLaws.{cancel_below, merge_fine}
-use Rattle.rewrite_pass.specs.Law.{IsRewriting, IsSmallerOrSame, KeepsCnots}
+use Rattle.rewrite_pass.specs.Law.{IsSmallerOrSame}
 use Rattle.rewrite_pass.proofs.RewritingLaws.{IsRewriting_refl, IsRewriting_trans, Step-IsRewriting}
 use Rattle.gate_cancel.specs.declared.search.Reach.{Reach}
 use Rattle.gate_cancel.specs.declared.reduction.Settled.{Settled}
 use Rattle.gate_cancel.specs.declared.reduction.Settled.TheVariants.{Same, Merged, Gone}
 use Rattle.gate_cancel.specs.Reaches.{first_wire, second_wire, IsPassed, IsReach}
-use Rattle.gate_cancel.specs.Reductions.{IsCancelled, IsOutcome, IsReduced, IsSettled, IsSoFar, IsWalked}
+use Rattle.gate_cancel.specs.Reductions.{IsCancelled, IsOutcome, IsReduced, IsHere, IsSettled, IsSoFar, IsStanding, IsWalked, place_here}
 use Rattle.gate_cancel.proofs.GateLaws.{on-phase, first-phase, second-phase, passes_phase}
 use Rattle.gate_cancel.proofs.ListLaws.{remove-get, set-get, set-get_same, within, length-set_gate, contains_remove, contains_set, all_remove, all_set}
 use Rattle.gate_cancel.proofs.ReductionLaws.{pair_gone, pair_merged}
@@ -152,6 +153,11 @@ settled_now Same old now slot f h = (ap (λ (b : Body). b.gates) f, subst (λ (b
 settled_now Merged old now slot f h = f
 settled_now (Gone turn) old now slot f h = absurd f
 
+pub standing_now : (s : Settled) (old now : Body) (slot : ℕ) → IsSoFar s old now → IsLive now slot → IsStanding s old now slot
+standing_now Same old now slot f live = f
+standing_now Merged old now slot f live = live
+standing_now (Gone turn) old now slot f live = tt
+
 pub gone_after : (s : Settled) (old now : Body) (next : List Gate) (turn : ℕ) → IsSoFar s old now → now.wires ≡ old.wires → IsReduced now.wires now.gates next turn → IsReduced old.wires old.gates next turn
 gone_after Same old now next turn f w r = subst (λ (b : Body). IsReduced b.wires b.gates next turn) f r
 gone_after Merged old now next turn f w r =
@@ -181,6 +187,20 @@ walked_more false n turn i more sum old now new w r e =
     let low : more < 8 = r.law.below in
     let same : more ≡ sum = omega arith in
     subst (λ gs. IsReduced n gs new sum) w.1.0 (subst (IsReduced n now new) same r)
+
+-- the gate behind the one that was settled, or the first that isn't before its slot
+pub after_here : (b : Body) (s : ℕ) (o : Option ℕ) → MatchOption o (place_of s b.slots + 1 ≡ length b.gates) (λ t. IsLive b t × (place_of t b.slots ≡ place_of s b.slots + 1))
+    → IsHere b o × (place_here b o ≡ place_of s b.slots + 1)
+after_here b s None e = (tt, sym e)
+after_here b s (Some t) e = e
+
+pub from_here : (b : Body) (s : ℕ) (o : Option ℕ) → MatchOption o (NoneFrom b s) (IsFirstFrom b s) → IsHere b o
+from_here b s None e = tt
+from_here b s (Some t) e = e.live
+
+pub at_end : (b : Body) (o : Option ℕ) → ((s : ℕ) → o ≡ Some s → ⊥) → place_here b o ≡ length b.gates
+at_end b None h = refl
+at_end b (Some s) h = absurd (h s refl)
 
 -- ---- with or without a change
 pub IsCancelled_refl : (n : ℕ) (A : List Gate) → IsCancelled n A A 0

@@ -5,23 +5,23 @@
 --   Passes g h             g commutes with h, and neither cancels nor merges with it
 --   IsPassed g w gs i a    a gate on wire w stands at place a, from i on, and g passes all on w behind i, that one included
 --   IsReach b s r          the gate in slot s passes what is on its two wires as far as the slots of r
---   IsAhead b s r t far    the gate in slot t is the next on the wires behind r: all between commute, and no partner is before
---                          it; where it is passed, the reach is far
---   IsMet b s r m          what a search meets next: the partner, a further reach, or that there is no partner
-use Rattle.std.specs.Prelude.{◌≡◌, ℕ, ◌+◌, ◌<◌, ◌≤◌, Bool, true, false, List, Some, slice_get}
+--   length_of b r          how far that is on both wires together
+--   AreNext b g r n        the next gates on the wires of g behind the slots of r are those in the slots of n
+--   IsKnown b g r n        on each of the wires the slot of n is that of r, or the next behind it
+--   IsAhead b s g r n t f  of the gates in n the one in slot t is the nearer: all between commute with g, the gate in slot s, and
+--                          no partner is before it; where it is passed, the reach is f
+use Rattle.std.specs.Prelude.{◌≡◌, ℕ, ◌+◌, ◌<◌, ◌≤◌, ◌⊎◌, Bool, true, false, List, Some, slice_get}
 use Rattle.circuit_list.specs.declared.Gate.{Gate}
 use Rattle.circuit_list.specs.declared.Gate.TheVariants.{H, X, P, Cx}
 use Rattle.circuit_list.specs.Body.{Body}
 use Rattle.circuit_list.specs.Gates.{is_on}
-use Rattle.circuit_list.specs.Slots.{IsLive, is_on_at, place_of}
+use Rattle.circuit_list.specs.Slots.{IsLive, IsNextOn, is_on_at, place_of}
 use Rattle.commute_rules.specs.declared.Cancel.{Cancel}
 use Rattle.commute_rules.specs.declared.Cancel.TheVariants.{No, Both, Merge}
 use Rattle.commute_rules.specs.Cancels.{cancel_of}
 use Rattle.commute_rules.specs.Commutes.{commutes}
 use Rattle.commute_rules.specs.Reducible.{IsReducible}
 use Rattle.gate_cancel.specs.declared.search.Reach.{Reach}
-use Rattle.gate_cancel.specs.declared.search.Met.{Met}
-use Rattle.gate_cancel.specs.declared.search.Met.TheVariants.{Partner, Passed, Blocked}
 
 abbrev pub first_wire : Gate → ℕ
 first_wire (H q) = q
@@ -60,15 +60,26 @@ pub record IsReach (b : Body) (s : ℕ) (r : Reach) : Type 0 where
 abbrev pub length_of : Body → Reach → ℕ
 length_of b r = place_of r.first b.slots + place_of r.second b.slots
 
-pub record IsAhead (b : Body) (s : ℕ) (r : Reach) (t : ℕ) (far : Reach) : Type 0 where
+pub record AreNext (b : Body) (g : Gate) (r n : Reach) : Type 0 where
+  pub first_live : IsLive b n.first
+  pub second_live : IsLive b n.second
+  pub first : IsNextOn (first_wire g) b.gates (place_of r.first b.slots) (place_of n.first b.slots)
+  pub second : IsNextOn (second_wire g) b.gates (place_of r.second b.slots) (place_of n.second b.slots)
+
+abbrev pub IsKnownOn : ℕ → Body → ℕ → ℕ → Type 0
+IsKnownOn w b a x = (a ≡ x) ⊎ IsNextOn w b.gates (place_of a b.slots) (place_of x b.slots)
+
+pub record IsKnown (b : Body) (g : Gate) (r n : Reach) : Type 0 where
+  pub first_live : IsLive b n.first
+  pub second_live : IsLive b n.second
+  pub first : IsKnownOn (first_wire g) b r.first n.first
+  pub second : IsKnownOn (second_wire g) b r.second n.second
+
+pub record IsAhead (b : Body) (s : ℕ) (g : Gate) (r n : Reach) (t : ℕ) (far : Reach) : Type 0 where
   pub live : IsLive b t
   pub behind : place_of s b.slots < place_of t b.slots
-  pub clear : (g : Gate) → slice_get b.gates (place_of s b.slots) ≡ Some g → (k : ℕ) (h : Gate) → place_of s b.slots < k → k < place_of t b.slots → slice_get b.gates k ≡ Some h → commutes g h ≡ true
+  pub clear : (k : ℕ) (h : Gate) → place_of s b.slots < k → k < place_of t b.slots → slice_get b.gates k ≡ Some h → commutes g h ≡ true
   pub none : (j : ℕ) → IsReducible b.gates (place_of s b.slots) j → place_of t b.slots ≤ j
-  pub passed : (g h : Gate) → slice_get b.gates (place_of s b.slots) ≡ Some g → slice_get b.gates (place_of t b.slots) ≡ Some h → Passes g h → IsReach b s far
+  pub passed : (h : Gate) → slice_get b.gates (place_of t b.slots) ≡ Some h → Passes g h → IsReach b s far
+  pub known : IsKnown b g far n
   pub further : length_of b r < length_of b far
-
-abbrev pub IsMet : Body → ℕ → Reach → Met → Type 0
-IsMet b s r (Partner t) = IsLive b t × IsReducible b.gates (place_of s b.slots) (place_of t b.slots)
-IsMet b s r (Passed far) = IsReach b s far × (length_of b r < length_of b far)
-IsMet b s r Blocked = (j : ℕ) → ¬ (IsReducible b.gates (place_of s b.slots) j)

@@ -5,10 +5,13 @@
 --   IsCancelled n old new turn    the same, or nothing has changed
 --   IsSettled n old new i s       what was done at place i: nothing, since no reducible pair begins there, or reductions
 --   IsSoFar s old now             what was done so far, while the gate is still there
+--   IsStanding s old new t        nothing has changed, or the gate in slot t is still there, or it has gone
+--   IsHere b o, place_here b o    where a walk is: at the gate in a slot, or at the end
 --   IsWalked b n old now turn i   what a walk did up to place i: nothing, since no reducible pair begins before it, or reductions
-use Rattle.std.specs.Prelude.{◌≡◌, ℕ, ◌<◌, Bool, true, false, List, Some, length, slice_get}
+use Rattle.std.specs.Prelude.{◌≡◌, ℕ, ◌<◌, Bool, true, false, List, Option, None, Some, length, slice_get}
 use Rattle.circuit_list.specs.declared.Gate.{Gate}
 use Rattle.circuit_list.specs.Body.{Body}
+use Rattle.circuit_list.specs.Slots.{IsLive, place_of}
 use Rattle.commute_rules.specs.declared.Cancel.{Cancel}
 use Rattle.commute_rules.specs.Cancels.{cancel_of}
 use Rattle.commute_rules.specs.Reducible.{IsReducible}
@@ -38,6 +41,19 @@ abbrev pub IsSoFar : Settled → Body → Body → Type 0
 IsSoFar Same old now = now ≡ old
 IsSoFar Merged old now = IsReduced old.wires old.gates now.gates 0
 IsSoFar (Gone turn) old now = ⊥
+
+abbrev pub IsStanding : Settled → Body → Body → ℕ → Type 0
+IsStanding Same old new t = new ≡ old
+IsStanding Merged old new t = IsLive new t
+IsStanding (Gone turn) old new t = Unit {0}
+
+abbrev pub IsHere : Body → Option ℕ → Type 0
+IsHere b None = Unit {0}
+IsHere b (Some s) = IsLive b s
+
+abbrev pub place_here : Body → Option ℕ → ℕ
+place_here b None = length b.gates
+place_here b (Some s) = place_of s b.slots
 
 abbrev pub IsWalked : Bool → ℕ → List Gate → List Gate → ℕ → ℕ → Type 0
 IsWalked false n old now turn i = (turn ≡ 0) × ((now ≡ old) × ((k j : ℕ) → k < i → ¬ (IsReducible now k j)))

@@ -15,8 +15,6 @@ mod reduction;
 mod search;
 mod walk;
 
-ghost use Rattle.std.specs.Prelude.{◌≡◌, ℕ};
-
 use circuit_list::{Circuit, Passed};
 use queue::Queue;
 use rewrite_pass::{KeepsPairs, Pass, Shrinks};
@@ -50,6 +48,8 @@ impl Pass for CancelPass {
             };
             let rest = walk_queue(alloc, &mut body, &mut queue)?;
             turn = turn_sum(turn, turn_sum(more, rest));
+            // the queue is empty, so no slot is kept anywhere
+            body.compact()?;
         }
     }
 }

@@ -11,17 +11,20 @@ ghost use Rattle.circuit_list.specs.Slots.{IsLive, is_on_at, place_of};
 ghost use Rattle.commute_rules.specs.Reducible.{IsReducible};
 
 use crate::search::{is_partner, wires_of};
-use circuit_list::{Circuit, Gate, Slot};
+use circuit_list::{Circuit, Gate, MOST_WIRES, Slot};
 use commute_rules::commute;
 use std::alloc::{AllocError, Global};
 use std::mem;
+
+/// The most wires of a circuit.
+const WIRES: usize = MOST_WIRES as usize;
 
 /// The slots to visit in the next walk, in no order; a slot may stand in it twice.
 #[derive(Drop)]
 pub(crate) struct Queue {
     slots: Vec<Slot>,
     /// For each wire the last slot noted along it; what stands before it in its run is noted too, as far as need be.
-    noted: [Option<Slot>; 64],
+    noted: [Option<Slot>; WIRES],
 }
 
 impl Queue {
@@ -29,13 +32,13 @@ impl Queue {
     pub(crate) fn new(alloc: Global) -> Queue {
         Queue {
             slots: Vec::new(alloc),
-            noted: [None; 64],
+            noted: [None; WIRES],
         }
     }
 
     /// The slots in order, which leaves none.
     pub(crate) fn take(&mut self, alloc: Global) -> Vec<Slot> {
-        let none = [None; 64];
+        let none = [None; WIRES];
         self.noted = none;
         let mut slots = mem::replace(&mut self.slots, Vec::new(alloc));
         slots.sort_unstable();
@@ -96,7 +99,7 @@ impl Queue {
         requires on { is_on_at wire body.now.gates (place_of front body.now.slots) ≡ true }
     {
         let gate = body.gate_at(front);
-        let index = (wire % 64) as usize;
+        let index = wire as usize % WIRES;
         let before = self.noted[index];
         self.noted[index] = Some(front);
         let mut kinds = kind(gate, wire);
@@ -124,7 +127,7 @@ fn kind(gate: Gate, wire: u32) -> u64 {
         Gate::H { q } | Gate::X { q } | Gate::P { k: _, q } => q,
         Gate::Cx { c, t } => { if c == wire { t } else { c } }
     };
-    1 << (other % 64)
+    1 << (other % MOST_WIRES)
 }
 
 /// Whether a slot isn't behind the last one noted.

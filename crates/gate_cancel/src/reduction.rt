@@ -6,7 +6,7 @@ ghost use Rattle.commute_rules.specs.Cancels.{with_phase};
 ghost use Rattle.commute_rules.specs.Reducible.{IsReducible};
 ghost use Rattle.gate_cancel.specs.declared.search.Reach.{Reach};
 ghost use Rattle.gate_cancel.specs.Reaches.{IsReach};
-ghost use Rattle.gate_cancel.specs.Reductions.{IsOutcome, IsReduced, IsSettled};
+ghost use Rattle.gate_cancel.specs.Reductions.{IsOutcome, IsReduced, IsSettled, IsStanding};
 
 use crate::queue::Queue;
 use crate::search::{Reach, search};
@@ -75,6 +75,7 @@ pub(crate) fn settle(
     requires { IsLive body.old slot }
     ensures wires { IfOk result (λ s. body.new.wires ≡ body.old.wires) }
     ensures settled { IfOk result (IsSettled body.old.wires body.old.gates body.new.gates (place_of slot body.old.slots)) }
+    ensures live { IfOk result (λ s. IsStanding s body.old body.new slot) }
 {
     let mut reach = Reach {
         first: slot,

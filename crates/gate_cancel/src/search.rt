@@ -1,27 +1,19 @@
 //! The partner of a gate, along the gate's own wires.
 
-ghost use Rattle.std.specs.Prelude.{◌≡◌, ℕ, ◌<◌, MatchOption, true};
-ghost use Rattle.circuit_list.specs.Gates.{is_on};
-ghost use Rattle.circuit_list.specs.Slots.{IsLive, place_of};
+ghost use Rattle.std.specs.Prelude.{◌≡◌, ℕ, MatchOption, Some, slice_get, true};
+ghost use Rattle.circuit_list.specs.Slots.{IsLive, IsNextOn, NoneBehind, is_on_at, place_of};
 ghost use Rattle.commute_rules.specs.Reducible.{IsReducible};
-ghost use Rattle.gate_cancel.specs.Reaches.{IsAhead, IsMet, IsReach, first_wire, is_partner, second_wire};
+ghost use Rattle.gate_cancel.specs.Reaches.{AreNext, IsAhead, IsKnown, IsKnownOn, IsReach, first_wire, is_partner, second_wire};
 
+use circuit_list::laws::slots_in_order;
 use circuit_list::{Circuit, Gate, Slot};
 use commute_rules::{Cancel, cancels, commute};
 
-/// How far a search has come on the gate's first wire, and on its second one.
+/// A slot on a gate's first wire, and one on its second wire, which is the first one again where it has one alone.
 #[derive(Clone, Copy)]
 pub(crate) struct Reach {
     pub(crate) first: Slot,
     pub(crate) second: Slot,
-}
-
-/// What the next gate on the wires is.
-#[derive(Clone, Copy)]
-pub(crate) enum Met {
-    Partner(Slot),
-    Passed(Reach),
-    Blocked,
 }
 
 /// The wires of a gate, the same one twice where it has one.
@@ -35,63 +27,68 @@ pub(crate) fn wires_of(gate: Gate) -> (u32, u32)
     }
 }
 
-/// The next gate on one of the wires, and the reach with it; none where one of the wires has no gate behind.
-fn ahead(body: &Circuit, slot: Slot, reach: &Reach) -> Option<(Slot, Reach)>
+/// The next gate on a wire behind a slot, where a known slot is that of the next gate, or the same slot.
+fn next_gate(body: &Circuit, slot: Slot, known: Slot, wire: u32) -> Option<Slot>
     requires live { IsLive body.now slot }
-    requires reach { IsReach body.now slot reach.now }
-    ensures { MatchOption result ((j : ℕ) → ¬ (IsReducible body.now.gates (place_of slot body.now.slots) j))
-        (λ p. IsAhead body.now slot reach.now p.0 p.1) }
+    requires on { is_on_at wire body.now.gates (place_of slot body.now.slots) ≡ true }
+    requires known_live { IsLive body.now known }
+    requires known { IsKnownOn wire body.now slot known }
+    ensures { MatchOption result (NoneBehind wire body.now.gates (place_of slot body.now.slots))
+        (λ t. IsLive body.now t × IsNextOn wire body.now.gates (place_of slot body.now.slots) (place_of t body.now.slots)) }
 {
-    let (first, second) = wires_of(body.gate_at(slot));
-    let Some(a) = body.next_on(reach.first, first) else {
-        return None;
-    };
-    let Some(b) = body.next_on(reach.second, second) else {
-        return None;
-    };
-    let place = body.place(a);
-    let other = body.place(b);
-    if place < other {
-        let further = Reach {
-            first: a,
-            second: reach.second,
-        };
-        return Some((a, further));
+    if slot == known {
+        body.next_on(slot, wire)
+    } else {
+        Some(known)
     }
-    if other < place {
-        let further = Reach {
-            first: reach.first,
-            second: b,
-        };
-        return Some((b, further));
-    }
-    Some((
-        a,
-        Reach {
-            first: a,
-            second: b,
-        },
-    ))
 }
 
-/// What the next gate on the wires is to the gate in a slot.
-fn meet(body: &Circuit, slot: Slot, reach: &Reach) -> Met
-    requires live { IsLive body.now slot }
+/// The next gate on each of the wires behind a reach; none where one of them has no gate behind. A known one is looked for
+/// only where the reach has come to it.
+fn next_gates(body: &Circuit, slot: Slot, gate: Gate, reach: &Reach, known: &Reach) -> Option<Reach>
+    requires gate { slice_get body.now.gates (place_of slot body.now.slots) ≡ Some gate }
     requires reach { IsReach body.now slot reach.now }
-    ensures { IsMet body.now slot reach.now result }
+    requires known { IsKnown body.now gate reach.now known.now }
+    ensures { MatchOption result ((j : ℕ) → ¬ (IsReducible body.now.gates (place_of slot body.now.slots) j))
+        (AreNext body.now gate reach.now) }
 {
-    let Some(found) = ahead(body, slot, reach) else {
-        return Met::Blocked;
-    };
-    let gate = body.gate_at(slot);
-    let other = body.gate_at(found.0);
-    if is_partner(gate, other) {
-        return Met::Partner(found.0);
+    let (wire, other) = wires_of(gate);
+    let first = next_gate(body, reach.first, known.first, wire)?;
+    if wire == other && reach.first == reach.second {
+        return Some(Reach {
+            first,
+            second: first,
+        });
     }
-    if commute(gate, other) {
-        return Met::Passed(found.1);
+    let second = next_gate(body, reach.second, known.second, other)?;
+    Some(Reach { first, second })
+}
+
+/// The nearer of the next gates, and the reach with it.
+fn ahead(body: &Circuit, slot: Slot, gate: Gate, reach: &Reach, next: &Reach) -> (Slot, Reach)
+    requires gate { slice_get body.now.gates (place_of slot body.now.slots) ≡ Some gate }
+    requires reach { IsReach body.now slot reach.now }
+    requires next { AreNext body.now gate reach.now next.now }
+    ensures { IsAhead body.now slot gate reach.now next.now result.0 result.1 }
+{
+    slots_in_order();
+    // it says that the slots ascend
+    let _wires = body.wires();
+    if next.first < next.second {
+        let further = Reach {
+            first: next.first,
+            second: reach.second,
+        };
+        return (next.first, further);
     }
-    Met::Blocked
+    if next.second < next.first {
+        let further = Reach {
+            first: reach.first,
+            second: next.second,
+        };
+        return (next.second, further);
+    }
+    (next.first, *next)
 }
 
 /// The partner of the gate in a slot, from a reach on, and the reach that the search comes to.
@@ -102,13 +99,23 @@ pub(crate) fn search(body: &Circuit, slot: Slot, reach: Reach) -> (Option<Slot>,
     ensures partner { MatchOption result.0 ((j : ℕ) → ¬ (IsReducible body.now.gates (place_of slot body.now.slots) j))
         (λ t. IsLive body.now t × IsReducible body.now.gates (place_of slot body.now.slots) (place_of t body.now.slots)) }
 {
+    let gate = body.gate_at(slot);
     let mut here = reach;
+    let mut known = reach;
     'along: loop {
-        match meet(body, slot, &here) {
-            Met::Partner(partner) => return (Some(partner), here),
-            Met::Blocked => return (None, here),
-            Met::Passed(further) => here = further,
+        let Some(next) = next_gates(body, slot, gate, &here, &known) else {
+            return (None, here);
+        };
+        let (found, further) = ahead(body, slot, gate, &here, &next);
+        let other = body.gate_at(found);
+        if is_partner(gate, other) {
+            return (Some(found), here);
         }
+        if !commute(gate, other) {
+            return (None, here);
+        }
+        here = further;
+        known = next;
     }
 }
 

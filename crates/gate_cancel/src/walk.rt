@@ -1,6 +1,6 @@
 //! Walks over a circuit: over all places, and over those of the queue.
 
-ghost use Rattle.std.specs.Prelude.{◌≡◌, ℕ, ◌≤◌, IfOk, MatchOption, length};
+ghost use Rattle.std.specs.Prelude.{◌≡◌, IfOk, MatchOption};
 ghost use Rattle.commute_rules.specs.Reducible.{NoReducible};
 ghost use Rattle.gate_cancel.specs.Reductions.{IsCancelled, IsReduced};
 
@@ -10,7 +10,7 @@ use circuit_list::{Circuit, Slot};
 use std::alloc::{AllocError, Global};
 use unitary_model::turn_sum;
 
-/// Goes from the first place to the last. Its turn, or none where no gate has a partner.
+/// Goes from the first gate to the last. Its turn, or none where no gate has a partner.
 pub(crate) fn walk_all(body: &mut Circuit, queue: &mut Queue) -> Result<Option<u8>, AllocError>
     ensures wires { IfOk result (λ o. body.new.wires ≡ body.old.wires) }
     ensures walked { IfOk result (λ o. MatchOption o (NoReducible body.new.gates × (body.new.gates ≡ body.old.gates))
@@ -18,18 +18,18 @@ pub(crate) fn walk_all(body: &mut Circuit, queue: &mut Queue) -> Result<Option<u
 {
     let mut changed = false;
     let mut turn = 0;
-    let mut place = 0;
-    'places: while place < body.len() {
-        let slot = body.slot(place);
+    let mut here = body.first();
+    'slots: while let Some(slot) = here {
         match settle(body, slot, queue)? {
-            Settled::Same => place += 1,
+            Settled::Same => here = body.after(slot),
             Settled::Merged => {
                 changed = true;
-                place += 1;
+                here = body.after(slot);
             }
             Settled::Gone { turn: more } => {
                 changed = true;
                 turn = turn_sum(turn, more);
+                here = body.slot_from(slot);
             }
         }
     }
@@ -77,11 +77,9 @@ fn revisit(body: &mut Circuit, slot: Slot, queue: &mut Queue) -> Result<u8, Allo
     ensures wires { IfOk result (λ t. body.new.wires ≡ body.old.wires) }
     ensures cancelled { IfOk result (IsCancelled body.old.wires body.old.gates body.new.gates) }
 {
-    let place = place_in(body, slot);
-    if place == body.len() {
+    let Some(here) = body.slot_from(slot) else {
         return Ok(0);
-    }
-    let here = body.slot(place);
+    };
     if here != slot {
         return Ok(0);
     }
@@ -90,21 +88,4 @@ fn revisit(body: &mut Circuit, slot: Slot, queue: &mut Queue) -> Result<u8, Allo
         Settled::Merged => Ok(0),
         Settled::Gone { turn } => Ok(turn),
     }
-}
-
-/// The first place whose slot isn't before a slot, which may be gone.
-fn place_in(body: &Circuit, slot: Slot) -> usize
-    ensures { result ≤ length body.now.gates }
-{
-    let mut low = 0;
-    let mut high = body.len();
-    'halves: while low < high {
-        let middle = low + (high - low) / 2;
-        if body.slot(middle) < slot {
-            low = middle + 1;
-        } else {
-            high = middle;
-        }
-    }
-    low
 }

@@ -5,7 +5,11 @@
 --   surrounded_found        H on both wires of a CNOT, in order
 --   conjugated_found        H and phases around the target of a CNOT
 --   window_found            what was found is a window
---   no_window               where none of the seven windows begins
+--   follows_one             one gate follows another on a wire
+--   same_middle, no_control, no_target    the CNOT between four H, and that an H is missing behind it
+--   opening                 what stands behind the first H of a window
+--   only_cnot, no_middle, no_third        where none of the seven windows begins
+--   by_cnot, by_phase       the same, or what was found instead
 use Rattle.std.proofs.Common.{◌≡◌, ◌≢◌, ◌⊎◌, inl, inr, ℕ, ◌-◌, ◌<◌, ◌≤◌, ◌||◌, ◌==◌, Bool, true, false, List, refl, sym, subst, ◌∙◌, ap, arith, Option, Some, None, MatchOption, All, eq-eqb}
 use Rattle.std.specs.Prelude.{min, max}
 use Rattle.std.proofs.lemmas.Bool.{eqb-true}
@@ -14,10 +18,11 @@ use Rattle.std.proofs.lemmas.Option.{get_or_from_slice_get, slice_get_within}
 use Rattle.circuit_list.specs.declared.Gate.{Gate}
 use Rattle.circuit_list.specs.declared.Gate.TheVariants.{H, X, P, Cx}
 use Rattle.circuit_list.specs.Gates.{IsFine, is_on}
-use Rattle.circuit_list.specs.Slots.{IsPrevOn, is_on_at, is_on_some}
-use Rattle.hadamard_reduce.specs.Found.{Quiet, Others, IsFound, IsTurnedAt, IsConjugatedAt, IsSurroundedAt}
+use Rattle.circuit_list.specs.Slots.{IsNextOn, IsPrevOn, is_on_at, is_on_some}
+use Rattle.hadamard_reduce.specs.Found.{gate_between, Quiet, Others, IsFound, IsTurnedAt, IsConjugatedAt, IsSurroundedAt}
 use Rattle.hadamard_reduce.specs.Windows.{At, Follows, IsTurned, IsConjugated, IsSurrounded, IsWindow}
 use Rattle.hadamard_reduce.specs.Windows.IsWindow.{HadSHad, HadSdgHad, HadZHad, HadXHad, FourHads, SCxSdg, SdgCxS}
+use Rattle.hadamard_reduce.specs.declared.window.Middle.{Middle}
 use Rattle.hadamard_reduce.specs.declared.window.Middle.TheVariants.{S, Sdg, Z, Not}
 use Rattle.hadamard_reduce.specs.declared.window.Window.{Window}
 use Rattle.hadamard_reduce.specs.declared.window.Window.TheVariants.{Turned, Surrounded, Conjugated}
@@ -257,17 +262,142 @@ window_found gs i (Conjugated k t a b e) h = go h.phase
     go (inr x) = SdgCxS (subst (λ n. IsConjugated n gs i) x is)
 
 -- ---- where there is none
-pub no_window : (gs : List Gate) (i : ℕ) → (IsTurned (P 2) gs i → ⊥) → (IsTurned (P 6) gs i → ⊥) → (IsTurned (P 4) gs i → ⊥) → (IsTurned X gs i → ⊥)
-    → (IsSurrounded gs i → ⊥) → (IsConjugated 2 gs i → ⊥) → (IsConjugated 6 gs i → ⊥) → IsWindow gs i → ⊥
-no_window gs i a b c d e f g (HadSHad w) = a w
-no_window gs i a b c d e f g (HadSdgHad w) = b w
-no_window gs i a b c d e f g (HadZHad w) = c w
-no_window gs i a b c d e f g (HadXHad w) = d w
-no_window gs i a b c d e f g (FourHads w) = e w
-no_window gs i a b c d e f g (SCxSdg w) = f w
-no_window gs i a b c d e f g (SdgCxS w) = g w
+next_unique : (w : ℕ) (gs : List Gate) (i j k : ℕ) → IsNextOn w gs i j → IsNextOn w gs i k → j ≡ k
+next_unique w gs i j k n m = go (order j k)
+  where
+    clash : (x : ℕ) → is_on_at w gs x ≡ true → is_on_at w gs x ≡ false → ⊥
+    clash x e f = cc
 
--- the last of seven tries tells
-pub last_try : (A B : Type 0) (Q : Window → Type 0) (r : Option Window) → ((A → ⊥) → B → ⊥) → MatchOption r (A → ⊥) Q → MatchOption r (B → ⊥) Q
-last_try A B Q None f h = f h
-last_try A B Q (Some w) f h = h
+    go : (j < k) ⊎ ((j ≡ k) ⊎ (k < j)) → j ≡ k
+    go (inl lt) = absurd (clash j n.on (m.none j n.behind lt))
+    go (inr (inl e)) = e
+    go (inr (inr gt)) = absurd (clash k m.on (n.none k m.behind gt))
+
+-- one gate follows another on a wire
+pub follows_one : (w : ℕ) (gs : List Gate) (i : ℕ) (g h : Gate) (j k : ℕ) → Follows w gs i g j → Follows w gs i h k → (j ≡ k) × (g ≡ h)
+follows_one w gs i g h j k f f' =
+    let e : j ≡ k = next_unique w gs i j k f.next f'.next in
+    (e, same_gate gs k g h (subst (λ n. At gs n g) e f.there) f'.there)
+
+-- of the H before a CNOT the first begins the window
+pub same_middle : (gs : List Gate) (i q c t m : ℕ) → At gs i (H q) → Follows q gs i (Cx c t) m → (w : IsSurrounded gs i) → (w.m ≡ m) × ((w.c ≡ c) × (w.t ≡ t))
+same_middle gs i q c t m first f w = go (begins_at w.a w.b w.begins)
+  where
+    cnots : (a b d e : ℕ) → Cx a b ≡ Cx d e → (a ≡ d) × (b ≡ e)
+    cnots a b d e x = (cc, cc)
+
+    begins_at : (a b : ℕ) → i ≡ min a b → (i ≡ a) ⊎ (i ≡ b)
+    begins_at a b e = grind arith
+
+    on : (n p : ℕ) → i ≡ p → At gs p (H n) → Follows n gs p (Cx w.c w.t) w.m → (w.m ≡ m) × ((w.c ≡ c) × (w.t ≡ t))
+    on n p e h g =
+        let wire : n ≡ q = same_wire n q (same_gate gs i (H n) (H q) (subst (λ k. At gs k (H n)) (sym e) h) first) in
+        let one = follows_one q gs i (Cx w.c w.t) (Cx c t) w.m m (subst (λ k. Follows k gs i (Cx w.c w.t) w.m) wire (subst (λ k. Follows n gs k (Cx w.c w.t) w.m) (sym e) g)) f in
+        (one.0, cnots w.c w.t c t one.1)
+
+    go : (i ≡ w.a) ⊎ (i ≡ w.b) → (w.m ≡ m) × ((w.c ≡ c) × (w.t ≡ t))
+    go (inl e) = on w.c w.a e w.control_before w.middle_control
+    go (inr e) = on w.t w.b e w.target_before w.middle_target
+
+pub no_control : (gs : List Gate) (i q c t m : ℕ) → At gs i (H q) → Follows q gs i (Cx c t) m → ((j : ℕ) → Follows c gs m (H c) j → ⊥) → IsSurrounded gs i → ⊥
+no_control gs i q c t m first f none w =
+    let s = same_middle gs i q c t m first f w in
+    none w.d (subst (λ k. Follows c gs k (H c) w.d) s.0 (subst (λ k. Follows k gs w.m (H k) w.d) s.1.0 w.control_behind))
+
+pub no_target : (gs : List Gate) (i q c t m : ℕ) → At gs i (H q) → Follows q gs i (Cx c t) m → ((j : ℕ) → Follows t gs m (H t) j → ⊥) → IsSurrounded gs i → ⊥
+no_target gs i q c t m first f none w =
+    let s = same_middle gs i q c t m first f w in
+    none w.e (subst (λ k. Follows t gs k (H t) w.e) s.0 (subst (λ k. Follows k gs w.m (H k) w.e) s.1.1 w.target_behind))
+
+-- what stands behind the H that a window begins with
+pub data Opening (gs : List Gate) (q i : ℕ) (g : Gate) (j : ℕ) : Type 0 where
+  ByGate : (m : Middle) (k : ℕ) → g ≡ gate_between m q → Follows q gs j (H q) k → Opening gs q i g j
+  ByCnot : (c t : ℕ) → g ≡ Cx c t → IsSurrounded gs i → Opening gs q i g j
+  ByPhase : (k c m : ℕ) → (k ≡ 2) ⊎ (k ≡ 6) → g ≡ P k q → Follows q gs j (Cx c q) m → IsConjugated k gs i → Opening gs q i g j
+
+turned_opens : (middle : Middle) (gs : List Gate) (q i : ℕ) (g : Gate) (j : ℕ) → At gs i (H q) → Follows q gs i g j → IsTurned (gate_between middle) gs i → Opening gs q i g j
+turned_opens middle gs q i g j first f w =
+    let wire : w.q ≡ q = same_wire w.q q (same_gate gs i (H w.q) (H q) w.first first) in
+    let one = follows_one q gs i g (gate_between middle q) j w.j f (subst (λ n. Follows n gs i (gate_between middle n) w.j) wire w.second) in
+    ByGate middle w.k one.1 (subst (λ n. Follows q gs n (H q) w.k) (sym one.0) (subst (λ n. Follows n gs w.j (H n) w.k) wire w.third))
+
+conjugated_opens : (k : ℕ) (gs : List Gate) (q i : ℕ) (g : Gate) (j : ℕ) → (k ≡ 2) ⊎ (k ≡ 6) → At gs i (H q) → Follows q gs i g j → IsConjugated k gs i → Opening gs q i g j
+conjugated_opens k gs q i g j phase first f w =
+    let wire : w.t ≡ q = same_wire w.t q (same_gate gs i (H w.t) (H q) w.first first) in
+    let one = follows_one q gs i g (P k q) j w.a f (subst (λ n. Follows n gs i (P k n) w.a) wire w.second) in
+    ByPhase k w.c w.m phase one.1 (subst (λ n. Follows q gs n (Cx w.c q) w.m) (sym one.0) (subst (λ n. Follows n gs w.a (Cx w.c n) w.m) wire w.third)) w
+
+surrounded_opens : (gs : List Gate) (q i : ℕ) (g : Gate) (j : ℕ) → At gs i (H q) → Follows q gs i g j → IsSurrounded gs i → Opening gs q i g j
+surrounded_opens gs q i g j first f w = ByCnot w.c w.t (go (begins_at w.a w.b w.begins)) w
+  where
+    begins_at : (a b : ℕ) → i ≡ min a b → (i ≡ a) ⊎ (i ≡ b)
+    begins_at a b e = grind arith
+
+    on : (n p : ℕ) → i ≡ p → At gs p (H n) → Follows n gs p (Cx w.c w.t) w.m → g ≡ Cx w.c w.t
+    on n p e h k =
+        let wire : n ≡ q = same_wire n q (same_gate gs i (H n) (H q) (subst (λ z. At gs z (H n)) (sym e) h) first) in
+        (follows_one q gs i g (Cx w.c w.t) j w.m f (subst (λ z. Follows z gs i (Cx w.c w.t) w.m) wire (subst (λ z. Follows n gs z (Cx w.c w.t) w.m) (sym e) k))).1
+
+    go : (i ≡ w.a) ⊎ (i ≡ w.b) → g ≡ Cx w.c w.t
+    go (inl e) = on w.c w.a e w.control_before w.middle_control
+    go (inr e) = on w.t w.b e w.target_before w.middle_target
+
+pub opening : (gs : List Gate) (q i : ℕ) (g : Gate) (j : ℕ) → At gs i (H q) → Follows q gs i g j → IsWindow gs i → Opening gs q i g j
+opening gs q i g j first f (HadSHad w) = turned_opens S gs q i g j first f w
+opening gs q i g j first f (HadSdgHad w) = turned_opens Sdg gs q i g j first f w
+opening gs q i g j first f (HadZHad w) = turned_opens Z gs q i g j first f w
+opening gs q i g j first f (HadXHad w) = turned_opens Not gs q i g j first f w
+opening gs q i g j first f (FourHads w) = surrounded_opens gs q i g j first f w
+opening gs q i g j first f (SCxSdg w) = conjugated_opens 2 gs q i g j (inl refl) first f w
+opening gs q i g j first f (SdgCxS w) = conjugated_opens 6 gs q i g j (inr refl) first f w
+
+not_cnot : (m : Middle) (q c t : ℕ) → gate_between m q ≡ Cx c t → ⊥
+not_cnot S q c t e = cc
+not_cnot Sdg q c t e = cc
+not_cnot Z q c t e = cc
+not_cnot Not q c t e = cc
+
+-- a CNOT behind the H
+pub only_cnot : (gs : List Gate) (q i c t j : ℕ) → At gs i (H q) → Follows q gs i (Cx c t) j → (IsSurrounded gs i → ⊥) → IsWindow gs i → ⊥
+only_cnot gs q i c t j first f none w = go (opening gs q i (Cx c t) j first f w)
+  where
+    go : Opening gs q i (Cx c t) j → ⊥
+    go (ByGate m k e g) = not_cnot m q c t (sym e)
+    go (ByCnot a b e s) = none s
+    go (ByPhase k a m p e g s) = cc
+
+-- no gate that opens a window
+pub no_middle : (gs : List Gate) (q i : ℕ) (g : Gate) (j : ℕ) → At gs i (H q) → Follows q gs i g j → ((c t : ℕ) → g ≡ Cx c t → ⊥) → ((m : Middle) (r : ℕ) → g ≡ gate_between m r → ⊥) → IsWindow gs i → ⊥
+no_middle gs q i g j first f cnot none w = go (opening gs q i g j first f w)
+  where
+    go : Opening gs q i g j → ⊥
+    go (ByGate m k e h) = none m q e
+    go (ByCnot c t e s) = cnot c t e
+    go (ByPhase k c m (inl p) e h s) = none S q (e ∙ ap (λ n. P n q) p)
+    go (ByPhase k c m (inr p) e h s) = none Sdg q (e ∙ ap (λ n. P n q) p)
+
+-- a gate of the table behind the H, and neither an H nor a CNOT behind it
+pub no_third : (gs : List Gate) (q i : ℕ) (middle : Middle) (j : ℕ) → At gs i (H q) → Follows q gs i (gate_between middle q) j → ((k : ℕ) → Follows q gs j (H q) k → ⊥)
+    → ((k c m : ℕ) → (k ≡ 2) ⊎ (k ≡ 6) → gate_between middle q ≡ P k q → Follows q gs j (Cx c q) m → IsConjugated k gs i → ⊥) → IsWindow gs i → ⊥
+no_third gs q i middle j first f hads cnots w = go (opening gs q i (gate_between middle q) j first f w)
+  where
+    go : Opening gs q i (gate_between middle q) j → ⊥
+    go (ByGate m k e h) = hads k h
+    go (ByCnot c t e s) = not_cnot middle q c t e
+    go (ByPhase k c m p e h s) = cnots k c m p e h s
+
+-- ---- with what was found instead
+pub by_cnot : (gs : List Gate) (q i c t j : ℕ) (r : Option Window) → At gs i (H q) → Follows q gs i (Cx c t) j → MatchOption r (IsSurrounded gs i → ⊥) (IsFound gs i)
+    → MatchOption r (IsWindow gs i → ⊥) (IsFound gs i)
+by_cnot gs q i c t j None first f h = only_cnot gs q i c t j first f h
+by_cnot gs q i c t j (Some w) first f h = h
+
+same_phase : (k m q : ℕ) → P k q ≡ P m q → k ≡ m
+same_phase k m q e = cc
+
+pub by_phase : (gs : List Gate) (q i : ℕ) (middle : Middle) (k j : ℕ) (g : Gate) (m : ℕ) (r : Option Window) → At gs i (H q) → Follows q gs i (gate_between middle q) j → gate_between middle q ≡ P k q
+    → Follows q gs j g m → (g ≡ H q → ⊥) → MatchOption r (IsConjugated k gs i → ⊥) (IsFound gs i) → MatchOption r (IsWindow gs i → ⊥) (IsFound gs i)
+by_phase gs q i middle k j g m None first f e third other h = no_third gs q i middle j first f
+    (λ n d. other (follows_one q gs j g (H q) m n third d).1)
+    (λ n c d p e' d' w. h (subst (λ z. IsConjugated z gs i) (same_phase n k q (sym e' ∙ e)) w))
+by_phase gs q i middle k j g m (Some w) first f e third other h = h

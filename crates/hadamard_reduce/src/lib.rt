@@ -44,6 +44,7 @@ impl Rule for HadamardRules {
     ghost window = { IsWindow };
 
     fn at(&self, body: &Circuit, place: usize) -> Option<Change> {
+        // it says that the gates are fine, and the slots in order
         let _wires = body.wires();
         let window = window_at(body, place)?;
         Some(change_of(place, window))

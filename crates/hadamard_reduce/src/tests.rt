@@ -264,3 +264,101 @@ fn sweeps_all_windows_away(rt: HostRuntime) -> Result<(), Fail> {
     }
     Ok(())
 }
+
+/// Numbers that look random, the same at each run.
+#[derive(Drop)]
+struct Random {
+    state: u64,
+}
+
+impl Random {
+    fn below(&mut self, limit: u64) -> u32
+        requires positive { 0 < limit }
+        requires few { limit < 1000 }
+        ensures { result < limit }
+    {
+        self.state = self
+            .state
+            .wrapping_mul(6364136223846793005)
+            .wrapping_add(1442695040888963407);
+        ((self.state >> 33) % limit) as u32
+    }
+
+    /// A gate on three wires, more often H than not, and S or its inverse more often than another phase.
+    fn gate(&mut self) -> Gate {
+        let q = self.below(3);
+        match self.below(12) {
+            0 => Gate::X { q },
+            1 => Gate::P {
+                k: self.below(7) as u8 + 1,
+                q,
+            },
+            2 => Gate::P { k: 2, q },
+            3 => Gate::P { k: 6, q },
+            4 | 5 | 6 => Gate::Cx {
+                c: q,
+                t: (q + 1 + self.below(2)) % 3,
+            },
+            _ => Gate::H { q },
+        }
+    }
+}
+
+/// Walks over each place in order, at the same place again after a change, until a walk changes nothing. Their turn.
+fn swept_plainly(rt: &impl Abort, body: &mut Circuit) -> u8
+    requires { body.old.wires ≡ 3 }
+    ensures { body.new.wires ≡ 3 }
+{
+    let mut turn = 0;
+    'walks: for _ in 0..u64::MAX {
+        let mut changed = false;
+        let mut place = 0;
+        'places: for _ in 0..u64::MAX {
+            if place >= body.len() {
+                break;
+            }
+            match HadamardRules.at(body, place) {
+                Some(change) => {
+                    make(rt, body, &change);
+                    assert!(rt; change.turn < 8);
+                    turn = (turn + change.turn) % 8;
+                    changed = true;
+                }
+                None => place += 1,
+            }
+        }
+        if !changed {
+            break;
+        }
+    }
+    turn
+}
+
+/// Random circuits on three wires: the list and the turn are those of the plain walks.
+#[test]
+fn sweeps_as_the_plain_walks_do(rt: HostRuntime) -> Result<(), Fail> {
+    let alloc = rt.alloc();
+    let mut random = Random { state: 1 };
+    let mut changed = 0u64;
+    'circuits: for _ in 0..200 {
+        let mut body = Circuit::empty(alloc, 3)?;
+        'gates: for _ in 0..80 {
+            let gate = random.gate();
+            assert!(rt; is_fine(gate));
+            body.push(gate)?;
+        }
+        let before = body.count_h();
+        let mut plain = body.copy()?;
+        let turn = swept_plainly(&rt, &mut plain);
+        let passed = HadamardPass.run(alloc, body)?;
+        assert_eq!(rt; passed.turn, turn);
+        let made = told(alloc, &passed.body)?;
+        let want = told(alloc, &plain)?;
+        assert_eq!(rt; made.as_str(), want.as_str());
+        if plain.count_h() < before {
+            changed = changed.wrapping_add(1);
+        }
+    }
+    assert!(rt; changed > 150);
+    Ok(())
+}

@@ -1,4 +1,3 @@
 pub mod RewritingLaws
 pub mod EditLaws
 pub mod MakeLaws
-pub mod FlipLaws

@@ -12,7 +12,7 @@ use std::alloc::{AllocError, Global};
 use unitary_model::turn_sum;
 
 /// One pass after another. The results have the shape of the second.
-#[derive(Drop)]
+#[derive(Clone, Debug, Drop)]
 pub struct Then<A, B>(pub A, pub B);
 
 impl<A: Pass, B: Pass> Pass for Then<A, B> {
@@ -31,8 +31,9 @@ impl<A: Pass, B: Pass> Pass for Then<A, B> {
     }
 }
 
-/// A pass again and again, while that makes the circuit smaller: the last result that has fewer gates than the one before.
-#[derive(Drop)]
+/// A pass once, and then again while that makes the circuit smaller. Of the results, of which the first always counts, it is
+/// the last that has fewer gates than the one before.
+#[derive(Clone, Debug, Drop)]
 pub struct WhileSmaller<P>(pub P);
 
 impl<P: Pass> Pass for WhileSmaller<P> {
@@ -69,7 +70,7 @@ fn smallest<P: Pass>(alloc: Global, pass: &P, body: Circuit) -> Result<Passed, A
 
 /// A rule's sweep and two passes, again and again, until the passes leave as many gates as the sweep did. Nothing is left to
 /// do then: no window, and each pass's shape.
-#[derive(Drop)]
+#[derive(Clone, Debug, Drop)]
 pub struct Settle<R, A, B>(pub R, pub A, pub B);
 
 impl<R: Rule, A: Shrinks, B: Shrinks> Pass for Settle<R, A, B> {

@@ -14,7 +14,7 @@ use unitary_model::turn_sum;
 /// The pass that makes the changes of a rule until it finds no window at any place. It walks from the first place to the last,
 /// goes on at the same place after a change, and walks again until one walk changes nothing; places whose gates are as they
 /// were when the rule found no window there are passed over (cf. Nam et al. 2018, section 4.1).
-#[derive(Drop)]
+#[derive(Clone, Debug, Drop)]
 pub struct Sweep<R>(pub R);
 
 impl<R: Rule> Pass for Sweep<R> {
@@ -43,7 +43,8 @@ pub(crate) fn swept_by<R: Rule>(
     let mut body = body;
     let mut turn = 0;
     let mut walks = Walks::new(alloc);
-    'changes: while let Some(found) = walks.find(rule, &body) {
+    body.compact()?;
+    'changes: while let Some(found) = walks.find(rule, &mut body)? {
         walks.note(&body, &found)?;
         make_change(&mut body, &found.change);
         turn = turn_sum(turn, found.change.turn);

@@ -1,6 +1,6 @@
 ghost use Rattle.std.specs.Prelude.{◌≡◌, ℕ, ◌<◌, IfOk};
 ghost use Rattle.circuit_list.specs.Gates.{IsFine};
-ghost use Rattle.rewrite_pass.specs.Flips.{IsFlip, flipped, turn_of};
+ghost use Rattle.rewrite_pass.specs.tests.Flips.{IsFlip, flipped, turn_of};
 ghost use Rattle.rewrite_pass.specs.Law.{IsSmallerOrSame, KeepsCnots};
 
 use crate::make::make_change;

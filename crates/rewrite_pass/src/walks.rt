@@ -1,13 +1,12 @@
 //! Which places a sweep looks at.
 
-ghost use Rattle.std.specs.Prelude.{◌≡◌, ℕ, ◌+◌, ◌<◌, ◌≤◌, length, true, IfSome, IfNone};
-ghost use Rattle.circuit_list.specs.Gates.{is_on};
+ghost use Rattle.std.specs.Prelude.{◌≡◌, ℕ, ◌+◌, ◌<◌, ◌≤◌, length, true, IfOk, IfSome, IfNone};
 ghost use Rattle.circuit_list.specs.Slots.{IsLive, is_on_at, place_of};
 ghost use Rattle.rewrite_pass.specs.Edits.{IsChange};
 ghost use Rattle.rewrite_pass.specs.Gain.{IsGain};
 
 use crate::rule::{Change, Rule};
-use circuit_list::{Circuit, Gate, Slot};
+use circuit_list::{Circuit, Slot};
 use std::alloc::{AllocError, Global};
 use std::collections::BTreeSet;
 
@@ -47,30 +46,40 @@ impl Walks {
     }
 
     /// The next window. Where no slot is left to look at, one more walk looks at every place; none there is none anywhere.
-    pub(crate) fn find<R: Rule>(&mut self, rule: &R, body: &Circuit) -> Option<Found>
-        ensures some { IfSome result (λ f. (f.place < length body.now.gates) × IsGain body.now.wires body.now.gates f.change) }
-        ensures none { IfNone result ((i : ℕ) → i < length body.now.gates → R.window body.now.gates i → ⊥) }
+    pub(crate) fn find<R: Rule>(
+        &mut self,
+        rule: &R,
+        body: &mut Circuit,
+    ) -> Result<Option<Found>, AllocError>
+        ensures wires { IfOk result (λ o. body.new.wires ≡ body.old.wires) }
+        ensures gates { IfOk result (λ o. body.new.gates ≡ body.old.gates) }
+        ensures some { IfOk result (λ o. IfSome o (λ f. (f.place < length body.new.gates) × IsGain body.new.wires body.new.gates f.change)) }
+        ensures none { IfOk result (λ o. IfNone o ((i : ℕ) → i < length body.new.gates → R.window body.new.gates i → ⊥)) }
     {
         if self.whole {
             let from = self.place;
             let found = window_from(rule, body, from);
             if let Some(window) = found {
                 self.place = window.place;
-                return found;
+                return Ok(found);
             }
             if from == 0 {
-                return None;
+                return Ok(None);
             }
             self.whole = false;
         }
         let found = self.find_listed(rule, body);
         if found.is_some() {
-            return found;
+            return Ok(found);
         }
         self.whole = true;
-        let window = window_from(rule, body, 0)?;
-        self.place = window.place;
-        Some(window)
+        // the walks have no slot now
+        body.compact()?;
+        let found = window_from(rule, body, 0);
+        if let Some(window) = found {
+            self.place = window.place;
+        }
+        Ok(found)
     }
 
     /// The next window that begins at a slot of the walks.
@@ -78,11 +87,13 @@ impl Walks {
         ensures some { IfSome result (λ f. (f.place < length body.now.gates) × IsGain body.now.wires body.now.gates f.change) }
     {
         'slots: while let Some(slot) = self.pop() {
-            let place = place_from(body, slot);
-            if place < body.len() {
-                if let Some(change) = rule.at(body, place) {
-                    return Some(Found { place, change });
-                }
+            // the gate may be gone since: the one behind it is looked at instead
+            let Some(here) = body.slot_from(slot) else {
+                continue;
+            };
+            let place = body.place(here);
+            if let Some(change) = rule.at(body, place) {
+                return Some(Found { place, change });
             }
         }
         None
@@ -112,7 +123,7 @@ impl Walks {
         'edits: for i in 0..found.change.count {
             let slot = body.slot(found.change.edits[i].place);
             self.note_back(body, slot, present, REACH)?;
-            let (first, second) = wires_of(body.gate_at(slot));
+            let (first, second) = body.gate_at(slot).wires();
             self.note_next(body, slot, first, present)?;
             if let Some(wire) = second {
                 self.note_next(body, slot, wire, present)?;
@@ -152,7 +163,7 @@ impl Walks {
         if reach == 0 {
             return Ok(());
         }
-        let (first, second) = wires_of(body.gate_at(slot));
+        let (first, second) = body.gate_at(slot).wires();
         if let Some(before) = body.prev_on(slot, first) {
             self.note_back(body, before, present, reach - 1)?;
         }
@@ -189,32 +200,4 @@ fn window_from<R: Rule>(rule: &R, body: &Circuit, from: usize) -> Option<Found>
         place += 1;
     }
     None
-}
-
-/// The first place whose slot is this one or a later one, and the number of gates where there is none.
-fn place_from(body: &Circuit, slot: Slot) -> usize
-    ensures { result ≤ length body.now.gates }
-{
-    let mut low = 0;
-    let mut high = body.len();
-    'halves: while low < high {
-        let middle = low + (high - low) / 2;
-        if body.slot(middle) < slot {
-            low = middle + 1;
-        } else {
-            high = middle;
-        }
-    }
-    low
-}
-
-/// The wires of a gate.
-fn wires_of(gate: Gate) -> (u32, Option<u32>)
-    ensures first { is_on result.0 gate ≡ true }
-    ensures second { IfSome result.1 (λ w. is_on w gate ≡ true) }
-{
-    match gate {
-        Gate::H { q } | Gate::X { q } | Gate::P { k: _, q } => (q, None),
-        Gate::Cx { c, t } => (c, Some(t)),
-    }
 }

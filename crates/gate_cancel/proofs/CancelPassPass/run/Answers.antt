@@ -1,4 +1,4 @@
-use Rattle.std.proofs.Common.{◌≡◌, subst, ◌∙◌, MatchOption}
+use Rattle.std.proofs.Common.{◌≡◌, subst, sym, ◌∙◌, MatchOption}
 use Rattle.commute_rules.specs.Reducible.{NoReducible}
 use Rattle.gate_cancel.specs.Reductions.{IsCancelled, IsReduced}
 use Rattle.gate_cancel.proofs.SettledLaws.{IsCancelled_trans, reduced-cancelled}
@@ -16,6 +16,7 @@ walks-preserved c =
     (subst (λ w. IsCancelled w now.gates all.gates c.in-Some.more) c.walks.invariant.wires (reduced-cancelled now.wires now.gates all.gates c.in-Some.more more))
     (subst (λ w. IsCancelled w all.gates last.gates c.in_ok-rest.rest) same c.in_ok-rest.ensures.cancelled) c.turn_sum.ensures.sum in
     record {
-      wires = c.in_ok-rest.ensures.wires ∙ same;
-      so_far = IsCancelled_trans n c.args.body.gates now.gates last.gates c.walks.turn c.turn_sum.result c.turn_sum-turn.result c.walks.invariant.so_far both c.turn_sum-turn.ensures.sum;
+      wires = c.compact.ensures.wires ∙ c.in_ok-rest.ensures.wires ∙ same;
+      so_far = subst (λ gs. IsCancelled n c.args.body.gates gs c.turn_sum-turn.result) (sym c.compact.ensures.gates)
+          (IsCancelled_trans n c.args.body.gates now.gates last.gates c.walks.turn c.turn_sum.result c.turn_sum-turn.result c.walks.invariant.so_far both c.turn_sum-turn.ensures.sum);
     }

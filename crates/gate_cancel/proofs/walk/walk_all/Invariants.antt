@@ -1,13 +1,14 @@
--- What the walk did so far; it ends since a place is left behind, or gates go.
-use Rattle.std.proofs.Common.{◌≡◌, ◌-◌, length}
-use Rattle.gate_cancel.specs.Reductions.{IsWalked}
+-- What the walk did so far; it ends since gates go, or one is left behind.
+use Rattle.std.proofs.Common.{◌≡◌, ◌+◌, ◌-◌, ◌*◌, length}
+use Rattle.gate_cancel.specs.Reductions.{IsHere, IsWalked, place_here}
 use Rattle.gate_cancel.proofs.walk.walk_all.Given as goal
 
-abbrev pub invariant-places : goal.invariant-places
-invariant-places l = record {
+abbrev pub invariant-slots : goal.invariant-slots
+invariant-slots l = record {
   wires : l.body.wires ≡ l.fn.body.wires;
-  so_far : IsWalked l.changed l.fn.body.wires l.fn.body.gates l.body.gates l.turn l.place;
+  here : IsHere l.body l.here;
+  so_far : IsWalked l.changed l.fn.body.wires l.fn.body.gates l.body.gates l.turn (place_here l.body l.here);
 }
 
-abbrev pub decreases-places : goal.decreases-places
-decreases-places l = length l.body.gates - l.place
+abbrev pub decreases-slots : goal.decreases-slots
+decreases-slots l = length l.body.gates * length l.body.gates + (length l.body.gates - place_here l.body l.here)

@@ -1,5 +1,5 @@
 use Rattle.std.proofs.Common.{arith}
-use Rattle.rewrite_pass.proofs.FlipLaws.{front_pair, pair_law, pair_shrinks, pair_keeps}
+use Rattle.rewrite_pass.proofs.tests.FlipLaws.{front_pair, pair_law, pair_shrinks, pair_keeps}
 use Rattle.rewrite_pass.proofs.tests.FirstPairPass.run.Goals as goal
 
 pub returns-clause-law : goal.returns-clause-law

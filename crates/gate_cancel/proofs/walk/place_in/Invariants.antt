@@ -1,8 +1,0 @@
-use Rattle.std.proofs.Common.{◌-◌, ◌≤◌, length}
-use Rattle.gate_cancel.proofs.walk.place_in.Given as goal
-
-abbrev pub invariant-halves : goal.invariant-halves
-invariant-halves l = record { order : l.low ≤ l.high; within : l.high ≤ length l.body.gates }
-
-abbrev pub decreases-halves : goal.decreases-halves
-decreases-halves l = l.high - l.low
