@@ -7,6 +7,7 @@
 --   IsSpread, ahead_at             a search with the next gates on both wires, and that the nearer one is ahead
 --   ahead_first, ahead_second, ahead_both     with the reach behind it
 --   nothing_first, nothing_second  a wire without a next gate
+--   stopped_first                  the next gate on the first wire neither commutes nor is the partner
 --   reducible, blocked             the gate ahead is the partner, or there is none
 --   reach_before                   a partner is behind the reach
 use Rattle.std.proofs.Common.{◌≡◌, ℕ, ◌<◌, ◌≤◌, Bool, true, false, List, Some, refl, sym, subst, ap, ◌∙◌, arith, inl, inr, slice_get}
@@ -159,6 +160,20 @@ nothing_second b s r g p there n j red =
     let i : ℕ = place_of s b.slots in
     let is : is_partner g red.second ≡ true = subst (λ z. is_partner z red.second ≡ true) (same_gate b.gates i red.first g red.at_first there) (cancels-partner red.first red.second red.cancel) in
     ended g (second_wire g) b.gates i (place_of r.second b.slots) j red.second (p.second g there) n red.before red.at_second (partner_second g red.second is) is
+
+pub stopped_first : (b : Body) (s : ℕ) (r : Reach) (g : Gate) (x : ℕ) (h : Gate) → IsReach b s r → slice_get b.gates (place_of s b.slots) ≡ Some g → IsNextOn (first_wire g) b.gates (place_of r.first b.slots) x → slice_get b.gates x ≡ Some h →
+    is_partner g h ≡ false → commutes g h ≡ false → (j : ℕ) → IsReducible b.gates (place_of s b.slots) j → ⊥
+stopped_first b s r g x h p there n f alone stops j red =
+    let i : ℕ = place_of s b.slots in
+    let here : red.first ≡ g = same_gate b.gates i red.first g red.at_first there in
+    let is : is_partner g red.second ≡ true = subst (λ z. is_partner z red.second ≡ true) here (cancels-partner red.first red.second red.cancel) in
+    let from = (p.first g there).from in
+    let behind = n.behind in
+    let le : x ≤ j = partner_behind g (first_wire g) b.gates i (place_of r.first b.slots) x j red.second (p.first g there) n red.before red.at_second (partner_first g red.second is) is in
+    elim (cases_lt x j) [
+      | inl l ↦ clash (commutes red.first h) (red.commute x h (omega arith) l f) (subst (λ z. commutes z h ≡ false) (sym here) stops)
+      | inr l ↦ clash (is_partner g h) (subst (λ z. is_partner g z ≡ true) (same_gate b.gates j red.second h red.at_second (ap (slice_get b.gates) (let q : j ≡ x = omega arith in q) ∙ f)) is) alone
+    ]
 
 pub reducible : (b : Body) (s : ℕ) (r n : Reach) (t : ℕ) (far : Reach) (g h : Gate) → IsAhead b s g r n t far → slice_get b.gates (place_of s b.slots) ≡ Some g → slice_get b.gates (place_of t b.slots) ≡ Some h →
     is_partner g h ≡ true → IsReducible b.gates (place_of s b.slots) (place_of t b.slots)

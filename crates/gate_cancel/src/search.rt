@@ -43,8 +43,8 @@ fn next_gate(body: &Circuit, slot: Slot, known: Slot, wire: u32) -> Option<Slot>
     }
 }
 
-/// The next gate on each of the wires behind a reach; none where one of them has no gate behind. A known one is looked for
-/// only where the reach has come to it.
+/// The next gate on each of the wires behind a reach; none where one of them has no gate behind, or where that on the first
+/// wire stops the gate. A known one is looked for only where the reach has come to it.
 fn next_gates(body: &Circuit, slot: Slot, gate: Gate, reach: &Reach, known: &Reach) -> Option<Reach>
     requires gate { slice_get body.now.gates (place_of slot body.now.slots) ≡ Some gate }
     requires reach { IsReach body.now slot reach.now }
@@ -59,6 +59,11 @@ fn next_gates(body: &Circuit, slot: Slot, gate: Gate, reach: &Reach, known: &Rea
             first,
             second: first,
         });
+    }
+    let met = body.gate_at(first);
+    if !commute(gate, met) && !is_partner(gate, met) {
+        // a partner is on both wires, and so behind this gate
+        return None;
     }
     let second = next_gate(body, reach.second, known.second, other)?;
     Some(Reach { first, second })
