@@ -14,6 +14,7 @@
 mod label;
 pub mod laws;
 mod odd_set;
+mod packed;
 mod walk;
 
 ghost use Rattle.std.specs.Prelude.{◌≡◌, ◌++◌, All, IfOk, OnOk, length, map};
@@ -39,7 +40,7 @@ pub struct Labels {
 /// the variables from n on. Fails for want of memory alone.
 pub fn labels_of(alloc: Global, circuit: &Circuit) -> Result<Labels, AllocError>
     ensures labels { IfOk result (λ ls. map label_of ls.list.items ≡ phase_labels circuit.now.gates (own_labels circuit.now.wires) circuit.now.wires) }
-    ensures increasing { IfOk result (λ ls. All IsLabel ls.list.items) }
+    ensures packed { IfOk result (λ ls. All IsLabel ls.list.items) }
 {
     let mut walk = Walk::new(alloc, circuit.wires())?;
     let mut list = Vec::new(alloc);
@@ -54,9 +55,9 @@ pub fn labels_of(alloc: Global, circuit: &Circuit) -> Result<Labels, AllocError>
 /// Puts the label at a P behind the others.
 fn note(alloc: Global, list: &mut Vec<Label>, walk: &Walk, gate: Gate) -> Result<(), AllocError>
     requires fine { IsFine (length walk.now.labels) gate }
-    requires increasing { All IsLabel list.old.items }
+    requires packed { All IsLabel list.old.items }
     ensures labels { OnOk result (map label_of list.new.items ≡ map label_of list.old.items ++ phase_label gate (labels_at walk.now)) }
-    ensures increasing { OnOk result (All IsLabel list.new.items) }
+    ensures packed { OnOk result (All IsLabel list.new.items) }
 {
     match gate {
         Gate::P { k: _, q } => {

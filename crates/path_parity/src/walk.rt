@@ -71,11 +71,11 @@ impl Walk {
         Ok(())
     }
 
-    /// The label of a wire, its variables increasing.
+    /// The label of a wire, its set packed.
     pub fn label(&self, q: u32) -> &Label
         requires { q < length self.now.labels }
         ensures label { label_of result.now ≡ labels_at self.now q }
-        ensures increasing { IsLabel result.now }
+        ensures packed { IsLabel result.now }
     {
         &self.labels[q as usize]
     }
@@ -85,7 +85,7 @@ impl Walk {
 fn first_labels(alloc: Global, wires: u32) -> Result<Vec<Label>, AllocError>
     ensures wires { IfOk result (λ v. length v.items ≡ wires) }
     ensures labels { IfOk result (λ v. labels_of_list (map label_of v.items) ≡ own_labels wires) }
-    ensures increasing { IfOk result (λ v. All IsLabel v.items) }
+    ensures packed { IfOk result (λ v. All IsLabel v.items) }
 {
     let mut labels = Vec::new(alloc);
     'wires: for q in 0..wires {

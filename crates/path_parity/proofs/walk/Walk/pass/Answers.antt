@@ -1,10 +1,9 @@
-use Rattle.std.proofs.Common.{◌≡◌, ◌<◌, ◌^◌, false, not, length, map, sym, subst, ◌∙◌, ap}
-use Rattle.std.specs.Int.Bits.{xor_zero_r}
+use Rattle.std.proofs.Common.{◌≡◌, ◌<◌, not, length, map, sym, subst, ◌∙◌, ap}
 use Rattle.circuit_list.specs.declared.Gate.{Gate}
 use Rattle.circuit_list.specs.Gates.{IsFine}
 use Rattle.path_parity.specs.LabelWalks.{LabelWalk, labels_at}
 use Rattle.path_parity.specs.PathSum.{label, add_labels, flipped, fresh, labels_after}
-use Rattle.path_parity.specs.Sets.{label_of, set_of}
+use Rattle.path_parity.specs.Sets.{label_of}
 use Rattle.path_parity.proofs.WalkLaws.{labels-get, walk-set}
 use Rattle.path_parity.proofs.walk.Walk.pass.Goals as goal
 
@@ -15,7 +14,7 @@ returns-in_ok-self-inside-in-H-clause-labels c =
     let h : c.in-H.q < length w.labels = subst (IsFine (length w.labels)) c.in-H.is c.requires.fine in
     let n : c.self.inside.unused ≡ w.unused = ap (λ (z : LabelWalk). z.unused) c.self.view_is in
     let l : label_of c.in_ok-self-inside-in-H.field-0 ≡ fresh w.unused =
-    (λ i. label (set_of (c.in_ok-self-inside-in-H.ensures.items i)) (c.in_ok-self-inside-in-H.ensures.bit i)) ∙ (λ i. label (xor_zero_r (2 ^ n i) i) false) in
+    c.in_ok-self-inside-in-H.ensures.label ∙ ap fresh n in
     walk-set label_of c.self.inside.labels.items w c.in-H.q c.in_ok-self-inside-in-H.field-0 (fresh w.unused) e h l
     ∙ ap (λ (g : Gate). labels_after g (labels_at w) w.unused) (sym c.in-H.is)
 
@@ -26,7 +25,7 @@ returns-in-X-clause-labels c =
     let h : c.in-X.q < length w.labels = subst (IsFine (length w.labels)) c.in-X.is c.requires.fine in
     let a : label_of c.index_mut-in-X.result.now ≡ labels_at w c.in-X.q = labels-get label_of c.self.inside.labels.items w c.in-X.q c.index_mut-in-X.result.now e h c.index_mut-in-X.ensures.value in
     let b : label_of c.index.result.now ≡ labels_at w c.in-X.q = labels-get label_of c.self.inside.labels.items w c.in-X.q c.index.result.now e h c.index.ensures in
-    walk-set label_of c.self.inside.labels.items w c.in-X.q (record { variables = c.index_mut-in-X.result.now.variables; bit = not c.index.result.now.bit }) (flipped (labels_at w c.in-X.q)) e h
+    walk-set label_of c.self.inside.labels.items w c.in-X.q (record { set = c.index_mut-in-X.result.now.set; bit = not c.index.result.now.bit }) (flipped (labels_at w c.in-X.q)) e h
     (λ i. label (a i).variables (not (b i).bit))
     ∙ ap (λ (g : Gate). labels_after g (labels_at w) w.unused) (sym c.in-X.is)
 
