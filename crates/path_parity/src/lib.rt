@@ -7,8 +7,9 @@
 //! the variables, and a linear map of the variables never makes the odd set larger. [`Walk`] is the walk itself, for passes
 //! that go along a circuit.
 //!
-//! Every circuit is fine, so nothing is refused; each call may fail for want of memory. A CNOT takes time in proportion to
-//! the sizes of its two labels, a phase in proportion to the size of its label, and any other gate the same time always.
+//! Every circuit is fine, so nothing is refused; each call may fail for want of memory. A label has a word for each 64 variables
+//! from its first to its last. A CNOT takes time in proportion to the words between the first and the last of its two labels, a
+//! phase in proportion to those of its label, and any other gate the same time always.
 #![tactic(auto)]
 
 mod label;
