@@ -1,10 +1,10 @@
 //! Labels: sets of path variables with a complement bit.
 
-ghost use Rattle.std.specs.Prelude.{◌≡◌, IfOk};
+ghost use Rattle.std.specs.Prelude.{◌≡◌, IfOk, OnOk};
 ghost use Rattle.path_parity.specs.PathSum.{add_labels, fresh};
 ghost use Rattle.path_parity.specs.Sets.{IsLabel, label_of};
 
-use crate::packed::{single, symmetric_difference};
+use crate::packed::{write_difference, write_single};
 use std::alloc::{AllocError, Global};
 
 /// A label: a set of path variables as a row of bits, and one complement bit. Its value is the sum modulo 2 of its variables'
@@ -22,7 +22,8 @@ impl Label {
         ensures label { IfOk result (λ l. label_of l ≡ fresh variable) }
         ensures packed { IfOk result IsLabel }
     {
-        let set = single(alloc, variable)?;
+        let mut set = Vec::with_capacity(alloc, 2)?;
+        write_single(&mut set, variable)?;
         Ok(Label { set, bit: false })
     }
 
@@ -35,17 +36,26 @@ impl Label {
         Ok(Label { set, bit: self.bit })
     }
 
-    /// The sum with another label, in time in proportion to the places between the first word and the last of both.
-    pub fn plus(&self, alloc: Global, other: &Label) -> Result<Label, AllocError>
-        requires own { IsLabel self.now }
-        requires other { IsLabel other.now }
-        ensures sum { IfOk result (λ l. label_of l ≡ add_labels (label_of self.now) (label_of other.now)) }
-        ensures packed { IfOk result IsLabel }
+    /// Becomes one variable alone, in the memory that it has where that is enough.
+    pub fn write_fresh(&mut self, variable: u64) -> Result<(), AllocError>
+        ensures label { OnOk result (label_of self.new ≡ fresh variable) }
+        ensures packed { OnOk result (IsLabel self.new) }
     {
-        let set = symmetric_difference(alloc, &self.set, &other.set)?;
-        Ok(Label {
-            set,
-            bit: self.bit != other.bit,
-        })
+        write_single(&mut self.set, variable)?;
+        self.bit = false;
+        Ok(())
+    }
+
+    /// Becomes the sum of two labels, in the memory that it has where that is enough, and in time in proportion to the places
+    /// between the first word and the last of both.
+    pub fn write_sum(&mut self, left: &Label, right: &Label) -> Result<(), AllocError>
+        requires left { IsLabel left.now }
+        requires right { IsLabel right.now }
+        ensures sum { OnOk result (label_of self.new ≡ add_labels (label_of left.now) (label_of right.now)) }
+        ensures packed { OnOk result (IsLabel self.new) }
+    {
+        write_difference(&mut self.set, &left.set, &right.set)?;
+        self.bit = left.bit != right.bit;
+        Ok(())
     }
 }

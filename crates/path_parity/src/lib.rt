@@ -48,7 +48,7 @@ pub fn labels_of(alloc: Global, circuit: &Circuit) -> Result<Labels, AllocError>
     'places: for place in 0..circuit.len() {
         let gate = circuit.gate(place);
         note(alloc, &mut list, &walk, gate)?;
-        walk.pass(alloc, gate)?;
+        walk.pass(gate)?;
     }
     Ok(Labels { list })
 }
@@ -80,7 +80,7 @@ pub fn odd_paths(alloc: Global, circuit: &Circuit) -> Result<u64, AllocError>
     'places: for place in 0..circuit.len() {
         let gate = circuit.gate(place);
         odd.toggle_at(alloc, &walk, gate)?;
-        walk.pass(alloc, gate)?;
+        walk.pass(gate)?;
     }
     Ok(odd.len() as u64)
 }

@@ -4,35 +4,36 @@
 //! p is variable 64 p + b. The first word and the last are not 0, so each set has one row, and a set of recent variables is
 //! short however many variables there are.
 
-ghost use Rattle.std.specs.Prelude.{◌≡◌, ℕ, ◌+◌, ◌^◌, ◌<◌, ◌≤◌, IfOk, bit_xor, length, slice_index};
+ghost use Rattle.std.specs.Prelude.{◌≡◌, ℕ, ◌+◌, ◌^◌, ◌<◌, ◌≤◌, OnOk, bit_xor, length, slice_index};
 ghost use Rattle.path_parity.specs.Sets.{IsPacked, first_place, places_end, set_of, word_at};
 
-use std::alloc::{AllocError, Global};
+use std::alloc::AllocError;
 
-/// One variable alone.
-pub fn single(alloc: Global, variable: u64) -> Result<Vec<u64>, AllocError>
-    ensures set { IfOk result (λ v. set_of v.items ≡ 2 ^ variable) }
-    ensures packed { IfOk result (λ v. IsPacked v.items) }
+/// Writes one variable alone into a row, whatever it held.
+pub fn write_single(row: &mut Vec<u64>, variable: u64) -> Result<(), AllocError>
+    ensures set { OnOk result (set_of row.new.items ≡ 2 ^ variable) }
+    ensures packed { OnOk result (IsPacked row.new.items) }
 {
-    let mut row = Vec::with_capacity(alloc, 2)?;
+    row.clear();
     row.push(variable / 64)?;
     row.push(1 << (variable % 64))?;
-    Ok(row)
+    Ok(())
 }
 
-/// The variables that stand in one of two sets and not in both, in time in proportion to the places between the first and the
-/// last of both.
-pub fn symmetric_difference(alloc: Global, xs: &[u64], ys: &[u64]) -> Result<Vec<u64>, AllocError>
+/// Writes the variables that stand in one of two sets and not in both into a row, whatever it held, in time in proportion to the
+/// places between the first and the last of both.
+pub fn write_difference(row: &mut Vec<u64>, xs: &[u64], ys: &[u64]) -> Result<(), AllocError>
     requires left { IsPacked xs.now }
     requires right { IsPacked ys.now }
-    ensures set { IfOk result (λ v. set_of v.items ≡ bit_xor (set_of xs.now) (set_of ys.now)) }
-    ensures packed { IfOk result (λ v. IsPacked v.items) }
+    ensures set { OnOk result (set_of row.new.items ≡ bit_xor (set_of xs.now) (set_of ys.now)) }
+    ensures packed { OnOk result (IsPacked row.new.items) }
 {
+    row.clear();
     if xs.is_empty() {
-        return Vec::from_slice(alloc, ys);
+        return row.extend_from_slice(ys);
     }
     if ys.is_empty() {
-        return Vec::from_slice(alloc, xs);
+        return row.extend_from_slice(xs);
     }
     let mut start = xs[0].min(ys[0]);
     let mut end = end_of(xs).max(end_of(ys));
@@ -43,12 +44,12 @@ pub fn symmetric_difference(alloc: Global, xs: &[u64], ys: &[u64]) -> Result<Vec
         end -= 1;
     }
     if start == end {
-        return Ok(Vec::new(alloc));
+        return Ok(());
     }
-    let mut sum = zeros(alloc, start, (end - start) as usize)?;
-    add(&mut sum, xs);
-    add(&mut sum, ys);
-    Ok(sum)
+    write_zeros(row, start, (end - start) as usize)?;
+    add(row, xs);
+    add(row, ys);
+    Ok(())
 }
 
 /// The place behind a set's last word.
@@ -72,17 +73,17 @@ fn word(set: &[u64], place: u64) -> u64
     set[(place - set[0]) as usize + 1]
 }
 
-/// So many words that are 0, from a place on.
-fn zeros(alloc: Global, start: u64, size: usize) -> Result<Vec<u64>, AllocError>
+/// Writes so many words that are 0, from a place on, into a row, whatever it held.
+fn write_zeros(row: &mut Vec<u64>, start: u64, size: usize) -> Result<(), AllocError>
     requires { size < 2 ^ 63 }
-    ensures long { IfOk result (λ v. length v.items ≡ size + 1) }
-    ensures first { IfOk result (λ v. slice_index v.items 0 ≡ start) }
-    ensures zeros { IfOk result (λ v. (p : ℕ) → word_at v.items p ≡ 0) }
+    ensures long { OnOk result (length row.new.items ≡ size + 1) }
+    ensures first { OnOk result (slice_index row.new.items 0 ≡ start) }
+    ensures zeros { OnOk result ((p : ℕ) → word_at row.new.items p ≡ 0) }
 {
-    let mut row = Vec::with_capacity(alloc, size + 1)?;
+    row.clear();
     row.push(start)?;
     row.resize(size + 1, 0)?;
-    Ok(row)
+    Ok(())
 }
 
 /// Adds those words of a set that stand at the places of a row.

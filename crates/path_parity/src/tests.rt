@@ -5,7 +5,7 @@ ghost use Rattle.path_parity.specs.Sets.{IsPacked};
 ghost use Rattle.unitary_model.specs.OddPaths.{first_walk, walked_all};
 ghost use Rattle.unitary_model.specs.Operations.{WiresBelow};
 
-use crate::packed::{single, symmetric_difference};
+use crate::packed::{write_difference, write_single};
 use crate::{Labels, labels_of, odd_paths};
 use circuit_list::{Circuit, Gate};
 use std::alloc::{AllocError, Global};
@@ -89,9 +89,11 @@ fn labels_by_hand(rt: HostRuntime) -> Result<(), Fail> {
     Ok(())
 }
 
-/// Whether a variable alone has this row.
+/// Whether a variable alone has this row, written where another row was.
 fn is_single(alloc: Global, variable: u64, row: &[u64]) -> Result<bool, AllocError> {
-    Ok(single(alloc, variable)?.as_slice() == row)
+    let mut written = Vec::from_slice(alloc, &[9, 8, 7])?;
+    write_single(&mut written, variable)?;
+    Ok(written.as_slice() == row)
 }
 
 // Variable 63 is the last of the word at place 0, and 64 the first of that at place 1.
@@ -105,6 +107,16 @@ fn single_variables(rt: HostRuntime) -> Result<(), Fail> {
     Ok(())
 }
 
+/// Whether a row is the sum of two others, written where another row was.
+fn is_sum(alloc: Global, xs: &[u64], ys: &[u64], sum: &[u64]) -> Result<bool, AllocError>
+    requires left { IsPacked xs.now }
+    requires right { IsPacked ys.now }
+{
+    let mut written = Vec::from_slice(alloc, &[9, 8, 7])?;
+    write_difference(&mut written, xs, ys)?;
+    Ok(written.as_slice() == sum)
+}
+
 /// Whether two rows add up to a third, whichever stands first, and the third and either to the other.
 fn adds_up(alloc: Global, xs: &[u64], ys: &[u64], sum: &[u64]) -> Result<bool, AllocError>
     requires left { IsPacked xs.now }
@@ -112,10 +124,10 @@ fn adds_up(alloc: Global, xs: &[u64], ys: &[u64], sum: &[u64]) -> Result<bool, A
     requires sum { IsPacked sum.now }
 {
     Ok(
-        symmetric_difference(alloc, xs, ys)?.as_slice() == sum
-            && symmetric_difference(alloc, ys, xs)?.as_slice() == sum
-            && symmetric_difference(alloc, sum, ys)?.as_slice() == xs
-            && symmetric_difference(alloc, xs, sum)?.as_slice() == ys,
+        is_sum(alloc, xs, ys, sum)?
+            && is_sum(alloc, ys, xs, sum)?
+            && is_sum(alloc, sum, ys, xs)?
+            && is_sum(alloc, xs, sum, ys)?,
     )
 }
 

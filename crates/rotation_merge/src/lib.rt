@@ -58,7 +58,7 @@ fn gathered(alloc: Global, body: &Circuit) -> Result<Totals, AllocError>
     'gates: for i in 0..body.len() {
         let gate = body.gate(i);
         totals.gather(alloc, &walk, gate)?;
-        walk.pass(alloc, gate)?;
+        walk.pass(gate)?;
     }
     Ok(totals)
 }
@@ -75,7 +75,7 @@ fn rewritten(alloc: Global, body: &Circuit, mut totals: Totals) -> Result<Passed
     'gates: for i in 0..body.len() {
         let gate = body.gate(i);
         totals.write(&mut written, &walk, gate)?;
-        walk.pass(alloc, gate)?;
+        walk.pass(gate)?;
     }
     let turn = (8 - totals.constant % 8) % 8;
     Ok(Passed {

@@ -1,6 +1,6 @@
 use Rattle.std.proofs.Common.{◌-◌, ◌^◌, ◌≤◌}
 use Rattle.path_parity.proofs.SetLaws.{IsBetween}
-use Rattle.path_parity.proofs.packed.symmetric_difference.Given as goal
+use Rattle.path_parity.proofs.packed.write_difference.Given as goal
 
 -- the rows differ nowhere else
 abbrev pub invariant-front : goal.invariant-front

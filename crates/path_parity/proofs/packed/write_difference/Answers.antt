@@ -3,14 +3,14 @@ use Rattle.std.proofs.Common.{◌≡◌, ℕ, ◌-◌, List, ◌++◌, length, t
 use Rattle.std.proofs.Math.Seq.{take-append_seam}
 use Rattle.path_parity.specs.Sets.{IsPacked, set_of, word_at}
 use Rattle.path_parity.proofs.SetLaws.{Adds, IsSum, IsPacked-wide, adds-both, between-none, between-packed, between-set}
-use Rattle.path_parity.proofs.packed.symmetric_difference.Goals as goal
-use Rattle.path_parity.proofs.packed.symmetric_difference.Goals.{then-front-test+else-word, else-front-test, then-back-test+else-word-2, else-back-test}
+use Rattle.path_parity.proofs.packed.write_difference.Goals as goal
+use Rattle.path_parity.proofs.packed.write_difference.Goals.{then-front-test+else-word, else-front-test, then-back-test+else-word-2, else-back-test}
 
 pub returns-then-start-end-clause-set : goal.returns-then-start-end-clause-set
 returns-then-start-end-clause-set c =
     let xs = c.args.xs.now in
     let ys = c.args.ys.now in
-    ap set_of c.new.ensures.items ∙ between-none xs ys c.front.start c.back.end (IsPacked-wide xs c.requires.left) (IsPacked-wide ys c.requires.right) c.back.invariant.between (omega arith)
+    ap set_of c.clear.ensures.items ∙ between-none xs ys c.front.start c.back.end (IsPacked-wide xs c.requires.left) (IsPacked-wide ys c.requires.right) c.back.invariant.between (omega arith)
 
 whole : (n : ℕ) (row rest : List ℕ) → n ≡ length row → take n (row ++ rest) ≡ row
 whole n row rest e = ap (λ k. take k (row ++ rest)) e ∙ take-append_seam row rest
@@ -21,17 +21,17 @@ returns c =
     let ys = c.args.ys.now in
     let a = c.front.start in
     let b = c.back.end in
-    let zeros = c.in_ok-sum.sum.items in
+    let zeros = c.write_zeros.new.row.items in
     let one = c.add.new.row in
     let two = c.add-2.new.row in
-    let n = c.in_ok-sum.sum.len in
+    let n = c.write_zeros.new.row.len in
     let first : Adds zeros one xs = subst (λ (z : List ℕ). Adds z one xs) c.deref_mut.ensures.value (record { long = c.add.ensures.long; first = c.add.ensures.first; added = c.add.ensures.added }) in
-    let between : c.deref_mut-2.result.now ≡ one = c.deref_mut-2.ensures.value ∙ whole n one (drop (length one) zeros) (c.in_ok-sum.sum.ok.0 ∙ sym first.long) in
+    let between : c.deref_mut-2.result.now ≡ one = c.deref_mut-2.ensures.value ∙ whole n one (drop (length one) zeros) (c.write_zeros.new.row.ok.0 ∙ sym first.long) in
     let second : Adds one two ys = subst (λ (z : List ℕ). Adds z two ys) between (record { long = c.add-2.ensures.long; first = c.add-2.ensures.first; added = c.add-2.ensures.added }) in
     let sum : IsSum xs ys two a b = adds-both xs ys zeros one two a b (IsPacked-wide xs c.requires.left) (IsPacked-wide ys c.requires.right) c.back.invariant.order
-    c.in_ok-sum.ensures.long c.in_ok-sum.ensures.first c.in_ok-sum.ensures.zeros first second in
+    c.in_ok-write_zeros.ensures.long c.in_ok-write_zeros.ensures.first c.in_ok-write_zeros.ensures.zeros first second in
     let same : take n (two ++ drop (length two) (take n (one ++ drop (length one) zeros))) ≡ two =
-    whole n two (drop (length two) (take n (one ++ drop (length one) zeros))) (c.in_ok-sum.sum.ok.0 ∙ sym first.long ∙ sym second.long) in
+    whole n two (drop (length two) (take n (one ++ drop (length one) zeros))) (c.write_zeros.new.row.ok.0 ∙ sym first.long ∙ sym second.long) in
     let front : word_at xs a ≡ word_at ys a → ⊥ = elim c.front-test.branch [
       | then-front-test+else-word w ↦ λ e. w.if-word.false (w.word.ensures ∙ e ∙ sym w.word-in-front.ensures)
       | else-front-test w ↦ λ e. absurd (omega arith)
