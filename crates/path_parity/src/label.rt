@@ -1,81 +1,61 @@
 //! Labels: sets of path variables with a complement bit.
 
-ghost use Rattle.std.specs.Prelude.{◌≡◌, ℕ, [], ◌∷◌, false, IfOk, bit_xor};
+ghost use Rattle.std.specs.Prelude.{◌≡◌, IfOk, OnOk};
 ghost use Rattle.path_parity.specs.PathSum.{add_labels, fresh};
-ghost use Rattle.path_parity.specs.Sets.{IsIncreasing, IsLabel, label_of, set_of};
+ghost use Rattle.path_parity.specs.Sets.{IsLabel, label_of};
 
+use crate::packed::{write_difference, write_single};
 use std::alloc::{AllocError, Global};
 
-/// A label: path variables, increasing, and one complement bit. Its value is the sum modulo 2 of its variables' values and the bit.
+/// A label: a set of path variables as a row of bits, and one complement bit. Its value is the sum modulo 2 of its variables'
+/// values and the bit. The row is empty for the empty set, else a place p and then the words from there on, variable 64 p being
+/// the lowest bit of the first; neither the first word nor the last is 0.
 #[derive(Debug, Drop)]
 pub struct Label {
-    pub variables: Vec<u64>,
+    pub set: Vec<u64>,
     pub bit: bool,
 }
 
 impl Label {
     /// One variable alone.
     pub fn fresh(alloc: Global, variable: u64) -> Result<Label, AllocError>
-        ensures items { IfOk result (λ l. l.variables.items ≡ variable ∷ []) }
-        ensures bit { IfOk result (λ l. l.bit ≡ false) }
+        ensures label { IfOk result (λ l. label_of l ≡ fresh variable) }
+        ensures packed { IfOk result IsLabel }
     {
-        let mut variables = Vec::new(alloc);
-        variables.push(variable)?;
-        Ok(Label {
-            variables,
-            bit: false,
-        })
+        let mut set = Vec::with_capacity(alloc, 2)?;
+        write_single(&mut set, variable)?;
+        Ok(Label { set, bit: false })
     }
 
     /// The same label again.
     pub fn copy(&self, alloc: Global) -> Result<Label, AllocError>
-        ensures items { IfOk result (λ l. l.variables.items ≡ self.now.variables.items) }
+        ensures items { IfOk result (λ l. l.set.items ≡ self.now.set.items) }
         ensures bit { IfOk result (λ l. l.bit ≡ self.now.bit) }
     {
-        let variables = Vec::from_slice(alloc, &self.variables)?;
-        Ok(Label {
-            variables,
-            bit: self.bit,
-        })
+        let set = Vec::from_slice(alloc, &self.set)?;
+        Ok(Label { set, bit: self.bit })
     }
 
-    /// The sum with another label, in time in proportion to the sizes of both.
-    pub fn plus(&self, alloc: Global, other: &Label) -> Result<Label, AllocError>
-        requires own { IsLabel self.now }
-        requires other { IsLabel other.now }
-        ensures sum { IfOk result (λ l. label_of l ≡ add_labels (label_of self.now) (label_of other.now)) }
-        ensures increasing { IfOk result IsLabel }
+    /// Becomes one variable alone, in the memory that it has where that is enough.
+    pub fn write_fresh(&mut self, variable: u64) -> Result<(), AllocError>
+        ensures label { OnOk result (label_of self.new ≡ fresh variable) }
+        ensures packed { OnOk result (IsLabel self.new) }
     {
-        let variables = symmetric_difference(alloc, &self.variables, &other.variables)?;
-        Ok(Label {
-            variables,
-            bit: self.bit != other.bit,
-        })
+        write_single(&mut self.set, variable)?;
+        self.bit = false;
+        Ok(())
     }
-}
 
-/// The variables that stand in one of two sets and not in both, by one pass along both.
-fn symmetric_difference(alloc: Global, xs: &[u64], ys: &[u64]) -> Result<Vec<u64>, AllocError>
-    requires left { IsIncreasing xs.now }
-    requires right { IsIncreasing ys.now }
-    ensures set { IfOk result (λ v. set_of v.items ≡ bit_xor (set_of xs.now) (set_of ys.now)) }
-    ensures increasing { IfOk result (λ v. IsIncreasing v.items) }
-{
-    let mut merged = Vec::new(alloc);
-    let (mut i, mut j) = (0, 0);
-    'merging: while i < xs.len() && j < ys.len() {
-        if xs[i] < ys[j] {
-            merged.push(xs[i])?;
-            i += 1;
-        } else if ys[j] < xs[i] {
-            merged.push(ys[j])?;
-            j += 1;
-        } else {
-            i += 1;
-            j += 1;
-        }
+    /// Becomes the sum of two labels, in the memory that it has where that is enough, and in time in proportion to the places
+    /// between the first word and the last of both.
+    pub fn write_sum(&mut self, left: &Label, right: &Label) -> Result<(), AllocError>
+        requires left { IsLabel left.now }
+        requires right { IsLabel right.now }
+        ensures sum { OnOk result (label_of self.new ≡ add_labels (label_of left.now) (label_of right.now)) }
+        ensures packed { OnOk result (IsLabel self.new) }
+    {
+        write_difference(&mut self.set, &left.set, &right.set)?;
+        self.bit = left.bit != right.bit;
+        Ok(())
     }
-    merged.extend_from_slice(&xs[i..])?;
-    merged.extend_from_slice(&ys[j..])?;
-    Ok(merged)
 }

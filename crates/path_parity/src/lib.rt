@@ -7,13 +7,15 @@
 //! the variables, and a linear map of the variables never makes the odd set larger. [`Walk`] is the walk itself, for passes
 //! that go along a circuit.
 //!
-//! Every circuit is fine, so nothing is refused; each call may fail for want of memory. A CNOT takes time in proportion to
-//! the sizes of its two labels, a phase in proportion to the size of its label, and any other gate the same time always.
+//! Every circuit is fine, so nothing is refused; each call may fail for want of memory. A label has a word for each 64 variables
+//! from its first to its last. A CNOT takes time in proportion to the words between the first and the last of its two labels, a
+//! phase in proportion to those of its label, and any other gate the same time always.
 #![tactic(auto)]
 
 mod label;
 pub mod laws;
 mod odd_set;
+mod packed;
 mod walk;
 
 ghost use Rattle.std.specs.Prelude.{◌≡◌, ◌++◌, All, IfOk, OnOk, length, map};
@@ -39,14 +41,14 @@ pub struct Labels {
 /// the variables from n on. Fails for want of memory alone.
 pub fn labels_of(alloc: Global, circuit: &Circuit) -> Result<Labels, AllocError>
     ensures labels { IfOk result (λ ls. map label_of ls.list.items ≡ phase_labels circuit.now.gates (own_labels circuit.now.wires) circuit.now.wires) }
-    ensures increasing { IfOk result (λ ls. All IsLabel ls.list.items) }
+    ensures packed { IfOk result (λ ls. All IsLabel ls.list.items) }
 {
     let mut walk = Walk::new(alloc, circuit.wires())?;
     let mut list = Vec::new(alloc);
     'places: for place in 0..circuit.len() {
         let gate = circuit.gate(place);
         note(alloc, &mut list, &walk, gate)?;
-        walk.pass(alloc, gate)?;
+        walk.pass(gate)?;
     }
     Ok(Labels { list })
 }
@@ -54,9 +56,9 @@ pub fn labels_of(alloc: Global, circuit: &Circuit) -> Result<Labels, AllocError>
 /// Puts the label at a P behind the others.
 fn note(alloc: Global, list: &mut Vec<Label>, walk: &Walk, gate: Gate) -> Result<(), AllocError>
     requires fine { IsFine (length walk.now.labels) gate }
-    requires increasing { All IsLabel list.old.items }
+    requires packed { All IsLabel list.old.items }
     ensures labels { OnOk result (map label_of list.new.items ≡ map label_of list.old.items ++ phase_label gate (labels_at walk.now)) }
-    ensures increasing { OnOk result (All IsLabel list.new.items) }
+    ensures packed { OnOk result (All IsLabel list.new.items) }
 {
     match gate {
         Gate::P { k: _, q } => {
@@ -78,7 +80,7 @@ pub fn odd_paths(alloc: Global, circuit: &Circuit) -> Result<u64, AllocError>
     'places: for place in 0..circuit.len() {
         let gate = circuit.gate(place);
         odd.toggle_at(alloc, &walk, gate)?;
-        walk.pass(alloc, gate)?;
+        walk.pass(gate)?;
     }
     Ok(odd.len() as u64)
 }

@@ -5,7 +5,7 @@ ghost use Rattle.circuit_list.specs.Gates.{IsFine};
 ghost use Rattle.path_parity.specs.LabelWalks.{labels_at};
 ghost use Rattle.path_parity.specs.OddLabels.{odd_set, toggled_all};
 ghost use Rattle.path_parity.specs.OddSets.{IsOddSet};
-ghost use Rattle.path_parity.specs.Sets.{IsIncreasing, set_of};
+ghost use Rattle.path_parity.specs.Sets.{IsPacked, set_of};
 ghost use Rattle.unitary_model.specs.OddPaths.{toggle};
 
 use crate::walk::Walk;
@@ -13,7 +13,7 @@ use circuit_list::Gate;
 use indexmap::IndexSet;
 use std::alloc::{AllocError, Global};
 
-/// Sets of path variables, each by its variables in order.
+/// Sets of path variables, each by its row of bits.
 #[derive(Drop)]
 pub struct OddSet {
     sets: IndexSet<Vec<u64>>,
@@ -38,12 +38,11 @@ impl OddSet {
 
     /// Puts a set in, or takes it out.
     fn toggle(&mut self, alloc: Global, set: &[u64]) -> Result<(), AllocError>
-        requires increasing { IsIncreasing set.now }
+        requires packed { IsPacked set.now }
         ensures toggled { OnOk result ((s : List ℕ) → IsOddSet self.old s → IsOddSet self.new (toggle (set_of set.now) s)) }
     {
-        let key = Vec::from_slice(alloc, set)?;
-        if !self.sets.swap_remove(&key) {
-            self.sets.insert(key)?;
+        if !self.sets.swap_remove(set) {
+            self.sets.insert(Vec::from_slice(alloc, set)?)?;
         }
         Ok(())
     }
@@ -56,7 +55,7 @@ impl OddSet {
         match gate {
             Gate::P { k, q } => {
                 if k % 2 == 1 {
-                    self.toggle(alloc, &walk.label(q).variables)?;
+                    self.toggle(alloc, &walk.label(q).set)?;
                 }
             }
             Gate::H { q: _ } | Gate::X { q: _ } | Gate::Cx { c: _, t: _ } => {}

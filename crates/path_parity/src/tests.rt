@@ -1,9 +1,11 @@
 //! Rows by hand, and a slow program beside.
 
 ghost use Rattle.std.specs.Prelude.{◌≤◌};
+ghost use Rattle.path_parity.specs.Sets.{IsPacked};
 ghost use Rattle.unitary_model.specs.OddPaths.{first_walk, walked_all};
 ghost use Rattle.unitary_model.specs.Operations.{WiresBelow};
 
+use crate::packed::{write_difference, write_single};
 use crate::{Labels, labels_of, odd_paths};
 use circuit_list::{Circuit, Gate};
 use std::alloc::{AllocError, Global};
@@ -62,10 +64,10 @@ fn odd(alloc: Global, gates: &[Gate]) -> Result<u64, AllocError> {
     odd_paths(alloc, &circuit_of(alloc, gates)?)
 }
 
-/// Whether the label at a place has these variables and this bit.
-fn has(labels: &Labels, place: usize, variables: &[u64], bit: bool) -> bool {
+/// Whether the label at a place has this set and this bit.
+fn has(labels: &Labels, place: usize, set: &[u64], bit: bool) -> bool {
     match labels.list.get(place) {
-        Some(label) => label.variables.as_slice() == variables && label.bit == bit,
+        Some(label) => label.set.as_slice() == set && label.bit == bit,
         None => false,
     }
 }
@@ -77,13 +79,71 @@ fn labels_by_hand(rt: HostRuntime) -> Result<(), Fail> {
     assert_eq!(rt; labels(alloc, &[])?.list.len(), 0);
     let twice = labels(alloc, &[T, H, H, T])?;
     assert_eq!(rt; twice.list.len(), 2);
-    assert!(rt; has(&twice, 0, &[0], false) && has(&twice, 1, &[4], false));
+    assert!(rt; has(&twice, 0, &[0, 0b1], false) && has(&twice, 1, &[0, 0b10000], false));
     let turned = labels(alloc, &[T, X, T])?;
     assert_eq!(rt; turned.list.len(), 2);
-    assert!(rt; has(&turned, 0, &[0], false) && has(&turned, 1, &[0], true));
+    assert!(rt; has(&turned, 0, &[0, 0b1], false) && has(&turned, 1, &[0, 0b1], true));
     let added = labels(alloc, &[H, X, CX, BELOW, CX, BELOW])?;
     assert_eq!(rt; added.list.len(), 2);
-    assert!(rt; has(&added, 0, &[1, 3], true) && has(&added, 1, &[1], false));
+    assert!(rt; has(&added, 0, &[0, 0b1010], true) && has(&added, 1, &[0, 0b10], false));
+    Ok(())
+}
+
+/// Whether a variable alone has this row, written where another row was.
+fn is_single(alloc: Global, variable: u64, row: &[u64]) -> Result<bool, AllocError> {
+    let mut written = Vec::from_slice(alloc, &[9, 8, 7])?;
+    write_single(&mut written, variable)?;
+    Ok(written.as_slice() == row)
+}
+
+// Variable 63 is the last of the word at place 0, and 64 the first of that at place 1.
+#[test]
+fn single_variables(rt: HostRuntime) -> Result<(), Fail> {
+    let alloc = rt.alloc();
+    assert!(rt; is_single(alloc, 0, &[0, 1])?);
+    assert!(rt; is_single(alloc, 63, &[0, 1 << 63])?);
+    assert!(rt; is_single(alloc, 64, &[1, 1])?);
+    assert!(rt; is_single(alloc, u64::MAX, &[0x03ff_ffff_ffff_ffff, 1 << 63])?);
+    Ok(())
+}
+
+/// Whether a row is the sum of two others, written where another row was.
+fn is_sum(alloc: Global, xs: &[u64], ys: &[u64], sum: &[u64]) -> Result<bool, AllocError>
+    requires left { IsPacked xs.now }
+    requires right { IsPacked ys.now }
+{
+    let mut written = Vec::from_slice(alloc, &[9, 8, 7])?;
+    write_difference(&mut written, xs, ys)?;
+    Ok(written.as_slice() == sum)
+}
+
+/// Whether two rows add up to a third, whichever stands first, and the third and either to the other.
+fn adds_up(alloc: Global, xs: &[u64], ys: &[u64], sum: &[u64]) -> Result<bool, AllocError>
+    requires left { IsPacked xs.now }
+    requires right { IsPacked ys.now }
+    requires sum { IsPacked sum.now }
+{
+    Ok(
+        is_sum(alloc, xs, ys, sum)?
+            && is_sum(alloc, ys, xs, sum)?
+            && is_sum(alloc, sum, ys, xs)?
+            && is_sum(alloc, xs, sum, ys)?,
+    )
+}
+
+// Rows that are apart, that touch, that overlap, and of which one lies within the other; words that become 0 are cut off at
+// both ends, and stay in the middle.
+#[test]
+fn sums_by_hand(rt: HostRuntime) -> Result<(), Fail> {
+    let alloc = rt.alloc();
+    assert!(rt; adds_up(alloc, &[], &[], &[])?);
+    assert!(rt; adds_up(alloc, &[7, 1, 2], &[], &[7, 1, 2])?);
+    assert!(rt; adds_up(alloc, &[0, 1], &[3, 1 << 8], &[0, 1, 0, 0, 1 << 8])?);
+    assert!(rt; adds_up(alloc, &[2, 5, 6], &[4, 7], &[2, 5, 6, 7])?);
+    assert!(rt; adds_up(alloc, &[2, 5, 6, 7], &[3, 5, 3, 9], &[2, 5, 3, 4, 9])?);
+    assert!(rt; adds_up(alloc, &[2, 5, 6, 7], &[3, 6], &[2, 5, 0, 7])?);
+    assert!(rt; adds_up(alloc, &[2, 5, 6, 7, 9], &[2, 5, 6, 1, 9], &[4, 6])?);
+    assert!(rt; adds_up(alloc, &[2, 5, 6], &[2, 5, 6, 0, 8], &[5, 8])?);
     Ok(())
 }
 

@@ -10,13 +10,15 @@ use crate::label::Label;
 use circuit_list::Gate;
 use std::alloc::{AllocError, Global};
 use std::marker::Model;
+use std::mem::swap;
 
 /// The labels of all wires at a place of a circuit, and the least variable not used so far. Contracts see the list of the labels
-/// and that variable.
+/// and that variable. A new label is made in the memory of the spare one, and the two change places.
 #[derive(Drop)]
 pub struct Walk {
     labels: Vec<Label>,
     unused: u64,
+    spare: Label,
 }
 
 impl Model for Walk {
@@ -42,11 +44,15 @@ impl Walk {
         Ok(Walk {
             labels,
             unused: wires as u64,
+            spare: Label {
+                set: Vec::new(alloc),
+                bit: false,
+            },
         })
     }
 
     /// Walks past a gate. Fails for want of memory alone, 2^64 variables aside, and is then where it was.
-    pub fn pass(&mut self, alloc: Global, gate: Gate) -> Result<(), AllocError>
+    pub fn pass(&mut self, gate: Gate) -> Result<(), AllocError>
         requires fine { IsFine (length self.old.labels) gate }
         ensures wires { length self.new.labels ≡ length self.old.labels }
         ensures labels { OnOk result (labels_at self.new ≡ labels_after gate (labels_at self.old) self.old.unused) }
@@ -58,24 +64,26 @@ impl Walk {
                 let Some(next) = self.unused.checked_add(1) else {
                     return Err(AllocError);
                 };
-                self.labels[q as usize] = Label::fresh(alloc, self.unused)?;
+                self.spare.write_fresh(self.unused)?;
+                swap(&mut self.labels[q as usize], &mut self.spare);
                 self.unused = next;
             }
             Gate::X { q } => self.labels[q as usize].bit = !self.labels[q as usize].bit,
             Gate::P { k: _, q: _ } => {}
             Gate::Cx { c, t } => {
-                let sum = self.labels[t as usize].plus(alloc, &self.labels[c as usize])?;
-                self.labels[t as usize] = sum;
+                self.spare
+                    .write_sum(&self.labels[t as usize], &self.labels[c as usize])?;
+                swap(&mut self.labels[t as usize], &mut self.spare);
             }
         }
         Ok(())
     }
 
-    /// The label of a wire, its variables increasing.
+    /// The label of a wire, its set packed.
     pub fn label(&self, q: u32) -> &Label
         requires { q < length self.now.labels }
         ensures label { label_of result.now ≡ labels_at self.now q }
-        ensures increasing { IsLabel result.now }
+        ensures packed { IsLabel result.now }
     {
         &self.labels[q as usize]
     }
@@ -85,7 +93,7 @@ impl Walk {
 fn first_labels(alloc: Global, wires: u32) -> Result<Vec<Label>, AllocError>
     ensures wires { IfOk result (λ v. length v.items ≡ wires) }
     ensures labels { IfOk result (λ v. labels_of_list (map label_of v.items) ≡ own_labels wires) }
-    ensures increasing { IfOk result (λ v. All IsLabel v.items) }
+    ensures packed { IfOk result (λ v. All IsLabel v.items) }
 {
     let mut labels = Vec::new(alloc);
     'wires: for q in 0..wires {

@@ -14,7 +14,7 @@ use Rattle.circuit_list.specs.declared.Gate.{Gate}
 use Rattle.circuit_list.specs.declared.Gate.TheVariants.{P}
 use Rattle.path_parity.specs.declared.label.Label.{Label}
 use Rattle.path_parity.specs.PathSum.{PathLabel, Wires}
-use Rattle.path_parity.specs.Sets.{set_of, label_of, IsIncreasing, IsLabel}
+use Rattle.path_parity.specs.Sets.{set_of, label_of, IsPacked, IsLabel}
 use Rattle.path_parity.proofs.SetLaws.{set-same}
 use Rattle.rotation_merge.specs.declared.totals.Totals.{Totals}
 use Rattle.rotation_merge.specs.Merging.{signed_phase, constant_phase, with_total, totals_after, constant_at, kept_phase, kept_constant, merged_gate, merged_constant, left_after}
@@ -46,7 +46,7 @@ changed old new us vs o k e found same keeps = record {
   others = λ ws ne. ap (λ r. unwrap_or r 0) (lookup-others (λ (z : Vec ℕ Global). z.items) us ws old.sets.entries new.sets.entries keeps (λ f. ne (f ∙ e)));
 }
 
-pub HasTotals-changed : (old new : Totals) (vs : List ℕ) (k : ℕ) (T : ℕ → ℕ) → IsIncreasing vs → k < 8 → ChangesTotal old new vs k → HasTotals old T → HasTotals new (with_total (set_of vs) k T)
+pub HasTotals-changed : (old new : Totals) (vs : List ℕ) (k : ℕ) (T : ℕ → ℕ) → IsPacked vs → k < 8 → ChangesTotal old new vs k → HasTotals old T → HasTotals new (with_total (set_of vs) k T)
 HasTotals-changed old new vs k T inc lt c h = record { at = λ ws f. go ws f (nat_eq (set_of vs) (set_of ws)) refl; below = λ s. small (nat_eq (set_of vs) s) (T s) (h.below s) }
   where
     small : (b : Bool) (j : ℕ) → j < 8 → cond b k j < 8
@@ -56,7 +56,7 @@ HasTotals-changed old new vs k T inc lt c h = record { at = λ ws f. go ws f (na
     clash : (a b : ℕ) → a ≡ b → nat_eq b a ≡ false → ⊥
     clash a b e f = grind (arith, nat_tests)
 
-    go : (ws : List ℕ) → IsIncreasing ws → (b : Bool) → nat_eq (set_of vs) (set_of ws) ≡ b → total_in new ws ≡ cond b k (T (set_of ws))
+    go : (ws : List ℕ) → IsPacked ws → (b : Bool) → nat_eq (set_of vs) (set_of ws) ≡ b → total_in new ws ≡ cond b k (T (set_of ws))
     go ws f true e = ap (total_in new) (set-same ws vs f inc (sym (equal (set_of vs) (set_of ws) e))) ∙ c.here
     go ws f false e = c.others ws (λ g. clash (set_of ws) (set_of vs) (ap set_of g) e) ∙ h.at ws f
 
@@ -68,32 +68,32 @@ pub gathers_none : (g : Gate) (w : Wires) (T : ℕ → ℕ) (t : Totals) → tot
 gathers_none g w T t e f h = record { totals = subst (λ (U : ℕ → ℕ). HasTotals t U) (sym e) h; constant = omega (arith, f) }
 
 pub gathers_phase : (w : Wires) (T : ℕ → ℕ) (old new : Totals) (l : Label) (k q : ℕ) → label_of l ≡ w q → IsLabel l →
-    ChangesTotal old new l.variables.items ((total_in old l.variables.items + signed_phase (label_of l) k) % 8) →
+    ChangesTotal old new l.set.items ((total_in old l.set.items + signed_phase (label_of l) k) % 8) →
     new.constant % 8 ≡ (old.constant + constant_phase (label_of l) k) % 8 → HasTotals old T → Gathers (P k q) w T old new
 gathers_phase w T old new l k q e f c d h = record {
   totals = subst (λ (U : ℕ → ℕ). HasTotals new U) (λ i. with_total ((e i).variables) ((had i + signed_phase (e i) k) % 8) T)
-      (HasTotals-changed old new l.variables.items ((total_in old l.variables.items + signed_phase (label_of l) k) % 8) T f (below (total_in old l.variables.items + signed_phase (label_of l) k)) c h);
+      (HasTotals-changed old new l.set.items ((total_in old l.set.items + signed_phase (label_of l) k) % 8) T f (below (total_in old l.set.items + signed_phase (label_of l) k)) c h);
   constant = d ∙ (λ i. (old.constant + constant_phase (e i) k) % 8);
 }
   where
     below : (j : ℕ) → j % 8 < 8
     below j = omega arith
 
-    had : total_in old l.variables.items ≡ T ((w q).variables)
-    had = h.at l.variables.items f ∙ ap (λ (m : PathLabel). T m.variables) e
+    had : total_in old l.set.items ≡ T ((w q).variables)
+    had = h.at l.set.items f ∙ ap (λ (m : PathLabel). T m.variables) e
 
 -- ---- a gate written
 pub writes_none : (g : Gate) (w : Wires) (T : ℕ → ℕ) (t : Totals) (a b : List Gate) → left_after g w T ≡ T → merged_constant g w T ≡ 0 → merged_gate g w T ≡ g ∷ [] → b ≡ a ++ g ∷ [] → HasTotals t T → Writes g w T t t a b
 writes_none g w T t a b e f m d h = record { gates = d ∙ ap (λ us. a ++ us) (sym m); totals = subst (λ (U : ℕ → ℕ). HasTotals t U) (sym e) h; constant = omega (arith, f) }
 
 pub writes_phase : (w : Wires) (T : ℕ → ℕ) (old new : Totals) (a b : List Gate) (l : Label) (k q : ℕ) → label_of l ≡ w q → IsLabel l →
-    b ≡ a ++ kept_phase (label_of l) (total_in old l.variables.items) q → ChangesTotal old new l.variables.items 0 →
-    (new.constant + kept_constant (label_of l) (total_in old l.variables.items)) % 8 ≡ old.constant % 8 → HasTotals old T → Writes (P k q) w T old new a b
+    b ≡ a ++ kept_phase (label_of l) (total_in old l.set.items) q → ChangesTotal old new l.set.items 0 →
+    (new.constant + kept_constant (label_of l) (total_in old l.set.items)) % 8 ≡ old.constant % 8 → HasTotals old T → Writes (P k q) w T old new a b
 writes_phase w T old new a b l k q e f g c d h = record {
   gates = g ∙ (λ i. a ++ kept_phase (e i) (had i) q);
-  totals = subst (λ (U : ℕ → ℕ). HasTotals new U) (λ i. with_total ((e i).variables) 0 T) (HasTotals-changed old new l.variables.items 0 T f (omega arith) c h);
+  totals = subst (λ (U : ℕ → ℕ). HasTotals new U) (λ i. with_total ((e i).variables) 0 T) (HasTotals-changed old new l.set.items 0 T f (omega arith) c h);
   constant = sym (λ i. (new.constant + kept_constant (e i) (had i)) % 8) ∙ d;
 }
   where
-    had : total_in old l.variables.items ≡ T ((w q).variables)
-    had = h.at l.variables.items f ∙ ap (λ (m : PathLabel). T m.variables) e
+    had : total_in old l.set.items ≡ T ((w q).variables)
+    had = h.at l.set.items f ∙ ap (λ (m : PathLabel). T m.variables) e

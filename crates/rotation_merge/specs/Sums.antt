@@ -1,7 +1,7 @@
 -- Working form. The program's totals, and what each step does.
---     total_in t vs           the total of the set with these variables, and 0 where it has none
+--     total_in t row          the total of the set with this row, and 0 where it has none
 --     HasTotals t T           the totals are T, and below 8;  AreSmall t: they are below 8
---     ChangesTotal old new vs k   the set with these variables has the total k now, and each other what it had
+--     ChangesTotal old new row k  the set with this row has the total k now, and each other what it had
 --     Gathers g w T old new   gate g was added, where w are the labels before it
 --     Writes g w T old new a b    in the place of gate g what is left of its set was written behind a, which gave b
 --     IsMerged n gs p         the circuit gs on n wires merged, with the turn
@@ -12,23 +12,23 @@ use Rattle.std.specs.declared.alloc.Global.{Global}
 use Rattle.circuit_list.specs.declared.Gate.{Gate}
 use Rattle.circuit_list.specs.declared.Passed.{Passed}
 use Rattle.path_parity.specs.PathSum.{Wires}
-use Rattle.path_parity.specs.Sets.{set_of, IsIncreasing}
+use Rattle.path_parity.specs.Sets.{set_of, IsPacked}
 use Rattle.rotation_merge.specs.declared.totals.Totals.{Totals}
 use Rattle.rotation_merge.specs.Merging.{totals_after, constant_at, merged_gate, merged_constant, left_after, merged, constant_of}
 
 abbrev pub total_in : Totals → List ℕ → ℕ
-total_in t vs = unwrap_or (lookup (λ (k : Vec ℕ Global). pointwise nat_eq vs k.items) t.sets.entries) 0
+total_in t row = unwrap_or (lookup (λ (k : Vec ℕ Global). pointwise nat_eq row k.items) t.sets.entries) 0
 
 pub record HasTotals (t : Totals) (T : ℕ → ℕ) : Type 0 where
-  pub at : (vs : List ℕ) → IsIncreasing vs → total_in t vs ≡ T (set_of vs)
+  pub at : (row : List ℕ) → IsPacked row → total_in t row ≡ T (set_of row)
   pub below : (s : ℕ) → T s < 8
 
 abbrev pub AreSmall : Totals → Type 0
-AreSmall t = (vs : List ℕ) → IsIncreasing vs → total_in t vs < 8
+AreSmall t = (row : List ℕ) → IsPacked row → total_in t row < 8
 
-pub record ChangesTotal (old new : Totals) (vs : List ℕ) (k : ℕ) : Type 0 where
-  pub here : total_in new vs ≡ k
-  pub others : (ws : List ℕ) → ws ≢ vs → total_in new ws ≡ total_in old ws
+pub record ChangesTotal (old new : Totals) (row : List ℕ) (k : ℕ) : Type 0 where
+  pub here : total_in new row ≡ k
+  pub others : (other : List ℕ) → other ≢ row → total_in new other ≡ total_in old other
 
 pub record Gathers (g : Gate) (w : Wires) (T : ℕ → ℕ) (old new : Totals) : Type 0 where
   pub totals : HasTotals new (totals_after g w T)

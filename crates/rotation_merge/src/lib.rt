@@ -4,16 +4,16 @@
 //! that of a pass (`rewrite_pass`): the circuit is the same up to w^turn, with no more T gates, CNOTs and odd path parities;
 //! it takes exactly as many T gates as it has odd path parities; and either it has fewer gates, or it is what went in.
 //!
-//! A circuit is always fine, so nothing is refused: the only error is want of memory. A CNOT and a phase take time and
-//! memory in the number of path variables of their wires, and each other gate takes the time to put one in.
+//! A circuit is always fine, so nothing is refused: the only error is want of memory. A CNOT and a phase take time in the words
+//! of their wires' labels (`path_parity`), and each other gate takes the time to put one in. Memory holds the labels of the
+//! wires and one for each set that has a phase.
 #![tactic(auto)]
 
 #[cfg(test)]
 mod tests;
 mod totals;
 
-ghost use Rattle.std.specs.Prelude.{◌≡◌, ℕ, ◌%◌, List, All, IfOk};
-ghost use Rattle.circuit_list.specs.declared.Gate.{Gate};
+ghost use Rattle.std.specs.Prelude.{◌≡◌, ◌%◌, All, IfOk};
 ghost use Rattle.circuit_list.specs.Gates.{IsFine, ops};
 ghost use Rattle.rewrite_pass.specs.Law.{IsSmallerOrSame};
 ghost use Rattle.rotation_merge.specs.Merging.{constant_of, totals_of};
@@ -58,7 +58,7 @@ fn gathered(alloc: Global, body: &Circuit) -> Result<Totals, AllocError>
     'gates: for i in 0..body.len() {
         let gate = body.gate(i);
         totals.gather(alloc, &walk, gate)?;
-        walk.pass(alloc, gate)?;
+        walk.pass(gate)?;
     }
     Ok(totals)
 }
@@ -75,7 +75,7 @@ fn rewritten(alloc: Global, body: &Circuit, mut totals: Totals) -> Result<Passed
     'gates: for i in 0..body.len() {
         let gate = body.gate(i);
         totals.write(&mut written, &walk, gate)?;
-        walk.pass(alloc, gate)?;
+        walk.pass(gate)?;
     }
     let turn = (8 - totals.constant % 8) % 8;
     Ok(Passed {

@@ -1,9 +1,9 @@
 //! What the phases of a circuit add up to.
 
-ghost use Rattle.std.specs.Prelude.{◌≡◌, ℕ, ◌+◌, ◌%◌, ◌<◌, ◌≤◌, ◌++◌, List, IfOk, OnOk, length};
+ghost use Rattle.std.specs.Prelude.{◌≡◌, ℕ, ◌+◌, ◌%◌, ◌<◌, ◌≤◌, ◌++◌, List, OnOk, length};
 ghost use Rattle.circuit_list.specs.Gates.{IsFine};
 ghost use Rattle.path_parity.specs.LabelWalks.{labels_at};
-ghost use Rattle.path_parity.specs.Sets.{IsLabel, label_of};
+ghost use Rattle.path_parity.specs.Sets.{label_of};
 ghost use Rattle.rotation_merge.specs.Merging.{constant_phase, kept_constant, kept_phase, signed_phase};
 ghost use Rattle.rotation_merge.specs.Sums.{AreSmall, ChangesTotal, Gathers, HasTotals, Writes, total_in};
 
@@ -12,8 +12,7 @@ use indexmap::IndexMap;
 use path_parity::{Label, Walk};
 use std::alloc::{AllocError, Global};
 
-/// The total of each set of path variables, modulo 8, the set by its variables in order; and the constant, whose value counts
-/// modulo 8.
+/// The total of each set of path variables, modulo 8, the set by its row of bits; and the constant, whose value counts modulo 8.
 #[derive(Drop)]
 pub struct Totals {
     pub sets: IndexMap<Vec<u64>, u8>,
@@ -38,9 +37,12 @@ impl Totals {
         ensures total { OnOk result (ChangesTotal self.old self.new set.now ((total_in self.old set.now + k) % 8)) }
         ensures constant { self.new.constant ≡ self.old.constant }
     {
-        let had = self.sets.get(set).copied().unwrap_or(0);
+        if let Some(total) = self.sets.get_mut(set) {
+            *total = (*total % 8 + k) % 8;
+            return Ok(());
+        }
         let key = Vec::from_slice(alloc, set)?;
-        self.sets.insert(key, (had % 8 + k) % 8)?;
+        self.sets.insert(key, k % 8)?;
         Ok(())
     }
 
@@ -56,11 +58,11 @@ impl Totals {
     /// Adds a phase of a wire with this label.
     fn add_phase(&mut self, alloc: Global, label: &Label, k: u8) -> Result<(), AllocError>
         requires { k < 8 }
-        ensures total { OnOk result (ChangesTotal self.old self.new label.now.variables.items
-            ((total_in self.old label.now.variables.items + signed_phase (label_of label.now) k) % 8)) }
+        ensures total { OnOk result (ChangesTotal self.old self.new label.now.set.items
+            ((total_in self.old label.now.set.items + signed_phase (label_of label.now) k) % 8)) }
         ensures constant { OnOk result (self.new.constant % 8 ≡ (self.old.constant + constant_phase (label_of label.now) k) % 8) }
     {
-        self.add(alloc, &label.variables, signed(label, k))?;
+        self.add(alloc, &label.set, signed(label, k))?;
         self.constant = (self.constant % 8 + constant_part(label, k)) % 8;
         Ok(())
     }
@@ -73,13 +75,13 @@ impl Totals {
         q: u32,
     ) -> Result<(), AllocError>
         requires there { q < written.old.wires }
-        requires small { total_in self.old label.now.variables.items < 8 }
+        requires small { total_in self.old label.now.set.items < 8 }
         ensures wires { written.new.wires ≡ written.old.wires }
-        ensures gates { OnOk result (written.new.gates ≡ written.old.gates ++ kept_phase (label_of label.now) (total_in self.old label.now.variables.items) q) }
-        ensures total { OnOk result (ChangesTotal self.old self.new label.now.variables.items 0) }
-        ensures constant { OnOk result ((self.new.constant + kept_constant (label_of label.now) (total_in self.old label.now.variables.items)) % 8 ≡ self.old.constant % 8) }
+        ensures gates { OnOk result (written.new.gates ≡ written.old.gates ++ kept_phase (label_of label.now) (total_in self.old label.now.set.items) q) }
+        ensures total { OnOk result (ChangesTotal self.old self.new label.now.set.items 0) }
+        ensures constant { OnOk result ((self.new.constant + kept_constant (label_of label.now) (total_in self.old label.now.set.items)) % 8 ≡ self.old.constant % 8) }
     {
-        let total = self.take(&label.variables);
+        let total = self.take(&label.set);
         if total == 0 {
             return Ok(());
         }

@@ -10,7 +10,7 @@ places-preserved c =
     let b = c.args.circuit.now in
     record {
       wires = c.in_ok-pass.ensures.wires ∙ c.places.invariant.wires;
-      increasing = c.in_ok-note.ensures.increasing;
+      packed = c.in_ok-note.ensures.packed;
       labels = labels-step b.gates c.places.place c.gate-gate.result (map label_of c.places.list.items) (map label_of c.note.new.list.items) (labels_at c.places.walk) (labels_at c.pass.new.self)
           c.places.walk.unused c.pass.new.self.unused (phase_labels b.gates (own_labels b.wires) b.wires)
           c.gate-gate.ensures.there c.in_ok-note.ensures.labels c.in_ok-pass.ensures.labels c.in_ok-pass.ensures.unused c.places.invariant.labels;

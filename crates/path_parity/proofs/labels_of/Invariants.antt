@@ -8,6 +8,6 @@ use Rattle.path_parity.proofs.labels_of.Given as goal
 abbrev pub invariant-places : goal.invariant-places
 invariant-places l = record {
   wires : length l.walk.labels ≡ l.circuit.wires;
-  increasing : All IsLabel l.list.items;
+  packed : All IsLabel l.list.items;
   labels : map label_of l.list.items ++ phase_labels (drop l.place l.circuit.gates) (labels_at l.walk) l.walk.unused ≡ phase_labels l.circuit.gates (own_labels l.circuit.wires) l.circuit.wires;
 }

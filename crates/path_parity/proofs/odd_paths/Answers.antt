@@ -1,10 +1,10 @@
-use Rattle.std.proofs.Common.{◌≡◌, ◌∙◌, [], sym, ap}
+use Rattle.std.proofs.Common.{◌≡◌, ◌∙◌, [], sym, ap, arith}
 use Rattle.circuit_list.specs.Gates.{ops}
 use Rattle.unitary_model.specs.OddPaths.{odd_paths}
 use Rattle.path_parity.specs.LabelWalks.{labels_at}
 use Rattle.path_parity.specs.PathSum.{own_labels}
 use Rattle.path_parity.specs.OddLabels.{odd_set, odd_sets, odd_size, toggled_all}
-use Rattle.path_parity.proofs.LoopLaws.{odd-step}
+use Rattle.path_parity.proofs.LoopLaws.{odd-end, odd-step}
 use Rattle.path_parity.proofs.OddLaws.{odd_paths-sets}
 use Rattle.path_parity.proofs.odd_paths.Goals as goal
 
@@ -34,3 +34,9 @@ places-preserved c =
             c.gate-gate.ensures.there c.in_ok-pass.ensures.labels c.in_ok-pass.ensures.unused o.2,
       );
     }
+
+pub returns : goal.returns
+returns c =
+    let b = c.args.circuit.now in
+    let o = c.places.invariant.odd in
+    record { size = c.len.ensures.size o.0 o.1 ∙ odd-end b.gates c.places.place o.0 (labels_at c.places.walk) c.places.walk.unused (odd_paths b.wires (ops b.gates)) (omega arith) o.2 }

@@ -8,5 +8,5 @@ abbrev pub invariant-wires : goal.invariant-wires
 invariant-wires l = record {
   wires : length l.labels.items ≡ l.q;
   labels : labels_of_list (map label_of l.labels.items) ≡ own_labels l.q;
-  increasing : All IsLabel l.labels.items;
+  packed : All IsLabel l.labels.items;
 }

@@ -9,5 +9,5 @@ use Rattle.rotation_merge.proofs.totals.Totals.gather.Goals as goal
 pub returns-in_ok-add_phase-in-P : goal.returns-in_ok-add_phase-in-P
 returns-in_ok-add_phase-in-P c = λ T h.
     subst (λ (g : Gate). Gathers g (labels_at c.args.walk.now) T c.args.self.now c.add_phase.new.self) (sym c.in-P.is)
-    (gathers_phase (labels_at c.args.walk.now) T c.args.self.now c.add_phase.new.self c.label.result.now c.in-P.k c.in-P.q c.label.ensures.label c.label.ensures.increasing
+    (gathers_phase (labels_at c.args.walk.now) T c.args.self.now c.add_phase.new.self c.label.result.now c.in-P.k c.in-P.q c.label.ensures.label c.label.ensures.packed
     c.in_ok-add_phase-in-P.ensures.total c.in_ok-add_phase-in-P.ensures.constant h)

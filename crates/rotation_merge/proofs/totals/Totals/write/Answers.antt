@@ -10,5 +10,5 @@ pub returns-in_ok-write_phase-in-P-clause-writes : goal.returns-in_ok-write_phas
 returns-in_ok-write_phase-in-P-clause-writes c = λ T h.
     subst (λ (g : Gate). Writes g (labels_at c.args.walk.now) T c.args.self.now c.write_phase.new.self c.args.written.now.gates c.write_phase.new.written.gates) (sym c.in-P.is)
     (writes_phase (labels_at c.args.walk.now) T c.args.self.now c.write_phase.new.self c.args.written.now.gates c.write_phase.new.written.gates
-    c.label.result.now c.in-P.k c.in-P.q c.label.ensures.label c.label.ensures.increasing
+    c.label.result.now c.in-P.k c.in-P.q c.label.ensures.label c.label.ensures.packed
     c.in_ok-write_phase-in-P.ensures.gates c.in_ok-write_phase-in-P.ensures.total c.in_ok-write_phase-in-P.ensures.constant h)
