@@ -3,7 +3,7 @@
 --   pop-none, pop-first   a list whose last element is taken away, read from its end
 --   closes-last    the last frame tells whether the first of the stack closes
 --   stacks         what the code of frames needs
-use Rattle.std.proofs.Common.{◌≡◌, ◌<◌, ◌-◌, ◌∙◌, ℕ, true, false, List, [], ◌∷◌, ◌++◌, refl, sym, ap, subst, Option, Some, None, arith, drop, get_or, length, nat_le, reverse, slice_get}
+use Rattle.std.proofs.Common.{◌≡◌, ◌<◌, ◌-◌, ◌∙◌, ℕ, true, false, List, [], ◌∷◌, ◌++◌, refl, sym, ap, subst, Option, Some, arith, drop, get_or, length, nat_le, reverse, slice_get}
 use Rattle.std.proofs.lemmas.List.{get_or-reverse, length-reverse, reverse-append}
 use Rattle.std.proofs.lemmas.Option.{get_or_from_slice_get, slice_get_within}
 use Rattle.angle_fraction.specs.declared.signs.Binary.{Binary}
