@@ -12,6 +12,12 @@ use std::marker::Model;
 /// The greatest size of a part, 2^62.
 const MOST_PART: u128 = 1 << 62;
 
+/// Numbers below it have 64 bits.
+const LARGE: u128 = 1 << 63;
+
+/// The same, of numbers with a sign.
+const SIGNED_LARGE: i128 = 1 << 63;
+
 /// A fraction in lowest terms, its denominator above 0, both parts at most 2^62 in size.
 #[derive(Clone, Copy, Debug, PartialEq, Eq)]
 pub struct Frac {
@@ -74,8 +80,8 @@ impl Frac {
     }
 }
 
-/// The greatest common divisor.
-fn greatest_divisor(a: u128, b: u128) -> u128
+/// The greatest common divisor of two numbers of 64 bits.
+fn narrow_divisor(a: u64, b: u64) -> u64
     ensures { IsGcd a b result }
 {
     let (mut x, mut y) = (a, b);
@@ -85,6 +91,35 @@ fn greatest_divisor(a: u128, b: u128) -> u128
         y = rest;
     }
     x
+}
+
+/// The greatest common divisor of two numbers of any size.
+fn wide_divisor(a: u128, b: u128) -> u128
+    ensures { IsGcd a b result }
+{
+    let (mut x, mut y) = (a, b);
+    while y != 0 {
+        let rest = x % y;
+        x = y;
+        y = rest;
+    }
+    x
+}
+
+/// The greatest common divisor; most often both numbers have 64 bits.
+fn greatest_divisor(a: u128, b: u128) -> u128
+    ensures { IsGcd a b result }
+{
+    if b == 1 {
+        return 1;
+    }
+    if a == 0 {
+        return b;
+    }
+    if a < LARGE && b < LARGE {
+        return u128::from(narrow_divisor(a as u64, b as u64));
+    }
+    wide_divisor(a, b)
 }
 
 /// The greatest common divisor of two parts.
@@ -102,6 +137,12 @@ fn divided(num: i128, by: i128) -> i128
     requires { pos 0 <ℤ by }
     ensures { result ≡ int_div num by }
 {
+    if by == 1 {
+        return num;
+    }
+    if -SIGNED_LARGE < num && num < SIGNED_LARGE && by < SIGNED_LARGE {
+        return i128::from((num as i64) / (by as i64));
+    }
     num / by
 }
 

@@ -17,10 +17,19 @@ use crate::table::{LINES, Line, NAMES, PRIMITIVES, SHAPES, STANDARD, TableAngle}
 use angle_fraction::{Binary, Frac, lowest};
 use std::alloc::{AllocError, Global};
 
-/// Whether two names are one.
+/// Whether two names are one, told by the first byte where it is another.
 fn is_same(a: &[u8], b: &[u8]) -> bool
     ensures { result ≡ bytes_eq a.now b.now }
 {
+    let [first, ..] = a else {
+        return a == b;
+    };
+    let [other, ..] = b else {
+        return a == b;
+    };
+    if *first != *other {
+        return false;
+    }
     a == b
 }
 
@@ -72,10 +81,10 @@ pub fn is_standard(name: &[u8]) -> bool
 pub fn own_number(included: bool, name: &[u8]) -> Option<usize>
     ensures { result ≡ own_number included name.now }
 {
-    if name == b"U".as_slice() {
+    if is_same(name, b"U".as_slice()) {
         return Some(0);
     }
-    if name == b"CX".as_slice() {
+    if is_same(name, b"CX".as_slice()) {
         return Some(1);
     }
     if !included {

@@ -21,11 +21,8 @@ pub fn knows<'a>(params: &Indices<'a>, tree: &'a Expr) -> bool
         Expr::Neg(part) => knows(params, part),
         Expr::Paren(part) => knows(params, part),
         Expr::Call { function: _, arg } => knows(params, arg),
-        Expr::Binary {
-            sign: _,
-            left,
-            right,
-        } => knows(params, left) && knows(params, right),
+        Expr::Binary { sign: _, sides } => knows(params, &sides.left)
+            && knows(params, &sides.right),
     }
 }
 
@@ -50,9 +47,9 @@ pub fn bind<'a>(alloc: Global, params: &Indices<'a>, tree: &'a Expr) -> Result<F
                 arg,
             })
         }
-        Expr::Binary { sign, left, right } => {
-            let left = bind(alloc, params, left)?;
-            let right = bind(alloc, params, right)?;
+        Expr::Binary { sign, sides } => {
+            let left = bind(alloc, params, &sides.left)?;
+            let right = bind(alloc, params, &sides.right)?;
             let left = Box::new(alloc, left)?;
             let right = Box::new(alloc, right)?;
             Ok(Formula::Binary {

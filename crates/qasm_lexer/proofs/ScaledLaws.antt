@@ -5,15 +5,19 @@
 --   scaled-nought      no digit but 0
 --   scaled-far         an exponent past any text's length has the answer of a lesser one
 --   decimal_by         the value of a text, by its parts
-use Rattle.std.proofs.Common.{◌≡◌, ◌⊎◌, inl, inr, ℕ, ◌+◌, ◌*◌, ◌^◌, ◌<◌, ◌≤◌, Bool, true, false, ◌++◌, Ok, Err, refl, sym, ap, ◌∙◌, subst, arith, length, length-append, min}
-use Rattle.std.proofs.Math.Nat.{zero-mul, pos_of_ne-zero}
+--   decimal_few        the same of a text without an exponent
+use Rattle.std.proofs.Common.{◌≡◌, ◌⊎◌, inl, inr, ℕ, ◌+◌, ◌*◌, ◌^◌, ◌<◌, ◌≤◌, Bool, true, false, [], ◌++◌, Ok, Err, pos, drop, refl, sym, ap, ◌∙◌, subst, arith, length, length-append, length-take, min}
+use Rattle.std.proofs.Math.Nat.{zero-mul, mul-one, pow-zero, pos_of_ne-zero}
+use Rattle.std.proofs.lemmas.List.{drop_all}
+use Rattle.std.specs.List.{prefix_len}
+use Rattle.std.specs.Char.{is_ascii_digit}
 use Rattle.std.proofs.lemmas.Bool.{cases_lt, cases_eq}
-use Rattle.angle_fraction.specs.Fraction.{nought}
+use Rattle.angle_fraction.specs.Fraction.{Fraction, fraction, nought}
 use Rattle.angle_fraction.specs.Angles.{fitted}
 use Rattle.angle_fraction.specs.declared.AngleFault.TheVariants.{Range}
 use Rattle.qasm_lexer.specs.Forms.{Bytes}
 use Rattle.qasm_lexer.specs.Numbers.{begins_with}
-use Rattle.qasm_lexer.specs.Numbers.{decimal, exponent, exponent_size, front_digits, front_number, number, part_digits, scaled}
+use Rattle.qasm_lexer.specs.Numbers.{behind_point, decimal, exponent, exponent_size, front_digits, past_digits, front_number, number, part_digits, scaled}
 use Rattle.qasm_lexer.proofs.DigitLaws.{front_number-lt, front_number-more, number-front}
 use Rattle.qasm_lexer.proofs.ValueLaws.{LowestLaws, nought_value}
 use Rattle.qasm_lexer.proofs.TailLaws.{far_down, far_up, ten_pow}
@@ -26,6 +30,24 @@ with_zeros w p k = ap (λ n. front_number (w ++ p) (n + k)) (sym (length-append 
 
 pub digits_short : (w p : Bytes) → number (w ++ p) < 10 ^ (length w + length p)
 digits_short w p = subst (λ n. n < 10 ^ (length w + length p)) (all_digits w p) (front_number-lt (w ++ p) (length w + length p))
+
+-- ---- without an exponent
+abbrev with_exponent : Bytes → Bytes → Bytes → Fraction
+with_exponent w p e = scaled (w ++ p) (length p) (begins_with 45 e) (exponent_size e)
+
+no_exponent : (w p : Bytes) → with_exponent w p [] ≡ fraction (pos (number (w ++ p))) (10 ^ length p)
+unfolding scaled number
+no_exponent w p = ap (λ n. fraction (pos n) (10 ^ length p)) (rw pow-zero (mul-one (number (w ++ p))))
+
+pub decimal_few : (t w b p : Bytes) → w ≡ front_digits t → b ≡ behind_point t → p ≡ front_digits b → length p ≡ length b
+    → fraction (pos (number (w ++ p))) (10 ^ length p) ≡ decimal t
+decimal_few t w b p e f g long =
+    let size : length p ≡ min (prefix_len is_ascii_digit b) (length b) = ap length g ∙ length-take (prefix_len is_ascii_digit b) b in
+    let none : past_digits b ≡ [] = drop_all (prefix_len is_ascii_digit b) b (omega arith) in
+    let ends : exponent t ≡ [] = ap (λ (z : Bytes). drop 1 (past_digits z)) (sym f) ∙ ap (λ (z : Bytes). drop 1 z) none in
+    let part : p ≡ part_digits t = g ∙ ap (λ (z : Bytes). front_digits z) f in
+    sym (no_exponent w p) ∙ ap (λ (z : Bytes). with_exponent w p z) (sym ends)
+    ∙ ap (λ (z : Bytes). with_exponent z p (exponent t)) e ∙ ap (λ (z : Bytes). with_exponent (front_digits t) z (exponent t)) part
 
 -- ---- by what lowest terms are
 module _ (laws : LowestLaws) where

@@ -214,8 +214,8 @@ fn exponent(text: &[u8]) -> &[u8]
     }
 }
 
-/// The exact value of a number.
-pub fn number(text: &[u8]) -> Result<Frac, AngleFault>
+/// The value of a number that is written at length.
+fn long_number(text: &[u8]) -> Result<Frac, AngleFault>
     requires { length text.now < 2 ^ 32 }
     ensures { result ≡ fitted (decimal text.now) }
 {
@@ -224,4 +224,28 @@ pub fn number(text: &[u8]) -> Result<Frac, AngleFault>
     let power = exponent(text);
     let size = exponent_size(front_digits(after(power, exponent_sign_len(power))));
     scaled(front_digits(text), part, begins_with(power, b'-'), size)
+}
+
+/// Two runs of digits with the point between them, no more than 18.
+fn few_digits(whole: &[u8], part: &[u8]) -> Result<Frac, AngleFault>
+    requires { length whole.now + length part.now ≤ 18 }
+    ensures { result ≡ fitted (fraction (pos (number (whole.now ++ part.now))) (10 ^ length part.now)) }
+{
+    let num = head(whole, part, whole.len() + part.len());
+    let den = 10u64.pow(part.len() as u32);
+    lowest(i128::from(num), i128::from(den))
+}
+
+/// The exact value of a number.
+pub fn number(text: &[u8]) -> Result<Frac, AngleFault>
+    requires { length text.now < 2 ^ 32 }
+    ensures { result ≡ fitted (decimal text.now) }
+{
+    let whole = front_digits(text);
+    let behind = behind_point(text);
+    let part = front_digits(behind);
+    if part.len() == behind.len() && whole.len() + part.len() <= 18 {
+        return few_digits(whole, part);
+    }
+    long_number(text)
 }

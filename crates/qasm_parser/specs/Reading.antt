@@ -6,6 +6,7 @@
 --   onto             what was read before that, put in front
 --   list_of          at least one, with commas between
 --   name_of, whole_of, bracketed_of, index_of, arg_of, angle_of   members of lists and their parts
+--   first_word       the reserved word that comes next
 --   begins_word      this reserved word comes next
 --   head_of, application_of, action_of, item_of, params_of, names_of, statement_of, tree_of   the forms of programs
 use Rattle.std.specs.Prelude.{ℕ, zero, suc, nat_eq, Bool, true, false, List, [], ◌∷◌, ◌++◌, Option, Some, None, ℤ, pos, negsuc, codes, length, if◌then◌else◌, option_and_then, option_map}
@@ -236,6 +237,10 @@ word_code Barrier = 9
 word_code Pi = 10
 word_code U = 11
 word_code Cx = 12
+
+abbrev pub first_word : List Symbol → Option Keyword
+first_word [] = None
+first_word (t ∷ ts) = elim t [ word w ↦ Some w | _ ↦ None ]
 
 abbrev pub begins_word : Keyword → List Symbol → Bool
 begins_word k [] = false

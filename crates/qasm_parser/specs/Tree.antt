@@ -76,7 +76,7 @@ expression (Param name) = param name
 expression (Neg' p part) = negated (expression part)
 expression (Paren' p part) = paren (expression part)
 expression (Call' function p part) = call function (expression part)
-expression (Binary' sign p left q right) = binary sign (expression left) (expression right)
+expression (Binary' sign p left right) = binary sign (expression left) (expression right)
 
 abbrev pub application : Apply → Application
 application a = record { gate = a.gate; angles = map expression a.angles.items; args = a.args.items }

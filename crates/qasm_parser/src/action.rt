@@ -8,7 +8,7 @@ ghost use Rattle.qasm_parser.specs.Reading.{action_of, all, application_of, barr
 
 use crate::apply::{application, earlier};
 use crate::cursor::Cursor;
-use crate::lists::{arg, args, expect, is_next, take_word};
+use crate::lists::{arg, args, expect, is_next, is_word, next_word, take_word};
 use crate::stop::Stop;
 use crate::symbols::{Keyword, Mark};
 use crate::tree::Stmt;
@@ -77,10 +77,13 @@ pub fn action(alloc: Global, cursor: &mut Cursor<'_>) -> Result<(Stmt, Option<us
     ensures err { IfErr result (IsMisread (action_of depth_limit cursor.old) (length cursor.old)) }
     ensures rest { OnOk result (length cursor.new ≤ length cursor.old) }
 {
-    if take_word(cursor, Keyword::Measure) {
+    let word = next_word(cursor);
+    if is_word(word, Keyword::Measure) {
+        cursor.advance();
         return Ok((measure(alloc, cursor)?, None));
     }
-    if take_word(cursor, Keyword::Reset) {
+    if is_word(word, Keyword::Reset) {
+        cursor.advance();
         return Ok((reset(alloc, cursor)?, None));
     }
     applying(alloc, cursor, false)

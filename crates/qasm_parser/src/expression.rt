@@ -12,7 +12,7 @@ ghost use Rattle.qasm_parser.specs.declared.symbols.Mark.TheVariants.{Open};
 ghost use Rattle.qasm_parser.specs.declared.stop.Stop.TheVariants.{Misfit};
 
 use crate::cursor::Cursor;
-use crate::frames::{Frame, binding, reduce};
+use crate::frames::{Frame, Frames, binding, reduce};
 use crate::growth::{applied, parenthesised};
 use crate::part::{Part, atom, number};
 use crate::stop::Stop;
@@ -46,9 +46,9 @@ fn open(cursor: &mut Cursor<'_>) -> Result<(), Stop>
 
 /// Where a part is to come: an atom, or what begins one.
 #[tactic(auto, using(crate::proofs::FrameLaws::stacks))]
-fn begin(alloc: Global, cursor: &mut Cursor<'_>, frames: &mut Vec<Frame>) -> Result<Mode, Stop>
-    ensures ok { IfOk result (λ m. run depth_limit (stack frames.old.items) front cursor.old ≡ go (stack frames.new.items) m cursor.new) }
-    ensures err { IfErr result (IsMisread (run depth_limit (stack frames.old.items) front cursor.old) (length cursor.old)) }
+fn begin(alloc: Global, cursor: &mut Cursor<'_>, frames: &mut Frames) -> Result<Mode, Stop>
+    ensures ok { IfOk result (λ m. run depth_limit (stack frames.old) front cursor.old ≡ go (stack frames.new) m cursor.new) }
+    ensures err { IfErr result (IsMisread (run depth_limit (stack frames.old) front cursor.old) (length cursor.old)) }
     ensures shorter { OnOk result (length cursor.new < length cursor.old) }
 {
     let left = cursor.left();
@@ -58,18 +58,18 @@ fn begin(alloc: Global, cursor: &mut Cursor<'_>, frames: &mut Vec<Frame>) -> Res
     match symbol {
         Symbol::Sign(Binary::Sub) => {
             cursor.advance();
-            frames.push(Frame::Minus)?;
+            frames.push_minus()?;
             Ok(Mode::Front)
         }
         Symbol::Mark(Mark::Open) => {
             cursor.advance();
-            frames.push(Frame::Paren)?;
+            frames.push_paren()?;
             Ok(Mode::Front)
         }
         Symbol::Function(function) => {
             cursor.advance();
             open(cursor)?;
-            frames.push(Frame::Call(function))?;
+            frames.push_call(function)?;
             Ok(Mode::Front)
         }
         Symbol::Whole | Symbol::Real => {
@@ -95,27 +95,28 @@ fn begin(alloc: Global, cursor: &mut Cursor<'_>, frames: &mut Vec<Frame>) -> Res
 fn close(
     alloc: Global,
     cursor: &mut Cursor<'_>,
-    frames: &mut Vec<Frame>,
+    frames: &mut Frames,
     part: Option<Part>,
 ) -> Result<Mode, Stop>
     requires { 0 < length cursor.old }
-    ensures ok { IfOk result (λ m. parenthesis depth_limit (stack frames.old.items) (part_of part) cursor.old ≡ go (stack frames.new.items) m cursor.new) }
-    ensures err { IfErr result (IsMisread (parenthesis depth_limit (stack frames.old.items) (part_of part) cursor.old) (length cursor.old)) }
+    ensures ok { IfOk result (λ m. parenthesis depth_limit (stack frames.old) (part_of part) cursor.old ≡ go (stack frames.new) m cursor.new) }
+    ensures err { IfErr result (IsMisread (parenthesis depth_limit (stack frames.old) (part_of part) cursor.old) (length cursor.old)) }
     ensures shorter { IfOk result (λ m. steps m (length cursor.new) < 2 * length cursor.old + 1) }
 {
     let left = cursor.left();
-    match frames.pop() {
-        None => Ok(Mode::Done(part)),
-        Some(Frame::Paren) => {
+    let Some((frame, _)) = frames.pop() else {
+        return Ok(Mode::Done(part));
+    };
+    match frame {
+        Frame::Paren => {
             cursor.advance();
             Ok(Mode::Behind(parenthesised(alloc, part)?))
         }
-        Some(Frame::Call(function)) => {
+        Frame::Call(function) => {
             cursor.advance();
             Ok(Mode::Behind(applied(alloc, function, part)?))
         }
-        Some(Frame::Minus) => Err(Stop::Misfit { left }),
-        Some(Frame::Left { sign: _, left: _ }) => Err(Stop::Misfit { left }),
+        Frame::Minus | Frame::Left(_) => Err(Stop::Misfit { left }),
     }
 }
 
@@ -124,11 +125,11 @@ fn close(
 fn after(
     alloc: Global,
     cursor: &mut Cursor<'_>,
-    frames: &mut Vec<Frame>,
+    frames: &mut Frames,
     part: Option<Part>,
 ) -> Result<Mode, Stop>
-    ensures ok { IfOk result (λ m. run depth_limit (stack frames.old.items) (behind (part_of part)) cursor.old ≡ go (stack frames.new.items) m cursor.new) }
-    ensures err { IfErr result (IsMisread (run depth_limit (stack frames.old.items) (behind (part_of part)) cursor.old) (length cursor.old)) }
+    ensures ok { IfOk result (λ m. run depth_limit (stack frames.old) (behind (part_of part)) cursor.old ≡ go (stack frames.new) m cursor.new) }
+    ensures err { IfErr result (IsMisread (run depth_limit (stack frames.old) (behind (part_of part)) cursor.old) (length cursor.old)) }
     ensures shorter { IfOk result (λ m. steps m (length cursor.new) < 2 * length cursor.old + 1) }
 {
     let left = cursor.left();
@@ -136,7 +137,7 @@ fn after(
         Some(Symbol::Sign(sign)) => {
             cursor.advance();
             let left = reduce(alloc, frames, part, binding(sign))?;
-            frames.push(Frame::Left { sign, left })?;
+            frames.push_left(sign, left)?;
             Ok(Mode::Front)
         }
         Some(Symbol::Mark(Mark::Close)) => {
@@ -160,7 +161,7 @@ pub fn sum(alloc: Global, cursor: &mut Cursor<'_>) -> Result<Option<Part>, Stop>
     ensures err { IfErr result (IsMisread (sum_of depth_limit cursor.old) (length cursor.old)) }
     ensures rest { OnOk result (length cursor.new ≤ length cursor.old) }
 {
-    let mut frames = Vec::new(alloc);
+    let mut frames = Frames::new(alloc);
     let mut mode = Mode::Front;
     'steps: loop {
         mode = match mode {

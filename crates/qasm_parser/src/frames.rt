@@ -1,23 +1,32 @@
 //! What was begun in an expression and waits for its right part, the last on top.
 
-ghost use Rattle.std.specs.Prelude.{◌≡◌, ◌≤◌, nat_le, IfOk};
-ghost use Rattle.qasm_parser.specs.Tree.{depth_limit};
-ghost use Rattle.qasm_parser.specs.Machine.{Frame as SpecFrame, binding, closed, closes, reduce, reduced, tightness};
+ghost use Rattle.std.specs.Prelude.{◌≡◌, ◌≤◌, ◌↔◌, ◌++◌, ◌∷◌, [], IsTrue, drop, nat_le, reverse, IfErr, IfOk, MatchOption, OnOk, Option};
+ghost use Rattle.qasm_parser.specs.Tree.{Expression as SpecExpression, depth_limit};
+ghost use Rattle.qasm_parser.specs.Machine.{before, binding, called, closed, closes, minus, opened, reduce, reduced, tightness};
 ghost use Rattle.qasm_parser.specs.Parts.{part_of};
-ghost use Rattle.qasm_parser.specs.Frames.{frame_of, stack};
+ghost use Rattle.qasm_parser.specs.Frames.{first_left, frame_with, stack};
+ghost use Rattle.qasm_parser.specs.declared.stop.Stop.TheVariants.{NoMemory};
 
 use crate::growth::{applied, joined, negated, parenthesised};
 use crate::part::Part;
+use crate::stop::Stop;
 use angle_fraction::{Binary, Function};
 use std::alloc::{AllocError, Global};
 
-/// A minus, a parenthesis, a function's parenthesis, or a left part and its sign.
-#[derive(Drop)]
+/// A minus, a parenthesis, a function's parenthesis, or the sign behind a left part.
+#[derive(Clone, Copy)]
 pub enum Frame {
     Minus,
     Paren,
     Call(Function),
-    Left { sign: Binary, left: Option<Part> },
+    Left(Binary),
+}
+
+/// Frames, and the left parts of those that have one: a frame without one takes two bytes.
+#[derive(Drop)]
+pub struct Frames {
+    kinds: Vec<Frame>,
+    lefts: Vec<Option<Part>>,
 }
 
 /// How tightly a sign binds: 1 for `+` and `-`, 2 for `*` and `/`, 3 for `^`.
@@ -31,42 +40,139 @@ pub fn binding(sign: Binary) -> u8
     }
 }
 
-impl Frame {
-    /// A frame takes its right part before a sign that binds no tighter; parentheses wait for their end.
-    fn tightness(&self) -> u8
-        ensures { result ≡ tightness (frame_of self.now) }
+/// A frame takes its right part before a sign that binds no tighter; parentheses wait for their end.
+fn tightness(frame: Frame) -> u8
+    ensures { (left : Option SpecExpression) → result ≡ tightness (frame_with frame left) }
+{
+    match frame {
+        Frame::Minus => 2,
+        Frame::Paren | Frame::Call(_) => 0,
+        Frame::Left(sign) => match sign {
+            Binary::Add | Binary::Sub => 1,
+            Binary::Mul | Binary::Div | Binary::Pow => 2,
+        },
+    }
+}
+
+/// The left part on top.
+#[tactic(auto, using(crate::proofs::FrameLaws::stacks))]
+fn pop_left(lefts: &mut Vec<Option<Part>>) -> Option<Part>
+    ensures value { part_of result ≡ first_left (reverse lefts.old.items) }
+    ensures rest { reverse lefts.new.items ≡ drop 1 (reverse lefts.old.items) }
+{
+    match lefts.pop() {
+        Some(left) => left,
+        None => None,
+    }
+}
+
+impl Frames {
+    /// No frames.
+    pub fn new(alloc: Global) -> Frames
+        ensures { stack result ≡ [] }
     {
-        match self {
-            Frame::Minus => 2,
-            Frame::Paren | Frame::Call(_) => 0,
-            Frame::Left { sign, left: _ } => match sign {
-                Binary::Add | Binary::Sub => 1,
-                Binary::Mul | Binary::Div | Binary::Pow => 2,
-            },
+        Frames {
+            kinds: Vec::new(alloc),
+            lefts: Vec::new(alloc),
+        }
+    }
+
+    /// Puts a frame without a left part on top.
+    #[tactic(auto, using(crate::proofs::FrameLaws::stacks))]
+    fn push(&mut self, frame: Frame) -> Result<(), Stop>
+        ensures ok { OnOk result (self.new.kinds.items ≡ self.old.kinds.items ++ frame ∷ []) }
+        ensures lefts { self.new.lefts ≡ self.old.lefts }
+        ensures err { IfErr result (λ e. e ≡ NoMemory) }
+    {
+        self.kinds.push(frame)?;
+        Ok(())
+    }
+
+    /// Puts a minus on top.
+    #[tactic(auto, using(crate::proofs::FrameLaws::stacks))]
+    pub fn push_minus(&mut self) -> Result<(), Stop>
+        ensures ok { OnOk result (stack self.new ≡ minus ∷ stack self.old) }
+        ensures err { IfErr result (λ e. e ≡ NoMemory) }
+    {
+        self.push(Frame::Minus)
+    }
+
+    /// Puts a parenthesis on top.
+    #[tactic(auto, using(crate::proofs::FrameLaws::stacks))]
+    pub fn push_paren(&mut self) -> Result<(), Stop>
+        ensures ok { OnOk result (stack self.new ≡ opened ∷ stack self.old) }
+        ensures err { IfErr result (λ e. e ≡ NoMemory) }
+    {
+        self.push(Frame::Paren)
+    }
+
+    /// Puts a function's parenthesis on top.
+    #[tactic(auto, using(crate::proofs::FrameLaws::stacks))]
+    pub fn push_call(&mut self, function: Function) -> Result<(), Stop>
+        ensures ok { OnOk result (stack self.new ≡ called function ∷ stack self.old) }
+        ensures err { IfErr result (λ e. e ≡ NoMemory) }
+    {
+        self.push(Frame::Call(function))
+    }
+
+    /// Puts a left part and its sign on top.
+    #[tactic(auto, using(crate::proofs::FrameLaws::stacks))]
+    pub fn push_left(&mut self, sign: Binary, left: Option<Part>) -> Result<(), Stop>
+        ensures ok { OnOk result (stack self.new ≡ before sign (part_of left) ∷ stack self.old) }
+        ensures err { IfErr result (λ e. e ≡ NoMemory) }
+    {
+        self.lefts.push(left)?;
+        self.kinds.push(Frame::Left(sign))?;
+        Ok(())
+    }
+
+    /// Takes the frame on top, with its left part where it has one.
+    #[tactic(auto, using(crate::proofs::FrameLaws::stacks))]
+    pub fn pop(&mut self) -> Option<(Frame, Option<Part>)>
+        ensures { MatchOption result (stack self.old ≡ []) (λ f. stack self.old ≡ frame_with f.0 (part_of f.1) ∷ stack self.new) }
+    {
+        let frame = self.kinds.pop()?;
+        let left = match frame {
+            Frame::Left(_) => pop_left(&mut self.lefts),
+            Frame::Minus | Frame::Paren | Frame::Call(_) => None,
+        };
+        Some((frame, left))
+    }
+
+    /// Whether there is none.
+    #[tactic(auto, using(crate::proofs::FrameLaws::stacks))]
+    pub fn is_empty(&self) -> bool
+        ensures { IsTrue result ↔ (stack self.now ≡ []) }
+    {
+        self.kinds.is_empty()
+    }
+
+    /// Whether the frame on top binds at least so tightly.
+    #[tactic(auto, using(crate::proofs::FrameLaws::stacks))]
+    fn closes(&self, binding: u8) -> bool
+        ensures { result ≡ closes binding (stack self.now) }
+    {
+        match self.kinds.last() {
+            Some(frame) => tightness(*frame) >= binding,
+            None => false,
         }
     }
 }
 
 /// A frame with its right part.
-pub fn closed(alloc: Global, frame: Frame, part: Option<Part>) -> Result<Option<Part>, AllocError>
-    ensures { IfOk result (λ p. part_of p ≡ closed depth_limit (frame_of frame) (part_of part)) }
+fn closed(
+    alloc: Global,
+    frame: Frame,
+    left: Option<Part>,
+    part: Option<Part>,
+) -> Result<Option<Part>, AllocError>
+    ensures { IfOk result (λ p. part_of p ≡ closed depth_limit (frame_with frame (part_of left)) (part_of part)) }
 {
     match frame {
         Frame::Minus => negated(alloc, part),
         Frame::Paren => parenthesised(alloc, part),
         Frame::Call(function) => applied(alloc, function, part),
-        Frame::Left { sign, left } => joined(alloc, sign, left, part),
-    }
-}
-
-/// Whether the frame on top binds at least so tightly.
-#[tactic(auto, using(crate::proofs::FrameLaws::stacks))]
-fn closes(frames: &[Frame], binding: u8) -> bool
-    ensures { result ≡ closes binding (stack frames.now) }
-{
-    match frames.last() {
-        Some(frame) => frame.tightness() >= binding,
-        None => false,
+        Frame::Left(sign) => joined(alloc, sign, left, part),
     }
 }
 
@@ -74,18 +180,18 @@ fn closes(frames: &[Frame], binding: u8) -> bool
 #[tactic(auto, using(crate::proofs::FrameLaws::stacks))]
 pub fn reduce(
     alloc: Global,
-    frames: &mut Vec<Frame>,
+    frames: &mut Frames,
     part: Option<Part>,
     binding: u8,
 ) -> Result<Option<Part>, AllocError>
-    ensures { IfOk result (λ p. reduce depth_limit binding (stack frames.old.items) (part_of part) ≡ reduced (stack frames.new.items) (part_of p)) }
+    ensures { IfOk result (λ p. reduce depth_limit binding (stack frames.old) (part_of part) ≡ reduced (stack frames.new) (part_of p)) }
 {
     let mut part = part;
-    'frames: while closes(frames, binding) {
-        let Some(frame) = frames.pop() else {
+    'frames: while frames.closes(binding) {
+        let Some((frame, left)) = frames.pop() else {
             return Ok(part);
         };
-        part = closed(alloc, frame, part)?;
+        part = closed(alloc, frame, left, part)?;
     }
     Ok(part)
 }

@@ -6,7 +6,7 @@ ghost use Rattle.qasm_parser.specs.Machine.{called, closed, joined, minus, opene
 ghost use Rattle.qasm_parser.specs.Parts.{part_of};
 
 use crate::part::{DEPTH_LIMIT, Part};
-use crate::tree::Expr;
+use crate::tree::{Expr, Sides};
 use angle_fraction::{Binary, Function};
 use std::alloc::{AllocError, Global};
 
@@ -85,10 +85,13 @@ pub fn joined(
     if deepest >= DEPTH_LIMIT {
         return Ok(None);
     }
-    let left = Box::new(alloc, left.tree)?;
-    let right = Box::new(alloc, right.tree)?;
+    let sides = Sides {
+        left: left.tree,
+        right: right.tree,
+    };
+    let sides = Box::new(alloc, sides)?;
     Ok(Some(Part {
-        tree: Expr::Binary { sign, left, right },
+        tree: Expr::Binary { sign, sides },
         depth: deepest + 1,
     }))
 }

@@ -28,7 +28,7 @@ pub use angle_fraction::{Binary, Function};
 pub use laws::{accepted_has_no_fault, declares_names, few_statements, refused_once, spelt_once};
 pub use program::parse;
 use thiserror::Error;
-pub use tree::{Apply, Arg, Expr, GateDef, Name, Program, Stmt};
+pub use tree::{Apply, Arg, Expr, GateDef, Name, Program, Sides, Stmt};
 
 /// Why the tokens of a text are refused. A place is an offset in bytes.
 #[derive(Clone, Copy, Debug, PartialEq, Eq, Error)]

@@ -1,8 +1,9 @@
 //! Signs, names, numbers and arguments, and lists of them.
 
-ghost use Rattle.std.specs.Prelude.{◌≡◌, ◌≤◌, ◌<◌, Some, None, Bool, true, false, nat_eq, IfOk, IfErr, OnOk, drop, length};
+ghost use Rattle.std.specs.Prelude.{◌≡◌, ◌≤◌, ◌<◌, Some, None, Bool, true, false, nat_eq, IfOk, IfErr, OnOk, List, drop, length};
 ghost use Rattle.qasm_parser.specs.Misread.{IsMisread};
-ghost use Rattle.qasm_parser.specs.Reading.{args_of, arg_of, begins_with, begins_word, bracketed_of, index_of, list_of, mark_code, name_of, read, skip, whole_number, whole_of, word_code};
+ghost use Rattle.qasm_parser.specs.Symbols.{Symbol as SpecSymbol};
+ghost use Rattle.qasm_parser.specs.Reading.{args_of, arg_of, begins_with, begins_word, bracketed_of, first_word, index_of, list_of, mark_code, name_of, read, skip, whole_number, whole_of, word_code};
 
 use crate::cursor::Cursor;
 use crate::stop::Stop;
@@ -93,18 +94,26 @@ fn word_code(keyword: Keyword) -> u8
     }
 }
 
-/// Whether this reserved word comes next.
-fn is_word(cursor: &Cursor<'_>, keyword: Keyword) -> bool
-    ensures { result ≡ begins_word keyword cursor.now }
+/// The reserved word that comes next.
+pub fn next_word(cursor: &Cursor<'_>) -> Option<Keyword>
+    ensures { result ≡ first_word cursor.now }
 {
-    let Some(symbol) = cursor.peek() else {
-        return false;
-    };
+    let symbol = cursor.peek()?;
     match symbol {
-        Symbol::Word(found) => word_code(keyword) == word_code(found),
+        Symbol::Word(found) => Some(found),
         Symbol::Mark(_) | Symbol::Function(_) | Symbol::Name(_) | Symbol::Whole | Symbol::Real =>
-            false,
-        Symbol::Quoted(_) | Symbol::Sign(_) | Symbol::Other => false,
+            None,
+        Symbol::Quoted(_) | Symbol::Sign(_) | Symbol::Other => None,
+    }
+}
+
+/// Whether the word that comes next is this one.
+pub fn is_word(word: Option<Keyword>, keyword: Keyword) -> bool
+    ensures { (ts : List SpecSymbol) → word ≡ first_word ts → result ≡ begins_word keyword ts }
+{
+    match word {
+        Some(found) => word_code(keyword) == word_code(found),
+        None => false,
     }
 }
 
@@ -116,7 +125,7 @@ pub fn take_word(cursor: &mut Cursor<'_>, keyword: Keyword) -> bool
     ensures shorter { result ≡ true → length cursor.new < length cursor.old }
     ensures stays { result ≡ false → cursor.new ≡ cursor.old }
 {
-    if is_word(cursor, keyword) {
+    if is_word(next_word(cursor), keyword) {
         cursor.advance();
         return true;
     }

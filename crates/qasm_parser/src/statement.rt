@@ -7,7 +7,7 @@ ghost use Rattle.qasm_parser.specs.Reading.{conditional_of, gate_of, include_of,
 
 use crate::action::{action, barrier, body};
 use crate::cursor::Cursor;
-use crate::lists::{bracketed, expect, name, names, take, take_word, whole};
+use crate::lists::{bracketed, expect, is_word, name, names, next_word, take, whole};
 use crate::stop::Stop;
 use crate::symbols::{Keyword, Mark, Symbol};
 use crate::tree::{GateDef, Name, Stmt};
@@ -186,25 +186,33 @@ pub fn statement(alloc: Global, cursor: &mut Cursor<'_>) -> Result<(Stmt, Option
     ensures err { IfErr result (IsMisread (statement_of depth_limit cursor.old) (length cursor.old)) }
     ensures rest { OnOk result (length cursor.new ≤ length cursor.old) }
 {
-    if take_word(cursor, Keyword::Include) {
+    let word = next_word(cursor);
+    if is_word(word, Keyword::Include) {
+        cursor.advance();
         return Ok((include(alloc, cursor)?, None));
     }
-    if take_word(cursor, Keyword::Qreg) {
+    if is_word(word, Keyword::Qreg) {
+        cursor.advance();
         return Ok((register(alloc, cursor, true)?, None));
     }
-    if take_word(cursor, Keyword::Creg) {
+    if is_word(word, Keyword::Creg) {
+        cursor.advance();
         return Ok((register(alloc, cursor, false)?, None));
     }
-    if take_word(cursor, Keyword::Gate) {
+    if is_word(word, Keyword::Gate) {
+        cursor.advance();
         return gate(alloc, cursor);
     }
-    if take_word(cursor, Keyword::Opaque) {
+    if is_word(word, Keyword::Opaque) {
+        cursor.advance();
         return Ok((opaque(alloc, cursor)?, None));
     }
-    if take_word(cursor, Keyword::If) {
+    if is_word(word, Keyword::If) {
+        cursor.advance();
         return conditional(alloc, cursor);
     }
-    if take_word(cursor, Keyword::Barrier) {
+    if is_word(word, Keyword::Barrier) {
+        cursor.advance();
         return Ok((barrier(alloc, cursor, false)?, None));
     }
     action(alloc, cursor)

@@ -1,6 +1,6 @@
 //! Tokens as the grammar sees them.
 
-ghost use Rattle.std.specs.Prelude.{◌≡◌, ◌<◌, ◌^◌, ◌∷◌, List, length};
+ghost use Rattle.std.specs.Prelude.{◌≡◌, ◌<◌, ◌^◌, ◌∷◌, [], List, length};
 ghost use Rattle.std.specs.Str.{bytes_eq};
 ghost use Rattle.qasm_parser.specs.Symbols.{function_of, keyword_of, mark_of, sign_of, symbol_by, unquoted, word_symbol, mark_symbol, symbol_of, value_of, first_value, Symbol as SpecSymbol};
 ghost use Rattle.qasm_lexer.specs.Tokens.{IsTokenOf};
@@ -194,10 +194,36 @@ fn word_symbol(word: &[u8]) -> Symbol<'_>
     }
 }
 
+/// The symbol of a sign of one byte.
+#[tactic(auto, unfolding(crate::specs::Symbols::mark_symbol))]
+fn byte_symbol<'a>(byte: u8) -> Symbol<'a>
+    ensures { (v : Fraction) → symbol result v ≡ mark_symbol (byte ∷ []) (mark_of (byte ∷ [])) }
+{
+    match byte {
+        b';' => Symbol::Mark(Mark::Semicolon),
+        b',' => Symbol::Mark(Mark::Comma),
+        b'(' => Symbol::Mark(Mark::Open),
+        b')' => Symbol::Mark(Mark::Close),
+        b'[' => Symbol::Mark(Mark::OpenBracket),
+        b']' => Symbol::Mark(Mark::CloseBracket),
+        b'{' => Symbol::Mark(Mark::OpenBrace),
+        b'}' => Symbol::Mark(Mark::CloseBrace),
+        b'+' => Symbol::Sign(Binary::Add),
+        b'-' => Symbol::Sign(Binary::Sub),
+        b'*' => Symbol::Sign(Binary::Mul),
+        b'/' => Symbol::Sign(Binary::Div),
+        b'^' => Symbol::Sign(Binary::Pow),
+        _ => Symbol::Other,
+    }
+}
+
 #[tactic(auto, unfolding(crate::specs::Symbols::mark_symbol))]
 fn mark_symbol(sign: &[u8]) -> Symbol<'_>
     ensures { (v : Fraction) → symbol result v ≡ mark_symbol sign.now (mark_of sign.now) }
 {
+    if let [byte] = sign {
+        return byte_symbol(*byte);
+    }
     match mark_of(sign) {
         Some(mark) => Symbol::Mark(mark),
         None => match sign_of(sign) {

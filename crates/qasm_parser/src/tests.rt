@@ -87,12 +87,12 @@ fn write_tree(out: &mut Vec<u8>, tree: &Expr) -> Result<(), AllocError> {
             out.push(b'f')?;
             write_tree(out, arg)
         }
-        Expr::Binary { sign, left, right } => {
+        Expr::Binary { sign, sides } => {
             out.push(sign_of(*sign))?;
             out.push(b' ')?;
-            write_tree(out, left)?;
+            write_tree(out, &sides.left)?;
             out.push(b' ')?;
-            write_tree(out, right)
+            write_tree(out, &sides.right)
         }
     }
 }

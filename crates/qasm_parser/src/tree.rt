@@ -46,6 +46,7 @@ impl Name {
 }
 
 /// An expression, at most 64 deep in the tree of a text.
+#[cycle(expression)]
 #[derive(Drop)]
 pub enum Expr {
     /// A whole number or a real, by its exact value.
@@ -57,15 +58,16 @@ pub enum Expr {
     Neg(Box<Expr>),
     /// A pair of parentheses.
     Paren(Box<Expr>),
-    Call {
-        function: Function,
-        arg: Box<Expr>,
-    },
-    Binary {
-        sign: Binary,
-        left: Box<Expr>,
-        right: Box<Expr>,
-    },
+    Call { function: Function, arg: Box<Expr> },
+    Binary { sign: Binary, sides: Box<Sides> },
+}
+
+/// The two parts of an expression with a sign between them.
+#[cycle(expression)]
+#[derive(Drop)]
+pub struct Sides {
+    pub left: Expr,
+    pub right: Expr,
 }
 
 /// A register, or one place of it, counted from 0.

@@ -7,7 +7,7 @@ use Rattle.qasm_parser.proofs.expression.sum.Given as goal
 
 abbrev pub invariant-steps : goal.invariant-steps
 invariant-steps l = record {
-  same : go (stack l.frames.items) l.mode l.cursor ≡ sum_of depth_limit l.initial.cursor;
+  same : go (stack l.frames) l.mode l.cursor ≡ sum_of depth_limit l.initial.cursor;
   shorter : length l.cursor ≤ length l.initial.cursor;
 }
 

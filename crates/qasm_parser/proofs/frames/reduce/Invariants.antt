@@ -1,4 +1,4 @@
-use Rattle.std.proofs.Common.{◌≡◌, vec_len}
+use Rattle.std.proofs.Common.{◌≡◌, length}
 use Rattle.qasm_parser.specs.Tree.{depth_limit}
 use Rattle.qasm_parser.specs.Frames.{stack}
 use Rattle.qasm_parser.specs.Parts.{part_of}
@@ -6,7 +6,7 @@ use Rattle.qasm_parser.specs.Machine.{reduce}
 use Rattle.qasm_parser.proofs.frames.reduce.Given as goal
 
 abbrev pub invariant-frames : goal.invariant-frames
-invariant-frames l = reduce depth_limit l.binding (stack l.frames.items) (part_of l.part) ≡ reduce depth_limit l.binding (stack l.initial.frames.items) (part_of l.initial.part)
+invariant-frames l = reduce depth_limit l.binding (stack l.frames) (part_of l.part) ≡ reduce depth_limit l.binding (stack l.initial.frames) (part_of l.initial.part)
 
 abbrev pub decreases-frames : goal.decreases-frames
-decreases-frames l = vec_len l.frames
+decreases-frames l = length (stack l.frames)
