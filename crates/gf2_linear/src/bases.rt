@@ -83,6 +83,15 @@ impl Basis {
         self.rows.len()
     }
 
+    /// The pivot of a row: the least wire left when the pivots of the rows before it are taken out of it. A sum of
+    /// rows that has none of the pivots has no wire.
+    pub fn pivot(&self, place: usize) -> u32
+        requires { place < length self.now }
+        ensures { result < 256 }
+    {
+        self.entries[place].pivot
+    }
+
     /// Whether a row is a sum of rows of the basis.
     pub fn spans(&self, v: &Row) -> bool
         ensures { result ≡ is_sum self.now v.now }

@@ -79,6 +79,15 @@ impl Row {
         self.words[(wire / 64) as usize] >> (wire % 64) & 1 == 1
     }
 
+    /// Whether the wires that two rows have in common are odd in number.
+    pub fn is_odd_on(&self, other: &Row) -> bool {
+        let mut common = 0;
+        for k in 0..WORDS {
+            common ^= self.words[k] & other.words[k];
+        }
+        common.count_ones() & 1 == 1
+    }
+
     /// Adds another row modulo 2.
     pub fn add(&mut self, other: &Row)
         ensures { self.new ≡ bit_xor self.old other.now }

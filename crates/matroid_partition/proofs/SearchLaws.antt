@@ -5,6 +5,7 @@
 --   front-start              the new row alone
 --   tree-grown, front-grown  a row more is reached
 --   chain-grown              it has room in some block
+--   chain-near               a chain of one exchange
 --   front-through            a block more for the same node
 --   block-few                a block has no more places than rows in its basis
 --   set-member, set-through, set-told    a set of members: its rows, all of them, where it comes from
@@ -31,7 +32,7 @@ use Rattle.gf2_linear.proofs.Ranks.{is_sum-spanned, Span-is_sum}
 use Rattle.gf2_linear.proofs.Combined.{combined-span}
 use Rattle.matroid_partition.proofs.Exchanges.{All_in, Uses}
 use Rattle.matroid_partition.proofs.Trees.{Lacks-from}
-use Rattle.matroid_partition.proofs.StateLaws.{places_at-is, block-free, room-apart}
+use Rattle.matroid_partition.proofs.StateLaws.{any-block, places_at-is, block-free, room-apart}
 
 -- ---- the places that sum to a row
 abbrev r_of : List ℕ → ℕ → ℕ
@@ -332,6 +333,46 @@ chain-grown rows homes blocks nodes seen node place into d st there fr m unseen 
       (λ o. room-apart rows homes blocks into place d st o.0 r (sym o.1));
   room = subst (λ (n : Node). HasRoomAt (row_of rows n) blocks into) (sym (node-new nodes (record { place = place; parent = node }))) r;
 }
+
+pub chain-near : (rows homes : List ℕ) (blocks : List Block) (nodes : List Node) (place into : ℕ) → IsState rows homes blocks
+    → nodes ≡ record { place = length homes; parent = 0 } ∷ record { place = place; parent = 0 } ∷ []
+    → IsMember rows homes blocks (record { place = length homes; parent = 0 }) (get_or homes place 0) place → HasRoomAt (get_or rows place 0) blocks into
+    → IsChain rows homes blocks nodes 1 into
+chain-near rows homes blocks nodes place into st e m r =
+    subst (λ (q : List Node). IsChain rows homes blocks q 1 into) (sym e) (record {
+      tree = record {
+        some = omega arith;
+        root = refl;
+        each = each;
+        order = order;
+      };
+      there = omega arith;
+      apart = λ o. room-apart rows homes blocks into place (any-block blocks into r.there) st o.0 r (sym o.1);
+      room = r;
+    })
+  where
+    both : List Node
+    both = record { place = length homes; parent = 0 } ∷ record { place = place; parent = 0 } ∷ []
+
+    each : (k : ℕ) → 0 < k → k < 2 → IsReached rows homes blocks k (node_at both k) (node_at both (node_at both k).parent)
+    each zero h l = absurd (omega arith)
+    each (suc zero) h l = record {
+      earlier = omega arith;
+      old = member-old rows homes blocks (record { place = length homes; parent = 0 }) (get_or homes place 0) place st m;
+      stands = m.stands;
+      told = m.told;
+      apart = m.apart;
+    }
+    each (suc (suc k)) h l = absurd (omega arith)
+
+    parents : (k : ℕ) → (node_at both k).parent ≡ 0
+    parents zero = refl
+    parents (suc zero) = refl
+    parents (suc (suc k)) = refl
+
+    order : (k j : ℕ) → 0 < k → k < 2 → 0 < j → j < 2 → Has (sum_of rows homes blocks (node_at both k) (node_at both (node_at both k).parent)) (node_at both j).place
+        → (node_at both j).parent ≤ (node_at both k).parent
+    order k j h l g i s = omega (arith, parents k, parents j)
 
 -- ---- a block more, a node more
 pub front-through : (rows homes : List ℕ) (blocks : List Block) (nodes : List Node) (seen : List Bool) (node number : ℕ) → IsFront rows homes blocks nodes seen node number

@@ -9,12 +9,16 @@
 --   IsState rows homes blocks   the first rows, each in its home and nowhere else
 --   moved B c x h               the blocks B with x put into the c-th and taken out of the h-th
 --   SpansFirst n rows all       the first n rows are sums of `all`
+--   shown_by w                  the places of a witness
 --   IsShown rows n k w          of the first n rows, a choice with more than k times its rank
 use Rattle.std.specs.Prelude.{◌≡◌, ℕ, zero, suc, ◌*◌, ◌<◌, ◌≤◌, ◌==◌, cond, List, [], ◌∷◌, All, true, false, length, slice_index, slice_index_or}
+use Rattle.std.specs.List.{range_with_len}
 use Rattle.std.specs.List.Sorted.{IsStrictlyIncreasing}
 use Rattle.matroid_partition.specs.Places.{Has, IsAscending, put_in, taken_out}
 use Rattle.gf2_linear.specs.Rows.{is_independent, is_sum, rank, rows_at}
 use Rattle.matroid_partition.specs.declared.blocks.Block.{Block}
+use Rattle.matroid_partition.specs.declared.entry.Witness.{Witness}
+use Rattle.matroid_partition.specs.declared.entry.Witness.TheVariants.{First, Reached}
 
 pub record IsBlock (rows : List ℕ) (b : Block) : Type 0 where
   pub basis : b.basis ≡ rows_at rows b.places.items
@@ -55,6 +59,10 @@ moved B c x h k = cond (k == h) (taken_out x (cond (k == c) (put_in x (B k)) (B 
 
 abbrev pub SpansFirst : ℕ → List ℕ → List ℕ → Type 0
 SpansFirst n rows all = (i : ℕ) → i < n → is_sum all (slice_index rows i) ≡ true
+
+abbrev pub shown_by : Witness → List ℕ
+shown_by (First n) = range_with_len 0 n
+shown_by (Reached places) = places.items
 
 pub record IsShown (rows : List ℕ) (n k : ℕ) (witness : List ℕ) : Type 0 where
   pub within : All (λ i. i < n) witness

@@ -11,11 +11,13 @@
 --   IsThrough n c             the row of n is a sum of rows of the block c, all of them seen, or c is its own block
 --   IsFront .. node number    the nodes before `node` went through all blocks, `node` itself through those before `number`
 --   IsGrown                   more nodes behind those that were there, more of the rows seen
---   IsStart new nodes seen    the new row alone
+--   IsRoot new nodes          the new row alone
+--   IsStart new nodes seen    the same, and it alone is seen
 --   IsGround                  the rows with a home; the blocks that are not listed span them and the new one
 --   IsMember place            one of the rows of another block that sum to the node's row
 --   IsSet set                 the members of another block that sum to the node's row
 --   IsStill g, IsFrontOf g f, IsChainOf g f c    IsGround, IsFront and IsChain of what the code passes on
+--   IsNear g place into       a row that the new one's sum takes in has room in another block
 --   IsChain last into         the row of the last node has room in another block
 use Rattle.std.specs.Prelude.{◌≡◌, ◌⊎◌, ℕ, ◌+◌, ◌<◌, ◌≤◌, Bool, true, false, cond, List, [], ◌∷◌, ◌++◌, All, length, map, replicate, slice_index, slice_index_or, bit_xor}
 use Rattle.matroid_partition.specs.Places.{Has}
@@ -92,6 +94,9 @@ pub record IsGrown (old new : List Node) (before after : List Bool) : Type 0 whe
   pub same : (k : ℕ) → k < length old → node_at new k ≡ node_at old k
   pub kept : (p : ℕ) → IsSeen before p → IsSeen after p
 
+abbrev pub IsRoot : ℕ → List Node → Type 0
+IsRoot new nodes = nodes ≡ record { place = new; parent = 0 } ∷ []
+
 pub record IsStart (new : ℕ) (nodes : List Node) (seen : List Bool) : Type 0 where
   pub first : nodes ≡ record { place = new; parent = 0 } ∷ []
   pub only : seen ≡ replicate new false ++ true ∷ []
@@ -123,6 +128,10 @@ IsStill g = IsGround g.rows.now g.homes.now g.blocks.now g.unfilled.now
 
 abbrev pub IsFrontOf : Ground → Front → ℕ → ℕ → Type 0
 IsFrontOf g f node number = IsFront g.rows.now g.homes.now g.blocks.now f.nodes.items f.seen.items node number
+
+pub record IsNear (g : Ground) (place into : ℕ) : Type 0 where
+  pub member : IsMember g.rows.now g.homes.now g.blocks.now (record { place = length g.homes.now; parent = 0 }) (slice_index g.homes.now place) place
+  pub room : HasRoomAt (slice_index g.rows.now place) g.blocks.now into
 
 abbrev pub IsChainOf : Ground → Front → Chain → Type 0
 IsChainOf g f c = IsChain g.rows.now g.homes.now g.blocks.now f.nodes.items c.last c.into

@@ -3,13 +3,22 @@
 ghost use Rattle.std.specs.Prelude.{◌≡◌, ℕ, ◌+◌, ◌<◌, ◌≤◌, All, IfOk, IfSome, IfNone, false, filter, length, slice_index, slice_index_or};
 ghost use Rattle.std.specs.List.{range_with_len};
 ghost use Rattle.matroid_partition.specs.Places.{Has};
-ghost use Rattle.matroid_partition.specs.Blocks.{AllSpan, HasRoomAt, IsOpen, IsShown, IsState, SpansFirst};
+ghost use Rattle.matroid_partition.specs.Blocks.{AllSpan, HasRoomAt, IsOpen, IsShown, IsState, SpansFirst, shown_by};
 
 use crate::blocks::{Block, append, block_of, first_fit, without};
 use crate::exchange::shift;
 use crate::search::{Ground, front_at, search};
 use gf2_linear::{Basis, Row};
 use std::alloc::{AllocError, Global};
+
+/// Rows that show why another one opened a block.
+#[derive(Drop)]
+pub enum Witness {
+    /// The first rows, so many.
+    First(usize),
+    /// The rows at some places, which a search reached.
+    Reached(Vec<usize>),
+}
 
 /// Brings the next row in. Where it opens a block, it gives the rows that show why.
 pub fn bring(
@@ -19,7 +28,7 @@ pub fn bring(
     blocks: &mut Vec<Block>,
     homes: &mut Vec<usize>,
     unfilled: &mut Vec<usize>,
-) -> Result<Option<Vec<usize>>, AllocError>
+) -> Result<Option<Witness>, AllocError>
     requires state { IsState rows.now homes.old.items blocks.old.items }
     requires next { length homes.old.items < length rows.now }
     requires nonzero { slice_index rows.now (length homes.old.items) ≡ 0 → ⊥ }
@@ -28,7 +37,7 @@ pub fn bring(
     ensures state { IfOk result (λ _. IsState rows.now homes.new.items blocks.new.items) }
     ensures homes { IfOk result (λ _. length homes.new.items ≡ length homes.old.items + 1) }
     ensures unfilled { IfOk result (λ _. IsOpen (length all.now) blocks.new.items unfilled.new.items) }
-    ensures some { IfOk result (λ o. IfSome o (λ w. IsShown rows.now (length homes.new.items) (length blocks.old.items) w.items)) }
+    ensures some { IfOk result (λ o. IfSome o (λ w. IsShown rows.now (length homes.new.items) (length blocks.old.items) (shown_by w))) }
     ensures opened { IfOk result (λ o. IfSome o (λ _. length blocks.new.items ≡ length blocks.old.items + 1)) }
     ensures none { IfOk result (λ o. IfNone o (length blocks.new.items ≡ length blocks.old.items)) }
 {
@@ -39,9 +48,8 @@ pub fn bring(
         return Ok(None);
     }
     if unfilled.is_empty() {
-        let witness = places_below(alloc, new + 1)?;
         begin(alloc, rows, blocks, homes, unfilled)?;
-        return Ok(Some(witness));
+        return Ok(Some(Witness::First(new + 1)));
     }
     augment(alloc, rows, all, blocks, homes, unfilled)
 }
@@ -54,7 +62,7 @@ fn augment(
     blocks: &mut Vec<Block>,
     homes: &mut Vec<usize>,
     unfilled: &mut Vec<usize>,
-) -> Result<Option<Vec<usize>>, AllocError>
+) -> Result<Option<Witness>, AllocError>
     requires state { IsState rows.now homes.old.items blocks.old.items }
     requires next { length homes.old.items < length rows.now }
     requires nonzero { slice_index rows.now (length homes.old.items) ≡ 0 → ⊥ }
@@ -64,18 +72,18 @@ fn augment(
     ensures state { IfOk result (λ _. IsState rows.now homes.new.items blocks.new.items) }
     ensures homes { IfOk result (λ _. length homes.new.items ≡ length homes.old.items + 1) }
     ensures unfilled { IfOk result (λ _. IsOpen (length all.now) blocks.new.items unfilled.new.items) }
-    ensures some { IfOk result (λ o. IfSome o (λ w. IsShown rows.now (length homes.new.items) (length blocks.old.items) w.items)) }
+    ensures some { IfOk result (λ o. IfSome o (λ w. IsShown rows.now (length homes.new.items) (length blocks.old.items) (shown_by w))) }
     ensures opened { IfOk result (λ o. IfSome o (λ _. length blocks.new.items ≡ length blocks.old.items + 1)) }
     ensures none { IfOk result (λ o. IfNone o (length blocks.new.items ≡ length blocks.old.items)) }
 {
-    let mut front = front_at(alloc, homes.len())?;
+    let mut front = front_at(alloc, homes.len(), all)?;
     let ground = Ground {
         rows,
         blocks,
         homes,
         unfilled,
     };
-    match search(&ground, &mut front)? {
+    match search(alloc, &ground, &mut front)? {
         Some(chain) => {
             let into = chain.into;
             shift(alloc, rows, &front.nodes, chain, blocks, homes)?;
@@ -85,7 +93,7 @@ fn augment(
         None => {
             let witness = seen_places(alloc, &front.seen)?;
             begin(alloc, rows, blocks, homes, unfilled)?;
-            Ok(Some(witness))
+            Ok(Some(Witness::Reached(witness)))
         }
     }
 }

@@ -17,6 +17,7 @@ mod entry;
 mod exchange;
 mod parts;
 mod search;
+mod taken;
 
 pub use parts::{Parts, partition};
 

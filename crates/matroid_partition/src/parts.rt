@@ -4,11 +4,11 @@ ghost use Rattle.std.specs.Prelude.{◌≡◌, ℕ, ◌+◌, ◌<◌, ◌≤◌,
 ghost use Rattle.std.specs.List.{range_with_len};
 ghost use Rattle.std.specs.List.Sorted.{IsStrictlyIncreasing};
 ghost use Rattle.gf2_linear.specs.Rows.{is_sum};
-ghost use Rattle.matroid_partition.specs.Blocks.{IsOpen};
+ghost use Rattle.matroid_partition.specs.Blocks.{IsOpen, shown_by};
 ghost use Rattle.matroid_partition.specs.Partitions.{IsPartition, IsWitness, blocks_of};
 
 use crate::blocks::Block;
-use crate::entry::{bring, places_below};
+use crate::entry::{Witness, bring, places_below};
 use gf2_linear::{Basis, Row};
 use std::alloc::{AllocError, Global};
 
@@ -33,7 +33,7 @@ pub fn partition(alloc: Global, rows: &[Row]) -> Result<Parts, AllocError>
     let mut blocks = Vec::new(alloc);
     let mut homes = Vec::new(alloc);
     let mut unfilled = Vec::new(alloc);
-    let mut witness = Vec::new(alloc);
+    let mut witness = Witness::First(0);
     let mut all = Basis::new(alloc);
     'rows: for row in rows {
         widen(alloc, row, &mut all, &blocks, &mut unfilled)?;
@@ -72,16 +72,26 @@ fn shown(
     alloc: Global,
     count: usize,
     rows: usize,
-    witness: Vec<usize>,
+    witness: Witness,
 ) -> Result<Vec<usize>, AllocError>
     ensures one { IfOk result (λ v. count ≡ 1 → v.items ≡ range_with_len 0 rows) }
-    ensures other { IfOk result (λ v. (count ≡ 1 → ⊥) → v.items ≡ witness.items) }
+    ensures other { IfOk result (λ v. (count ≡ 1 → ⊥) → v.items ≡ shown_by witness) }
 {
     if count != 1 {
-        return Ok(witness);
+        return listed(alloc, witness);
     }
     let all = places_below(alloc, rows)?;
     Ok(all)
+}
+
+/// The places of a witness.
+fn listed(alloc: Global, witness: Witness) -> Result<Vec<usize>, AllocError>
+    ensures { IfOk result (λ v. v.items ≡ shown_by witness) }
+{
+    match witness {
+        Witness::First(count) => places_below(alloc, count),
+        Witness::Reached(places) => Ok(places),
+    }
 }
 
 /// The places of all blocks.

@@ -1,10 +1,12 @@
 //! The search for a chain of exchanges, breadth first.
 
 ghost use Rattle.std.specs.Prelude.{◌≡◌, ℕ, ◌+◌, ◌<◌, ◌≤◌, IfOk, IfSome, IfNone, length, slice_index, true, false};
-ghost use Rattle.matroid_partition.specs.Searches.{IsChainOf, IsFrontOf, IsGrown, IsMember, IsSeen, IsSet, IsStart, IsStill, node_at};
+ghost use Rattle.matroid_partition.specs.Blocks.{HasRoomAt};
+ghost use Rattle.matroid_partition.specs.Searches.{IsChainOf, IsFrontOf, IsGrown, IsMember, IsNear, IsRoot, IsSeen, IsSet, IsStart, IsStill, node_at};
 
 use crate::blocks::{Block, first_fit};
-use gf2_linear::Row;
+use crate::taken::{Taken, none_taken};
+use gf2_linear::{Basis, Row};
 use std::alloc::{AllocError, Global};
 
 /// A row that the search reached, and the node of the row that would take its place.
@@ -14,11 +16,13 @@ pub struct Node {
     pub parent: usize,
 }
 
-/// What the search has reached so far: the nodes in order, and for each row whether it is among them.
+/// What the search has reached so far: the nodes in order, for each row whether it is among them, and the sums of their
+/// rows, which no block has room for.
 #[derive(Drop)]
 pub struct Front {
     pub nodes: Vec<Node>,
     pub seen: Vec<bool>,
+    pub taken: Taken,
 }
 
 /// A chain: the row of its last node goes into the block `into`.
@@ -39,21 +43,96 @@ pub struct Ground<'a> {
     pub unfilled: &'a [usize],
 }
 
-/// A front with the new row alone.
-pub fn front_at(alloc: Global, place: usize) -> Result<Front, AllocError>
-    requires { place < 18446744073709551615 }
-    ensures { IfOk result (λ f. IsStart place f.nodes.items f.seen.items) }
+/// A front with the new row alone, which is a sum of `all` as the others are. No row is marked yet.
+pub fn front_at(alloc: Global, place: usize, all: &Basis) -> Result<Front, AllocError>
+    ensures { IfOk result (λ f. IsRoot place f.nodes.items) }
 {
-    let mut seen = vec![in alloc; false; place]?;
-    seen.push(true)?;
     let mut nodes = Vec::new(alloc);
     nodes.push(Node { place, parent: 0 })?;
-    Ok(Front { nodes, seen })
+    Ok(Front {
+        nodes,
+        seen: Vec::new(alloc),
+        taken: none_taken(alloc, all)?,
+    })
 }
 
 /// Searches from the row behind those that have a home, the nearest rows first, and of these by the numbers of blocks and members.
 /// None where no chain brings it in: then the front has all rows that are reached.
-pub fn search(ground: &Ground, front: &mut Front) -> Result<Option<Chain>, AllocError>
+pub fn search(
+    alloc: Global,
+    ground: &Ground,
+    front: &mut Front,
+) -> Result<Option<Chain>, AllocError>
+    requires ground { IsStill ground.now }
+    requires start { IsRoot (length ground.now.homes.now) front.old.nodes.items }
+    ensures some { IfOk result (λ o. IfSome o (λ c. IsChainOf ground.now front.new c)) }
+    ensures none { IfOk result (λ o. IfNone o (IsFrontOf ground.now front.new (length front.new.nodes.items) 0)) }
+{
+    if let Some((place, into)) = near(ground, &mut front.taken) {
+        front.nodes.push(Node { place, parent: 0 })?;
+        return Ok(Some(Chain { last: 1, into }));
+    }
+    let mut seen = vec![in alloc; false; ground.homes.len()]?;
+    seen.push(true)?;
+    front.seen = seen;
+    walk(ground, front)
+}
+
+/// The first row that could make way for the new one, and the block that it would go into: a chain of one exchange.
+fn near(ground: &Ground, taken: &mut Taken) -> Option<(usize, usize)>
+    requires { IsStill ground.now }
+    ensures { IfSome result (λ e. IsNear ground.now e.0 e.1) }
+{
+    'numbers: for number in 0..ground.blocks.len() {
+        if let Some(end) = near_in(ground, number, taken) {
+            return Some(end);
+        }
+    }
+    None
+}
+
+/// The first such row of one block.
+fn near_in(ground: &Ground, number: usize, taken: &mut Taken) -> Option<(usize, usize)>
+    requires ground { IsStill ground.now }
+    requires block { number < length ground.now.blocks.now }
+    ensures { IfSome result (λ e. IsNear ground.now e.0 e.1) }
+{
+    let block = &ground.blocks[number];
+    let _few = block.basis.len();
+    match block.basis.express(&ground.rows[ground.homes.len()]) {
+        None => None,
+        Some(set) => {
+            'members: for (member, place) in block.places.iter().enumerate() {
+                if set.has(member as u32) {
+                    if let Some(into) = room_for(ground, *place, taken) {
+                        return Some((*place, into));
+                    }
+                }
+            }
+            None
+        }
+    }
+}
+
+/// The first block that has room for a row that was reached; where there is none, that is noted.
+fn room_for(ground: &Ground, place: usize, taken: &mut Taken) -> Option<usize>
+    requires ground { IsStill ground.now }
+    requires old { place < length ground.now.homes.now }
+    ensures { IfSome result (λ k. HasRoomAt (slice_index ground.now.rows.now place) ground.now.blocks.now k) }
+{
+    let row = &ground.rows[place];
+    if taken.has(row) {
+        return None;
+    }
+    let into = first_fit(ground.blocks, ground.unfilled, row);
+    if into.is_none() {
+        taken.add(row);
+    }
+    into
+}
+
+/// Goes through the nodes from the new row on, and reaches all rows from each of them.
+fn walk(ground: &Ground, front: &mut Front) -> Result<Option<Chain>, AllocError>
     requires ground { IsStill ground.now }
     requires start { IsStart (length ground.now.homes.now) front.old.nodes.items front.old.seen.items }
     ensures some { IfOk result (λ o. IfSome o (λ c. IsChainOf ground.now front.new c)) }
@@ -167,7 +246,7 @@ fn visit(
         place,
         parent: node,
     })?;
-    match first_fit(ground.blocks, ground.unfilled, &ground.rows[place]) {
+    match room_for(ground, place, &mut front.taken) {
         None => Ok(None),
         Some(into) => Ok(Some(Chain { last, into })),
     }

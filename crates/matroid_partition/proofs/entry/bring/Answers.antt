@@ -51,7 +51,7 @@ pub returns-then-is_empty-clause-some : goal.returns-then-is_empty-clause-some
 returns-then-is_empty-clause-some c =
     let new : c.len-new.result ≡ length c.args.homes.now.items = c.len-new.ensures ∙ c.args.homes.now.ok.0 in
     let none : length c.args.unfilled.now.items ≡ 0 = sym c.args.unfilled.now.ok.0 ∙ eqb-true (vec_len c.args.unfilled.now) 0 (sym c.is_empty.ensures ∙ c.if-is_empty.true) in
-    subst (λ n. IsShown c.args.rows.now n (length c.args.blocks.now.items) c.in_ok-witness.witness.items) (sym c.in_ok-begin.ensures.homes)
-    (all-shown c.args.rows.now c.args.homes.now.items c.args.blocks.now.items c.args.all.now c.in_ok-witness.witness.items c.requires.state c.requires.all
+    subst (λ n. IsShown c.args.rows.now n (length c.args.blocks.now.items) (range_with_len 0 (c.len-new.result + 1))) (sym c.in_ok-begin.ensures.homes)
+    (all-shown c.args.rows.now c.args.homes.now.items c.args.blocks.now.items c.args.all.now (range_with_len 0 (c.len-new.result + 1)) c.requires.state c.requires.all
     (open-none (length c.args.all.now) c.args.blocks.now.items c.args.unfilled.now.items none c.requires.unfilled)
-    (c.in_ok-witness.ensures ∙ ap (λ k. range_with_len 0 (k + 1)) new))
+    (ap (λ k. range_with_len 0 (k + 1)) new))

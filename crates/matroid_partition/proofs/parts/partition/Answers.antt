@@ -2,7 +2,7 @@ use Rattle.std.proofs.Common.{◌≡◌, ◌≤◌, ◌+◌, ℕ, List, length, 
 use Rattle.std.proofs.lemmas.List.{get_or_read, length-map}
 use Rattle.matroid_partition.specs.declared.blocks.Block.{Block}
 use Rattle.matroid_partition.proofs.PartLaws.{IsPartition-state, ascending-state, IsWitness-shown, least-shown, spans-more, underway-opened, underway-entered, Underway}
-use Rattle.matroid_partition.specs.Blocks.{SpansFirst}
+use Rattle.matroid_partition.specs.Blocks.{SpansFirst, shown_by}
 use Rattle.matroid_partition.proofs.parts.partition.Goals as goal
 use Rattle.matroid_partition.proofs.parts.partition.Goals.{in-Some, in_default}
 
@@ -20,7 +20,7 @@ pub returns-clause-witness : goal.returns-clause-witness
 returns-clause-witness c =
     let end : c.rows.row-index ≡ length c.args.rows.now = omega arith in
     let count : c.len-count.result ≡ length c.rows.blocks.items = c.len-count.ensures ∙ c.rows.blocks.ok.0 in
-    IsWitness-shown c.args.rows.now c.rows.row-index c.rows.homes.items c.rows.blocks.items c.rows.unfilled.items c.rows.all c.rows.witness.items c.in_ok-shown.field-0.items
+    IsWitness-shown c.args.rows.now c.rows.row-index c.rows.homes.items c.rows.blocks.items c.rows.unfilled.items c.rows.all (shown_by c.rows.witness) c.in_ok-shown.field-0.items
     c.len-count.result (map (λ b. b.items) c.in_ok-places_of.field-0.items) c.rows.invariant end count
     (ap length c.in_ok-places_of.ensures ∙ length-map c.rows.blocks.items (λ (b : Block). b.places.items) ∙ sym count)
     c.in_ok-shown.ensures.one c.in_ok-shown.ensures.other
@@ -29,7 +29,7 @@ pub returns-clause-least : goal.returns-clause-least
 returns-clause-least c other p =
     let end : c.rows.row-index ≡ length c.args.rows.now = omega arith in
     let least : length c.rows.blocks.items ≤ length other =
-    least-shown c.args.rows.now c.rows.row-index c.rows.homes.items c.rows.blocks.items c.rows.unfilled.items c.rows.all c.rows.witness.items c.rows.invariant end other p in
+    least-shown c.args.rows.now c.rows.row-index c.rows.homes.items c.rows.blocks.items c.rows.unfilled.items c.rows.all (shown_by c.rows.witness) c.rows.invariant end other p in
     let count : length c.in_ok-places_of.field-0.items ≡ length c.rows.blocks.items =
     sym (length-map c.in_ok-places_of.field-0.items (λ b. b.items)) ∙ ap length c.in_ok-places_of.ensures ∙ length-map c.rows.blocks.items (λ (b : Block). b.places.items) in
     omega (arith, c.in_ok-places_of.field-0.ok.0)
@@ -57,14 +57,14 @@ rows-preserved c =
           let shown = rw w.in-Some.is at c.in_ok-reached.ensures.some in
           let opened = rw w.in-Some.is at c.in_ok-reached.ensures.opened in
           subst (λ (q : List ℕ). Underway c.args.rows.now (c.rows.row-index + 1) c.bring.new.homes.items c.bring.new.blocks.items c.bring.new.unfilled.items c.widen.new.all q)
-          (ap (λ v. v.items) (sym w.witness-is))
+          (ap shown_by (sym w.witness-is))
           (underway-opened c.args.rows.now c.rows.row-index c.rows.homes.items c.bring.new.homes.items c.rows.blocks.items c.bring.new.blocks.items c.bring.new.unfilled.items
-          c.widen.new.all w.in-Some.reached.items c.rows.invariant.count c.in_ok-reached.ensures.homes c.in_ok-reached.ensures.state c.in_ok-reached.ensures.unfilled spans opened shown)
+          c.widen.new.all (shown_by w.in-Some.reached) c.rows.invariant.count c.in_ok-reached.ensures.homes c.in_ok-reached.ensures.state c.in_ok-reached.ensures.unfilled spans opened shown)
       | in_default w ↦
           let none = rw w.in_default.is at c.in_ok-reached.ensures.none in
           subst (λ (q : List ℕ). Underway c.args.rows.now (c.rows.row-index + 1) c.bring.new.homes.items c.bring.new.blocks.items c.bring.new.unfilled.items c.widen.new.all q)
-          (ap (λ v. v.items) (sym w.witness-is))
+          (ap shown_by (sym w.witness-is))
           (underway-entered c.args.rows.now c.rows.row-index c.rows.homes.items c.bring.new.homes.items c.rows.blocks.items c.bring.new.blocks.items c.rows.unfilled.items
-          c.bring.new.unfilled.items c.rows.all c.widen.new.all c.rows.witness.items c.rows.invariant c.in_ok-reached.ensures.homes c.in_ok-reached.ensures.state
+          c.bring.new.unfilled.items c.rows.all c.widen.new.all (shown_by c.rows.witness) c.rows.invariant c.in_ok-reached.ensures.homes c.in_ok-reached.ensures.state
           c.in_ok-reached.ensures.unfilled spans none)
     ]

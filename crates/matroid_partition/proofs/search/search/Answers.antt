@@ -1,15 +1,9 @@
-use Rattle.std.proofs.Common.{◌≤◌, length, arith}
-use Rattle.matroid_partition.specs.Searches.{trues}
-use Rattle.matroid_partition.proofs.SearchLaws.{front-start, trues-most}
+use Rattle.std.proofs.Common.{◌++◌, ◌∷◌, [], ℕ, List, length, ap, ◌∙◌}
+use Rattle.matroid_partition.specs.declared.search.Node.{Node}
+use Rattle.matroid_partition.proofs.SearchLaws.{chain-near}
 use Rattle.matroid_partition.proofs.search.search.Goals as goal
 
-pub nodes-init : goal.nodes-init
-nodes-init c = record {
-  front = front-start c.args.ground.now.rows.now c.args.ground.now.homes.now c.args.ground.now.blocks.now c.args.front.now.nodes.items c.args.front.now.seen.items c.requires.start;
-  below = omega arith;
-}
-
-pub nodes-smaller : goal.nodes-smaller
-nodes-smaller c =
-    let m : trues c.nodes.front.seen.items ≤ length c.nodes.front.seen.items = trues-most c.nodes.front.seen.items in
-    omega (arith, c.nodes.invariant.front.long, c.nodes.invariant.front.count)
+pub returns-in-Some-clause-some : goal.returns-in-Some-clause-some
+returns-in-Some-clause-some c =
+    chain-near c.args.ground.now.rows.now c.args.ground.now.homes.now c.args.ground.now.blocks.now c.push.new.self.items c.in-Some.place c.in-Some.into c.requires.ground.state
+    (c.in_ok-push.ensures.items ∙ ap (λ (q : List Node). q ++ record { place = c.in-Some.place; parent = 0 } ∷ []) c.requires.start) c.in-Some.ensures.member c.in-Some.ensures.room

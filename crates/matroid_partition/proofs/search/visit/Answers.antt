@@ -1,6 +1,5 @@
 use Rattle.std.proofs.Common.{◌≡◌, ◌<◌, ◌++◌, ◌∷◌, [], List, true, false, set, length, get_or, subst, sym, ◌∙◌, arith}
-use Rattle.std.proofs.lemmas.List.{get_or_default, get_or_read, get_or-set_same}
-use Rattle.gf2_linear.specs.Rows.{is_sum}
+use Rattle.std.proofs.lemmas.List.{get_or_read, get_or-set_same}
 use Rattle.matroid_partition.specs.declared.search.Node.{Node}
 use Rattle.matroid_partition.specs.Blocks.{HasRoomAt}
 use Rattle.matroid_partition.specs.Searches.{IsChain, IsFront, node_at}
@@ -30,31 +29,10 @@ index_mut-requires c =
     (get_or c.args.ground.now.homes.now c.args.place 0) c.args.place c.requires.ground.state c.requires.member in
     omega (arith, c.requires.front.long, c.args.front.now.seen.ok.0)
 
-pub bounds-ground-place : goal.bounds-ground-place
-bounds-ground-place c =
-    let l : c.args.place < length c.args.ground.now.homes.now =
+pub room_for-requires-clause-old : goal.room_for-requires-clause-old
+room_for-requires-clause-old c =
     member-old c.args.ground.now.rows.now c.args.ground.now.homes.now c.args.ground.now.blocks.now (node_at c.args.front.now.nodes.items c.args.node)
-    (get_or c.args.ground.now.homes.now c.args.place 0) c.args.place c.requires.ground.state c.requires.member in
-    let n : length c.args.ground.now.homes.now < length c.args.ground.now.rows.now = c.requires.ground.next in
-    omega arith
-
-pub offset_bounds-ground-place : goal.offset_bounds-ground-place
-offset_bounds-ground-place c =
-    let l : c.args.place < length c.args.ground.now.homes.now =
-    member-old c.args.ground.now.rows.now c.args.ground.now.homes.now c.args.ground.now.blocks.now (node_at c.args.front.now.nodes.items c.args.node)
-    (get_or c.args.ground.now.homes.now c.args.place 0) c.args.place c.requires.ground.state c.requires.member in
-    let n : length c.args.ground.now.homes.now < length c.args.ground.now.rows.now = c.requires.ground.next in
-    let m : c.args.place < length c.args.ground.now.rows.now = omega arith in
-    omega arith
-
-pub first_fit-requires-clause-others : goal.first_fit-requires-clause-others
-first_fit-requires-clause-others c k d kl n =
-    let l : c.args.place < length c.args.ground.now.homes.now =
-    member-old c.args.ground.now.rows.now c.args.ground.now.homes.now c.args.ground.now.blocks.now (node_at c.args.front.now.nodes.items c.args.node)
-    (get_or c.args.ground.now.homes.now c.args.place 0) c.args.place c.requires.ground.state c.requires.member in
-    let m : length c.args.ground.now.homes.now < length c.args.ground.now.rows.now = c.requires.ground.next in
-    subst (λ v. is_sum (get_or c.args.ground.now.blocks.now k d).basis v ≡ true) (get_or_default c.args.ground.now.rows.now c.args.place 0 c.index-ground-place.result (omega arith))
-    (c.requires.ground.others c.args.place (omega arith) k d kl n)
+    (get_or c.args.ground.now.homes.now c.args.place 0) c.args.place c.requires.ground.state c.requires.member
 
 pub returns-in-None-clause-none : goal.returns-in-None-clause-none
 returns-in-None-clause-none c =
@@ -85,10 +63,7 @@ returns-in-Some-clause-some c =
     let s : c.args.place < length c.args.front.now.seen.items = omega (arith, c.requires.front.long) in
     let unseen : get_or c.args.front.now.seen.items c.args.place false ≡ false =
     sym (get_or_read c.args.front.now.seen.items c.args.place c.index.result.now s c.index.ensures false) ∙ c.if-index.false in
-    let m : length c.args.ground.now.homes.now < length c.args.ground.now.rows.now = c.requires.ground.next in
-    let room : HasRoomAt (get_or c.args.ground.now.rows.now c.args.place 0) c.args.ground.now.blocks.now c.in-Some.into =
-    subst (λ v. HasRoomAt v c.args.ground.now.blocks.now c.in-Some.into) (get_or_default c.args.ground.now.rows.now c.args.place c.index-ground-place.result 0 (omega arith))
-    c.in-Some.ensures.some in
+    let room : HasRoomAt (get_or c.args.ground.now.rows.now c.args.place 0) c.args.ground.now.blocks.now c.in-Some.into = c.in-Some.ensures in
     subst (λ (q : List Node). IsChain c.args.ground.now.rows.now c.args.ground.now.homes.now c.args.ground.now.blocks.now q c.len-last.result c.in-Some.into)
     (sym c.in_ok-push.ensures.items)
     (subst (λ k. IsChain c.args.ground.now.rows.now c.args.ground.now.homes.now c.args.ground.now.blocks.now

@@ -1,6 +1,6 @@
 use Rattle.std.proofs.Common.{◌≤◌, ◌+◌, ◌-◌, length}
 use Rattle.matroid_partition.specs.Searches.{IsFront}
-use Rattle.matroid_partition.proofs.search.search.Given as goal
+use Rattle.matroid_partition.proofs.search.walk.Given as goal
 
 abbrev pub invariant-nodes : goal.invariant-nodes
 invariant-nodes l = record {
