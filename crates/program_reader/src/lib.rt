@@ -14,6 +14,6 @@ mod source;
 mod tests;
 
 pub use laws::{accepted_has_no_refusal, means_once, refused_once};
-pub use reading::read_program;
+pub use reading::{TEXT_LIMIT, read_program};
 pub use refusal::{ReadFault, Refusal};
 pub use source::Source;
