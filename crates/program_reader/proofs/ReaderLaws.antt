@@ -5,6 +5,7 @@
 --   in_ok, in_err        from one promise of an answer to another
 --   tree-once            a text spells one tree at most
 --   means-once           and means one program at most
+--   unparsed, unlexed    a text that spells a tree has no fault in its tokens or its grammar
 --   accepted-no_refusal  an accepted text has no refusal
 --   IsRefusal-checked, IsRefusal-written     from the stages' refusals to the text's
 use Rattle.std.proofs.Common.{◌≡◌, ℕ, ◌<◌, ◌≤◌, List, All, Result, Ok, Err, IfOk, IfErr, sym, subst, ◌∙◌, arith, length}

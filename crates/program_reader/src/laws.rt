@@ -25,8 +25,8 @@ pub fn accepted_has_no_refusal()
     gate_inline::inlined_has_no_fault();
 }
 
-/// A text has one refusal at most, the place of Syntax aside: of a text that spells no program the definition asks only that
-/// the place is within the text, since where it stops to be the beginning of one is said by no definition here.
+/// A text has one refusal at most, the place of Syntax aside. Of a text that spells no program the definition asks only that the
+/// place is within the text, for no definition here says which first parts of a text some program begins with.
 pub fn refused_once()
     ensures { (text : List ℕ) (r s : First) → IsRefusal text r → IsRefusal text s → IsAlike r s }
 {
