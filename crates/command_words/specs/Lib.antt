@@ -1,2 +1,3 @@
+-- ---- definitions that public clauses reach
 pub mod Commands
 pub mod Demands

@@ -8,3 +8,4 @@ pub mod SearchLaws
 pub mod RowLaws
 pub mod DistanceLaws
 pub mod CouplingLaws
+mod OnceLaws

@@ -1,7 +1,11 @@
-//! Laws of distances: each function's contract is one law. They take nothing and do nothing.
+//! Laws of distances and of device texts: each function's contract is one law. They take nothing and do nothing.
 
 ghost use Rattle.std.specs.Prelude.{◌≡◌, ℕ, ◌<◌, All, List};
+ghost use Rattle.coupling_map.specs.Coupling.{Coupling, IsCoupling};
+ghost use Rattle.coupling_map.specs.Refusals.{IsDeviceFault};
+ghost use Rattle.coupling_map.specs.Text.{graph, Says};
 ghost use Rattle.coupling_map.specs.Walks.{distance, IsDistance};
+ghost use Rattle.coupling_map.specs.declared.faults.DeviceFault.{DeviceFault as Fault};
 
 /// Two qubits have one distance at most.
 pub fn distance_is_one()
@@ -13,4 +17,14 @@ pub fn distance_is_one()
 pub fn distance_is_computed()
     ensures computed { (n : ℕ) (es : List (ℕ × ℕ)) (a b k : ℕ) → All (λ e. (e.0 < n) × (e.1 < n)) es →
         IsDistance es a b k → k < n → distance n es a b ≡ k }
+{}
+
+/// A text has one refusal at most, with its qubits.
+pub fn refused_once()
+    ensures { (text : List ℕ) (a b : Fault) → IsDeviceFault text a → IsDeviceFault text b → a ≡ b }
+{}
+
+/// A text that describes a device has no refusal.
+pub fn accepted_has_no_refusal()
+    ensures { (text : List ℕ) (d : Coupling) (fault : Fault) → Says text (graph d.size d.edges) → IsCoupling d → IsDeviceFault text fault → ⊥ }
 {}

@@ -185,15 +185,15 @@ fine_item : (n : ℕ) (before : List Gate) (ms : List Meaning) (count qubits : �
     → length wires ≡ qubits → All (λ w. w < n) wires → has_repeat nat_eq wires ≡ false → is_item before count qubits x ≡ true
     → item_answer ms params wires x ≡ Ok us → All (IsFineOp n) us
 fine_item n before ms count qubits params wires barrier us h l b d s e = fine_nil n us e
-fine_item n before ms count qubits params wires (call gate angles places) us h l b d s e =
-    let there : list_all (λ q. nat_lt q qubits) places ≡ true = and_right _ _ (and_left _ _ s) in
-    let inside : list_all (λ q. nat_lt q (length wires)) places ≡ true = ap (λ k. list_all (λ q. nat_lt q k) places) l ∙ there in
-    let counted : (gate_qubits (gate_at before gate) == length places) ≡ true = and_right _ _ (and_right _ _ (and_left _ _ (and_left _ _ (and_left _ _ s)))) in
-    fine_next n (unvalued (values params angles)) (λ given. meaning_at ms gate given (map (wire_of wires) places)) us
-    (λ given vs f. fine_at n before ms gate h given (map (wire_of wires) places) vs
-    (length-map places (wire_of wires) ∙ sym (equal_of _ _ counted))
-    (below_wires n wires places b inside)
-    (distinct_wires wires places d inside (not_true (has_repeat nat_eq places) (and_right _ _ s)))
+fine_item n before ms count qubits params wires (call gate angles indices) us h l b d s e =
+    let there : list_all (λ q. nat_lt q qubits) indices ≡ true = and_right _ _ (and_left _ _ s) in
+    let inside : list_all (λ q. nat_lt q (length wires)) indices ≡ true = ap (λ k. list_all (λ q. nat_lt q k) indices) l ∙ there in
+    let counted : (gate_qubits (gate_at before gate) == length indices) ≡ true = and_right _ _ (and_right _ _ (and_left _ _ (and_left _ _ (and_left _ _ s)))) in
+    fine_next n (unvalued (values params angles)) (λ given. meaning_at ms gate given (map (wire_of wires) indices)) us
+    (λ given vs f. fine_at n before ms gate h given (map (wire_of wires) indices) vs
+    (length-map indices (wire_of wires) ∙ sym (equal_of _ _ counted))
+    (below_wires n wires indices b inside)
+    (distinct_wires wires indices d inside (not_true (has_repeat nat_eq indices) (and_right _ _ s)))
     f) e
 
 fine_items : (n : ℕ) (before : List Gate) (ms : List Meaning) (count qubits : ℕ) (params : List Angle) (wires : List ℕ) (xs : List Item) (us : List Op) → AreFine n before ms
@@ -229,21 +229,21 @@ fine_upto n m (suc k) us h e =
     (λ vs f. h k vs (omega arith) f)
     (sym (ap (λ c. joined (map m (upto c))) (sym (add-one k)) ∙ upto-more m k) ∙ e)
 
-wires_below : (n j : ℕ) (places : List Operand) → All (λ p. wire_at j p < n) places → All (λ w. w < n) (map (wire_at j) places)
-wires_below n j places h = All-map (λ w. w < n) (wire_at j) places h
+wires_below : (n j : ℕ) (operands : List Operand) → All (λ p. wire_at j p < n) operands → All (λ w. w < n) (map (wire_at j) operands)
+wires_below n j operands h = All-map (λ w. w < n) (wire_at j) operands h
 
 fine_step : (gates : List Gate) (wires bits : ℕ) (s : Step) (us : List Op) → AreFine wires gates (meanings gates) → is_step gates wires bits s ≡ true
     → step_answer (meanings gates) s ≡ Ok us → All (IsFineOp wires) us
 fine_step gates wires bits (measures qubit bit) us h s e = fine_nil wires us e
-fine_step gates wires bits (bars places) us h s e = fine_nil wires us e
+fine_step gates wires bits (bars operands) us h s e = fine_nil wires us e
 fine_step gates wires bits nothing us h s e = fine_nil wires us e
-fine_step gates wires bits (applies gate angles places) us h s e =
-    fine_next wires (unvalued (values [] angles)) (λ given. joined (map (λ j. meaning_at (meanings gates) gate given (map (wire_at j) places)) (upto (broadcast places)))) us
-    (λ given vs f. fine_upto wires (λ j. meaning_at (meanings gates) gate given (map (wire_at j) places)) (broadcast places) vs
-    (λ j ws l g. fine_at wires gates (meanings gates) gate h given (map (wire_at j) places) ws
-    (length-map places (wire_at j) ∙ step_counted gates wires bits gate angles places s)
-    (wires_below wires j places (step_placed gates wires bits (applies gate angles places) s j l))
-    (step_apart gates wires bits gate angles places s j l) g) f) e
+fine_step gates wires bits (applies gate angles operands) us h s e =
+    fine_next wires (unvalued (values [] angles)) (λ given. joined (map (λ j. meaning_at (meanings gates) gate given (map (wire_at j) operands)) (upto (broadcast operands)))) us
+    (λ given vs f. fine_upto wires (λ j. meaning_at (meanings gates) gate given (map (wire_at j) operands)) (broadcast operands) vs
+    (λ j ws l g. fine_at wires gates (meanings gates) gate h given (map (wire_at j) operands) ws
+    (length-map operands (wire_at j) ∙ step_counted gates wires bits gate angles operands s)
+    (wires_below wires j operands (step_placed gates wires bits (applies gate angles operands) s j l))
+    (step_apart gates wires bits gate angles operands s j l) g) f) e
 
 fine_steps : (gates : List Gate) (wires bits : ℕ) (steps : List Step) (us : List Op) → AreFine wires gates (meanings gates) → list_all (is_step gates wires bits) steps ≡ true
     → joined (map (step_answer (meanings gates)) steps) ≡ Ok us → All (IsFineOp wires) us
@@ -281,11 +281,11 @@ inlined_same b c o g s w bits i = record {
 
 -- ---- wires and bits that are there
 placed_wide : (wires bits more : ℕ) (s : Step) → wires ≤ more → IsPlaced wires bits s → IsPlaced more bits s
-placed_wide wires bits more (applies gate angles places) l s =
-    λ j k. All-weaker (λ p. wire_at j p < wires) (λ p. wire_at j p < more) (λ p h. omega arith) places (s j k)
+placed_wide wires bits more (applies gate angles operands) l s =
+    λ j k. All-weaker (λ p. wire_at j p < wires) (λ p. wire_at j p < more) (λ p h. omega arith) operands (s j k)
 placed_wide wires bits more (measures qubit bit) l s =
     (s.0, λ j k. (let h : wire_at j qubit < wires = (s.1 j k).0 in omega arith, (s.1 j k).1))
-placed_wide wires bits more (bars places) l s = tt
+placed_wide wires bits more (bars operands) l s = tt
 placed_wide wires bits more nothing l s = tt
 
 pub steps_wide : (b : Bound) (more : ℕ) → IsSound b → b.wires ≤ more → All (IsPlaced more b.bits) b.steps

@@ -141,12 +141,12 @@ upto_at m k (suc n) h =
     subst (λ x. AtMost (joined (map m (upto (suc n)))) x) sum (subst (λ a. AtMost a (n * k + k)) (sym more) both)
 
 step_at : (gates : List Gate) (s : Step) → AtMost (step_answer (meanings gates) s) (step_size (sizes gates) s).operations
-step_at gates (applies gate angles places) =
-    next_at (unvalued (values [] angles)) _ (broadcast places * (size_at (sizes gates) gate).operations)
-    (λ given. upto_at (λ j. meaning_at (meanings gates) gate given (map (wire_at j) places)) (size_at (sizes gates) gate).operations (broadcast places)
-    (λ j. gates_at (length gates) gates (omega arith) gate given (map (wire_at j) places)))
+step_at gates (applies gate angles operands) =
+    next_at (unvalued (values [] angles)) _ (broadcast operands * (size_at (sizes gates) gate).operations)
+    (λ given. upto_at (λ j. meaning_at (meanings gates) gate given (map (wire_at j) operands)) (size_at (sizes gates) gate).operations (broadcast operands)
+    (λ j. gates_at (length gates) gates (omega arith) gate given (map (wire_at j) operands)))
 step_at gates (measures qubit bit) = none_at 0
-step_at gates (bars places) = none_at 0
+step_at gates (bars operands) = none_at 0
 step_at gates nothing = none_at 0
 
 pub operations-at_most : (gates : List Gate) (steps : List Step) → AtMost (operations gates steps) (total gates steps).operations

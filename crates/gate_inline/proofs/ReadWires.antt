@@ -52,11 +52,11 @@ read_at wires n qubit f there None e = tt
 read_at wires n qubit f there (Some j) e = there j (found_in (λ i. i < n) f (upto n) j (recursion_from_All (λ i. i < n) (upto n) (upto_below n)) e)
 
 step_there : (wires bits : ℕ) (s : Step) (bit : ℕ) → IsPlaced wires bits s → IsRead wires (step_read s bit)
-step_there wires bits (applies gate angles places) bit h = tt
+step_there wires bits (applies gate angles operands) bit h = tt
 step_there wires bits (measures qubit cell) bit h =
     read_at wires (times cell) qubit (λ j. nat_eq bit (wire_at j cell)) (λ j low. let same = h.0 in (h.1 j (omega (arith, low, same))).0)
     (find (λ j. nat_eq bit (wire_at j cell)) (upto (times cell))) refl
-step_there wires bits (bars places) bit h = tt
+step_there wires bits (bars operands) bit h = tt
 step_there wires bits nothing bit h = tt
 
 or_there : (wires : ℕ) (a b : Option ℕ) → IsRead wires a → IsRead wires b → IsRead wires (option_or a b)

@@ -109,10 +109,10 @@ gate_size-capped ss (composed params qubits body) =
     ∙ capped-plus (size 0 1) (size_all (map (item_size ss) body))
 
 pub step_size-capped : (ss : List Size) (s : Step) → capped (step_size (map capped ss) s) ≡ capped (step_size ss s)
-step_size-capped ss (applies gate angles places) =
-    ap (λ t. capped (size_times (broadcast places) t)) (size_at-capped ss gate) ∙ capped-times (broadcast places) (size_at ss gate)
+step_size-capped ss (applies gate angles operands) =
+    ap (λ t. capped (size_times (broadcast operands) t)) (size_at-capped ss gate) ∙ capped-times (broadcast operands) (size_at ss gate)
 step_size-capped ss (measures qubit bit) = refl
-step_size-capped ss (bars places) = refl
+step_size-capped ss (bars operands) = refl
 step_size-capped ss nothing = refl
 
 steps-capped : (ss : List Size) (steps : List Step) → capped (steps_size (map capped ss) steps) ≡ capped (steps_size ss steps)

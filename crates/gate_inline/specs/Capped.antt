@@ -1,4 +1,4 @@
--- Sizes as the code keeps them: what doesn't fit 64 bits is the greatest number there.
+-- Working form. Sizes as the code keeps them: what doesn't fit 64 bits is the greatest number there.
 --     most            the greatest number of 64 bits
 --     capped s        s, but at most this
 use Rattle.std.specs.Prelude.{ℕ, min}

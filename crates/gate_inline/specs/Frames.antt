@@ -1,4 +1,4 @@
--- Bodies that are being written out: a working form.
+-- Working form. Bodies that are being written out.
 --     call_answer gates below c   the operations of a call of one of the first gates
 --     asked_answer ms c, asked_size ss c  the operations and the size of a call, or of none
 --     frame_answer gates f        those of what is left of a body

@@ -1,12 +1,14 @@
+-- ---- definitions that public clauses reach
 pub mod Values
 pub mod Meanings
 pub mod Sizes
-pub mod Capped
 pub mod Reads
 pub mod Inlined
+pub mod Registers
+pub mod Programs
+-- ---- working forms
+pub mod Capped
 pub mod Stops
 pub mod Placed
 pub mod Frames
 pub mod Remembered
-pub mod Registers
-pub mod Programs

@@ -79,7 +79,7 @@ abbrev pub meaning_at : List Meaning → ℕ → Meaning
 meaning_at ms i = unwrap_or (slice_get ms i) no_meaning
 
 abbrev pub wire_of : List ℕ → ℕ → ℕ
-wire_of wires place = unwrap_or (slice_get wires place) 0
+wire_of wires index = unwrap_or (slice_get wires index) 0
 
 -- all angles of a line have a value, also those that its gate makes no use of
 abbrev pub item_answer : List Meaning → List Angle → List ℕ → Item → Answer
@@ -106,11 +106,11 @@ meanings gates = in_order gate_meaning gates
 -- ---- steps
 -- a gate for the first so many indices
 abbrev pub broadcast_answer : List Meaning → ℕ → List Angle → List Operand → ℕ → Answer
-broadcast_answer ms gate angles places n = joined (map (λ j. meaning_at ms gate angles (map (wire_at j) places)) (upto n))
+broadcast_answer ms gate angles operands n = joined (map (λ j. meaning_at ms gate angles (map (wire_at j) operands)) (upto n))
 
 abbrev pub step_answer : List Meaning → Step → Answer
-step_answer ms (applies gate angles places) =
-    and_next (unvalued (values [] angles)) (λ given. broadcast_answer ms gate given places (broadcast places))
+step_answer ms (applies gate angles operands) =
+    and_next (unvalued (values [] angles)) (λ given. broadcast_answer ms gate given operands (broadcast operands))
 step_answer ms (measures qubit bit) = Ok []
-step_answer ms (bars places) = Ok []
+step_answer ms (bars operands) = Ok []
 step_answer ms nothing = Ok []

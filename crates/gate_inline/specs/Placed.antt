@@ -5,8 +5,8 @@ use Rattle.gate_library.specs.Operands.{broadcast, times, wire_at}
 use Rattle.qasm_check.specs.Steps.{Step, applies, measures, bars, nothing}
 
 abbrev pub IsPlaced : ℕ → ℕ → Step → Type 0
-IsPlaced wires bits (applies gate angles places) = (j : ℕ) → j < broadcast places → All (λ p. wire_at j p < wires) places
+IsPlaced wires bits (applies gate angles operands) = (j : ℕ) → j < broadcast operands → All (λ p. wire_at j p < wires) operands
 IsPlaced wires bits (measures qubit bit) =
     (times qubit ≡ times bit) × ((j : ℕ) → j < times qubit → (wire_at j qubit < wires) × (wire_at j bit < bits))
-IsPlaced wires bits (bars places) = Unit {0}
+IsPlaced wires bits (bars operands) = Unit {0}
 IsPlaced wires bits nothing = Unit {0}

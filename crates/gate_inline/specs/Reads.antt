@@ -15,9 +15,9 @@ abbrev pub read_within : ℕ → Operand → Operand → ℕ → Option ℕ
 read_within n qubit bits bit = option_map (λ j. wire_at j qubit) (find (λ j. nat_eq bit (wire_at j bits)) (upto n))
 
 abbrev pub step_read : Step → ℕ → Option ℕ
-step_read (applies gate angles places) bit = None
+step_read (applies gate angles operands) bit = None
 step_read (measures qubit bits) bit = read_within (times bits) qubit bits bit
-step_read (bars places) bit = None
+step_read (bars operands) bit = None
 step_read nothing bit = None
 
 abbrev pub last_read : List Step → ℕ → Option ℕ

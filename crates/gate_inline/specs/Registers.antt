@@ -1,11 +1,12 @@
 -- The classical registers of a program, as it may declare them.
 --   names_of rs          their names, in order
 --   IsFree r             its name is a name of the language and none of a gate of the tables, and it has a bit at least
---   AreRegisters rs n    all of them are so, their names are different, and together they have n bits, at most 1,024
+--   AreRegisters rs n    all of them are so, their names are different, and together they have n bits, at most `most_bits`
 --   IsRead n r           what a bit reads is one of n wires, or nothing
 use Rattle.std.specs.Prelude.{◌≡◌, ℕ, ◌<◌, ◌≤◌, false, List, All, Option, Some, None, map, sum_by}
 use Rattle.std.specs.Str.{bytes_eq}
 use Rattle.gate_library.specs.Library.{table_names}
+use Rattle.gate_library.specs.Limits.{most_bits}
 use Rattle.gate_library.specs.Names.{has_repeat, is_one_of}
 use Rattle.qasm_check.specs.declared.bits.Bits.{Bits}
 use Rattle.qasm_lexer.specs.Names.{IsName}
@@ -22,7 +23,7 @@ pub record AreRegisters (rs : List Bits) (bits : ℕ) : Type 0 where
   pub each : All IsFree rs
   pub different : has_repeat bytes_eq (names_of rs) ≡ false
   pub all : sum_by (λ r. r.size) rs ≡ bits
-  pub few : bits ≤ 1024
+  pub few : bits ≤ most_bits
 
 abbrev pub IsRead : ℕ → Option ℕ → Type 0
 IsRead n None = Unit {0}

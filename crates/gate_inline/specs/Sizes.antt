@@ -45,9 +45,9 @@ abbrev pub sizes : List Gate → List Size
 sizes gates = in_order gate_size gates
 
 abbrev pub step_size : List Size → Step → Size
-step_size ss (applies gate angles places) = size_times (broadcast places) (size_at ss gate)
+step_size ss (applies gate angles operands) = size_times (broadcast operands) (size_at ss gate)
 step_size ss (measures qubit bit) = size 0 0
-step_size ss (bars places) = size 0 0
+step_size ss (bars operands) = size 0 0
 step_size ss nothing = size 0 0
 
 abbrev pub steps_size : List Size → List Step → Size

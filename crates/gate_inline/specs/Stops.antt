@@ -1,4 +1,4 @@
--- Why something has no operations.
+-- Working form. Why something has no operations.
 --     IsStop a s      s is told where a is asked for: the refusal that a is, or want of memory
 use Rattle.std.specs.Prelude.{◌≡◌, Result, Err}
 use Rattle.gate_inline.specs.declared.stop.Unvalued.{Unvalued}

@@ -30,7 +30,7 @@ no_angle = angle nought nought
 abbrev pub value : List Angle → Formula → Result Angle AngleFault
 value params (number x) = Ok (angle x nought)
 value params pi = Ok (angle nought unit)
-value params (param place) = Ok (unwrap_or (slice_get params place) no_angle)
+value params (param index) = Ok (unwrap_or (slice_get params index) no_angle)
 value params (negated part) = and_next (value params part) opposite_of
 value params (called function part) = and_next (value params part) (λ a. Err Form)
 value params (binary sign left right) = and_next (value params left) (λ a. and_next (value params right) (operation sign a))

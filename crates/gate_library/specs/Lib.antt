@@ -1,3 +1,4 @@
+-- ---- definitions that public clauses reach
 pub mod Gates
 pub mod Known
 pub mod Library
@@ -6,6 +7,7 @@ pub mod Listing
 pub mod Meanings
 pub mod Names
 pub mod Operands
-pub mod Rows
 pub mod State
 pub mod Views
+-- ---- working forms
+pub mod Rows

@@ -1,6 +1,6 @@
 -- What a name stands for, where it stands for something.
 --   is_gate, is_register   a gate; a register
---   is_other               a gate or a register of the other kind, where a register of this kind is asked for
+--   is_other               it stands for something, but for no register of the kind that is asked for, quantum or classical
 --   is_beyond              a register, with an index that isn't below its size
 use Rattle.std.specs.Prelude.{ℕ, Option, Some, None, Bool, true, false, not, if◌then◌else◌, nat_le}
 use Rattle.gate_library.specs.declared.meaning.Meaning.{Meaning}

@@ -1,6 +1,8 @@
+-- ---- definitions that public clauses reach
 pub mod Rows
-pub mod Words
 pub mod Completions
-pub mod Bases
 pub mod Matrices
+-- ---- working forms
+pub mod Words
+pub mod Bases
 pub mod Eliminations

@@ -1,2 +1,4 @@
-pub mod Found
+-- ---- definitions that public clauses reach
 pub mod Windows
+-- ---- working forms
+pub mod Found

@@ -1,1 +1,2 @@
+-- ---- definitions that public clauses reach
 pub mod Stages

@@ -1,2 +1,4 @@
+-- ---- definitions that public clauses reach
 pub mod LastX
+-- ---- working forms
 pub mod Walks

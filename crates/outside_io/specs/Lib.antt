@@ -1,3 +1,4 @@
+-- ---- definitions that public clauses reach
 pub mod Causes
 pub mod Bytes
 pub mod Shelf

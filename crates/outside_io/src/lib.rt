@@ -1,9 +1,9 @@
 //! What a program reads from and writes to: sources of bytes, sinks for bytes, and a shelf of texts by their names.
 //!
-//! Each trait says what an object tells of its bytes, which may be nothing, and keeps a count of faults. `read_all` gives
-//! all that a source had left, or says that it was longer than a limit; `write_all` and `send` append all the bytes, or after
-//! a fault a prefix of them; `load_text` gives the whole text of a name. A fault is answered only where the count of faults of
-//! the object that was called rose.
+//! Each trait says what an object tells of its bytes, which may be nothing, and keeps a count of faults. `read_all` takes a
+//! source to its end, unless more bytes come than a limit; `write_all` and `send` put a text behind what a sink holds, and
+//! where that breaks off by a fault, some first part of the text is there; `load_text` gives the whole text of a name. A
+//! fault is answered only where the count of faults of the object that was called rose.
 //!
 //! `memory` has forms whose calls fail by a list, for tests; `calm` forms that never fail; `system` the real input, output
 //! and files, of which nothing is told: whatever bytes and errors they give, each call here is safe and ends.

@@ -1,7 +1,9 @@
+-- ---- definitions that public clauses reach
 pub mod LabelWalks
 pub mod OddLabels
-pub mod OddSets
 pub mod PathAmplitude
-pub mod PathForm
 pub mod PathSum
 pub mod Sets
+-- ---- working forms
+pub mod OddSets
+pub mod PathForm

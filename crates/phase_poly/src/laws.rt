@@ -12,7 +12,8 @@ ghost use Rattle.phase_poly.specs.Polys.{ArePlain, SamePoly, poly_of};
 ghost use Rattle.phase_poly.specs.Resynthesis.{BlocksBelow, IsBuilt, IsResynthesis, cx_bound, flip_gates, picked, resynth_turn};
 ghost use Rattle.phase_poly.specs.Replaced.{AreFine, IsReplaced, lesser};
 
-/// A circuit is its layers in order, each followed by its H: the same gates in another order.
+/// A circuit that is written anew layer by layer, the H of each behind its other gates, has the same gates in another order,
+/// and does the same.
 pub fn linked_layers()
     ensures same { (gs : List Gate) → Turns 0 (ops gs) (ops (linked (layers_of gs))) }
     ensures odd_paths { (gs : List Gate) (n : ℕ) → odd_paths n (ops (linked (layers_of gs))) ≡ odd_paths n (ops gs) }

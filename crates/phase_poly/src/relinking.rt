@@ -13,7 +13,8 @@ use crate::resynthesis::resynth;
 use circuit_list::Gate;
 use std::alloc::{AllocError, Global};
 
-/// The layers in order, each followed by its H; each is resynthesised where that has fewer CNOTs.
+/// The circuit of these layers, where the H of a layer stand behind its other gates; a layer whose resynthesis has fewer
+/// CNOTs is written as this.
 pub(crate) fn relinked(alloc: Global, wires: u32, layers: &[Layer]) -> Result<Resynth, AllocError>
     requires few { wires ≤ most_wires }
     requires plain { PlainLayers wires layers.now }

@@ -1,1 +1,2 @@
+-- ---- working forms
 pub mod Inverse

@@ -5,10 +5,10 @@
 --   in_ok, in_err        from one promise of an answer to another
 --   tree-once            a text spells one tree at most
 --   means-once           and means one program at most
+--   unparsed, unlexed    a text that spells a tree has no fault in its tokens or its grammar
 --   accepted-no_refusal  an accepted text has no refusal
 --   IsRefusal-checked, IsRefusal-written     from the stages' refusals to the text's
-use Rattle.std.proofs.Common.{◌≡◌, ℕ, ◌<◌, ◌≤◌, List, All, Option, Result, Ok, Err, IfOk, IfErr, refl, sym, subst, ◌∙◌, ap, arith, length}
-use Rattle.unitary_model.specs.declared.Op.{Op}
+use Rattle.std.proofs.Common.{◌≡◌, ℕ, ◌<◌, ◌≤◌, List, All, Result, Ok, Err, IfOk, IfErr, sym, subst, ◌∙◌, arith, length}
 use Rattle.qasm_lexer.specs.Tokens.{AreTokens, IsLexFault, IsTokenOf}
 use Rattle.qasm_lexer.specs.declared.LexFault.{LexFault}
 use Rattle.qasm_lexer.specs.declared.LexFault.TheVariants as lexing
@@ -22,12 +22,11 @@ use Rattle.qasm_parser.specs.declared.ParseFault.{ParseFault}
 use Rattle.qasm_parser.specs.declared.ParseFault.TheVariants as parsing
 use Rattle.qasm_check.specs.Bound.{Bound}
 use Rattle.qasm_check.specs.Checking.{IsCheckFault, IsFineTree, bound}
-use Rattle.qasm_check.specs.declared.bits.Bits.{Bits}
 use Rattle.qasm_check.specs.declared.refusal.CheckFault.{CheckFault}
 use Rattle.qasm_check.specs.declared.refusal.CheckFault.TheVariants as checking
 use Rattle.gate_expand.specs.declared.source.Ops.{Ops}
 use Rattle.gate_inline.specs.Inlined.{IsInlineFault, IsInlined, operations}
-use Rattle.gate_inline.specs.Programs.{IsAccepted, IsSource, IsTreeOf, IsWithinLimits, IsWritten, Means, Program}
+use Rattle.gate_inline.specs.Programs.{IsAccepted, IsTreeOf, IsWithinLimits, IsWritten, Means, Program}
 use Rattle.gate_inline.specs.declared.refusal.InlineFault.{InlineFault}
 use Rattle.gate_inline.specs.declared.refusal.InlineFault.TheVariants as inlining
 use Rattle.program_reader.specs.Refusals.{IsReadFault, IsRefusal, IsUnparsed, IsWithin, lex_fault, parse_fault}
@@ -88,12 +87,12 @@ means-once lexes once text p q (t, (is, fine), m) (u, (too, also), n) =
     means_same (bound u) p q (subst (λ (x : Tree). Means (bound x) p) same m) n
 
 -- ---- no refusal
-unparsed : Laws → (text : List ℕ) (t : Tree) (fault : ParseFault) → IsTreeOf text t → IsUnparsed text fault → fault ≡ parsing.NoMemory
+pub unparsed : Laws → (text : List ℕ) (t : Tree) (fault : ParseFault) → IsTreeOf text t → IsUnparsed text fault → fault ≡ parsing.NoMemory
 unparsed laws text t fault (xs, lx, is) (ys, ly, f) =
     let same = laws.lexed_once text ys xs ly lx in
     laws.no_parse_fault text xs t fault is (subst (λ (ts : List Token). IsParseFault text ts fault) same f)
 
-unlexed : Laws → (text : List ℕ) (t : Tree) (fault : LexFault) → IsTreeOf text t → IsLexFault text fault → fault ≡ lexing.NoMemory
+pub unlexed : Laws → (text : List ℕ) (t : Tree) (fault : LexFault) → IsTreeOf text t → IsLexFault text fault → fault ≡ lexing.NoMemory
 unlexed laws text t fault (xs, lx, is) f = laws.no_lex_fault text xs fault lx f
 
 inlined_of : (b : Bound) (p : Program) → IsWithinLimits b → Means b p → IsInlined b (record { wires = p.wires; list = p.ops; reads = p.reads })

@@ -5,8 +5,7 @@ use Rattle.qasm_check.specs.Bound.{Bound}
 use Rattle.qasm_check.specs.Checking.{IsCheckRefused}
 use Rattle.qasm_parser.specs.Tree.{Tree}
 use Rattle.gate_inline.specs.Inlined.{IsInlineRefused}
-use Rattle.program_reader.specs.declared.refusal.Refusal.{Refusal}
-use Rattle.program_reader.specs.declared.refusal.Refusal.TheVariants.{TooLong, BadByte, Number, Syntax, Version, Depth, Check, Inline}
+use Rattle.program_reader.specs.declared.refusal.Refusal.TheVariants.{Check, Inline}
 use Rattle.program_reader.specs.declared.refusal.ReadFault.{ReadFault}
 use Rattle.program_reader.specs.declared.refusal.ReadFault.TheVariants.{Refused, NoMemory}
 

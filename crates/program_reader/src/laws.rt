@@ -2,7 +2,7 @@
 
 ghost use Rattle.std.specs.Prelude.{◌≡◌, ℕ, List};
 ghost use Rattle.gate_inline.specs.Programs.{IsAccepted, IsWritten, Program as Meant};
-ghost use Rattle.program_reader.specs.Refusals.{IsRefusal};
+ghost use Rattle.program_reader.specs.Refusals.{IsAlike, IsRefusal};
 ghost use Rattle.program_reader.specs.declared.refusal.Refusal.{Refusal as First};
 
 /// A text means one program at most.
@@ -23,4 +23,21 @@ pub fn accepted_has_no_refusal()
     qasm_parser::accepted_has_no_fault();
     qasm_check::accepted_has_no_fault();
     gate_inline::inlined_has_no_fault();
+}
+
+/// A text has one refusal at most, the place of Syntax aside. Of a text that spells no program the definition asks only that the
+/// place is within the text, for no definition here says which first parts of a text some program begins with.
+pub fn refused_once()
+    ensures { (text : List ℕ) (r s : First) → IsRefusal text r → IsRefusal text s → IsAlike r s }
+{
+    qasm_lexer::lexed_once();
+    qasm_lexer::accepted_has_no_fault();
+    qasm_lexer::refused_once();
+    qasm_parser::spelt_once();
+    qasm_parser::accepted_has_no_fault();
+    qasm_parser::refused_once();
+    qasm_check::accepted_has_no_fault();
+    qasm_check::refused_once();
+    gate_inline::inlined_has_no_fault();
+    gate_inline::refused_once();
 }

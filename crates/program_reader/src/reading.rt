@@ -4,6 +4,8 @@ ghost use Rattle.std.specs.Prelude.{◌≡◌, ◌<◌, ◌≤◌, All, IfOk, If
 ghost use Rattle.gate_expand.specs.Expansion.{IsFineOp};
 ghost use Rattle.gate_inline.specs.Programs.{IsAccepted, IsTreeOf, IsWithinLimits, Means, text_limit};
 ghost use Rattle.gate_inline.specs.Registers.{AreRegisters, IsRead};
+ghost use Rattle.gate_inline.specs.Sizes.{operation_limit};
+ghost use Rattle.gate_library.specs.Limits.{most_qubits};
 ghost use Rattle.program_reader.specs.Refusals.{IsReadFault, program_of};
 ghost use Rattle.program_reader.specs.Stages.{IsUnchecked, IsUnwritten};
 ghost use Rattle.qasm_check.specs.Checking.{IsFineTree, bound};
@@ -20,8 +22,9 @@ use qasm_lexer::{lex, tokens_are_lexemes};
 use qasm_parser::{Name, Program, declares_names, few_statements, parse};
 use std::alloc::{AllocError, Global};
 
-/// The most bytes of a text.
-const TEXT_LIMIT: usize = 4_194_304;
+/// The most bytes of a program's text, 4 MiB. A longer one is refused as [`Refusal::TooLong`], whatever it holds, so of an
+/// input no more than one byte past this need be read.
+pub const TEXT_LIMIT: usize = 4_194_304;
 
 /// The tree that a text spells.
 #[tactic(auto, using(crate::proofs::ReaderLaws::reader))]
@@ -70,8 +73,8 @@ fn registers_of(alloc: Global, checked: &Checked) -> Result<Vec<Bits>, AllocErro
 fn write_out(alloc: Global, checked: &Checked) -> Result<Source, ReadFault>
     requires { All (λ r. IsName r.name) (bound_program checked.now).registers }
     ensures ok { IfOk result (λ s. IsWithinLimits (bound_program checked.now) × Means (bound_program checked.now) (program_of s)) }
-    ensures few { IfOk result (λ s. s.ops.wires ≤ 64) }
-    ensures short { IfOk result (λ s. length s.ops.list ≤ 65536) }
+    ensures few { IfOk result (λ s. s.ops.wires ≤ most_qubits) }
+    ensures short { IfOk result (λ s. length s.ops.list ≤ operation_limit) }
     ensures fine { IfOk result (λ s. All (IsFineOp s.ops.wires) s.ops.list) }
     ensures registers { IfOk result (λ s. AreRegisters s.registers.items (length s.ops.reads)) }
     ensures reads { IfOk result (λ s. All (IsRead s.ops.wires) s.ops.reads) }
@@ -96,8 +99,8 @@ fn write_out(alloc: Global, checked: &Checked) -> Result<Source, ReadFault>
 #[tactic(auto, using(crate::proofs::ReaderLaws::reader))]
 pub fn read_program(alloc: Global, text: &[u8]) -> Result<Source, ReadFault>
     ensures ok { IfOk result (λ s. IsAccepted text.now (program_of s)) }
-    ensures few { IfOk result (λ s. s.ops.wires ≤ 64) }
-    ensures short { IfOk result (λ s. length s.ops.list ≤ 65536) }
+    ensures few { IfOk result (λ s. s.ops.wires ≤ most_qubits) }
+    ensures short { IfOk result (λ s. length s.ops.list ≤ operation_limit) }
     ensures fine { IfOk result (λ s. All (IsFineOp s.ops.wires) s.ops.list) }
     ensures registers { IfOk result (λ s. AreRegisters s.registers.items (length s.ops.reads)) }
     ensures reads { IfOk result (λ s. All (IsRead s.ops.wires) s.ops.reads) }

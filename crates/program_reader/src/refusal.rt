@@ -12,7 +12,7 @@ pub enum Refusal {
     TooLong,
     /// At this place no token, white space or comment begins.
     BadByte { place: u32 },
-    /// The number at this place has a part above 2^62 as a fraction in lowest terms.
+    /// The number at this place is out of range: with common factors cancelled, its numerator or denominator is above 2^62.
     Number { place: u32 },
     /// The tokens spell no program; the place is that of the first token that fits nothing, or the text's length.
     Syntax { place: u32 },

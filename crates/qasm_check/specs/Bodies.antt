@@ -1,4 +1,4 @@
--- Declarations of gates, as the code has them.
+-- Working form. Declarations of gates, as the code has them.
 --   declaration   the tree of a declaration
 --   has_flaw      what is wrong with an application
 use Rattle.std.specs.Prelude.{Bool, map}

@@ -1,5 +1,5 @@
+-- ---- definitions that public clauses reach
 pub mod Arguments
-pub mod Bodies
 pub mod Bound
 pub mod CheckedView
 pub mod Checking
@@ -8,4 +8,6 @@ pub mod Sound
 pub mod StepViews
 pub mod Steps
 pub mod Texts
+-- ---- working forms
+pub mod Bodies
 pub mod Verdicts

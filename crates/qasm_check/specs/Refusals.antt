@@ -76,7 +76,7 @@ unknown_name k (declares d) = list_any (unknown_in_body k d.params d.qubits) d.b
 unknown_name k (act it) = unknown_in_act k it
 unknown_name k _ = false
 
--- ---- 23: a register for a gate, a gate for a register, or a register of the other kind
+-- ---- 23: a name that stands for something else than what is asked for: a gate, qubits, or bits
 abbrev pub is_wrong : Known → Bool → Arg → Bool
 is_wrong k quantum arg = is_other quantum (meaning k arg.name)
 

@@ -1,4 +1,4 @@
--- The refusal of a statement as a function: a working form.
+-- Working form. The refusal of a statement as a function.
 --   first_of     the first refusal whose test is met
 --   verdict      the refusal of the least code that applies to a statement
 --   IsStop       why the check of a statement stops, where this is its refusal

@@ -17,7 +17,7 @@ pub fn is_unknown<'a>(known: &Known<'a>, arg: &'a Arg) -> bool
     known.meaning(arg.name.as_bytes()).is_none()
 }
 
-/// Whether it names a gate, or a register of the other kind.
+/// Whether its name stands for something, but for no register of the kind that is asked for.
 pub fn is_wrong<'a>(known: &Known<'a>, quantum: bool, arg: &'a Arg) -> bool
     ensures { result ≡ is_wrong (state known.now) quantum arg.now }
 {

@@ -2,9 +2,9 @@
 //!
 //! In goes a text, out come the kinds and places of its tokens; white space and comments are left out. The contract says
 //! that the text is lexemes one behind the other, each the longest at its place, and that these are the tokens among
-//! them; or that the text is refused at its first fault, which is told: a byte at which nothing begins, or a number that
-//! as a fraction in lowest terms has a part above 2^62. A text has one answer. A number's value is exact however long it
-//! is written. Time is linear in the text.
+//! them; or that the text is refused at its first fault, which is told: a byte at which nothing begins, or a number whose
+//! numerator or denominator stays above 2^62 when common factors are cancelled. A text has one answer. A number's value is
+//! exact however long it is written. Time is linear in the text.
 #![tactic(auto)]
 
 use thiserror::Error;
@@ -55,7 +55,8 @@ pub enum LexFault {
     /// At this place, the first such, no token, white space or comment begins.
     #[error("no token begins at byte {place}")]
     BadByte { place: u32 },
-    /// The number at this place has a part above 2^62 as a fraction in lowest terms, and nothing before it is at fault.
+    /// Nothing before this place is at fault, and the number here is out of range: its numerator or denominator stays above
+    /// 2^62 when common factors are cancelled.
     #[error("the number at byte {place} is out of range")]
     Number { place: u32 },
     /// There is no memory for the tokens.

@@ -1,4 +1,4 @@
--- Heads of the code.
+-- Working form. Heads of the code.
 --   head_view    a gate's name and its angles
 use Rattle.std.specs.Prelude.{map}
 use Rattle.qasm_parser.specs.declared.apply.Head.{Head}

@@ -1,14 +1,16 @@
+-- ---- definitions that public clauses reach
 pub mod DeclaredNames
 pub mod Expressions
+pub mod Parsing
+pub mod Spelling
+pub mod Symbols
+pub mod Tree
+-- ---- working forms
 pub mod Frames
 pub mod Heads
 pub mod Machine
 pub mod Misread
 pub mod Modes
-pub mod Parsing
 pub mod Parts
 pub mod Reading
-pub mod Spelling
-pub mod Symbols
-pub mod Tree
 pub mod Views

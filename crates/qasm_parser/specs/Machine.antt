@@ -1,4 +1,4 @@
--- Reading an expression from left to right with a stack: working forms.
+-- Working form. Reading an expression from left to right with a stack.
 --   capped         an expression that is at most so deep; none for a deeper one
 --   grown, joined  a part put into a greater one
 --   Frame          what was begun and waits for its right part

@@ -1,4 +1,4 @@
--- Why reading stops.
+-- Working form. Why reading stops.
 --   IsMisread    there is no reading, and at most so many symbols are left from the place told; or memory is wanting
 use Rattle.std.specs.Prelude.{◌≡◌, ◌≤◌, ⊤, ℕ, Option, None}
 use Rattle.qasm_parser.specs.declared.stop.Stop.{Stop}

@@ -1,4 +1,4 @@
--- Where the code stands in an expression.
+-- Working form. Where the code stands in an expression.
 --   go      what the machine gives from there
 --   steps   how many steps it may still take, with so many symbols to come
 use Rattle.std.specs.Prelude.{ℕ, ◌+◌, ◌*◌, List, Option, Some}

@@ -1,4 +1,4 @@
--- Expressions of the code that are being read.
+-- Working form. Expressions of the code that are being read.
 --   part_of    an expression, or none where it is too deep
 use Rattle.std.specs.Prelude.{Option, Some, None}
 use Rattle.qasm_parser.specs.declared.part.Part.{Part}

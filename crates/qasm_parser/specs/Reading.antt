@@ -1,4 +1,4 @@
--- Reading a program symbol by symbol: working forms. An expression deeper than the limit is read as pi, and where it begins is told.
+-- Working form. Reading a program symbol by symbol. An expression deeper than the limit is read as pi, and where it begins is told.
 --   Read             what was read, where the first expression that is too deep begins (how many symbols are left there), and what is left
 --   first_of         the first of two places, where there is one
 --   same_mark, skip  a sign

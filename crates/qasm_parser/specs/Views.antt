@@ -1,4 +1,4 @@
--- What values of the code stand for.
+-- Working form. What values of the code stand for.
 --   symbol     a symbol, its bytes apart from where they lie, a number with this value
 use Rattle.qasm_parser.specs.declared.symbols.Symbol.{Symbol}
 use Rattle.qasm_parser.specs.declared.symbols.Symbol.TheVariants.{Word, Function, Name, Whole, Real, Quoted, Mark, Sign, Other}

@@ -150,5 +150,5 @@ written_tree-means q n us rs reads h =
       reads = sym ((λ i. map (λ bit. w.run.reads bit i) (upto (known list).bits))
           ∙ ap (λ bits. map (read_from 0 reads) (upto bits)) w.bits ∙ reads_listed reads);
       registers = sym w.run.registers;
-      barriers = sym w.run.pauses;
+      barriers = sym w.run.barriers;
     }

@@ -32,7 +32,7 @@ pub record Run (k : Known) (ss : List Statement) (us : List Op) (rs : List Bits)
   pub ops : ◌≡◌ {A = Answer} (joined (map (step_answer standard_meanings) (steps k ss))) (Ok us)
   pub registers : filter_map bits_of ss ≡ rs
   pub reads : (bit : ℕ) → last_read (steps k ss) bit ≡ f bit
-  pub pauses : count_by is_barrier (steps k ss) ≡ 0
+  pub barriers : count_by is_barrier (steps k ss) ≡ 0
 
 pub Run-nil : (k : Known) → Run k [] [] [] (λ bit. None)
 Run-nil k = record {
@@ -40,7 +40,7 @@ Run-nil k = record {
   ops = refl;
   registers = refl;
   reads = λ bit. refl;
-  pauses = refl;
+  barriers = refl;
 }
 
 -- ---- one list and then the other
@@ -93,7 +93,7 @@ Run-append k xs ys us vs rs ts f g r s = record {
   reads = λ bit. ap (λ (ss : List Step). last_read ss bit) (steps-append k xs ys)
       ∙ last_read-append (steps k xs) (steps (fold after k xs) ys) bit
       ∙ (λ i. option_or (s.reads bit i) (r.reads bit i));
-  pauses = ap (count_by is_barrier) (steps-append k xs ys) ∙ none_counted is_barrier (steps k xs) (steps (fold after k xs) ys) r.pauses s.pauses;
+  barriers = ap (count_by is_barrier) (steps-append k xs ys) ∙ none_counted is_barrier (steps k xs) (steps (fold after k xs) ys) r.barriers s.barriers;
 }
 
 pub Run-reads : (k : Known) (ss : List Statement) (us : List Op) (rs : List Bits) (f g : ℕ → Option ℕ)
@@ -103,7 +103,7 @@ Run-reads k ss us rs f g e r = record {
   ops = r.ops;
   registers = r.registers;
   reads = λ bit. r.reads bit ∙ e bit;
-  pauses = r.pauses;
+  barriers = r.barriers;
 }
 
 -- ---- one statement
@@ -116,7 +116,7 @@ Run-one k s x us o f fine does e b reads p = record {
       ∙ ap (λ (vs : List Op). Ok vs) (append-nil us);
   registers = ap (λ (c : Option Bits). cons_option c []) b;
   reads = λ bit. ap (λ (y : Step). step_read y bit) does ∙ reads bit;
-  pauses = ap (λ (y : Step). count_by is_barrier (y ∷ [])) does ∙ ap (λ (c : Bool). 0 + cond c 1 0) p;
+  barriers = ap (λ (y : Step). count_by is_barrier (y ∷ [])) does ∙ ap (λ (c : Bool). 0 + cond c 1 0) p;
 }
 
 pub Run-quiet : (k : Known) (s : Statement) (o : Option Bits) → IsFine k s → step k s ≡ nothing → bits_of s ≡ o → Run k (s ∷ []) [] (cons_option o []) (λ bit. None)

@@ -1,4 +1,6 @@
+-- ---- definitions that public clauses reach
 pub mod Texts
-pub mod Trees
 pub mod Outputs
+-- ---- working forms
+pub mod Trees
 pub mod Words

@@ -1,6 +1,8 @@
+-- ---- definitions that public clauses reach
 pub mod Devices
 pub mod Delivered
 pub mod Causes
+-- ---- working forms
 pub mod Stops
 pub mod Targets
 pub mod Plans

@@ -1,2 +1,3 @@
+-- ---- working forms
 pub mod Merging
 pub mod Sums

@@ -1,3 +1,4 @@
+-- ---- definitions that public clauses reach
 pub mod Compact
 pub mod Refusals
 pub mod Lines

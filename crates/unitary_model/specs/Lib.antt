@@ -1,3 +1,4 @@
+-- ---- definitions that public clauses reach
 pub mod Ring
 pub mod Operations
 pub mod Amplitude
@@ -9,5 +10,6 @@ pub mod Acts
 pub mod Paths
 pub mod SameUpTo
 pub mod Realised
-pub mod Reached
 pub mod Limits
+-- ---- working forms
+pub mod Reached

@@ -1,4 +1,4 @@
--- Working form. Odd path parities: a list of operations as events on the labels.
+-- Odd path parities: a list of operations as events on the labels.
 --     Event               Toggle: the wire's label is put into the odd set, or taken out; Fresh: a fresh variable is the wire's
 --                         label; Add c t: the label of wire c is added to that of wire t
 --     events_of u         the events of an operation;  events us: of a list

@@ -1,3 +1,4 @@
+-- ---- working forms
 pub mod Emission
 pub mod Front
 pub mod Underway
