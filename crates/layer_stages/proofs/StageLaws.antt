@@ -13,7 +13,6 @@ use Rattle.gf2_linear.specs.Rows.{rows_at}
 use Rattle.phase_poly.specs.Layers.{LayerBody}
 use Rattle.phase_poly.specs.Polys.{ArePlain, Term, poly_of}
 use Rattle.phase_poly.specs.Resynthesis.{rows_of}
-use Rattle.phase_poly.proofs.MapLaws.{AreRows, terms_rows}
 use Rattle.layer_stages.specs.declared.stage.Stage.{Stage}
 use Rattle.layer_stages.specs.Stages.{odd_rows, IsStage, numbered, AreStages, stage_line, stage_text, IsSoFar, IsStageText}
 
@@ -28,19 +27,22 @@ odd_rows-append ts us = ap rows_of (filter-append (λ (e : Term). e.1 % 2 == 1) 
 pub odd_rows-more : (ts : List Term) (i : ℕ) (d : Term) (rows next : List ℕ) → i < length ts → rows ≡ odd_rows (take i ts) → next ≡ rows ++ odd_rows (get_or ts i d ∷ []) → next ≡ odd_rows (take (i + 1) ts)
 odd_rows-more ts i d rows next l h n = n ∙ ap (λ z. z ++ odd_rows (get_or ts i d ∷ [])) h ∙ sym (odd_rows-append (take i ts) (get_or ts i d ∷ [])) ∙ ap odd_rows (sym (take_more ts i d l))
 
-odd_nonzero : (n : ℕ) (ts : List Term) → AreRows n ts → (k d : ℕ) → k < length (odd_rows ts) → get_or (odd_rows ts) k d ≢ 0
-odd_nonzero n [] h k d l = λ e. absurd (omega arith)
-odd_nonzero n (e ∷ ts) h k d l = go (nat_eq (e.1 % 2) 1) k l (odd_nonzero n ts h.1.1.1)
+abbrev AreFilled : List Term → Type 0
+AreFilled ts = (i : ℕ) (d : Term) → i < length ts → (get_or ts i d).0 ≢ 0
+
+odd_nonzero : (ts : List Term) → AreFilled ts → (k d : ℕ) → k < length (odd_rows ts) → get_or (odd_rows ts) k d ≢ 0
+odd_nonzero [] h k d l = λ e. absurd (omega arith)
+odd_nonzero (e ∷ ts) h k d l = go (nat_eq (e.1 % 2) 1) k l (odd_nonzero ts (λ i c m. h (suc i) c (omega arith)))
   where
     go : (b : Bool) (k : ℕ) → k < length (rows_of (cond b (e ∷ filter (λ (e : Term). e.1 % 2 == 1) ts) (filter (λ (e : Term). e.1 % 2 == 1) ts))) →
         ((k d : ℕ) → k < length (odd_rows ts) → get_or (odd_rows ts) k d ≢ 0) →
         get_or (rows_of (cond b (e ∷ filter (λ (e : Term). e.1 % 2 == 1) ts) (filter (λ (e : Term). e.1 % 2 == 1) ts))) k d ≢ 0
-    go true zero l r = h.0
+    go true zero l r = h 0 e (omega arith)
     go true (suc k) l r = r k d (omega arith)
     go false k l r = r k d l
 
-pub odd_rows-nonzero : (n : ℕ) (gs : List Gate) (rows : List ℕ) → ArePlain n gs → rows ≡ odd_rows (poly_of n gs).terms → (k d : ℕ) → k < length rows → get_or rows k d ≢ 0
-odd_rows-nonzero n gs rows f e = subst (λ (rs : List ℕ). (k d : ℕ) → k < length rs → get_or rs k d ≢ 0) (sym e) (odd_nonzero n (poly_of n gs).terms (terms_rows n gs f))
+pub odd_rows-nonzero : ((m : ℕ) (hs : List Gate) → ArePlain m hs → AreFilled (poly_of m hs).terms) → (n : ℕ) (gs : List Gate) (rows : List ℕ) → ArePlain n gs → rows ≡ odd_rows (poly_of n gs).terms → (k d : ℕ) → k < length rows → get_or rows k d ≢ 0
+odd_rows-nonzero law n gs rows f e = subst (λ (rs : List ℕ). (k d : ℕ) → k < length rs → get_or rs k d ≢ 0) (sym e) (odd_nonzero (poly_of n gs).terms (law n gs f))
 
 -- ---- rows at places
 rows_at-append : (rows ps qs : List ℕ) → rows_at rows (ps ++ qs) ≡ rows_at rows ps ++ rows_at rows qs

@@ -8,6 +8,7 @@ ghost use Rattle.layer_stages.specs.Stages.{IsSoFar, IsStageText, stage_line};
 
 use crate::stage::{Stage, stage_of};
 use circuit_list::Circuit;
+use phase_poly::laws::plain_layers;
 use phase_poly::{Layer, layers};
 use std::alloc::{AllocError, Global};
 
@@ -17,6 +18,7 @@ use std::alloc::{AllocError, Global};
 pub fn stage_lines(alloc: Global, body: &Circuit) -> Result<Vec<u8>, AllocError>
     ensures { IfOk result (λ t. IsStageText body.now.wires (layers_of body.now.gates) t.items) }
 {
+    plain_layers();
     let layers = layers(alloc, body)?;
     let mut text = String::new(alloc);
     let mut next = 1;

@@ -9,6 +9,7 @@ ghost use Rattle.layer_stages.specs.Stages.{IsStage, odd_rows};
 use circuit_list::Gate;
 use gf2_linear::{Row, rank};
 use matroid_partition::partition;
+use phase_poly::laws::filled_terms;
 use phase_poly::poly;
 use std::alloc::{AllocError, Global};
 
@@ -28,6 +29,7 @@ pub(crate) fn stage_of(alloc: Global, wires: u32, gates: &[Gate]) -> Result<Stag
     requires plain { ArePlain wires gates.now }
     ensures { IfOk result (λ s. IsStage wires gates.now s) }
 {
+    filled_terms();
     let sum = poly(alloc, wires, gates)?;
     let rows = odd_rows(alloc, sum.terms())?;
     let parts = partition(alloc, &rows)?;

@@ -1,14 +1,14 @@
 //! The laws of layers and of polynomials: each function's contract is one law. They take nothing and do nothing.
 
-ghost use Rattle.std.specs.Prelude.{◌≡◌, ℕ, ◌<◌, ◌≤◌, ◌++◌, List, length};
+ghost use Rattle.std.specs.Prelude.{◌≡◌, ◌≢◌, ℕ, ◌<◌, ◌≤◌, ◌++◌, All, List, get_or, length};
 ghost use Rattle.circuit_list.specs.declared.Gate.{Gate};
-ghost use Rattle.circuit_list.specs.Gates.{ops};
+ghost use Rattle.circuit_list.specs.Gates.{IsFine, ops};
 ghost use Rattle.unitary_model.specs.Acts.{Turns};
 ghost use Rattle.unitary_model.specs.Operations.{t_count, cx_count};
 ghost use Rattle.unitary_model.specs.OddPaths.{odd_paths};
 ghost use Rattle.matroid_partition.specs.Partitions.{times};
 ghost use Rattle.phase_poly.specs.Layers.{LayerBody, layers_of, linked};
-ghost use Rattle.phase_poly.specs.Polys.{ArePlain, SamePoly, poly_of};
+ghost use Rattle.phase_poly.specs.Polys.{ArePlain, SamePoly, Term, poly_of};
 ghost use Rattle.phase_poly.specs.Resynthesis.{BlocksBelow, IsBuilt, IsResynthesis, cx_bound, flip_gates, picked, resynth_turn};
 ghost use Rattle.phase_poly.specs.Replaced.{AreFine, IsReplaced, lesser};
 
@@ -19,6 +19,18 @@ pub fn linked_layers()
     ensures odd_paths { (gs : List Gate) (n : ℕ) → odd_paths n (ops (linked (layers_of gs))) ≡ odd_paths n (ops gs) }
     ensures t_gates { (gs : List Gate) → t_count (ops (linked (layers_of gs))) ≡ t_count (ops gs) }
     ensures cx_gates { (gs : List Gate) → cx_count (ops (linked (layers_of gs))) ≡ cx_count (ops gs) }
+{}
+
+/// The layers of gates that may stand on the wires have gates other than H, on these wires, and H besides.
+pub fn plain_layers()
+    ensures plain { (n : ℕ) (gs : List Gate) → All (IsFine n) gs → (i : ℕ) (d : LayerBody) → i < length (layers_of gs) →
+        ArePlain n (get_or (layers_of gs) i d).gates }
+{}
+
+/// No term of a polynomial has the empty sum.
+pub fn filled_terms()
+    ensures filled { (n : ℕ) (gs : List Gate) → ArePlain n gs → (i : ℕ) (d : Term) → i < length (poly_of n gs).terms →
+        (get_or (poly_of n gs).terms i d).0 ≢ 0 }
 {}
 
 /// Two lists without H that have the same map, flips and coefficients, and constants that differ by `t`, are the same
