@@ -222,10 +222,8 @@ impl Plain {
 
     /// New slots from 0 on.
     fn compact(&mut self) {
-        let mut index = 0;
-        'slots: for slot in &mut self.slots {
+        'slots: for (index, slot) in self.slots.iter_mut().enumerate() {
             *slot = Slot::new(index);
-            index += 1;
         }
     }
 }
