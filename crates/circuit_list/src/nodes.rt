@@ -3,14 +3,14 @@
 //! The nodes stand in one list: below node `i` stand the nodes `2 * i` and `2 * i + 1`, and behind the
 //! last node stand the slots. Node 0 tells nothing.
 
-ghost use Rattle.std.specs.Prelude.{◌≡◌, ℕ, ◌+◌, ◌*◌, ◌/◌, ◌<◌, ◌≢◌, List, length, max, min, Some};
+ghost use Rattle.std.specs.Prelude.{◌≡◌, ℕ, ◌+◌, ◌*◌, ◌/◌, ◌<◌, ◌≢◌, length, Some};
 ghost use Rattle.circuit_list.specs.Entries.{entry};
 ghost use Rattle.circuit_list.specs.Tree.{IsJoined, Lacks, has_any, join, leaf, node_at, wire_bit, wires_of};
 
 use crate::Gate;
 
 /// What stands in some slots: the number of gates and the wires that they are on, one bit a wire.
-#[derive(Clone, Copy)]
+#[derive(Clone, Copy, Debug)]
 pub(crate) struct Node {
     pub(crate) count: usize,
     pub(crate) wires: u64,

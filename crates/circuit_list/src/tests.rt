@@ -4,6 +4,7 @@ ghost use Rattle.circuit_list.specs.Gates.{IsFine, is_on};
 ghost use Rattle.circuit_list.specs.Slots.{IsLive, IsNextOn, NoneBehind, is_on_at, place_of};
 
 use crate::{Circuit, Gate, Slot};
+use std::alloc::Global;
 use std::process::Abort;
 use std::test::Fail;
 
@@ -56,50 +57,78 @@ fn finds_the_next_gate_on_a_wire(rt: HostRuntime) -> Result<(), Fail> {
     Ok(())
 }
 
-#[test]
-fn finds_gates_far_away(rt: HostRuntime) -> Result<(), Fail> {
-    let mut circuit = Circuit::empty(rt.alloc(), 2)?;
+/// H on wire 1, 300 times X on wire 0, H on wire 1 and X on wire 0.
+fn far_apart(alloc: Global) -> Result<Circuit, Fail> {
+    let mut circuit = Circuit::empty(alloc, 2)?;
     circuit.push(Gate::H { q: 1 })?;
     'pushes: for _ in 0..300 {
         circuit.push(Gate::X { q: 0 })?;
     }
     circuit.push(Gate::H { q: 1 })?;
     circuit.push(Gate::X { q: 0 })?;
+    Ok(circuit)
+}
+
+/// The same with all but the first and the last X taken out.
+fn hollow(rt: &impl Abort, alloc: Global) -> Result<Circuit, Fail> {
+    let mut circuit = far_apart(alloc)?;
+    'removals: for _ in 0..299 {
+        assert!(rt; circuit.len() > 2);
+        circuit.remove(2);
+    }
+    Ok(circuit)
+}
+
+#[test]
+fn finds_gates_far_away(rt: HostRuntime) -> Result<(), Fail> {
+    let circuit = far_apart(rt.alloc())?;
     assert!(rt; circuit.len() == 303);
     let first = circuit.slot(0);
-    let second = circuit.slot(1);
     let far = circuit.slot(301);
-    let last = circuit.slot(302);
-    let here = circuit.gate_at(first);
-    let there = circuit.gate_at(far);
-    let (wire, other) = here.wires();
-    assert!(rt; wire == 1 && other.is_none() && there == here);
+    let (wire, none) = circuit.gate_at(first).wires();
+    assert!(rt; wire == 1 && none.is_none());
     assert_eq!(rt; circuit.next_on(first, wire), Some(far));
-    let (wire, _) = there.wires();
+    let (wire, _) = circuit.gate_at(far).wires();
     assert_eq!(rt; circuit.next_on(far, wire), None);
     assert_eq!(rt; circuit.prev_on(far, wire), Some(first));
-    'removals: for _ in 0..300 {
-        assert!(rt; circuit.len() > 1);
-        circuit.remove(1);
-    }
-    assert!(rt; circuit.len() == 3);
-    assert_eq!(rt; circuit.slot(1), far);
-    assert_eq!(rt; circuit.slot_from(first), Some(first));
-    assert_eq!(rt; circuit.slot_from(second), Some(far));
-    assert_eq!(rt; circuit.slot_from(Slot::new(300)), Some(far));
-    assert_eq!(rt; circuit.slot_from(last), Some(last));
+    Ok(())
+}
+
+#[test]
+fn finds_neighbours_past_empty_slots(rt: HostRuntime) -> Result<(), Fail> {
+    let circuit = hollow(&rt, rt.alloc())?;
+    assert!(rt; circuit.len() == 4);
+    let second = circuit.slot(1);
+    let far = circuit.slot(2);
+    assert_eq!(rt; circuit.after(second), Some(far));
+    assert_eq!(rt; circuit.before(far), Some(second));
+    assert_eq!(rt; far, Slot::new(301));
+    Ok(())
+}
+
+#[test]
+fn finds_the_first_slot_from_any_on(rt: HostRuntime) -> Result<(), Fail> {
+    let circuit = hollow(&rt, rt.alloc())?;
+    let far = Some(Slot::new(301));
+    assert_eq!(rt; circuit.slot_from(Slot::new(0)), Some(Slot::new(0)));
+    assert_eq!(rt; circuit.slot_from(Slot::new(2)), far);
+    assert_eq!(rt; circuit.slot_from(Slot::new(255)), far);
+    assert_eq!(rt; circuit.slot_from(Slot::new(301)), far);
     assert_eq!(rt; circuit.slot_from(Slot::new(303)), None);
     assert_eq!(rt; circuit.slot_from(Slot::new(usize::MAX)), None);
-    let first = circuit.slot(0);
-    let far = circuit.slot(1);
-    assert_eq!(rt; circuit.after(first), Some(far));
-    assert_eq!(rt; circuit.before(far), Some(first));
+    Ok(())
+}
+
+#[test]
+fn drops_empty_slots(rt: HostRuntime) -> Result<(), Fail> {
+    let mut circuit = hollow(&rt, rt.alloc())?;
     circuit.compact()?;
-    assert!(rt; circuit.len() == 3 && circuit.wires() == 2);
+    assert!(rt; circuit.len() == 4 && circuit.wires() == 2);
     assert_eq!(rt; circuit.gate(0), Gate::H { q: 1 });
-    assert_eq!(rt; circuit.gate(1), Gate::H { q: 1 });
-    assert_eq!(rt; circuit.gate(2), Gate::X { q: 0 });
-    assert_eq!(rt; circuit.slot(2), Slot::new(2));
+    assert_eq!(rt; circuit.gate(1), Gate::X { q: 0 });
+    assert_eq!(rt; circuit.gate(2), Gate::H { q: 1 });
+    assert_eq!(rt; circuit.gate(3), Gate::X { q: 0 });
+    assert_eq!(rt; circuit.slot(3), Slot::new(3));
     Ok(())
 }
 
@@ -193,10 +222,8 @@ impl Plain {
 
     /// New slots from 0 on.
     fn compact(&mut self) {
-        let mut index = 0;
-        'slots: for slot in &mut self.slots {
+        'slots: for (index, slot) in self.slots.iter_mut().enumerate() {
             *slot = Slot::new(index);
-            index += 1;
         }
     }
 }

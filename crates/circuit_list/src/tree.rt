@@ -2,7 +2,7 @@
 //! node tells how many gates stand below it and on which wires they are, so a place, a slot and the
 //! next gate on a wire are found in as many steps as the tree is high.
 
-ghost use Rattle.std.specs.Prelude.{◌≡◌, ℕ, ◌+◌, ◌*◌, ◌^◌, ◌<◌, ◌≤◌, ◌++◌, ◌∷◌, [], length, IfOk, OnOk, OnErr, MatchOption, slice_set, Some, true};
+ghost use Rattle.std.specs.Prelude.{◌≡◌, ◌+◌, ◌*◌, ◌^◌, ◌<◌, ◌++◌, ◌∷◌, [], length, IfOk, OnOk, OnErr, MatchOption, slice_set, Some, true};
 ghost use Rattle.circuit_list.specs.Entries.{entry, gates_of, is_live, rank};
 ghost use Rattle.circuit_list.specs.Tree.{IsFirstOn, IsLastOn, IsTree, NoneOn, any_wire, wire_bit};
 

@@ -3,7 +3,7 @@
 //! A walk to a near slot turns round at the node that has both below it, so it takes twice as many
 //! steps as the logarithm of the distance.
 
-ghost use Rattle.std.specs.Prelude.{◌≡◌, ℕ, ◌+◌, ◌^◌, ◌<◌, ◌≤◌, MatchOption, length, true};
+ghost use Rattle.std.specs.Prelude.{◌≡◌, ℕ, ◌+◌, ◌^◌, ◌<◌, MatchOption, length, true};
 ghost use Rattle.circuit_list.specs.Entries.{entry, is_live, rank};
 ghost use Rattle.circuit_list.specs.Tree.{Covers, IsFirstOn, IsLastOn, IsTree, NoneOn, has_any, node_at};
 
