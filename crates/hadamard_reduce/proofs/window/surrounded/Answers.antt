@@ -1,9 +1,9 @@
-use Rattle.std.proofs.Common.{◌≡◌, ◌≢◌, ◌<◌, ◌≤◌, ◌⊎◌, ℕ, inl, inr, subst, sym, ◌∙◌, arith, Option, None, Some, MatchOption, rules}
+use Rattle.std.proofs.Common.{◌≡◌, ◌≢◌, ◌<◌, ◌≤◌, ◌⊎◌, ℕ, inl, inr, subst, sym, ◌∙◌, arith, Option, MatchOption, rules}
 use Rattle.std.specs.Prelude.{min, max}
 use Rattle.std.proofs.lemmas.Bool.{cases_lt}
 use Rattle.circuit_list.specs.Slots.{place_of}
 use Rattle.hadamard_reduce.specs.Found.{IsFound, IsSurroundedAt}
-use Rattle.hadamard_reduce.specs.Windows.{Follows, IsSurrounded}
+use Rattle.hadamard_reduce.specs.Windows.{IsSurrounded}
 use Rattle.hadamard_reduce.specs.declared.window.Window.{Window}
 use Rattle.hadamard_reduce.proofs.FoundLaws.{no_control, no_target, surrounded_found}
 use Rattle.hadamard_reduce.proofs.window.surrounded.Goals as goal

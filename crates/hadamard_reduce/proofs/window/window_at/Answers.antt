@@ -1,5 +1,5 @@
-use Rattle.std.proofs.Common.{◌≡◌, ◌∙◌, ℕ, subst, sym, true, Option, MatchOption, rules}
-use Rattle.circuit_list.specs.declared.Gate.TheVariants.{H, Cx}
+use Rattle.std.proofs.Common.{◌≡◌, ◌∙◌, subst, sym, true, Option, MatchOption, rules}
+use Rattle.circuit_list.specs.declared.Gate.TheVariants.{H}
 use Rattle.circuit_list.specs.Gates.{is_on}
 use Rattle.circuit_list.specs.Slots.{place_of}
 use Rattle.hadamard_reduce.specs.Found.{IsFound, gate_between}
