@@ -1,6 +1,7 @@
 //! Long circuits.
 
 ghost use Rattle.std.specs.Prelude.{◌<◌};
+ghost use Rattle.circuit_list.specs.Gates.{IsFine};
 
 use crate::draws::Draws;
 use circuit_list::{Circuit, Gate, MOST_WIRES};
@@ -10,7 +11,7 @@ use std::alloc::{AllocError, Global};
 fn drawn_circuit(alloc: Global, gates: usize) -> Result<Circuit, AllocError> {
     let mut circuit = Circuit::empty(alloc, MOST_WIRES)?;
     let mut draws = Draws::from_seed(1);
-    for _ in 0..gates {
+    'pushes: for _ in 0..gates {
         let gate = drawn_gate(&mut draws);
         circuit.push(gate)?;
     }
@@ -18,7 +19,9 @@ fn drawn_circuit(alloc: Global, gates: usize) -> Result<Circuit, AllocError> {
 }
 
 /// A drawn gate: a CNOT, a Hadamard gate, a NOT or a T gate.
-fn drawn_gate(draws: &mut Draws) -> Gate {
+fn drawn_gate(draws: &mut Draws) -> Gate
+    ensures { IsFine 64 result }
+{
     let q = draws.below(64);
     match draws.below(4) {
         0 => {
@@ -44,7 +47,7 @@ fn drawn_place(draws: &mut Draws, len: usize) -> usize
     draws.next() as usize % len
 }
 
-/// Takes all gates of a circuit out in a drawn order, each by its slot, and counts those that stood on the first wires.
+/// Takes all gates of a circuit out in a drawn order, each by its slot, and counts them.
 pub fn left_by_slots(alloc: Global, gates: usize) -> Result<usize, AllocError> {
     let mut circuit = drawn_circuit(alloc, gates)?;
     let mut draws = Draws::from_seed(2);

@@ -4,6 +4,8 @@
 //! Without a word each of them is run, on a small input. `bench/run --parts` tells the time and the memory of each.
 #![tactic(auto)]
 
+ghost use Rattle.std.specs.Prelude.{◌<◌};
+
 mod circuits;
 mod draws;
 mod rows;
@@ -50,7 +52,9 @@ fn count_of(
     gates: usize,
     count: u32,
     times: usize,
-) -> Result<usize, AllocError> {
+) -> Result<usize, AllocError>
+    requires { 0 < count }
+{
     match word {
         "push" => circuits::pushed_count(alloc, gates),
         "slots" => circuits::left_by_slots(alloc, gates),
