@@ -454,11 +454,11 @@ not_ended o false rose has r none calm = none (some_or_none o has)
 pub planned-complete : {A B : Type 0} (o : Option A) (l : Option B) (writes tells : Bool) (n : ℕ) (out report : Type 0) → (n ≡ 0) ⊎ ((n ≡ 6) ⊎ (n ≡ 8))
     → is_some o ≡ writes → is_some l ≡ tells → (n ≡ 6 → out) → (n ≡ 8 → report) → (o ≡ None → n ≡ 6 → ⊥) → (l ≡ None → n ≡ 8 → ⊥)
     → (writes ≡ true → out → ⊥) → (tells ≡ true → report → ⊥) → (n ≡ 0) ⊎ (n ≡ 7)
-planned-complete o l writes tells n out report (inl zero) has line f g none no calm told = inl zero
-planned-complete o l writes tells n out report (inr (inl six)) has line f g none no calm told =
+planned-complete o l writes tells n out report (inl zero) has line f g none still calm told = inl zero
+planned-complete o l writes tells n out report (inr (inl six)) has line f g none still calm told =
     absurd (not_ended o writes out has (f six) (λ e. none e six) calm)
-planned-complete o l writes tells n out report (inr (inr eight)) has line f g none no calm told =
-    absurd (not_ended l tells report line (g eight) (λ e. no e eight) told)
+planned-complete o l writes tells n out report (inr (inr eight)) has line f g none still calm told =
+    absurd (not_ended l tells report line (g eight) (λ e. still e eight) told)
 
 pub no_reader : (c : Command) → reads_input c ≡ false → ⊥
 no_reader c unread = let h : true ≡ false = sym (reads_all c) ∙ unread in cc

@@ -72,5 +72,3 @@ Stands-routed n m S c t first j is wires realises initial turn t_same cx_more =
     }
 
 pub ruleset targets = (Stands-in_place, Stands-routed)
-
-pub ruleset settled = (IsSettled-left)
