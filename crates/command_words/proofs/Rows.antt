@@ -1,13 +1,14 @@
 -- Command lines and what they mean, computed by the definitions. The first word, the program's name, is free.
 --   of_opt, of_opt_dashes            `opt`, and `opt` with `--` behind it
 --   of_check, of_check_dashes        `check`, and `check` with `--` behind it
+--   of_stages, of_stages_dashes      `stages`, and `stages` with `--` behind it
 --   of_route, of_route_..            `route` with its device
 --   of_route_trivial, of_trivial_..  `route` with its device and `--trivial`
 --   no_.., and other of_..           words that mean no command
 use Rattle.std.proofs.Common.{◌≡◌, ℕ, List, [], ◌∷◌, Some, None, refl, codes, true, false}
 use Rattle.clap.proofs.OnLiterals.{clap_on_literals}
 use Rattle.command_words.specs.Commands.{command_of}
-use Rattle.command_words.specs.declared.commands.Command.TheVariants.{Opt, Route, Check}
+use Rattle.command_words.specs.declared.commands.Command.TheVariants.{Opt, Route, Check, Stages}
 
 pub of_opt : (name : List ℕ) → command_of (name ∷ codes "opt" ∷ []) ≡ Some Opt
 unfolding clap_on_literals
@@ -36,6 +37,26 @@ of_check_device name = refl
 pub of_check_opt : (name : List ℕ) → command_of (name ∷ codes "check" ∷ codes "opt" ∷ []) ≡ None
 unfolding clap_on_literals
 of_check_opt name = refl
+
+pub of_stages : (name : List ℕ) → command_of (name ∷ codes "stages" ∷ []) ≡ Some Stages
+unfolding clap_on_literals
+of_stages name = refl
+
+pub of_stages_dashes : (name : List ℕ) → command_of (name ∷ codes "stages" ∷ codes "--" ∷ []) ≡ Some Stages
+unfolding clap_on_literals
+of_stages_dashes name = refl
+
+pub of_stages_extra : (name : List ℕ) → command_of (name ∷ codes "stages" ∷ codes "x" ∷ []) ≡ None
+unfolding clap_on_literals
+of_stages_extra name = refl
+
+pub of_stages_device : (name : List ℕ) → command_of (name ∷ codes "stages" ∷ codes "--device" ∷ codes "d" ∷ []) ≡ None
+unfolding clap_on_literals
+of_stages_device name = refl
+
+pub of_stage : (name : List ℕ) → command_of (name ∷ codes "stage" ∷ []) ≡ None
+unfolding clap_on_literals
+of_stage name = refl
 
 pub of_nothing : command_of [] ≡ None
 unfolding clap_on_literals

@@ -4,6 +4,7 @@
 --   device_option       `--device NAME`, which has to be there, once
 --   trivial_flag        `--trivial`, at most once
 --   check_command       the subcommand `check`, which takes none either
+--   stages_command      the subcommand `stages`, which takes none
 --   route_command       the subcommand `route`, which takes these two
 --   qroute_command      the program with its subcommands
 --   device_of rows      the name behind `--device` in what was matched, none where there is none
@@ -17,7 +18,7 @@ use Rattle.clap.specs.Simple.{on_top}
 use Rattle.clap.specs.Words.{App, Row, Rule, Text, fault_of, first_of, new_app, new_rule, subcommand_of, with_rule, with_subcommand}
 use Rattle.clap.specs.declared.builder.action.ArgAction.TheVariants.{Set, SetTrue}
 use Rattle.command_words.specs.declared.commands.Command.{Command}
-use Rattle.command_words.specs.declared.commands.Command.TheVariants.{Opt, Route, Check}
+use Rattle.command_words.specs.declared.commands.Command.TheVariants.{Opt, Route, Check, Stages}
 
 abbrev pub root_command : App
 root_command = on_top (λ s. record s {
@@ -31,6 +32,9 @@ opt_command = new_app (codes "opt")
 
 abbrev pub check_command : App
 check_command = new_app (codes "check")
+
+abbrev pub stages_command : App
+stages_command = new_app (codes "stages")
 
 abbrev pub device_option : Rule
 device_option = record (new_rule (codes "device")) {
@@ -49,7 +53,8 @@ abbrev pub route_command : App
 route_command = with_rule (with_rule (new_app (codes "route")) device_option) trivial_flag
 
 abbrev pub qroute_command : App
-qroute_command = with_subcommand (with_subcommand (with_subcommand root_command opt_command.top) route_command.top) check_command.top
+qroute_command =
+    with_subcommand (with_subcommand (with_subcommand (with_subcommand root_command opt_command.top) route_command.top) check_command.top) stages_command.top
 
 abbrev pub device_of : List Row → Option Text
 device_of rows = first_of (codes "device") rows
@@ -61,7 +66,8 @@ is_trivial rows = option_map_or (λ t. bytes_eq t (codes "true")) (first_of (cod
 abbrev pub meaning : Text → List Row → Option Command
 meaning name rows = if bytes_eq name (codes "opt") then Some Opt
     else (if bytes_eq name (codes "check") then Some Check
-    else option_map (λ device. Route device (is_trivial rows)) (device_of rows))
+    else (if bytes_eq name (codes "stages") then Some Stages
+    else option_map (λ device. Route device (is_trivial rows)) (device_of rows)))
 
 -- none where `clap` finds a fault, and else what the subcommand asks for
 abbrev pub command_of : List Text → Option Command

@@ -18,6 +18,8 @@ pub enum Command {
     },
     /// Reads a program and reports on it.
     Check,
+    /// Reads a program and writes a line for each layer of its gates.
+    Stages,
 }
 
 /// Why words give no command.

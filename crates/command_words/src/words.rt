@@ -7,7 +7,7 @@
 ghost use Rattle.std.specs.Prelude.{◌≡◌, IfOk, IsErrOf, Some, None, map, false};
 ghost use Rattle.clap.specs.Words.{app_of, found_of, kind_of, rows_of, rule_of};
 ghost use Rattle.clap.specs.declared.builder.Command.TheViews.{out-Command as fields_of};
-ghost use Rattle.command_words.specs.Commands.{check_command, command_of, device_option, meaning, opt_command, qroute_command, root_command, route_command, trivial_flag};
+ghost use Rattle.command_words.specs.Commands.{check_command, command_of, device_option, meaning, opt_command, qroute_command, root_command, route_command, stages_command, trivial_flag};
 
 use crate::commands::{self, WordsFault};
 use crate::name::Name;
@@ -39,6 +39,14 @@ fn check_command<'a>(alloc: Global) -> Command<'a>
     ensures local { (fields_of result).has_globals ≡ false }
 {
     Command::new(alloc, "check")
+}
+
+/// `stages`, as little.
+fn stages_command<'a>(alloc: Global) -> Command<'a>
+    ensures command { app_of result ≡ stages_command }
+    ensures local { (fields_of result).has_globals ≡ false }
+{
+    Command::new(alloc, "stages")
 }
 
 /// `--device NAME`, which has to be there, once.
@@ -79,7 +87,8 @@ fn qroute_command<'a>(alloc: Global) -> Result<Command<'a>, AllocError>
     root_command(alloc)
         .subcommand(opt_command(alloc))?
         .subcommand(route_command(alloc)?)?
-        .subcommand(check_command(alloc))
+        .subcommand(check_command(alloc))?
+        .subcommand(stages_command(alloc))
 }
 
 /// What a subcommand with its matches asks for.
@@ -96,6 +105,9 @@ fn meaning_of(
     }
     if name == "check" {
         return Ok(commands::Command::Check);
+    }
+    if name == "stages" {
+        return Ok(commands::Command::Stages);
     }
     let Some(device) = matches.get_str("device") else {
         return Err(WordsFault::BadWords);

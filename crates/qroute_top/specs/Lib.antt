@@ -1,5 +1,6 @@
 -- ---- definitions that public clauses reach
 pub mod Devices
+pub mod Settled
 pub mod Delivered
 pub mod Causes
 -- ---- working forms
