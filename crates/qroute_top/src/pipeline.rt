@@ -3,6 +3,8 @@
 ghost use Rattle.std.specs.Prelude.{◌≡◌, ◌≤◌, All, IfOk, None, length, is_some, true};
 ghost use Rattle.gate_expand.specs.Expansion.{IsFineOp};
 ghost use Rattle.gate_inline.specs.Registers.{AreRegisters, IsRead};
+ghost use Rattle.gate_inline.specs.Sizes.{operation_limit};
+ghost use Rattle.gate_library.specs.Limits.{most_qubits};
 ghost use Rattle.program_reader.specs.Refusals.{program_of};
 ghost use Rattle.qroute_top.specs.Delivered.{IsInPlace, Rewrites};
 ghost use Rattle.qroute_top.specs.Plans.{IsRouted, TellsOutputFault, line_of, text_of};
@@ -16,9 +18,9 @@ use std::alloc::{AllocError, Global};
 /// Makes all that is to be written for a source on its own wires.
 #[tactic(auto, using(crate::proofs::PlanLaws::plans))]
 pub fn optimise(alloc: Global, source: &Source) -> Result<Plan, AllocError>
-    requires few { source.now.ops.wires ≤ 64 }
+    requires few { source.now.ops.wires ≤ most_qubits }
     requires fine { All (IsFineOp source.now.ops.wires) source.now.ops.list }
-    requires short { length source.now.ops.list ≤ 65536 }
+    requires short { length source.now.ops.list ≤ operation_limit }
     requires registers { AreRegisters source.now.registers.items (length source.now.ops.reads) }
     requires reads { All (IsRead source.now.ops.wires) source.now.ops.reads }
     ensures made { IfOk result (λ p. Rewrites (program_of source.now) (IsInPlace (program_of source.now)) (text_of p) (line_of p)) }
@@ -34,9 +36,9 @@ pub fn optimise(alloc: Global, source: &Source) -> Result<Plan, AllocError>
 /// Makes all that is to be written for a source on the qubits of a device.
 #[tactic(auto, using(crate::proofs::PlanLaws::plans))]
 pub fn route_on(alloc: Global, source: &Source, device: &Device) -> Result<Plan, AllocError>
-    requires few { source.now.ops.wires ≤ 64 }
+    requires few { source.now.ops.wires ≤ most_qubits }
     requires fine { All (IsFineOp source.now.ops.wires) source.now.ops.list }
-    requires short { length source.now.ops.list ≤ 65536 }
+    requires short { length source.now.ops.list ≤ operation_limit }
     requires registers { AreRegisters source.now.registers.items (length source.now.ops.reads) }
     requires reads { All (IsRead source.now.ops.wires) source.now.ops.reads }
     requires fits { source.now.ops.wires ≤ device.now.size }

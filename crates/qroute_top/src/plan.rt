@@ -5,6 +5,8 @@ ghost use Rattle.circuit_list.specs.Gates.{IsFine};
 ghost use Rattle.gate_expand.specs.Expansion.{IsFineOp, expanded};
 ghost use Rattle.gate_inline.specs.Programs.{IsWritten};
 ghost use Rattle.gate_inline.specs.Registers.{AreRegisters, IsFree, IsRead};
+ghost use Rattle.gate_inline.specs.Sizes.{operation_limit};
+ghost use Rattle.gate_library.specs.Limits.{most_bits, most_qubits};
 ghost use Rattle.layer_stages.specs.Stages.{IsStageText};
 ghost use Rattle.phase_poly.specs.Layers.{layers_of};
 ghost use Rattle.program_reader.specs.Refusals.{program_of};
@@ -44,8 +46,8 @@ pub struct Plan {
 /// What the line tells of a program.
 #[tactic(auto, using(crate::proofs::PlanLaws::counts))]
 fn counts_of(source: &Source) -> Counts
-    requires short { length source.now.ops.list ≤ 65536 }
-    requires bits { length source.now.ops.reads ≤ 1024 }
+    requires short { length source.now.ops.list ≤ operation_limit }
+    requires bits { length source.now.ops.reads ≤ most_bits }
     ensures { result ≡ counts_of (program_of source.now) }
 {
     let ops = source.ops.list.as_slice();
@@ -127,8 +129,8 @@ fn written_text(alloc: Global, source: &Source, target: &Target) -> Result<Vec<u
 
 /// The report of a target that stands for a source.
 fn report_of(alloc: Global, source: &Source, target: Target) -> Result<Report, AllocError>
-    requires short { length source.now.ops.list ≤ 65536 }
-    requires bits { length source.now.ops.reads ≤ 1024 }
+    requires short { length source.now.ops.list ≤ operation_limit }
+    requires bits { length source.now.ops.reads ≤ most_bits }
     ensures { IfOk result (IsReport source.now target) }
 {
     let counts = counts_of(source);
@@ -159,7 +161,7 @@ fn written_of(alloc: Global, text: Vec<u8>) -> Result<Written, AllocError>
 
 /// All that is to be written for a target that stands for a source.
 pub fn plan_of(alloc: Global, source: &Source, target: Target) -> Result<Plan, AllocError>
-    requires short { length source.now.ops.list ≤ 65536 }
+    requires short { length source.now.ops.list ≤ operation_limit }
     requires placed { length target.last ≡ target.body.wires }
     requires registers { AreRegisters source.now.registers.items (length source.now.ops.reads) }
     requires reads { All (IsRead target.body.wires) source.now.ops.reads }
@@ -181,8 +183,8 @@ pub fn plan_of(alloc: Global, source: &Source, target: Target) -> Result<Plan, A
 
 /// The line that tells what a program has; nothing goes to the output.
 pub fn check_plan(alloc: Global, source: &Source) -> Result<Plan, AllocError>
-    requires short { length source.now.ops.list ≤ 65536 }
-    requires bits { length source.now.ops.reads ≤ 1024 }
+    requires short { length source.now.ops.list ≤ operation_limit }
+    requires bits { length source.now.ops.reads ≤ most_bits }
     ensures line { IfOk result (λ p. line_of p ≡ check_line (counts_of (program_of source.now))) }
     ensures tells { IfOk result (λ p. is_some p.line ≡ true) }
     ensures written { IfOk result (λ p. p.written ≡ None) }
@@ -196,7 +198,7 @@ pub fn check_plan(alloc: Global, source: &Source) -> Result<Plan, AllocError>
 
 /// The lines of the layers of a program's gates; nothing goes to the report.
 pub fn stage_plan(alloc: Global, source: &Source) -> Result<Plan, AllocError>
-    requires few { source.now.ops.wires ≤ 64 }
+    requires few { source.now.ops.wires ≤ most_qubits }
     requires fine { All (IsFineOp source.now.ops.wires) source.now.ops.list }
     ensures text { IfOk result (λ p. IsStageText source.now.ops.wires (layers_of (expanded source.now.ops.list)) (text_of p)) }
     ensures writes { IfOk result (λ p. is_some p.written ≡ true) }

@@ -5,23 +5,22 @@ ghost use Rattle.outside_io.specs.Bytes.{TakesAll};
 ghost use Rattle.gate_expand.specs.Expansion.{IsFineOp};
 ghost use Rattle.gate_inline.specs.Programs.{IsAccepted};
 ghost use Rattle.gate_inline.specs.Registers.{AreRegisters, IsRead};
+ghost use Rattle.gate_inline.specs.Sizes.{operation_limit};
+ghost use Rattle.gate_library.specs.Limits.{most_qubits};
 ghost use Rattle.program_reader.specs.Refusals.{program_of};
 ghost use Rattle.qroute_top.specs.Causes.{IsSourceCause};
 
 use crate::stops::SourceStop;
 use outside_io::{ReadFault, Source as Input, read_all};
-use program_reader::{Refusal, Source, read_program};
+use program_reader::{Refusal, Source, TEXT_LIMIT, read_program};
 use std::alloc::Global;
-
-/// The most bytes of a program text.
-const TEXT_LIMIT: usize = 4_194_304;
 
 /// Reads the input to its end, or to one byte past the limit, and the program that it spells.
 #[tactic(auto, using(crate::proofs::SourceLaws::read))]
 pub fn read_source<I: Input>(alloc: Global, input: &mut I) -> Result<Source, SourceStop>
     ensures ok { IfOk result (λ s. (text : List ℕ) × TakesAll (I.left input.old) (I.left input.new) text × IsAccepted text (program_of s)) }
-    ensures few { IfOk result (λ s. s.ops.wires ≤ 64) }
-    ensures short { IfOk result (λ s. length s.ops.list ≤ 65536) }
+    ensures few { IfOk result (λ s. s.ops.wires ≤ most_qubits) }
+    ensures short { IfOk result (λ s. length s.ops.list ≤ operation_limit) }
     ensures fine { IfOk result (λ s. All (IsFineOp s.ops.wires) s.ops.list) }
     ensures registers { IfOk result (λ s. AreRegisters s.registers.items (length s.ops.reads)) }
     ensures reads { IfOk result (λ s. All (IsRead s.ops.wires) s.ops.reads) }

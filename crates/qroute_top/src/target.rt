@@ -4,6 +4,7 @@ ghost use Rattle.std.specs.Prelude.{◌≡◌, ◌≤◌, ◌<◌, All, IfOk};
 ghost use Rattle.coupling_map.specs.Coupling.{Coupling};
 ghost use Rattle.circuit_list.specs.Gates.{IsFine, ops};
 ghost use Rattle.gate_expand.specs.Expansion.{IsFineOp};
+ghost use Rattle.gate_library.specs.Limits.{most_qubits};
 ghost use Rattle.unitary_model.specs.Placement.{identity};
 ghost use Rattle.coupling_map.specs.Edges.{FollowsEdges};
 ghost use Rattle.qroute_top.specs.Settled.{IsSettled};
@@ -36,7 +37,7 @@ pub struct Target {
 
 /// The circuit of a source's operations after all passes, and its turn against the source.
 pub fn optimised(alloc: Global, source: &Ops) -> Result<Passed, AllocError>
-    requires few { source.now.wires ≤ 64 }
+    requires few { source.now.wires ≤ most_qubits }
     requires fine { All (IsFineOp source.now.wires) source.now.list }
     ensures { IfOk result (IsOptimised source.now.wires source.now.list) }
 {
