@@ -74,6 +74,7 @@ def exported(crate, top=TOP):
     modules |= set(re.findall(r"^pub mod (\w+);", text, re.MULTILINE))
     for listed in re.findall(r"^pub use [\w:]+?::(\{[^}]*\}|\w+);", text, re.MULTILINE):
         names |= {it.split(" as ")[-1].split("::")[-1].strip() for it in listed.strip("{}").split(",")}
+    names.discard("")
     return modules, names
 
 

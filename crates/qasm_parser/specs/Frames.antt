@@ -1,4 +1,4 @@
--- Frames of the code.
+-- Working form. Frames of the code.
 --   frame_with   a frame, with this left part where it has one
 --   first_left   the first of some left parts, apart from where it lies
 --   frames_of    frames with their left parts, both the last one first

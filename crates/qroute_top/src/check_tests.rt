@@ -1,6 +1,6 @@
 //! `check`: what is told of a program that is only read.
 
-use crate::cases::{CHECK, Case, headed, run_case};
+use crate::cases_tests::{CHECK, Case, headed, run_case};
 use std::test::Fail;
 
 /// Texts and the line that is told of each. The output isn't touched and no device is loaded.

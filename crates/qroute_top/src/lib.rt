@@ -145,7 +145,7 @@ pub fn run<I: Source, F: Shelf, O: Sink, R: Sink>(
 }
 
 #[cfg(test)]
-mod cases;
+mod cases_tests;
 #[cfg(test)]
 mod check_tests;
 #[cfg(test)]

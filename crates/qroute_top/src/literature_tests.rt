@@ -1,6 +1,6 @@
 //! `opt` on circuits of the literature: the T gates that are left, and all gates.
 
-use crate::cases::count_gates;
+use crate::cases_tests::count_gates;
 use std::test::Fail;
 
 /// Toffoli gates with many controls, with clean and with borrowed wires, and adders, with the T gates that rotation merging is

@@ -1,6 +1,6 @@
 //! `opt`: what is written on the program's own wires.
 
-use crate::cases::{OPT, Written, optimise, write};
+use crate::cases_tests::{OPT, Written, optimise, write};
 use std::test::Fail;
 
 #[test]

@@ -1,6 +1,6 @@
 //! `route`: what is written on a device's qubits, and which devices are refused.
 
-use crate::cases::{LINE, PAIR, ROUTE, Stopped, Written, stop, write};
+use crate::cases_tests::{LINE, PAIR, ROUTE, Stopped, Written, stop, write};
 use std::test::Fail;
 
 #[test]

@@ -1,6 +1,6 @@
 //! `stages`: what is written of the layers of a program.
 
-use crate::cases::{Case, STAGES, headed, run_case};
+use crate::cases_tests::{Case, STAGES, headed, run_case};
 use std::test::Fail;
 
 /// Texts and the lines that are written of each. No device is loaded and the report isn't touched.

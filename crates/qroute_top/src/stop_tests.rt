@@ -1,6 +1,8 @@
 //! Runs that end early: failing ends, other words, and texts that are refused.
 
-use crate::cases::{CHECK, Case, OPT, PAIR, STAGES, Stopped, optimise, refuse, run_case, stop};
+use crate::cases_tests::{
+    CHECK, Case, OPT, PAIR, STAGES, Stopped, optimise, refuse, run_case, stop,
+};
 use std::test::Fail;
 
 #[test]
