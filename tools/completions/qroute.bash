@@ -3,7 +3,7 @@ _qroute() {
     local word=${COMP_WORDS[COMP_CWORD]} before=${COMP_WORDS[COMP_CWORD - 1]}
     COMPREPLY=()
     if [ "$COMP_CWORD" -eq 1 ]; then
-        mapfile -t COMPREPLY < <(compgen -W "opt route check" -- "$word")
+        mapfile -t COMPREPLY < <(compgen -W "opt route check stages" -- "$word")
     elif [ "${COMP_WORDS[1]}" = route ] && [ "$before" = --device ]; then
         mapfile -t COMPREPLY < <(compgen -f -X '!*.toml' -- "$word"; compgen -d -- "$word")
         compopt -o filenames 2>/dev/null

@@ -3,5 +3,6 @@ complete -c qroute -f
 complete -c qroute -n __fish_use_subcommand -a opt -d 'write an equivalent program on its own wires'
 complete -c qroute -n __fish_use_subcommand -a route -d 'write it on the qubits of a device'
 complete -c qroute -n __fish_use_subcommand -a check -d 'tell what is in a program'
+complete -c qroute -n __fish_use_subcommand -a stages -d 'write a line for each layer of gates'
 complete -c qroute -n '__fish_seen_subcommand_from route' -l device -r -k -a '(__fish_complete_suffix .toml)' -d 'the device'
 complete -c qroute -n '__fish_seen_subcommand_from route; and not __fish_contains_opt trivial' -l trivial -d 'each wire begins on the qubit of its own number'

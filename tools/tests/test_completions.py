@@ -24,7 +24,7 @@ class Completions(unittest.TestCase):
         """
         self.assertEqual(
             said("bash", "-c", script).splitlines(),
-            ["opt route check", "route", "--device --trivial", "--device", "", "devices/line_5.toml"],
+            ["opt route check stages", "route", "--device --trivial", "--device", "", "devices/line_5.toml"],
         )
 
     @unittest.skipUnless(shutil.which("fish"), "fish isn't here")
@@ -33,7 +33,7 @@ class Completions(unittest.TestCase):
             out = said("fish", "--no-config", "-c", f"source {FOLDER}/qroute.fish; complete -C '{line}'")
             return [it.split("\t")[0] for it in out.splitlines()]
 
-        self.assertEqual(sorted(asked("qroute ")), ["check", "opt", "route"])
+        self.assertEqual(sorted(asked("qroute ")), ["check", "opt", "route", "stages"])
         self.assertEqual(asked("qroute route --"), ["--device", "--trivial"])
         self.assertEqual(asked("qroute route --device devices/line"), ["devices/line_5.toml"])
 
