@@ -44,6 +44,7 @@ fn take_out(body: &mut Circuit, first: Slot, second: Slot, turn: u8)
     ensures wires { body.new.wires ≡ body.old.wires }
     ensures reduced { IsReduced body.old.wires body.old.gates body.new.gates turn }
 {
+    // it says that the gates are fine
     let _wires = body.wires();
     body.remove_at(second);
     body.remove_at(first);
@@ -60,6 +61,7 @@ fn merge(body: &mut Circuit, first: Slot, second: Slot, k: u8)
     ensures reach { (r : Reach) → IsReach body.old first r → IsReach body.new first r }
     ensures reduced { IsReduced body.old.wires body.old.gates body.new.gates 0 }
 {
+    // it says that the gates are fine
     let _wires = body.wires();
     let gate = with_phase(body.gate_at(first), k);
     body.replace_at(first, gate);

@@ -19,6 +19,7 @@ impl Rule for Flips {
 
     fn at(&self, body: &Circuit, place: usize) -> Option<Change> {
         let len = body.len();
+        // it says that the gates are fine
         let _wires = body.wires();
         if len - place < 3 {
             return None;
@@ -109,6 +110,7 @@ impl Pass for FirstPair {
 
     fn run(&self, alloc: Global, body: Circuit) -> Result<Passed, AllocError> {
         let mut body = body;
+        // it says that the gates are fine
         let _wires = body.wires();
         if body.len() < 2 {
             return Ok(Passed { body, turn: 0 });
