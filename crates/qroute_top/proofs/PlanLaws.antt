@@ -27,6 +27,7 @@ use Rattle.program_reader.specs.declared.source.Source.{Source}
 use Rattle.coupling_map.specs.Edges.{FollowsEdges}
 use Rattle.qroute_top.specs.Delivered.{IsInPlace, Makes, Rewrites, placed_read}
 use Rattle.qroute_top.specs.Plans.{IsPlanned, IsRouted, target_program}
+use Rattle.qroute_top.specs.Settled.{IsSettled}
 use Rattle.qroute_top.specs.Targets.{Stands}
 use Rattle.qroute_top.specs.declared.target.Target.{Target}
 
@@ -79,15 +80,15 @@ Makes-planned s t text line stands fine plan =
     }
 
 pub Rewrites-in_place : (s : Source) (t : Target) (text line : List ℕ) → Stands s.ops.wires s.ops.list t → All (IsFine t.body.wires) t.body.gates
-    → t.body.wires ≡ s.ops.wires → t.swaps ≡ 0 → t.initial ≡ identity s.ops.wires → t.last ≡ identity s.ops.wires
+    → t.body.wires ≡ s.ops.wires → IsSettled s.ops.wires (ops t.body.gates) → t.swaps ≡ 0 → t.initial ≡ identity s.ops.wires → t.last ≡ identity s.ops.wires
     → IsPlanned s t text line → Rewrites (program_of s) (IsInPlace (program_of s)) text line
-Rewrites-in_place s t text line stands fine wires swaps initial last plan =
+Rewrites-in_place s t text line stands fine wires settled swaps initial last plan =
     let r = plan.numbers in
     record {
       target = target_program s t;
       told = plan.told;
       made = Makes-planned s t text line stands fine plan;
-      placed = record { wires = wires; swaps = r.swaps ∙ swaps; initial = r.initial ∙ initial; last = r.last ∙ last };
+      placed = record { wires = wires; swaps = r.swaps ∙ swaps; initial = r.initial ∙ initial; last = r.last ∙ last; settled = settled };
     }
 
 pub Rewrites-routed : (s : Source) (t : Target) (d : Coupling) (text line : List ℕ) → Stands s.ops.wires s.ops.list t → All (IsFine t.body.wires) t.body.gates

@@ -2,7 +2,7 @@
 --   NoRefusal, MeansOnce     laws of the reader, as they are handed in
 --   reads_all                each command reads the input
 --   IsCause-source, IsCause-device, IsCause-words   from the parts of `decide` to the cause of a stop
---   Delivers-opt, Delivers-check, Delivers-routed   from the parts of `decide` to what is delivered
+--   Delivers-opt, Delivers-check, Delivers-stages, Delivers-routed   from the parts of `decide` to what is delivered
 --   stopped-..               what follows of a status after a stop
 --   planned-..               what follows where a plan was made
 use Rattle.std.proofs.Common.{◌≡◌, ◌⊎◌, inl, inr, ℕ, ◌≤◌, Bool, true, false, List, [], Option, Some, None, Result, Err, refl, sym, ap, ◌∙◌, arith, subst, is_some}
@@ -17,10 +17,10 @@ use Rattle.program_reader.specs.declared.refusal.Refusal.{Refusal}
 use Rattle.command_words.specs.Commands.{command_of}
 use Rattle.command_words.specs.Demands.{device_name, reads_input}
 use Rattle.command_words.specs.declared.commands.Command.{Command}
-use Rattle.command_words.specs.declared.commands.Command.TheVariants.{Opt, Route, Check}
+use Rattle.command_words.specs.declared.commands.Command.TheVariants.{Opt, Route, Check, Stages}
 use Rattle.route_report.specs.Lines.{check_line}
 use Rattle.qroute_top.specs.Causes.{Handed, IsCause, IsDeviceCause, IsRefusedDevice, IsRefusedSource, IsSourceCause, Reaches, Reads}
-use Rattle.qroute_top.specs.Delivered.{Content, Delivers, IsAnswer, IsInPlace, IsOnDevice, Rewrites, counts_of}
+use Rattle.qroute_top.specs.Delivered.{Content, Delivers, IsAnswer, IsInPlace, IsOnDevice, IsStages, Rewrites, counts_of}
 use Rattle.qroute_top.specs.Devices.{HasDevice, IsDevice, IsDeviceRefusal}
 use Rattle.qroute_top.specs.Plans.{IsRouted}
 use Rattle.qroute_top.specs.Stops.{IsUnasked, device_stopped, source_stopped}
@@ -45,6 +45,7 @@ pub reads_all : (c : Command) → reads_input c ≡ true
 reads_all Opt = refl
 reads_all (Route name trivial) = refl
 reads_all Check = refl
+reads_all Stages = refl
 
 -- ---- from the parts of `decide`
 pub IsCause-words : (h : Handed) (s : Stop) → IsUnasked h.words s → IsCause h s
@@ -121,6 +122,11 @@ pub Delivers-check : (words : List (List ℕ)) (content : Content) (c : Command)
     → command_of words ≡ Some c → c ≡ Check → HasRead old new p → text ≡ [] → line ≡ check_line (counts_of p) → Delivers words content old new text line
 Delivers-check words content c old new p text line asked is read none told =
     delivers words content Check old new p text line (asked ∙ ap (λ x. Some x) is) read (none, told)
+
+pub Delivers-stages : (words : List (List ℕ)) (content : Content) (c : Command) (old new : Option (List ℕ)) (p : Program) (text line : List ℕ)
+    → command_of words ≡ Some c → c ≡ Stages → HasRead old new p → IsStages p text → line ≡ [] → Delivers words content old new text line
+Delivers-stages words content c old new p text line asked is read told none =
+    delivers words content Stages old new p text line (asked ∙ ap (λ x. Some x) is) read (told, none)
 
 pub Delivers-routed : (words : List (List ℕ)) (content : Content) (c : Command) (name : List ℕ) (trivial : Bool) (old new : Option (List ℕ)) (p : Program)
     (d : Coupling) (n : ℕ) (text line : List ℕ)
@@ -374,6 +380,7 @@ answer_on content name Opt source x l wants answer = cc
 answer_on content name (Route other trivial) source x l wants answer =
     let same : other ≡ name = cc in (trivial, subst (λ y. Rewrites source (IsOnDevice content y trivial) x l) same answer)
 answer_on content name Check source x l wants answer = cc
+answer_on content name Stages source x l wants answer = cc
 
 planned_on : (words : List (List ℕ)) (content : Content) (old new : Option (List ℕ)) (x l name : List ℕ) (c : Command) (d : Delivers words content old new x l)
     → command_of words ≡ Some c → device_name c ≡ Some name → (trivial : Bool) × Rewrites d.source (IsOnDevice content name trivial) x l
@@ -439,12 +446,19 @@ some_or_none (Some x) e = absurd (cc)
 pub no_text : {A : Type 0} (o : Option A) (b : Bool) → is_some o ≡ b → b ≡ false → o ≡ None
 no_text o b e f = some_or_none o (e ∙ f)
 
-pub planned-complete : {A : Type 0} (o : Option A) (writes : Bool) (n : ℕ) (out report : Type 0) → (n ≡ 0) ⊎ ((n ≡ 6) ⊎ (n ≡ 8)) → is_some o ≡ writes
-    → (n ≡ 6 → out) → (n ≡ 8 → report) → (o ≡ None → n ≡ 6 → ⊥) → (writes ≡ true → out → ⊥) → (report → ⊥) → (n ≡ 0) ⊎ (n ≡ 7)
-planned-complete o writes n out report (inl zero) has f g none calm told = inl zero
-planned-complete o true n out report (inr (inl six)) has f g none calm told = absurd (calm refl (f six))
-planned-complete o false n out report (inr (inl six)) has f g none calm told = absurd (none (some_or_none o has) six)
-planned-complete o writes n out report (inr (inr eight)) has f g none calm told = absurd (told (g eight))
+-- an end that comes only where a count rose, and only where there is something to write, doesn't come
+not_ended : {A : Type 0} (o : Option A) (b : Bool) (rose : Type 0) → is_some o ≡ b → rose → (o ≡ None → ⊥) → (b ≡ true → rose → ⊥) → ⊥
+not_ended o true rose has r none calm = calm refl r
+not_ended o false rose has r none calm = none (some_or_none o has)
+
+pub planned-complete : {A B : Type 0} (o : Option A) (l : Option B) (writes tells : Bool) (n : ℕ) (out report : Type 0) → (n ≡ 0) ⊎ ((n ≡ 6) ⊎ (n ≡ 8))
+    → is_some o ≡ writes → is_some l ≡ tells → (n ≡ 6 → out) → (n ≡ 8 → report) → (o ≡ None → n ≡ 6 → ⊥) → (l ≡ None → n ≡ 8 → ⊥)
+    → (writes ≡ true → out → ⊥) → (tells ≡ true → report → ⊥) → (n ≡ 0) ⊎ (n ≡ 7)
+planned-complete o l writes tells n out report (inl zero) has line f g none still calm told = inl zero
+planned-complete o l writes tells n out report (inr (inl six)) has line f g none still calm told =
+    absurd (not_ended o writes out has (f six) (λ e. none e six) calm)
+planned-complete o l writes tells n out report (inr (inr eight)) has line f g none still calm told =
+    absurd (not_ended l tells report line (g eight) (λ e. still e eight) told)
 
 pub no_reader : (c : Command) → reads_input c ≡ false → ⊥
 no_reader c unread = let h : true ≡ false = sym (reads_all c) ∙ unread in cc

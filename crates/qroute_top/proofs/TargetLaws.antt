@@ -1,8 +1,10 @@
 -- A circuit that was rewritten, and then routed, stands for the source.
---   IsOptimised-rewritten  expanded, and then rewritten to as many T gates as odd path parities
+--   IsSettled-left         what the last pass leaves is settled
+--   IsOptimised-rewritten  expanded, and then rewritten to a settled circuit
 --   Stands-in_place        wire for wire
 --   Stands-routed          on the qubits of a device
-use Rattle.std.proofs.Common.{◌≡◌, ℕ, ◌+◌, ◌*◌, ◌%◌, ◌<◌, ◌≤◌, List, ◌∙◌, ap, arith}
+use Rattle.std.proofs.Common.{◌≡◌, ℕ, ◌+◌, ◌*◌, ◌%◌, ◌<◌, ◌≤◌, List, length, refl, ◌∙◌, ap, arith}
+use Rattle.circuit_list.specs.declared.Gate.{Gate}
 use Rattle.circuit_list.specs.Gates.{ops}
 use Rattle.circuit_list.specs.declared.Passed.{Passed}
 use Rattle.unitary_model.specs.declared.Op.{Op}
@@ -13,27 +15,35 @@ use Rattle.unitary_model.specs.Realises.{Realises}
 use Rattle.unitary_model.specs.SameUpTo.{SameUpTo}
 use Rattle.unitary_model.proofs.AmplitudeLaws.{SameUpTo_trans}
 use Rattle.unitary_model.proofs.RealisesLaws.{Realises_chain, Realises_same}
+use Rattle.commute_rules.specs.Reducible.{NoReducible}
+use Rattle.hadamard_reduce.specs.Windows.{IsWindow}
 use Rattle.rewrite_pass.specs.Law.{IsRewriting}
+use Rattle.qroute_top.specs.Settled.{IsSettled}
 use Rattle.qroute_top.specs.Targets.{IsOptimised, Stands}
 use Rattle.qroute_top.specs.declared.target.Target.{Target}
+
+pub IsSettled-left : (n : ℕ) (gs : List Gate) → ((i : ℕ) → i < length gs → IsWindow gs i → ⊥) × NoReducible gs × (t_count (ops gs) ≡ odd_paths n (ops gs))
+    → IsSettled n (ops gs)
+IsSettled-left n gs (windows, pairs, t_gates) = record { gates = gs; plain = refl; pairs = pairs; windows = windows; t_gates = t_gates }
 
 pub IsOptimised-rewritten : (n : ℕ) (S : List Op) (e r : Passed) (t : ℕ) → e.body.wires ≡ n → e.turn < 8 → SameUpTo e.turn n S (ops e.body.gates)
     → odd_paths n (ops e.body.gates) ≡ odd_paths n S → cx_count (ops e.body.gates) ≡ cx_count S
     → r.body.wires ≡ e.body.wires → IsRewriting e.body.wires e.body.gates r.body.gates r.turn
-    → t_count (ops r.body.gates) ≡ odd_paths e.body.wires (ops r.body.gates) → t ≡ (e.turn + r.turn) % 8
+    → IsSettled e.body.wires (ops r.body.gates) → t ≡ (e.turn + r.turn) % 8
     → IsOptimised n S (record { body = r.body; turn = t })
-IsOptimised-rewritten n S e r t wires below same odd cx r_wires law least turn =
+IsOptimised-rewritten n S e r t wires below same odd cx r_wires law left turn =
     let E = ops e.body.gates in
     let R = ops r.body.gates in
     let both = SameUpTo_trans e.turn r.turn n S E R below law.below same (rw wires at law.same) in
-    let all : t_count R ≡ odd_paths n R = rw wires at least in
+    let settled : IsSettled n R = rw wires at left in
     let fewer : odd_paths n R ≤ odd_paths n E = rw wires at law.odd_paths in
     record {
       wires = r_wires ∙ wires;
       below = omega (arith, turn);
       same = rw turn both;
-      t_gates = omega (arith, all, fewer, odd);
+      t_gates = omega (arith, settled.t_gates, fewer, odd);
       cx_gates = omega (arith, law.cx_gates, cx);
+      settled = settled;
     }
 
 -- the target's own wires, placements and turn are variables here, which the caller has equations for

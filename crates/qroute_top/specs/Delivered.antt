@@ -7,6 +7,7 @@
 --   Rewrites source P ..        there is such a target, and of its qubits, placements and edges P holds
 --   IsInPlace, IsOnDevice       this P for `opt` and `route`
 --   counts_of source            what `check` tells of a program
+--   IsStages source text        what `stages` writes of it: the lines of the layers of its gates
 --   IsAnswer content c source ..   the text and the line are what the command asks for
 --   Delivers words content ..   the same for the text that the input had left, which was taken whole
 --   Delivered ..                some text and line are so, and this was done with them
@@ -22,11 +23,15 @@ use Rattle.unitary_model.specs.Operations.{IsPlain, cx_count, t_count}
 use Rattle.unitary_model.specs.Placement.{identity}
 use Rattle.unitary_model.specs.Realises.{Realises}
 use Rattle.coupling_map.specs.Edges.{FollowsEdges}
+use Rattle.gate_expand.specs.Expansion.{expanded}
 use Rattle.gate_inline.specs.Programs.{IsAccepted, IsWritten, Program}
+use Rattle.layer_stages.specs.Stages.{IsStageText}
+use Rattle.phase_poly.specs.Layers.{layers_of}
 use Rattle.command_words.specs.declared.commands.Command.{Command}
-use Rattle.command_words.specs.declared.commands.Command.TheVariants.{Opt, Route, Check}
+use Rattle.command_words.specs.declared.commands.Command.TheVariants.{Opt, Route, Check, Stages}
 use Rattle.command_words.specs.Commands.{command_of}
 use Rattle.qroute_top.specs.Devices.{IsDevice}
+use Rattle.qroute_top.specs.Settled.{IsSettled}
 
 abbrev pub Content : Type 0
 Content = List ℕ → Option (Option (List ℕ))
@@ -65,12 +70,13 @@ pub record Rewrites (source : Program) (IsPlaced : Program → Report → Type 0
   pub made : Makes source target told text line
   pub placed : IsPlaced target told
 
--- no wire moves, and there is no spare one
+-- no wire moves, there is no spare one, and nothing is left to rewrite
 pub record IsInPlace (source target : Program) (told : Report) : Type 0 where
   pub wires : target.wires ≡ source.wires
   pub swaps : told.swaps ≡ 0
   pub initial : told.initial ≡ identity source.wires
   pub last : told.last ≡ identity source.wires
+  pub settled : IsSettled source.wires target.ops
 
 -- the shelf's text of this name describes a device, whose qubits these are, and each CNOT follows an edge
 pub record IsOnDevice (content : Content) (name : List ℕ) (trivial : Bool) (target : Program) (told : Report) : Type 0 where
@@ -92,10 +98,14 @@ counts_of source = record {
   t = t_count source.ops;
 }
 
+abbrev pub IsStages : Program → List ℕ → Type 0
+IsStages source text = IsStageText source.wires (layers_of (expanded source.ops)) text
+
 abbrev pub IsAnswer : Content → Command → Program → List ℕ → List ℕ → Type 0
 IsAnswer content Opt source text line = Rewrites source (IsInPlace source) text line
 IsAnswer content (Route name trivial) source text line = Rewrites source (IsOnDevice content name trivial) text line
 IsAnswer content Check source text line = (text ≡ []) × (line ≡ check_line (counts_of source))
+IsAnswer content Stages source text line = IsStages source text × (line ≡ [])
 
 -- the words mean a command, the input was read to its end and is accepted, and the text and the line are the answer
 pub record Delivers (words : List (List ℕ)) (content : Content) (input after : Option (List ℕ)) (text line : List ℕ) : Type 0 where

@@ -1,4 +1,5 @@
 pub mod Devices
+pub mod Settled
 pub mod Delivered
 pub mod Causes
 pub mod Stops

@@ -1,11 +1,13 @@
 -- Working form. What is planned for a target that stands for a source.
 --   text_of p            what goes to the output
+--   line_of p            what goes to the report where nothing fails
 --   TellsOutputFault p   where something does, the line of a failed output is at hand
 --   target_program s t   the program of the target t, which reads what its source s reads
 --   IsReport s t r       the report of the target
 --   IsRouted d R r       the program R is on the qubits of the device d, and its wires begin on the qubits of their own numbers
 --   IsPlanned s t ..     the text of the target, and the line of its report
-use Rattle.std.specs.Prelude.{◌≡◌, ℕ, List, [], Option, Some, None, map}
+use Rattle.std.specs.Prelude.{◌≡◌, ℕ, List, [], Option, Some, None, Vec, map}
+use Rattle.std.specs.declared.alloc.Global.{Global}
 use Rattle.circuit_list.specs.Gates.{ops}
 use Rattle.coupling_map.specs.Coupling.{Coupling}
 use Rattle.unitary_model.specs.Placement.{identity}
@@ -27,6 +29,13 @@ text_in (Some w) = w.text.items
 
 abbrev pub text_of : Plan → List ℕ
 text_of p = text_in p.written
+
+abbrev pub line_in : Option (Vec ℕ Global) → List ℕ
+line_in None = []
+line_in (Some v) = v.items
+
+abbrev pub line_of : Plan → List ℕ
+line_of p = line_in p.line
 
 abbrev pub tells_fault : Option Written → Type 0
 tells_fault None = Unit {0}

@@ -57,6 +57,8 @@ pub const OPT: [&str; 2] = ["qroute", "opt"];
 
 pub const CHECK: [&str; 2] = ["qroute", "check"];
 
+pub const STAGES: [&str; 2] = ["qroute", "stages"];
+
 pub const ROUTE: [&str; 5] = ["qroute", "route", "--device", "d", "--trivial"];
 
 pub const HEAD: &str = "OPENQASM 2.0;\ninclude \"qelib1.inc\";\n";
@@ -152,15 +154,27 @@ pub fn optimise(alloc: Global, rt: &impl Abort, rows: &[(&str, &str, u8)]) -> Re
     Ok(())
 }
 
-/// Texts, and the T gates that `opt` leaves of each.
-pub fn count_t(alloc: Global, rt: &impl Abort, rows: &[(&str, u64)]) -> Result<(), Fail> {
-    for (text, left) in rows {
+/// Texts without classical bits, the T gates that `opt` leaves of each, and the most gates that it may leave.
+pub fn count_gates(
+    alloc: Global,
+    rt: &impl Abort,
+    rows: &[(&str, u64, usize)],
+) -> Result<(), Fail> {
+    for (text, t_gates, most) in rows {
         let got = optimised(alloc, rt, text)?;
         let told = String::from_utf8(got.report).expect(rt, "a report in UTF-8");
         assert!(rt;
-            told.contains(&format!(in alloc; "\"t_after\":{left},")?),
+            told.contains(&format!(in alloc; "\"t_after\":{t_gates},")?),
             "{told}"
         );
+        // one gate a line, behind the heading and the register
+        let mut lines = 0usize;
+        for byte in got.out.as_slice() {
+            if *byte == b'\n' {
+                lines = lines.saturating_add(1);
+            }
+        }
+        assert!(rt; lines.saturating_sub(3) <= *most, "{told}");
     }
     Ok(())
 }
@@ -187,6 +201,7 @@ pub fn refuse(alloc: Global, rt: &impl Abort, rows: &[(&str, &str)]) -> Result<(
         let text = headed(alloc, text)?;
         refuse_by(alloc, rt, &OPT, &text, told)?;
         refuse_by(alloc, rt, &CHECK, &text, told)?;
+        refuse_by(alloc, rt, &STAGES, &text, told)?;
         refuse_by(alloc, rt, &ROUTE, &text, told)?;
     }
     Ok(())

@@ -2,16 +2,16 @@
 
 ghost use Rattle.std.specs.Prelude.{◌≡◌, ℕ, List, Some, None, Err, true, false, map, is_some, IfOk, IfErr};
 ghost use Rattle.command_words.specs.Commands.{command_of};
-ghost use Rattle.command_words.specs.Demands.{device_name, reads_input, writes_out};
+ghost use Rattle.command_words.specs.Demands.{device_name, reads_input, writes_out, writes_report};
 ghost use Rattle.command_words.specs.declared.commands.Command.{Command as Asked};
 ghost use Rattle.qroute_top.specs.Causes.{IsCause};
 ghost use Rattle.qroute_top.specs.Delivered.{Delivers};
-ghost use Rattle.qroute_top.specs.Plans.{TellsOutputFault, text_of};
+ghost use Rattle.qroute_top.specs.Plans.{TellsOutputFault, line_of, text_of};
 ghost use Rattle.qroute_top.specs.Stops.{IsUnasked};
 
 use crate::device::load_device;
 use crate::pipeline::{optimise, route_on};
-use crate::plan::{Plan, check_plan};
+use crate::plan::{Plan, check_plan, stage_plan};
 use crate::source::read_source;
 use crate::stops::Stop;
 use command_words::commands::{Command, WordsFault};
@@ -39,9 +39,10 @@ pub fn decide<I: Input, F: Shelf>(
     input: &mut I,
     shelf: &mut F,
 ) -> Result<Plan, Stop>
-    ensures plan { IfOk result (λ p. Delivers (map (λ w. w.now) words.now) (F.content shelf.old) (I.left input.old) (I.left input.new) (text_of p) p.line.items) }
+    ensures plan { IfOk result (λ p. Delivers (map (λ w. w.now) words.now) (F.content shelf.old) (I.left input.old) (I.left input.new) (text_of p) (line_of p)) }
     ensures fault { IfOk result TellsOutputFault }
     ensures writes { IfOk result (λ p. (c : Asked) → command_of (map (λ w. w.now) words.now) ≡ Some c → is_some p.written ≡ writes_out c) }
+    ensures tells { IfOk result (λ p. (c : Asked) → command_of (map (λ w. w.now) words.now) ≡ Some c → is_some p.line ≡ writes_report c) }
     ensures stop { IfErr result (IsCause (record {
       words = map (λ w. w.now) words.now;
       input = I.left input.old;
@@ -62,6 +63,7 @@ pub fn decide<I: Input, F: Shelf>(
     match command {
         Command::Opt => Ok(optimise(alloc, &source)?),
         Command::Check => Ok(check_plan(alloc, &source)?),
+        Command::Stages => Ok(stage_plan(alloc, &source)?),
         Command::Route {
             device: name,
             trivial: _,

@@ -1,12 +1,13 @@
 //! What goes out: the text and the line of a plan, or the line of a fault.
 
-ghost use Rattle.std.specs.Prelude.{◌≡◌, ◌⊎◌, ℕ, None, OnErr, OnOk, Some, true, is_some};
+ghost use Rattle.std.specs.Prelude.{◌≡◌, ◌⊎◌, ℕ, None, OnErr, OnOk, Some, false, true, is_some};
+ghost use Rattle.std.specs.Result.{is_err};
 ghost use Rattle.outside_io.specs.Bytes.{Gains, GainsPrefix, GainsUnlessFault};
 ghost use Rattle.outside_io.specs.Causes.{Rose};
 ghost use Rattle.route_report.specs.Faults.{fault_line, status_of};
 ghost use Rattle.route_report.specs.declared.faults.Fault.{Fault as Told};
 ghost use Rattle.qroute_top.specs.Causes.{device_fault, fault_of, output_fault_line, refusal_fault, stop_status};
-ghost use Rattle.qroute_top.specs.Plans.{TellsOutputFault, text_of};
+ghost use Rattle.qroute_top.specs.Plans.{TellsOutputFault, line_of, text_of};
 
 use crate::plan::{Plan, Written};
 use crate::stops::{DeviceRefusal, Stop};
@@ -119,29 +120,45 @@ fn send_text<O: Sink, R: Sink>(written: &Written, out: &mut O, report: &mut R) -
     }
 }
 
-/// Writes the text, where there is one, and then the line of the report.
+/// Writes the line of the report, where there is one, and flushes it.
+fn send_line<R: Sink>(plan: &Plan, report: &mut R) -> Result<(), Failed>
+    ensures ok { OnOk result (Gains (R.held report.old) (R.held report.new) (line_of plan.now)) }
+    ensures flushed { OnOk result (is_some plan.now.line ≡ true → R.flushed report.new ≡ true) }
+    ensures calm { OnOk result (R.faults report.new ≡ R.faults report.old) }
+    ensures err { OnErr result (GainsPrefix (R.held report.old) (R.held report.new) (line_of plan.now) × Rose (R.faults report.old) (R.faults report.new)) }
+    ensures none { plan.now.line ≡ None → (is_err result ≡ false) × (report.new ≡ report.old) }
+{
+    match &plan.line {
+        None => Ok(()),
+        Some(line) => send(report, line),
+    }
+}
+
+/// Writes the text, where there is one, and then the line of the report, where there is one.
 #[tactic(auto, using(crate::proofs::StatusLaws::emitted))]
 pub fn emit<O: Sink, R: Sink>(plan: &Plan, out: &mut O, report: &mut R) -> u8
     requires { TellsOutputFault plan.now }
     ensures ends { (result ≡ 0) ⊎ ((result ≡ 6) ⊎ (result ≡ 8)) }
     ensures done { result ≡ 0 → Gains (O.held out.old) (O.held out.new) (text_of plan.now)
-        × Gains (R.held report.old) (R.held report.new) plan.now.line.items }
-    ensures flushed { result ≡ 0 → (is_some plan.now.written ≡ true → O.flushed out.new ≡ true) × (R.flushed report.new ≡ true) }
+        × Gains (R.held report.old) (R.held report.new) (line_of plan.now) }
+    ensures flushed { result ≡ 0 → (is_some plan.now.written ≡ true → O.flushed out.new ≡ true) × (is_some plan.now.line ≡ true → R.flushed report.new ≡ true) }
     ensures calm { result ≡ 0 → (O.faults out.new ≡ O.faults out.old) × (R.faults report.new ≡ R.faults report.old) }
     ensures output { result ≡ 6 → GainsPrefix (O.held out.old) (O.held out.new) (text_of plan.now) × Rose (O.faults out.old) (O.faults out.new)
         × GainsUnlessFault (R.held report.old) (R.held report.new) (R.faults report.old) (R.faults report.new) output_fault_line }
     ensures report { result ≡ 8 → Gains (O.held out.old) (O.held out.new) (text_of plan.now)
         × (is_some plan.now.written ≡ true → O.flushed out.new ≡ true) × (O.faults out.new ≡ O.faults out.old)
-        × GainsPrefix (R.held report.old) (R.held report.new) plan.now.line.items × Rose (R.faults report.old) (R.faults report.new) }
+        × GainsPrefix (R.held report.old) (R.held report.new) (line_of plan.now) × Rose (R.faults report.old) (R.faults report.new) }
     ensures no_fault { plan.now.written ≡ None → result ≡ 6 → ⊥ }
     ensures no_out { plan.now.written ≡ None → out.new ≡ out.old }
+    ensures no_report { plan.now.line ≡ None → result ≡ 8 → ⊥ }
+    ensures no_line { plan.now.line ≡ None → result ≡ 0 → report.new ≡ report.old }
 {
     if let Some(written) = &plan.written {
         if send_text(written, out, report).is_err() {
             return OUTPUT_FAILED;
         }
     }
-    if send(report, &plan.line).is_err() {
+    if send_line(plan, report).is_err() {
         return REPORT_FAILED;
     }
     DONE

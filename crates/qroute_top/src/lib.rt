@@ -4,8 +4,10 @@
 //! of a fault, on `report`, and the status comes out. The contract of `run` is the promise of the whole program: the text
 //! that is written spells a program whose unitary is the source's, up to the reported power of the eighth root of unity and
 //! the reported placements; T gates number at most the source's odd path parities, and CNOTs at most its own and three for
-//! each swap; each measured bit reads its wire of the source; on a device each CNOT follows an edge; and each status comes exactly where its cause is. A
-//! text that is refused is told with its place or statement, a device with its reason, and nothing is written then.
+//! each swap; each measured bit reads its wire of the source; on a device each CNOT follows an edge, and on its own wires the
+//! program is settled; and each status comes exactly where its cause is. A text that is refused is told with its place or
+//! statement, a device with its reason, and nothing is written then. `check` tells of a program without writing one, and
+//! `stages` writes a line for each layer of its gates.
 //!
 //! `source` reads the input, over all of the readers, `device` loads the device of a name, `target` makes the circuit that is
 //! to be written, `plan` all bytes that may go out, before `emission` writes the first of them. What a command asks of its
@@ -107,8 +109,8 @@ pub fn run<I: Source, F: Shelf, O: Sink, R: Sink>(
         → I.left input.old ≡ Some text → IsAccepted text p → HasDevice (F.content shelf.old) (device_name c) p.wires
         → (Rose (I.faults input.old) (I.faults input.new) → ⊥)
         → (is_some (device_name c) ≡ true → Rose (F.faults shelf.old) (F.faults shelf.new) → ⊥)
-        → (writes_out c ≡ true → Rose (O.faults out.old) (O.faults out.new) → ⊥) → (Rose (R.faults report.old) (R.faults report.new) → ⊥)
-        → (result ≡ 0) ⊎ (result ≡ 7) }
+        → (writes_out c ≡ true → Rose (O.faults out.old) (O.faults out.new) → ⊥)
+        → (writes_report c ≡ true → Rose (R.faults report.old) (R.faults report.new) → ⊥) → (result ≡ 0) ⊎ (result ≡ 7) }
 
     // 6 and 8: the output or the report failed, with a prefix of what is made.
     ensures output { result ≡ 6 → Rose (O.faults out.old) (O.faults out.new)
@@ -131,6 +133,8 @@ pub fn run<I: Source, F: Shelf, O: Sink, R: Sink>(
     ensures no_input { (c : Asked) → command_of (map (λ w. w.now) words.now) ≡ Some c → reads_input c ≡ false → input.new ≡ input.old }
     ensures no_shelf { (c : Asked) → command_of (map (λ w. w.now) words.now) ≡ Some c → device_name c ≡ None → shelf.new ≡ shelf.old }
     ensures no_out { (c : Asked) → command_of (map (λ w. w.now) words.now) ≡ Some c → writes_out c ≡ false → out.new ≡ out.old }
+    ensures no_report { (c : Asked) → command_of (map (λ w. w.now) words.now) ≡ Some c → writes_report c ≡ false
+        → (result ≡ 8 → ⊥) × (result ≡ 0 → report.new ≡ report.old) }
 {
     accepted_has_no_refusal();
     means_once();
@@ -150,5 +154,7 @@ mod literature_tests;
 mod opt_tests;
 #[cfg(test)]
 mod route_tests;
+#[cfg(test)]
+mod stage_tests;
 #[cfg(test)]
 mod stop_tests;

@@ -180,6 +180,12 @@ fn writes_what_the_passes_leave(rt: HostRuntime) -> Result<(), Fail> {
             "qreg q[3];\ncx q[0],q[1];\ns q[1];\ncx q[0],q[1];\nh q[2];\n",
             0,
         ),
+        // four CNOTs that are one: by resynthesis of their layer
+        (
+            "qreg q[3]; cx q[0],q[1]; cx q[1],q[2]; cx q[0],q[1]; cx q[1],q[2];",
+            "qreg q[3];\ncx q[0],q[2];\n",
+            0,
+        ),
         // a Toffoli gate twice takes two rounds
         (
             "qreg q[3]; ccx q[0],q[1],q[2]; ccx q[0],q[1],q[2];",

@@ -3,24 +3,26 @@
 ghost use Rattle.std.specs.Prelude.{◌≡◌, IfOk};
 ghost use Rattle.circuit_list.specs.Gates.{ops};
 ghost use Rattle.rewrite_pass.specs.Law.{IsRewriting};
-ghost use Rattle.unitary_model.specs.OddPaths.{odd_paths};
-ghost use Rattle.unitary_model.specs.Operations.{t_count};
+ghost use Rattle.qroute_top.specs.Settled.{IsSettled};
 
 use circuit_list::{Circuit, Passed};
 use gate_cancel::CancelPass;
-use hadamard_reduce::HadamardPass;
+use hadamard_reduce::{HadamardPass, HadamardRules};
 use not_propagate::NotPass;
-use rewrite_pass::{Pass, Then, WhileSmaller};
+use phase_poly::ResynthPass;
+use rewrite_pass::{Pass, Settle, Then, WhileSmaller};
 use rotation_merge::MergePass;
 use std::alloc::{AllocError, Global};
 
 /// The circuit after rounds of NOT propagation, Hadamard reduction, cancellation and rotation merging, one round after the
-/// other while that leaves fewer gates; and its turn.
+/// other while that leaves fewer gates; then after resynthesis of its layers, and after Hadamard reduction, cancellation and
+/// rotation merging again until nothing is left to do; and its turn.
 pub fn rewritten(alloc: Global, body: Circuit) -> Result<Passed, AllocError>
     ensures wires { IfOk result (λ p. p.body.wires ≡ body.wires) }
     ensures law { IfOk result (λ p. IsRewriting body.wires body.gates p.body.gates p.turn) }
-    ensures t_gates { IfOk result (λ p. t_count (ops p.body.gates) ≡ odd_paths body.wires (ops p.body.gates)) }
+    ensures settled { IfOk result (λ p. IsSettled body.wires (ops p.body.gates)) }
 {
     let round = Then(NotPass, Then(HadamardPass, Then(CancelPass, MergePass)));
-    WhileSmaller(round).run(alloc, body)
+    let rest = Settle(HadamardRules, CancelPass, MergePass);
+    Then(WhileSmaller(round), Then(ResynthPass, rest)).run(alloc, body)
 }

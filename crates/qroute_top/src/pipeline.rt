@@ -5,7 +5,7 @@ ghost use Rattle.gate_expand.specs.Expansion.{IsFineOp};
 ghost use Rattle.gate_inline.specs.Registers.{AreRegisters, IsRead};
 ghost use Rattle.program_reader.specs.Refusals.{program_of};
 ghost use Rattle.qroute_top.specs.Delivered.{IsInPlace, Rewrites};
-ghost use Rattle.qroute_top.specs.Plans.{IsRouted, TellsOutputFault, text_of};
+ghost use Rattle.qroute_top.specs.Plans.{IsRouted, TellsOutputFault, line_of, text_of};
 
 use crate::plan::{Plan, plan_of};
 use crate::target::{in_place, on_device, optimised};
@@ -21,8 +21,9 @@ pub fn optimise(alloc: Global, source: &Source) -> Result<Plan, AllocError>
     requires short { length source.now.ops.list ≤ 65536 }
     requires registers { AreRegisters source.now.registers.items (length source.now.ops.reads) }
     requires reads { All (IsRead source.now.ops.wires) source.now.ops.reads }
-    ensures made { IfOk result (λ p. Rewrites (program_of source.now) (IsInPlace (program_of source.now)) (text_of p) p.line.items) }
+    ensures made { IfOk result (λ p. Rewrites (program_of source.now) (IsInPlace (program_of source.now)) (text_of p) (line_of p)) }
     ensures writes { IfOk result (λ p. is_some p.written ≡ true) }
+    ensures tells { IfOk result (λ p. is_some p.line ≡ true) }
     ensures fault { IfOk result TellsOutputFault }
 {
     let passed = optimised(alloc, &source.ops)?;
@@ -39,8 +40,9 @@ pub fn route_on(alloc: Global, source: &Source, device: &Device) -> Result<Plan,
     requires registers { AreRegisters source.now.registers.items (length source.now.ops.reads) }
     requires reads { All (IsRead source.now.ops.wires) source.now.ops.reads }
     requires fits { source.now.ops.wires ≤ device.now.size }
-    ensures made { IfOk result (λ p. Rewrites (program_of source.now) (IsRouted device.now) (text_of p) p.line.items) }
+    ensures made { IfOk result (λ p. Rewrites (program_of source.now) (IsRouted device.now) (text_of p) (line_of p)) }
     ensures writes { IfOk result (λ p. is_some p.written ≡ true) }
+    ensures tells { IfOk result (λ p. is_some p.line ≡ true) }
     ensures fault { IfOk result TellsOutputFault }
 {
     let passed = optimised(alloc, &source.ops)?;

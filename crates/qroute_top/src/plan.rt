@@ -2,15 +2,21 @@
 
 ghost use Rattle.std.specs.Prelude.{◌≡◌, ◌≤◌, All, IfOk, None, length, map, is_some, true};
 ghost use Rattle.circuit_list.specs.Gates.{IsFine};
+ghost use Rattle.gate_expand.specs.Expansion.{IsFineOp, expanded};
 ghost use Rattle.gate_inline.specs.Programs.{IsWritten};
 ghost use Rattle.gate_inline.specs.Registers.{AreRegisters, IsFree, IsRead};
+ghost use Rattle.layer_stages.specs.Stages.{IsStageText};
+ghost use Rattle.phase_poly.specs.Layers.{layers_of};
 ghost use Rattle.program_reader.specs.Refusals.{program_of};
 ghost use Rattle.qasm_writer.specs.Outputs.{bits_of};
 ghost use Rattle.route_report.specs.Lines.{check_line};
+ghost use Rattle.qroute_top.specs.Causes.{output_fault_line};
 ghost use Rattle.qroute_top.specs.Delivered.{counts_of, placed_read};
-ghost use Rattle.qroute_top.specs.Plans.{IsPlanned, IsReport, TellsOutputFault, target_program, text_of};
+ghost use Rattle.qroute_top.specs.Plans.{IsPlanned, IsReport, TellsOutputFault, line_of, target_program, text_of};
 
 use crate::target::Target;
+use gate_expand::expand;
+use layer_stages::stage_lines;
 use placement::Placement;
 use program_reader::Source;
 use qasm_check::Bits;
@@ -28,11 +34,11 @@ pub struct Written {
     pub fault: Vec<u8>,
 }
 
-/// What goes to the output, if anything does, and what goes to the report.
+/// What goes to the output, if anything does, and the line that goes to the report, if one does.
 #[derive(Drop)]
 pub struct Plan {
     pub written: Option<Written>,
-    pub line: Vec<u8>,
+    pub line: Option<Vec<u8>>,
 }
 
 /// What the line tells of a program.
@@ -142,25 +148,34 @@ fn report_of(alloc: Global, source: &Source, target: Target) -> Result<Report, A
     })
 }
 
+/// What goes to the output, with this text.
+fn written_of(alloc: Global, text: Vec<u8>) -> Result<Written, AllocError>
+    ensures text { IfOk result (λ w. w.text.items ≡ text.items) }
+    ensures fault { IfOk result (λ w. w.fault.items ≡ output_fault_line) }
+{
+    let fault = fault_line(alloc, &Fault::Output)?;
+    Ok(Written { text, fault })
+}
+
 /// All that is to be written for a target that stands for a source.
 pub fn plan_of(alloc: Global, source: &Source, target: Target) -> Result<Plan, AllocError>
     requires short { length source.now.ops.list ≤ 65536 }
     requires placed { length target.last ≡ target.body.wires }
     requires registers { AreRegisters source.now.registers.items (length source.now.ops.reads) }
     requires reads { All (IsRead target.body.wires) source.now.ops.reads }
-    ensures planned { IfOk result (λ p. IsPlanned source.now target (text_of p) p.line.items) }
+    ensures planned { IfOk result (λ p. IsPlanned source.now target (text_of p) (line_of p)) }
     ensures fine { All (IsFine target.body.wires) target.body.gates }
     ensures writes { IfOk result (λ p. is_some p.written ≡ true) }
+    ensures tells { IfOk result (λ p. is_some p.line ≡ true) }
     ensures fault { IfOk result TellsOutputFault }
 {
     let _wires = target.body.wires();
     let text = written_text(alloc, source, &target)?;
     let report = report_of(alloc, source, target)?;
     let line = report_line(alloc, &report)?;
-    let fault = fault_line(alloc, &Fault::Output)?;
     Ok(Plan {
-        written: Some(Written { text, fault }),
-        line,
+        written: Some(written_of(alloc, text)?),
+        line: Some(line),
     })
 }
 
@@ -168,12 +183,30 @@ pub fn plan_of(alloc: Global, source: &Source, target: Target) -> Result<Plan, A
 pub fn check_plan(alloc: Global, source: &Source) -> Result<Plan, AllocError>
     requires short { length source.now.ops.list ≤ 65536 }
     requires bits { length source.now.ops.reads ≤ 1024 }
-    ensures line { IfOk result (λ p. p.line.items ≡ check_line (counts_of (program_of source.now))) }
+    ensures line { IfOk result (λ p. line_of p ≡ check_line (counts_of (program_of source.now))) }
+    ensures tells { IfOk result (λ p. is_some p.line ≡ true) }
     ensures written { IfOk result (λ p. p.written ≡ None) }
 {
     let line = check_line(alloc, &counts_of(source))?;
     Ok(Plan {
         written: None,
-        line,
+        line: Some(line),
+    })
+}
+
+/// The lines of the layers of a program's gates; nothing goes to the report.
+pub fn stage_plan(alloc: Global, source: &Source) -> Result<Plan, AllocError>
+    requires few { source.now.ops.wires ≤ 64 }
+    requires fine { All (IsFineOp source.now.ops.wires) source.now.ops.list }
+    ensures text { IfOk result (λ p. IsStageText source.now.ops.wires (layers_of (expanded source.now.ops.list)) (text_of p)) }
+    ensures writes { IfOk result (λ p. is_some p.written ≡ true) }
+    ensures line { IfOk result (λ p. p.line ≡ None) }
+    ensures fault { IfOk result TellsOutputFault }
+{
+    let gates = expand(alloc, &source.ops)?;
+    let text = stage_lines(alloc, &gates.body)?;
+    Ok(Plan {
+        written: Some(written_of(alloc, text)?),
+        line: None,
     })
 }

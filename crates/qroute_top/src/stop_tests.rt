@@ -1,11 +1,11 @@
 //! Runs that end early: failing ends, other words, and texts that are refused.
 
-use crate::cases::{CHECK, Case, OPT, PAIR, Stopped, refuse, run_case, stop};
+use crate::cases::{CHECK, Case, OPT, PAIR, STAGES, Stopped, refuse, run_case, stop};
 use std::test::Fail;
 
 #[test]
 fn says_what_failed(rt: HostRuntime) -> Result<(), Fail> {
-    let rows: [Stopped; 7] = [
+    let rows: [Stopped; 8] = [
         (
             &OPT,
             "qreg q[1]; t q[0]; t q[0];",
@@ -69,13 +69,22 @@ fn says_what_failed(rt: HostRuntime) -> Result<(), Fail> {
             "",
             "",
         ),
+        (
+            &STAGES,
+            "qreg q[1]; t q[0]; t q[0];",
+            "",
+            [0, 0, 2, 0],
+            6,
+            "layer 1 gates 2 ",
+            "{\"fault\":\"Output\",\"status\":6}\n",
+        ),
     ];
     stop(rt.alloc(), &rt, &rows)
 }
 
 #[test]
 fn takes_no_other_words(rt: HostRuntime) -> Result<(), Fail> {
-    let rows: [Stopped; 9] = [
+    let rows: [Stopped; 10] = [
         (
             &["qroute", "opt", "extra"],
             "qreg q[1]; t q[0]; t q[0];",
@@ -99,6 +108,15 @@ fn takes_no_other_words(rt: HostRuntime) -> Result<(), Fail> {
             "qreg q[1]; t q[0]; t q[0];",
             "",
             [0, 0, 0, 0],
+            2,
+            "",
+            "{\"fault\":\"Words\",\"status\":2}\n",
+        ),
+        (
+            &["qroute", "stages", "--device", "d"],
+            "qreg q[1]; t q[0]; t q[0];",
+            PAIR,
+            [1, 1, 1, 0],
             2,
             "",
             "{\"fault\":\"Words\",\"status\":2}\n",

@@ -6,6 +6,7 @@ ghost use Rattle.circuit_list.specs.Gates.{IsFine, ops};
 ghost use Rattle.gate_expand.specs.Expansion.{IsFineOp};
 ghost use Rattle.unitary_model.specs.Placement.{identity};
 ghost use Rattle.coupling_map.specs.Edges.{FollowsEdges};
+ghost use Rattle.qroute_top.specs.Settled.{IsSettled};
 ghost use Rattle.qroute_top.specs.Targets.{IsOptimised, Stands};
 
 use crate::passes::rewritten;
@@ -63,6 +64,7 @@ pub fn in_place(alloc: Global, source: &Ops, passed: Passed) -> Result<Target, A
     requires { IsOptimised source.now.wires source.now.list passed }
     ensures stands { IfOk result (Stands source.now.wires source.now.list) }
     ensures wires { IfOk result (λ t. t.body.wires ≡ source.now.wires) }
+    ensures settled { IfOk result (λ t. IsSettled source.now.wires (ops t.body.gates)) }
     ensures swaps { IfOk result (λ t. t.swaps ≡ 0) }
     ensures initial { IfOk result (λ t. t.initial ≡ identity source.now.wires) }
     ensures last { IfOk result (λ t. t.last ≡ identity source.now.wires) }

@@ -44,6 +44,12 @@ returns-in-Err-clause-output g c = λ e. absurd (not_late c.in-Err.stop c.tell.r
 pub returns-in-Err-clause-report : goal.returns-in-Err-clause-report
 returns-in-Err-clause-report g c = λ e. absurd (not_late c.in-Err.stop c.tell.result c.tell.ensures.status (inr (inr e)))
 
+pub returns-in-Err-clause-no_report : goal.returns-in-Err-clause-no_report
+returns-in-Err-clause-no_report g c = λ a asked quiet. (
+  (λ e. not_late c.in-Err.stop c.tell.result c.tell.ensures.status (inr (inr e))),
+  (λ e. absurd (not_late c.in-Err.stop c.tell.result c.tell.ensures.status (inl e))),
+)
+
 pub returns-in-Err-clause-absent : goal.returns-in-Err-clause-absent
 returns-in-Err-clause-absent g c =
     let handed : Handed = record {
