@@ -168,8 +168,13 @@ pub fn count_gates(
             "{told}"
         );
         // one gate a line, behind the heading and the register
-        let lines = got.out.iter().filter(|byte| **byte == b'\n').count();
-        assert!(rt; lines <= *most + 3, "{told}");
+        let mut lines = 0usize;
+        for byte in got.out.as_slice() {
+            if *byte == b'\n' {
+                lines = lines.saturating_add(1);
+            }
+        }
+        assert!(rt; lines.saturating_sub(3) <= *most, "{told}");
     }
     Ok(())
 }
