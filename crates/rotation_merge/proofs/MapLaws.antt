@@ -1,25 +1,31 @@
 -- The program's totals as functions of the set.
 --     changed                 what a change of the map at one key says of the totals
+--     total-found             the total of the set with a number
+--     put-changed, rows-put   another one there
 --     HasTotals-changed       one total changed
 --     AreSmall-has            totals are below 8
 --     gathers_none, gathers_phase     a gate added
 --     writes_none, writes_phase       a gate written
-use Rattle.std.proofs.Common.{◌≡◌, ◌≢◌, ℕ, ◌+◌, ◌%◌, ◌<◌, Bool, true, false, cond, List, [], ◌∷◌, ◌++◌, Option, Vec, refl, sym, ◌∙◌, ap, subst, arith}
+use Rattle.std.proofs.Common.{◌≡◌, ◌≢◌, ℕ, ◌+◌, ◌%◌, ◌<◌, Bool, true, false, cond, List, [], ◌∷◌, ◌++◌, Option, Some, Vec, map, slice_get, refl, sym, ◌∙◌, ap, subst, arith}
 use Rattle.std.specs.Prelude.{nat_eq, unwrap_or}
 use Rattle.std.specs.Map.{lookup, KeepsOthers}
-use Rattle.std.specs.Cmp.Lexicographic.{pointwise, bytes_decides}
+use Rattle.std.specs.Cmp.Lexicographic.{pointwise, bytes_decides, on_texts_equal}
+use Rattle.indexmap.specs.IndexMap.{IsUnique, with_value_at}
+use Rattle.indexmap.proofs.CallerLemmas.{keys-with_value_at, updates-with_value_at}
 use Rattle.std.specs.declared.alloc.Global.{Global}
 use Rattle.std.proofs.lemmas.Bool.Decides.{nat_tests}
 use Rattle.circuit_list.specs.declared.Gate.{Gate}
 use Rattle.circuit_list.specs.declared.Gate.TheVariants.{P}
 use Rattle.path_parity.specs.declared.label.Label.{Label}
-use Rattle.path_parity.specs.PathSum.{PathLabel, Wires}
+use Rattle.path_parity.specs.PathSum.{PathLabel, Wires, label}
 use Rattle.path_parity.specs.Sets.{set_of, label_of, IsPacked, IsLabel}
 use Rattle.path_parity.proofs.SetLaws.{set-same}
+use Rattle.rotation_merge.specs.declared.totals.Note.{Note}
 use Rattle.rotation_merge.specs.declared.totals.Totals.{Totals}
 use Rattle.rotation_merge.specs.Merging.{signed_phase, constant_phase, with_total, totals_after, constant_at, kept_phase, kept_constant, merged_gate, merged_constant, left_after}
-use Rattle.rotation_merge.specs.Sums.{total_in, HasTotals, AreSmall, ChangesTotal, Gathers, Writes}
+use Rattle.rotation_merge.specs.Sums.{rows, total_in, HasTotals, AreSmall, ChangesTotal, Gathers, IsNoted, Writes}
 use Rattle.rotation_merge.proofs.MarkLists.{equal}
+use Rattle.rotation_merge.proofs.NoteLaws.{row-at, entry-at}
 
 unless : (b : Bool) → (b ≡ true → ⊥) → b ≡ false
 unless true h = absurd (h refl)
@@ -45,6 +51,23 @@ changed old new us vs o k e found same keeps = record {
   here = ap (total_in new) (sym e) ∙ ap (λ r. unwrap_or r 0) found ∙ same;
   others = λ ws ne. ap (λ r. unwrap_or r 0) (lookup-others (λ (z : Vec ℕ Global). z.items) us ws old.sets.entries new.sets.entries keeps (λ f. ne (f ∙ e)));
 }
+
+pub total-found : (t : Totals) (i : ℕ) (k : Vec ℕ Global) (v : ℕ) (row : List ℕ) → Some (k, v) ≡ slice_get t.sets.entries i →
+    lookup (λ (z : Vec ℕ Global). pointwise nat_eq k.items z.items) t.sets.entries ≡ Some v → slice_get (rows t) i ≡ Some row → v ≡ total_in t row
+total-found t i k v row there found h =
+    let here : slice_get (rows t) i ≡ Some k.items = row-at (λ (z : Vec ℕ Global). z.items) t.sets.entries i (k, v) (sym there) in
+    let same : k.items ≡ row = cc in
+    sym (ap (total_in t) (sym same) ∙ ap (λ o. unwrap_or o 0) found)
+
+pub put-changed : (t : Totals) (i w : ℕ) (row : List ℕ) → IsUnique (λ (x y : Vec ℕ Global). pointwise nat_eq x.items y.items) t.sets → slice_get (rows t) i ≡ Some row →
+    ChangesTotal t (record { sets = with_value_at t.sets i w; notes = t.notes; constant = t.constant }) row w
+put-changed t i w row unique h =
+    let e = entry-at (λ (z : Vec ℕ Global). z.items) t.sets.entries i row h in
+    let change = updates-with_value_at t.sets i w (on_texts_equal (λ (z : Vec ℕ Global). z.items)) unique e.0.0 e.0.1 e.1 in
+    changed t (record { sets = with_value_at t.sets i w; notes = t.notes; constant = t.constant }) e.0.0.items row (Some w) w e.2 change.1 refl change.3
+
+pub rows-put : (t : Totals) (i w : ℕ) → rows (record { sets = with_value_at t.sets i w; notes = t.notes; constant = t.constant }) ≡ rows t
+rows-put t i w = ap (λ ks. map (λ (z : Vec ℕ Global). z.items) ks) (keys-with_value_at t.sets i w)
 
 pub HasTotals-changed : (old new : Totals) (vs : List ℕ) (k : ℕ) (T : ℕ → ℕ) → IsPacked vs → k < 8 → ChangesTotal old new vs k → HasTotals old T → HasTotals new (with_total (set_of vs) k T)
 HasTotals-changed old new vs k T inc lt c h = record { at = λ ws f. go ws f (nat_eq (set_of vs) (set_of ws)) refl; below = λ s. small (nat_eq (set_of vs) s) (T s) (h.below s) }
@@ -86,14 +109,17 @@ gathers_phase w T old new l k q e f c d h = record {
 pub writes_none : (g : Gate) (w : Wires) (T : ℕ → ℕ) (t : Totals) (a b : List Gate) → left_after g w T ≡ T → merged_constant g w T ≡ 0 → merged_gate g w T ≡ g ∷ [] → b ≡ a ++ g ∷ [] → HasTotals t T → Writes g w T t t a b
 writes_none g w T t a b e f m d h = record { gates = d ∙ ap (λ us. a ++ us) (sym m); totals = subst (λ (U : ℕ → ℕ). HasTotals t U) (sym e) h; constant = omega (arith, f) }
 
-pub writes_phase : (w : Wires) (T : ℕ → ℕ) (old new : Totals) (a b : List Gate) (l : Label) (k q : ℕ) → label_of l ≡ w q → IsLabel l →
-    b ≡ a ++ kept_phase (label_of l) (total_in old l.set.items) q → ChangesTotal old new l.set.items 0 →
-    (new.constant + kept_constant (label_of l) (total_in old l.set.items)) % 8 ≡ old.constant % 8 → HasTotals old T → Writes (P k q) w T old new a b
-writes_phase w T old new a b l k q e f g c d h = record {
-  gates = g ∙ (λ i. a ++ kept_phase (e i) (had i) q);
-  totals = subst (λ (U : ℕ → ℕ). HasTotals new U) (λ i. with_total ((e i).variables) 0 T) (HasTotals-changed old new l.set.items 0 T f (omega arith) c h);
-  constant = sym (λ i. (new.constant + kept_constant (e i) (had i)) % 8) ∙ d;
+pub writes_phase : (w : Wires) (T : ℕ → ℕ) (old new : Totals) (a b : List Gate) (note : Note) (k q : ℕ) (h : IsNoted (rows old) note (w q)) →
+    b ≡ a ++ kept_phase (label (set_of h.row) note.bit) (total_in old h.row % 8) q → ChangesTotal old new h.row 0 →
+    (new.constant + kept_constant (label (set_of h.row) note.bit) (total_in old h.row % 8)) % 8 ≡ old.constant % 8 → HasTotals old T → Writes (P k q) w T old new a b
+writes_phase w T old new a b note k q n g c d h = record {
+  gates = g ∙ (λ i. a ++ kept_phase (n.noted i) (had i) q);
+  totals = subst (λ (U : ℕ → ℕ). HasTotals new U) (λ i. with_total ((n.noted i).variables) 0 T) (HasTotals-changed old new n.row 0 T n.packed (omega arith) c h);
+  constant = sym (λ i. (new.constant + kept_constant (n.noted i) (had i)) % 8) ∙ d;
 }
   where
-    had : total_in old l.set.items ≡ T ((w q).variables)
-    had = h.at l.set.items f ∙ ap (λ (m : PathLabel). T m.variables) e
+    small : (j t : ℕ) → j ≡ t → t < 8 → j % 8 ≡ t
+    small j t e l = omega arith
+
+    had : total_in old n.row % 8 ≡ T ((w q).variables)
+    had = small (total_in old n.row) (T ((w q).variables)) (h.at n.row n.packed ∙ ap (λ (m : PathLabel). T m.variables) n.noted) (h.below ((w q).variables))

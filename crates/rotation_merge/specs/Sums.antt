@@ -1,23 +1,41 @@
 -- Working form. The program's totals, and what each step does.
 --     total_in t row          the total of the set with this row, and 0 where it has none
+--     rows t                  the rows of the sets, in the order of their numbers
+--     IsNoted rs note l       a note is that of label l, where these are the rows;  AreNoted rs notes ls: so many notes are those of as many labels, in order
 --     HasTotals t T           the totals are T, and below 8;  AreSmall t: they are below 8
 --     ChangesTotal old new row k  the set with this row has the total k now, and each other what it had
 --     Gathers g w T old new   gate g was added, where w are the labels before it
 --     Writes g w T old new a b    in the place of gate g what is left of its set was written behind a, which gave b
 --     IsMerged n gs p         the circuit gs on n wires merged, with the turn
-use Rattle.std.specs.Prelude.{◌≡◌, ◌≢◌, ℕ, ◌+◌, ◌%◌, ◌<◌, ◌++◌, List, Vec, unwrap_or, nat_eq}
-use Rattle.std.specs.Map.{lookup}
+use Rattle.std.specs.Prelude.{◌≡◌, ◌≢◌, ℕ, ◌+◌, ◌%◌, ◌<◌, ◌++◌, List, [], ◌∷◌, Some, Vec, map, slice_get, unwrap_or, nat_eq}
+use Rattle.std.specs.Map.{keys_of, lookup}
 use Rattle.std.specs.Cmp.Lexicographic.{pointwise}
 use Rattle.std.specs.declared.alloc.Global.{Global}
 use Rattle.circuit_list.specs.declared.Gate.{Gate}
 use Rattle.circuit_list.specs.declared.Passed.{Passed}
-use Rattle.path_parity.specs.PathSum.{Wires}
+use Rattle.path_parity.specs.PathSum.{PathLabel, Wires, label}
 use Rattle.path_parity.specs.Sets.{set_of, IsPacked}
+use Rattle.rotation_merge.specs.declared.totals.Note.{Note}
 use Rattle.rotation_merge.specs.declared.totals.Totals.{Totals}
 use Rattle.rotation_merge.specs.Merging.{totals_after, constant_at, merged_gate, merged_constant, left_after, merged, constant_of}
 
 abbrev pub total_in : Totals → List ℕ → ℕ
 total_in t row = unwrap_or (lookup (λ (k : Vec ℕ Global). pointwise nat_eq row k.items) t.sets.entries) 0
+
+abbrev pub rows : Totals → List (List ℕ)
+rows t = map (λ (k : Vec ℕ Global). k.items) (keys_of t.sets.entries)
+
+pub record IsNoted (rs : List (List ℕ)) (note : Note) (l : PathLabel) : Type 0 where
+  pub row : List ℕ
+  pub there : slice_get rs note.number ≡ Some row
+  pub packed : IsPacked row
+  pub noted : label (set_of row) note.bit ≡ l
+
+abbrev pub AreNoted : List (List ℕ) → List Note → List PathLabel → Type 0
+AreNoted rs [] [] = Unit {0}
+AreNoted rs [] (l ∷ ls) = ⊥
+AreNoted rs (note ∷ notes) [] = ⊥
+AreNoted rs (note ∷ notes) (l ∷ ls) = IsNoted rs note l × AreNoted rs notes ls
 
 pub record HasTotals (t : Totals) (T : ℕ → ℕ) : Type 0 where
   pub at : (row : List ℕ) → IsPacked row → total_in t row ≡ T (set_of row)

@@ -6,7 +6,7 @@
 //!
 //! A circuit is always fine, so nothing is refused: the only error is want of memory. A CNOT and a phase take time in the words
 //! of their wires' labels (`path_parity`), and each other gate takes the time to put one in. Memory holds the labels of the
-//! wires and one for each set that has a phase.
+//! wires, the set of each label that has a phase, once, and a note of some bytes for each phase.
 #![tactic(auto)]
 
 #[cfg(test)]
@@ -15,9 +15,10 @@ mod totals;
 
 ghost use Rattle.std.specs.Prelude.{◌≡◌, ◌%◌, All, IfOk};
 ghost use Rattle.circuit_list.specs.Gates.{IsFine, ops};
+ghost use Rattle.path_parity.specs.PathSum.{own_labels, phase_labels};
 ghost use Rattle.rewrite_pass.specs.Law.{IsSmallerOrSame};
 ghost use Rattle.rotation_merge.specs.Merging.{constant_of, totals_of};
-ghost use Rattle.rotation_merge.specs.Sums.{HasTotals, IsMerged};
+ghost use Rattle.rotation_merge.specs.Sums.{AreNoted, HasTotals, IsMerged, rows};
 ghost use Rattle.unitary_model.specs.Operations.{t_count};
 ghost use Rattle.unitary_model.specs.OddPaths.{odd_paths};
 
@@ -48,9 +49,10 @@ impl Shrinks for MergePass {
     ghost shrinks = { λ _ _ _ holds. holds };
 }
 
-/// The totals of a circuit.
+/// The totals of a circuit, and the labels of its phases.
 fn gathered(alloc: Global, body: &Circuit) -> Result<Totals, AllocError>
     ensures totals { IfOk result (λ t. HasTotals t (totals_of body.now.wires body.now.gates)) }
+    ensures noted { IfOk result (λ t. AreNoted (rows t) t.notes.items (phase_labels body.now.gates (own_labels body.now.wires) body.now.wires)) }
     ensures constant { IfOk result (λ t. t.constant % 8 ≡ constant_of body.now.wires body.now.gates % 8) }
 {
     let mut walk = Walk::new(alloc, body.wires())?;
@@ -63,19 +65,18 @@ fn gathered(alloc: Global, body: &Circuit) -> Result<Totals, AllocError>
     Ok(totals)
 }
 
-/// The circuit with its totals in the place of its phases.
+/// The circuit with its totals in the place of its phases. The notes tell the label of each, so no label is made again.
 fn rewritten(alloc: Global, body: &Circuit, mut totals: Totals) -> Result<Passed, AllocError>
     requires totals { HasTotals totals (totals_of body.now.wires body.now.gates) }
+    requires noted { AreNoted (rows totals) totals.notes.items (phase_labels body.now.gates (own_labels body.now.wires) body.now.wires) }
     requires constant { totals.constant % 8 ≡ constant_of body.now.wires body.now.gates % 8 }
     ensures fine { All (IsFine body.now.wires) body.now.gates }
     ensures merged { IfOk result (IsMerged body.now.wires body.now.gates) }
 {
-    let mut walk = Walk::new(alloc, body.wires())?;
     let mut written = Circuit::empty(alloc, body.wires())?;
+    let mut read = 0;
     'gates: for i in 0..body.len() {
-        let gate = body.gate(i);
-        totals.write(&mut written, &walk, gate)?;
-        walk.pass(gate)?;
+        read = totals.write(&mut written, read, body.gate(i))?;
     }
     let turn = (8 - totals.constant % 8) % 8;
     Ok(Passed {
