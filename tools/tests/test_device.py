@@ -34,7 +34,7 @@ class Device(ToolTest):
         self.assertIn("# qubit 1 is gridNode[0, 1, 0]\n", out)
 
     def test_options(self):
-        self.assertEqual(self.table("[[0, 1], [1, 0]]", "--both", "--qubits", "4"), {"qubits": 4, "edges": [[0, 1], [1, 0]]})
+        self.assertEqual(self.table("[[0, 1], [1, 0], [1, 2]]", "--both", "--qubits", "3"), {"qubits": 3, "edges": [[0, 1], [1, 0], [1, 2], [2, 1]]})
         path = self.file("map", "[[0, 1]]")
         _, out, _ = self.run_tool("device", path, "--say", "Source: a map.")
         self.assertTrue(out.startswith("# Source: a map.\n"))
@@ -44,3 +44,13 @@ class Device(ToolTest):
             status, out, err = self.run_tool("device", given=text)
             self.assertEqual((status, out), (1, ""), text)
             self.assertTrue(err.startswith("device: "), text)
+
+    def test_what_qroute_will_refuse(self):
+        for text, words, said in (
+            ("[[0, 1]]", ("--qubits", "3"), "qubit 2 can't be reached from qubit 0"),
+            ("[[0, 1], [1, 1]]", (), "qubit 1 has an edge to itself"),
+            (str([[i, i + 1] for i in range(64)]), (), "65 qubits are more than 64"),
+        ):
+            status, out, err = self.run_tool("device", *words, given=text)
+            self.assertEqual((status, err), (0, f"device: qroute will refuse this device: {said}\n"), text)
+            self.assertIn("edges = [", out)
