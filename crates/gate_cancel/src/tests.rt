@@ -12,25 +12,25 @@ use std::process::Abort;
 use std::test::Fail;
 use unitary_model::turn_sum;
 
-const H0: Gate = Gate::H { q: 0 };
+const H_0: Gate = Gate::H { q: 0 };
 
-const H1: Gate = Gate::H { q: 1 };
+const H_1: Gate = Gate::H { q: 1 };
 
-const X0: Gate = Gate::X { q: 0 };
+const X_0: Gate = Gate::X { q: 0 };
 
-const X1: Gate = Gate::X { q: 1 };
+const X_1: Gate = Gate::X { q: 1 };
 
-const T0: Gate = Gate::P { k: 1, q: 0 };
+const T_0: Gate = Gate::P { k: 1, q: 0 };
 
-const T1: Gate = Gate::P { k: 1, q: 1 };
+const T_1: Gate = Gate::P { k: 1, q: 1 };
 
-const S0: Gate = Gate::P { k: 2, q: 0 };
+const S_0: Gate = Gate::P { k: 2, q: 0 };
 
-const TDG0: Gate = Gate::P { k: 7, q: 0 };
+const TDG_0: Gate = Gate::P { k: 7, q: 0 };
 
-const CX01: Gate = Gate::Cx { c: 0, t: 1 };
+const CX_01: Gate = Gate::Cx { c: 0, t: 1 };
 
-const CX02: Gate = Gate::Cx { c: 0, t: 2 };
+const CX_02: Gate = Gate::Cx { c: 0, t: 2 };
 
 fn is_fine(wires: u32, gate: Gate) -> bool
     ensures { result ≡ true → IsFine wires gate }
@@ -76,24 +76,24 @@ fn makes(
 #[test]
 fn reduces_pairs(rt: HostRuntime) -> Result<(), Fail> {
     let alloc = rt.alloc();
-    assert!(rt; makes(&rt, alloc, 1, &[H0, H0], &[], 6)?);
-    assert!(rt; makes(&rt, alloc, 1, &[X0, X0], &[], 4)?);
-    assert!(rt; makes(&rt, alloc, 1, &[T0, T0], &[S0], 0)?);
-    assert!(rt; makes(&rt, alloc, 1, &[T0, TDG0], &[], 0)?);
-    assert!(rt; makes(&rt, alloc, 1, &[H0, X0, H0], &[H0, X0, H0], 0)?);
-    assert!(rt; makes(&rt, alloc, 1, &[T0, H0, H0, T0], &[S0], 6)?);
+    assert!(rt; makes(&rt, alloc, 1, &[H_0, H_0], &[], 6)?);
+    assert!(rt; makes(&rt, alloc, 1, &[X_0, X_0], &[], 4)?);
+    assert!(rt; makes(&rt, alloc, 1, &[T_0, T_0], &[S_0], 0)?);
+    assert!(rt; makes(&rt, alloc, 1, &[T_0, TDG_0], &[], 0)?);
+    assert!(rt; makes(&rt, alloc, 1, &[H_0, X_0, H_0], &[H_0, X_0, H_0], 0)?);
+    assert!(rt; makes(&rt, alloc, 1, &[T_0, H_0, H_0, T_0], &[S_0], 6)?);
     Ok(())
 }
 
 #[test]
 fn reduces_past_commuting_gates(rt: HostRuntime) -> Result<(), Fail> {
     let alloc = rt.alloc();
-    assert!(rt; makes(&rt, alloc, 2, &[CX01, T0, CX01], &[T0], 0)?);
-    assert!(rt; makes(&rt, alloc, 3, &[CX01, CX02, T0, CX01], &[CX02, T0], 0)?);
-    assert!(rt; makes(&rt, alloc, 2, &[CX01, T1, CX01], &[CX01, T1, CX01], 0)?);
-    assert!(rt; makes(&rt, alloc, 2, &[X1, CX01, X1], &[CX01], 4)?);
-    assert!(rt; makes(&rt, alloc, 2, &[X0, CX01, X0], &[X0, CX01, X0], 0)?);
-    assert!(rt; makes(&rt, alloc, 2, &[CX01, H1, CX01], &[CX01, H1, CX01], 0)?);
+    assert!(rt; makes(&rt, alloc, 2, &[CX_01, T_0, CX_01], &[T_0], 0)?);
+    assert!(rt; makes(&rt, alloc, 3, &[CX_01, CX_02, T_0, CX_01], &[CX_02, T_0], 0)?);
+    assert!(rt; makes(&rt, alloc, 2, &[CX_01, T_1, CX_01], &[CX_01, T_1, CX_01], 0)?);
+    assert!(rt; makes(&rt, alloc, 2, &[X_1, CX_01, X_1], &[CX_01], 4)?);
+    assert!(rt; makes(&rt, alloc, 2, &[X_0, CX_01, X_0], &[X_0, CX_01, X_0], 0)?);
+    assert!(rt; makes(&rt, alloc, 2, &[CX_01, H_1, CX_01], &[CX_01, H_1, CX_01], 0)?);
     Ok(())
 }
 

@@ -12,21 +12,21 @@ use std::test::Fail;
 use unitary_model::Op;
 use unitary_plain::entries::amplitude_of;
 
-const H0: Gate = Gate::H { q: 0 };
+const H_0: Gate = Gate::H { q: 0 };
 
-const X0: Gate = Gate::X { q: 0 };
+const X_0: Gate = Gate::X { q: 0 };
 
-const X1: Gate = Gate::X { q: 1 };
+const X_1: Gate = Gate::X { q: 1 };
 
-const X2: Gate = Gate::X { q: 2 };
+const X_2: Gate = Gate::X { q: 2 };
 
-const T0: Gate = Gate::P { k: 1, q: 0 };
+const T_0: Gate = Gate::P { k: 1, q: 0 };
 
-const S2: Gate = Gate::P { k: 2, q: 2 };
+const S_2: Gate = Gate::P { k: 2, q: 2 };
 
-const CX01: Gate = Gate::Cx { c: 0, t: 1 };
+const CX_01: Gate = Gate::Cx { c: 0, t: 1 };
 
-const CX12: Gate = Gate::Cx { c: 1, t: 2 };
+const CX_12: Gate = Gate::Cx { c: 1, t: 2 };
 
 fn is_fine(gate: Gate) -> bool
     ensures { result ≡ true → IsFine 3 gate }
@@ -62,29 +62,33 @@ fn rows_by_hand(rt: HostRuntime) -> Result<(), Fail> {
     let alloc = rt.alloc();
     let rows = [
         ([].as_slice(), [].as_slice(), 0),
-        ([H0, T0, CX01].as_slice(), [H0, T0, CX01].as_slice(), 0),
-        ([X0, X0].as_slice(), [].as_slice(), 4),
         (
-            [X0, T0].as_slice(),
-            [Gate::P { k: 7, q: 0 }, X0].as_slice(),
+            [H_0, T_0, CX_01].as_slice(),
+            [H_0, T_0, CX_01].as_slice(),
+            0,
+        ),
+        ([X_0, X_0].as_slice(), [].as_slice(), 4),
+        (
+            [X_0, T_0].as_slice(),
+            [Gate::P { k: 7, q: 0 }, X_0].as_slice(),
             7,
         ),
         (
-            [T0, X0, T0].as_slice(),
-            [T0, Gate::P { k: 7, q: 0 }, X0].as_slice(),
+            [T_0, X_0, T_0].as_slice(),
+            [T_0, Gate::P { k: 7, q: 0 }, X_0].as_slice(),
             7,
         ),
         (
-            [X0, H0, X0].as_slice(),
-            [H0, Gate::P { k: 4, q: 0 }, X0].as_slice(),
+            [X_0, H_0, X_0].as_slice(),
+            [H_0, Gate::P { k: 4, q: 0 }, X_0].as_slice(),
             6,
         ),
-        ([X1, CX01].as_slice(), [CX01, X1].as_slice(), 0),
-        ([X0, CX01].as_slice(), [CX01, X0, X1].as_slice(), 2),
-        ([X0, X1, CX01].as_slice(), [CX01, X0].as_slice(), 6),
+        ([X_1, CX_01].as_slice(), [CX_01, X_1].as_slice(), 0),
+        ([X_0, CX_01].as_slice(), [CX_01, X_0, X_1].as_slice(), 2),
+        ([X_0, X_1, CX_01].as_slice(), [CX_01, X_0].as_slice(), 6),
         (
-            [X2, X0, CX01, CX12, S2].as_slice(),
-            [CX01, CX12, S2, X0, X1].as_slice(),
+            [X_2, X_0, CX_01, CX_12, S_2].as_slice(),
+            [CX_01, CX_12, S_2, X_0, X_1].as_slice(),
             0,
         ),
     ];

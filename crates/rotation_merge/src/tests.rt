@@ -13,31 +13,31 @@ use std::test::Fail;
 use unitary_model::Op;
 use unitary_plain::entries::amplitude_of;
 
-const H0: Gate = Gate::H { q: 0 };
+const H_0: Gate = Gate::H { q: 0 };
 
-const H2: Gate = Gate::H { q: 2 };
+const H_2: Gate = Gate::H { q: 2 };
 
-const X0: Gate = Gate::X { q: 0 };
+const X_0: Gate = Gate::X { q: 0 };
 
-const T0: Gate = Gate::P { k: 1, q: 0 };
+const T_0: Gate = Gate::P { k: 1, q: 0 };
 
-const T1: Gate = Gate::P { k: 1, q: 1 };
+const T_1: Gate = Gate::P { k: 1, q: 1 };
 
-const S0: Gate = Gate::P { k: 2, q: 0 };
+const S_0: Gate = Gate::P { k: 2, q: 0 };
 
-const S1: Gate = Gate::P { k: 2, q: 1 };
+const S_1: Gate = Gate::P { k: 2, q: 1 };
 
-const ST0: Gate = Gate::P { k: 3, q: 0 };
+const ST_0: Gate = Gate::P { k: 3, q: 0 };
 
-const Z0: Gate = Gate::P { k: 4, q: 0 };
+const Z_0: Gate = Gate::P { k: 4, q: 0 };
 
-const ZT0: Gate = Gate::P { k: 5, q: 0 };
+const ZT_0: Gate = Gate::P { k: 5, q: 0 };
 
-const ZS0: Gate = Gate::P { k: 6, q: 0 };
+const ZS_0: Gate = Gate::P { k: 6, q: 0 };
 
-const CX01: Gate = Gate::Cx { c: 0, t: 1 };
+const CX_01: Gate = Gate::Cx { c: 0, t: 1 };
 
-const CX10: Gate = Gate::Cx { c: 1, t: 0 };
+const CX_10: Gate = Gate::Cx { c: 1, t: 0 };
 
 fn is_fine(gate: Gate) -> bool
     ensures { result ≡ true → IsFine 3 gate }
@@ -73,21 +73,29 @@ fn rows_by_hand(rt: HostRuntime) -> Result<(), Fail> {
     let alloc = rt.alloc();
     let rows = [
         ([].as_slice(), [].as_slice(), 0),
-        ([T0, X0, T0].as_slice(), [X0].as_slice(), 7),
-        ([T0, H0, T0].as_slice(), [T0, H0, T0].as_slice(), 0),
+        ([T_0, X_0, T_0].as_slice(), [X_0].as_slice(), 7),
+        ([T_0, H_0, T_0].as_slice(), [T_0, H_0, T_0].as_slice(), 0),
         (
-            [CX01, T1, CX01, H2, CX10, T0, CX10].as_slice(),
-            [CX01, S1, CX01, H2, CX10, CX10].as_slice(),
+            [CX_01, T_1, CX_01, H_2, CX_10, T_0, CX_10].as_slice(),
+            [CX_01, S_1, CX_01, H_2, CX_10, CX_10].as_slice(),
             0,
         ),
-        ([X0, T0, X0, ST0].as_slice(), [X0, ZS0, X0].as_slice(), 5),
-        ([Z0, Z0].as_slice(), [].as_slice(), 0),
-        ([ZT0, ZS0].as_slice(), [ST0].as_slice(), 0),
-        ([X0, ST0].as_slice(), [X0, ST0].as_slice(), 0),
-        ([T0, X0, T0, X0, T0].as_slice(), [T0, X0, X0].as_slice(), 7),
         (
-            [T0, CX01, CX10, CX01, T1].as_slice(),
-            [S0, CX01, CX10, CX01].as_slice(),
+            [X_0, T_0, X_0, ST_0].as_slice(),
+            [X_0, ZS_0, X_0].as_slice(),
+            5,
+        ),
+        ([Z_0, Z_0].as_slice(), [].as_slice(), 0),
+        ([ZT_0, ZS_0].as_slice(), [ST_0].as_slice(), 0),
+        ([X_0, ST_0].as_slice(), [X_0, ST_0].as_slice(), 0),
+        (
+            [T_0, X_0, T_0, X_0, T_0].as_slice(),
+            [T_0, X_0, X_0].as_slice(),
+            7,
+        ),
+        (
+            [T_0, CX_01, CX_10, CX_01, T_1].as_slice(),
+            [S_0, CX_01, CX_10, CX_01].as_slice(),
             0,
         ),
     ];
