@@ -5,3 +5,4 @@ pub mod Scores
 pub mod Machine
 pub mod Kept
 pub mod Routing
+pub mod Underway
