@@ -1,22 +1,25 @@
 //! The routing machine's run, and the layout that two of its runs find.
 
-ghost use Rattle.std.specs.Prelude.{◌≡◌, ℕ, [], ◌+◌, ◌*◌, ◌≤◌, All, IfOk, length, reverse};
+ghost use Rattle.std.specs.Prelude.{◌≡◌, ℕ, [], ◌+◌, ◌*◌, ◌≤◌, All, IfOk, OnOk, length};
 ghost use Rattle.circuit_list.specs.declared.Gate.{Gate};
-ghost use Rattle.circuit_list.specs.Gates.{IsFine, most_wires, ops};
+ghost use Rattle.circuit_list.specs.Gates.{IsFine, ops};
 ghost use Rattle.coupling_map.specs.Edges.{FollowsEdges};
 ghost use Rattle.coupling_map.specs.Walks.{IsDiameter};
-ghost use Rattle.sabre_route.specs.Machine.{IsEmittable, IsWalk};
+ghost use Rattle.sabre_route.specs.Machine.{IsChosen, IsEmittable, IsWalk};
 ghost use Rattle.sabre_route.specs.Routing.{IsLayout, IsRouted};
+ghost use Rattle.sabre_route.specs.Underway.{HasEnded, HasStepped, IsFitting, IsMove};
 ghost use Rattle.unitary_model.specs.Operations.{cx_count, t_count};
 ghost use Rattle.unitary_model.specs.Placement.{IsPlacement};
 ghost use Rattle.unitary_model.specs.Realises.{Realises};
 
 use crate::choice::choose_swap;
 use crate::emission::Written;
+use crate::laws::few_swaps;
 use crate::links::gates_of;
 use crate::state::RouteState;
 use circuit_list::{Circuit, Gate};
 use coupling_map::Device;
+use coupling_map::laws::distances_on_device;
 use placement::Placement;
 use std::alloc::{AllocError, Global};
 
@@ -31,6 +34,15 @@ pub struct Routed {
     pub swaps: u64,
     /// The turn `j`, below 8: the body's unitary is `w^j` times the circuit's.
     pub turn: u8,
+}
+
+/// What a step of the machine does.
+#[derive(Clone, Copy, Drop)]
+enum Move {
+    /// A gate is emitted.
+    Emitted(Gate),
+    /// Two qubits are swapped.
+    Swapped(u32, u32),
 }
 
 /// The first step of a walk: the control of the earliest CNOT of the front, and the next qubit on a
@@ -50,22 +62,55 @@ fn choose_walk(state: &RouteState, device: &Device) -> (u32, u32)
     (control, device.toward(control, target))
 }
 
-/// One step of the machine.
-fn step(state: &mut RouteState, device: &Device, written: &mut Written) -> Result<(), AllocError> {
-    if let Some(gate) = state.emit_earliest(device)? {
-        return written.write_gate(device, state.placement(), gate);
-    }
-    let (a, b) = if state.stalled() < device.size() {
+/// The two qubits that the machine swaps where no gate can be emitted.
+fn choose(state: &RouteState, device: &Device) -> (u32, u32)
+    requires placed { length state.now.placement ≡ device.now.size }
+    requires left { state.now.rest ≡ [] → ⊥ }
+    requires stuck { (j : ℕ) (g : Gate) → IsEmittable device.now.edges state.now.placement state.now.rest j g → ⊥ }
+    ensures { IsChosen device.now state.now result.0 result.1 }
+{
+    if state.stalled() < device.size() {
         choose_swap(state, device)
     } else {
         choose_walk(state, device)
-    };
-    written.write_swap(device, a, b)?;
-    state.swap(a, b);
-    Ok(())
+    }
 }
 
-/// The machine's run over a list of gates.
+/// One step of the machine, and what it does.
+fn step(state: &mut RouteState, device: &Device) -> Result<Move, AllocError>
+    requires placed { length state.old.placement ≡ device.now.size }
+    requires left { state.old.rest ≡ [] → ⊥ }
+    ensures { IfOk result (λ m. IsMove device.now state.old m state.new) }
+{
+    if let Some(gate) = state.emit_earliest(device)? {
+        return Ok(Move::Emitted(gate));
+    }
+    let (a, b) = choose(state, device);
+    state.swap(a, b);
+    Ok(Move::Swapped(a, b))
+}
+
+/// One step of the machine, and what it does is written.
+fn write_step(
+    state: &mut RouteState,
+    device: &Device,
+    written: &mut Written,
+) -> Result<(), AllocError>
+    requires placed { IsPlacement device.now.size state.old.placement }
+    requires fine { All (IsFine device.now.size) state.old.rest }
+    requires left { state.old.rest ≡ [] → ⊥ }
+    requires fits { IsFitting device.now.size written.old }
+    ensures { OnOk result (HasStepped device.now state.old written.old state.new written.new) }
+{
+    // Its contract says that the edges are of the device.
+    let _size = device.size();
+    match step(state, device)? {
+        Move::Emitted(gate) => written.write_gate(device, state.placement(), gate),
+        Move::Swapped(a, b) => written.write_swap(device, a, b),
+    }
+}
+
+/// The machine's run over a list of gates, and what it writes.
 fn run(
     alloc: Global,
     gates: Vec<Gate>,
@@ -75,21 +120,18 @@ fn run(
 ) -> Result<Routed, AllocError>
     requires fine { All (IsFine wires) gates.items }
     requires fits { wires ≤ device.now.size }
-    requires few { device.now.size ≤ most_wires }
     requires placed { length given ≡ device.now.size }
     ensures wires { IfOk result (λ r. r.body.wires ≡ device.now.size) }
     ensures run { IfOk result (λ r. IsRouted device.now gates.items given r) }
-    ensures realises { IfOk result (λ r.
-        Realises (ops gates.items) wires (ops r.body.gates) device.now.size given r.last r.turn) }
-    ensures edges { IfOk result (λ r. FollowsEdges device.now.edges (ops r.body.gates)) }
-    ensures t_count { IfOk result (λ r. t_count (ops r.body.gates) ≡ t_count (ops gates.items)) }
-    ensures cx_count { IfOk result (λ r.
-        cx_count (ops r.body.gates) ≡ cx_count (ops gates.items) + 3 * r.swaps) }
 {
+    // Their contracts say what distances are, and that `given` is a placement.
+    distances_on_device();
+    let _qubits = given.size();
+    let size = device.size();
     let mut state = RouteState::start(alloc, gates, wires, given)?;
-    let mut written = Written::nothing(alloc, device.size())?;
+    let mut written = Written::nothing(alloc, size)?;
     'steps: while !state.is_done() {
-        step(&mut state, device, &mut written)?;
+        write_step(&mut state, device, &mut written)?;
     }
     let Written { body, swaps, turn } = written;
     Ok(Routed {
@@ -98,6 +140,31 @@ fn run(
         swaps,
         turn,
     })
+}
+
+/// The placement at the end of the machine's run over a list of gates.
+fn settle(
+    alloc: Global,
+    gates: Vec<Gate>,
+    wires: u32,
+    device: &Device,
+    given: Placement,
+) -> Result<Placement, AllocError>
+    requires fine { All (IsFine wires) gates.items }
+    requires fits { wires ≤ device.now.size }
+    requires placed { length given ≡ device.now.size }
+    ensures placement { IfOk result (λ p. IsPlacement device.now.size p) }
+    ensures run { IfOk result (λ p. HasEnded device.now gates.items given p) }
+{
+    // Their contracts say what distances are, and that `given` is a placement.
+    distances_on_device();
+    let _qubits = given.size();
+    let _size = device.size();
+    let mut state = RouteState::start(alloc, gates, wires, given)?;
+    'steps: while !state.is_done() {
+        let _move = step(&mut state, device)?;
+    }
+    Ok(state.into_placement())
 }
 
 /// The circuit on a device, from the given placement on: exactly the routing machine's run.
@@ -123,13 +190,14 @@ pub fn route(
     ensures few_swaps { IfOk result (λ r. (k : ℕ) → IsDiameter device.now.size device.now.edges k →
         r.swaps ≤ cx_count (ops circuit.now.gates) * (device.now.size + k)) }
 {
-    run(
-        alloc,
-        gates_of(alloc, circuit)?,
-        circuit.wires(),
-        device,
-        given,
-    )
+    // A law, and what the contracts of these say of the device and the placement.
+    few_swaps();
+    let _size = device.size();
+    let _qubits = given.size();
+    let wires = circuit.wires();
+    let gates = gates_of(alloc, circuit)?;
+    let routed = run(alloc, gates, wires, device, given)?;
+    Ok(routed)
 }
 
 /// The placement at which to begin: where the machine ends over the circuit from the identity, and
@@ -139,9 +207,10 @@ pub fn layout(alloc: Global, circuit: &Circuit, device: &Device) -> Result<Place
     ensures layout { IfOk result (λ p. IsLayout device.now circuit.now.gates p) }
     ensures placement { IfOk result (λ p. IsPlacement device.now.size p) }
 {
+    let wires = circuit.wires();
     let mut gates = gates_of(alloc, circuit)?;
     let identity = Placement::identity(alloc, device.size())?;
-    let there = run(alloc, gates.clone()?, circuit.wires(), device, identity)?.last;
+    let there = settle(alloc, gates.clone()?, wires, device, identity)?;
     gates.reverse();
-    Ok(run(alloc, gates, circuit.wires(), device, there)?.last)
+    settle(alloc, gates, wires, device, there)
 }
