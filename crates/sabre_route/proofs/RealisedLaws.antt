@@ -6,7 +6,7 @@
 --   IsRealised               what is written so far does what the operations S do, on the edges, and the counts are right
 --   realised-start, -emitted, -swapped
 --   Carried, run-carried     a run keeps both
---   IsDone, run-done         at its end
+--   IsDone, run-done, routed-done     at its end
 use Rattle.std.proofs.Common.{◌≡◌, ◌≢◌, ℕ, zero, suc, ◌+◌, ◌*◌, ◌%◌, ◌<◌, ◌≤◌, ◌⊎◌, ◌||◌, ◌==◌, inl, inr, Bool, not, true, false, cond, List, [], ◌∷◌, ◌++◌, All, Some, None, length, map, nat_eq, slice_get, slice_index, take, refl, sym, ◌∙◌, ap, subst, arith, append-nil, append_assoc, add-zero, zero-add}
 use Rattle.std.specs.Bool.{IsTrue}
 use Rattle.std.specs.List.{AllByRecursion, list_any, remove}
@@ -36,7 +36,8 @@ use Rattle.unitary_model.proofs.TurnsLaws.{Turns_refl, Turns_trans, Turns_inside
 use Rattle.sabre_route.specs.Emission.{apart, emitted, emitted_turn, low_order, swap_gates, swap_turn, cx_gates, cx_turn}
 use Rattle.sabre_route.specs.Front.{first_wire, second_wire}
 use Rattle.sabre_route.specs.Machine.{State, Event, Emit, Swap, emission, exchange, start, IsChosen, IsEmission, IsExchange, IsRun, Run, Step}
-use Rattle.sabre_route.specs.Routing.{swap_count, turned, written}
+use Rattle.sabre_route.specs.declared.router.Routed.{Routed}
+use Rattle.sabre_route.specs.Routing.{swap_count, turned, written, IsRouted}
 use Rattle.sabre_route.specs.Search.{is_free, shares}
 use Rattle.sabre_route.proofs.EmissionLaws.{gate-written, low_order-is, swap-written, WiresBelow-append}
 
@@ -59,7 +60,7 @@ position-exchanged a b j (i ∷ q) = λ z. cond (exchanged-same a b i j z) 0 (su
 
 pub placement-exchanged : (n a b : ℕ) (q : List ℕ) → a < n → b < n → IsPlacement n q → IsPlacement n (map (exchanged a b) q)
 placement-exchanged n a b q ha hb h = record {
-  long = length-map (exchanged a b) q ∙ h.long;
+  long = length-map q (exchanged a b) ∙ h.long;
   within = λ i lt. subst (λ k. k < n) (sym (at i lt)) (exchanged-below n a b (slice_index q i) ha hb (h.within i lt));
   once = λ i lt. ap (λ k. position_of k (map (exchanged a b) q)) (at i lt) ∙ position-exchanged a b (slice_index q i) q ∙ h.once i lt;
   each = λ j lt. subst (λ k. k < n) (sym (where_is j)) (h.each (exchanged a b j) (below j lt));
@@ -435,3 +436,12 @@ run-done d n gs first u events graph le fine placed h =
       t_kept = omega (arith, c.split.t_split, ap (λ xs. t_count (ops xs)) h.ends, r.t_kept);
       cx_more = omega (arith, c.split.cx_split, ap (λ xs. cx_count (ops xs)) h.ends, r.cx_more);
     }
+
+pub routed-done : (d : Coupling) (n : ℕ) (gs : List Gate) (first : List ℕ) (r : Routed) → IsGraph d.size d.edges → n ≤ d.size → All (IsFine n) gs → IsPlacement d.size first
+    → IsRouted d gs first r → IsDone d n gs first r.last r.body.gates r.turn r.swaps
+routed-done d n gs first r graph le fine placed h =
+    subst (λ (p : List ℕ). IsDone d n gs first p r.body.gates r.turn r.swaps) (sym h.last)
+    (subst (λ (vs : List Gate). IsDone d n gs first h.final.placement vs r.turn r.swaps) (sym h.body)
+    (subst (λ (k : ℕ). IsDone d n gs first h.final.placement (written d.edges first h.events) k r.swaps) (sym h.turn)
+    (subst (λ (m : ℕ). IsDone d n gs first h.final.placement (written d.edges first h.events) (turned d.edges first h.events % 8) m) (sym h.swaps)
+    (run-done d n gs first h.final h.events graph le fine placed h.run))))
