@@ -1,0 +1,1 @@
+use Rattle.sabre_route.proofs.RealisedLaws.{routed-done}

@@ -1,0 +1,8 @@
+pub mod Emission
+pub mod Front
+pub mod Search
+pub mod Scores
+pub mod Machine
+pub mod Kept
+pub mod Routing
+pub mod Underway

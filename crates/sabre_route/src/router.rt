@@ -1,0 +1,216 @@
+//! The routing machine's run, and the layout that two of its runs find.
+
+ghost use Rattle.std.specs.Prelude.{◌≡◌, ℕ, [], ◌+◌, ◌*◌, ◌≤◌, All, IfOk, OnOk, length};
+ghost use Rattle.circuit_list.specs.declared.Gate.{Gate};
+ghost use Rattle.circuit_list.specs.Gates.{IsFine, ops};
+ghost use Rattle.coupling_map.specs.Edges.{FollowsEdges};
+ghost use Rattle.coupling_map.specs.Walks.{IsDiameter};
+ghost use Rattle.sabre_route.specs.Machine.{IsChosen, IsEmittable, IsWalk};
+ghost use Rattle.sabre_route.specs.Routing.{IsLayout, IsRouted};
+ghost use Rattle.sabre_route.specs.Underway.{HasEnded, HasStepped, IsFitting, IsMove};
+ghost use Rattle.unitary_model.specs.Operations.{cx_count, t_count};
+ghost use Rattle.unitary_model.specs.Placement.{IsPlacement};
+ghost use Rattle.unitary_model.specs.Realises.{Realises};
+
+use crate::choice::choose_swap;
+use crate::emission::Written;
+use crate::laws::few_swaps;
+use crate::links::gates_of;
+use crate::state::RouteState;
+use circuit_list::{Circuit, Gate};
+use coupling_map::Device;
+use coupling_map::laws::distances_on_device;
+use placement::Placement;
+use std::alloc::{AllocError, Global};
+
+/// A circuit on the qubits of a device, and how it came there.
+#[derive(Drop)]
+pub struct Routed {
+    /// The circuit on the device's qubits; each of its CNOTs follows an edge.
+    pub body: Circuit,
+    /// The qubit on which each wire ends.
+    pub last: Placement,
+    /// The number of swaps.
+    pub swaps: u64,
+    /// The turn `j`, below 8: the body's unitary is `w^j` times the circuit's.
+    pub turn: u8,
+}
+
+/// What a step of the machine does.
+#[derive(Clone, Copy, Drop)]
+enum Move {
+    /// A gate is emitted.
+    Emitted(Gate),
+    /// Two qubits are swapped.
+    Swapped(u32, u32),
+}
+
+/// The first step of a walk: the control of the earliest CNOT of the front, and the next qubit on a
+/// shortest path to its target.
+fn choose_walk(state: &RouteState, device: &Device) -> (u32, u32)
+    requires placed { length state.now.placement ≡ device.now.size }
+    requires left { state.now.rest ≡ [] → ⊥ }
+    requires stuck { (j : ℕ) (g : Gate) → IsEmittable device.now.edges state.now.placement state.now.rest j g → ⊥ }
+    ensures { IsWalk device.now state.now.placement state.now.rest result.0 result.1 }
+{
+    // Their contracts say that the device is connected, and that the wires stand on different qubits.
+    let _size = device.size();
+    let _qubits = state.placement().size();
+    let Some((control, target)) = state.earliest_front() else {
+        unreachable!()
+    };
+    (control, device.toward(control, target))
+}
+
+/// The two qubits that the machine swaps where no gate can be emitted.
+fn choose(state: &RouteState, device: &Device) -> (u32, u32)
+    requires placed { length state.now.placement ≡ device.now.size }
+    requires left { state.now.rest ≡ [] → ⊥ }
+    requires stuck { (j : ℕ) (g : Gate) → IsEmittable device.now.edges state.now.placement state.now.rest j g → ⊥ }
+    ensures { IsChosen device.now state.now result.0 result.1 }
+{
+    if state.stalled() < device.size() {
+        choose_swap(state, device)
+    } else {
+        choose_walk(state, device)
+    }
+}
+
+/// One step of the machine, and what it does.
+fn step(state: &mut RouteState, device: &Device) -> Result<Move, AllocError>
+    requires placed { length state.old.placement ≡ device.now.size }
+    requires left { state.old.rest ≡ [] → ⊥ }
+    ensures { IfOk result (λ m. IsMove device.now state.old m state.new) }
+{
+    if let Some(gate) = state.emit_earliest(device)? {
+        return Ok(Move::Emitted(gate));
+    }
+    let (a, b) = choose(state, device);
+    state.swap(a, b);
+    Ok(Move::Swapped(a, b))
+}
+
+/// One step of the machine, and what it does is written.
+fn write_step(
+    state: &mut RouteState,
+    device: &Device,
+    written: &mut Written,
+) -> Result<(), AllocError>
+    requires placed { IsPlacement device.now.size state.old.placement }
+    requires fine { All (IsFine device.now.size) state.old.rest }
+    requires left { state.old.rest ≡ [] → ⊥ }
+    requires fits { IsFitting device.now.size written.old }
+    ensures { OnOk result (HasStepped device.now state.old written.old state.new written.new) }
+{
+    // Its contract says that the edges are of the device.
+    let _size = device.size();
+    match step(state, device)? {
+        Move::Emitted(gate) => written.write_gate(device, state.placement(), gate),
+        Move::Swapped(a, b) => written.write_swap(device, a, b),
+    }
+}
+
+/// The machine's run over a list of gates, and what it writes.
+fn run(
+    alloc: Global,
+    gates: Vec<Gate>,
+    wires: u32,
+    device: &Device,
+    given: Placement,
+) -> Result<Routed, AllocError>
+    requires fine { All (IsFine wires) gates.items }
+    requires fits { wires ≤ device.now.size }
+    requires placed { length given ≡ device.now.size }
+    ensures wires { IfOk result (λ r. r.body.wires ≡ device.now.size) }
+    ensures run { IfOk result (λ r. IsRouted device.now gates.items given r) }
+{
+    // Their contracts say what distances are, and that `given` is a placement.
+    distances_on_device();
+    let _qubits = given.size();
+    let size = device.size();
+    let mut state = RouteState::start(alloc, gates, wires, given)?;
+    let mut written = Written::nothing(alloc, size)?;
+    'steps: while !state.is_done() {
+        write_step(&mut state, device, &mut written)?;
+    }
+    let Written { body, swaps, turn } = written;
+    Ok(Routed {
+        body,
+        last: state.into_placement(),
+        swaps,
+        turn,
+    })
+}
+
+/// The placement at the end of the machine's run over a list of gates.
+fn settle(
+    alloc: Global,
+    gates: Vec<Gate>,
+    wires: u32,
+    device: &Device,
+    given: Placement,
+) -> Result<Placement, AllocError>
+    requires fine { All (IsFine wires) gates.items }
+    requires fits { wires ≤ device.now.size }
+    requires placed { length given ≡ device.now.size }
+    ensures placement { IfOk result (λ p. IsPlacement device.now.size p) }
+    ensures run { IfOk result (λ p. HasEnded device.now gates.items given p) }
+{
+    // Their contracts say what distances are, and that `given` is a placement.
+    distances_on_device();
+    let _qubits = given.size();
+    let _size = device.size();
+    let mut state = RouteState::start(alloc, gates, wires, given)?;
+    'steps: while !state.is_done() {
+        let _move = step(&mut state, device)?;
+    }
+    Ok(state.into_placement())
+}
+
+/// The circuit on a device, from the given placement on: exactly the routing machine's run.
+///
+/// The device has at least as many qubits as the circuit has wires, and the placement as many as the
+/// device. There is no other condition, and want of memory is the only error.
+pub fn route(
+    alloc: Global,
+    circuit: &Circuit,
+    device: &Device,
+    given: Placement,
+) -> Result<Routed, AllocError>
+    requires fits { circuit.now.wires ≤ device.now.size }
+    requires placed { length given ≡ device.now.size }
+    ensures run { IfOk result (λ r. IsRouted device.now circuit.now.gates given r) }
+    ensures wires { IfOk result (λ r. r.body.wires ≡ device.now.size) }
+    ensures realises { IfOk result (λ r.
+        Realises (ops circuit.now.gates) circuit.now.wires (ops r.body.gates) device.now.size given r.last r.turn) }
+    ensures edges { IfOk result (λ r. FollowsEdges device.now.edges (ops r.body.gates)) }
+    ensures t_count { IfOk result (λ r. t_count (ops r.body.gates) ≡ t_count (ops circuit.now.gates)) }
+    ensures cx_count { IfOk result (λ r.
+        cx_count (ops r.body.gates) ≡ cx_count (ops circuit.now.gates) + 3 * r.swaps) }
+    ensures few_swaps { IfOk result (λ r. (k : ℕ) → IsDiameter device.now.size device.now.edges k →
+        r.swaps ≤ cx_count (ops circuit.now.gates) * (device.now.size + k)) }
+{
+    // A law, and what the contracts of these say of the device and the placement.
+    few_swaps();
+    let _size = device.size();
+    let _qubits = given.size();
+    let wires = circuit.wires();
+    let gates = gates_of(alloc, circuit)?;
+    let routed = run(alloc, gates, wires, device, given)?;
+    Ok(routed)
+}
+
+/// The placement at which to begin: where the machine ends over the circuit from the identity, and
+/// from there over the circuit read backwards.
+pub fn layout(alloc: Global, circuit: &Circuit, device: &Device) -> Result<Placement, AllocError>
+    requires fits { circuit.now.wires ≤ device.now.size }
+    ensures layout { IfOk result (λ p. IsLayout device.now circuit.now.gates p) }
+    ensures placement { IfOk result (λ p. IsPlacement device.now.size p) }
+{
+    let wires = circuit.wires();
+    let mut gates = gates_of(alloc, circuit)?;
+    let identity = Placement::identity(alloc, device.size())?;
+    let there = settle(alloc, gates.clone()?, wires, device, identity)?;
+    gates.reverse();
+    settle(alloc, gates, wires, device, there)
+}
