@@ -25,8 +25,9 @@ use Rattle.gate_inline.specs.Registers.{IsFree, IsRead}
 use Rattle.program_reader.specs.Refusals.{program_of}
 use Rattle.program_reader.specs.declared.source.Source.{Source}
 use Rattle.coupling_map.specs.Edges.{FollowsEdges}
-use Rattle.qroute_top.specs.Delivered.{IsInPlace, Makes, Rewrites, placed_read}
-use Rattle.qroute_top.specs.Plans.{IsPlanned, IsRouted, target_program}
+use Rattle.qroute_top.specs.Delivered.{IsInPlace, IsOnQubits, Makes, Rewrites, placed_read}
+use Rattle.qroute_top.specs.Plans.{IsPlanned, target_program}
+use Rattle.qroute_top.specs.Runs.{HasFewSwaps, IsMachineRun}
 use Rattle.qroute_top.specs.Settled.{IsSettled}
 use Rattle.qroute_top.specs.Targets.{Stands}
 use Rattle.qroute_top.specs.declared.target.Target.{Target}
@@ -91,16 +92,25 @@ Rewrites-in_place s t text line stands fine wires settled swaps initial last pla
       placed = record { wires = wires; swaps = r.swaps ∙ swaps; initial = r.initial ∙ initial; last = r.last ∙ last; settled = settled };
     }
 
-pub Rewrites-routed : (s : Source) (t : Target) (d : Coupling) (text line : List ℕ) → Stands s.ops.wires s.ops.list t → All (IsFine t.body.wires) t.body.gates
-    → t.body.wires ≡ d.size → FollowsEdges d.edges (ops t.body.gates) → t.initial ≡ identity d.size
-    → IsPlanned s t text line → Rewrites (program_of s) (IsRouted d) text line
-Rewrites-routed s t d text line stands fine wires edges initial plan =
+pub Rewrites-routed : (s : Source) (t : Target) (d : Coupling) (trivial : Bool) (text line : List ℕ) → Stands s.ops.wires s.ops.list t
+    → All (IsFine t.body.wires) t.body.gates → t.body.wires ≡ d.size → FollowsEdges d.edges (ops t.body.gates)
+    → (trivial ≡ true → t.initial ≡ identity d.size)
+    → IsMachineRun d trivial s.ops.wires s.ops.list (ops t.body.gates) t.initial t.last t.swaps t.turn
+    → HasFewSwaps d s.ops.list (ops t.body.gates) t.swaps
+    → IsPlanned s t text line → Rewrites (program_of s) (IsOnQubits d trivial (program_of s)) text line
+Rewrites-routed s t d trivial text line stands fine wires edges initial run few plan =
     let r = plan.numbers in
     record {
       target = target_program s t;
       told = plan.told;
       made = Makes-planned s t text line stands fine plan;
-      placed = record { qubits = wires; edges = edges; initial = r.initial ∙ initial };
+      placed = record {
+        qubits = wires;
+        edges = edges;
+        placed = λ e. r.initial ∙ initial e ∙ sym (ap identity wires);
+        run = rw (r.initial, r.last, r.swaps, r.phase) run;
+        swaps = rw r.swaps few;
+      };
     }
 
 -- ---- counts

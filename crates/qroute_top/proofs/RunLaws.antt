@@ -20,9 +20,8 @@ use Rattle.command_words.specs.declared.commands.Command.{Command}
 use Rattle.command_words.specs.declared.commands.Command.TheVariants.{Opt, Route, Check, Stages}
 use Rattle.route_report.specs.Lines.{check_line}
 use Rattle.qroute_top.specs.Causes.{Handed, IsCause, IsDeviceCause, IsRefusedDevice, IsRefusedSource, IsSourceCause, Reaches, Reads}
-use Rattle.qroute_top.specs.Delivered.{Content, Delivers, IsAnswer, IsInPlace, IsOnDevice, IsStages, Rewrites, counts_of}
+use Rattle.qroute_top.specs.Delivered.{Content, Delivers, IsAnswer, IsInPlace, IsOnDevice, IsOnQubits, IsStages, Rewrites, counts_of}
 use Rattle.qroute_top.specs.Devices.{HasDevice, IsDevice, IsDeviceRefusal}
-use Rattle.qroute_top.specs.Plans.{IsRouted}
 use Rattle.qroute_top.specs.Stops.{IsUnasked, device_stopped, source_stopped}
 use Rattle.qroute_top.specs.declared.stops.DeviceRefusal.{DeviceRefusal}
 use Rattle.qroute_top.specs.declared.stops.DeviceStop.{DeviceStop}
@@ -132,7 +131,7 @@ pub Delivers-routed : (words : List (List ℕ)) (content : Content) (c : Command
     (d : Coupling) (n : ℕ) (text line : List ℕ)
     → command_of words ≡ Some c → c ≡ Route name trivial → HasRead old new p
     → (t : List ℕ) × TellsText (content name) t × IsDevice t d × (n ≤ d.size)
-    → Rewrites p (IsRouted d) text line → Delivers words content old new text line
+    → Rewrites p (IsOnQubits d trivial p) text line → Delivers words content old new text line
 Delivers-routed words content c name trivial old new p d n text line asked is read loaded made =
     delivers words content (Route name trivial) old new p text line (asked ∙ ap (λ x. Some x) is) read (record {
       target = made.target;
@@ -143,9 +142,7 @@ Delivers-routed words content c name trivial old new p d n text line asked is re
         loaded = loaded.1;
         device = d;
         described = loaded.2;
-        qubits = made.placed.qubits;
-        edges = made.placed.edges;
-        placed = λ e. made.placed.initial ∙ sym (ap identity made.placed.qubits);
+        routed = made.placed;
       };
     })
 

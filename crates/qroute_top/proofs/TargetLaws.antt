@@ -3,7 +3,8 @@
 --   IsOptimised-rewritten  expanded, and then rewritten to a settled circuit
 --   Stands-in_place        wire for wire
 --   Stands-routed          on the qubits of a device
-use Rattle.std.proofs.Common.{◌≡◌, ℕ, ◌+◌, ◌*◌, ◌%◌, ◌<◌, ◌≤◌, List, length, refl, ◌∙◌, ap, arith}
+--   IsMachineRun-routed, HasFewSwaps-routed   what is written is the machine's run, with few swaps
+use Rattle.std.proofs.Common.{◌≡◌, ℕ, ◌+◌, ◌*◌, ◌%◌, ◌<◌, ◌≤◌, Bool, false, List, length, refl, ◌∙◌, ap, arith}
 use Rattle.circuit_list.specs.declared.Gate.{Gate}
 use Rattle.circuit_list.specs.Gates.{ops}
 use Rattle.circuit_list.specs.declared.Passed.{Passed}
@@ -18,6 +19,11 @@ use Rattle.unitary_model.proofs.RealisesLaws.{Realises_chain, Realises_same}
 use Rattle.commute_rules.specs.Reducible.{NoReducible}
 use Rattle.hadamard_reduce.specs.Windows.{IsWindow}
 use Rattle.rewrite_pass.specs.Law.{IsRewriting}
+use Rattle.coupling_map.specs.Coupling.{Coupling}
+use Rattle.coupling_map.specs.Walks.{IsDiameter}
+use Rattle.sabre_route.specs.Routing.{IsLayout, IsRouted, turned}
+use Rattle.sabre_route.specs.declared.router.Routed.{Routed}
+use Rattle.qroute_top.specs.Runs.{HasFewSwaps, IsMachineRun}
 use Rattle.qroute_top.specs.Settled.{IsSettled}
 use Rattle.qroute_top.specs.Targets.{IsOptimised, Stands}
 use Rattle.qroute_top.specs.declared.target.Target.{Target}
@@ -70,5 +76,43 @@ Stands-routed n m S c t first j is wires realises initial turn t_same cx_more =
       t_gates = omega (arith, is.t_gates, t_same);
       cx_gates = omega (arith, is.cx_gates, cx_more);
     }
+
+pub IsMachineRun-routed : (d : Coupling) (trivial : Bool) (n : ℕ) (S : List Op) (c : Passed) (r : Routed) (given : List ℕ) (phase : ℕ) → IsOptimised n S c
+    → IsRouted d c.body.gates given r → phase ≡ (c.turn + r.turn) % 8 → (trivial ≡ false → IsLayout d c.body.gates given)
+    → IsMachineRun d trivial n S (ops r.body.gates) given r.last r.swaps phase
+IsMachineRun-routed d trivial n S c r given phase is run sum laid_out = record {
+  gates = c.body.gates;
+  turn = c.turn;
+  settled = is.settled;
+  stands = Realises_same S (ops c.body.gates) n c.turn is.below is.same;
+  events = run.events;
+  end = run.final;
+  run = run.run;
+  writes = ap ops run.body;
+  ends = run.last;
+  counts = run.swaps;
+  turns = whole c.turn (turned d.edges given run.events) r.turn phase run.turn sum;
+  laid_out = laid_out;
+}
+  where
+    whole : (a b j t : ℕ) → j ≡ b % 8 → t ≡ (a + j) % 8 → t ≡ (a + b) % 8
+    whole a b j t e f = omega (arith, e, f)
+
+pub HasFewSwaps-routed : (d : Coupling) (S gates us : List Op) (swaps : ℕ) → cx_count gates ≤ cx_count S
+    → ((k : ℕ) → IsDiameter d.size d.edges k → swaps ≤ cx_count gates * (d.size + k)) → cx_count us ≡ cx_count gates + 3 * swaps
+    → HasFewSwaps d S us swaps
+HasFewSwaps-routed d S gates us swaps fewer few more = record {
+  few = λ k is. above k (few k is);
+  cx_gates = λ k is. spread (cx_count S) (cx_count gates) (cx_count us) swaps (d.size + k) fewer (above k (few k is)) more;
+}
+  where
+    above : (k : ℕ) → swaps ≤ cx_count gates * (d.size + k) → swaps ≤ cx_count S * (d.size + k)
+    above k l = omega (arith, l, mul-le-mul-right (d.size + k) fewer)
+
+    spread : (a b t s m : ℕ) → b ≤ a → s ≤ a * m → t ≡ b + 3 * s → t ≤ a * (1 + 3 * m)
+    spread a b t s m l g e = omega (arith, l, g, e, mul-three a m)
+
+    mul-three : (a m : ℕ) → a * (1 + 3 * m) ≡ a + 3 * (a * m)
+    mul-three a m = grind arith
 
 pub ruleset targets = (Stands-in_place, Stands-routed)

@@ -5,7 +5,7 @@
 --   Makes source target r ..    the text and the report line are right for a source: the target is the source, up to the
 --                               reported power of w and the reported placements
 --   Rewrites source P ..        there is such a target, and of its qubits, placements and edges P holds
---   IsInPlace, IsOnDevice       this P for `opt` and `route`
+--   IsInPlace, IsOnDevice       this P for `opt` and `route`;  IsOnQubits: for a device that is known
 --   counts_of source            what `check` tells of a program
 --   IsStages source text        what `stages` writes of it: the lines of the layers of its gates
 --   IsAnswer content c source ..   the text and the line are what the command asks for
@@ -31,6 +31,7 @@ use Rattle.command_words.specs.declared.commands.Command.{Command}
 use Rattle.command_words.specs.declared.commands.Command.TheVariants.{Opt, Route, Check, Stages}
 use Rattle.command_words.specs.Commands.{command_of}
 use Rattle.qroute_top.specs.Devices.{IsDevice}
+use Rattle.qroute_top.specs.Runs.{HasFewSwaps, IsMachineRun}
 use Rattle.qroute_top.specs.Settled.{IsSettled}
 
 abbrev pub Content : Type 0
@@ -78,15 +79,21 @@ pub record IsInPlace (source target : Program) (told : Report) : Type 0 where
   pub last : told.last ≡ identity source.wires
   pub settled : IsSettled source.wires target.ops
 
--- the shelf's text of this name describes a device, whose qubits these are, and each CNOT follows an edge
-pub record IsOnDevice (content : Content) (name : List ℕ) (trivial : Bool) (target : Program) (told : Report) : Type 0 where
+-- the qubits are a device's, each CNOT follows an edge, and what is written is the routing machine's run, with few swaps
+pub record IsOnQubits (device : Coupling) (trivial : Bool) (source target : Program) (told : Report) : Type 0 where
+  pub qubits : target.wires ≡ device.size
+  pub edges : FollowsEdges device.edges target.ops
+  pub placed : trivial ≡ true → told.initial ≡ identity target.wires
+  pub run : IsMachineRun device trivial source.wires source.ops target.ops told.initial told.last told.swaps told.phase
+  pub swaps : HasFewSwaps device source.ops target.ops told.swaps
+
+-- the device is the one that the shelf's text of this name describes
+pub record IsOnDevice (content : Content) (name : List ℕ) (trivial : Bool) (source target : Program) (told : Report) : Type 0 where
   pub device_text : List ℕ
   pub loaded : TellsText (content name) device_text
   pub device : Coupling
   pub described : IsDevice device_text device
-  pub qubits : target.wires ≡ device.size
-  pub edges : FollowsEdges device.edges target.ops
-  pub placed : trivial ≡ true → told.initial ≡ identity target.wires
+  pub routed : IsOnQubits device trivial source target told
 
 abbrev pub counts_of : Program → Counts
 counts_of source = record {
@@ -103,7 +110,7 @@ IsStages source text = IsStageText source.wires (layers_of (expanded source.ops)
 
 abbrev pub IsAnswer : Content → Command → Program → List ℕ → List ℕ → Type 0
 IsAnswer content Opt source text line = Rewrites source (IsInPlace source) text line
-IsAnswer content (Route name trivial) source text line = Rewrites source (IsOnDevice content name trivial) text line
+IsAnswer content (Route name trivial) source text line = Rewrites source (IsOnDevice content name trivial source) text line
 IsAnswer content Check source text line = (text ≡ []) × (line ≡ check_line (counts_of source))
 IsAnswer content Stages source text line = IsStages source text × (line ≡ [])
 

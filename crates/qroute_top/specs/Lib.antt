@@ -1,6 +1,7 @@
 -- ---- definitions that public clauses reach
 pub mod Devices
 pub mod Settled
+pub mod Runs
 pub mod Delivered
 pub mod Causes
 -- ---- working forms

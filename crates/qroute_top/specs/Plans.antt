@@ -4,14 +4,10 @@
 --   TellsOutputFault p   where something does, the line of a failed output is at hand
 --   target_program s t   the program of the target t, which reads what its source s reads
 --   IsReport s t r       the report of the target
---   IsRouted d R r       the program R is on the qubits of the device d, and its wires begin on the qubits of their own numbers
 --   IsPlanned s t ..     the text of the target, and the line of its report
 use Rattle.std.specs.Prelude.{◌≡◌, ℕ, List, [], Option, Some, None, Vec, map}
 use Rattle.std.specs.declared.alloc.Global.{Global}
 use Rattle.circuit_list.specs.Gates.{ops}
-use Rattle.coupling_map.specs.Coupling.{Coupling}
-use Rattle.unitary_model.specs.Placement.{identity}
-use Rattle.coupling_map.specs.Edges.{FollowsEdges}
 use Rattle.gate_inline.specs.Programs.{IsWritten, Program}
 use Rattle.program_reader.specs.declared.source.Source.{Source}
 use Rattle.route_report.specs.declared.lines.Report.{Report}
@@ -71,8 +67,3 @@ pub record IsPlanned (s : Source) (t : Target) (text line : List ℕ) : Type 0 w
   pub told : Report
   pub report : line ≡ report_line told
   pub numbers : IsReport s t told
-
-pub record IsRouted (d : Coupling) (target : Program) (told : Report) : Type 0 where
-  pub qubits : target.wires ≡ d.size
-  pub edges : FollowsEdges d.edges target.ops
-  pub initial : told.initial ≡ identity d.size

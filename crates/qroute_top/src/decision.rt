@@ -66,10 +66,10 @@ pub fn decide<I: Input, F: Shelf>(
         Command::Stages => Ok(stage_plan(alloc, &source)?),
         Command::Route {
             device: name,
-            trivial: _,
+            trivial,
         } => {
             let device = load_device(alloc, shelf, &name, source.ops.wires)?;
-            Ok(route_on(alloc, &source, &device)?)
+            Ok(route_on(alloc, &source, &device, trivial)?)
         }
     }
 }

@@ -1,12 +1,14 @@
 //! The circuit that is to be written for a source, and where its wires begin and end.
 
-ghost use Rattle.std.specs.Prelude.{◌≡◌, ◌≤◌, ◌<◌, All, IfOk};
+ghost use Rattle.std.specs.Prelude.{◌≡◌, ◌≤◌, ◌<◌, All, IfOk, false, length, true};
 ghost use Rattle.coupling_map.specs.Coupling.{Coupling};
 ghost use Rattle.circuit_list.specs.Gates.{IsFine, ops};
 ghost use Rattle.gate_expand.specs.Expansion.{IsFineOp};
 ghost use Rattle.gate_library.specs.Limits.{most_qubits};
 ghost use Rattle.unitary_model.specs.Placement.{identity};
 ghost use Rattle.coupling_map.specs.Edges.{FollowsEdges};
+ghost use Rattle.sabre_route.specs.Routing.{IsLayout};
+ghost use Rattle.qroute_top.specs.Runs.{HasFewSwaps, IsMachineRun};
 ghost use Rattle.qroute_top.specs.Settled.{IsSettled};
 ghost use Rattle.qroute_top.specs.Targets.{IsOptimised, Stands};
 
@@ -16,9 +18,9 @@ use coupling_map::Device;
 use gate_expand::{Ops, expand};
 use placement::Placement;
 use route_report::Wires;
+use sabre_route::{layout, route};
 use std::alloc::{AllocError, Global};
 use unitary_model::turn_sum;
-use walk_route::route;
 
 /// A circuit that stands for a source.
 #[derive(Drop)]
@@ -81,22 +83,44 @@ pub fn in_place(alloc: Global, source: &Ops, passed: Passed) -> Result<Target, A
     })
 }
 
-/// The circuit on the qubits of a device. Each wire begins on the qubit of its own number.
+/// The qubits on which the wires begin: those of the layout, or for a trivial placement those of their own numbers.
+fn first_placement(
+    alloc: Global,
+    circuit: &Circuit,
+    device: &Device,
+    trivial: bool,
+) -> Result<Placement, AllocError>
+    requires { circuit.now.wires ≤ device.now.size }
+    ensures placed { IfOk result (λ p. length p ≡ device.now.size) }
+    ensures trivial { IfOk result (λ p. trivial ≡ true → p ≡ identity device.now.size) }
+    ensures laid_out { IfOk result (λ p. trivial ≡ false → IsLayout device.now circuit.now.gates p) }
+{
+    if trivial {
+        Placement::identity(alloc, device.size())
+    } else {
+        layout(alloc, circuit, device)
+    }
+}
+
+/// The circuit on the qubits of a device: the routing machine's run.
 #[tactic(auto, using(crate::proofs::TargetLaws::targets))]
 pub fn on_device(
     alloc: Global,
     source: &Ops,
     passed: &Passed,
     device: &Device,
+    trivial: bool,
 ) -> Result<Target, AllocError>
     requires optimised { IsOptimised source.now.wires source.now.list passed.now }
     requires fits { source.now.wires ≤ device.now.size }
     ensures stands { IfOk result (Stands source.now.wires source.now.list) }
     ensures wires { IfOk result (λ t. t.body.wires ≡ device.now.size) }
     ensures edges { IfOk result (λ t. FollowsEdges device.now.edges (ops t.body.gates)) }
-    ensures initial { IfOk result (λ t. t.initial ≡ identity device.now.size) }
+    ensures initial { IfOk result (λ t. trivial ≡ true → t.initial ≡ identity device.now.size) }
+    ensures run { IfOk result (λ t. IsMachineRun device.now trivial source.now.wires source.now.list (ops t.body.gates) t.initial t.last t.swaps t.turn) }
+    ensures few_swaps { IfOk result (λ t. HasFewSwaps device.now source.now.list (ops t.body.gates) t.swaps) }
 {
-    let given = Placement::identity(alloc, device.size())?;
+    let given = first_placement(alloc, &passed.body, device, trivial)?;
     let initial = qubits_of(alloc, &given)?;
     let routed = route(alloc, &passed.body, device, given)?;
     Ok(Target {

@@ -1,4 +1,0 @@
--- ---- working forms
-pub mod Emission
-pub mod Front
-pub mod Underway
