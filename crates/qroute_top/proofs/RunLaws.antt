@@ -10,7 +10,6 @@ use Rattle.outside_io.specs.Bytes.{TakesAll, Tells}
 use Rattle.outside_io.specs.Causes.{Rose}
 use Rattle.outside_io.specs.Shelf.{HasNoText, TellsText}
 use Rattle.coupling_map.specs.Coupling.{Coupling}
-use Rattle.unitary_model.specs.Placement.{identity}
 use Rattle.gate_inline.specs.Programs.{IsAccepted, IsWritten, Program}
 use Rattle.program_reader.specs.Refusals.{IsRefusal}
 use Rattle.program_reader.specs.declared.refusal.Refusal.{Refusal}

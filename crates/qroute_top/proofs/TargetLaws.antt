@@ -5,6 +5,7 @@
 --   Stands-routed          on the qubits of a device
 --   IsMachineRun-routed, HasFewSwaps-routed   what is written is the machine's run, with few swaps
 use Rattle.std.proofs.Common.{◌≡◌, ℕ, ◌+◌, ◌*◌, ◌%◌, ◌<◌, ◌≤◌, Bool, false, List, length, refl, ◌∙◌, ap, arith}
+use Rattle.std.proofs.lemmas.Nat.{mul-le}
 use Rattle.circuit_list.specs.declared.Gate.{Gate}
 use Rattle.circuit_list.specs.Gates.{ops}
 use Rattle.circuit_list.specs.declared.Passed.{Passed}
@@ -102,17 +103,18 @@ pub HasFewSwaps-routed : (d : Coupling) (S gates us : List Op) (swaps : ℕ) →
     → ((k : ℕ) → IsDiameter d.size d.edges k → swaps ≤ cx_count gates * (d.size + k)) → cx_count us ≡ cx_count gates + 3 * swaps
     → HasFewSwaps d S us swaps
 HasFewSwaps-routed d S gates us swaps fewer few more = record {
-  few = λ k is. above k (few k is);
-  cx_gates = λ k is. spread (cx_count S) (cx_count gates) (cx_count us) swaps (d.size + k) fewer (above k (few k is)) more;
+  few = λ k is. above (cx_count S) (cx_count gates) (d.size + k) swaps fewer (few k is);
+  cx_gates = λ k is. spread (cx_count S) (cx_count gates) (cx_count us) swaps (d.size + k) fewer
+      (above (cx_count S) (cx_count gates) (d.size + k) swaps fewer (few k is)) more;
 }
   where
-    above : (k : ℕ) → swaps ≤ cx_count gates * (d.size + k) → swaps ≤ cx_count S * (d.size + k)
-    above k l = omega (arith, l, mul-le-mul-right (d.size + k) fewer)
-
-    spread : (a b t s m : ℕ) → b ≤ a → s ≤ a * m → t ≡ b + 3 * s → t ≤ a * (1 + 3 * m)
-    spread a b t s m l g e = omega (arith, l, g, e, mul-three a m)
+    above : (a b m s : ℕ) → b ≤ a → s ≤ b * m → s ≤ a * m
+    above a b m s l g = let more = mul-le b m a m l (omega arith) in omega (arith, g, more)
 
     mul-three : (a m : ℕ) → a * (1 + 3 * m) ≡ a + 3 * (a * m)
     mul-three a m = grind arith
+
+    spread : (a b t s m : ℕ) → b ≤ a → s ≤ a * m → t ≡ b + 3 * s → t ≤ a * (1 + 3 * m)
+    spread a b t s m l g e = omega (arith, l, g, e, mul-three a m)
 
 pub ruleset targets = (Stands-in_place, Stands-routed)

@@ -419,12 +419,12 @@ pub run-done : (d : Coupling) (n : ℕ) (gs : List Gate) (first : List ℕ) (u :
 run-done d n gs first u events graph le fine placed h =
     let below = recursion_from_All (IsFine n) gs fine in
     let c = same_carried d gs first u _ (written d.edges first events) _ (turned d.edges first events % 8) _ (swap_count events) refl (ap (λ x. x % 8) (zero-add (turned d.edges first events))) (zero-add (swap_count events))
-        (run-carried d gs first (start first gs) u events [] 0 0 graph (omega arith) h.steps (record {
-          done = [];
-          split = split-start gs;
-          realised = realised-start d.edges d.size first placed;
-          fine = all-fine_more n d.size gs le below;
-        })) in
+    (run-carried d gs first (start first gs) u events [] 0 0 graph (omega arith) h.steps (record {
+      done = [];
+      split = split-start gs;
+      realised = realised-start d.edges d.size first placed;
+      fine = all-fine_more n d.size gs le below;
+    })) in
     let r = c.realised in
     let order : Turns 0 (ops gs) c.done = subst (λ (us : List Op). Turns 0 (ops gs) us) (ap (λ xs. c.done ++ ops xs) h.ends ∙ append-nil c.done) c.split.order in
     let vs : List Gate = written d.edges first events in
