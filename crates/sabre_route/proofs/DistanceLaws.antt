@@ -7,7 +7,7 @@
 --   IsReach d k           no two qubits are further apart than k
 --   reach-diameter, reach-size     the greatest distance is a reach, and so is the number of qubits
 --   dist-nearer           one nearer is one less
-use Rattle.std.proofs.Common.{◌≡◌, ◌≢◌, ℕ, ◌+◌, ◌<◌, ◌≤◌, ◌||◌, Bool, true, false, List, refl, sym, ◌∙◌, subst, arith}
+use Rattle.std.proofs.Common.{◌≡◌, ◌≢◌, ℕ, ◌+◌, ◌<◌, ◌≤◌, ◌||◌, Bool, true, false, List, refl, arith}
 use Rattle.std.specs.Prelude.{◌↔◌, IsTrue}
 use Rattle.coupling_map.specs.Coupling.{Coupling, IsCoupling, IsNearer}
 use Rattle.coupling_map.specs.Walks.{distance, is_edge, is_near, IsDiameter, IsDistance}
