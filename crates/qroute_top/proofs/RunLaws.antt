@@ -371,15 +371,15 @@ planned-refuses law words content old new x l text r d told refusal =
 
 -- a plan for a command that loads a device comes of the text of its device
 answer_on : (content : Content) (name : List ℕ) (c : Command) (source : Program) (x l : List ℕ) → device_name c ≡ Some name → IsAnswer content c source x l
-    → (trivial : Bool) × Rewrites source (IsOnDevice content name trivial) x l
+    → (trivial : Bool) × Rewrites source (IsOnDevice content name trivial source) x l
 answer_on content name Opt source x l wants answer = cc
 answer_on content name (Route other trivial) source x l wants answer =
-    let same : other ≡ name = cc in (trivial, subst (λ y. Rewrites source (IsOnDevice content y trivial) x l) same answer)
+    let same : other ≡ name = cc in (trivial, subst (λ y. Rewrites source (IsOnDevice content y trivial source) x l) same answer)
 answer_on content name Check source x l wants answer = cc
 answer_on content name Stages source x l wants answer = cc
 
 planned_on : (words : List (List ℕ)) (content : Content) (old new : Option (List ℕ)) (x l name : List ℕ) (c : Command) (d : Delivers words content old new x l)
-    → command_of words ≡ Some c → device_name c ≡ Some name → (trivial : Bool) × Rewrites d.source (IsOnDevice content name trivial) x l
+    → command_of words ≡ Some c → device_name c ≡ Some name → (trivial : Bool) × Rewrites d.source (IsOnDevice content name trivial d.source) x l
 planned_on words content old new x l name c d asked wants =
     let same : c ≡ d.command = some_same c d.command (sym asked ∙ d.asked) in
     answer_on content name d.command d.source x l (subst (λ y. device_name y ≡ Some name) same wants) d.answer
@@ -404,7 +404,7 @@ planned-refuses_device once words content old new x l name c text t p r d asked 
     let texts = told_text old text d.source_text told (Tells-taken old new d.source_text d.consumed) in
     let accepted : IsAccepted text d.source = rw texts at d.accepted in
     let source = once text d.source p (written_of text d.source accepted) (written_of text p ok) in
-    let fits : d.source.wires ≤ placed.device.size = rw (← placed.qubits) on.1.made.unitary.fits in
+    let fits : d.source.wires ≤ placed.device.size = rw (← placed.routed.qubits) on.1.made.unitary.fits in
     IsDevice-refused t placed.device p.wires r described (subst (λ (q : Program). q.wires ≤ placed.device.size) source fits) refusal
 
 -- ---- stops by their statuses
