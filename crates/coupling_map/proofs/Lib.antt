@@ -8,4 +8,5 @@ pub mod SearchLaws
 pub mod RowLaws
 pub mod DistanceLaws
 pub mod CouplingLaws
+pub mod ConnectedLaws
 mod OnceLaws

@@ -1,10 +1,10 @@
 //! Laws of distances and of device texts: each function's contract is one law. They take nothing and do nothing.
 
-ghost use Rattle.std.specs.Prelude.{◌≡◌, ℕ, ◌<◌, All, List};
+ghost use Rattle.std.specs.Prelude.{◌≡◌, ℕ, ◌<◌, ◌↔◌, All, IsTrue, List};
 ghost use Rattle.coupling_map.specs.Coupling.{Coupling, IsCoupling};
 ghost use Rattle.coupling_map.specs.Refusals.{IsDeviceFault};
 ghost use Rattle.coupling_map.specs.Text.{graph, Says};
-ghost use Rattle.coupling_map.specs.Walks.{distance, IsDistance};
+ghost use Rattle.coupling_map.specs.Walks.{distance, is_near, IsDistance};
 ghost use Rattle.coupling_map.specs.declared.faults.DeviceFault.{DeviceFault as Fault};
 
 /// Two qubits have one distance at most.
@@ -17,6 +17,22 @@ pub fn distance_is_one()
 pub fn distance_is_computed()
     ensures computed { (n : ℕ) (es : List (ℕ × ℕ)) (a b k : ℕ) → All (λ e. (e.0 < n) × (e.1 < n)) es →
         IsDistance es a b k → k < n → distance n es a b ≡ k }
+{}
+
+/// On a device `distance` is the distance of every two qubits, less than their number; and near qubits are
+/// qubits of the device.
+pub fn distances_on_device()
+    ensures exact { (d : Coupling) (a b : ℕ) → IsCoupling d → a < d.size → b < d.size →
+        IsDistance d.edges a b (distance d.size d.edges a b) }
+    ensures short { (d : Coupling) (a b : ℕ) → IsCoupling d → a < d.size → b < d.size →
+        distance d.size d.edges a b < d.size }
+    ensures symmetric { (d : Coupling) (a b : ℕ) → IsCoupling d → a < d.size → b < d.size →
+        distance d.size d.edges a b ≡ distance d.size d.edges b a }
+    ensures zero { (d : Coupling) (a b : ℕ) → IsCoupling d → a < d.size → b < d.size →
+        (distance d.size d.edges a b ≡ 0) ↔ (a ≡ b) }
+    ensures one { (d : Coupling) (a b : ℕ) → IsCoupling d → a < d.size → b < d.size →
+        (distance d.size d.edges a b ≡ 1) ↔ IsTrue (is_near d.edges a b) }
+    ensures near { (d : Coupling) (a b : ℕ) → IsCoupling d → IsTrue (is_near d.edges a b) → (a < d.size) × (b < d.size) }
 {}
 
 /// A text has one refusal at most, with its qubits.

@@ -3,8 +3,8 @@
 ghost use Rattle.std.specs.Prelude.{◌≡◌, ℕ, [], ◌+◌, ◌*◌, ◌≤◌, All, IfOk, length, reverse};
 ghost use Rattle.circuit_list.specs.declared.Gate.{Gate};
 ghost use Rattle.circuit_list.specs.Gates.{IsFine, most_wires, ops};
-ghost use Rattle.coupling_map.specs.Coupling.{diameter};
 ghost use Rattle.coupling_map.specs.Edges.{FollowsEdges};
+ghost use Rattle.coupling_map.specs.Walks.{IsDiameter};
 ghost use Rattle.sabre_route.specs.Machine.{IsEmittable, IsWalk};
 ghost use Rattle.sabre_route.specs.Routing.{IsLayout, IsRouted};
 ghost use Rattle.unitary_model.specs.Operations.{cx_count, t_count};
@@ -120,8 +120,8 @@ pub fn route(
     ensures t_count { IfOk result (λ r. t_count (ops r.body.gates) ≡ t_count (ops circuit.now.gates)) }
     ensures cx_count { IfOk result (λ r.
         cx_count (ops r.body.gates) ≡ cx_count (ops circuit.now.gates) + 3 * r.swaps) }
-    ensures few_swaps { IfOk result (λ r.
-        r.swaps ≤ cx_count (ops circuit.now.gates) * (device.now.size + diameter device.now)) }
+    ensures few_swaps { IfOk result (λ r. (k : ℕ) → IsDiameter device.now.size device.now.edges k →
+        r.swaps ≤ cx_count (ops circuit.now.gates) * (device.now.size + k)) }
 {
     run(
         alloc,
