@@ -57,11 +57,10 @@ pub fn fill(cnots: &[usize], waits: &[u8], seen: usize, extended: &mut Vec<usize
 }
 
 /// A gate waits on one wire less: the place is its, or the number of gates where there is none.
-fn release(place: usize, waits: &mut [u8], ready: &mut Vec<usize>, extended: &mut Vec<usize>)
-    requires waits { place < length waits.old → 0 < slice_index waits.old place }
+fn release(place: usize, waits: &mut Vec<u8>, ready: &mut Vec<usize>, extended: &mut Vec<usize>)
+    requires waits { place < length waits.old.items → 0 < slice_index waits.old.items place }
     requires room { vec_len ready.old < vec_capacity ready.old }
-    ensures released { IsReleased place waits.old waits.new ready.old.items ready.new.items extended.old.items extended.new.items }
-    ensures long { length waits.new ≡ length waits.old }
+    ensures released { IsReleased place waits.old.items waits.new.items ready.old.items ready.new.items extended.old.items extended.new.items }
     ensures longer { vec_len ready.new ≤ vec_len ready.old + 1 }
     ensures ready_room { vec_capacity ready.old ≤ vec_capacity ready.new }
     ensures extended_room { vec_capacity extended.new ≡ vec_capacity extended.old }
