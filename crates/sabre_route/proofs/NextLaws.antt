@@ -17,7 +17,7 @@ use Rattle.std.proofs.Common.{◌≡◌, ◌≢◌, ℕ, suc, ◌+◌, ◌<◌, 
 use Rattle.std.proofs.lemmas.Bool.{cases_eq, cases_lt}
 use Rattle.std.proofs.lemmas.Bool.Decides.{nat_tests}
 use Rattle.std.proofs.lemmas.Option.{same_Some, get_or_from_slice_get, slice_get_within, slice_get-get_or}
-use Rattle.std.proofs.lemmas.List.{get_or-set_same, get_or-set_other, length-set}
+use Rattle.std.proofs.lemmas.List.{get_or-set_same, get_or-set_other, get_or_default, length-set}
 use Rattle.std.proofs.lemmas.List.Elements.{All-nil, All-cons}
 use Rattle.circuit_list.specs.declared.Gate.{Gate}
 use Rattle.circuit_list.specs.declared.Gate.TheVariants.{H, X, P, Cx}
@@ -214,6 +214,20 @@ links-more n gs heads later p g e fine h = record {
     second j x le d (inr other) =
         subst (λ k. IsNext gs (second_wire x) (suc j) k) (sym (ap (λ (r : ℕ × ℕ). r.1) (get_or-set_other later p j pair (0, 0) other)))
         (h.second j x (omega (arith, other)) d)
+
+-- one place more, as it is written
+pub links-put : (n : ℕ) (gs : List Gate) (heads : List ℕ) (later : List (ℕ × ℕ)) (p m : ℕ) (g : Gate) (v w a b : ℕ) → suc m ≡ p → m < length gs → get_or gs m (H 0) ≡ g → All (IsFine n) gs
+    → v ≡ first_wire g → w ≡ second_wire g → a ≡ get_or heads v a → b ≡ get_or heads w b → AreLinksFrom n gs heads later p
+    → AreLinksFrom n gs (set (set heads v m) w m) (set later m (a, b)) m
+links-put n gs heads later p m g v w a b more lt at fine ev ew ea eb h =
+    let e : slice_get gs m ≡ Some g = slice_get-get_or gs m (H 0) lt ∙ ap Some at in
+    let f : IsFine n g = fine_at n gs m g fine e in
+    let first : a ≡ slice_index heads (first_wire g) = ea ∙ ap (λ u. get_or heads u a) ev ∙ get_or_default heads (first_wire g) a 0 (omega (arith, first_below n g f, h.wide)) in
+    let second : b ≡ slice_index heads (second_wire g) = eb ∙ ap (λ u. get_or heads u b) ew ∙ get_or_default heads (second_wire g) b 0 (omega (arith, second_below n g f, h.wide)) in
+    let done : AreLinksFrom n gs (set (set heads (first_wire g) m) (second_wire g) m) (set later m (slice_index heads (first_wire g), slice_index heads (second_wire g))) m =
+    links-more n gs heads later m g e f (subst (λ (i : ℕ). AreLinksFrom n gs heads later i) (sym more) h) in
+    subst (λ (r : ℕ × ℕ). AreLinksFrom n gs (set (set heads r.0 m) r.1 m) (set later m (a, b)) m) (sym (λ z. (ev z, ew z)))
+    (subst (λ (r : ℕ × ℕ). AreLinksFrom n gs (set (set heads (first_wire g) m) (second_wire g) m) (set later m r) m) (sym (λ z. (first z, second z))) done)
 
 pub links-all : (n : ℕ) (gs : List Gate) (heads : List ℕ) (later : List (ℕ × ℕ)) → AreLinksFrom n gs heads later 0 → AreLinks gs later
 links-all n gs heads later h = record {
