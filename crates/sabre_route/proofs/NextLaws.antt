@@ -10,8 +10,8 @@
 --   first-head           it is the head of a wire
 --   earliest-none        where all heads are at the end, no gate is left
 --   IsOffGate g x        gate x is on no wire of gate g
---   Passing              how the gates that are left change where a gate is passed
---   passing              .. by the heads of its wires alone
+--   left-first, left-passed, left-other     which gates are left before and after a gate is passed
+--   passing              the gates that are left, before and after
 --   heads-passed         the heads after that
 use Rattle.std.proofs.Common.{◌≡◌, ◌≢◌, ℕ, suc, ◌+◌, ◌<◌, ◌≤◌, ◌⊎◌, inl, inr, true, false, not, List, [], ◌∷◌, All, Some, fold, length, min, nat_lt, slice_get, slice_index, get_or, set, slice_index_or, refl, sym, ◌∙◌, ap, subst, add-one, arith}
 use Rattle.std.proofs.lemmas.Bool.{cases_eq, cases_lt}
@@ -407,18 +407,30 @@ heads-passed n gs j g old new e are at p = record {
     agree2 k x f lt (inl here) = subst (λ y. k < slice_index new (first_wire y)) (slice_get-once gs k g x (ap (slice_get gs) here ∙ e) f) (omega (arith, here, p.on_first.from))
     agree2 k x f lt (inr other) = forth gs j old new (first_wire x) k (m (first_wire x)) ((are.agree k x f).1 (back gs j old new (second_wire x) k x f (inr refl) other (m (second_wire x)) lt))
 
+-- which gates are left before and after
+pub left-first : (gs : List Gate) (j : ℕ) (g : Gate) (heads : List ℕ) → slice_get gs j ≡ Some g → IsFirst gs heads j → is_left heads j g ≡ true
+left-first gs j g heads e at = left-true j (slice_index heads (first_wire g)) (omega (arith, at.first g e))
+
+pub left-passed : (gs : List Gate) (j : ℕ) (g : Gate) (old new : List ℕ) → HasPassed gs j g old new → is_left new j g ≡ false
+left-passed gs j g old new p = left-false j (slice_index new (first_wire g)) (omega (arith, p.on_first.from))
+
+pub left-other : (gs : List Gate) (j : ℕ) (g : Gate) (n : ℕ) (old new : List ℕ) → slice_get gs j ≡ Some g → AreHeads n gs old → IsFirst gs old j → HasPassed gs j g old new
+    → (k : ℕ) (x : Gate) → slice_get gs k ≡ Some x → k ≢ j → is_left old k x ≡ is_left new k x
+left-other gs j g n old new e are at p k x f ne =
+    left-same k (slice_index old w) (slice_index new w) (forth gs j old new w k m) (back gs j old new w k x f (inl refl) ne m)
+  where
+    w : ℕ
+    w = first_wire x
+
+    m : WireMoves gs j old new w
+    m = moves gs j g old new e at p w
+
 pub passing : (gs : List Gate) (j : ℕ) (g : Gate) (n : ℕ) (old new : List ℕ) → slice_get gs j ≡ Some g → AreHeads n gs old → IsFirst gs old j → HasPassed gs j g old new
     → Without (is_left old) (is_left new) 0 g gs (IsOffGate g)
 passing gs j g n old new e are at p =
     without (is_left old) (is_left new) (IsOffGate g) 0 gs j j g e (omega arith)
-    (left-true j (slice_index old (first_wire g)) (omega (arith, at.first g e)))
-    (left-false j (slice_index new (first_wire g)) (omega (arith, p.on_first.from)))
-    (λ i k x d ne f.
-    let w = first_wire x in
-    let h : k ≡ i = omega arith in
-    left-same i (slice_index old w) (slice_index new w)
-    (λ lt. subst (λ v. v < slice_index new w) h (forth gs j old new w k (m w) (omega (arith, lt, h))))
-    (λ lt. subst (λ v. v < slice_index old w) h (back gs j old new w k x f (inl refl) ne (m w) (omega (arith, lt, h)))))
+    (left-first gs j g old e at) (left-passed gs j g old new p)
+    (λ i k x d ne f. subst (λ v. is_left old v x ≡ is_left new v x) (omega arith) (left-other gs j g n old new e are at p k x f ne))
     (λ i k x d lt f l.
     let h : k ≡ i = omega arith in
     let first : slice_index old (first_wire x) ≤ k = omega (arith, h, true-left i (slice_index old (first_wire x)) l) in
@@ -430,9 +442,6 @@ passing gs j g n old new e are at p =
       second_second = λ s. clash (second_wire x) (second_wire g) k second lt s (at.second g e);
     })
   where
-    m : (w : ℕ) → WireMoves gs j old new w
-    m = moves gs j g old new e at p
-
     low : (k a b : ℕ) → b ≤ k → (k < a → k < b) → a ≤ k
     low k a b le f = go (cases_lt k a)
       where
