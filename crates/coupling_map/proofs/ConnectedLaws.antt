@@ -4,6 +4,7 @@
 --   distance-below     a distance is below the number of qubits
 --   device-exact, -short, -symmetric, -zero, -one
 --                      what `distance` is of two qubits of a device
+--   device-near        near qubits are qubits of the device
 use Rattle.std.proofs.Common.{◌≡◌, ℕ, zero, suc, ◌<◌, ◌≤◌, ◌||◌, Bool, true, false, List, [], ◌∷◌, All, length, nat_eq, refl, sym, ◌∙◌, subst, arith, ◌⊎◌, inl, inr}
 use Rattle.std.specs.Prelude.{◌↔◌, IsTrue}
 use Rattle.std.specs.List.{list_any, AllByRecursion, IsDistinct}
@@ -118,3 +119,6 @@ device-zero d a b h la lb = zero-distance d.edges a b _ (device-exact d a b h la
 
 pub device-one : (d : Coupling) (a b : ℕ) → IsCoupling d → a < d.size → b < d.size → (distance d.size d.edges a b ≡ 1) ↔ IsTrue (is_near d.edges a b)
 device-one d a b h la lb = one-distance d.size d.edges a b _ h.graph (device-exact d a b h la lb)
+
+pub device-near : (d : Coupling) (a b : ℕ) → IsCoupling d → IsTrue (is_near d.edges a b) → (a < d.size) × (b < d.size)
+device-near d a b h t = is_near-below d.size d.edges a b h.graph.within t

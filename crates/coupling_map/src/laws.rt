@@ -19,7 +19,8 @@ pub fn distance_is_computed()
         IsDistance es a b k → k < n → distance n es a b ≡ k }
 {}
 
-/// On a device `distance` is the distance of every two qubits; it is less than the number of qubits.
+/// On a device `distance` is the distance of every two qubits, less than their number; and near qubits are
+/// qubits of the device.
 pub fn distances_on_device()
     ensures exact { (d : Coupling) (a b : ℕ) → IsCoupling d → a < d.size → b < d.size →
         IsDistance d.edges a b (distance d.size d.edges a b) }
@@ -31,6 +32,7 @@ pub fn distances_on_device()
         (distance d.size d.edges a b ≡ 0) ↔ (a ≡ b) }
     ensures one { (d : Coupling) (a b : ℕ) → IsCoupling d → a < d.size → b < d.size →
         (distance d.size d.edges a b ≡ 1) ↔ IsTrue (is_near d.edges a b) }
+    ensures near { (d : Coupling) (a b : ℕ) → IsCoupling d → IsTrue (is_near d.edges a b) → (a < d.size) × (b < d.size) }
 {}
 
 /// A text has one refusal at most, with its qubits.

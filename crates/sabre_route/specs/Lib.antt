@@ -4,4 +4,5 @@ pub mod Search
 pub mod Scores
 pub mod Machine
 pub mod Kept
+pub mod Passing
 pub mod Routing
