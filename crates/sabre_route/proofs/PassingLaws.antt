@@ -24,7 +24,7 @@ use Rattle.sabre_route.specs.Front.{first_wire, second_wire, AreHeads, HasPassed
 use Rattle.sabre_route.specs.Kept.{AreLinks, is_at_head, is_behind, places_by, wait_count, waiting}
 use Rattle.sabre_route.specs.Passing.{is_open, IsNumber, IsPassing, IsReleased, KeepsWaiting}
 use Rattle.sabre_route.proofs.NextLaws.{fine_at, first_below, second_below, slice_get-once, HasPassed-set}
-use Rattle.sabre_route.proofs.PlacesLaws.{come, comes, gone, places-same}
+use Rattle.sabre_route.proofs.PlaceChanges.{come, comes, gone, places-same}
 use Rattle.sabre_route.proofs.WaitingLaws.{waiting-gone, waiting-same}
 
 pub record Advances (gs : List Gate) (p w : ℕ) (old new : List ℕ) : Type 0 where

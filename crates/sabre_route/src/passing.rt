@@ -68,6 +68,7 @@ fn release(place: usize, waits: &mut Vec<u8>, ready: &mut Vec<usize>, extended: 
     ensures released { IsReleased place waits.old.items waits.new.items ready.old.items ready.new.items extended.old.items extended.new.items }
     ensures longer { vec_len ready.new ≤ vec_len ready.old + 1 }
     ensures ready_room { vec_capacity ready.old ≤ vec_capacity ready.new }
+    ensures shorter { vec_len extended.new ≤ vec_len extended.old }
     ensures extended_room { vec_capacity extended.new ≡ vec_capacity extended.old }
 {
     if place >= waits.len() {
@@ -102,6 +103,7 @@ pub fn pass(
     ensures passed { (g : Gate) → slice_get gates.now place ≡ Some g → HasPassed gates.now place g heads.old.items heads.new.items }
     ensures passing { IsPassing gates.now place heads.new.items waits.new.items ready.new.items }
     ensures waiting { KeepsWaiting waits.old.items extended.old.items waits.new.items extended.new.items }
+    ensures shorter { vec_len extended.new ≤ vec_len extended.old }
     ensures extended_room { vec_capacity extended.new ≡ vec_capacity extended.old }
 {
     let (first, second) = wires_of(gates[place]);
