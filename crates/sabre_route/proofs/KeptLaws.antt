@@ -1,5 +1,5 @@
 -- The state's invariant through an emission.
---   number-read          which place is read
+--   number-read, earliest-read     which place is read, and which is the first whose gate can be emitted
 --   kept-first, kept-begun     the gate at a place that is ready is first on its wires, and may be passed
 --   places-within        the places of gates that pass a test
 --   kept-waiting         those that wait of the CNOTs that were looked at
@@ -30,6 +30,10 @@ number-read ready items k p e lt read = record {
   within = lt;
   is = ap (λ js. slice_index js k) (sym e) ∙ sym (get_or_read items k p (omega (arith, lt, ap length e)) read 0);
 }
+
+pub earliest-read : (es : List (ℕ × ℕ)) (q : List ℕ) (gs read : List Gate) (ready places : List ℕ) (k : ℕ) → read ≡ gs → places ≡ ready → IsEarliestNumber es q read places k → IsEarliestNumber es q gs ready k
+earliest-read es q gs read ready places k e f h =
+    subst (λ (js : List ℕ). IsEarliestNumber es q gs js k) f (subst (λ (xs : List Gate). IsEarliestNumber es q xs places k) e h)
 
 pub kept-first : (size : ℕ) (gs : List Gate) (heads : List ℕ) (later : List (ℕ × ℕ)) (waits ready cnots : List ℕ) (seen : ℕ) (extended : List ℕ) (k p : ℕ)
     → IsKept size gs heads later waits ready cnots seen extended → IsNumber p ready k → IsFirst gs heads p
