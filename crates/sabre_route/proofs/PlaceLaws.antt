@@ -3,8 +3,10 @@
 --   places_by-place      each of them is
 --   places_by-in         each gate that passes stands at one of them
 --   places_by-ascend     they ascend
-use Rattle.std.proofs.Common.{◌≡◌, ℕ, zero, suc, ◌+◌, ◌<◌, Bool, true, false, cond, List, [], ◌∷◌, Some, length, slice_get, slice_index, refl, sym, ◌∙◌, ap, subst, arith}
-use Rattle.std.proofs.lemmas.Option.{same_Some, slice_get_within}
+--   places_by-pass, places_by-fail     one gate more, which passes or doesn't
+use Rattle.std.proofs.Common.{◌≡◌, ℕ, zero, suc, ◌+◌, ◌<◌, Bool, true, false, cond, List, [], ◌∷◌, ◌++◌, Some, append-nil, length, slice_get, slice_index, take, zero-add, refl, sym, ◌∙◌, ap, subst, arith}
+use Rattle.std.proofs.lemmas.List.{length-take-le, take_more}
+use Rattle.std.proofs.lemmas.Option.{get_or_from_slice_get, same_Some, slice_get_within}
 use Rattle.circuit_list.specs.declared.Gate.{Gate}
 use Rattle.sabre_route.specs.Kept.{places_by}
 
@@ -72,3 +74,33 @@ places_by-ascend test i (x ∷ gs) m n lt within = go (test i x) (places_by test
     go true js above more (suc m) zero lt within = absurd (omega (arith, lt))
     go true js above more (suc m) (suc n) lt within = more m n (omega (arith, lt)) (omega (arith, within))
     go false js above more m n lt within = more m n lt within
+
+places_by-append : (test : Test) (i : ℕ) (xs ys : List Gate) → places_by test i (xs ++ ys) ≡ places_by test i xs ++ places_by test (i + length xs) ys
+places_by-append test i [] ys = ap (λ j. places_by test j ys) (same i)
+  where
+    same : (i : ℕ) → i ≡ i + 0
+    same i = omega arith
+places_by-append test i (x ∷ xs) ys = go (test i x) (places_by test (suc i) (xs ++ ys)) (places_by test (suc i) xs) (places_by-append test (suc i) xs ys ∙ ap (λ j. places_by test (suc i) xs ++ places_by test j ys) (there i (length xs)))
+  where
+    there : (i k : ℕ) → suc i + k ≡ i + suc k
+    there i k = omega arith
+
+    go : (b : Bool) (whole front : List ℕ) → whole ≡ front ++ places_by test (i + suc (length xs)) ys
+        → cond b (i ∷ whole) whole ≡ cond b (i ∷ front) front ++ places_by test (i + suc (length xs)) ys
+    go true whole front e = ap (λ js. i ∷ js) e
+    go false whole front e = e
+
+places_by-more : (test : Test) (gs : List Gate) (k : ℕ) (g : Gate) → slice_get gs k ≡ Some g → places_by test 0 (take (k + 1) gs) ≡ places_by test 0 (take k gs) ++ cond (test k g) (k ∷ []) []
+places_by-more test gs k g at =
+    ap (places_by test 0) (take_more gs k g within ∙ ap (λ x. take k gs ++ x ∷ []) (get_or_from_slice_get gs k g g at))
+    ∙ places_by-append test 0 (take k gs) (g ∷ [])
+    ∙ ap (λ j. places_by test 0 (take k gs) ++ cond (test j g) (j ∷ []) []) (zero-add (length (take k gs)) ∙ length-take-le k gs (omega (arith, within)))
+  where
+    within : k < length gs
+    within = slice_get_within gs k g at
+
+pub places_by-pass : (test : Test) (gs : List Gate) (k : ℕ) (g : Gate) → slice_get gs k ≡ Some g → test k g ≡ true → places_by test 0 (take (k + 1) gs) ≡ places_by test 0 (take k gs) ++ k ∷ []
+places_by-pass test gs k g at e = places_by-more test gs k g at ∙ ap (λ b. places_by test 0 (take k gs) ++ cond b (k ∷ []) []) e
+
+pub places_by-fail : (test : Test) (gs : List Gate) (k : ℕ) (g : Gate) → slice_get gs k ≡ Some g → test k g ≡ false → places_by test 0 (take (k + 1) gs) ≡ places_by test 0 (take k gs)
+places_by-fail test gs k g at e = places_by-more test gs k g at ∙ ap (λ b. places_by test 0 (take k gs) ++ cond b (k ∷ []) []) e ∙ append-nil (places_by test 0 (take k gs))
