@@ -6,22 +6,25 @@
 --   passing-released     so the state's invariant is kept
 --   waiting-released     and so are those that wait
 --   passing-begun, passing-ended     the gate is taken from those that are ready; its wires have gone on
---   set-advances         a head is written
---   HasPassed-single     the head of a gate with one wire is written
-use Rattle.std.proofs.Common.{◌≡◌, ◌≢◌, ℕ, zero, suc, ◌+◌, ◌-◌, ◌<◌, ◌≤◌, ◌⊎◌, ◌↔◌, ◌&&◌, inl, inr, Bool, not, true, false, cond, All, List, [], ◌∷◌, Some, get_or, length, nat_eq, nat_lt, set, slice_get, slice_index, refl, sym, subst, ◌∙◌, ap, add-one, arith, zero-add}
+--   IsWire gs p heads w k        the head of wire w stands at place p, and k is the next gate's place
+--   wire-first, wire-second      the wires of the gate at place p;  wire-other: another wire's head is written
+--   wire-waits           the next gate waits for it
+--   passing-wire         the head is written, and the next gate released
+--   passed-single, passed-both     the heads after that, of a gate with one wire, or with two
+use Rattle.std.proofs.Common.{◌≡◌, ◌≢◌, ℕ, suc, ◌+◌, ◌-◌, ◌<◌, ◌≤◌, ◌⊎◌, ◌↔◌, ◌&&◌, inl, inr, Bool, not, true, false, cond, All, List, Some, get_or, length, nat_eq, nat_lt, set, slice_get, slice_index, slice_index_or, refl, sym, subst, ◌∙◌, ap, add-one, arith}
 use Rattle.std.specs.List.{remove}
 use Rattle.std.proofs.lemmas.Bool.{cases_eq, cases_lt}
 use Rattle.std.proofs.lemmas.Bool.Decides.{nat_tests}
 use Rattle.std.proofs.lemmas.List.{get_or-set_other, get_or-set_same, length-set, set_past}
-use Rattle.std.proofs.lemmas.Option.{slice_get_within, slice_get-get_or}
+use Rattle.std.proofs.lemmas.Option.{get_or_from_slice_get, slice_get_within, slice_get-get_or}
 use Rattle.circuit_list.specs.declared.Gate.{Gate}
 use Rattle.circuit_list.specs.declared.Gate.TheVariants.{H, X, P, Cx}
 use Rattle.circuit_list.specs.Gates.{IsFine}
 use Rattle.sabre_route.specs.Front.{first_wire, second_wire, AreHeads, HasPassed, IsFirst, IsNext}
-use Rattle.sabre_route.specs.Kept.{is_at_head, is_behind, places_by, wait_count, waiting}
-use Rattle.sabre_route.specs.Passing.{is_open, HasCome, IsNumber, IsPassing, IsReleased, KeepsWaiting}
-use Rattle.sabre_route.proofs.NextLaws.{fine_at, slice_get-once}
-use Rattle.sabre_route.proofs.PlacesLaws.{come, comes, gone, places-same, Comes}
+use Rattle.sabre_route.specs.Kept.{AreLinks, is_at_head, is_behind, places_by, wait_count, waiting}
+use Rattle.sabre_route.specs.Passing.{is_open, IsNumber, IsPassing, IsReleased, KeepsWaiting}
+use Rattle.sabre_route.proofs.NextLaws.{fine_at, first_below, second_below, slice_get-once, HasPassed-set}
+use Rattle.sabre_route.proofs.PlaceChanges.{come, comes, gone, places-same}
 use Rattle.sabre_route.proofs.WaitingLaws.{waiting-gone, waiting-same}
 
 pub record Advances (gs : List Gate) (p w : ℕ) (old new : List ℕ) : Type 0 where
@@ -379,23 +382,98 @@ passing-ended gs p g heads waits ready at lt h =
         open-here p heads i x here
         ∙ sym (not-first heads i x (λ f. omega (arith, lt, ap (λ y. slice_index heads (first_wire y)) it, f, here)))
 
-pub set-advances : (gs : List Gate) (p w : ℕ) (heads : List ℕ) (k : ℕ) → w < length heads → slice_index heads w ≡ p → IsNext gs w (suc p) k
-    → Advances gs p w heads (set heads w k) × (slice_index (set heads w k) w ≡ k)
-set-advances gs p w heads k lt here next = (
-  record {
-    long = length-set heads w k;
-    here = here;
-    next = subst (λ (m : ℕ). IsNext gs w (suc p) m) (sym (get_or-set_same heads w k 0 lt)) next;
-    others = λ u ne. get_or-set_other heads w u k 0 ne;
-  },
-  get_or-set_same heads w k 0 lt,
-)
+-- ---- the wires of the gate at place p
+-- the head of wire w stands at place p, and k is the next gate's place
+pub record IsWire (gs : List Gate) (p : ℕ) (heads : List ℕ) (w k : ℕ) : Type 0 where
+  pub below : w < length heads
+  pub here : slice_index heads w ≡ p
+  pub next : IsNext gs w (suc p) k
 
--- a gate with one wire
-pub HasPassed-single : (gs : List Gate) (p : ℕ) (g : Gate) (old new : List ℕ) → first_wire g ≡ second_wire g → Advances gs p (first_wire g) old new → HasPassed gs p g old new
-HasPassed-single gs p g old new one a = record {
-  long = a.long;
-  on_first = a.next;
-  on_second = subst (λ (w : ℕ). IsNext gs w (suc p) (slice_index new w)) one a.next;
-  others = λ w n m. a.others w n;
+written : (heads : List ℕ) (w k : ℕ) → w < length heads → slice_index (set heads w k) w ≡ k
+written heads w k lt = get_or-set_same heads w k 0 lt
+
+advances : (gs : List Gate) (p w : ℕ) (heads : List ℕ) (k : ℕ) → IsWire gs p heads w k → Advances gs p w heads (set heads w k)
+advances gs p w heads k h = record {
+  long = length-set heads w k;
+  here = h.here;
+  next = subst (λ (m : ℕ). IsNext gs w (suc p) m) (sym (written heads w k h.below)) h.next;
+  others = λ u ne. get_or-set_other heads w u k 0 ne;
 }
+
+pub wire-first : (gs : List Gate) (p : ℕ) (d : Gate) (heads : List ℕ) (later : List (ℕ × ℕ)) (w : ℕ) → All (IsFine (length heads)) gs → AreLinks gs later → IsFirst gs heads p
+    → w ≡ first_wire (get_or gs p d) → IsWire gs p heads w (slice_index_or later p (0, 0)).0
+wire-first gs p d heads later w fine links first e =
+    let g = get_or gs p d in
+    let at : slice_get gs p ≡ Some g = slice_get-get_or gs p d first.within in
+    subst (λ (v : ℕ). IsWire gs p heads v (slice_index_or later p (0, 0)).0) (sym e) (record {
+      below = first_below (length heads) g (fine_at (length heads) gs p g fine at);
+      here = first.first g at;
+      next = links.first p g at;
+    })
+
+pub wire-second : (gs : List Gate) (p : ℕ) (d : Gate) (heads : List ℕ) (later : List (ℕ × ℕ)) (w : ℕ) → All (IsFine (length heads)) gs → AreLinks gs later → IsFirst gs heads p
+    → w ≡ second_wire (get_or gs p d) → IsWire gs p heads w (slice_index_or later p (0, 0)).1
+wire-second gs p d heads later w fine links first e =
+    let g = get_or gs p d in
+    let at : slice_get gs p ≡ Some g = slice_get-get_or gs p d first.within in
+    subst (λ (v : ℕ). IsWire gs p heads v (slice_index_or later p (0, 0)).1) (sym e) (record {
+      below = second_below (length heads) g (fine_at (length heads) gs p g fine at);
+      here = first.second g at;
+      next = links.second p g at;
+    })
+
+-- the head of another wire is written
+pub wire-other : (gs : List Gate) (p : ℕ) (heads : List ℕ) (v w k m : ℕ) → w ≢ v → IsWire gs p heads w m → IsWire gs p (set heads v k) w m
+wire-other gs p heads v w k m ne h = record {
+  below = omega (arith, h.below, length-set heads v k);
+  here = get_or-set_other heads v w k 0 ne ∙ h.here;
+  next = h.next;
+}
+
+-- the next gate waits for this one
+pub wire-waits : (gs : List Gate) (p : ℕ) (heads waits ready : List ℕ) (w k : ℕ) → IsPassing gs p heads waits ready → IsWire gs p heads w k → k < length waits → 0 < slice_index waits k
+wire-waits gs p heads waits ready w k h wire lt =
+    let a = advances gs p w heads k wire in
+    let is : slice_index (set heads w k) w ≡ k = written heads w k wire.below in
+    let at : slice_get gs (slice_index (set heads w k) w) ≡ Some (get_or gs (slice_index (set heads w k) w) (H 0)) = gate-there gs (slice_index (set heads w k) w) (omega (arith, is, lt, h.long)) in
+    omega (
+      arith,
+      ap (slice_index waits) is,
+      h.counts (slice_index (set heads w k) w) (get_or gs (slice_index (set heads w k) w) (H 0)) at,
+      count-next (length heads) gs p w heads (set heads w k) (get_or gs (slice_index (set heads w k) w) (H 0)) at
+          (fine_at (length heads) gs (slice_index (set heads w k) w) (get_or gs (slice_index (set heads w k) w) (H 0)) h.fine at) a,
+    )
+
+pub passing-wire : (gs : List Gate) (p : ℕ) (heads waits waits_after ready ready_after extended extended_after : List ℕ) (w k : ℕ) → IsPassing gs p heads waits ready → IsWire gs p heads w k
+    → IsReleased k waits waits_after ready ready_after extended extended_after → IsPassing gs p (set heads w k) waits_after ready_after
+passing-wire gs p heads waits waits_after ready ready_after extended extended_after w k h wire r =
+    passing-released gs p w heads (set heads w k) waits waits_after ready ready_after extended extended_after h (advances gs p w heads k wire)
+    (subst (λ (j : ℕ). IsReleased j waits waits_after ready ready_after extended extended_after) (sym (written heads w k wire.below)) r)
+
+-- ---- the heads after it
+pub passed-single : (gs : List Gate) (p : ℕ) (d : Gate) (heads : List ℕ) (v w k : ℕ) → IsWire gs p heads v k → v ≡ first_wire (get_or gs p d) → w ≡ second_wire (get_or gs p d) → v ≡ w
+    → p < length gs → (g : Gate) → slice_get gs p ≡ Some g → HasPassed gs p g heads (set heads v k)
+passed-single gs p d heads v w k wire e f one lt g at =
+    let it : get_or gs p d ≡ g = get_or_from_slice_get gs p g d at in
+    let first : v ≡ first_wire g = e ∙ ap first_wire it in
+    let second : v ≡ second_wire g = one ∙ f ∙ ap second_wire it in
+    let a : Advances gs p v heads (set heads v k) = advances gs p v heads k wire in
+    record {
+      long = a.long;
+      on_first = subst (λ (u : ℕ). IsNext gs u (suc p) (slice_index (set heads v k) u)) first a.next;
+      on_second = subst (λ (u : ℕ). IsNext gs u (suc p) (slice_index (set heads v k) u)) second a.next;
+      others = λ u n m. a.others u (λ same. n (same ∙ first));
+    }
+
+pub passed-both : (gs : List Gate) (p : ℕ) (d : Gate) (heads : List ℕ) (v w k m : ℕ) → IsWire gs p heads v k → IsWire gs p heads w m
+    → v ≡ first_wire (get_or gs p d) → w ≡ second_wire (get_or gs p d) → (g : Gate) → slice_get gs p ≡ Some g → HasPassed gs p g heads (set (set heads v k) w m)
+passed-both gs p d heads v w k m one two e f g at =
+    let it : get_or gs p d ≡ g = get_or_from_slice_get gs p g d at in
+    let first : v ≡ first_wire g = e ∙ ap first_wire it in
+    let second : w ≡ second_wire g = f ∙ ap second_wire it in
+    subst (λ (u : ℕ). HasPassed gs p g heads (set (set heads u k) w m)) (sym first)
+    (subst (λ (u : ℕ). HasPassed gs p g heads (set (set heads (first_wire g) k) u m)) (sym second)
+    (HasPassed-set gs p g heads k m
+    (subst (λ (u : ℕ). u < length heads) first one.below) (subst (λ (u : ℕ). u < length heads) second two.below)
+    (subst (λ (i : ℕ). IsNext gs (first_wire g) i k) (sym (add-one p)) (subst (λ (u : ℕ). IsNext gs u (suc p) k) first one.next))
+    (subst (λ (i : ℕ). IsNext gs (second_wire g) i m) (sym (add-one p)) (subst (λ (u : ℕ). IsNext gs u (suc p) m) second two.next))))

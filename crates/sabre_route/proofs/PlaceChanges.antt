@@ -5,9 +5,9 @@
 --   Comes l m i j gs     the places that pass m are those that pass l, and j
 --   comes                two tests that differ at one place
 --   come, gone           a place is put in where it belongs; it is taken out
-use Rattle.std.proofs.Common.{◌≡◌, ◌≢◌, ℕ, zero, suc, ◌+◌, ◌<◌, ◌≤◌, Bool, true, false, cond, List, [], ◌∷◌, ◌++◌, Some, drop, length, slice_get, slice_index, take, refl, sym, ◌∙◌, ap, subst, arith}
+use Rattle.std.proofs.Common.{◌≡◌, ◌≢◌, ℕ, zero, suc, ◌+◌, ◌<◌, ◌≤◌, Bool, true, false, cond, List, [], ◌∷◌, ◌++◌, Some, drop, length, slice_get, slice_index, refl, sym, ◌∙◌, ap, subst, arith}
 use Rattle.std.specs.List.{insert, remove}
-use Rattle.std.proofs.lemmas.List.{drop_at, length-append, take_at}
+use Rattle.std.proofs.lemmas.List.{drop_at, take_at}
 use Rattle.std.proofs.lemmas.Option.{same_Some}
 use Rattle.circuit_list.specs.declared.Gate.{Gate}
 use Rattle.sabre_route.specs.Kept.{places_by}
