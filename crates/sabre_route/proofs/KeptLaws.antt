@@ -5,7 +5,7 @@
 --   kept-waiting         those that wait of the CNOTs that were looked at
 --   kept-passed          so the invariant is kept
 --   stuck-made, emission-made     what is said of the state: no gate can be emitted, or one is
-use Rattle.std.proofs.Common.{◌≡◌, ℕ, ◌<◌, ◌≤◌, ◌∙◌, Bool, List, All, None, Some, cond, get_or, length, slice_get, slice_index, take, refl, sym, subst, ap, arith}
+use Rattle.std.proofs.Common.{◌≡◌, ℕ, ◌<◌, ◌≤◌, ◌∙◌, Bool, List, All, None, Some, cond, get_or, length, slice_get, slice_index, take, sym, subst, ap, arith}
 use Rattle.std.specs.List.{remove, AllByRecursion}
 use Rattle.std.proofs.lemmas.List.{get_or_read}
 use Rattle.std.proofs.lemmas.List.Elements.{All-from_recursion}
@@ -18,6 +18,7 @@ use Rattle.sabre_route.specs.Front.{rest, AreHeads, HasPassed, IsFirst}
 use Rattle.sabre_route.specs.Kept.{is_at_head, places_by, waiting, IsEarliestNumber, IsKept}
 use Rattle.sabre_route.specs.Machine.{emission, IsEmission, IsEmittable, State}
 use Rattle.sabre_route.specs.Passing.{Ascends, IsNumber, IsPassing, KeepsWaiting}
+use Rattle.sabre_route.specs.Search.{most_extended}
 use Rattle.sabre_route.proofs.NextLaws.{heads-passed}
 use Rattle.sabre_route.proofs.PairLaws.{places-below}
 use Rattle.sabre_route.proofs.PassedLaws.{emission-ready, none-emittable, ready-first, IsTaken}
@@ -60,7 +61,7 @@ kept-waiting gs cnots seen waits waits_after extended extended_after all e keeps
 pub kept-passed : (size : ℕ) (gs : List Gate) (heads heads_after : List ℕ) (later : List (ℕ × ℕ)) (waits waits_after ready ready_after cnots : List ℕ) (seen seen_after : ℕ) (extended extended_after : List ℕ) (k p : ℕ)
     → IsKept size gs heads later waits ready cnots seen extended → IsNumber p ready k
     → ((g : Gate) → slice_get gs p ≡ Some g → HasPassed gs p g heads heads_after) → IsPassing gs p heads_after waits_after ready_after
-    → seen_after ≤ length cnots → extended_after ≡ waiting waits_after (take seen_after cnots) → length extended_after ≤ 20 → (length extended_after < 20 → seen_after ≡ length cnots)
+    → seen_after ≤ length cnots → extended_after ≡ waiting waits_after (take seen_after cnots) → length extended_after ≤ most_extended → (length extended_after < most_extended → seen_after ≡ length cnots)
     → IsKept size gs heads_after later waits_after ready_after cnots seen_after extended_after
 kept-passed size gs heads heads_after later waits waits_after ready ready_after cnots seen seen_after extended extended_after k p h n passed after within waiting_after short full =
     let first : IsFirst gs heads p = kept-first size gs heads later waits ready cnots seen extended k p h n in
@@ -101,8 +102,11 @@ emission-made d old q gs heads heads_after ready st st_after k p g is fine are e
     let on : HasPassed gs (slice_index ready k) g heads heads_after = subst (λ (j : ℕ). HasPassed gs j g heads heads_after) (sym n.is) passed in
     let taken : IsTaken d.edges q (rest heads gs) g (rest heads_after gs) = emission-ready d.edges q (length heads) gs heads heads_after ready k g fine are e earliest there on in
     let new : State = record { placement = q; rest = rest heads_after gs; stalled = st_after } in
-    subst (λ (s : State). (j : ℕ) × IsEmission d s j g new) is (taken.index, record {
-      can = taken.can;
-      earliest = taken.earliest;
-      after = λ z. record { placement = q; rest = taken.after z; stalled = es z };
-    })
+    subst (λ (s : State). (j : ℕ) × IsEmission d s j g new) is (
+      taken.index,
+      record {
+        can = taken.can;
+        earliest = taken.earliest;
+        after = λ z. record { placement = q; rest = taken.after z; stalled = es z };
+      },
+    )
