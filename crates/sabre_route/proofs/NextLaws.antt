@@ -1,17 +1,14 @@
 -- The heads of the wires, the gates that are left, and the next gates on their wires.
 --   slice_get-once       a list has one gate at a place
 --   heads-start          the first gates of all wires: every gate is left
---   none_from-more, IsNext-end     the next gate on a wire: not here, and nowhere
+--   NoneFrom, IsNext-end, IsNext-here, IsNext-over     the next gate on a wire: nowhere, here, further on
 --   AreLinksFrom         the heads and the next gates of the gates from a place on
---   links-none, links-more, links-all     none, one place more, all
+--   links-none, links-more, links-put     none, one place more, as it is written
 --   HasPassed-set        both heads of a gate are written
 --   IsLeast, IsLeast-fold    the least of some places and of an end
---   earliest-first       the earliest head is that of a gate which is first on its wires;  IsEarliest-least: and no earlier one is
---   first-head           it is the head of a wire
+--   earliest-first       the earliest head is that of a gate which is first on its wires
 --   earliest-none        where all heads are at the end, no gate is left
---   IsOffGate g x        gate x is on no wire of gate g
 --   left-first, left-passed, left-other     which gates are left before and after a gate is passed
---   passing              the gates that are left, before and after
 --   heads-passed         the heads after that
 use Rattle.std.proofs.Common.{◌≡◌, ◌≢◌, ℕ, suc, ◌+◌, ◌<◌, ◌≤◌, ◌⊎◌, inl, inr, true, false, not, List, [], ◌∷◌, All, Some, fold, length, min, nat_lt, slice_get, slice_index, get_or, set, slice_index_or, refl, sym, ◌∙◌, ap, subst, add-one, arith}
 use Rattle.std.proofs.lemmas.Bool.{cases_eq, cases_lt}
@@ -22,9 +19,8 @@ use Rattle.std.proofs.lemmas.List.Elements.{All-nil, All-cons}
 use Rattle.circuit_list.specs.declared.Gate.{Gate}
 use Rattle.circuit_list.specs.declared.Gate.TheVariants.{H, X, P, Cx}
 use Rattle.circuit_list.specs.Gates.{IsFine}
-use Rattle.sabre_route.specs.Front.{first_wire, second_wire, is_left, rest, IsNext, AreHeads, IsEarliest, IsFirst, HasPassed}
-use Rattle.sabre_route.specs.Kept.{AreLinks}
-use Rattle.sabre_route.proofs.RestLaws.{rest_by-all, rest_by-none, Without, without}
+use Rattle.sabre_route.specs.Front.{first_wire, second_wire, is_left, rest, IsNext, AreHeads, IsFirst, HasPassed}
+use Rattle.sabre_route.proofs.RestLaws.{rest_by-all, rest_by-none}
 
 -- ---- wires
 pub first_below : (n : ℕ) (g : Gate) → IsFine n g → first_wire g < n
@@ -50,9 +46,6 @@ left-true j h le = grind (arith, nat_tests)
 
 left-false : (j h : ℕ) → j < h → not (nat_lt j h) ≡ false
 left-false j h lt = grind (arith, nat_tests)
-
-true-left : (j h : ℕ) → not (nat_lt j h) ≡ true → h ≤ j
-true-left j h e = grind (arith, nat_tests)
 
 left-same : (j h k : ℕ) → (j < h → j < k) → (j < k → j < h) → not (nat_lt j h) ≡ not (nat_lt j k)
 left-same j h k f g = grind (arith, nat_tests)
@@ -90,17 +83,6 @@ heads-start n gs heads fine len next = (
 -- ---- the next gate on a wire
 abbrev pub NoneFrom : List Gate → ℕ → ℕ → ℕ → Type 0
 NoneFrom gs w i k = (j : ℕ) (g : Gate) → i ≤ j → j < k → slice_get gs j ≡ Some g → (first_wire g ≢ w) × (second_wire g ≢ w)
-
--- one place more
-pub none_from-more : (gs : List Gate) (w i k : ℕ) (x : Gate) → NoneFrom gs w i k → slice_get gs k ≡ Some x → first_wire x ≢ w → second_wire x ≢ w
-    → (j : ℕ) (g : Gate) → i ≤ j → j < k + 1 → slice_get gs j ≡ Some g → (first_wire g ≢ w) × (second_wire g ≢ w)
-none_from-more gs w i k x h e f s j g le lt d = go (cases_eq j k)
-  where
-    go : (j ≡ k) ⊎ (j ≡ k → ⊥) → (first_wire g ≢ w) × (second_wire g ≢ w)
-    go (inl here) =
-        let same : x ≡ g = slice_get-once gs k x g e (ap (slice_get gs) (sym here) ∙ d) in
-        (subst (λ y. first_wire y ≢ w) same f, subst (λ y. second_wire y ≢ w) same s)
-    go (inr before) = h j g le (omega (arith, lt, before)) d
 
 -- no gate more
 pub IsNext-end : (gs : List Gate) (w i k : ℕ) → NoneFrom gs w i k → i ≤ length gs → length gs ≤ k → IsNext gs w i (length gs)
@@ -229,13 +211,6 @@ links-put n gs heads later p m g v w a b more lt at fine ev ew ea eb h =
     subst (λ (r : ℕ × ℕ). AreLinksFrom n gs (set (set heads r.0 m) r.1 m) (set later m (a, b)) m) (sym (λ z. (ev z, ew z)))
     (subst (λ (r : ℕ × ℕ). AreLinksFrom n gs (set (set heads (first_wire g) m) (second_wire g) m) (set later m r) m) (sym (λ z. (first z, second z))) done)
 
-pub links-all : (n : ℕ) (gs : List Gate) (heads : List ℕ) (later : List (ℕ × ℕ)) → AreLinksFrom n gs heads later 0 → AreLinks gs later
-links-all n gs heads later h = record {
-  long = h.long;
-  first = λ j g e. h.first j g (omega arith) e;
-  second = λ j g e. h.second j g (omega arith) e;
-}
-
 -- both heads are written
 pub HasPassed-set : (gs : List Gate) (j : ℕ) (g : Gate) (old : List ℕ) (a b : ℕ) → first_wire g < length old → second_wire g < length old
     → IsNext gs (first_wire g) (j + 1) a → IsNext gs (second_wire g) (j + 1) b → HasPassed gs j g old (set (set old (first_wire g) a) (second_wire g) b)
@@ -318,23 +293,6 @@ earliest-first n gs heads j fine are l lt = record {
             let up = (are.agree j g e).0 in
             (equal j (slice_index heads (second_wire g)) (slice_index heads (first_wire g)) one other up, one)
 
--- the head of the first wire of a gate that is first on its wires
-pub first-head : (n : ℕ) (gs : List Gate) (heads : List ℕ) (j : ℕ) → All (IsFine n) gs → length heads ≡ n → IsFirst gs heads j
-    → (k : ℕ) × (k < length heads) × (slice_index heads k ≡ j)
-first-head n gs heads j fine len at =
-    let g = get_or gs j (H 0) in
-    let e : slice_get gs j ≡ Some g = slice_get-get_or gs j (H 0) at.within in
-    (first_wire g, omega (arith, len, first_below n g (fine_at n gs j g fine e)), at.first g e)
-
-pub IsEarliest-least : (n : ℕ) (gs : List Gate) (heads : List ℕ) (j : ℕ) → All (IsFine n) gs → AreHeads n gs heads
-    → IsLeast heads (length gs) j → j < length gs → IsEarliest gs heads j
-IsEarliest-least n gs heads j fine are l lt = record {
-  is_first = earliest-first n gs heads j fine are l lt;
-  earliest = λ i before at.
-      let h = first-head n gs heads i fine are.long at in
-      absurd (omega (arith, l.at_most h.0 0 h.1, h.2, before));
-}
-
 pub earliest-none : (n : ℕ) (gs : List Gate) (heads : List ℕ) → All (IsFine n) gs → AreHeads n gs heads
     → (j : ℕ) → IsLeast heads (length gs) j → length gs ≤ j → rest heads gs ≡ []
 unfolding rest
@@ -344,13 +302,6 @@ earliest-none n gs heads fine are least l le = rest_by-none (is_left heads) 0 gs
     left-false j (slice_index heads (first_wire g)) (omega (arith, h, slice_get_within gs k g e)))
 
 -- ---- a gate is passed
--- gate x is on no wire of gate g
-pub record IsOffGate (g x : Gate) : Type 0 where
-  pub first_first : first_wire x ≢ first_wire g
-  pub first_second : first_wire x ≢ second_wire g
-  pub second_first : second_wire x ≢ first_wire g
-  pub second_second : second_wire x ≢ second_wire g
-
 -- a head stays, or goes on from the gate
 WireMoves : List Gate → ℕ → List ℕ → List ℕ → ℕ → Type 0
 WireMoves gs j old new w = ((slice_index old w ≡ j) × IsNext gs w (suc j) (slice_index new w)) ⊎ (slice_index new w ≡ slice_index old w)
@@ -424,30 +375,3 @@ left-other gs j g n old new e are at p k x f ne =
 
     m : WireMoves gs j old new w
     m = moves gs j g old new e at p w
-
-pub passing : (gs : List Gate) (j : ℕ) (g : Gate) (n : ℕ) (old new : List ℕ) → slice_get gs j ≡ Some g → AreHeads n gs old → IsFirst gs old j → HasPassed gs j g old new
-    → Without (is_left old) (is_left new) 0 g gs (IsOffGate g)
-passing gs j g n old new e are at p =
-    without (is_left old) (is_left new) (IsOffGate g) 0 gs j j g e (omega arith)
-    (left-first gs j g old e at) (left-passed gs j g old new p)
-    (λ i k x d ne f. subst (λ v. is_left old v x ≡ is_left new v x) (omega arith) (left-other gs j g n old new e are at p k x f ne))
-    (λ i k x d lt f l.
-    let h : k ≡ i = omega arith in
-    let first : slice_index old (first_wire x) ≤ k = omega (arith, h, true-left i (slice_index old (first_wire x)) l) in
-    let second : slice_index old (second_wire x) ≤ k = low k (slice_index old (second_wire x)) (slice_index old (first_wire x)) first (are.agree k x f).1 in
-    record {
-      first_first = λ s. clash (first_wire x) (first_wire g) k first lt s (at.first g e);
-      first_second = λ s. clash (first_wire x) (second_wire g) k first lt s (at.second g e);
-      second_first = λ s. clash (second_wire x) (first_wire g) k second lt s (at.first g e);
-      second_second = λ s. clash (second_wire x) (second_wire g) k second lt s (at.second g e);
-    })
-  where
-    low : (k a b : ℕ) → b ≤ k → (k < a → k < b) → a ≤ k
-    low k a b le f = go (cases_lt k a)
-      where
-        go : (k < a) ⊎ (a ≤ k) → a ≤ k
-        go (inl lt) = absurd (omega (arith, f lt))
-        go (inr le') = le'
-
-    clash : (v w k : ℕ) → slice_index old v ≤ k → k < j → v ≡ w → slice_index old w ≡ j → ⊥
-    clash v w k le lt s h = omega (arith, ap (slice_index old) s)

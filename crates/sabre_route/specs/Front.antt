@@ -6,8 +6,7 @@
 --   IsNext gs w i k        k is the place of the first gate on wire w from place i on, or the end
 --   AreHeads n gs heads    for each wire the place of the first gate that is left on it, or the end
 --   IsFirst gs heads j     a gate at place j, first on its wires
---   IsEarliest gs heads j  it is the earliest of these
---   HasPassed gs j old new     the heads of the wires of the gate at place j went on to the next gates
+--   HasPassed gs j g old new   the heads of the wires of the gate at place j went on to the next gates
 use Rattle.std.specs.Prelude.{◌≡◌, ◌≢◌, ℕ, suc, ◌<◌, ◌≤◌, ◌⊎◌, ◌↔◌, Bool, not, List, [], ◌∷◌, Some, length, nat_lt, slice_get, slice_index, if◌then◌else◌}
 use Rattle.circuit_list.specs.declared.Gate.{Gate}
 use Rattle.circuit_list.specs.declared.Gate.TheVariants.{H, X, P, Cx}
@@ -50,10 +49,6 @@ pub record IsFirst (gs : List Gate) (heads : List ℕ) (j : ℕ) : Type 0 where
   pub within : j < length gs
   pub first : (g : Gate) → slice_get gs j ≡ Some g → slice_index heads (first_wire g) ≡ j
   pub second : (g : Gate) → slice_get gs j ≡ Some g → slice_index heads (second_wire g) ≡ j
-
-pub record IsEarliest (gs : List Gate) (heads : List ℕ) (j : ℕ) : Type 0 where
-  pub is_first : IsFirst gs heads j
-  pub earliest : (i : ℕ) → i < j → IsFirst gs heads i → ⊥
 
 pub record HasPassed (gs : List Gate) (j : ℕ) (g : Gate) (old new : List ℕ) : Type 0 where
   pub long : length new ≡ length old

@@ -55,6 +55,7 @@ pub fn fill(cnots: &[usize], waits: &[u8], seen: usize, extended: &mut Vec<usize
         let place = cnots[seen];
         seen += 1;
         if waits[place] > 0 {
+            // There is room.
             let _pushed = extended.push(place);
         }
     }
@@ -79,6 +80,7 @@ fn release(place: usize, waits: &mut Vec<u8>, ready: &mut Vec<usize>, extended: 
         return;
     }
     let number = above(ready.as_slice(), place);
+    // There is room.
     let _inserted = ready.insert(number, place);
     if let Some(number) = number_of(extended.as_slice(), place) {
         let _place = extended.remove(number);

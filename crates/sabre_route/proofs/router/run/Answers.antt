@@ -1,4 +1,4 @@
-use Rattle.std.proofs.Common.{◌≡◌, ℕ, length, subst}
+use Rattle.std.proofs.Common.{◌≡◌, ℕ, length, refl, subst}
 use Rattle.std.proofs.lemmas.List.Elements.{All-from_recursion}
 use Rattle.circuit_list.specs.Gates.{IsFine}
 use Rattle.unitary_model.specs.Placement.{IsPlacement}
@@ -43,4 +43,4 @@ returns-clause-realises c =
     let law = c.distances_on_device.ensures in
     let m = metric law.exact law.short law.symmetric law.zero law.one law.near d c.size-size.ensures.coupling in
     routed-realising d c.args.wires c.args.gates.items c.args.given _ m c.requires.fits c.requires.fine (subst (λ (n : ℕ). IsPlacement n c.args.given) c.requires.placed c.size-qubits.ensures.placement)
-    (routed-end d c.args.gates.items c.args.given c.steps.state c.steps.written c.into_placement.result c.steps.invariant c.steps-test.ensures c.into_placement.ensures)
+    (routed-end d c.args.gates.items c.args.given c.steps.state c.steps.written c.into_placement.result c.steps.invariant (c.steps-test.ensures.0 refl) c.into_placement.ensures)

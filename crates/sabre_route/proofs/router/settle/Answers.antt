@@ -28,5 +28,5 @@ returns-clause-placement c =
     let law = c.distances_on_device.ensures in
     let m = metric law.exact law.short law.symmetric law.zero law.one law.near c.args.device.now c.size-size.ensures.coupling in
     let long : length c.into_placement-placement.result ≡ c.args.device.now.size = ap length c.into_placement-placement.ensures
-        ∙ (started-sound c.args.device.now c.args.wires c.args.gates.items c.args.given c.steps.state c.steps.invariant.events m c.requires.fits c.requires.fine c.requires.placed c.size-qubits.ensures.placement c.steps.invariant.run).spread.long in
+    ∙ (started-sound c.args.device.now c.args.wires c.args.gates.items c.args.given c.steps.state c.steps.invariant.events m c.requires.fits c.requires.fine c.requires.placed c.size-qubits.ensures.placement c.steps.invariant.run).spread.long in
     subst (λ (n : ℕ). IsPlacement n c.into_placement-placement.result) long c.size-wires.ensures.placement

@@ -8,7 +8,7 @@ use Rattle.sabre_route.specs.Front.{HasPassed, IsFirst}
 use Rattle.sabre_route.specs.Kept.{is_at_head, waiting}
 use Rattle.sabre_route.specs.Passing.{IsPassing}
 use Rattle.sabre_route.specs.Search.{most_extended}
-use Rattle.sabre_route.proofs.KeptLaws.{earliest-read, emission-made, kept-begun, kept-first, kept-passed, kept-waiting, number-read, places-within, stuck-made}
+use Rattle.sabre_route.proofs.KeptLaws.{earliest-read, emission-made, kept-begun, kept-first, kept-passed, kept-waiting, number-taken, places-within, stuck-made}
 use Rattle.sabre_route.proofs.state.RouteState.emit_earliest.Goals as goal
 
 pub earliest_emittable-requires-clause-places : goal.earliest_emittable-requires-clause-places
@@ -29,24 +29,21 @@ returns-in_default c =
 pub index-gate-requires : goal.index-gate-requires
 index-gate-requires c =
     let s = c.self.inside in
-    let earliest = earliest-read c.args.device.now.edges s.placement s.gates.items _ s.ready.items _ c.in-Some.number c.as_slice.ensures.value c.as_slice-2.ensures.value c.in-Some.ensures in
-    let n = number-read s.ready.items c.reserve.new.self.items c.in-Some.number c.remove-place.result c.reserve.ensures.items earliest.within c.remove-place.ensures.value in
+    let n = number-taken c.args.device.now.edges s.placement s.gates.items _ s.ready.items _ _ c.in-Some.number _ c.as_slice.ensures.value c.as_slice-2.ensures.value c.in-Some.ensures c.reserve.ensures.items c.remove-place.ensures.value in
     let first : IsFirst s.gates.items s.heads.items c.remove-place.result = kept-first _ s.gates.items s.heads.items _ _ s.ready.items _ _ _ _ _ c.self.invariant n in
     omega (arith, first.within, s.gates.ok)
 
 pub pass-requires-clause-first : goal.pass-requires-clause-first
 pass-requires-clause-first c =
     let s = c.self.inside in
-    let earliest = earliest-read c.args.device.now.edges s.placement s.gates.items _ s.ready.items _ c.in-Some.number c.as_slice.ensures.value c.as_slice-2.ensures.value c.in-Some.ensures in
-    let n = number-read s.ready.items c.reserve.new.self.items c.in-Some.number c.remove-place.result c.reserve.ensures.items earliest.within c.remove-place.ensures.value in
+    let n = number-taken c.args.device.now.edges s.placement s.gates.items _ s.ready.items _ _ c.in-Some.number _ c.as_slice.ensures.value c.as_slice-2.ensures.value c.in-Some.ensures c.reserve.ensures.items c.remove-place.ensures.value in
     subst (λ (gs : List Gate). IsFirst gs s.heads.items c.remove-place.result) (sym c.as_slice-3.ensures.value)
     (kept-first _ s.gates.items s.heads.items _ _ s.ready.items _ _ _ _ _ c.self.invariant n)
 
 pub pass-requires-clause-passing : goal.pass-requires-clause-passing
 pass-requires-clause-passing c =
     let s = c.self.inside in
-    let earliest = earliest-read c.args.device.now.edges s.placement s.gates.items _ s.ready.items _ c.in-Some.number c.as_slice.ensures.value c.as_slice-2.ensures.value c.in-Some.ensures in
-    let n = number-read s.ready.items c.reserve.new.self.items c.in-Some.number c.remove-place.result c.reserve.ensures.items earliest.within c.remove-place.ensures.value in
+    let n = number-taken c.args.device.now.edges s.placement s.gates.items _ s.ready.items _ _ c.in-Some.number _ c.as_slice.ensures.value c.as_slice-2.ensures.value c.in-Some.ensures c.reserve.ensures.items c.remove-place.ensures.value in
     subst (λ (gs : List Gate). IsPassing gs c.remove-place.result s.heads.items s.waits.items c.remove-place.new.self.items) (sym c.as_slice-3.ensures.value)
     (subst (λ (js : List ℕ). IsPassing s.gates.items c.remove-place.result s.heads.items s.waits.items js)
     (sym (c.remove-place.ensures.items ∙ ap (λ js. remove js c.in-Some.number) c.reserve.ensures.items))
@@ -71,8 +68,7 @@ pub invariant_of-self-2 : goal.invariant_of-self-2
 invariant_of-self-2 c =
     let s = c.self.inside in
     let place = c.remove-place.result in
-    let earliest = earliest-read c.args.device.now.edges s.placement s.gates.items _ s.ready.items _ c.in-Some.number c.as_slice.ensures.value c.as_slice-2.ensures.value c.in-Some.ensures in
-    let n = number-read s.ready.items c.reserve.new.self.items c.in-Some.number place c.reserve.ensures.items earliest.within c.remove-place.ensures.value in
+    let n = number-taken c.args.device.now.edges s.placement s.gates.items _ s.ready.items _ _ c.in-Some.number _ c.as_slice.ensures.value c.as_slice-2.ensures.value c.in-Some.ensures c.reserve.ensures.items c.remove-place.ensures.value in
     let new = c.pass.new in
     let filled = c.fill-self-inside in
     kept-passed _ s.gates.items s.heads.items new.heads.items s.later.items s.waits.items new.waits.items s.ready.items new.ready.items s.cnots.items s.seen filled.result s.extended.items filled.new.extended.items
@@ -89,8 +85,8 @@ returns c =
     let s = c.self.inside in
     let h = c.self.invariant in
     let place = c.remove-place.result in
+    let n = number-taken c.args.device.now.edges s.placement s.gates.items _ s.ready.items _ _ c.in-Some.number _ c.as_slice.ensures.value c.as_slice-2.ensures.value c.in-Some.ensures c.reserve.ensures.items c.remove-place.ensures.value in
     let earliest = earliest-read c.args.device.now.edges s.placement s.gates.items _ s.ready.items _ c.in-Some.number c.as_slice.ensures.value c.as_slice-2.ensures.value c.in-Some.ensures in
-    let n = number-read s.ready.items c.reserve.new.self.items c.in-Some.number place c.reserve.ensures.items earliest.within c.remove-place.ensures.value in
     let first : IsFirst s.gates.items s.heads.items place = kept-first _ s.gates.items s.heads.items _ _ s.ready.items _ _ _ _ _ h n in
     let gate = c.index-gate.result.now in
     let at : slice_get s.gates.items place ≡ Some gate = slice_get-get_or s.gates.items place gate first.within ∙ ap Some (sym c.index-gate.ensures) in

@@ -1,1 +1,0 @@
-use Rattle.sabre_route.proofs.RealisedLaws.{routed-done}
