@@ -14,6 +14,7 @@
 #![tactic(auto)]
 
 pub mod laws;
+mod marks;
 mod nodes;
 mod slot;
 mod tree;

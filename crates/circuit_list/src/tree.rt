@@ -7,6 +7,7 @@ ghost use Rattle.circuit_list.specs.Entries.{entry, gates_of, is_live, rank};
 ghost use Rattle.circuit_list.specs.Tree.{IsFirstOn, IsLastOn, IsTree, NoneOn, any_wire, wire_bit};
 
 use crate::Gate;
+use crate::marks::{make_marks, mark, near_before, near_behind, unmark};
 use crate::nodes::{Node, add, entry, node_at, refresh, tell, wire_bit};
 use crate::walks::{first_behind, last_before, rank_of, slot_at};
 use std::alloc::{AllocError, Global};
@@ -20,6 +21,7 @@ const ANY_WIRE: u64 = u64::MAX;
 pub(crate) struct Tree {
     gates: Vec<Option<Gate>>,
     nodes: Vec<Node>,
+    marks: Vec<u64>,
     height: u32,
 }
 
@@ -45,6 +47,7 @@ impl Tree {
         Ok(Tree {
             gates: Vec::new(alloc),
             nodes,
+            marks: Vec::new(alloc),
             height: 0,
         })
     }
@@ -83,7 +86,9 @@ impl Tree {
         self.gates.reserve(1)?;
         make_room(&self.gates, &mut self.nodes, &mut self.height)?;
         let slot = self.gates.len();
+        make_marks(&mut self.marks, slot)?;
         self.gates.push(Some(gate))?;
+        mark(&mut self.marks, slot, gate);
         add(&self.gates, &mut self.nodes, slot, gate);
         Ok(())
     }
@@ -93,6 +98,12 @@ impl Tree {
         requires { slot < length self.old }
         ensures { self.new ≡ slice_set self.old slot entry }
     {
+        if let Some(gate) = self.gates[slot] {
+            unmark(&mut self.marks, slot, gate);
+        }
+        if let Some(gate) = entry {
+            mark(&mut self.marks, slot, gate);
+        }
         self.gates[slot] = entry;
         refresh(&self.gates, &mut self.nodes, slot);
     }
@@ -158,6 +169,10 @@ impl Tree {
         requires { slot < length self.now }
         ensures { MatchOption result (NoneOn (wire_bit wire) self.now (slot + 1) (length self.now)) (IsFirstOn (wire_bit wire) self.now (slot + 1)) }
     {
+        let near = near_behind(&self.marks, slot, wire);
+        if near.is_some() {
+            return near;
+        }
         first_behind(&self.gates, &self.nodes, slot, wire_bit(wire))
     }
 
@@ -166,6 +181,10 @@ impl Tree {
         requires { slot < length self.now }
         ensures { MatchOption result (NoneOn (wire_bit wire) self.now 0 slot) (IsLastOn (wire_bit wire) self.now slot) }
     {
+        let near = near_before(&self.marks, slot, wire);
+        if near.is_some() {
+            return near;
+        }
         last_before(&self.gates, &self.nodes, slot, wire_bit(wire))
     }
 
@@ -188,9 +207,11 @@ impl Tree {
     {
         let gates = self.gates.clone()?;
         let nodes = self.nodes.clone()?;
+        let marks = self.marks.clone()?;
         Ok(Tree {
             gates,
             nodes,
+            marks,
             height: self.height,
         })
     }
@@ -221,9 +242,11 @@ fn planted(gates: Vec<Option<Gate>>) -> Result<Tree, AllocError>
         height += 1;
     }
     tell(&gates, &mut nodes);
+    let marks = marked(&gates)?;
     Ok(Tree {
         gates,
         nodes,
+        marks,
         height,
     })
 }
@@ -257,4 +280,16 @@ fn make_room(
     tell(gates, nodes);
     *height += 1;
     Ok(())
+}
+
+/// The marks of some slots.
+fn marked(gates: &Vec<Option<Gate>>) -> Result<Vec<u64>, AllocError> {
+    let mut marks = Vec::new(*gates.allocator());
+    'slots: for slot in 0..gates.len() {
+        make_marks(&mut marks, slot)?;
+        if let Some(gate) = gates[slot] {
+            mark(&mut marks, slot, gate);
+        }
+    }
+    Ok(marks)
 }
