@@ -4,10 +4,11 @@
 
 ghost use Rattle.std.specs.Prelude.{◌≡◌, ◌+◌, ◌*◌, ◌^◌, ◌<◌, ◌++◌, ◌∷◌, [], length, IfOk, OnOk, OnErr, MatchOption, slice_set, Some, true};
 ghost use Rattle.circuit_list.specs.Entries.{entry, gates_of, is_live, rank};
+ghost use Rattle.circuit_list.specs.Marks.{IsMarked};
 ghost use Rattle.circuit_list.specs.Tree.{IsFirstOn, IsLastOn, IsTree, NoneOn, any_wire, wire_bit};
 
 use crate::Gate;
-use crate::marks::{make_marks, mark, near_before, near_behind, unmark};
+use crate::marks::{make_marks, near_before, near_behind, put_marks};
 use crate::nodes::{Node, add, entry, node_at, refresh, tell, wire_bit};
 use crate::walks::{first_behind, last_before, rank_of, slot_at};
 use std::alloc::{AllocError, Global};
@@ -28,13 +29,14 @@ pub(crate) struct Tree {
 impl Model for Tree {
     ghost use Rattle.std.specs.Prelude.{List, Option};
     ghost use Rattle.circuit_list.specs.declared.Gate.{Gate};
+    ghost use Rattle.circuit_list.specs.Marks.{IsMarked};
     ghost use Rattle.circuit_list.specs.Tree.{IsTree};
 
     ghost Value = { List (Option Gate) };
 
     ghost view = { λ a. a.gates.items };
 
-    ghost invariant = { λ a. IsTree a.height a.gates.items a.nodes.items };
+    ghost invariant = { λ a. IsTree a.height a.gates.items a.nodes.items × IsMarked a.gates.items a.marks.items };
 }
 
 impl Tree {
@@ -88,7 +90,7 @@ impl Tree {
         let slot = self.gates.len();
         make_marks(&mut self.marks, slot)?;
         self.gates.push(Some(gate))?;
-        mark(&mut self.marks, slot, gate);
+        put_marks(&mut self.marks, slot, Some(gate), true);
         add(&self.gates, &mut self.nodes, slot, gate);
         Ok(())
     }
@@ -98,12 +100,8 @@ impl Tree {
         requires { slot < length self.old }
         ensures { self.new ≡ slice_set self.old slot entry }
     {
-        if let Some(gate) = self.gates[slot] {
-            unmark(&mut self.marks, slot, gate);
-        }
-        if let Some(gate) = entry {
-            mark(&mut self.marks, slot, gate);
-        }
+        put_marks(&mut self.marks, slot, self.gates[slot], false);
+        put_marks(&mut self.marks, slot, entry, true);
         self.gates[slot] = entry;
         refresh(&self.gates, &mut self.nodes, slot);
     }
@@ -283,13 +281,13 @@ fn make_room(
 }
 
 /// The marks of some slots.
-fn marked(gates: &Vec<Option<Gate>>) -> Result<Vec<u64>, AllocError> {
+fn marked(gates: &Vec<Option<Gate>>) -> Result<Vec<u64>, AllocError>
+    ensures { IfOk result (λ m. IsMarked gates.now.items m.items) }
+{
     let mut marks = Vec::new(*gates.allocator());
     'slots: for slot in 0..gates.len() {
         make_marks(&mut marks, slot)?;
-        if let Some(gate) = gates[slot] {
-            mark(&mut marks, slot, gate);
-        }
+        put_marks(&mut marks, slot, gates[slot], true);
     }
     Ok(marks)
 }
