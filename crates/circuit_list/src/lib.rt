@@ -103,6 +103,17 @@ impl Circuit {
         Ok(Circuit { wires, tree })
     }
 
+    /// A circuit without gates, with room for so many: until then a push takes no more memory than now and then for its marks.
+    pub fn with_room(alloc: Global, wires: u32, gates: usize) -> Result<Circuit, AllocError>
+        requires { wires ≤ most_wires }
+        ensures wires { IfOk result (λ c. c.wires ≡ wires) }
+        ensures gates { IfOk result (λ c. c.gates ≡ []) }
+        ensures slots { IfOk result (λ c. c.slots ≡ []) }
+    {
+        let tree = Tree::with_room(alloc, gates)?;
+        Ok(Circuit { wires, tree })
+    }
+
     /// Puts a gate behind the others, in a new slot. After want of memory the circuit is as it was.
     pub fn push(&mut self, g: Gate) -> Result<(), AllocError>
         requires { IsFine self.old.wires g }

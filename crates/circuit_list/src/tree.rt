@@ -54,6 +54,14 @@ impl Tree {
         })
     }
 
+    /// No slots, and room for so many.
+    pub(crate) fn with_room(alloc: Global, slots: usize) -> Result<Tree, AllocError>
+        ensures { IfOk result (λ t. t ≡ []) }
+    {
+        let gates = Vec::with_capacity(alloc, slots)?;
+        planted(gates, slots)
+    }
+
     /// The slots in order.
     pub(crate) fn entries(&self) -> &[Option<Gate>]
         ensures { result.now ≡ self.now }
@@ -195,7 +203,7 @@ impl Tree {
             return Ok(());
         }
         let gates = live(*self.gates.allocator(), &self.gates)?;
-        *self = planted(gates)?;
+        *self = planted(gates, 0)?;
         Ok(())
     }
 
@@ -228,14 +236,15 @@ fn live(alloc: Global, entries: &[Option<Gate>]) -> Result<Vec<Option<Gate>>, Al
     Ok(kept)
 }
 
-/// A tree over some slots, with no more nodes than it needs.
-fn planted(gates: Vec<Option<Gate>>) -> Result<Tree, AllocError>
+/// A tree over some slots, with no more nodes than it needs for them, or for so many.
+fn planted(gates: Vec<Option<Gate>>, slots: usize) -> Result<Tree, AllocError>
     ensures { IfOk result (λ t. t ≡ gates.items) }
 {
+    let many = slots.max(gates.len());
     let mut nodes = Vec::new(*gates.allocator());
     nodes.push(Node { count: 0, wires: 0 })?;
     let mut height = 0;
-    'higher: while nodes.len() < gates.len() {
+    'higher: while nodes.len() < many {
         double(&mut nodes)?;
         height += 1;
     }
