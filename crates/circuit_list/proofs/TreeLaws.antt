@@ -284,7 +284,7 @@ IsJoined-kept es ns m j v a b c e =
     node_at-set_other es ns m j v a ∙ e
     ∙ (λ i. join (sym (node_at-set_other es ns m (2 * j) v b) i) (sym (node_at-set_other es ns m (2 * j + 1) v c) i))
 
-same_or_not : (a b : ℕ) → (a ≡ b) ⊎ (a ≢ b)
+pub same_or_not : (a b : ℕ) → (a ≡ b) ⊎ (a ≢ b)
 same_or_not a b = at (a == b) refl
   where
     at : (t : Bool) → (a == b) ≡ t → (a ≡ b) ⊎ (a ≢ b)
@@ -448,3 +448,10 @@ pub written-back : (n : ℕ) (xs ys : List Node) → length xs ≡ length ys →
 written-back n xs ys same all =
     ap (λ zs. take n (xs ++ zs)) (drop_of_length-le ys (let le : length ys ≤ length xs = omega arith in le))
     ∙ ap (take n) (append-nil xs) ∙ take_all n xs (omega arith)
+
+-- the nodes told anew in a slice of their vector
+pub IsTree-written : (h n : ℕ) (es fs : List (Option Gate)) (ns xs : List Node) → IsTree h es ns → length xs ≡ length ns → n ≡ length ns → length fs ≤ length ns
+    → ((j : ℕ) → 0 < j → j < length xs → IsJoined fs xs j) → IsTree h fs (take n (xs ++ drop (length xs) ns))
+IsTree-written h n es fs ns xs t same all few joined =
+    subst (λ (ys : List Node). IsTree h fs ys) (sym (written-back n xs ns same all))
+    (record { low = t.low; size = same ∙ t.size; room = omega arith; joined = joined })

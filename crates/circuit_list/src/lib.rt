@@ -14,6 +14,7 @@
 #![tactic(auto)]
 
 pub mod laws;
+mod marks;
 mod nodes;
 mod slot;
 mod tree;
@@ -99,6 +100,17 @@ impl Circuit {
         ensures slots { IfOk result (λ c. c.slots ≡ []) }
     {
         let tree = Tree::new(alloc)?;
+        Ok(Circuit { wires, tree })
+    }
+
+    /// A circuit without gates, with room for so many: until then a push takes no more memory than now and then for its marks.
+    pub fn with_room(alloc: Global, wires: u32, gates: usize) -> Result<Circuit, AllocError>
+        requires { wires ≤ most_wires }
+        ensures wires { IfOk result (λ c. c.wires ≡ wires) }
+        ensures gates { IfOk result (λ c. c.gates ≡ []) }
+        ensures slots { IfOk result (λ c. c.slots ≡ []) }
+    {
+        let tree = Tree::with_room(alloc, gates)?;
         Ok(Circuit { wires, tree })
     }
 

@@ -4,9 +4,11 @@
 
 ghost use Rattle.std.specs.Prelude.{◌≡◌, ◌+◌, ◌*◌, ◌^◌, ◌<◌, ◌++◌, ◌∷◌, [], length, IfOk, OnOk, OnErr, MatchOption, slice_set, Some, true};
 ghost use Rattle.circuit_list.specs.Entries.{entry, gates_of, is_live, rank};
+ghost use Rattle.circuit_list.specs.Marks.{IsMarked};
 ghost use Rattle.circuit_list.specs.Tree.{IsFirstOn, IsLastOn, IsTree, NoneOn, any_wire, wire_bit};
 
 use crate::Gate;
+use crate::marks::{make_marks, near_before, near_behind, put_marks};
 use crate::nodes::{Node, add, entry, node_at, refresh, tell, wire_bit};
 use crate::walks::{first_behind, last_before, rank_of, slot_at};
 use std::alloc::{AllocError, Global};
@@ -20,19 +22,21 @@ const ANY_WIRE: u64 = u64::MAX;
 pub(crate) struct Tree {
     gates: Vec<Option<Gate>>,
     nodes: Vec<Node>,
+    marks: Vec<u64>,
     height: u32,
 }
 
 impl Model for Tree {
     ghost use Rattle.std.specs.Prelude.{List, Option};
     ghost use Rattle.circuit_list.specs.declared.Gate.{Gate};
+    ghost use Rattle.circuit_list.specs.Marks.{IsMarked};
     ghost use Rattle.circuit_list.specs.Tree.{IsTree};
 
     ghost Value = { List (Option Gate) };
 
     ghost view = { λ a. a.gates.items };
 
-    ghost invariant = { λ a. IsTree a.height a.gates.items a.nodes.items };
+    ghost invariant = { λ a. IsTree a.height a.gates.items a.nodes.items × IsMarked a.gates.items a.marks.items };
 }
 
 impl Tree {
@@ -45,8 +49,17 @@ impl Tree {
         Ok(Tree {
             gates: Vec::new(alloc),
             nodes,
+            marks: Vec::new(alloc),
             height: 0,
         })
+    }
+
+    /// No slots, and room for so many.
+    pub(crate) fn with_room(alloc: Global, slots: usize) -> Result<Tree, AllocError>
+        ensures { IfOk result (λ t. t ≡ []) }
+    {
+        let gates = Vec::with_capacity(alloc, slots)?;
+        planted(gates, slots)
     }
 
     /// The slots in order.
@@ -83,7 +96,9 @@ impl Tree {
         self.gates.reserve(1)?;
         make_room(&self.gates, &mut self.nodes, &mut self.height)?;
         let slot = self.gates.len();
+        make_marks(&mut self.marks, slot)?;
         self.gates.push(Some(gate))?;
+        put_marks(&mut self.marks, slot, Some(gate), true);
         add(&self.gates, &mut self.nodes, slot, gate);
         Ok(())
     }
@@ -93,6 +108,8 @@ impl Tree {
         requires { slot < length self.old }
         ensures { self.new ≡ slice_set self.old slot entry }
     {
+        put_marks(&mut self.marks, slot, self.gates[slot], false);
+        put_marks(&mut self.marks, slot, entry, true);
         self.gates[slot] = entry;
         refresh(&self.gates, &mut self.nodes, slot);
     }
@@ -158,6 +175,10 @@ impl Tree {
         requires { slot < length self.now }
         ensures { MatchOption result (NoneOn (wire_bit wire) self.now (slot + 1) (length self.now)) (IsFirstOn (wire_bit wire) self.now (slot + 1)) }
     {
+        let near = near_behind(&self.marks, slot, wire);
+        if near.is_some() {
+            return near;
+        }
         first_behind(&self.gates, &self.nodes, slot, wire_bit(wire))
     }
 
@@ -166,6 +187,10 @@ impl Tree {
         requires { slot < length self.now }
         ensures { MatchOption result (NoneOn (wire_bit wire) self.now 0 slot) (IsLastOn (wire_bit wire) self.now slot) }
     {
+        let near = near_before(&self.marks, slot, wire);
+        if near.is_some() {
+            return near;
+        }
         last_before(&self.gates, &self.nodes, slot, wire_bit(wire))
     }
 
@@ -178,7 +203,7 @@ impl Tree {
             return Ok(());
         }
         let gates = live(*self.gates.allocator(), &self.gates)?;
-        *self = planted(gates)?;
+        *self = planted(gates, 0)?;
         Ok(())
     }
 
@@ -188,9 +213,11 @@ impl Tree {
     {
         let gates = self.gates.clone()?;
         let nodes = self.nodes.clone()?;
+        let marks = self.marks.clone()?;
         Ok(Tree {
             gates,
             nodes,
+            marks,
             height: self.height,
         })
     }
@@ -209,21 +236,24 @@ fn live(alloc: Global, entries: &[Option<Gate>]) -> Result<Vec<Option<Gate>>, Al
     Ok(kept)
 }
 
-/// A tree over some slots, with no more nodes than it needs.
-fn planted(gates: Vec<Option<Gate>>) -> Result<Tree, AllocError>
+/// A tree over some slots, with no more nodes than it needs for them, or for so many.
+fn planted(gates: Vec<Option<Gate>>, slots: usize) -> Result<Tree, AllocError>
     ensures { IfOk result (λ t. t ≡ gates.items) }
 {
+    let many = slots.max(gates.len());
     let mut nodes = Vec::new(*gates.allocator());
     nodes.push(Node { count: 0, wires: 0 })?;
     let mut height = 0;
-    'higher: while nodes.len() < gates.len() {
+    'higher: while nodes.len() < many {
         double(&mut nodes)?;
         height += 1;
     }
     tell(&gates, &mut nodes);
+    let marks = marked(&gates)?;
     Ok(Tree {
         gates,
         nodes,
+        marks,
         height,
     })
 }
@@ -257,4 +287,16 @@ fn make_room(
     tell(gates, nodes);
     *height += 1;
     Ok(())
+}
+
+/// The marks of some slots.
+fn marked(gates: &Vec<Option<Gate>>) -> Result<Vec<u64>, AllocError>
+    ensures { IfOk result (λ m. IsMarked gates.now.items m.items) }
+{
+    let mut marks = Vec::new(*gates.allocator());
+    'slots: for slot in 0..gates.len() {
+        make_marks(&mut marks, slot)?;
+        put_marks(&mut marks, slot, gates[slot], true);
+    }
+    Ok(marks)
 }

@@ -33,7 +33,7 @@ impl Pass for NotPass {
     ghost kept = { λ _ _ _. Unit {0} };
 
     fn run(&self, alloc: Global, body: Circuit) -> Result<Passed, AllocError> {
-        let mut walk = Walk::start(alloc, body.wires())?;
+        let mut walk = Walk::start(alloc, body.wires(), body.len())?;
         'gates: for i in 0..body.len() {
             walk.step(body.gate(i))?;
         }

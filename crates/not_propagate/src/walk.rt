@@ -21,8 +21,8 @@ pub(crate) struct Walk {
 }
 
 impl Walk {
-    /// No gates yet.
-    pub(crate) fn start(alloc: Global, wires: u32) -> Result<Walk, AllocError>
+    /// No gates yet, and room for so many.
+    pub(crate) fn start(alloc: Global, wires: u32, gates: usize) -> Result<Walk, AllocError>
         requires { wires ≤ most_wires }
         ensures wires { IfOk result (λ w. w.written.wires ≡ wires) }
         ensures gates { IfOk result (λ w. w.written.gates ≡ []) }
@@ -30,7 +30,7 @@ impl Walk {
         ensures turn { IfOk result (λ w. w.turn ≡ 0) }
     {
         Ok(Walk {
-            written: Circuit::empty(alloc, wires)?,
+            written: Circuit::with_room(alloc, wires, gates)?,
             flags: vec![in alloc; false; wires as usize]?,
             turn: 0,
         })

@@ -54,7 +54,7 @@ fn circuit_of(alloc: Global, wires: u32, list: &[Gate]) -> Result<Circuit, Alloc
     ensures wires { IfOk result (λ c. c.wires ≡ wires) }
     ensures gates { IfOk result (λ c. c.gates ≡ list.now) }
 {
-    let mut body = Circuit::empty(alloc, wires)?;
+    let mut body = Circuit::with_room(alloc, wires, list.len())?;
     'pushed: for g in list {
         body.push(*g)?;
     }

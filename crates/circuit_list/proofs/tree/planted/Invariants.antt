@@ -6,4 +6,4 @@ abbrev pub invariant-higher : goal.invariant-higher
 invariant-higher l = length l.nodes.items ≡ 2 ^ l.height
 
 abbrev pub decreases-higher : goal.decreases-higher
-decreases-higher l = length l.gates.items - length l.nodes.items
+decreases-higher l = l.many - length l.nodes.items

@@ -10,5 +10,5 @@ pub returns : goal.returns
 returns c =
     ap (λ (n : Node). n.count) c.node_at.ensures
     ∙ (λ i. (node_at (c.deref.ensures.value i) (c.deref-2.ensures.value i) 1).count)
-    ∙ count_root c.self.inside.height c.self.inside.gates.items c.self.inside.nodes.items (omega (arith, ap (λ (xs : List (Option Gate)). length xs) c.deref.ensures.value)) c.self.invariant
+    ∙ count_root c.self.inside.height c.self.inside.gates.items c.self.inside.nodes.items (omega (arith, ap (λ (xs : List (Option Gate)). length xs) c.deref.ensures.value)) c.self.invariant.0
     ∙ ap (λ (xs : List (Option Gate)). rank xs (length xs)) c.self.view_is

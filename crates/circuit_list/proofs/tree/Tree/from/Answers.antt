@@ -21,4 +21,4 @@ returns c =
     let here : c.entry.result ≡ entry es c.args.slot = c.entry.ensures ∙ ap (λ (xs : List (Option Gate)). entry xs c.args.slot) (c.deref.ensures.value ∙ sym c.deref-2.ensures.value) in
     let off : meets any_wire (entry es c.args.slot) ≡ false = none_meets (entry es c.args.slot) (ap is_some (sym here) ∙ sym c.is_some.ensures ∙ c.if-is_some.false) in
     subst (λ (xs : List (Option Gate)). MatchOption c.first_behind.result (NoneOn any_wire xs c.args.slot (length xs)) (IsFirstOn any_wire xs c.args.slot)) (c.deref-2.ensures.value ∙ c.self.view_is)
-    (from-next any_wire es c.deref-3.result.now c.args.slot c.first_behind.result off (omega (arith, c.self.invariant.room)) c.first_behind.ensures)
+    (from-next any_wire es c.deref-3.result.now c.args.slot c.first_behind.result off (omega (arith, c.self.invariant.0.room)) c.first_behind.ensures)

@@ -10,7 +10,7 @@ pub slot_at-requires-clause-there : goal.slot_at-requires-clause-there
 slot_at-requires-clause-there c =
     let count : (node_at c.deref.result.now c.deref-2.result.now 1).count ≡ rank c.args.self.now (length c.args.self.now) =
     (λ i. (node_at (c.deref.ensures.value i) (c.deref-2.ensures.value i) 1).count)
-    ∙ count_root c.self.inside.height c.self.inside.gates.items c.self.inside.nodes.items (omega (arith, ap (λ (xs : List (Option Gate)). length xs) c.deref.ensures.value)) c.self.invariant
+    ∙ count_root c.self.inside.height c.self.inside.gates.items c.self.inside.nodes.items (omega (arith, ap (λ (xs : List (Option Gate)). length xs) c.deref.ensures.value)) c.self.invariant.0
     ∙ ap (λ (xs : List (Option Gate)). rank xs (length xs)) c.self.view_is in
     omega (arith, c.requires)
 
