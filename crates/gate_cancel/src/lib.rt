@@ -23,9 +23,9 @@ use unitary_model::turn_sum;
 use walk::{walk_all, walk_queue};
 
 /// Cancels and merges gates past the gates that they commute with, until no reducible pair is left (Nam et al. 2018,
-/// section 4.2). It goes from the first place to the last; the partner of a gate is the first later one that cancels or merges
-/// with it, where it commutes with all between. A pair is taken out, or merged in the first one's place, and the walk goes on
-/// at this place. Such walks are repeated until one changes nothing.
+/// section 4.2). It walks from the first place to the last; the partner of a gate is the first later one that cancels or merges
+/// with it, where it commutes with all between. A pair is taken out, or merged in the first one's place, and the walk stays at
+/// this place. After a walk that found a pair there is another.
 #[derive(Clone, Copy, Debug)]
 pub struct CancelPass;
 

@@ -10,14 +10,14 @@
 --   first-head           it is the head of a wire
 --   earliest-none        where all heads are at the end, no gate is left
 --   IsOffGate g x        gate x is on no wire of gate g
---   Passing              how the gates that are left change where a gate is passed
---   passing              .. by the heads of its wires alone
+--   left-first, left-passed, left-other     which gates are left before and after a gate is passed
+--   passing              the gates that are left, before and after
 --   heads-passed         the heads after that
 use Rattle.std.proofs.Common.{◌≡◌, ◌≢◌, ℕ, suc, ◌+◌, ◌<◌, ◌≤◌, ◌⊎◌, inl, inr, true, false, not, List, [], ◌∷◌, All, Some, fold, length, min, nat_lt, slice_get, slice_index, get_or, set, slice_index_or, refl, sym, ◌∙◌, ap, subst, add-one, arith}
 use Rattle.std.proofs.lemmas.Bool.{cases_eq, cases_lt}
 use Rattle.std.proofs.lemmas.Bool.Decides.{nat_tests}
 use Rattle.std.proofs.lemmas.Option.{same_Some, get_or_from_slice_get, slice_get_within, slice_get-get_or}
-use Rattle.std.proofs.lemmas.List.{get_or-set_same, get_or-set_other, length-set}
+use Rattle.std.proofs.lemmas.List.{get_or-set_same, get_or-set_other, get_or_default, length-set}
 use Rattle.std.proofs.lemmas.List.Elements.{All-nil, All-cons}
 use Rattle.circuit_list.specs.declared.Gate.{Gate}
 use Rattle.circuit_list.specs.declared.Gate.TheVariants.{H, X, P, Cx}
@@ -215,6 +215,20 @@ links-more n gs heads later p g e fine h = record {
         subst (λ k. IsNext gs (second_wire x) (suc j) k) (sym (ap (λ (r : ℕ × ℕ). r.1) (get_or-set_other later p j pair (0, 0) other)))
         (h.second j x (omega (arith, other)) d)
 
+-- one place more, as it is written
+pub links-put : (n : ℕ) (gs : List Gate) (heads : List ℕ) (later : List (ℕ × ℕ)) (p m : ℕ) (g : Gate) (v w a b : ℕ) → suc m ≡ p → m < length gs → get_or gs m (H 0) ≡ g → All (IsFine n) gs
+    → v ≡ first_wire g → w ≡ second_wire g → a ≡ get_or heads v a → b ≡ get_or heads w b → AreLinksFrom n gs heads later p
+    → AreLinksFrom n gs (set (set heads v m) w m) (set later m (a, b)) m
+links-put n gs heads later p m g v w a b more lt at fine ev ew ea eb h =
+    let e : slice_get gs m ≡ Some g = slice_get-get_or gs m (H 0) lt ∙ ap Some at in
+    let f : IsFine n g = fine_at n gs m g fine e in
+    let first : a ≡ slice_index heads (first_wire g) = ea ∙ ap (λ u. get_or heads u a) ev ∙ get_or_default heads (first_wire g) a 0 (omega (arith, first_below n g f, h.wide)) in
+    let second : b ≡ slice_index heads (second_wire g) = eb ∙ ap (λ u. get_or heads u b) ew ∙ get_or_default heads (second_wire g) b 0 (omega (arith, second_below n g f, h.wide)) in
+    let done : AreLinksFrom n gs (set (set heads (first_wire g) m) (second_wire g) m) (set later m (slice_index heads (first_wire g), slice_index heads (second_wire g))) m =
+    links-more n gs heads later m g e f (subst (λ (i : ℕ). AreLinksFrom n gs heads later i) (sym more) h) in
+    subst (λ (r : ℕ × ℕ). AreLinksFrom n gs (set (set heads r.0 m) r.1 m) (set later m (a, b)) m) (sym (λ z. (ev z, ew z)))
+    (subst (λ (r : ℕ × ℕ). AreLinksFrom n gs (set (set heads (first_wire g) m) (second_wire g) m) (set later m r) m) (sym (λ z. (first z, second z))) done)
+
 pub links-all : (n : ℕ) (gs : List Gate) (heads : List ℕ) (later : List (ℕ × ℕ)) → AreLinksFrom n gs heads later 0 → AreLinks gs later
 links-all n gs heads later h = record {
   long = h.long;
@@ -393,18 +407,30 @@ heads-passed n gs j g old new e are at p = record {
     agree2 k x f lt (inl here) = subst (λ y. k < slice_index new (first_wire y)) (slice_get-once gs k g x (ap (slice_get gs) here ∙ e) f) (omega (arith, here, p.on_first.from))
     agree2 k x f lt (inr other) = forth gs j old new (first_wire x) k (m (first_wire x)) ((are.agree k x f).1 (back gs j old new (second_wire x) k x f (inr refl) other (m (second_wire x)) lt))
 
+-- which gates are left before and after
+pub left-first : (gs : List Gate) (j : ℕ) (g : Gate) (heads : List ℕ) → slice_get gs j ≡ Some g → IsFirst gs heads j → is_left heads j g ≡ true
+left-first gs j g heads e at = left-true j (slice_index heads (first_wire g)) (omega (arith, at.first g e))
+
+pub left-passed : (gs : List Gate) (j : ℕ) (g : Gate) (old new : List ℕ) → HasPassed gs j g old new → is_left new j g ≡ false
+left-passed gs j g old new p = left-false j (slice_index new (first_wire g)) (omega (arith, p.on_first.from))
+
+pub left-other : (gs : List Gate) (j : ℕ) (g : Gate) (n : ℕ) (old new : List ℕ) → slice_get gs j ≡ Some g → AreHeads n gs old → IsFirst gs old j → HasPassed gs j g old new
+    → (k : ℕ) (x : Gate) → slice_get gs k ≡ Some x → k ≢ j → is_left old k x ≡ is_left new k x
+left-other gs j g n old new e are at p k x f ne =
+    left-same k (slice_index old w) (slice_index new w) (forth gs j old new w k m) (back gs j old new w k x f (inl refl) ne m)
+  where
+    w : ℕ
+    w = first_wire x
+
+    m : WireMoves gs j old new w
+    m = moves gs j g old new e at p w
+
 pub passing : (gs : List Gate) (j : ℕ) (g : Gate) (n : ℕ) (old new : List ℕ) → slice_get gs j ≡ Some g → AreHeads n gs old → IsFirst gs old j → HasPassed gs j g old new
     → Without (is_left old) (is_left new) 0 g gs (IsOffGate g)
 passing gs j g n old new e are at p =
     without (is_left old) (is_left new) (IsOffGate g) 0 gs j j g e (omega arith)
-    (left-true j (slice_index old (first_wire g)) (omega (arith, at.first g e)))
-    (left-false j (slice_index new (first_wire g)) (omega (arith, p.on_first.from)))
-    (λ i k x d ne f.
-    let w = first_wire x in
-    let h : k ≡ i = omega arith in
-    left-same i (slice_index old w) (slice_index new w)
-    (λ lt. subst (λ v. v < slice_index new w) h (forth gs j old new w k (m w) (omega (arith, lt, h))))
-    (λ lt. subst (λ v. v < slice_index old w) h (back gs j old new w k x f (inl refl) ne (m w) (omega (arith, lt, h)))))
+    (left-first gs j g old e at) (left-passed gs j g old new p)
+    (λ i k x d ne f. subst (λ v. is_left old v x ≡ is_left new v x) (omega arith) (left-other gs j g n old new e are at p k x f ne))
     (λ i k x d lt f l.
     let h : k ≡ i = omega arith in
     let first : slice_index old (first_wire x) ≤ k = omega (arith, h, true-left i (slice_index old (first_wire x)) l) in
@@ -416,9 +442,6 @@ passing gs j g n old new e are at p =
       second_second = λ s. clash (second_wire x) (second_wire g) k second lt s (at.second g e);
     })
   where
-    m : (w : ℕ) → WireMoves gs j old new w
-    m = moves gs j g old new e at p
-
     low : (k a b : ℕ) → b ≤ k → (k < a → k < b) → a ≤ k
     low k a b le f = go (cases_lt k a)
       where

@@ -4,5 +4,6 @@ pub mod Search
 pub mod Scores
 pub mod Machine
 pub mod Kept
+pub mod Passing
 pub mod Routing
 pub mod Underway
