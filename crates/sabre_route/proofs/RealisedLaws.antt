@@ -6,7 +6,7 @@
 --   IsRealised               what is written so far does what the operations S do, on the edges, and the counts are right
 --   realised-start, -emitted, -swapped
 --   Carried, run-carried     a run keeps both
---   IsDone, run-done, routed-done     at its end
+--   routed-realising         what was written at its end realises the gates
 use Rattle.std.proofs.Common.{◌≡◌, ◌≢◌, ℕ, zero, suc, ◌+◌, ◌*◌, ◌%◌, ◌<◌, ◌≤◌, ◌⊎◌, ◌||◌, ◌==◌, inl, inr, Bool, not, true, false, cond, List, [], ◌∷◌, ◌++◌, All, Some, None, length, map, nat_eq, slice_get, slice_index, take, refl, sym, ◌∙◌, ap, subst, arith, append-nil, append_assoc, add-zero, zero-add}
 use Rattle.std.specs.Bool.{IsTrue}
 use Rattle.std.specs.List.{AllByRecursion, list_any, remove}
@@ -16,11 +16,11 @@ use Rattle.std.proofs.lemmas.List.Elements.{All-append, All-from_recursion, recu
 use Rattle.std.proofs.lemmas.Option.{same_Some}
 use Rattle.circuit_list.specs.declared.Gate.{Gate}
 use Rattle.circuit_list.specs.declared.Gate.TheVariants.{H, X, P, Cx}
+use Rattle.circuit_list.specs.Body.{Body}
 use Rattle.circuit_list.specs.Gates.{IsFine, is_on, op_of, ops}
-use Rattle.coupling_map.specs.Coupling.{Coupling, IsGraph, IsToward}
+use Rattle.coupling_map.specs.Coupling.{Coupling}
 use Rattle.coupling_map.specs.Edges.{FollowsEdge, FollowsEdges}
-use Rattle.coupling_map.specs.Walks.{is_near, IsDistance}
-use Rattle.coupling_map.proofs.WalkLaws.{is_near-below}
+use Rattle.coupling_map.specs.Walks.{is_near}
 use Rattle.unitary_model.specs.declared.Op.{Op}
 use Rattle.unitary_model.specs.declared.Op.TheVariants.{U, Cx as OpCx}
 use Rattle.unitary_model.specs.Acts.{Turns, place}
@@ -38,7 +38,11 @@ use Rattle.sabre_route.specs.Front.{first_wire, second_wire}
 use Rattle.sabre_route.specs.Machine.{State, Event, Emit, Swap, emission, exchange, start, IsChosen, IsEmission, IsExchange, IsRun, Run, Step}
 use Rattle.sabre_route.specs.declared.router.Routed.{Routed}
 use Rattle.sabre_route.specs.Routing.{swap_count, turned, written, IsRouted}
+use Rattle.sabre_route.specs.Scores.{IsMetric}
+use Rattle.sabre_route.specs.Underway.{IsRealising}
 use Rattle.sabre_route.specs.Search.{is_free, shares}
+use Rattle.sabre_route.proofs.BoundLaws.{chosen-pair, fine-place, fine-remove}
+use Rattle.sabre_route.proofs.PairLaws.{all-fine_more}
 use Rattle.sabre_route.proofs.EmissionLaws.{gate-written, low_order-is, swap-written, WiresBelow-append}
 
 -- ---- placements
@@ -279,41 +283,6 @@ realised-swapped es size first S vs q k m a b ha hb ne near u =
     ends x y (inl (e, f)) = (omega (arith, e, ha), omega (arith, f, hb), (λ d. ne (sym e ∙ d ∙ f)), (λ z. exchanged (e z) (f z)))
     ends x y (inr (e, f)) = (omega (arith, e, hb), omega (arith, f, ha), (λ d. ne (sym f ∙ sym d ∙ e)), (λ z. exchanged (e z) (f z)) ∙ exchanged-comm b a)
 
--- ---- a step
-fine-place : (n : ℕ) (gs : List Gate) (j : ℕ) (g : Gate) → AllByRecursion (IsFine n) gs → slice_get gs j ≡ Some g → IsFine n g
-fine-place n [] j g h e = absurd (cc)
-fine-place n (x ∷ gs) zero g h e = subst (IsFine n) (same_Some x g e) h.0
-fine-place n (x ∷ gs) (suc j) g h e = fine-place n gs j g h.1 e
-
-fine-remove : (n : ℕ) (gs : List Gate) (j : ℕ) (g : Gate) → AllByRecursion (IsFine n) gs → slice_get gs j ≡ Some g → AllByRecursion (IsFine n) (remove gs j)
-fine-remove n [] j g h e = absurd (cc)
-fine-remove n (x ∷ gs) zero g h e = h.1
-fine-remove n (x ∷ gs) (suc j) g h e = (h.0, fine-remove n gs j g h.1 e)
-
-toward-differ : (es : List (ℕ × ℕ)) (a b c : ℕ) → IsToward es a b c → a ≢ c
-toward-differ es a b c h e =
-    let k : ℕ = h.nearer.0 in
-    let there : IsDistance es c b k = h.nearer.1 in
-    let here : IsDistance es c b (k + 1) = subst (λ x. IsDistance es x b (k + 1)) e h.nearer.2 in
-    omega (arith, here.least there.walked.0 there.walked.2, there.walked.1)
-
--- the qubits of a swap: on the device, different and near
-pub record IsOnEdge (d : Coupling) (a b : ℕ) : Type 0 where
-  pub first : a < d.size
-  pub second : b < d.size
-  pub differ : a ≢ b
-  pub near : is_near d.edges a b ≡ true
-
-pub chosen-on_edge : (d : Coupling) (s : State) (a b : ℕ) → IsGraph d.size d.edges → IsChosen d s a b → IsOnEdge d a b
-chosen-on_edge d s a b graph (inl h) =
-    let near = h.1.candidate.near in
-    let below = is_near-below d.size d.edges a b graph.within near in
-    record { first = below.0; second = below.1; differ = λ e. omega (arith, e, h.1.candidate.ordered); near = near }
-chosen-on_edge d s a b graph (inr h) =
-    let near = h.1.toward.near in
-    let below = is_near-below d.size d.edges a b graph.within near in
-    record { first = below.0; second = below.1; differ = toward-differ d.edges a (slice_index s.placement h.1.target) b h.1.toward; near = near }
-
 -- ---- a run
 -- what is written from the state s on, by some events to the state u, behind what was written
 pub record Carried (d : Coupling) (gs : List Gate) (first : List ℕ) (u : State) (vs : List Gate) (k m : ℕ) : Type 0 where
@@ -341,33 +310,33 @@ emission-carried d gs first s j g u vs k m h c =
       fine = fine-remove d.size s.rest j g c.fine h.can.there;
     })
 
-exchange-carried : (d : Coupling) (gs : List Gate) (first : List ℕ) (s : State) (a b : ℕ) (u : State) (vs : List Gate) (k m : ℕ) → IsGraph d.size d.edges → IsExchange d s a b u → Carried d gs first s vs k m
+exchange-carried : (d : Coupling) (gs : List Gate) (first : List ℕ) (s : State) (a b : ℕ) (u : State) (vs : List Gate) (k m : ℕ) → IsMetric d → IsExchange d s a b u → Carried d gs first s vs k m
     → Carried d gs first u (vs ++ swap_gates d.edges a b) ((k + swap_turn d.edges a b) % 8) (suc m)
 unfolding exchange
-exchange-carried d gs first s a b u vs k m graph h c =
-    let on = chosen-on_edge d s a b graph h.chosen in
+exchange-carried d gs first s a b u vs k m metric h c =
+    let on = chosen-pair d s a b metric h.chosen in
     subst (λ (x : State). Carried d gs first x (vs ++ swap_gates d.edges a b) ((k + swap_turn d.edges a b) % 8) (suc m)) (sym h.after)
     (record {
       done = c.done;
       split = record { order = c.split.order; t_split = c.split.t_split; cx_split = c.split.cx_split };
-      realised = realised-swapped d.edges d.size first c.done vs s.placement k m a b on.first on.second on.differ on.near c.realised;
+      realised = realised-swapped d.edges d.size first c.done vs s.placement k m a b on.0 on.1 on.2 on.3 c.realised;
       fine = c.fine;
     })
 
-emission-placement : (d : Coupling) (s : State) (j : ℕ) (g : Gate) (u : State) → IsEmission d s j g u → u.placement ≡ s.placement
+pub emission-placement : (d : Coupling) (s : State) (j : ℕ) (g : Gate) (u : State) → IsEmission d s j g u → u.placement ≡ s.placement
 unfolding emission
 emission-placement d s j g u h = ap (λ (x : State). x.placement) h.after
 
-exchange-placement : (d : Coupling) (s : State) (a b : ℕ) (u : State) → IsExchange d s a b u → u.placement ≡ map (exchanged a b) s.placement
+pub exchange-placement : (d : Coupling) (s : State) (a b : ℕ) (u : State) → IsExchange d s a b u → u.placement ≡ map (exchanged a b) s.placement
 unfolding exchange
 exchange-placement d s a b u h = ap (λ (x : State). x.placement) h.after
 
-pub run-carried : (d : Coupling) (gs : List Gate) (first : List ℕ) (s u : State) (events : List Event) (vs : List Gate) (k m : ℕ) → IsGraph d.size d.edges → k < 8 → Run d s events u
+pub run-carried : (d : Coupling) (gs : List Gate) (first : List ℕ) (s u : State) (events : List Event) (vs : List Gate) (k m : ℕ) → IsMetric d → k < 8 → Run d s events u
     → Carried d gs first s vs k m → Carried d gs first u (vs ++ written d.edges s.placement events) ((k + turned d.edges s.placement events) % 8) (m + swap_count events)
-run-carried d gs first s u [] vs k m graph lt h c =
+run-carried d gs first s u [] vs k m metric lt h c =
     subst (λ (x : State). Carried d gs first x (vs ++ []) ((k + 0) % 8) (m + 0)) h
     (same_carried d gs first s vs (vs ++ []) k ((k + 0) % 8) m (m + 0) (sym (append-nil vs)) (grind arith) (sym (add-zero m)) c)
-run-carried d gs first s u (Emit j g ∷ events) vs k m graph lt h c =
+run-carried d gs first s u (Emit j g ∷ events) vs k m metric lt h c =
     let es = d.edges in
     let q = s.placement in
     let n = h.0 in
@@ -377,8 +346,8 @@ run-carried d gs first s u (Emit j g ∷ events) vs k m graph lt h c =
     (ap (λ (p : List ℕ). (vs ++ emitted es q g) ++ written es p events) e ∙ append_assoc vs (emitted es q g) (written es q events))
     (ap (λ (p : List ℕ). ((k + t) % 8 + turned es p events) % 8) e ∙ mod-more k t (turned es q events))
     refl
-    (run-carried d gs first n u events (vs ++ emitted es q g) ((k + t) % 8) m graph (omega arith) h.2 (emission-carried d gs first s j g n vs k m h.1 c))
-run-carried d gs first s u (Swap a b ∷ events) vs k m graph lt h c =
+    (run-carried d gs first n u events (vs ++ emitted es q g) ((k + t) % 8) m metric (omega arith) h.2 (emission-carried d gs first s j g n vs k m h.1 c))
+run-carried d gs first s u (Swap a b ∷ events) vs k m metric lt h c =
     let es = d.edges in
     let q : List ℕ = map (exchanged a b) s.placement in
     let n = h.0 in
@@ -388,15 +357,9 @@ run-carried d gs first s u (Swap a b ∷ events) vs k m graph lt h c =
     (ap (λ (p : List ℕ). (vs ++ swap_gates es a b) ++ written es p events) e ∙ append_assoc vs (swap_gates es a b) (written es q events))
     (ap (λ (p : List ℕ). ((k + t) % 8 + turned es p events) % 8) e ∙ mod-more k t (turned es q events))
     (omega arith)
-    (run-carried d gs first n u events (vs ++ swap_gates es a b) ((k + t) % 8) (suc m) graph (omega arith) h.2 (exchange-carried d gs first s a b n vs k m graph h.1 c))
+    (run-carried d gs first n u events (vs ++ swap_gates es a b) ((k + t) % 8) (suc m) metric (omega arith) h.2 (exchange-carried d gs first s a b n vs k m metric h.1 c))
 
 -- ---- at the end of a run
-pub record IsDone (d : Coupling) (n : ℕ) (gs : List Gate) (first last : List ℕ) (vs : List Gate) (k m : ℕ) : Type 0 where
-  pub realises : Realises (ops gs) n (ops vs) d.size first last k
-  pub edges : FollowsEdges d.edges (ops vs)
-  pub t_kept : t_count (ops vs) ≡ t_count (ops gs)
-  pub cx_more : cx_count (ops vs) ≡ cx_count (ops gs) + 3 * m
-
 wires_below : (n : ℕ) (gs : List Gate) → AllByRecursion (IsFine n) gs → WiresBelow n (ops gs)
 wires_below n [] h = tt
 wires_below n (H q ∷ gs) h = (h.0, wires_below n gs h.1)
@@ -404,44 +367,34 @@ wires_below n (X q ∷ gs) h = (h.0, wires_below n gs h.1)
 wires_below n (P k q ∷ gs) h = (h.0.0, wires_below n gs h.1)
 wires_below n (Cx c t ∷ gs) h = (h.0.0, (h.0.1.0, wires_below n gs h.1))
 
-fine-more : (n m : ℕ) (g : Gate) → n ≤ m → IsFine n g → IsFine m g
-fine-more n m (H q) le f = omega (arith, f)
-fine-more n m (X q) le f = omega (arith, f)
-fine-more n m (P k q) le f = (omega (arith, f.0), f.1)
-fine-more n m (Cx c t) le f = (omega (arith, f.0), (omega (arith, f.1.0), f.1.1))
-
-all-fine_more : (n m : ℕ) (gs : List Gate) → n ≤ m → AllByRecursion (IsFine n) gs → AllByRecursion (IsFine m) gs
-all-fine_more n m [] le h = tt
-all-fine_more n m (g ∷ gs) le h = (fine-more n m g le h.0, all-fine_more n m gs le h.1)
-
-pub run-done : (d : Coupling) (n : ℕ) (gs : List Gate) (first : List ℕ) (u : State) (events : List Event) → IsGraph d.size d.edges → n ≤ d.size → All (IsFine n) gs → IsPlacement d.size first
-    → IsRun d (start first gs) events u → IsDone d n gs first u.placement (written d.edges first events) (turned d.edges first events % 8) (swap_count events)
-run-done d n gs first u events graph le fine placed h =
-    let below = recursion_from_All (IsFine n) gs fine in
-    let c = same_carried d gs first u _ (written d.edges first events) _ (turned d.edges first events % 8) _ (swap_count events) refl (ap (λ x. x % 8) (zero-add (turned d.edges first events))) (zero-add (swap_count events))
-    (run-carried d gs first (start first gs) u events [] 0 0 graph (omega arith) h.steps (record {
-      done = [];
-      split = split-start gs;
-      realised = realised-start d.edges d.size first placed;
-      fine = all-fine_more n d.size gs le below;
-    })) in
+run-realising : (d : Coupling) (n : ℕ) (gs : List Gate) (first : List ℕ) (u : State) (events : List Event) (vs : List Gate) (k m : ℕ) (b : Body) → IsMetric d → n ≤ d.size → All (IsFine n) gs → IsPlacement d.size first
+    → IsRun d (start first gs) events u → b.gates ≡ vs → Carried d gs first u vs k m → IsRealising d n gs first (record { body = b; last = u.placement; swaps = m; turn = k })
+run-realising d n gs first u events vs k m b metric le fine placed h e c =
     let r = c.realised in
     let order : Turns 0 (ops gs) c.done = subst (λ (us : List Op). Turns 0 (ops gs) us) (ap (λ xs. c.done ++ ops xs) h.ends ∙ append-nil c.done) c.split.order in
-    let vs : List Gate = written d.edges first events in
-    let k : ℕ = turned d.edges first events % 8 in
     let q = Reached-source d.size first (ops gs) c.done (ops vs) u.placement k order r.reached in
+    let shape : ops vs ≡ ops b.gates = ap ops (sym e) in
     record {
-      realises = realises_by (ops gs) (ops vs) n d.size first u.placement q.from q.to k le r.below placed r.placed q.starts q.ends (wires_below n gs below) r.within q.realised;
-      edges = r.edges;
-      t_kept = omega (arith, c.split.t_split, ap (λ xs. t_count (ops xs)) h.ends, r.t_kept);
-      cx_more = omega (arith, c.split.cx_split, ap (λ xs. cx_count (ops xs)) h.ends, r.cx_more);
+      realises = subst (λ (us : List Op). Realises (ops gs) n us d.size first u.placement k) shape
+          (realises_by (ops gs) (ops vs) n d.size first u.placement q.from q.to k le r.below placed r.placed q.starts q.ends (wires_below n gs (recursion_from_All (IsFine n) gs fine)) r.within q.realised);
+      edges = subst (FollowsEdges d.edges) shape r.edges;
+      t_kept = omega (arith, ap t_count shape, c.split.t_split, ap (λ xs. t_count (ops xs)) h.ends, r.t_kept);
+      cx_more = omega (arith, ap cx_count shape, c.split.cx_split, ap (λ xs. cx_count (ops xs)) h.ends, r.cx_more);
     }
 
-pub routed-done : (d : Coupling) (n : ℕ) (gs : List Gate) (first : List ℕ) (r : Routed) → IsGraph d.size d.edges → n ≤ d.size → All (IsFine n) gs → IsPlacement d.size first
-    → IsRouted d gs first r → IsDone d n gs first r.last r.body.gates r.turn r.swaps
-routed-done d n gs first r graph le fine placed h =
-    subst (λ (p : List ℕ). IsDone d n gs first p r.body.gates r.turn r.swaps) (sym h.last)
-    (subst (λ (vs : List Gate). IsDone d n gs first h.final.placement vs r.turn r.swaps) (sym h.body)
-    (subst (λ (k : ℕ). IsDone d n gs first h.final.placement (written d.edges first h.events) k r.swaps) (sym h.turn)
-    (subst (λ (m : ℕ). IsDone d n gs first h.final.placement (written d.edges first h.events) (turned d.edges first h.events % 8) m) (sym h.swaps)
-    (run-done d n gs first h.final h.events graph le fine placed h.run))))
+pub routed-realising : (d : Coupling) (n : ℕ) (gs : List Gate) (first : List ℕ) (r : Routed) → IsMetric d → n ≤ d.size → All (IsFine n) gs → IsPlacement d.size first → IsRouted d gs first r → IsRealising d n gs first r
+routed-realising d n gs first r metric le fine placed h =
+    let vs : List Gate = written d.edges first h.events in
+    let k : ℕ = turned d.edges first h.events % 8 in
+    let m : ℕ = swap_count h.events in
+    let c : Carried d gs first h.final vs k m = same_carried d gs first h.final vs vs ((0 + turned d.edges first h.events) % 8) k (0 + m) m refl (ap (λ x. x % 8) (zero-add (turned d.edges first h.events))) (zero-add m)
+        (run-carried d gs first (start first gs) h.final h.events [] 0 0 metric (omega arith) h.run.steps (record {
+          done = [];
+          split = split-start gs;
+          realised = realised-start d.edges d.size first placed;
+          fine = recursion_from_All (IsFine d.size) gs (all-fine_more n d.size gs le fine);
+        })) in
+    subst (λ (x : List ℕ). IsRealising d n gs first (record { body = r.body; last = x; swaps = r.swaps; turn = r.turn })) (sym h.last)
+    (subst (λ (x : ℕ). IsRealising d n gs first (record { body = r.body; last = h.final.placement; swaps = x; turn = r.turn })) (sym h.swaps)
+    (subst (λ (x : ℕ). IsRealising d n gs first (record { body = r.body; last = h.final.placement; swaps = m; turn = x })) (sym h.turn)
+    (run-realising d n gs first h.final h.events vs k m r.body metric le fine placed h.run h.body c)))

@@ -1,5 +1,4 @@
 -- Gates that are written one by one.
---   fine_more            a gate on more wires
 --   pushed-more          one gate more
 --   cx-straight, cx-turned       a CNOT, along its edge and turned round
 --   one-written, emitted-h, -x, -p, -cx, same_written    a gate on the qubits of its wires
@@ -8,17 +7,10 @@ use Rattle.std.proofs.Common.{◌≡◌, ℕ, ◌+◌, ◌%◌, ◌<◌, ◌≤�
 use Rattle.circuit_list.specs.declared.Gate.{Gate}
 use Rattle.circuit_list.specs.declared.Gate.TheVariants.{H, X, P, Cx}
 use Rattle.circuit_list.specs.Body.{Body}
-use Rattle.circuit_list.specs.Gates.{IsFine}
 use Rattle.coupling_map.specs.Walks.{is_edge}
 use Rattle.sabre_route.specs.declared.emission.Written.{Written}
 use Rattle.sabre_route.specs.Emission.{cx_gates, cx_turn, low_order, swap_gates, swap_turn, emitted, emitted_turn}
 use Rattle.sabre_route.specs.Underway.{HasWritten}
-
-pub fine_more : (n m : ℕ) (g : Gate) → n ≤ m → IsFine n g → IsFine m g
-fine_more n m (H q) le f = omega (arith, f)
-fine_more n m (X q) le f = omega (arith, f)
-fine_more n m (P k q) le f = (omega (arith, f.0), f.1)
-fine_more n m (Cx c t) le f = (omega (arith, f.0), (omega (arith, f.1.0), f.1.1))
 
 -- b is a with the gates gs behind the others
 pub record IsPushed (a b : Body) (gs : List Gate) : Type 0 where

@@ -7,7 +7,7 @@ ghost use Rattle.coupling_map.specs.Edges.{FollowsEdges};
 ghost use Rattle.coupling_map.specs.Walks.{IsDiameter};
 ghost use Rattle.sabre_route.specs.Machine.{IsChosen, IsEmittable, IsWalk};
 ghost use Rattle.sabre_route.specs.Routing.{IsLayout, IsRouted};
-ghost use Rattle.sabre_route.specs.Underway.{HasEnded, HasStepped, IsFitting, IsMove};
+ghost use Rattle.sabre_route.specs.Underway.{HasEnded, HasStepped, IsFitting, IsMove, IsRealising};
 ghost use Rattle.unitary_model.specs.Operations.{cx_count, t_count};
 ghost use Rattle.unitary_model.specs.Placement.{IsPlacement};
 ghost use Rattle.unitary_model.specs.Realises.{Realises};
@@ -82,6 +82,9 @@ fn step(state: &mut RouteState, device: &Device) -> Result<Move, AllocError>
     requires left { state.old.rest ≡ [] → ⊥ }
     ensures { IfOk result (λ m. IsMove device.now state.old m state.new) }
 {
+    // Their contracts say that near qubits are qubits of the device.
+    distances_on_device();
+    let _size = device.size();
     if let Some(gate) = state.emit_earliest(device)? {
         return Ok(Move::Emitted(gate));
     }
@@ -96,14 +99,17 @@ fn write_step(
     device: &Device,
     written: &mut Written,
 ) -> Result<(), AllocError>
-    requires placed { IsPlacement device.now.size state.old.placement }
+    requires placed { length state.old.placement ≡ device.now.size }
     requires fine { All (IsFine device.now.size) state.old.rest }
     requires left { state.old.rest ≡ [] → ⊥ }
     requires fits { IsFitting device.now.size written.old }
     ensures { OnOk result (HasStepped device.now state.old written.old state.new written.new) }
 {
-    // Its contract says that the edges are of the device.
+    // Their contracts say that near qubits are qubits of the device, and that the wires stand on
+    // different qubits.
+    distances_on_device();
     let _size = device.size();
+    let _qubits = state.placement().size();
     match step(state, device)? {
         Move::Emitted(gate) => written.write_gate(device, state.placement(), gate),
         Move::Swapped(a, b) => written.write_swap(device, a, b),
@@ -123,6 +129,7 @@ fn run(
     requires placed { length given ≡ device.now.size }
     ensures wires { IfOk result (λ r. r.body.wires ≡ device.now.size) }
     ensures run { IfOk result (λ r. IsRouted device.now gates.items given r) }
+    ensures realises { IfOk result (λ r. IsRealising device.now wires gates.items given r) }
 {
     // Their contracts say what distances are, and that `given` is a placement.
     distances_on_device();
@@ -164,7 +171,10 @@ fn settle(
     'steps: while !state.is_done() {
         let _move = step(&mut state, device)?;
     }
-    Ok(state.into_placement())
+    let placement = state.into_placement();
+    // Its contract says that it is a placement.
+    let _wires = placement.size();
+    Ok(placement)
 }
 
 /// The circuit on a device, from the given placement on: exactly the routing machine's run.
@@ -190,7 +200,8 @@ pub fn route(
     ensures few_swaps { IfOk result (λ r. (k : ℕ) → IsDiameter device.now.size device.now.edges k →
         r.swaps ≤ cx_count (ops circuit.now.gates) * (device.now.size + k)) }
 {
-    // A law, and what the contracts of these say of the device and the placement.
+    // Their contracts say how few swaps a run has, that the device is connected, and that `given` is a
+    // placement.
     few_swaps();
     let _size = device.size();
     let _qubits = given.size();

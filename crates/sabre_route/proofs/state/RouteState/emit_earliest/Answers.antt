@@ -7,6 +7,7 @@ use Rattle.sabre_route.specs.Emission.{apart}
 use Rattle.sabre_route.specs.Front.{HasPassed, IsFirst}
 use Rattle.sabre_route.specs.Kept.{is_at_head, waiting}
 use Rattle.sabre_route.specs.Passing.{IsPassing}
+use Rattle.sabre_route.specs.Search.{most_extended}
 use Rattle.sabre_route.proofs.KeptLaws.{earliest-read, emission-made, kept-begun, kept-first, kept-passed, kept-waiting, number-read, places-within, stuck-made}
 use Rattle.sabre_route.proofs.state.RouteState.emit_earliest.Goals as goal
 
@@ -81,7 +82,7 @@ invariant_of-self-2 c =
     (subst (λ (js : List ℕ). filled.result ≤ length js) c.as_slice-5.ensures.value filled.ensures.within)
     (filled.ensures.first ∙ (λ z. waiting (c.as_slice-6.ensures.value z) (take filled.result (c.as_slice-5.ensures.value z))))
     filled.ensures.short
-    (subst (λ (js : List ℕ). length filled.new.extended.items < 20 → filled.result ≡ length js) c.as_slice-5.ensures.value filled.ensures.full)
+    (subst (λ (js : List ℕ). length filled.new.extended.items < most_extended → filled.result ≡ length js) c.as_slice-5.ensures.value filled.ensures.full)
 
 pub returns : goal.returns
 returns c =
