@@ -57,8 +57,7 @@ pub highest_bit : (n : ℕ) → 0 < n → n < 2 ^ 64
 highest_bit n pos lt =
     let top = leading_top 64 n pos lt in
     let j = top.0 in
-    let place : 63 - count_leading_zeros 64 n ≡ j = omega (arith, top.1) in
-    (
+    let place : 63 - count_leading_zeros 64 n ≡ j = omega (arith, top.1) in (
       ap (bit_at n) place ∙ bit_at_top n j top.2 top.3,
       λ i below. bit_at_above n (suc j) i top.3 (omega arith),
     )
@@ -375,10 +374,10 @@ IsMarked-replaced es ms ns ks slot e lt m len longer off on =
     let size' = length-set es slot e in
     let gone : entry (set es slot None) slot ≡ None = get_or-set_same es slot None None lt in
     let cleared : IsMarked (set es slot None) ns = IsMarked-put es (set es slot None) ms ns slot (entry es slot) false m
-        (λ s below. let r = m.room s (omega arith) in omega arith)
-        (λ s other. get_or-set_other es slot s None None other)
-        (λ w. lost (meets (wire_bit w) (entry es slot)) ∙ sym (has_any-none (wire_bit w)) ∙ ap (meets (wire_bit w)) (sym gone))
-        off in
+    (λ s below. let r = m.room s (omega arith) in omega arith)
+    (λ s other. get_or-set_other es slot s None None other)
+    (λ w. lost (meets (wire_bit w) (entry es slot)) ∙ sym (has_any-none (wire_bit w)) ∙ ap (meets (wire_bit w)) (sym gone))
+    off in
     IsMarked-put (set es slot None) (set es slot e) ns ks slot e true cleared
     (λ s below. let r = m.room s (omega arith) in omega arith)
     (λ s other. get_or-set_other es slot s e None other ∙ sym (get_or-set_other es slot s None None other))

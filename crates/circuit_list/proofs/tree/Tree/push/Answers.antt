@@ -44,10 +44,9 @@ invariant_of-self-2 c =
     let written : length c.add.new.nodes ≡ length c.deref_mut.result.now = c.add.auto.nodes in
     let long = ap (λ (xs : List (Option Gate)). length xs) c.deref.ensures.value in
     let more : length c.push.new.self.items ≡ length items + 1 = ap (λ (xs : List (Option Gate)). length xs) c.in_ok-push.ensures.items ∙ length-append items (Some c.args.gate ∷ []) in
-    let few : length c.push.new.self.items ≤ length c.make_room.new.nodes.items = omega (arith, c.in_ok-make_room.ensures.room) in
-    (
+    let few : length c.push.new.self.items ≤ length c.make_room.new.nodes.items = omega (arith, c.in_ok-make_room.ensures.room) in (
       IsTree-written c.make_room.new.height c.make_room.new.nodes.len c.deref.result.now c.push.new.self.items c.make_room.new.nodes.items c.add.new.nodes c.make_room.ensures.tree (written ∙ value) (sym c.deref_mut.ensures.len ∙ value) few
-      (λ j pos lt. subst (λ (xs : List (Option Gate)). IsJoined xs c.add.new.nodes j) c.deref-2.ensures.value (c.add.ensures j pos (omega (arith, written)))),
+          (λ j pos lt. subst (λ (xs : List (Option Gate)). IsJoined xs c.add.new.nodes j) c.deref-2.ensures.value (c.add.ensures j pos (omega (arith, written)))),
       subst (λ (xs : List (Option Gate)). IsMarked xs c.put_marks.new.marks.items) (sym c.in_ok-push.ensures.items)
-      (IsMarked-push items c.make_marks.new.marks.items c.put_marks.new.marks.items c.len-slot.result (Some c.args.gate) len longer c.in_ok-make_marks.ensures.room c.put_marks.ensures.len c.put_marks.ensures.marks),
+          (IsMarked-push items c.make_marks.new.marks.items c.put_marks.new.marks.items c.len-slot.result (Some c.args.gate) len longer c.in_ok-make_marks.ensures.room c.put_marks.ensures.len c.put_marks.ensures.marks),
     )
