@@ -10,7 +10,7 @@
 //! gate's slot the next and the previous gate on one of its wires are found without a look at the
 //! gates between, and a gate is taken out without moving the others. Such a call takes no memory,
 //! and as many steps as the logarithm of the number of slots, or of the distance alone where a
-//! neighbour is asked for.
+//! neighbour is asked for. A near neighbour on a wire is found in a step.
 #![tactic(auto)]
 
 pub mod laws;
@@ -69,9 +69,10 @@ impl Gate {
 ///
 /// The number of gates and the gate in a slot are at hand. [`Circuit::place`] and [`Circuit::slot`] take as many steps as
 /// the logarithm of the number of slots, and one where no slot is empty; an edit takes as many as the logarithm, and a push
-/// now and then tells all slots anew, which spreads over the pushes before it. [`Circuit::after`], [`Circuit::before`],
-/// [`Circuit::slot_from`], [`Circuit::next_on`] and [`Circuit::prev_on`] take as many as the logarithm of the number of slots
-/// between the given slot and the answer.
+/// now and then tells all slots anew, which spreads over the pushes before it. [`Circuit::after`], [`Circuit::before`] and
+/// [`Circuit::slot_from`] take as many as the logarithm of the number of slots between the given slot and the answer. So do
+/// [`Circuit::next_on`] and [`Circuit::prev_on`] where the answer is far away; up to 192 slots away they find it in at
+/// most four words of bits. These words take eight bytes a slot.
 #[derive(Drop)]
 pub struct Circuit {
     wires: u32,

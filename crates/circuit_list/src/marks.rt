@@ -1,7 +1,8 @@
-//! Which slots' gates are on a wire, one bit a slot: the near neighbours on a wire are found in one word.
+//! Which slots' gates are on a wire, one bit a slot and wire.
 //!
 //! The slots stand in blocks of 64. For each block there are 64 words, one a wire; bit `i` of a word tells whether the gate in
-//! the block's slot `i` is on the wire. So the marks take eight bytes a slot.
+//! the block's slot `i` is on the wire. So the marks take eight bytes a slot, and a neighbour on a wire that is up to 192 slots
+//! away is found in at most four words. For one that is farther away the tree is walked.
 
 ghost use Rattle.std.specs.Prelude.{◌≡◌, ℕ, ◌+◌, ◌*◌, ◌/◌, ◌%◌, ◌^◌, ◌<◌, ◌≤◌, ◌==◌, ◌&&◌, cond, length, IfSome, MatchOption, OnOk, Some, slice_index};
 ghost use Rattle.std.specs.Int.{bit_at};

@@ -1,6 +1,7 @@
 //! The slots of a circuit, each with its gate or empty, and a complete binary tree over them. Each
 //! node tells how many gates stand below it and on which wires they are, so a place, a slot and the
-//! next gate on a wire are found in as many steps as the tree is high.
+//! next gate on a wire are found in as many steps as the tree is high. Near gates on a wire are found by
+//! marks, without the tree.
 
 ghost use Rattle.std.specs.Prelude.{◌≡◌, ◌+◌, ◌*◌, ◌^◌, ◌<◌, ◌++◌, ◌∷◌, [], length, IfOk, OnOk, OnErr, MatchOption, slice_set, Some, true};
 ghost use Rattle.circuit_list.specs.Entries.{entry, gates_of, is_live, rank};
@@ -17,7 +18,8 @@ use std::marker::Model;
 /// All wires at once.
 const ANY_WIRE: u64 = u64::MAX;
 
-/// A list of slots. The nodes are as many as two to the height, and no fewer than the slots.
+/// A list of slots. The nodes are as many as two to the height, and no fewer than the slots. Each slot is marked on the wires
+/// that its gate is on.
 #[derive(Drop)]
 pub(crate) struct Tree {
     gates: Vec<Option<Gate>>,
