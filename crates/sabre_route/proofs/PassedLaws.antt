@@ -8,7 +8,7 @@
 --   none-emittable       where no gate that is ready can be emitted, none that is left can
 --   IsTaken es q old g new    g is the earliest gate of a list that can be emitted, and is taken from it
 --   emission-ready       the first that can be emitted of those that are ready is the earliest that can
-use Rattle.std.proofs.Common.{◌≡◌, ◌≢◌, ℕ, zero, suc, ◌+◌, ◌<◌, ◌≤◌, ◌⊎◌, inl, inr, ◌&&◌, Bool, not, true, false, cond, List, [], ◌∷◌, ◌++◌, All, None, Some, fold, length, min, get_or, nat_eq, nat_lt, remove, slice_get, slice_index, take, refl, sym, subst, ◌∙◌, ap, append-nil, append_assoc, zero-add, arith}
+use Rattle.std.proofs.Common.{◌≡◌, ℕ, zero, suc, ◌+◌, ◌<◌, ◌≤◌, ◌⊎◌, inl, inr, ◌&&◌, Bool, true, false, cond, List, [], ◌∷◌, ◌++◌, All, None, Some, fold, length, min, get_or, nat_eq, nat_lt, remove, slice_get, slice_index, take, refl, sym, subst, ◌∙◌, ap, append-nil, append_assoc, zero-add, arith}
 use Rattle.std.specs.List.{list_any}
 use Rattle.std.proofs.lemmas.Bool.{cases_lt}
 use Rattle.std.proofs.lemmas.Bool.Decides.{nat_tests}

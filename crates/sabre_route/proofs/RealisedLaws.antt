@@ -388,12 +388,12 @@ routed-realising d n gs first r metric le fine placed h =
     let k : ℕ = turned d.edges first h.events % 8 in
     let m : ℕ = swap_count h.events in
     let c : Carried d gs first h.final vs k m = same_carried d gs first h.final vs vs ((0 + turned d.edges first h.events) % 8) k (0 + m) m refl (ap (λ x. x % 8) (zero-add (turned d.edges first h.events))) (zero-add m)
-        (run-carried d gs first (start first gs) h.final h.events [] 0 0 metric (omega arith) h.run.steps (record {
-          done = [];
-          split = split-start gs;
-          realised = realised-start d.edges d.size first placed;
-          fine = recursion_from_All (IsFine d.size) gs (all-fine_more n d.size gs le fine);
-        })) in
+    (run-carried d gs first (start first gs) h.final h.events [] 0 0 metric (omega arith) h.run.steps (record {
+      done = [];
+      split = split-start gs;
+      realised = realised-start d.edges d.size first placed;
+      fine = recursion_from_All (IsFine d.size) gs (all-fine_more n d.size gs le fine);
+    })) in
     subst (λ (x : List ℕ). IsRealising d n gs first (record { body = r.body; last = x; swaps = r.swaps; turn = r.turn })) (sym h.last)
     (subst (λ (x : ℕ). IsRealising d n gs first (record { body = r.body; last = h.final.placement; swaps = x; turn = r.turn })) (sym h.swaps)
     (subst (λ (x : ℕ). IsRealising d n gs first (record { body = r.body; last = h.final.placement; swaps = m; turn = x })) (sym h.turn)
