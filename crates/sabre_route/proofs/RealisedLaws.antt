@@ -7,8 +7,7 @@
 --   realised-start, -emitted, -swapped
 --   Carried, run-carried     a run keeps both
 --   routed-realising         what was written at its end realises the gates
-use Rattle.std.proofs.Common.{◌≡◌, ◌≢◌, ℕ, zero, suc, ◌+◌, ◌*◌, ◌%◌, ◌<◌, ◌≤◌, ◌⊎◌, ◌||◌, ◌==◌, inl, inr, Bool, not, true, false, cond, List, [], ◌∷◌, ◌++◌, All, Some, None, length, map, nat_eq, slice_get, slice_index, take, refl, sym, ◌∙◌, ap, subst, arith, append-nil, append_assoc, add-zero, zero-add}
-use Rattle.std.specs.Bool.{IsTrue}
+use Rattle.std.proofs.Common.{◌≡◌, ◌≢◌, ℕ, zero, suc, ◌+◌, ◌*◌, ◌%◌, ◌<◌, ◌≤◌, ◌⊎◌, ◌||◌, inl, inr, Bool, not, true, false, cond, List, [], ◌∷◌, ◌++◌, All, Some, None, map, nat_eq, slice_get, slice_index, take, refl, sym, ◌∙◌, ap, subst, arith, append-nil, append_assoc, add-zero, zero-add}
 use Rattle.std.specs.List.{AllByRecursion, list_any, remove}
 use Rattle.std.proofs.lemmas.Bool.Decides.{nat_tests}
 use Rattle.std.proofs.lemmas.List.{get_or-map, length-map, map-append}
@@ -35,7 +34,7 @@ use Rattle.unitary_model.proofs.Steps.{t_count-append, cx_count-append}
 use Rattle.unitary_model.proofs.TurnsLaws.{Turns_refl, Turns_trans, Turns_inside}
 use Rattle.sabre_route.specs.Emission.{apart, emitted, emitted_turn, low_order, swap_gates, swap_turn, cx_gates, cx_turn}
 use Rattle.sabre_route.specs.Front.{first_wire, second_wire}
-use Rattle.sabre_route.specs.Machine.{State, Event, Emit, Swap, emission, exchange, start, IsChosen, IsEmission, IsExchange, IsRun, Run, Step}
+use Rattle.sabre_route.specs.Machine.{State, Event, Emit, Swap, emission, exchange, start, IsEmission, IsExchange, IsRun, Run}
 use Rattle.sabre_route.specs.declared.router.Routed.{Routed}
 use Rattle.sabre_route.specs.Routing.{swap_count, turned, written, IsRouted}
 use Rattle.sabre_route.specs.Scores.{IsMetric}

@@ -1,4 +1,4 @@
-use Rattle.std.proofs.Common.{◌≡◌, ℕ, length, refl, subst}
+use Rattle.std.proofs.Common.{ℕ, refl, subst}
 use Rattle.std.proofs.lemmas.List.Elements.{All-from_recursion}
 use Rattle.circuit_list.specs.Gates.{IsFine}
 use Rattle.unitary_model.specs.Placement.{IsPlacement}

@@ -1,4 +1,4 @@
-use Rattle.std.proofs.Common.{◌≡◌, ◌∙◌, ℕ, List, length, sym, ap, subst}
+use Rattle.std.proofs.Common.{◌≡◌, ◌∙◌, ℕ, length, ap, subst}
 use Rattle.unitary_model.specs.Placement.{IsPlacement}
 use Rattle.sabre_route.proofs.DistanceLaws.{metric}
 use Rattle.sabre_route.proofs.ProgressLaws.{started-sound, step-less}
