@@ -1,5 +1,5 @@
 -- The kind says how many draws an operation takes.
-use Rattle.std.proofs.Common.{◌≡◌, ℕ, ◌+◌, ◌-◌, ◌%◌, Bool, true, false, sym, ◌∙◌}
+use Rattle.std.proofs.Common.{◌≡◌, ℕ, ◌%◌, Bool, true, false, sym, ◌∙◌}
 use Rattle.std.proofs.lemmas.Bool.{cond-true, cond-false}
 use Rattle.unitary_model.specs.declared.Op.{Op}
 use Rattle.unitary_model.specs.declared.Op.TheVariants.{Cx}
