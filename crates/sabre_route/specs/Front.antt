@@ -1,4 +1,4 @@
--- Working form. Which gates of a circuit are left, and which are first on their wires.
+-- Which gates of a circuit are left, and which are first on their wires.
 --   first_wire g, second_wire g   the wires of a gate, the same twice where it has one
 --   is_left heads i g      gate g at place i is left: it isn't before the head of its wire
 --   rest_by left i gs      the gates that pass a test of place and gate, the first of them at place i

@@ -1,9 +1,11 @@
+-- ---- definitions that public clauses reach
 pub mod Emission
 pub mod Front
 pub mod Search
-pub mod Scores
 pub mod Machine
+pub mod Routing
+-- ---- working forms
+pub mod Scores
 pub mod Kept
 pub mod Passing
-pub mod Routing
 pub mod Underway
