@@ -139,7 +139,7 @@ pub fn run<I: Source, F: Shelf, O: Sink, R: Sink>(
     accepted_has_no_refusal();
     means_once();
     match decide(alloc, words, input, shelf) {
-        Ok(plan) => emit(&plan, out, report),
+        Ok(work) => emit(alloc, &work, out, report),
         Err(stop) => tell(alloc, stop, report),
     }
 }

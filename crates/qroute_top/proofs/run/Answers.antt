@@ -1,18 +1,36 @@
--- What follows of each status, from the cause of a stop or from what a plan delivers.
+-- What follows of each status, from the cause of a stop or from what a work delivers.
 use Rattle.std.proofs.Common.{inl, inr, ◌∙◌, ap, Err, map}
 use Rattle.qroute_top.specs.Causes.{Handed}
-use Rattle.qroute_top.proofs.RunLaws.{asked_of, planned-refuses, planned-refuses_device, same_stop, stopped-absent, stopped-complete, stopped-read, stopped-refuses, stopped-refuses_device, stopped-two}
+use Rattle.qroute_top.proofs.RunLaws.{Delivered-done, asked_of, came, planned-absent, planned-refuses, planned-refuses_device, same_stop, stopped-absent, stopped-complete, stopped-read, stopped-refuses, stopped-refuses_device, stopped-two}
 use Rattle.qroute_top.proofs.StatusLaws.{not_late}
 use Rattle.qroute_top.proofs.run.Goals as goal
 
+pub returns-in-Ok-clause-headline : goal.returns-in-Ok-clause-headline
+returns-in-Ok-clause-headline g c = λ e. Delivered-done _ _ _ _ c.in-Ok.work _ c.in-Ok.ensures.made (c.emit.ensures.done e)
+
+pub returns-in-Ok-clause-output : goal.returns-in-Ok-clause-output
+returns-in-Ok-clause-output g c = λ e.
+    let h = c.emit.ensures.output e in
+    (h.1, Delivered-done _ _ _ _ c.in-Ok.work _ c.in-Ok.ensures.made h.0, h.2)
+
 pub returns-in-Ok-clause-refuses : goal.returns-in-Ok-clause-refuses
 returns-in-Ok-clause-refuses g c =
-    λ a text r asked reads told is calm. absurd (planned-refuses c.accepted_has_no_refusal.ensures _ _ _ _ _ _ text r c.in-Ok.ensures.plan told is)
+    let e = c.emit.ensures in
+    λ a text r asked reads told is calm. planned-refuses c.accepted_has_no_refusal.ensures _ _ _ _ c.in-Ok.work c.emit.result text r c.in-Ok.ensures.made
+    (came c.in-Ok.work c.emit.result _ _ _ _ _ e.ends e.done e.output e.report) told is
+
+pub returns-in-Ok-clause-absent : goal.returns-in-Ok-clause-absent
+returns-in-Ok-clause-absent g c =
+    let e = c.emit.ensures in
+    λ a name text p asked wants told ok calm shelf_calm none. planned-absent _ _ _ _ c.in-Ok.work c.emit.result name a c.in-Ok.ensures.made
+    (came c.in-Ok.work c.emit.result _ _ _ _ _ e.ends e.done e.output e.report) asked wants none
 
 pub returns-in-Ok-clause-refuses_device : goal.returns-in-Ok-clause-refuses_device
 returns-in-Ok-clause-refuses_device g c =
-    λ a name text device_text p r asked wants told ok calm shelf_calm here refusal. absurd
-    (planned-refuses_device c.means_once.ensures _ _ _ _ _ _ name a text device_text p r c.in-Ok.ensures.plan asked wants told ok here refusal)
+    let e = c.emit.ensures in
+    λ a name text device_text p r asked wants told ok calm shelf_calm here refusal. planned-refuses_device c.means_once.ensures _ _ _ _ c.in-Ok.work c.emit.result
+    name a text device_text p r c.in-Ok.ensures.made (came c.in-Ok.work c.emit.result _ _ _ _ _ e.ends e.done e.output e.report) asked wants told ok here
+    refusal
 
 pub returns-in-Err-clause-calm : goal.returns-in-Err-clause-calm
 returns-in-Err-clause-calm g c = λ e. absurd (not_late c.in-Err.stop c.tell.result c.tell.ensures.status (inl e))
