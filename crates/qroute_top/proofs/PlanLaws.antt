@@ -5,7 +5,7 @@
 --   few_cx_counts, few_t_counts   the counts of few operations fit
 --   Makes-planned        a target that stands for the source is made as it should be
 --   Rewrites-in_place, Rewrites-routed     on its own wires, and on a device
---   HasPlanned-text, HasPlanned-both       what came of a program came of its target
+--   HasPlanned-written   what came of a program came of its target
 use Rattle.std.proofs.Common.{◌≡◌, ℕ, suc, ◌+◌, ◌*◌, ◌%◌, ◌<◌, ◌≤◌, Bool, true, false, List, [], ◌∷◌, Option, Some, None, Result, Ok, Err, All, refl, sym, ap, subst, ◌∙◌, arith, inl, inr, length, map, get_or}
 use Rattle.std.proofs.lemmas.List.Elements.{recursion_from_All, All-from_recursion}
 use Rattle.std.specs.List.{AllByRecursion}
@@ -23,10 +23,8 @@ use Rattle.circuit_list.specs.declared.Gate.TheVariants.{H, X, P, Cx}
 use Rattle.circuit_list.specs.Gates.{IsFine, ops}
 use Rattle.coupling_map.specs.Coupling.{Coupling}
 use Rattle.gate_inline.specs.Registers.{IsFree, IsRead}
-use Rattle.gate_inline.specs.Programs.{IsWritten, Program}
-use Rattle.program_reader.specs.Refusals.{program_of as source_program}
-use Rattle.qasm_writer.specs.Outputs.{HasText, program_of}
-use Rattle.qasm_writer.specs.declared.output.Output.{Output}
+use Rattle.gate_inline.specs.Programs.{IsWritten}
+use Rattle.program_reader.specs.Refusals.{program_of}
 use Rattle.program_reader.specs.declared.source.Source.{Source}
 use Rattle.coupling_map.specs.Edges.{FollowsEdges}
 use Rattle.qroute_top.specs.Delivered.{IsInPlace, IsOnQubits, Makes, Rewrites, placed_read}
@@ -61,7 +59,7 @@ reads_wider n m rs fits h = All-from_recursion (IsRead m) rs (by_list rs (recurs
 
 -- ---- a target that stands for the source
 pub Makes-planned : (s : Source) (t : Target) (text line : List ℕ) → Stands s.ops.wires s.ops.list t → All (IsFine t.body.wires) t.body.gates
-    → (plan : IsPlanned s t text line) → Makes (source_program s) (target_program s t) plan.told text line
+    → (plan : IsPlanned s t text line) → Makes (program_of s) (target_program s t) plan.told text line
 Makes-planned s t text line stands fine plan =
     let r = plan.numbers in
     record {
@@ -86,7 +84,7 @@ Makes-planned s t text line stands fine plan =
 
 pub Rewrites-in_place : (s : Source) (t : Target) (text line : List ℕ) → Stands s.ops.wires s.ops.list t → All (IsFine t.body.wires) t.body.gates
     → t.body.wires ≡ s.ops.wires → IsSettled s.ops.wires (ops t.body.gates) → t.swaps ≡ 0 → t.initial ≡ identity s.ops.wires → t.last ≡ identity s.ops.wires
-    → IsPlanned s t text line → Rewrites (source_program s) (IsInPlace (source_program s)) text line
+    → IsPlanned s t text line → Rewrites (program_of s) (IsInPlace (program_of s)) text line
 Rewrites-in_place s t text line stands fine wires settled swaps initial last plan =
     let r = plan.numbers in
     record {
@@ -101,7 +99,7 @@ pub Rewrites-routed : (s : Source) (t : Target) (d : Coupling) (trivial : Bool) 
     → (trivial ≡ true → t.initial ≡ identity d.size)
     → IsMachineRun d trivial s.ops.wires s.ops.list (ops t.body.gates) t.initial t.last t.swaps t.turn
     → HasFewSwaps d s.ops.list (ops t.body.gates) t.swaps
-    → IsPlanned s t text line → Rewrites (source_program s) (IsOnQubits d trivial (source_program s)) text line
+    → IsPlanned s t text line → Rewrites (program_of s) (IsOnQubits d trivial (program_of s)) text line
 Rewrites-routed s t d trivial text line stands fine wires edges initial run few plan =
     let r = plan.numbers in
     record {
@@ -117,26 +115,14 @@ Rewrites-routed s t d trivial text line stands fine wires edges initial run few 
       };
     }
 
--- the program that goes out is that of the target
-program_same : (s : Source) (t : Target) (bits : List Bits) (reads : List (Option ℕ)) → bits ≡ s.registers.items
-    → reads ≡ map (placed_read t.last) s.ops.reads
-    → record { wires = t.body.wires; ops = ops t.body.gates; reads = reads; registers = bits; barriers = 0 } ≡ target_program s t
-program_same s t bits reads registers same = cc
-
-planned : (s : Source) (t : Target) (p : Program) (text line : List ℕ) → p ≡ target_program s t → TellsReport s t line → IsWritten text p
-    → IsPlanned s t text line
-planned s t p text line same (told, report, numbers) written =
-    record { written = subst (IsWritten text) same written; told = told; report = report; numbers = numbers }
-
--- what came of the program is what came of the target
-pub HasPlanned-text : (s : Source) (t : Target) (o : Output) (line : List ℕ) (Done : List ℕ → Type 0) → program_of o ≡ target_program s t
-    → TellsReport s t line → HasText o Done → HasPlanned s t (λ x _. Done x)
-HasPlanned-text s t o line Done same tells (text, is, written, came) = (text, line, planned s t (program_of o) text line same tells written, came)
-
-pub HasPlanned-both : (s : Source) (t : Target) (o : Output) (line : List ℕ) (Done Told : List ℕ → Type 0) → program_of o ≡ target_program s t
-    → TellsReport s t line → HasText o Done → Told line → HasPlanned s t (λ x l. Done x × Told l)
-HasPlanned-both s t o line Done Told same tells (text, is, written, came) told =
-    (text, line, planned s t (program_of o) text line same tells written, came, told)
+-- what came of a program came of its target
+pub HasPlanned-written : (s : Source) (t : Target) (text line : List ℕ) (Done : List ℕ → Type 0) (bits : List Bits) (reads : List (Option ℕ))
+    → bits ≡ s.registers.items → reads ≡ map (placed_read t.last) s.ops.reads → TellsReport s t line
+    → IsWritten text (record { wires = t.body.wires; ops = ops t.body.gates; reads = reads; registers = bits; barriers = 0 }) → Done text
+    → HasPlanned s t (λ x _. Done x)
+HasPlanned-written s t text line Done bits reads registers same (told, report, numbers) written came =
+    let here : IsWritten text (target_program s t) = rw (registers, same) at written in
+    (text, line, record { written = here; told = told; report = report; numbers = numbers }, came)
 
 -- ---- counts
 few_cx : (us : List Op) → cx_count us ≤ length us

@@ -364,16 +364,16 @@ stopped-absent law h s n c name p w e a wants here = elim (by_stop s) [
         absent_text (h.content other) u there tells
 
 -- ---- after a decision
--- memory was wanting, or something came of a work
+-- memory was wanting, or some text and line are right for a work
 abbrev pub Came : Work → ℕ → Type 0
-Came w n = (n ≡ 7) ⊎ HasWork w (λ x l. Unit {0})
+Came w n = (n ≡ 7) ⊎ ((x : List ℕ) × (l : List ℕ) × IsWork w x l)
 
-pub came : (w : Work) (n : ℕ) (Done Failed Told : List ℕ → List ℕ → Type 0) (out report : Type 0) → (n ≡ 0) ⊎ ((n ≡ 6) ⊎ ((n ≡ 7) ⊎ (n ≡ 8)))
-    → (n ≡ 0 → HasWork w Done) → (n ≡ 6 → HasWork w Failed × out) → (n ≡ 8 → HasWork w Told × report) → Came w n
-came w n Done Failed Told out report (inl zero) done failed told = let (x, l, is, _) = done zero in inr (x, l, is, tt)
-came w n Done Failed Told out report (inr (inl six)) done failed told = let (x, l, is, _) = (failed six).0 in inr (x, l, is, tt)
-came w n Done Failed Told out report (inr (inr (inl seven))) done failed told = inl seven
-came w n Done Failed Told out report (inr (inr (inr eight))) done failed told = let (x, l, is, _) = (told eight).0 in inr (x, l, is, tt)
+pub came : (w : Work) (n : ℕ) → (n ≡ 0) ⊎ ((n ≡ 6) ⊎ ((n ≡ 7) ⊎ (n ≡ 8))) → (n ≡ 0 → (x : List ℕ) × (l : List ℕ) × IsWork w x l)
+    → (n ≡ 6 → (x : List ℕ) × (l : List ℕ) × IsWork w x l) → (n ≡ 8 → (x : List ℕ) × (l : List ℕ) × IsWork w x l) → Came w n
+came w n (inl zero) done failed told = inr (done zero)
+came w n (inr (inl six)) done failed told = inr (failed six)
+came w n (inr (inr (inl seven))) done failed told = inl seven
+came w n (inr (inr (inr eight))) done failed told = inr (told eight)
 
 -- what is delivered for each text and line that are right for the work
 abbrev pub DeliversWork : List (List ℕ) → Content → Option (List ℕ) → Option (List ℕ) → Work → Type 0
@@ -389,20 +389,20 @@ refused_or_delivered law words content old new x l text r d told refusal =
 pub planned-refuses : NoRefusal → (words : List (List ℕ)) (content : Content) (old new : Option (List ℕ)) (w : Work) (n : ℕ) (text : List ℕ) (r : Refusal)
     → DeliversWork words content old new w → Came w n → old ≡ Some text → IsRefusal text r → (n ≡ 3) ⊎ (n ≡ 7)
 planned-refuses law words content old new w n text r delivers (inl seven) told refusal = inr seven
-planned-refuses law words content old new w n text r delivers (inr (x, l, is, _)) told refusal =
+planned-refuses law words content old new w n text r delivers (inr (x, l, is)) told refusal =
     absurd (refused_or_delivered law words content old new x l text r (delivers x l is) told refusal)
 
 -- what is delivered for a command that loads a device comes of the text of its device
 answer_on : (content : Content) (name : List ℕ) (c : Command) (source : Program) (x l : List ℕ) → device_name c ≡ Some name → IsAnswer content c source x l
-    → (trivial : Bool) × Rewrites source (IsOnDevice content name trivial) x l
+    → (trivial : Bool) × Rewrites source (IsOnDevice content name trivial source) x l
 answer_on content name Opt source x l wants answer = cc
 answer_on content name (Route other trivial) source x l wants answer =
-    let same : other ≡ name = cc in (trivial, subst (λ y. Rewrites source (IsOnDevice content y trivial) x l) same answer)
+    let same : other ≡ name = cc in (trivial, subst (λ y. Rewrites source (IsOnDevice content y trivial source) x l) same answer)
 answer_on content name Check source x l wants answer = cc
 answer_on content name Stages source x l wants answer = cc
 
 planned_on : (words : List (List ℕ)) (content : Content) (old new : Option (List ℕ)) (x l name : List ℕ) (c : Command) (d : Delivers words content old new x l)
-    → command_of words ≡ Some c → device_name c ≡ Some name → (trivial : Bool) × Rewrites d.source (IsOnDevice content name trivial) x l
+    → command_of words ≡ Some c → device_name c ≡ Some name → (trivial : Bool) × Rewrites d.source (IsOnDevice content name trivial d.source) x l
 planned_on words content old new x l name c d asked wants =
     let same : c ≡ d.command = some_same c d.command (sym asked ∙ d.asked) in
     answer_on content name d.command d.source x l (subst (λ y. device_name y ≡ Some name) same wants) d.answer
@@ -414,7 +414,7 @@ pub planned-absent : (words : List (List ℕ)) (content : Content) (old new : Op
     → DeliversWork words content old new w → Came w n → command_of words ≡ Some c → device_name c ≡ Some name → content name ≡ Some None
     → (n ≡ 9) ⊎ (n ≡ 7)
 planned-absent words content old new w n name c delivers (inl seven) asked wants none = inr seven
-planned-absent words content old new w n name c delivers (inr (x, l, is, _)) asked wants none =
+planned-absent words content old new w n name c delivers (inr (x, l, is)) asked wants none =
     let on = planned_on words content old new x l name c (delivers x l is) asked wants in
     absurd (absent_text (content name) on.1.placed.device_text none on.1.placed.loaded)
 
@@ -429,14 +429,14 @@ refused_or_routed once words content old new x l name c text t p r d asked wants
     let texts = told_text old text d.source_text told (Tells-taken old new d.source_text d.consumed) in
     let accepted : IsAccepted text d.source = rw texts at d.accepted in
     let source = once text d.source p (written_of text d.source accepted) (written_of text p ok) in
-    let fits : d.source.wires ≤ placed.device.size = rw (← placed.qubits) on.1.made.unitary.fits in
+    let fits : d.source.wires ≤ placed.device.size = rw (← placed.routed.qubits) on.1.made.unitary.fits in
     IsDevice-refused t placed.device p.wires r described (subst (λ (q : Program). q.wires ≤ placed.device.size) source fits) refusal
 
 pub planned-refuses_device : MeansOnce → (words : List (List ℕ)) (content : Content) (old new : Option (List ℕ)) (w : Work) (n : ℕ) (name : List ℕ) (c : Command)
     (text t : List ℕ) (p : Program) (r : DeviceRefusal) → DeliversWork words content old new w → Came w n → command_of words ≡ Some c
     → device_name c ≡ Some name → old ≡ Some text → IsAccepted text p → content name ≡ Some (Some t) → IsDeviceRefusal t p.wires r → (n ≡ 4) ⊎ (n ≡ 7)
 planned-refuses_device once words content old new w n name c text t p r delivers (inl seven) asked wants told ok here refusal = inr seven
-planned-refuses_device once words content old new w n name c text t p r delivers (inr (x, l, is, _)) asked wants told ok here refusal =
+planned-refuses_device once words content old new w n name c text t p r delivers (inr (x, l, is)) asked wants told ok here refusal =
     absurd (refused_or_routed once words content old new x l name c text t p r (delivers x l is) asked wants told ok here refusal)
 
 -- ---- stops by their statuses

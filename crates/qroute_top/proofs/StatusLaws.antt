@@ -3,10 +3,12 @@
 --   Ends s n              a stop ends with want of memory or with its status
 --   not_late              it is none of those that a plan ends with
 --   Gains-nothing         what is untouched gained no bytes
+--   HasWork-line, HasWork-told, no_text_of   what came of a work that has a line alone
 --   on_ok, on_err         what holds anyway holds of an answer
 --   HasText-stays, HasText-prefix   a program that came, and a sink that then keeps what it holds
-use Rattle.std.proofs.Common.{◌≡◌, ◌⊎◌, ℕ, List, [], Option, Some, None, Result, Ok, Err, refl, sym, arith, append-nil}
-use Rattle.std.specs.Prelude.{OnErr, OnOk}
+use Rattle.std.proofs.Common.{◌≡◌, ◌⊎◌, ℕ, List, [], Option, Some, None, Result, Ok, Err, true, false, refl, sym, ap, subst, arith, append-nil}
+use Rattle.std.specs.Prelude.{OnErr, OnOk, Vec}
+use Rattle.std.specs.declared.alloc.Global.{Global}
 use Rattle.outside_io.specs.Bytes.{Gains, GainsPrefix, Stays}
 use Rattle.outside_io.proofs.Known.{Gains-stays, GainsPrefix-stays}
 use Rattle.coupling_map.specs.declared.faults.DeviceFault.TheVariants as device_fault_is
@@ -25,6 +27,9 @@ use Rattle.route_report.specs.declared.faults.Fault.TheVariants as fault
 use Rattle.qasm_writer.specs.Outputs.{HasText}
 use Rattle.qasm_writer.specs.declared.output.Output.{Output}
 use Rattle.qroute_top.specs.Causes.{device_fault, fault_of, refusal_fault, stop_status}
+use Rattle.qroute_top.specs.Plans.{HasWork, has_text}
+use Rattle.qroute_top.specs.declared.plan.Work.{Work}
+use Rattle.qroute_top.specs.declared.plan.Work.TheVariants as work
 use Rattle.qroute_top.specs.declared.stops.DeviceRefusal.{DeviceRefusal}
 use Rattle.qroute_top.specs.declared.stops.DeviceRefusal.TheVariants as device
 use Rattle.qroute_top.specs.declared.stops.Stop.{Stop}
@@ -107,6 +112,20 @@ Gains-nothing None = tt
 Gains-nothing (Some bytes) = sym (append-nil bytes)
 
 pub ruleset told = (status-stop)
+
+-- a work that has a line alone
+pub HasWork-line : (w : Work) (v : Vec ℕ Global) (line : List ℕ) (a b c : Option (List ℕ)) → w ≡ work.Line v → line ≡ v.items → Gains b c line
+    → HasWork w (λ x l. Gains a a x × Gains b c l)
+HasWork-line w v line a b c is same told =
+    subst (λ (y : Work). HasWork y (λ x l. Gains a a x × Gains b c l)) (sym is) ([], line, (refl, same), Gains-nothing a, told)
+
+pub no_text_of : (w : Work) (v : Vec ℕ Global) → w ≡ work.Line v → has_text w ≡ true → ⊥
+no_text_of w v is some = let no : has_text w ≡ false = ap has_text is in cc
+
+pub HasWork-told : (w : Work) (v : Vec ℕ Global) (line : List ℕ) (a b c : Option (List ℕ)) → w ≡ work.Line v → line ≡ v.items → GainsPrefix b c line
+    → HasWork w (λ x l. Gains a a x × GainsPrefix b c l)
+HasWork-told w v line a b c is same told =
+    subst (λ (y : Work). HasWork y (λ x l. Gains a a x × GainsPrefix b c l)) (sym is) ([], line, (refl, same), Gains-nothing a, told)
 
 pub HasText-stays : (o : Output) (a b c : Option (List ℕ)) → HasText o (λ text. Gains a b text) → Stays b c → HasText o (λ text. Gains a c text)
 HasText-stays o a b c (text, is, written, came) stays = (text, is, written, Gains-stays a b c text came stays)
