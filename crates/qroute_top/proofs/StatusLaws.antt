@@ -116,16 +116,16 @@ pub ruleset told = (status-stop)
 -- a work that has a line alone
 pub HasWork-line : (w : Work) (v : Vec ℕ Global) (line : List ℕ) (a b c : Option (List ℕ)) → w ≡ work.Line v → line ≡ v.items → Gains b c line
     → HasWork w (λ x l. Gains a a x × Gains b c l)
-HasWork-line w v line a b c is same told =
-    subst (λ (y : Work). HasWork y (λ x l. Gains a a x × Gains b c l)) (sym is) ([], line, (refl, same), Gains-nothing a, told)
+HasWork-line w v line a b c is same came =
+    subst (λ (y : Work). HasWork y (λ x l. Gains a a x × Gains b c l)) (sym is) ([], line, (refl, same), (Gains-nothing a, came))
 
 pub no_text_of : (w : Work) (v : Vec ℕ Global) → w ≡ work.Line v → has_text w ≡ true → ⊥
 no_text_of w v is some = let no : has_text w ≡ false = ap has_text is in cc
 
 pub HasWork-told : (w : Work) (v : Vec ℕ Global) (line : List ℕ) (a b c : Option (List ℕ)) → w ≡ work.Line v → line ≡ v.items → GainsPrefix b c line
     → HasWork w (λ x l. Gains a a x × GainsPrefix b c l)
-HasWork-told w v line a b c is same told =
-    subst (λ (y : Work). HasWork y (λ x l. Gains a a x × GainsPrefix b c l)) (sym is) ([], line, (refl, same), Gains-nothing a, told)
+HasWork-told w v line a b c is same came =
+    subst (λ (y : Work). HasWork y (λ x l. Gains a a x × GainsPrefix b c l)) (sym is) ([], line, (refl, same), (Gains-nothing a, came))
 
 pub HasText-stays : (o : Output) (a b c : Option (List ℕ)) → HasText o (λ text. Gains a b text) → Stays b c → HasText o (λ text. Gains a c text)
 HasText-stays o a b c (text, is, written, came) stays = (text, is, written, Gains-stays a b c text came stays)

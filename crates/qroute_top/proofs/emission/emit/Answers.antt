@@ -7,11 +7,11 @@ pub returns-in-Line-clause-done : goal.returns-in-Line-clause-done
 returns-in-Line-clause-done g c = λ e.
     let h = c.emit_line.ensures.done e in
     HasWork-line c.args.work.now c.in-Line.line _ (g.O.Sink.held c.args.out.now) (g.R.Sink.held c.args.report.now) (g.R.Sink.held c.emit_line.new.report)
-    c.in-Line.is c.deref.ensures.value h.0
+    c.in-Line.is c.deref-in-Line.ensures.value h.0
 
 pub returns-in-Line-clause-report : goal.returns-in-Line-clause-report
 returns-in-Line-clause-report g c = λ e.
     let h = c.emit_line.ensures.report e in
     let told = HasWork-told c.args.work.now c.in-Line.line _ (g.O.Sink.held c.args.out.now) (g.R.Sink.held c.args.report.now)
-    (g.R.Sink.held c.emit_line.new.report) c.in-Line.is c.deref.ensures.value h.0 in
+    (g.R.Sink.held c.emit_line.new.report) c.in-Line.is c.deref-in-Line.ensures.value h.0 in
     (told, (λ some. absurd (no_text_of c.args.work.now c.in-Line.line c.in-Line.is some)), refl, h.1)

@@ -12,5 +12,5 @@ returns-in-Ok-clause-output g c = λ e.
     let came = h.0 in
     let planned = HasPlanned-written c.args.source.now c.args.target.now came.0 c.in-Ok.line.items
     (GainsPrefix (g.O.Sink.held c.args.out.now) (g.O.Sink.held c.emit_program.new.out)) (map bits_of c.in-Ok.registers.items) c.in-Ok.reads.items
-    p.registers p.reads p.line came.2 (came.3, came.4, came.5) in
+    (rw c.in-Ok.registers-is at p.registers) (rw c.in-Ok.reads-is at p.reads) (rw c.in-Ok.line-is at p.line) came.2 came.3 in
     (planned, h.1, h.2)
