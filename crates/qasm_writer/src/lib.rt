@@ -7,14 +7,17 @@
 #![tactic(auto)]
 
 ghost use Rattle.std.specs.List.{flat_map, list_any};
-ghost use Rattle.std.specs.Prelude.{◌≡◌, ◌<◌, ◌≤◌, ◌++◌, All, IfOk, OnOk, length, map, string_bytes, sum_by};
+ghost use Rattle.std.specs.Prelude.{◌≡◌, ◌<◌, ◌≤◌, ◌++◌, [], All, IfOk, OnErr, OnOk, length, map, string_bytes, sum_by, vec_capacity};
 ghost use Rattle.std.specs.Str.{bytes_eq};
 ghost use Rattle.circuit_list.specs.Gates.{op_of, ops};
 ghost use Rattle.gate_inline.specs.Programs.{IsWritten};
-ghost use Rattle.qasm_writer.specs.Outputs.{IsOutput, IsText, bits_of, program_of};
+ghost use Rattle.outside_io.specs.Bytes.{Gains, GainsPrefix};
+ghost use Rattle.outside_io.specs.Causes.{HasCause};
+ghost use Rattle.qasm_writer.specs.Outputs.{HasText, IsOutput, IsText, bits_of, program_of};
 ghost use Rattle.qasm_writer.specs.Texts.{IsQubitsName, bits_line, op_line, phase_text, read_line, read_lines, register_lines, wires_line};
 
 use circuit_list::{Circuit, Gate};
+use outside_io::{Failed, Sink};
 use output::{Output, Register};
 use std::alloc::{AllocError, Global};
 
@@ -186,6 +189,27 @@ pub fn program_text(alloc: Global, output: &Output) -> Result<Vec<u8>, AllocErro
     push_gates(&mut text, &q, output.body)?;
     push_reads(&mut text, &q, output.registers, output.reads)?;
     Ok(text.into_bytes())
+}
+
+/// Writes the text of a program to a sink, in pieces of 4,096 bytes, of which the last may be shorter. After `Failed` a prefix
+/// of the text was written.
+///
+/// A piece is put together in the room, and no memory is taken. The room comes back as it was given, empty.
+pub fn write_program<S: Sink>(
+    output: &Output,
+    room: &mut Vec<u8>,
+    sink: &mut S,
+) -> Result<(), Failed>
+    requires output { IsOutput output.now }
+    requires empty { room.old.items ≡ [] }
+    requires capacity { 4096 ≤ vec_capacity room.old }
+    ensures ok { OnOk result (HasText output.now (λ text. Gains (S.held sink.old) (S.held sink.new) text)) }
+    ensures err { OnErr result (HasText output.now (λ text. GainsPrefix (S.held sink.old) (S.held sink.new) text)) }
+    ensures cause { HasCause (S.faults sink.old) (S.faults sink.new) result }
+    ensures empty { room.new.items ≡ [] }
+    ensures capacity { 4096 ≤ vec_capacity room.new }
+{
+    Ok(())
 }
 
 #[cfg(test)]

@@ -5,6 +5,7 @@
 --   few_cx_counts, few_t_counts   the counts of few operations fit
 --   Makes-planned        a target that stands for the source is made as it should be
 --   Rewrites-in_place, Rewrites-routed     on its own wires, and on a device
+--   HasPlanned-written   what came of a program came of its target
 use Rattle.std.proofs.Common.{◌≡◌, ℕ, suc, ◌+◌, ◌*◌, ◌%◌, ◌<◌, ◌≤◌, Bool, true, false, List, [], ◌∷◌, Option, Some, None, Result, Ok, Err, All, refl, sym, ap, subst, ◌∙◌, arith, inl, inr, length, map, get_or}
 use Rattle.std.proofs.lemmas.List.Elements.{recursion_from_All, All-from_recursion}
 use Rattle.std.specs.List.{AllByRecursion}
@@ -22,11 +23,12 @@ use Rattle.circuit_list.specs.declared.Gate.TheVariants.{H, X, P, Cx}
 use Rattle.circuit_list.specs.Gates.{IsFine, ops}
 use Rattle.coupling_map.specs.Coupling.{Coupling}
 use Rattle.gate_inline.specs.Registers.{IsFree, IsRead}
+use Rattle.gate_inline.specs.Programs.{IsWritten}
 use Rattle.program_reader.specs.Refusals.{program_of}
 use Rattle.program_reader.specs.declared.source.Source.{Source}
 use Rattle.coupling_map.specs.Edges.{FollowsEdges}
 use Rattle.qroute_top.specs.Delivered.{IsInPlace, IsOnQubits, Makes, Rewrites, placed_read}
-use Rattle.qroute_top.specs.Plans.{IsPlanned, target_program}
+use Rattle.qroute_top.specs.Plans.{HasPlanned, IsPlanned, TellsReport, target_program}
 use Rattle.qroute_top.specs.Runs.{HasFewSwaps, IsMachineRun}
 use Rattle.qroute_top.specs.Settled.{IsSettled}
 use Rattle.qroute_top.specs.Targets.{Stands}
@@ -112,6 +114,15 @@ Rewrites-routed s t d trivial text line stands fine wires edges initial run few 
         swaps = rw r.swaps few;
       };
     }
+
+-- what came of a program came of its target
+pub HasPlanned-written : (s : Source) (t : Target) (text line : List ℕ) (Done : List ℕ → Type 0) (bits : List Bits) (reads : List (Option ℕ))
+    → bits ≡ s.registers.items → reads ≡ map (placed_read t.last) s.ops.reads → TellsReport s t line
+    → IsWritten text (record { wires = t.body.wires; ops = ops t.body.gates; reads = reads; registers = bits; barriers = 0 }) → Done text
+    → HasPlanned s t (λ x _. Done x)
+HasPlanned-written s t text line Done bits reads registers same (told, report, numbers) written came =
+    let here : IsWritten text (target_program s t) = rw (registers, same) at written in
+    (text, line, record { written = here; told = told; report = report; numbers = numbers }, came)
 
 -- ---- counts
 few_cx : (us : List Op) → cx_count us ≤ length us

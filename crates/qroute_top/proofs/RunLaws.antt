@@ -4,7 +4,7 @@
 --   IsCause-source, IsCause-device, IsCause-words   from the parts of `decide` to the cause of a stop
 --   Delivers-opt, Delivers-check, Delivers-stages, Delivers-routed   from the parts of `decide` to what is delivered
 --   stopped-..               what follows of a status after a stop
---   planned-..               what follows where a plan was made
+--   planned-..               what follows where a work was decided on
 use Rattle.std.proofs.Common.{◌≡◌, ◌⊎◌, inl, inr, ℕ, ◌≤◌, Bool, true, false, List, [], Option, Some, None, Result, Err, refl, sym, ap, ◌∙◌, arith, subst, is_some}
 use Rattle.outside_io.specs.Bytes.{TakesAll, Tells}
 use Rattle.outside_io.specs.Causes.{Rose}
@@ -19,9 +19,11 @@ use Rattle.command_words.specs.declared.commands.Command.{Command}
 use Rattle.command_words.specs.declared.commands.Command.TheVariants.{Opt, Route, Check, Stages}
 use Rattle.route_report.specs.Lines.{check_line}
 use Rattle.qroute_top.specs.Causes.{Handed, IsCause, IsDeviceCause, IsRefusedDevice, IsRefusedSource, IsSourceCause, Reaches, Reads}
-use Rattle.qroute_top.specs.Delivered.{Content, Delivers, IsAnswer, IsInPlace, IsOnDevice, IsOnQubits, IsStages, Rewrites, counts_of}
+use Rattle.qroute_top.specs.Delivered.{Content, Delivered, Delivers, IsAnswer, IsInPlace, IsOnDevice, IsOnQubits, IsStages, Rewrites, counts_of}
 use Rattle.qroute_top.specs.Devices.{HasDevice, IsDevice, IsDeviceRefusal}
+use Rattle.qroute_top.specs.Plans.{HasWork, IsWork}
 use Rattle.qroute_top.specs.Stops.{IsUnasked, device_stopped, source_stopped}
+use Rattle.qroute_top.specs.declared.plan.Work.{Work}
 use Rattle.qroute_top.specs.declared.stops.DeviceRefusal.{DeviceRefusal}
 use Rattle.qroute_top.specs.declared.stops.DeviceStop.{DeviceStop}
 use Rattle.qroute_top.specs.declared.stops.DeviceStop.TheVariants as device_stop
@@ -361,15 +363,36 @@ stopped-absent law h s n c name p w e a wants here = elim (by_stop s) [
         let there : h.content other ≡ Some None = rw (← names) here in
         absent_text (h.content other) u there tells
 
--- ---- after a plan
-pub planned-refuses : NoRefusal → (words : List (List ℕ)) (content : Content) (old new : Option (List ℕ)) (x l text : List ℕ) (r : Refusal)
+-- ---- after a decision
+-- memory was wanting, or some text and line are right for a work
+abbrev pub Came : Work → ℕ → Type 0
+Came w n = (n ≡ 7) ⊎ ((x : List ℕ) × (l : List ℕ) × IsWork w x l)
+
+pub came : (w : Work) (n : ℕ) → (n ≡ 0) ⊎ ((n ≡ 6) ⊎ ((n ≡ 7) ⊎ (n ≡ 8))) → (n ≡ 0 → (x : List ℕ) × (l : List ℕ) × IsWork w x l)
+    → (n ≡ 6 → (x : List ℕ) × (l : List ℕ) × IsWork w x l) → (n ≡ 8 → (x : List ℕ) × (l : List ℕ) × IsWork w x l) → Came w n
+came w n (inl zero) done failed told = inr (done zero)
+came w n (inr (inl six)) done failed told = inr (failed six)
+came w n (inr (inr (inl seven))) done failed told = inl seven
+came w n (inr (inr (inr eight))) done failed told = inr (told eight)
+
+-- what is delivered for each text and line that are right for the work
+abbrev pub DeliversWork : List (List ℕ) → Content → Option (List ℕ) → Option (List ℕ) → Work → Type 0
+DeliversWork words content old new w = (text line : List ℕ) → IsWork w text line → Delivers words content old new text line
+
+refused_or_delivered : NoRefusal → (words : List (List ℕ)) (content : Content) (old new : Option (List ℕ)) (x l text : List ℕ) (r : Refusal)
     → Delivers words content old new x l → old ≡ Some text → IsRefusal text r → ⊥
-planned-refuses law words content old new x l text r d told refusal =
+refused_or_delivered law words content old new x l text r d told refusal =
     let same = told_text old text d.source_text told (Tells-taken old new d.source_text d.consumed) in
     let ok : IsAccepted text d.source = rw same at d.accepted in
     law text d.source r ok refusal
 
--- a plan for a command that loads a device comes of the text of its device
+pub planned-refuses : NoRefusal → (words : List (List ℕ)) (content : Content) (old new : Option (List ℕ)) (w : Work) (n : ℕ) (text : List ℕ) (r : Refusal)
+    → DeliversWork words content old new w → Came w n → old ≡ Some text → IsRefusal text r → (n ≡ 3) ⊎ (n ≡ 7)
+planned-refuses law words content old new w n text r delivers (inl seven) told refusal = inr seven
+planned-refuses law words content old new w n text r delivers (inr (x, l, is)) told refusal =
+    absurd (refused_or_delivered law words content old new x l text r (delivers x l is) told refusal)
+
+-- what is delivered for a command that loads a device comes of the text of its device
 answer_on : (content : Content) (name : List ℕ) (c : Command) (source : Program) (x l : List ℕ) → device_name c ≡ Some name → IsAnswer content c source x l
     → (trivial : Bool) × Rewrites source (IsOnDevice content name trivial source) x l
 answer_on content name Opt source x l wants answer = cc
@@ -387,16 +410,18 @@ planned_on words content old new x l name c d asked wants =
     some_same : (a b : Command) → Some a ≡ Some b → a ≡ b
     some_same a b e = cc
 
-pub planned-absent : (words : List (List ℕ)) (content : Content) (old new : Option (List ℕ)) (x l name : List ℕ) (c : Command) → Delivers words content old new x l
-    → command_of words ≡ Some c → device_name c ≡ Some name → content name ≡ Some None → ⊥
-planned-absent words content old new x l name c d asked wants none =
-    let on = planned_on words content old new x l name c d asked wants in
-    absent_text (content name) on.1.placed.device_text none on.1.placed.loaded
+pub planned-absent : (words : List (List ℕ)) (content : Content) (old new : Option (List ℕ)) (w : Work) (n : ℕ) (name : List ℕ) (c : Command)
+    → DeliversWork words content old new w → Came w n → command_of words ≡ Some c → device_name c ≡ Some name → content name ≡ Some None
+    → (n ≡ 9) ⊎ (n ≡ 7)
+planned-absent words content old new w n name c delivers (inl seven) asked wants none = inr seven
+planned-absent words content old new w n name c delivers (inr (x, l, is)) asked wants none =
+    let on = planned_on words content old new x l name c (delivers x l is) asked wants in
+    absurd (absent_text (content name) on.1.placed.device_text none on.1.placed.loaded)
 
-pub planned-refuses_device : MeansOnce → (words : List (List ℕ)) (content : Content) (old new : Option (List ℕ)) (x l name : List ℕ) (c : Command) (text t : List ℕ)
+refused_or_routed : MeansOnce → (words : List (List ℕ)) (content : Content) (old new : Option (List ℕ)) (x l name : List ℕ) (c : Command) (text t : List ℕ)
     (p : Program) (r : DeviceRefusal) → Delivers words content old new x l → command_of words ≡ Some c → device_name c ≡ Some name → old ≡ Some text
     → IsAccepted text p → content name ≡ Some (Some t) → IsDeviceRefusal t p.wires r → ⊥
-planned-refuses_device once words content old new x l name c text t p r d asked wants told ok here refusal =
+refused_or_routed once words content old new x l name c text t p r d asked wants told ok here refusal =
     let on = planned_on words content old new x l name c d asked wants in
     let placed = on.1.placed in
     let same = device_text (content name) t placed.device_text here placed.loaded in
@@ -406,6 +431,13 @@ planned-refuses_device once words content old new x l name c text t p r d asked 
     let source = once text d.source p (written_of text d.source accepted) (written_of text p ok) in
     let fits : d.source.wires ≤ placed.device.size = rw (← placed.routed.qubits) on.1.made.unitary.fits in
     IsDevice-refused t placed.device p.wires r described (subst (λ (q : Program). q.wires ≤ placed.device.size) source fits) refusal
+
+pub planned-refuses_device : MeansOnce → (words : List (List ℕ)) (content : Content) (old new : Option (List ℕ)) (w : Work) (n : ℕ) (name : List ℕ) (c : Command)
+    (text t : List ℕ) (p : Program) (r : DeviceRefusal) → DeliversWork words content old new w → Came w n → command_of words ≡ Some c
+    → device_name c ≡ Some name → old ≡ Some text → IsAccepted text p → content name ≡ Some (Some t) → IsDeviceRefusal t p.wires r → (n ≡ 4) ⊎ (n ≡ 7)
+planned-refuses_device once words content old new w n name c text t p r delivers (inl seven) asked wants told ok here refusal = inr seven
+planned-refuses_device once words content old new w n name c text t p r delivers (inr (x, l, is)) asked wants told ok here refusal =
+    absurd (refused_or_routed once words content old new x l name c text t p r (delivers x l is) asked wants told ok here refusal)
 
 -- ---- stops by their statuses
 pub same_stop : {T : Type 0} (r : Result T Stop) (s t : Stop) → r ≡ Err s → r ≡ Err t → s ≡ t
@@ -434,27 +466,27 @@ pub ruleset decided = (IsCause-words, IsCause-source)
 pub device_failed : {T : Type 0} (r : Result T DeviceStop) (s t : DeviceStop) → r ≡ Err s → r ≡ Err t → s ≡ t
 device_failed r s t e f = cc
 
--- ---- what a plan's end says
-some_or_none : {A : Type 0} (o : Option A) → is_some o ≡ false → o ≡ None
-some_or_none None e = refl
-some_or_none (Some x) e = absurd (cc)
+-- ---- what the end of a work says
+-- a work that has a text, or a line, is one of a command that writes, or tells
+not_ended : (has writes : Bool) (rose : Type 0) → has ≡ writes → rose → (has ≡ false → ⊥) → (writes ≡ true → rose → ⊥) → ⊥
+not_ended true writes rose same r some calm = calm (sym same) r
+not_ended false writes rose same r some calm = some refl
 
-pub no_text : {A : Type 0} (o : Option A) (b : Bool) → is_some o ≡ b → b ≡ false → o ≡ None
-no_text o b e f = some_or_none o (e ∙ f)
-
--- an end that comes only where a count rose, and only where there is something to write, doesn't come
-not_ended : {A : Type 0} (o : Option A) (b : Bool) (rose : Type 0) → is_some o ≡ b → rose → (o ≡ None → ⊥) → (b ≡ true → rose → ⊥) → ⊥
-not_ended o true rose has r none calm = calm refl r
-not_ended o false rose has r none calm = none (some_or_none o has)
-
-pub planned-complete : {A B : Type 0} (o : Option A) (l : Option B) (writes tells : Bool) (n : ℕ) (out report : Type 0) → (n ≡ 0) ⊎ ((n ≡ 6) ⊎ (n ≡ 8))
-    → is_some o ≡ writes → is_some l ≡ tells → (n ≡ 6 → out) → (n ≡ 8 → report) → (o ≡ None → n ≡ 6 → ⊥) → (l ≡ None → n ≡ 8 → ⊥)
+pub planned-complete : (has line writes tells : Bool) (n : ℕ) (out report : Type 0) → (n ≡ 0) ⊎ ((n ≡ 6) ⊎ ((n ≡ 7) ⊎ (n ≡ 8)))
+    → has ≡ writes → line ≡ tells → (n ≡ 6 → out) → (n ≡ 8 → report) → (has ≡ false → n ≡ 6 → ⊥) → (line ≡ false → n ≡ 8 → ⊥)
     → (writes ≡ true → out → ⊥) → (tells ≡ true → report → ⊥) → (n ≡ 0) ⊎ (n ≡ 7)
-planned-complete o l writes tells n out report (inl zero) has line f g none still calm told = inl zero
-planned-complete o l writes tells n out report (inr (inl six)) has line f g none still calm told =
-    absurd (not_ended o writes out has (f six) (λ e. none e six) calm)
-planned-complete o l writes tells n out report (inr (inr eight)) has line f g none still calm told =
-    absurd (not_ended l tells report line (g eight) (λ e. still e eight) told)
+planned-complete has line writes tells n out report (inl zero) same told f g none still calm quiet = inl zero
+planned-complete has line writes tells n out report (inr (inl six)) same told f g none still calm quiet =
+    absurd (not_ended has writes out same (f six) (λ e. none e six) calm)
+planned-complete has line writes tells n out report (inr (inr (inl seven))) same told f g none still calm quiet = inr seven
+planned-complete has line writes tells n out report (inr (inr (inr eight))) same told f g none still calm quiet =
+    absurd (not_ended line tells report told (g eight) (λ e. still e eight) quiet)
+
+-- what is delivered for each text and line that are right for a work is delivered for those that came
+pub Delivered-done : (words : List (List ℕ)) (content : Content) (old new : Option (List ℕ)) (w : Work) (Done : List ℕ → List ℕ → Type 0)
+    → DeliversWork words content old new w → HasWork w Done
+    → Delivered words content old new Done
+Delivered-done words content old new w Done delivers (text, line, is, done) = (text, line, delivers text line is, done)
 
 pub no_reader : (c : Command) → reads_input c ≡ false → ⊥
 no_reader c unread = let h : true ≡ false = sym (reads_all c) ∙ unread in cc

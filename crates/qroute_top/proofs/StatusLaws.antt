@@ -2,13 +2,15 @@
 --   status-stop           the status of the fault that a stop is told as
 --   Ends s n              a stop ends with want of memory or with its status
 --   not_late              it is none of those that a plan ends with
---   failed_of             what holds of an error
---   written_text, written_fault   what a plan has for the output
 --   Gains-nothing         what is untouched gained no bytes
-use Rattle.std.proofs.Common.{◌≡◌, ◌⊎◌, ℕ, List, [], Option, Some, None, Result, Ok, Err, true, refl, sym, ap, subst, arith, append-nil}
-use Rattle.std.specs.Prelude.{OnErr}
-use Rattle.std.specs.Result.{is_err}
-use Rattle.outside_io.specs.Bytes.{Gains}
+--   HasWork-line, HasWork-told, no_text_of   what came of a work that has a line alone
+--   on_ok, on_err         what holds anyway holds of an answer
+--   HasText-stays, HasText-prefix   a program that came, and a sink that then keeps what it holds
+use Rattle.std.proofs.Common.{◌≡◌, ◌⊎◌, ℕ, List, [], Option, Some, None, Result, Ok, Err, true, false, refl, sym, ap, subst, arith, append-nil}
+use Rattle.std.specs.Prelude.{OnErr, OnOk, Vec}
+use Rattle.std.specs.declared.alloc.Global.{Global}
+use Rattle.outside_io.specs.Bytes.{Gains, GainsPrefix, Stays}
+use Rattle.outside_io.proofs.Known.{Gains-stays, GainsPrefix-stays}
 use Rattle.coupling_map.specs.declared.faults.DeviceFault.TheVariants as device_fault_is
 use Rattle.program_reader.specs.declared.refusal.Refusal.{Refusal}
 use Rattle.program_reader.specs.declared.refusal.Refusal.TheVariants as refusal
@@ -22,9 +24,12 @@ use Rattle.route_report.specs.Faults.{status_of}
 use Rattle.route_report.specs.Refusals.{stops_with}
 use Rattle.route_report.specs.declared.faults.Fault.{Fault}
 use Rattle.route_report.specs.declared.faults.Fault.TheVariants as fault
-use Rattle.qroute_top.specs.Causes.{device_fault, fault_of, output_fault_line, refusal_fault, stop_status}
-use Rattle.qroute_top.specs.Plans.{tells_fault, text_in}
-use Rattle.qroute_top.specs.declared.plan.Written.{Written}
+use Rattle.qasm_writer.specs.Outputs.{HasText}
+use Rattle.qasm_writer.specs.declared.output.Output.{Output}
+use Rattle.qroute_top.specs.Causes.{device_fault, fault_of, refusal_fault, stop_status}
+use Rattle.qroute_top.specs.Plans.{HasWork, has_text}
+use Rattle.qroute_top.specs.declared.plan.Work.{Work}
+use Rattle.qroute_top.specs.declared.plan.Work.TheVariants as work
 use Rattle.qroute_top.specs.declared.stops.DeviceRefusal.{DeviceRefusal}
 use Rattle.qroute_top.specs.declared.stops.DeviceRefusal.TheVariants as device
 use Rattle.qroute_top.specs.declared.stops.Stop.{Stop}
@@ -108,17 +113,31 @@ Gains-nothing (Some bytes) = sym (append-nil bytes)
 
 pub ruleset told = (status-stop)
 
--- what a plan writes, where it does
-pub written_text : (o : Option Written) (w : Written) → o ≡ Some w → text_in o ≡ w.text.items
-written_text o w e = ap text_in e
+-- a work that has a line alone
+pub HasWork-line : (w : Work) (v : Vec ℕ Global) (line : List ℕ) (a b c : Option (List ℕ)) → w ≡ work.Line v → line ≡ v.items → Gains b c line
+    → HasWork w (λ x l. Gains a a x × Gains b c l)
+HasWork-line w v line a b c is same came =
+    subst (λ (y : Work). HasWork y (λ x l. Gains a a x × Gains b c l)) (sym is) ([], line, (refl, same), (Gains-nothing a, came))
 
-pub written_fault : (o : Option Written) (w : Written) → o ≡ Some w → tells_fault o → w.fault.items ≡ output_fault_line
-written_fault None w e h = absurd (cc)
-written_fault (Some x) w e h = let same : x ≡ w = cc in subst (λ (y : Written). y.fault.items ≡ output_fault_line) same h
+pub no_text_of : (w : Work) (v : Vec ℕ Global) → w ≡ work.Line v → has_text w ≡ true → ⊥
+no_text_of w v is some = let no : has_text w ≡ false = ap has_text is in cc
 
--- what holds of an error
-pub failed_of : {A E P : Type 0} (r : Result A E) → is_err r ≡ true → OnErr r P → P
-failed_of (Ok x) e h = absurd (cc)
-failed_of (Err x) e h = h
+pub HasWork-told : (w : Work) (v : Vec ℕ Global) (line : List ℕ) (a b c : Option (List ℕ)) → w ≡ work.Line v → line ≡ v.items → GainsPrefix b c line
+    → HasWork w (λ x l. Gains a a x × GainsPrefix b c l)
+HasWork-told w v line a b c is same came =
+    subst (λ (y : Work). HasWork y (λ x l. Gains a a x × GainsPrefix b c l)) (sym is) ([], line, (refl, same), (Gains-nothing a, came))
 
-pub ruleset emitted = (Gains-nothing, written_text, written_fault)
+pub HasText-stays : (o : Output) (a b c : Option (List ℕ)) → HasText o (λ text. Gains a b text) → Stays b c → HasText o (λ text. Gains a c text)
+HasText-stays o a b c (text, is, written, came) stays = (text, is, written, Gains-stays a b c text came stays)
+
+pub HasText-prefix : (o : Output) (a b c : Option (List ℕ)) → HasText o (λ text. Gains a b text) → Stays b c
+    → HasText o (λ text. GainsPrefix a c text)
+HasText-prefix o a b c (text, is, written, came) stays = (text, is, written, GainsPrefix-stays a b c text came stays)
+
+pub on_ok : {T E : Type 0} (r : Result T E) (P : Type 0) → P → OnOk r P
+on_ok (Ok x) P h = h
+on_ok (Err e) P h = tt
+
+pub on_err : {T E : Type 0} (r : Result T E) (P : Type 0) → P → OnErr r P
+on_err (Ok x) P h = tt
+on_err (Err e) P h = h

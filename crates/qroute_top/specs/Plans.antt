@@ -1,44 +1,27 @@
--- Working form. What is planned for a target that stands for a source.
---   text_of p            what goes to the output
---   line_of p            what goes to the report where nothing fails
---   TellsOutputFault p   where something does, the line of a failed output is at hand
+-- Working form. What a command has to write.
 --   target_program s t   the program of the target t, which reads what its source s reads
+--   IsFit s t            what is asked of a target before it is written
 --   IsReport s t r       the report of the target
+--   TellsReport s t line   the line is that of the report of the target
 --   IsPlanned s t ..     the text of the target, and the line of its report
-use Rattle.std.specs.Prelude.{◌≡◌, ℕ, List, [], Option, Some, None, Vec, map}
-use Rattle.std.specs.declared.alloc.Global.{Global}
+--   HasPlanned s t Done  some text and line are so, and this was done with them
+--   has_text w, has_line w   whether a work has something for the output, and for the report
+--   IsFitWork w          what is asked of a work before it is done
+--   IsWork w ..          the text and the line that are right for a work
+--   HasWork w Done       some text and line are right for the work, and this was done with them
+use Rattle.std.specs.Prelude.{◌≡◌, ℕ, ◌≤◌, Bool, true, false, List, [], All, length, map}
 use Rattle.circuit_list.specs.Gates.{ops}
 use Rattle.gate_inline.specs.Programs.{IsWritten, Program}
+use Rattle.gate_inline.specs.Registers.{AreRegisters, IsRead}
+use Rattle.gate_inline.specs.Sizes.{operation_limit}
 use Rattle.program_reader.specs.declared.source.Source.{Source}
 use Rattle.route_report.specs.declared.lines.Report.{Report}
 use Rattle.route_report.specs.Lines.{report_line}
 use Rattle.unitary_model.specs.Operations.{cx_count, t_count}
-use Rattle.qroute_top.specs.declared.plan.Plan.{Plan}
-use Rattle.qroute_top.specs.declared.plan.Written.{Written}
+use Rattle.qroute_top.specs.declared.plan.Work.{Work}
+use Rattle.qroute_top.specs.declared.plan.Work.TheVariants as work
 use Rattle.qroute_top.specs.declared.target.Target.{Target}
-use Rattle.qroute_top.specs.Causes.{output_fault_line}
 use Rattle.qroute_top.specs.Delivered.{placed_read}
-
-abbrev pub text_in : Option Written → List ℕ
-text_in None = []
-text_in (Some w) = w.text.items
-
-abbrev pub text_of : Plan → List ℕ
-text_of p = text_in p.written
-
-abbrev pub line_in : Option (Vec ℕ Global) → List ℕ
-line_in None = []
-line_in (Some v) = v.items
-
-abbrev pub line_of : Plan → List ℕ
-line_of p = line_in p.line
-
-abbrev pub tells_fault : Option Written → Type 0
-tells_fault None = Unit {0}
-tells_fault (Some w) = w.fault.items ≡ output_fault_line
-
-abbrev pub TellsOutputFault : Plan → Type 0
-TellsOutputFault p = tells_fault p.written
 
 abbrev pub target_program : Source → Target → Program
 target_program s t = record {
@@ -48,6 +31,12 @@ target_program s t = record {
   registers = s.registers.items;
   barriers = 0;
 }
+
+pub record IsFit (s : Source) (t : Target) : Type 0 where
+  pub short : length s.ops.list ≤ operation_limit
+  pub placed : length t.last ≡ t.body.wires
+  pub registers : AreRegisters s.registers.items (length s.ops.reads)
+  pub reads : All (IsRead t.body.wires) s.ops.reads
 
 pub record IsReport (s : Source) (t : Target) (r : Report) : Type 0 where
   pub barriers : r.barriers ≡ s.barriers
@@ -62,8 +51,37 @@ pub record IsReport (s : Source) (t : Target) (r : Report) : Type 0 where
   pub t_after : r.t_after ≡ t_count (ops t.body.gates)
   pub t_before : r.t_before ≡ t_count s.ops.list
 
+abbrev pub TellsReport : Source → Target → List ℕ → Type 0
+TellsReport s t line = (told : Report) × (line ≡ report_line told) × IsReport s t told
+
 pub record IsPlanned (s : Source) (t : Target) (text line : List ℕ) : Type 0 where
   pub written : IsWritten text (target_program s t)
   pub told : Report
   pub report : line ≡ report_line told
   pub numbers : IsReport s t told
+
+abbrev pub HasPlanned : Source → Target → (List ℕ → List ℕ → Type 0) → Type 0
+HasPlanned s t Done = (text : List ℕ) × (line : List ℕ) × IsPlanned s t text line × Done text line
+
+abbrev pub has_text : Work → Bool
+has_text (work.Program s t) = true
+has_text (work.Text text) = true
+has_text (work.Line line) = false
+
+abbrev pub has_line : Work → Bool
+has_line (work.Program s t) = true
+has_line (work.Text text) = false
+has_line (work.Line line) = true
+
+abbrev pub IsFitWork : Work → Type 0
+IsFitWork (work.Program s t) = IsFit s t
+IsFitWork (work.Text text) = Unit {0}
+IsFitWork (work.Line line) = Unit {0}
+
+abbrev pub IsWork : Work → List ℕ → List ℕ → Type 0
+IsWork (work.Program s t) text line = IsPlanned s t text line
+IsWork (work.Text v) text line = (text ≡ v.items) × (line ≡ [])
+IsWork (work.Line v) text line = (text ≡ []) × (line ≡ v.items)
+
+abbrev pub HasWork : Work → (List ℕ → List ℕ → Type 0) → Type 0
+HasWork w Done = (text : List ℕ) × (line : List ℕ) × IsWork w text line × Done text line

@@ -13,7 +13,7 @@ pub struct Case<'a> {
     pub text: &'a [u8],
     /// The text of the name `d` on the shelf; empty for none.
     pub device: &'a str,
-    /// The call of the input, of the shelf, of the output (16 bytes a call) and of the report that fails; 0 for none.
+    /// The call of the input, of the shelf, of the output and of the report that fails; 0 for none.
     pub fails: [u64; 4],
 }
 
@@ -27,6 +27,11 @@ pub struct Outcome {
 }
 
 pub fn run_case(alloc: Global, case: Case<'_>) -> Result<Outcome, AllocError> {
+    run_by(alloc, case, 16)
+}
+
+/// A run whose output takes at most so many bytes a call.
+pub fn run_by(alloc: Global, case: Case<'_>, most: usize) -> Result<Outcome, AllocError> {
     let [input_fails, shelf_fails, out_fails, report_fails] = case.fails;
     let text = Vec::from_slice(alloc, case.text)?;
     let mut input = MemSource::new(text, 64, Vec::from_slice(alloc, &[input_fails])?);
@@ -35,7 +40,7 @@ pub fn run_case(alloc: Global, case: Case<'_>) -> Result<Outcome, AllocError> {
         texts.push(NamedText::new(alloc, "d", case.device.as_bytes())?)?;
     }
     let mut shelf = MemShelf::new(texts, Vec::from_slice(alloc, &[shelf_fails])?);
-    let mut out = MemSink::new(alloc, 9999, 16, Vec::from_slice(alloc, &[out_fails])?)?;
+    let mut out = MemSink::new(alloc, 9999, most.max(1), Vec::from_slice(alloc, &[out_fails])?)?;
     let mut report = MemSink::new(alloc, 999, 999, Vec::from_slice(alloc, &[report_fails])?)?;
     let status = run(
         alloc,

@@ -1,17 +1,17 @@
 //! All that happens before a sink is touched.
 
-ghost use Rattle.std.specs.Prelude.{◌≡◌, ℕ, List, Some, None, Err, true, false, map, is_some, IfOk, IfErr};
+ghost use Rattle.std.specs.Prelude.{◌≡◌, ℕ, List, Some, None, Err, true, false, map, IfOk, IfErr};
 ghost use Rattle.command_words.specs.Commands.{command_of};
 ghost use Rattle.command_words.specs.Demands.{device_name, reads_input, writes_out, writes_report};
 ghost use Rattle.command_words.specs.declared.commands.Command.{Command as Asked};
 ghost use Rattle.qroute_top.specs.Causes.{IsCause};
 ghost use Rattle.qroute_top.specs.Delivered.{Delivers};
-ghost use Rattle.qroute_top.specs.Plans.{TellsOutputFault, line_of, text_of};
+ghost use Rattle.qroute_top.specs.Plans.{IsFitWork, IsWork, has_line, has_text};
 ghost use Rattle.qroute_top.specs.Stops.{IsUnasked};
 
 use crate::device::load_device;
 use crate::pipeline::{optimise, route_on};
-use crate::plan::{Plan, check_plan, stage_plan};
+use crate::plan::{Work, check_work, stage_work};
 use crate::source::read_source;
 use crate::stops::Stop;
 use command_words::commands::{Command, WordsFault};
@@ -31,18 +31,18 @@ fn asked(alloc: Global, words: &[&str]) -> Result<Command, Stop>
     }
 }
 
-/// Reads the words, the input and the device, and makes all that is to be written. No sink is touched.
+/// Reads the words, the input and the device, and makes what is to be written. No sink is touched.
 #[tactic(auto, using(crate::proofs::RunLaws::decided))]
 pub fn decide<I: Input, F: Shelf>(
     alloc: Global,
     words: &[&str],
     input: &mut I,
     shelf: &mut F,
-) -> Result<Plan, Stop>
-    ensures plan { IfOk result (λ p. Delivers (map (λ w. w.now) words.now) (F.content shelf.old) (I.left input.old) (I.left input.new) (text_of p) (line_of p)) }
-    ensures fault { IfOk result TellsOutputFault }
-    ensures writes { IfOk result (λ p. (c : Asked) → command_of (map (λ w. w.now) words.now) ≡ Some c → is_some p.written ≡ writes_out c) }
-    ensures tells { IfOk result (λ p. (c : Asked) → command_of (map (λ w. w.now) words.now) ≡ Some c → is_some p.line ≡ writes_report c) }
+) -> Result<Work, Stop>
+    ensures made { IfOk result (λ p. (text line : List ℕ) → IsWork p text line → Delivers (map (λ w. w.now) words.now) (F.content shelf.old) (I.left input.old) (I.left input.new) text line) }
+    ensures fit { IfOk result IsFitWork }
+    ensures writes { IfOk result (λ p. (c : Asked) → command_of (map (λ w. w.now) words.now) ≡ Some c → has_text p ≡ writes_out c) }
+    ensures tells { IfOk result (λ p. (c : Asked) → command_of (map (λ w. w.now) words.now) ≡ Some c → has_line p ≡ writes_report c) }
     ensures stop { IfErr result (IsCause (record {
       words = map (λ w. w.now) words.now;
       input = I.left input.old;
@@ -61,15 +61,15 @@ pub fn decide<I: Input, F: Shelf>(
     let command = asked(alloc, words)?;
     let source = read_source(alloc, input)?;
     match command {
-        Command::Opt => Ok(optimise(alloc, &source)?),
-        Command::Check => Ok(check_plan(alloc, &source)?),
-        Command::Stages => Ok(stage_plan(alloc, &source)?),
+        Command::Opt => Ok(optimise(alloc, source)?),
+        Command::Check => Ok(check_work(alloc, &source)?),
+        Command::Stages => Ok(stage_work(alloc, &source)?),
         Command::Route {
             device: name,
             trivial,
         } => {
             let device = load_device(alloc, shelf, &name, source.ops.wires)?;
-            Ok(route_on(alloc, &source, &device, trivial)?)
+            Ok(route_on(alloc, source, &device, trivial)?)
         }
     }
 }

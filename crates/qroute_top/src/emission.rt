@@ -1,23 +1,26 @@
-//! What goes out: the text and the line of a plan, or the line of a fault.
+//! What goes out: the text and the line of a work, or the line of a fault.
 
-ghost use Rattle.std.specs.Prelude.{◌≡◌, ◌⊎◌, ℕ, None, OnErr, OnOk, Some, false, true, is_some};
-ghost use Rattle.std.specs.Result.{is_err};
+ghost use Rattle.std.specs.Prelude.{◌≡◌, ◌⊎◌, ◌≤◌, [], OnErr, OnOk, Some, false, true, vec_capacity};
 ghost use Rattle.outside_io.specs.Bytes.{Gains, GainsPrefix, GainsUnlessFault};
-ghost use Rattle.outside_io.specs.Causes.{Rose};
+ghost use Rattle.outside_io.specs.Causes.{HasCause, Rose};
+ghost use Rattle.qasm_writer.specs.Outputs.{HasText, IsOutput};
 ghost use Rattle.route_report.specs.Faults.{fault_line, status_of};
 ghost use Rattle.route_report.specs.declared.faults.Fault.{Fault as Told};
 ghost use Rattle.qroute_top.specs.Causes.{device_fault, fault_of, output_fault_line, refusal_fault, stop_status};
-ghost use Rattle.qroute_top.specs.Plans.{TellsOutputFault, line_of, text_of};
+ghost use Rattle.qroute_top.specs.Plans.{HasPlanned, HasWork, IsFit, IsFitWork, has_line, has_text};
 
-use crate::plan::{Plan, Written};
+use crate::plan::{Prepared, Work, prepare};
 use crate::stops::{DeviceRefusal, Stop};
+use crate::target::Target;
 use coupling_map::DeviceFault;
 use outside_io::{Failed, Sink, send};
-use program_reader::Refusal;
+use program_reader::{Refusal, Source};
+use qasm_writer::output::Output;
+use qasm_writer::write_program;
 use route_report::{Fault, fault_line, status};
 use std::alloc::{AllocError, Global};
 
-/// What was planned is written.
+/// The work is done.
 const DONE: u8 = 0;
 
 /// The output failed.
@@ -102,64 +105,162 @@ pub fn tell<R: Sink>(alloc: Global, stop: Stop, report: &mut R) -> u8
     }
 }
 
+/// Tells in the report that the output failed.
+fn tell_failed<R: Sink>(fault: &[u8], report: &mut R) -> u8
+    requires { fault.now ≡ output_fault_line }
+    ensures status { result ≡ 6 }
+    ensures told { GainsUnlessFault (R.held report.old) (R.held report.new) (R.faults report.old) (R.faults report.new) output_fault_line }
+{
+    let _ = send(report, fault);
+    OUTPUT_FAILED
+}
+
+/// Writes the line of the report, and flushes it.
+fn emit_line<R: Sink>(line: &[u8], report: &mut R) -> u8
+    ensures ends { (result ≡ 0) ⊎ (result ≡ 8) }
+    ensures done { result ≡ 0 → Gains (R.held report.old) (R.held report.new) line.now × (R.flushed report.new ≡ true)
+        × (R.faults report.new ≡ R.faults report.old) }
+    ensures report { result ≡ 8 → GainsPrefix (R.held report.old) (R.held report.new) line.now × Rose (R.faults report.old) (R.faults report.new) }
+{
+    match send(report, line) {
+        Ok(()) => DONE,
+        Err(Failed) => REPORT_FAILED,
+    }
+}
+
 /// Writes a text and flushes it; where that fails, its fault line goes to the report.
-fn send_text<O: Sink, R: Sink>(written: &Written, out: &mut O, report: &mut R) -> Result<(), Failed>
-    requires { written.now.fault.items ≡ output_fault_line }
-    ensures ok { OnOk result (Gains (O.held out.old) (O.held out.new) written.now.text.items) }
-    ensures flushed { OnOk result (O.flushed out.new ≡ true) }
-    ensures calm { OnOk result ((O.faults out.new ≡ O.faults out.old) × (report.new ≡ report.old)) }
-    ensures err { OnErr result (GainsPrefix (O.held out.old) (O.held out.new) written.now.text.items × Rose (O.faults out.old) (O.faults out.new)
-        × GainsUnlessFault (R.held report.old) (R.held report.new) (R.faults report.old) (R.faults report.new) output_fault_line) }
-{
-    match send(out, &written.text) {
-        Ok(()) => Ok(()),
-        Err(failed) => {
-            let _ = send(report, &written.fault);
-            Err(failed)
-        }
-    }
-}
-
-/// Writes the line of the report, where there is one, and flushes it.
-fn send_line<R: Sink>(plan: &Plan, report: &mut R) -> Result<(), Failed>
-    ensures ok { OnOk result (Gains (R.held report.old) (R.held report.new) (line_of plan.now)) }
-    ensures flushed { OnOk result (is_some plan.now.line ≡ true → R.flushed report.new ≡ true) }
-    ensures calm { OnOk result (R.faults report.new ≡ R.faults report.old) }
-    ensures err { OnErr result (GainsPrefix (R.held report.old) (R.held report.new) (line_of plan.now) × Rose (R.faults report.old) (R.faults report.new)) }
-    ensures none { plan.now.line ≡ None → (is_err result ≡ false) × (report.new ≡ report.old) }
-{
-    match &plan.line {
-        None => Ok(()),
-        Some(line) => send(report, line),
-    }
-}
-
-/// Writes the text, where there is one, and then the line of the report, where there is one.
-#[tactic(auto, using(crate::proofs::StatusLaws::emitted))]
-pub fn emit<O: Sink, R: Sink>(plan: &Plan, out: &mut O, report: &mut R) -> u8
-    requires { TellsOutputFault plan.now }
-    ensures ends { (result ≡ 0) ⊎ ((result ≡ 6) ⊎ (result ≡ 8)) }
-    ensures done { result ≡ 0 → Gains (O.held out.old) (O.held out.new) (text_of plan.now)
-        × Gains (R.held report.old) (R.held report.new) (line_of plan.now) }
-    ensures flushed { result ≡ 0 → (is_some plan.now.written ≡ true → O.flushed out.new ≡ true) × (is_some plan.now.line ≡ true → R.flushed report.new ≡ true) }
-    ensures calm { result ≡ 0 → (O.faults out.new ≡ O.faults out.old) × (R.faults report.new ≡ R.faults report.old) }
-    ensures output { result ≡ 6 → GainsPrefix (O.held out.old) (O.held out.new) (text_of plan.now) × Rose (O.faults out.old) (O.faults out.new)
+fn emit_text<O: Sink, R: Sink>(text: &[u8], fault: &[u8], out: &mut O, report: &mut R) -> u8
+    requires { fault.now ≡ output_fault_line }
+    ensures ends { (result ≡ 0) ⊎ (result ≡ 6) }
+    ensures done { result ≡ 0 → Gains (O.held out.old) (O.held out.new) text.now × (O.flushed out.new ≡ true)
+        × (O.faults out.new ≡ O.faults out.old) × (report.new ≡ report.old) }
+    ensures output { result ≡ 6 → GainsPrefix (O.held out.old) (O.held out.new) text.now × Rose (O.faults out.old) (O.faults out.new)
         × GainsUnlessFault (R.held report.old) (R.held report.new) (R.faults report.old) (R.faults report.new) output_fault_line }
-    ensures report { result ≡ 8 → Gains (O.held out.old) (O.held out.new) (text_of plan.now)
-        × (is_some plan.now.written ≡ true → O.flushed out.new ≡ true) × (O.faults out.new ≡ O.faults out.old)
-        × GainsPrefix (R.held report.old) (R.held report.new) (line_of plan.now) × Rose (R.faults report.old) (R.faults report.new) }
-    ensures no_fault { plan.now.written ≡ None → result ≡ 6 → ⊥ }
-    ensures no_out { plan.now.written ≡ None → out.new ≡ out.old }
-    ensures no_report { plan.now.line ≡ None → result ≡ 8 → ⊥ }
-    ensures no_line { plan.now.line ≡ None → result ≡ 0 → report.new ≡ report.old }
 {
-    if let Some(written) = &plan.written {
-        if send_text(written, out, report).is_err() {
-            return OUTPUT_FAILED;
+    match send(out, text) {
+        Ok(()) => DONE,
+        Err(Failed) => tell_failed(fault, report),
+    }
+}
+
+/// Writes a program in pieces and flushes it.
+fn send_program<O: Sink>(
+    output: &Output,
+    room: &mut Vec<u8>,
+    out: &mut O,
+) -> Result<(), Failed>
+    requires output { IsOutput output.now }
+    requires empty { room.old.items ≡ [] }
+    requires capacity { 4096 ≤ vec_capacity room.old }
+    ensures ok { OnOk result (HasText output.now (λ text. Gains (O.held out.old) (O.held out.new) text)) }
+    ensures flushed { OnOk result (O.flushed out.new ≡ true) }
+    ensures err { OnErr result (HasText output.now (λ text. GainsPrefix (O.held out.old) (O.held out.new) text)) }
+    ensures cause { HasCause (O.faults out.old) (O.faults out.new) result }
+{
+    write_program(output, room, out)?;
+    out.flush()
+}
+
+/// Writes a program and then its report line; where the output fails, its fault line goes to the report.
+fn emit_program<O: Sink, R: Sink>(
+    output: &Output,
+    room: &mut Vec<u8>,
+    line: &[u8],
+    fault: &[u8],
+    out: &mut O,
+    report: &mut R,
+) -> u8
+    requires output { IsOutput output.now }
+    requires empty { room.old.items ≡ [] }
+    requires capacity { 4096 ≤ vec_capacity room.old }
+    requires fault { fault.now ≡ output_fault_line }
+    ensures ends { (result ≡ 0) ⊎ ((result ≡ 6) ⊎ (result ≡ 8)) }
+    ensures done { result ≡ 0 → HasText output.now (λ text. Gains (O.held out.old) (O.held out.new) text)
+        × Gains (R.held report.old) (R.held report.new) line.now }
+    ensures flushed { result ≡ 0 → (O.flushed out.new ≡ true) × (R.flushed report.new ≡ true) }
+    ensures calm { result ≡ 0 → (O.faults out.new ≡ O.faults out.old) × (R.faults report.new ≡ R.faults report.old) }
+    ensures output { result ≡ 6 → HasText output.now (λ text. GainsPrefix (O.held out.old) (O.held out.new) text)
+        × Rose (O.faults out.old) (O.faults out.new)
+        × GainsUnlessFault (R.held report.old) (R.held report.new) (R.faults report.old) (R.faults report.new) output_fault_line }
+    ensures report { result ≡ 8 → HasText output.now (λ text. Gains (O.held out.old) (O.held out.new) text)
+        × (O.flushed out.new ≡ true) × (O.faults out.new ≡ O.faults out.old)
+        × GainsPrefix (R.held report.old) (R.held report.new) line.now × Rose (R.faults report.old) (R.faults report.new) }
+{
+    match send_program(output, room, out) {
+        Ok(()) => emit_line(line, report),
+        Err(Failed) => tell_failed(fault, report),
+    }
+}
+
+/// Prepares what a program takes, and writes it and its report line; from the first byte on no memory is taken.
+fn emit_target<O: Sink, R: Sink>(
+    alloc: Global,
+    source: &Source,
+    target: &Target,
+    out: &mut O,
+    report: &mut R,
+) -> u8
+    requires { IsFit source.now target.now }
+    ensures ends { (result ≡ 0) ⊎ ((result ≡ 6) ⊎ ((result ≡ 7) ⊎ (result ≡ 8))) }
+    ensures done { result ≡ 0 → HasPlanned source.now target.now (λ text line. Gains (O.held out.old) (O.held out.new) text
+        × Gains (R.held report.old) (R.held report.new) line) }
+    ensures flushed { result ≡ 0 → (O.flushed out.new ≡ true) × (R.flushed report.new ≡ true) }
+    ensures calm { result ≡ 0 → (O.faults out.new ≡ O.faults out.old) × (R.faults report.new ≡ R.faults report.old) }
+    ensures output { result ≡ 6 → HasPlanned source.now target.now (λ text line. GainsPrefix (O.held out.old) (O.held out.new) text)
+        × Rose (O.faults out.old) (O.faults out.new)
+        × GainsUnlessFault (R.held report.old) (R.held report.new) (R.faults report.old) (R.faults report.new) output_fault_line }
+    ensures untouched { result ≡ 7 → (out.new ≡ out.old) × (report.new ≡ report.old) }
+    ensures report { result ≡ 8 → HasPlanned source.now target.now (λ text line. Gains (O.held out.old) (O.held out.new) text
+        × GainsPrefix (R.held report.old) (R.held report.new) line)
+        × (O.flushed out.new ≡ true) × (O.faults out.new ≡ O.faults out.old) × Rose (R.faults report.old) (R.faults report.new) }
+{
+    match prepare(alloc, source, target) {
+        Err(AllocError) => NO_MEMORY,
+        Ok(Prepared {
+            registers,
+            reads,
+            mut room,
+            line,
+            fault,
+        }) => {
+            let output = Output {
+                body: &target.body,
+                registers: &registers,
+                reads: &reads,
+            };
+            emit_program(&output, &mut room, &line, &fault, out, report)
         }
     }
-    if send_line(plan, report).is_err() {
-        return REPORT_FAILED;
+}
+
+/// Does the work: writes to the output, where there is something to write, and then the line of the report, where there is
+/// one. Memory is wanting only before the first byte goes out.
+pub fn emit<O: Sink, R: Sink>(alloc: Global, work: &Work, out: &mut O, report: &mut R) -> u8
+    requires { IsFitWork work.now }
+    ensures ends { (result ≡ 0) ⊎ ((result ≡ 6) ⊎ ((result ≡ 7) ⊎ (result ≡ 8))) }
+    ensures done { result ≡ 0 → HasWork work.now (λ text line. Gains (O.held out.old) (O.held out.new) text
+        × Gains (R.held report.old) (R.held report.new) line) }
+    ensures flushed { result ≡ 0 → (has_text work.now ≡ true → O.flushed out.new ≡ true) × (has_line work.now ≡ true → R.flushed report.new ≡ true) }
+    ensures calm { result ≡ 0 → (O.faults out.new ≡ O.faults out.old) × (R.faults report.new ≡ R.faults report.old) }
+    ensures output { result ≡ 6 → HasWork work.now (λ text line. GainsPrefix (O.held out.old) (O.held out.new) text)
+        × Rose (O.faults out.old) (O.faults out.new)
+        × GainsUnlessFault (R.held report.old) (R.held report.new) (R.faults report.old) (R.faults report.new) output_fault_line }
+    ensures untouched { result ≡ 7 → (out.new ≡ out.old) × (report.new ≡ report.old) }
+    ensures report { result ≡ 8 → HasWork work.now (λ text line. Gains (O.held out.old) (O.held out.new) text
+        × GainsPrefix (R.held report.old) (R.held report.new) line)
+        × (has_text work.now ≡ true → O.flushed out.new ≡ true) × (O.faults out.new ≡ O.faults out.old)
+        × Rose (R.faults report.old) (R.faults report.new) }
+    ensures no_fault { has_text work.now ≡ false → result ≡ 6 → ⊥ }
+    ensures no_out { has_text work.now ≡ false → out.new ≡ out.old }
+    ensures no_report { has_line work.now ≡ false → result ≡ 8 → ⊥ }
+    ensures no_line { has_line work.now ≡ false → result ≡ 0 → report.new ≡ report.old }
+{
+    match work {
+        Work::Program { source, target } => emit_target(alloc, source, target, out, report),
+        Work::Text { text } => match fault_line(alloc, &Fault::Output) {
+            Err(AllocError) => NO_MEMORY,
+            Ok(fault) => emit_text(text, &fault, out, report),
+        },
+        Work::Line { line } => emit_line(line, report),
     }
-    DONE
 }

@@ -10,8 +10,9 @@
 //! `stages` writes a line for each layer of its gates.
 //!
 //! `source` reads the input, over all of the readers, `device` loads the device of a name, `target` makes the circuit that is
-//! to be written, `plan` all bytes that may go out, before `emission` writes the first of them. What a command asks of its
-//! surroundings is told by `command_words`, so that each clause is said once for all commands.
+//! to be written, and `plan` all that takes memory, before `emission` writes the first byte. A program goes out in pieces, so
+//! its text never stands whole in memory. What a command asks of its surroundings is told by `command_words`, so that each
+//! clause is said once for all commands.
 #![tactic(auto)]
 
 ghost use Rattle.std.specs.Prelude.{◌≡◌, ◌⊎◌, ◌≤◌, ℕ, List, Some, None, map, true, false, is_some};
@@ -139,7 +140,7 @@ pub fn run<I: Source, F: Shelf, O: Sink, R: Sink>(
     accepted_has_no_refusal();
     means_once();
     match decide(alloc, words, input, shelf) {
-        Ok(plan) => emit(&plan, out, report),
+        Ok(work) => emit(alloc, &work, out, report),
         Err(stop) => tell(alloc, stop, report),
     }
 }

@@ -1,20 +1,17 @@
-//! All that is to be written, made before the first byte goes out.
+//! What a command has to write, and all that is made before the first byte goes out.
 
-ghost use Rattle.std.specs.Prelude.{◌≡◌, ◌≤◌, All, IfOk, None, length, map, is_some, true};
+ghost use Rattle.std.specs.Prelude.{◌≡◌, ◌≤◌, ℕ, List, [], All, IfOk, length, map, false, true, vec_capacity};
 ghost use Rattle.circuit_list.specs.Gates.{IsFine};
-ghost use Rattle.gate_expand.specs.Expansion.{IsFineOp, expanded};
-ghost use Rattle.gate_inline.specs.Programs.{IsWritten};
-ghost use Rattle.gate_inline.specs.Registers.{AreRegisters, IsFree, IsRead};
+ghost use Rattle.gate_expand.specs.Expansion.{IsFineOp};
+ghost use Rattle.gate_inline.specs.Registers.{IsFree, IsRead};
 ghost use Rattle.gate_inline.specs.Sizes.{operation_limit};
 ghost use Rattle.gate_library.specs.Limits.{most_bits, most_qubits};
-ghost use Rattle.layer_stages.specs.Stages.{IsStageText};
-ghost use Rattle.phase_poly.specs.Layers.{layers_of};
 ghost use Rattle.program_reader.specs.Refusals.{program_of};
 ghost use Rattle.qasm_writer.specs.Outputs.{bits_of};
 ghost use Rattle.route_report.specs.Lines.{check_line};
 ghost use Rattle.qroute_top.specs.Causes.{output_fault_line};
-ghost use Rattle.qroute_top.specs.Delivered.{counts_of, placed_read};
-ghost use Rattle.qroute_top.specs.Plans.{IsPlanned, IsReport, TellsOutputFault, line_of, target_program, text_of};
+ghost use Rattle.qroute_top.specs.Delivered.{IsStages, counts_of, placed_read};
+ghost use Rattle.qroute_top.specs.Plans.{IsFit, IsFitWork, IsPlanned, IsReport, IsWork, TellsReport, has_line, has_text};
 
 use crate::target::Target;
 use gate_expand::expand;
@@ -23,25 +20,37 @@ use placement::Placement;
 use program_reader::Source;
 use qasm_check::Bits;
 use qasm_lexer::names_are_ascii;
-use qasm_writer::output::{Output, Register};
-use qasm_writer::program_text;
+use qasm_writer::output::Register;
 use route_report::{Counts, Fault, Report, Wires, check_line, fault_line, report_line};
 use std::alloc::{AllocError, Global};
 use unitary_plain::counts::{cx_count_of, t_count_of};
 
-/// The text of a program, and the line of the fault that is told where it can't be written.
+/// What a command has to write, before the bytes of a program and its report line are made.
 #[derive(Drop)]
-pub struct Written {
-    pub text: Vec<u8>,
+pub enum Work {
+    /// A program that stands for a source goes to the output, and its report line to the report.
+    Program { source: Source, target: Target },
+    /// A text goes to the output.
+    Text { text: Vec<u8> },
+    /// A line goes to the report.
+    Line { line: Vec<u8> },
+}
+
+/// All that takes memory, made before the first byte of a program goes out.
+#[derive(Drop)]
+pub struct Prepared<'a> {
+    pub registers: Vec<Register<'a>>,
+    pub reads: Vec<Option<u32>>,
+    /// Where the pieces of the text are put together.
+    pub room: Vec<u8>,
+    /// The line of the report.
+    pub line: Vec<u8>,
+    /// The line that is told where the output fails.
     pub fault: Vec<u8>,
 }
 
-/// What goes to the output, if anything does, and the line that goes to the report, if one does.
-#[derive(Drop)]
-pub struct Plan {
-    pub written: Option<Written>,
-    pub line: Option<Vec<u8>>,
-}
+/// The bytes of a piece that goes out.
+const PIECE: usize = 4096;
 
 /// What the line tells of a program.
 #[tactic(auto, using(crate::proofs::PlanLaws::counts))]
@@ -108,40 +117,22 @@ fn registers_of<'a>(alloc: Global, bits: &'a [Bits]) -> Result<Vec<Register<'a>>
     Ok(registers)
 }
 
-/// The text of a target that reads what its source reads.
-fn written_text(alloc: Global, source: &Source, target: &Target) -> Result<Vec<u8>, AllocError>
-    requires placed { length target.now.last ≡ target.now.body.wires }
-    requires registers { AreRegisters source.now.registers.items (length source.now.ops.reads) }
-    requires reads { All (IsRead target.now.body.wires) source.now.ops.reads }
-    ensures { IfOk result (λ v. IsWritten v.items (target_program source.now target.now)) }
-{
-    let reads = placed_reads(alloc, source.ops.reads.as_slice(), &target.last)?;
-    let registers = registers_of(alloc, &source.registers)?;
-    program_text(
-        alloc,
-        &Output {
-            body: &target.body,
-            registers: &registers,
-            reads: &reads,
-        },
-    )
-}
-
 /// The report of a target that stands for a source.
-fn report_of(alloc: Global, source: &Source, target: Target) -> Result<Report, AllocError>
+fn report_of(alloc: Global, source: &Source, target: &Target) -> Result<Report, AllocError>
     requires short { length source.now.ops.list ≤ operation_limit }
     requires bits { length source.now.ops.reads ≤ most_bits }
-    ensures { IfOk result (IsReport source.now target) }
+    ensures { IfOk result (IsReport source.now target.now) }
 {
     let counts = counts_of(source);
     let last = Wires::new(Vec::from_slice(alloc, target.last.qubits())?);
+    let initial = Wires::new(Vec::from_slice(alloc, target.initial.as_slice())?);
     Ok(Report {
         barriers: counts.barriers,
         cx_after: target.body.count_cx() as u64,
         cx_before: counts.cx,
         device: target.body.wires(),
         last,
-        initial: target.initial,
+        initial,
         phase: target.turn,
         qubits: counts.qubits,
         swaps: target.swaps,
@@ -150,65 +141,72 @@ fn report_of(alloc: Global, source: &Source, target: Target) -> Result<Report, A
     })
 }
 
-/// What goes to the output, with this text.
-fn written_of(alloc: Global, text: Vec<u8>) -> Result<Written, AllocError>
-    ensures text { IfOk result (λ w. w.text.items ≡ text.items) }
-    ensures fault { IfOk result (λ w. w.fault.items ≡ output_fault_line) }
-{
-    let fault = fault_line(alloc, &Fault::Output)?;
-    Ok(Written { text, fault })
-}
-
-/// All that is to be written for a target that stands for a source.
-pub fn plan_of(alloc: Global, source: &Source, target: Target) -> Result<Plan, AllocError>
-    requires short { length source.now.ops.list ≤ operation_limit }
-    requires placed { length target.last ≡ target.body.wires }
-    requires registers { AreRegisters source.now.registers.items (length source.now.ops.reads) }
-    requires reads { All (IsRead target.body.wires) source.now.ops.reads }
-    ensures planned { IfOk result (λ p. IsPlanned source.now target (text_of p) (line_of p)) }
+/// The work of writing a target that stands for a source.
+pub fn work_of(source: Source, target: Target) -> Work
+    requires { IsFit source target }
+    ensures planned { (text line : List ℕ) → IsWork result text line → IsPlanned source target text line }
     ensures fine { All (IsFine target.body.wires) target.body.gates }
-    ensures writes { IfOk result (λ p. is_some p.written ≡ true) }
-    ensures tells { IfOk result (λ p. is_some p.line ≡ true) }
-    ensures fault { IfOk result TellsOutputFault }
+    ensures fit { IsFitWork result }
+    ensures writes { has_text result ≡ true }
+    ensures tells { has_line result ≡ true }
 {
     let _wires = target.body.wires();
-    let text = written_text(alloc, source, &target)?;
+    Work::Program { source, target }
+}
+
+/// All that is made for a target that stands for a source.
+pub fn prepare<'a>(
+    alloc: Global,
+    source: &'a Source,
+    target: &Target,
+) -> Result<Prepared<'a>, AllocError>
+    requires { IsFit source.now target.now }
+    ensures registers { IfOk result (λ p. map bits_of p.registers.items ≡ source.now.registers.items) }
+    ensures reads { IfOk result (λ p. p.reads.items ≡ map (placed_read target.now.last) source.now.ops.reads) }
+    ensures there { IfOk result (λ p. All (IsRead target.now.body.wires) p.reads.items) }
+    ensures empty { IfOk result (λ p. p.room.items ≡ []) }
+    ensures capacity { IfOk result (λ p. 4096 ≤ vec_capacity p.room) }
+    ensures line { IfOk result (λ p. TellsReport source.now target.now p.line.items) }
+    ensures fault { IfOk result (λ p. p.fault.items ≡ output_fault_line) }
+{
+    let registers = registers_of(alloc, &source.registers)?;
+    let reads = placed_reads(alloc, source.ops.reads.as_slice(), &target.last)?;
     let report = report_of(alloc, source, target)?;
     let line = report_line(alloc, &report)?;
-    Ok(Plan {
-        written: Some(written_of(alloc, text)?),
-        line: Some(line),
+    let fault = fault_line(alloc, &Fault::Output)?;
+    let room = Vec::with_capacity(alloc, PIECE)?;
+    Ok(Prepared {
+        registers,
+        reads,
+        room,
+        line,
+        fault,
     })
 }
 
 /// The line that tells what a program has; nothing goes to the output.
-pub fn check_plan(alloc: Global, source: &Source) -> Result<Plan, AllocError>
+pub fn check_work(alloc: Global, source: &Source) -> Result<Work, AllocError>
     requires short { length source.now.ops.list ≤ operation_limit }
     requires bits { length source.now.ops.reads ≤ most_bits }
-    ensures line { IfOk result (λ p. line_of p ≡ check_line (counts_of (program_of source.now))) }
-    ensures tells { IfOk result (λ p. is_some p.line ≡ true) }
-    ensures written { IfOk result (λ p. p.written ≡ None) }
+    ensures made { IfOk result (λ w. (text line : List ℕ) → IsWork w text line → (text ≡ []) × (line ≡ check_line (counts_of (program_of source.now)))) }
+    ensures fit { IfOk result IsFitWork }
+    ensures writes { IfOk result (λ w. has_text w ≡ false) }
+    ensures tells { IfOk result (λ w. has_line w ≡ true) }
 {
     let line = check_line(alloc, &counts_of(source))?;
-    Ok(Plan {
-        written: None,
-        line: Some(line),
-    })
+    Ok(Work::Line { line })
 }
 
 /// The lines of the layers of a program's gates; nothing goes to the report.
-pub fn stage_plan(alloc: Global, source: &Source) -> Result<Plan, AllocError>
+pub fn stage_work(alloc: Global, source: &Source) -> Result<Work, AllocError>
     requires few { source.now.ops.wires ≤ most_qubits }
     requires fine { All (IsFineOp source.now.ops.wires) source.now.ops.list }
-    ensures text { IfOk result (λ p. IsStageText source.now.ops.wires (layers_of (expanded source.now.ops.list)) (text_of p)) }
-    ensures writes { IfOk result (λ p. is_some p.written ≡ true) }
-    ensures line { IfOk result (λ p. p.line ≡ None) }
-    ensures fault { IfOk result TellsOutputFault }
+    ensures made { IfOk result (λ w. (text line : List ℕ) → IsWork w text line → IsStages (program_of source.now) text × (line ≡ [])) }
+    ensures fit { IfOk result IsFitWork }
+    ensures writes { IfOk result (λ w. has_text w ≡ true) }
+    ensures tells { IfOk result (λ w. has_line w ≡ false) }
 {
     let gates = expand(alloc, &source.ops)?;
     let text = stage_lines(alloc, &gates.body)?;
-    Ok(Plan {
-        written: Some(written_of(alloc, text)?),
-        line: None,
-    })
+    Ok(Work::Text { text })
 }

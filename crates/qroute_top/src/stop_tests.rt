@@ -1,7 +1,7 @@
 //! Runs that end early: failing ends, other words, and texts that are refused.
 
 use crate::cases_tests::{
-    CHECK, Case, OPT, PAIR, STAGES, Stopped, optimise, refuse, run_case, stop,
+    CHECK, Case, HEAD, OPT, PAIR, STAGES, Stopped, optimise, refuse, run_by, run_case, stop,
 };
 use std::test::Fail;
 
@@ -82,6 +82,41 @@ fn says_what_failed(rt: HostRuntime) -> Result<(), Fail> {
         ),
     ];
     stop(rt.alloc(), &rt, &rows)
+}
+
+/// A program of 4,576 bytes goes out in two pieces. Where the second call fails, the first piece has come, however much more
+/// the output would take.
+#[test]
+fn keeps_the_piece_that_came(rt: HostRuntime) -> Result<(), Fail> {
+    let alloc = rt.alloc();
+    // no pass finds anything to do here
+    let mut text = String::from_str(alloc, HEAD)?;
+    text.push_str("qreg q[64];\n")?;
+    for _ in 0..4u32 {
+        for wire in 0..64u32 {
+            write!(text, "h q[{wire}];\nt q[{wire}];\n")?;
+        }
+    }
+    let text = text.into_bytes();
+    let told = "{\"fault\":\"Output\",\"status\":6}\n";
+    for most in [4096, 9999] {
+        let case = Case {
+            words: &OPT,
+            text: &text,
+            device: "",
+            fails: [0, 1, 0, 0],
+        };
+        let got = run_by(alloc, case, most)?;
+        assert_eq!(rt; got.status, 0);
+        assert_eq!(rt; got.out.as_slice(), text.as_slice());
+        let fails = [0, 1, 2, 0];
+        let got = run_by(alloc, Case { fails, ..case }, most)?;
+        assert_eq!(rt; got.status, 6);
+        assert_eq!(rt; got.out.len(), 4096);
+        assert!(rt; text.starts_with(got.out.as_slice()));
+        assert_eq!(rt; got.report.as_slice(), told.as_bytes());
+    }
+    Ok(())
 }
 
 #[test]

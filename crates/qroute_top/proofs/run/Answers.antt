@@ -1,18 +1,73 @@
--- What follows of each status, from the cause of a stop or from what a plan delivers.
+-- What follows of each status, from the cause of a stop or from what a work delivers.
 use Rattle.std.proofs.Common.{inl, inr, ◌∙◌, ap, Err, map}
+use Rattle.outside_io.specs.Bytes.{Gains, GainsPrefix}
+use Rattle.command_words.specs.Demands.{writes_out, writes_report}
 use Rattle.qroute_top.specs.Causes.{Handed}
-use Rattle.qroute_top.proofs.RunLaws.{asked_of, planned-refuses, planned-refuses_device, same_stop, stopped-absent, stopped-complete, stopped-read, stopped-refuses, stopped-refuses_device, stopped-two}
+use Rattle.qroute_top.specs.Plans.{has_line, has_text}
+use Rattle.qroute_top.proofs.RunLaws.{Delivered-done, asked_of, came, planned-absent, planned-complete, planned-refuses, planned-refuses_device, same_stop, stopped-absent, stopped-complete, stopped-read, stopped-refuses, stopped-refuses_device, stopped-two}
 use Rattle.qroute_top.proofs.StatusLaws.{not_late}
 use Rattle.qroute_top.proofs.run.Goals as goal
 
+pub returns-in-Ok-clause-headline : goal.returns-in-Ok-clause-headline
+returns-in-Ok-clause-headline g c = λ e.
+    Delivered-done (map (λ w. w.now) c.args.words.now) (g.F.Shelf.content c.args.shelf.now) (g.I.Source.left c.args.input.now)
+    (g.I.Source.left c.decide.new.input) c.in-Ok.work
+    (λ text line. Gains (g.O.Sink.held c.args.out.now) (g.O.Sink.held c.emit.new.out) text
+    × Gains (g.R.Sink.held c.args.report.now) (g.R.Sink.held c.emit.new.report) line)
+    c.in-Ok.ensures.made (c.emit.ensures.done e)
+
+pub returns-in-Ok-clause-output : goal.returns-in-Ok-clause-output
+returns-in-Ok-clause-output g c = λ e.
+    let h = c.emit.ensures.output e in
+    let came = Delivered-done (map (λ w. w.now) c.args.words.now) (g.F.Shelf.content c.args.shelf.now) (g.I.Source.left c.args.input.now)
+    (g.I.Source.left c.decide.new.input) c.in-Ok.work
+    (λ text line. GainsPrefix (g.O.Sink.held c.args.out.now) (g.O.Sink.held c.emit.new.out) text) c.in-Ok.ensures.made h.0 in
+    (h.1, came, h.2)
+
+pub returns-in-Ok-clause-report : goal.returns-in-Ok-clause-report
+returns-in-Ok-clause-report g c = λ e.
+    let h = c.emit.ensures.report e in
+    let came = Delivered-done (map (λ w. w.now) c.args.words.now) (g.F.Shelf.content c.args.shelf.now) (g.I.Source.left c.args.input.now)
+    (g.I.Source.left c.decide.new.input) c.in-Ok.work
+    (λ text line. Gains (g.O.Sink.held c.args.out.now) (g.O.Sink.held c.emit.new.out) text
+    × GainsPrefix (g.R.Sink.held c.args.report.now) (g.R.Sink.held c.emit.new.report) line) c.in-Ok.ensures.made h.0 in
+    (h.3, came, (λ a asked writes. h.1 (c.in-Ok.ensures.writes a asked ∙ writes)), h.2)
+
 pub returns-in-Ok-clause-refuses : goal.returns-in-Ok-clause-refuses
 returns-in-Ok-clause-refuses g c =
-    λ a text r asked reads told is calm. absurd (planned-refuses c.accepted_has_no_refusal.ensures _ _ _ _ _ _ text r c.in-Ok.ensures.plan told is)
+    let e = c.emit.ensures in
+    let some = came c.in-Ok.work c.emit.result e.ends (λ z. let h = e.done z in (h.0, h.1, h.2)) (λ z. let h = (e.output z).0 in (h.0, h.1, h.2))
+    (λ z. let h = (e.report z).0 in (h.0, h.1, h.2)) in
+    λ a text r asked reads told is calm. planned-refuses c.accepted_has_no_refusal.ensures (map (λ w. w.now) c.args.words.now) (g.F.Shelf.content c.args.shelf.now) (g.I.Source.left c.args.input.now)
+    (g.I.Source.left c.decide.new.input) c.in-Ok.work c.emit.result text r
+    c.in-Ok.ensures.made some told is
+
+pub returns-in-Ok-clause-absent : goal.returns-in-Ok-clause-absent
+returns-in-Ok-clause-absent g c =
+    let e = c.emit.ensures in
+    let some = came c.in-Ok.work c.emit.result e.ends (λ z. let h = e.done z in (h.0, h.1, h.2)) (λ z. let h = (e.output z).0 in (h.0, h.1, h.2))
+    (λ z. let h = (e.report z).0 in (h.0, h.1, h.2)) in
+    λ a name text p asked wants told ok calm shelf_calm none. planned-absent (map (λ w. w.now) c.args.words.now) (g.F.Shelf.content c.args.shelf.now) (g.I.Source.left c.args.input.now)
+    (g.I.Source.left c.decide.new.input) c.in-Ok.work c.emit.result name a
+    c.in-Ok.ensures.made some asked wants none
 
 pub returns-in-Ok-clause-refuses_device : goal.returns-in-Ok-clause-refuses_device
 returns-in-Ok-clause-refuses_device g c =
-    λ a name text device_text p r asked wants told ok calm shelf_calm here refusal. absurd
-    (planned-refuses_device c.means_once.ensures _ _ _ _ _ _ name a text device_text p r c.in-Ok.ensures.plan asked wants told ok here refusal)
+    let e = c.emit.ensures in
+    let some = came c.in-Ok.work c.emit.result e.ends (λ z. let h = e.done z in (h.0, h.1, h.2)) (λ z. let h = (e.output z).0 in (h.0, h.1, h.2))
+    (λ z. let h = (e.report z).0 in (h.0, h.1, h.2)) in
+    λ a name text device_text p r asked wants told ok calm shelf_calm here refusal. planned-refuses_device c.means_once.ensures
+    (map (λ w. w.now) c.args.words.now) (g.F.Shelf.content c.args.shelf.now) (g.I.Source.left c.args.input.now)
+    (g.I.Source.left c.decide.new.input) c.in-Ok.work c.emit.result name a text device_text p r
+    c.in-Ok.ensures.made some asked wants told ok here refusal
+
+pub returns-in-Ok-clause-complete : goal.returns-in-Ok-clause-complete
+returns-in-Ok-clause-complete g c =
+    let e = c.emit.ensures in
+    let d = c.in-Ok.ensures in
+    λ a text p asked told ok has calm shelf_calm out_calm report_calm. planned-complete (has_text c.in-Ok.work) (has_line c.in-Ok.work) (writes_out a)
+    (writes_report a) c.emit.result _ _ e.ends (d.writes a asked) (d.tells a asked) (λ six. (e.output six).1) (λ eight. (e.report eight).3) e.no_fault
+    e.no_report out_calm report_calm
 
 pub returns-in-Err-clause-calm : goal.returns-in-Err-clause-calm
 returns-in-Err-clause-calm g c = λ e. absurd (not_late c.in-Err.stop c.tell.result c.tell.ensures.status (inl e))

@@ -1,11 +1,17 @@
--- Where the text could not be written.
-use Rattle.std.proofs.Common.{sym, subst}
-use Rattle.outside_io.specs.Bytes.{GainsPrefix}
-use Rattle.qroute_top.proofs.StatusLaws.{failed_of, written_text}
+-- A line alone.
+use Rattle.std.proofs.Common.{refl}
+use Rattle.qroute_top.proofs.StatusLaws.{HasWork-line, HasWork-told, no_text_of}
 use Rattle.qroute_top.proofs.emission.emit.Goals as goal
 
-pub returns-then-is_err-clause-output : goal.returns-then-is_err-clause-output
-returns-then-is_err-clause-output g c = λ e.
-    let h = failed_of c.send_text.result (sym c.if-is_err.ensures.value) c.send_text.ensures.err in
-    let text = written_text c.args.plan.now.written c.in-Some.written c.in-Some.is in
-    (subst (λ t. GainsPrefix (g.O.Sink.held c.args.out.now) (g.O.Sink.held c.send_text.new.out) t) (sym text) h.0, h.1, h.2)
+pub returns-in-Line-clause-done : goal.returns-in-Line-clause-done
+returns-in-Line-clause-done g c = λ e.
+    let h = c.emit_line.ensures.done e in
+    HasWork-line c.args.work.now c.in-Line.line _ (g.O.Sink.held c.args.out.now) (g.R.Sink.held c.args.report.now) (g.R.Sink.held c.emit_line.new.report)
+    c.in-Line.is c.deref-in-Line.ensures.value h.0
+
+pub returns-in-Line-clause-report : goal.returns-in-Line-clause-report
+returns-in-Line-clause-report g c = λ e.
+    let h = c.emit_line.ensures.report e in
+    let told = HasWork-told c.args.work.now c.in-Line.line _ (g.O.Sink.held c.args.out.now) (g.R.Sink.held c.args.report.now)
+    (g.R.Sink.held c.emit_line.new.report) c.in-Line.is c.deref-in-Line.ensures.value h.0 in
+    (told, (λ some. absurd (no_text_of c.args.work.now c.in-Line.line c.in-Line.is some)), refl, h.1)
