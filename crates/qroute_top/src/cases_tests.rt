@@ -40,7 +40,12 @@ pub fn run_by(alloc: Global, case: Case<'_>, most: usize) -> Result<Outcome, All
         texts.push(NamedText::new(alloc, "d", case.device.as_bytes())?)?;
     }
     let mut shelf = MemShelf::new(texts, Vec::from_slice(alloc, &[shelf_fails])?);
-    let mut out = MemSink::new(alloc, 9999, most.max(1), Vec::from_slice(alloc, &[out_fails])?)?;
+    let mut out = MemSink::new(
+        alloc,
+        9999,
+        most.max(1),
+        Vec::from_slice(alloc, &[out_fails])?,
+    )?;
     let mut report = MemSink::new(alloc, 999, 999, Vec::from_slice(alloc, &[report_fails])?)?;
     let status = run(
         alloc,

@@ -144,11 +144,7 @@ fn emit_text<O: Sink, R: Sink>(text: &[u8], fault: &[u8], out: &mut O, report: &
 }
 
 /// Writes a program in pieces and flushes it.
-fn send_program<O: Sink>(
-    output: &Output,
-    room: &mut Vec<u8>,
-    out: &mut O,
-) -> Result<(), Failed>
+fn send_program<O: Sink>(output: &Output, room: &mut Vec<u8>, out: &mut O) -> Result<(), Failed>
     requires output { IsOutput output.now }
     requires empty { room.old.items ≡ [] }
     requires capacity { 4096 ≤ vec_capacity room.old }
@@ -216,13 +212,15 @@ fn emit_target<O: Sink, R: Sink>(
 {
     match prepare(alloc, source, target) {
         Err(AllocError) => NO_MEMORY,
-        Ok(Prepared {
-            registers,
-            reads,
-            mut room,
-            line,
-            fault,
-        }) => {
+        Ok(
+            Prepared {
+                registers,
+                reads,
+                mut room,
+                line,
+                fault,
+            },
+        ) => {
             let output = Output {
                 body: &target.body,
                 registers: &registers,

@@ -1,5 +1,5 @@
 -- Where the text could not be written.
-use Rattle.std.proofs.Common.{map}
+use Rattle.std.proofs.Common.{◌∙◌, ap, map}
 use Rattle.outside_io.specs.Bytes.{GainsPrefix}
 use Rattle.qasm_writer.specs.Outputs.{bits_of}
 use Rattle.qroute_top.proofs.PlanLaws.{HasPlanned-written}
@@ -10,7 +10,9 @@ returns-in-Ok-clause-output g c = λ e.
     let h = c.emit_program.ensures.output e in
     let p = c.in-Ok.ensures in
     let came = h.0 in
-    let planned = HasPlanned-written c.args.source.now c.args.target.now came.0 c.in-Ok.line.items
-    (GainsPrefix (g.O.Sink.held c.args.out.now) (g.O.Sink.held c.emit_program.new.out)) (map bits_of c.in-Ok.registers.items) c.in-Ok.reads.items
-    (rw c.in-Ok.registers-is at p.registers) (rw c.in-Ok.reads-is at p.reads) (rw c.in-Ok.line-is at p.line) came.2 came.3 in
+    let registers = ap (λ x. map bits_of x) c.deref.ensures.value ∙ p.registers in
+    let reads = c.deref-in-Ok.ensures.value ∙ p.reads in
+    let planned = HasPlanned-written c.args.source.now c.args.target.now came.0 c.in-Ok.field-0.line.items
+    (GainsPrefix (g.O.Sink.held c.args.out.now) (g.O.Sink.held c.emit_program.new.out)) (map bits_of c.deref.result.now) c.deref-in-Ok.result.now registers
+    reads p.line came.2 came.3 in
     (planned, h.1, h.2)
