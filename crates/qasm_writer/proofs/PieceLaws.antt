@@ -6,7 +6,8 @@
 --   Leads-all, Leads-more, Leads-stop, Leads-end     a loop over lines: none so far, one more, a fault in one, all
 --   Sends-none, Sends-then   no bytes; some bytes, and then more
 --   fault-now, fault-then    the sink failed in the first of some bytes, or in what came after some
---   on_err, then-ok, then-err    the same for what a call answers
+--   on_err, on_ok-map, on_err-map, then-ok, then-err    the same for what a call answers
+--   fault-whole, Sends-whole, Sends-rest, rest-fault    a whole text by an empty room
 use Rattle.std.proofs.Common.{◌≡◌, ℕ, ◌+◌, ◌≤◌, List, [], ◌++◌, Option, Some, None, Result, Ok, Err, OnErr, OnOk, refl, sym, subst, ap, ◌∙◌, arith, append_assoc, append-nil, length, length-append, take}
 use Rattle.std.proofs.Math.Seq.{take-append-add}
 use Rattle.std.proofs.lemmas.List.{take-append-le}
@@ -82,8 +83,8 @@ pub Leads-more : (a b c : Option (List ℕ)) (r s t all rest line others : List 
     → Sends b s c t line → Leads a r c t all others
 Leads-more a b c r s t all rest line others h e k =
     let behind : s ++ rest ≡ k.sent ++ (t ++ others) =
-        ap (λ z. s ++ z) e ∙ sym (append_assoc s line others) ∙ ap (λ z. z ++ others) k.all
-        ∙ append_assoc k.sent (t ++ []) others ∙ ap (λ z. k.sent ++ (z ++ others)) (append-nil t) in
+    ap (λ z. s ++ z) e ∙ sym (append_assoc s line others) ∙ ap (λ z. z ++ others) k.all
+    ∙ append_assoc k.sent (t ++ []) others ∙ ap (λ z. k.sent ++ (z ++ others)) (append-nil t) in
     record {
       sent = h.sent ++ k.sent;
       gained = Gains-append a b c h.sent k.sent h.gained k.gained;
@@ -94,7 +95,7 @@ pub Leads-stop : (a b c : Option (List ℕ)) (r s all rest line others : List �
     → GainsPrefix b c (s ++ line) → GainsPrefix a c (r ++ all)
 Leads-stop a b c r s all rest line others h e failed =
     let whole : r ++ all ≡ h.sent ++ ((s ++ line) ++ others) =
-        h.all ∙ ap (λ z. h.sent ++ (s ++ z)) e ∙ ap (λ z. h.sent ++ z) (sym (append_assoc s line others)) in
+    h.all ∙ ap (λ z. h.sent ++ (s ++ z)) e ∙ ap (λ z. h.sent ++ z) (sym (append_assoc s line others)) in
     prefix-behind a b c h.sent (s ++ line) others (r ++ all) h.gained failed whole
 
 pub Leads-end : (a b : Option (List ℕ)) (r s all rest : List ℕ) → Leads a r b s all rest → rest ≡ [] → Sends a r b s all
@@ -118,6 +119,32 @@ pub then-err : {T E : Type 0} (x : Result T E) (a b c : Option (List ℕ)) (r s 
     → OnErr x (GainsPrefix b c (s ++ ys)) → OnErr x (GainsPrefix a c (r ++ (xs ++ ys)))
 then-err (Ok v) a b c r s xs ys h k = tt
 then-err (Err e) a b c r s xs ys h k = fault-then a b c r s xs ys h k
+
+pub on_ok-map : {T E : Type 0} (x : Result T E) (P Q : Type 0) → (P → Q) → OnOk x P → OnOk x Q
+on_ok-map (Ok v) P Q f p = f p
+on_ok-map (Err e) P Q f p = tt
+
+pub on_err-map : {T E : Type 0} (x : Result T E) (P Q : Type 0) → (P → Q) → OnErr x P → OnErr x Q
+on_err-map (Ok v) P Q f p = tt
+on_err-map (Err e) P Q f p = f p
+
+-- a text behind an empty room, and the rest of it that is sent in the end
+
+pub fault-whole : (a b : Option (List ℕ)) (r xs : List ℕ) → r ≡ [] → GainsPrefix a b (r ++ xs) → GainsPrefix a b xs
+fault-whole a b r xs e h = subst (λ (z : List ℕ). GainsPrefix a b (z ++ xs)) e h
+
+pub Sends-whole : (a b : Option (List ℕ)) (r s xs : List ℕ) → r ≡ [] → s ≡ [] → Sends a r b s xs → Gains a b xs
+Sends-whole a b r s xs e f h =
+    let all : xs ≡ h.sent = sym (ap (λ (z : List ℕ). z ++ xs) e) ∙ h.all ∙ ap (λ z. h.sent ++ (z ++ [])) f ∙ append-nil h.sent in
+    subst (λ (z : List ℕ). Gains a b z) (sym all) h.gained
+
+pub Sends-rest : (a b c : Option (List ℕ)) (r s xs : List ℕ) → r ≡ [] → Sends a r b s xs → Gains b c s → Gains a c xs
+Sends-rest a b c r s xs e h gained =
+    let all : xs ≡ h.sent ++ s = sym (ap (λ (z : List ℕ). z ++ xs) e) ∙ h.all ∙ ap (λ z. h.sent ++ z) (append-nil s) in
+    rw all (Gains-append a b c h.sent s h.gained gained)
+
+pub rest-fault : (a b c : Option (List ℕ)) (r s xs : List ℕ) → r ≡ [] → Sends a r b s xs → GainsPrefix b c s → GainsPrefix a c xs
+rest-fault a b c r s xs e h failed = fault-whole a c r xs e (Leads-fault a b c r s xs [] h failed)
 
 pub ruleset pieces = (Leads-start, Leads-sent)
 

@@ -113,7 +113,6 @@ pub fn write_program<S: Sink>(
 }
 
 /// Puts all lines, and sends what is left in the room.
-#[tactic(auto, using(crate::proofs::OutputLaws::outputs))]
 fn write_lines<S: Sink>(output: &Output, room: &mut Vec<u8>, sink: &mut S) -> Result<(), Failed>
     requires output { IsOutput output.now }
     requires empty { room.old.items ≡ [] }
@@ -127,9 +126,6 @@ fn write_lines<S: Sink>(output: &Output, room: &mut Vec<u8>, sink: &mut S) -> Re
     let wires = output.body.wires();
     let q = underscores(output.registers);
     put_lines(output, q, wires, room, sink)?;
-    if room.is_empty() {
-        return Ok(());
-    }
     send_room(room, sink)
 }
 

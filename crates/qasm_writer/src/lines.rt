@@ -55,6 +55,23 @@ fn put_qubit<S: Sink>(room: &mut Vec<u8>, sink: &mut S, q: usize, wire: u32) -> 
     put_place(room, sink, wire as usize)
 }
 
+/// Puts a name and a place, as `c[3]`.
+fn put_indexed<S: Sink>(
+    room: &mut Vec<u8>,
+    sink: &mut S,
+    name: &str,
+    place: usize,
+) -> Result<(), Failed>
+    requires { HasRoom room.old }
+    ensures ok { OnOk result (Sends (S.held sink.old) room.old.items (S.held sink.new) room.new.items (index_text name.now place)) }
+    ensures err { OnErr result (GainsPrefix (S.held sink.old) (S.held sink.new) (room.old.items ++ index_text name.now place)) }
+    ensures cause { HasCause (S.faults sink.old) (S.faults sink.new) result }
+    ensures room { HasRoom room.new }
+{
+    put(room, sink, name)?;
+    put_place(room, sink, place)
+}
+
 /// The name of a phase, from 1 to 7 in units of pi/4.
 fn phase_name(k: u8) -> &'static str
     ensures { result.now ≡ phase_text k }
@@ -157,8 +174,7 @@ fn put_register<S: Sink>(room: &mut Vec<u8>, sink: &mut S, register: Register) -
     ensures room { HasRoom room.new }
 {
     put(room, sink, "creg ")?;
-    put(room, sink, register.name)?;
-    put_place(room, sink, register.size as usize)?;
+    put_indexed(room, sink, register.name, register.size as usize)?;
     put(room, sink, ";\n")
 }
 
@@ -180,8 +196,7 @@ fn put_measurement<S: Sink>(
     put(room, sink, "measure ")?;
     put_qubit(room, sink, q, wire)?;
     put(room, sink, " -> ")?;
-    put(room, sink, name)?;
-    put_place(room, sink, bit)?;
+    put_indexed(room, sink, name, bit)?;
     put(room, sink, ";\n")
 }
 
