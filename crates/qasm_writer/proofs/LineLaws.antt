@@ -2,15 +2,18 @@
 --   gates-next         the line of one gate, and those of the others
 --   registers-next     that of one register
 --   reads-next         that of one measurement into a register
---   register_reads-next    those into one register
-use Rattle.std.proofs.Common.{◌≡◌, ℕ, ◌+◌, ◌<◌, List, [], ◌∷◌, ◌++◌, Option, Some, ap, ◌∙◌, length, drop, map, take, get_or, slice_get}
+--   register_reads-next, register_reads-split    those into one register
+--   underscores-next   one underscore
+--   phase_line         the line of a phase, by its name
+use Rattle.std.proofs.Common.{◌≡◌, ℕ, suc, ◌+◌, ◌-◌, ◌<◌, List, [], ◌∷◌, ◌++◌, Option, Some, ap, ◌∙◌, length, drop, map, take, get_or, replicate, slice_get, refl, sym, arith, codes}
 use Rattle.std.proofs.lemmas.List.{drop_more}
 use Rattle.std.proofs.lemmas.Option.{get_or_from_slice_get, slice_get_within}
 use Rattle.std.specs.List.{flat_map}
 use Rattle.circuit_list.specs.declared.Gate.{Gate}
+use Rattle.circuit_list.specs.declared.Gate.TheVariants.{P}
 use Rattle.circuit_list.specs.Gates.{op_of, ops}
 use Rattle.qasm_writer.specs.Outputs.{bits_of}
-use Rattle.qasm_writer.specs.Texts.{bits_line, op_line, read_line, read_lines, register_lines}
+use Rattle.qasm_writer.specs.Texts.{bits_line, index_text, op_line, phase_text, read_line, read_lines, register_lines}
 use Rattle.qasm_writer.specs.declared.output.Register.{Register}
 
 pub gates-next : (q : List ℕ) (gs : List Gate) (i : ℕ) (g : Gate) → slice_get gs i ≡ Some g
@@ -32,5 +35,20 @@ pub register_reads-next : (q : List ℕ) (rs : List Register) (reads : List (Opt
     ≡ register_lines q (get_or rs i d).name.now 0 (take (get_or rs i d).size reads)
     ++ read_lines q (map bits_of (drop (i + 1) rs)) (drop (get_or rs i d).size reads)
 register_reads-next q rs reads i d h = ap (λ z. read_lines q (map bits_of z) reads) (drop_more rs i d h)
+
+pub register_reads-split : (q : List ℕ) (rs : List Register) (reads own others : List (Option ℕ)) (i : ℕ) (d : Register) → i < length rs
+    → own ≡ take (get_or rs i d).size reads → others ≡ drop (get_or rs i d).size reads
+    → read_lines q (map bits_of (drop i rs)) reads
+    ≡ register_lines q (get_or rs i d).name.now 0 own ++ read_lines q (map bits_of (drop (i + 1) rs)) others
+register_reads-split q rs reads own others i d h front back = rw (front, back) (register_reads-next q rs reads i d h)
+
+pub underscores-next : (n i : ℕ) → i < n → replicate (n - i) 95 ≡ 95 ∷ replicate (n - (i + 1)) 95
+underscores-next n i h =
+    let one : n - i ≡ suc (n - (i + 1)) = omega arith in
+    rw one refl
+
+pub phase_line : (q name : List ℕ) (k wire : ℕ) (gate : Gate) → name ≡ phase_text k → gate ≡ P k wire
+    → name ++ (codes " " ++ (index_text q wire ++ codes ";\n")) ≡ op_line q (op_of gate)
+phase_line q name k wire gate e is = rw (is, e) refl
 
 pub ruleset lines = (gates-next, registers-next, reads-next, register_reads-next)

@@ -70,14 +70,19 @@ pub taken_more : (rs : List Register) (k : ℕ)
 taken_more rs k below taken =
     below_more (λ j. is_one_of (names_of (map bits_of rs)) (with_underscores j) ≡ true) k below (sym (taken_is rs (with_underscores k)) ∙ taken)
 
-nat_eq-sym : (m n : ℕ) → (m == n) ≡ (n == m)
+pub nat_eq-sym : (m n : ℕ) → (m == n) ≡ (n == m)
 nat_eq-sym m n = grind arith
 
 -- a name byte by byte
 pub underscores-eq : (n : ℕ) (bytes : List ℕ) → bytes_eq (replicate n 95) bytes ≡ ((length bytes == n) && list_all (λ b. b == 95) bytes)
 underscores-eq zero [] = refl
-underscores-eq zero (b ∷ bytes) = refl
+underscores-eq zero (b ∷ bytes) = grind arith
 underscores-eq (suc n) [] = refl
 underscores-eq (suc n) (b ∷ bytes) = rw (underscores-eq n bytes, nat_eq-sym 95 b) (grind arith)
 
-pub ruleset names = (taken_is, longer_free, underscores-eq, nat_eq-sym)
+-- `q` and so many underscores, byte by byte
+pub spelt-eq : (count first : ℕ) (rest name : List ℕ) → name ≡ first ∷ rest
+    → bytes_eq (with_underscores count) name ≡ ((first == 113) && ((length rest == count) && list_all (λ b. b == 95) rest))
+spelt-eq count first rest name e = rw (e, nat_eq-sym first 113, underscores-eq count rest) refl
+
+pub ruleset names = (taken_is, longer_free, last_name, spelt-eq)

@@ -6,7 +6,7 @@
 --   Leads-all, Leads-more, Leads-stop, Leads-end     a loop over lines: none so far, one more, a fault in one, all
 --   Sends-none, Sends-then   no bytes; some bytes, and then more
 --   fault-now, fault-then    the sink failed in the first of some bytes, or in what came after some
---   on_err, on_ok-map, on_err-map, then-ok, then-err    the same for what a call answers
+--   on_err, on_err-same, on_ok-map, on_err-map, then-ok, then-err    the same for what a call answers
 --   fault-whole, Sends-whole, Sends-rest, rest-fault    a whole text by an empty room
 use Rattle.std.proofs.Common.{◌≡◌, ℕ, ◌+◌, ◌≤◌, List, [], ◌++◌, Option, Some, None, Result, Ok, Err, OnErr, OnOk, refl, sym, subst, ap, ◌∙◌, arith, append_assoc, append-nil, length, length-append, take}
 use Rattle.std.proofs.Math.Seq.{take-append-add}
@@ -119,6 +119,10 @@ pub then-err : {T E : Type 0} (x : Result T E) (a b c : Option (List ℕ)) (r s 
     → OnErr x (GainsPrefix b c (s ++ ys)) → OnErr x (GainsPrefix a c (r ++ (xs ++ ys)))
 then-err (Ok v) a b c r s xs ys h k = tt
 then-err (Err e) a b c r s xs ys h k = fault-then a b c r s xs ys h k
+
+pub on_err-same : {T E : Type 0} (x : Result T E) (a b : Option (List ℕ)) (r xs ys : List ℕ) → xs ≡ ys
+    → OnErr x (GainsPrefix a b (r ++ xs)) → OnErr x (GainsPrefix a b (r ++ ys))
+on_err-same x a b r xs ys e h = subst (λ (z : List ℕ). OnErr x (GainsPrefix a b (r ++ z))) e h
 
 pub on_ok-map : {T E : Type 0} (x : Result T E) (P Q : Type 0) → (P → Q) → OnOk x P → OnOk x Q
 on_ok-map (Ok v) P Q f p = f p

@@ -6,8 +6,8 @@
 //! declare them, and a read for each of their bits; the only error is want of memory.
 #![tactic(auto)]
 
-ghost use Rattle.std.specs.List.{list_any};
-ghost use Rattle.std.specs.Prelude.{◌≡◌, ◌≤◌, [], All, IfOk, OnErr, OnOk, length, map, vec_capacity};
+ghost use Rattle.std.specs.List.{list_all, list_any};
+ghost use Rattle.std.specs.Prelude.{◌≡◌, ◌≤◌, ◌==◌, [], All, IfOk, OnErr, OnOk, length, map, vec_capacity};
 ghost use Rattle.std.specs.Str.{bytes_eq};
 ghost use Rattle.gate_inline.specs.Programs.{IsWritten};
 ghost use Rattle.outside_io.specs.Bytes.{Gains, GainsPrefix};
@@ -63,14 +63,22 @@ fn is_taken(registers: &[Register], count: usize) -> bool
         .any(|register| is_spelt(register.name.as_bytes(), count))
 }
 
+/// Whether all bytes are underscores.
+fn are_underscores(bytes: &[u8]) -> bool
+    ensures { result ≡ list_all (λ b. b == 95) bytes.now }
+{
+    bytes.iter().all(|byte| *byte == b'_')
+}
+
 /// Whether a name is `q` and so many underscores.
+#[tactic(auto, using(crate::proofs::NameLaws::names))]
 fn is_spelt(name: &[u8], count: usize) -> bool
     ensures { result ≡ bytes_eq (with_underscores count) name.now }
 {
     match name.split_first() {
         None => false,
         Some((first, rest)) => {
-            *first == b'q' && rest.len() == count && rest.iter().all(|byte| *byte == b'_')
+            *first == b'q' && rest.len() == count && are_underscores(rest)
         }
     }
 }

@@ -149,6 +149,24 @@ pub fn put_gate<S: Sink>(
     }
 }
 
+/// Puts the line of the quantum register.
+fn put_quantum_register<S: Sink>(
+    room: &mut Vec<u8>,
+    sink: &mut S,
+    q: usize,
+    wires: u32,
+) -> Result<(), Failed>
+    requires { HasRoom room.old }
+    ensures ok { OnOk result (Sends (S.held sink.old) room.old.items (S.held sink.new) room.new.items (codes "qreg " ++ (index_text (with_underscores q) wires ++ codes ";\n"))) }
+    ensures err { OnErr result (GainsPrefix (S.held sink.old) (S.held sink.new) (room.old.items ++ (codes "qreg " ++ (index_text (with_underscores q) wires ++ codes ";\n")))) }
+    ensures cause { HasCause (S.faults sink.old) (S.faults sink.new) result }
+    ensures room { HasRoom room.new }
+{
+    put(room, sink, "qreg ")?;
+    put_qubit(room, sink, q, wires)?;
+    put(room, sink, ";\n")
+}
+
 /// Puts the line of the quantum register, if there are wires.
 fn put_wires<S: Sink>(room: &mut Vec<u8>, sink: &mut S, q: usize, wires: u32) -> Result<(), Failed>
     requires { HasRoom room.old }
@@ -160,9 +178,7 @@ fn put_wires<S: Sink>(room: &mut Vec<u8>, sink: &mut S, q: usize, wires: u32) ->
     if wires == 0 {
         return Ok(());
     }
-    put(room, sink, "qreg ")?;
-    put_qubit(room, sink, q, wires)?;
-    put(room, sink, ";\n")
+    put_quantum_register(room, sink, q, wires)
 }
 
 /// Puts the line of a classical register.
