@@ -3,10 +3,13 @@
 --   registers-next     that of one register
 --   reads-next         that of one measurement into a register
 --   register_reads-next, register_reads-split    those into one register
+--   bits-next          the bits of one register, and those of the others
+--   reads_enough       the reads behind those of one register are enough for the others
 --   underscores-next   one underscore
 --   phase_line         the line of a phase, by its name
-use Rattle.std.proofs.Common.{◌≡◌, ℕ, suc, ◌+◌, ◌-◌, ◌<◌, List, [], ◌∷◌, ◌++◌, Option, Some, ap, ◌∙◌, length, drop, map, take, get_or, replicate, slice_get, refl, sym, arith, codes}
+use Rattle.std.proofs.Common.{◌≡◌, ℕ, suc, ◌+◌, ◌-◌, ◌<◌, ◌≤◌, List, [], ◌∷◌, ◌++◌, Option, Some, ap, ◌∙◌, length, drop, map, take, get_or, replicate, slice_get, sum_by, length-drop, refl, sym, arith, codes}
 use Rattle.std.proofs.lemmas.List.{drop_more}
+use Rattle.std.proofs.lemmas.List.Sums.{sum_by-cons}
 use Rattle.std.proofs.lemmas.Option.{get_or_from_slice_get, slice_get_within}
 use Rattle.std.specs.List.{flat_map}
 use Rattle.circuit_list.specs.declared.Gate.{Gate}
@@ -42,7 +45,21 @@ pub register_reads-split : (q : List ℕ) (rs : List Register) (reads own others
     ≡ register_lines q (get_or rs i d).name.now 0 own ++ read_lines q (map bits_of (drop (i + 1) rs)) others
 register_reads-split q rs reads own others i d h front back = rw (front, back) (register_reads-next q rs reads i d h)
 
-pub underscores-next : (n i : ℕ) → i < n → replicate (n - i) 95 ≡ 95 ∷ replicate (n - (i + 1)) 95
+pub bits-next : (rs : List Register) (i : ℕ) (d : Register) → i < length rs → sum_by (λ r. r.size) (map bits_of (drop i rs))
+    ≡ (get_or rs i d).size + sum_by (λ r. r.size) (map bits_of (drop (i + 1) rs))
+bits-next rs i d h =
+    ap (λ z. sum_by (λ r. r.size) (map bits_of z)) (drop_more rs i d h)
+    ∙ sum_by-cons (λ r. r.size) (bits_of (get_or rs i d)) (map bits_of (drop (i + 1) rs))
+
+-- the reads behind those of one register are enough for the others
+pub reads_enough : (rs : List Register) (reads others : List (Option ℕ)) (i : ℕ) (d : Register) → i < length rs
+    → sum_by (λ r. r.size) (map bits_of (drop i rs)) ≤ length reads → others ≡ drop (get_or rs i d).size reads
+    → sum_by (λ r. r.size) (map bits_of (drop (i + 1) rs)) ≤ length others
+reads_enough rs reads others i d h enough back =
+    let left : length others ≡ length reads - (get_or rs i d).size = rw back (length-drop (get_or rs i d).size reads) in
+    omega (arith, left, enough, bits-next rs i d h)
+
+pub underscores-next : (n i : ℕ) → i < n → replicate {A = ℕ} (n - i) 95 ≡ 95 ∷ replicate (n - (i + 1)) 95
 underscores-next n i h =
     let one : n - i ≡ suc (n - (i + 1)) = omega arith in
     rw one refl

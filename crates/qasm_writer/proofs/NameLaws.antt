@@ -77,7 +77,7 @@ nat_eq-sym m n = grind arith
 pub underscores-eq : (n : ℕ) (bytes : List ℕ) → bytes_eq (replicate n 95) bytes ≡ ((length bytes == n) && list_all (λ b. b == 95) bytes)
 underscores-eq zero [] = refl
 underscores-eq zero (b ∷ bytes) = grind arith
-underscores-eq (suc n) [] = refl
+underscores-eq (suc n) [] = grind arith
 underscores-eq (suc n) (b ∷ bytes) = rw (underscores-eq n bytes, nat_eq-sym 95 b) (grind arith)
 
 -- `q` and so many underscores, byte by byte
