@@ -10,6 +10,7 @@ pub mod HeaderLaws
 pub mod MeaningLaws
 pub mod PartLaws
 pub mod OutputLaws
+pub mod PieceLaws
 pub mod LineLaws
 pub mod NameLaws
 pub mod WordLaws

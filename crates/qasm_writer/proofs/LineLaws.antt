@@ -1,58 +1,71 @@
--- Lines, one by one.
---   lines-more         the line of one gate more
---   reads-more         that of one measurement more
---   registers-more     those into one register more
---   text-joined        the parts of a text, one after the other
-use Rattle.std.proofs.Common.{◌≡◌, ℕ, zero, suc, ◌+◌, ◌<◌, List, [], ◌∷◌, ◌++◌, Option, Some, refl, sym, ap, ◌∙◌, length, take, get_or, slice_get, arith, add-one, add-zero, append_assoc, append-nil}
+-- What is left of the lines in a loop: the next line, and the others.
+--   gates-next         the line of one gate, and those of the others
+--   registers-next     that of one register
+--   reads-next         that of one measurement into a register
+--   register_reads-next, register_reads-split    those into one register
+--   bits-next          the bits of one register, and those of the others
+--   reads_enough       the reads behind those of one register are enough for the others
+--   underscores-next   one underscore
+--   phase_line         the line of a phase, by its name
+use Rattle.std.proofs.Common.{◌≡◌, ℕ, suc, ◌+◌, ◌-◌, ◌<◌, ◌≤◌, List, [], ◌∷◌, ◌++◌, Option, Some, ap, ◌∙◌, length, drop, map, take, get_or, replicate, slice_get, sum_by, length-drop, refl, sym, arith, codes}
+use Rattle.std.proofs.lemmas.List.{drop_more}
+use Rattle.std.proofs.lemmas.List.Sums.{sum_by-cons}
+use Rattle.std.proofs.lemmas.Option.{get_or_from_slice_get, slice_get_within}
 use Rattle.std.specs.List.{flat_map}
 use Rattle.circuit_list.specs.declared.Gate.{Gate}
+use Rattle.circuit_list.specs.declared.Gate.TheVariants.{P}
 use Rattle.circuit_list.specs.Gates.{op_of, ops}
-use Rattle.qasm_check.specs.declared.bits.Bits.{Bits}
-use Rattle.unitary_model.specs.declared.Op.{Op}
-use Rattle.qasm_writer.specs.Texts.{bits_line, heading_text, op_line, read_line, read_lines, register_lines, wires_line, written_text}
+use Rattle.qasm_writer.specs.Outputs.{bits_of}
+use Rattle.qasm_writer.specs.Texts.{bits_line, index_text, op_line, phase_text, read_line, read_lines, register_lines}
+use Rattle.qasm_writer.specs.declared.output.Register.{Register}
 
-lines-suc : (q : List ℕ) (gs : List Gate) (i : ℕ) (g : Gate) → slice_get gs i ≡ Some g
-    → flat_map (op_line q) (ops (take (suc i) gs)) ≡ flat_map (op_line q) (ops (take i gs)) ++ op_line q (op_of g)
-lines-suc q [] i g e = cc
-lines-suc q (x ∷ gs) zero g e = let is : x ≡ g = cc in rw (append-nil, is) refl
-lines-suc q (x ∷ gs) (suc i) g e =
-    rw (lines-suc q gs i g e) (sym (append_assoc (op_line q (op_of x)) (flat_map (op_line q) (ops (take i gs))) (op_line q (op_of g))))
+pub gates-next : (q : List ℕ) (gs : List Gate) (i : ℕ) (g : Gate) → slice_get gs i ≡ Some g
+    → flat_map (op_line q) (ops (drop i gs)) ≡ op_line q (op_of g) ++ flat_map (op_line q) (ops (drop (i + 1) gs))
+gates-next q gs i g there =
+    ap (λ z. flat_map (op_line q) (ops z)) (drop_more gs i g (slice_get_within gs i g there))
+    ∙ ap (λ z. op_line q (op_of z) ++ flat_map (op_line q) (ops (drop (i + 1) gs))) (get_or_from_slice_get gs i g g there)
 
-pub lines-more : (q : List ℕ) (gs : List Gate) (i : ℕ) (g : Gate) (start old new : List ℕ) → slice_get gs i ≡ Some g
-    → old ≡ start ++ flat_map (op_line q) (ops (take i gs)) → new ≡ old ++ op_line q (op_of g)
-    → new ≡ start ++ flat_map (op_line q) (ops (take (i + 1) gs))
-lines-more q gs i g start old new there so_far pushed = rw (add-one, lines-suc q gs i g there, pushed, so_far) (simp append_assoc)
+pub registers-next : (rs : List Register) (i : ℕ) (d : Register) → i < length rs
+    → flat_map bits_line (map bits_of (drop i rs)) ≡ bits_line (bits_of (get_or rs i d)) ++ flat_map bits_line (map bits_of (drop (i + 1) rs))
+registers-next rs i d h = ap (λ z. flat_map bits_line (map bits_of z)) (drop_more rs i d h)
 
-reads-suc : (q name : List ℕ) (rs : List (Option ℕ)) (k i : ℕ) (d : Option ℕ) → i < length rs
-    → register_lines q name k (take (suc i) rs) ≡ register_lines q name k (take i rs) ++ read_line q name (k + i) (get_or rs i d)
-reads-suc q name [] k i d h = absurd (omega arith)
-reads-suc q name (r ∷ rs) k zero d h = rw (append-nil, add-zero) refl
-reads-suc q name (r ∷ rs) k (suc i) d h =
-    let place : k + 1 + i ≡ k + suc i = omega arith in
-    rw (reads-suc q name rs (k + 1) i d (omega arith), place)
-    (sym (append_assoc (read_line q name k r) (register_lines q name (k + 1) (take i rs)) (read_line q name (k + suc i) (get_or rs i d))))
+pub reads-next : (q name : List ℕ) (rs : List (Option ℕ)) (i : ℕ) (d : Option ℕ) → i < length rs
+    → register_lines q name i (drop i rs) ≡ read_line q name i (get_or rs i d) ++ register_lines q name (i + 1) (drop (i + 1) rs)
+reads-next q name rs i d h = ap (λ z. register_lines q name i z) (drop_more rs i d h)
 
-pub reads-more : (q name : List ℕ) (rs : List (Option ℕ)) (i : ℕ) (d : Option ℕ) (start old new : List ℕ) → i < length rs
-    → old ≡ start ++ register_lines q name 0 (take i rs) → new ≡ old ++ read_line q name i (get_or rs i d)
-    → new ≡ start ++ register_lines q name 0 (take (i + 1) rs)
-reads-more q name rs i d start old new h so_far pushed =
-    let here : 0 + i ≡ i = omega arith in
-    let step = reads-suc q name rs 0 i d h in
-    let shown = rw here at step in
-    rw (add-one, shown, pushed, so_far) (simp append_assoc)
+pub register_reads-next : (q : List ℕ) (rs : List Register) (reads : List (Option ℕ)) (i : ℕ) (d : Register) → i < length rs
+    → read_lines q (map bits_of (drop i rs)) reads
+    ≡ register_lines q (get_or rs i d).name.now 0 (take (get_or rs i d).size reads)
+    ++ read_lines q (map bits_of (drop (i + 1) rs)) (drop (get_or rs i d).size reads)
+register_reads-next q rs reads i d h = ap (λ z. read_lines q (map bits_of z) reads) (drop_more rs i d h)
 
-regroup : (h w b g r : List ℕ) → (((h ++ w) ++ b) ++ g) ++ r ≡ h ++ (w ++ (b ++ (g ++ r)))
-regroup h w b g r = simp append_assoc
+pub register_reads-split : (q : List ℕ) (rs : List Register) (reads own others : List (Option ℕ)) (i : ℕ) (d : Register) → i < length rs
+    → own ≡ take (get_or rs i d).size reads → others ≡ drop (get_or rs i d).size reads
+    → read_lines q (map bits_of (drop i rs)) reads
+    ≡ register_lines q (get_or rs i d).name.now 0 own ++ read_lines q (map bits_of (drop (i + 1) rs)) others
+register_reads-split q rs reads own others i d h front back = rw (front, back) (register_reads-next q rs reads i d h)
 
-pub text-joined : (q first second third start a b c d text : List ℕ) (m wires : ℕ) (us : List Op) (rs : List Bits) (reads : List (Option ℕ))
-    → first ≡ q → second ≡ q → third ≡ q → m ≡ wires → start ≡ heading_text → a ≡ start ++ wires_line first m → b ≡ a ++ flat_map bits_line rs
-    → c ≡ b ++ flat_map (op_line second) us → d ≡ c ++ read_lines third rs reads → text ≡ d → text ≡ written_text q wires us rs reads
-text-joined q first second third start a b c d text m wires us rs reads f g h e i j k l n o =
-    let wires' : a ≡ heading_text ++ wires_line q wires =
-    j ∙ ap (λ x. x ++ wires_line first m) i ∙ ap (λ x. heading_text ++ wires_line x m) f ∙ ap (λ x. heading_text ++ wires_line q x) e in
-    let bits' : b ≡ (heading_text ++ wires_line q wires) ++ flat_map bits_line rs = k ∙ ap (λ x. x ++ flat_map bits_line rs) wires' in
-    let gates' : c ≡ ((heading_text ++ wires_line q wires) ++ flat_map bits_line rs) ++ flat_map (op_line q) us =
-    l ∙ ap (λ x. x ++ flat_map (op_line second) us) bits'
-    ∙ ap (λ x. ((heading_text ++ wires_line q wires) ++ flat_map bits_line rs) ++ flat_map (op_line x) us) g in
-    o ∙ n ∙ ap (λ x. c ++ read_lines x rs reads) h ∙ ap (λ x. x ++ read_lines q rs reads) gates'
-    ∙ regroup heading_text (wires_line q wires) (flat_map bits_line rs) (flat_map (op_line q) us) (read_lines q rs reads)
+pub bits-next : (rs : List Register) (i : ℕ) (d : Register) → i < length rs → sum_by (λ r. r.size) (map bits_of (drop i rs))
+    ≡ (get_or rs i d).size + sum_by (λ r. r.size) (map bits_of (drop (i + 1) rs))
+bits-next rs i d h =
+    ap (λ z. sum_by (λ r. r.size) (map bits_of z)) (drop_more rs i d h)
+    ∙ sum_by-cons (λ r. r.size) (bits_of (get_or rs i d)) (map bits_of (drop (i + 1) rs))
+
+-- the reads behind those of one register are enough for the others
+pub reads_enough : (rs : List Register) (reads others : List (Option ℕ)) (i : ℕ) (d : Register) → i < length rs
+    → sum_by (λ r. r.size) (map bits_of (drop i rs)) ≤ length reads → others ≡ drop (get_or rs i d).size reads
+    → sum_by (λ r. r.size) (map bits_of (drop (i + 1) rs)) ≤ length others
+reads_enough rs reads others i d h enough back =
+    let left : length others ≡ length reads - (get_or rs i d).size = rw back (length-drop (get_or rs i d).size reads) in
+    omega (arith, left, enough, bits-next rs i d h)
+
+pub underscores-next : (n i : ℕ) → i < n → replicate {A = ℕ} (n - i) 95 ≡ 95 ∷ replicate (n - (i + 1)) 95
+underscores-next n i h =
+    let one : n - i ≡ suc (n - (i + 1)) = omega arith in
+    rw one refl
+
+pub phase_line : (q name : List ℕ) (k wire : ℕ) (gate : Gate) → name ≡ phase_text k → gate ≡ P k wire
+    → name ++ (codes " " ++ (index_text q wire ++ codes ";\n")) ≡ op_line q (op_of gate)
+phase_line q name k wire gate e is = rw (is, e) refl
+
+pub ruleset lines = (gates-next, registers-next, reads-next, register_reads-next)

@@ -2,5 +2,6 @@
 pub mod Texts
 pub mod Outputs
 -- ---- working forms
+pub mod Pieces
 pub mod Trees
 pub mod Words

@@ -1,6 +1,9 @@
+use crate::lines::put_gate;
 use crate::output::{Output, Register};
-use crate::{program_text, push_gate, qubits_name};
+use crate::pieces::PIECE;
+use crate::{program_text, underscores, write_program};
 use circuit_list::{Circuit, Gate};
+use outside_io::{CalmSink, Failed, MemSink};
 use std::test::Fail;
 
 const HEAD: &str = "OPENQASM 2.0;\ninclude \"qelib1.inc\";\n";
@@ -21,9 +24,9 @@ fn writes_each_gate(rt: HostRuntime) -> Result<(), Fail> {
         (Gate::P { k: 7, q: 6 }, "tdg q_[6];\n"),
     ];
     for (gate, line) in rows {
-        let mut text = String::new(alloc);
-        push_gate(&mut text, "q_", gate)?;
-        assert_eq!(rt; text.as_str(), line);
+        let mut room = Vec::with_capacity(alloc, PIECE)?;
+        put_gate(&mut room, &mut CalmSink::new(alloc, 0)?, 1, gate)?;
+        assert_eq!(rt; room.as_slice(), line.as_bytes());
     }
     Ok(())
 }
@@ -31,22 +34,21 @@ fn writes_each_gate(rt: HostRuntime) -> Result<(), Fail> {
 #[test]
 fn names_the_quantum_register_apart(rt: HostRuntime) -> Result<(), Fail> {
     let alloc = rt.alloc();
-    let rows: [(&[&str], &str); 7] = [
-        (&[], "q"),
-        (&["q"], "q_"),
-        (&["q_"], "q"),
-        (&["c", "qreg_", "Q"], "q"),
-        (&["q_", "q"], "q__"),
-        (&["q", "q__"], "q_"),
-        (&["q___", "q_", "q", "q__"], "q____"),
+    let rows: [(&[&str], usize); 7] = [
+        (&[], 0),
+        (&["q"], 1),
+        (&["q_"], 0),
+        (&["c", "qreg_", "Q"], 0),
+        (&["q_", "q"], 2),
+        (&["q", "q__"], 1),
+        (&["q___", "q_", "q", "q__"], 4),
     ];
     for (names, wanted) in rows {
         let mut registers = Vec::new(alloc);
         for name in names {
             registers.push(Register { name, size: 1 })?;
         }
-        let name = qubits_name(alloc, &registers)?;
-        assert_eq!(rt; name.as_str(), wanted);
+        assert_eq!(rt; underscores(&registers), wanted);
     }
     Ok(())
 }
@@ -89,5 +91,43 @@ fn leaves_out_a_register_without_wires(rt: HostRuntime) -> Result<(), Fail> {
     let mut wanted = String::from_str(alloc, HEAD)?;
     wanted.push_str("creg q[2];\n")?;
     assert_eq!(rt; text.as_slice(), wanted.as_bytes());
+    Ok(())
+}
+
+#[test]
+fn writes_whole_pieces_and_the_rest(rt: HostRuntime) -> Result<(), Fail> {
+    let alloc = rt.alloc();
+    let mut body = Circuit::empty(alloc, 12)?;
+    for _ in 0..1_030 {
+        body.push(Gate::P { k: 3, q: 11 })?;
+    }
+    let output = Output {
+        body: &body,
+        registers: &[],
+        reads: &[],
+    };
+    let text = program_text(alloc, &output)?;
+    // the header, and 18 bytes for each gate
+    assert_eq!(rt; text.len(), 48 + 18 * 1_030);
+    // failing call, whether all is well, bytes that came, calls
+    let rows: [(u64, bool, usize, u64); 7] = [
+        (0, true, 18_588, 5),
+        (1, false, 0, 1),
+        (2, false, 4_096, 2),
+        (3, false, 8_192, 3),
+        (4, false, 12_288, 4),
+        (5, false, 16_384, 5),
+        (6, true, 18_588, 5),
+    ];
+    for (failing, is_written, held, calls) in rows {
+        let mut room = Vec::with_capacity(alloc, PIECE)?;
+        let failing = Vec::from_slice(alloc, &[failing])?;
+        let mut sink = MemSink::new(alloc, 20_000, PIECE, failing)?;
+        let written = write_program(&output, &mut room, &mut sink);
+        assert_eq!(rt; written, if is_written { Ok(()) } else { Err(Failed) });
+        assert_eq!(rt; sink.as_slice(), &text[..held]);
+        assert_eq!(rt; sink.calls(), calls);
+        assert!(rt; room.is_empty());
+    }
     Ok(())
 }

@@ -1,0 +1,345 @@
+//! The lines of a program, put one after the other. A number `q` is the number of underscores in the quantum register's name.
+
+ghost use Rattle.std.specs.Prelude.{◌≡◌, ◌≤◌, ◌++◌, [], OnErr, OnOk, Some, codes, length, map, replicate, sum_by};
+ghost use Rattle.std.specs.List.{flat_map};
+ghost use Rattle.circuit_list.specs.Gates.{op_of, ops};
+ghost use Rattle.outside_io.specs.Bytes.{GainsPrefix};
+ghost use Rattle.outside_io.specs.Causes.{HasCause};
+ghost use Rattle.qasm_writer.specs.Outputs.{bits_of};
+ghost use Rattle.qasm_writer.specs.Pieces.{HasRoom, Sends};
+ghost use Rattle.qasm_writer.specs.Texts.{bits_line, index_text, op_line, phase_text, read_line, read_lines, register_lines, wires_line, with_underscores, written_text};
+
+use crate::output::{Output, Register};
+use crate::pieces::{put, put_number};
+use circuit_list::{Circuit, Gate};
+use outside_io::{Failed, Sink};
+
+/// Puts a place, as `[3]`.
+fn put_place<S: Sink>(room: &mut Vec<u8>, sink: &mut S, place: usize) -> Result<(), Failed>
+    requires { HasRoom room.old }
+    ensures ok { OnOk result (Sends (S.held sink.old) room.old.items (S.held sink.new) room.new.items (index_text [] place)) }
+    ensures err { OnErr result (GainsPrefix (S.held sink.old) (S.held sink.new) (room.old.items ++ index_text [] place)) }
+    ensures cause { HasCause (S.faults sink.old) (S.faults sink.new) result }
+    ensures room { HasRoom room.new }
+{
+    put(room, sink, "[")?;
+    put_number(room, sink, place)?;
+    put(room, sink, "]")
+}
+
+/// Puts so many underscores.
+#[tactic(auto, using(crate::proofs::PieceLaws::loops, crate::proofs::LineLaws::lines))]
+fn put_underscores<S: Sink>(room: &mut Vec<u8>, sink: &mut S, count: usize) -> Result<(), Failed>
+    requires { HasRoom room.old }
+    ensures ok { OnOk result (Sends (S.held sink.old) room.old.items (S.held sink.new) room.new.items (replicate count 95)) }
+    ensures err { OnErr result (GainsPrefix (S.held sink.old) (S.held sink.new) (room.old.items ++ replicate count 95)) }
+    ensures cause { HasCause (S.faults sink.old) (S.faults sink.new) result }
+    ensures room { HasRoom room.new }
+{
+    'underscores: for _ in 0..count {
+        put(room, sink, "_")?;
+    }
+    Ok(())
+}
+
+/// Puts a qubit, as `q_[3]`.
+fn put_qubit<S: Sink>(room: &mut Vec<u8>, sink: &mut S, q: usize, wire: u32) -> Result<(), Failed>
+    requires { HasRoom room.old }
+    ensures ok { OnOk result (Sends (S.held sink.old) room.old.items (S.held sink.new) room.new.items (index_text (with_underscores q) wire)) }
+    ensures err { OnErr result (GainsPrefix (S.held sink.old) (S.held sink.new) (room.old.items ++ index_text (with_underscores q) wire)) }
+    ensures cause { HasCause (S.faults sink.old) (S.faults sink.new) result }
+    ensures room { HasRoom room.new }
+{
+    put(room, sink, "q")?;
+    put_underscores(room, sink, q)?;
+    put_place(room, sink, wire as usize)
+}
+
+/// Puts a name and a place, as `c[3]`.
+fn put_indexed<S: Sink>(
+    room: &mut Vec<u8>,
+    sink: &mut S,
+    name: &str,
+    place: usize,
+) -> Result<(), Failed>
+    requires { HasRoom room.old }
+    ensures ok { OnOk result (Sends (S.held sink.old) room.old.items (S.held sink.new) room.new.items (index_text name.now place)) }
+    ensures err { OnErr result (GainsPrefix (S.held sink.old) (S.held sink.new) (room.old.items ++ index_text name.now place)) }
+    ensures cause { HasCause (S.faults sink.old) (S.faults sink.new) result }
+    ensures room { HasRoom room.new }
+{
+    put(room, sink, name)?;
+    put_place(room, sink, place)
+}
+
+/// The name of a phase, from 1 to 7 in units of pi/4.
+fn phase_name(k: u8) -> &'static str
+    ensures { result.now ≡ phase_text k }
+{
+    match k {
+        1 => "t",
+        2 => "s",
+        3 => "u1(3*pi/4)",
+        4 => "z",
+        5 => "u1(5*pi/4)",
+        6 => "sdg",
+        _ => "tdg",
+    }
+}
+
+/// Puts the line of a gate on one qubit.
+fn put_single<S: Sink>(
+    room: &mut Vec<u8>,
+    sink: &mut S,
+    name: &str,
+    q: usize,
+    wire: u32,
+) -> Result<(), Failed>
+    requires { HasRoom room.old }
+    ensures ok { OnOk result (Sends (S.held sink.old) room.old.items (S.held sink.new) room.new.items (name.now ++ (codes " " ++ (index_text (with_underscores q) wire ++ codes ";\n")))) }
+    ensures err { OnErr result (GainsPrefix (S.held sink.old) (S.held sink.new) (room.old.items ++ (name.now ++ (codes " " ++ (index_text (with_underscores q) wire ++ codes ";\n"))))) }
+    ensures cause { HasCause (S.faults sink.old) (S.faults sink.new) result }
+    ensures room { HasRoom room.new }
+{
+    put(room, sink, name)?;
+    put(room, sink, " ")?;
+    put_qubit(room, sink, q, wire)?;
+    put(room, sink, ";\n")
+}
+
+/// Puts the line of a CNOT.
+fn put_cx<S: Sink>(
+    room: &mut Vec<u8>,
+    sink: &mut S,
+    q: usize,
+    control: u32,
+    target: u32,
+) -> Result<(), Failed>
+    requires { HasRoom room.old }
+    ensures ok { OnOk result (Sends (S.held sink.old) room.old.items (S.held sink.new) room.new.items (codes "cx " ++ (index_text (with_underscores q) control ++ (codes "," ++ (index_text (with_underscores q) target ++ codes ";\n"))))) }
+    ensures err { OnErr result (GainsPrefix (S.held sink.old) (S.held sink.new) (room.old.items ++ (codes "cx " ++ (index_text (with_underscores q) control ++ (codes "," ++ (index_text (with_underscores q) target ++ codes ";\n")))))) }
+    ensures cause { HasCause (S.faults sink.old) (S.faults sink.new) result }
+    ensures room { HasRoom room.new }
+{
+    put(room, sink, "cx ")?;
+    put_qubit(room, sink, q, control)?;
+    put(room, sink, ",")?;
+    put_qubit(room, sink, q, target)?;
+    put(room, sink, ";\n")
+}
+
+/// Puts the line of a gate.
+pub fn put_gate<S: Sink>(
+    room: &mut Vec<u8>,
+    sink: &mut S,
+    q: usize,
+    gate: Gate,
+) -> Result<(), Failed>
+    requires { HasRoom room.old }
+    ensures ok { OnOk result (Sends (S.held sink.old) room.old.items (S.held sink.new) room.new.items (op_line (with_underscores q) (op_of gate))) }
+    ensures err { OnErr result (GainsPrefix (S.held sink.old) (S.held sink.new) (room.old.items ++ op_line (with_underscores q) (op_of gate))) }
+    ensures cause { HasCause (S.faults sink.old) (S.faults sink.new) result }
+    ensures room { HasRoom room.new }
+{
+    match gate {
+        Gate::H { q: wire } => put_single(room, sink, "h", q, wire),
+        Gate::X { q: wire } => put_single(room, sink, "x", q, wire),
+        Gate::P { k, q: wire } => put_single(room, sink, phase_name(k), q, wire),
+        Gate::Cx { c, t } => put_cx(room, sink, q, c, t),
+    }
+}
+
+/// Puts the line of the quantum register.
+fn put_quantum_register<S: Sink>(
+    room: &mut Vec<u8>,
+    sink: &mut S,
+    q: usize,
+    wires: u32,
+) -> Result<(), Failed>
+    requires { HasRoom room.old }
+    ensures ok { OnOk result (Sends (S.held sink.old) room.old.items (S.held sink.new) room.new.items (codes "qreg " ++ (index_text (with_underscores q) wires ++ codes ";\n"))) }
+    ensures err { OnErr result (GainsPrefix (S.held sink.old) (S.held sink.new) (room.old.items ++ (codes "qreg " ++ (index_text (with_underscores q) wires ++ codes ";\n")))) }
+    ensures cause { HasCause (S.faults sink.old) (S.faults sink.new) result }
+    ensures room { HasRoom room.new }
+{
+    put(room, sink, "qreg ")?;
+    put_qubit(room, sink, q, wires)?;
+    put(room, sink, ";\n")
+}
+
+/// Puts the line of the quantum register, if there are wires.
+fn put_wires<S: Sink>(room: &mut Vec<u8>, sink: &mut S, q: usize, wires: u32) -> Result<(), Failed>
+    requires { HasRoom room.old }
+    ensures ok { OnOk result (Sends (S.held sink.old) room.old.items (S.held sink.new) room.new.items (wires_line (with_underscores q) wires)) }
+    ensures err { OnErr result (GainsPrefix (S.held sink.old) (S.held sink.new) (room.old.items ++ wires_line (with_underscores q) wires)) }
+    ensures cause { HasCause (S.faults sink.old) (S.faults sink.new) result }
+    ensures room { HasRoom room.new }
+{
+    if wires == 0 {
+        return Ok(());
+    }
+    put_quantum_register(room, sink, q, wires)
+}
+
+/// Puts the line of a classical register.
+fn put_register<S: Sink>(room: &mut Vec<u8>, sink: &mut S, register: Register) -> Result<(), Failed>
+    requires { HasRoom room.old }
+    ensures ok { OnOk result (Sends (S.held sink.old) room.old.items (S.held sink.new) room.new.items (bits_line (bits_of register.entry))) }
+    ensures err { OnErr result (GainsPrefix (S.held sink.old) (S.held sink.new) (room.old.items ++ bits_line (bits_of register.entry))) }
+    ensures cause { HasCause (S.faults sink.old) (S.faults sink.new) result }
+    ensures room { HasRoom room.new }
+{
+    put(room, sink, "creg ")?;
+    put_indexed(room, sink, register.name, register.size as usize)?;
+    put(room, sink, ";\n")
+}
+
+/// Puts the line of the measurement of a qubit into a bit of a register.
+fn put_measurement<S: Sink>(
+    room: &mut Vec<u8>,
+    sink: &mut S,
+    q: usize,
+    wire: u32,
+    name: &str,
+    bit: usize,
+) -> Result<(), Failed>
+    requires { HasRoom room.old }
+    ensures ok { OnOk result (Sends (S.held sink.old) room.old.items (S.held sink.new) room.new.items (read_line (with_underscores q) name.now bit (Some wire))) }
+    ensures err { OnErr result (GainsPrefix (S.held sink.old) (S.held sink.new) (room.old.items ++ read_line (with_underscores q) name.now bit (Some wire))) }
+    ensures cause { HasCause (S.faults sink.old) (S.faults sink.new) result }
+    ensures room { HasRoom room.new }
+{
+    put(room, sink, "measure ")?;
+    put_qubit(room, sink, q, wire)?;
+    put(room, sink, " -> ")?;
+    put_indexed(room, sink, name, bit)?;
+    put(room, sink, ";\n")
+}
+
+/// Puts the line of a measurement into a bit of a register, if there is one.
+fn put_read<S: Sink>(
+    room: &mut Vec<u8>,
+    sink: &mut S,
+    q: usize,
+    name: &str,
+    bit: usize,
+    read: Option<u32>,
+) -> Result<(), Failed>
+    requires { HasRoom room.old }
+    ensures ok { OnOk result (Sends (S.held sink.old) room.old.items (S.held sink.new) room.new.items (read_line (with_underscores q) name.now bit read)) }
+    ensures err { OnErr result (GainsPrefix (S.held sink.old) (S.held sink.new) (room.old.items ++ read_line (with_underscores q) name.now bit read)) }
+    ensures cause { HasCause (S.faults sink.old) (S.faults sink.new) result }
+    ensures room { HasRoom room.new }
+{
+    match read {
+        None => Ok(()),
+        Some(wire) => put_measurement(room, sink, q, wire, name, bit),
+    }
+}
+
+/// Puts the lines of the classical registers.
+#[tactic(auto, using(crate::proofs::PieceLaws::loops, crate::proofs::LineLaws::lines))]
+fn put_registers<S: Sink>(
+    room: &mut Vec<u8>,
+    sink: &mut S,
+    registers: &[Register],
+) -> Result<(), Failed>
+    requires { HasRoom room.old }
+    ensures ok { OnOk result (Sends (S.held sink.old) room.old.items (S.held sink.new) room.new.items (flat_map bits_line (map bits_of registers.now))) }
+    ensures err { OnErr result (GainsPrefix (S.held sink.old) (S.held sink.new) (room.old.items ++ flat_map bits_line (map bits_of registers.now))) }
+    ensures cause { HasCause (S.faults sink.old) (S.faults sink.new) result }
+    ensures room { HasRoom room.new }
+{
+    'registers: for i in 0..registers.len() {
+        put_register(room, sink, registers[i])?;
+    }
+    Ok(())
+}
+
+/// Puts the lines of the gates.
+#[tactic(auto, using(crate::proofs::PieceLaws::loops, crate::proofs::LineLaws::lines))]
+fn put_gates<S: Sink>(
+    room: &mut Vec<u8>,
+    sink: &mut S,
+    q: usize,
+    body: &Circuit,
+) -> Result<(), Failed>
+    requires { HasRoom room.old }
+    ensures ok { OnOk result (Sends (S.held sink.old) room.old.items (S.held sink.new) room.new.items (flat_map (op_line (with_underscores q)) (ops body.now.gates))) }
+    ensures err { OnErr result (GainsPrefix (S.held sink.old) (S.held sink.new) (room.old.items ++ flat_map (op_line (with_underscores q)) (ops body.now.gates))) }
+    ensures cause { HasCause (S.faults sink.old) (S.faults sink.new) result }
+    ensures room { HasRoom room.new }
+{
+    'gates: for i in 0..body.len() {
+        put_gate(room, sink, q, body.gate(i))?;
+    }
+    Ok(())
+}
+
+/// Puts the lines of the measurements into one register.
+#[tactic(auto, using(crate::proofs::PieceLaws::loops, crate::proofs::LineLaws::lines))]
+fn put_register_reads<S: Sink>(
+    room: &mut Vec<u8>,
+    sink: &mut S,
+    q: usize,
+    name: &str,
+    reads: &[Option<u32>],
+) -> Result<(), Failed>
+    requires { HasRoom room.old }
+    ensures ok { OnOk result (Sends (S.held sink.old) room.old.items (S.held sink.new) room.new.items (register_lines (with_underscores q) name.now 0 reads.now)) }
+    ensures err { OnErr result (GainsPrefix (S.held sink.old) (S.held sink.new) (room.old.items ++ register_lines (with_underscores q) name.now 0 reads.now)) }
+    ensures cause { HasCause (S.faults sink.old) (S.faults sink.new) result }
+    ensures room { HasRoom room.new }
+{
+    'reads: for bit in 0..reads.len() {
+        put_read(room, sink, q, name, bit, reads[bit])?;
+    }
+    Ok(())
+}
+
+/// Puts the lines of the measurements, register by register.
+#[tactic(auto, using(crate::proofs::PieceLaws::loops, crate::proofs::LineLaws::lines))]
+fn put_reads<S: Sink>(
+    room: &mut Vec<u8>,
+    sink: &mut S,
+    q: usize,
+    registers: &[Register],
+    reads: &[Option<u32>],
+) -> Result<(), Failed>
+    requires room { HasRoom room.old }
+    requires reads { sum_by (λ r. r.size) (map bits_of registers.now) ≤ length reads.now }
+    ensures ok { OnOk result (Sends (S.held sink.old) room.old.items (S.held sink.new) room.new.items (read_lines (with_underscores q) (map bits_of registers.now) reads.now)) }
+    ensures err { OnErr result (GainsPrefix (S.held sink.old) (S.held sink.new) (room.old.items ++ read_lines (with_underscores q) (map bits_of registers.now) reads.now)) }
+    ensures cause { HasCause (S.faults sink.old) (S.faults sink.new) result }
+    ensures room { HasRoom room.new }
+{
+    let mut rest = reads;
+    'registers: for register in registers {
+        let (own, others) = rest.split_at(register.size as usize);
+        put_register_reads(room, sink, q, register.name, own)?;
+        rest = others;
+    }
+    Ok(())
+}
+
+/// Puts the whole text.
+pub fn put_lines<S: Sink>(
+    output: &Output,
+    q: usize,
+    wires: u32,
+    room: &mut Vec<u8>,
+    sink: &mut S,
+) -> Result<(), Failed>
+    requires room { HasRoom room.old }
+    requires reads { sum_by (λ r. r.size) (map bits_of output.now.registers.now) ≤ length output.now.reads.now }
+    ensures ok { OnOk result (Sends (S.held sink.old) room.old.items (S.held sink.new) room.new.items (written_text (with_underscores q) wires (ops output.now.body.now.gates) (map bits_of output.now.registers.now) output.now.reads.now)) }
+    ensures err { OnErr result (GainsPrefix (S.held sink.old) (S.held sink.new) (room.old.items ++ written_text (with_underscores q) wires (ops output.now.body.now.gates) (map bits_of output.now.registers.now) output.now.reads.now)) }
+    ensures cause { HasCause (S.faults sink.old) (S.faults sink.new) result }
+    ensures room { HasRoom room.new }
+{
+    put(room, sink, "OPENQASM 2.0;\ninclude \"qelib1.inc\";\n")?;
+    put_wires(room, sink, q, wires)?;
+    put_registers(room, sink, output.registers)?;
+    put_gates(room, sink, q, output.body)?;
+    put_reads(room, sink, q, output.registers, output.reads)
+}
