@@ -30,7 +30,7 @@ pub fn expand(alloc: Global, source: &Ops) -> Result<Passed, AllocError>
     ensures cx_count { IfOk result (λ p. cx_count (ops p.body.gates) ≡ cx_count source.now.list) }
     ensures odd_paths { IfOk result (λ p. (n : ℕ) → odd_paths n (ops p.body.gates) ≡ odd_paths n source.now.list) }
 {
-    let mut body = Circuit::with_room(alloc, source.wires, source.list.len())?;
+    let mut body = Circuit::with_room(alloc, source.wires, source.list.as_slice().len())?;
     let mut turn = 0;
     'ops: for op in source.list.as_slice() {
         push_expanded(&mut body, *op)?;
