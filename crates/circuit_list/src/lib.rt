@@ -64,8 +64,8 @@ impl Gate {
 
 /// The gates in circuit order, the first gate first.
 ///
-/// A slot whose gate was taken out is not used again. It stays, empty, and takes room and time until [`Circuit::compact`]:
-/// counting and copying go through all slots, and so does `compact` itself, in linear time.
+/// A slot whose gate was taken out stays, empty, and takes room and time until [`Circuit::compact`], behind which slots of
+/// before mean nothing: counting and copying go through all slots, and so does `compact` itself, in linear time.
 ///
 /// The number of gates and the gate in a slot are at hand. [`Circuit::place`] and [`Circuit::slot`] take as many steps as
 /// the logarithm of the number of slots, and one where no slot is empty; an edit takes as many as the logarithm, and a push
@@ -290,7 +290,7 @@ impl Circuit {
     }
 
     /// Drops the slots whose gates were taken out; where there is none, nothing changes. Else the gates get new slots, and
-    /// those of before name none of them. After want of memory the circuit is as it was.
+    /// those of before mean nothing any more. After want of memory the circuit is as it was.
     pub fn compact(&mut self) -> Result<(), AllocError>
         ensures wires { self.new.wires ≡ self.old.wires }
         ensures gates { self.new.gates ≡ self.old.gates }

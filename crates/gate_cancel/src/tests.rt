@@ -206,7 +206,18 @@ impl Random {
     }
 }
 
-/// Random circuits, and random ones in a nest: the list and the turn are those of the plain walks.
+/// The gate that undoes another, up to a turn.
+fn inverse(gate: Gate) -> Gate {
+    match gate {
+        Gate::P { k, q } => Gate::P {
+            k: 8u8.saturating_sub(k),
+            q,
+        },
+        other => other,
+    }
+}
+
+/// Random circuits, and random ones before what undoes them: the list and the turn are those of the plain walks.
 #[test]
 fn cancels_as_the_plain_walks_do(rt: HostRuntime) -> Result<(), Fail> {
     let alloc = rt.alloc();
@@ -217,7 +228,10 @@ fn cancels_as_the_plain_walks_do(rt: HostRuntime) -> Result<(), Fail> {
             gates.push(random.gate())?;
         }
         if round % 2 == 0 {
-            let mirrored = gates.iter().rev().copied().collect::<Vec<Gate>>(alloc)?;
+            let mut mirrored = Vec::new(alloc);
+            'back: for gate in gates.iter().rev() {
+                mirrored.push(inverse(*gate))?;
+            }
             gates.extend_from_slice(&mirrored)?;
         }
         let mut plain = gates.clone()?;

@@ -109,3 +109,33 @@ fn unchanged(rt: HostRuntime) -> Result<(), Fail> {
     assert_eq!(rt; passed.body.gate(0), Gate::H { q: 1 });
     Ok(())
 }
+
+/// The first layer has one CNOT in the place of four, and the second, which would have two again, stays as it is.
+#[test]
+fn keeps_a_layer_at_equal_cnots(rt: HostRuntime) -> Result<(), Fail> {
+    let mut body = Circuit::empty(rt.alloc(), 3)?;
+    body.push(Gate::Cx { c: 0, t: 1 })?;
+    body.push(Gate::Cx { c: 1, t: 2 })?;
+    body.push(Gate::Cx { c: 0, t: 1 })?;
+    body.push(Gate::Cx { c: 1, t: 2 })?;
+    body.push(Gate::H { q: 1 })?;
+    body.push(Gate::H { q: 0 })?;
+    body.push(Gate::Cx { c: 0, t: 1 })?;
+    body.push(Gate::P { k: 1, q: 1 })?;
+    body.push(Gate::Cx { c: 0, t: 1 })?;
+    let passed = ResynthPass.run(rt.alloc(), body)?;
+    let gates = [
+        Gate::Cx { c: 0, t: 2 },
+        Gate::H { q: 0 },
+        Gate::H { q: 1 },
+        Gate::Cx { c: 0, t: 1 },
+        Gate::P { k: 1, q: 1 },
+        Gate::Cx { c: 0, t: 1 },
+    ];
+    assert_eq!(rt; passed.body.len(), 6);
+    for place in 0..6 {
+        assert_eq!(rt; passed.body.gate(place), gates[place]);
+    }
+    assert_eq!(rt; passed.turn, 0);
+    Ok(())
+}

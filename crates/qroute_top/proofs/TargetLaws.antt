@@ -4,10 +4,10 @@
 --   Stands-in_place        wire for wire
 --   Stands-routed          on the qubits of a device
 --   IsMachineRun-routed, HasFewSwaps-routed   what is written is the machine's run, with few swaps
-use Rattle.std.proofs.Common.{◌≡◌, ℕ, ◌+◌, ◌*◌, ◌%◌, ◌<◌, ◌≤◌, Bool, false, List, length, refl, ◌∙◌, ap, arith}
+use Rattle.std.proofs.Common.{◌≡◌, ℕ, ◌+◌, ◌*◌, ◌%◌, ◌<◌, ◌≤◌, Bool, false, List, All, length, refl, ◌∙◌, ap, subst, arith}
 use Rattle.std.proofs.lemmas.Nat.{mul-le}
 use Rattle.circuit_list.specs.declared.Gate.{Gate}
-use Rattle.circuit_list.specs.Gates.{ops}
+use Rattle.circuit_list.specs.Gates.{IsFine, ops}
 use Rattle.circuit_list.specs.declared.Passed.{Passed}
 use Rattle.unitary_model.specs.declared.Op.{Op}
 use Rattle.unitary_model.specs.OddPaths.{odd_paths}
@@ -79,11 +79,12 @@ Stands-routed n m S c t first j is wires realises initial turn t_same cx_more =
     }
 
 pub IsMachineRun-routed : (d : Coupling) (trivial : Bool) (n : ℕ) (S : List Op) (c : Passed) (r : Routed) (given : List ℕ) (phase : ℕ) → IsOptimised n S c
-    → IsRouted d c.body.gates given r → phase ≡ (c.turn + r.turn) % 8 → (trivial ≡ false → IsLayout d c.body.gates given)
+    → All (IsFine c.body.wires) c.body.gates → IsRouted d c.body.gates given r → phase ≡ (c.turn + r.turn) % 8 → (trivial ≡ false → IsLayout d c.body.gates given)
     → IsMachineRun d trivial n S (ops r.body.gates) given r.last r.swaps phase
-IsMachineRun-routed d trivial n S c r given phase is run sum laid_out = record {
+IsMachineRun-routed d trivial n S c r given phase is fine run sum laid_out = record {
   gates = c.body.gates;
   turn = c.turn;
+  fine = subst (λ (m : ℕ). All (IsFine m) c.body.gates) is.wires fine;
   settled = is.settled;
   stands = Realises_same S (ops c.body.gates) n c.turn is.below is.same;
   events = run.events;
@@ -99,14 +100,17 @@ IsMachineRun-routed d trivial n S c r given phase is run sum laid_out = record {
     whole : (a b j t : ℕ) → j ≡ b % 8 → t ≡ (a + j) % 8 → t ≡ (a + b) % 8
     whole a b j t e f = omega (arith, e, f)
 
-pub HasFewSwaps-routed : (d : Coupling) (S gates us : List Op) (swaps : ℕ) → cx_count gates ≤ cx_count S
-    → ((k : ℕ) → IsDiameter d.size d.edges k → swaps ≤ cx_count gates * (d.size + k)) → cx_count us ≡ cx_count gates + 3 * swaps
+pub HasFewSwaps-routed : (d : Coupling) (S gates us : List Op) (swaps k : ℕ) → IsDiameter d.size d.edges k → cx_count gates ≤ cx_count S
+    → ((m : ℕ) → IsDiameter d.size d.edges m → swaps ≤ cx_count gates * (d.size + m)) → cx_count us ≡ cx_count gates + 3 * swaps
     → HasFewSwaps d S us swaps
-HasFewSwaps-routed d S gates us swaps fewer few more = record {
-  few = λ k is. above (cx_count S) (cx_count gates) (d.size + k) swaps fewer (few k is);
-  cx_gates = λ k is. spread (cx_count S) (cx_count gates) (cx_count us) swaps (d.size + k) fewer
-      (above (cx_count S) (cx_count gates) (d.size + k) swaps fewer (few k is)) more;
-}
+HasFewSwaps-routed d S gates us swaps k is fewer few more =
+    let bound : swaps ≤ cx_count S * (d.size + k) = above (cx_count S) (cx_count gates) (d.size + k) swaps fewer (few k is) in
+    record {
+      diameter = k;
+      is_diameter = is;
+      few = bound;
+      cx_gates = spread (cx_count S) (cx_count gates) (cx_count us) swaps (d.size + k) fewer bound more;
+    }
   where
     above : (a b m s : ℕ) → b ≤ a → s ≤ b * m → s ≤ a * m
     above a b m s l g = let more = mul-le b m a m l (omega arith) in omega (arith, g, more)

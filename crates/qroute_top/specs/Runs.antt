@@ -1,12 +1,12 @@
 -- What the router does for a source: the routing machine's run.
 --   IsMachineRun d trivial n S us ..    the operations us, the placements, the number of swaps and the phase are those of the
---                                       machine's run on the device d over a settled list that stands for the source, operations
---                                       S on n wires; it begins at the layout of this list, unless the placement is trivial
+--                                       machine's run on the device d over a settled list of gates on n wires that stands for the
+--                                       source, operations S; it begins at the layout of this list, unless the placement is trivial
 --   HasFewSwaps d S us swaps            for each CNOT of S at most as many swaps as the qubits and the diameter, so at most three
 --                                       times as many CNOTs more
-use Rattle.std.specs.Prelude.{◌≡◌, ℕ, ◌+◌, ◌*◌, ◌%◌, ◌≤◌, Bool, false, List}
+use Rattle.std.specs.Prelude.{◌≡◌, ℕ, ◌+◌, ◌*◌, ◌%◌, ◌≤◌, All, Bool, false, List}
 use Rattle.circuit_list.specs.declared.Gate.{Gate}
-use Rattle.circuit_list.specs.Gates.{ops}
+use Rattle.circuit_list.specs.Gates.{IsFine, ops}
 use Rattle.coupling_map.specs.Coupling.{Coupling}
 use Rattle.coupling_map.specs.Walks.{IsDiameter}
 use Rattle.sabre_route.specs.Machine.{Event, IsRun, State, start}
@@ -21,6 +21,7 @@ pub record IsMachineRun (d : Coupling) (trivial : Bool) (n : ℕ) (S us : List O
   -- the settled list, and its turn against the source
   pub gates : List Gate
   pub turn : ℕ
+  pub fine : All (IsFine n) gates
   pub settled : IsSettled n (ops gates)
   pub stands : Realises S n (ops gates) n (identity n) (identity n) turn
   pub events : List Event
@@ -33,5 +34,7 @@ pub record IsMachineRun (d : Coupling) (trivial : Bool) (n : ℕ) (S us : List O
   pub laid_out : trivial ≡ false → IsLayout d gates initial
 
 pub record HasFewSwaps (d : Coupling) (S us : List Op) (swaps : ℕ) : Type 0 where
-  pub few : (k : ℕ) → IsDiameter d.size d.edges k → swaps ≤ cx_count S * (d.size + k)
-  pub cx_gates : (k : ℕ) → IsDiameter d.size d.edges k → cx_count us ≤ cx_count S * (1 + 3 * (d.size + k))
+  pub diameter : ℕ
+  pub is_diameter : IsDiameter d.size d.edges diameter
+  pub few : swaps ≤ cx_count S * (d.size + diameter)
+  pub cx_gates : cx_count us ≤ cx_count S * (1 + 3 * (d.size + diameter))

@@ -120,6 +120,9 @@ pub fn on_device(
     ensures run { IfOk result (λ t. IsMachineRun device.now trivial source.now.wires source.now.list (ops t.body.gates) t.initial t.last t.swaps t.turn) }
     ensures few_swaps { IfOk result (λ t. HasFewSwaps device.now source.now.list (ops t.body.gates) t.swaps) }
 {
+    // Their contracts say that the gates are on these wires, and that the device has a diameter.
+    let _wires = passed.body.wires();
+    let _diameter = device.diameter();
     let given = first_placement(alloc, &passed.body, device, trivial)?;
     let initial = qubits_of(alloc, &given)?;
     let routed = route(alloc, &passed.body, device, given)?;
