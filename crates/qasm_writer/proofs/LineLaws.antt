@@ -7,7 +7,7 @@
 --   reads_enough       the reads behind those of one register are enough for the others
 --   underscores-next   one underscore
 --   phase_line         the line of a phase, by its name
-use Rattle.std.proofs.Common.{◌≡◌, ℕ, suc, ◌+◌, ◌-◌, ◌<◌, ◌≤◌, List, [], ◌∷◌, ◌++◌, Option, Some, ap, ◌∙◌, length, drop, map, take, get_or, replicate, slice_get, sum_by, length-drop, refl, sym, arith, codes}
+use Rattle.std.proofs.Common.{◌≡◌, ℕ, suc, ◌+◌, ◌-◌, ◌<◌, ◌≤◌, List, ◌∷◌, ◌++◌, Option, Some, ap, ◌∙◌, length, drop, map, take, get_or, replicate, slice_get, sum_by, length-drop, refl, arith, codes}
 use Rattle.std.proofs.lemmas.List.{drop_more}
 use Rattle.std.proofs.lemmas.List.Sums.{sum_by-cons}
 use Rattle.std.proofs.lemmas.Option.{get_or_from_slice_get, slice_get_within}

@@ -8,7 +8,7 @@
 --   fault-now, fault-then    the sink failed in the first of some bytes, or in what came after some
 --   on_err, on_err-same, on_ok-map, on_err-map, then-ok, then-err    the same for what a call answers
 --   fault-whole, Sends-whole, Sends-rest, rest-fault    a whole text by an empty room
-use Rattle.std.proofs.Common.{◌≡◌, ℕ, ◌+◌, ◌≤◌, List, [], ◌++◌, Option, Some, None, Result, Ok, Err, OnErr, OnOk, refl, sym, subst, ap, ◌∙◌, arith, append_assoc, append-nil, length, length-append, take}
+use Rattle.std.proofs.Common.{◌≡◌, ℕ, ◌+◌, List, [], ◌++◌, Option, Some, None, Result, Ok, Err, OnErr, OnOk, refl, sym, subst, ap, ◌∙◌, arith, append_assoc, append-nil, length, length-append, take}
 use Rattle.std.proofs.Math.Seq.{take-append-add}
 use Rattle.std.proofs.lemmas.List.{take-append-le}
 use Rattle.outside_io.specs.Bytes.{Gains, GainsPrefix}

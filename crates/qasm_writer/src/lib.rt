@@ -77,9 +77,7 @@ fn is_spelt(name: &[u8], count: usize) -> bool
 {
     match name.split_first() {
         None => false,
-        Some((first, rest)) => {
-            *first == b'q' && rest.len() == count && are_underscores(rest)
-        }
+        Some((first, rest)) => { *first == b'q' && rest.len() == count && are_underscores(rest) }
     }
 }
 

@@ -98,7 +98,7 @@ fn leaves_out_a_register_without_wires(rt: HostRuntime) -> Result<(), Fail> {
 fn writes_whole_pieces_and_the_rest(rt: HostRuntime) -> Result<(), Fail> {
     let alloc = rt.alloc();
     let mut body = Circuit::empty(alloc, 12)?;
-    for _ in 0..1_030 {
+    'gates: for _ in 0..1_030 {
         body.push(Gate::P { k: 3, q: 11 })?;
     }
     let output = Output {
@@ -120,6 +120,7 @@ fn writes_whole_pieces_and_the_rest(rt: HostRuntime) -> Result<(), Fail> {
         (6, true, 18_588, 5),
     ];
     for (failing, is_written, held, calls) in rows {
+        assert!(rt; held <= text.len());
         let mut room = Vec::with_capacity(alloc, PIECE)?;
         let failing = Vec::from_slice(alloc, &[failing])?;
         let mut sink = MemSink::new(alloc, 20_000, PIECE, failing)?;

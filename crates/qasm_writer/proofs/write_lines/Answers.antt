@@ -1,4 +1,4 @@
-use Rattle.std.proofs.Common.{sym, map}
+use Rattle.std.proofs.Common.{map}
 use Rattle.outside_io.specs.Bytes.{Gains, GainsPrefix}
 use Rattle.circuit_list.specs.Gates.{ops}
 use Rattle.qasm_writer.specs.Outputs.{bits_of}
