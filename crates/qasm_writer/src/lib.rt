@@ -1,9 +1,10 @@
-//! The text of a program: a circuit, classical registers and reads go in, OpenQASM 2.0 comes out.
+//! The text of a program: a circuit, classical registers and reads go in, OpenQASM 2.0 comes out, as a text
+//! ([`program_text`]) or piece by piece to a sink ([`write_program`]).
 //!
 //! The text has a header, the registers, one gate a line, and then the measurements in the order of the bits. The contract gives
 //! its bytes exactly, and says what they are worth: the text is that of a program whose operations are the circuit's, whose
 //! classical registers are the given ones and whose reads are the given ones. A caller hands over registers as a program may
-//! declare them, and a read for each of their bits; the only error is want of memory.
+//! declare them, and a read for each of their bits; the only error is want of memory for a text, and a fault of the sink.
 #![tactic(auto)]
 
 ghost use Rattle.std.specs.List.{list_all, list_any};

@@ -71,7 +71,7 @@ pub record Rewrites (source : Program) (IsPlaced : Program → Report → Type 0
   pub made : Makes source target told text line
   pub placed : IsPlaced target told
 
--- no wire moves, there is no spare one, and nothing is left to rewrite
+-- no wire moves, there is no spare one, and the program is settled
 pub record IsInPlace (source target : Program) (told : Report) : Type 0 where
   pub wires : target.wires ≡ source.wires
   pub swaps : told.swaps ≡ 0

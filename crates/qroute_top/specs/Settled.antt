@@ -1,4 +1,4 @@
--- Settled programs: nothing is left to rewrite.
+-- Settled programs: no pair of gates, no window around H and no phase is left to take out.
 --   IsSettled n us   the operations us on n wires are those of gates of which no pair can be reduced and none of the seven windows
 --                    around H is left, and they have as many T gates as odd path parities
 use Rattle.std.specs.Prelude.{◌≡◌, ℕ, List}

@@ -2,12 +2,12 @@
 //!
 //! Words, a source, a shelf and two sinks go in; what is written is an equivalent program on `out` and a line of report, or
 //! of a fault, on `report`, and the status comes out. The contract of `run` is the promise of the whole program: the text
-//! that is written spells a program whose unitary is the source's, up to the reported power of the eighth root of unity and
-//! the reported placements; T gates number at most the source's odd path parities, and CNOTs at most its own and three for
-//! each swap; each measured bit reads its wire of the source; on a device each CNOT follows an edge, and on its own wires the
-//! program is settled; and each status comes exactly where its cause is. A text that is refused is told with its place or
-//! statement, a device with its reason, and nothing is written then. `check` tells of a program without writing one, and
-//! `stages` writes a line for each layer of its gates.
+//! that is written spells a program that does what the source does, up to a power of w and between placements that the line
+//! tells; it has no more T gates than the source has odd path parities, and no more CNOTs but three for each swap; each
+//! classical bit reads the wire that it read before. On a device each CNOT follows an edge, and what is written is the routing
+//! machine's run, whose swaps are few; on its own wires the program is settled. Each status comes exactly where its cause is.
+//! A text that is refused is told with its place or statement, a device with its reason, and nothing is written then. `check`
+//! tells of a program without writing one, and `stages` writes a line for each layer of its gates.
 //!
 //! `source` reads the input, over all of the readers, `device` loads the device of a name, `target` makes the circuit that is
 //! to be written, and `plan` all that takes memory, before `emission` writes the first byte. A program goes out in pieces, so

@@ -16,7 +16,7 @@ use std::alloc::{AllocError, Global};
 
 /// The circuit after rounds of NOT propagation, Hadamard reduction, cancellation and rotation merging, one round after the
 /// other while that leaves fewer gates; then after resynthesis of its layers, and after Hadamard reduction, cancellation and
-/// rotation merging again until nothing is left to do; and its turn.
+/// rotation merging again as long as the last two leave fewer gates; and its turn.
 pub fn rewritten(alloc: Global, body: Circuit) -> Result<Passed, AllocError>
     ensures wires { IfOk result (λ p. p.body.wires ≡ body.wires) }
     ensures law { IfOk result (λ p. IsRewriting body.wires body.gates p.body.gates p.turn) }

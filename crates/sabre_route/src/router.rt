@@ -179,8 +179,8 @@ fn settle(
 
 /// The circuit on a device, from the given placement on: exactly the routing machine's run.
 ///
-/// The device has at least as many qubits as the circuit has wires, and the placement as many as the
-/// device. There is no other condition, and want of memory is the only error.
+/// It asks for a qubit for each wire of the circuit, and for a placement of all qubits; want of memory is
+/// the only error.
 pub fn route(
     alloc: Global,
     circuit: &Circuit,
