@@ -10,8 +10,8 @@ returns-clause-stands c =
 pub returns-clause-run : goal.returns-clause-run
 returns-clause-run c =
     rw c.in_ok-initial.ensures
-    (IsMachineRun-routed _ _ _ _ c.args.passed.now _ _ _ c.requires.optimised c.wires.ensures.fine c.in_ok-routed.ensures.run c.turn_sum.ensures.sum c.in_ok-given.ensures.laid_out)
+    (IsMachineRun-routed _ _ _ _ c.args.passed.now _ _ _ c.requires.optimised c.wires-wires.ensures.fine c.in_ok-routed.ensures.run c.turn_sum.ensures.sum c.in_ok-given.ensures.laid_out)
 
 pub returns-clause-few_swaps : goal.returns-clause-few_swaps
 returns-clause-few_swaps c =
-    HasFewSwaps-routed _ _ _ _ _ _ c.diameter.ensures.diameter c.requires.optimised.cx_gates c.in_ok-routed.ensures.few_swaps c.in_ok-routed.ensures.cx_count
+    HasFewSwaps-routed _ _ _ _ _ _ c.diameter-diameter.ensures.diameter c.requires.optimised.cx_gates c.in_ok-routed.ensures.few_swaps c.in_ok-routed.ensures.cx_count
