@@ -1,4 +1,5 @@
 -- From the circuit's unitary to the source's, and the machine's run.
+use Rattle.circuit_list.specs.Gates.{ops}
 use Rattle.qroute_top.proofs.TargetLaws.{HasFewSwaps-routed, IsMachineRun-routed, Stands-routed}
 use Rattle.qroute_top.proofs.target.on_device.Goals as goal
 
@@ -14,4 +15,4 @@ returns-clause-run c =
 
 pub returns-clause-few_swaps : goal.returns-clause-few_swaps
 returns-clause-few_swaps c =
-    HasFewSwaps-routed _ _ _ _ _ _ c.diameter-diameter.ensures.diameter c.requires.optimised.cx_gates c.in_ok-routed.ensures.few_swaps c.in_ok-routed.ensures.cx_count
+    HasFewSwaps-routed _ _ (ops c.args.passed.now.body.gates) _ _ _ c.diameter-diameter.ensures.diameter c.requires.optimised.cx_gates c.in_ok-routed.ensures.few_swaps c.in_ok-routed.ensures.cx_count
