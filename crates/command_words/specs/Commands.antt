@@ -1,24 +1,31 @@
 -- The command of the words, by `clap`'s own definitions of what a command line may be and of what it matches.
 --   root_command        the program: its name, no help, and a subcommand that has to be there
 --   opt_command         the subcommand `opt`, which takes no argument
---   device_option       `--device NAME`, which has to be there, once
+--   needed_option id    `--ID VALUE`, which has to be there, once
 --   trivial_flag        `--trivial`, at most once
 --   check_command       the subcommand `check`, which takes none either
 --   stages_command      the subcommand `stages`, which takes none
---   route_command       the subcommand `route`, which takes these two
+--   route_command       the subcommand `route`, which takes `--device` and this flag
+--   bench_command       the subcommand `bench`, which takes `--start`, `--gates` and `--device`
 --   qroute_command      the program with its subcommands
 --   device_of rows      the name behind `--device` in what was matched, none where there is none
 --   is_trivial rows     whether `--trivial` was matched
+--   number_of a b text  the number from a to b whose decimal digits the text is, none where there is none
+--   start_of rows       the number behind `--start`, 0 to 4294967295
+--   gates_of rows       the number behind `--gates`, 1 to 20000
+--   bench_of rows       what `bench` asks for, with what was matched
 --   meaning name rows   what the subcommand of this name asks for, with what it matched
 --   command_of words    the command that the words mean, the program's name first; none where they mean none
-use Rattle.std.specs.Prelude.{List, ◌==◌, Bool, true, false, Option, Some, None, if◌then◌else◌, codes, length, option_map, option_and_then}
+--   IsInRange c         the numbers of a command are in their ranges
+use Rattle.std.specs.Prelude.{ℕ, List, ◌==◌, ◌≤◌, ◌&&◌, Bool, true, false, Option, Some, None, if◌then◌else◌, codes, decimal, length, nat_le, option_map, option_and_then}
 use Rattle.std.specs.Option.{option_map_or}
 use Rattle.std.specs.Str.{bytes_eq}
+use Rattle.std.specs.Str.Parse.{digits_value}
 use Rattle.clap.specs.Simple.{on_top}
 use Rattle.clap.specs.Words.{App, Row, Rule, Text, fault_of, first_of, new_app, new_rule, subcommand_of, with_rule, with_subcommand}
 use Rattle.clap.specs.declared.builder.action.ArgAction.TheVariants.{Set, SetTrue}
 use Rattle.command_words.specs.declared.commands.Command.{Command}
-use Rattle.command_words.specs.declared.commands.Command.TheVariants.{Opt, Route, Check, Stages}
+use Rattle.command_words.specs.declared.commands.Command.TheVariants.{Opt, Route, Check, Stages, Bench}
 
 abbrev pub root_command : App
 root_command = on_top (λ s. record s {
@@ -36,9 +43,9 @@ check_command = new_app (codes "check")
 abbrev pub stages_command : App
 stages_command = new_app (codes "stages")
 
-abbrev pub device_option : Rule
-device_option = record (new_rule (codes "device")) {
-  long = Some (codes "device");
+abbrev pub needed_option : Text → Rule
+needed_option id = record (new_rule id) {
+  long = Some id;
   action = Some Set;
   required = true;
 }
@@ -50,11 +57,16 @@ trivial_flag = record (new_rule (codes "trivial")) {
 }
 
 abbrev pub route_command : App
-route_command = with_rule (with_rule (new_app (codes "route")) device_option) trivial_flag
+route_command = with_rule (with_rule (new_app (codes "route")) (needed_option (codes "device"))) trivial_flag
+
+abbrev pub bench_command : App
+bench_command = with_rule (with_rule (with_rule (new_app (codes "bench")) (needed_option (codes "start"))) (needed_option (codes "gates")))
+    (needed_option (codes "device"))
 
 abbrev pub qroute_command : App
 qroute_command =
-    with_subcommand (with_subcommand (with_subcommand (with_subcommand root_command opt_command.top) route_command.top) check_command.top) stages_command.top
+    with_subcommand (with_subcommand (with_subcommand (with_subcommand (with_subcommand root_command opt_command.top) route_command.top)
+    check_command.top) stages_command.top) bench_command.top
 
 abbrev pub device_of : List Row → Option Text
 device_of rows = first_of (codes "device") rows
@@ -63,13 +75,36 @@ device_of rows = first_of (codes "device") rows
 abbrev pub is_trivial : List Row → Bool
 is_trivial rows = option_map_or (λ t. bytes_eq t (codes "true")) (first_of (codes "trivial") rows) false
 
+-- only the value of the digits can be this number, and its decimal digits have to be the text
+abbrev pub number_of : ℕ → ℕ → Text → Option ℕ
+number_of least most text = let n = digits_value 10 text in
+    if bytes_eq text (decimal n) && (nat_le least n && nat_le n most) then Some n else None
+
+abbrev pub start_of : List Row → Option ℕ
+start_of rows = option_and_then (number_of 0 4294967295) (first_of (codes "start") rows)
+
+abbrev pub gates_of : List Row → Option ℕ
+gates_of rows = option_and_then (number_of 1 20000) (first_of (codes "gates") rows)
+
+abbrev pub bench_of : List Row → Option Command
+bench_of rows = option_and_then (λ start. option_and_then (λ gates. option_map (λ device. Bench start gates device)
+    (device_of rows)) (gates_of rows)) (start_of rows)
+
 abbrev pub meaning : Text → List Row → Option Command
 meaning name rows = if bytes_eq name (codes "opt") then Some Opt
     else (if bytes_eq name (codes "check") then Some Check
     else (if bytes_eq name (codes "stages") then Some Stages
-    else option_map (λ device. Route device (is_trivial rows)) (device_of rows)))
+    else (if bytes_eq name (codes "bench") then bench_of rows
+    else option_map (λ device. Route device (is_trivial rows)) (device_of rows))))
 
 -- none where `clap` finds a fault, and else what the subcommand asks for
 abbrev pub command_of : List Text → Option Command
 command_of words = if length (fault_of qroute_command words) == 0
     then option_and_then (λ s. meaning s.0 s.1) (subcommand_of qroute_command words) else None
+
+abbrev pub IsInRange : Command → Type 0
+IsInRange Opt = Unit {0}
+IsInRange (Route device trivial) = Unit {0}
+IsInRange Check = Unit {0}
+IsInRange Stages = Unit {0}
+IsInRange (Bench start gates device) = (1 ≤ gates) × (gates ≤ 20000)

@@ -5,28 +5,32 @@
 --   writes_report c   it writes a line of its own to the report; faults are told there by every command
 use Rattle.std.specs.Prelude.{ℕ, Bool, true, false, List, Option, Some, None}
 use Rattle.command_words.specs.declared.commands.Command.{Command}
-use Rattle.command_words.specs.declared.commands.Command.TheVariants.{Opt, Route, Check, Stages}
+use Rattle.command_words.specs.declared.commands.Command.TheVariants.{Opt, Route, Check, Stages, Bench}
 
 abbrev pub reads_input : Command → Bool
 reads_input Opt = true
 reads_input (Route name trivial) = true
 reads_input Check = true
 reads_input Stages = true
+reads_input (Bench start gates name) = false
 
 abbrev pub device_name : Command → Option (List ℕ)
 device_name Opt = None
 device_name (Route name trivial) = Some name
 device_name Check = None
 device_name Stages = None
+device_name (Bench start gates name) = Some name
 
 abbrev pub writes_out : Command → Bool
 writes_out Opt = true
 writes_out (Route name trivial) = true
 writes_out Check = false
 writes_out Stages = true
+writes_out (Bench start gates name) = true
 
 abbrev pub writes_report : Command → Bool
 writes_report Opt = true
 writes_report (Route name trivial) = true
 writes_report Check = true
 writes_report Stages = false
+writes_report (Bench start gates name) = true

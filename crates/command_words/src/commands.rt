@@ -20,6 +20,15 @@ pub enum Command {
     Check,
     /// Reads a program and writes a line for each layer of its gates.
     Stages,
+    /// Generates a program, and writes it on the qubits of a device, as `route` does.
+    Bench {
+        /// The start from which the program is drawn.
+        start: u32,
+        /// The number of its gates, 1 to 20,000.
+        gates: u32,
+        /// The name of the device text.
+        device: Name,
+    },
 }
 
 /// Why words give no command.

@@ -4,10 +4,10 @@
 //! level of subcommands, of which one has to be there, and no help. The contract of `command` says that the answer is the
 //! command of the words by `clap`'s own definitions, and that words are refused exactly where they mean none.
 
-ghost use Rattle.std.specs.Prelude.{◌≡◌, IfOk, IsErrOf, Some, None, map, false};
-ghost use Rattle.clap.specs.Words.{app_of, found_of, kind_of, rows_of, rule_of};
+ghost use Rattle.std.specs.Prelude.{◌≡◌, IfOk, IsErrOf, Some, None, map, false, option_and_then};
+ghost use Rattle.clap.specs.Words.{app_of, first_of, found_of, kind_of, rows_of, rule_of};
 ghost use Rattle.clap.specs.declared.builder.Command.TheViews.{out-Command as fields_of};
-ghost use Rattle.command_words.specs.Commands.{check_command, command_of, device_option, meaning, opt_command, qroute_command, root_command, route_command, stages_command, trivial_flag};
+ghost use Rattle.command_words.specs.Commands.{IsInRange, bench_command, bench_of, check_command, command_of, meaning, needed_option, number_of, opt_command, qroute_command, root_command, route_command, stages_command, trivial_flag};
 
 use crate::commands::{self, WordsFault};
 use crate::name::Name;
@@ -49,13 +49,13 @@ fn stages_command<'a>(alloc: Global) -> Command<'a>
     Command::new(alloc, "stages")
 }
 
-/// `--device NAME`, which has to be there, once.
-fn device_option<'a>(alloc: Global) -> Arg<'a>
-    ensures rule { rule_of result ≡ device_option }
+/// `--ID VALUE`, which has to be there, once.
+fn needed_option<'a>(alloc: Global, id: &'a str) -> Arg<'a>
+    ensures rule { rule_of result ≡ needed_option id.now }
     ensures local { result.global ≡ false }
 {
-    Arg::new(alloc, "device")
-        .long("device")
+    Arg::new(alloc, id)
+        .long(id)
         .action(ArgAction::Set)
         .required(true)
 }
@@ -76,8 +76,19 @@ fn route_command<'a>(alloc: Global) -> Result<Command<'a>, AllocError>
     ensures local { IfOk result (λ c. (fields_of c).has_globals ≡ false) }
 {
     Command::new(alloc, "route")
-        .arg(device_option(alloc))?
+        .arg(needed_option(alloc, "device"))?
         .arg(trivial_flag(alloc))
+}
+
+/// `bench`, which takes two numbers and a device.
+fn bench_command<'a>(alloc: Global) -> Result<Command<'a>, AllocError>
+    ensures command { IfOk result (λ c. app_of c ≡ bench_command) }
+    ensures local { IfOk result (λ c. (fields_of c).has_globals ≡ false) }
+{
+    Command::new(alloc, "bench")
+        .arg(needed_option(alloc, "start"))?
+        .arg(needed_option(alloc, "gates"))?
+        .arg(needed_option(alloc, "device"))
 }
 
 /// The program with its subcommands.
@@ -88,7 +99,53 @@ fn qroute_command<'a>(alloc: Global) -> Result<Command<'a>, AllocError>
         .subcommand(opt_command(alloc))?
         .subcommand(route_command(alloc)?)?
         .subcommand(check_command(alloc))?
-        .subcommand(stages_command(alloc))
+        .subcommand(stages_command(alloc))?
+        .subcommand(bench_command(alloc)?)
+}
+
+/// The number from `least` to `most` whose decimal digits the text is.
+fn number(text: &str, least: u32, most: u32) -> Option<u32>
+    ensures { result ≡ number_of least most text.now }
+{
+    let bytes = text.as_bytes();
+    let has_sign = bytes.len() > 0 && bytes[0] == b'+';
+    let has_leading_zero = bytes.len() > 1 && bytes[0] == b'0';
+    if has_sign || has_leading_zero {
+        return None;
+    }
+    match text.parse::<u32>() {
+        Ok(number) if least <= number && number <= most => Some(number),
+        _ => None,
+    }
+}
+
+/// The number from `least` to `most` behind an option.
+fn number_behind(matches: &ArgMatches<'_>, id: &str, least: u32, most: u32) -> Option<u32>
+    ensures { result ≡ option_and_then (number_of least most) (first_of id.now (rows_of (found_of matches.now))) }
+{
+    number(matches.get_str(id)?, least, most)
+}
+
+/// What `bench` with its matches asks for.
+fn bench_of(alloc: Global, matches: &ArgMatches<'_>) -> Result<commands::Command, WordsFault>
+    ensures ok { IfOk result (λ c. bench_of (rows_of (found_of matches.now)) ≡ Some c) }
+    ensures bad { IsErrOf result WordsFault.BadWords → bench_of (rows_of (found_of matches.now)) ≡ None }
+    ensures range { IfOk result IsInRange }
+{
+    let Some(start) = number_behind(matches, "start", 0, 4_294_967_295) else {
+        return Err(WordsFault::BadWords);
+    };
+    let Some(gates) = number_behind(matches, "gates", 1, 20_000) else {
+        return Err(WordsFault::BadWords);
+    };
+    let Some(name) = matches.get_str("device") else {
+        return Err(WordsFault::BadWords);
+    };
+    Ok(commands::Command::Bench {
+        start,
+        gates,
+        device: Name::new(alloc, name)?,
+    })
 }
 
 /// What a subcommand with its matches asks for.
@@ -99,6 +156,7 @@ fn meaning_of(
 ) -> Result<commands::Command, WordsFault>
     ensures ok { IfOk result (λ c. meaning name.now (rows_of (found_of matches.now)) ≡ Some c) }
     ensures bad { IsErrOf result WordsFault.BadWords → meaning name.now (rows_of (found_of matches.now)) ≡ None }
+    ensures range { IfOk result IsInRange }
 {
     if name == "opt" {
         return Ok(commands::Command::Opt);
@@ -108,6 +166,9 @@ fn meaning_of(
     }
     if name == "stages" {
         return Ok(commands::Command::Stages);
+    }
+    if name == "bench" {
+        return bench_of(alloc, matches);
     }
     let Some(device) = matches.get_str("device") else {
         return Err(WordsFault::BadWords);
@@ -137,6 +198,7 @@ fn words_fault(error: &Error) -> WordsFault
 fn read<'a>(alloc: Global, words: &'a [&'a str]) -> Result<commands::Command, WordsFault>
     ensures ok { IfOk result (λ c. command_of (map (λ w. w.now) words.entry.now) ≡ Some c) }
     ensures bad { IsErrOf result WordsFault.BadWords → command_of (map (λ w. w.now) words.entry.now) ≡ None }
+    ensures range { IfOk result IsInRange }
 {
     let matches = match qroute_command(alloc)?.try_get_matches_from(words) {
         Ok(matches) => matches,
@@ -152,6 +214,7 @@ fn read<'a>(alloc: Global, words: &'a [&'a str]) -> Result<commands::Command, Wo
 pub fn command(alloc: Global, words: &[&str]) -> Result<commands::Command, WordsFault>
     ensures ok { IfOk result (λ c. command_of (map (λ w. w.now) words.now) ≡ Some c) }
     ensures bad { IsErrOf result WordsFault.BadWords → command_of (map (λ w. w.now) words.now) ≡ None }
+    ensures range { IfOk result IsInRange }
 {
     read(alloc, words)
 }
