@@ -7,6 +7,7 @@
 --   stages_command      the subcommand `stages`, which takes none
 --   route_command       the subcommand `route`, which takes `--device` and this flag
 --   bench_command       the subcommand `bench`, which takes `--start`, `--gates` and `--device`
+--   plain_commands      the program with the subcommands that take no argument
 --   qroute_command      the program with its subcommands
 --   device_of rows      the name behind `--device` in what was matched, none where there is none
 --   is_trivial rows     whether `--trivial` was matched
@@ -63,10 +64,11 @@ abbrev pub bench_command : App
 bench_command = with_rule (with_rule (with_rule (new_app (codes "bench")) (needed_option (codes "start"))) (needed_option (codes "gates")))
     (needed_option (codes "device"))
 
+abbrev pub plain_commands : App
+plain_commands = with_subcommand (with_subcommand (with_subcommand root_command opt_command.top) check_command.top) stages_command.top
+
 abbrev pub qroute_command : App
-qroute_command =
-    with_subcommand (with_subcommand (with_subcommand (with_subcommand (with_subcommand root_command opt_command.top) route_command.top)
-    check_command.top) stages_command.top) bench_command.top
+qroute_command = with_subcommand (with_subcommand plain_commands route_command.top) bench_command.top
 
 abbrev pub device_of : List Row → Option Text
 device_of rows = first_of (codes "device") rows

@@ -7,7 +7,7 @@
 ghost use Rattle.std.specs.Prelude.{◌≡◌, IfOk, IsErrOf, Some, None, map, false, option_and_then};
 ghost use Rattle.clap.specs.Words.{app_of, first_of, found_of, kind_of, rows_of, rule_of};
 ghost use Rattle.clap.specs.declared.builder.Command.TheViews.{out-Command as fields_of};
-ghost use Rattle.command_words.specs.Commands.{IsInRange, bench_command, bench_of, check_command, command_of, meaning, needed_option, number_of, opt_command, qroute_command, root_command, route_command, stages_command, trivial_flag};
+ghost use Rattle.command_words.specs.Commands.{IsInRange, bench_command, bench_of, check_command, command_of, meaning, needed_option, number_of, opt_command, plain_commands, qroute_command, root_command, route_command, stages_command, trivial_flag};
 
 use crate::commands::{self, WordsFault};
 use crate::name::Name;
@@ -91,15 +91,22 @@ fn bench_command<'a>(alloc: Global) -> Result<Command<'a>, AllocError>
         .arg(needed_option(alloc, "device"))
 }
 
-/// The program with its subcommands.
-fn qroute_command<'a>(alloc: Global) -> Result<Command<'a>, AllocError>
-    ensures { IfOk result (λ c. app_of c ≡ qroute_command) }
+/// The program with the subcommands that take no argument.
+fn plain_commands<'a>(alloc: Global) -> Result<Command<'a>, AllocError>
+    ensures { IfOk result (λ c. app_of c ≡ plain_commands) }
 {
     root_command(alloc)
         .subcommand(opt_command(alloc))?
-        .subcommand(route_command(alloc)?)?
         .subcommand(check_command(alloc))?
-        .subcommand(stages_command(alloc))?
+        .subcommand(stages_command(alloc))
+}
+
+/// The program with all of its subcommands.
+fn qroute_command<'a>(alloc: Global) -> Result<Command<'a>, AllocError>
+    ensures { IfOk result (λ c. app_of c ≡ qroute_command) }
+{
+    plain_commands(alloc)?
+        .subcommand(route_command(alloc)?)?
         .subcommand(bench_command(alloc)?)
 }
 
