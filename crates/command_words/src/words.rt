@@ -115,9 +115,11 @@ fn number(text: &str, least: u32, most: u32) -> Option<u32>
     ensures { result ≡ number_of least most text.now }
 {
     let bytes = text.as_bytes();
-    let has_sign = bytes.len() > 0 && bytes[0] == b'+';
-    let has_leading_zero = bytes.len() > 1 && bytes[0] == b'0';
-    if has_sign || has_leading_zero {
+    let first = bytes.first().copied().unwrap_or(0);
+    if first == b'+' {
+        return None;
+    }
+    if first == b'0' && bytes.len() > 1 {
         return None;
     }
     match text.parse::<u32>() {
