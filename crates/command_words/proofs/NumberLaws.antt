@@ -5,6 +5,7 @@
 --   number-zero       a text with a zero before other bytes has none
 --   number-parsed     a number in the range that was parsed, from a text with neither
 --   number-unparsed   a text that can't be parsed has none
+--   digits            the laws of texts without a number, for `number` of the code
 use Rattle.std.proofs.Common.{◌≡◌, ◌≢◌, ℕ, zero, suc, ◌+◌, ◌^◌, ◌<◌, ◌≤◌, Bool, true, false, ◌&&◌, List, [], ◌∷◌, length, get_or, Some, None, Option, refl, sym, ap, subst, ◌∙◌, arith, le-leb, leb-true}
 use Rattle.std.specs.Prelude.{decimal, nat_le, if◌then◌else◌}
 use Rattle.std.specs.Str.{bytes_eq}
@@ -73,3 +74,5 @@ number-unparsed {E} least most e text r is parsed no_plus small = number-none le
     let n = digits_value 10 text in
     let some = decimal_is_IsNumeral n (omega arith) in
     k (subst (λ t. IsNumeral 10 t × (digits_value 10 t < 2 ^ 32)) (sym bare) (subst (λ t. IsNumeral 10 t) (sym own) some.0, omega arith)))
+
+pub ruleset digits = (number-plus, number-zero, number-unparsed)

@@ -4,11 +4,13 @@
 --   of_stages, of_stages_dashes      `stages`, and `stages` with `--` behind it
 --   of_route, of_route_..            `route` with its device
 --   of_route_trivial, of_trivial_..  `route` with its device and `--trivial`
+--   of_bench, of_bench_..            `bench` with its start, gates and device
 --   no_.., and other of_..           words that mean no command
 use Rattle.std.proofs.Common.{◌≡◌, ℕ, List, [], ◌∷◌, Some, None, refl, codes, true, false}
+use Rattle.std.specs.Fmt.{digits}
 use Rattle.clap.proofs.OnLiterals.{clap_on_literals}
 use Rattle.command_words.specs.Commands.{command_of}
-use Rattle.command_words.specs.declared.commands.Command.TheVariants.{Opt, Route, Check, Stages}
+use Rattle.command_words.specs.declared.commands.Command.TheVariants.{Opt, Route, Check, Stages, Bench}
 
 pub of_opt : (name : List ℕ) → command_of (name ∷ codes "opt" ∷ []) ≡ Some Opt
 unfolding clap_on_literals
@@ -162,6 +164,22 @@ pub of_trivial_route : (name : List ℕ) → command_of (name ∷ codes "route" 
 unfolding clap_on_literals
 of_trivial_route name = refl
 
+pub of_bench : (name : List ℕ) → command_of (name ∷ codes "bench" ∷ codes "--start" ∷ codes "1" ∷ codes "--gates" ∷ codes "1" ∷ codes "--device" ∷ codes "d" ∷ []) ≡ Some (Bench 1 1 (codes "d"))
+unfolding clap_on_literals digits
+of_bench name = refl
+
+pub of_bench_device_first : (name : List ℕ) → command_of (name ∷ codes "bench" ∷ codes "--device" ∷ codes "d" ∷ codes "--gates" ∷ codes "2" ∷ codes "--start" ∷ codes "1" ∷ []) ≡ Some (Bench 1 2 (codes "d"))
+unfolding clap_on_literals digits
+of_bench_device_first name = refl
+
+pub of_bench_equals : (name : List ℕ) → command_of (name ∷ codes "bench" ∷ codes "--start=0" ∷ codes "--gates=20000" ∷ codes "--device=d" ∷ []) ≡ Some (Bench 0 20000 (codes "d"))
+unfolding clap_on_literals digits
+of_bench_equals name = refl
+
+pub of_bench_last_start : (name : List ℕ) → command_of (name ∷ codes "bench" ∷ codes "--start" ∷ codes "4294967295" ∷ codes "--gates" ∷ codes "1" ∷ codes "--device" ∷ codes "d" ∷ []) ≡ Some (Bench 4294967295 1 (codes "d"))
+unfolding clap_on_literals digits
+of_bench_last_start name = refl
+
 pub no_device : (name : List ℕ) → command_of (name ∷ codes "route" ∷ []) ≡ None
 unfolding clap_on_literals
 no_device name = refl
@@ -237,3 +255,59 @@ no_device_before_route name = refl
 pub no_two_commands : (name : List ℕ) → command_of (name ∷ codes "opt" ∷ codes "route" ∷ codes "--device" ∷ codes "d" ∷ []) ≡ None
 unfolding clap_on_literals
 no_two_commands name = refl
+
+pub no_start_past_the_last : (name : List ℕ) → command_of (name ∷ codes "bench" ∷ codes "--start" ∷ codes "4294967296" ∷ codes "--gates" ∷ codes "1" ∷ codes "--device" ∷ codes "d" ∷ []) ≡ None
+unfolding clap_on_literals digits
+no_start_past_the_last name = refl
+
+pub no_zero_gates : (name : List ℕ) → command_of (name ∷ codes "bench" ∷ codes "--start" ∷ codes "1" ∷ codes "--gates" ∷ codes "0" ∷ codes "--device" ∷ codes "d" ∷ []) ≡ None
+unfolding clap_on_literals digits
+no_zero_gates name = refl
+
+pub no_gate_past_the_last : (name : List ℕ) → command_of (name ∷ codes "bench" ∷ codes "--start" ∷ codes "1" ∷ codes "--gates" ∷ codes "20001" ∷ codes "--device" ∷ codes "d" ∷ []) ≡ None
+unfolding clap_on_literals digits
+no_gate_past_the_last name = refl
+
+pub no_leading_zero : (name : List ℕ) → command_of (name ∷ codes "bench" ∷ codes "--start" ∷ codes "01" ∷ codes "--gates" ∷ codes "1" ∷ codes "--device" ∷ codes "d" ∷ []) ≡ None
+unfolding clap_on_literals digits
+no_leading_zero name = refl
+
+pub no_plus : (name : List ℕ) → command_of (name ∷ codes "bench" ∷ codes "--start" ∷ codes "1" ∷ codes "--gates" ∷ codes "+1" ∷ codes "--device" ∷ codes "d" ∷ []) ≡ None
+unfolding clap_on_literals digits
+no_plus name = refl
+
+pub no_minus : (name : List ℕ) → command_of (name ∷ codes "bench" ∷ codes "--start=-1" ∷ codes "--gates" ∷ codes "1" ∷ codes "--device" ∷ codes "d" ∷ []) ≡ None
+unfolding clap_on_literals digits
+no_minus name = refl
+
+pub no_empty_number : (name : List ℕ) → command_of (name ∷ codes "bench" ∷ codes "--start=" ∷ codes "--gates" ∷ codes "1" ∷ codes "--device" ∷ codes "d" ∷ []) ≡ None
+unfolding clap_on_literals digits
+no_empty_number name = refl
+
+pub no_letter_in_a_number : (name : List ℕ) → command_of (name ∷ codes "bench" ∷ codes "--start" ∷ codes "1x" ∷ codes "--gates" ∷ codes "1" ∷ codes "--device" ∷ codes "d" ∷ []) ≡ None
+unfolding clap_on_literals digits
+no_letter_in_a_number name = refl
+
+pub no_start : (name : List ℕ) → command_of (name ∷ codes "bench" ∷ codes "--gates" ∷ codes "1" ∷ codes "--device" ∷ codes "d" ∷ []) ≡ None
+unfolding clap_on_literals digits
+no_start name = refl
+
+pub no_gates : (name : List ℕ) → command_of (name ∷ codes "bench" ∷ codes "--start" ∷ codes "1" ∷ codes "--device" ∷ codes "d" ∷ []) ≡ None
+unfolding clap_on_literals digits
+no_gates name = refl
+
+pub no_device_of_bench : (name : List ℕ) → command_of (name ∷ codes "bench" ∷ codes "--start" ∷ codes "1" ∷ codes "--gates" ∷ codes "1" ∷ []) ≡ None
+unfolding clap_on_literals digits
+no_device_of_bench name = refl
+
+pub no_second_start : (name : List ℕ) → command_of (name ∷ codes "bench" ∷ codes "--start" ∷ codes "1" ∷ codes "--gates" ∷ codes "1" ∷ codes "--device" ∷ codes "d" ∷ codes "--start" ∷ codes "2" ∷ []) ≡ None
+unfolding clap_on_literals digits
+no_second_start name = refl
+
+pub no_trivial_of_bench : (name : List ℕ) → command_of (name ∷ codes "bench" ∷ codes "--start" ∷ codes "1" ∷ codes "--gates" ∷ codes "1" ∷ codes "--device" ∷ codes "d" ∷ codes "--trivial" ∷ []) ≡ None
+unfolding clap_on_literals digits
+no_trivial_of_bench name = refl
+
+pub no_word_behind_bench : (name : List ℕ) → command_of (name ∷ codes "bench" ∷ codes "--start" ∷ codes "1" ∷ codes "--gates" ∷ codes "1" ∷ codes "--device" ∷ codes "d" ∷ codes "x" ∷ []) ≡ None
+unfolding clap_on_literals digits
+no_word_behind_bench name = refl

@@ -1,8 +1,9 @@
 //! The command of the words of a command line.
 //!
 //! The words go in, the program's name first; the command that they mean comes out, by `clap`'s own definitions of what a
-//! command line may be. Words that mean none are refused, exactly. `specs/Demands.antt` says what each command asks of its
-//! surroundings: whether it reads the input, which device it loads, what it writes.
+//! command line may be. A number in them is its decimal digits alone, and in its range. Words that mean none are refused,
+//! exactly. `specs/Demands.antt` says what each command asks of its surroundings: whether it reads the input, which device
+//! it loads, what it writes.
 #![tactic(auto)]
 
 pub mod commands;

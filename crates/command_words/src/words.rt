@@ -1,8 +1,9 @@
 //! The command of the words.
 //!
 //! The words of a command line go in, the program's name first; the command that they mean comes out. `clap` reads them: one
-//! level of subcommands, of which one has to be there, and no help. The contract of `command` says that the answer is the
-//! command of the words by `clap`'s own definitions, and that words are refused exactly where they mean none.
+//! level of subcommands, of which one has to be there, and no help. A number is its decimal digits alone, without a sign or a
+//! leading zero, and in the range of its option. The contract of `command` says that the answer is the command of the words
+//! by `clap`'s own definitions, and that words are refused exactly where they mean none.
 
 ghost use Rattle.std.specs.Prelude.{◌≡◌, IfOk, IsErrOf, Some, None, map, false, option_and_then};
 ghost use Rattle.clap.specs.Words.{app_of, first_of, found_of, kind_of, rows_of, rule_of};
@@ -111,6 +112,7 @@ fn qroute_command<'a>(alloc: Global) -> Result<Command<'a>, AllocError>
 }
 
 /// The number from `least` to `most` whose decimal digits the text is.
+#[tactic(auto, using(crate::proofs::NumberLaws::digits))]
 fn number(text: &str, least: u32, most: u32) -> Option<u32>
     ensures { result ≡ number_of least most text.now }
 {
