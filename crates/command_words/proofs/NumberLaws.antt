@@ -6,15 +6,15 @@
 --   number-parsed     a number in the range that was parsed, from a text with neither
 --   number-unparsed   a text that can't be parsed has none
 --   digits            the laws of texts without a number, for `number` of the code
-use Rattle.std.proofs.Common.{◌≡◌, ◌≢◌, ℕ, zero, suc, ◌+◌, ◌^◌, ◌<◌, ◌≤◌, Bool, true, false, ◌&&◌, List, [], ◌∷◌, length, get_or, Some, None, Option, refl, sym, ap, subst, ◌∙◌, arith, le-leb, leb-true}
+use Rattle.std.proofs.Common.{◌≡◌, ◌≢◌, ℕ, zero, suc, ◌^◌, ◌<◌, ◌≤◌, Bool, true, false, ◌&&◌, List, length, get_or, Some, None, refl, sym, ap, subst, ◌∙◌, arith, le-leb, leb-true}
 use Rattle.std.specs.Prelude.{decimal, nat_le, if◌then◌else◌}
 use Rattle.std.specs.Str.{bytes_eq}
-use Rattle.std.specs.Str.Parse.{AllDigits, IsNumeral, ParsesUnsigned, digits_value, without_leading_plus}
+use Rattle.std.specs.Str.Parse.{IsNumeral, ParsesUnsigned, digits_value}
 use Rattle.std.specs.declared.result.Result.{Result}
 use Rattle.std.specs.declared.result.Result.TheVariants.{Ok, Err}
 use Rattle.std.proofs.lemmas.Fmt.{decimal-digits_value, decimal_is_IsNumeral, first_decimal, decimal_digit}
 use Rattle.std.proofs.lemmas.Slice.Eq.{bytes_eq-Decides}
-use Rattle.std.proofs.lemmas.Str.Parse.{numerals_by_value, tells_digits, digit_from_value, without_leading_plus_none}
+use Rattle.std.proofs.lemmas.Str.Parse.{numerals_by_value, tells_digits, without_leading_plus_none}
 use Rattle.command_words.specs.Commands.{number_of}
 
 pub number-some : (least most n : ℕ) (text : List ℕ) → digits_value 10 text ≡ n → text ≡ decimal n → least ≤ n → n ≤ most → number_of least most text ≡ Some n
@@ -30,7 +30,7 @@ number-some least most n text value is low high =
 pub number-none : (least most : ℕ) (text : List ℕ) → (text ≡ decimal (digits_value 10 text) → digits_value 10 text ≤ most → ⊥) → number_of least most text ≡ None
 number-none least most text h =
     go (bytes_eq text (decimal (digits_value 10 text))) (nat_le least (digits_value 10 text)) (nat_le (digits_value 10 text) most)
-        (λ e l. h ((bytes_eq-Decides _ _).0 e) (leb-true _ _ l))
+    (λ e l. h ((bytes_eq-Decides _ _).0 e) (leb-true _ _ l))
   where
     go : (a b c : Bool) → (a ≡ true → c ≡ true → ⊥) → (if a && (b && c) then Some (digits_value 10 text) else None) ≡ None
     go true true true never = absurd (never refl refl)
@@ -47,6 +47,7 @@ pub number-plus : (least most : ℕ) (text : List ℕ) → most < 2 ^ 32 → get
 number-plus least most text small plus = number-none least most text (λ is below.
     omega (arith, plus, ap (λ t. get_or t 0 0) is, first_digit (digits_value 10 text) (omega arith)))
 
+-- a number whose digits begin with a zero has this one alone
 one_digit : (n : ℕ) → n < 2 ^ 64 → get_or (decimal n) 0 0 ≡ 48 → length (decimal n) ≡ 1
 one_digit zero h e = ap (λ t. length t) (decimal_digit 0 (omega arith))
 one_digit (suc n) h e = absurd (omega (arith, e, first_decimal (suc n) (omega arith) h))
