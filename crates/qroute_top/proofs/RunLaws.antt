@@ -1,8 +1,10 @@
 -- The causes of a run's end, and what follows of each status.
 --   NoRefusal, MeansOnce     laws of the reader, as they are handed in
---   reads_all                each command reads the input
+--   handed                   what the program is handed, part by part
+--   same_command, reads_same   the words mean one command, and so do what asks of it
 --   IsCause-source, IsCause-device, IsCause-words   from the parts of `decide` to the cause of a stop
---   Delivers-opt, Delivers-check, Delivers-stages, Delivers-routed   from the parts of `decide` to what is delivered
+--   Reaches-read, Reaches-drawn   a device is reached with a program that was read, or for one that is drawn
+--   Delivers-opt, Delivers-check, Delivers-stages, Delivers-routed, Delivers-drawn   from the parts of `decide` to what is delivered
 --   stopped-..               what follows of a status after a stop
 --   planned-..               what follows where a work was decided on
 use Rattle.std.proofs.Common.{◌≡◌, ◌⊎◌, inl, inr, ℕ, ◌≤◌, Bool, true, false, List, [], Option, Some, None, Result, Err, refl, sym, ap, ◌∙◌, arith, subst, is_some}
@@ -16,11 +18,11 @@ use Rattle.program_reader.specs.declared.refusal.Refusal.{Refusal}
 use Rattle.command_words.specs.Commands.{command_of}
 use Rattle.command_words.specs.Demands.{device_name, reads_input}
 use Rattle.command_words.specs.declared.commands.Command.{Command}
-use Rattle.command_words.specs.declared.commands.Command.TheVariants.{Opt, Route, Check, Stages}
+use Rattle.command_words.specs.declared.commands.Command.TheVariants.{Opt, Route, Check, Stages, Bench}
 use Rattle.route_report.specs.Lines.{check_line}
 use Rattle.qroute_top.specs.Causes.{Handed, IsCause, IsDeviceCause, IsRefusedDevice, IsRefusedSource, IsSourceCause, Reaches, Reads}
-use Rattle.qroute_top.specs.Delivered.{Content, Delivered, Delivers, IsAnswer, IsInPlace, IsOnDevice, IsOnQubits, IsStages, Rewrites, counts_of}
-use Rattle.qroute_top.specs.Devices.{HasDevice, IsDevice, IsDeviceRefusal}
+use Rattle.qroute_top.specs.Delivered.{Content, Delivered, Delivers, IsAnswer, IsHad, IsInPlace, IsOnDevice, IsOnQubits, IsStages, Rewrites, counts_of, drawn_program}
+use Rattle.qroute_top.specs.Devices.{HasDevice, IsDevice, IsDeviceRefusal, NeedsQubits}
 use Rattle.qroute_top.specs.Plans.{HasWork, IsWork}
 use Rattle.qroute_top.specs.Stops.{IsUnasked, device_stopped, source_stopped}
 use Rattle.qroute_top.specs.declared.plan.Work.{Work}
@@ -41,11 +43,22 @@ NoRefusal = (text : List ℕ) (p : Program) (r : Refusal) → IsAccepted text p 
 abbrev pub MeansOnce : Type 0
 MeansOnce = (text : List ℕ) (p q : Program) → IsWritten text p → IsWritten text q → p ≡ q
 
-pub reads_all : (c : Command) → reads_input c ≡ true
-reads_all Opt = refl
-reads_all (Route name trivial) = refl
-reads_all Check = refl
-reads_all Stages = refl
+abbrev pub handed : List (List ℕ) → Option (List ℕ) → ℕ → ℕ → Content → ℕ → ℕ → Handed
+handed words input faults_before faults_after content shelf_before shelf_after = record {
+  words = words;
+  input = input;
+  faults_before = faults_before;
+  faults_after = faults_after;
+  content = content;
+  shelf_before = shelf_before;
+  shelf_after = shelf_after;
+}
+
+same_command : (words : List (List ℕ)) (c d : Command) → command_of words ≡ Some c → command_of words ≡ Some d → c ≡ d
+same_command words c d asked too = cc
+
+reads_same : (h : Handed) (c : Command) → Reads h → command_of h.words ≡ Some c → reads_input c ≡ true
+reads_same h c reads asked = subst (λ x. reads_input x ≡ true) (same_command h.words reads.command c reads.asked asked) reads.reads
 
 -- ---- from the parts of `decide`
 pub IsCause-words : (h : Handed) (s : Stop) → IsUnasked h.words s → IsCause h s
@@ -57,59 +70,65 @@ IsCause-words h stop.Shelf u = absurd u
 IsCause-words h stop.Absent u = absurd u
 IsCause-words h (stop.Device r) u = absurd u
 
-reads_of : (h : Handed) (c : Command) → command_of h.words ≡ Some c → Reads h
-reads_of h c asked = record { command = c; asked = asked; reads = reads_all c }
+reads_of : (h : Handed) (c : Command) → command_of h.words ≡ Some c → reads_input c ≡ true → Reads h
+reads_of h c asked reads = record { command = c; asked = asked; reads = reads }
 
-pub IsCause-source : (h : Handed) (c : Command) (e : SourceStop) → command_of h.words ≡ Some c → IsSourceCause h.input h.faults_before h.faults_after e
-    → IsCause h (source_stopped e)
-IsCause-source h c source_stop.NoMemory asked r = tt
-IsCause-source h c source_stop.Failed asked r = (reads_of h c asked, r)
-IsCause-source h c (source_stop.Refused x) asked r = (reads_of h c asked, r)
+pub IsCause-source : (h : Handed) (c : Command) (e : SourceStop) → command_of h.words ≡ Some c → reads_input c ≡ true
+    → IsSourceCause h.input h.faults_before h.faults_after e → IsCause h (source_stopped e)
+IsCause-source h c source_stop.NoMemory asked reads r = tt
+IsCause-source h c source_stop.Failed asked reads r = (reads_of h c asked reads, r)
+IsCause-source h c (source_stop.Refused x) asked reads r = (reads_of h c asked reads, r)
 
 -- what was read of the input
 abbrev pub HasRead : Option (List ℕ) → Option (List ℕ) → Program → Type 0
 HasRead old new p = (t : List ℕ) × TakesAll old new t × IsAccepted t p
 
-reaches : (h : Handed) (c : Command) (name : List ℕ) (new : Option (List ℕ)) (p : Program) → command_of h.words ≡ Some c → device_name c ≡ Some name
-    → HasRead h.input new p → Reaches h name
-reaches h c name new p asked wants read = record {
-  command = c;
-  asked = asked;
-  wants = wants;
-  text = read.0;
-  told = Tells-taken h.input new read.0 read.1;
-  source = p;
-  accepted = read.2;
-}
+-- the device of this name is reached, with a program that needs n qubits
+abbrev pub ReachesFor : Handed → List ℕ → ℕ → Type 0
+ReachesFor h name n = (route : Reaches h name) × (n ≡ route.qubits)
 
-pub IsCause-device : (h : Handed) (c : Command) (name : List ℕ) (new : Option (List ℕ)) (p : Program) (n : ℕ) (e : DeviceStop)
-    → command_of h.words ≡ Some c → device_name c ≡ Some name → HasRead h.input new p → n ≡ p.wires
-    → IsDeviceCause (h.content name) n h.shelf_before h.shelf_after e → ((e ≡ device_stop.Failed → ⊥) → h.shelf_after ≡ h.shelf_before)
-    → IsCause h (device_stopped e)
-unfolding reaches
-IsCause-device h c name new p n device_stop.NoMemory asked wants read same r calm = tt
-IsCause-device h c name new p n device_stop.Failed asked wants read same r calm = (name, reaches h c name new p asked wants read, r)
-IsCause-device h c name new p n device_stop.Absent asked wants read same r calm = (name, reaches h c name new p asked wants read, r, calm (λ f. cc))
-IsCause-device h c name new p n (device_stop.Refused x) asked wants read same r calm = (
-  name,
-  reaches h c name new p asked wants read,
-  subst (λ (m : ℕ). IsRefusedDevice (h.content name) m x) same r,
-  calm (λ f. cc),
+pub Reaches-read : (h : Handed) (c : Command) (name : List ℕ) (trivial : Bool) (new : Option (List ℕ)) (p : Program) → command_of h.words ≡ Some c
+    → c ≡ Route name trivial → HasRead h.input new p → ReachesFor h name p.wires
+Reaches-read h c name trivial new p asked is read = (
+  record {
+    command = Route name trivial;
+    asked = asked ∙ ap (λ x. Some x) is;
+    wants = refl;
+    qubits = p.wires;
+    needs = (read.0, p, Tells-taken h.input new read.0 read.1, read.2, refl);
+  },
+  refl,
 )
 
--- a name by which a command loads a device, as the code has it
-pub wants_of : (c : Command) (name : List ℕ) (trivial : Bool) → c ≡ Route name trivial → device_name c ≡ Some name
-wants_of c name trivial is = ap device_name is
+pub Reaches-drawn : (h : Handed) (c : Command) (start gates : ℕ) (name : List ℕ) → command_of h.words ≡ Some c → c ≡ Bench start gates name
+    → ReachesFor h name 0
+Reaches-drawn h c start gates name asked is = (
+  record {
+    command = Bench start gates name;
+    asked = asked ∙ ap (λ x. Some x) is;
+    wants = refl;
+    qubits = 0;
+    needs = refl;
+  },
+  refl,
+)
+
+pub IsCause-device : (h : Handed) (name : List ℕ) (n : ℕ) (e : DeviceStop) → ReachesFor h name n
+    → IsDeviceCause (h.content name) n h.shelf_before h.shelf_after e → ((e ≡ device_stop.Failed → ⊥) → h.shelf_after ≡ h.shelf_before)
+    → IsCause h (device_stopped e)
+IsCause-device h name n device_stop.NoMemory route r calm = tt
+IsCause-device h name n device_stop.Failed route r calm = (name, route.0, r)
+IsCause-device h name n device_stop.Absent route r calm = (name, route.0, r, calm (λ f. cc))
+IsCause-device h name n (device_stop.Refused x) route r calm =
+    (name, route.0, subst (λ (m : ℕ). IsRefusedDevice (h.content name) m x) route.1 r, calm (λ f. cc))
 
 delivers : (words : List (List ℕ)) (content : Content) (c : Command) (old new : Option (List ℕ)) (p : Program) (text line : List ℕ)
-    → command_of words ≡ Some c → HasRead old new p → IsAnswer content c p text line → Delivers words content old new text line
-delivers words content c old new p text line asked read answer = record {
+    → command_of words ≡ Some c → IsHad (reads_input c) old new p → IsAnswer content c p text line → Delivers words content old new text line
+delivers words content c old new p text line asked had answer = record {
   command = c;
   asked = asked;
-  source_text = read.0;
-  consumed = read.1;
   source = p;
-  accepted = read.2;
+  had = had;
   answer = answer;
 }
 
@@ -147,6 +166,28 @@ Delivers-routed words content c name trivial old new p d n text line asked is re
       };
     })
 
+pub Delivers-drawn : (words : List (List ℕ)) (content : Content) (c : Command) (start gates : ℕ) (name : List ℕ) (old new : Option (List ℕ)) (p : Program)
+    (d : Coupling) (n : ℕ) (text line : List ℕ)
+    → command_of words ≡ Some c → c ≡ Bench start gates name
+    → (t : List ℕ) × TellsText (content name) t × IsDevice t d × (n ≤ d.size)
+    → p ≡ drawn_program start gates d.size → Rewrites p (IsOnQubits d false p) text line → Delivers words content old new text line
+Delivers-drawn words content c start gates name old new p d n text line asked is loaded drawn made =
+    delivers words content (Bench start gates name) old new p text line (asked ∙ ap (λ x. Some x) is) tt (record {
+      target = made.target;
+      told = made.told;
+      made = made.made;
+      placed = (
+        record {
+          device_text = loaded.0;
+          loaded = loaded.1;
+          device = d;
+          described = loaded.2;
+          routed = made.placed;
+        },
+        drawn ∙ ap (λ k. drawn_program start gates k) (sym made.placed.qubits),
+      );
+    })
+
 -- ---- the status of a stop
 pub stopped-no_command : (h : Handed) (s : Stop) (n : ℕ) → IsCause h s → Ends s n → n ≡ 2 → command_of h.words ≡ None
 stopped-no_command h stop.NoMemory n c e two = absurd (grind arith)
@@ -180,27 +221,39 @@ told_text : (input : Option (List ℕ)) (t text : List ℕ) → input ≡ Some t
 told_text None t text e h = cc
 told_text (Some x) t text e h = cc
 
-refused_or_accepted : NoRefusal → (input : Option (List ℕ)) (t : List ℕ) (p : Program) (r : Refusal) → input ≡ Some t → IsAccepted t p → IsRefusedSource input r → ⊥
-refused_or_accepted law input t p r e a (text, tells, refusal) =
-    let same = told_text input t text e tells in
-    law t p r a (rw same at refusal)
+-- a program that is read and needs qubits isn't refused
+refused_or_needed : NoRefusal → (input : Option (List ℕ)) (b : Bool) (n : ℕ) (r : Refusal) → b ≡ true → NeedsQubits b (λ t. input ≡ Some t) n
+    → IsRefusedSource input r → ⊥
+refused_or_needed law input true n r reads (t, p, told, ok, wires) (text, tells, refusal) =
+    let same = told_text input t text told tells in
+    law t p r ok (rw same at refusal)
+refused_or_needed law input false n r reads needs refused = cc
 
--- a program that is reached isn't refused
-reached_or_refused : NoRefusal → (h : Handed) (name t : List ℕ) (r : Refusal) → Reaches h name → h.input ≡ Some t → IsRefusal t r → ⊥
-reached_or_refused law h name t r route e refusal =
-    let same = told_text h.input t route.text e route.told in
-    let ok : IsAccepted t route.source = rw same at route.accepted in
-    law t route.source r ok refusal
+-- nor is one with which a device is reached
+needed_or_refused : NoRefusal → (input : Option (List ℕ)) (b : Bool) (n : ℕ) (t : List ℕ) (r : Refusal) → b ≡ true → NeedsQubits b (Tells input) n
+    → input ≡ Some t → IsRefusal t r → ⊥
+needed_or_refused law input true n t r reads (text, p, tells, ok, wires) told refusal =
+    let same = told_text input t text told tells in
+    let here : IsAccepted t p = rw same at ok in
+    law t p r here refusal
+needed_or_refused law input false n t r reads needs told refusal = cc
+
+reached_or_refused : NoRefusal → (h : Handed) (a : Command) (name t : List ℕ) (r : Refusal) → Reaches h name → command_of h.words ≡ Some a
+    → reads_input a ≡ true → h.input ≡ Some t → IsRefusal t r → ⊥
+reached_or_refused law h a name t r route asked reads told refusal =
+    let same = same_command h.words a route.command asked route.asked in
+    let read : reads_input route.command ≡ true = subst (λ x. reads_input x ≡ true) same reads in
+    needed_or_refused law h.input (reads_input route.command) route.qubits t r read route.needs told refusal
 
 pub stopped-refuses : NoRefusal → (h : Handed) (s : Stop) (n : ℕ) (a : Command) (t : List ℕ) (r : Refusal) → IsCause h s → Ends s n → command_of h.words ≡ Some a
-    → h.input ≡ Some t → IsRefusal t r → (Rose h.faults_before h.faults_after → ⊥) → (n ≡ 3) ⊎ (n ≡ 7)
-stopped-refuses law h stop.NoMemory n a t r c e asked told is calm = inr (grind arith)
-stopped-refuses law h stop.Words n a t r c e asked told is calm = cc
-stopped-refuses law h stop.Input n a t r c e asked told is calm = absurd (calm c.1)
-stopped-refuses law h (stop.Program x) n a t r c e asked told is calm = grind arith
-stopped-refuses law h stop.Shelf n a t r c e asked told is calm = absurd (reached_or_refused law h c.0 t r c.1 told is)
-stopped-refuses law h stop.Absent n a t r c e asked told is calm = absurd (reached_or_refused law h c.0 t r c.1 told is)
-stopped-refuses law h (stop.Device x) n a t r c e asked told is calm = absurd (reached_or_refused law h c.0 t r c.1 told is)
+    → reads_input a ≡ true → h.input ≡ Some t → IsRefusal t r → (Rose h.faults_before h.faults_after → ⊥) → (n ≡ 3) ⊎ (n ≡ 7)
+stopped-refuses law h stop.NoMemory n a t r c e asked reads told is calm = inr (grind arith)
+stopped-refuses law h stop.Words n a t r c e asked reads told is calm = cc
+stopped-refuses law h stop.Input n a t r c e asked reads told is calm = absurd (calm c.1)
+stopped-refuses law h (stop.Program x) n a t r c e asked reads told is calm = grind arith
+stopped-refuses law h stop.Shelf n a t r c e asked reads told is calm = absurd (reached_or_refused law h a c.0 t r c.1 asked reads told is)
+stopped-refuses law h stop.Absent n a t r c e asked reads told is calm = absurd (reached_or_refused law h a c.0 t r c.1 asked reads told is)
+stopped-refuses law h (stop.Device x) n a t r c e asked reads told is calm = absurd (reached_or_refused law h a c.0 t r c.1 asked reads told is)
 
 -- ---- the device that is asked for
 written_of : (text : List ℕ) (p : Program) → IsAccepted text p → IsWritten text p
@@ -208,17 +261,33 @@ written_of text p a = (a.tree, a.source, a.means)
 
 same_name : (h : Handed) (name : List ℕ) (c : Command) → (route : Reaches h name) → command_of h.words ≡ Some c → device_name c ≡ Some name
 same_name h name c route asked =
-    let same : route.command ≡ c = some_same route.command c (sym route.asked ∙ asked) in
-    subst (λ x. device_name x ≡ Some name) same route.wants
-  where
-    some_same : (x y : Command) → Some x ≡ Some y → x ≡ y
-    some_same x y e = cc
+    subst (λ x. device_name x ≡ Some name) (same_command h.words route.command c route.asked asked) route.wants
 
-same_source : MeansOnce → (h : Handed) (name t : List ℕ) (p : Program) (route : Reaches h name) → h.input ≡ Some t → IsAccepted t p → route.source ≡ p
-same_source once h name t p route e a =
-    let same = told_text h.input t route.text e route.told in
-    let ok : IsAccepted t route.source = rw same at route.accepted in
-    once t route.source p (written_of t route.source ok) (written_of t p a)
+-- a program needs one number of qubits
+same_needs : MeansOnce → (input : Option (List ℕ)) (b : Bool) (m n : ℕ) → NeedsQubits b (Tells input) m → NeedsQubits b (λ t. input ≡ Some t) n → m ≡ n
+same_needs once input true m n (t, p, tells, ok, wires) (u, q, told, good, size) =
+    let same = told_text input u t told tells in
+    let here : IsAccepted u p = rw same at ok in
+    let one = once u p q (written_of u p here) (written_of u q good) in
+    wires ∙ ap (λ (x : Program). x.wires) one ∙ sym size
+same_needs once input false m n zero none = zero ∙ sym none
+
+reached_needs : MeansOnce → (h : Handed) (name : List ℕ) (c : Command) (n : ℕ) (route : Reaches h name) → command_of h.words ≡ Some c
+    → NeedsQubits (reads_input c) (λ t. h.input ≡ Some t) n → route.qubits ≡ n
+reached_needs once h name c n route asked needs =
+    let same = same_command h.words c route.command asked route.asked in
+    let here = subst (λ x. NeedsQubits (reads_input x) (λ t. h.input ≡ Some t) n) same needs in
+    same_needs once h.input (reads_input route.command) route.qubits n route.needs here
+
+-- a program that was had has a wire for each qubit that is needed
+had_needs : MeansOnce → (old new : Option (List ℕ)) (b : Bool) (n : ℕ) (p : Program) → NeedsQubits b (λ t. old ≡ Some t) n → IsHad b old new p → n ≤ p.wires
+had_needs once old new true n p (u, q, told, good, size) (t, taken, ok) =
+    let same = told_text old u t told (Tells-taken old new t taken) in
+    let here : IsAccepted u p = rw same at ok in
+    let one = once u p q (written_of u p here) (written_of u q good) in
+    let wires = ap (λ (x : Program). x.wires) one in
+    omega (arith, size, wires)
+had_needs once old new false n p none had = omega (arith, none)
 
 absent_or_told : (o : Option (Option (List ℕ))) (t : List ℕ) → o ≡ Some (Some t) → HasNoText o → ⊥
 absent_or_told None t e h = cc
@@ -236,50 +305,46 @@ same_device : (name other : List ℕ) (o : Option (List ℕ)) → o ≡ Some nam
 same_device name other o e f = cc
 
 -- what is asked of a command: its words, its input, and counts that didn't rise
-pub record IsAsked (h : Handed) (c : Command) (p : Program) : Type 0 where
+pub record IsAsked (h : Handed) (c : Command) (q : ℕ) : Type 0 where
   pub asked : command_of h.words ≡ Some c
-  pub text : List ℕ
-  pub told : h.input ≡ Some text
-  pub accepted : IsAccepted text p
+  pub needs : NeedsQubits (reads_input c) (λ t. h.input ≡ Some t) q
   pub calm : Rose h.faults_before h.faults_after → ⊥
   pub shelf_calm : is_some (device_name c) ≡ true → Rose h.shelf_before h.shelf_after → ⊥
 
-pub asked_of : (h : Handed) (c : Command) (text : List ℕ) (p : Program) → command_of h.words ≡ Some c
-    → h.input ≡ Some text → IsAccepted text p → (Rose h.faults_before h.faults_after → ⊥)
-    → (is_some (device_name c) ≡ true → Rose h.shelf_before h.shelf_after → ⊥) → IsAsked h c p
-asked_of h c text p asked told ok calm shelf_calm =
-    record { asked = asked; text = text; told = told; accepted = ok; calm = calm; shelf_calm = shelf_calm }
+pub asked_of : (h : Handed) (c : Command) (q : ℕ) → command_of h.words ≡ Some c → NeedsQubits (reads_input c) (λ t. h.input ≡ Some t) q
+    → (Rose h.faults_before h.faults_after → ⊥) → (is_some (device_name c) ≡ true → Rose h.shelf_before h.shelf_after → ⊥) → IsAsked h c q
+asked_of h c q asked needs calm shelf_calm = record { asked = asked; needs = needs; calm = calm; shelf_calm = shelf_calm }
 
 wanted : (o : Option (List ℕ)) (name : List ℕ) → o ≡ Some name → is_some o ≡ true
 wanted None name e = cc
 wanted (Some x) name e = refl
 
 -- a stop that isn't for the device is want of memory
-stopped_early : NoRefusal → (h : Handed) (s : Stop) (n : ℕ) (c : Command) (p : Program) → IsCause h s → Ends s n → IsAsked h c p
+stopped_early : NoRefusal → (h : Handed) (s : Stop) (n : ℕ) (c : Command) (q : ℕ) → IsCause h s → Ends s n → IsAsked h c q
     → (s ≡ stop.Absent → ⊥) → ((r : DeviceRefusal) → s ≡ stop.Device r → ⊥) → n ≡ 7
-stopped_early law h stop.NoMemory n c p w e a absent refused = grind arith
-stopped_early law h stop.Words n c p w e a absent refused = let asked = a.asked in cc
-stopped_early law h stop.Input n c p w e a absent refused = absurd (a.calm w.1)
-stopped_early law h (stop.Program r) n c p w e a absent refused = absurd (refused_or_accepted law h.input a.text p r a.told a.accepted w.1)
-stopped_early law h stop.Shelf n c p w e a absent refused =
+stopped_early law h stop.NoMemory n c q w e a absent refused = grind arith
+stopped_early law h stop.Words n c q w e a absent refused = let asked = a.asked in cc
+stopped_early law h stop.Input n c q w e a absent refused = absurd (a.calm w.1)
+stopped_early law h (stop.Program r) n c q w e a absent refused =
+    absurd (refused_or_needed law h.input (reads_input c) q r (reads_same h c w.0 a.asked) a.needs w.1)
+stopped_early law h stop.Shelf n c q w e a absent refused =
     absurd (a.shelf_calm (wanted (device_name c) w.0 (same_name h w.0 c w.1 a.asked)) w.2)
-stopped_early law h stop.Absent n c p w e a absent refused = absurd (absent refl)
-stopped_early law h (stop.Device r) n c p w e a absent refused = absurd (refused r refl)
+stopped_early law h stop.Absent n c q w e a absent refused = absurd (absent refl)
+stopped_early law h (stop.Device r) n c q w e a absent refused = absurd (refused r refl)
 
 -- the text of the device that is asked for
-told_device : MeansOnce → (h : Handed) (c : Command) (name t : List ℕ) (p : Program) (r : DeviceRefusal) → IsCause h (stop.Device r) → IsAsked h c p
-    → device_name c ≡ Some name → h.content name ≡ Some (Some t) → IsDeviceRefusal t p.wires r
-told_device once h c name t p r (other, route, (u, tells, refusal), calm) a wants here =
+told_device : MeansOnce → (h : Handed) (c : Command) (name t : List ℕ) (q : ℕ) (r : DeviceRefusal) → IsCause h (stop.Device r) → IsAsked h c q
+    → device_name c ≡ Some name → h.content name ≡ Some (Some t) → IsDeviceRefusal t q r
+told_device once h c name t q r (other, route, (u, tells, refusal), calm) a wants here =
     let names = same_device name other (device_name c) wants (same_name h other c route a.asked) in
     let there : h.content other ≡ Some (Some t) = rw (← names) here in
     let same = device_text (h.content other) t u there tells in
-    let source = same_source once h other a.text p route a.told a.accepted in
-    let refused : IsDeviceRefusal t route.source.wires r = rw same at refusal in
-    subst (λ (q : Program). IsDeviceRefusal t q.wires r) source refused
+    let refused : IsDeviceRefusal t route.qubits r = rw same at refusal in
+    subst (λ m. IsDeviceRefusal t m r) (reached_needs once h other c q route a.asked a.needs) refused
 
-told_absent : (h : Handed) (c : Command) (name t : List ℕ) (p : Program) → IsCause h stop.Absent → IsAsked h c p → device_name c ≡ Some name
+told_absent : (h : Handed) (c : Command) (name t : List ℕ) (q : ℕ) → IsCause h stop.Absent → IsAsked h c q → device_name c ≡ Some name
     → h.content name ≡ Some (Some t) → ⊥
-told_absent h c name t p (other, route, none, calm) a wants here =
+told_absent h c name t q (other, route, none, calm) a wants here =
     let names = same_device name other (device_name c) wants (same_name h other c route a.asked) in
     absent_or_told (h.content other) t (rw (← names) here) none
 
@@ -293,11 +358,11 @@ by_stop stop.Shelf = inr (inr ((λ e. cc), (λ r e. cc)))
 by_stop (stop.Program x) = inr (inr ((λ e. cc), (λ r e. cc)))
 
 -- the name of a device that a stop speaks of is one that the command wants
-absent_wants : (h : Handed) (c : Command) (p : Program) → IsCause h stop.Absent → IsAsked h c p → (name : List ℕ) × (device_name c ≡ Some name)
-absent_wants h c p (name, route, none, calm) a = (name, same_name h name c route a.asked)
+absent_wants : (h : Handed) (c : Command) (q : ℕ) → IsCause h stop.Absent → IsAsked h c q → (name : List ℕ) × (device_name c ≡ Some name)
+absent_wants h c q (name, route, none, calm) a = (name, same_name h name c route a.asked)
 
-device_wants : (h : Handed) (c : Command) (p : Program) (r : DeviceRefusal) → IsCause h (stop.Device r) → IsAsked h c p → (name : List ℕ) × (device_name c ≡ Some name)
-device_wants h c p r (name, route, refused, calm) a = (name, same_name h name c route a.asked)
+device_wants : (h : Handed) (c : Command) (q : ℕ) (r : DeviceRefusal) → IsCause h (stop.Device r) → IsAsked h c q → (name : List ℕ) × (device_name c ≡ Some name)
+device_wants h c q r (name, route, refused, calm) a = (name, same_name h name c route a.asked)
 
 has_device : (content : Content) (o : Option (List ℕ)) (name : List ℕ) (n : ℕ) → HasDevice content o n → o ≡ Some name
     → (text : List ℕ) × (d : Coupling) × (content name ≡ Some (Some text)) × IsDevice text d × (n ≤ d.size)
@@ -305,36 +370,36 @@ has_device content None name n has e = cc
 has_device content (Some other) name n has e = let same : other ≡ name = cc in subst (λ x. HasDevice content (Some x) n) same has
 
 -- a command whose input is accepted and whose device, if it wants one, has room
-pub stopped-complete : NoRefusal → MeansOnce → (h : Handed) (s : Stop) (n : ℕ) (c : Command) (p : Program) → IsCause h s → Ends s n → IsAsked h c p
-    → HasDevice h.content (device_name c) p.wires → (n ≡ 0) ⊎ (n ≡ 7)
-stopped-complete law once h s n c p w e a has = elim (by_stop s) [
+pub stopped-complete : NoRefusal → MeansOnce → (h : Handed) (s : Stop) (n : ℕ) (c : Command) (q : ℕ) → IsCause h s → Ends s n → IsAsked h c q
+    → HasDevice h.content (device_name c) q → (n ≡ 0) ⊎ (n ≡ 7)
+stopped-complete law once h s n c q w e a has = elim (by_stop s) [
   | inl absent ↦ absurd (not_absent (subst (IsCause h) absent w))
   | inr others ↦ elim others [
     | inl refused ↦ absurd (not_refused refused.0 (subst (IsCause h) refused.1 w))
-    | inr early ↦ inr (stopped_early law h s n c p w e a early.0 early.1)
+    | inr early ↦ inr (stopped_early law h s n c q w e a early.0 early.1)
   ]
 ]
   where
     not_absent : IsCause h stop.Absent → ⊥
     not_absent x =
-        let wants = absent_wants h c p x a in
-        let device = has_device h.content (device_name c) wants.0 p.wires has wants.1 in
-        told_absent h c wants.0 device.0 p x a wants.1 device.2
+        let wants = absent_wants h c q x a in
+        let device = has_device h.content (device_name c) wants.0 q has wants.1 in
+        told_absent h c wants.0 device.0 q x a wants.1 device.2
 
     not_refused : (r : DeviceRefusal) → IsCause h (stop.Device r) → ⊥
     not_refused r x =
-        let wants = device_wants h c p r x a in
-        let device = has_device h.content (device_name c) wants.0 p.wires has wants.1 in
-        IsDevice-refused device.0 device.1 p.wires r device.3 device.4 (told_device once h c wants.0 device.0 p r x a wants.1 device.2)
+        let wants = device_wants h c q r x a in
+        let device = has_device h.content (device_name c) wants.0 q has wants.1 in
+        IsDevice-refused device.0 device.1 q r device.3 device.4 (told_device once h c wants.0 device.0 q r x a wants.1 device.2)
 
 -- a command on a device whose text is refused
-pub stopped-refuses_device : NoRefusal → (h : Handed) (s : Stop) (n : ℕ) (c : Command) (name t : List ℕ) (p : Program) → IsCause h s → Ends s n → IsAsked h c p
+pub stopped-refuses_device : NoRefusal → (h : Handed) (s : Stop) (n : ℕ) (c : Command) (name t : List ℕ) (q : ℕ) → IsCause h s → Ends s n → IsAsked h c q
     → device_name c ≡ Some name → h.content name ≡ Some (Some t) → (n ≡ 4) ⊎ (n ≡ 7)
-stopped-refuses_device law h s n c name t p w e a wants here = elim (by_stop s) [
-  | inl absent ↦ absurd (told_absent h c name t p (subst (IsCause h) absent w) a wants here)
+stopped-refuses_device law h s n c name t q w e a wants here = elim (by_stop s) [
+  | inl absent ↦ absurd (told_absent h c name t q (subst (IsCause h) absent w) a wants here)
   | inr others ↦ elim others [
     | inl refused ↦ four n refused.0 (subst (λ x. Ends x n) refused.1 e)
-    | inr early ↦ inr (stopped_early law h s n c p w e a early.0 early.1)
+    | inr early ↦ inr (stopped_early law h s n c q w e a early.0 early.1)
   ]
 ]
   where
@@ -343,13 +408,13 @@ stopped-refuses_device law h s n c name t p w e a wants here = elim (by_stop s) 
     four m r (inr x) = inl x
 
 -- a command on a device of which the shelf has no text
-pub stopped-absent : NoRefusal → (h : Handed) (s : Stop) (n : ℕ) (c : Command) (name : List ℕ) (p : Program) → IsCause h s → Ends s n → IsAsked h c p
+pub stopped-absent : NoRefusal → (h : Handed) (s : Stop) (n : ℕ) (c : Command) (name : List ℕ) (q : ℕ) → IsCause h s → Ends s n → IsAsked h c q
     → device_name c ≡ Some name → h.content name ≡ Some None → (n ≡ 9) ⊎ (n ≡ 7)
-stopped-absent law h s n c name p w e a wants here = elim (by_stop s) [
+stopped-absent law h s n c name q w e a wants here = elim (by_stop s) [
   | inl absent ↦ nine n (subst (λ x. Ends x n) absent e)
   | inr others ↦ elim others [
     | inl refused ↦ absurd (no_text refused.0 (subst (IsCause h) refused.1 w))
-    | inr early ↦ inr (stopped_early law h s n c p w e a early.0 early.1)
+    | inr early ↦ inr (stopped_early law h s n c q w e a early.0 early.1)
   ]
 ]
   where
@@ -379,18 +444,27 @@ came w n (inr (inr (inr eight))) done failed told = inr (told eight)
 abbrev pub DeliversWork : List (List ℕ) → Content → Option (List ℕ) → Option (List ℕ) → Work → Type 0
 DeliversWork words content old new w = (text line : List ℕ) → IsWork w text line → Delivers words content old new text line
 
-refused_or_delivered : NoRefusal → (words : List (List ℕ)) (content : Content) (old new : Option (List ℕ)) (x l text : List ℕ) (r : Refusal)
-    → Delivers words content old new x l → old ≡ Some text → IsRefusal text r → ⊥
-refused_or_delivered law words content old new x l text r d told refusal =
-    let same = told_text old text d.source_text told (Tells-taken old new d.source_text d.consumed) in
-    let ok : IsAccepted text d.source = rw same at d.accepted in
-    law text d.source r ok refusal
+refused_or_had : NoRefusal → (old new : Option (List ℕ)) (b : Bool) (p : Program) (text : List ℕ) (r : Refusal) → b ≡ true → IsHad b old new p
+    → old ≡ Some text → IsRefusal text r → ⊥
+refused_or_had law old new true p text r reads (t, taken, accepted) told refusal =
+    let same = told_text old text t told (Tells-taken old new t taken) in
+    let ok : IsAccepted text p = rw same at accepted in
+    law text p r ok refusal
+refused_or_had law old new false p text r reads had told refusal = cc
 
-pub planned-refuses : NoRefusal → (words : List (List ℕ)) (content : Content) (old new : Option (List ℕ)) (w : Work) (n : ℕ) (text : List ℕ) (r : Refusal)
-    → DeliversWork words content old new w → Came w n → old ≡ Some text → IsRefusal text r → (n ≡ 3) ⊎ (n ≡ 7)
-planned-refuses law words content old new w n text r delivers (inl seven) told refusal = inr seven
-planned-refuses law words content old new w n text r delivers (inr (x, l, is)) told refusal =
-    absurd (refused_or_delivered law words content old new x l text r (delivers x l is) told refusal)
+refused_or_delivered : NoRefusal → (words : List (List ℕ)) (content : Content) (old new : Option (List ℕ)) (x l text : List ℕ) (r : Refusal) (c : Command)
+    → Delivers words content old new x l → command_of words ≡ Some c → reads_input c ≡ true → old ≡ Some text → IsRefusal text r → ⊥
+refused_or_delivered law words content old new x l text r c d asked reads told refusal =
+    let same = same_command words c d.command asked d.asked in
+    let read : reads_input d.command ≡ true = subst (λ y. reads_input y ≡ true) same reads in
+    refused_or_had law old new (reads_input d.command) d.source text r read d.had told refusal
+
+pub planned-refuses : NoRefusal → (words : List (List ℕ)) (content : Content) (old new : Option (List ℕ)) (w : Work) (n : ℕ) (text : List ℕ) (r : Refusal) (c : Command)
+    → DeliversWork words content old new w → Came w n → command_of words ≡ Some c → reads_input c ≡ true → old ≡ Some text → IsRefusal text r
+    → (n ≡ 3) ⊎ (n ≡ 7)
+planned-refuses law words content old new w n text r c delivers (inl seven) asked reads told refusal = inr seven
+planned-refuses law words content old new w n text r c delivers (inr (x, l, is)) asked reads told refusal =
+    absurd (refused_or_delivered law words content old new x l text r c (delivers x l is) asked reads told refusal)
 
 -- what is delivered for a command that loads a device comes of the text of its device
 answer_on : (content : Content) (name : List ℕ) (c : Command) (source : Program) (x l : List ℕ) → device_name c ≡ Some name → IsAnswer content c source x l
@@ -400,15 +474,20 @@ answer_on content name (Route other trivial) source x l wants answer =
     let same : other ≡ name = cc in (trivial, subst (λ y. Rewrites source (IsOnDevice content y trivial source) x l) same answer)
 answer_on content name Check source x l wants answer = cc
 answer_on content name Stages source x l wants answer = cc
+answer_on content name (Bench start gates other) source x l wants answer =
+    let same : other ≡ name = cc in
+    (false, record {
+      target = answer.target;
+      told = answer.told;
+      made = answer.made;
+      placed = subst (λ y. IsOnDevice content y false source answer.target answer.told) same answer.placed.0;
+    })
 
 planned_on : (words : List (List ℕ)) (content : Content) (old new : Option (List ℕ)) (x l name : List ℕ) (c : Command) (d : Delivers words content old new x l)
     → command_of words ≡ Some c → device_name c ≡ Some name → (trivial : Bool) × Rewrites d.source (IsOnDevice content name trivial d.source) x l
 planned_on words content old new x l name c d asked wants =
-    let same : c ≡ d.command = some_same c d.command (sym asked ∙ d.asked) in
+    let same = same_command words c d.command asked d.asked in
     answer_on content name d.command d.source x l (subst (λ y. device_name y ≡ Some name) same wants) d.answer
-  where
-    some_same : (a b : Command) → Some a ≡ Some b → a ≡ b
-    some_same a b e = cc
 
 pub planned-absent : (words : List (List ℕ)) (content : Content) (old new : Option (List ℕ)) (w : Work) (n : ℕ) (name : List ℕ) (c : Command)
     → DeliversWork words content old new w → Came w n → command_of words ≡ Some c → device_name c ≡ Some name → content name ≡ Some None
@@ -418,26 +497,26 @@ planned-absent words content old new w n name c delivers (inr (x, l, is)) asked 
     let on = planned_on words content old new x l name c (delivers x l is) asked wants in
     absurd (absent_text (content name) on.1.placed.device_text none on.1.placed.loaded)
 
-refused_or_routed : MeansOnce → (words : List (List ℕ)) (content : Content) (old new : Option (List ℕ)) (x l name : List ℕ) (c : Command) (text t : List ℕ)
-    (p : Program) (r : DeviceRefusal) → Delivers words content old new x l → command_of words ≡ Some c → device_name c ≡ Some name → old ≡ Some text
-    → IsAccepted text p → content name ≡ Some (Some t) → IsDeviceRefusal t p.wires r → ⊥
-refused_or_routed once words content old new x l name c text t p r d asked wants told ok here refusal =
+refused_or_routed : MeansOnce → (words : List (List ℕ)) (content : Content) (old new : Option (List ℕ)) (x l name : List ℕ) (c : Command) (t : List ℕ)
+    (q : ℕ) (r : DeviceRefusal) → Delivers words content old new x l → command_of words ≡ Some c → device_name c ≡ Some name
+    → NeedsQubits (reads_input c) (λ u. old ≡ Some u) q → content name ≡ Some (Some t) → IsDeviceRefusal t q r → ⊥
+refused_or_routed once words content old new x l name c t q r d asked wants needs here refusal =
     let on = planned_on words content old new x l name c d asked wants in
     let placed = on.1.placed in
     let same = device_text (content name) t placed.device_text here placed.loaded in
     let described : IsDevice t placed.device = rw same at placed.described in
-    let texts = told_text old text d.source_text told (Tells-taken old new d.source_text d.consumed) in
-    let accepted : IsAccepted text d.source = rw texts at d.accepted in
-    let source = once text d.source p (written_of text d.source accepted) (written_of text p ok) in
+    let there = subst (λ y. NeedsQubits (reads_input y) (λ u. old ≡ Some u) q) (same_command words c d.command asked d.asked) needs in
+    let wires = had_needs once old new (reads_input d.command) q d.source there d.had in
     let fits : d.source.wires ≤ placed.device.size = rw (← placed.routed.qubits) on.1.made.unitary.fits in
-    IsDevice-refused t placed.device p.wires r described (subst (λ (q : Program). q.wires ≤ placed.device.size) source fits) refusal
+    IsDevice-refused t placed.device q r described (omega (arith, wires, fits)) refusal
 
 pub planned-refuses_device : MeansOnce → (words : List (List ℕ)) (content : Content) (old new : Option (List ℕ)) (w : Work) (n : ℕ) (name : List ℕ) (c : Command)
-    (text t : List ℕ) (p : Program) (r : DeviceRefusal) → DeliversWork words content old new w → Came w n → command_of words ≡ Some c
-    → device_name c ≡ Some name → old ≡ Some text → IsAccepted text p → content name ≡ Some (Some t) → IsDeviceRefusal t p.wires r → (n ≡ 4) ⊎ (n ≡ 7)
-planned-refuses_device once words content old new w n name c text t p r delivers (inl seven) asked wants told ok here refusal = inr seven
-planned-refuses_device once words content old new w n name c text t p r delivers (inr (x, l, is)) asked wants told ok here refusal =
-    absurd (refused_or_routed once words content old new x l name c text t p r (delivers x l is) asked wants told ok here refusal)
+    (t : List ℕ) (q : ℕ) (r : DeviceRefusal) → DeliversWork words content old new w → Came w n → command_of words ≡ Some c
+    → device_name c ≡ Some name → NeedsQubits (reads_input c) (λ u. old ≡ Some u) q → content name ≡ Some (Some t) → IsDeviceRefusal t q r
+    → (n ≡ 4) ⊎ (n ≡ 7)
+planned-refuses_device once words content old new w n name c t q r delivers (inl seven) asked wants needs here refusal = inr seven
+planned-refuses_device once words content old new w n name c t q r delivers (inr (x, l, is)) asked wants needs here refusal =
+    absurd (refused_or_routed once words content old new x l name c t q r (delivers x l is) asked wants needs here refusal)
 
 -- ---- stops by their statuses
 pub same_stop : {T : Type 0} (r : Result T Stop) (s t : Stop) → r ≡ Err s → r ≡ Err t → s ≡ t
@@ -487,6 +566,3 @@ pub Delivered-done : (words : List (List ℕ)) (content : Content) (old new : Op
     → DeliversWork words content old new w → HasWork w Done
     → Delivered words content old new Done
 Delivered-done words content old new w Done delivers (text, line, is, done) = (text, line, delivers text line is, done)
-
-pub no_reader : (c : Command) → reads_input c ≡ false → ⊥
-no_reader c unread = let h : true ≡ false = sym (reads_all c) ∙ unread in cc

@@ -1,7 +1,7 @@
 -- Why a run ends before its first byte goes out.
 --   Handed                what the program is handed, and its counts of faults at the entry and at the return
 --   Reads h               the words mean a command that reads the input
---   Reaches h name        they mean a command that loads the device of this name, and the program that it works on is accepted
+--   Reaches h name        they mean a command that loads the device of this name, and where it reads a program, that is accepted
 --   IsRefusedSource input r   the input has a text, the told one where one is told, and r is its first refusal
 --   IsRefusedDevice ..    the same of the text of a device, for a program on n wires
 --   IsCause h s           the stop s has its cause; want of memory is free
@@ -20,7 +20,6 @@ use Rattle.route_report.specs.declared.faults.Fault.{Fault}
 use Rattle.route_report.specs.declared.faults.Fault.TheVariants as fault
 use Rattle.route_report.specs.Faults.{fault_line, status_of}
 use Rattle.gate_inline.specs.Inlined.{code as inline_code}
-use Rattle.gate_inline.specs.Programs.{IsAccepted, Program}
 use Rattle.qasm_check.specs.Refusals.{code as check_code}
 use Rattle.program_reader.specs.Refusals.{IsRefusal}
 use Rattle.program_reader.specs.declared.refusal.Refusal.{Refusal}
@@ -37,7 +36,7 @@ use Rattle.qroute_top.specs.declared.stops.SourceStop.TheVariants as source_stop
 use Rattle.qroute_top.specs.declared.stops.Stop.{Stop}
 use Rattle.qroute_top.specs.declared.stops.Stop.TheVariants as stop
 use Rattle.qroute_top.specs.Delivered.{Content}
-use Rattle.qroute_top.specs.Devices.{IsDeviceRefusal}
+use Rattle.qroute_top.specs.Devices.{IsDeviceRefusal, NeedsQubits}
 
 pub record Handed : Type 0 where
   pub words : List (List ℕ)
@@ -57,10 +56,8 @@ pub record Reaches (h : Handed) (name : List ℕ) : Type 0 where
   pub command : Command
   pub asked : command_of h.words ≡ Some command
   pub wants : device_name command ≡ Some name
-  pub text : List ℕ
-  pub told : Tells h.input text
-  pub source : Program
-  pub accepted : IsAccepted text source
+  pub qubits : ℕ
+  pub needs : NeedsQubits (reads_input command) (Tells h.input) qubits
 
 abbrev pub IsRefusedSource : Option (List ℕ) → Refusal → Type 0
 IsRefusedSource input r = (text : List ℕ) × Tells input text × IsRefusal text r
@@ -75,7 +72,7 @@ IsCause h stop.Input = Reads h × Rose h.faults_before h.faults_after
 IsCause h (stop.Program r) = Reads h × IsRefusedSource h.input r
 IsCause h stop.Shelf = (name : List ℕ) × Reaches h name × Rose h.shelf_before h.shelf_after
 IsCause h stop.Absent = (name : List ℕ) × Reaches h name × HasNoText (h.content name) × (h.shelf_after ≡ h.shelf_before)
-IsCause h (stop.Device r) = (name : List ℕ) × (asked : Reaches h name) × IsRefusedDevice (h.content name) asked.source.wires r
+IsCause h (stop.Device r) = (name : List ℕ) × (asked : Reaches h name) × IsRefusedDevice (h.content name) asked.qubits r
     × (h.shelf_after ≡ h.shelf_before)
 
 -- why reading the program stops

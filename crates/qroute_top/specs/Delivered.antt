@@ -5,13 +5,16 @@
 --   Makes source target r ..    the text and the report line are right for a source: the target is the source, up to the
 --                               reported power of w and the reported placements
 --   Rewrites source P ..        there is such a target, and of its qubits, placements and edges P holds
---   IsInPlace, IsOnDevice       this P for `opt` and `route`;  IsOnQubits: for a device that is known
+--   IsInPlace, IsOnDevice       this P for `opt`, and for `route` and `bench`;  IsOnQubits: for a device that is known
 --   counts_of source            what `check` tells of a program
 --   IsStages source text        what `stages` writes of it: the lines of the layers of its gates
 --   IsAnswer content c source ..   the text and the line are what the command asks for
---   Delivers words content ..   the same for the text that the input had left, which was taken whole
+--   drawn_program start gates n   the program of `bench`: so many gates on n wires, drawn from a start; no bit, and no barrier
+--   IsHad reads input after source   where the program comes from: the accepted text that the input had left, which was taken
+--                               whole, or where no input is read the words alone
+--   Delivers words content ..   the words mean a command, and the text and the line are its answer for such a program
 --   Delivered ..                some text and line are so, and this was done with them
-use Rattle.std.specs.Prelude.{◌≡◌, ℕ, ◌+◌, ◌*◌, ◌≤◌, Bool, true, List, [], Option, Some, All, length, map, option_map, slice_index}
+use Rattle.std.specs.Prelude.{◌≡◌, ℕ, ◌+◌, ◌*◌, ◌≤◌, Bool, true, false, List, [], Option, Some, All, length, map, option_map, slice_index}
 use Rattle.outside_io.specs.Bytes.{TakesAll}
 use Rattle.outside_io.specs.Shelf.{TellsText}
 use Rattle.coupling_map.specs.Coupling.{Coupling}
@@ -23,13 +26,15 @@ use Rattle.unitary_model.specs.Operations.{IsPlain, cx_count, t_count}
 use Rattle.unitary_model.specs.Placement.{identity}
 use Rattle.unitary_model.specs.Realises.{Realises}
 use Rattle.coupling_map.specs.Edges.{FollowsEdges}
+use Rattle.bench_program.specs.Program.{drawn}
 use Rattle.gate_expand.specs.Expansion.{expanded}
 use Rattle.gate_inline.specs.Programs.{IsAccepted, IsWritten, Program}
 use Rattle.layer_stages.specs.Stages.{IsStageText}
 use Rattle.phase_poly.specs.Layers.{layers_of}
 use Rattle.command_words.specs.declared.commands.Command.{Command}
-use Rattle.command_words.specs.declared.commands.Command.TheVariants.{Opt, Route, Check, Stages}
+use Rattle.command_words.specs.declared.commands.Command.TheVariants.{Opt, Route, Check, Stages, Bench}
 use Rattle.command_words.specs.Commands.{command_of}
+use Rattle.command_words.specs.Demands.{reads_input}
 use Rattle.qroute_top.specs.Devices.{IsDevice}
 use Rattle.qroute_top.specs.Runs.{HasFewSwaps, IsMachineRun}
 use Rattle.qroute_top.specs.Settled.{IsSettled}
@@ -108,20 +113,32 @@ counts_of source = record {
 abbrev pub IsStages : Program → List ℕ → Type 0
 IsStages source text = IsStageText source.wires (layers_of (expanded source.ops)) text
 
+abbrev pub drawn_program : ℕ → ℕ → ℕ → Program
+drawn_program start gates n = record {
+  wires = n;
+  ops = drawn start gates n;
+  reads = [];
+  registers = [];
+  barriers = 0;
+}
+
 abbrev pub IsAnswer : Content → Command → Program → List ℕ → List ℕ → Type 0
 IsAnswer content Opt source text line = Rewrites source (IsInPlace source) text line
 IsAnswer content (Route name trivial) source text line = Rewrites source (IsOnDevice content name trivial source) text line
 IsAnswer content Check source text line = (text ≡ []) × (line ≡ check_line (counts_of source))
 IsAnswer content Stages source text line = IsStages source text × (line ≡ [])
+IsAnswer content (Bench start gates name) source text line = Rewrites source
+    (λ target told. IsOnDevice content name false source target told × (source ≡ drawn_program start gates target.wires)) text line
 
--- the words mean a command, the input was read to its end and is accepted, and the text and the line are the answer
+abbrev pub IsHad : Bool → Option (List ℕ) → Option (List ℕ) → Program → Type 0
+IsHad true input after source = (text : List ℕ) × TakesAll input after text × IsAccepted text source
+IsHad false input after source = Unit {0}
+
 pub record Delivers (words : List (List ℕ)) (content : Content) (input after : Option (List ℕ)) (text line : List ℕ) : Type 0 where
   pub command : Command
   pub asked : command_of words ≡ Some command
-  pub source_text : List ℕ
-  pub consumed : TakesAll input after source_text
   pub source : Program
-  pub accepted : IsAccepted source_text source
+  pub had : IsHad (reads_input command) input after source
   pub answer : IsAnswer content command source text line
 
 abbrev pub Delivered : List (List ℕ) → Content → Option (List ℕ) → Option (List ℕ) → (List ℕ → List ℕ → Type 0) → Type 0

@@ -4,10 +4,13 @@
 --   IsDeviceRefusal text n r   r is the first refusal of the text for a program on n wires: its length, or else that it
 --                              describes no device, or else that its device has fewer qubits
 --   HasDevice content o n      where a device of a name is wanted, the shelf has its text, which describes one with n qubits at least
-use Rattle.std.specs.Prelude.{◌≡◌, ℕ, ◌<◌, ◌≤◌, List, Option, Some, None, length}
+--   NeedsQubits reads IsInput n   a command needs n qubits: where it reads the input, as many as the program of an input has
+--                              wires, which is accepted; where it reads none, 0, as its program is made for the device
+use Rattle.std.specs.Prelude.{◌≡◌, ℕ, ◌<◌, ◌≤◌, Bool, true, false, List, Option, Some, None, length}
 use Rattle.coupling_map.specs.Coupling.{Coupling, IsCoupling}
 use Rattle.coupling_map.specs.Refusals.{IsDeviceFault}
 use Rattle.coupling_map.specs.Text.{Says, graph}
+use Rattle.gate_inline.specs.Programs.{IsAccepted, Program}
 use Rattle.qroute_top.specs.declared.stops.DeviceRefusal.{DeviceRefusal}
 use Rattle.qroute_top.specs.declared.stops.DeviceRefusal.TheVariants as device
 
@@ -27,3 +30,7 @@ IsDeviceRefusal text n (device.TooFewQubits size qubits) = (d : Coupling) × IsD
 abbrev pub HasDevice : (List ℕ → Option (Option (List ℕ))) → Option (List ℕ) → ℕ → Type 0
 HasDevice content None n = Unit {0}
 HasDevice content (Some name) n = (text : List ℕ) × (d : Coupling) × (content name ≡ Some (Some text)) × IsDevice text d × (n ≤ d.size)
+
+abbrev pub NeedsQubits : Bool → (List ℕ → Type 0) → ℕ → Type 0
+NeedsQubits true IsInput n = (text : List ℕ) × (p : Program) × IsInput text × IsAccepted text p × (n ≡ p.wires)
+NeedsQubits false IsInput n = n ≡ 0

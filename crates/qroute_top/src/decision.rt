@@ -1,7 +1,7 @@
 //! All that happens before a sink is touched.
 
 ghost use Rattle.std.specs.Prelude.{◌≡◌, ℕ, List, Some, None, Err, true, false, map, IfOk, IfErr};
-ghost use Rattle.command_words.specs.Commands.{command_of};
+ghost use Rattle.command_words.specs.Commands.{IsInRange, command_of};
 ghost use Rattle.command_words.specs.Demands.{device_name, reads_input, writes_out, writes_report};
 ghost use Rattle.command_words.specs.declared.commands.Command.{Command as Asked};
 ghost use Rattle.qroute_top.specs.Causes.{IsCause};
@@ -12,7 +12,7 @@ ghost use Rattle.qroute_top.specs.Stops.{IsUnasked};
 use crate::device::load_device;
 use crate::pipeline::{optimise, route_on};
 use crate::plan::{Work, check_work, stage_work};
-use crate::source::read_source;
+use crate::source::{drawn_source, read_source};
 use crate::stops::Stop;
 use command_words::commands::{Command, WordsFault};
 use command_words::words::command;
@@ -22,6 +22,7 @@ use std::alloc::Global;
 /// The command of the words.
 fn asked(alloc: Global, words: &[&str]) -> Result<Command, Stop>
     ensures ok { IfOk result (λ c. command_of (map (λ w. w.now) words.now) ≡ Some c) }
+    ensures range { IfOk result IsInRange }
     ensures err { IfErr result (IsUnasked (map (λ w. w.now) words.now)) }
 {
     match command(alloc, words) {
@@ -31,7 +32,8 @@ fn asked(alloc: Global, words: &[&str]) -> Result<Command, Stop>
     }
 }
 
-/// Reads the words, the input and the device, and makes what is to be written. No sink is touched.
+/// Reads the words, and what their command asks for of the input and the device, and makes what is to be written. No sink is
+/// touched.
 #[tactic(auto, using(crate::proofs::RunLaws::decided))]
 pub fn decide<I: Input, F: Shelf>(
     alloc: Global,
@@ -56,20 +58,40 @@ pub fn decide<I: Input, F: Shelf>(
     ensures words_only { result ≡ Err Stop.Words → (input.new ≡ input.old) × (shelf.new ≡ shelf.old) }
     ensures shelf_calm { (result ≡ Err Stop.Shelf → ⊥) → F.faults shelf.new ≡ F.faults shelf.old }
     ensures shelf_keeps { (name : List ℕ) → F.content shelf.new name ≡ F.content shelf.old name }
+    ensures no_input { (c : Asked) → command_of (map (λ w. w.now) words.now) ≡ Some c → reads_input c ≡ false → input.new ≡ input.old }
     ensures no_shelf { (c : Asked) → command_of (map (λ w. w.now) words.now) ≡ Some c → device_name c ≡ None → shelf.new ≡ shelf.old }
 {
     let command = asked(alloc, words)?;
-    let source = read_source(alloc, input)?;
     match command {
-        Command::Opt => Ok(optimise(alloc, source)?),
-        Command::Check => Ok(check_work(alloc, &source)?),
-        Command::Stages => Ok(stage_work(alloc, &source)?),
+        Command::Opt => {
+            let source = read_source(alloc, input)?;
+            Ok(optimise(alloc, source)?)
+        }
+        Command::Check => {
+            let source = read_source(alloc, input)?;
+            Ok(check_work(alloc, &source)?)
+        }
+        Command::Stages => {
+            let source = read_source(alloc, input)?;
+            Ok(stage_work(alloc, &source)?)
+        }
         Command::Route {
             device: name,
             trivial,
         } => {
+            let source = read_source(alloc, input)?;
             let device = load_device(alloc, shelf, &name, source.ops.wires)?;
             Ok(route_on(alloc, source, &device, trivial)?)
+        }
+        Command::Bench {
+            start,
+            gates,
+            device: name,
+        } => {
+            // The program is made for the device, so any device has enough qubits.
+            let device = load_device(alloc, shelf, &name, 0)?;
+            let source = drawn_source(alloc, start, gates, device.size())?;
+            Ok(route_on(alloc, source, &device, false)?)
         }
     }
 }

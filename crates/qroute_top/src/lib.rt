@@ -7,9 +7,10 @@
 //! classical bit reads the wire that it read before. On a device each CNOT follows an edge, and what is written is the routing
 //! machine's run, whose swaps are few; on its own wires the program is settled. Each status comes exactly where its cause is.
 //! A text that is refused is told with its place or statement, a device with its reason, and nothing is written then. `check`
-//! tells of a program without writing one, and `stages` writes a line for each layer of its gates.
+//! tells of a program without writing one, and `stages` writes a line for each layer of its gates. `bench` reads none: it routes
+//! one that it draws for the device, gate by gate.
 //!
-//! `source` reads the input, over all of the readers, `device` loads the device of a name, `target` makes the circuit that is
+//! `source` reads the input, over all of the readers, or draws a program, `device` loads the device of a name, `target` makes the circuit that is
 //! to be written, and `plan` all that takes memory, before `emission` writes the first byte. A program goes out in pieces, so
 //! its text never stands whole in memory. What a command asks of its surroundings is told by `command_words`, so that each
 //! clause is said once for all commands.
@@ -19,14 +20,13 @@ ghost use Rattle.std.specs.Prelude.{◌≡◌, ◌⊎◌, ◌≤◌, ℕ, List, 
 ghost use Rattle.outside_io.specs.Bytes.{Gains, GainsPrefix, GainsUnlessFault};
 ghost use Rattle.outside_io.specs.Causes.{Rose};
 ghost use Rattle.route_report.specs.Faults.{fault_line};
-ghost use Rattle.gate_inline.specs.Programs.{IsAccepted, Program};
 ghost use Rattle.program_reader.specs.Refusals.{IsRefusal};
 ghost use Rattle.program_reader.specs.declared.refusal.Refusal.{Refusal as Refused};
 ghost use Rattle.command_words.specs.Commands.{command_of};
 ghost use Rattle.command_words.specs.Demands.{device_name, reads_input, writes_out, writes_report};
 ghost use Rattle.command_words.specs.declared.commands.Command.{Command as Asked};
 ghost use Rattle.qroute_top.specs.declared.stops.DeviceRefusal.{DeviceRefusal as RefusedDevice};
-ghost use Rattle.qroute_top.specs.Devices.{HasDevice, IsDeviceRefusal};
+ghost use Rattle.qroute_top.specs.Devices.{HasDevice, IsDeviceRefusal, NeedsQubits};
 ghost use Rattle.qroute_top.specs.Causes.{EndsWithFault, is_early_fault, output_fault_line};
 ghost use Rattle.qroute_top.specs.Delivered.{Delivered};
 
@@ -47,8 +47,8 @@ mod source;
 mod stops;
 mod target;
 
-/// Runs the command of the words: reads the input, writes the program to `out` and the report line to `report`, and answers
-/// the status that the program ends with.
+/// Runs the command of the words: reads the input, or for `bench` draws a program, writes the program to `out` and the report
+/// line to `report`, and answers the status that the program ends with.
 pub fn run<I: Source, F: Shelf, O: Sink, R: Sink>(
     alloc: Global,
     words: &[&str],
@@ -60,7 +60,7 @@ pub fn run<I: Source, F: Shelf, O: Sink, R: Sink>(
     // No other status comes.
     ensures ends { (result ≡ 0) ⊎ ((result ≡ 6) ⊎ ((result ≡ 7) ⊎ ((result ≡ 8) ⊎ (is_early_fault result ≡ true)))) }
 
-    // 0: what is made for the input is written and reported, and both sinks are flushed.
+    // 0: what is made for the program is written and reported, and both sinks are flushed.
     ensures headline { result ≡ 0 → Delivered (map (λ w. w.now) words.now) (F.content shelf.old) (I.left input.old) (I.left input.new)
         (λ text line. Gains (O.held out.old) (O.held out.new) text × Gains (R.held report.old) (R.held report.new) line) }
     ensures flushed { result ≡ 0 → (c : Asked) → command_of (map (λ w. w.now) words.now) ≡ Some c
@@ -93,21 +93,22 @@ pub fn run<I: Source, F: Shelf, O: Sink, R: Sink>(
         → (result ≡ 3) ⊎ (result ≡ 7) }
 
     // 9 exactly where the shelf has no text of the device's name, unless it failed.
-    ensures absent { (c : Asked) (name text : List ℕ) (p : Program) → command_of (map (λ w. w.now) words.now) ≡ Some c
-        → device_name c ≡ Some name → I.left input.old ≡ Some text → IsAccepted text p
+    ensures absent { (c : Asked) (name : List ℕ) (n : ℕ) → command_of (map (λ w. w.now) words.now) ≡ Some c
+        → device_name c ≡ Some name → NeedsQubits (reads_input c) (λ text. I.left input.old ≡ Some text) n
         → (Rose (I.faults input.old) (I.faults input.new) → ⊥) → (Rose (F.faults shelf.old) (F.faults shelf.new) → ⊥)
         → F.content shelf.old name ≡ Some None → (result ≡ 9) ⊎ (result ≡ 7) }
 
     // 4 exactly where the text of the device has a first refusal.
-    ensures refuses_device { (c : Asked) (name text device_text : List ℕ) (p : Program) (r : RefusedDevice)
-        → command_of (map (λ w. w.now) words.now) ≡ Some c → device_name c ≡ Some name → I.left input.old ≡ Some text → IsAccepted text p
+    ensures refuses_device { (c : Asked) (name device_text : List ℕ) (n : ℕ) (r : RefusedDevice)
+        → command_of (map (λ w. w.now) words.now) ≡ Some c → device_name c ≡ Some name
+        → NeedsQubits (reads_input c) (λ text. I.left input.old ≡ Some text) n
         → (Rose (I.faults input.old) (I.faults input.new) → ⊥) → (Rose (F.faults shelf.old) (F.faults shelf.new) → ⊥)
-        → F.content shelf.old name ≡ Some (Some device_text) → IsDeviceRefusal device_text p.wires r → (result ≡ 4) ⊎ (result ≡ 7) }
+        → F.content shelf.old name ≡ Some (Some device_text) → IsDeviceRefusal device_text n r → (result ≡ 4) ⊎ (result ≡ 7) }
 
-    // A command whose input is accepted, and whose device, where it wants one, has a qubit for each wire, ends well, or wants
-    // memory, unless a count of faults rose.
-    ensures complete { (c : Asked) (text : List ℕ) (p : Program) → command_of (map (λ w. w.now) words.now) ≡ Some c
-        → I.left input.old ≡ Some text → IsAccepted text p → HasDevice (F.content shelf.old) (device_name c) p.wires
+    // A command whose input, where it reads one, is accepted, and whose device, where it wants one, has a qubit for each wire,
+    // ends well, or wants memory, unless a count of faults rose.
+    ensures complete { (c : Asked) (n : ℕ) → command_of (map (λ w. w.now) words.now) ≡ Some c
+        → NeedsQubits (reads_input c) (λ text. I.left input.old ≡ Some text) n → HasDevice (F.content shelf.old) (device_name c) n
         → (Rose (I.faults input.old) (I.faults input.new) → ⊥)
         → (is_some (device_name c) ≡ true → Rose (F.faults shelf.old) (F.faults shelf.new) → ⊥)
         → (writes_out c ≡ true → Rose (O.faults out.old) (O.faults out.new) → ⊥)

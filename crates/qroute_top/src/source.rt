@@ -1,7 +1,8 @@
-//! The source: the program that the input spells.
+//! The source: the program that the input spells, or one that is drawn.
 
-ghost use Rattle.std.specs.Prelude.{◌≡◌, ◌≤◌, ℕ, List, All, IfOk, IfErr, Err, length};
+ghost use Rattle.std.specs.Prelude.{◌≡◌, ◌<◌, ◌≤◌, ℕ, List, All, IfOk, IfErr, Err, length};
 ghost use Rattle.outside_io.specs.Bytes.{TakesAll};
+ghost use Rattle.bench_program.specs.Program.{most_gates};
 ghost use Rattle.gate_expand.specs.Expansion.{IsFineOp};
 ghost use Rattle.gate_inline.specs.Programs.{IsAccepted};
 ghost use Rattle.gate_inline.specs.Registers.{AreRegisters, IsRead};
@@ -9,11 +10,13 @@ ghost use Rattle.gate_inline.specs.Sizes.{operation_limit};
 ghost use Rattle.gate_library.specs.Limits.{most_qubits};
 ghost use Rattle.program_reader.specs.Refusals.{program_of};
 ghost use Rattle.qroute_top.specs.Causes.{IsSourceCause};
+ghost use Rattle.qroute_top.specs.Delivered.{drawn_program};
 
 use crate::stops::SourceStop;
+use bench_program::made;
 use outside_io::{ReadFault, Source as Input, read_all};
 use program_reader::{Refusal, Source, TEXT_LIMIT, read_program};
-use std::alloc::Global;
+use std::alloc::{AllocError, Global};
 
 /// Reads the input to its end, or to one byte past the limit, and the program that it spells.
 #[tactic(auto, using(crate::proofs::SourceLaws::read))]
@@ -34,4 +37,29 @@ pub fn read_source<I: Input>(alloc: Global, input: &mut I) -> Result<Source, Sou
         Err(ReadFault::NoMemory) => Err(SourceStop::NoMemory),
         Ok(text) => Ok(read_program(alloc, &text)?),
     }
+}
+
+/// The program of so many gates on `qubits` wires that is drawn from `start` on. No bit reads a wire of it.
+pub fn drawn_source(
+    alloc: Global,
+    start: u32,
+    gates: u32,
+    qubits: u32,
+) -> Result<Source, AllocError>
+    requires few_gates { gates ≤ most_gates }
+    requires some { 0 < qubits }
+    requires limit { qubits ≤ most_qubits }
+    ensures drawn { IfOk result (λ s. program_of s ≡ drawn_program start gates qubits) }
+    ensures few { IfOk result (λ s. s.ops.wires ≤ most_qubits) }
+    ensures short { IfOk result (λ s. length s.ops.list ≤ operation_limit) }
+    ensures fine { IfOk result (λ s. All (IsFineOp s.ops.wires) s.ops.list) }
+    ensures registers { IfOk result (λ s. AreRegisters s.registers.items (length s.ops.reads)) }
+    ensures reads { IfOk result (λ s. All (IsRead s.ops.wires) s.ops.reads) }
+{
+    let ops = made(alloc, start, gates, qubits)?;
+    Ok(Source {
+        ops,
+        registers: Vec::new(alloc),
+        barriers: 0,
+    })
 }

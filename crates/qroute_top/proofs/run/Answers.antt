@@ -4,7 +4,7 @@ use Rattle.outside_io.specs.Bytes.{Gains, GainsPrefix}
 use Rattle.command_words.specs.Demands.{writes_out, writes_report}
 use Rattle.qroute_top.specs.Causes.{Handed}
 use Rattle.qroute_top.specs.Plans.{has_line, has_text}
-use Rattle.qroute_top.proofs.RunLaws.{Delivered-done, asked_of, came, planned-absent, planned-complete, planned-refuses, planned-refuses_device, same_stop, stopped-absent, stopped-complete, stopped-read, stopped-refuses, stopped-refuses_device, stopped-two}
+use Rattle.qroute_top.proofs.RunLaws.{Delivered-done, asked_of, came, handed, planned-absent, planned-complete, planned-refuses, planned-refuses_device, same_stop, stopped-absent, stopped-complete, stopped-read, stopped-refuses, stopped-refuses_device, stopped-two}
 use Rattle.qroute_top.proofs.StatusLaws.{not_late}
 use Rattle.qroute_top.proofs.run.Goals as goal
 
@@ -39,15 +39,15 @@ returns-in-Ok-clause-refuses g c =
     let some = came c.in-Ok.work c.emit.result e.ends (λ z. let h = e.done z in (h.0, h.1, h.2)) (λ z. let h = (e.output z).0 in (h.0, h.1, h.2))
     (λ z. let h = (e.report z).0 in (h.0, h.1, h.2)) in
     λ a text r asked reads told is calm. planned-refuses c.accepted_has_no_refusal.ensures (map (λ w. w.now) c.args.words.now) (g.F.Shelf.content c.args.shelf.now) (g.I.Source.left c.args.input.now)
-    (g.I.Source.left c.decide.new.input) c.in-Ok.work c.emit.result text r
-    c.in-Ok.ensures.made some told is
+    (g.I.Source.left c.decide.new.input) c.in-Ok.work c.emit.result text r a
+    c.in-Ok.ensures.made some asked reads told is
 
 pub returns-in-Ok-clause-absent : goal.returns-in-Ok-clause-absent
 returns-in-Ok-clause-absent g c =
     let e = c.emit.ensures in
     let some = came c.in-Ok.work c.emit.result e.ends (λ z. let h = e.done z in (h.0, h.1, h.2)) (λ z. let h = (e.output z).0 in (h.0, h.1, h.2))
     (λ z. let h = (e.report z).0 in (h.0, h.1, h.2)) in
-    λ a name text p asked wants told ok calm shelf_calm none. planned-absent (map (λ w. w.now) c.args.words.now) (g.F.Shelf.content c.args.shelf.now) (g.I.Source.left c.args.input.now)
+    λ a name n asked wants needs calm shelf_calm none. planned-absent (map (λ w. w.now) c.args.words.now) (g.F.Shelf.content c.args.shelf.now) (g.I.Source.left c.args.input.now)
     (g.I.Source.left c.decide.new.input) c.in-Ok.work c.emit.result name a
     c.in-Ok.ensures.made some asked wants none
 
@@ -56,16 +56,16 @@ returns-in-Ok-clause-refuses_device g c =
     let e = c.emit.ensures in
     let some = came c.in-Ok.work c.emit.result e.ends (λ z. let h = e.done z in (h.0, h.1, h.2)) (λ z. let h = (e.output z).0 in (h.0, h.1, h.2))
     (λ z. let h = (e.report z).0 in (h.0, h.1, h.2)) in
-    λ a name text device_text p r asked wants told ok calm shelf_calm here refusal. planned-refuses_device c.means_once.ensures
+    λ a name device_text n r asked wants needs calm shelf_calm here refusal. planned-refuses_device c.means_once.ensures
     (map (λ w. w.now) c.args.words.now) (g.F.Shelf.content c.args.shelf.now) (g.I.Source.left c.args.input.now)
-    (g.I.Source.left c.decide.new.input) c.in-Ok.work c.emit.result name a text device_text p r
-    c.in-Ok.ensures.made some asked wants told ok here refusal
+    (g.I.Source.left c.decide.new.input) c.in-Ok.work c.emit.result name a device_text n r
+    c.in-Ok.ensures.made some asked wants needs here refusal
 
 pub returns-in-Ok-clause-complete : goal.returns-in-Ok-clause-complete
 returns-in-Ok-clause-complete g c =
     let e = c.emit.ensures in
     let d = c.in-Ok.ensures in
-    λ a text p asked told ok has calm shelf_calm out_calm report_calm. planned-complete (has_text c.in-Ok.work) (has_line c.in-Ok.work) (writes_out a)
+    λ a n asked needs has calm shelf_calm out_calm report_calm. planned-complete (has_text c.in-Ok.work) (has_line c.in-Ok.work) (writes_out a)
     (writes_report a) c.emit.result _ _ e.ends (d.writes a asked) (d.tells a asked) (λ six. (e.output six).1) (λ eight. (e.report eight).3) e.no_fault
     e.no_report out_calm report_calm
 
@@ -81,17 +81,11 @@ returns-in-Err-clause-words_only g c =
 
 pub returns-in-Err-clause-refuses : goal.returns-in-Err-clause-refuses
 returns-in-Err-clause-refuses g c =
-    let handed : Handed = record {
-      words = map (λ w. w.now) c.args.words.now;
-      input = g.I.Source.left c.args.input.now;
-      faults_before = g.I.Source.faults c.args.input.now;
-      faults_after = g.I.Source.faults c.decide.new.input;
-      content = g.F.Shelf.content c.args.shelf.now;
-      shelf_before = g.F.Shelf.faults c.args.shelf.now;
-      shelf_after = g.F.Shelf.faults c.decide.new.shelf;
-    } in
-    λ a text r asked reads told is calm. stopped-refuses c.accepted_has_no_refusal.ensures handed c.in-Err.stop c.tell.result a text r c.in-Err.ensures.stop
-    c.tell.ensures.status asked told is calm
+    let h : Handed = handed (map (λ w. w.now) c.args.words.now) (g.I.Source.left c.args.input.now) (g.I.Source.faults c.args.input.now)
+    (g.I.Source.faults c.decide.new.input) (g.F.Shelf.content c.args.shelf.now) (g.F.Shelf.faults c.args.shelf.now)
+    (g.F.Shelf.faults c.decide.new.shelf) in
+    λ a text r asked reads told is calm. stopped-refuses c.accepted_has_no_refusal.ensures h c.in-Err.stop c.tell.result a text r c.in-Err.ensures.stop
+    c.tell.ensures.status asked reads told is calm
 
 pub returns-in-Err-clause-output : goal.returns-in-Err-clause-output
 returns-in-Err-clause-output g c = λ e. absurd (not_late c.in-Err.stop c.tell.result c.tell.ensures.status (inr (inl e)))
@@ -107,42 +101,24 @@ returns-in-Err-clause-no_report g c = λ a asked quiet. (
 
 pub returns-in-Err-clause-absent : goal.returns-in-Err-clause-absent
 returns-in-Err-clause-absent g c =
-    let handed : Handed = record {
-      words = map (λ w. w.now) c.args.words.now;
-      input = g.I.Source.left c.args.input.now;
-      faults_before = g.I.Source.faults c.args.input.now;
-      faults_after = g.I.Source.faults c.decide.new.input;
-      content = g.F.Shelf.content c.args.shelf.now;
-      shelf_before = g.F.Shelf.faults c.args.shelf.now;
-      shelf_after = g.F.Shelf.faults c.decide.new.shelf;
-    } in
-    λ a name text p asked wants told ok calm shelf_calm none. stopped-absent c.accepted_has_no_refusal.ensures handed c.in-Err.stop c.tell.result a name p c.in-Err.ensures.stop
-    c.tell.ensures.status (asked_of handed a text p asked told ok calm (λ w. shelf_calm)) wants none
+    let h : Handed = handed (map (λ w. w.now) c.args.words.now) (g.I.Source.left c.args.input.now) (g.I.Source.faults c.args.input.now)
+    (g.I.Source.faults c.decide.new.input) (g.F.Shelf.content c.args.shelf.now) (g.F.Shelf.faults c.args.shelf.now)
+    (g.F.Shelf.faults c.decide.new.shelf) in
+    λ a name n asked wants needs calm shelf_calm none. stopped-absent c.accepted_has_no_refusal.ensures h c.in-Err.stop c.tell.result a name n c.in-Err.ensures.stop
+    c.tell.ensures.status (asked_of h a n asked needs calm (λ w. shelf_calm)) wants none
 
 pub returns-in-Err-clause-refuses_device : goal.returns-in-Err-clause-refuses_device
 returns-in-Err-clause-refuses_device g c =
-    let handed : Handed = record {
-      words = map (λ w. w.now) c.args.words.now;
-      input = g.I.Source.left c.args.input.now;
-      faults_before = g.I.Source.faults c.args.input.now;
-      faults_after = g.I.Source.faults c.decide.new.input;
-      content = g.F.Shelf.content c.args.shelf.now;
-      shelf_before = g.F.Shelf.faults c.args.shelf.now;
-      shelf_after = g.F.Shelf.faults c.decide.new.shelf;
-    } in
-    λ a name text device_text p r asked wants told ok calm shelf_calm here refusal. stopped-refuses_device c.accepted_has_no_refusal.ensures handed c.in-Err.stop c.tell.result a name
-    device_text p c.in-Err.ensures.stop c.tell.ensures.status (asked_of handed a text p asked told ok calm (λ w. shelf_calm)) wants here
+    let h : Handed = handed (map (λ w. w.now) c.args.words.now) (g.I.Source.left c.args.input.now) (g.I.Source.faults c.args.input.now)
+    (g.I.Source.faults c.decide.new.input) (g.F.Shelf.content c.args.shelf.now) (g.F.Shelf.faults c.args.shelf.now)
+    (g.F.Shelf.faults c.decide.new.shelf) in
+    λ a name device_text n r asked wants needs calm shelf_calm here refusal. stopped-refuses_device c.accepted_has_no_refusal.ensures h c.in-Err.stop c.tell.result a name
+    device_text n c.in-Err.ensures.stop c.tell.ensures.status (asked_of h a n asked needs calm (λ w. shelf_calm)) wants here
 
 pub returns-in-Err-clause-complete : goal.returns-in-Err-clause-complete
 returns-in-Err-clause-complete g c =
-    let handed : Handed = record {
-      words = map (λ w. w.now) c.args.words.now;
-      input = g.I.Source.left c.args.input.now;
-      faults_before = g.I.Source.faults c.args.input.now;
-      faults_after = g.I.Source.faults c.decide.new.input;
-      content = g.F.Shelf.content c.args.shelf.now;
-      shelf_before = g.F.Shelf.faults c.args.shelf.now;
-      shelf_after = g.F.Shelf.faults c.decide.new.shelf;
-    } in
-    λ a text p asked told ok has calm shelf_calm out_calm report_calm. stopped-complete c.accepted_has_no_refusal.ensures c.means_once.ensures handed c.in-Err.stop c.tell.result a p
-    c.in-Err.ensures.stop c.tell.ensures.status (asked_of handed a text p asked told ok calm shelf_calm) has
+    let h : Handed = handed (map (λ w. w.now) c.args.words.now) (g.I.Source.left c.args.input.now) (g.I.Source.faults c.args.input.now)
+    (g.I.Source.faults c.decide.new.input) (g.F.Shelf.content c.args.shelf.now) (g.F.Shelf.faults c.args.shelf.now)
+    (g.F.Shelf.faults c.decide.new.shelf) in
+    λ a n asked needs has calm shelf_calm out_calm report_calm. stopped-complete c.accepted_has_no_refusal.ensures c.means_once.ensures h c.in-Err.stop c.tell.result a n
+    c.in-Err.ensures.stop c.tell.ensures.status (asked_of h a n asked needs calm shelf_calm) has

@@ -3,29 +3,42 @@ use Rattle.std.proofs.Common.{refl, map}
 use Rattle.std.proofs.lemmas.Result.{err_from_is_err_and}
 use Rattle.program_reader.specs.Refusals.{program_of}
 use Rattle.qroute_top.specs.Causes.{Handed}
-use Rattle.qroute_top.proofs.RunLaws.{Delivers-routed, IsCause-device, device_failed, wants_of}
+use Rattle.qroute_top.proofs.RunLaws.{Delivers-drawn, Delivers-routed, IsCause-device, Reaches-drawn, Reaches-read, device_failed, handed}
 use Rattle.qroute_top.proofs.decision.decide.Goals as goal
 
 pub returns-in_err-device-in-Route-clause-stop : goal.returns-in_err-device-in-Route-clause-stop
 returns-in_err-device-in-Route-clause-stop g c =
     let p = err_from_is_err_and c.from_residual-in_err-device-in-Route.result c.from_residual-in_err-device-in-Route.ensures.1 in
-    let handed : Handed = record {
-      words = map (λ w. w.now) c.args.words.now;
-      input = g.I.Source.left c.args.input.now;
-      faults_before = g.I.Source.faults c.args.input.now;
-      faults_after = g.I.Source.faults c.read_source.new.input;
-      content = g.F.Shelf.content c.args.shelf.now;
-      shelf_before = g.F.Shelf.faults c.args.shelf.now;
-      shelf_after = g.F.Shelf.faults c.load_device.new.shelf;
-    } in
-    let it = IsCause-device handed c.in_ok-command.command c.in-Route.name _ _ c.in_ok-source.source.ops.wires _ c.in_ok-command.ensures.ok
-    (wants_of c.in_ok-command.command c.in-Route.name c.in-Route.trivial c.in-Route.is) c.in_ok-source.ensures.ok
-    refl c.in_err-device-in-Route.ensures.err (λ f. c.in_err-device-in-Route.ensures.calm (λ e. f (device_failed _ _ _ refl e))) in
+    let h : Handed = handed (map (λ w. w.now) c.args.words.now) (g.I.Source.left c.args.input.now) (g.I.Source.faults c.args.input.now)
+    (g.I.Source.faults c.read_source-in-Route.new.input) (g.F.Shelf.content c.args.shelf.now) (g.F.Shelf.faults c.args.shelf.now)
+    (g.F.Shelf.faults c.load_device-in-Route.new.shelf) in
+    let route = Reaches-read h c.in_ok-command.command c.in-Route.name c.in-Route.trivial _ _ c.in_ok-command.ensures.ok c.in-Route.is
+    c.in_ok-source-in-Route.ensures.ok in
+    let it = IsCause-device h c.in-Route.name _ _ route c.in_err-device-in-Route.ensures.err
+    (λ f. c.in_err-device-in-Route.ensures.calm (λ e. f (device_failed _ _ _ refl e))) in
+    rw (p.1, p.2) it
+
+pub returns-in_err-device-in-Bench-clause-stop : goal.returns-in_err-device-in-Bench-clause-stop
+returns-in_err-device-in-Bench-clause-stop g c =
+    let p = err_from_is_err_and c.from_residual-in_err-device-in-Bench.result c.from_residual-in_err-device-in-Bench.ensures.1 in
+    let h : Handed = handed (map (λ w. w.now) c.args.words.now) (g.I.Source.left c.args.input.now) (g.I.Source.faults c.args.input.now)
+    (g.I.Source.faults c.args.input.now) (g.F.Shelf.content c.args.shelf.now) (g.F.Shelf.faults c.args.shelf.now)
+    (g.F.Shelf.faults c.load_device-in-Bench.new.shelf) in
+    let route = Reaches-drawn h c.in_ok-command.command c.in-Bench.start c.in-Bench.gates c.in-Bench.name c.in_ok-command.ensures.ok c.in-Bench.is in
+    let it = IsCause-device h c.in-Bench.name _ _ route c.in_err-device-in-Bench.ensures.err
+    (λ f. c.in_err-device-in-Bench.ensures.calm (λ e. f (device_failed _ _ _ refl e))) in
     rw (p.1, p.2) it
 
 pub returns-in_ok-route_on-in-Route-clause-made : goal.returns-in_ok-route_on-in-Route-clause-made
 returns-in_ok-route_on-in-Route-clause-made g c =
     λ text line is. Delivers-routed (map (λ w. w.now) c.args.words.now) (g.F.Shelf.content c.args.shelf.now) c.in_ok-command.command c.in-Route.name
-    c.in-Route.trivial (g.I.Source.left c.args.input.now) (g.I.Source.left c.read_source.new.input) (program_of c.in_ok-source.source)
-    c.in_ok-device-in-Route.device c.in_ok-source.source.ops.wires text line c.in_ok-command.ensures.ok c.in-Route.is c.in_ok-source.ensures.ok
-    c.in_ok-device-in-Route.ensures.ok (c.in_ok-route_on-in-Route.ensures.made text line is)
+    c.in-Route.trivial (g.I.Source.left c.args.input.now) (g.I.Source.left c.read_source-in-Route.new.input) (program_of c.in_ok-source-in-Route.source)
+    c.in_ok-device-in-Route.device c.in_ok-source-in-Route.source.ops.wires text line c.in_ok-command.ensures.ok c.in-Route.is
+    c.in_ok-source-in-Route.ensures.ok c.in_ok-device-in-Route.ensures.ok (c.in_ok-route_on-in-Route.ensures.made text line is)
+
+pub returns-in_ok-route_on-in-Bench-clause-made : goal.returns-in_ok-route_on-in-Bench-clause-made
+returns-in_ok-route_on-in-Bench-clause-made g c =
+    λ text line is. Delivers-drawn (map (λ w. w.now) c.args.words.now) (g.F.Shelf.content c.args.shelf.now) c.in_ok-command.command c.in-Bench.start
+    c.in-Bench.gates c.in-Bench.name (g.I.Source.left c.args.input.now) (g.I.Source.left c.args.input.now) (program_of c.in_ok-source-in-Bench.source)
+    c.in_ok-device-in-Bench.device 0 text line c.in_ok-command.ensures.ok c.in-Bench.is c.in_ok-device-in-Bench.ensures.ok
+    c.in_ok-source-in-Bench.ensures.drawn (c.in_ok-route_on-in-Bench.ensures.made text line is)
