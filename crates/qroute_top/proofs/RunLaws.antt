@@ -475,13 +475,15 @@ answer_on content name (Route other trivial) source x l wants answer =
 answer_on content name Check source x l wants answer = cc
 answer_on content name Stages source x l wants answer = cc
 answer_on content name (Bench start gates other) source x l wants answer =
-    let same : other ≡ name = cc in
-    (false, record {
-      target = answer.target;
-      told = answer.told;
-      made = answer.made;
-      placed = subst (λ y. IsOnDevice content y false source answer.target answer.told) same answer.placed.0;
-    })
+    let same : other ≡ name = cc in (
+      false,
+      record {
+        target = answer.target;
+        told = answer.told;
+        made = answer.made;
+        placed = subst (λ y. IsOnDevice content y false source answer.target answer.told) same answer.placed.0;
+      },
+    )
 
 planned_on : (words : List (List ℕ)) (content : Content) (old new : Option (List ℕ)) (x l name : List ℕ) (c : Command) (d : Delivers words content old new x l)
     → command_of words ≡ Some c → device_name c ≡ Some name → (trivial : Bool) × Rewrites d.source (IsOnDevice content name trivial d.source) x l

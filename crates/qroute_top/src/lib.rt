@@ -147,6 +147,8 @@ pub fn run<I: Source, F: Shelf, O: Sink, R: Sink>(
 }
 
 #[cfg(test)]
+mod bench_tests;
+#[cfg(test)]
 mod cases_tests;
 #[cfg(test)]
 mod check_tests;
