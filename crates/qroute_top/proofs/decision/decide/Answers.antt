@@ -1,8 +1,9 @@
 -- Why the device isn't had, and what is delivered on one that is.
-use Rattle.std.proofs.Common.{refl, map}
+use Rattle.std.proofs.Common.{refl, map, ap, ◌∙◌}
 use Rattle.std.proofs.lemmas.Result.{err_from_is_err_and}
 use Rattle.program_reader.specs.Refusals.{program_of}
 use Rattle.qroute_top.specs.Causes.{Handed}
+use Rattle.qroute_top.specs.Delivered.{drawn_program}
 use Rattle.qroute_top.proofs.RunLaws.{Delivers-drawn, Delivers-routed, IsCause-device, Reaches-drawn, Reaches-read, device_failed, handed}
 use Rattle.qroute_top.proofs.decision.decide.Goals as goal
 
@@ -11,7 +12,7 @@ returns-in_err-device-in-Route-clause-stop g c =
     let p = err_from_is_err_and c.from_residual-in_err-device-in-Route.result c.from_residual-in_err-device-in-Route.ensures.1 in
     let h : Handed = handed (map (λ w. w.now) c.args.words.now) (g.I.Source.left c.args.input.now) (g.I.Source.faults c.args.input.now)
     (g.I.Source.faults c.read_source-in-Route.new.input) (g.F.Shelf.content c.args.shelf.now) (g.F.Shelf.faults c.args.shelf.now)
-    (g.F.Shelf.faults c.load_device-in-Route.new.shelf) in
+    (g.F.Shelf.faults c.load_device.new.shelf) in
     let route = Reaches-read h c.in_ok-command.command c.in-Route.name c.in-Route.trivial _ _ c.in_ok-command.ensures.ok c.in-Route.is
     c.in_ok-source-in-Route.ensures.ok in
     let it = IsCause-device h c.in-Route.name _ _ route c.in_err-device-in-Route.ensures.err
@@ -41,4 +42,5 @@ returns-in_ok-route_on-in-Bench-clause-made g c =
     λ text line is. Delivers-drawn (map (λ w. w.now) c.args.words.now) (g.F.Shelf.content c.args.shelf.now) c.in_ok-command.command c.in-Bench.start
     c.in-Bench.gates c.in-Bench.name (g.I.Source.left c.args.input.now) (g.I.Source.left c.args.input.now) (program_of c.in_ok-source-in-Bench.source)
     c.in_ok-device-in-Bench.device 0 text line c.in_ok-command.ensures.ok c.in-Bench.is c.in_ok-device-in-Bench.ensures.ok
-    c.in_ok-source-in-Bench.ensures.drawn (c.in_ok-route_on-in-Bench.ensures.made text line is)
+    (c.in_ok-source-in-Bench.ensures.drawn ∙ ap (λ k. drawn_program c.in-Bench.start c.in-Bench.gates k) c.size.ensures.size)
+    (c.in_ok-route_on-in-Bench.ensures.made text line is)
