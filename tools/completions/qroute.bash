@@ -1,15 +1,22 @@
 # Completion of qroute's words for bash. Source this file, for instance in ~/.bashrc.
 _qroute() {
-    local word=${COMP_WORDS[COMP_CWORD]} before=${COMP_WORDS[COMP_CWORD - 1]}
+    local word=${COMP_WORDS[COMP_CWORD]} before=${COMP_WORDS[COMP_CWORD - 1]} option options=
     COMPREPLY=()
     if [ "$COMP_CWORD" -eq 1 ]; then
-        mapfile -t COMPREPLY < <(compgen -W "opt route check stages" -- "$word")
-    elif [ "${COMP_WORDS[1]}" = route ] && [ "$before" = --device ]; then
+        mapfile -t COMPREPLY < <(compgen -W "opt route check stages bench" -- "$word")
+        return
+    fi
+    case "${COMP_WORDS[1]}" in
+        route) options="--device --trivial" ;;
+        bench) options="--start --gates --device" ;;
+    esac
+    if [ -z "$options" ] || [ "$before" = --start ] || [ "$before" = --gates ]; then
+        return
+    elif [ "$before" = --device ]; then
         mapfile -t COMPREPLY < <(compgen -f -X '!*.toml' -- "$word"; compgen -d -- "$word")
         compopt -o filenames 2>/dev/null
-    elif [ "${COMP_WORDS[1]}" = route ]; then
-        local option
-        for option in --device --trivial; do
+    else
+        for option in $options; do
             # each is given once
             [[ " ${COMP_WORDS[*]:2} " == *" $option "* ]] || mapfile -t -O "${#COMPREPLY[@]}" COMPREPLY < <(compgen -W "$option" -- "$word")
         done

@@ -21,10 +21,15 @@ class Completions(unittest.TestCase):
         asked() {{ COMP_WORDS=("$@"); COMP_CWORD=$(($# - 1)); _qroute; echo "${{COMPREPLY[*]}}"; }}
         asked qroute ''; asked qroute r; asked qroute route --; asked qroute route --trivial --; asked qroute opt ''
         asked qroute route --device devices/line
+        asked qroute bench --; asked qroute bench --gates 5 --; asked qroute bench --start ''
+        asked qroute bench --start 1 --device devices/line
         """
         self.assertEqual(
             said("bash", "-c", script).splitlines(),
-            ["opt route check stages", "route", "--device --trivial", "--device", "", "devices/line_5.toml"],
+            [
+                *("opt route check stages bench", "route", "--device --trivial", "--device", "", "devices/line_5.toml"),
+                *("--start --gates --device", "--start --device", "", "devices/line_5.toml"),
+            ],
         )
 
     @unittest.skipUnless(shutil.which("fish"), "fish isn't here")
@@ -33,9 +38,10 @@ class Completions(unittest.TestCase):
             out = said("fish", "--no-config", "-c", f"source {FOLDER}/qroute.fish; complete -C '{line}'")
             return [it.split("\t")[0] for it in out.splitlines()]
 
-        self.assertEqual(sorted(asked("qroute ")), ["check", "opt", "route", "stages"])
+        self.assertEqual(sorted(asked("qroute ")), ["bench", "check", "opt", "route", "stages"])
         self.assertEqual(asked("qroute route --"), ["--device", "--trivial"])
         self.assertEqual(asked("qroute route --device devices/line"), ["devices/line_5.toml"])
+        self.assertEqual(sorted(asked("qroute bench --")), ["--device", "--gates", "--start"])
 
     @unittest.skipUnless(shutil.which("zsh"), "zsh isn't here")
     def test_zsh(self):
