@@ -58,7 +58,7 @@ pub record Reaches (h : Handed) (name : List ℕ) : Type 0 where
   pub asked : command_of h.words ≡ Some command
   pub wants : device_name command ≡ Some name
   pub wires : ℕ
-  pub source : HasSource (reads_input command) (Tells h.input) qubits
+  pub source : HasSource (reads_input command) (Tells h.input) wires
 
 abbrev pub IsRefusedSource : Option (List ℕ) → Refusal → Type 0
 IsRefusedSource input r = (text : List ℕ) × Tells input text × IsRefusal text r
