@@ -9,7 +9,12 @@ use unitary_plain::entries::{Value, amplitude_of};
 
 /// Whether each entry of a circuit's matrix is `w^turn` times that of the circuit before; false where one of the two has
 /// more than 20 gates, or other than three wires.
-pub fn is_turned(alloc: Global, before: &Circuit, after: &Circuit, turn: u8) -> Result<bool, AllocError> {
+pub fn is_turned(
+    alloc: Global,
+    before: &Circuit,
+    after: &Circuit,
+    turn: u8,
+) -> Result<bool, AllocError> {
     if before.wires() != 3 || after.wires() != 3 {
         return Ok(false);
     }

@@ -1,9 +1,9 @@
 //! Circuits of gates, gates of circuits, and gates of texts.
 
-ghost use Rattle.std.specs.Prelude.{◌≡◌, ◌≤◌, IfOk, IfSome, IsTrue};
-ghost use Rattle.circuit_list.specs.Gates.{IsFine, most_wires};
+ghost use Rattle.std.specs.Prelude.{◌≡◌, IfOk, IfSome, IsTrue};
+ghost use Rattle.circuit_list.specs.Gates.{IsFine};
 
-use circuit_list::{Circuit, Gate};
+use circuit_list::{Circuit, Gate, MOST_WIRES};
 use std::alloc::{AllocError, Global};
 
 /// Whether a gate may stand on so many wires.
@@ -17,11 +17,13 @@ pub fn is_fine(wires: u32, gate: Gate) -> bool
     }
 }
 
-/// The circuit with these gates, or none where one of them may not stand on the wires.
+/// The circuit with these gates, or none where one of them may not stand on the wires, or these are too many.
 pub fn circuit_of(alloc: Global, wires: u32, gates: &[Gate]) -> Result<Option<Circuit>, AllocError>
-    requires limit { wires ≤ most_wires }
     ensures wires { IfOk result (λ o. IfSome o (λ c. c.wires ≡ wires)) }
 {
+    if wires > MOST_WIRES {
+        return Ok(None);
+    }
     let mut body = Circuit::empty(alloc, wires)?;
     'gates: for gate in gates {
         if !is_fine(wires, *gate) {
@@ -30,6 +32,14 @@ pub fn circuit_of(alloc: Global, wires: u32, gates: &[Gate]) -> Result<Option<Ci
         body.push(*gate)?;
     }
     Ok(Some(body))
+}
+
+/// The circuit with the gates of a text, or none, likewise.
+pub fn circuit_of_text(alloc: Global, wires: u32, text: &str) -> Result<Option<Circuit>, AllocError>
+    ensures wires { IfOk result (λ o. IfSome o (λ c. c.wires ≡ wires)) }
+{
+    let gates = gates_of_text(alloc, text)?;
+    circuit_of(alloc, wires, &gates)
 }
 
 /// The gates of a circuit.

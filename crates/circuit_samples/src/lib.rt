@@ -16,5 +16,5 @@ mod random;
 mod tests;
 
 pub use comparison::is_turned;
-pub use gates::{circuit_of, gates_of, gates_of_text, is_fine};
+pub use gates::{circuit_of, circuit_of_text, gates_of, gates_of_text, is_fine};
 pub use random::{Kind, Random};

@@ -81,7 +81,13 @@ impl Random {
     }
 
     /// A circuit of so many such gates.
-    pub fn circuit(&mut self, alloc: Global, wires: u32, kinds: &[Kind], gates: u32) -> Result<Circuit, AllocError>
+    pub fn circuit(
+        &mut self,
+        alloc: Global,
+        wires: u32,
+        kinds: &[Kind],
+        gates: u32,
+    ) -> Result<Circuit, AllocError>
         requires two { 1 < wires }
         requires limit { wires ≤ most_wires }
         requires some { 0 < length kinds.now }

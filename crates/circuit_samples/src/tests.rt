@@ -1,13 +1,8 @@
 //! Texts and their gates, and circuits that are told apart.
 
-use crate::{Kind, Random, circuit_of, gates_of, gates_of_text, is_turned};
-use circuit_list::{Circuit, Gate};
-use std::alloc::{AllocError, Global};
+use crate::{Kind, Random, circuit_of_text, gates_of, is_turned};
+use circuit_list::Gate;
 use std::test::Fail;
-
-fn circuit_of_text(alloc: Global, text: &str) -> Result<Option<Circuit>, AllocError> {
-    circuit_of(alloc, 3, &gates_of_text(alloc, text)?)
-}
 
 #[test]
 fn gates_by_their_texts(rt: HostRuntime) -> Result<(), Fail> {
@@ -18,10 +13,10 @@ fn gates_by_their_texts(rt: HostRuntime) -> Result<(), Fail> {
         Gate::P { k: 7, q: 1 },
         Gate::Cx { c: 1, t: 0 },
     ];
-    let body = circuit_of_text(alloc, "h.0 x.2 7.1 c10")?.expect(&rt, "four gates");
+    let body = circuit_of_text(alloc, 3, "h.0 x.2 7.1 c10")?.expect(&rt, "four gates");
     assert_eq!(rt; gates_of(alloc, &body)?.as_slice(), want.as_slice());
     for text in ["h.3", "x.0 x.3", "0.0", "8.0", "c11", "c31", "c03", "y.0"] {
-        assert!(rt; circuit_of_text(alloc, text)?.is_none(), "at {text}");
+        assert!(rt; circuit_of_text(alloc, 3, text)?.is_none(), "at {text}");
     }
     Ok(())
 }
@@ -42,9 +37,13 @@ fn turns_by_hand(rt: HostRuntime) -> Result<(), Fail> {
         ("c02 c02", "", 0, true),
     ];
     for (old, new, turn, same) in rows {
-        let before = circuit_of_text(alloc, old)?.expect(&rt, old);
-        let after = circuit_of_text(alloc, new)?.expect(&rt, new);
-        assert_eq!(rt; is_turned(alloc, &before, &after, turn)?, same, "{old} and {new}");
+        let before = circuit_of_text(alloc, 3, old)?.expect(&rt, old);
+        let after = circuit_of_text(alloc, 3, new)?.expect(&rt, new);
+        assert_eq!(rt;
+            is_turned(alloc, &before, &after, turn)?,
+            same,
+            "{old} and {new}"
+        );
     }
     Ok(())
 }
@@ -57,7 +56,11 @@ fn tells_no_long_circuits_and_no_other_wires(rt: HostRuntime) -> Result<(), Fail
         assert!(rt; 1 < wires && wires <= 4);
         let body = Random::from_start(1).circuit(alloc, wires, &kinds, gates)?;
         assert_eq!(rt; body.len(), gates as usize);
-        assert_eq!(rt; is_turned(alloc, &body, &body, 0)?, same, "{wires} wires, {gates} gates");
+        assert_eq!(rt;
+            is_turned(alloc, &body, &body, 0)?,
+            same,
+            "{wires} wires, {gates} gates"
+        );
     }
     Ok(())
 }
