@@ -8,7 +8,7 @@ use std::alloc::{AllocError, Global};
 
 /// Whether a gate may stand on so many wires.
 pub fn is_fine(wires: u32, gate: Gate) -> bool
-    ensures { IsTrue result → IsFine wires gate }
+    ensures fine { IsTrue result → IsFine wires gate }
 {
     match gate {
         Gate::H { q } | Gate::X { q } => q < wires,
