@@ -288,17 +288,17 @@ pub no_letter_in_a_number : (name : List ℕ) → command_of (name ∷ codes "be
 unfolding clap_on_literals digits
 no_letter_in_a_number name = refl
 
-pub no_start : (name : List ℕ) → command_of (name ∷ codes "bench" ∷ codes "--gates" ∷ codes "1" ∷ codes "--device" ∷ codes "d" ∷ []) ≡ None
+pub bench_without_start : (name : List ℕ) → command_of (name ∷ codes "bench" ∷ codes "--gates" ∷ codes "1" ∷ codes "--device" ∷ codes "d" ∷ []) ≡ None
 unfolding clap_on_literals digits
-no_start name = refl
+bench_without_start name = refl
 
-pub no_gates : (name : List ℕ) → command_of (name ∷ codes "bench" ∷ codes "--start" ∷ codes "1" ∷ codes "--device" ∷ codes "d" ∷ []) ≡ None
+pub bench_without_gates : (name : List ℕ) → command_of (name ∷ codes "bench" ∷ codes "--start" ∷ codes "1" ∷ codes "--device" ∷ codes "d" ∷ []) ≡ None
 unfolding clap_on_literals digits
-no_gates name = refl
+bench_without_gates name = refl
 
-pub no_device_of_bench : (name : List ℕ) → command_of (name ∷ codes "bench" ∷ codes "--start" ∷ codes "1" ∷ codes "--gates" ∷ codes "1" ∷ []) ≡ None
+pub bench_without_device : (name : List ℕ) → command_of (name ∷ codes "bench" ∷ codes "--start" ∷ codes "1" ∷ codes "--gates" ∷ codes "1" ∷ []) ≡ None
 unfolding clap_on_literals digits
-no_device_of_bench name = refl
+bench_without_device name = refl
 
 pub no_second_start : (name : List ℕ) → command_of (name ∷ codes "bench" ∷ codes "--start" ∷ codes "1" ∷ codes "--gates" ∷ codes "1" ∷ codes "--device" ∷ codes "d" ∷ codes "--start" ∷ codes "2" ∷ []) ≡ None
 unfolding clap_on_literals digits
@@ -311,3 +311,11 @@ no_trivial_of_bench name = refl
 pub no_word_behind_bench : (name : List ℕ) → command_of (name ∷ codes "bench" ∷ codes "--start" ∷ codes "1" ∷ codes "--gates" ∷ codes "1" ∷ codes "--device" ∷ codes "d" ∷ codes "x" ∷ []) ≡ None
 unfolding clap_on_literals digits
 no_word_behind_bench name = refl
+
+pub no_start_behind_a_minus : (name : List ℕ) → command_of (name ∷ codes "bench" ∷ codes "--start" ∷ codes "-1" ∷ codes "--gates" ∷ codes "1" ∷ codes "--device" ∷ codes "d" ∷ []) ≡ None
+unfolding clap_on_literals digits
+no_start_behind_a_minus name = refl
+
+pub no_second_gates : (name : List ℕ) → command_of (name ∷ codes "bench" ∷ codes "--start" ∷ codes "1" ∷ codes "--gates" ∷ codes "1" ∷ codes "--gates" ∷ codes "1" ∷ codes "--device" ∷ codes "d" ∷ []) ≡ None
+unfolding clap_on_literals digits
+no_second_gates name = refl

@@ -5,7 +5,7 @@
 --   trivial_flag        `--trivial`, at most once
 --   check_command       the subcommand `check`, which takes none either
 --   stages_command      the subcommand `stages`, which takes none
---   route_command       the subcommand `route`, which takes `--device` and this flag
+--   route_command       the subcommand `route`, which takes `--device` and `--trivial`
 --   bench_command       the subcommand `bench`, which takes `--start`, `--gates` and `--device`
 --   plain_commands      the program with the subcommands that take no argument
 --   qroute_command      the program with its subcommands
@@ -17,7 +17,7 @@
 --   bench_of rows       what `bench` asks for, with what was matched
 --   meaning name rows   what the subcommand of this name asks for, with what it matched
 --   command_of words    the command that the words mean, the program's name first; none where they mean none
---   IsInRange c         the numbers of a command are in their ranges
+--   HasFewGates c       `bench` has 1 to 20000 gates
 use Rattle.std.specs.Prelude.{ℕ, List, ◌==◌, ◌≤◌, ◌&&◌, Bool, true, false, Option, Some, None, if◌then◌else◌, codes, decimal, length, nat_le, option_map, option_and_then}
 use Rattle.std.specs.Option.{option_map_or}
 use Rattle.std.specs.Str.{bytes_eq}
@@ -104,9 +104,9 @@ abbrev pub command_of : List Text → Option Command
 command_of words = if length (fault_of qroute_command words) == 0
     then option_and_then (λ s. meaning s.0 s.1) (subcommand_of qroute_command words) else None
 
-abbrev pub IsInRange : Command → Type 0
-IsInRange Opt = Unit {0}
-IsInRange (Route device trivial) = Unit {0}
-IsInRange Check = Unit {0}
-IsInRange Stages = Unit {0}
-IsInRange (Bench start gates device) = (1 ≤ gates) × (gates ≤ 20000)
+abbrev pub HasFewGates : Command → Type 0
+HasFewGates Opt = Unit {0}
+HasFewGates (Route device trivial) = Unit {0}
+HasFewGates Check = Unit {0}
+HasFewGates Stages = Unit {0}
+HasFewGates (Bench start gates device) = (1 ≤ gates) × (gates ≤ 20000)

@@ -20,7 +20,7 @@ pub enum Command {
     Check,
     /// Reads a program and writes a line for each layer of its gates.
     Stages,
-    /// Generates a program, and writes it on the qubits of a device, as `route` does.
+    /// Draws a program, and writes an equivalent one on the qubits of a device, as `route` does.
     Bench {
         /// The start from which the program is drawn.
         start: u32,

@@ -8,7 +8,7 @@
 ghost use Rattle.std.specs.Prelude.{◌≡◌, IfOk, IsErrOf, Some, None, map, false, option_and_then};
 ghost use Rattle.clap.specs.Words.{app_of, first_of, found_of, kind_of, rows_of, rule_of};
 ghost use Rattle.clap.specs.declared.builder.Command.TheViews.{out-Command as fields_of};
-ghost use Rattle.command_words.specs.Commands.{IsInRange, bench_command, bench_of, check_command, command_of, meaning, needed_option, number_of, opt_command, plain_commands, qroute_command, root_command, route_command, stages_command, trivial_flag};
+ghost use Rattle.command_words.specs.Commands.{HasFewGates, bench_command, bench_of, check_command, command_of, meaning, needed_option, number_of, opt_command, plain_commands, qroute_command, root_command, route_command, stages_command, trivial_flag};
 
 use crate::commands::{self, WordsFault};
 use crate::name::Name;
@@ -141,7 +141,7 @@ fn number_behind(matches: &ArgMatches<'_>, id: &str, least: u32, most: u32) -> O
 fn bench_of(alloc: Global, matches: &ArgMatches<'_>) -> Result<commands::Command, WordsFault>
     ensures ok { IfOk result (λ c. bench_of (rows_of (found_of matches.now)) ≡ Some c) }
     ensures bad { IsErrOf result WordsFault.BadWords → bench_of (rows_of (found_of matches.now)) ≡ None }
-    ensures range { IfOk result IsInRange }
+    ensures few { IfOk result HasFewGates }
 {
     let Some(start) = number_behind(matches, "start", 0, 4_294_967_295) else {
         return Err(WordsFault::BadWords);
@@ -167,7 +167,7 @@ fn meaning_of(
 ) -> Result<commands::Command, WordsFault>
     ensures ok { IfOk result (λ c. meaning name.now (rows_of (found_of matches.now)) ≡ Some c) }
     ensures bad { IsErrOf result WordsFault.BadWords → meaning name.now (rows_of (found_of matches.now)) ≡ None }
-    ensures range { IfOk result IsInRange }
+    ensures few { IfOk result HasFewGates }
 {
     if name == "opt" {
         return Ok(commands::Command::Opt);
@@ -209,7 +209,7 @@ fn words_fault(error: &Error) -> WordsFault
 fn read<'a>(alloc: Global, words: &'a [&'a str]) -> Result<commands::Command, WordsFault>
     ensures ok { IfOk result (λ c. command_of (map (λ w. w.now) words.entry.now) ≡ Some c) }
     ensures bad { IsErrOf result WordsFault.BadWords → command_of (map (λ w. w.now) words.entry.now) ≡ None }
-    ensures range { IfOk result IsInRange }
+    ensures few { IfOk result HasFewGates }
 {
     let matches = match qroute_command(alloc)?.try_get_matches_from(words) {
         Ok(matches) => matches,
@@ -225,7 +225,7 @@ fn read<'a>(alloc: Global, words: &'a [&'a str]) -> Result<commands::Command, Wo
 pub fn command(alloc: Global, words: &[&str]) -> Result<commands::Command, WordsFault>
     ensures ok { IfOk result (λ c. command_of (map (λ w. w.now) words.now) ≡ Some c) }
     ensures bad { IsErrOf result WordsFault.BadWords → command_of (map (λ w. w.now) words.now) ≡ None }
-    ensures range { IfOk result IsInRange }
+    ensures few { IfOk result HasFewGates }
 {
     read(alloc, words)
 }

@@ -1,57 +1,16 @@
 //! Worked rows, and the list of a plain program.
 
-ghost use Rattle.std.specs.Prelude.{◌≡◌, ◌<◌, ◌≤◌, true};
-ghost use Rattle.circuit_list.specs.Gates.{IsFine};
+ghost use Rattle.std.specs.Prelude.{◌<◌};
 
 use crate::CancelPass;
-use circuit_list::{Circuit, Gate};
+use circuit_list::Gate;
+use circuit_samples::{Kind, Random, circuit_of, gates_of, gates_of_text};
 use commute_rules::{Cancel, cancels, commute};
 use rewrite_pass::Pass;
 use std::alloc::Global;
 use std::process::Abort;
 use std::test::Fail;
 use unitary_model::turn_sum;
-
-const H_0: Gate = Gate::H { q: 0 };
-
-const H_1: Gate = Gate::H { q: 1 };
-
-const X_0: Gate = Gate::X { q: 0 };
-
-const X_1: Gate = Gate::X { q: 1 };
-
-const T_0: Gate = Gate::P { k: 1, q: 0 };
-
-const T_1: Gate = Gate::P { k: 1, q: 1 };
-
-const S_0: Gate = Gate::P { k: 2, q: 0 };
-
-const TDG_0: Gate = Gate::P { k: 7, q: 0 };
-
-const CX_01: Gate = Gate::Cx { c: 0, t: 1 };
-
-const CX_02: Gate = Gate::Cx { c: 0, t: 2 };
-
-fn is_fine(wires: u32, gate: Gate) -> bool
-    ensures { result ≡ true → IsFine wires gate }
-{
-    match gate {
-        Gate::H { q } | Gate::X { q } => q < wires,
-        Gate::P { k, q } => q < wires && 0 < k && k < 8,
-        Gate::Cx { c, t } => c < wires && t < wires && c != t,
-    }
-}
-
-fn circuit(rt: &impl Abort, alloc: Global, wires: u32, gates: &[Gate]) -> Result<Circuit, Fail>
-    requires { wires ≤ 64 }
-{
-    let mut circuit = Circuit::empty(alloc, wires)?;
-    'gates: for gate in gates {
-        assert!(rt; is_fine(wires, *gate));
-        circuit.push(*gate)?;
-    }
-    Ok(circuit)
-}
 
 /// Whether the pass makes these gates, with this turn, of others.
 fn makes(
@@ -61,39 +20,39 @@ fn makes(
     gates: &[Gate],
     expected: &[Gate],
     turn: u8,
-) -> Result<bool, Fail>
-    requires { wires ≤ 64 }
-{
-    let body = circuit(rt, alloc, wires, gates)?;
+) -> Result<bool, Fail> {
+    let body = circuit_of(alloc, wires, gates)?.expect(rt, "gates on the wires");
     let passed = CancelPass.run(alloc, body)?;
-    let mut same = passed.turn == turn && passed.body.len() == expected.len();
-    'places: for (place, gate) in expected.iter().enumerate() {
-        same = same && place < passed.body.len() && passed.body.gate(place) == *gate;
+    let made = gates_of(alloc, &passed.body)?;
+    Ok(passed.turn == turn && made.as_slice() == expected)
+}
+
+#[test]
+fn rows_by_hand(rt: HostRuntime) -> Result<(), Fail> {
+    let alloc = rt.alloc();
+    let rows = [
+        (1, "h.0 h.0", "", 6),
+        (1, "x.0 x.0", "", 4),
+        (1, "1.0 1.0", "2.0", 0),
+        (1, "1.0 7.0", "", 0),
+        (1, "h.0 x.0 h.0", "h.0 x.0 h.0", 0),
+        (1, "1.0 h.0 h.0 1.0", "2.0", 6),
+        // past gates that commute
+        (2, "c01 1.0 c01", "1.0", 0),
+        (3, "c01 c02 1.0 c01", "c02 1.0", 0),
+        (2, "c01 1.1 c01", "c01 1.1 c01", 0),
+        (2, "x.1 c01 x.1", "c01", 4),
+        (2, "x.0 c01 x.0", "x.0 c01 x.0", 0),
+        (2, "c01 h.1 c01", "c01 h.1 c01", 0),
+    ];
+    for (wires, source, result, turn) in rows {
+        let gates = gates_of_text(alloc, source)?;
+        let expected = gates_of_text(alloc, result)?;
+        assert!(rt;
+            makes(&rt, alloc, wires, &gates, &expected, turn)?,
+            "at {source}"
+        );
     }
-    Ok(same)
-}
-
-#[test]
-fn reduces_pairs(rt: HostRuntime) -> Result<(), Fail> {
-    let alloc = rt.alloc();
-    assert!(rt; makes(&rt, alloc, 1, &[H_0, H_0], &[], 6)?);
-    assert!(rt; makes(&rt, alloc, 1, &[X_0, X_0], &[], 4)?);
-    assert!(rt; makes(&rt, alloc, 1, &[T_0, T_0], &[S_0], 0)?);
-    assert!(rt; makes(&rt, alloc, 1, &[T_0, TDG_0], &[], 0)?);
-    assert!(rt; makes(&rt, alloc, 1, &[H_0, X_0, H_0], &[H_0, X_0, H_0], 0)?);
-    assert!(rt; makes(&rt, alloc, 1, &[T_0, H_0, H_0, T_0], &[S_0], 6)?);
-    Ok(())
-}
-
-#[test]
-fn reduces_past_commuting_gates(rt: HostRuntime) -> Result<(), Fail> {
-    let alloc = rt.alloc();
-    assert!(rt; makes(&rt, alloc, 2, &[CX_01, T_0, CX_01], &[T_0], 0)?);
-    assert!(rt; makes(&rt, alloc, 3, &[CX_01, CX_02, T_0, CX_01], &[CX_02, T_0], 0)?);
-    assert!(rt; makes(&rt, alloc, 2, &[CX_01, T_1, CX_01], &[CX_01, T_1, CX_01], 0)?);
-    assert!(rt; makes(&rt, alloc, 2, &[X_1, CX_01, X_1], &[CX_01], 4)?);
-    assert!(rt; makes(&rt, alloc, 2, &[X_0, CX_01, X_0], &[X_0, CX_01, X_0], 0)?);
-    assert!(rt; makes(&rt, alloc, 2, &[CX_01, H_1, CX_01], &[CX_01, H_1, CX_01], 0)?);
     Ok(())
 }
 
@@ -169,43 +128,6 @@ fn plain_walks(rt: &impl Abort, gates: &mut Vec<Gate>) -> u8 {
     turn
 }
 
-/// Numbers that look random, the same at each run.
-#[derive(Drop)]
-struct Random {
-    state: u64,
-}
-
-impl Random {
-    fn below(&mut self, limit: u64) -> u32
-        requires positive { 0 < limit }
-        requires few { limit < 1000 }
-        ensures { result < limit }
-    {
-        self.state = self
-            .state
-            .wrapping_mul(6364136223846793005)
-            .wrapping_add(1442695040888963407);
-        ((self.state >> 33) % limit) as u32
-    }
-
-    /// A gate on four wires.
-    fn gate(&mut self) -> Gate {
-        let q = self.below(4);
-        match self.below(5) {
-            0 => Gate::H { q },
-            1 => Gate::X { q },
-            2 => Gate::P {
-                k: self.below(7) as u8 + 1,
-                q,
-            },
-            _ => Gate::Cx {
-                c: q,
-                t: (q + 1 + self.below(3)) % 4,
-            },
-        }
-    }
-}
-
 /// The gate that undoes another, up to a turn.
 fn inverse(gate: Gate) -> Gate {
     match gate {
@@ -221,12 +143,10 @@ fn inverse(gate: Gate) -> Gate {
 #[test]
 fn cancels_as_the_plain_walks_do(rt: HostRuntime) -> Result<(), Fail> {
     let alloc = rt.alloc();
-    let mut random = Random { state: 1 };
+    let kinds = [Kind::H, Kind::X, Kind::P, Kind::Cx, Kind::Cx];
+    let mut random = Random::from_start(1);
     'circuits: for round in 0..400 {
-        let mut gates = Vec::new(alloc);
-        'front: for _ in 0..60 {
-            gates.push(random.gate())?;
-        }
+        let mut gates = gates_of(alloc, &random.circuit(alloc, 4, &kinds, 60)?)?;
         if round % 2 == 0 {
             let mut mirrored = Vec::new(alloc);
             'back: for gate in gates.iter().rev() {

@@ -22,7 +22,7 @@ use Rattle.command_words.specs.declared.commands.Command.TheVariants.{Opt, Route
 use Rattle.route_report.specs.Lines.{check_line}
 use Rattle.qroute_top.specs.Causes.{Handed, IsCause, IsDeviceCause, IsRefusedDevice, IsRefusedSource, IsSourceCause, Reaches, Reads}
 use Rattle.qroute_top.specs.Delivered.{Content, Delivered, Delivers, IsAnswer, IsHad, IsInPlace, IsOnDevice, IsOnQubits, IsStages, Rewrites, counts_of, drawn_program}
-use Rattle.qroute_top.specs.Devices.{HasDevice, IsDevice, IsDeviceRefusal, NeedsQubits}
+use Rattle.qroute_top.specs.Devices.{HasDevice, IsDevice, IsDeviceRefusal, HasSource}
 use Rattle.qroute_top.specs.Plans.{HasWork, IsWork}
 use Rattle.qroute_top.specs.Stops.{IsUnasked, device_stopped, source_stopped}
 use Rattle.qroute_top.specs.declared.plan.Work.{Work}
@@ -83,9 +83,9 @@ IsCause-source h c (source_stop.Refused x) asked reads r = (reads_of h c asked r
 abbrev pub HasRead : Option (List ℕ) → Option (List ℕ) → Program → Type 0
 HasRead old new p = (t : List ℕ) × TakesAll old new t × IsAccepted t p
 
--- the device of this name is reached, with a program that needs n qubits
+-- the device of this name is reached, for a program with n wires
 abbrev pub ReachesFor : Handed → List ℕ → ℕ → Type 0
-ReachesFor h name n = (route : Reaches h name) × (n ≡ route.qubits)
+ReachesFor h name n = (route : Reaches h name) × (n ≡ route.wires)
 
 pub Reaches-read : (h : Handed) (c : Command) (name : List ℕ) (trivial : Bool) (new : Option (List ℕ)) (p : Program) → command_of h.words ≡ Some c
     → c ≡ Route name trivial → HasRead h.input new p → ReachesFor h name p.wires
@@ -94,8 +94,8 @@ Reaches-read h c name trivial new p asked is read = (
     command = Route name trivial;
     asked = asked ∙ ap (λ x. Some x) is;
     wants = refl;
-    qubits = p.wires;
-    needs = (read.0, p, Tells-taken h.input new read.0 read.1, read.2, refl);
+    wires = p.wires;
+    source = (read.0, p, Tells-taken h.input new read.0 read.1, read.2, refl);
   },
   refl,
 )
@@ -107,8 +107,8 @@ Reaches-drawn h c start gates name asked is = (
     command = Bench start gates name;
     asked = asked ∙ ap (λ x. Some x) is;
     wants = refl;
-    qubits = 0;
-    needs = refl;
+    wires = 0;
+    source = refl;
   },
   refl,
 )
@@ -222,7 +222,7 @@ told_text None t text e h = cc
 told_text (Some x) t text e h = cc
 
 -- a program that is read and needs qubits isn't refused
-refused_or_needed : NoRefusal → (input : Option (List ℕ)) (b : Bool) (n : ℕ) (r : Refusal) → b ≡ true → NeedsQubits b (λ t. input ≡ Some t) n
+refused_or_needed : NoRefusal → (input : Option (List ℕ)) (b : Bool) (n : ℕ) (r : Refusal) → b ≡ true → HasSource b (λ t. input ≡ Some t) n
     → IsRefusedSource input r → ⊥
 refused_or_needed law input true n r reads (t, p, told, ok, wires) (text, tells, refusal) =
     let same = told_text input t text told tells in
@@ -230,7 +230,7 @@ refused_or_needed law input true n r reads (t, p, told, ok, wires) (text, tells,
 refused_or_needed law input false n r reads needs refused = cc
 
 -- nor is one with which a device is reached
-needed_or_refused : NoRefusal → (input : Option (List ℕ)) (b : Bool) (n : ℕ) (t : List ℕ) (r : Refusal) → b ≡ true → NeedsQubits b (Tells input) n
+needed_or_refused : NoRefusal → (input : Option (List ℕ)) (b : Bool) (n : ℕ) (t : List ℕ) (r : Refusal) → b ≡ true → HasSource b (Tells input) n
     → input ≡ Some t → IsRefusal t r → ⊥
 needed_or_refused law input true n t r reads (text, p, tells, ok, wires) told refusal =
     let same = told_text input t text told tells in
@@ -243,7 +243,7 @@ reached_or_refused : NoRefusal → (h : Handed) (a : Command) (name t : List ℕ
 reached_or_refused law h a name t r route asked reads told refusal =
     let same = same_command h.words a route.command asked route.asked in
     let read : reads_input route.command ≡ true = subst (λ x. reads_input x ≡ true) same reads in
-    needed_or_refused law h.input (reads_input route.command) route.qubits t r read route.needs told refusal
+    needed_or_refused law h.input (reads_input route.command) route.wires t r read route.source told refusal
 
 pub stopped-refuses : NoRefusal → (h : Handed) (s : Stop) (n : ℕ) (a : Command) (t : List ℕ) (r : Refusal) → IsCause h s → Ends s n → command_of h.words ≡ Some a
     → reads_input a ≡ true → h.input ≡ Some t → IsRefusal t r → (Rose h.faults_before h.faults_after → ⊥) → (n ≡ 3) ⊎ (n ≡ 7)
@@ -264,7 +264,7 @@ same_name h name c route asked =
     subst (λ x. device_name x ≡ Some name) (same_command h.words route.command c route.asked asked) route.wants
 
 -- a program needs one number of qubits
-same_needs : MeansOnce → (input : Option (List ℕ)) (b : Bool) (m n : ℕ) → NeedsQubits b (Tells input) m → NeedsQubits b (λ t. input ≡ Some t) n → m ≡ n
+same_needs : MeansOnce → (input : Option (List ℕ)) (b : Bool) (m n : ℕ) → HasSource b (Tells input) m → HasSource b (λ t. input ≡ Some t) n → m ≡ n
 same_needs once input true m n (t, p, tells, ok, wires) (u, q, told, good, size) =
     let same = told_text input u t told tells in
     let here : IsAccepted u p = rw same at ok in
@@ -273,14 +273,14 @@ same_needs once input true m n (t, p, tells, ok, wires) (u, q, told, good, size)
 same_needs once input false m n zero none = zero ∙ sym none
 
 reached_needs : MeansOnce → (h : Handed) (name : List ℕ) (c : Command) (n : ℕ) (route : Reaches h name) → command_of h.words ≡ Some c
-    → NeedsQubits (reads_input c) (λ t. h.input ≡ Some t) n → route.qubits ≡ n
+    → HasSource (reads_input c) (λ t. h.input ≡ Some t) n → route.wires ≡ n
 reached_needs once h name c n route asked needs =
     let same = same_command h.words c route.command asked route.asked in
-    let here = subst (λ x. NeedsQubits (reads_input x) (λ t. h.input ≡ Some t) n) same needs in
-    same_needs once h.input (reads_input route.command) route.qubits n route.needs here
+    let here = subst (λ x. HasSource (reads_input x) (λ t. h.input ≡ Some t) n) same needs in
+    same_needs once h.input (reads_input route.command) route.wires n route.source here
 
 -- a program that was had has a wire for each qubit that is needed
-had_needs : MeansOnce → (old new : Option (List ℕ)) (b : Bool) (n : ℕ) (p : Program) → NeedsQubits b (λ t. old ≡ Some t) n → IsHad b old new p → n ≤ p.wires
+had_needs : MeansOnce → (old new : Option (List ℕ)) (b : Bool) (n : ℕ) (p : Program) → HasSource b (λ t. old ≡ Some t) n → IsHad b old new p → n ≤ p.wires
 had_needs once old new true n p (u, q, told, good, size) (t, taken, ok) =
     let same = told_text old u t told (Tells-taken old new t taken) in
     let here : IsAccepted u p = rw same at ok in
@@ -307,12 +307,12 @@ same_device name other o e f = cc
 -- what is asked of a command: its words, its input, and counts that didn't rise
 pub record IsAsked (h : Handed) (c : Command) (q : ℕ) : Type 0 where
   pub asked : command_of h.words ≡ Some c
-  pub needs : NeedsQubits (reads_input c) (λ t. h.input ≡ Some t) q
-  pub calm : Rose h.faults_before h.faults_after → ⊥
+  pub needs : HasSource (reads_input c) (λ t. h.input ≡ Some t) q
+  pub calm : reads_input c ≡ true → Rose h.faults_before h.faults_after → ⊥
   pub shelf_calm : is_some (device_name c) ≡ true → Rose h.shelf_before h.shelf_after → ⊥
 
-pub asked_of : (h : Handed) (c : Command) (q : ℕ) → command_of h.words ≡ Some c → NeedsQubits (reads_input c) (λ t. h.input ≡ Some t) q
-    → (Rose h.faults_before h.faults_after → ⊥) → (is_some (device_name c) ≡ true → Rose h.shelf_before h.shelf_after → ⊥) → IsAsked h c q
+pub asked_of : (h : Handed) (c : Command) (q : ℕ) → command_of h.words ≡ Some c → HasSource (reads_input c) (λ t. h.input ≡ Some t) q
+    → (reads_input c ≡ true → Rose h.faults_before h.faults_after → ⊥) → (is_some (device_name c) ≡ true → Rose h.shelf_before h.shelf_after → ⊥) → IsAsked h c q
 asked_of h c q asked needs calm shelf_calm = record { asked = asked; needs = needs; calm = calm; shelf_calm = shelf_calm }
 
 wanted : (o : Option (List ℕ)) (name : List ℕ) → o ≡ Some name → is_some o ≡ true
@@ -324,7 +324,7 @@ stopped_early : NoRefusal → (h : Handed) (s : Stop) (n : ℕ) (c : Command) (q
     → (s ≡ stop.Absent → ⊥) → ((r : DeviceRefusal) → s ≡ stop.Device r → ⊥) → n ≡ 7
 stopped_early law h stop.NoMemory n c q w e a absent refused = grind arith
 stopped_early law h stop.Words n c q w e a absent refused = let asked = a.asked in cc
-stopped_early law h stop.Input n c q w e a absent refused = absurd (a.calm w.1)
+stopped_early law h stop.Input n c q w e a absent refused = absurd (a.calm (reads_same h c w.0 a.asked) w.1)
 stopped_early law h (stop.Program r) n c q w e a absent refused =
     absurd (refused_or_needed law h.input (reads_input c) q r (reads_same h c w.0 a.asked) a.needs w.1)
 stopped_early law h stop.Shelf n c q w e a absent refused =
@@ -339,7 +339,7 @@ told_device once h c name t q r (other, route, (u, tells, refusal), calm) a want
     let names = same_device name other (device_name c) wants (same_name h other c route a.asked) in
     let there : h.content other ≡ Some (Some t) = rw (← names) here in
     let same = device_text (h.content other) t u there tells in
-    let refused : IsDeviceRefusal t route.qubits r = rw same at refusal in
+    let refused : IsDeviceRefusal t route.wires r = rw same at refusal in
     subst (λ m. IsDeviceRefusal t m r) (reached_needs once h other c q route a.asked a.needs) refused
 
 told_absent : (h : Handed) (c : Command) (name t : List ℕ) (q : ℕ) → IsCause h stop.Absent → IsAsked h c q → device_name c ≡ Some name
@@ -501,20 +501,20 @@ planned-absent words content old new w n name c delivers (inr (x, l, is)) asked 
 
 refused_or_routed : MeansOnce → (words : List (List ℕ)) (content : Content) (old new : Option (List ℕ)) (x l name : List ℕ) (c : Command) (t : List ℕ)
     (q : ℕ) (r : DeviceRefusal) → Delivers words content old new x l → command_of words ≡ Some c → device_name c ≡ Some name
-    → NeedsQubits (reads_input c) (λ u. old ≡ Some u) q → content name ≡ Some (Some t) → IsDeviceRefusal t q r → ⊥
+    → HasSource (reads_input c) (λ u. old ≡ Some u) q → content name ≡ Some (Some t) → IsDeviceRefusal t q r → ⊥
 refused_or_routed once words content old new x l name c t q r d asked wants needs here refusal =
     let on = planned_on words content old new x l name c d asked wants in
     let placed = on.1.placed in
     let same = device_text (content name) t placed.device_text here placed.loaded in
     let described : IsDevice t placed.device = rw same at placed.described in
-    let there = subst (λ y. NeedsQubits (reads_input y) (λ u. old ≡ Some u) q) (same_command words c d.command asked d.asked) needs in
+    let there = subst (λ y. HasSource (reads_input y) (λ u. old ≡ Some u) q) (same_command words c d.command asked d.asked) needs in
     let wires = had_needs once old new (reads_input d.command) q d.source there d.had in
     let fits : d.source.wires ≤ placed.device.size = rw (← placed.routed.qubits) on.1.made.unitary.fits in
     IsDevice-refused t placed.device q r described (omega (arith, wires, fits)) refusal
 
 pub planned-refuses_device : MeansOnce → (words : List (List ℕ)) (content : Content) (old new : Option (List ℕ)) (w : Work) (n : ℕ) (name : List ℕ) (c : Command)
     (t : List ℕ) (q : ℕ) (r : DeviceRefusal) → DeliversWork words content old new w → Came w n → command_of words ≡ Some c
-    → device_name c ≡ Some name → NeedsQubits (reads_input c) (λ u. old ≡ Some u) q → content name ≡ Some (Some t) → IsDeviceRefusal t q r
+    → device_name c ≡ Some name → HasSource (reads_input c) (λ u. old ≡ Some u) q → content name ≡ Some (Some t) → IsDeviceRefusal t q r
     → (n ≡ 4) ⊎ (n ≡ 7)
 planned-refuses_device once words content old new w n name c t q r delivers (inl seven) asked wants needs here refusal = inr seven
 planned-refuses_device once words content old new w n name c t q r delivers (inr (x, l, is)) asked wants needs here refusal =

@@ -1,7 +1,8 @@
 -- Why a run ends before its first byte goes out.
 --   Handed                what the program is handed, and its counts of faults at the entry and at the return
 --   Reads h               the words mean a command that reads the input
---   Reaches h name        they mean a command that loads the device of this name, and where it reads a program, that is accepted
+--   Reaches h name        they mean a command that loads the device of this name; if it reads the input, that is accepted, as a
+--                         program with so many wires
 --   IsRefusedSource input r   the input has a text, the told one where one is told, and r is its first refusal
 --   IsRefusedDevice ..    the same of the text of a device, for a program on n wires
 --   IsCause h s           the stop s has its cause; want of memory is free
@@ -36,7 +37,7 @@ use Rattle.qroute_top.specs.declared.stops.SourceStop.TheVariants as source_stop
 use Rattle.qroute_top.specs.declared.stops.Stop.{Stop}
 use Rattle.qroute_top.specs.declared.stops.Stop.TheVariants as stop
 use Rattle.qroute_top.specs.Delivered.{Content}
-use Rattle.qroute_top.specs.Devices.{IsDeviceRefusal, NeedsQubits}
+use Rattle.qroute_top.specs.Devices.{IsDeviceRefusal, HasSource}
 
 pub record Handed : Type 0 where
   pub words : List (List ℕ)
@@ -56,8 +57,8 @@ pub record Reaches (h : Handed) (name : List ℕ) : Type 0 where
   pub command : Command
   pub asked : command_of h.words ≡ Some command
   pub wants : device_name command ≡ Some name
-  pub qubits : ℕ
-  pub needs : NeedsQubits (reads_input command) (Tells h.input) qubits
+  pub wires : ℕ
+  pub source : HasSource (reads_input command) (Tells h.input) wires
 
 abbrev pub IsRefusedSource : Option (List ℕ) → Refusal → Type 0
 IsRefusedSource input r = (text : List ℕ) × Tells input text × IsRefusal text r
@@ -72,7 +73,7 @@ IsCause h stop.Input = Reads h × Rose h.faults_before h.faults_after
 IsCause h (stop.Program r) = Reads h × IsRefusedSource h.input r
 IsCause h stop.Shelf = (name : List ℕ) × Reaches h name × Rose h.shelf_before h.shelf_after
 IsCause h stop.Absent = (name : List ℕ) × Reaches h name × HasNoText (h.content name) × (h.shelf_after ≡ h.shelf_before)
-IsCause h (stop.Device r) = (name : List ℕ) × (asked : Reaches h name) × IsRefusedDevice (h.content name) asked.qubits r
+IsCause h (stop.Device r) = (name : List ℕ) × (asked : Reaches h name) × IsRefusedDevice (h.content name) asked.wires r
     × (h.shelf_after ≡ h.shelf_before)
 
 -- why reading the program stops

@@ -1,17 +1,17 @@
--- What is written and reported for an accepted program: the headline.
+-- What is written and reported for a program that is read or drawn: the headline.
 --   Content                     what a shelf tells of each name: nothing, no text, or a text
 --   Reports source target r     the report's numbers are those of both programs
 --   placed_read p r             the qubit at which the wire of a read stands by p
 --   Makes source target r ..    the text and the report line are right for a source: the target is the source, up to the
 --                               reported power of w and the reported placements
 --   Rewrites source P ..        there is such a target, and of its qubits, placements and edges P holds
---   IsInPlace, IsOnDevice       this P for `opt`, and for `route` and `bench`;  IsOnQubits: for a device that is known
+--   IsInPlace, IsOnDevice       this P for `opt` and `route`, and part of it for `bench`;  IsOnQubits: for a device that is known
 --   counts_of source            what `check` tells of a program
 --   IsStages source text        what `stages` writes of it: the lines of the layers of its gates
 --   IsAnswer content c source ..   the text and the line are what the command asks for
 --   drawn_program start gates n   the program of `bench`: so many gates on n wires, drawn from a start; no bit, and no barrier
---   IsHad reads input after source   where the program comes from: the accepted text that the input had left, which was taken
---                               whole, or where no input is read the words alone
+--   IsHad reads input after source   where the input is read, it was taken whole, and its text is accepted as this program;
+--                               a program that is drawn is told by the answer
 --   Delivers words content ..   the words mean a command, and the text and the line are its answer for such a program
 --   Delivered ..                some text and line are so, and this was done with them
 use Rattle.std.specs.Prelude.{◌≡◌, ℕ, ◌+◌, ◌*◌, ◌≤◌, Bool, true, false, List, [], Option, Some, All, length, map, option_map, slice_index}

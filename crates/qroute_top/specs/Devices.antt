@@ -4,8 +4,8 @@
 --   IsDeviceRefusal text n r   r is the first refusal of the text for a program on n wires: its length, or else that it
 --                              describes no device, or else that its device has fewer qubits
 --   HasDevice content o n      where a device of a name is wanted, the shelf has its text, which describes one with n qubits at least
---   NeedsQubits reads IsInput n   a command needs n qubits: where it reads the input, as many as the program of an input has
---                              wires, which is accepted; where it reads none, 0, as its program is made for the device
+--   HasSource reads IsInput n   where a command reads the input, that is accepted, as a program on n wires; where it reads none,
+--                              n is 0, as its program is drawn for the device
 use Rattle.std.specs.Prelude.{◌≡◌, ℕ, ◌<◌, ◌≤◌, Bool, true, false, List, Option, Some, None, length}
 use Rattle.coupling_map.specs.Coupling.{Coupling, IsCoupling}
 use Rattle.coupling_map.specs.Refusals.{IsDeviceFault}
@@ -31,6 +31,6 @@ abbrev pub HasDevice : (List ℕ → Option (Option (List ℕ))) → Option (Lis
 HasDevice content None n = Unit {0}
 HasDevice content (Some name) n = (text : List ℕ) × (d : Coupling) × (content name ≡ Some (Some text)) × IsDevice text d × (n ≤ d.size)
 
-abbrev pub NeedsQubits : Bool → (List ℕ → Type 0) → ℕ → Type 0
-NeedsQubits true IsInput n = (text : List ℕ) × (p : Program) × IsInput text × IsAccepted text p × (n ≡ p.wires)
-NeedsQubits false IsInput n = n ≡ 0
+abbrev pub HasSource : Bool → (List ℕ → Type 0) → ℕ → Type 0
+HasSource true IsInput n = (text : List ℕ) × (p : Program) × IsInput text × IsAccepted text p × (n ≡ p.wires)
+HasSource false IsInput n = n ≡ 0

@@ -1,6 +1,6 @@
 //! `bench`: what is written of programs that are drawn, and that none is read.
 
-use crate::cases_tests::{Case, HEAD, LINE, PAIR, Stopped, run_case, stop};
+use crate::cases_tests::{Case, HEAD, LINE, Outcome, PAIR, Stopped, run_case, stop};
 use bench_program::made;
 use gate_expand::Ops;
 use std::alloc::{AllocError, Global};
@@ -12,8 +12,7 @@ const ONE: [&str; 8] = [
     "qroute", "bench", "--start", "1", "--gates", "1", "--device", "d",
 ];
 
-/// Words, device, what is written after the heading, and what the report tells. The first call of the input and the second of
-/// the shelf would fail.
+/// Devices, what is written after the heading, and what the report tells. No input is read; the shelf's second call would fail.
 #[test]
 fn writes_what_is_drawn(rt: HostRuntime) -> Result<(), Fail> {
     let alloc = rt.alloc();
@@ -35,10 +34,11 @@ fn writes_what_is_drawn(rt: HostRuntime) -> Result<(), Fail> {
             words: &ONE,
             text: b"no program",
             device,
-            fails: [1, 2, 0, 0],
+            fails: [0, 2, 0, 0],
         };
         let got = run_case(alloc, case)?;
         assert_eq!(rt; got.status, 0, "{told}");
+        assert_eq!(rt; got.calls, 0);
         assert_eq!(rt; got.left, 10);
         let text = format!(in alloc; "{HEAD}{written}")?;
         assert_eq!(rt; got.out.as_slice(), text.as_bytes(), "{told}");
@@ -70,45 +70,47 @@ fn text_of(alloc: Global, program: &Ops) -> Result<String, AllocError> {
     Ok(text)
 }
 
+/// What `bench` makes of 200 gates from a start on.
+fn drawn_from(alloc: Global, start: u32, device: &str) -> Result<Outcome, AllocError> {
+    let number = format!(in alloc; "{start}")?;
+    let words = [
+        "qroute",
+        "bench",
+        "--start",
+        number.as_str(),
+        "--gates",
+        "200",
+        "--device",
+        "d",
+    ];
+    let case = Case {
+        words: &words,
+        text: b"",
+        device,
+        fails: [0, 0, 0, 0],
+    };
+    run_case(alloc, case)
+}
+
+/// A ring of five qubits, with an edge against the others.
+const RING: &str = "qubits = 5\nedges = [[0, 1], [1, 2], [3, 2], [3, 4], [4, 0]]\n";
+
 /// What is written and told of a drawn program is what `route` makes of its text.
 #[test]
 fn routes_what_is_drawn(rt: HostRuntime) -> Result<(), Fail> {
     let alloc = rt.alloc();
-    let ring = "qubits = 5\nedges = [[0, 1], [1, 2], [3, 2], [3, 4], [4, 0]]\n";
+    let mut swapped = false;
     for start in 0..50u32 {
-        let (device, qubits) = if start % 2 == 0 { (LINE, 4) } else { (ring, 5) };
-        let number = format!(in alloc; "{start}")?;
-        let words = [
-            "qroute",
-            "bench",
-            "--start",
-            number.as_str(),
-            "--gates",
-            "200",
-            "--device",
-            "d",
-        ];
-        let fails = [0, 0, 0, 0];
-        let drawn = run_case(
-            alloc,
-            Case {
-                words: &words,
-                text: b"",
-                device,
-                fails,
-            },
-        )?;
+        let (device, qubits) = if start % 2 == 0 { (LINE, 4) } else { (RING, 5) };
+        let drawn = drawn_from(alloc, start, device)?;
         let text = text_of(alloc, &made(alloc, start, 200, qubits)?)?;
-        let words = ["qroute", "route", "--device", "d"];
-        let routed = run_case(
-            alloc,
-            Case {
-                words: &words,
-                text: text.as_bytes(),
-                device,
-                fails,
-            },
-        )?;
+        let case = Case {
+            words: &["qroute", "route", "--device", "d"],
+            text: text.as_bytes(),
+            device,
+            fails: [0, 0, 0, 0],
+        };
+        let routed = run_case(alloc, case)?;
         assert_eq!(rt; drawn.status, 0, "{start}");
         assert_eq!(rt; routed.status, 0, "{start}");
         assert_eq!(rt; drawn.out.as_slice(), routed.out.as_slice(), "{start}");
@@ -117,14 +119,42 @@ fn routes_what_is_drawn(rt: HostRuntime) -> Result<(), Fail> {
             routed.report.as_slice(),
             "{start}"
         );
+        let told = String::from_utf8(drawn.report).expect(&rt, "a report in UTF-8");
+        swapped = swapped || !told.contains("\"swaps\":0,");
+    }
+    assert!(rt; swapped);
+    Ok(())
+}
+
+/// Starts, devices, and the CNOTs and T gates that are drawn, as a program in another language counted them.
+#[test]
+fn counts_what_is_drawn(rt: HostRuntime) -> Result<(), Fail> {
+    let alloc = rt.alloc();
+    let rows = [
+        (0, LINE, 64, 48),
+        (1, RING, 71, 56),
+        (2, LINE, 73, 56),
+        (49, RING, 71, 43),
+    ];
+    for (start, device, cnots, t_gates) in rows {
+        let drawn = drawn_from(alloc, start, device)?;
+        let told = String::from_utf8(drawn.report).expect(&rt, "a report in UTF-8");
+        assert!(rt;
+            told.contains(&format!(in alloc; "\"cx_before\":{cnots},")?),
+            "{told}"
+        );
+        assert!(rt;
+            told.contains(&format!(in alloc; "\"t_before\":{t_gates}}}")?),
+            "{told}"
+        );
     }
     Ok(())
 }
 
 /// The device is refused, and the ends fail, without a program that was read.
 #[test]
-fn refuses_the_device_alone(rt: HostRuntime) -> Result<(), Fail> {
-    let rows: [Stopped; 8] = [
+fn stops_without_reading(rt: HostRuntime) -> Result<(), Fail> {
+    let rows: [Stopped; 9] = [
         (
             &ONE,
             "?",
@@ -180,6 +210,15 @@ fn refuses_the_device_alone(rt: HostRuntime) -> Result<(), Fail> {
             "{\"fault\":\"Output\",\"status\":6}\n",
         ),
         (&ONE, "?", PAIR, [1, 0, 1, 1], 6, "", ""),
+        (
+            &ONE,
+            "?",
+            "qubits = 1\nedges = []\n",
+            [1, 0, 0, 1],
+            8,
+            "OPENQASM 2.0;\ninclude \"qelib1.inc\";\nqreg q[1];\nh q[0];\n",
+            "",
+        ),
         // the number of gates is refused before all
         (
             &[

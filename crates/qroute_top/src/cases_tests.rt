@@ -20,6 +20,8 @@ pub struct Case<'a> {
 #[derive(Drop)]
 pub struct Outcome {
     pub status: u8,
+    /// The calls on the input.
+    pub calls: u64,
     /// The bytes of the input that weren't taken.
     pub left: usize,
     pub out: Vec<u8>,
@@ -57,6 +59,7 @@ pub fn run_by(alloc: Global, case: Case<'_>, most: usize) -> Result<Outcome, All
     );
     Ok(Outcome {
         status,
+        calls: input.calls(),
         left: input.rest().len(),
         out: Vec::from_slice(alloc, out.as_slice())?,
         report: Vec::from_slice(alloc, report.as_slice())?,

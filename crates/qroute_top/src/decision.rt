@@ -1,7 +1,7 @@
 //! All that happens before a sink is touched.
 
 ghost use Rattle.std.specs.Prelude.{◌≡◌, ℕ, List, Some, None, Err, true, false, map, IfOk, IfErr};
-ghost use Rattle.command_words.specs.Commands.{IsInRange, command_of};
+ghost use Rattle.command_words.specs.Commands.{HasFewGates, command_of};
 ghost use Rattle.command_words.specs.Demands.{device_name, reads_input, writes_out, writes_report};
 ghost use Rattle.command_words.specs.declared.commands.Command.{Command as Asked};
 ghost use Rattle.qroute_top.specs.Causes.{IsCause};
@@ -22,7 +22,7 @@ use std::alloc::Global;
 /// The command of the words.
 fn asked(alloc: Global, words: &[&str]) -> Result<Command, Stop>
     ensures ok { IfOk result (λ c. command_of (map (λ w. w.now) words.now) ≡ Some c) }
-    ensures range { IfOk result IsInRange }
+    ensures few { IfOk result HasFewGates }
     ensures err { IfErr result (IsUnasked (map (λ w. w.now) words.now)) }
 {
     match command(alloc, words) {

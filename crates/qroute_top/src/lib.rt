@@ -10,10 +10,10 @@
 //! tells of a program without writing one, and `stages` writes a line for each layer of its gates. `bench` reads none: it routes
 //! one that it draws for the device, gate by gate.
 //!
-//! `source` reads the input, over all of the readers, or draws a program, `device` loads the device of a name, `target` makes the circuit that is
-//! to be written, and `plan` all that takes memory, before `emission` writes the first byte. A program goes out in pieces, so
-//! its text never stands whole in memory. What a command asks of its surroundings is told by `command_words`, so that each
-//! clause is said once for all commands.
+//! `source` reads the input, over all of the readers, or draws a program; `device` loads the device of a name; `target` makes the
+//! circuit that is to be written, and `plan` all that takes memory, before `emission` writes the first byte. A program goes out
+//! in pieces, so its text never stands whole in memory. What a command asks of its surroundings is told by `command_words`, so
+//! that each clause is said once for all commands.
 #![tactic(auto)]
 
 ghost use Rattle.std.specs.Prelude.{◌≡◌, ◌⊎◌, ◌≤◌, ℕ, List, Some, None, map, true, false, is_some};
@@ -26,10 +26,11 @@ ghost use Rattle.command_words.specs.Commands.{command_of};
 ghost use Rattle.command_words.specs.Demands.{device_name, reads_input, writes_out, writes_report};
 ghost use Rattle.command_words.specs.declared.commands.Command.{Command as Asked};
 ghost use Rattle.qroute_top.specs.declared.stops.DeviceRefusal.{DeviceRefusal as RefusedDevice};
-ghost use Rattle.qroute_top.specs.Devices.{HasDevice, IsDeviceRefusal, NeedsQubits};
+ghost use Rattle.qroute_top.specs.Devices.{HasDevice, IsDeviceRefusal, HasSource};
 ghost use Rattle.qroute_top.specs.Causes.{EndsWithFault, is_early_fault, output_fault_line};
 ghost use Rattle.qroute_top.specs.Delivered.{Delivered};
 
+pub use bench_program::made;
 pub use command_words::{commands, name, words};
 use decision::decide;
 use emission::{emit, tell};
@@ -94,22 +95,22 @@ pub fn run<I: Source, F: Shelf, O: Sink, R: Sink>(
 
     // 9 exactly where the shelf has no text of the device's name, unless it failed.
     ensures absent { (c : Asked) (name : List ℕ) (n : ℕ) → command_of (map (λ w. w.now) words.now) ≡ Some c
-        → device_name c ≡ Some name → NeedsQubits (reads_input c) (λ text. I.left input.old ≡ Some text) n
-        → (Rose (I.faults input.old) (I.faults input.new) → ⊥) → (Rose (F.faults shelf.old) (F.faults shelf.new) → ⊥)
+        → device_name c ≡ Some name → HasSource (reads_input c) (λ text. I.left input.old ≡ Some text) n
+        → (reads_input c ≡ true → Rose (I.faults input.old) (I.faults input.new) → ⊥) → (Rose (F.faults shelf.old) (F.faults shelf.new) → ⊥)
         → F.content shelf.old name ≡ Some None → (result ≡ 9) ⊎ (result ≡ 7) }
 
     // 4 exactly where the text of the device has a first refusal.
     ensures refuses_device { (c : Asked) (name device_text : List ℕ) (n : ℕ) (r : RefusedDevice)
         → command_of (map (λ w. w.now) words.now) ≡ Some c → device_name c ≡ Some name
-        → NeedsQubits (reads_input c) (λ text. I.left input.old ≡ Some text) n
-        → (Rose (I.faults input.old) (I.faults input.new) → ⊥) → (Rose (F.faults shelf.old) (F.faults shelf.new) → ⊥)
+        → HasSource (reads_input c) (λ text. I.left input.old ≡ Some text) n
+        → (reads_input c ≡ true → Rose (I.faults input.old) (I.faults input.new) → ⊥) → (Rose (F.faults shelf.old) (F.faults shelf.new) → ⊥)
         → F.content shelf.old name ≡ Some (Some device_text) → IsDeviceRefusal device_text n r → (result ≡ 4) ⊎ (result ≡ 7) }
 
     // A command whose input, where it reads one, is accepted, and whose device, where it wants one, has a qubit for each wire,
     // ends well, or wants memory, unless a count of faults rose.
     ensures complete { (c : Asked) (n : ℕ) → command_of (map (λ w. w.now) words.now) ≡ Some c
-        → NeedsQubits (reads_input c) (λ text. I.left input.old ≡ Some text) n → HasDevice (F.content shelf.old) (device_name c) n
-        → (Rose (I.faults input.old) (I.faults input.new) → ⊥)
+        → HasSource (reads_input c) (λ text. I.left input.old ≡ Some text) n → HasDevice (F.content shelf.old) (device_name c) n
+        → (reads_input c ≡ true → Rose (I.faults input.old) (I.faults input.new) → ⊥)
         → (is_some (device_name c) ≡ true → Rose (F.faults shelf.old) (F.faults shelf.new) → ⊥)
         → (writes_out c ≡ true → Rose (O.faults out.old) (O.faults out.new) → ⊥)
         → (writes_report c ≡ true → Rose (R.faults report.old) (R.faults report.new) → ⊥) → (result ≡ 0) ⊎ (result ≡ 7) }

@@ -1,7 +1,7 @@
 //! Runs that end early: failing ends, other words, and texts that are refused.
 
 use crate::cases_tests::{
-    CHECK, Case, HEAD, OPT, PAIR, STAGES, Stopped, optimise, refuse, run_by, run_case, stop,
+    CHECK, Case, HEAD, OPT, PAIR, STAGES, Stopped, headed, optimise, refuse, run_by, run_case, stop,
 };
 use std::test::Fail;
 
@@ -89,32 +89,41 @@ fn says_what_failed(rt: HostRuntime) -> Result<(), Fail> {
 #[test]
 fn keeps_the_piece_that_came(rt: HostRuntime) -> Result<(), Fail> {
     let alloc = rt.alloc();
+    let source = headed(alloc, "qreg q[64]; h q; t q; h q; t q; h q; t q; h q; t q;")?;
     // no pass finds anything to do here
     let mut text = String::from_str(alloc, HEAD)?;
     text.push_str("qreg q[64];\n")?;
     for _ in 0..4u32 {
-        for wire in 0..64u32 {
-            write!(text, "h q[{wire}];\nt q[{wire}];\n")?;
+        for name in ["h", "t"] {
+            for wire in 0..64u32 {
+                write!(text, "{name} q[{wire}];\n")?;
+            }
         }
     }
     let text = text.into_bytes();
-    let told = "{\"fault\":\"Output\",\"status\":6}\n";
+    assert_eq!(rt; text.len(), 4576);
+    let failed = "{\"fault\":\"Output\",\"status\":6}\n";
     for most in [4096, 9999] {
         let case = Case {
             words: &OPT,
-            text: &text,
+            text: &source,
             device: "",
             fails: [0, 1, 0, 0],
         };
         let got = run_by(alloc, case, most)?;
         assert_eq!(rt; got.status, 0);
         assert_eq!(rt; got.out.as_slice(), text.as_slice());
+        let told = String::from_utf8(got.report).expect(&rt, "a report in UTF-8");
+        assert!(rt;
+            told.contains("\"t_after\":256,\"t_before\":256}"),
+            "{told}"
+        );
         let fails = [0, 1, 2, 0];
         let got = run_by(alloc, Case { fails, ..case }, most)?;
         assert_eq!(rt; got.status, 6);
         assert_eq!(rt; got.out.len(), 4096);
         assert!(rt; text.starts_with(got.out.as_slice()));
-        assert_eq!(rt; got.report.as_slice(), told.as_bytes());
+        assert_eq!(rt; got.report.as_slice(), failed.as_bytes());
     }
     Ok(())
 }
