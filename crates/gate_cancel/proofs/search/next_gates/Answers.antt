@@ -1,4 +1,4 @@
-use Rattle.std.proofs.Common.{◌≡◌, ◌∙◌, ℕ, Some, slice_get, subst, sym, Option, MatchOption}
+use Rattle.std.proofs.Common.{◌∙◌, ℕ, subst, sym, Option, MatchOption}
 use Rattle.circuit_list.specs.Slots.{IsNextOn, NoneBehind, place_of}
 use Rattle.commute_rules.specs.Reducible.{IsReducible}
 use Rattle.gate_cancel.specs.Reaches.{AreNext}
