@@ -72,17 +72,11 @@ fn text_of(alloc: Global, program: &Ops) -> Result<String, AllocError> {
 
 /// What `bench` makes of 200 gates from a start on.
 fn drawn_from(alloc: Global, start: u32, device: &str) -> Result<Outcome, AllocError> {
-    let number = format!(in alloc; "{start}")?;
-    let words = [
-        "qroute",
-        "bench",
-        "--start",
-        number.as_str(),
-        "--gates",
-        "200",
-        "--device",
-        "d",
-    ];
+    let line = format!(in alloc; "qroute bench --start {start} --gates 200 --device d")?;
+    let mut words = Vec::new(alloc);
+    for word in line.split(' ') {
+        words.push(word)?;
+    }
     let case = Case {
         words: &words,
         text: b"",
