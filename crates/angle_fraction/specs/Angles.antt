@@ -5,7 +5,10 @@
 --   plainly           the angle without a part with pi
 --   is_nought, is_plain, is_whole   the value is 0; it has no part with pi; it is a plain whole number
 --   sum_of, difference_of, opposite_of, product_of, quotient_of, power_of   the answer of an operation
---   is_turn, eighths_of   k, where the angle is k pi/4 up to a multiple of 2 pi
+--   power_by          an angle to a whole power, or its fault
+--   is_turn a k       the angle is k pi/4 up to a multiple of 2 pi
+--   first_where       the first of some numbers in a row that passes a test
+--   eighths_of        the k below 8 with which the angle is such a turn, where there is one
 use Rattle.std.specs.Prelude.{ℕ, zero, suc, ◌*◌, ◌==◌, ◌&&◌, Bool, ℤ, pos, negsuc, Result, Ok, Err, Option, Some, None, if◌then◌else◌, ◌*ℤ◌, ◌-ℤ◌, ◌+◌, ◌%◌}
 use Rattle.std.specs.Int.RustNames.{unsigned_abs}
 use Rattle.angle_fraction.specs.Fraction.{Fraction, difference, is_small, lowest, nought, opposite, power, product, quotient, sum, unit}

@@ -1,7 +1,10 @@
 -- Exact fractions of whole numbers of any size.
 --   Fraction          a numerator and a denominator; a value has a denominator above 0
+--   fraction n d      the fraction with these parts
 --   nought, unit      0 and 1
 --   sum, difference, opposite, product, quotient, power   the arithmetic of fractions; a quotient asks for a divisor that isn't 0
+--   over_by, inverse_of   1 over a fraction, of which the parts are given, or the fraction itself; the numerator takes the sign
+--   raised x n        x to a power that isn't negative
 --   IsSign            0, 1 or -1
 --   greatest_common   the greatest number up to a bound that divides two numbers
 --   common_factor     the greatest common divisor of a fraction's parts
@@ -11,6 +14,7 @@
 --   most_part         the greatest size of a part that is kept, 2^62
 --   is_small          both parts are at most so large
 --   IsKept            what two parts that are kept have: a denominator above 0, lowest terms, and their size
+--   den_back          of two parts that are kept, the denominator is its own size
 use Rattle.std.specs.Prelude.{◌≡◌, ℕ, zero, suc, ◌*◌, ◌/◌, ◌%◌, ◌<◌, ◌^◌, ◌==◌, ◌&&◌, Bool, ℤ, pos, negsuc, neg_ℤ, ◌+ℤ◌, ◌-ℤ◌, ◌*ℤ◌, if◌then◌else◌, nat_le, ◌≤◌, ◌<ℤ◌, refl}
 use Rattle.std.specs.Int.{int_pow, ◌∣◌}
 use Rattle.std.specs.Int.RustNames.{int_div, unsigned_abs}

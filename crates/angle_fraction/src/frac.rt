@@ -1,9 +1,9 @@
 //! Fractions in lowest terms, whose parts are at most 2^62.
 
-ghost use Rattle.std.specs.Prelude.{Bool, true, false, ◌≡◌, ◌≢◌, ℕ, ◌+◌, ◌*◌, ◌<◌, ◌≤◌, ◌^◌, ◌↔◌, ℤ, pos, ◌<ℤ◌, ◌*ℤ◌, neg_ℤ, IsTrue, unsigned_abs};
+ghost use Rattle.std.specs.Prelude.{false, ◌≡◌, ◌+◌, ◌*◌, ◌<◌, ◌≤◌, ◌^◌, ◌↔◌, ℤ, pos, ◌<ℤ◌, ◌*ℤ◌, neg_ℤ, IsTrue, unsigned_abs};
 ghost use Rattle.std.specs.Int.{IsGcd};
 ghost use Rattle.std.specs.Int.RustNames.{int_div};
-ghost use Rattle.angle_fraction.specs.Fraction.{IsKept, IsLowest, IsSign, difference, fraction, inverse_of, is_small, most_part, nought, opposite, power, product, quotient, raised, sum, unit};
+ghost use Rattle.angle_fraction.specs.Fraction.{IsKept, IsLowest, IsSign, difference, fraction, inverse_of, most_part, nought, opposite, power, product, quotient, raised, sum, unit};
 ghost use Rattle.angle_fraction.specs.Angles.{fitted, is_nought};
 
 use crate::AngleFault;

@@ -39,7 +39,7 @@ pub enum AngleFault {
     /// A division by 0, or a negative power of 0.
     #[error("a division by zero")]
     ZeroDivisor,
-    /// A part of the result in lowest terms is above 2^62 in size.
+    /// The numerator or the denominator of a part of the result, once reduced, is more than 2^62 in size.
     #[error("a part of the result is above 2^62")]
     Range,
 }

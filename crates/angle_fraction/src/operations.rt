@@ -1,6 +1,6 @@
 //! The operations on angles.
 
-ghost use Rattle.std.specs.Prelude.{IfSome, ◌≡◌, ℕ, ◌+◌, ◌-◌, ◌*◌, ◌<◌, ◌≤◌, ◌↔◌, ℤ, IsTrue, unsigned_abs, ◌*ℤ◌, ◌-ℤ◌, pos};
+ghost use Rattle.std.specs.Prelude.{IfSome, ◌≡◌, ◌-◌, ◌*◌, ◌<◌, ◌≤◌, ℤ, unsigned_abs, ◌*ℤ◌, ◌-ℤ◌, pos};
 ghost use Rattle.angle_fraction.specs.Fraction.{most_part};
 ghost use Rattle.angle_fraction.specs.Angles.{difference_of, eighths_of, is_nought, is_plain, is_turn, is_whole, opposite_of, plainly, power_by, power_of, product_of, quotient_of, sum_of};
 

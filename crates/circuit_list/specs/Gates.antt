@@ -5,6 +5,7 @@
 --   IsFine n g       on n wires: the wires are there, a control isn't its target, and a phase is from 1 to 7
 --   is_h, is_cx, is_t  the kind of a gate; a phase with an odd k takes a T gate
 --   h_count gs       the number of H
+--   first_wire g, second_wire g  the wires of a gate, the same one twice where it has one
 --   is_on w g        whether gate g is on wire w
 use Rattle.std.specs.Prelude.{◌≢◌, ℕ, ◌%◌, ◌<◌, ◌||◌, ◌==◌, Bool, List, map}
 use Rattle.std.specs.Prelude.{true, false}
@@ -54,6 +55,18 @@ is_t (Cx c t) = false
 
 abbrev pub h_count : List Gate → ℕ
 h_count gs = count_by is_h gs
+
+abbrev pub first_wire : Gate → ℕ
+first_wire (H q) = q
+first_wire (X q) = q
+first_wire (P k q) = q
+first_wire (Cx c t) = c
+
+abbrev pub second_wire : Gate → ℕ
+second_wire (H q) = q
+second_wire (X q) = q
+second_wire (P k q) = q
+second_wire (Cx c t) = t
 
 abbrev pub is_on : ℕ → Gate → Bool
 is_on w (H q) = w == q

@@ -2,6 +2,7 @@
 --   place_of s slots    the place of slot s among the slots, and their number where it isn't there
 --   IsLive b s          slot s is that of a gate of b
 --   Ascend slots        each slot is below the later ones, so all are different
+--   is_on_some w o      whether o is a gate, and on wire w
 --   is_on_at w gs i     whether a gate stands at place i, and is on wire w
 --   IsNextOn w gs i j   the next gate on wire w behind place i stands at place j
 --   IsPrevOn w gs i j   the last gate on wire w before place i stands at place j

@@ -20,8 +20,7 @@ mod slot;
 mod tree;
 mod walks;
 
-ghost use Rattle.std.specs.Prelude.{◌≡◌, ℕ, ◌+◌, ◌-◌, ◌%◌, ◌<◌, ◌≤◌, length, IfOk, IfSome, OnErr, OnOk, MatchOption, ◌⊎◌, slice_get, All, Some, true, remove, slice_set, [], ◌∷◌, ◌++◌, List};
-ghost use Rattle.std.specs.List.{count_by};
+ghost use Rattle.std.specs.Prelude.{◌≡◌, ℕ, ◌+◌, ◌-◌, ◌%◌, ◌<◌, ◌≤◌, length, IfOk, IfSome, OnErr, OnOk, MatchOption, ◌⊎◌, slice_get, All, Some, true, remove, slice_set, [], ◌∷◌, ◌++◌};
 ghost use Rattle.circuit_list.specs.Entries.{holds};
 ghost use Rattle.circuit_list.specs.Gates.{IsFine, h_count, is_cx, is_h, is_on, is_t, most_wires, ops};
 ghost use Rattle.circuit_list.specs.Slots.{Ascend, IsFirstFrom, IsLive, IsNextOn, IsPrevOn, NoneBefore, NoneBehind, NoneFrom, is_on_at, place_of};

@@ -1,11 +1,9 @@
 //! The comparison of circuits on three wires, by the plain amplitude program.
 
-ghost use Rattle.std.specs.Prelude.{◌≡◌, ◌≤◌, IfOk, length};
-
+use crate::{doubled, entry, halvings, turned};
 use circuit_list::{Circuit, Gate};
 use std::alloc::{AllocError, Global};
 use unitary_model::Op;
-use unitary_plain::entries::{Value, amplitude_of};
 
 /// Whether each entry of a circuit's matrix is `w^turn` times that of the circuit before; false where one of the two has
 /// more than 20 gates, or other than three wires.
@@ -23,15 +21,17 @@ pub fn is_turned(
     Ok(are_turned(&old, &new, turn))
 }
 
-/// The same of their operations.
-fn are_turned(old: &[Op], new: &[Op], turn: u8) -> bool {
+/// The same of two lists of operations on three wires.
+pub fn are_turned(old: &[Op], new: &[Op], turn: u8) -> bool {
     if old.len() > 20 || new.len() > 20 {
         return false;
     }
+    // so that values of two lists have one power of two
+    let (old_halvings, new_halvings) = (halvings(old), halvings(new));
     for place in 0u8..64 {
         let (from, to) = (place / 8, place % 8);
-        let before = doubled(entry(old, from, to), new);
-        let after = doubled(entry(new, from, to), old);
+        let before = doubled(entry(old, &mut bits(from), &bits(to)), new_halvings);
+        let after = doubled(entry(new, &mut bits(from), &bits(to)), old_halvings);
         if after != turned(before, turn) {
             return false;
         }
@@ -39,8 +39,8 @@ fn are_turned(old: &[Op], new: &[Op], turn: u8) -> bool {
     true
 }
 
-/// The gates as operations.
-fn operations(alloc: Global, body: &Circuit) -> Result<Vec<Op>, AllocError> {
+/// The gates of a circuit as operations, one by one.
+pub fn operations(alloc: Global, body: &Circuit) -> Result<Vec<Op>, AllocError> {
     let mut ops = Vec::new(alloc);
     for i in 0..body.len() {
         ops.push(operation(body.gate(i)))?;
@@ -58,44 +58,7 @@ fn operation(gate: Gate) -> Op {
     Op::U { a, b: 0, c, q }
 }
 
-/// An entry of the matrix on three wires, rows and columns counted in binary.
-fn entry(ops: &[Op], from: u8, to: u8) -> Value
-    requires few { length ops.now ≤ 20 }
-{
-    let mut x = bits(from);
-    amplitude_of(ops, &mut x, &bits(to))
-}
-
+/// The bits of three wires, the lowest for the first.
 fn bits(number: u8) -> [bool; 3] {
     [number & 1 != 0, number & 2 != 0, number & 4 != 0]
-}
-
-/// Twice the value for each operation that halves, so that values of two lists have one power of two.
-fn doubled(v: Value, ops: &[Op]) -> Value {
-    let mut value = v;
-    for op in ops {
-        if let Op::U { .. } = op {
-            value = Value {
-                a: value.a.wrapping_add(value.a),
-                b: value.b.wrapping_add(value.b),
-                c: value.c.wrapping_add(value.c),
-                d: value.d.wrapping_add(value.d),
-            };
-        }
-    }
-    value
-}
-
-/// The value times `w^times`.
-fn turned(v: Value, times: u8) -> Value {
-    let mut value = v;
-    for _ in 0..times {
-        value = Value {
-            a: value.d.wrapping_neg(),
-            b: value.a,
-            c: value.b,
-            d: value.c,
-        };
-    }
-    value
 }

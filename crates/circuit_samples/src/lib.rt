@@ -1,9 +1,10 @@
-//! What the tests of passes share: circuits of tables and random circuits, and the comparison with the plain program.
+//! What tests share: circuits of tables and random circuits, and the comparison with the plain program.
 //!
 //! In go the text of some gates, some gates, or the kinds from which random gates are drawn; out come circuits, and their gates.
-//! Of two circuits comes out whether the one is the other up to a turn, entry by entry of their matrices, as the plain program of
-//! `unitary_plain` has them. The contracts say what a test needs to go on safely: the wires of a circuit, and that random gates may
-//! stand on them. A gate that may not stand on the wires gives no circuit; the only error is want of memory.
+//! Of two circuits, or of two lists of operations, comes out whether the one is the other up to a turn, entry by entry of their
+//! matrices, as the plain program of `unitary_plain` has them. The contracts say what a test needs to go on safely: the wires of a
+//! circuit, and that random gates may stand on them. A gate that may not stand on the wires gives no circuit; the only error is
+//! want of memory.
 //!
 //! A text has three characters for each gate, and a blank between two: `h.0` is H on wire 0, `x.0` X, `2.0` P(2), and `c01` the
 //! CNOT from wire 0 to wire 1.
@@ -14,7 +15,10 @@ mod gates;
 mod random;
 #[cfg(test)]
 mod tests;
+mod values;
 
-pub use comparison::is_turned;
+pub use comparison::{are_turned, is_turned, operations};
 pub use gates::{circuit_of, circuit_of_text, gates_of, gates_of_text, is_fine};
 pub use random::{Kind, Random};
+pub use unitary_plain::entries::Value;
+pub use values::{doubled, entry, halvings, sum, turned};

@@ -1,6 +1,7 @@
 -- Which gates may be exchanged, pair by pair.
---   commutes g h     g and h share no wire, or are two P, two X, a P and a CNOT with it on the control, an X and a CNOT with
---                    it on the target, or two CNOTs of which neither's control is the other's target
+--   commutes g h     g and h may be exchanged: they have no wire in common; both are P, or both X; one is a CNOT and the other a P
+--                    that isn't on its target or an X that isn't on its control; or both are CNOTs, and no wire is the control
+--                    of the one and the target of the other
 use Rattle.std.specs.Prelude.{◌==◌, ◌&&◌, Bool, true, not}
 use Rattle.circuit_list.specs.declared.Gate.{Gate}
 use Rattle.circuit_list.specs.declared.Gate.TheVariants.{H, X, P, Cx}

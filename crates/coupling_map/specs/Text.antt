@@ -11,8 +11,9 @@
 --   ends_of_two, ends_below n e
 --                        the ends of an edge, if both are there; if both are below n
 --   is_self_edge e       an edge from a qubit to itself
---   Outcome              what a table may say: a wrong shape, a number out of its range, the first edge from a qubit to itself,
---                        or a number of qubits with edges between different qubits
+--   Outcome              what a table may say;  shape: something in it has a wrong form;  range: a number is out of its range;
+--                        self_edge: the first edge from a qubit to itself is on this one;  graph: so many qubits, with edges
+--                        between different ones
 --   without_self_edge, in_range, in_shape, outcome_of
 --                        what the table says, in the order of the refusals: the last is of the table itself
 --   Says text o          the text has a table that says o

@@ -1,6 +1,6 @@
 //! From a device text to its edges.
 
-ghost use Rattle.std.specs.Prelude.{◌≡◌, ℕ, ◌<◌, ◌≤◌, Some, All, IfOk, IfErr, map, find, option_and_then, option_map};
+ghost use Rattle.std.specs.Prelude.{◌≡◌, ◌<◌, Some, IfOk, IfErr, map, find, option_and_then, option_map};
 ghost use Rattle.toml.specs.Data.{as_array, as_integer, get_member};
 ghost use Rattle.toml.specs.View.{items_view, table_view, view};
 ghost use Rattle.coupling_map.specs.Coupling.{IsGraph};

@@ -10,12 +10,12 @@ use Rattle.std.proofs.lemmas.Bool.{eq-eqb}
 use Rattle.std.proofs.lemmas.Bool.Decides.{nat_tests}
 use Rattle.circuit_list.specs.declared.Gate.{Gate}
 use Rattle.circuit_list.specs.declared.Gate.TheVariants.{H, X, P, Cx}
-use Rattle.circuit_list.specs.Gates.{is_on}
+use Rattle.circuit_list.specs.Gates.{first_wire, is_on, second_wire}
 use Rattle.commute_rules.specs.declared.Cancel.{Cancel}
 use Rattle.commute_rules.specs.declared.Cancel.TheVariants.{No, Both, Merge}
 use Rattle.commute_rules.specs.Cancels.{cancel_of, Cancels, with_phase}
 use Rattle.commute_rules.specs.Commutes.{commutes}
-use Rattle.gate_cancel.specs.Reaches.{first_wire, second_wire, is_any, is_partner, Passes}
+use Rattle.gate_cancel.specs.Reaches.{is_any, is_partner, Passes}
 
 or_left : (a b : Bool) → a ≡ true → (a || b) ≡ true
 or_left true b e = refl

@@ -1,5 +1,5 @@
 pub mod GateLaws
 pub mod SearchLaws
 pub mod ListLaws
+pub mod PairLaws
 pub mod ReductionLaws
-pub mod SettledLaws

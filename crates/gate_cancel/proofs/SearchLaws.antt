@@ -14,12 +14,12 @@ use Rattle.std.proofs.Common.{◌≡◌, ℕ, ◌<◌, ◌≤◌, Bool, true, fa
 use Rattle.std.proofs.lemmas.Bool.{cases_lt}
 use Rattle.circuit_list.specs.declared.Gate.{Gate}
 use Rattle.circuit_list.specs.Body.{Body}
-use Rattle.circuit_list.specs.Gates.{is_on}
+use Rattle.circuit_list.specs.Gates.{first_wire, is_on, second_wire}
 use Rattle.circuit_list.specs.Slots.{IsLive, IsNextOn, NoneBehind, is_on_at, is_on_some, place_of}
 use Rattle.commute_rules.specs.Commutes.{commutes}
 use Rattle.commute_rules.specs.Reducible.{IsReducible}
 use Rattle.gate_cancel.specs.declared.search.Reach.{Reach}
-use Rattle.gate_cancel.specs.Reaches.{first_wire, second_wire, is_partner, AreNext, Passes, IsPassed, IsReach, IsAhead, IsKnown, length_of}
+use Rattle.gate_cancel.specs.Reaches.{is_partner, AreNext, Passes, IsPassed, IsReach, IsAhead, IsKnown, length_of}
 use Rattle.gate_cancel.proofs.GateLaws.{on_first, on_second, off_commutes, partner_first, partner_second, partner-cancels, cancels-partner}
 
 at_place : (w : ℕ) (gs : List Gate) (k : ℕ) (h : Gate) → slice_get gs k ≡ Some h → is_on_at w gs k ≡ is_on w h

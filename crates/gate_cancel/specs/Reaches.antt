@@ -1,20 +1,20 @@
 -- Working form.
 -- The search for a gate's partner, along the gate's own wires.
---   first_wire g, second_wire g    the wires of a gate, the same one twice where it has one
+--   is_any c               whether the answer c is that two gates cancel or merge
 --   is_partner g h         whether g and h cancel or merge
 --   Passes g h             g commutes with h, and neither cancels nor merges with it
 --   IsPassed g w gs i a    a gate on wire w stands at place a, from i on, and g passes all on w behind i, that one included
 --   IsReach b s r          the gate in slot s passes what is on its two wires as far as the slots of r
 --   length_of b r          how far that is on both wires together
 --   AreNext b g r n        the next gates on the wires of g behind the slots of r are those in the slots of n
+--   IsKnownOn w b a x      slot x is a itself, or that of the next gate on wire w behind it
 --   IsKnown b g r n        on each of the wires the slot of n is that of r, or the next behind it
 --   IsAhead b s g r n t f  of the gates in n the one in slot t is the nearer: all between commute with g, the gate in slot s, and
 --                          no partner is before it; where it is passed, the reach is f
 use Rattle.std.specs.Prelude.{◌≡◌, ℕ, ◌+◌, ◌<◌, ◌≤◌, ◌⊎◌, Bool, true, false, List, Some, slice_get}
 use Rattle.circuit_list.specs.declared.Gate.{Gate}
-use Rattle.circuit_list.specs.declared.Gate.TheVariants.{H, X, P, Cx}
 use Rattle.circuit_list.specs.Body.{Body}
-use Rattle.circuit_list.specs.Gates.{is_on}
+use Rattle.circuit_list.specs.Gates.{first_wire, is_on, second_wire}
 use Rattle.circuit_list.specs.Slots.{IsLive, IsNextOn, is_on_at, place_of}
 use Rattle.commute_rules.specs.declared.Cancel.{Cancel}
 use Rattle.commute_rules.specs.declared.Cancel.TheVariants.{No, Both, Merge}
@@ -22,18 +22,6 @@ use Rattle.commute_rules.specs.Cancels.{cancel_of}
 use Rattle.commute_rules.specs.Commutes.{commutes}
 use Rattle.commute_rules.specs.Reducible.{IsReducible}
 use Rattle.gate_cancel.specs.declared.search.Reach.{Reach}
-
-abbrev pub first_wire : Gate → ℕ
-first_wire (H q) = q
-first_wire (X q) = q
-first_wire (P k q) = q
-first_wire (Cx c t) = c
-
-abbrev pub second_wire : Gate → ℕ
-second_wire (H q) = q
-second_wire (X q) = q
-second_wire (P k q) = q
-second_wire (Cx c t) = t
 
 abbrev pub is_any : Cancel → Bool
 is_any No = false

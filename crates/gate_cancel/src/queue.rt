@@ -6,7 +6,7 @@
 //! blocked by the run, and of gates that cancel with each other the last one, which is the partner of those before it. It can
 //! newly go on only where the gate behind the first of the pair doesn't block the run too.
 
-ghost use Rattle.std.specs.Prelude.{◌≡◌, ℕ, IfSome, true};
+ghost use Rattle.std.specs.Prelude.{◌≡◌, IfSome, true};
 ghost use Rattle.circuit_list.specs.Slots.{IsLive, is_on_at, place_of};
 ghost use Rattle.commute_rules.specs.Reducible.{IsReducible};
 

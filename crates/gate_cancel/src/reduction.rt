@@ -1,12 +1,12 @@
 //! What is done at one place: the gate there with its partners, until it has none or is gone.
 
-ghost use Rattle.std.specs.Prelude.{◌≡◌, ℕ, IfOk};
+ghost use Rattle.std.specs.Prelude.{◌≡◌, IfOk};
 ghost use Rattle.circuit_list.specs.Slots.{IsLive, place_of};
 ghost use Rattle.commute_rules.specs.Cancels.{with_phase};
 ghost use Rattle.commute_rules.specs.Reducible.{IsReducible};
 ghost use Rattle.gate_cancel.specs.declared.search.Reach.{Reach};
 ghost use Rattle.gate_cancel.specs.Reaches.{IsReach};
-ghost use Rattle.gate_cancel.specs.Reductions.{IsOutcome, IsReduced, IsSettled, IsStanding};
+ghost use Rattle.gate_cancel.specs.Reductions.{IsOutcome, IsReduced, IsReduction, IsStanding};
 
 use crate::queue::Queue;
 use crate::search::{Reach, search};
@@ -16,7 +16,7 @@ use std::alloc::AllocError;
 
 /// What was done at a place.
 #[derive(Clone, Copy)]
-pub(crate) enum Settled {
+pub(crate) enum Reduction {
     /// Nothing: the gate has no partner.
     Same,
     /// The gate has taken in later phases, and has no partner now.
@@ -69,36 +69,36 @@ fn merge(body: &mut Circuit, first: Slot, second: Slot, k: u8)
 }
 
 /// Cancels or merges the gate in a slot with its partners, one after the other. After want of memory the circuit is of no use.
-pub(crate) fn settle(
+pub(crate) fn reduce(
     body: &mut Circuit,
     slot: Slot,
     queue: &mut Queue,
-) -> Result<Settled, AllocError>
+) -> Result<Reduction, AllocError>
     requires { IsLive body.old slot }
     ensures wires { IfOk result (λ s. body.new.wires ≡ body.old.wires) }
-    ensures settled { IfOk result (IsSettled body.old.wires body.old.gates body.new.gates (place_of slot body.old.slots)) }
+    ensures reduction { IfOk result (IsReduction body.old.wires body.old.gates body.new.gates (place_of slot body.old.slots)) }
     ensures live { IfOk result (λ s. IsStanding s body.old body.new slot) }
 {
     let mut reach = Reach {
         first: slot,
         second: slot,
     };
-    let mut settled = Settled::Same;
+    let mut done = Reduction::Same;
     'partners: loop {
         let (found, further) = search(body, slot, reach);
         let Some(partner) = found else {
-            return Ok(settled);
+            return Ok(done);
         };
         match cancels(body.gate_at(slot), body.gate_at(partner)) {
             Cancel::Merge { k } => {
                 merge(body, slot, partner, k);
                 reach = further;
-                settled = Settled::Merged;
+                done = Reduction::Merged;
             }
             Cancel::Both { turn } => {
                 queue.note(body, slot, partner)?;
                 take_out(body, slot, partner, turn);
-                return Ok(Settled::Gone { turn });
+                return Ok(Reduction::Gone { turn });
             }
             Cancel::No => unreachable!(),
         }

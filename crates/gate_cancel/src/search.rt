@@ -1,9 +1,10 @@
 //! The partner of a gate, along the gate's own wires.
 
 ghost use Rattle.std.specs.Prelude.{◌≡◌, ℕ, MatchOption, Some, slice_get, true};
+ghost use Rattle.circuit_list.specs.Gates.{first_wire, second_wire};
 ghost use Rattle.circuit_list.specs.Slots.{IsLive, IsNextOn, NoneBehind, is_on_at, place_of};
 ghost use Rattle.commute_rules.specs.Reducible.{IsReducible};
-ghost use Rattle.gate_cancel.specs.Reaches.{AreNext, IsAhead, IsKnown, IsKnownOn, IsReach, first_wire, is_partner, second_wire};
+ghost use Rattle.gate_cancel.specs.Reaches.{AreNext, IsAhead, IsKnown, IsKnownOn, IsReach, is_partner};
 
 use circuit_list::laws::slots_in_order;
 use circuit_list::{Circuit, Gate, Slot};

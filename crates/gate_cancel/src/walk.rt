@@ -5,7 +5,7 @@ ghost use Rattle.commute_rules.specs.Reducible.{NoReducible};
 ghost use Rattle.gate_cancel.specs.Reductions.{IsCancelled, IsReduced};
 
 use crate::queue::Queue;
-use crate::reduction::{Settled, settle};
+use crate::reduction::{Reduction, reduce};
 use circuit_list::{Circuit, Slot};
 use std::alloc::{AllocError, Global};
 use unitary_model::turn_sum;
@@ -20,13 +20,13 @@ pub(crate) fn walk_all(body: &mut Circuit, queue: &mut Queue) -> Result<Option<u
     let mut turn = 0;
     let mut here = body.first();
     'slots: while let Some(slot) = here {
-        match settle(body, slot, queue)? {
-            Settled::Same => here = body.after(slot),
-            Settled::Merged => {
+        match reduce(body, slot, queue)? {
+            Reduction::Same => here = body.after(slot),
+            Reduction::Merged => {
                 changed = true;
                 here = body.after(slot);
             }
-            Settled::Gone { turn: more } => {
+            Reduction::Gone { turn: more } => {
                 changed = true;
                 turn = turn_sum(turn, more);
                 here = body.slot_from(slot);
@@ -72,7 +72,7 @@ fn visit(body: &mut Circuit, slots: &[Slot], queue: &mut Queue) -> Result<u8, Al
 }
 
 /// Settles the gate in a slot, if it is still there. Its turn.
-#[tactic(auto, using(crate::proofs::SettledLaws::cancelled_laws))]
+#[tactic(auto, using(crate::proofs::ReductionLaws::cancelled_laws))]
 fn revisit(body: &mut Circuit, slot: Slot, queue: &mut Queue) -> Result<u8, AllocError>
     ensures wires { IfOk result (λ t. body.new.wires ≡ body.old.wires) }
     ensures cancelled { IfOk result (IsCancelled body.old.wires body.old.gates body.new.gates) }
@@ -83,9 +83,9 @@ fn revisit(body: &mut Circuit, slot: Slot, queue: &mut Queue) -> Result<u8, Allo
     if here != slot {
         return Ok(0);
     }
-    match settle(body, here, queue)? {
-        Settled::Same => Ok(0),
-        Settled::Merged => Ok(0),
-        Settled::Gone { turn } => Ok(turn),
+    match reduce(body, here, queue)? {
+        Reduction::Same => Ok(0),
+        Reduction::Merged => Ok(0),
+        Reduction::Gone { turn } => Ok(turn),
     }
 }

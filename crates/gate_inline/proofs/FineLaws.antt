@@ -1,8 +1,8 @@
 -- The operations of a sound program are fine.
 --     operations-fine     those of all steps
 --     steps_wide          their wires are below a number that is no less than theirs
-use Rattle.std.proofs.Common.{◌≡◌, ℕ, zero, suc, ◌+◌, ◌<◌, ◌≤◌, List, [], ◌∷◌, ◌++◌, All, Bool, true, false, ◌&&◌, ◌||◌, if◌then◌else◌, Option, Some, None, Result, Ok, Err, append_assoc, append-nil, refl, sym, subst, ◌∙◌, ap, arith, add-one, length, map, fold, ◌⊎◌, inl, inr}
-use Rattle.std.specs.Prelude.{◌≢◌, not, nat_eq, nat_lt, ◌==◌}
+use Rattle.std.proofs.Common.{◌≡◌, ℕ, zero, suc, ◌+◌, ◌<◌, ◌≤◌, List, [], ◌∷◌, ◌++◌, All, Bool, true, false, ◌||◌, if◌then◌else◌, Option, Some, None, Result, Ok, Err, append_assoc, append-nil, refl, sym, subst, ◌∙◌, ap, arith, add-one, length, map, fold, ◌⊎◌, inl, inr}
+use Rattle.std.specs.Prelude.{◌≢◌, nat_eq, nat_lt, ◌==◌}
 use Rattle.std.specs.List.{list_all, list_any}
 use Rattle.std.proofs.lemmas.Bool.{eq-eqb}
 use Rattle.std.proofs.lemmas.Bool.Decides.{nat_tests, eqb_tells}
@@ -17,7 +17,7 @@ use Rattle.gate_library.specs.Gates.{Item, call, barrier, Gate, u, cx, opaque, c
 use Rattle.gate_library.specs.Names.{has_repeat}
 use Rattle.gate_library.specs.Operands.{broadcast, upto, wire_at}
 use Rattle.gate_library.specs.declared.operand.Operand.{Operand}
-use Rattle.qasm_check.specs.Sound.{IsSound, are_gates, is_distinct, is_gate, is_item, is_step}
+use Rattle.qasm_check.specs.Sound.{IsSound, are_gates, is_gate, is_item, is_step}
 use Rattle.qasm_check.specs.Steps.{Step, applies, measures, bars, nothing}
 use Rattle.gate_expand.specs.Expansion.{IsFineOp}
 use Rattle.gate_inline.specs.Inlined.{IsFirstUnvalued, IsInlineFault, IsInlineRefused, IsInlined, IsTooMany, operations}

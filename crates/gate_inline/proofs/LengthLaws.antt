@@ -16,8 +16,8 @@ use Rattle.gate_library.specs.Operands.{broadcast, upto, wire_at}
 use Rattle.qasm_check.specs.Steps.{Step, applies, measures, bars, nothing}
 use Rattle.gate_expand.specs.declared.source.Ops.{Ops}
 use Rattle.gate_inline.specs.Inlined.{IsInlined, operations}
-use Rattle.gate_inline.specs.Meanings.{Answer, Meaning, body_answer, broadcast_answer, controlled, eighth, followed, gate_meaning, item_answer, joined, meaning_at, meanings, no_meaning, rotation, step_answer, unvalued, wire_of}
-use Rattle.gate_inline.specs.Sizes.{gate_size, is_too_much, item_size, operation_limit, size, size_all, size_at, sizes, step_size, steps_size, total}
+use Rattle.gate_inline.specs.Meanings.{Answer, Meaning, body_answer, controlled, eighth, followed, gate_meaning, item_answer, joined, meaning_at, meanings, no_meaning, rotation, step_answer, unvalued, wire_of}
+use Rattle.gate_inline.specs.Sizes.{gate_size, item_size, operation_limit, size, size_all, size_at, sizes, step_size, steps_size, total}
 use Rattle.gate_inline.specs.Values.{and_next, values}
 use Rattle.gate_inline.specs.declared.size.Size.{Size}
 use Rattle.gate_inline.specs.declared.stop.Unvalued.{Unvalued}

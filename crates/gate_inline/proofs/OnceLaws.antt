@@ -1,11 +1,10 @@
 -- A program has one refusal at most, and none where it is inlined.
 --     inlined-no_fault    a program with operations and reads has no refusal
 --     refused_once        the refusal and its statement are settled by the program
-use Rattle.std.proofs.Common.{◌≡◌, ◌⊎◌, inl, inr, ℕ, suc, ◌+◌, List, [], ◌∷◌, ◌++◌, Bool, true, false, ◌||◌, Option, Some, None, Result, Ok, Err, append_assoc, refl, sym, subst, ◌∙◌, ap, arith, length, map}
+use Rattle.std.proofs.Common.{◌≡◌, ◌⊎◌, inl, inr, ℕ, suc, ◌+◌, List, [], ◌∷◌, ◌++◌, Bool, true, false, ◌||◌, Result, Ok, Err, append_assoc, refl, sym, subst, ◌∙◌, ap, arith, length, map}
 use Rattle.std.specs.Prelude.{IsOk, nat_lt}
 use Rattle.std.proofs.lemmas.Bool.Decides.{nat_tests}
 use Rattle.std.proofs.lemmas.List.{map-append}
-use Rattle.unitary_model.specs.declared.Op.{Op}
 use Rattle.qasm_check.specs.Bound.{Bound}
 use Rattle.gate_library.specs.Gates.{Gate}
 use Rattle.qasm_check.specs.Steps.{Step}

@@ -2,7 +2,7 @@
 --     and_left, or_left, ..     what tests say together
 --     step_placed               its wires and bits are there, at each index
 --     step_counted, step_apart  an application has as many operands as its gate has qubits, at no index one wire twice
-use Rattle.std.proofs.Common.{◌≡◌, ℕ, zero, suc, ◌+◌, ◌<◌, ◌≤◌, List, [], ◌∷◌, ◌++◌, All, Bool, true, false, ◌&&◌, ◌||◌, Option, Some, None, refl, sym, subst, ◌∙◌, ap, arith, length, map, ◌⊎◌, inl, inr}
+use Rattle.std.proofs.Common.{◌≡◌, ℕ, zero, suc, ◌+◌, ◌<◌, ◌≤◌, List, [], ◌∷◌, All, Bool, true, false, ◌&&◌, ◌||◌, Option, Some, None, refl, sym, subst, ◌∙◌, ap, arith, length, map, ◌⊎◌, inl, inr}
 use Rattle.std.specs.Prelude.{not, nat_eq, nat_le, nat_lt, unwrap_or, ◌==◌}
 use Rattle.std.specs.List.{list_all, list_any}
 use Rattle.std.proofs.lemmas.Bool.Decides.{nat_tests}

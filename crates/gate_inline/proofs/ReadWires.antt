@@ -2,7 +2,7 @@
 --     reads_there         those of steps whose wires are there
 --     length-reads        there is one for each bit
 --     inlined_reads       those of a sound program
-use Rattle.std.proofs.Common.{◌≡◌, ℕ, zero, suc, ◌+◌, ◌<◌, ◌≤◌, List, [], ◌∷◌, ◌++◌, All, Bool, true, false, Option, Some, None, refl, sym, subst, ◌∙◌, ap, arith, length, map}
+use Rattle.std.proofs.Common.{◌≡◌, ℕ, zero, suc, ◌<◌, List, [], ◌∷◌, All, Bool, true, false, Option, Some, None, refl, subst, ◌∙◌, arith, length, map}
 use Rattle.std.specs.Prelude.{if◌then◌else◌, nat_eq}
 use Rattle.std.specs.List.{AllByRecursion, find}
 use Rattle.std.specs.Option.{option_map, option_or}
@@ -17,7 +17,7 @@ use Rattle.gate_inline.specs.Inlined.{IsInlined}
 use Rattle.gate_inline.specs.Placed.{IsPlaced}
 use Rattle.qasm_check.specs.Sound.{IsSound}
 use Rattle.gate_inline.proofs.FineLaws.{steps_wide}
-use Rattle.gate_inline.specs.Reads.{last_read, read_within, reads, step_read}
+use Rattle.gate_inline.specs.Reads.{last_read, reads, step_read}
 use Rattle.gate_inline.specs.Registers.{IsRead}
 
 -- ---- numbers below n

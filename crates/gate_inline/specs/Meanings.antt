@@ -3,10 +3,16 @@
 --     unvalued_of e, unvalued r   the refusal of an angle that has a fault; the same of what may have one
 --     followed a b        one list and then the other, or the first refusal
 --     joined answers      all lists one after another, or the first refusal
+--     step_of o           the number of steps of pi/4, or the refusal of an angle that has none
 --     eighth a            an angle in units of pi/4, below 8
 --     rotation angles wires, controlled wires     what U and CX do
 --     one_op o            an operation as a list, or nothing
 --     Meaning             what a gate does: an answer for its angles and its wires
+--     no_meaning          nothing is done
+--     meaning_at ms i     what gate i does; nothing where there is none
+--     wire_of wires i     the wire at an index among a gate's own; 0 where there is none
+--     item_answer, body_answer    the operations of a line of a body; of a whole body
+--     gate_meaning ms g   what gate g does, if ms is what the gates before it do
 --     in_order f gates    for each gate what f makes of it, given what it made of the gates before
 --     meanings gates      what each gate does
 --     broadcast_answer .. n       the operations of a gate for each of the first n indices

@@ -1,8 +1,10 @@
 -- Working form. Calls whose operations are written already, and bodies that are being written out.
 --     part us start end           what stands from one index to another
 --     IsPart a us start end       an answer is what stands there
---     IsKept gates us k           the operations of a call are those that it tells;  AreKept: of each place, if it has one
+--     IsKept gates us k           the operations of a call are those that it tells
+--     IsKeptPlace gates us o      the same of a call that may be absent;  AreKept: of each in a list
 --     frame_meaning gates f       the operations of a body from its first line on
+--     IsBegun gates us a f        a body's operations are those from its start on, then the answer a
 --     AreBegun gates us a fs      each body's operations are those from its start on, then an answer, then those of the bodies that wait
 use Rattle.std.specs.Prelude.{◌≡◌, ℕ, ◌-◌, ◌≤◌, List, [], ◌∷◌, All, Option, Some, None, Ok, drop, length, take}
 use Rattle.unitary_model.specs.declared.Op.{Op}

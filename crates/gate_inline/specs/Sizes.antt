@@ -1,6 +1,8 @@
 -- How much a program becomes when its gates' bodies are written out.
 --     size n m            so many operations, and so many items
 --     size_plus, size_times, size_all     sums of sizes
+--     size_at ss i        the size of gate i; one item where there is none
+--     item_size ss it     a line of a body: its gate's, or one item for a barrier
 --     gate_size ss g      a gate: U and CX are one of each; else its body's sum, and itself for one item; a barrier is an item;
 --                         so is a gate that has no body, or that isn't there
 --     sizes gates         those of each gate

@@ -1,5 +1,7 @@
 -- The value of an angle, under values of a gate's parameters.
 --     and_next r f        f of a value, or the fault in its place
+--     operation sign a b  what a sign makes of two angles, or the fault
+--     no_angle            the angle 0
 --     value params f      the value of an expression: operands first, the left before the right; or the first fault
 --     values params fs    those of several, from left to right; or the first fault
 use Rattle.std.specs.Prelude.{List, [], ◌∷◌, Result, Ok, Err, slice_get, unwrap_or}

@@ -5,7 +5,7 @@ ghost use Rattle.std.specs.Option.{option_map};
 ghost use Rattle.gate_library.specs.Views.{gate as gate_view, item as item_view};
 ghost use Rattle.gate_inline.specs.declared.size.Size.{Size};
 ghost use Rattle.gate_inline.specs.declared.stop.Stop.TheVariants.{NoMemory};
-ghost use Rattle.gate_inline.specs.Frames.{asked_answer, asked_size, body_answer, body_room, call_answer, entered_answer, frame_answer, frame_room, frames_answer, frames_room, one_frame};
+ghost use Rattle.gate_inline.specs.Frames.{asked_answer, asked_size, body_room, call_answer, entered_answer, frame_answer, frame_room, frames_answer, frames_room, one_frame};
 ghost use Rattle.gate_library.specs.Gates.{Gate as BoundGate};
 ghost use Rattle.gate_inline.specs.Meanings.{Meaning, controlled as controlled_of, followed, item_answer, meaning_at, meanings, one_op, rotation as rotation_of, wire_of as wire_there};
 ghost use Rattle.gate_inline.specs.Capped.{capped};

@@ -1,6 +1,6 @@
 //! Texts with their operations and reads, or their refusals, worked by hand.
 
-ghost use Rattle.std.specs.Prelude.{◌<◌, ◌^◌, length};
+ghost use Rattle.std.specs.Prelude.{◌<◌, ◌^◌};
 
 use crate::{InlineFault, inline};
 use gate_expand::Ops;

@@ -1,23 +1,11 @@
 //! Each gate of the tables, with each multiple of pi/4 for each parameter, against its matrix. The matrices are those
 //! of the textbooks; the power of w is worked out by floating numbers.
 
-ghost use Rattle.std.specs.Prelude.{◌≤◌, length};
-
 use crate::inline_tests::{behind_head, inlined};
+use circuit_samples::{Value, doubled, entry, halvings, sum, turned};
 use gate_expand::Ops;
 use std::alloc::{AllocError, Global};
 use std::test::Fail;
-use unitary_model::Op;
-use unitary_plain::entries::amplitude_of;
-
-/// The value `a + b w + c w^2 + d w^3`, w being the eighth root of unity.
-#[derive(Clone, Copy, Debug, PartialEq, Eq)]
-struct Value {
-    a: i64,
-    b: i64,
-    c: i64,
-    d: i64,
-}
 
 const ZERO: Value = Value {
     a: 0,
@@ -33,15 +21,6 @@ const ONE: Value = Value {
     d: 0,
 };
 
-fn sum(u: Value, v: Value) -> Value {
-    Value {
-        a: u.a.wrapping_add(v.a),
-        b: u.b.wrapping_add(v.b),
-        c: u.c.wrapping_add(v.c),
-        d: u.d.wrapping_add(v.d),
-    }
-}
-
 fn negated(v: Value) -> Value {
     Value {
         a: v.a.wrapping_neg(),
@@ -49,28 +28,6 @@ fn negated(v: Value) -> Value {
         c: v.c.wrapping_neg(),
         d: v.d.wrapping_neg(),
     }
-}
-
-/// `w^times v`.
-fn turned(v: Value, times: u8) -> Value {
-    let mut value = v;
-    for _ in 0..times {
-        value = Value {
-            a: value.d.wrapping_neg(),
-            b: value.a,
-            c: value.b,
-            d: value.c,
-        };
-    }
-    value
-}
-
-fn doubled(v: Value, times: usize) -> Value {
-    let mut value = v;
-    for _ in 0..times {
-        value = sum(value, value);
-    }
-    value
 }
 
 /// A rotation by its three angles, in eighths of a turn.
@@ -167,35 +124,6 @@ fn bits(alloc: Global, number: u8, wires: usize) -> Result<Vec<bool>, AllocError
     Ok(list)
 }
 
-/// An entry of the operations, times 2 for each `U`.
-fn entry(ops: &[Op], from: &mut [bool], to: &[bool]) -> Value
-    requires { length ops.now ≤ 20 }
-{
-    let value = amplitude_of(ops, from, to);
-    Value {
-        a: value.a,
-        b: value.b,
-        c: value.c,
-        d: value.d,
-    }
-}
-
-fn turns(ops: &[Op]) -> usize {
-    let mut count = 0usize;
-    for op in ops {
-        if let Op::U {
-            a: _,
-            b: _,
-            c: _,
-            q: _,
-        } = op
-        {
-            count = count.saturating_add(1);
-        }
-    }
-    count
-}
-
 /// Whether the operations of an application on so many wires are this matrix.
 fn is_matrix(alloc: Global, gate: &str, wires: usize, matrix: Matrix) -> Result<bool, AllocError> {
     let qubits = match wires {
@@ -226,7 +154,7 @@ fn agrees(alloc: Global, ops: &Ops, wires: usize, matrix: Matrix) -> Result<bool
             let mut start = bits(alloc, from, wires)?;
             let end = bits(alloc, to, wires)?;
             let found = doubled(entry(list, &mut start, &end), 1);
-            let wanted = doubled(matrix_entry(matrix, wires, from, to), turns(list));
+            let wanted = doubled(matrix_entry(matrix, wires, from, to), halvings(list));
             if found != wanted {
                 return Ok(false);
             }

@@ -1,7 +1,6 @@
 //! The values of angles.
 
-ghost use Rattle.std.specs.Prelude.{◌≡◌, ◌<◌, Ok, IfOk, IfErr, IfSome, map, slice_get, unwrap_or};
-ghost use Rattle.angle_fraction.specs.Angles.{eighths_of};
+ghost use Rattle.std.specs.Prelude.{◌≡◌, ◌<◌, Ok, IfOk, IfErr, map, slice_get, unwrap_or};
 ghost use Rattle.gate_library.specs.Views.{formula as formula_view};
 ghost use Rattle.gate_inline.specs.Meanings.{eighth as eighth_of, unvalued};
 ghost use Rattle.gate_inline.specs.Stops.{IsStop};

@@ -1,8 +1,12 @@
 -- Gates by number, apart from names.
 --   Formula      an expression; a parameter is told by its index among the gate's parameters, and parentheses are gone
+--   number, pi, param, negated, called, binary   a value; pi; a parameter; minus a part; a function of a part; two parts with a
+--                sign between
 --   Item         a line of a gate's body: a gate by its number, its angles, and its qubits by their indices among those of
 --                the gate whose body it is; or a barrier
+--   call, barrier   such a gate; a barrier
 --   Gate         `U`, `CX`, a gate without a body, or one with a body
+--   u, cx, opaque, composed   these four, in this order
 --   gate_params, gate_qubits   how many parameters and qubits a gate has
 --   gate_at      the gate of this number
 --   is_opaque    a gate without a body

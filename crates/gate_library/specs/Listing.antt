@@ -1,8 +1,11 @@
 -- The two gate tables, written out: each gate with its name, its parameters, its qubits and the lines of its body.
 --   Angle       an angle: nought, pi, a parameter by its name, minus an angle, or one divided by a whole number
+--   nought, pi, param, minus, over   these, in this order
 --   Line        a line of a body: a gate by its name, its angles, and the qubits that it is applied to
 --   Entry       a gate of the tables
 --   gate        a gate of this name, with these parameters, qubits and lines
+--   by          the parameter of this name, as an angle
+--   line        a line with this gate, these angles and these qubits
 --   to, to_two, to_three   a gate without angles, applied to one qubit, two or three
 --   turn        a gate with angles, applied to one qubit
 --   standard    the first table, the library's listing

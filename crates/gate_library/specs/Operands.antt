@@ -3,6 +3,7 @@
 --   operand_in   what an argument names; nothing where it names no register or an index is too great
 --   wire_at      its wire at a broadcast index: a single one is repeated
 --   times        how many wires it has
+--   broadcast_by the size of an operand that is a whole register; for a single one, what the others ask for
 --   broadcast    how often a gate is applied to these: so often as a whole register has wires, once where there is none
 --   upto         the numbers below n
 --   wires_of     all its wires

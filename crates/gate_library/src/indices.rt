@@ -1,6 +1,6 @@
 //! The names of a gate's parameters or qubits, each with its index.
 
-ghost use Rattle.std.specs.Prelude.{◌≡◌, IfOk, map, List, ℕ, [], length};
+ghost use Rattle.std.specs.Prelude.{◌≡◌, IfOk, map, List, ℕ, []};
 ghost use Rattle.std.specs.List.{position};
 ghost use Rattle.std.specs.Str.{bytes_eq};
 ghost use Rattle.gate_library.specs.Names.{index_of, is_one_of};

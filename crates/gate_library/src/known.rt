@@ -1,6 +1,6 @@
 //! What is known behind some statements: the names in force, and what else the later ones are tested by.
 
-ghost use Rattle.std.specs.Prelude.{◌≡◌, ◌+◌, ◌≤◌, ◌^◌, ◌<◌, IfOk, OnOk, List, ℕ, Bool, true, false, Some, map, IsTrue};
+ghost use Rattle.std.specs.Prelude.{◌≡◌, ◌+◌, ◌^◌, ◌<◌, IfOk, OnOk, List, true, false, Some, map, IsTrue};
 ghost use Rattle.std.specs.List.{list_any};
 ghost use Rattle.gate_library.specs.Gates.{gate_at, gate_params, gate_qubits, is_opaque};
 ghost use Rattle.gate_library.specs.Known.{fresh, meaning, with_gate, with_measured, with_register};

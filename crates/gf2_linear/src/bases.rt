@@ -1,6 +1,6 @@
 //! Independent rows, kept so that a sum of them is told by elimination.
 
-ghost use Rattle.std.specs.Prelude.{◌≡◌, ℕ, ◌+◌, ◌<◌, ◌≤◌, ◌^◌, length, IsTrue, ◌↔◌, IfSome, IfNone, IfOk, OnErr, OkIff, false, true, List, [], ◌∷◌, ◌++◌, All, Contains, MatchBool};
+ghost use Rattle.std.specs.Prelude.{◌≡◌, ℕ, ◌+◌, ◌<◌, ◌≤◌, ◌^◌, length, IsTrue, IfSome, IfNone, IfOk, OnErr, false, true, List, [], ◌∷◌, ◌++◌, All, Contains, MatchBool};
 ghost use Rattle.gf2_linear.specs.Rows.{combined, is_independent, is_sum};
 ghost use Rattle.gf2_linear.specs.Bases.{IsEchelon, IsRemainder};
 ghost use Rattle.gf2_linear.specs.Completions.{IsCompletion};

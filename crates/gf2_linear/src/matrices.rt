@@ -1,6 +1,6 @@
 //! Square matrices over the field of two elements.
 
-ghost use Rattle.std.specs.Prelude.{◌≡◌, ℕ, ◌<◌, ◌≤◌, ◌^◌, Contains, IfOk, IfSome, IfNone, OnOk, OnErr, All, length, slice_index, slice_set, slice_get, Some};
+ghost use Rattle.std.specs.Prelude.{◌≡◌, ℕ, ◌<◌, ◌≤◌, ◌^◌, Contains, IfOk, IfSome, IfNone, All, length, slice_index, slice_set, slice_get, Some};
 ghost use Rattle.gf2_linear.specs.Matrices.{added, identity_rows, product, IsWireOf};
 ghost use Rattle.gf2_linear.specs.Rows.{combined};
 

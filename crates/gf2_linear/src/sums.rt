@@ -1,7 +1,7 @@
 //! What holds of lists of rows: rank, independence, sums and completion.
 
-ghost use Rattle.std.specs.Prelude.{◌≡◌, ℕ, ◌<◌, ◌≤◌, ◌^◌, All, Contains, IfOk, IfSome, IfNone, IsTrue, false, true, length};
-ghost use Rattle.gf2_linear.specs.Rows.{combined, is_independent, is_sum, IsSumAt, places_in, rank};
+ghost use Rattle.std.specs.Prelude.{◌≡◌, ◌<◌, ◌≤◌, ◌^◌, All, Contains, IfOk, IfSome, IfNone, IsTrue, false, true, length};
+ghost use Rattle.gf2_linear.specs.Rows.{is_independent, is_sum, IsSumAt, places_in, rank};
 ghost use Rattle.gf2_linear.specs.Completions.{IsCompletion};
 
 use crate::bases::Basis;

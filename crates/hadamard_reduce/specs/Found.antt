@@ -3,9 +3,12 @@
 --   gate_between m q        the gate between two H on a wire
 --   Quiet w gs i j          no gate from behind place i to below place j is on wire w
 --   Others c t q r          q and r are c and t, in one of the two orders
+--   IsTurnedAt, IsConjugatedAt, IsSurroundedAt
+--                           a window of this kind has these wires, and its gates stand at these places
 --   IsFound gs i w          the window w begins at place i
 --   HasFinePhase w          its phase k is at most 8
 --   gone, put               edits
+--   three_edits a b c turn  the change that is made of three edits and takes this turn
 --   change_of i w           the change for the window w at place i
 use Rattle.std.specs.Prelude.{◌≡◌, ℕ, ◌-◌, ◌<◌, ◌≤◌, ◌⊎◌, false, List, [], ◌∷◌, None, Some}
 use Rattle.circuit_list.specs.declared.Gate.{Gate}

@@ -1,6 +1,6 @@
 //! The change for each window.
 
-ghost use Rattle.std.specs.Prelude.{◌≡◌, ◌≤◌, ◌<◌};
+ghost use Rattle.std.specs.Prelude.{◌≡◌};
 ghost use Rattle.hadamard_reduce.specs.Found.{HasFinePhase, change_of, gone, put, three_edits};
 
 use crate::window::{Middle, Window};

@@ -15,7 +15,7 @@ mod change;
 mod walk;
 mod window;
 
-ghost use Rattle.std.specs.Prelude.{◌≡◌, ◌<◌, length};
+ghost use Rattle.std.specs.Prelude.{◌<◌};
 
 use change::change_of;
 use circuit_list::{Circuit, Passed};
@@ -23,7 +23,7 @@ use rewrite_pass::{Change, Pass, Rule, Sweep};
 use std::alloc::{AllocError, Global};
 use window::window_at;
 
-/// The rules of Hadamard reduction (Nam et al. 2018, section 4.2). Each gate that a window is left with stands in the place of
+/// The rules of Hadamard reduction (Nam et al. 2018, section 4.1). Each gate that a window is left with stands in the place of
 /// one of the window's gates; the turn is the power of w that the change takes:
 ///
 /// | window | becomes | turn |

@@ -11,7 +11,7 @@ use Rattle.std.proofs.lemmas.List.Elements.{filter-append}
 use Rattle.circuit_list.specs.declared.Gate.{Gate}
 use Rattle.gf2_linear.specs.Rows.{rows_at}
 use Rattle.phase_poly.specs.Layers.{LayerBody}
-use Rattle.phase_poly.specs.Polys.{ArePlain, Term, poly_of}
+use Rattle.phase_poly.specs.Polys.{AreDihedral, Term, poly_of}
 use Rattle.phase_poly.specs.Resynthesis.{rows_of}
 use Rattle.layer_stages.specs.declared.stage.Stage.{Stage}
 use Rattle.layer_stages.specs.Stages.{odd_rows, IsStage, numbered, AreStages, stage_line, stage_text, IsSoFar, IsStageText}
@@ -41,7 +41,7 @@ odd_nonzero (e ∷ ts) h k d l = go (nat_eq (e.1 % 2) 1) k l (odd_nonzero ts (λ
     go true (suc k) l r = r k d (omega arith)
     go false k l r = r k d l
 
-pub odd_rows-nonzero : ((m : ℕ) (hs : List Gate) → ArePlain m hs → AreFilled (poly_of m hs).terms) → (n : ℕ) (gs : List Gate) (rows : List ℕ) → ArePlain n gs → rows ≡ odd_rows (poly_of n gs).terms → (k d : ℕ) → k < length rows → get_or rows k d ≢ 0
+pub odd_rows-nonzero : ((m : ℕ) (hs : List Gate) → AreDihedral m hs → AreFilled (poly_of m hs).terms) → (n : ℕ) (gs : List Gate) (rows : List ℕ) → AreDihedral n gs → rows ≡ odd_rows (poly_of n gs).terms → (k d : ℕ) → k < length rows → get_or rows k d ≢ 0
 odd_rows-nonzero law n gs rows f e = subst (λ (rs : List ℕ). (k d : ℕ) → k < length rs → get_or rs k d ≢ 0) (sym e) (odd_nonzero (poly_of n gs).terms (law n gs f))
 
 -- ---- rows at places

@@ -3,12 +3,12 @@
 ghost use Rattle.std.specs.Prelude.{◌≡◌, ◌+◌, ◌≤◌, ◌<◌, ◌++◌, ◌∷◌, ◌^◌, [], List, IfOk, OnOk, string_bytes};
 ghost use Rattle.circuit_list.specs.Gates.{most_wires};
 ghost use Rattle.phase_poly.specs.Layers.{LayerBody, layers_of};
-ghost use Rattle.phase_poly.specs.Polys.{ArePlain};
+ghost use Rattle.phase_poly.specs.Polys.{AreDihedral};
 ghost use Rattle.layer_stages.specs.Stages.{IsSoFar, IsStageText, stage_line};
 
 use crate::stage::{Stage, stage_of};
 use circuit_list::Circuit;
-use phase_poly::laws::plain_layers;
+use phase_poly::laws::dihedral_layers;
 use phase_poly::{Layer, layers};
 use std::alloc::{AllocError, Global};
 
@@ -18,7 +18,7 @@ use std::alloc::{AllocError, Global};
 pub fn stage_lines(alloc: Global, body: &Circuit) -> Result<Vec<u8>, AllocError>
     ensures { IfOk result (λ t. IsStageText body.now.wires (layers_of body.now.gates) t.items) }
 {
-    plain_layers();
+    dihedral_layers();
     let layers = layers(alloc, body)?;
     let mut text = String::new(alloc);
     let mut next = 1;
@@ -37,7 +37,7 @@ fn push_layer(
     number: usize,
 ) -> Result<usize, AllocError>
     requires few { wires ≤ most_wires }
-    requires plain { ArePlain wires layer.now.gates }
+    requires dihedral { AreDihedral wires layer.now.gates }
     requires room { number < 2 ^ 63 }
     ensures lines { IfOk result (λ next. (ls : List LayerBody) → IsSoFar wires ls (string_bytes text.old) number →
         IsSoFar wires (ls ++ layer.now ∷ []) (string_bytes text.new) next) }

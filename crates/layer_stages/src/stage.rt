@@ -3,7 +3,7 @@
 ghost use Rattle.std.specs.Prelude.{◌≡◌, ◌≤◌, ◌<◌, ◌++◌, ◌∷◌, [], All, IfOk, OnOk, length};
 ghost use Rattle.circuit_list.specs.Gates.{most_wires};
 ghost use Rattle.gf2_linear.specs.Rows.{rows_at};
-ghost use Rattle.phase_poly.specs.Polys.{ArePlain};
+ghost use Rattle.phase_poly.specs.Polys.{AreDihedral};
 ghost use Rattle.layer_stages.specs.Stages.{IsStage, odd_rows};
 
 use circuit_list::Gate;
@@ -26,7 +26,7 @@ pub(crate) struct Stage {
 /// The numbers of a layer with these gates.
 pub(crate) fn stage_of(alloc: Global, wires: u32, gates: &[Gate]) -> Result<Stage, AllocError>
     requires few { wires ≤ most_wires }
-    requires plain { ArePlain wires gates.now }
+    requires dihedral { AreDihedral wires gates.now }
     ensures { IfOk result (λ s. IsStage wires gates.now s) }
 {
     filled_terms();

@@ -11,9 +11,9 @@ use Rattle.std.specs.Prelude.{nat_eq, nat_lt, ◌||◌}
 use Rattle.std.proofs.lemmas.Bool.Decides.{nat_tests}
 use Rattle.circuit_list.specs.declared.Gate.{Gate}
 use Rattle.circuit_list.specs.declared.Gate.TheVariants.{H, X, P, Cx}
-use Rattle.circuit_list.specs.Gates.{is_on}
+use Rattle.circuit_list.specs.Gates.{first_wire, is_on}
 use Rattle.phase_poly.specs.Layers.{LayerBody, Levels, level_of, next_level, raised, inserted, with_gate, no_gates, at_layer, walked_all, layers_of}
-use Rattle.layer_walk.specs.Walk.{Wires, free, with_wires, is_stopped, taken, left, is_first, wire_of, first_wires, later, ascending, layer, rest, turns, rest_after, walk_layers}
+use Rattle.layer_walk.specs.Walk.{Wires, free, with_wires, is_stopped, taken, left, is_first, first_wires, later, ascending, layer, rest, turns, rest_after, walk_layers}
 
 -- ---- wires among wires
 pushed : (b : Bool) (p : ℕ) (A B : List ℕ) → inserted p (cond b A B) ≡ cond b (inserted p A) (inserted p B)
@@ -149,7 +149,7 @@ plain_gate : (g : Gate) (gs : List Gate) → Splits gs → (b : Wires) (v u : Le
     ≡ record { gates = l.gates ++ cond x (taken (with_wires b g) gs) (g ∷ taken b gs); hadamards = onto l.hadamards (first_wires b left_here) } ∷ layers_by (later b left_here) u ls
 plain_gate g gs claim b v u l ls h true f a blocked unblocked = let e = blocked refl in
     left_gate g gs claim b v u l ls h e.0 e.1
-    ∙ (λ i. record { gates = l.gates ++ taken c gs; hadamards = onto l.hadamards (cond (sym f i) (wire_of g ∷ first_wires c (left c gs)) (first_wires c (left c gs))) }
+    ∙ (λ i. record { gates = l.gates ++ taken c gs; hadamards = onto l.hadamards (cond (sym f i) (first_wire g ∷ first_wires c (left c gs)) (first_wires c (left c gs))) }
     ∷ layers_by (cond (sym f i) (later c (left c gs)) (g ∷ later c (left c gs))) u ls)
   where
     c : Wires

@@ -1,6 +1,6 @@
--- The layers of a circuit by a walk, turn by turn. In a turn all wires are free at first, and the rest of the gates is walked in
--- order: a gate other than H whose wires are all free is taken, and any other gate blocks its wires. Then each H is taken that is
--- first on its wire among the gates that are left. So it goes on until no gate is left. The gates that a turn takes are a layer.
+-- The layers of a circuit by a walk, turn by turn. A turn begins with every wire free and goes along the gates that are left: what
+-- is no H and finds its wires free belongs to the layer, and what doesn't stops its wires for the rest of the turn. The H in front of
+-- which nothing is left on their wires end the layer. So it goes on until no gate is left.
 --   Wires                a set of wires
 --   free                 no wire is in it
 --   with_wires ws g      the wires ws and those of gate g
@@ -8,7 +8,6 @@
 --   taken ws gs          the gates other than H that are taken, in order, where the wires ws are blocked before
 --   left ws gs           the gates that aren't taken with them
 --   is_first ws g        gate g is an H, and no gate before is on its wire, where those before are on the wires ws
---   wire_of g            the wire of an H
 --   first_wires ws gs    the wires of the H that are first on their wires
 --   later ws gs          the gates but these H
 --   ascending qs         the wires, ascending
@@ -20,7 +19,7 @@
 use Rattle.std.specs.Prelude.{ℕ, zero, suc, ◌||◌, Bool, true, false, cond, not, List, [], ◌∷◌, length}
 use Rattle.circuit_list.specs.declared.Gate.{Gate}
 use Rattle.circuit_list.specs.declared.Gate.TheVariants.{H, X, P, Cx}
-use Rattle.circuit_list.specs.Gates.{is_on}
+use Rattle.circuit_list.specs.Gates.{first_wire, is_on}
 use Rattle.phase_poly.specs.Layers.{LayerBody, inserted}
 
 abbrev pub Wires : Type 0
@@ -52,15 +51,9 @@ is_first ws (X q) = false
 is_first ws (P k q) = false
 is_first ws (Cx c t) = false
 
-abbrev pub wire_of : Gate → ℕ
-wire_of (H q) = q
-wire_of (X q) = q
-wire_of (P k q) = q
-wire_of (Cx c t) = c
-
 abbrev pub first_wires : Wires → List Gate → List ℕ
 first_wires ws [] = []
-first_wires ws (g ∷ gs) = cond (is_first ws g) (wire_of g ∷ first_wires (with_wires ws g) gs) (first_wires (with_wires ws g) gs)
+first_wires ws (g ∷ gs) = cond (is_first ws g) (first_wire g ∷ first_wires (with_wires ws g) gs) (first_wires (with_wires ws g) gs)
 
 abbrev pub later : Wires → List Gate → List Gate
 later ws [] = []

@@ -8,6 +8,7 @@
 --   IsTree nodes              each node but the first, the new row, is reached; a place that stands in a node's sum was found
 --                             by the same node or an earlier one
 --   IsSeen, trues             a place is seen; how many are
+--   IsSpread v c              v is a sum of rows of the block c, all of them seen
 --   IsThrough n c             the row of n is a sum of rows of the block c, all of them seen, or c is its own block
 --   IsFront .. node number    the nodes before `node` went through all blocks, `node` itself through those before `number`
 --   IsGrown                   more nodes behind those that were there, more of the rows seen

@@ -1,6 +1,6 @@
 //! One row more.
 
-ghost use Rattle.std.specs.Prelude.{◌≡◌, ℕ, ◌+◌, ◌<◌, ◌≤◌, All, IfOk, IfSome, IfNone, false, filter, length, slice_index, slice_index_or};
+ghost use Rattle.std.specs.Prelude.{◌≡◌, ℕ, ◌+◌, ◌<◌, All, IfOk, IfSome, IfNone, false, filter, length, slice_index, slice_index_or};
 ghost use Rattle.std.specs.List.{range_with_len};
 ghost use Rattle.matroid_partition.specs.Places.{Has};
 ghost use Rattle.matroid_partition.specs.Blocks.{AllSpan, HasRoomAt, IsOpen, IsShown, IsState, SpansFirst, shown_by};

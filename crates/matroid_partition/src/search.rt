@@ -1,6 +1,6 @@
 //! The search for a chain of exchanges, breadth first.
 
-ghost use Rattle.std.specs.Prelude.{◌≡◌, ℕ, ◌+◌, ◌<◌, ◌≤◌, IfOk, IfSome, IfNone, length, slice_index, true, false};
+ghost use Rattle.std.specs.Prelude.{◌+◌, ◌<◌, IfOk, IfSome, IfNone, length, slice_index, true, false};
 ghost use Rattle.matroid_partition.specs.Blocks.{HasRoomAt};
 ghost use Rattle.matroid_partition.specs.Searches.{IsChainOf, IsFrontOf, IsGrown, IsMember, IsNear, IsRoot, IsSeen, IsSet, IsStart, IsStill, node_at};
 

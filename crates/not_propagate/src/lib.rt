@@ -13,8 +13,6 @@
 mod tests;
 mod walk;
 
-ghost use Rattle.std.specs.Prelude.{ℕ, List};
-ghost use Rattle.circuit_list.specs.declared.Gate.{Gate};
 ghost use Rattle.not_propagate.specs.LastX.{XLast};
 
 use circuit_list::{Circuit, Passed};

@@ -1,6 +1,6 @@
 //! The walk over the gates, with a flag for each wire.
 
-ghost use Rattle.std.specs.Prelude.{◌≡◌, ◌≢◌, ◌+◌, ◌-◌, ◌<◌, ◌≤◌, [], ◌∷◌, ◌++◌, length, replicate, false, cond, IfOk, OnOk};
+ghost use Rattle.std.specs.Prelude.{◌≡◌, ◌≢◌, ◌-◌, ◌<◌, ◌≤◌, [], replicate, false, cond, IfOk, OnOk};
 ghost use Rattle.circuit_list.specs.declared.Gate.TheVariants.{Cx, H, P, X};
 ghost use Rattle.circuit_list.specs.Gates.{IsFine, most_wires};
 ghost use Rattle.not_propagate.specs.Walks.{HasFinished, HasWalked, IsFitting, flag_of, flags_at, gates_at, turn_at, turned};

@@ -1,6 +1,8 @@
 -- What the forms in memory are to their callers.
 --   CallLog                        the calls made so far, the calls that are to fail, the faults
+--   no_calls                       the log before the first call
 --   passed, failed                 the log after a call that went well, or failed
+--   IsToFail                       the next call is one that is to fail
 --   SourceState, SinkState         the forms whose calls fail by a list, as values
 --   ShelfState, text_of            texts by their names; the text of a name
 --   taken, written, flushed        the state after bytes went out or came, and after a flush

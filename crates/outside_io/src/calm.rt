@@ -1,12 +1,9 @@
 //! Sources, sinks and shelves in memory that never fail: their count of faults is always 0.
 
-ghost use Rattle.std.specs.Prelude.{◌≡◌, ℕ, ◌+◌, ◌-◌, ◌^◌, ◌<◌, ◌≤◌, List, [], Bool, true, false, Some, None, Ok, drop, min, take, length, if◌then◌else◌, IfOk, IfSome, OnOk, OnErr, IsErrOf, option_map, vec_len, vec_capacity};
+ghost use Rattle.std.specs.Prelude.{◌≡◌, ℕ, ◌+◌, ◌-◌, ◌<◌, ◌≤◌, List, [], true, false, Some, None, Ok, drop, take, length, if◌then◌else◌, IfOk, OnOk, OnErr, option_map, vec_len, vec_capacity};
 ghost use Rattle.std.specs.declared.option.Option.{Option};
-ghost use Rattle.std.specs.Io.{ReadsAtMost};
-ghost use Rattle.std.specs.Io.KnownBytes.{ReadConsumes};
-ghost use Rattle.outside_io.specs.Causes.{HasCause, Rose};
+ghost use Rattle.outside_io.specs.Causes.{HasCause};
 ghost use Rattle.outside_io.specs.Bytes.{Gains, Stays};
-ghost use Rattle.outside_io.specs.Shelf.{HasNoText, LoadsText};
 ghost use Rattle.outside_io.specs.Memory.{RoomState, appended};
 
 use crate::{Failed, LoadFault, Shelf, Sink, Source, copy_some, copy_text};

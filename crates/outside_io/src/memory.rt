@@ -1,7 +1,7 @@
 //! Sources, sinks and shelves in memory, whose calls fail by a list. They are for tests: what they hold, how many calls were
 //! made and what is left can be read back.
 
-ghost use Rattle.std.specs.Prelude.{◌≡◌, ℕ, ◌+◌, ◌-◌, ◌^◌, ◌<◌, ◌≤◌, ◌↔◌, List, [], Bool, true, false, Some, None, drop, min, take, length, Contains, IfOk, OnOk, OnErr, IsErr, IsErrOf, option_map, vec_len, vec_capacity, string_bytes};
+ghost use Rattle.std.specs.Prelude.{◌≡◌, ℕ, ◌+◌, ◌-◌, ◌^◌, ◌<◌, ◌≤◌, ◌↔◌, List, [], true, false, Some, None, drop, min, take, length, IfOk, OnOk, OnErr, IsErr, IsErrOf, option_map, vec_len, vec_capacity, string_bytes};
 ghost use Rattle.std.specs.Io.{ReadsAtMost};
 ghost use Rattle.std.specs.Io.KnownBytes.{ReadConsumes};
 ghost use Rattle.outside_io.specs.Causes.{HasCause, Rose};

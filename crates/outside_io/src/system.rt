@@ -1,11 +1,6 @@
 //! The real input, output and files: the trusted edge. Nothing is told of what they hold, and nothing is proved of it.
 
-ghost use Rattle.std.specs.Prelude.{◌≡◌, ℕ, ◌+◌, ◌-◌, ◌^◌, ◌<◌, ◌≤◌, List, [], Bool, true, false, Some, None, take, length, IfOk, OnOk, OnErr, IsErrOf, vec_len};
-ghost use Rattle.std.specs.Io.{ReadsAtMost};
-ghost use Rattle.std.specs.Io.KnownBytes.{ReadConsumes};
-ghost use Rattle.outside_io.specs.Causes.{HasCause, Rose};
-ghost use Rattle.outside_io.specs.Bytes.{Gains, Stays};
-ghost use Rattle.outside_io.specs.Shelf.{HasNoText, LoadsText};
+ghost use Rattle.std.specs.Prelude.{◌≡◌, ◌+◌, ◌-◌, ◌^◌, ◌<◌, ◌≤◌, [], true, false, None, length};
 
 use crate::{Failed, LoadFault, ReadFault, Shelf, Sink, Source, fail, read_into};
 use std::io::{ErrorKind, Read, Write};

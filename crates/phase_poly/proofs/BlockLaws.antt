@@ -1,7 +1,7 @@
 -- Each list of rows that aren't empty has a partition: each row alone.
 --   singles s n         the blocks of one place each, for the n places from s on
 --   singles-partition   they are a partition of rows that aren't empty
---   some_blocks         so the rows of each plain layer have one
+--   some_blocks         so the rows of each dihedral layer have one
 use Rattle.std.proofs.Common.{◌≡◌, ◌≢◌, ℕ, zero, suc, ◌+◌, ◌<◌, ◌≤◌, Bool, true, false, cond, List, [], ◌∷◌, All, IsTrue, length, refl, ap, arith, get_or}
 use Rattle.std.specs.Prelude.{nat_eq}
 use Rattle.std.proofs.lemmas.Bool.Decides.{nat_tests}
@@ -10,9 +10,9 @@ use Rattle.gf2_linear.specs.Rows.{is_independent, rows_at}
 use Rattle.gf2_linear.proofs.Ranks.{Free-independent}
 use Rattle.matroid_partition.specs.Partitions.{times, IsPartition}
 use Rattle.phase_poly.specs.Layers.{LayerBody}
-use Rattle.phase_poly.specs.Polys.{ArePlain, poly_of}
+use Rattle.phase_poly.specs.Polys.{AreDihedral, poly_of}
 use Rattle.phase_poly.specs.Resynthesis.{rows_of}
-use Rattle.phase_poly.specs.Replaced.{PlainLayers, HasBlocks, AreBlocks}
+use Rattle.phase_poly.specs.Replaced.{DihedralLayers, HasBlocks, AreBlocks}
 use Rattle.phase_poly.proofs.MapLaws.{terms_rows}
 use Rattle.phase_poly.proofs.BuildingLaws.{rows_of-nonzero}
 
@@ -64,11 +64,11 @@ singles-partition rows z = record {
   independent = singles-independent rows 0 (length rows) (omega arith) z;
 }
 
-has_blocks : (n : ℕ) (gs : List Gate) → ArePlain n gs → (b : ℕ) × HasBlocks n gs b
+has_blocks : (n : ℕ) (gs : List Gate) → AreDihedral n gs → (b : ℕ) × HasBlocks n gs b
 has_blocks n gs f =
     let rows : List ℕ = rows_of (poly_of n gs).terms in
     (length (singles 0 (length rows)), (singles 0 (length rows), (singles-partition rows (rows_of-nonzero n (poly_of n gs).terms (terms_rows n gs f)), refl)))
 
-pub some_blocks : (n : ℕ) (ls : List LayerBody) → PlainLayers n ls → (bs : List ℕ) × AreBlocks n ls bs
+pub some_blocks : (n : ℕ) (ls : List LayerBody) → DihedralLayers n ls → (bs : List ℕ) × AreBlocks n ls bs
 some_blocks n [] f = ([], tt)
 some_blocks n (l ∷ ls) f = let h = has_blocks n l.gates f.0 in let r = some_blocks n ls f.1 in (h.0 ∷ r.0, (h.1, r.1))

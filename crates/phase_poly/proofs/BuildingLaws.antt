@@ -155,7 +155,7 @@ blocks-below n (b ∷ bs) h = (all b (h 0 [] (omega arith)), blocks-below n bs (
 pub resynthesis_more : (n b c t : ℕ) (A B : List Gate) → b ≤ c → IsResynthesis n b A B t → IsResynthesis n c A B t
 resynthesis_more n b c t A B l h = record {
   below = h.below;
-  plain = h.plain;
+  dihedral = h.dihedral;
   poly = h.poly;
   t_gates = h.t_gates;
   cx_gates = let m : (b + 1) * (n * n) ≤ (c + 1) * (n * n) = mul-mono (omega arith) in let a = h.cx_gates in omega (arith, a, m);

@@ -2,7 +2,7 @@
 --   relinked_fine       they may stand on its wires
 --   rewriting_new       they are a rewriting
 --   bound_new, bound_old   the bound, where they are taken and where not
---   plain_told, told    the layers are plain, and the gates are replaced layers, as the function knows it
+--   dihedral_told, told  the layers are dihedral, and the gates are replaced layers, as the function knows it
 use Rattle.std.proofs.Common.{◌≡◌, ℕ, zero, suc, ◌<◌, ◌≤◌, Bool, true, false, cond, All, List, [], ◌∷◌, ◌++◌, sym, subst, arith, inl, inr}
 use Rattle.std.specs.Prelude.{nat_lt}
 use Rattle.unitary_model.specs.Operations.{cx_count}
@@ -10,13 +10,13 @@ use Rattle.circuit_list.specs.declared.Gate.{Gate}
 use Rattle.circuit_list.specs.declared.Gate.TheVariants.{H, X, P, Cx}
 use Rattle.circuit_list.specs.Gates.{ops, IsFine}
 use Rattle.phase_poly.specs.Layers.{LayerBody, level_of, inserted, with_gate, no_gates, at_layer, Walk, first_walk, walked, walked_all, layers_of, hadamards, line, linked}
-use Rattle.phase_poly.specs.Polys.{ArePlain}
+use Rattle.phase_poly.specs.Polys.{AreDihedral}
 use Rattle.phase_poly.specs.Resynthesis.{AllBelow}
-use Rattle.phase_poly.specs.Replaced.{IsTaken, IsReplaced, AreFine, PlainLayers, AreBlocks, IsRelinked, KeepsBound, lesser}
+use Rattle.phase_poly.specs.Replaced.{IsTaken, IsReplaced, AreFine, DihedralLayers, AreBlocks, IsRelinked, KeepsBound, lesser}
 use Rattle.rewrite_pass.specs.Law.{IsRewriting}
 use Rattle.rewrite_pass.proofs.RewritingLaws.{Step-IsRewriting}
 use Rattle.phase_poly.proofs.BlockLaws.{some_blocks}
-use Rattle.phase_poly.proofs.PassLaws.{layers_plain, resynth_step, resynth_few}
+use Rattle.phase_poly.proofs.PassLaws.{layers_dihedral, resynth_step, resynth_few}
 
 pub fine_of : (n : ℕ) (gs : List Gate) → All (IsFine n) gs → AreFine n gs
 fine_of n [] h = tt
@@ -31,12 +31,12 @@ fine-append : (n : ℕ) (A B : List Gate) → AreFine n A → AreFine n B → Ar
 fine-append n [] B f g = g
 fine-append n (x ∷ A) B f g = (f.0, fine-append n A B f.1 g)
 
-plain_fine : (n : ℕ) (gs : List Gate) → ArePlain n gs → AreFine n gs
-plain_fine n [] f = tt
-plain_fine n (H q ∷ gs) f = absurd f.0
-plain_fine n (X q ∷ gs) f = (f.0, plain_fine n gs f.1)
-plain_fine n (P k q ∷ gs) f = (f.0, plain_fine n gs f.1)
-plain_fine n (Cx c t ∷ gs) f = (f.0, plain_fine n gs f.1)
+dihedral_fine : (n : ℕ) (gs : List Gate) → AreDihedral n gs → AreFine n gs
+dihedral_fine n [] f = tt
+dihedral_fine n (H q ∷ gs) f = absurd f.0
+dihedral_fine n (X q ∷ gs) f = (f.0, dihedral_fine n gs f.1)
+dihedral_fine n (P k q ∷ gs) f = (f.0, dihedral_fine n gs f.1)
+dihedral_fine n (Cx c t ∷ gs) f = (f.0, dihedral_fine n gs f.1)
 
 hadamards_fine : (n : ℕ) (qs : List ℕ) → AllBelow n qs → AreFine n (hadamards qs)
 hadamards_fine n [] h = tt
@@ -70,11 +70,11 @@ hads_walked : (n : ℕ) (gs : List Gate) (s : Walk) → AreFine n gs → HadsBel
 hads_walked n [] s f h = h
 hads_walked n (g ∷ gs) s f h = hads_walked n gs (walked g s) f.1 (hads_at n (level_of s.levels g) g s.layers f.0 h)
 
-taken_fine : (n b t : ℕ) (A B : List Gate) → ArePlain n A → IsTaken n b A B t → AreFine n B
-taken_fine n b t A B f (inl h) = subst (AreFine n) (sym h.0) (plain_fine n A f)
-taken_fine n b t A B f (inr h) = plain_fine n B h.0.plain
+taken_fine : (n b t : ℕ) (A B : List Gate) → AreDihedral n A → IsTaken n b A B t → AreFine n B
+taken_fine n b t A B f (inl h) = subst (AreFine n) (sym h.0) (dihedral_fine n A f)
+taken_fine n b t A B f (inr h) = dihedral_fine n B h.0.dihedral
 
-replaced_fine : (n t : ℕ) (ls ms : List LayerBody) (bs : List ℕ) → PlainLayers n ls → HadsBelow n ls → IsReplaced n ls ms bs t → AreFine n (linked ms)
+replaced_fine : (n t : ℕ) (ls ms : List LayerBody) (bs : List ℕ) → DihedralLayers n ls → HadsBelow n ls → IsReplaced n ls ms bs t → AreFine n (linked ms)
 replaced_fine n t [] [] [] p q h = tt
 replaced_fine n t (l ∷ ls) (m ∷ ms) (b ∷ bs) p q h =
     fine-append n (line m) (linked ms)
@@ -86,12 +86,12 @@ replaced_fine n t (l ∷ ls) [] bs p q h = absurd h
 replaced_fine n t (l ∷ ls) (m ∷ ms) [] p q h = absurd h
 
 blocks_of : (n : ℕ) (gs : List Gate) → All (IsFine n) gs → (bs : List ℕ) × AreBlocks n (layers_of gs) bs
-blocks_of n gs f = some_blocks n (layers_of gs) (layers_plain n gs (fine_of n gs f))
+blocks_of n gs f = some_blocks n (layers_of gs) (layers_dihedral n gs (fine_of n gs f))
 
 pub relinked_fine : (n t : ℕ) (gs new : List Gate) → All (IsFine n) gs → IsRelinked n (layers_of gs) new t → All (IsFine n) new
 relinked_fine n t gs new f h =
     let b = blocks_of n gs f in let q = h b.0 b.1 in
-    of_fine n new (subst (AreFine n) (sym q.1.1) (replaced_fine n t (layers_of gs) q.0 b.0 (layers_plain n gs (fine_of n gs f)) (hads_walked n gs first_walk (fine_of n gs f) tt) q.1.0))
+    of_fine n new (subst (AreFine n) (sym q.1.1) (replaced_fine n t (layers_of gs) q.0 b.0 (layers_dihedral n gs (fine_of n gs f)) (hads_walked n gs first_walk (fine_of n gs f) tt) q.1.0))
 
 -- a circuit of the list
 pub rewriting_new : (n t : ℕ) (gs new : List Gate) → All (IsFine n) gs → IsRelinked n (layers_of gs) new t → t < 8 → IsRewriting n gs new t
@@ -109,8 +109,8 @@ pub bound_old : (n t : ℕ) (gs new : List Gate) → IsRelinked n (layers_of gs)
 bound_old n t gs new h l bs a = let c = bound_new n t gs new h bs a in omega (arith, l, c)
 
 -- ---- as the function needs it
-pub plain_told : (n m : ℕ) (gs : List Gate) (ls : List LayerBody) → m ≡ n → ls ≡ layers_of gs → All (IsFine n) gs → PlainLayers m ls
-plain_told n m gs ls e h f = subst (λ k. PlainLayers k ls) (sym e) (subst (PlainLayers n) (sym h) (layers_plain n gs (fine_of n gs f)))
+pub dihedral_told : (n m : ℕ) (gs : List Gate) (ls : List LayerBody) → m ≡ n → ls ≡ layers_of gs → All (IsFine n) gs → DihedralLayers m ls
+dihedral_told n m gs ls e h f = subst (λ k. DihedralLayers k ls) (sym e) (subst (DihedralLayers n) (sym h) (layers_dihedral n gs (fine_of n gs f)))
 
 pub told : (n m t : ℕ) (gs new : List Gate) (ls : List LayerBody) → m ≡ n → ls ≡ layers_of gs → IsRelinked m ls new t → IsRelinked n (layers_of gs) new t
 told n m t gs new ls e h r = subst (λ k. IsRelinked k (layers_of gs) new t) e (subst (λ (z : List LayerBody). IsRelinked m z new t) h r)

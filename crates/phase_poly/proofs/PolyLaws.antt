@@ -34,7 +34,7 @@ use Rattle.gf2_linear.specs.Matrices.{added}
 use Rattle.gf2_linear.proofs.MatrixLaws.{length-identity}
 use Rattle.gf2_linear.proofs.RunLaws.{get-identity}
 use Rattle.phase_poly.specs.Rows.{has}
-use Rattle.phase_poly.specs.Polys.{ArePlain, Term, coefficient, with_term, PolyBody, first_poly, polyed, polyed_all, walked_poly, SamePoly}
+use Rattle.phase_poly.specs.Polys.{AreDihedral, Term, coefficient, with_term, PolyBody, first_poly, polyed, polyed_all, walked_poly, SamePoly}
 
 -- ---- terms
 coefficient-total : (m : ℕ) (ts : List Term) → coefficient m ts ≡ total m ts
@@ -168,7 +168,7 @@ agrees_phase n k q p w h = go (has p.flips q)
     go true = record { long = h.long; rows = h.rows; bits = h.bits }
     go false = record { long = h.long; rows = h.rows; bits = h.bits }
 
-pub agrees_all : (n : ℕ) (gs : List Gate) (p : PolyBody) (w : Wires) → ArePlain n gs → Agrees n p w → Agrees n (polyed_all gs p) (last_labels gs w n)
+pub agrees_all : (n : ℕ) (gs : List Gate) (p : PolyBody) (w : Wires) → AreDihedral n gs → Agrees n p w → Agrees n (polyed_all gs p) (last_labels gs w n)
 agrees_all n [] p w f h = h
 agrees_all n (H q ∷ gs) p w f h = absurd f.0
 agrees_all n (X q ∷ gs) p w f h = agrees_all n gs (polyed (X q) p) (with_label w q (flipped (w q))) f.1 (agrees_flip n q p w f.0 h)
@@ -183,7 +183,7 @@ flip_turn (H q ∷ gs) = flip_turn gs
 flip_turn (P k q ∷ gs) = flip_turn gs
 flip_turn (Cx c t ∷ gs) = flip_turn gs
 
-walked_coefficient : (n m : ℕ) (gs : List Gate) (p : PolyBody) (w : Wires) → ArePlain n gs → Agrees n p w →
+walked_coefficient : (n m : ℕ) (gs : List Gate) (p : PolyBody) (w : Wires) → AreDihedral n gs → Agrees n p w →
     coefficient m (polyed_all gs p).terms % 8 ≡ (coefficient m p.terms + total m (signed (marks gs w n))) % 8
 walked_coefficient n m [] p w f h = ap (λ z. z % 8) (more (coefficient m p.terms))
   where
@@ -210,7 +210,7 @@ walked_coefficient n m (P k q ∷ gs) p w f h =
     here true e = coefficient-with m (get_or p.map q 0) (8 - k) p.terms ∙ (λ i. (coefficient m p.terms + cond (nat_eq (h.rows q f.0.0 i) m) (cond ((sym e ∙ h.bits q f.0.0) i) (8 - k) k) 0) % 8)
     here false e = coefficient-with m (get_or p.map q 0) k p.terms ∙ (λ i. (coefficient m p.terms + cond (nat_eq (h.rows q f.0.0 i) m) (cond ((sym e ∙ h.bits q f.0.0) i) (8 - k) k) 0) % 8)
 
-walked_constant : (n : ℕ) (gs : List Gate) (p : PolyBody) (w : Wires) → ArePlain n gs → Agrees n p w →
+walked_constant : (n : ℕ) (gs : List Gate) (p : PolyBody) (w : Wires) → AreDihedral n gs → Agrees n p w →
     (polyed_all gs p).constant % 8 ≡ (p.constant + (constant (marks gs w n) + flip_turn gs)) % 8
 walked_constant n [] p w f h = ap (λ z. z % 8) (more p.constant)
   where
@@ -239,24 +239,24 @@ walked_constant n (P k q ∷ gs) p w f h =
     here true e a t = sums p.constant a t ∙ (λ i. (p.constant + (cond ((sym e ∙ h.bits q f.0.0) i) k 0 + a + t)) % 8)
     here false e a t = none p.constant a t ∙ (λ i. (p.constant + (cond ((sym e ∙ h.bits q f.0.0) i) k 0 + a + t)) % 8)
 
-exponent-plain : (N : ℕ) (v : Bits) (n : ℕ) (gs : List Gate) (w : Wires) → ArePlain n gs → exponent N v gs w n ≡ phase_sum N v (marks gs w n) + flip_turn gs
-exponent-plain N v n [] w f = refl
-exponent-plain N v n (H q ∷ gs) w f = absurd f.0
-exponent-plain N v n (X q ∷ gs) w f = let r = exponent-plain N v n gs (with_label w q (flipped (w q))) f.1 in omega (arith, r)
-exponent-plain N v n (P k q ∷ gs) w f = ap (λ z. z + cond (value N v (w q)) k 0) (exponent-plain N v n gs w f.1) ∙ sums (phase_sum N v (marks gs w n)) (flip_turn gs) (cond (value N v (w q)) k 0)
+exponent-dihedral : (N : ℕ) (v : Bits) (n : ℕ) (gs : List Gate) (w : Wires) → AreDihedral n gs → exponent N v gs w n ≡ phase_sum N v (marks gs w n) + flip_turn gs
+exponent-dihedral N v n [] w f = refl
+exponent-dihedral N v n (H q ∷ gs) w f = absurd f.0
+exponent-dihedral N v n (X q ∷ gs) w f = let r = exponent-dihedral N v n gs (with_label w q (flipped (w q))) f.1 in omega (arith, r)
+exponent-dihedral N v n (P k q ∷ gs) w f = ap (λ z. z + cond (value N v (w q)) k 0) (exponent-dihedral N v n gs w f.1) ∙ sums (phase_sum N v (marks gs w n)) (flip_turn gs) (cond (value N v (w q)) k 0)
   where
     sums : (a t e : ℕ) → a + t + e ≡ e + a + t
     sums a t e = omega arith
-exponent-plain N v n (Cx c t ∷ gs) w f = exponent-plain N v n gs (with_label w t (add_labels (w t) (w c))) f.1
+exponent-dihedral N v n (Cx c t ∷ gs) w f = exponent-dihedral N v n gs (with_label w t (add_labels (w t) (w c))) f.1
 
-no_had : (n : ℕ) (gs : List Gate) → ArePlain n gs → hcount gs ≡ 0
+no_had : (n : ℕ) (gs : List Gate) → AreDihedral n gs → hcount gs ≡ 0
 no_had n [] f = refl
 no_had n (H q ∷ gs) f = absurd f.0
 no_had n (X q ∷ gs) f = no_had n gs f.1
 no_had n (P k q ∷ gs) f = no_had n gs f.1
 no_had n (Cx c t ∷ gs) f = no_had n gs f.1
 
-eighths : (n : ℕ) (gs : List Gate) (w : Wires) → ArePlain n gs → Eighths (marks gs w n)
+eighths : (n : ℕ) (gs : List Gate) (w : Wires) → AreDihedral n gs → Eighths (marks gs w n)
 eighths n [] w f = tt
 eighths n (H q ∷ gs) w f = absurd f.0
 eighths n (X q ∷ gs) w f = eighths n gs (with_label w q (flipped (w q))) f.1
@@ -264,7 +264,7 @@ eighths n (P k q ∷ gs) w f = (f.0.1.1, eighths n gs w f.1)
 eighths n (Cx c t ∷ gs) w f = eighths n gs (with_label w t (add_labels (w t) (w c))) f.1
 
 -- wires from n on keep their labels
-elsewhere : (n q : ℕ) (gs : List Gate) (w : Wires) → n ≤ q → ArePlain n gs → last_labels gs w n q ≡ w q
+elsewhere : (n q : ℕ) (gs : List Gate) (w : Wires) → n ≤ q → AreDihedral n gs → last_labels gs w n q ≡ w q
 elsewhere n q [] w le f = refl
 elsewhere n q (H p ∷ gs) w le f = absurd f.0
 elsewhere n q (P k p ∷ gs) w le f = elsewhere n q gs w le f.1
@@ -295,13 +295,13 @@ same_walk n t A B s = record {
   constant = s.constant;
 }
 
-totals : (n m : ℕ) (gs : List Gate) (x : Bits) → ArePlain n gs → coefficient m (walked_poly n gs).terms % 8 ≡ total m (signed (marks gs (start n x) n)) % 8
+totals : (n m : ℕ) (gs : List Gate) (x : Bits) → AreDihedral n gs → coefficient m (walked_poly n gs).terms % 8 ≡ total m (signed (marks gs (start n x) n)) % 8
 totals n m gs x f = walked_coefficient n m gs (first_poly n) (start n x) f (agrees_first n x) ∙ ap (λ z. z % 8) (zero-add (total m (signed (marks gs (start n x) n))))
 
-constants : (n : ℕ) (gs : List Gate) (x : Bits) → ArePlain n gs → (walked_poly n gs).constant % 8 ≡ (constant (marks gs (start n x) n) + flip_turn gs) % 8
+constants : (n : ℕ) (gs : List Gate) (x : Bits) → AreDihedral n gs → (walked_poly n gs).constant % 8 ≡ (constant (marks gs (start n x) n) + flip_turn gs) % 8
 constants n gs x f = walked_constant n gs (first_poly n) (start n x) f (agrees_first n x) ∙ ap (λ z. z % 8) (zero-add (constant (marks gs (start n x) n) + flip_turn gs))
 
-pub same_turns : (n t : ℕ) (A B : List Gate) → ArePlain n A → ArePlain n B → SamePoly n t A B → Turns t (ops A) (ops B)
+pub same_turns : (n t : ℕ) (A B : List Gate) → AreDihedral n A → AreDihedral n B → SamePoly n t A B → Turns t (ops A) (ops B)
 unfolding bits_of
 same_turns n t A B fa fb s =
     let W : SameWalk n t (walked_poly n A) (walked_poly n B) = same_walk n t A B s in
@@ -309,7 +309,7 @@ same_turns n t A B fa fb s =
     (λ x. fun_ext (λ q. bit x q (cases_lt q n) W))
     (λ x.
     let a = marks A (start n x) n in let b = marks B (start n x) n in
-    let ea = exponent-plain n x n A (start n x) fa in let eb = exponent-plain n x n B (start n x) fb in
+    let ea = exponent-dihedral n x n A (start n x) fa in let eb = exponent-dihedral n x n B (start n x) fb in
     let pa = phase_sum-signed n x a (eighths n A (start n x) fa) in let pb = phase_sum-signed n x b (eighths n B (start n x) fb) in
     let sums = by_totals (length (signed b) + length (signed a)) (odd_over n x) (signed b) (signed a) (omega arith)
     (λ m. sym (totals n m B x fb) ∙ W.coefficients m ∙ totals n m A x fa) in
@@ -324,16 +324,16 @@ same_turns n t A B fa fb s =
     bit x q (inr h) W = ap (value n x) (elsewhere n q B (start n x) h fb ∙ sym (elsewhere n q A (start n x) h fa))
 
 -- ---- the same with the odd path parities
-plain_flat : (n : ℕ) (gs : List Gate) → ArePlain n gs → Flat n (events (ops gs))
-plain_flat n [] f = tt
-plain_flat n (H q ∷ gs) f = absurd f.0
-plain_flat n (X q ∷ gs) f = plain_flat n gs f.1
-plain_flat n (P k q ∷ gs) f = go (nat_eq ((0 + k) % 2) 1) (plain_flat n gs f.1)
+dihedral_flat : (n : ℕ) (gs : List Gate) → AreDihedral n gs → Flat n (events (ops gs))
+dihedral_flat n [] f = tt
+dihedral_flat n (H q ∷ gs) f = absurd f.0
+dihedral_flat n (X q ∷ gs) f = dihedral_flat n gs f.1
+dihedral_flat n (P k q ∷ gs) f = go (nat_eq ((0 + k) % 2) 1) (dihedral_flat n gs f.1)
   where
     go : (b : Bool) → Flat n (events (ops gs)) → Flat n (cond b (Toggle q ∷ []) [] ++ events (ops gs))
     go true h = (f.0.0, h)
     go false h = h
-plain_flat n (Cx c t ∷ gs) f = (f.0.0, (f.0.1.0, plain_flat n gs f.1))
+dihedral_flat n (Cx c t ∷ gs) f = (f.0.0, (f.0.1.0, dihedral_flat n gs f.1))
 
 Match : ℕ → Labels → Wires → Type 0
 Match n L w = (q : ℕ) → q < n → L q ≡ (w q).variables
@@ -354,7 +354,7 @@ match_add n c t L w lc lt h j l = go (nat_eq j t)
     go true = λ i. bit_xor (h t lt i) (h c lc i)
     go false = h j l
 
-final-last : (n : ℕ) (gs : List Gate) (L : Labels) (w : Wires) → ArePlain n gs → Match n L w → Match n (final (events (ops gs)) L) (last_labels gs w n)
+final-last : (n : ℕ) (gs : List Gate) (L : Labels) (w : Wires) → AreDihedral n gs → Match n L w → Match n (final (events (ops gs)) L) (last_labels gs w n)
 unfolding Match
 final-last n [] L w f h = h
 final-last n (H q ∷ gs) L w f h = absurd f.0
@@ -382,7 +382,7 @@ odd_next a b e = ap (λ z. nat_eq z 1) e ∙ go (b % 2) (omega arith) ((b + 1) %
     go (suc zero) h s e = ap (λ z. nat_eq z 1) e
     go (suc (suc r)) h s e = absurd (omega arith)
 
-odd-total : (n m : ℕ) (gs : List Gate) (L : Labels) (w : Wires) → ArePlain n gs → Match n L w → par (toggled_labels (events (ops gs)) L) m ≡ odd (total m (signed (marks gs w n)))
+odd-total : (n m : ℕ) (gs : List Gate) (L : Labels) (w : Wires) → AreDihedral n gs → Match n L w → par (toggled_labels (events (ops gs)) L) m ≡ odd (total m (signed (marks gs w n)))
 unfolding par Match odd
 odd-total n m [] L w f h = refl
 odd-total n m (H q ∷ gs) L w f h = absurd f.0
@@ -435,26 +435,26 @@ match_first n q h = go (nat_lt q n)
     go false = refl
 
 -- the same map, and coefficients that are the same modulo 8
-covers_by : (n : ℕ) (A B : List Gate) → ArePlain n A → ArePlain n B → (walked_poly n B).map ≡ (walked_poly n A).map →
+covers_by : (n : ℕ) (A B : List Gate) → AreDihedral n A → AreDihedral n B → (walked_poly n B).map ≡ (walked_poly n A).map →
     ((m : ℕ) → coefficient m (walked_poly n B).terms % 8 ≡ coefficient m (walked_poly n A).terms % 8) → Covers (events (ops A)) (events (ops B))
 unfolding Match
 covers_by n A B fa fb e c =
     let a = agrees_all n A (first_poly n) (start n dark) fa (agrees_first n dark) in
     let b = agrees_all n B (first_poly n) (start n dark) fb (agrees_first n dark) in
-    flat_covers n (events (ops A)) (events (ops B)) (plain_flat n A fa) (plain_flat n B fb)
+    flat_covers n (events (ops A)) (events (ops B)) (dihedral_flat n A fa) (dihedral_flat n B fb)
     (λ q h. final-last n A (own_variables n) (start n dark) fa (match_first n) q h ∙ sym (a.rows q h) ∙ sym (ap (λ z. get_or z q 0) e) ∙ b.rows q h ∙ sym (final-last n B (own_variables n) (start n dark) fb (match_first n) q h))
     (fun_ext (λ m. odd-total n m A (own_variables n) (start n dark) fa (match_first n)
     ∙ odd_same (total m (signed (marks A (start n dark) n))) (total m (signed (marks B (start n dark) n)))
     (let ta = totals n m A dark fa in let tb = totals n m B dark fb in let d = c m in omega (arith, ta, tb, d))
     ∙ sym (odd-total n m B (own_variables n) (start n dark) fb (match_first n))))
 
-pub same_covers : (n t : ℕ) (A B : List Gate) → ArePlain n A → ArePlain n B → SamePoly n t A B → Covers (events (ops A)) (events (ops B))
+pub same_covers : (n t : ℕ) (A B : List Gate) → AreDihedral n A → AreDihedral n B → SamePoly n t A B → Covers (events (ops A)) (events (ops B))
 same_covers n t A B fa fb s = let W : SameWalk n t (walked_poly n A) (walked_poly n B) = same_walk n t A B s in covers_by n A B fa fb W.map W.coefficients
 
-pub covers_back : (n t : ℕ) (A B : List Gate) → ArePlain n A → ArePlain n B → SamePoly n t A B → Covers (events (ops B)) (events (ops A))
+pub covers_back : (n t : ℕ) (A B : List Gate) → AreDihedral n A → AreDihedral n B → SamePoly n t A B → Covers (events (ops B)) (events (ops A))
 covers_back n t A B fa fb s = let W : SameWalk n t (walked_poly n A) (walked_poly n B) = same_walk n t A B s in covers_by n B A fb fa (sym W.map) (λ m. sym (W.coefficients m))
 
-pub same_odd_paths : (n t : ℕ) (A B : List Gate) → ArePlain n A → ArePlain n B → SamePoly n t A B → (m : ℕ) → odd_paths m (ops B) ≡ odd_paths m (ops A)
+pub same_odd_paths : (n t : ℕ) (A B : List Gate) → AreDihedral n A → AreDihedral n B → SamePoly n t A B → (m : ℕ) → odd_paths m (ops B) ≡ odd_paths m (ops A)
 same_odd_paths n t A B fa fb s m =
     let f = Covers-size (events (ops A)) (events (ops B)) (same_covers n t A B fa fb s) m in
     let g = Covers-size (events (ops B)) (events (ops A)) (covers_back n t A B fa fb s) m in

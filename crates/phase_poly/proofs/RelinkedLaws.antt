@@ -1,7 +1,7 @@
 -- One layer more is replaced.
 --   replaced-more       one layer more at the end, with the powers modulo 8
 --   relinked-next, relinked_none   so for the list of all layers; for none
---   plain_layer         each of the layers is plain
+--   dihedral_layer         each of the layers is dihedral
 --   cx-more, hadamards-more        one gate more is counted; one H more is put
 use Rattle.std.proofs.Common.{◌≡◌, ℕ, zero, suc, ◌+◌, ◌%◌, ◌<◌, List, [], ◌∷◌, ◌++◌, length, take, refl, sym, subst, ◌∙◌, ap, arith, append_assoc, append-nil, get_or}
 use Rattle.std.proofs.Math.Seq.{take-suc}
@@ -10,8 +10,8 @@ use Rattle.circuit_list.specs.declared.Gate.{Gate}
 use Rattle.circuit_list.specs.declared.Gate.TheVariants.{H}
 use Rattle.circuit_list.specs.Gates.{ops}
 use Rattle.phase_poly.specs.Layers.{LayerBody, hadamards, line, linked}
-use Rattle.phase_poly.specs.Polys.{ArePlain}
-use Rattle.phase_poly.specs.Replaced.{IsTaken, IsReplaced, PlainLayers, HasBlocks, AreBlocks, IsRelinked}
+use Rattle.phase_poly.specs.Polys.{AreDihedral}
+use Rattle.phase_poly.specs.Replaced.{IsTaken, IsReplaced, DihedralLayers, HasBlocks, AreBlocks, IsRelinked}
 use Rattle.phase_poly.proofs.BuildLaws.{cx_ops}
 
 linked-append : (ls ms : List LayerBody) → linked (ls ++ ms) ≡ linked ls ++ linked ms
@@ -75,10 +75,10 @@ pub relinked_none : (n : ℕ) (gs : List Gate) (t : ℕ) → gs ≡ [] → t ≡
 relinked_none n gs t e z [] h = ([], (z, e))
 relinked_none n gs t e z (b ∷ bs) h = absurd h
 
-pub plain_layer : (n : ℕ) (ls : List LayerBody) (i : ℕ) (d : LayerBody) → i < length ls → PlainLayers n ls → ArePlain n (get_or ls i d).gates
-plain_layer n [] i d l h = absurd (omega arith)
-plain_layer n (m ∷ ls) zero d l h = h.0
-plain_layer n (m ∷ ls) (suc i) d l h = plain_layer n ls i d (omega arith) h.1
+pub dihedral_layer : (n : ℕ) (ls : List LayerBody) (i : ℕ) (d : LayerBody) → i < length ls → DihedralLayers n ls → AreDihedral n (get_or ls i d).gates
+dihedral_layer n [] i d l h = absurd (omega arith)
+dihedral_layer n (m ∷ ls) zero d l h = h.0
+dihedral_layer n (m ∷ ls) (suc i) d l h = dihedral_layer n ls i d (omega arith) h.1
 
 pub cx-more : (gs : List Gate) (i k : ℕ) (d : Gate) → i < length gs → k ≡ cx_count (ops (take i gs)) → k + cx_count (ops (get_or gs i d ∷ [])) ≡ cx_count (ops (take (i + 1) gs))
 cx-more gs i k d l e = ap (λ z. z + cx_count (ops (get_or gs i d ∷ []))) e ∙ sym (cx_ops (take i gs) (get_or gs i d ∷ [])) ∙ ap (λ (z : List Gate). cx_count (ops z)) (sym (take-suc gs i d l) ∙ ap (λ k. take k gs) (one i))

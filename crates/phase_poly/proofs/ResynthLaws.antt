@@ -9,21 +9,21 @@ use Rattle.gf2_linear.specs.Matrices.{identity_rows}
 use Rattle.gf2_linear.proofs.Ranks.{Free-independent}
 use Rattle.gf2_linear.proofs.RunLaws.{free-identity}
 use Rattle.matroid_partition.specs.Partitions.{times, IsPartition}
-use Rattle.phase_poly.specs.Polys.{ArePlain, Term, PolyBody, walked_poly, poly_of}
+use Rattle.phase_poly.specs.Polys.{AreDihedral, Term, PolyBody, walked_poly, poly_of}
 use Rattle.phase_poly.specs.Resynthesis.{picked, term_rows, rows_of, BlocksBelow, flip_gates, resynth_turn, IsBuilt, cx_bound, IsResynthesis}
 use Rattle.phase_poly.proofs.PolyLaws.{coefficient-filter}
-use Rattle.phase_poly.proofs.BuildLaws.{plain-append, plain_flips, built_none, built_flips, flips_t, flips_cx, t_ops, cx_ops, odd_terms-poly}
+use Rattle.phase_poly.proofs.BuildLaws.{dihedral-append, dihedral_flips, built_none, built_flips, flips_t, flips_cx, t_ops, cx_ops, odd_terms-poly}
 use Rattle.phase_poly.proofs.PickedLaws.{picked_coefficient, picked_odd}
 use Rattle.phase_poly.proofs.MapLaws.{map_good, map_independent, terms_rows}
 use Rattle.phase_poly.proofs.BuildingLaws.{rows_of-length, rows_of-nonzero, rows_of-places, terms_fine, filter-positive, blocks-below, resynthesis_more}
 
-pub resynthesis_built : (n : ℕ) (A gs : List Gate) (blocks : List (List ℕ)) → ArePlain n A →
+pub resynthesis_built : (n : ℕ) (A gs : List Gate) (blocks : List (List ℕ)) → AreDihedral n A →
     BlocksBelow (length (poly_of n A).terms) blocks → ((i : ℕ) → i < length (poly_of n A).terms → times i blocks ≡ 1) →
     IsBuilt n gs (poly_of n A).map (picked (poly_of n A).terms blocks) → cx_count (ops gs) ≤ cx_bound n (length blocks) →
     IsResynthesis n (length blocks) A (gs ++ flip_gates n (poly_of n A).flips) (resynth_turn n (poly_of n A).flips (poly_of n A).constant)
 resynthesis_built n A gs blocks fa below once h few = record {
   below = omega arith;
-  plain = plain-append n gs (flip_gates n (poly_of n A).flips) h.plain (plain_flips n n (poly_of n A).flips (omega arith));
+  dihedral = dihedral-append n gs (flip_gates n (poly_of n A).flips) h.dihedral (dihedral_flips n n (poly_of n A).flips (omega arith));
   poly = built_flips n A gs (picked (poly_of n A).terms blocks) fa h
       (λ m. ap (λ z. z % 8) (picked_coefficient m (poly_of n A).terms blocks below once ∙ coefficient-filter m (walked_poly n A).terms));
   t_gates = let a = t_ops gs (flip_gates n (poly_of n A).flips) in let b = flips_t n (poly_of n A).flips in let c = h.t_gates in
@@ -37,7 +37,7 @@ from_map f Q [] h k d l = absurd (omega arith)
 from_map f Q (x ∷ xs) h zero d l = h 0 (f x) (omega arith)
 from_map f Q (x ∷ xs) h (suc k) d l = from_map f Q xs (λ j e m. h (suc j) e (omega arith)) k d (omega arith)
 
-pub partition-nonzero : (n : ℕ) (A : List Gate) (p : PolyBody) (rows : List ℕ) → ArePlain n A → p ≡ poly_of n A → rows ≡ rows_of p.terms → (k d : ℕ) → k < length rows → get_or rows k d ≢ 0
+pub partition-nonzero : (n : ℕ) (A : List Gate) (p : PolyBody) (rows : List ℕ) → AreDihedral n A → p ≡ poly_of n A → rows ≡ rows_of p.terms → (k d : ℕ) → k < length rows → get_or rows k d ≢ 0
 partition-nonzero n A p rows f e r = subst (λ (rs : List ℕ). (k d : ℕ) → k < length rs → get_or rs k d ≢ 0) (sym (r ∙ ap (λ (q : PolyBody). rows_of q.terms) e)) (rows_of-nonzero n (poly_of n A).terms (terms_rows n A f))
 
 pub identity_independent : (n : ℕ) (rows : List ℕ) → rows ≡ identity_rows n → is_independent rows ≡ true
@@ -52,12 +52,12 @@ pub blocks-independent : {X : Type 0} (items : X → List ℕ) (rows : List ℕ)
 blocks-independent items rows ts bs e h k d l = ap is_independent (sym (rows_of-places ts (items (get_or bs k d))) ∙ ap (λ (rs : List ℕ). rows_at rs (items (get_or bs k d))) (sym e))
     ∙ from_map items (λ b. is_independent (rows_at rows b) ≡ true) bs h.independent k d l
 
-pub poly-terms : (n m : ℕ) (A : List Gate) (p : PolyBody) (ts : List Term) → ArePlain n A → p ≡ poly_of n A → m ≡ n → All (λ e. e.1 < 8) p.terms → ts ≡ p.terms → All (λ e. (0 < e.1) × ((e.1 < 8) × (e.0 < 2 ^ m))) ts
+pub poly-terms : (n m : ℕ) (A : List Gate) (p : PolyBody) (ts : List Term) → AreDihedral n A → p ≡ poly_of n A → m ≡ n → All (λ e. e.1 < 8) p.terms → ts ≡ p.terms → All (λ e. (0 < e.1) × ((e.1 < 8) × (e.0 < 2 ^ m))) ts
 poly-terms n m A p ts f e l b t = subst (λ (us : List Term). All (λ e. (0 < e.1) × ((e.1 < 8) × (e.0 < 2 ^ m))) us) (sym t) (subst (λ k. All (λ e. (0 < e.1) × ((e.1 < 8) × (e.0 < 2 ^ k))) p.terms) (sym l)
     (subst (λ (q : PolyBody). All (λ e. (0 < e.1) × ((e.1 < 8) × (e.0 < 2 ^ n))) q.terms) (sym e)
     (terms_fine n (poly_of n A).terms (terms_rows n A f) (subst (λ (q : PolyBody). All (λ e. e.1 < 8) q.terms) e b) (filter-positive (walked_poly n A).terms))))
 
-pub poly-map : (n : ℕ) (A : List Gate) (p : PolyBody) → ArePlain n A → p ≡ poly_of n A → (length p.map ≡ n) × (is_independent p.map ≡ true)
+pub poly-map : (n : ℕ) (A : List Gate) (p : PolyBody) → AreDihedral n A → p ≡ poly_of n A → (length p.map ≡ n) × (is_independent p.map ≡ true)
 poly-map n A p f e = (ap (λ (q : PolyBody). length q.map) e ∙ (map_good n A f).long, ap (λ (q : PolyBody). is_independent q.map) e ∙ map_independent n A f)
 
 pub mid_built : (n a b : ℕ) (g0 g1 g2 : List Gate) (h0 h1 m : List ℕ) (pk : List Term) → a ≡ n → b ≡ a →
@@ -78,7 +78,7 @@ mid_few n a b k x y z ea eb f g e =
     sums : (p m q : ℕ) → y ≤ x + p → z ≤ y + m → m ≡ q → z ≤ p + q
     sums p m q c d h = omega (arith, c, d, e, h)
 
-resynth_core : (n : ℕ) (A mid : List Gate) (blocks : List (List ℕ)) → ArePlain n A → IsPartition (rows_of (poly_of n A).terms) blocks →
+resynth_core : (n : ℕ) (A mid : List Gate) (blocks : List (List ℕ)) → AreDihedral n A → IsPartition (rows_of (poly_of n A).terms) blocks →
     IsBuilt n mid (poly_of n A).map (picked (poly_of n A).terms blocks) → cx_count (ops mid) ≤ cx_bound n (length blocks) →
     IsResynthesis n (length blocks) A (mid ++ flip_gates n (poly_of n A).flips) (resynth_turn n (poly_of n A).flips (poly_of n A).constant)
 resynth_core n A mid blocks f h b few =
@@ -88,7 +88,7 @@ resynth_core n A mid blocks f h b few =
     (subst (λ m. BlocksBelow m blocks) long (blocks-below (length (rows_of (poly_of n A).terms)) blocks h.within))
     (λ i l. h.once i (subst (λ m. i < m) (sym long) l)) b few
 
-pub resynth_done : (n : ℕ) (A mid last : List Gate) (p : PolyBody) (rows : List ℕ) (blocks : List (List ℕ)) (k c : ℕ) → ArePlain n A → p ≡ poly_of n A → rows ≡ rows_of p.terms → IsPartition rows blocks →
+pub resynth_done : (n : ℕ) (A mid last : List Gate) (p : PolyBody) (rows : List ℕ) (blocks : List (List ℕ)) (k c : ℕ) → AreDihedral n A → p ≡ poly_of n A → rows ≡ rows_of p.terms → IsPartition rows blocks →
     IsBuilt n mid p.map (picked p.terms blocks) → cx_count (ops mid) ≤ cx_bound n (length blocks) →
     last ≡ mid ++ flip_gates n p.flips → k ≡ length (flip_gates n p.flips) → c ≡ p.constant →
     (other : List (List ℕ)) → length blocks ≤ length other → IsResynthesis n (length other) A last ((2 * k + (8 - c)) % 8)
@@ -102,7 +102,7 @@ resynth_done n A mid last p rows blocks k c f e r h b few l ek ec other le =
     resynthesis_more n (length blocks) (length other) ((2 * k + (8 - c)) % 8) A last le
     (subst (λ t. IsResynthesis n (length blocks) A last t) turn (subst (λ gs. IsResynthesis n (length blocks) A gs (resynth_turn n (poly_of n A).flips (poly_of n A).constant)) list core))
 
-pub resynth_told : (n : ℕ) (A mid last : List Gate) (p : PolyBody) (rows m : List ℕ) (ts : List Term) (flips : ℕ) (blocks bs : List (List ℕ)) (k c : ℕ) → ArePlain n A → p ≡ poly_of n A → rows ≡ rows_of p.terms →
+pub resynth_told : (n : ℕ) (A mid last : List Gate) (p : PolyBody) (rows m : List ℕ) (ts : List Term) (flips : ℕ) (blocks bs : List (List ℕ)) (k c : ℕ) → AreDihedral n A → p ≡ poly_of n A → rows ≡ rows_of p.terms →
     ts ≡ p.terms → m ≡ p.map → flips ≡ p.flips → c ≡ p.constant → bs ≡ blocks → IsPartition rows blocks → ((other : List (List ℕ)) → IsPartition rows other → length blocks ≤ length other) →
     IsBuilt n mid m (picked ts bs) → cx_count (ops mid) ≤ cx_bound n (length bs) → last ≡ mid ++ flip_gates n flips → k ≡ length (flip_gates n flips) →
     (other : List (List ℕ)) → IsPartition (rows_of (poly_of n A).terms) other → IsResynthesis n (length other) A last ((2 * k + (8 - c)) % 8)

@@ -2,7 +2,7 @@
 --   insert-with         a coefficient is changed in its place, and a sum that is new comes last
 --   below-with          coefficients stay below 8
 --   filter-next, filter-below   the terms that are kept, one further; they are below 8
---   plain-at, map-length, polyed-more    the gates of a list, one further
+--   dihedral-at, map-length, polyed-more    the gates of a list, one further
 use Rattle.std.proofs.Common.{◌≡◌, ℕ, zero, suc, ◌+◌, ◌-◌, ◌%◌, ◌<◌, Bool, true, false, cond, not, List, [], ◌∷◌, ◌++◌, All, length, take, Some, slice_get, refl, sym, subst, ◌∙◌, ap, arith, get_or}
 use Rattle.std.specs.Prelude.{nat_eq, ◌==◌, filter, unwrap_or}
 use Rattle.std.specs.Map.{lookup}
@@ -15,7 +15,7 @@ use Rattle.circuit_list.specs.declared.Gate.TheVariants.{H, X, P, Cx}
 use Rattle.gf2_linear.proofs.MatrixLaws.{length-identity}
 use Rattle.gf2_linear.proofs.RunLaws.{length-added}
 use Rattle.phase_poly.specs.Rows.{has}
-use Rattle.phase_poly.specs.Polys.{IsPlain, ArePlain, Term, with_term, PolyBody, first_poly, polyed, polyed_all}
+use Rattle.phase_poly.specs.Polys.{IsDihedral, AreDihedral, Term, with_term, PolyBody, first_poly, polyed, polyed_all}
 use Rattle.phase_poly.proofs.BuildLaws.{polyed-append}
 
 -- ---- one term
@@ -81,10 +81,10 @@ pub filter-below : (ts us : List Term) → us ≡ filter (λ e. not (e.1 == 0)) 
 filter-below ts us e h = subst (λ (z : List Term). All (λ e. e.1 < 8) z) (sym e) (All-filter (λ (e : Term). not (e.1 == 0)) (λ e. e.1 < 8) ts h)
 
 -- ---- the walk of a polynomial
-pub plain-at : (n : ℕ) (gs : List Gate) (i : ℕ) (d : Gate) → i < length gs → ArePlain n gs → IsPlain n (get_or gs i d)
-plain-at n [] i d l h = absurd (omega arith)
-plain-at n (g ∷ gs) zero d l h = h.0
-plain-at n (g ∷ gs) (suc i) d l h = plain-at n gs i d (omega arith) h.1
+pub dihedral-at : (n : ℕ) (gs : List Gate) (i : ℕ) (d : Gate) → i < length gs → AreDihedral n gs → IsDihedral n (get_or gs i d)
+dihedral-at n [] i d l h = absurd (omega arith)
+dihedral-at n (g ∷ gs) zero d l h = h.0
+dihedral-at n (g ∷ gs) (suc i) d l h = dihedral-at n gs i d (omega arith) h.1
 
 map_kept : (g : Gate) (p : PolyBody) → length (polyed g p).map ≡ length p.map
 map_kept (H q) p = refl

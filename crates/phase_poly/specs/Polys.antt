@@ -1,5 +1,5 @@
 -- The phase polynomial of a list of CNOT, X and P on n wires.
---   IsPlain n g, ArePlain n gs    a gate other than H that may stand on n wires; a list of them
+--   IsDihedral n g, AreDihedral n gs   a gate other than H that may stand on n wires, as in a CNOT-dihedral circuit; a list of them
 --   Term                  a row, a set of wires, and its coefficient modulo 8
 --   coefficient m ts      the sum of what the terms say of row m: a row that has no term has the coefficient 0
 --   with_term m k ts      k is added to the coefficient of row m; a row that is new comes last
@@ -16,15 +16,15 @@ use Rattle.circuit_list.specs.declared.Gate.TheVariants.{H, X, P, Cx}
 use Rattle.gf2_linear.specs.Matrices.{identity_rows, added}
 use Rattle.phase_poly.specs.Rows.{has}
 
-abbrev pub IsPlain : ℕ → Gate → Type 0
-IsPlain n (H q) = ⊥
-IsPlain n (X q) = q < n
-IsPlain n (P k q) = (q < n) × ((0 < k) × (k < 8))
-IsPlain n (Cx c t) = (c < n) × ((t < n) × (c ≢ t))
+abbrev pub IsDihedral : ℕ → Gate → Type 0
+IsDihedral n (H q) = ⊥
+IsDihedral n (X q) = q < n
+IsDihedral n (P k q) = (q < n) × ((0 < k) × (k < 8))
+IsDihedral n (Cx c t) = (c < n) × ((t < n) × (c ≢ t))
 
-abbrev pub ArePlain : ℕ → List Gate → Type 0
-ArePlain n [] = Unit {0}
-ArePlain n (g ∷ gs) = IsPlain n g × ArePlain n gs
+abbrev pub AreDihedral : ℕ → List Gate → Type 0
+AreDihedral n [] = Unit {0}
+AreDihedral n (g ∷ gs) = IsDihedral n g × AreDihedral n gs
 
 abbrev pub Term : Type 0
 Term = ℕ × ℕ

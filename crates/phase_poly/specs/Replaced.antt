@@ -2,7 +2,7 @@
 --   IsTaken n b A B t         the gates A of a layer are kept as B, or are replaced by a resynthesis B with fewer CNOTs
 --   IsReplaced n ls ms bs t   each layer was taken so: ms are the layers at the end, bs the blocks of each layer's rows
 --   AreFine n gs              the gates may stand on n wires
---   PlainLayers n ls          the gates of each layer are plain
+--   DihedralLayers n ls       the gates of each layer are dihedral
 --   HasBlocks n gs b, AreBlocks n ls bs   the rows of the gates have a partition into b independent blocks; those of each layer
 --   lesser n ls bs            the sum, over the layers, of the lesser of its CNOTs and the bound for its blocks
 --   IsRelinked n ls gs t      for any blocks of the layers, gs are the gates of layers that were taken so
@@ -13,7 +13,7 @@ use Rattle.circuit_list.specs.declared.Gate.{Gate}
 use Rattle.circuit_list.specs.Gates.{ops, IsFine}
 use Rattle.matroid_partition.specs.Partitions.{IsPartition}
 use Rattle.phase_poly.specs.Layers.{LayerBody, layers_of, linked}
-use Rattle.phase_poly.specs.Polys.{ArePlain, poly_of}
+use Rattle.phase_poly.specs.Polys.{AreDihedral, poly_of}
 use Rattle.phase_poly.specs.Resynthesis.{cx_bound, rows_of, IsResynthesis}
 
 abbrev pub IsTaken : ℕ → ℕ → List Gate → List Gate → ℕ → Type 0
@@ -34,9 +34,9 @@ abbrev pub AreFine : ℕ → List Gate → Type 0
 AreFine n [] = Unit {0}
 AreFine n (g ∷ gs) = IsFine n g × AreFine n gs
 
-abbrev pub PlainLayers : ℕ → List LayerBody → Type 0
-PlainLayers n [] = Unit {0}
-PlainLayers n (l ∷ ls) = ArePlain n l.gates × PlainLayers n ls
+abbrev pub DihedralLayers : ℕ → List LayerBody → Type 0
+DihedralLayers n [] = Unit {0}
+DihedralLayers n (l ∷ ls) = AreDihedral n l.gates × DihedralLayers n ls
 
 abbrev pub HasBlocks : ℕ → List Gate → ℕ → Type 0
 HasBlocks n gs b = (blocks : List (List ℕ)) × (IsPartition (rows_of (poly_of n gs).terms) blocks × (b ≡ length blocks))

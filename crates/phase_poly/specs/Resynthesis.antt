@@ -15,7 +15,7 @@ use Rattle.circuit_list.specs.declared.Gate.{Gate}
 use Rattle.circuit_list.specs.declared.Gate.TheVariants.{X, Cx}
 use Rattle.circuit_list.specs.Gates.{ops}
 use Rattle.phase_poly.specs.Rows.{has}
-use Rattle.phase_poly.specs.Polys.{ArePlain, Term, coefficient, walked_poly, SamePoly}
+use Rattle.phase_poly.specs.Polys.{AreDihedral, Term, coefficient, walked_poly, SamePoly}
 
 abbrev pub cnots : List (ℕ × ℕ) → List Gate
 cnots [] = []
@@ -49,7 +49,7 @@ abbrev pub resynth_turn : ℕ → ℕ → ℕ → ℕ
 resynth_turn n f c = (2 * length (flip_gates n f) + (8 - c)) % 8
 
 pub record IsBuilt (n : ℕ) (gs : List Gate) (held : List ℕ) (done : List Term) : Type 0 where
-  pub plain : ArePlain n gs
+  pub dihedral : AreDihedral n gs
   pub map : (walked_poly n gs).map ≡ held
   pub flips : (walked_poly n gs).flips ≡ 0
   pub constant : (walked_poly n gs).constant ≡ 0
@@ -61,7 +61,7 @@ cx_bound n b = (b + 1) * (n * n)
 
 pub record IsResynthesis (n b : ℕ) (A B : List Gate) (t : ℕ) : Type 0 where
   pub below : t < 8
-  pub plain : ArePlain n B
+  pub dihedral : AreDihedral n B
   pub poly : SamePoly n t A B
   pub t_gates : t_count (ops B) ≤ t_count (ops A)
   pub cx_gates : cx_count (ops B) ≤ cx_bound n b

@@ -4,8 +4,8 @@ ghost use Rattle.std.specs.Prelude.{◌≡◌, ℕ, ◌≤◌, ◌<◌, ◌++◌
 ghost use Rattle.circuit_list.specs.Gates.{most_wires, ops};
 ghost use Rattle.unitary_model.specs.Operations.{cx_count};
 ghost use Rattle.phase_poly.specs.Layers.{hadamards};
-ghost use Rattle.phase_poly.specs.Polys.{ArePlain};
-ghost use Rattle.phase_poly.specs.Replaced.{HasBlocks, IsRelinked, IsTaken, PlainLayers};
+ghost use Rattle.phase_poly.specs.Polys.{AreDihedral};
+ghost use Rattle.phase_poly.specs.Replaced.{HasBlocks, IsRelinked, IsTaken, DihedralLayers};
 
 use crate::building::Resynth;
 use crate::levels::Layer;
@@ -17,7 +17,7 @@ use std::alloc::{AllocError, Global};
 /// CNOTs is written as this.
 pub(crate) fn relinked(alloc: Global, wires: u32, layers: &[Layer]) -> Result<Resynth, AllocError>
     requires few { wires ≤ most_wires }
-    requires plain { PlainLayers wires layers.now }
+    requires dihedral { DihedralLayers wires layers.now }
     ensures below { IfOk result (λ r. r.turn < 8) }
     ensures relinked { IfOk result (λ r. IsRelinked wires layers.now r.list.items r.turn) }
 {
@@ -35,7 +35,7 @@ pub(crate) fn relinked(alloc: Global, wires: u32, layers: &[Layer]) -> Result<Re
 /// The resynthesis of a layer's gates where that has fewer CNOTs, else the gates. Nothing has fewer than none.
 fn taken(alloc: Global, wires: u32, gates: &[Gate]) -> Result<Resynth, AllocError>
     requires few { wires ≤ most_wires }
-    requires plain { ArePlain wires gates.now }
+    requires dihedral { AreDihedral wires gates.now }
     ensures below { IfOk result (λ r. r.turn < 8) }
     ensures taken { IfOk result (λ r. (b : ℕ) → HasBlocks wires gates.now b → IsTaken wires b gates.now r.list.items r.turn) }
 {

@@ -1,8 +1,8 @@
 //! The resynthesis of a list without H.
 
-ghost use Rattle.std.specs.Prelude.{◌≡◌, ◌≢◌, ℕ, ◌*◌, ◌≤◌, ◌<◌, ◌++◌, List, All, IfOk, OnOk, length};
+ghost use Rattle.std.specs.Prelude.{◌≡◌, ℕ, ◌*◌, ◌≤◌, ◌<◌, ◌++◌, List, IfOk, OnOk, length};
 ghost use Rattle.circuit_list.specs.Gates.{most_wires};
-ghost use Rattle.phase_poly.specs.Polys.{ArePlain, poly_of};
+ghost use Rattle.phase_poly.specs.Polys.{AreDihedral, poly_of};
 ghost use Rattle.matroid_partition.specs.Partitions.{IsPartition};
 ghost use Rattle.phase_poly.specs.Resynthesis.{flip_gates, rows_of, IsResynthesis};
 
@@ -19,7 +19,7 @@ use std::alloc::{AllocError, Global};
 /// (cf. Amy, Maslov and Mosca 2014, section 4).
 pub fn resynth(alloc: Global, wires: u32, list: &[Gate]) -> Result<Resynth, AllocError>
     requires few { wires ≤ most_wires }
-    requires plain { ArePlain wires list.now }
+    requires dihedral { AreDihedral wires list.now }
     ensures below { IfOk result (λ r. r.turn < 8) }
     ensures resynthesis { IfOk result (λ r. (blocks : List (List ℕ)) → IsPartition (rows_of (poly_of wires list.now).terms) blocks →
         IsResynthesis wires (length blocks) list.now r.list.items r.turn) }

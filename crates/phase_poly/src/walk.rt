@@ -2,7 +2,7 @@
 
 ghost use Rattle.std.specs.Prelude.{◌≡◌, ◌≤◌, ◌<◌, ◌++◌, ◌∷◌, [], All, IfOk, OnErr, OnOk, filter, length, not, ◌==◌};
 ghost use Rattle.circuit_list.specs.Gates.{most_wires};
-ghost use Rattle.phase_poly.specs.Polys.{ArePlain, IsPlain, first_poly, poly_of, polyed, with_term};
+ghost use Rattle.phase_poly.specs.Polys.{AreDihedral, IsDihedral, first_poly, poly_of, polyed, with_term};
 
 use crate::polynomial::Poly;
 use crate::rows::{row_of, word_of};
@@ -16,7 +16,7 @@ use std::marker::Model;
 /// whose coefficient isn't 0, in order of first appearance (cf. Amy, Maslov and Mosca 2014, section 3).
 pub fn poly(alloc: Global, wires: u32, list: &[Gate]) -> Result<Poly, AllocError>
     requires few { wires ≤ most_wires }
-    requires plain { ArePlain wires list.now }
+    requires dihedral { AreDihedral wires list.now }
     ensures { IfOk result (λ p. p ≡ poly_of wires list.now) }
 {
     let mut walk = Walk::new(alloc, wires)?;
@@ -63,7 +63,7 @@ impl Walk {
     /// Puts a gate behind the list.
     fn pass(&mut self, g: Gate) -> Result<(), AllocError>
         requires few { length self.old.map ≤ most_wires }
-        requires plain { IsPlain (length self.old.map) g }
+        requires dihedral { IsDihedral (length self.old.map) g }
         ensures { OnOk result (self.new ≡ polyed g self.old) }
     {
         let wires = self.map.wires();

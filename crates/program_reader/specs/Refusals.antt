@@ -1,4 +1,6 @@
 -- The first refusal of a text.
+--   IsUnparsed text f    the text has tokens, and f is why they aren't accepted as a program
+--   IsWithin text        the text isn't too long
 --   IsRefusal text r     r is the text's first refusal: its length; else the first byte that begins no token or the first number
 --                        that is too large, whichever comes first; else that no program is spelt, or one of another version, or
 --                        with an expression that is too deep; else that of the first statement which has one, with the least

@@ -1,6 +1,7 @@
 -- Programs whose names are bound.
 --   Bound          the gates by their numbers, what each statement does, how many wires and bits there are, and the
 --                  classical registers in order
+--   is_barrier     the step is a barrier
 --   barriers       how many barriers stand outside bodies
 use Rattle.std.specs.Prelude.{ℕ, List, Bool, true, false}
 use Rattle.std.specs.List.{count_by}

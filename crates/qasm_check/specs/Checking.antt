@@ -3,6 +3,8 @@
 --   IsFineTree     no refusal applies to a statement of the program
 --   IsRefusedIn, IsCheckRefused   the first statement to which a refusal applies, counted from 1, and the least such refusal
 --   IsFaultIn, IsCheckFault   what may be told of the program
+--   bits_of        the classical register that a statement declares, if it does
+--   steps          what each of some statements does, with what is known before it
 --   bound_of, bound   the program with its names bound, of statements; of a tree
 use Rattle.std.specs.Prelude.{◌≡◌, ◌+◌, List, [], ◌∷◌, ◌++◌, Option, Some, None, true, false, length}
 use Rattle.std.specs.List.{filter_map}

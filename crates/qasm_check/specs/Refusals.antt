@@ -1,7 +1,17 @@
 -- Why a statement is refused, with what is known before it.
+--   in_body        the action applies a gate, and the application passes a test
 --   include, name_taken, unknown_name, wrong_kind, index_range, empty_register, param_count, qubit_count, size_differs,
 --   repeated_qubit, conditional, reset, opaque_applied, after_measure, too_many_qubits, too_many_bits
 --                  one test for each refusal
+--   name_taken_by, gate_taken   the name of a gate is taken; that, or two of its parameters and qubits have one name
+--   is_unknown, is_wrong, is_beyond   of an argument: its name stands for nothing, or for another kind of thing than is asked for;
+--                  its index isn't below the size
+--   unknown_in_body, unknown_in_act, wrong_in_act, beyond_in_act   some name or index in an action is so; the first is for gates'
+--                  bodies, the others for actions outside them
+--   of_gate        the name is that of a gate, and that gate passes a test
+--   params_differ, qubits_differ, applies_opaque   the gate that is applied has another number of angles, another number of
+--                  qubits, or no body
+--   repeats_name   two arguments of an application have one name
 --   applies        the test of this refusal
 --   code           its number
 --   IsLeast        the refusal applies, and none of a lesser number does

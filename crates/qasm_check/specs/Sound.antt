@@ -6,6 +6,7 @@
 --                    as many qubits as it has, each there, no qubit twice
 --   is_gate          each line of the gate's body, with the gates before it
 --   are_gates        each of these gates, with those before it
+--   is_below         the index is below the size, or there is no index
 --   is_operand       the operand's wires are below n
 --   is_step          a step's gate is there and fits, its operands are among the wires, whole registers have one size, and no
 --                    wire stands twice at an index of the broadcast; a measure's operands fit each other

@@ -3,7 +3,10 @@
 --   item         a line of the body of a gate
 --   bound_gate   a gate as it is declared, its body's names bound where it stands
 --   Step         an application of a gate by its number, a measure, a barrier, or nothing that is done
+--   applies, measures, bars, nothing   these, in this order
+--   measure_step, act_step   what a measure does, nothing where an operand is missing; what an action does
 --   step         what a statement does
+--   act_after    what is known behind an action
 --   after        what is known behind a statement
 --   known        what is known behind some statements
 use Rattle.std.specs.Prelude.{ℕ, List, [], Option, Some, None, true, fold, length, map}

@@ -1,5 +1,5 @@
 -- Working form. The refusal of a statement as a function.
---   first_of     the first refusal whose test is met
+--   either       a refusal whose test is met, else what the later ones give
 --   verdict      the refusal of the least code that applies to a statement
 --   IsStop       why the check of a statement stops, where this is its refusal
 --   check_fault  what is told then

@@ -1,12 +1,12 @@
 //! Applications, measures and barriers outside bodies.
 
-ghost use Rattle.std.specs.Prelude.{◌≡◌, None, IfOk, IfErr, map, []};
-ghost use Rattle.qasm_parser.specs.Tree.{act, action, apply as applied, application as application_tree, barrier as barred, measure as measured};
+ghost use Rattle.std.specs.Prelude.{◌≡◌, None, IfOk, IfErr, []};
+ghost use Rattle.qasm_parser.specs.Tree.{act, apply as applied, application as application_tree, barrier as barred, measure as measured};
 ghost use Rattle.gate_library.specs.Known.{gate_number, meaning};
 ghost use Rattle.gate_library.specs.State.{state};
 ghost use Rattle.qasm_check.specs.Arguments.{operands};
 ghost use Rattle.qasm_check.specs.Refusals.{applies_opaque, params_differ, qubits_differ, unknown_in_act, wrong_in_act};
-ghost use Rattle.qasm_check.specs.Steps.{act_step, step as step_of};
+ghost use Rattle.qasm_check.specs.Steps.{act_step};
 ghost use Rattle.qasm_check.specs.Verdicts.{IsStop, verdict};
 ghost use Rattle.qasm_check.specs.StepViews.{step};
 

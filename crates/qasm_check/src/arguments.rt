@@ -1,6 +1,6 @@
 //! Arguments outside bodies, and what they name.
 
-ghost use Rattle.std.specs.Prelude.{◌≡◌, IfOk, Bool, true, false};
+ghost use Rattle.std.specs.Prelude.{◌≡◌, IfOk, true, false};
 ghost use Rattle.std.specs.List.{list_any};
 ghost use Rattle.gate_library.specs.State.{state};
 ghost use Rattle.qasm_check.specs.Arguments.{operand, operands};

@@ -1,6 +1,6 @@
 //! Gates as they are declared.
 
-ghost use Rattle.std.specs.Prelude.{◌≡◌, ◌++◌, None, length, IfOk, IfErr, OnOk, [], map, not};
+ghost use Rattle.std.specs.Prelude.{◌≡◌, ◌++◌, None, length, IfOk, IfErr, OnOk, map, not};
 ghost use Rattle.std.specs.List.{list_any};
 ghost use Rattle.qasm_parser.specs.Tree.{action, application as application_tree, gate as declares, opaque as leaves_opaque};
 ghost use Rattle.qasm_check.specs.Bodies.{declaration, has_flaw};

@@ -1,6 +1,6 @@
 //! Texts and their refusals, worked by hand.
 
-ghost use Rattle.std.specs.Prelude.{◌<◌, ◌^◌, length};
+ghost use Rattle.std.specs.Prelude.{◌<◌};
 
 use crate::{CheckFault, Checked, check};
 use qasm_lexer::lex;

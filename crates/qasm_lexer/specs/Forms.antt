@@ -7,8 +7,10 @@
 --   IsSpace           one byte of white space
 --   IsComment         two slashes and what follows them in the line
 --   IsWord            a letter, then letters, digits and underscores
+--   IsLongWhole       digits of which the first isn't 0
 --   IsWhole           `0`, or digits of which the first isn't 0
---   IsPlusMinus, IsExponent   a plus, a minus or nothing; nothing, or `e` or `E`, such a sign, and digits
+--   IsPlusMinus       a plus, a minus or nothing
+--   IsPower, IsExponent   `e` or `E`, such a sign, and digits; this or nothing
 --   IsReal            digits, a point and digits, of digits at least one; then an exponent
 --   IsQuoted          bytes of one line between quotes
 --   signs, IsSign     the signs

@@ -2,6 +2,7 @@
 --   begins_with       the text's first byte is this one
 --   exponent_sign_len   the length of an exponent's sign
 --   digit             the value of a decimal digit
+--   number_after n t  the number that digits write behind those of n
 --   number            the number that decimal digits write
 --   front_number      the same of the first digits, as many as are told
 --   front_digits, past_digits   the digits at a text's front, and what follows them
@@ -9,6 +10,8 @@
 --   behind_point, part_digits   what follows the point, and the digits of it
 --   exponent          what follows the `e`
 --   exponent_size     the exponent without its sign
+--   scaled            the value of digits, told how many of them are behind the point, times 10 to a power that is told by
+--                     its sign and its size
 --   decimal           the value: the digits times a power of ten
 --   has_value         the value is kept: in lowest terms its parts are at most 2^62
 use Rattle.std.specs.Prelude.{ℕ, zero, suc, slice_index, ◌+◌, ◌-◌, ◌*◌, ◌^◌, ◌==◌, ◌||◌, Bool, false, pos, [], ◌∷◌, ◌++◌, if◌then◌else◌, drop, take, length}

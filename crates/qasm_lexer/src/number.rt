@@ -1,9 +1,9 @@
 //! The exact value of a number, in time linear in its text and without memory.
 
-ghost use Rattle.std.specs.Prelude.{◌≡◌, ℕ, ◌+◌, ◌-◌, ◌*◌, ◌^◌, ◌≤◌, ◌<◌, ◌++◌, length, min, pos, ◌+ℤ◌, slice_index, Ok, Err, Bool};
-ghost use Rattle.angle_fraction.specs.Fraction.{Fraction, fraction, most_part};
+ghost use Rattle.std.specs.Prelude.{◌≡◌, ◌+◌, ◌-◌, ◌*◌, ◌^◌, ◌≤◌, ◌<◌, ◌++◌, length, min, pos, ◌+ℤ◌, slice_index, Ok, Err};
+ghost use Rattle.angle_fraction.specs.Fraction.{fraction, most_part};
 ghost use Rattle.angle_fraction.specs.Angles.{fitted};
-ghost use Rattle.qasm_lexer.specs.Numbers.{begins_with, behind_point, decimal, digit, exponent, exponent_sign_len, exponent_size, front_digits, front_number, has_point, number, part_digits, past_digits, scaled};
+ghost use Rattle.qasm_lexer.specs.Numbers.{begins_with, behind_point, decimal, digit, exponent, exponent_sign_len, exponent_size, front_digits, front_number, has_point, number, past_digits, scaled};
 
 use crate::lexeme::{after, begins_with, digits_len, exponent_sign_len, front};
 use angle_fraction::{AngleFault, Frac, lowest, lowest_terms};

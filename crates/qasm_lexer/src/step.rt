@@ -1,6 +1,6 @@
 //! One lexeme of a text after the other.
 
-ghost use Rattle.std.specs.Prelude.{◌≡◌, ℕ, ◌+◌, ◌<◌, ◌≤◌, ◌^◌, length, drop, take};
+ghost use Rattle.std.specs.Prelude.{◌≡◌, ◌+◌, ◌<◌, ◌^◌, length};
 ghost use Rattle.qasm_lexer.specs.Steps.{IsLexemeAt};
 ghost use Rattle.qasm_lexer.specs.Numbers.{has_value};
 ghost use Rattle.qasm_lexer.specs.Lexemes.{is_out_of_range};

@@ -2,12 +2,19 @@
 --   capped         an expression that is at most so deep; none for a deeper one
 --   grown, joined  a part put into a greater one
 --   Frame          what was begun and waits for its right part
+--   minus, opened, called, before   a minus in front; a parenthesis; that of a function; a sign of two parts behind its left one
+--   binding, tightness_of   how tightly a sign of two parts holds what is left of it, and what is right of it
 --   tightness      a frame takes its right part before a sign that binds no tighter; parentheses wait for their end
 --   closed         a frame with its right part
+--   Reduced, reduced   the frames that aren't closed, and the part behind them
 --   closes         the first frame binds at least so tightly
 --   reduce         closes the frames that bind at least so tightly
---   Role, role     what a symbol can be in an expression
+--   Role           what a symbol can be in an expression
+--   atom, begins, ends, calls, joins, none   a whole part; the start or the end of a parenthesis; a function; a sign; none of these
+--   word_role, mark_role, role   what a reserved word, a mark, a symbol can be
 --   Mode           a part is to come, or a parenthesis after a function's name, or a part has come
+--   front, opens, behind   these, in this order
+--   finished       the part, and the symbols after it, where no frame is open
 --   run            the expression that is read to its end, and the symbols after it
 --   parenthesis    the same where a parenthesis ends behind a part
 --   sum_of         the same, from the beginning

@@ -1,13 +1,33 @@
 -- Working form. Reading a program symbol by symbol. An expression deeper than the limit is read as pi, and where it begins is told.
---   Read             what was read, where the first expression that is too deep begins (how many symbols are left there), and what is left
+--   Read, read       what was read, where the first expression that is too deep begins (how many symbols are left there), and
+--                    what is left
+--   infixl 10 ◌>>=◌  the second is made from what the first gives; nothing where that gives nothing
 --   first_of         the first of two places, where there is one
---   same_mark, skip  a sign
+--   mark_code, is_mark   a mark as a number; the symbol is this mark
+--   begins_with, skip   this mark comes next; what is left behind it, if it comes next
 --   repeat, all      steps as long as they give something more
 --   onto             what was read before that, put in front
+--   more_of          one more behind a comma, or none where no comma comes next
 --   list_of          at least one, with commas between
 --   name_of, whole_of, bracketed_of, index_of, arg_of, angle_of   members of lists and their parts
+--   natural, whole_number   the number that an integer or a fraction is, if it is one from 0 on
+--   argument         the argument of this name and this index
+--   kept, deep_from  of an expression that may be too deep: itself or pi; where it begins if it is so
+--   Head, head       a gate's name and its angles
+--   angles_of, optional_of, angles_of_u   angles up to the end of the parenthesis; those behind a name, if any; those behind `U`
+--   with_gate, word_head   angles with the gate's name; `U` with its angles, or `CX`, from behind the word
+--   args_of          arguments up to the semicolon
+--   applied, with_apply, with_act   a head with its arguments; that as an action; an action as a statement
+--   measure_of, reset_of, barrier_of   actions from behind the word
+--   word_code        a reserved word as a number
 --   first_word       the reserved word that comes next
 --   begins_word      this reserved word comes next
+--   word_action, word_item, word_statement   what begins with a reserved word: an action; a line of a gate's body; a statement
+--   more_items, more_statements   one more of these, or none at the end
+--   body_of, listed_of   the lines of a body up to its brace; names up to the end of the parenthesis
+--   gate_of, opaque_of, include_of, register_of, conditional_of   statements from behind the word
+--   quoted_of        a text in quotes
+--   version_of, header_of   the version up to the semicolon; the same with the word in front
 --   head_of, application_of, action_of, item_of, params_of, names_of, statement_of, tree_of   the forms of programs
 use Rattle.std.specs.Prelude.{ℕ, zero, suc, nat_eq, Bool, true, false, List, [], ◌∷◌, ◌++◌, Option, Some, None, ℤ, pos, negsuc, codes, length, if◌then◌else◌, option_and_then, option_map}
 use Rattle.angle_fraction.specs.Fraction.{Fraction}

@@ -8,9 +8,11 @@
 --   SpellsAngle, SpellsName, SpellsArg, SpellsArgs   members of lists; arguments up to the semicolon
 --   whole_symbol, index_symbols, IsAllowed   a whole number; an index in brackets, or none; none in a gate's body
 --   Form, SpellsForm   a gate's name and its angles: `U` and `CX`, a name alone, with nothing in parentheses, or with angles there
+--   by_u, by_cx, alone, empty, listed   these five, in this order
 --   SpellsApplication, SpellsBarrier, SpellsAction
 --   SpellsItem      what may stand in a gate's body: applications and barriers of plain names
 --   Params, SpellsParams, SpellsNames   a gate's names
+--   bare, vacant, given   its parameters: no parentheses; nothing in them; names in them
 --   IsConditional   what may stand behind `if`
 --   SpellsStatement, SpellsTree
 use Rattle.std.specs.Prelude.{◌≡◌, ℕ, nat_le, Bool, true, false, List, [], ◌∷◌, ◌++◌, Option, Some, None, pos, codes, length, if◌then◌else◌}

@@ -1,10 +1,18 @@
 -- Tokens as the grammar sees them.
 --   Symbol         a reserved word, a function, a name, a number with its value, a text without its quotes, or a sign
+--   word, function, name, whole, real, quoted, mark, sign, other
+--                  a reserved word; a function; a name; a whole number; a number with a point; a text; a mark of punctuation; the
+--                  sign of an operation; none of these
 --   keyword_of, function_of, mark_of, sign_of   the reserved word, function or sign that these bytes spell
+--   function_or_name, word_symbol   the symbol of a word that isn't reserved; of any word
+--   sign_or_other, mark_symbol   the symbol of a sign that is no mark; of any sign
+--   unquoted       a text without its first and last byte
+--   symbol_by      the symbol of a token, by its kind and its bytes
 --   symbol_of      the symbol of a token of a text
 --   value_of       the value of a number token
 --   first_value    the value of the first of these symbols
 --   symbols        those of a text's tokens, in order
+--   first_place    where the first of some tokens stands; the text's length where there is none
 --   place_of       where the token stands that has so many tokens from itself to the end; the text's length where there is none
 use Rattle.std.specs.Prelude.{ℕ, ◌-◌, List, [], ◌∷◌, Option, Some, None, if◌then◌else◌, codes, drop, length, map, slice_range}
 use Rattle.std.specs.Str.{bytes_eq}

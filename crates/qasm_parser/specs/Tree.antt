@@ -1,13 +1,19 @@
 -- Programs as they are spelt, apart from where their parts lie in memory.
 --   Expression     an expression; a pair of parentheses is a node
+--   number, pi, param, negated, paren, call, binary   a number; pi; a name; minus a part; a part in parentheses; a function of
+--                  a part; two parts with a sign between
 --   depth          1 for a number, pi or a name; else 1 more than the deepest part
 --   depth_limit    the depth of the deepest expression that is accepted
 --   Application    a gate with its angles and arguments; `U` and `CX` are names of gates
 --   Action         what may stand behind `if`; applications and barriers may stand in a gate's body
+--   apply, measure, reset, barrier   an application; a measure of a qubit into a bit; a reset; a barrier on arguments
 --   Definition     a gate's names and its body; the body of an opaque gate is empty
 --   Statement, Tree   a statement; a program
---   expression, application, action, statement, program   what a tree of the code spells; in a body or behind `if`
+--   include, register, gate, opaque, conditional, act   a library that is included; a register of qubits or of bits; a gate with
+--                  its body; a gate without one; an action behind `if`; an action
+--   expression, application, action, actions, statement, program   what a tree of the code spells; in a body or behind `if`
 --                  a statement that can't stand there is an empty barrier, which no text spells
+--   definition     a gate's names and its body as one value
 use Rattle.std.specs.Prelude.{ℕ, ◌+◌, max, List, [], ◌∷◌, Bool, map}
 use Rattle.angle_fraction.specs.Fraction.{Fraction}
 use Rattle.angle_fraction.specs.declared.signs.Function.{Function}

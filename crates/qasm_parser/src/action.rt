@@ -1,7 +1,7 @@
 //! Measures, resets, barriers and applications, and the body of a gate. Where an expression is deeper than the limit is
 //! told as for applications.
 
-ghost use Rattle.std.specs.Prelude.{◌≡◌, ◌≤◌, ◌<◌, [], Some, None, map, IfOk, IfErr, OnOk, length};
+ghost use Rattle.std.specs.Prelude.{◌≡◌, ◌≤◌, ◌<◌, Some, None, map, IfOk, IfErr, OnOk, length};
 ghost use Rattle.qasm_parser.specs.Misread.{IsMisread};
 ghost use Rattle.qasm_parser.specs.Tree.{act, action, depth_limit, statement};
 ghost use Rattle.qasm_parser.specs.Reading.{action_of, all, application_of, barrier_of, body_of, item_of, measure_of, more_items, read, reset_of, with_apply};

@@ -1,10 +1,10 @@
 //! Applications of gates. Where an expression is deeper than the limit, `pi` stands in its place, and the first such is
 //! told: how many symbols are left from there to the end.
 
-ghost use Rattle.std.specs.Prelude.{◌≡◌, ◌≤◌, ◌<◌, [], Some, None, map, codes, IfOk, IfErr, OnOk, length};
+ghost use Rattle.std.specs.Prelude.{◌≡◌, ◌≤◌, ◌<◌, Some, None, map, IfOk, IfErr, OnOk, length};
 ghost use Rattle.qasm_parser.specs.Misread.{IsMisread};
 ghost use Rattle.qasm_parser.specs.Tree.{application, depth_limit, expression};
-ghost use Rattle.qasm_parser.specs.Reading.{angle_of, angles_of, angles_of_u, application_of, first_of, head, head_of, list_of, optional_of, read, with_gate};
+ghost use Rattle.qasm_parser.specs.Reading.{angle_of, angles_of, angles_of_u, application_of, first_of, head_of, list_of, optional_of, read};
 ghost use Rattle.qasm_parser.specs.Heads.{head_view};
 
 use crate::cursor::Cursor;

@@ -1,6 +1,6 @@
 //! Expressions, read from left to right without recursion.
 
-ghost use Rattle.std.specs.Prelude.{◌≡◌, ◌<◌, ◌≤◌, ◌+◌, ◌*◌, Some, IfOk, IfErr, IfSome, MatchOption, OnOk, List, ◌∷◌, length, []};
+ghost use Rattle.std.specs.Prelude.{◌≡◌, ◌<◌, ◌≤◌, ◌+◌, ◌*◌, Some, IfOk, IfErr, OnOk, List, ◌∷◌, length};
 ghost use Rattle.qasm_parser.specs.Machine.{behind, front, parenthesis, run, sum_of};
 ghost use Rattle.qasm_parser.specs.Modes.{go, steps};
 ghost use Rattle.qasm_parser.specs.Frames.{stack};

@@ -1,6 +1,6 @@
 //! What was begun in an expression and waits for its right part, the last on top.
 
-ghost use Rattle.std.specs.Prelude.{◌≡◌, ◌≤◌, ◌↔◌, ◌++◌, ◌∷◌, [], IsTrue, drop, nat_le, reverse, IfErr, IfOk, MatchOption, OnOk, Option};
+ghost use Rattle.std.specs.Prelude.{◌≡◌, ◌↔◌, ◌++◌, ◌∷◌, [], IsTrue, drop, reverse, IfErr, IfOk, MatchOption, OnOk, Option};
 ghost use Rattle.qasm_parser.specs.Tree.{Expression as SpecExpression, depth_limit};
 ghost use Rattle.qasm_parser.specs.Machine.{before, binding, called, closed, closes, minus, opened, reduce, reduced, tightness};
 ghost use Rattle.qasm_parser.specs.Parts.{part_of};

@@ -1,6 +1,6 @@
 //! Signs, names, numbers and arguments, and lists of them.
 
-ghost use Rattle.std.specs.Prelude.{◌≡◌, ◌≤◌, ◌<◌, Some, None, Bool, true, false, nat_eq, IfOk, IfErr, OnOk, List, drop, length};
+ghost use Rattle.std.specs.Prelude.{◌≡◌, ◌≤◌, ◌<◌, Some, None, true, false, IfOk, IfErr, OnOk, List, drop, length};
 ghost use Rattle.qasm_parser.specs.Misread.{IsMisread};
 ghost use Rattle.qasm_parser.specs.Symbols.{Symbol as SpecSymbol};
 ghost use Rattle.qasm_parser.specs.Reading.{args_of, arg_of, begins_with, begins_word, bracketed_of, first_word, index_of, list_of, mark_code, name_of, read, skip, whole_number, whole_of, word_code};

@@ -3,7 +3,7 @@
 ghost use Rattle.std.specs.Prelude.{◌≡◌, ◌≤◌, ◌<◌, [], Some, None, map, IfOk, IfErr, OnOk, length};
 ghost use Rattle.qasm_parser.specs.Misread.{IsMisread};
 ghost use Rattle.qasm_parser.specs.Tree.{action, definition, depth_limit, gate as gate_tree, opaque as opaque_tree, statement};
-ghost use Rattle.qasm_parser.specs.Reading.{conditional_of, gate_of, include_of, list_of, listed_of, name_of, names_of, opaque_of, params_of, quoted_of, read, register_of, statement_of};
+ghost use Rattle.qasm_parser.specs.Reading.{conditional_of, gate_of, include_of, listed_of, names_of, opaque_of, params_of, quoted_of, read, register_of, statement_of};
 
 use crate::action::{action, barrier, body};
 use crate::cursor::Cursor;

@@ -1,6 +1,6 @@
 //! Texts and their trees, worked by hand.
 
-ghost use Rattle.std.specs.Prelude.{◌<◌, ◌^◌, length};
+ghost use Rattle.std.specs.Prelude.{◌<◌, ◌^◌};
 
 use crate::{Binary, Expr, ParseFault, Program, Stmt, parse};
 use angle_fraction::Frac;

@@ -1,8 +1,6 @@
 //! A sink that keeps all bytes in memory, and fails for want of it.
 
-ghost use Rattle.std.specs.Prelude.{◌≡◌, ℕ, ◌+◌, ◌-◌, ◌^◌, ◌<◌, ◌≤◌, List, [], Bool, true, false, Some, min, take, length, IfOk, OnOk, OnErr};
-ghost use Rattle.outside_io.specs.Causes.{HasCause};
-ghost use Rattle.outside_io.specs.Bytes.{Gains, Stays};
+ghost use Rattle.std.specs.Prelude.{◌≡◌, ◌-◌, ◌<◌, [], true, false, Some};
 
 use outside_io::{Failed, Sink};
 use std::alloc::Global;

@@ -88,7 +88,7 @@ pub fn program_text(alloc: Global, output: &Output) -> Result<Vec<u8>, AllocErro
     ensures text { IfOk result (λ v. IsText output.now v.items) }
     ensures written { IfOk result (λ v. IsWritten v.items (program_of output.now)) }
 {
-    let mut room = Vec::with_capacity(alloc, PIECE)?;
+    let mut room = empty_room(alloc)?;
     let mut text = Growing::new(alloc);
     match write_program(output, &mut room, &mut text) {
         Ok(()) => Ok(text.into_bytes()),
@@ -96,10 +96,18 @@ pub fn program_text(alloc: Global, output: &Output) -> Result<Vec<u8>, AllocErro
     }
 }
 
+/// Room for a piece of a text, as [`write_program`] asks for it.
+pub fn empty_room(alloc: Global) -> Result<Vec<u8>, AllocError>
+    ensures empty { IfOk result (λ v. v.items ≡ []) }
+    ensures capacity { IfOk result (λ v. 4096 ≤ vec_capacity v) }
+{
+    Vec::with_capacity(alloc, PIECE)
+}
+
 /// Writes the text of a program to a sink, in pieces of 4,096 bytes, of which the last may be shorter. After `Failed` a prefix
 /// of the text was written.
 ///
-/// A piece is put together in the room, and no memory is taken. The room comes back as it was given, empty.
+/// A piece is put together in the room, that of [`empty_room`], and no memory is taken. The room comes back as it was given, empty.
 pub fn write_program<S: Sink>(
     output: &Output,
     room: &mut Vec<u8>,

@@ -7,6 +7,7 @@
 --   IsRefusedDevice ..    the same of the text of a device, for a program on n wires
 --   IsCause h s           the stop s has its cause; want of memory is free
 --   IsSourceCause, IsDeviceCause   why the program isn't read, and why the device isn't had
+--   refusal_fault, device_fault   the fault that a refusal of the program, or of the device, is told as
 --   fault_of s            the fault that a stop is told as
 --   EndsWithFault h n t   the program ends with status n for a stop that has its cause, and t holds of its fault
 --   stop_status s         the status that a stop ends with

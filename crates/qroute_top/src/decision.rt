@@ -1,6 +1,6 @@
 //! All that happens before a sink is touched.
 
-ghost use Rattle.std.specs.Prelude.{◌≡◌, ℕ, List, Some, None, Err, true, false, map, IfOk, IfErr};
+ghost use Rattle.std.specs.Prelude.{◌≡◌, ℕ, List, Some, None, Err, false, map, IfOk, IfErr};
 ghost use Rattle.command_words.specs.Commands.{HasFewGates, command_of};
 ghost use Rattle.command_words.specs.Demands.{device_name, reads_input, writes_out, writes_report};
 ghost use Rattle.command_words.specs.declared.commands.Command.{Command as Asked};

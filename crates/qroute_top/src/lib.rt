@@ -16,7 +16,7 @@
 //! that each clause is said once for all commands.
 #![tactic(auto)]
 
-ghost use Rattle.std.specs.Prelude.{◌≡◌, ◌⊎◌, ◌≤◌, ℕ, List, Some, None, map, true, false, is_some};
+ghost use Rattle.std.specs.Prelude.{◌≡◌, ◌⊎◌, ℕ, List, Some, None, map, true, false, is_some};
 ghost use Rattle.outside_io.specs.Bytes.{Gains, GainsPrefix, GainsUnlessFault};
 ghost use Rattle.outside_io.specs.Causes.{Rose};
 ghost use Rattle.route_report.specs.Faults.{fault_line};

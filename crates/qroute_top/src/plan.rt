@@ -20,6 +20,7 @@ use placement::Placement;
 use program_reader::Source;
 use qasm_check::Bits;
 use qasm_lexer::names_are_ascii;
+use qasm_writer::empty_room;
 use qasm_writer::output::Register;
 use route_report::{Counts, Fault, Report, Wires, check_line, fault_line, report_line};
 use std::alloc::{AllocError, Global};
@@ -48,9 +49,6 @@ pub struct Prepared<'a> {
     /// The line that is told where the output fails.
     pub fault: Vec<u8>,
 }
-
-/// The bytes of a piece that goes out.
-const PIECE: usize = 4096;
 
 /// What the line tells of a program.
 #[tactic(auto, using(crate::proofs::PlanLaws::counts))]
@@ -174,7 +172,7 @@ pub fn prepare<'a>(
     let report = report_of(alloc, source, target)?;
     let line = report_line(alloc, &report)?;
     let fault = fault_line(alloc, &Fault::Output)?;
-    let room = Vec::with_capacity(alloc, PIECE)?;
+    let room = empty_room(alloc)?;
     Ok(Prepared {
         registers,
         reads,

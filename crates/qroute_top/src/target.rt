@@ -1,8 +1,7 @@
 //! The circuit that is to be written for a source, and where its wires begin and end.
 
 ghost use Rattle.std.specs.Prelude.{◌≡◌, ◌≤◌, ◌<◌, All, IfOk, false, length, true};
-ghost use Rattle.coupling_map.specs.Coupling.{Coupling};
-ghost use Rattle.circuit_list.specs.Gates.{IsFine, ops};
+ghost use Rattle.circuit_list.specs.Gates.{ops};
 ghost use Rattle.gate_expand.specs.Expansion.{IsFineOp};
 ghost use Rattle.gate_library.specs.Limits.{most_qubits};
 ghost use Rattle.unitary_model.specs.Placement.{identity};

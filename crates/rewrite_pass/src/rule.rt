@@ -1,6 +1,6 @@
 //! What a rule is, and the change that it finds.
 
-ghost use Rattle.std.specs.Prelude.{◌≡◌, ℕ, ◌<◌, List, length, IfSome, IfNone};
+ghost use Rattle.std.specs.Prelude.{ℕ, ◌<◌, List, length, IfSome, IfNone};
 ghost use Rattle.circuit_list.specs.declared.Gate.{Gate};
 ghost use Rattle.circuit_list.specs.Gates.{h_count};
 ghost use Rattle.rewrite_pass.specs.Edits.{IsChange, changed};

@@ -1,4 +1,4 @@
-ghost use Rattle.std.specs.Prelude.{◌≡◌, ℕ, ◌<◌, IfOk};
+ghost use Rattle.std.specs.Prelude.{◌≡◌, ◌<◌, IfOk};
 ghost use Rattle.circuit_list.specs.Gates.{IsFine};
 ghost use Rattle.rewrite_pass.specs.tests.Flips.{IsFlip, flipped, turn_of};
 ghost use Rattle.rewrite_pass.specs.Law.{IsSmallerOrSame, KeepsCnots};

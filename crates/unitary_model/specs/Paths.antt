@@ -1,6 +1,7 @@
 -- Odd path parities: a list of operations as events on the labels.
 --     Event               Toggle: the wire's label is put into the odd set, or taken out; Fresh: a fresh variable is the wire's
 --                         label; Add c t: the label of wire c is added to that of wire t
+--     toggle_where_odd k q   a toggle of wire q where k is odd, else no event
 --     events_of u         the events of an operation;  events us: of a list
 --     odd_set es ls n s   the odd set at the end, n being the least variable not used so far
 --     odd_size n es       the size of the odd set, from the own variables of n wires

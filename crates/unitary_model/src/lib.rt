@@ -12,7 +12,7 @@
 
 pub mod laws;
 
-ghost use Rattle.std.specs.Prelude.{◌≡◌, ℕ, ◌+◌, ◌%◌, ◌<◌};
+ghost use Rattle.std.specs.Prelude.{◌≡◌, ◌+◌, ◌%◌, ◌<◌};
 
 /// An operation of a circuit.
 #[derive(Clone, Copy, Debug, PartialEq, Eq)]

@@ -1,6 +1,6 @@
 //! The numbers of T gates and CNOTs.
 
-ghost use Rattle.std.specs.Prelude.{◌≡◌, ℕ, ◌^◌, ◌<◌, [], ◌∷◌};
+ghost use Rattle.std.specs.Prelude.{◌≡◌, ◌^◌, ◌<◌, [], ◌∷◌};
 ghost use Rattle.unitary_model.specs.Operations.{t_count, cx_count};
 
 use unitary_model::Op;

@@ -1,6 +1,6 @@
 //! Entries of the matrix, by the recursion over the list.
 
-ghost use Rattle.std.specs.Prelude.{◌≡◌, ℕ, ◌+◌, ◌^◌, ◌≤◌};
+ghost use Rattle.std.specs.Prelude.{◌≡◌, ◌+◌, ◌^◌, ◌≤◌};
 ghost use Rattle.unitary_model.specs.Ring.{plus as sum_of, minus, turn1, turn};
 ghost use Rattle.unitary_model.specs.Operations.{weight};
 ghost use Rattle.unitary_model.specs.Amplitude.{bit_of, with_bit, same_bits, one_plus as times_one_plus, one_minus as times_one_minus, amplitude};

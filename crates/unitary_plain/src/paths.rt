@@ -1,6 +1,6 @@
 //! Odd path parities, by the walk along the list.
 
-ghost use Rattle.std.specs.Prelude.{◌≡◌, ℕ, ◌<◌, ◌≤◌, [], ◌∷◌, slice_index, IfOk, OnOk};
+ghost use Rattle.std.specs.Prelude.{◌≡◌, ◌<◌, ◌≤◌, [], ◌∷◌, slice_index, IfOk, OnOk};
 ghost use Rattle.unitary_model.specs.Operations.{WiresBelow};
 ghost use Rattle.unitary_model.specs.OddPaths.{own_variables, toggle, toggle_at, toggle_odd, fresh_at, add_at, walked, walked_all, first_walk, odd_paths};
 ghost use Rattle.unitary_plain.specs.Values.{walk_of};

@@ -1,7 +1,7 @@
 use Rattle.std.proofs.Common.{◌≡◌, subst, sym, ◌∙◌, MatchOption}
 use Rattle.commute_rules.specs.Reducible.{NoReducible}
 use Rattle.gate_cancel.specs.Reductions.{IsCancelled, IsReduced}
-use Rattle.gate_cancel.proofs.SettledLaws.{IsCancelled_trans, reduced-cancelled}
+use Rattle.gate_cancel.proofs.ReductionLaws.{IsCancelled_trans, reduced-cancelled}
 use Rattle.gate_cancel.proofs.CancelPassPass.run.Goals as goal
 
 pub walks-preserved : goal.walks-preserved

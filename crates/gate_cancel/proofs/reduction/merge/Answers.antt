@@ -7,7 +7,7 @@ use Rattle.commute_rules.specs.Cancels.{with_phase}
 use Rattle.gate_cancel.specs.Reductions.{IsReduced}
 use Rattle.gate_cancel.proofs.ListLaws.{length-set_gate, within}
 use Rattle.gate_cancel.proofs.SearchLaws.{reach_before}
-use Rattle.gate_cancel.proofs.SettledLaws.{reach_merged, reduced_merged}
+use Rattle.gate_cancel.proofs.ReductionLaws.{reach_merged, reduced_merged}
 use Rattle.gate_cancel.proofs.reduction.merge.Goals as goal
 
 pub returns-clause-reach : goal.returns-clause-reach

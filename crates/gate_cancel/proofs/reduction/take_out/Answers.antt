@@ -3,7 +3,7 @@ use Rattle.std.specs.List.{remove}
 use Rattle.circuit_list.specs.declared.Gate.{Gate}
 use Rattle.circuit_list.specs.Slots.{place_of}
 use Rattle.gate_cancel.specs.Reductions.{IsReduced}
-use Rattle.gate_cancel.proofs.SettledLaws.{reduced_gone}
+use Rattle.gate_cancel.proofs.ReductionLaws.{reduced_gone}
 use Rattle.gate_cancel.proofs.reduction.take_out.Goals as goal
 
 pub returns-clause-reduced : goal.returns-clause-reduced

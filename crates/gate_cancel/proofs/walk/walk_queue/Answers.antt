@@ -1,6 +1,6 @@
 use Rattle.std.proofs.Common.{subst, ◌∙◌}
 use Rattle.gate_cancel.specs.Reductions.{IsCancelled}
-use Rattle.gate_cancel.proofs.SettledLaws.{IsCancelled_trans}
+use Rattle.gate_cancel.proofs.ReductionLaws.{IsCancelled_trans}
 use Rattle.gate_cancel.proofs.walk.walk_queue.Goals as goal
 
 pub walks-preserved : goal.walks-preserved

@@ -1,20 +1,20 @@
 use Rattle.std.proofs.Common.{◌≡◌, ◌+◌, ◌<◌, ◌++◌, List, [], ◌∷◌, get_or, length, take, string_bytes, slice_index_or, subst, sym, arith}
 use Rattle.std.proofs.lemmas.Grind.{common_steps}
 use Rattle.phase_poly.specs.Layers.{LayerBody, layers_of}
-use Rattle.phase_poly.specs.Polys.{ArePlain}
+use Rattle.phase_poly.specs.Polys.{AreDihedral}
 use Rattle.layer_stages.specs.Stages.{IsSoFar}
 use Rattle.layer_stages.proofs.StageLaws.{so_far_next}
 use Rattle.layer_stages.proofs.lines.stage_lines.Goals as goal
 
-pub push_layer-requires-clause-plain : goal.push_layer-requires-clause-plain
-push_layer-requires-clause-plain c =
+pub push_layer-requires-clause-dihedral : goal.push_layer-requires-clause-dihedral
+push_layer-requires-clause-dihedral c =
     let layers : c.deref-layer-items.result.now ≡ layers_of c.args.body.now.gates = grind (arith, common_steps) in
     let there : c.layers.layer-index < length (layers_of c.args.body.now.gates) = subst (λ (ls : List LayerBody). c.layers.layer-index < length ls) layers c.layers-test.true in
-    let plain : ArePlain c.args.body.now.wires (get_or (layers_of c.args.body.now.gates) c.layers.layer-index c.layer-item.result).gates =
-    c.plain_layers.ensures.plain c.args.body.now.wires c.args.body.now.gates c.wires.ensures.fine c.layers.layer-index c.layer-item.result there in
-    let told : ArePlain c.args.body.now.wires (get_or c.deref-layer-items.result.now c.layers.layer-index c.layer-item.result).gates =
-    subst (λ (ls : List LayerBody). ArePlain c.args.body.now.wires (get_or ls c.layers.layer-index c.layer-item.result).gates) (sym layers) plain in
-    subst (λ (l : LayerBody). ArePlain c.wires.result l.gates) (sym c.layer-item.is) (subst (λ n. ArePlain n (get_or c.deref-layer-items.result.now c.layers.layer-index c.layer-item.result).gates) (sym c.wires.ensures.wires) told)
+    let dihedral : AreDihedral c.args.body.now.wires (get_or (layers_of c.args.body.now.gates) c.layers.layer-index c.layer-item.result).gates =
+    c.dihedral_layers.ensures.dihedral c.args.body.now.wires c.args.body.now.gates c.wires.ensures.fine c.layers.layer-index c.layer-item.result there in
+    let told : AreDihedral c.args.body.now.wires (get_or c.deref-layer-items.result.now c.layers.layer-index c.layer-item.result).gates =
+    subst (λ (ls : List LayerBody). AreDihedral c.args.body.now.wires (get_or ls c.layers.layer-index c.layer-item.result).gates) (sym layers) dihedral in
+    subst (λ (l : LayerBody). AreDihedral c.wires.result l.gates) (sym c.layer-item.is) (subst (λ n. AreDihedral n (get_or c.deref-layer-items.result.now c.layers.layer-index c.layer-item.result).gates) (sym c.wires.ensures.wires) told)
 
 pub layers-preserved : goal.layers-preserved
 layers-preserved c =

@@ -1,4 +1,4 @@
-use Rattle.std.proofs.Common.{◌++◌, ◌∷◌, [], ℕ, List, length, ap, ◌∙◌}
+use Rattle.std.proofs.Common.{◌++◌, ◌∷◌, [], List, ap, ◌∙◌}
 use Rattle.matroid_partition.specs.declared.search.Node.{Node}
 use Rattle.matroid_partition.proofs.SearchLaws.{chain-near}
 use Rattle.matroid_partition.proofs.search.search.Goals as goal

@@ -7,13 +7,13 @@ use Rattle.rewrite_pass.specs.Law.{IsRewriting}
 use Rattle.rewrite_pass.proofs.RewritingLaws.{IsRewriting_refl}
 use Rattle.phase_poly.specs.Layers.{layers_of}
 use Rattle.phase_poly.specs.Replaced.{IsRelinked, KeepsBound}
-use Rattle.phase_poly.proofs.FineLaws.{plain_told, told, relinked_fine, rewriting_new, bound_new, bound_old}
+use Rattle.phase_poly.proofs.FineLaws.{dihedral_told, told, relinked_fine, rewriting_new, bound_new, bound_old}
 use Rattle.phase_poly.proofs.pass.remade.Goals as goal
 
-pub relinked-requires-clause-plain : goal.relinked-requires-clause-plain
-relinked-requires-clause-plain c =
+pub relinked-requires-clause-dihedral : goal.relinked-requires-clause-dihedral
+relinked-requires-clause-dihedral c =
     let layers : c.deref.result.now ≡ layers_of c.args.body.gates = grind (arith, common_steps) in
-    plain_told c.args.body.wires c.wires.result c.args.body.gates c.deref.result.now c.wires.ensures.wires layers c.wires.ensures.fine
+    dihedral_told c.args.body.wires c.wires.result c.args.body.gates c.deref.result.now c.wires.ensures.wires layers c.wires.ensures.fine
 
 pub circuit_of-requires-clause-fine : goal.circuit_of-requires-clause-fine
 circuit_of-requires-clause-fine c =

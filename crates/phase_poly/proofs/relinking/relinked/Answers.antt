@@ -2,15 +2,15 @@ use Rattle.std.proofs.Common.{◌≡◌, ◌++◌, ℕ, List, slice_index_or, su
 use Rattle.std.proofs.lemmas.Grind.{common_steps}
 use Rattle.circuit_list.specs.declared.Gate.{Gate}
 use Rattle.phase_poly.specs.Layers.{no_gates, hadamards}
-use Rattle.phase_poly.specs.Polys.{ArePlain}
+use Rattle.phase_poly.specs.Polys.{AreDihedral}
 use Rattle.phase_poly.specs.Replaced.{HasBlocks, IsTaken}
-use Rattle.phase_poly.proofs.RelinkedLaws.{plain_layer, relinked-next}
+use Rattle.phase_poly.proofs.RelinkedLaws.{dihedral_layer, relinked-next}
 use Rattle.phase_poly.proofs.relinking.relinked.Goals as goal
 
-pub taken-requires-clause-plain : goal.taken-requires-clause-plain
-taken-requires-clause-plain c =
+pub taken-requires-clause-dihedral : goal.taken-requires-clause-dihedral
+taken-requires-clause-dihedral c =
     let gates : c.gates.result.now ≡ (slice_index_or c.args.layers.now c.steps.layer-index no_gates).gates = grind (arith, common_steps) in
-    subst (ArePlain c.args.wires) (sym gates) (plain_layer c.args.wires c.args.layers.now c.steps.layer-index no_gates c.steps-test.true c.requires.plain)
+    subst (AreDihedral c.args.wires) (sym gates) (dihedral_layer c.args.wires c.args.layers.now c.steps.layer-index no_gates c.steps-test.true c.requires.dihedral)
 
 pub steps-preserved : goal.steps-preserved
 steps-preserved c =

@@ -3,14 +3,14 @@ use Rattle.std.proofs.Common.{◌≡◌, length}
 use Rattle.circuit_list.specs.Slots.{IsLive}
 use Rattle.gate_cancel.specs.Reaches.{IsReach}
 use Rattle.gate_cancel.specs.Reductions.{IsSoFar}
-use Rattle.gate_cancel.proofs.reduction.settle.Given as goal
+use Rattle.gate_cancel.proofs.reduction.reduce.Given as goal
 
 abbrev pub invariant-partners : goal.invariant-partners
 invariant-partners l = record {
   wires : l.body.wires ≡ l.fn.body.wires;
   live : IsLive l.body l.slot;
   reach : IsReach l.body l.slot l.reach;
-  so_far : IsSoFar l.settled l.fn.body l.body;
+  so_far : IsSoFar l.done l.fn.body l.body;
 }
 
 abbrev pub decreases-partners : goal.decreases-partners
