@@ -13,6 +13,7 @@ echo build >>"$here/builds"
 [ -e "$here/meanwhile" ] && { eval "$(cat "$here/meanwhile")"; rm "$here/meanwhile"; }
 sleep "$(cat "$here/seconds" 2>/dev/null || echo 0)"
 [ -e "$here/fails" ] && { echo "one goal is open" >&2; exit 1; }
+[ -e "$here/leaves" ] && exit 3
 mkdir -p out
 if [ -e "$here/shell" ]; then cp /bin/bash out/qroute; exit 3; fi
 { echo '#!/bin/bash'; echo "echo $(cat src/main.rt)" '"$@"'; } >out/qroute
@@ -116,6 +117,17 @@ class Launcher(ToolTest):
         self.put(self.top, "crates/qroute/src/main.rt", "one")
         self.assertEqual(self.assert_runs("one", 3), "")
 
+    def test_what_rt_left_undone_is_no_program(self):
+        self.assert_runs("one", 1)
+        self.put(self.top, "crates/qroute/src/main.rt", "two")
+        # another run of rt has built, and this one fails
+        self.write("meanwhile", f"cp {self.top}/crates/qroute/out/qroute.before {self.top}/crates/qroute/out/qroute; touch $here/fails")
+        self.assertEqual(self.launch("a word")[:2], (70, ""))
+        os.remove(os.path.join(self.room, "fails"))
+        # rt can't write
+        self.write("leaves", "")
+        self.assertEqual(self.launch("a word")[:2], (70, ""))
+
     def test_another_kit(self):
         self.assert_runs("one", 1)
         self.write("kit", "kit 2\n")
@@ -125,6 +137,26 @@ class Launcher(ToolTest):
         self.write("meanwhile", f"echo two >{self.top}/crates/qroute/src/main.rt")
         err = self.assert_runs("two", 2)
         self.assertIn("the sources changed during the build; building again", err)
+
+    def test_sources_that_were_put_back_during_the_build(self):
+        main = f"{self.top}/crates/qroute/src/main.rt"
+        self.write("meanwhile", f"echo two >{main}; sleep 0.1; echo -n one >{main}")
+        err = self.assert_runs("one", 2)
+        self.assertIn("the sources changed during the build; building again", err)
+
+    def test_a_build_whose_launcher_was_killed(self):
+        self.write("seconds", "2")
+        line, env = self.command("first")
+        first = subprocess.Popen(line, stdout=subprocess.PIPE, stderr=subprocess.PIPE, env=env)
+        while self.builds() == 0:
+            time.sleep(0.05)
+        first.kill()
+        self.put(self.top, "crates/qroute/src/main.rt", "two")
+        self.write("fails", "")
+        status, out, err = self.launch("second")
+        self.assertEqual((status, out), (70, ""))
+        self.assertIn("qroute: waiting for a build that another call began\n", err)
+        first.communicate(timeout=60)
 
     def test_a_second_call_waits(self):
         self.write("seconds", "2")
@@ -170,6 +202,15 @@ class Launcher(ToolTest):
         self.assertEqual(self.assert_runs("one", 1, before=before), "")
         for folder, _, _ in os.walk(self.top):
             os.chmod(folder, 0o755)
+
+    def test_a_command_that_is_not_there(self):
+        self.assert_runs("one", 1)
+        for name in ("bash", "readlink", "sed", "sort", "find", "xargs"):
+            os.symlink(shutil.which(name), os.path.join(self.room, "bin", name))
+        line, env = self.command("a word")
+        ran = subprocess.run(line, capture_output=True, env=env | {"PATH": f"{self.room}/bin"}, timeout=60)
+        self.assertEqual((ran.returncode, ran.stdout), (70, b""))
+        self.assertEqual(ran.stderr, b"qroute: the command sha256sum isn't there, and the launcher needs it\n")
 
     def test_no_program_at_all(self):
         os.remove(os.path.join(self.top, "crates/qroute/src/main.rt"))
