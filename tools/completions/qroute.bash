@@ -2,6 +2,12 @@
 _qroute() {
     local word=${COMP_WORDS[COMP_CWORD]} before=${COMP_WORDS[COMP_CWORD - 1]} option options=
     COMPREPLY=()
+    # bash takes `--device=FILE` apart at the sign
+    if [ "$before" = "=" ]; then
+        before=${COMP_WORDS[COMP_CWORD - 2]}
+    elif [ "$word" = "=" ]; then
+        word=
+    fi
     if [ "$COMP_CWORD" -eq 1 ]; then
         mapfile -t COMPREPLY < <(compgen -W "opt route check stages bench" -- "$word")
         return

@@ -42,8 +42,9 @@ def rooted_often(value, times):
 def shown(value, halvings):
     """The value as a complex number, for eyes alone."""
     root = 2**-0.5
-    a, b, c, d = value
-    scale = 2 ** (-halvings / 2)
+    # whole numbers are divided by one another first: each by itself may be beyond what a float holds
+    a, b, c, d = (it / 2 ** (halvings // 2) for it in value)
+    scale = root if halvings % 2 else 1
     return complex((a + (b - d) * root) * scale, (c + (b + d) * root) * scale)
 
 

@@ -3,12 +3,22 @@
 `read(text)` gives a `Program`: its wires and classical bits in order of declaration, and its steps, in which whole
 registers are written out. `operations(program)` gives the operations `("U", a, b, c, wire)`, with angles in units of pi/4
 below 8, and `("CX", control, target)`, with gates written out by their bodies. It reads the whole language, more than
-`qroute` may read, and looks for no more faults than it needs to: what it can't make sense of is a `Fault` with an offset.
+`qroute` may read, and looks for no more faults than it needs to: what it can't make sense of, or is beyond the bounds below,
+is a `Fault` with an offset, or of angles and operations a ValueError.
 """
 
 import dataclasses
 import fractions
 import re
+import typing
+
+# what `qroute` reads at most; a program that it writes may have more operations
+MOST_WIRES = 64
+MOST_BITS = 1_024
+MOST_DEPTH = 64
+MOST_PART = 2**62  # of a number in lowest terms
+MOST_OPERATIONS = 65_536
+MOST_ITEMS = 1_048_576  # operations, and gates that are written out by others on the way
 
 TOKEN = re.compile(
     r"""(?P<blank>(?:[ \t\r\n]|//[^\n]*)+)
@@ -88,8 +98,20 @@ class Program:
 class Gate:
     params: list
     qubits: list
-    body: list  # of (name, expressions, qubits)
-    seen: dict  # the gates that its body may name
+    body: list  # of (gate, expressions, qubits)
+    operations: int = 1  # that it is written out as; one more than MOST_ITEMS stands for any number above
+    items: int = 1  # the same with the gates on the way
+
+
+U = Gate(["theta", "phi", "lambda"], ["q"], [])
+CX = Gate([], ["control", "target"], [])
+
+
+def gate_of(params, qubits, body):
+    """A gate with a body."""
+    operations = sum(gate.operations for gate, _, _ in body)
+    items = 1 + sum(gate.items for gate, _, _ in body)
+    return Gate(params, qubits, body, min(operations, MOST_ITEMS + 1), min(items, MOST_ITEMS + 1))
 
 
 def text_of(data):
@@ -144,18 +166,49 @@ def eighths(angle):
     return int(eight) % 8
 
 
+def is_large(value):
+    return max(abs(value.numerator), value.denominator) > MOST_PART
+
+
+def fitted(angle):
+    """The angle, where its parts aren't too large."""
+    if is_large(angle[0]) or is_large(angle[1]):
+        raise ValueError("a number with a part above 2^62")
+    return angle
+
+
+def number(text):
+    """The value of a number; None where a part of it is above 2^62, which is seen before a large power of ten is made."""
+    mantissa, _, exponent = text.lower().partition("e")
+    whole, _, behind = mantissa.partition(".")
+    digits = (whole + behind).rstrip("0")
+    bare, steps = digits.lstrip("0"), exponent.lstrip("+-0")
+    if not bare:
+        return fractions.Fraction(0)
+    if len(steps) > 9:
+        return None
+    # The value is `bare` times this power of ten, and as `bare` ends with no 0, only 2 or only 5 can be reduced.
+    shift = int(steps or "0") * (-1 if exponent.startswith("-") else 1) + len(whole) - len(digits)
+    if abs(shift) > 62 or len(bare) > 62 + 19:
+        return None
+    value = int(bare) * fractions.Fraction(10) ** shift
+    return None if is_large(value) else value
+
+
 def product(a, b):
     if a[1] and b[1]:
         raise ValueError("a product of two multiples of pi")
-    return (a[0] * b[0], a[0] * b[1] + a[1] * b[0])
+    return fitted((a[0] * b[0], a[0] * b[1] + a[1] * b[0]))
 
 
 def quotient(a, b):
     if b[1]:
         if a[0] or b[0]:
             raise ValueError("a quotient by a multiple of pi")
-        return (a[1] / b[1], fractions.Fraction(0))
-    return (a[0] / b[0], a[1] / b[0])
+        return fitted((a[1] / b[1], fractions.Fraction(0)))
+    if b[0] == 0:
+        raise ValueError("a division by 0")
+    return fitted((a[0] / b[0], a[1] / b[0]))
 
 
 def power(a, b):
@@ -165,17 +218,31 @@ def power(a, b):
         return a
     if b[0] == 0:
         return plain(1)
-    if a[1] or abs(b[0]) > 10_000:
-        raise ValueError("a power of a multiple of pi, or one too large")
-    return (a[0] ** int(b[0]), fractions.Fraction(0))
+    if a[1]:
+        raise ValueError("a power of a multiple of pi")
+    if a[0] == 0 and b[0] < 0:
+        raise ValueError("a division by 0")
+    if abs(b[0]) > 62 and a[0] not in (-1, 0, 1):
+        raise ValueError("a number with a part above 2^62")
+    return fitted(plain(a[0] ** int(b[0])))
 
 
 def summed(a, b):
-    return (a[0] + b[0], a[1] + b[1])
+    return fitted((a[0] + b[0], a[1] + b[1]))
 
 
 def minus(a):
     return (-a[0], -a[1])
+
+
+def less(a, b):
+    return summed(a, minus(b))
+
+
+@dataclasses.dataclass
+class Expression:
+    depth: int
+    value: typing.Callable  # of the values of names; an angle
 
 
 class Reader:
@@ -185,6 +252,7 @@ class Reader:
         self.list = tokens(text)
         self.at = 0
         self.end = len(text)
+        self.level = 0
 
     def peek(self):
         return self.list[self.at].text if self.at < len(self.list) else ""
@@ -202,6 +270,21 @@ class Reader:
         self.at += 1
         return token.text
 
+    def number(self, text):
+        """The value of the number that was just taken."""
+        found = number(text)
+        if found is None:
+            self.at -= 1
+            self.fail("a number with a part above 2^62")
+        return found
+
+    def index(self):
+        """A whole number in brackets."""
+        self.take("[")
+        found = self.number(self.take(kind="whole"))
+        self.take("]")
+        return int(found)
+
     def skips(self, text):
         if self.peek() != text:
             return False
@@ -216,11 +299,7 @@ class Reader:
 
     def argument(self):
         name = self.take(kind="word")
-        if not self.skips("["):
-            return name, None
-        index = int(self.take(kind="whole"))
-        self.take("]")
-        return name, index
+        return name, self.index() if self.peek() == "[" else None
 
     def arguments(self):
         found = [self.argument()]
@@ -228,57 +307,65 @@ class Reader:
             found.append(self.argument())
         return found
 
-    # An expression is a function from the values of names to an angle.
-
     def expression(self):
         left = self.term()
         while self.peek() in ("+", "-"):
-            sign = self.take()
-            right = self.term()
-            if sign == "+":
-                left = lambda env, a=left, b=right: summed(a(env), b(env))
-            else:
-                left = lambda env, a=left, b=right: summed(a(env), minus(b(env)))
+            rule = summed if self.take() == "+" else less
+            left = self.joined(rule, left, self.term())
         return left
 
     def term(self):
         left = self.signed()
         while self.peek() in ("*", "/"):
             rule = product if self.take() == "*" else quotient
-            right = self.signed()
-            left = lambda env, a=left, b=right, rule=rule: rule(a(env), b(env))
+            left = self.joined(rule, left, self.signed())
         return left
 
     def signed(self):
+        # each level of a part that isn't the first goes through here, so that none is read that is too deep
+        self.level += 1
+        self.look_at_depth(self.level)
         if self.skips("-"):
             part = self.signed()
-            return lambda env: minus(part(env))
-        base = self.atom()
-        if not self.skips("^"):
-            return base
-        exponent = self.signed()
-        return lambda env: power(base(env), exponent(env))
+            found = self.deeper(part.depth, lambda env: minus(part.value(env)))
+        else:
+            found = self.atom()
+            if self.skips("^"):
+                found = self.joined(power, found, self.signed())
+        self.level -= 1
+        return found
 
     def atom(self):
         if self.skips("("):
             part = self.expression()
             self.take(")")
-            return part
+            return self.deeper(part.depth, part.value)
         token = self.list[self.at] if self.at < len(self.list) else None
         if token is not None and token.kind in ("whole", "real"):
-            self.at += 1
-            value = plain(fractions.Fraction(token.text))
-            return lambda env: value
+            value = plain(self.number(self.take()))
+            return Expression(1, lambda env: value)
         name = self.take(kind="word")
         if name == "pi":
-            return lambda env: PI
+            return Expression(1, lambda env: PI)
 
         def value_of(env):
             if name not in env:
                 raise ValueError(f"{name} has no exact value here")
             return env[name]
 
-        return value_of
+        return Expression(1, value_of)
+
+    def joined(self, rule, left, right):
+        return self.deeper(max(left.depth, right.depth), lambda env: rule(left.value(env), right.value(env)))
+
+    def deeper(self, depth, value):
+        """An expression whose deepest part has this depth."""
+        self.look_at_depth(depth + 1)
+        return Expression(depth + 1, value)
+
+    def look_at_depth(self, depth):
+        if depth > MOST_DEPTH:
+            self.fail(f"an expression deeper than {MOST_DEPTH}")
 
     def expressions(self):
         if not self.skips("("):
@@ -293,13 +380,16 @@ class Reader:
 
 
 class ProgramReader(Reader):
-    """Reads statements into a program."""
+    """Reads statements into a program that is written out as so many operations at most."""
 
-    def __init__(self, text):
+    def __init__(self, text, most):
         super().__init__(text)
+        self.most = most
+        self.operations = 0
+        self.items = 0
         self.quantum = {}  # register: first wire and size
         self.classical = {}
-        self.program = Program([], [], [], [], {"U": None, "CX": None})
+        self.program = Program([], [], [], [], {"U": U, "CX": CX})
 
     def all(self):
         self.take("OPENQASM")
@@ -340,9 +430,10 @@ class ProgramReader(Reader):
 
     def register(self, known, numbered):
         name = self.take(kind="word")
-        self.take("[")
-        size = int(self.take(kind="whole"))
-        self.take("]")
+        size = self.index()
+        most = MOST_WIRES if known is self.quantum else MOST_BITS
+        if len(numbered) + size > most:
+            self.fail(f"with this register more than {most} {'qubits' if known is self.quantum else 'classical bits'}")
         self.take(";")
         known[name] = (len(numbered), size)
         numbered += [f"{name}[{i}]" for i in range(size)]
@@ -358,18 +449,47 @@ class ProgramReader(Reader):
         qubits = self.names()
         self.take("{")
         body = []
-        seen = dict(self.program.gates)
         while not self.skips("}"):
-            inner = self.take(kind="word")
-            angles = [] if inner == "barrier" else self.expressions()
-            places = self.names()
+            body += self.line_of_body(qubits)
+        self.program.gates[name] = gate_of(params, qubits, body)
+
+    def line_of_body(self, qubits):
+        """What a line of a gate's body applies to some of its qubits: one gate, or with a barrier none."""
+        if self.skips("barrier"):
+            self.names()
             self.take(";")
-            if inner == "barrier":
-                continue
-            if inner not in seen:
-                self.fail(f"no gate {inner}")
-            body.append((inner, angles, places))
-        self.program.gates[name] = Gate(params, qubits, body, seen)
+            return []
+        gate = self.gate_of_name()
+        angles = self.expressions()
+        places = self.names()
+        for it in places:
+            if it not in qubits:
+                self.fail(f"no qubit {it}")
+        self.look_at_sizes(gate, angles, places)
+        self.take(";")
+        return [(gate, angles, places)]
+
+    def gate_of_name(self):
+        name = self.peek()
+        if name not in self.program.gates:
+            self.fail(f"no gate {name}")
+        self.at += 1
+        return self.program.gates[name]
+
+    def look_at_sizes(self, gate, angles, on):
+        """Whether a gate takes so many angles and wires, and no wire twice."""
+        if len(angles) != len(gate.params) or len(on) != len(gate.qubits):
+            self.fail(f"the gate takes {len(gate.params)} angles and {len(gate.qubits)} wires")
+        if len(set(on)) != len(on):
+            self.fail("one wire twice")
+
+    def count(self, gate):
+        self.operations += gate.operations
+        self.items += gate.items
+        if self.operations > self.most:
+            self.fail(f"more than {self.most:,} operations")
+        if self.items > MOST_ITEMS:
+            self.fail(f"more than {MOST_ITEMS:,} gates of gates")
 
     def wires_of(self, argument, known):
         name, index = argument
@@ -386,9 +506,9 @@ class ProgramReader(Reader):
         wires, _ = self.wires_of(self.argument(), self.quantum)
         self.take("->")
         bits, _ = self.wires_of(self.argument(), self.classical)
-        self.take(";")
         if len(wires) != len(bits):
             self.fail("a measurement between different sizes")
+        self.take(";")
         for wire, bit in zip(wires, bits):
             self.program.steps.append(Step("measure", "measure", [], [wire], bit))
 
@@ -400,24 +520,22 @@ class ProgramReader(Reader):
         self.program.steps.append(Step("barrier", "barrier", [], sorted(set(wires))))
 
     def application(self):
-        name = self.take(kind="word")
-        if name not in self.program.gates:
-            self.at -= 1
-            self.fail(f"no gate {name}")
+        name = self.peek()
+        gate = self.gate_of_name()
         try:
-            angles = [it({}) for it in self.expressions()]
-        except (ValueError, ZeroDivisionError) as fault:
+            angles = [it.value({}) for it in self.expressions()]
+        except ValueError as fault:
             self.fail(str(fault))
         arguments = [self.wires_of(it, self.quantum) for it in self.arguments()]
-        self.take(";")
         whole = {len(wires) for wires, is_whole in arguments if is_whole}
         if len(whole) > 1:
             self.fail("whole registers of different sizes")
         for i in range(whole.pop() if whole else 1):
             on = [wires[i] if is_whole else wires[0] for wires, is_whole in arguments]
-            if len(set(on)) != len(on):
-                self.fail("one wire twice")
+            self.look_at_sizes(gate, angles, on)
+            self.count(gate)
             self.program.steps.append(Step("gate", name, angles, on))
+        self.take(";")
 
 
 _LIBRARY = {}
@@ -426,42 +544,54 @@ _LIBRARY = {}
 def library():
     """The gates of `qelib1.inc`, and those that today's tools write beside them."""
     if not _LIBRARY:
-        reader = ProgramReader(f"OPENQASM 2.0; {LIBRARY}")
+        reader = ProgramReader(f"OPENQASM 2.0; {LIBRARY}", MOST_OPERATIONS)
         _LIBRARY.update(reader.all().gates)
     return _LIBRARY
 
 
-def read(text):
-    """The program of a text."""
-    return ProgramReader(text).all()
+def read(text, most=MOST_OPERATIONS):
+    """The program of a text, which is written out as so many operations at most."""
+    return ProgramReader(text, most).all()
 
 
-def expanded(gates, name, angles, wires):
-    """The operations of one gate, one by one."""
-    if name == "CX":
-        yield ("CX", *wires)
-        return
-    if name == "U":
-        turns = [eighths(it) for it in angles]
-        if None in turns:
-            raise ValueError("an angle that is no multiple of pi/4")
-        yield ("U", *turns, wires[0])
-        return
-    gate = gates[name]
-    if len(angles) != len(gate.params) or len(wires) != len(gate.qubits):
-        raise ValueError(f"{name} takes {len(gate.params)} angles and {len(gate.qubits)} wires")
+def applied(gate, angles, wires):
+    """A gate and those that it is written out by, each before those of its body, with angles and wires."""
+    waiting = [iter([(gate, angles, wires)])]
+    while waiting:
+        found = next(waiting[-1], None)
+        if found is None:
+            waiting.pop()
+        else:
+            yield found
+            waiting.append(body_of(*found))
+
+
+def body_of(gate, angles, wires):
+    """What the body of a gate applies: gates with angles and wires."""
     env = dict(zip(gate.params, angles))
     on = dict(zip(gate.qubits, wires))
     for inner, expressions, places in gate.body:
-        yield from expanded(gate.seen, inner, [it(env) for it in expressions], [on[it] for it in places])
+        yield inner, [it.value(env) for it in expressions], [on[it] for it in places]
+
+
+def turns(angles):
+    found = [eighths(it) for it in angles]
+    if None in found:
+        raise ValueError("an angle that is no multiple of pi/4")
+    return found
 
 
 def operations(program):
     """The operations of a program's gates, in order."""
     found = []
     for step in program.steps:
-        if step.kind == "gate":
-            found += expanded(program.gates, step.name, step.angles, step.wires)
+        if step.kind != "gate":
+            continue
+        for gate, angles, wires in applied(program.gates[step.name], step.angles, step.wires):
+            if gate is CX:
+                found.append(("CX", *wires))
+            elif gate is U:
+                found.append(("U", *turns(angles), wires[0]))
     return found
 
 

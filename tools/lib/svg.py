@@ -2,6 +2,8 @@
 
 from xml.sax.saxutils import escape
 
+import streams
+
 INK = "#1f2328"
 PALE = "#8c959f"
 PAPER = "#ffffff"
@@ -50,7 +52,7 @@ class Picture:
             more += f" stroke='{PAPER}' stroke-width='4' stroke-linejoin='round' paint-order='stroke'"
         self.parts.append(
             f"<text x='{number(x)}' y='{number(y + 0.36 * size)}' font-size='{size}' text-anchor='{anchor}'"
-            f" fill='{ink}'{more}>{escape(says)}</text>"
+            f" fill='{ink}'{more}>{escape(streams.printable(says))}</text>"
         )
 
     def put(self, other, x, y):

@@ -50,6 +50,10 @@ class Bench(ToolTest):
         self.assertEqual(status, 2)
         self.assertIn("can't be run", err)
 
+    def test_a_picture_that_cannot_be_written(self):
+        path = os.path.join(self.room, "none/plot.svg")
+        self.assertEqual(self.bench("/bin/true", "--plot", path), (2, "", f"bench: {path}: No such file or directory\n"))
+
     def test_a_program_that_is_drawn(self):
         text, counts = self.parts["drawn"](12, 4)
         gates = "cx1.2 cx2.1 tdg.2 t.2 s.2 x.0 tdg.0 tdg.3 x.1 s.1 cx2.3 h.0"

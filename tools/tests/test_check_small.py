@@ -21,9 +21,9 @@ def report(**told):
 
 
 class CheckSmall(ToolTest):
-    def checked(self, source, output, told, *words):
+    def checked(self, source, output, told, *words, **more):
         files = [self.file(name, text) for name, text in (("s", source), ("o", output), ("r", told))]
-        return self.run_tool("check-small", *files, *words)
+        return self.run_tool("check-small", *files, *words, **more)
 
     def test_what_agrees(self):
         device = self.file("d", DEVICE)
@@ -88,3 +88,64 @@ class CheckSmall(ToolTest):
         self.assertEqual((status, out), (2, ""))
         self.assertIn("check-small: ", err)
         self.assertEqual(self.checked(BELL, TURNED, "no line\n")[0], 2)
+
+    def test_a_chain_of_a_thousand_gates(self):
+        chain = "gate g0(x) a { u1(x) a; }\n" + "".join(f"gate g{i}(x) a {{ g{i - 1}(x) a; }}\n" for i in range(1, 1000))
+        text = HEAD + chain + "qreg q[2];\ng999(pi/4) q[0];\n"
+        told = report(phase=0, cx_before=0, cx_after=0, t_before=1, t_after=1)
+        self.assertEqual(self.checked(text, HEAD + "qreg q[2];\nt q[0];\n", told)[0], 0)
+
+    def test_many_halvings(self):
+        # each value by itself is beyond what a float holds
+        source = HEAD + "qreg q[1];\n" + "h q[0];\n" * 3000
+        told = report(phase=1, cx_before=0, cx_after=0, device=1, qubits=1, initial=[0], final=[0])
+        status, out, err = self.checked(source, HEAD + "qreg q[1];\n", told)
+        self.assertEqual((status, err), (1, ""))
+        self.assertIn("the amplitude of |0> is 1.0", out)
+
+    def test_no_traceback(self):
+        device = self.file("d", b"qubits = 2 # \xe9\n")
+        self.assertEqual(
+            self.checked(BELL, TURNED, report(), "--device", device), (2, "", f"check-small: {device}: no TOML in UTF-8\n")
+        )
+        for angle in ("(" * 3000 + "pi" + ")" * 3000, "-" * 3000 + "pi", "pi" + "+pi" * 3000, "1^" * 3000 + "1"):
+            status, out, err = self.checked(HEAD + f"qreg q[2];\nu1({angle}) q[0];\n", BELL, report())
+            self.assertEqual((status, out), (2, ""))
+            self.assertIn("s:4: an expression deeper than 64\n", err)
+        for line in ("cx q[0];", "h(pi) q[0];", "gate g a { h b; }", "gate g a { cx a,a; }"):
+            status, out, err = self.checked(HEAD + f"qreg q[2];\n{line}\n", BELL, report())
+            self.assertEqual((status, out, err.count("\n")), (2, "", 1), line)
+            self.assertIn("s:4: ", err)
+
+    def test_reports_that_cannot_be(self):
+        for told in (
+            *({"phase": it} for it in (8, -4, 4.0, True, "4", None)),
+            *({"swaps": it} for it in (-1, 0.0, False, "0")),
+            *({"initial": it} for it in ([0.0, 1], [False, True], [0, 0], [0], [0, 1, 2], 3, None)),
+            *({"format": it} for it in (2, True)),
+            *({"qubits": 2.0}, {"device": True}, {"device": 3}, {"qubits": 3}, {"barriers": False}, {"cx_after": 1.0}),
+        ):
+            status, out, err = self.checked(BELL, TURNED, report(**told))
+            self.assertEqual((status, err), (1, ""), told)
+            self.assertTrue(out.startswith("differs: "), told)
+        device = self.file("d", "qubits = 3\nedges = [[1, 0]]\n")
+        status, out, _ = self.checked(BELL, TURNED, report(), "--device", device)
+        self.assertEqual((status, out), (1, f"differs: the output has 2 qubits, and {device} 3\n"))
+
+    def test_the_bounds(self):
+        doubled = "gate g0 a { %s }\n" + "".join(f"gate g{i} a {{ g{i - 1} a; g{i - 1} a; }}\n" for i in range(1, 40))
+        for body, said in (
+            ("qreg r[9999999999999];", "with this register more than 64 qubits"),
+            ("creg r[1025];", "with this register more than 1024 classical bits"),
+            ("u1(1.0e99999999) q[0];", "a number with a part above 2^62"),
+            ("u1((3^9999)^9999) q[0];", "a number with a part above 2^62"),
+            ("u1(4611686018427387904*3) q[0];", "a number with a part above 2^62"),
+            (doubled % "t a;" + "g39 q[0];", "more than 65,536 operations"),
+            (doubled % "" + "g39 q[0];", "more than 1,048,576 gates of gates"),
+        ):
+            status, out, err = self.checked(HEAD + f"qreg q[2];\n{body}\n", BELL, report(), timeout=10)
+            self.assertEqual((status, out, err.count("\n")), (2, "", 1), body)
+            self.assertIn(said, err)
+        source = HEAD + "qreg q[1];\nu1(1^99999999*4611686018427387904*0.25e-0*pi) q[0];\n"
+        told = report(phase=0, cx_before=0, cx_after=0, device=1, qubits=1, initial=[0], final=[0])
+        self.assertEqual(self.checked(source, HEAD + "qreg q[1];\n", told)[0], 0)

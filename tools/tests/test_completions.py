@@ -23,12 +23,17 @@ class Completions(unittest.TestCase):
         asked qroute route --device devices/line
         asked qroute bench --; asked qroute bench --gates 5 --; asked qroute bench --start ''
         asked qroute bench --start 1 --device devices/line
+        asked qroute route --device = devices/line; asked qroute route --device = devices/line_5.toml --
+        asked qroute bench --gates = ''; cd devices; asked qroute route --device =
         """
+        *found, devices = said("bash", "-c", script).splitlines()
+        self.assertEqual(sorted(devices.split()), sorted(os.listdir(os.path.join(TOP, "devices"))))
         self.assertEqual(
-            said("bash", "-c", script).splitlines(),
+            found,
             [
                 *("opt route check stages bench", "route", "--device --trivial", "--device", "", "devices/line_5.toml"),
                 *("--start --gates --device", "--start --device", "", "devices/line_5.toml"),
+                *("devices/line_5.toml", "--trivial", ""),
             ],
         )
 

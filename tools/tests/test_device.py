@@ -38,19 +38,33 @@ class Device(ToolTest):
         path = self.file("map", "[[0, 1]]")
         _, out, _ = self.run_tool("device", path, "--say", "Source: a map.")
         self.assertTrue(out.startswith("# Source: a map.\n"))
+        self.assertEqual(self.table("[[0, 1]]", "--say", "a\nqubits = 7\r\x1b\x7f"), {"qubits": 2, "edges": [[0, 1]]})
+        named = self.table('[[["a\\nqubits = 7", [0]], ["b", [1]]]]')
+        self.assertEqual(named, {"qubits": 2, "edges": [[0, 1]]})
 
     def test_what_is_no_map(self):
-        for text in ("", "hello", "[[0, 1, 2]]", "3", "[[0, -1]]", "[[true, 1]]", '{"links": 3}'):
+        for text in (
+            *("", "hello", "[[0, 1, 2]]", "3", "[[0, -1]]", "[[true, 1]]", '{"links": 3}', '{"links": [{}]}', "[1]", b"\xff"),
+            *("[" * 100_000, '{"n_qubits": "5", "coupling_map": []}', "{0: 1}", '[[["a", 1], ["b", [1]]]]'),
+        ):
             status, out, err = self.run_tool("device", given=text)
             self.assertEqual((status, out), (1, ""), text)
-            self.assertTrue(err.startswith("device: "), text)
+            self.assertTrue(err.startswith("device: ") and err.count("\n") == 1, text)
+            for own in ("object", "recursion", "codec"):
+                self.assertNotIn(own, err)
 
     def test_what_qroute_will_refuse(self):
         for text, words, said in (
             ("[[0, 1]]", ("--qubits", "3"), "qubit 2 can't be reached from qubit 0"),
             ("[[0, 1], [1, 1]]", (), "qubit 1 has an edge to itself"),
-            (str([[i, i + 1] for i in range(64)]), (), "65 qubits are more than 64"),
+            (str([[i, i + 1] for i in range(64)]), (), "`qubits` is 65 and not a whole number from 1 to 64"),
+            ("[[0, 1]]", ("--qubits", "1"), "the edge [0, 1] has a qubit that isn't there"),
+            ("[[0, 1]]", ("--qubits", "0"), "`qubits` is 0 and not a whole number from 1 to 64"),
+            ("[[0, 1]]", ("--qubits", "-1"), "`qubits` is -1 and not a whole number from 1 to 64"),
+            ("[]", (), "`qubits` is 0 and not a whole number from 1 to 64"),
+            ("[[0, 99999999999999]]", (), "`qubits` is 100000000000000 and not a whole number from 1 to 64"),
+            ('{"n_qubits": 99999999999, "coupling_map": [[0, 1]]}', (), "`qubits` is 99999999999 and not a whole number from 1 to 64"),
         ):
-            status, out, err = self.run_tool("device", *words, given=text)
+            status, out, err = self.run_tool("device", *words, given=text, timeout=10)
             self.assertEqual((status, err), (0, f"device: qroute will refuse this device: {said}\n"), text)
             self.assertIn("edges = [", out)

@@ -47,7 +47,7 @@ pub fn two_is_even()
 {}
 """
 WORDS = """-- Even numbers.
---   IsEven n    n is even
+--   IsEven n    n is even;  twice n: n and n;  unused: a number
 use Rattle.std.specs.Prelude.{ℕ, suc}
 use Rattle.low.specs.Ground.{half}
 
@@ -62,6 +62,7 @@ abbrev pub unused : ℕ
 unused = 3
 """
 GROUND = """-- Halves.
+--   half n    the number before n
 use Rattle.std.specs.Prelude.{ℕ}
 
 abbrev pub half : ℕ → ℕ
@@ -116,9 +117,9 @@ class Documents(ToolTest):
         }.items():
             self.file(name, text)
 
-    def script(self, name, *words):
+    def script(self, name, *words, err=""):
         ran = subprocess.run([os.path.join(self.room, "tools", name), *words], capture_output=True, text=True, timeout=60)
-        self.assertEqual(ran.stderr, "")
+        self.assertEqual(ran.stderr, err)
         return ran.returncode, ran.stdout
 
     def change(self, name, old, new):
@@ -173,13 +174,36 @@ class Documents(ToolTest):
             self.file(name, before)
         self.assertEqual(self.found(), ["nothing found"])
 
+    def test_links_and_bare_paths(self):
+        self.script("check-docs", "--mend")
+        there = "[a](docs/CLAIMS.md#it-is-a-b_c) [b](#it) [c](docs/CLAIMS.md) [d](docs/CLAIMS.md#it-is-a-b_c-1)\n"
+        page = ".IR tools/check\\-docs ,\n\\fIdocs/CLAIMS.md\\fR\n"
+        self.file("docs/CLAIMS.md", CLAIMS + "\n## It is, `a` b_c\n\n## It is a b_c\n")
+        self.file("docs/it.1", page)
+        self.file("README.md", f"{README}\n{there}\n```\n$ tools/definitions < crates/low/src/lib.rt\n# Code\n```\n")
+        self.script("check-docs", "--mend")
+        self.assertEqual(self.found(), ["nothing found"])
+        for name, old, new, wanted in (
+            ("README.md", "#it)", "#code)", "README.md:12: no heading #code in README.md"),
+            ("README.md", "c-1)", "c-2)", "README.md:12: no heading #it-is-a-b_c-2 in docs/CLAIMS.md"),
+            ("README.md", "(docs/CLAIMS.md)", "(CLAIMS.md)", "README.md:12: no file CLAIMS.md for a link"),
+            ("README.md", "tools/definitions", "tools/words", "README.md:15: no file tools/words"),
+            ("docs/it.1", "check\\-docs", "check\\-words", "docs/it.1:1: no file tools/check-words"),
+            ("docs/it.1", "CLAIMS", "CLAIM", "docs/it.1:2: no file docs/CLAIM.md"),
+        ):
+            self.change(name, old, new)
+            self.assertEqual(self.found(), [wanted])
+            self.change(name, new, old)
+
     def test_words_of_heads(self):
-        status, out = self.script("check-docs", "--words")
-        self.assertEqual(status, 1)
-        self.assertEqual(out, "crates/low/specs/Ground.antt: half\ncrates/low/specs/Words.antt: twice unused\n")
+        self.script("check-docs", "--mend")
+        self.change("crates/low/specs/Ground.antt", "half n    the", "hlf n    the")
+        self.change("crates/low/specs/Words.antt", ";  twice n: n and n;  unused: a number", "")
+        wanted = ["crates/low/specs/Ground.antt: its head leaves out half", "crates/low/specs/Words.antt: its head leaves out twice unused"]
+        self.assertEqual(self.found(), wanted)
 
     def test_transcripts(self):
-        self.file("qroute", "#!/bin/sh\n[ $1 = opt ] || echo no command >&2\necho program $1\n")
+        self.file("qroute", "#!/bin/sh\n[ $1 = what ] && echo no command >&2\necho program $1\n")
         os.chmod(os.path.join(self.room, "qroute"), 0o755)
         for name in ("examples/a", "devices/a", "bench/a", "docs/made.svg"):
             self.file(name, "<x y='1.2'/>\n")
@@ -193,3 +217,11 @@ class Documents(ToolTest):
         self.assertIn("README.md:12: what comes out is\n", out)
         self.assertIn("docs/made.svg isn't what is written\n", out)
         self.assertEqual(self.script("check-transcripts"), (0, "nothing differs in 1 transcripts\n"))
+
+    def test_a_build_is_told_and_files_are_looked_at_before(self):
+        self.file("qroute", "#!/bin/sh\necho building >&2\nexit 70\n")
+        os.chmod(os.path.join(self.room, "qroute"), 0o755)
+        said = "building\ncheck-transcripts: there is no program to run\n"
+        self.assertEqual(self.script("check-transcripts", err=said), (2, ""))
+        said = "check-transcripts: there is no file docs/NONE.md\n"
+        self.assertEqual(self.script("check-transcripts", "README.md", "docs/NONE.md", err=said), (2, ""))

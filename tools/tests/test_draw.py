@@ -34,6 +34,12 @@ class Draw(ToolTest):
         self.assertEqual(sum(it.get("r") == "4" for it in picture.iter(f"{SVG}circle")), 3)
         self.assertEqual(sum(it.get("r") == "9" for it in picture.iter(f"{SVG}circle")), 2)
 
+    def test_gates_that_are_named_like_others(self):
+        text = "OPENQASM 2.0;\nqreg q[2];\ngate ccx a { }\ngate swap a { }\nccx q[0];\nswap q[1];\n"
+        texts = self.texts(self.drawn(self.file("p.qasm", text)))
+        self.assertIn("CCX", texts)
+        self.assertIn("SWAP", texts)
+
     def test_columns(self):
         # the H and the T share a column, as does nothing else: five gates in four columns
         one = self.drawn(self.file("p.qasm", PROGRAM))
@@ -62,4 +68,30 @@ class Draw(ToolTest):
         status, out, err = self.run_tool("draw", path)
         self.assertEqual((status, out), (1, ""))
         self.assertEqual(err, f"draw: {path}:3: no gate h\n")
-        self.assertEqual(self.run_tool("draw", self.room + "/none")[0], 1)
+        none = self.room + "/none"
+        self.assertEqual(self.run_tool("draw", none), (2, "", f"draw: {none}: No such file or directory\n"))
+        few = self.file("p.qasm", 'OPENQASM 2.0;\ninclude "qelib1.inc";\nqreg q[3];\ncx q[0];\n')
+        self.assertEqual(self.run_tool("draw", few), (1, "", f"draw: {few}:4: the gate takes 0 angles and 2 wires\n"))
+
+    def test_devices_and_reports_that_cannot_be_drawn(self):
+        program = self.file("p.qasm", PROGRAM)
+        for text, said in (
+            ("qubits = 2\nedges = [[0, 2]]", "the edge [0, 2] has a qubit that isn't there"),
+            ("qubits = 2\nedges = [[0, -1]]", "the edge [0, -1] has a qubit that isn't there"),
+            ("qubits = 2\nedges = [[0]]", "the edge [0] is no pair of whole numbers"),
+            ("qubits = 2\nedges = [0]", "`edges` is no list of pairs"),
+            ("qubits = 2\nedges = [[0, 0]]", "qubit 0 has an edge to itself"),
+            ("qubits = 0\nedges = []", "`qubits` is 0 and not a whole number from 1 to 64"),
+            ("edges = []", "`qubits` is None and not a whole number from 1 to 64"),
+            ("qubits = 2", "`edges` is no list of pairs"),
+            ("qubits =", "no TOML in UTF-8"),
+        ):
+            path = self.file("d.toml", text)
+            self.assertEqual(self.run_tool("draw", program, "--device", path), (1, "", f"draw: {path}: {said}\n"))
+        for told, said in (
+            ({}, "final is no placement of 3 wires"),
+            ({"final": [0, 0, 2]}, "final is no placement of 3 wires"),
+            ({"qubits": "2", "final": [0, 1, 2]}, "the report says qubits '2' and device 3"),
+        ):
+            path = self.file("r", json.dumps({"device": 3, "initial": [0, 1, 2], "qubits": 2} | told))
+            self.assertEqual(self.run_tool("draw", program, "--report", path), (1, "", f"draw: {path}: {said}\n"))

@@ -49,3 +49,25 @@ class Explain(ToolTest):
         status, out, err = self.explained('{"format":1,"phase":0}')
         self.assertEqual((status, out), (1, ""))
         self.assertIn("no fault line", err)
+
+    def test_lines_that_qroute_does_not_write(self):
+        path = self.file("p.qasm", HEAD)
+        for line in ('{"fault":[1]}', '{"fault":{"a":1}}', '{"fault":' + "[" * 100_000, '{"a":"\xff', "[" * 100_000):
+            self.assertEqual(self.explained(line, path), (1, "", "explain: there is no fault line on the input\n"))
+        for place in ('"3"', "1.5", "-5", "true", "[1]", "null"):
+            for key in ("place", "statement", "qubit"):
+                _, out, err = self.explained(f'{{"fault":"BadByte","{key}":{place},"status":3}}', path)
+                self.assertEqual((out, err), (f"{path}: BadByte: no token begins here\n", ""))
+        device = self.file("d.toml", "edges = [[1, 1]]\n")
+        for qubit in ('"("', '"1"', "-1", "1.0"):
+            _, out, err = self.explained(f'{{"fault":"SelfEdge","qubit":{qubit},"status":4}}', "--device", device)
+            self.assertEqual((out, err), (f"{device}: SelfEdge: no words for this fault\n", ""))
+
+    def test_control_characters_are_shown(self):
+        path = self.file("p.qasm", b"a\x1b[31m\x00\xc2\x9b\tb \x07 \xff\n")
+        _, out, _ = self.explained('{"fault":"BadByte","place":12,"status":3}', path)
+        line = "a\\x1b[31m\\x00\\x9b\tb \\x07 \ufffd"
+        self.assertEqual(out.splitlines()[1:], ["    " + line, "    " + " " * 17 + "\t  ^"])
+        self.assertTrue(out.startswith(f"{path}:1:12: "), out)
+        _, out, _ = self.explained('{"fault":"\\u001b[31m","status":3}', path)
+        self.assertEqual(out, f"{path}: \\x1b[31m: no words for this fault\n")

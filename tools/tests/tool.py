@@ -22,13 +22,13 @@ class ToolTest(unittest.TestCase):
             file.write(text if isinstance(text, bytes) else text.encode())
         return path
 
-    def run_tool(self, name, *words, given=b"", **more):
+    def run_tool(self, name, *words, given=b"", timeout=120, **more):
         """Status, standard output and standard error of a tool."""
         ran = subprocess.run(
             [os.path.join(TOP, "tools", name), *words],
             input=given if isinstance(given, bytes) else given.encode(),
             capture_output=True,
-            timeout=120,
+            timeout=timeout,
             **more,
         )
         return ran.returncode, ran.stdout.decode(), ran.stderr.decode()
