@@ -2,17 +2,15 @@
 --   live_entry, live_gate      a live slot has a gate
 --   place-entry, gate-entry, slot-entry    its place, the gate there and the slot there
 --   All-slice_get, All-gone    what holds of each gate
---   meets-on, on_below         bits of wires
+--   on_below                   the wires of a gate are there
 --   after-some, after-none, before-some, before-none, from-some, from-none    the next gate on any wire
 --   next-some, next-none, prev-some, prev-none    the gates on a wire
 --   t_count-entries, cx_count-entries, h_count-entries    counts over the slots
-use Rattle.std.proofs.Common.{◌≡◌, ◌≢◌, ℕ, zero, suc, ◌+◌, ◌-◌, ◌%◌, ◌^◌, ◌<◌, ◌≤◌, ◌==◌, ◌||◌, Bool, true, false, cond, List, [], ◌∷◌, ◌++◌, Option, None, Some, Ok, Err, Result, OnOk, OnErr, refl, sym, ap, ◌∙◌, subst, arith, inl, inr, ◌⊎◌, All, length, set, slice_get, zero-add, add-zero}
+use Rattle.std.proofs.Common.{◌≡◌, ℕ, zero, suc, ◌+◌, ◌-◌, ◌<◌, ◌≤◌, ◌==◌, ◌||◌, Bool, true, false, cond, List, [], ◌∷◌, ◌++◌, Option, None, Some, Ok, Err, Result, OnOk, OnErr, refl, sym, ap, ◌∙◌, subst, arith, inl, inr, ◌⊎◌, All, length, set, slice_get, zero-add, add-zero}
 use Rattle.std.specs.List.{count_by, remove}
-use Rattle.std.specs.Int.{bit_at}
-use Rattle.std.proofs.lemmas.Bool.{eqb-true, eqb-false}
+use Rattle.std.proofs.lemmas.Bool.{both_ways, eqb-true}
 use Rattle.std.proofs.lemmas.List.Elements.{All-from_recursion, All-get_or, All-append, All-set, All-take, All-drop}
 use Rattle.std.proofs.lemmas.List.Sums.{sum_by-cons}
-use Rattle.std.proofs.lemmas.Nat.Bits.{bit_at-pow_same, bit_at-pow_other}
 use Rattle.std.proofs.lemmas.Option.{get_or_from_slice_get, slice_get_within}
 use Rattle.std.specs.declared.alloc.AllocError.{AllocError}
 use Rattle.circuit_list.specs.declared.Gate.{Gate}
@@ -20,10 +18,11 @@ use Rattle.circuit_list.specs.declared.Gate.TheVariants.{H, X, P, Cx}
 use Rattle.circuit_list.specs.Entries.{entry, is_live, holds, rank, gates_of, slots_from}
 use Rattle.circuit_list.specs.Gates.{IsFine, h_count, is_cx, is_h, is_on, is_t, ops}
 use Rattle.circuit_list.specs.Slots.{IsFirstFrom, IsNextOn, IsPrevOn, NoneBefore, NoneBehind, NoneFrom, is_on_at, is_on_some, place_of}
-use Rattle.circuit_list.specs.Tree.{IsFirstOn, IsLastOn, NoneOn, any_wire, has_any, leaf, meets, wire_bit, wires_of}
+use Rattle.circuit_list.specs.OnWire.{IsFirstGateOn, IsLastGateOn, NoGateOn}
+use Rattle.circuit_list.specs.Tree.{IsFirstOn, IsLastOn, NoneOn, any_wire, leaf, meets}
 use Rattle.circuit_list.proofs.EntryLaws.{gates_of-gone, gates_of-push, gates_of-put, gates_of-rank, live_of-place, place_of-rank, rank-length, rank-next, rank-zero, rank_below, rank_later, rank_mono, slot_below, slot_of-gate, slots_from-rank}
 use Rattle.circuit_list.proofs.GateLaws.{cx_count-ops, t_count-ops}
-use Rattle.circuit_list.proofs.TreeLaws.{has_any-bit, has_any-or, meets_any, meets_live, order}
+use Rattle.circuit_list.proofs.TreeLaws.{meets_any, meets_live, order}
 use Rattle.unitary_model.specs.Operations.{cx_count, t_count}
 
 -- ---- live slots
@@ -62,30 +61,10 @@ All-one n g f = All-from_recursion (IsFine n) (g ∷ []) (f, tt)
 pub fine-entry : (n : ℕ) (es : List (Option Gate)) (s : ℕ) (g : Gate) → entry es s ≡ Some g → All (IsFine n) (gates_of es) → IsFine n g
 fine-entry n es s g h all = All-slice_get (IsFine n) (gates_of es) (rank es s) g (gates_of-rank es s g h) all
 
--- ---- wires as bits
+-- ---- wires
 test-false : (b : Bool) → (b ≡ true → ⊥) → b ≡ false
 test-false true h = absurd (h refl)
 test-false false h = refl
-
-same_bit : (w q : ℕ) → w < 64 → q < 64 → has_any (wire_bit w) (wire_bit q) ≡ (w == q)
-unfolding has_any wire_bit
-same_bit w q v r = has_any-bit (2 ^ (q % 64)) (w % 64) ∙ at (w == q) refl
-  where
-    at : (b : Bool) → (w == q) ≡ b → (bit_at (2 ^ (q % 64)) (w % 64) == 1) ≡ (w == q)
-    at true e =
-        let same : w % 64 ≡ q % 64 = ap (λ n. n % 64) (eqb-true w q e) in
-        ap (λ n. bit_at (2 ^ (q % 64)) n == 1) same ∙ ap (λ n. n == 1) (bit_at-pow_same (q % 64)) ∙ sym e
-    at false e =
-        let other : w % 64 ≢ q % 64 = λ h. eqb-false w q e (omega arith) in
-        ap (λ n. n == 1) (bit_at-pow_other (q % 64) (w % 64) other) ∙ sym e
-
-pub meets-on : (n w : ℕ) (g : Gate) → w < 64 → n ≤ 64 → IsFine n g → meets (wire_bit w) (Some g) ≡ is_on w g
-unfolding wires_of
-meets-on n w (H q) v le f = same_bit w q v (omega (arith, f))
-meets-on n w (X q) v le f = same_bit w q v (omega (arith, f))
-meets-on n w (P k q) v le f = same_bit w q v (omega (arith, f.0))
-meets-on n w (Cx c t) v le f =
-    has_any-or (wire_bit w) (wire_bit c) (wire_bit t) ∙ (λ i. same_bit w c v (omega (arith, f.0)) i || same_bit w t v (omega (arith, f.1.0)) i)
 
 or_cases : (a b : Bool) → (a || b) ≡ true → (a ≡ true) ⊎ (b ≡ true)
 or_cases true b h = inl refl
@@ -102,18 +81,17 @@ on_below n w (Cx c t) f h = at (or_cases (w == c) (w == t) h)
     at (inr e) = omega (arith, f.1.0, eqb-true w t e)
 
 -- ---- gates on a wire
-on_some-none : (w : ℕ) (o : Option Gate) → ((g : Gate) → o ≡ Some g → is_on w g ≡ false) → is_on_some w o ≡ false
-on_some-none w None h = refl
-on_some-none w (Some g) h = h g refl
-
 -- where no slot between two numbers is on the wire, no gate at a place of such a slot is
-quiet : (n w a b k : ℕ) (es : List (Option Gate)) → w < 64 → n ≤ 64 → All (IsFine n) (gates_of es) → NoneOn (wire_bit w) es a b
+quiet : (w a b k : ℕ) (es : List (Option Gate)) → NoGateOn w es a b
     → ((s : ℕ) (g : Gate) → entry es s ≡ Some g → rank es s ≡ k → (a ≤ s) × (s < b)) → is_on_at w (gates_of es) k ≡ false
-quiet n w a b k es low few fine none within =
-    on_some-none w (slice_get (gates_of es) k) (λ g e.
-    let r = slot_of-gate es k g e in
-    let h = within r.0 g r.1.0 r.1.1 in
-    sym (meets-on n w g low few (fine-entry n es r.0 g r.1.0 fine)) ∙ ap (meets (wire_bit w)) (sym r.1.0) ∙ none r.0 h.0 h.1)
+quiet w a b k es none within = at (slice_get (gates_of es) k) refl
+  where
+    at : (o : Option Gate) → slice_get (gates_of es) k ≡ o → is_on_some w (slice_get (gates_of es) k) ≡ false
+    at None e = ap (is_on_some w) e
+    at (Some g) e =
+        let r = slot_of-gate es k g e in
+        let h = within r.0 g r.1.0 r.1.1 in
+        ap (is_on_some w) (e ∙ sym r.1.0) ∙ none r.0 h.0 h.1
 
 -- a slot between two others stands between their places
 behind : (es : List (Option Gate)) (s t : ℕ) (g : Gate) → entry es t ≡ Some g → rank es s < rank es t → s < t
@@ -130,26 +108,28 @@ before es s t lt = at (order s t)
     at (inl below) = below
     at (inr le) = absurd (omega (arith, rank_mono es t s le))
 
--- a slot whose bits have the wire has a gate on it
-found : (n w t : ℕ) (es : List (Option Gate)) → w < 64 → n ≤ 64 → All (IsFine n) (gates_of es) → meets (wire_bit w) (entry es t) ≡ true
+-- a slot on the wire has a gate on it
+found : (w t : ℕ) (es : List (Option Gate)) → is_on_some w (entry es t) ≡ true
     → (h : Gate) × ((entry es t ≡ Some h) × (is_on_at w (gates_of es) (rank es t) ≡ true))
-found n w t es low few fine on =
-    let r = meets_live (wire_bit w) (entry es t) on in
-    (r.0, (r.1, ap (is_on_some w) (gates_of-rank es t r.0 r.1) ∙ sym (meets-on n w r.0 low few (fine-entry n es t r.0 r.1 fine)) ∙ ap (meets (wire_bit w)) (sym r.1) ∙ on))
+found w t es on = at (entry es t) refl
+  where
+    at : (o : Option Gate) → entry es t ≡ o → (h : Gate) × ((entry es t ≡ Some h) × (is_on_at w (gates_of es) (rank es t) ≡ true))
+    at None e = absurd (both_ways false refl (sym (ap (is_on_some w) e) ∙ on))
+    at (Some g) e = (g, (e, ap (is_on_some w) (gates_of-rank es t g e ∙ sym e) ∙ on))
 
-pub next-none : (n w s : ℕ) (es : List (Option Gate)) (g : Gate) → w < 64 → n ≤ 64 → All (IsFine n) (gates_of es) → entry es s ≡ Some g
-    → NoneOn (wire_bit w) es (s + 1) (length es) → NoneBehind w (gates_of es) (place_of s (slots_from 0 es))
-next-none n w s es g low few fine e none k lt =
+pub next-none : (w s : ℕ) (es : List (Option Gate)) (g : Gate) → entry es s ≡ Some g
+    → NoGateOn w es (s + 1) (length es) → NoneBehind w (gates_of es) (place_of s (slots_from 0 es))
+next-none w s es g e none k lt =
     let place = place-entry es s g e in
-    quiet n w (s + 1) (length es) k es low few fine none (λ u h there at.
+    quiet w (s + 1) (length es) k es none (λ u h there at.
     let later : s < u = before es s u (omega arith) in
     let within = slot_below es u h there in
     (omega arith, within))
 
-pub next-some : (n w s t : ℕ) (es : List (Option Gate)) (g : Gate) → w < 64 → n ≤ 64 → All (IsFine n) (gates_of es) → entry es s ≡ Some g → IsFirstOn (wire_bit w) es (s + 1) t
+pub next-some : (w s t : ℕ) (es : List (Option Gate)) (g : Gate) → entry es s ≡ Some g → IsFirstGateOn w es (s + 1) t
     → (place_of t (slots_from 0 es) < length (gates_of es)) × IsNextOn w (gates_of es) (place_of s (slots_from 0 es)) (place_of t (slots_from 0 es))
-next-some n w s t es g low few fine e first =
-    let f = found n w t es low few fine first.on in
+next-some w s t es g e first =
+    let f = found w t es first.on in
     let place = place-entry es s g e in
     let end = place-entry es t f.0 f.1.0 in
     let later = rank_later es s t g e (omega (arith, first.from)) in (
@@ -157,25 +137,25 @@ next-some n w s t es g low few fine e first =
       record {
         behind = omega arith;
         on = ap (is_on_at w (gates_of es)) end ∙ f.1.1;
-        none = λ k gt lt. quiet n w (s + 1) t k es low few fine first.none (λ u h there at.
+        none = λ k gt lt. quiet w (s + 1) t k es first.none (λ u h there at.
             let after : s < u = before es s u (omega arith) in
             let ahead : u < t = before es u t (omega arith) in
             (omega arith, ahead));
       },
     )
 
-pub prev-none : (n w s : ℕ) (es : List (Option Gate)) (g : Gate) → w < 64 → n ≤ 64 → All (IsFine n) (gates_of es) → entry es s ≡ Some g
-    → NoneOn (wire_bit w) es 0 s → NoneBefore w (gates_of es) (place_of s (slots_from 0 es))
-prev-none n w s es g low few fine e none k lt =
+pub prev-none : (w s : ℕ) (es : List (Option Gate)) (g : Gate) → entry es s ≡ Some g
+    → NoGateOn w es 0 s → NoneBefore w (gates_of es) (place_of s (slots_from 0 es))
+prev-none w s es g e none k lt =
     let place = place-entry es s g e in
-    quiet n w 0 s k es low few fine none (λ u h there at.
+    quiet w 0 s k es none (λ u h there at.
     let ahead : u < s = before es u s (omega arith) in
     (omega arith, ahead))
 
-pub prev-some : (n w s t : ℕ) (es : List (Option Gate)) (g : Gate) → w < 64 → n ≤ 64 → All (IsFine n) (gates_of es) → entry es s ≡ Some g → IsLastOn (wire_bit w) es s t
+pub prev-some : (w s t : ℕ) (es : List (Option Gate)) (g : Gate) → entry es s ≡ Some g → IsLastGateOn w es s t
     → (place_of t (slots_from 0 es) < length (gates_of es)) × IsPrevOn w (gates_of es) (place_of s (slots_from 0 es)) (place_of t (slots_from 0 es))
-prev-some n w s t es g low few fine e last =
-    let f = found n w t es low few fine last.on in
+prev-some w s t es g e last =
+    let f = found w t es last.on in
     let place = place-entry es s g e in
     let end = place-entry es t f.0 f.1.0 in
     let earlier = rank_later es t s f.0 f.1.0 last.below in (
@@ -183,7 +163,7 @@ prev-some n w s t es g low few fine e last =
       record {
         before = omega arith;
         on = ap (is_on_at w (gates_of es)) end ∙ f.1.1;
-        none = λ k gt lt. quiet n w (t + 1) s k es low few fine last.none (λ u h there at.
+        none = λ k gt lt. quiet w (t + 1) s k es last.none (λ u h there at.
             let after : t < u = before es t u (omega arith) in
             let ahead : u < s = before es u s (omega arith) in
             (omega arith, ahead));
@@ -267,13 +247,6 @@ from-some n s t es first =
     at : (u : ℕ) → place_of u (slots_from 0 es) < length (gates_of es) → s ≤ u → (u < t) ⊎ (t ≤ u) → t ≤ u
     at u live le (inl lt) = let m = live_meets es u live in let no = first.none u le lt in absurd (cc)
     at u live le (inr ge) = ge
-
--- the wire that a caller names is one of the gate's, so its bit is there
-pub wire_low : (n w s : ℕ) (es : List (Option Gate)) (g : Gate) → n ≤ 64 → All (IsFine n) (gates_of es) → entry es s ≡ Some g
-    → is_on_at w (gates_of es) (place_of s (slots_from 0 es)) ≡ true → w < 64
-wire_low n w s es g few fine e on =
-    let on' : is_on w g ≡ true = ap (is_on_some w) (sym (gate-entry es s g e)) ∙ on in
-    omega (arith, on_below n w g (fine-entry n es s g e fine) on')
 
 -- ---- one gate more, and one gate written
 pub push-fine : (n : ℕ) (es fs : List (Option Gate)) (g : Gate) (r : Result (Unit {0}) AllocError) → OnOk r (fs ≡ es ++ Some g ∷ []) → OnErr r (fs ≡ es) → IsFine n g

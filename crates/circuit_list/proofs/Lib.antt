@@ -1,7 +1,9 @@
 pub mod CircuitLaws
+pub mod CountLaws
 pub mod EntryLaws
 pub mod GateLaws
 pub mod MarkLaws
+pub mod OnWireLaws
 pub mod SlotLaws
 pub mod TreeLaws
 pub mod UseLaws

@@ -435,12 +435,12 @@ pub none_meets : (e : Option Gate) → is_some e ≡ false → meets any_wire e 
 none_meets None h = meets_any None
 none_meets (Some g) h = cc
 
-pub from-next : (m : ℕ) (es : List (Option Gate)) (ns : List Node) (slot : ℕ) (o : Option ℕ) → meets m (entry es slot) ≡ false → length es ≤ length ns
-    → MatchOption o (NoneOn m es (slot + 1) (length ns)) (IsFirstOn m es (slot + 1)) → MatchOption o (NoneOn m es slot (length es)) (IsFirstOn m es slot)
-from-next m es ns slot None off le none = λ s ge lt. at s lt (order s (slot + 1)) ge
+pub from-next : (m : ℕ) (es : List (Option Gate)) (slot : ℕ) (o : Option ℕ) → meets m (entry es slot) ≡ false
+    → MatchOption o (NoneOn m es (slot + 1) (length es)) (IsFirstOn m es (slot + 1)) → MatchOption o (NoneOn m es slot (length es)) (IsFirstOn m es slot)
+from-next m es slot None off none = λ s ge lt. at s lt (order s (slot + 1)) ge
   where
     at : (s : ℕ) → s < length es → (s < slot + 1) ⊎ (slot + 1 ≤ s) → slot ≤ s → meets m (entry es s) ≡ false
     at s lt (inl here) ge = let same : s ≡ slot = omega arith in ap (λ n. meets m (entry es n)) same ∙ off
-    at s lt (inr later) ge = none s later (omega arith)
-from-next m es ns slot (Some t) off le first =
+    at s lt (inr later) ge = none s later lt
+from-next m es slot (Some t) off first =
     first-right m es slot (slot + 1) t (omega arith) (λ s ge lt. let same : s ≡ slot = omega arith in ap (λ n. meets m (entry es n)) same ∙ off) first

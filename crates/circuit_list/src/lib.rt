@@ -6,23 +6,25 @@
 //! control isn't its target and that a phase is from 1 to 7, so a reader of gates need not test it
 //! again.
 //!
-//! A slot is a gate's name: it stays while other gates are put in, taken out or replaced. From a
-//! gate's slot the next and the previous gate on one of its wires are found without a look at the
-//! gates between, and a gate is taken out without moving the others. Such a call takes no memory,
-//! and as many steps as the logarithm of the number of slots, or of the distance alone where a
-//! neighbour is asked for. A near neighbour on a wire is found in a step.
+//! A slot is a gate's name: it stays while other gates are put in, taken out or replaced, and a gate is taken out without
+//! moving the others. Once the circuit is linked ([`Circuit::link`]), the next and the previous gate on one of a gate's wires are
+//! found from its slot without a look at the gates between. Such a call takes no memory, and as many steps as the logarithm of
+//! the number of slots, or of the distance alone where a neighbour is asked for. A near neighbour on a wire is found in a step.
+//! A circuit that isn't linked answers the same, by a look along its slots.
 #![tactic(auto)]
 
 pub mod laws;
+mod links;
 mod marks;
 mod nodes;
+mod scans;
 mod slot;
 mod tree;
 mod walks;
 
-ghost use Rattle.std.specs.Prelude.{◌≡◌, ℕ, ◌+◌, ◌-◌, ◌%◌, ◌<◌, ◌≤◌, length, IfOk, IfSome, OnErr, OnOk, MatchOption, ◌⊎◌, slice_get, All, Some, true, remove, slice_set, [], ◌∷◌, ◌++◌};
+ghost use Rattle.std.specs.Prelude.{◌≡◌, ℕ, ◌+◌, ◌-◌, ◌%◌, ◌<◌, ◌≤◌, length, IfOk, IfSome, OnErr, OnOk, MatchOption, ◌⊎◌, slice_get, All, None, Some, cond, true, remove, slice_set, [], ◌∷◌, ◌++◌};
 ghost use Rattle.circuit_list.specs.Entries.{holds};
-ghost use Rattle.circuit_list.specs.Gates.{IsFine, h_count, is_cx, is_h, is_on, is_t, most_wires, ops};
+ghost use Rattle.circuit_list.specs.Gates.{IsFine, first_wire, h_count, is_cx, is_h, is_on, is_t, most_wires, ops, second_wire};
 ghost use Rattle.circuit_list.specs.Slots.{Ascend, IsFirstFrom, IsLive, IsNextOn, IsPrevOn, NoneBefore, NoneBehind, NoneFrom, is_on_at, place_of};
 ghost use Rattle.unitary_model.specs.Operations.{cx_count, t_count};
 
@@ -31,8 +33,8 @@ use std::alloc::{AllocError, Global};
 use std::marker::Model;
 use tree::Tree;
 
-/// The most wires that a circuit has.
-pub const MOST_WIRES: u32 = 64;
+/// The most wires that a circuit has, as [`laws::wire_limit`] says.
+pub const MOST_WIRES: u32 = 256;
 
 /// A gate of a circuit. Wires are numbered from 0.
 #[derive(Clone, Copy, Debug, PartialEq, Eq)]
@@ -53,6 +55,8 @@ impl Gate {
         ensures first { is_on result.0 self ≡ true }
         ensures second { IfSome result.1 (λ w. is_on w self ≡ true) }
         ensures all { (w : ℕ) → is_on w self ≡ true → (w ≡ result.0) ⊎ (result.1 ≡ Some w) }
+        ensures control { result.0 ≡ first_wire self }
+        ensures target { result.1 ≡ cond (is_cx self) (Some (second_wire self)) None }
     {
         match self {
             Gate::H { q } | Gate::X { q } | Gate::P { k: _, q } => (q, None),
@@ -66,12 +70,17 @@ impl Gate {
 /// A slot whose gate was taken out stays, empty, and takes room and time until [`Circuit::compact`], behind which slots of
 /// before mean nothing: counting and copying go through all slots, and so does `compact` itself, in linear time.
 ///
-/// The number of gates and the gate in a slot are at hand. [`Circuit::place`] and [`Circuit::slot`] take as many steps as
-/// the logarithm of the number of slots, and one where no slot is empty; an edit takes as many as the logarithm, and a push
-/// now and then tells all slots anew, which spreads over the pushes before it. [`Circuit::after`], [`Circuit::before`] and
-/// [`Circuit::slot_from`] take as many as the logarithm of the number of slots between the given slot and the answer. So do
-/// [`Circuit::next_on`] and [`Circuit::prev_on`] where the answer is far away; up to 192 slots away they find it in at
-/// most four words of bits. These words take eight bytes a slot.
+/// A circuit begins as a plain list of slots, 12 bytes each. The number of gates and the gate in a slot are at hand, and where no
+/// slot is empty so are [`Circuit::place`], [`Circuit::slot`], [`Circuit::gate`], [`Circuit::after`], [`Circuit::before`] and
+/// [`Circuit::slot_from`]. Else `place`, `slot` and `gate` look along the slots before the one, and `after`, `before` and
+/// `slot_from` along the empty ones up to the answer. [`Circuit::next_on`] and [`Circuit::prev_on`] look along all slots up to the
+/// answer.
+///
+/// [`Circuit::link`] makes links, a tree over the slots and marks of the wires: 24 bytes more a slot, 36 in all. With them `place`,
+/// `slot` and `gate` take as many steps as the logarithm of the number of slots, and the others as many as the logarithm of
+/// the number of slots between the given one and the answer. `next_on` and `prev_on` find an answer up to 192 slots away in at
+/// most four words of bits, of which there are eight bytes a slot. In return an edit takes as many steps as the logarithm, and
+/// a push now and then tells all slots anew, which spreads over the pushes before it.
 #[derive(Drop)]
 pub struct Circuit {
     wires: u32,
@@ -99,11 +108,11 @@ impl Circuit {
         ensures gates { IfOk result (λ c. c.gates ≡ []) }
         ensures slots { IfOk result (λ c. c.slots ≡ []) }
     {
-        let tree = Tree::new(alloc)?;
+        let tree = Tree::new(alloc);
         Ok(Circuit { wires, tree })
     }
 
-    /// A circuit without gates, with room for so many: until then a push takes no more memory than now and then for its marks.
+    /// A circuit without gates, with room for so many: until then a push takes no memory, but where the circuit is linked.
     pub fn with_room(alloc: Global, wires: u32, gates: usize) -> Result<Circuit, AllocError>
         requires { wires ≤ most_wires }
         ensures wires { IfOk result (λ c. c.wires ≡ wires) }
@@ -286,6 +295,14 @@ impl Circuit {
         ensures slots { self.new.slots ≡ self.old.slots }
     {
         self.tree.set(s.index(), Some(g));
+    }
+
+    /// Makes the links, so that the calls of which the head speaks no longer look along the slots. What contracts see of
+    /// the circuit stays, also after want of memory.
+    pub fn link(&mut self) -> Result<(), AllocError>
+        ensures same { self.new ≡ self.old }
+    {
+        self.tree.link()
     }
 
     /// Drops the slots whose gates were taken out; where there is none, nothing changes. Else the gates get new slots, and

@@ -5,11 +5,13 @@
 
 ghost use Rattle.std.specs.Prelude.{◌≡◌, ℕ, ◌+◌, ◌*◌, ◌/◌, ◌<◌, ◌≢◌, length, Some};
 ghost use Rattle.circuit_list.specs.Entries.{entry};
-ghost use Rattle.circuit_list.specs.Tree.{IsJoined, Lacks, has_any, join, leaf, node_at, wire_bit, wires_of};
+ghost use Rattle.circuit_list.specs.Gates.{is_on};
+ghost use Rattle.circuit_list.specs.Tree.{IsJoined, Lacks, has_any, join, leaf, meets, node_at, wire_bit, wires_of};
 
 use crate::Gate;
 
-/// What stands in some slots: the number of gates and the wires that they are on, one bit a wire.
+/// What stands in some slots: the number of gates and the wires that they are on, one bit for all wires that differ by a
+/// multiple of 64.
 #[derive(Clone, Copy, Debug)]
 pub(crate) struct Node {
     pub(crate) count: usize,
@@ -42,7 +44,17 @@ pub(crate) fn has_any(wires: u64, some: u64) -> bool
     wires & some > 0
 }
 
-fn leaf(entry: Option<Gate>) -> Node
+/// Whether a gate is on a wire.
+pub(crate) fn is_on(gate: Gate, wire: u32) -> bool
+    ensures { result ≡ is_on wire gate }
+{
+    match gate {
+        Gate::H { q } | Gate::X { q } | Gate::P { k: _, q } => wire == q,
+        Gate::Cx { c, t } => wire == c || wire == t,
+    }
+}
+
+pub(crate) fn leaf(entry: Option<Gate>) -> Node
     ensures { result ≡ leaf entry }
 {
     match entry {
@@ -52,6 +64,13 @@ fn leaf(entry: Option<Gate>) -> Node
         },
         None => Node { count: 0, wires: 0 },
     }
+}
+
+/// Whether a slot's gate is on one of some wires.
+pub(crate) fn meets(entry: Option<Gate>, wires: u64) -> bool
+    ensures { result ≡ meets wires entry }
+{
+    has_any(leaf(entry).wires, wires)
 }
 
 /// The gate in a slot, and none behind the last slot.

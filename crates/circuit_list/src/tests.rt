@@ -1,4 +1,4 @@
-ghost use Rattle.std.specs.Prelude.{◌≡◌, ℕ, ◌<◌, drop, false, remove, true};
+ghost use Rattle.std.specs.Prelude.{◌≡◌, ℕ, ◌+◌, ◌*◌, ◌/◌, ◌%◌, ◌<◌, drop, false, remove, true};
 ghost use Rattle.std.specs.List.{count_by};
 ghost use Rattle.circuit_list.specs.Gates.{IsFine, is_on};
 ghost use Rattle.circuit_list.specs.Slots.{IsLive, IsNextOn, NoneBehind, is_on_at, place_of};
@@ -57,10 +57,37 @@ fn finds_the_next_gate_on_a_wire(rt: HostRuntime) -> Result<(), Fail> {
     Ok(())
 }
 
-/// H on wire 1, 300 times X on wire 0, H on wire 1 and X on wire 0.
-fn far_apart(alloc: Global) -> Result<Circuit, Fail> {
+/// Wires that differ by a multiple of 64 are told apart.
+#[test]
+fn tells_wires_of_one_bit_apart(rt: HostRuntime) -> Result<(), Fail> {
+    let mut circuit = Circuit::empty(rt.alloc(), 256)?;
+    circuit.push(Gate::Cx { c: 1, t: 193 })?;
+    circuit.push(Gate::H { q: 65 })?;
+    circuit.push(Gate::H { q: 129 })?;
+    circuit.push(Gate::X { q: 193 })?;
+    circuit.push(Gate::H { q: 1 })?;
+    circuit.push(Gate::Cx { c: 65, t: 129 })?;
+    let first = circuit.slot(0);
+    let second = circuit.slot(1);
+    let third = circuit.slot(2);
+    assert_eq!(rt; circuit.next_on(first, 1), Some(circuit.slot(4)));
+    assert_eq!(rt; circuit.next_on(first, 193), Some(circuit.slot(3)));
+    assert_eq!(rt; circuit.prev_on(second, 65), None);
+    let last = circuit.slot(5);
+    assert_eq!(rt; circuit.next_on(second, 65), Some(last));
+    assert_eq!(rt; circuit.prev_on(last, 129), Some(third));
+    assert_eq!(rt; circuit.prev_on(last, 65), Some(second));
+    assert_eq!(rt; circuit.next_on(last, 129), None);
+    Ok(())
+}
+
+/// H on wire 1, 300 times X on wire 0, H on wire 1 and X on wire 0; linked behind the first gate, or not.
+fn far_apart(alloc: Global, linked: bool) -> Result<Circuit, Fail> {
     let mut circuit = Circuit::empty(alloc, 2)?;
     circuit.push(Gate::H { q: 1 })?;
+    if linked {
+        circuit.link()?;
+    }
     'pushes: for _ in 0..300 {
         circuit.push(Gate::X { q: 0 })?;
     }
@@ -70,8 +97,8 @@ fn far_apart(alloc: Global) -> Result<Circuit, Fail> {
 }
 
 /// The same with all but the first and the last X taken out.
-fn hollow(rt: &impl Abort, alloc: Global) -> Result<Circuit, Fail> {
-    let mut circuit = far_apart(alloc)?;
+fn hollow(rt: &impl Abort, alloc: Global, linked: bool) -> Result<Circuit, Fail> {
+    let mut circuit = far_apart(alloc, linked)?;
     'removals: for _ in 0..299 {
         assert!(rt; circuit.len() > 2);
         circuit.remove(2);
@@ -79,9 +106,7 @@ fn hollow(rt: &impl Abort, alloc: Global) -> Result<Circuit, Fail> {
     Ok(circuit)
 }
 
-#[test]
-fn finds_gates_far_away(rt: HostRuntime) -> Result<(), Fail> {
-    let circuit = far_apart(rt.alloc())?;
+fn compare_far(rt: &impl Abort, circuit: &Circuit) {
     assert!(rt; circuit.len() == 303);
     let first = circuit.slot(0);
     let far = circuit.slot(301);
@@ -91,24 +116,22 @@ fn finds_gates_far_away(rt: HostRuntime) -> Result<(), Fail> {
     let (wire, _) = circuit.gate_at(far).wires();
     assert_eq!(rt; circuit.next_on(far, wire), None);
     assert_eq!(rt; circuit.prev_on(far, wire), Some(first));
-    Ok(())
 }
 
 #[test]
-fn finds_neighbours_past_empty_slots(rt: HostRuntime) -> Result<(), Fail> {
-    let circuit = hollow(&rt, rt.alloc())?;
+fn finds_gates_far_away(rt: HostRuntime) -> Result<(), Fail> {
+    compare_far(&rt, &far_apart(rt.alloc(), false)?);
+    compare_far(&rt, &far_apart(rt.alloc(), true)?);
+    Ok(())
+}
+
+fn compare_hollow(rt: &impl Abort, circuit: &Circuit) {
     assert!(rt; circuit.len() == 4);
     let second = circuit.slot(1);
     let far = circuit.slot(2);
     assert_eq!(rt; circuit.after(second), Some(far));
     assert_eq!(rt; circuit.before(far), Some(second));
     assert_eq!(rt; far, Slot::new(301));
-    Ok(())
-}
-
-#[test]
-fn finds_the_first_slot_from_any_on(rt: HostRuntime) -> Result<(), Fail> {
-    let circuit = hollow(&rt, rt.alloc())?;
     let far = Some(Slot::new(301));
     assert_eq!(rt; circuit.slot_from(Slot::new(0)), Some(Slot::new(0)));
     assert_eq!(rt; circuit.slot_from(Slot::new(2)), far);
@@ -116,12 +139,18 @@ fn finds_the_first_slot_from_any_on(rt: HostRuntime) -> Result<(), Fail> {
     assert_eq!(rt; circuit.slot_from(Slot::new(301)), far);
     assert_eq!(rt; circuit.slot_from(Slot::new(303)), None);
     assert_eq!(rt; circuit.slot_from(Slot::new(usize::MAX)), None);
+}
+
+#[test]
+fn finds_gates_past_empty_slots(rt: HostRuntime) -> Result<(), Fail> {
+    compare_hollow(&rt, &hollow(&rt, rt.alloc(), false)?);
+    compare_hollow(&rt, &hollow(&rt, rt.alloc(), true)?);
     Ok(())
 }
 
 #[test]
 fn drops_empty_slots(rt: HostRuntime) -> Result<(), Fail> {
-    let mut circuit = hollow(&rt, rt.alloc())?;
+    let mut circuit = hollow(&rt, rt.alloc(), true)?;
     circuit.compact()?;
     assert!(rt; circuit.len() == 4 && circuit.wires() == 2);
     assert_eq!(rt; circuit.gate(0), Gate::H { q: 1 });
@@ -136,7 +165,7 @@ fn drops_empty_slots(rt: HostRuntime) -> Result<(), Fail> {
 fn tells_the_wires_of_a_gate(rt: HostRuntime) {
     assert!(rt; Gate::H { q: 3 }.wires() == (3, None));
     assert!(rt; Gate::X { q: 0 }.wires() == (0, None));
-    assert!(rt; Gate::P { k: 5, q: 63 }.wires() == (63, None));
+    assert!(rt; Gate::P { k: 5, q: 255 }.wires() == (255, None));
     assert!(rt; Gate::Cx { c: 4, t: 2 }.wires() == (4, Some(2)));
 }
 
@@ -159,9 +188,10 @@ impl Random {
     }
 
     fn gate(&mut self) -> Gate
-        ensures { IsFine 5 result }
+        ensures { IsFine 256 result }
     {
-        let wire = self.below(5) as u32;
+        let number = self.below(8);
+        let wire = wire_of(number);
         match self.below(4) {
             0 => Gate::H { q: wire },
             1 => Gate::X { q: wire },
@@ -171,10 +201,19 @@ impl Random {
             },
             _ => Gate::Cx {
                 c: wire,
-                t: (wire + 1 + self.below(4) as u32) % 5,
+                t: wire_of((number + 1 + self.below(7)) % 8),
             },
         }
     }
+}
+
+/// Eight wires, four with one bit in the marks of the slots and four with the next.
+fn wire_of(number: usize) -> u32
+    requires { number < 8 }
+    ensures below { result < 256 }
+    ensures number { number ≡ result / 64 * 2 + result % 64 }
+{
+    (number / 2 * 64 + number % 2) as u32
 }
 
 /// The circuit as a plain list: each gate with its slot.
@@ -235,8 +274,8 @@ fn edit(
     plain: &mut Plain,
     random: &mut Random,
 ) -> Result<(), Fail>
-    requires { circuit.old.wires ≡ 5 }
-    ensures { circuit.new.wires ≡ 5 }
+    requires { circuit.old.wires ≡ 256 }
+    ensures { circuit.new.wires ≡ 256 }
 {
     let gate = random.gate();
     let len = circuit.len();
@@ -303,18 +342,22 @@ fn compare(rt: &impl Abort, circuit: &Circuit, plain: &Plain, place: usize, othe
     assert_eq!(rt; circuit.slot_from(other), plain.slot_from(other));
 }
 
-/// Five kinds of edits, more than a thousand of each, with empty slots dropped now and then, and after each of them the
-/// answers at a drawn place.
+/// Five kinds of edits on eight of 256 wires, more than a thousand of each, with empty slots dropped now and then, and after each of them the
+/// answers at a drawn place. The circuit is linked at a drawn moment, in the middle third.
 #[test]
 fn answers_as_a_plain_list_does(rt: HostRuntime) -> Result<(), Fail> {
     let alloc = rt.alloc();
     let mut random = Random { state: 1 };
-    let mut circuit = Circuit::empty(alloc, 5)?;
+    let mut circuit = Circuit::empty(alloc, 256)?;
     let mut plain = Plain {
         gates: Vec::new(alloc),
         slots: Vec::new(alloc),
     };
-    'steps: for _ in 0..7000 {
+    let moment = 2400 + random.below(2200);
+    'steps: for step in 0..7000 {
+        if step == moment {
+            circuit.link()?;
+        }
         edit(&rt, &mut circuit, &mut plain, &mut random)?;
         if random.below(60) == 0 {
             circuit.compact()?;

@@ -1,16 +1,17 @@
-//! The slots of a circuit, each with its gate or empty, and a complete binary tree over them. Each
-//! node tells how many gates stand below it and on which wires they are, so a place, a slot and the
-//! next gate on a wire are found in as many steps as the tree is high. Near gates on a wire are found by
-//! marks, without the tree.
+//! The slots of a circuit, each with its gate or empty, and once they are linked the tree over them and their marks.
+//!
+//! The slots answer the same with links and without: without them by a look along the slots.
 
-ghost use Rattle.std.specs.Prelude.{◌≡◌, ◌+◌, ◌*◌, ◌^◌, ◌<◌, ◌++◌, ◌∷◌, [], length, IfOk, OnOk, OnErr, MatchOption, slice_set, Some, true};
+ghost use Rattle.std.specs.Prelude.{◌≡◌, ◌+◌, ◌^◌, ◌<◌, ◌≤◌, ◌++◌, ◌∷◌, [], length, IfOk, OnOk, OnErr, MatchOption, slice_set, Some, true};
 ghost use Rattle.circuit_list.specs.Entries.{entry, gates_of, is_live, rank};
-ghost use Rattle.circuit_list.specs.Marks.{IsMarked};
-ghost use Rattle.circuit_list.specs.Tree.{IsFirstOn, IsLastOn, IsTree, NoneOn, any_wire, wire_bit};
+ghost use Rattle.circuit_list.specs.OnWire.{IsFirstGateOn, IsLastGateOn, NoGateOn};
+ghost use Rattle.circuit_list.specs.Tree.{IsFirstOn, IsLastOn, NoneOn, any_wire, leaf, wire_bit};
 
 use crate::Gate;
-use crate::marks::{make_marks, near_before, near_behind, put_marks};
-use crate::nodes::{Node, add, entry, node_at, refresh, tell, wire_bit};
+use crate::links::{Links, copied, link_anew, link_last, make_room, planted, planted_if};
+use crate::marks::{near_before, near_behind};
+use crate::nodes::{entry, is_on, wire_bit};
+use crate::scans::{count_before, scan_before, scan_behind, scan_to};
 use crate::walks::{first_behind, last_before, rank_of, slot_at};
 use std::alloc::{AllocError, Global};
 use std::marker::Model;
@@ -18,42 +19,37 @@ use std::marker::Model;
 /// All wires at once.
 const ANY_WIRE: u64 = u64::MAX;
 
-/// A list of slots. The nodes are as many as two to the height, and no fewer than the slots. Each slot is marked on the wires
-/// that its gate is on.
+/// A list of slots, the number of gates in them, and the links once they are made.
 #[derive(Drop)]
 pub(crate) struct Tree {
     gates: Vec<Option<Gate>>,
-    nodes: Vec<Node>,
-    marks: Vec<u64>,
-    height: u32,
+    count: usize,
+    links: Option<Links>,
 }
 
 impl Model for Tree {
-    ghost use Rattle.std.specs.Prelude.{List, Option};
+    ghost use Rattle.std.specs.Prelude.{◌≡◌, IfSome, List, Option, length};
     ghost use Rattle.circuit_list.specs.declared.Gate.{Gate};
-    ghost use Rattle.circuit_list.specs.Marks.{IsMarked};
-    ghost use Rattle.circuit_list.specs.Tree.{IsTree};
+    ghost use Rattle.circuit_list.specs.Entries.{rank};
+    ghost use Rattle.circuit_list.specs.Links.{IsLinks};
 
     ghost Value = { List (Option Gate) };
 
     ghost view = { λ a. a.gates.items };
 
-    ghost invariant = { λ a. IsTree a.height a.gates.items a.nodes.items × IsMarked a.gates.items a.marks.items };
+    ghost invariant = { λ a. (a.count ≡ rank a.gates.items (length a.gates.items)) × IfSome a.links (IsLinks a.gates.items) };
 }
 
 impl Tree {
     /// No slots.
-    pub(crate) fn new(alloc: Global) -> Result<Tree, AllocError>
-        ensures { IfOk result (λ t. t ≡ []) }
+    pub(crate) fn new(alloc: Global) -> Tree
+        ensures { result ≡ [] }
     {
-        let mut nodes = Vec::new(alloc);
-        nodes.push(Node { count: 0, wires: 0 })?;
-        Ok(Tree {
+        Tree {
             gates: Vec::new(alloc),
-            nodes,
-            marks: Vec::new(alloc),
-            height: 0,
-        })
+            count: 0,
+            links: None,
+        }
     }
 
     /// No slots, and room for so many.
@@ -61,7 +57,22 @@ impl Tree {
         ensures { IfOk result (λ t. t ≡ []) }
     {
         let gates = Vec::with_capacity(alloc, slots)?;
-        planted(gates, slots)
+        Ok(Tree {
+            gates,
+            count: 0,
+            links: None,
+        })
+    }
+
+    /// Makes the links, where there are none.
+    pub(crate) fn link(&mut self) -> Result<(), AllocError>
+        ensures { self.new ≡ self.old }
+    {
+        if self.links.is_none() {
+            let links = planted(*self.gates.allocator(), &self.gates)?;
+            self.links = Some(links);
+        }
+        Ok(())
     }
 
     /// The slots in order.
@@ -75,8 +86,7 @@ impl Tree {
     pub(crate) fn count(&self) -> usize
         ensures { result ≡ rank self.now (length self.now) }
     {
-        let _slots = self.gates.len();
-        node_at(&self.gates, &self.nodes, 1).count
+        self.count
     }
 
     /// The gate in a slot that has one.
@@ -96,12 +106,11 @@ impl Tree {
         ensures err { OnErr result (self.new ≡ self.old) }
     {
         self.gates.reserve(1)?;
-        make_room(&self.gates, &mut self.nodes, &mut self.height)?;
-        let slot = self.gates.len();
-        make_marks(&mut self.marks, slot)?;
+        make_room(&mut self.links, &self.gates)?;
         self.gates.push(Some(gate))?;
-        put_marks(&mut self.marks, slot, Some(gate), true);
-        add(&self.gates, &mut self.nodes, slot, gate);
+        let _slots = self.gates.len();
+        self.count += 1;
+        link_last(&mut self.links, &self.gates, gate);
         Ok(())
     }
 
@@ -110,10 +119,11 @@ impl Tree {
         requires { slot < length self.old }
         ensures { self.new ≡ slice_set self.old slot entry }
     {
-        put_marks(&mut self.marks, slot, self.gates[slot], false);
-        put_marks(&mut self.marks, slot, entry, true);
+        let _slots = self.gates.len();
+        let before = self.gates[slot];
         self.gates[slot] = entry;
-        refresh(&self.gates, &mut self.nodes, slot);
+        self.count = recounted(self.count, before, entry);
+        link_anew(&mut self.links, &self.gates, slot, before, entry);
     }
 
     /// The number of gates in the slots before one, which is the slot itself where none is empty.
@@ -124,7 +134,10 @@ impl Tree {
         if self.count() == self.entries().len() {
             return slot;
         }
-        rank_of(&self.gates, &self.nodes, slot)
+        match &self.links {
+            Some(links) => rank_of(&self.gates, &links.nodes, slot),
+            None => count_before(&self.gates, slot),
+        }
     }
 
     /// The slot with a gate, with so many gates in the slots before it.
@@ -136,7 +149,10 @@ impl Tree {
         if self.count() == self.entries().len() {
             return place;
         }
-        slot_at(&self.gates, &self.nodes, place)
+        match &self.links {
+            Some(links) => slot_at(&self.gates, &links.nodes, place),
+            None => scan_to(&self.gates, place),
+        }
     }
 
     /// The next slot with a gate behind a slot.
@@ -156,7 +172,7 @@ impl Tree {
         if slot > 0 && entry(&self.gates, slot - 1).is_some() {
             return Some(slot - 1);
         }
-        last_before(&self.gates, &self.nodes, slot, ANY_WIRE)
+        self.last_before(slot, ANY_WIRE)
     }
 
     /// The first slot with a gate that isn't before a slot.
@@ -169,31 +185,88 @@ impl Tree {
         if entry(&self.gates, slot).is_some() {
             return Some(slot);
         }
-        first_behind(&self.gates, &self.nodes, slot, ANY_WIRE)
+        self.first_behind(slot, ANY_WIRE)
     }
 
-    /// The next slot behind one whose gate is on the wire.
+    /// The next slot behind one whose gate is on the wire. Wires that differ by a multiple of 64 have one bit, so the
+    /// gate is looked at.
     pub(crate) fn next_on(&self, slot: usize, wire: u32) -> Option<usize>
         requires { slot < length self.now }
-        ensures { MatchOption result (NoneOn (wire_bit wire) self.now (slot + 1) (length self.now)) (IsFirstOn (wire_bit wire) self.now (slot + 1)) }
+        ensures { MatchOption result (NoGateOn wire self.now (slot + 1) (length self.now)) (IsFirstGateOn wire self.now (slot + 1)) }
     {
-        let near = near_behind(&self.marks, slot, wire);
-        if near.is_some() {
-            return near;
+        let mut last = slot;
+        'marked: while let Some(next) = self.next_marked(last, wire) {
+            if is_on(self.gate(next), wire) {
+                return Some(next);
+            }
+            last = next;
         }
-        first_behind(&self.gates, &self.nodes, slot, wire_bit(wire))
+        None
     }
 
     /// The last slot before one whose gate is on the wire.
     pub(crate) fn prev_on(&self, slot: usize, wire: u32) -> Option<usize>
         requires { slot < length self.now }
+        ensures { MatchOption result (NoGateOn wire self.now 0 slot) (IsLastGateOn wire self.now slot) }
+    {
+        let mut first = slot;
+        'marked: while let Some(prev) = self.prev_marked(first, wire) {
+            if is_on(self.gate(prev), wire) {
+                return Some(prev);
+            }
+            first = prev;
+        }
+        None
+    }
+
+    /// The next slot behind one whose gate has the bit of the wire.
+    fn next_marked(&self, slot: usize, wire: u32) -> Option<usize>
+        requires { slot < length self.now }
+        ensures { MatchOption result (NoneOn (wire_bit wire) self.now (slot + 1) (length self.now)) (IsFirstOn (wire_bit wire) self.now (slot + 1)) }
+    {
+        if let Some(links) = &self.links {
+            let near = near_behind(&links.marks, slot, wire);
+            if near.is_some() {
+                return near;
+            }
+        }
+        self.first_behind(slot, wire_bit(wire))
+    }
+
+    /// The last slot before one whose gate has the bit of the wire.
+    fn prev_marked(&self, slot: usize, wire: u32) -> Option<usize>
+        requires { slot < length self.now }
         ensures { MatchOption result (NoneOn (wire_bit wire) self.now 0 slot) (IsLastOn (wire_bit wire) self.now slot) }
     {
-        let near = near_before(&self.marks, slot, wire);
-        if near.is_some() {
-            return near;
+        if let Some(links) = &self.links {
+            let near = near_before(&links.marks, slot, wire);
+            if near.is_some() {
+                return near;
+            }
         }
-        last_before(&self.gates, &self.nodes, slot, wire_bit(wire))
+        self.last_before(slot, wire_bit(wire))
+    }
+
+    /// The first slot behind one with a gate on some wires.
+    fn first_behind(&self, slot: usize, wires: u64) -> Option<usize>
+        requires { slot < length self.now }
+        ensures { MatchOption result (NoneOn wires self.now (slot + 1) (length self.now)) (IsFirstOn wires self.now (slot + 1)) }
+    {
+        match &self.links {
+            Some(links) => first_behind(&self.gates, &links.nodes, slot, wires),
+            None => scan_behind(&self.gates, slot, wires),
+        }
+    }
+
+    /// The last slot before one with a gate on some wires.
+    fn last_before(&self, slot: usize, wires: u64) -> Option<usize>
+        requires { slot < length self.now }
+        ensures { MatchOption result (NoneOn wires self.now 0 slot) (IsLastOn wires self.now slot) }
+    {
+        match &self.links {
+            Some(links) => last_before(&self.gates, &links.nodes, slot, wires),
+            None => scan_before(&self.gates, slot, wires),
+        }
     }
 
     /// Drops the empty slots. After want of memory the slots are as they were.
@@ -204,8 +277,11 @@ impl Tree {
         if self.count() == self.entries().len() {
             return Ok(());
         }
-        let gates = live(*self.gates.allocator(), &self.gates)?;
-        *self = planted(gates, 0)?;
+        let alloc = *self.gates.allocator();
+        let gates = live(alloc, &self.gates)?;
+        let links = planted_if(self.links.is_some(), alloc, &gates)?;
+        self.gates = gates;
+        self.links = links;
         Ok(())
     }
 
@@ -214,14 +290,25 @@ impl Tree {
         ensures { IfOk result (λ t. t ≡ self.now) }
     {
         let gates = self.gates.clone()?;
-        let nodes = self.nodes.clone()?;
-        let marks = self.marks.clone()?;
+        let links = copied(&self.links)?;
         Ok(Tree {
             gates,
-            nodes,
-            marks,
-            height: self.height,
+            count: self.count,
+            links,
         })
+    }
+}
+
+/// The number of gates behind a change in one slot.
+fn recounted(count: usize, before: Option<Gate>, after: Option<Gate>) -> usize
+    requires there { (leaf before).count ≤ count }
+    requires few { count + (leaf after).count < (leaf before).count + 2 ^ 64 }
+    ensures { result + (leaf before).count ≡ count + (leaf after).count }
+{
+    match (before, after) {
+        (Some(_), None) => count - 1,
+        (None, Some(_)) => count + 1,
+        (Some(_), Some(_)) | (None, None) => count,
     }
 }
 
@@ -236,69 +323,4 @@ fn live(alloc: Global, entries: &[Option<Gate>]) -> Result<Vec<Option<Gate>>, Al
         }
     }
     Ok(kept)
-}
-
-/// A tree over some slots, with no more nodes than it needs for them, or for so many.
-fn planted(gates: Vec<Option<Gate>>, slots: usize) -> Result<Tree, AllocError>
-    ensures { IfOk result (λ t. t ≡ gates.items) }
-{
-    let many = slots.max(gates.len());
-    let mut nodes = Vec::new(*gates.allocator());
-    nodes.push(Node { count: 0, wires: 0 })?;
-    let mut height = 0;
-    'higher: while nodes.len() < many {
-        double(&mut nodes)?;
-        height += 1;
-    }
-    tell(&gates, &mut nodes);
-    let marks = marked(&gates)?;
-    Ok(Tree {
-        gates,
-        nodes,
-        marks,
-        height,
-    })
-}
-
-/// Twice as many nodes, the later half of which tells nothing.
-fn double(nodes: &mut Vec<Node>) -> Result<(), AllocError>
-    ensures len { OnOk result (length nodes.new.items ≡ 2 * length nodes.old.items) }
-    ensures room { OnOk result (length nodes.new.items < 2 ^ 64) }
-    ensures err { OnErr result (nodes.new.items ≡ nodes.old.items) }
-{
-    let len = nodes.len();
-    nodes.resize(2 * len, Node { count: 0, wires: 0 })?;
-    let _nodes = nodes.len();
-    Ok(())
-}
-
-/// Sees to it that there is room for one slot more.
-fn make_room(
-    gates: &[Option<Gate>],
-    nodes: &mut Vec<Node>,
-    height: &mut u32,
-) -> Result<(), AllocError>
-    requires { IsTree height.old gates.now nodes.old.items }
-    ensures tree { IsTree height.new gates.now nodes.new.items }
-    ensures room { OnOk result (length gates.now < length nodes.new.items) }
-{
-    if gates.len() < nodes.len() {
-        return Ok(());
-    }
-    double(nodes)?;
-    tell(gates, nodes);
-    *height += 1;
-    Ok(())
-}
-
-/// The marks of some slots.
-fn marked(gates: &Vec<Option<Gate>>) -> Result<Vec<u64>, AllocError>
-    ensures { IfOk result (λ m. IsMarked gates.now.items m.items) }
-{
-    let mut marks = Vec::new(*gates.allocator());
-    'slots: for slot in 0..gates.len() {
-        make_marks(&mut marks, slot)?;
-        put_marks(&mut marks, slot, gates[slot], true);
-    }
-    Ok(marks)
 }

@@ -1,5 +1,8 @@
 //! The comparison of circuits on three wires, by the plain amplitude program.
 
+ghost use Rattle.std.specs.Prelude.{◌≡◌, IfOk};
+ghost use Rattle.circuit_list.specs.Gates.{op_of, ops};
+
 use crate::{doubled, entry, halvings, turned};
 use circuit_list::{Circuit, Gate};
 use std::alloc::{AllocError, Global};
@@ -40,15 +43,19 @@ pub fn are_turned(old: &[Op], new: &[Op], turn: u8) -> bool {
 }
 
 /// The gates of a circuit as operations, one by one.
-pub fn operations(alloc: Global, body: &Circuit) -> Result<Vec<Op>, AllocError> {
+pub fn operations(alloc: Global, body: &Circuit) -> Result<Vec<Op>, AllocError>
+    ensures { IfOk result (λ v. v.items ≡ ops body.now.gates) }
+{
     let mut ops = Vec::new(alloc);
-    for i in 0..body.len() {
+    'places: for i in 0..body.len() {
         ops.push(operation(body.gate(i)))?;
     }
     Ok(ops)
 }
 
-fn operation(gate: Gate) -> Op {
+fn operation(gate: Gate) -> Op
+    ensures { result ≡ op_of gate }
+{
     let (a, c, q) = match gate {
         Gate::H { q } => (2, 4, q),
         Gate::X { q } => (4, 4, q),

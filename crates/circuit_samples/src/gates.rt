@@ -1,7 +1,7 @@
 //! Circuits of gates, gates of circuits, and gates of texts.
 
-ghost use Rattle.std.specs.Prelude.{◌≡◌, IfOk, IfSome, IsTrue};
-ghost use Rattle.circuit_list.specs.Gates.{IsFine};
+ghost use Rattle.std.specs.Prelude.{◌≡◌, ◌≤◌, All, IfNone, IfOk, IfSome, IsTrue, true};
+ghost use Rattle.circuit_list.specs.Gates.{IsFine, most_wires};
 
 use circuit_list::{Circuit, Gate, MOST_WIRES};
 use std::alloc::{AllocError, Global};
@@ -9,6 +9,7 @@ use std::alloc::{AllocError, Global};
 /// Whether a gate may stand on so many wires.
 pub fn is_fine(wires: u32, gate: Gate) -> bool
     ensures fine { IsTrue result → IsFine wires gate }
+    ensures all { IsFine wires gate → result ≡ true }
 {
     match gate {
         Gate::H { q } | Gate::X { q } => q < wires,
@@ -20,6 +21,8 @@ pub fn is_fine(wires: u32, gate: Gate) -> bool
 /// The circuit with these gates, or none where one of them may not stand on the wires, or these are too many.
 pub fn circuit_of(alloc: Global, wires: u32, gates: &[Gate]) -> Result<Option<Circuit>, AllocError>
     ensures wires { IfOk result (λ o. IfSome o (λ c. c.wires ≡ wires)) }
+    ensures gates { IfOk result (λ o. IfSome o (λ c. c.gates ≡ gates.now)) }
+    ensures none { IfOk result (λ o. IfNone o (wires ≤ most_wires → All (IsFine wires) gates.now → ⊥)) }
 {
     if wires > MOST_WIRES {
         return Ok(None);
@@ -43,9 +46,11 @@ pub fn circuit_of_text(alloc: Global, wires: u32, text: &str) -> Result<Option<C
 }
 
 /// The gates of a circuit.
-pub fn gates_of(alloc: Global, body: &Circuit) -> Result<Vec<Gate>, AllocError> {
+pub fn gates_of(alloc: Global, body: &Circuit) -> Result<Vec<Gate>, AllocError>
+    ensures { IfOk result (λ v. v.items ≡ body.now.gates) }
+{
     let mut gates = Vec::new(alloc);
-    for i in 0..body.len() {
+    'places: for i in 0..body.len() {
         gates.push(body.gate(i))?;
     }
     Ok(gates)

@@ -1,4 +1,4 @@
-//! What tests share: circuits of tables and random circuits, and the comparison with the plain program.
+//! What tests share: circuits of tables, random circuits, and comparisons with the plain program.
 //!
 //! In go the text of some gates, some gates, or the kinds from which random gates are drawn; out come circuits, and their gates.
 //! Of two circuits, or of two lists of operations, comes out whether the one is the other up to a turn, entry by entry of their

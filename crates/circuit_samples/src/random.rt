@@ -92,9 +92,10 @@ impl Random {
         requires limit { wires ≤ most_wires }
         requires some { 0 < length kinds.now }
         ensures wires { IfOk result (λ c. c.wires ≡ wires) }
+        ensures count { IfOk result (λ c. length c.gates ≡ gates) }
     {
         let mut body = Circuit::empty(alloc, wires)?;
-        'gates: for _ in 0..gates {
+        'gates: for _i in 0..gates {
             body.push(self.gate(wires, kinds))?;
         }
         Ok(body)

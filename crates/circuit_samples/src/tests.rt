@@ -1,6 +1,6 @@
 //! Texts and their gates, and circuits that are told apart.
 
-use crate::{Kind, Random, circuit_of_text, gates_of, is_turned};
+use crate::{Kind, Random, circuit_of_text, gates_of, gates_of_text, is_turned};
 use circuit_list::Gate;
 use std::test::Fail;
 
@@ -60,6 +60,40 @@ fn tells_no_long_circuits_and_no_other_wires(rt: HostRuntime) -> Result<(), Fail
             is_turned(alloc, &body, &body, 0)?,
             same,
             "{wires} wires, {gates} gates"
+        );
+    }
+    Ok(())
+}
+
+// The gates were computed by a program of its own.
+#[test]
+fn random_circuits_by_their_texts(rt: HostRuntime) -> Result<(), Fail> {
+    let alloc = rt.alloc();
+    let kinds = [Kind::H, Kind::X, Kind::P, Kind::S, Kind::InverseS, Kind::Cx];
+    let rows = [
+        (
+            1,
+            4,
+            "2.2 h.0 c21 2.2 2.2 h.2 5.0 c20 x.1 5.1 5.1 2.0 c02 c03",
+        ),
+        (
+            2,
+            4,
+            "h.0 3.0 h.3 2.2 c21 6.2 h.0 c21 4.3 2.0 c23 x.3 6.2 6.1",
+        ),
+        (
+            7,
+            2,
+            "c01 x.1 6.1 x.0 x.0 6.1 6.1 2.1 c01 6.1 c01 c01 6.0 4.1",
+        ),
+    ];
+    for (start, wires, text) in rows {
+        assert!(rt; 1 < wires && wires <= 4);
+        let body = Random::from_start(start).circuit(alloc, wires, &kinds, 14)?;
+        assert_eq!(rt;
+            gates_of(alloc, &body)?,
+            gates_of_text(alloc, text)?,
+            "from {start}"
         );
     }
     Ok(())

@@ -26,15 +26,10 @@ use Rattle.path_parity.proofs.OddLaws.{odd_paths-sets, odd_size-once}
 
 -- each gate on wires below n, with a phase below 8
 abbrev pub AreFine : ℕ → List Gate → Type 0
-AreFine n [] = Unit {0}
-AreFine n (g ∷ gs) = IsFine n g × AreFine n gs
+AreFine n gs = AllByRecursion (IsFine n) gs
 
 pub fine_from_all : (n : ℕ) (gs : List Gate) → All (IsFine n) gs → AreFine n gs
-fine_from_all n gs h = from_recursion gs (recursion_from_All (IsFine n) gs h)
-  where
-    from_recursion : (gs : List Gate) → AllByRecursion (IsFine n) gs → AreFine n gs
-    from_recursion [] r = tt
-    from_recursion (g ∷ gs) r = (r.0, from_recursion gs r.1)
+fine_from_all n gs h = recursion_from_All (IsFine n) gs h
 
 -- equal on the first n wires
 abbrev pub Agree : ℕ → Wires → Wires → Type 0

@@ -125,7 +125,7 @@ start_low n x q i le = go (nat_lt q n) refl
     go true e = let h : q < n = below e in bit_at-pow_other q i (λ e. absurd (omega arith))
     go false e = bit_at-zero i
 
-odd_over_none : (N : ℕ) (v : Bits) → odd_over N v 0 ≡ false
+pub odd_over_none : (N : ℕ) (v : Bits) → odd_over N v 0 ≡ false
 odd_over_none zero v = refl
 odd_over_none (suc n) v = λ i. xor (odd_over_none n v i) (cond (nat_eq (bit_at-zero n i) 1) (v n) false)
 

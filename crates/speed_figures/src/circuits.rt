@@ -4,12 +4,12 @@ ghost use Rattle.std.specs.Prelude.{◌<◌};
 ghost use Rattle.circuit_list.specs.Gates.{IsFine};
 
 use crate::draws::Draws;
-use circuit_list::{Circuit, Gate, MOST_WIRES};
+use circuit_list::{Circuit, Gate};
 use std::alloc::{AllocError, Global};
 
-/// A circuit of drawn gates on as many wires as a circuit has.
+/// A circuit of drawn gates on 64 wires.
 fn drawn_circuit(alloc: Global, gates: usize) -> Result<Circuit, AllocError> {
-    let mut circuit = Circuit::empty(alloc, MOST_WIRES)?;
+    let mut circuit = Circuit::empty(alloc, 64)?;
     let mut draws = Draws::from_seed(1);
     'pushes: for _ in 0..gates {
         let gate = drawn_gate(&mut draws);
@@ -47,9 +47,10 @@ fn drawn_place(draws: &mut Draws, len: usize) -> usize
     draws.next() as usize % len
 }
 
-/// Takes all gates of a circuit out in a drawn order, each by its slot, and counts them.
+/// Takes all gates of a linked circuit out in a drawn order, each by its slot, and counts them.
 pub fn left_by_slots(alloc: Global, gates: usize) -> Result<usize, AllocError> {
     let mut circuit = drawn_circuit(alloc, gates)?;
+    circuit.link()?;
     let mut draws = Draws::from_seed(2);
     let mut taken = 0usize;
     'gates: for _ in 0..gates {
@@ -66,6 +67,7 @@ pub fn left_by_slots(alloc: Global, gates: usize) -> Result<usize, AllocError> {
 /// The same, each by its place.
 pub fn left_by_places(alloc: Global, gates: usize) -> Result<usize, AllocError> {
     let mut circuit = drawn_circuit(alloc, gates)?;
+    circuit.link()?;
     let mut draws = Draws::from_seed(2);
     let mut taken = 0usize;
     'gates: for _ in 0..gates {

@@ -11,6 +11,7 @@ pub mod OddPathsForm
 pub mod PathLaws
 pub mod PathRules
 pub mod FlatPaths
+pub mod MoreWires
 pub mod OddCount
 pub mod Steps
 pub mod RealisedLaws

@@ -7,6 +7,8 @@
 --     least                   of the lists with the same parities a clean one is shortest
 --     Linear L, Low n x       a linear map of sets of variables; a set of variables below n
 --     extend L n l            L, but variable n goes to l;  extend_old, extend_new, extend_linear
+--     AtMost n ls p           at most n labels have the parities p, whatever the labels ls of the wires are (AtMost-labels)
+--     size-from               the odd set from the own variables of m wires is no larger than that from those of n
 --     Covers-size             the odd set of B is no larger than that of A where A covers B
 use Rattle.std.proofs.Common.{◌≡◌, ℕ, zero, suc, ◌+◌, ◌%◌, ◌^◌, ◌<◌, ◌≤◌, Bool, true, false, cond, not, List, [], ◌∷◌, ◌++◌, map, length, refl, sym, subst, ◌∙◌, ap, arith}
 use Rattle.std.proofs.lemmas.List.{length-map}
@@ -274,6 +276,15 @@ own_low n q i le = go (nat_lt q n) refl
     go : (t : Bool) → nat_lt q n ≡ t → bit_at (cond t (2 ^ q) 0) i ≡ 0
     go true e = let h : q < n = below e in bit_at-pow_other q i (omega arith)
     go false e = bit_at-zero i
+
+pub AtMost-labels : (n : ℕ) (labels others : Labels) (p : Parities) → AtMost n labels p → AtMost n others p
+unfolding AtMost
+AtMost-labels n labels others p h = h
+
+-- where what always holds from the own variables of n wires does so from those of m
+pub size-from : (es : List Event) (n m : ℕ) → (Always es (AtMost (odd_size n es)) (own_variables n) (par []) → Always es (AtMost (odd_size n es)) (own_variables m) (par [])) → odd_size m es ≤ odd_size n es
+unfolding par Clean AllLow Linear
+size-from es n m f = taken es (odd_size n es) (own_variables m) m [] tt (f (free es (λ x. x) (own_variables n) n [] (λ x y. refl) (own_low n) tt))
 
 -- what is covered has no larger odd set
 pub Covers-size : (A B : List Event) → Covers A B → (n : ℕ) → odd_size n B ≤ odd_size n A

@@ -3,9 +3,8 @@
 --     Realised_then           one after the other
 --     Realised_emit           a list put on the places of its wires realises it
 --     Realised_turns          a list of the same unitary in its place
---     exchange a b            the exchange of two numbers
---     applied_cx, applied_swap        what a CNOT and what three of them do
-use Rattle.std.proofs.Common.{◌≡◌, ◌≢◌, ℕ, ◌+◌, Bool, true, false, cond, not, List, [], ◌∷◌, ◌++◌, map, refl, sym, ◌∙◌, ap, arith}
+--     applied_cx              what a CNOT does
+use Rattle.std.proofs.Common.{◌≡◌, ℕ, ◌+◌, Bool, true, false, cond, not, List, ◌∷◌, ◌++◌, map, refl, sym, ◌∙◌, ap, arith}
 use Rattle.std.proofs.Math.Path.{fun_ext}
 use Rattle.std.proofs.Math.Nat.{add_comm}
 use Rattle.std.specs.Prelude.{nat_eq}
@@ -20,7 +19,7 @@ use Rattle.unitary_model.proofs.RingLaws.{double-swap, turn-turn, double-turn, d
 use Rattle.unitary_model.proofs.ActLaws.{applied-append, act-carry}
 use Rattle.unitary_model.proofs.TurnsLaws.{weight-append, applied-double, applied-turn}
 use Rattle.unitary_model.proofs.Windows.{weight-place, all_within}
-use Rattle.unitary_model.proofs.Slide.{bit_put, bit_off, put_own}
+use Rattle.unitary_model.proofs.Slide.{put_own}
 
 carried_bit : (p : Placing) (x : Bits) (i : ℕ) → bit (carried p x) (p.to i) ≡ bit x i
 carried_bit p x i = ap x (p.from_to i)
@@ -75,10 +74,6 @@ Realised_turns S R Q p q j k a h = record {
       ∙ sym (double-turn (weight R) (j + k) (double (weight Q) (applied S (λ z. f (carried q z)) x))));
 }
 
--- three Cx exchange two bits
-pub exchange : ℕ → ℕ → ℕ → ℕ
-exchange a b j = cond (nat_eq j a) b (cond (nat_eq j b) a j)
-
 abbrev pub flipped_by : Bool → Bool → Bool
 flipped_by a true = not a
 flipped_by a false = a
@@ -90,43 +85,3 @@ applied_cx c t us f x = go (x c)
     go : (b : Bool) → cond b (applied us f (put x t (not (x t)))) (applied us f x) ≡ applied us f (put x t (flipped_by (x t) b))
     go true = refl
     go false = ap (applied us f) (sym (put_own x t (x t) refl))
-
-pub applied_swap : (a b : ℕ) → a ≢ b → (f : Bits → Ring) (x : Bits) → applied (Cx a b ∷ Cx b a ∷ Cx a b ∷ []) f x ≡ f (λ j. x (exchange a b j))
-unfolding exchange
-applied_swap a b h f x =
-    let x1 : Bits = put x b (flipped_by (x b) (x a)) in
-    let x2 : Bits = put x1 a (flipped_by (x1 a) (x1 b)) in
-    let at_a : x1 a ≡ x a = bit_off x b a (flipped_by (x b) (x a)) h in
-    let at_b : x1 b ≡ flipped_by (x b) (x a) = bit_put x b (flipped_by (x b) (x a)) in
-    let at_a2 : x2 a ≡ x b = bit_put x1 a (flipped_by (x1 a) (x1 b)) ∙ (λ i. flipped_by (at_a i) (at_b i)) ∙ first (x a) (x b) in
-    let at_b2 : x2 b ≡ flipped_by (x b) (x a) = bit_off x1 a b (flipped_by (x1 a) (x1 b)) (λ e. h (sym e)) ∙ at_b in
-    applied_cx a b (Cx b a ∷ Cx a b ∷ []) f x ∙ applied_cx b a (Cx a b ∷ []) f x1 ∙ applied_cx a b [] f x2
-    ∙ ap f ((λ i. put x2 b (flipped_by (at_b2 i) (at_a2 i))) ∙ ap (put x2 b) (second (x a) (x b))
-    ∙ fun_ext (λ j. (λ i. cond (nat_eq j b) (x a) (cond (nat_eq j a) (inner i) (x1 j))) ∙ settled j))
-  where
-    first : (u v : Bool) → flipped_by u (flipped_by v u) ≡ v
-    first true true = refl
-    first true false = refl
-    first false true = refl
-    first false false = refl
-
-    second : (u v : Bool) → flipped_by (flipped_by v u) v ≡ u
-    second true true = refl
-    second true false = refl
-    second false true = refl
-    second false false = refl
-
-    inner : flipped_by (put x b (flipped_by (x b) (x a)) a) (put x b (flipped_by (x b) (x a)) b) ≡ x b
-    inner = (λ i. flipped_by (bit_off x b a (flipped_by (x b) (x a)) h i) (bit_put x b (flipped_by (x b) (x a)) i)) ∙ first (x a) (x b)
-
-    settled : (j : ℕ) → cond (nat_eq j b) (x a) (cond (nat_eq j a) (x b) (cond (nat_eq j b) (flipped_by (x b) (x a)) (x j))) ≡ x (cond (nat_eq j a) b (cond (nat_eq j b) a j))
-    settled j = go (nat_eq j b) (nat_eq j a) refl refl
-      where
-        clash : nat_eq j b ≡ true → nat_eq j a ≡ true → ⊥
-        clash e g = h (grind (arith, nat_tests))
-
-        go : (s t : Bool) → nat_eq j b ≡ s → nat_eq j a ≡ t → cond s (x a) (cond t (x b) (cond s (flipped_by (x b) (x a)) (x j))) ≡ x (cond t b (cond s a j))
-        go true true e g = absurd (clash e g)
-        go true false e g = refl
-        go false true e g = refl
-        go false false e g = refl

@@ -1,6 +1,6 @@
 -- The limits of the tool that more than one crate keeps.
---     most_qubits         the most wires of a circuit, and the most qubits of a device
+--     most_qubits         the most qubits of a program, wires of a circuit, and qubits of a device
 use Rattle.std.specs.Prelude.{ℕ}
 
 abbrev pub most_qubits : ℕ
-most_qubits = 64
+most_qubits = 256

@@ -78,3 +78,8 @@ pub fn turns_to_amplitudes()
 pub fn odd_paths_at_most_t_count()
     ensures at_most { (n : ℕ) (us : List Op) → odd_paths n us ≤ t_count us }
 {}
+
+/// The number of odd path parities is the same on each number of wires that the list fits on.
+pub fn odd_paths_on_more_wires()
+    ensures same { (n m : ℕ) (us : List Op) → n ≤ m → WiresBelow n us → odd_paths m us ≡ odd_paths n us }
+{}

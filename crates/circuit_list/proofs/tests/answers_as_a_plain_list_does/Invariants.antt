@@ -2,4 +2,4 @@ use Rattle.std.proofs.Common.{◌≡◌}
 use Rattle.circuit_list.proofs.tests.answers_as_a_plain_list_does.Given as goal
 
 abbrev pub invariant-steps : goal.invariant-steps
-invariant-steps g l = l.circuit.wires ≡ 5
+invariant-steps g l = l.circuit.wires ≡ 256

@@ -1,7 +1,7 @@
-use Rattle.std.proofs.Common.{◌≡◌, ◌∙◌, ◌-◌, true, sym, ap, subst, arith, List, Option, MatchOption, is_some}
+use Rattle.std.proofs.Common.{◌≡◌, ◌∙◌, ◌-◌, true, sym, ap, arith, List, Option, is_some}
 use Rattle.circuit_list.specs.declared.Gate.{Gate}
 use Rattle.circuit_list.specs.Entries.{entry}
-use Rattle.circuit_list.specs.Tree.{IsLastOn, NoneOn, any_wire, meets}
+use Rattle.circuit_list.specs.Tree.{any_wire, meets}
 use Rattle.circuit_list.proofs.WalkLaws.{some_meets}
 use Rattle.circuit_list.proofs.tree.Tree.prev.Goals as goal
 
@@ -16,4 +16,4 @@ returns-then-is_some c =
 pub returns : goal.returns
 unfolding any_wire
 returns c =
-    subst (λ (xs : List (Option Gate)). MatchOption c.last_before.result (NoneOn any_wire xs 0 c.args.slot) (IsLastOn any_wire xs c.args.slot)) (c.deref-2.ensures.value ∙ c.self.view_is) c.last_before.ensures
+    c.last_before.ensures

@@ -1,11 +1,36 @@
-use Rattle.std.proofs.Common.{◌∙◌, ap, List, Option, None}
-use Rattle.std.proofs.lemmas.List.{get_or-set_other}
+use Rattle.std.proofs.Common.{◌<◌, ap, subst, arith, length, set, List, Option, IfSome, None}
+use Rattle.std.proofs.lemmas.List.{get_or_read, length-set}
 use Rattle.circuit_list.specs.declared.Gate.{Gate}
-use Rattle.circuit_list.specs.Entries.{entry}
-use Rattle.circuit_list.proofs.TreeLaws.{joined_written}
+use Rattle.circuit_list.specs.Links.{IsLinks}
+use Rattle.circuit_list.specs.Tree.{leaf}
+use Rattle.circuit_list.proofs.CountLaws.{rank-set, rank_there}
+use Rattle.circuit_list.proofs.EntryLaws.{rank_le}
 use Rattle.circuit_list.proofs.tree.Tree.set.Goals as goal
 
-pub refresh-requires-clause-others : goal.refresh-requires-clause-others
-refresh-requires-clause-others c =
-    joined_written c.self.inside.height c.self.inside.gates.items c.deref.result.now c.self.inside.nodes.items c.deref_mut.result.now c.args.slot c.self.invariant.0
-    (λ s n. ap (λ (xs : List (Option Gate)). entry xs s) c.deref.ensures.value ∙ get_or-set_other c.self.inside.gates.items c.args.slot s c.args.entry None n) c.deref_mut.ensures.value
+pub recounted-self-inside-requires-clause-there : goal.recounted-self-inside-requires-clause-there
+recounted-self-inside-requires-clause-there c =
+    let es = c.self.inside.gates.items in
+    let within : c.args.slot < length es = omega (arith, c.requires, ap (λ (xs : List (Option Gate)). length xs) c.self.view_is) in
+    let here = ap (λ (o : Option Gate). (leaf o).count) (get_or_read es _ _ within c.index-before.ensures None) in
+    let low = rank_there es c.args.slot in
+    omega (arith, c.self.invariant.0)
+
+pub recounted-self-inside-requires-clause-few : goal.recounted-self-inside-requires-clause-few
+recounted-self-inside-requires-clause-few c =
+    let es = c.self.inside.gates.items in
+    let within : c.args.slot < length es = omega (arith, c.requires, ap (λ (xs : List (Option Gate)). length xs) c.self.view_is) in
+    let here = ap (λ (o : Option Gate). (leaf o).count) (get_or_read es _ _ within c.index-before.ensures None) in
+    let changed = rank-set es c.args.slot c.args.entry within in
+    let few = rank_le (set es c.args.slot c.args.entry) (length (set es c.args.slot c.args.entry)) in
+    let size = length-set es c.args.slot c.args.entry in
+    omega (arith, c.self.invariant.0, c.len-slots.ensures)
+
+pub invariant_of-self : goal.invariant_of-self
+invariant_of-self c =
+    let es = c.self.inside.gates.items in
+    let within : c.args.slot < length es = omega (arith, c.requires, ap (λ (xs : List (Option Gate)). length xs) c.self.view_is) in
+    let here = ap (λ (o : Option Gate). (leaf o).count) (get_or_read es _ _ within c.index-before.ensures None) in
+    let changed = rank-set es c.args.slot c.args.entry within in (
+      omega (arith, c.self.invariant.0, c.recounted-self-inside.ensures),
+      subst (λ (xs : List (Option Gate)). IfSome c.link_anew.new.links (IsLinks xs)) c.deref.ensures.value c.link_anew.ensures,
+    )

@@ -1,5 +1,8 @@
-use Rattle.std.proofs.Common.{◌≡◌}
+use Rattle.std.proofs.Common.{◌≡◌, length}
 use Rattle.circuit_samples.proofs.random.Random.circuit.Given as goal
 
 abbrev pub invariant-gates : goal.invariant-gates
-invariant-gates l = l.body.wires ≡ l.fn.wires
+invariant-gates l = record {
+  wires : l.body.wires ≡ l.fn.wires;
+  count : length l.body.gates ≡ l._i;
+}

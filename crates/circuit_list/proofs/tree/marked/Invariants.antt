@@ -1,6 +1,0 @@
--- The slots so far are marked.
-use Rattle.circuit_list.specs.Marks.{IsMarkedTo}
-use Rattle.circuit_list.proofs.tree.marked.Given as goal
-
-abbrev pub invariant-slots : goal.invariant-slots
-invariant-slots l = IsMarkedTo l.slot l.gates.items l.marks.items

@@ -1,0 +1,67 @@
+//! Looks along the slots, one by one, for a circuit that isn't linked.
+
+ghost use Rattle.std.specs.Prelude.{◌≡◌, ◌+◌, ◌<◌, MatchOption, length, true};
+ghost use Rattle.circuit_list.specs.Entries.{entry, is_live, rank};
+ghost use Rattle.circuit_list.specs.Tree.{IsFirstOn, IsLastOn, NoneOn};
+
+use crate::Gate;
+use crate::nodes::{leaf, meets};
+
+/// The number of gates in the slots before one.
+pub(crate) fn count_before(gates: &[Option<Gate>], slot: usize) -> usize
+    requires { slot < length gates.now }
+    ensures { result ≡ rank gates.now slot }
+{
+    let _gates = gates.len();
+    let mut count = 0;
+    'slots: for before in 0..slot {
+        count += leaf(gates[before]).count;
+    }
+    count
+}
+
+/// The slot with a gate, with so many gates in the slots before it.
+pub(crate) fn scan_to(gates: &[Option<Gate>], place: usize) -> usize
+    requires { place < rank gates.now (length gates.now) }
+    ensures live { is_live (entry gates.now result) ≡ true }
+    ensures rank { rank gates.now result ≡ place }
+{
+    let mut rest = place;
+    'slots: for slot in 0..gates.len() {
+        if gates[slot].is_some() {
+            if rest == 0 {
+                return slot;
+            }
+            rest -= 1;
+        }
+    }
+    unreachable!()
+}
+
+/// The first slot behind one with a gate on some wires.
+pub(crate) fn scan_behind(gates: &[Option<Gate>], slot: usize, wires: u64) -> Option<usize>
+    requires { slot < length gates.now }
+    ensures { MatchOption result (NoneOn wires gates.now (slot + 1) (length gates.now)) (IsFirstOn wires gates.now (slot + 1)) }
+{
+    'slots: for next in slot + 1..gates.len() {
+        if meets(gates[next], wires) {
+            return Some(next);
+        }
+    }
+    None
+}
+
+/// The last slot before one with a gate on some wires.
+pub(crate) fn scan_before(gates: &[Option<Gate>], slot: usize, wires: u64) -> Option<usize>
+    requires { slot < length gates.now }
+    ensures { MatchOption result (NoneOn wires gates.now 0 slot) (IsLastOn wires gates.now slot) }
+{
+    let mut last = slot;
+    'slots: while last > 0 {
+        last -= 1;
+        if meets(gates[last], wires) {
+            return Some(last);
+        }
+    }
+    None
+}
