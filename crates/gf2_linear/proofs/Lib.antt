@@ -2,6 +2,7 @@ pub mod Xor
 pub mod Spans
 pub mod Ranks
 pub mod WordLaws
+pub mod CommonLaws
 pub mod WireLaws
 pub mod PivotLaws
 pub mod Combined

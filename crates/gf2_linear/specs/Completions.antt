@@ -1,6 +1,7 @@
 -- Independent rows completed to a square matrix.
 --   IsPivot earlier pivots row pivot   the row, plus some of the earlier rows, lacks their pivots, and its least wire is then the pivot
 --   ArePivots rows pivots              each row in order has its pivot, told by the rows before it
+--   IsPivotOf rows place pivot         the row at the place has this pivot
 --   IsCompletion rows wires matrix     each row stands on its pivot, and every other wire has itself alone
 use Rattle.std.specs.Prelude.{◌≡◌, ℕ, ◌<◌, ◌^◌, true, List, length, take, slice_index, bit_xor}
 use Rattle.std.specs.Int.{bit_at}
@@ -16,6 +17,11 @@ pub record IsPivot (earlier pivots : List ℕ) (row pivot : ℕ) : Type 0 where
 pub record ArePivots (rows pivots : List ℕ) : Type 0 where
   pub long : length pivots ≡ length rows
   pub each : (j : ℕ) → j < length rows → IsPivot (take j rows) (take j pivots) (slice_index rows j) (slice_index pivots j)
+
+pub record IsPivotOf (rows : List ℕ) (place pivot : ℕ) : Type 0 where
+  pub pivots : List ℕ
+  pub found : ArePivots rows pivots
+  pub there : slice_index pivots place ≡ pivot
 
 pub record IsCompletion (rows : List ℕ) (wires : ℕ) (matrix : List ℕ) : Type 0 where
   pub pivots : List ℕ

@@ -3,7 +3,7 @@
 ghost use Rattle.std.specs.Prelude.{◌≡◌, ℕ, ◌+◌, ◌<◌, ◌≤◌, ◌^◌, length, IsTrue, IfSome, IfNone, IfOk, OnErr, false, true, List, [], ◌∷◌, ◌++◌, All, Contains, MatchBool};
 ghost use Rattle.gf2_linear.specs.Rows.{combined, is_independent, is_sum};
 ghost use Rattle.gf2_linear.specs.Bases.{IsEchelon, IsRemainder};
-ghost use Rattle.gf2_linear.specs.Completions.{IsCompletion};
+ghost use Rattle.gf2_linear.specs.Completions.{IsCompletion, IsPivotOf};
 
 use crate::matrices::Matrix;
 use crate::rows::Row;
@@ -87,7 +87,8 @@ impl Basis {
     /// rows that has none of the pivots has no wire.
     pub fn pivot(&self, place: usize) -> u32
         requires { place < length self.now }
-        ensures { result < 256 }
+        ensures below { result < 256 }
+        ensures pivot { IsPivotOf self.now place result }
     {
         self.entries[place].pivot
     }

@@ -1,9 +1,15 @@
 //! A set of wires as a row of bits.
 
-ghost use Rattle.std.specs.Prelude.{◌≡◌, ℕ, ◌<◌, ◌^◌, IsTrue, ◌↔◌, IfSome, IfNone, bit_xor};
+ghost use Rattle.std.specs.Prelude.{◌≡◌, ℕ, ◌<◌, ◌^◌, ◌%◌, IsTrue, ◌↔◌, IfSome, IfNone, bit_and, bit_xor, count_ones, nat_eq};
+ghost use Rattle.std.specs.List.{flat_map};
 ghost use Rattle.std.specs.Int.{bit_at};
+ghost use Rattle.std.specs.Hash as fed;
+ghost use Rattle.std.specs.Cmp.Rules.{comparing, hashing};
+ghost use Rattle.std.proofs.Common.{rules};
 ghost use Rattle.gf2_linear.specs.Rows.{IsLeast};
+ghost use Rattle.gf2_linear.specs.Words.{words_of};
 
+use std::hash::{Hash, Hasher};
 use std::marker::Model;
 
 /// The number of words of a row, which has room for `WIRE_LIMIT` wires.
@@ -29,6 +35,30 @@ impl Model for Row {
     ghost invariant = { λ a. AreWords a.words };
 }
 
+impl PartialEq for Row {
+    ghost eq = { λ a b. nat_eq a b };
+
+    ghost laws = { Prim.search (comparing, rules) };
+
+    fn eq(&self, other: &Row) -> bool {
+        self.equals(other)
+    }
+}
+
+impl Eq for Row {
+    ghost laws = { Prim.search (comparing, rules) };
+}
+
+impl Hash for Row {
+    ghost hash_input = { λ a. flat_map fed.u64 (words_of 4 a) };
+
+    ghost respects_eq = { Prim.search (hashing, rules) };
+
+    fn hash<H: Hasher>(&self, state: &mut H) {
+        u64::hash_slice(self.words.as_slice(), state);
+    }
+}
+
 impl Row {
     /// The row without wires.
     pub fn empty() -> Row
@@ -47,10 +77,11 @@ impl Row {
         row
     }
 
-    /// The same row again.
+    /// The same row again. Its wires are below the limit, which contracts write out as a number.
     pub fn copy(&self) -> Row
         ensures same { result ≡ self.now }
         ensures below { self.now < 2 ^ 256 }
+        ensures limit { WIRE_LIMIT ≡ 256 }
     {
         Row { words: self.words }
     }
@@ -80,8 +111,10 @@ impl Row {
     }
 
     /// Whether the wires that two rows have in common are odd in number.
-    pub fn is_odd_on(&self, other: &Row) -> bool {
-        let mut common = 0;
+    pub fn is_odd_on(&self, other: &Row) -> bool
+        ensures { IsTrue result ↔ (count_ones (bit_and self.now other.now) % 2 ≡ 1) }
+    {
+        let mut common = 0u64;
         for k in 0..WORDS {
             common ^= self.words[k] & other.words[k];
         }

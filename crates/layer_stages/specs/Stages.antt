@@ -1,7 +1,8 @@
 -- The lines that tell of a circuit's layers.
 --   odd_rows ts         the sums with an odd coefficient
 --   IsStage n gs s      the numbers of a layer with the gates gs on n wires: its gates, its odd sums, the least number of
---                       independent blocks of these, and the size and the rank of a choice that shows that no fewer can be
+--                       independent blocks of these, and the size and the rank of a choice that shows that no fewer can be;
+--                       with one block the choice is all odd sums
 --   numbered ls         the layers that have a gate other than H
 --   AreStages n ls ss   the numbers of each layer
 --   stage_line i s, stage_text i ss   the line of layer i; those of all, the first being layer i
@@ -9,6 +10,7 @@
 --   IsSoFar n ls text next      the same, where the next line has the number `next`
 use Rattle.std.specs.Prelude.{◌≡◌, ℕ, ◌+◌, ◌%◌, ◌≤◌, ◌==◌, not, List, [], ◌∷◌, ◌++◌, codes, filter, length}
 use Rattle.std.specs.Fmt.{decimal}
+use Rattle.std.specs.List.{range_with_len}
 use Rattle.circuit_list.specs.declared.Gate.{Gate}
 use Rattle.gf2_linear.specs.Rows.{rank as row_rank, rows_at}
 use Rattle.matroid_partition.specs.Partitions.{IsPartition, IsWitness}
@@ -26,6 +28,7 @@ pub record IsStage (n : ℕ) (gs : List Gate) (s : Stage) : Type 0 where
   pub partition : IsPartition (odd_rows (poly_of n gs).terms) parts
   pub least : (other : List (List ℕ)) → IsPartition (odd_rows (poly_of n gs).terms) other → length parts ≤ length other
   pub shown : IsWitness (odd_rows (poly_of n gs).terms) parts choice
+  pub whole : length parts ≡ 1 → choice ≡ range_with_len 0 (length (odd_rows (poly_of n gs).terms))
   pub gates : s.gates ≡ length gs
   pub parities : s.parities ≡ length (odd_rows (poly_of n gs).terms)
   pub blocks : s.blocks ≡ length parts

@@ -14,7 +14,7 @@ use std::alloc::{AllocError, Global};
 
 /// For each layer with a gate other than H a line `layer I gates G parities P blocks B witness A rank R` and a line
 /// break. I counts these layers from 1; the P sums with an odd coefficient are taken apart into B independent blocks,
-/// and no fewer blocks could take the A sums of a choice of them, which has the rank R.
+/// and no fewer blocks could take the A sums of a choice of them, which has the rank R; with one block these are all.
 pub fn stage_lines(alloc: Global, body: &Circuit) -> Result<Vec<u8>, AllocError>
     ensures { IfOk result (λ t. IsStageText body.now.wires (layers_of body.now.gates) t.items) }
 {

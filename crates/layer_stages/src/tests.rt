@@ -48,6 +48,19 @@ fn push_fine(body: &mut Circuit, gate: Gate) -> Result<(), AllocError> {
     Ok(())
 }
 
+/// With one block the witness is both sums.
+#[test]
+fn one_block(rt: HostRuntime) -> Result<(), Fail> {
+    let mut body = Circuit::empty(rt.alloc(), 2)?;
+    body.push(Gate::P { k: 1, q: 0 })?;
+    body.push(Gate::P { k: 1, q: 1 })?;
+    let text = stage_lines(rt.alloc(), &body)?;
+    assert!(rt;
+        text.as_slice() == b"layer 1 gates 2 parities 2 blocks 1 witness 2 rank 2\n".as_slice()
+    );
+    Ok(())
+}
+
 /// An H between two T makes two layers, each with one odd sum.
 #[test]
 fn two_layers(rt: HostRuntime) -> Result<(), Fail> {

@@ -1,5 +1,5 @@
 -- The pieces of a resynthesis, as its functions need them.
-use Rattle.std.proofs.Common.{◌≡◌, ◌≢◌, ℕ, zero, suc, ◌+◌, ◌*◌, ◌^◌, ◌<◌, ◌≤◌, Bool, true, false, cond, All, List, [], ◌∷◌, ◌++◌, map, length, take, refl, sym, subst, ◌∙◌, ap, arith, append_assoc, append-nil, not, get_or, mul-le-mul_right}
+use Rattle.std.proofs.Common.{◌≡◌, ◌≢◌, ℕ, zero, suc, ◌+◌, ◌*◌, ◌^◌, ◌<◌, ◌≤◌, Bool, true, false, cond, All, List, [], ◌∷◌, ◌++◌, map, length, take, refl, sym, subst, ◌∙◌, ap, arith, append_assoc, append-nil, not, get_or, mul-le-mul_right, mul-le-mul_left, le_trans}
 use Rattle.std.specs.Prelude.{nat_eq, ◌==◌, filter}
 use Rattle.std.proofs.lemmas.Bool.Decides.{nat_tests}
 use Rattle.std.proofs.lemmas.List.{length-map}
@@ -13,7 +13,7 @@ use Rattle.gf2_linear.specs.Rows.{rows_at}
 use Rattle.gf2_linear.specs.Matrices.{run, IsPair}
 use Rattle.gf2_linear.proofs.EliminationLaws.{All-pairs}
 use Rattle.phase_poly.specs.Polys.{Term}
-use Rattle.phase_poly.specs.Resynthesis.{cnots, at_places, term_rows, rows_of, picked, AllBelow, BlocksBelow, IsBuilt, IsResynthesis}
+use Rattle.phase_poly.specs.Resynthesis.{cnots, at_places, term_rows, rows_of, picked, AllBelow, BlocksBelow, IsBuilt, cx_bound}
 use Rattle.phase_poly.proofs.MapLaws.{AreRows}
 use Rattle.phase_poly.proofs.BuildLaws.{built_cnots, built_phase, cx_ops, cnots_cx}
 
@@ -152,17 +152,18 @@ blocks-below n (b ∷ bs) h = (all b (h 0 [] (omega arith)), blocks-below n bs (
     all (p ∷ b) g = (g 0 0 (omega arith), all b (λ k d l. g (suc k) d (omega arith)))
 
 -- no more blocks, no smaller bound
-pub resynthesis_more : (n b c t : ℕ) (A B : List Gate) → b ≤ c → IsResynthesis n b A B t → IsResynthesis n c A B t
-resynthesis_more n b c t A B l h = record {
-  below = h.below;
-  dihedral = h.dihedral;
-  poly = h.poly;
-  t_gates = h.t_gates;
-  cx_gates = let m : (b + 1) * (n * n) ≤ (c + 1) * (n * n) = mul-mono (omega arith) in let a = h.cx_gates in omega (arith, a, m);
-}
+pub bound-more : (n b c k : ℕ) → b ≤ c → k ≤ cx_bound n b → k ≤ cx_bound n c
+bound-more n b c k l h = let m : (b + 1) * (n * n) ≤ (c + 1) * (n * n) = mul-mono (omega arith) in omega (arith, h, m)
   where
     mul-mono : b + 1 ≤ c + 1 → (b + 1) * (n * n) ≤ (c + 1) * (n * n)
     mul-mono g = mul-le-mul_right (n * n) g
+
+-- nor on fewer wires
+pub bound-wider : (m n b k : ℕ) → m ≤ n → k ≤ cx_bound m b → k ≤ cx_bound n b
+bound-wider m n b k l h =
+    let s : m * m ≤ n * n = le_trans (mul-le-mul_right m l) (mul-le-mul_left n l) in
+    let w : (b + 1) * (m * m) ≤ (b + 1) * (n * n) = mul-le-mul_left (b + 1) s in
+    le_trans h w
 
 pub blocks_more : {Y : Type 0} (items : Y → List ℕ) (ts : List Term) (bs : List Y) (i : ℕ) (d : Y) (b : List ℕ) (done : List Term) → i < length bs → b ≡ items (get_or bs i d) →
     (done ++ picked ts (take i (map items bs))) ++ at_places ts b ≡ done ++ picked ts (take (i + 1) (map items bs))

@@ -12,11 +12,10 @@ use Rattle.circuit_list.specs.Gates.{ops, IsFine}
 use Rattle.phase_poly.specs.Layers.{LayerBody, level_of, inserted, with_gate, no_gates, at_layer, Walk, first_walk, walked, walked_all, layers_of, hadamards, line, linked}
 use Rattle.phase_poly.specs.Polys.{AreDihedral}
 use Rattle.phase_poly.specs.Resynthesis.{AllBelow}
-use Rattle.phase_poly.specs.Replaced.{IsTaken, IsReplaced, AreFine, DihedralLayers, AreBlocks, IsRelinked, KeepsBound, lesser}
+use Rattle.phase_poly.specs.Replaced.{IsTaken, IsReplaced, AreFine, DihedralLayers, IsRelinked, KeepsBound, lesser}
 use Rattle.rewrite_pass.specs.Law.{IsRewriting}
 use Rattle.rewrite_pass.proofs.RewritingLaws.{Step-IsRewriting}
-use Rattle.phase_poly.proofs.BlockLaws.{some_blocks}
-use Rattle.phase_poly.proofs.PassLaws.{layers_dihedral, resynth_step, resynth_few}
+use Rattle.phase_poly.proofs.PassLaws.{layers_dihedral, resynth_step, layers_few}
 
 pub fine_of : (n : ℕ) (gs : List Gate) → All (IsFine n) gs → AreFine n gs
 fine_of n [] h = tt
@@ -70,39 +69,32 @@ hads_walked : (n : ℕ) (gs : List Gate) (s : Walk) → AreFine n gs → HadsBel
 hads_walked n [] s f h = h
 hads_walked n (g ∷ gs) s f h = hads_walked n gs (walked g s) f.1 (hads_at n (level_of s.levels g) g s.layers f.0 h)
 
-taken_fine : (n b t : ℕ) (A B : List Gate) → AreDihedral n A → IsTaken n b A B t → AreFine n B
-taken_fine n b t A B f (inl h) = subst (AreFine n) (sym h.0) (dihedral_fine n A f)
-taken_fine n b t A B f (inr h) = dihedral_fine n B h.0.dihedral
+taken_fine : (n t : ℕ) (A B : List Gate) → AreDihedral n A → IsTaken n A B t → AreFine n B
+taken_fine n t A B f (inl h) = subst (AreFine n) (sym h.0) (dihedral_fine n A f)
+taken_fine n t A B f (inr h) = dihedral_fine n B h.0.dihedral
 
-replaced_fine : (n t : ℕ) (ls ms : List LayerBody) (bs : List ℕ) → DihedralLayers n ls → HadsBelow n ls → IsReplaced n ls ms bs t → AreFine n (linked ms)
-replaced_fine n t [] [] [] p q h = tt
-replaced_fine n t (l ∷ ls) (m ∷ ms) (b ∷ bs) p q h =
+replaced_fine : (n t : ℕ) (ls ms : List LayerBody) → DihedralLayers n ls → HadsBelow n ls → IsReplaced n ls ms t → AreFine n (linked ms)
+replaced_fine n t [] [] p q h = tt
+replaced_fine n t (l ∷ ls) (m ∷ ms) p q h =
     fine-append n (line m) (linked ms)
-    (fine-append n m.gates (hadamards m.hadamards) (taken_fine n b h.1.0 l.gates m.gates p.0 h.1.1.1.0) (subst (λ qs. AreFine n (hadamards qs)) (sym h.0) (hadamards_fine n l.hadamards q.0)))
-    (replaced_fine n h.1.1.0 ls ms bs p.1 q.1 h.1.1.1.1.0)
-replaced_fine n t [] [] (b ∷ bs) p q h = absurd h
-replaced_fine n t [] (m ∷ ms) bs p q h = absurd h
-replaced_fine n t (l ∷ ls) [] bs p q h = absurd h
-replaced_fine n t (l ∷ ls) (m ∷ ms) [] p q h = absurd h
-
-blocks_of : (n : ℕ) (gs : List Gate) → All (IsFine n) gs → (bs : List ℕ) × AreBlocks n (layers_of gs) bs
-blocks_of n gs f = some_blocks n (layers_of gs) (layers_dihedral n gs (fine_of n gs f))
+    (fine-append n m.gates (hadamards m.hadamards) (taken_fine n h.1.0 l.gates m.gates p.0 h.1.1.1.0) (subst (λ qs. AreFine n (hadamards qs)) (sym h.0) (hadamards_fine n l.hadamards q.0)))
+    (replaced_fine n h.1.1.0 ls ms p.1 q.1 h.1.1.1.1.0)
+replaced_fine n t [] (m ∷ ms) p q h = absurd h
+replaced_fine n t (l ∷ ls) [] p q h = absurd h
 
 pub relinked_fine : (n t : ℕ) (gs new : List Gate) → All (IsFine n) gs → IsRelinked n (layers_of gs) new t → All (IsFine n) new
 relinked_fine n t gs new f h =
-    let b = blocks_of n gs f in let q = h b.0 b.1 in
-    of_fine n new (subst (AreFine n) (sym q.1.1) (replaced_fine n t (layers_of gs) q.0 b.0 (layers_dihedral n gs (fine_of n gs f)) (hads_walked n gs first_walk (fine_of n gs f) tt) q.1.0))
+    of_fine n new (subst (AreFine n) (sym h.gates) (replaced_fine n t (layers_of gs) h.layers (layers_dihedral n gs (fine_of n gs f)) (hads_walked n gs first_walk (fine_of n gs f) tt) h.replaced))
 
 -- a circuit of the list
 pub rewriting_new : (n t : ℕ) (gs new : List Gate) → All (IsFine n) gs → IsRelinked n (layers_of gs) new t → t < 8 → IsRewriting n gs new t
 rewriting_new n t gs new f h l =
-    let b = blocks_of n gs f in let q = h b.0 b.1 in
-    subst (λ (z : List Gate). IsRewriting n gs z t) (sym q.1.1)
-    (Step-IsRewriting n gs (linked q.0) t f (subst (λ (z : List Gate). All (IsFine n) z) q.1.1 (relinked_fine n t gs new f h)) l (resynth_step n t gs q.0 b.0 (fine_of n gs f) q.1.0))
+    subst (λ (z : List Gate). IsRewriting n gs z t) (sym h.gates)
+    (Step-IsRewriting n gs (linked h.layers) t f (subst (λ (z : List Gate). All (IsFine n) z) h.gates (relinked_fine n t gs new f h)) l (resynth_step n t gs h.layers (fine_of n gs f) h.replaced))
 
 pub bound_new : (n t : ℕ) (gs new : List Gate) → IsRelinked n (layers_of gs) new t → KeepsBound n gs new
-bound_new n t gs new h bs a = let r = h bs a in
-    subst (λ (z : List Gate). cx_count (ops z) ≤ lesser n (layers_of gs) bs) (sym r.1.1) (resynth_few n t gs r.0 bs r.1.0)
+bound_new n t gs new h bs a =
+    subst (λ (z : List Gate). cx_count (ops z) ≤ lesser n (layers_of gs) bs) (sym h.gates) (layers_few n (layers_of gs) h.layers bs (h.few bs a))
 
 -- the circuit itself
 pub bound_old : (n t : ℕ) (gs new : List Gate) → IsRelinked n (layers_of gs) new t → cx_count (ops gs) ≤ cx_count (ops new) → KeepsBound n gs gs

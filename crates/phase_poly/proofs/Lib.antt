@@ -5,6 +5,7 @@ pub mod FineLaws
 pub mod LayerExamples
 pub mod LayerLaws
 pub mod MapLaws
+pub mod MeaningLaws
 pub mod PassLaws
 pub mod PickedLaws
 pub mod PolyExamples
@@ -13,4 +14,5 @@ pub mod RelinkedLaws
 pub mod ResynthLaws
 pub mod TermLaws
 pub mod WalkLaws
-pub mod WordLaws
+pub mod NamedLaws
+pub mod NamingLaws

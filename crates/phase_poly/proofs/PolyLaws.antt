@@ -37,7 +37,7 @@ use Rattle.phase_poly.specs.Rows.{has}
 use Rattle.phase_poly.specs.Polys.{AreDihedral, Term, coefficient, with_term, PolyBody, first_poly, polyed, polyed_all, walked_poly, SamePoly}
 
 -- ---- terms
-coefficient-total : (m : ℕ) (ts : List Term) → coefficient m ts ≡ total m ts
+pub coefficient-total : (m : ℕ) (ts : List Term) → coefficient m ts ≡ total m ts
 coefficient-total m [] = refl
 coefficient-total m (e ∷ ts) = ap (λ z. cond (nat_eq e.0 m) e.1 0 + z) (coefficient-total m ts)
 
@@ -100,7 +100,7 @@ pub record Agrees (n : ℕ) (p : PolyBody) (w : Wires) : Type 0 where
   pub rows : (q : ℕ) → q < n → get_or p.map q 0 ≡ (w q).variables
   pub bits : (q : ℕ) → q < n → has p.flips q ≡ (w q).bit
 
-agrees_first : (n : ℕ) (x : Bits) → Agrees n (first_poly n) (start n x)
+pub agrees_first : (n : ℕ) (x : Bits) → Agrees n (first_poly n) (start n x)
 unfolding start
 agrees_first n x = record {
   long = length-identity n;
@@ -239,7 +239,7 @@ walked_constant n (P k q ∷ gs) p w f h =
     here true e a t = sums p.constant a t ∙ (λ i. (p.constant + (cond ((sym e ∙ h.bits q f.0.0) i) k 0 + a + t)) % 8)
     here false e a t = none p.constant a t ∙ (λ i. (p.constant + (cond ((sym e ∙ h.bits q f.0.0) i) k 0 + a + t)) % 8)
 
-exponent-dihedral : (N : ℕ) (v : Bits) (n : ℕ) (gs : List Gate) (w : Wires) → AreDihedral n gs → exponent N v gs w n ≡ phase_sum N v (marks gs w n) + flip_turn gs
+pub exponent-dihedral : (N : ℕ) (v : Bits) (n : ℕ) (gs : List Gate) (w : Wires) → AreDihedral n gs → exponent N v gs w n ≡ phase_sum N v (marks gs w n) + flip_turn gs
 exponent-dihedral N v n [] w f = refl
 exponent-dihedral N v n (H q ∷ gs) w f = absurd f.0
 exponent-dihedral N v n (X q ∷ gs) w f = let r = exponent-dihedral N v n gs (with_label w q (flipped (w q))) f.1 in omega (arith, r)
@@ -249,14 +249,14 @@ exponent-dihedral N v n (P k q ∷ gs) w f = ap (λ z. z + cond (value N v (w q)
     sums a t e = omega arith
 exponent-dihedral N v n (Cx c t ∷ gs) w f = exponent-dihedral N v n gs (with_label w t (add_labels (w t) (w c))) f.1
 
-no_had : (n : ℕ) (gs : List Gate) → AreDihedral n gs → hcount gs ≡ 0
+pub no_had : (n : ℕ) (gs : List Gate) → AreDihedral n gs → hcount gs ≡ 0
 no_had n [] f = refl
 no_had n (H q ∷ gs) f = absurd f.0
 no_had n (X q ∷ gs) f = no_had n gs f.1
 no_had n (P k q ∷ gs) f = no_had n gs f.1
 no_had n (Cx c t ∷ gs) f = no_had n gs f.1
 
-eighths : (n : ℕ) (gs : List Gate) (w : Wires) → AreDihedral n gs → Eighths (marks gs w n)
+pub eighths : (n : ℕ) (gs : List Gate) (w : Wires) → AreDihedral n gs → Eighths (marks gs w n)
 eighths n [] w f = tt
 eighths n (H q ∷ gs) w f = absurd f.0
 eighths n (X q ∷ gs) w f = eighths n gs (with_label w q (flipped (w q))) f.1
@@ -295,10 +295,10 @@ same_walk n t A B s = record {
   constant = s.constant;
 }
 
-totals : (n m : ℕ) (gs : List Gate) (x : Bits) → AreDihedral n gs → coefficient m (walked_poly n gs).terms % 8 ≡ total m (signed (marks gs (start n x) n)) % 8
+pub totals : (n m : ℕ) (gs : List Gate) (x : Bits) → AreDihedral n gs → coefficient m (walked_poly n gs).terms % 8 ≡ total m (signed (marks gs (start n x) n)) % 8
 totals n m gs x f = walked_coefficient n m gs (first_poly n) (start n x) f (agrees_first n x) ∙ ap (λ z. z % 8) (zero-add (total m (signed (marks gs (start n x) n))))
 
-constants : (n : ℕ) (gs : List Gate) (x : Bits) → AreDihedral n gs → (walked_poly n gs).constant % 8 ≡ (constant (marks gs (start n x) n) + flip_turn gs) % 8
+pub constants : (n : ℕ) (gs : List Gate) (x : Bits) → AreDihedral n gs → (walked_poly n gs).constant % 8 ≡ (constant (marks gs (start n x) n) + flip_turn gs) % 8
 constants n gs x f = walked_constant n gs (first_poly n) (start n x) f (agrees_first n x) ∙ ap (λ z. z % 8) (zero-add (constant (marks gs (start n x) n) + flip_turn gs))
 
 pub same_turns : (n t : ℕ) (A B : List Gate) → AreDihedral n A → AreDihedral n B → SamePoly n t A B → Turns t (ops A) (ops B)

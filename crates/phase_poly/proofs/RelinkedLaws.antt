@@ -1,38 +1,48 @@
 -- One layer more is replaced.
---   replaced-more       one layer more at the end, with the powers modulo 8
+--   replaced-more, few-more   one layer more at the end, with the powers modulo 8; its CNOTs
 --   relinked-next, relinked_none   so for the list of all layers; for none
+--   kept_few, new_few   the CNOTs of a layer that is kept, and of one that is replaced
 --   dihedral_layer         each of the layers is dihedral
 --   cx-more, hadamards-more        one gate more is counted; one H more is put
-use Rattle.std.proofs.Common.{◌≡◌, ℕ, zero, suc, ◌+◌, ◌%◌, ◌<◌, List, [], ◌∷◌, ◌++◌, length, take, refl, sym, subst, ◌∙◌, ap, arith, append_assoc, append-nil, get_or}
+use Rattle.std.proofs.Common.{◌≡◌, ℕ, zero, suc, ◌+◌, ◌%◌, ◌<◌, List, [], ◌∷◌, ◌++◌, length, take, refl, sym, subst, ◌∙◌, ap, arith, append_assoc, append-nil, get_or, min, ◌≤◌}
 use Rattle.std.proofs.Math.Seq.{take-suc}
 use Rattle.unitary_model.specs.Operations.{cx_count}
 use Rattle.circuit_list.specs.declared.Gate.{Gate}
 use Rattle.circuit_list.specs.declared.Gate.TheVariants.{H}
 use Rattle.circuit_list.specs.Gates.{ops}
 use Rattle.phase_poly.specs.Layers.{LayerBody, hadamards, line, linked}
-use Rattle.phase_poly.specs.Polys.{AreDihedral}
-use Rattle.phase_poly.specs.Replaced.{IsTaken, IsReplaced, DihedralLayers, HasBlocks, AreBlocks, IsRelinked}
+use Rattle.phase_poly.specs.Polys.{AreDihedral, poly_of}
+use Rattle.phase_poly.specs.Replaced.{IsTaken, IsReplaced, AreFew, DihedralLayers, HasBlocks, AreBlocks, IsRelinked}
+use Rattle.matroid_partition.specs.Partitions.{IsPartition}
+use Rattle.phase_poly.specs.Resynthesis.{cx_bound, rows_of}
 use Rattle.phase_poly.proofs.BuildLaws.{cx_ops}
 
 linked-append : (ls ms : List LayerBody) → linked (ls ++ ms) ≡ linked ls ++ linked ms
 linked-append [] ms = refl
 linked-append (l ∷ ls) ms = ap (λ z. line l ++ z) (linked-append ls ms) ∙ sym (append_assoc (line l) (linked ls) (linked ms))
 
-replaced-more : (n t b j : ℕ) (ls ms : List LayerBody) (bs : List ℕ) (l m : LayerBody) → IsReplaced n ls ms bs t → m.hadamards ≡ l.hadamards → IsTaken n b l.gates m.gates j →
-    IsReplaced n (ls ++ l ∷ []) (ms ++ m ∷ []) (bs ++ b ∷ []) ((t + j) % 8)
-replaced-more n t b j [] [] [] l m h e g = (e, (j, (0, (g, (refl, sums h)))))
+replaced-more : (n t j : ℕ) (ls ms : List LayerBody) (l m : LayerBody) → IsReplaced n ls ms t → m.hadamards ≡ l.hadamards → IsTaken n l.gates m.gates j →
+    IsReplaced n (ls ++ l ∷ []) (ms ++ m ∷ []) ((t + j) % 8)
+replaced-more n t j [] [] l m h e g = (e, (j, (0, (g, (refl, sums h)))))
   where
     sums : t ≡ 0 → (t + j) % 8 ≡ (j + 0) % 8
     sums h = omega (arith, h)
-replaced-more n t b j (k ∷ ls) (o ∷ ms) (c ∷ bs) l m h e g =
-    (h.0, (h.1.0, ((h.1.1.0 + j) % 8, (h.1.1.1.0, (replaced-more n h.1.1.0 b j ls ms bs l m h.1.1.1.1.0 e g, sums t h.1.0 h.1.1.0 h.1.1.1.1.1)))))
+replaced-more n t j (k ∷ ls) (o ∷ ms) l m h e g =
+    (h.0, (h.1.0, ((h.1.1.0 + j) % 8, (h.1.1.1.0, (replaced-more n h.1.1.0 j ls ms l m h.1.1.1.1.0 e g, sums t h.1.0 h.1.1.0 h.1.1.1.1.1)))))
   where
     sums : (t x y : ℕ) → t ≡ (x + y) % 8 → (t + j) % 8 ≡ (x + (y + j) % 8) % 8
     sums t x y h = omega (arith, h)
-replaced-more n t b j [] [] (c ∷ bs) l m h e g = absurd h
-replaced-more n t b j [] (o ∷ ms) bs l m h e g = absurd h
-replaced-more n t b j (k ∷ ls) [] bs l m h e g = absurd h
-replaced-more n t b j (k ∷ ls) (o ∷ ms) [] l m h e g = absurd h
+replaced-more n t j [] (o ∷ ms) l m h e g = absurd h
+replaced-more n t j (k ∷ ls) [] l m h e g = absurd h
+
+few-more : (n b : ℕ) (ls ms : List LayerBody) (bs : List ℕ) (l m : LayerBody) → AreFew n ls ms bs → cx_count (ops m.gates) ≤ min (cx_count (ops l.gates)) (cx_bound n b) →
+    AreFew n (ls ++ l ∷ []) (ms ++ m ∷ []) (bs ++ b ∷ [])
+few-more n b [] [] [] l m h e = (e, tt)
+few-more n b (k ∷ ls) (o ∷ ms) (c ∷ bs) l m h e = (h.0, few-more n b ls ms bs l m h.1 e)
+few-more n b [] [] (c ∷ bs) l m h e = absurd h
+few-more n b [] (o ∷ ms) bs l m h e = absurd h
+few-more n b (k ∷ ls) [] bs l m h e = absurd h
+few-more n b (k ∷ ls) (o ∷ ms) [] l m h e = absurd h
 
 record Split (n : ℕ) (ls : List LayerBody) (l : LayerBody) (all : List ℕ) : Type 0 where
   bs : List ℕ
@@ -48,32 +58,50 @@ split n [] l (b ∷ c ∷ bs) h = absurd h.1
 split n (k ∷ ls) l [] h = absurd h
 split n (k ∷ ls) l (b ∷ all) h = let r = split n ls l all h.1 in record { bs = b ∷ r.bs; b = r.b; is = ap (λ z. b ∷ z) r.is; before = (h.0, r.before); last = r.last }
 
-relinked_more : (n t j : ℕ) (ls : List LayerBody) (l : LayerBody) (gs part : List Gate) → IsRelinked n ls gs t → ((b : ℕ) → HasBlocks n l.gates b → IsTaken n b l.gates part j) →
+relinked_more : (n t j : ℕ) (ls : List LayerBody) (l : LayerBody) (gs part : List Gate) → IsRelinked n ls gs t → IsTaken n l.gates part j →
+    ((b : ℕ) → HasBlocks n l.gates b → cx_count (ops part) ≤ min (cx_count (ops l.gates)) (cx_bound n b)) →
     IsRelinked n (ls ++ l ∷ []) (gs ++ (part ++ hadamards l.hadamards)) ((t + j) % 8)
-relinked_more n t j ls l gs part h g all a =
-    let r = split n ls l all a in
-    let q = h r.bs r.before in
-    let m : LayerBody = record { gates = part; hadamards = l.hadamards } in (
-      q.0 ++ m ∷ [],
-      (
-        subst (λ (cs : List ℕ). IsReplaced n (ls ++ l ∷ []) (q.0 ++ m ∷ []) cs ((t + j) % 8)) (sym r.is) (replaced-more n t r.b j ls q.0 r.bs l m q.1.0 refl (g r.b r.last)),
-        ap (λ z. z ++ (part ++ hadamards l.hadamards)) q.1.1 ∙ ap (λ z. linked q.0 ++ z) (sym (append-nil (part ++ hadamards l.hadamards))) ∙ sym (linked-append q.0 (m ∷ [])),
-      ),
-    )
+relinked_more n t j ls l gs part h g few =
+    let m : LayerBody = record { gates = part; hadamards = l.hadamards } in record {
+      layers = h.layers ++ m ∷ [];
+      replaced = replaced-more n t j ls h.layers l m h.replaced refl g;
+      gates = ap (λ z. z ++ (part ++ hadamards l.hadamards)) h.gates ∙ ap (λ z. linked h.layers ++ z) (sym (append-nil (part ++ hadamards l.hadamards))) ∙ sym (linked-append h.layers (m ∷ []));
+      few = λ all a. let r = split n ls l all a in
+          subst (AreFew n (ls ++ l ∷ []) (h.layers ++ m ∷ [])) (sym r.is) (few-more n r.b ls h.layers r.bs l m (h.few r.bs r.before) (few r.b r.last));
+    }
 
 pub relinked-next : (n t j : ℕ) (layers : List LayerBody) (i : ℕ) (d : LayerBody) (gs part next : List Gate) → i < length layers → IsRelinked n (take i layers) gs t →
-    ((b : ℕ) → HasBlocks n (get_or layers i d).gates b → IsTaken n b (get_or layers i d).gates part j) → next ≡ gs ++ (part ++ hadamards (get_or layers i d).hadamards) →
-    IsRelinked n (take (i + 1) layers) next ((t + j) % 8)
-relinked-next n t j layers i d gs part next l h g e =
+    IsTaken n (get_or layers i d).gates part j → ((b : ℕ) → HasBlocks n (get_or layers i d).gates b → cx_count (ops part) ≤ min (cx_count (ops (get_or layers i d).gates)) (cx_bound n b)) →
+    next ≡ gs ++ (part ++ hadamards (get_or layers i d).hadamards) → IsRelinked n (take (i + 1) layers) next ((t + j) % 8)
+relinked-next n t j layers i d gs part next l h g few e =
     subst (λ (ls : List LayerBody). IsRelinked n ls next ((t + j) % 8)) (sym (take-suc layers i d l) ∙ ap (λ k. take k layers) (one i))
-    (subst (λ (z : List Gate). IsRelinked n (take i layers ++ get_or layers i d ∷ []) z ((t + j) % 8)) (sym e) (relinked_more n t j (take i layers) (get_or layers i d) gs part h g))
+    (subst (λ (z : List Gate). IsRelinked n (take i layers ++ get_or layers i d ∷ []) z ((t + j) % 8)) (sym e) (relinked_more n t j (take i layers) (get_or layers i d) gs part h g few))
   where
     one : (i : ℕ) → suc i ≡ i + 1
     one i = omega arith
 
 pub relinked_none : (n : ℕ) (gs : List Gate) (t : ℕ) → gs ≡ [] → t ≡ 0 → IsRelinked n [] gs t
-relinked_none n gs t e z [] h = ([], (z, e))
-relinked_none n gs t e z (b ∷ bs) h = absurd h
+relinked_none n gs t e z = record { layers = []; replaced = z; gates = e; few = none }
+  where
+    none : (bs : List ℕ) → AreBlocks n [] bs → AreFew n [] [] bs
+    none [] h = tt
+    none (b ∷ bs) h = absurd h
+
+-- ---- one layer
+least : (x a o c : ℕ) → x ≡ a → a ≤ o → o ≤ c → x ≤ min a c
+least x a o c e l m = omega (arith, e, l, m)
+
+pub kept_few : (n : ℕ) (A B other : List Gate) → B ≡ A → ((blocks : List (List ℕ)) → IsPartition (rows_of (poly_of n A).terms) blocks → cx_count (ops other) ≤ cx_bound n (length blocks)) →
+    cx_count (ops A) ≤ cx_count (ops other) → (b : ℕ) → HasBlocks n A b → cx_count (ops B) ≤ min (cx_count (ops A)) (cx_bound n b)
+kept_few n A B other e few l b h =
+    least (cx_count (ops B)) (cx_count (ops A)) (cx_count (ops other)) (cx_bound n b) (ap (λ (gs : List Gate). cx_count (ops gs)) e) l (subst (λ k. cx_count (ops other) ≤ cx_bound n k) (sym h.1.1) (few h.0 h.1.0))
+
+pub new_few : (n : ℕ) (A B : List Gate) → ((blocks : List (List ℕ)) → IsPartition (rows_of (poly_of n A).terms) blocks → cx_count (ops B) ≤ cx_bound n (length blocks)) →
+    cx_count (ops B) < cx_count (ops A) → (b : ℕ) → HasBlocks n A b → cx_count (ops B) ≤ min (cx_count (ops A)) (cx_bound n b)
+new_few n A B few l b h = lesser-of (cx_count (ops B)) (cx_count (ops A)) (cx_bound n b) l (subst (λ k. cx_count (ops B) ≤ cx_bound n k) (sym h.1.1) (few h.0 h.1.0))
+  where
+    lesser-of : (x a c : ℕ) → x < a → x ≤ c → x ≤ min a c
+    lesser-of x a c e l = omega (arith, e, l)
 
 pub dihedral_layer : (n : ℕ) (ls : List LayerBody) (i : ℕ) (d : LayerBody) → i < length ls → DihedralLayers n ls → AreDihedral n (get_or ls i d).gates
 dihedral_layer n [] i d l h = absurd (omega arith)

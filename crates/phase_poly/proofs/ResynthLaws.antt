@@ -15,21 +15,23 @@ use Rattle.phase_poly.proofs.PolyLaws.{coefficient-filter}
 use Rattle.phase_poly.proofs.BuildLaws.{dihedral-append, dihedral_flips, built_none, built_flips, flips_t, flips_cx, t_ops, cx_ops, odd_terms-poly}
 use Rattle.phase_poly.proofs.PickedLaws.{picked_coefficient, picked_odd}
 use Rattle.phase_poly.proofs.MapLaws.{map_good, map_independent, terms_rows}
-use Rattle.phase_poly.proofs.BuildingLaws.{rows_of-length, rows_of-nonzero, rows_of-places, terms_fine, filter-positive, blocks-below, resynthesis_more}
+use Rattle.phase_poly.proofs.BuildingLaws.{rows_of-length, rows_of-nonzero, rows_of-places, terms_fine, filter-positive, blocks-below, bound-more}
 
 pub resynthesis_built : (n : ℕ) (A gs : List Gate) (blocks : List (List ℕ)) → AreDihedral n A →
     BlocksBelow (length (poly_of n A).terms) blocks → ((i : ℕ) → i < length (poly_of n A).terms → times i blocks ≡ 1) →
-    IsBuilt n gs (poly_of n A).map (picked (poly_of n A).terms blocks) → cx_count (ops gs) ≤ cx_bound n (length blocks) →
-    IsResynthesis n (length blocks) A (gs ++ flip_gates n (poly_of n A).flips) (resynth_turn n (poly_of n A).flips (poly_of n A).constant)
-resynthesis_built n A gs blocks fa below once h few = record {
+    IsBuilt n gs (poly_of n A).map (picked (poly_of n A).terms blocks) →
+    IsResynthesis n A (gs ++ flip_gates n (poly_of n A).flips) (resynth_turn n (poly_of n A).flips (poly_of n A).constant)
+resynthesis_built n A gs blocks fa below once h = record {
   below = omega arith;
   dihedral = dihedral-append n gs (flip_gates n (poly_of n A).flips) h.dihedral (dihedral_flips n n (poly_of n A).flips (omega arith));
   poly = built_flips n A gs (picked (poly_of n A).terms blocks) fa h
       (λ m. ap (λ z. z % 8) (picked_coefficient m (poly_of n A).terms blocks below once ∙ coefficient-filter m (walked_poly n A).terms));
   t_gates = let a = t_ops gs (flip_gates n (poly_of n A).flips) in let b = flips_t n (poly_of n A).flips in let c = h.t_gates in
       let d = picked_odd (poly_of n A).terms blocks below once in let e = odd_terms-poly n A fa in omega (arith, a, b, c, d, e);
-  cx_gates = let a = cx_ops gs (flip_gates n (poly_of n A).flips) in let b = flips_cx n (poly_of n A).flips in omega (arith, a, b, few);
 }
+
+pub flipped_cx : (n f : ℕ) (gs : List Gate) → cx_count (ops (gs ++ flip_gates n f)) ≡ cx_count (ops gs)
+flipped_cx n f gs = let a = cx_ops gs (flip_gates n f) in let b = flips_cx n f in omega (arith, a, b)
 
 -- ---- as the function needs it
 from_map : {X Y : Type 0} (f : X → Y) (Q : Y → Type 0) (xs : List X) → All Q (map f xs) → (k : ℕ) (d : X) → k < length xs → Q (f (get_or xs k d))
@@ -79,36 +81,39 @@ mid_few n a b k x y z ea eb f g e =
     sums p m q c d h = omega (arith, c, d, e, h)
 
 resynth_core : (n : ℕ) (A mid : List Gate) (blocks : List (List ℕ)) → AreDihedral n A → IsPartition (rows_of (poly_of n A).terms) blocks →
-    IsBuilt n mid (poly_of n A).map (picked (poly_of n A).terms blocks) → cx_count (ops mid) ≤ cx_bound n (length blocks) →
-    IsResynthesis n (length blocks) A (mid ++ flip_gates n (poly_of n A).flips) (resynth_turn n (poly_of n A).flips (poly_of n A).constant)
-resynth_core n A mid blocks f h b few =
+    IsBuilt n mid (poly_of n A).map (picked (poly_of n A).terms blocks) →
+    IsResynthesis n A (mid ++ flip_gates n (poly_of n A).flips) (resynth_turn n (poly_of n A).flips (poly_of n A).constant)
+resynth_core n A mid blocks f h b =
     let ts = (poly_of n A).terms in
     let long : length (rows_of (poly_of n A).terms) ≡ length (poly_of n A).terms = rows_of-length (poly_of n A).terms in
     resynthesis_built n A mid blocks f
     (subst (λ m. BlocksBelow m blocks) long (blocks-below (length (rows_of (poly_of n A).terms)) blocks h.within))
-    (λ i l. h.once i (subst (λ m. i < m) (sym long) l)) b few
+    (λ i l. h.once i (subst (λ m. i < m) (sym long) l)) b
 
 pub resynth_done : (n : ℕ) (A mid last : List Gate) (p : PolyBody) (rows : List ℕ) (blocks : List (List ℕ)) (k c : ℕ) → AreDihedral n A → p ≡ poly_of n A → rows ≡ rows_of p.terms → IsPartition rows blocks →
-    IsBuilt n mid p.map (picked p.terms blocks) → cx_count (ops mid) ≤ cx_bound n (length blocks) →
-    last ≡ mid ++ flip_gates n p.flips → k ≡ length (flip_gates n p.flips) → c ≡ p.constant →
-    (other : List (List ℕ)) → length blocks ≤ length other → IsResynthesis n (length other) A last ((2 * k + (8 - c)) % 8)
-resynth_done n A mid last p rows blocks k c f e r h b few l ek ec other le =
+    IsBuilt n mid p.map (picked p.terms blocks) →
+    last ≡ mid ++ flip_gates n p.flips → k ≡ length (flip_gates n p.flips) → c ≡ p.constant → IsResynthesis n A last ((2 * k + (8 - c)) % 8)
+resynth_done n A mid last p rows blocks k c f e r h b l ek ec =
     let part : IsPartition (rows_of (poly_of n A).terms) blocks = subst (λ (rs : List ℕ). IsPartition rs blocks) (r ∙ ap (λ (q : PolyBody). rows_of q.terms) e) h in
     let built : IsBuilt n mid (poly_of n A).map (picked (poly_of n A).terms blocks) = subst (λ (q : PolyBody). IsBuilt n mid q.map (picked q.terms blocks)) e b in
-    let core = resynth_core n A mid blocks f part built few in
+    let core = resynth_core n A mid blocks f part built in
     let turn : resynth_turn n (poly_of n A).flips (poly_of n A).constant ≡ (2 * k + (8 - c)) % 8 =
     λ i. (2 * (sym (ek ∙ ap (λ (q : PolyBody). length (flip_gates n q.flips)) e) i) + (8 - sym (ec ∙ ap (λ (q : PolyBody). q.constant) e) i)) % 8 in
     let list : mid ++ flip_gates n (poly_of n A).flips ≡ last = sym (l ∙ ap (λ (q : PolyBody). mid ++ flip_gates n q.flips) e) in
-    resynthesis_more n (length blocks) (length other) ((2 * k + (8 - c)) % 8) A last le
-    (subst (λ t. IsResynthesis n (length blocks) A last t) turn (subst (λ gs. IsResynthesis n (length blocks) A gs (resynth_turn n (poly_of n A).flips (poly_of n A).constant)) list core))
+    subst (λ t. IsResynthesis n A last t) turn (subst (λ gs. IsResynthesis n A gs (resynth_turn n (poly_of n A).flips (poly_of n A).constant)) list core)
 
 pub resynth_told : (n : ℕ) (A mid last : List Gate) (p : PolyBody) (rows m : List ℕ) (ts : List Term) (flips : ℕ) (blocks bs : List (List ℕ)) (k c : ℕ) → AreDihedral n A → p ≡ poly_of n A → rows ≡ rows_of p.terms →
-    ts ≡ p.terms → m ≡ p.map → flips ≡ p.flips → c ≡ p.constant → bs ≡ blocks → IsPartition rows blocks → ((other : List (List ℕ)) → IsPartition rows other → length blocks ≤ length other) →
-    IsBuilt n mid m (picked ts bs) → cx_count (ops mid) ≤ cx_bound n (length bs) → last ≡ mid ++ flip_gates n flips → k ≡ length (flip_gates n flips) →
-    (other : List (List ℕ)) → IsPartition (rows_of (poly_of n A).terms) other → IsResynthesis n (length other) A last ((2 * k + (8 - c)) % 8)
-resynth_told n A mid last p rows m ts flips blocks bs k c f e r et em ef ec eb h least b few l ek other g =
+    ts ≡ p.terms → m ≡ p.map → flips ≡ p.flips → c ≡ p.constant → bs ≡ blocks → IsPartition rows blocks →
+    IsBuilt n mid m (picked ts bs) → last ≡ mid ++ flip_gates n flips → k ≡ length (flip_gates n flips) → IsResynthesis n A last ((2 * k + (8 - c)) % 8)
+resynth_told n A mid last p rows m ts flips blocks bs k c f e r et em ef ec eb h b l ek =
     resynth_done n A mid last p rows blocks k c f e r h
     (subst (λ (cs : List (List ℕ)). IsBuilt n mid p.map (picked p.terms cs)) eb (subst (λ (us : List Term). IsBuilt n mid p.map (picked us bs)) et (subst (λ (q : List ℕ). IsBuilt n mid q (picked ts bs)) em b)))
-    (subst (λ (cs : List (List ℕ)). cx_count (ops mid) ≤ cx_bound n (length cs)) eb few)
-    (l ∙ ap (λ z. mid ++ flip_gates n z) ef) (ek ∙ ap (λ z. length (flip_gates n z)) ef) ec other
-    (least other (subst (λ (rs : List ℕ). IsPartition rs other) (sym (r ∙ ap (λ (q : PolyBody). rows_of q.terms) e)) g))
+    (l ∙ ap (λ z. mid ++ flip_gates n z) ef) (ek ∙ ap (λ z. length (flip_gates n z)) ef) ec
+
+-- the least number of blocks bounds the CNOTs for any other
+pub few_told : (n f b : ℕ) (A mid last : List Gate) (p : PolyBody) (rows : List ℕ) → p ≡ poly_of n A → rows ≡ rows_of p.terms →
+    ((other : List (List ℕ)) → IsPartition rows other → b ≤ length other) → cx_count (ops mid) ≤ cx_bound n b → last ≡ mid ++ flip_gates n f →
+    (other : List (List ℕ)) → IsPartition (rows_of (poly_of n A).terms) other → cx_count (ops last) ≤ cx_bound n (length other)
+few_told n f b A mid last p rows e r least few l other g =
+    bound-more n b (length other) (cx_count (ops last)) (least other (subst (λ (rs : List ℕ). IsPartition rs other) (sym (r ∙ ap (λ (q : PolyBody). rows_of q.terms) e)) g))
+    (subst (λ k. k ≤ cx_bound n b) (sym (ap (λ (gs : List Gate). cx_count (ops gs)) l ∙ flipped_cx n f mid)) few)

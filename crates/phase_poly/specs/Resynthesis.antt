@@ -7,10 +7,10 @@
 --   flip_gates n f        X on the wires below n that are in the row f, ascending
 --   resynth_turn n f c    the turn of a resynthesis: twice the number of X less the constant
 --   IsBuilt n gs held done    a list of CNOT and P that brings the wires to the matrix `held` and has these terms
---   cx_bound n b          the most CNOTs of a resynthesis with b blocks
---   IsResynthesis n b A B t   B is a resynthesis of A in b blocks
+--   cx_bound n b          the most CNOTs of a resynthesis in b blocks
+--   IsResynthesis n A B t   B is a resynthesis of A: the same polynomial but for the constant, which is t more, and no more T gates
 use Rattle.std.specs.Prelude.{◌≡◌, ℕ, zero, suc, ◌+◌, ◌-◌, ◌*◌, ◌%◌, ◌<◌, ◌≤◌, cond, List, [], ◌∷◌, ◌++◌, length, slice_index_or}
-use Rattle.unitary_model.specs.Operations.{t_count, cx_count}
+use Rattle.unitary_model.specs.Operations.{t_count}
 use Rattle.circuit_list.specs.declared.Gate.{Gate}
 use Rattle.circuit_list.specs.declared.Gate.TheVariants.{X, Cx}
 use Rattle.circuit_list.specs.Gates.{ops}
@@ -59,12 +59,11 @@ pub record IsBuilt (n : ℕ) (gs : List Gate) (held : List ℕ) (done : List Ter
 abbrev pub cx_bound : ℕ → ℕ → ℕ
 cx_bound n b = (b + 1) * (n * n)
 
-pub record IsResynthesis (n b : ℕ) (A B : List Gate) (t : ℕ) : Type 0 where
+pub record IsResynthesis (n : ℕ) (A B : List Gate) (t : ℕ) : Type 0 where
   pub below : t < 8
   pub dihedral : AreDihedral n B
   pub poly : SamePoly n t A B
   pub t_gates : t_count (ops B) ≤ t_count (ops A)
-  pub cx_gates : cx_count (ops B) ≤ cx_bound n b
 
 abbrev pub term_rows : List Term → List ℕ → List ℕ
 term_rows ts [] = []

@@ -12,11 +12,11 @@
 mod building;
 pub mod laws;
 mod levels;
+mod naming;
 mod pass;
 mod polynomial;
 mod relinking;
 mod resynthesis;
-mod rows;
 mod walk;
 
 pub use building::Resynth;
@@ -26,5 +26,7 @@ pub use polynomial::Poly;
 pub use resynthesis::resynth;
 pub use walk::poly;
 
+#[cfg(test)]
+mod plain;
 #[cfg(test)]
 mod tests;

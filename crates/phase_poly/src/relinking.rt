@@ -1,10 +1,11 @@
 //! Layers with another list for each where that has fewer CNOTs.
 
-ghost use Rattle.std.specs.Prelude.{◌≡◌, ℕ, ◌≤◌, ◌<◌, ◌++◌, ◌∷◌, [], IfOk, OnOk};
+ghost use Rattle.std.specs.Prelude.{◌≡◌, ℕ, ◌≤◌, ◌<◌, ◌++◌, ◌∷◌, [], IfOk, OnOk, min};
 ghost use Rattle.circuit_list.specs.Gates.{most_wires, ops};
 ghost use Rattle.unitary_model.specs.Operations.{cx_count};
 ghost use Rattle.phase_poly.specs.Layers.{hadamards};
 ghost use Rattle.phase_poly.specs.Polys.{AreDihedral};
+ghost use Rattle.phase_poly.specs.Resynthesis.{cx_bound};
 ghost use Rattle.phase_poly.specs.Replaced.{HasBlocks, IsRelinked, IsTaken, DihedralLayers};
 
 use crate::building::Resynth;
@@ -37,7 +38,9 @@ fn taken(alloc: Global, wires: u32, gates: &[Gate]) -> Result<Resynth, AllocErro
     requires few { wires ≤ most_wires }
     requires dihedral { AreDihedral wires gates.now }
     ensures below { IfOk result (λ r. r.turn < 8) }
-    ensures taken { IfOk result (λ r. (b : ℕ) → HasBlocks wires gates.now b → IsTaken wires b gates.now r.list.items r.turn) }
+    ensures taken { IfOk result (λ r. IsTaken wires gates.now r.list.items r.turn) }
+    ensures few { IfOk result (λ r. (b : ℕ) → HasBlocks wires gates.now b →
+        cx_count (ops r.list.items) ≤ min (cx_count (ops gates.now)) (cx_bound wires b)) }
 {
     if cx_number(gates) == 0 {
         let same = unchanged(alloc, gates)?;

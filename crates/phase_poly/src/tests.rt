@@ -1,7 +1,9 @@
+use crate::plain::walked;
 use crate::{ResynthPass, layers, poly, resynth};
 use circuit_list::{Circuit, Gate};
 use gf2_linear::Row;
 use rewrite_pass::Pass;
+use std::alloc::{AllocError, Global};
 use std::test::Fail;
 
 /// T and then H on one wire is one layer.
@@ -83,17 +85,17 @@ fn flipped_phase(rt: HostRuntime) -> Result<(), Fail> {
     Ok(())
 }
 
-/// Four CNOTs that are one.
+/// Four CNOTs that are one, far apart on many wires.
 #[test]
 fn four_to_one(rt: HostRuntime) -> Result<(), Fail> {
-    let mut body = Circuit::empty(rt.alloc(), 3)?;
-    body.push(Gate::Cx { c: 0, t: 1 })?;
-    body.push(Gate::Cx { c: 1, t: 2 })?;
-    body.push(Gate::Cx { c: 0, t: 1 })?;
-    body.push(Gate::Cx { c: 1, t: 2 })?;
+    let mut body = Circuit::empty(rt.alloc(), 256)?;
+    body.push(Gate::Cx { c: 63, t: 64 })?;
+    body.push(Gate::Cx { c: 64, t: 255 })?;
+    body.push(Gate::Cx { c: 63, t: 64 })?;
+    body.push(Gate::Cx { c: 64, t: 255 })?;
     let passed = ResynthPass.run(rt.alloc(), body)?;
     assert_eq!(rt; passed.body.len(), 1);
-    assert_eq!(rt; passed.body.gate(0), Gate::Cx { c: 0, t: 2 });
+    assert_eq!(rt; passed.body.gate(0), Gate::Cx { c: 63, t: 255 });
     assert_eq!(rt; passed.turn, 0);
     Ok(())
 }
@@ -137,5 +139,59 @@ fn keeps_a_layer_at_equal_cnots(rt: HostRuntime) -> Result<(), Fail> {
         assert_eq!(rt; passed.body.gate(place), gates[place]);
     }
     assert_eq!(rt; passed.turn, 0);
+    Ok(())
+}
+
+/// Puts a gate behind the others where it may stand on the wires.
+fn push_fine(body: &mut Circuit, gate: Gate) -> Result<(), AllocError> {
+    let wires = body.wires();
+    let fine = match gate {
+        Gate::H { q } | Gate::X { q } => q < wires,
+        Gate::P { k, q } => q < wires && 0 < k && k < 8,
+        Gate::Cx { c, t } => c < wires && t < wires && c != t,
+    };
+    if fine {
+        body.push(gate)?;
+    }
+    Ok(())
+}
+
+/// A drawn circuit on 2 to 5 wires, most of it CNOTs, with an H now and then.
+fn drawn(alloc: Global, seed: u32) -> Result<Circuit, AllocError> {
+    let wires = 2 + seed % 4;
+    let mut body = Circuit::empty(alloc, wires)?;
+    let mut state = seed;
+    for _ in 0..24 {
+        state = state.wrapping_mul(1_664_525).wrapping_add(1_013_904_223);
+        let q = (state >> 8 & 31) % wires;
+        let t = (state >> 13 & 31) % wires;
+        let gate = match state >> 28 {
+            0 => Gate::H { q },
+            1 => Gate::X { q },
+            2 | 3 | 4 | 5 => Gate::P {
+                k: (state >> 18 & 7) as u8,
+                q,
+            },
+            _ => Gate::Cx { c: q, t },
+        };
+        push_fine(&mut body, gate)?;
+    }
+    Ok(body)
+}
+
+/// The pass gives what the written walk gives.
+#[test]
+fn as_the_written_walk(rt: HostRuntime) -> Result<(), Fail> {
+    for seed in 0..64u32 {
+        let body = drawn(rt.alloc(), seed)?;
+        let expected = walked(rt.alloc(), &body)?;
+        let passed = ResynthPass.run(rt.alloc(), body)?;
+        assert_eq!(rt; passed.body.len(), expected.len(), "at {seed}");
+        for place in 0..expected.len() {
+            if place < passed.body.len() {
+                assert_eq!(rt; passed.body.gate(place), expected[place], "at {seed}");
+            }
+        }
+    }
     Ok(())
 }

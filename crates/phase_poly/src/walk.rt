@@ -5,7 +5,6 @@ ghost use Rattle.circuit_list.specs.Gates.{most_wires};
 ghost use Rattle.phase_poly.specs.Polys.{AreDihedral, IsDihedral, first_poly, poly_of, polyed, with_term};
 
 use crate::polynomial::Poly;
-use crate::rows::{row_of, word_of};
 use circuit_list::Gate;
 use gf2_linear::{Matrix, Row};
 use indexmap::IndexMap;
@@ -27,13 +26,13 @@ pub fn poly(alloc: Global, wires: u32, list: &[Gate]) -> Result<Poly, AllocError
     Ok(sum)
 }
 
-/// The polynomial of the gates so far, with the sums whose coefficient is 0. A sum is a word, so that its term is found.
+/// The polynomial of the gates so far, with the sums whose coefficient is 0.
 #[derive(Drop)]
 struct Walk {
     map: Matrix,
     flips: Row,
     constant: u8,
-    terms: IndexMap<u64, u8>,
+    terms: IndexMap<Row, u8>,
 }
 
 impl Model for Walk {
@@ -66,7 +65,7 @@ impl Walk {
         requires dihedral { IsDihedral (length self.old.map) g }
         ensures { OnOk result (self.new ≡ polyed g self.old) }
     {
-        let wires = self.map.wires();
+        let _wires = self.map.wires();
         match g {
             Gate::H { q: _ } => {}
             Gate::X { q } => {
@@ -74,7 +73,7 @@ impl Walk {
                 self.constant = (self.constant + 2) % 8;
             }
             Gate::P { k, q } => {
-                let row = word_of(self.map.row(q), wires);
+                let row = self.map.row(q).copy();
                 if self.flips.has(q) {
                     self.constant = (self.constant + k) % 8;
                     add_term(&mut self.terms, row, 8 - k)?;
@@ -108,7 +107,7 @@ impl Walk {
 }
 
 /// Adds to the coefficient of a sum, and puts a sum that is new behind the others.
-fn add_term(terms: &mut IndexMap<u64, u8>, row: u64, k: u8) -> Result<(), AllocError>
+fn add_term(terms: &mut IndexMap<Row, u8>, row: Row, k: u8) -> Result<(), AllocError>
     requires below { All (λ e. e.1 < 8) terms.old.entries }
     requires k { k < 8 }
     ensures terms { OnOk result (terms.new.entries ≡ with_term row k terms.old.entries) }
@@ -121,24 +120,24 @@ fn add_term(terms: &mut IndexMap<u64, u8>, row: u64, k: u8) -> Result<(), AllocE
 }
 
 /// The terms whose coefficient isn't 0, in order.
-fn nonzero(alloc: Global, terms: &IndexMap<u64, u8>) -> Result<Vec<(Row, u8)>, AllocError>
+fn nonzero(alloc: Global, terms: &IndexMap<Row, u8>) -> Result<Vec<(Row, u8)>, AllocError>
     ensures { IfOk result (λ v. v.items ≡ filter (λ e. not (e.1 == 0)) terms.now.entries) }
 {
     let mut kept = Vec::new(alloc);
     'terms: for i in 0..terms.len() {
-        let (word, k) = terms.get_index(i).unwrap();
-        keep(&mut kept, *word, *k)?;
+        let (row, k) = terms.get_index(i).unwrap();
+        keep(&mut kept, row, *k)?;
     }
     Ok(kept)
 }
 
 /// Puts a term behind the others where its coefficient isn't 0.
-fn keep(kept: &mut Vec<(Row, u8)>, word: u64, k: u8) -> Result<(), AllocError>
-    ensures { OnOk result (kept.new.items ≡ kept.old.items ++ filter (λ e. not (e.1 == 0)) ((word, k) ∷ [])) }
+fn keep(kept: &mut Vec<(Row, u8)>, row: &Row, k: u8) -> Result<(), AllocError>
+    ensures { OnOk result (kept.new.items ≡ kept.old.items ++ filter (λ e. not (e.1 == 0)) ((row.now, k) ∷ [])) }
 {
     if k == 0 {
         return Ok(());
     }
-    kept.push((row_of(word), k))?;
+    kept.push((row.copy(), k))?;
     Ok(())
 }

@@ -1,9 +1,12 @@
-use Rattle.std.proofs.Common.{◌≡◌, ◌++◌, ℕ, List, slice_index_or, subst, sym, ◌∙◌, ap, arith, append_assoc}
+use Rattle.std.proofs.Common.{◌≡◌, ◌≤◌, min, ◌++◌, ℕ, List, slice_index_or, subst, sym, ◌∙◌, ap, arith, append_assoc}
 use Rattle.std.proofs.lemmas.Grind.{common_steps}
 use Rattle.circuit_list.specs.declared.Gate.{Gate}
 use Rattle.phase_poly.specs.Layers.{no_gates, hadamards}
 use Rattle.phase_poly.specs.Polys.{AreDihedral}
 use Rattle.phase_poly.specs.Replaced.{HasBlocks, IsTaken}
+use Rattle.phase_poly.specs.Resynthesis.{cx_bound}
+use Rattle.unitary_model.specs.Operations.{cx_count}
+use Rattle.circuit_list.specs.Gates.{ops}
 use Rattle.phase_poly.proofs.RelinkedLaws.{dihedral_layer, relinked-next}
 use Rattle.phase_poly.proofs.relinking.relinked.Goals as goal
 
@@ -22,7 +25,8 @@ steps-preserved c =
       below = omega arith;
       relinked = relinked-next c.args.wires c.steps.turn c.in_ok-part.part.turn c.args.layers.now c.steps.layer-index no_gates c.steps.list.items c.in_ok-part.part.list.items c.push_hadamards.new.list.items
           c.steps-test.true c.steps.invariant.relinked
-          (subst (λ (gs : List Gate). (b : ℕ) → HasBlocks c.args.wires gs b → IsTaken c.args.wires b gs c.in_ok-part.part.list.items c.in_ok-part.part.turn) gates c.in_ok-part.ensures.taken)
+          (subst (λ (gs : List Gate). IsTaken c.args.wires gs c.in_ok-part.part.list.items c.in_ok-part.part.turn) gates c.in_ok-part.ensures.taken)
+          (subst (λ (gs : List Gate). (b : ℕ) → HasBlocks c.args.wires gs b → cx_count (ops c.in_ok-part.part.list.items) ≤ min (cx_count (ops gs)) (cx_bound c.args.wires b)) gates c.in_ok-part.ensures.few)
           (rest ∙ ap (λ z. z ++ hadamards c.hadamards.result.now) part ∙ append_assoc c.steps.list.items c.in_ok-part.part.list.items (hadamards c.hadamards.result.now)
           ∙ ap (λ (qs : List ℕ). c.steps.list.items ++ (c.in_ok-part.part.list.items ++ hadamards qs)) wires);
     }

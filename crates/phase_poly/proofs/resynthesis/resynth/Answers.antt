@@ -1,67 +1,58 @@
-use Rattle.std.proofs.Common.{◌≡◌, ◌≤◌, ◌*◌, ◌+◌, ◌++◌, List, length, map, subst, sym, ◌∙◌, ap, arith}
+use Rattle.std.proofs.Common.{◌≡◌, ◌≤◌, length, sym, subst, ◌∙◌, arith}
 use Rattle.std.proofs.lemmas.Grind.{common_steps}
-use Rattle.std.proofs.lemmas.List.{length-map}
-use Rattle.unitary_model.specs.Operations.{cx_count}
-use Rattle.circuit_list.specs.Gates.{ops}
-use Rattle.gf2_linear.specs.Rows.{is_independent}
-use Rattle.gf2_linear.proofs.MatrixLaws.{length-identity}
-use Rattle.matroid_partition.specs.Partitions.{IsPartition}
-use Rattle.phase_poly.specs.Resynthesis.{picked, rows_of, flip_gates}
-use Rattle.phase_poly.proofs.ResynthLaws.{partition-nonzero, identity_independent, blocks-within, blocks-independent, poly-terms, poly-map, mid_built, mid_few, resynth_told}
+use Rattle.phase_poly.specs.Polys.{AreDihedral}
+use Rattle.phase_poly.proofs.NamedLaws.{AreNames}
+use Rattle.phase_poly.proofs.NamingLaws.{known, names-below, places-names, resynth_named, resynth_few}
 use Rattle.phase_poly.proofs.resynthesis.resynth.Goals as goal
 
-pub partition-requires : goal.partition-requires
-partition-requires c =
-    let rows : c.deref.result.now ≡ rows_of c.in_ok-sum.sum.terms = grind (arith, common_steps) in
-    record { nonzero = partition-nonzero c.args.wires c.args.list.now c.in_ok-sum.sum c.deref.result.now c.requires.dihedral c.in_ok-sum.ensures rows }
+pub numbered-requires-clause-few : goal.numbered-requires-clause-few
+numbered-requires-clause-few c =
+    let names : AreNames c.args.wires c.deref.result.now = places-names c.args.wires c.wires_of.result c.deref.result.now (c.deref.ensures.value ∙ c.in_ok-names.ensures) in
+    let few : length c.deref.result.now ≤ c.args.wires = names.few in
+    omega (arith, few, c.requires.few)
 
-pub put_blocks-requires-clause-held : goal.put_blocks-requires-clause-held
-put_blocks-requires-clause-held c = identity_independent c.args.wires c.in_ok-held.held c.in_ok-held.ensures
+pub numbered-requires-clause-known : goal.numbered-requires-clause-known
+numbered-requires-clause-known c =
+    known c.args.wires c.wires_of.result c.deref.result.now c.args.list.now (c.deref.ensures.value ∙ c.in_ok-names.ensures) c.requires.dihedral c.wires_of.ensures
 
-pub put_blocks-requires-clause-within : goal.put_blocks-requires-clause-within
-put_blocks-requires-clause-within c = λ k d l.
-    let rows : c.deref.result.now ≡ rows_of c.terms-2.result.now = grind (arith, common_steps) in
-    let blocks : c.deref-2.result.now ≡ c.in_ok-parts.parts.blocks.items = grind (arith, common_steps) in
-    blocks-within (λ b. b.items) c.deref.result.now c.terms-2.result.now c.deref-2.result.now rows
-    (subst (λ bs. IsPartition c.deref.result.now (map (λ b. b.items) bs)) (sym blocks) c.in_ok-parts.ensures.partition) k d l
+pub overflow_cast-len : goal.overflow_cast-len
+overflow_cast-len c =
+    let names : AreNames c.args.wires c.deref.result.now = places-names c.args.wires c.wires_of.result c.deref.result.now (c.deref.ensures.value ∙ c.in_ok-names.ensures) in
+    let few : length c.deref.result.now ≤ c.args.wires = names.few in
+    let count : c.len.result ≡ length c.deref.result.now = grind (arith, common_steps) in
+    omega (arith, few, count, c.requires.few)
 
-pub put_blocks-requires-clause-terms : goal.put_blocks-requires-clause-terms
-put_blocks-requires-clause-terms c =
-    let size : length c.in_ok-held.held ≡ c.args.wires = ap (λ (m : List _). length m) c.in_ok-held.ensures ∙ length-identity c.args.wires in
-    poly-terms c.args.wires (length c.in_ok-held.held) c.args.list.now c.in_ok-sum.sum c.terms-2.result.now c.requires.dihedral c.in_ok-sum.ensures size c.terms-2.ensures.below c.terms-2.ensures.same
+pub rebuilt-requires-clause-few : goal.rebuilt-requires-clause-few
+rebuilt-requires-clause-few c =
+    let names : AreNames c.args.wires c.deref.result.now = places-names c.args.wires c.wires_of.result c.deref.result.now (c.deref.ensures.value ∙ c.in_ok-names.ensures) in
+    let few : length c.deref.result.now ≤ c.args.wires = names.few in
+    let count : c.len.result ≡ length c.deref.result.now = grind (arith, common_steps) in
+    omega (arith, few, count, c.requires.few)
 
-pub put_blocks-requires-clause-independent : goal.put_blocks-requires-clause-independent
-put_blocks-requires-clause-independent c = λ k d l.
-    let rows : c.deref.result.now ≡ rows_of c.terms-2.result.now = grind (arith, common_steps) in
-    let blocks : c.deref-2.result.now ≡ c.in_ok-parts.parts.blocks.items = grind (arith, common_steps) in
-    blocks-independent (λ b. b.items) c.deref.result.now c.terms-2.result.now c.deref-2.result.now rows
-    (subst (λ bs. IsPartition c.deref.result.now (map (λ b. b.items) bs)) (sym blocks) c.in_ok-parts.ensures.partition) k d l
+pub rebuilt-requires-clause-dihedral : goal.rebuilt-requires-clause-dihedral
+rebuilt-requires-clause-dihedral c =
+    let count : c.len.result ≡ length c.deref.result.now = grind (arith, common_steps) in
+    subst (λ k. AreDihedral k c.deref-2.result.now) (sym count)
+    (subst (AreDihedral (length c.deref.result.now)) (sym c.deref-2.ensures.value) (c.in_ok-gates.ensures.dihedral c.args.wires c.requires.dihedral))
 
-pub bring-requires-clause-size : goal.bring-requires-clause-size
-bring-requires-clause-size c =
-    let map_is : c.map.result.now ≡ c.in_ok-sum.sum.map = grind (arith, common_steps) in
-    ap (λ (m : List _). length m) map_is ∙ (poly-map c.args.wires c.args.list.now c.in_ok-sum.sum c.requires.dihedral c.in_ok-sum.ensures).0
-    ∙ sym (c.in_ok-put_blocks.ensures.size ∙ ap (λ (m : List _). length m) c.in_ok-held.ensures ∙ length-identity c.args.wires)
-
-pub bring-requires-clause-target : goal.bring-requires-clause-target
-bring-requires-clause-target c =
-    ap is_independent c.map.ensures ∙ (poly-map c.args.wires c.args.list.now c.in_ok-sum.sum c.requires.dihedral c.in_ok-sum.ensures).1
+pub renamed-requires-clause-below : goal.renamed-requires-clause-below
+renamed-requires-clause-below c =
+    names-below c.args.wires c.deref-3.result.now (places-names c.args.wires c.wires_of.result c.deref-3.result.now (c.deref-3.ensures.value ∙ c.in_ok-names.ensures)) c.requires.few
 
 pub returns-clause-resynthesis : goal.returns-clause-resynthesis
 returns-clause-resynthesis c =
-    let size : length c.in_ok-held.held ≡ c.args.wires = ap (λ (m : List _). length m) c.in_ok-held.ensures ∙ length-identity c.args.wires in
-    let rows : c.deref.result.now ≡ rows_of c.in_ok-sum.sum.terms = grind (arith, common_steps) in
-    let blocks : c.deref-2.result.now ≡ c.in_ok-parts.parts.blocks.items = grind (arith, common_steps) in
-    let built = mid_built c.args.wires (length c.in_ok-held.held) (length c.put_blocks.new.held) c.new-gates.result.items c.put_blocks.new.gates.items c.bring.new.gates.items
-    c.in_ok-held.held c.put_blocks.new.held c.map.result.now (picked c.terms-2.result.now (map (λ b. b.items) c.deref-2.result.now)) size c.in_ok-put_blocks.ensures.size
-    c.in_ok-put_blocks.ensures.built c.in_ok-bring.ensures.built c.new-gates.ensures.items c.in_ok-held.ensures in
-    let pushed : c.push_flips.new.gates.items ≡ c.bring.new.gates.items ++ flip_gates c.args.wires c.flips.result.now = c.in_ok-flips.ensures.ok in
-    let none : cx_count (ops c.new-gates.result.items) ≡ 0 = ap (λ gs. cx_count (ops gs)) c.new-gates.ensures.items in
-    let few = mid_few c.args.wires (length c.in_ok-held.held) (length c.put_blocks.new.held) (length c.deref-2.result.now) (cx_count (ops c.new-gates.result.items)) (cx_count (ops c.put_blocks.new.gates.items)) (cx_count (ops c.bring.new.gates.items))
-    size c.in_ok-put_blocks.ensures.size c.in_ok-put_blocks.ensures.few c.in_ok-bring.ensures.few none in
-    resynth_told c.args.wires c.args.list.now c.bring.new.gates.items c.push_flips.new.gates.items c.in_ok-sum.sum c.deref.result.now c.map.result.now c.terms-2.result.now c.flips.result.now
-    (map (λ b. b.items) c.in_ok-parts.parts.blocks.items) (map (λ b. b.items) c.deref-2.result.now) c.in_ok-flips.flips c.constant.result c.requires.dihedral c.in_ok-sum.ensures rows
-    c.terms-2.ensures.same c.map.ensures c.flips.ensures c.constant.ensures.same (ap (λ bs. map (λ b. b.items) bs) blocks) c.in_ok-parts.ensures.partition
-    (λ other g. subst (λ k. k ≤ length other) (c.in_ok-parts.parts.blocks.ok.0 ∙ sym (length-map c.in_ok-parts.parts.blocks.items _)) (c.in_ok-parts.ensures.least other g))
-    built (subst (λ k. cx_count (ops c.bring.new.gates.items) ≤ (k + 1) * (c.args.wires * c.args.wires)) (sym (length-map c.deref-2.result.now _)) few)
-    pushed c.in_ok-flips.ensures.number
+    let count : c.len.result ≡ length c.deref.result.now = grind (arith, common_steps) in
+    resynth_named c.args.wires c.in_ok-part.part.turn c.len.result c.deref.result.now c.deref-3.result.now c.args.list.now c.in_ok-gates.gates.items c.deref-2.result.now
+    c.in_ok-part.part.list.items c.deref-4.result.now c.in_ok-list.list.items
+    (places-names c.args.wires c.wires_of.result c.deref.result.now (c.deref.ensures.value ∙ c.in_ok-names.ensures)) count
+    (c.deref-3.ensures.value ∙ sym c.deref.ensures.value) c.deref-2.ensures.value c.in_ok-gates.ensures.gates (c.in_ok-gates.ensures.dihedral c.args.wires c.requires.dihedral)
+    c.in_ok-part.ensures.resynthesis c.deref-4.ensures.value c.in_ok-list.ensures
+
+pub returns-clause-few : goal.returns-clause-few
+returns-clause-few c =
+    let count : c.len.result ≡ length c.deref.result.now = grind (arith, common_steps) in
+    resynth_few c.args.wires c.len.result c.deref.result.now c.deref-3.result.now c.args.list.now c.in_ok-gates.gates.items c.deref-2.result.now
+    c.in_ok-part.part.list.items c.deref-4.result.now c.in_ok-list.list.items
+    (places-names c.args.wires c.wires_of.result c.deref.result.now (c.deref.ensures.value ∙ c.in_ok-names.ensures)) count
+    (c.deref-3.ensures.value ∙ sym c.deref.ensures.value) c.deref-2.ensures.value c.in_ok-gates.ensures.gates (c.in_ok-gates.ensures.dihedral c.args.wires c.requires.dihedral)
+    c.in_ok-part.ensures.few c.deref-4.ensures.value c.in_ok-list.ensures
