@@ -40,8 +40,9 @@ impl Pass for CancelPass {
 
     fn run(&self, alloc: Global, body: Circuit) -> Result<Passed, AllocError> {
         let mut body = body;
-        let mut queue = Queue::new(alloc);
+        let mut queue = Queue::new(alloc, body.wires())?;
         let mut turn = 0;
+        body.link()?;
         'walks: loop {
             let Some(more) = walk_all(&mut body, &mut queue)? else {
                 return Ok(Passed { body, turn });

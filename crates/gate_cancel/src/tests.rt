@@ -139,7 +139,58 @@ fn inverse(gate: Gate) -> Gate {
     }
 }
 
-/// Random circuits, and random ones before what undoes them: the list and the turn are those of the plain walks.
+/// Wires that differ by a multiple of 64 are told apart, and so are gates with the one or the other.
+#[test]
+fn tells_wires_of_one_bit_apart(rt: HostRuntime) -> Result<(), Fail> {
+    let alloc = rt.alloc();
+    let gates = [
+        Gate::Cx { c: 1, t: 193 },
+        Gate::H { q: 65 },
+        Gate::H { q: 129 },
+        Gate::Cx { c: 1, t: 65 },
+        Gate::Cx { c: 1, t: 129 },
+        Gate::Cx { c: 1, t: 193 },
+        Gate::H { q: 65 },
+        Gate::H { q: 129 },
+        Gate::X { q: 255 },
+        Gate::X { q: 191 },
+        Gate::X { q: 255 },
+    ];
+    let expected = [
+        Gate::H { q: 65 },
+        Gate::H { q: 129 },
+        Gate::Cx { c: 1, t: 65 },
+        Gate::Cx { c: 1, t: 129 },
+        Gate::H { q: 65 },
+        Gate::H { q: 129 },
+        Gate::X { q: 191 },
+    ];
+    assert!(rt; makes(&rt, alloc, 256, &gates, &expected, 4)?);
+    Ok(())
+}
+
+/// A gate on wires that are 64 times as far.
+fn spread(gate: Gate) -> Gate {
+    match gate {
+        Gate::H { q } => Gate::H {
+            q: q.saturating_mul(64),
+        },
+        Gate::X { q } => Gate::X {
+            q: q.saturating_mul(64),
+        },
+        Gate::P { k, q } => Gate::P {
+            k,
+            q: q.saturating_mul(64),
+        },
+        Gate::Cx { c, t } => Gate::Cx {
+            c: c.saturating_mul(64),
+            t: t.saturating_mul(64),
+        },
+    }
+}
+
+/// Random circuits, and random ones before what undoes them: the list and the turn are those of the plain walks. A third of
+/// them is on the wires 0, 64, 128 and 192.
 #[test]
 fn cancels_as_the_plain_walks_do(rt: HostRuntime) -> Result<(), Fail> {
     let alloc = rt.alloc();
@@ -154,9 +205,14 @@ fn cancels_as_the_plain_walks_do(rt: HostRuntime) -> Result<(), Fail> {
             }
             gates.extend_from_slice(&mirrored)?;
         }
+        if round % 3 == 0 {
+            'spread: for gate in gates.iter_mut() {
+                *gate = spread(*gate);
+            }
+        }
         let mut plain = gates.clone()?;
         let turn = plain_walks(&rt, &mut plain);
-        assert!(rt; makes(&rt, alloc, 4, &gates, &plain, turn)?);
+        assert!(rt; makes(&rt, alloc, 256, &gates, &plain, turn)?);
     }
     Ok(())
 }

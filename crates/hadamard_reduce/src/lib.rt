@@ -51,16 +51,17 @@ impl Rule for HadamardRules {
     }
 }
 
-/// The changes of [`HadamardRules`], until no window is left.
+/// The changes of [`HadamardRules`], until no window is left. No gate is added.
 #[derive(Clone, Copy, Debug)]
 pub struct HadamardPass;
 
 impl Pass for HadamardPass {
+    ghost use Rattle.std.specs.Prelude.{◌≤◌, length};
     ghost use Rattle.hadamard_reduce.specs.Windows.{HasNoWindow};
 
     ghost shape = { λ n gs. HasNoWindow gs };
 
-    ghost kept = { λ n old new. Unit {0} };
+    ghost kept = { λ n old new. length new ≤ length old };
 
     fn run(&self, alloc: Global, body: Circuit) -> Result<Passed, AllocError> {
         Sweep(HadamardRules).run(alloc, body)

@@ -32,14 +32,17 @@ impl<A: Pass, B: Pass> Pass for Then<A, B> {
 }
 
 /// A pass once, and then again while that makes the circuit smaller. Of the results, of which the first always counts, it is
-/// the last that has fewer gates than the one before.
+/// the last that has fewer gates than the one before: the pass once more takes no gate from it.
 #[derive(Clone, Debug, Drop)]
 pub struct WhileSmaller<P>(pub P);
 
 impl<P: Pass> Pass for WhileSmaller<P> {
+    ghost use Rattle.std.specs.Prelude.{◌≤◌, List, length};
+    ghost use Rattle.circuit_list.specs.declared.Gate.{Gate};
+
     ghost shape = { P.shape };
 
-    ghost kept = { λ _ _ _. Unit {0} };
+    ghost kept = { λ n old new. (gs : List Gate) × (P.kept n new gs × (length new ≤ length gs)) };
 
     fn run(&self, alloc: Global, body: Circuit) -> Result<Passed, AllocError> {
         smallest(alloc, &self.0, body)
