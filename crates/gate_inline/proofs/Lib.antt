@@ -6,6 +6,7 @@ pub mod ReadLaws
 pub mod FineLaws
 pub mod PlacedLaws
 pub mod LengthLaws
+pub mod EitherLaws
 pub mod OnceLaws
 pub mod ReadWires
 pub mod KeptLaws

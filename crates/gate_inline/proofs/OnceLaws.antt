@@ -45,7 +45,7 @@ fewer s t e = both (nat_lt 65536 (s.operations + t.operations)) (nat_lt 1048576 
 fine_part : (gates : List Gate) (xs ys : List Step) → is_too_much (total gates (xs ++ ys)) ≡ false → is_too_much (total gates xs) ≡ false
 fine_part gates xs ys e = fewer (total gates xs) (total gates ys) (rw (total-append gates xs ys) at e)
 
-over_or_fine : (gates : List Gate) (xs : List Step) → is_too_much (total gates xs) ≡ true → is_too_much (total gates xs) ≡ false → ⊥
+pub over_or_fine : (gates : List Gate) (xs : List Step) → is_too_much (total gates xs) ≡ true → is_too_much (total gates xs) ≡ false → ⊥
 over_or_fine gates xs e f = let h : true ≡ false = sym e ∙ f in cc
 
 none_too_many : (gates : List Gate) (steps : List Step) (n : ℕ) → is_too_much (total gates steps) ≡ false → IsTooMany gates steps n → ⊥
@@ -54,7 +54,7 @@ none_too_many gates steps n small (before, s, rest, split, at, fine, over) =
     over_or_fine gates (before ++ s ∷ []) over (fine_part gates (before ++ s ∷ []) rest (rw whole at small))
 
 -- ---- answers
-operations-append : (gates : List Gate) (xs ys : List Step) → operations gates (xs ++ ys) ≡ followed (operations gates xs) (operations gates ys)
+pub operations-append : (gates : List Gate) (xs ys : List Step) → operations gates (xs ++ ys) ≡ followed (operations gates xs) (operations gates ys)
 operations-append gates xs ys =
     ap joined (map-append (step_answer (meanings gates)) xs ys)
     ∙ joined-append (map (step_answer (meanings gates)) xs) (map (step_answer (meanings gates)) ys)

@@ -6,7 +6,7 @@
 //! a long chain of gates needs no deep stack. Each operation is such as `gate_expand::expand` asks for. Time is linear in the
 //! operations and items, and in the expressions of the angles of each; a gate that was applied to the same values of its
 //! parameters before, and to the same wires if it has an operation, is copied and not worked out again. So many calls are
-//! remembered as 64 MiB of values have.
+//! remembered as 32 MiB of values have.
 #![tactic(auto)]
 
 mod body;
@@ -24,7 +24,7 @@ mod stop;
 mod value;
 
 pub use inlining::inline;
-pub use laws::{inlined_has_no_fault, refused_once};
+pub use laws::{inlined_has_no_fault, inlined_or_refused, refused_once};
 pub use refusal::{InlineFault, Refusal, Refused};
 
 /// The most operations that a program has.

@@ -1,3 +1,4 @@
 pub mod ReaderLaws
 pub mod OnceLaws
 pub mod RegisterLaws
+pub mod WholeLaws

@@ -2,14 +2,14 @@
 --   LexRefusedOnce, ParseRefusedOnce, CheckRefusedOnce, InlineRefusedOnce, OnceLaws     laws of the stages, as they are handed in
 --   Told text r     a refusal of a text, by the stage that tells it
 --   told            each refusal is one of these
---   told_once       two of them are one refusal; the place of Syntax aside
+--   told_once       two of them are one refusal
 --   refused_once    so a text has one
 use Rattle.std.proofs.Common.{◌≡◌, ◌≢◌, ℕ, ◌<◌, List, refl, sym, subst, ◌∙◌, ap, arith, length}
 use Rattle.qasm_lexer.specs.Tokens.{IsLexFault}
 use Rattle.qasm_lexer.specs.declared.LexFault.{LexFault}
 use Rattle.qasm_lexer.specs.declared.LexFault.TheVariants as lexing
 use Rattle.qasm_lexer.specs.declared.Token.{Token}
-use Rattle.qasm_parser.specs.Parsing.{IsAlike as IsAlikeFault, IsParseFault}
+use Rattle.qasm_parser.specs.Parsing.{IsParseFault}
 use Rattle.qasm_parser.specs.Tree.{Tree}
 use Rattle.qasm_parser.specs.declared.ParseFault.{ParseFault}
 use Rattle.qasm_parser.specs.declared.ParseFault.TheVariants as parsing
@@ -20,7 +20,7 @@ use Rattle.qasm_check.specs.declared.refusal.Refused.{Refused as Checked}
 use Rattle.gate_inline.specs.Inlined.{IsInlineRefused}
 use Rattle.gate_inline.specs.Programs.{IsSource, IsTreeOf, text_limit}
 use Rattle.gate_inline.specs.declared.refusal.Refused.{Refused as Inlined}
-use Rattle.program_reader.specs.Refusals.{IsAlike, IsRefusal, IsUnparsed, IsWithin, lex_fault, parse_fault}
+use Rattle.program_reader.specs.Refusals.{IsRefusal, IsUnparsed, IsWithin, lex_fault, parse_fault}
 use Rattle.program_reader.specs.declared.refusal.Refusal.{Refusal}
 use Rattle.program_reader.specs.declared.refusal.Refusal.TheVariants.{TooLong, BadByte, Number, Syntax, Version, Depth, Check, Inline}
 use Rattle.program_reader.specs.declared.refusal.ReadFault.TheVariants.{Refused, NoMemory}
@@ -31,7 +31,7 @@ LexRefusedOnce = (text : List ℕ) (a b : LexFault) → IsLexFault text a → Is
 
 abbrev pub ParseRefusedOnce : Type 0
 ParseRefusedOnce = (text : List ℕ) (tokens : List Token) (a b : ParseFault) → IsParseFault text tokens a → IsParseFault text tokens b
-    → a ≢ parsing.NoMemory → b ≢ parsing.NoMemory → IsAlikeFault a b
+    → a ≢ parsing.NoMemory → b ≢ parsing.NoMemory → a ≡ b
 
 abbrev pub CheckRefusedOnce : Type 0
 CheckRefusedOnce = (t : Tree) (a b : Checked) → IsCheckRefused t a → IsCheckRefused t b → a ≡ b
@@ -66,20 +66,6 @@ told text (Depth place) (short, f) = by_parser (parsing.Depth place) short f ref
 told text (Check e) (short, t, is, f) = by_checks t e short is f refl
 told text (Inline e) (short, t, is, f) = by_inlining t e short is f refl
 
--- ---- a refusal is alike itself
-alike_itself : (r : Refusal) → IsAlike r r
-alike_itself TooLong = refl
-alike_itself (BadByte place) = refl
-alike_itself (Number place) = refl
-alike_itself (Syntax place) = tt
-alike_itself (Version place) = refl
-alike_itself (Depth place) = refl
-alike_itself (Check e) = refl
-alike_itself (Inline e) = refl
-
-alike : (r s : Refusal) → r ≡ s → IsAlike r s
-alike r s e = subst (λ x. IsAlike r x) e (alike_itself r)
-
 refused_same : (r s : Refusal) → Refused r ≡ Refused s → r ≡ s
 refused_same r s e = cc
 
@@ -91,21 +77,11 @@ parsed_some : (r : Refusal) (e : ParseFault) → Refused r ≡ parse_fault e →
 parsed_some r e is none = let no : Refused r ≡ NoMemory = is ∙ ap parse_fault none in cc
 
 -- ---- one stage, twice
-lexed_alike : (r s : Refusal) (e f : LexFault) → e ≡ f → Refused r ≡ lex_fault e → Refused s ≡ lex_fault f → IsAlike r s
-lexed_alike r s e f same h k = alike r s (refused_same r s (h ∙ ap lex_fault same ∙ sym k))
+lexed_same : (r s : Refusal) (e f : LexFault) → e ≡ f → Refused r ≡ lex_fault e → Refused s ≡ lex_fault f → r ≡ s
+lexed_same r s e f same h k = refused_same r s (h ∙ ap lex_fault same ∙ sym k)
 
-parsed_same : (r s : Refusal) (e f : ParseFault) → e ≡ f → Refused r ≡ parse_fault e → Refused s ≡ parse_fault f → IsAlike r s
-parsed_same r s e f same h k = alike r s (refused_same r s (h ∙ ap parse_fault same ∙ sym k))
-
-parsed_alike : (r s : Refusal) (e f : ParseFault) → IsAlikeFault e f → Refused r ≡ parse_fault e → Refused s ≡ parse_fault f → IsAlike r s
-parsed_alike r s (parsing.Syntax a) (parsing.Syntax b) same h k =
-    subst (λ x. IsAlike x s) (sym (refused_same r (Syntax a) h)) (subst (λ x. IsAlike (Syntax a) x) (sym (refused_same s (Syntax b) k)) tt)
-parsed_alike r s (parsing.Syntax a) (parsing.Version b) same h k = parsed_same r s _ _ same h k
-parsed_alike r s (parsing.Syntax a) (parsing.Depth b) same h k = parsed_same r s _ _ same h k
-parsed_alike r s (parsing.Syntax a) parsing.NoMemory same h k = parsed_same r s _ _ same h k
-parsed_alike r s (parsing.Version a) f same h k = parsed_same r s _ f same h k
-parsed_alike r s (parsing.Depth a) f same h k = parsed_same r s _ f same h k
-parsed_alike r s parsing.NoMemory f same h k = parsed_same r s _ f same h k
+parsed_same : (r s : Refusal) (e f : ParseFault) → e ≡ f → Refused r ≡ parse_fault e → Refused s ≡ parse_fault f → r ≡ s
+parsed_same r s e f same h k = refused_same r s (h ∙ ap parse_fault same ∙ sym k)
 
 -- ---- two stages
 long_within : (text : List ℕ) → text_limit < length text → IsWithin text → ⊥
@@ -127,15 +103,15 @@ checked_source laws text t u e is h (also, fine) =
     cc
 
 -- ---- one refusal
-told_once : OnceLaws → (text : List ℕ) (r s : Refusal) → Told text r → Told text s → IsAlike r s
-told_once all text r s (by_length h is) (by_length k also) = alike r s (is ∙ sym also)
+told_once : OnceLaws → (text : List ℕ) (r s : Refusal) → Told text r → Told text s → r ≡ s
+told_once all text r s (by_length h is) (by_length k also) = is ∙ sym also
 told_once all text r s (by_length h is) (by_lexer f short k also) = absurd (long_within text h short)
 told_once all text r s (by_length h is) (by_parser f short k also) = absurd (long_within text h short)
 told_once all text r s (by_length h is) (by_checks u f short too k also) = absurd (long_within text h short)
 told_once all text r s (by_length h is) (by_inlining u f short too k also) = absurd (long_within text h short)
 told_once all text r s (by_lexer e short h is) (by_length k also) = absurd (long_within text k short)
 told_once all text r s (by_lexer e short h is) (by_lexer f small k also) =
-    lexed_alike r s e f (all.lex_refused_once text e f h k (lexed_some r e is) (lexed_some s f also)) is also
+    lexed_same r s e f (all.lex_refused_once text e f h k (lexed_some r e is) (lexed_some s f also)) is also
 told_once all text r s (by_lexer e short h is) (by_parser f small k also) = absurd (lexed_unparsed all.laws text r e f is h k)
 told_once all text r s (by_lexer e short h is) (by_checks u f small too k also) = absurd (lexed_tree all.laws text r e u is h too)
 told_once all text r s (by_lexer e short h is) (by_inlining u f small too k also) = absurd (lexed_tree all.laws text r e u is h too.0)
@@ -144,7 +120,7 @@ told_once all text r s (by_parser e short h is) (by_lexer f small k also) = absu
 told_once all text r s (by_parser e short (xs, lx, h) is) (by_parser f small (ys, ly, k) also) =
     let same = all.laws.lexed_once text ys xs ly lx in
     let there = subst (λ (ts : List Token). IsParseFault text ts f) same k in
-    parsed_alike r s e f (all.parse_refused_once text xs e f h there (parsed_some r e is) (parsed_some s f also)) is also
+    parsed_same r s e f (all.parse_refused_once text xs e f h there (parsed_some r e is) (parsed_some s f also)) is also
 told_once all text r s (by_parser e short h is) (by_checks u f small too k also) = absurd (parsed_tree all.laws text r e u is h too)
 told_once all text r s (by_parser e short h is) (by_inlining u f small too k also) = absurd (parsed_tree all.laws text r e u is h too.0)
 told_once all text r s (by_checks t e short tree h is) (by_length k also) = absurd (long_within text k short)
@@ -153,7 +129,7 @@ told_once all text r s (by_checks t e short tree h is) (by_parser f small k also
 told_once all text r s (by_checks t e short tree h is) (by_checks u f small too k also) =
     let same = tree-once all.laws.lexed_once all.laws.spelt_once text u t too tree in
     let one = all.check_refused_once t e f h (subst (λ (x : Tree). IsCheckRefused x f) same k) in
-    alike r s (is ∙ ap Check one ∙ sym also)
+    is ∙ ap Check one ∙ sym also
 told_once all text r s (by_checks t e short tree h is) (by_inlining u f small too k also) = absurd (checked_source all.laws text t u e tree h too)
 told_once all text r s (by_inlining t e short tree h is) (by_length k also) = absurd (long_within text k short)
 told_once all text r s (by_inlining t e short tree h is) (by_lexer f small k also) = absurd (lexed_tree all.laws text s f t also k tree.0)
@@ -162,7 +138,7 @@ told_once all text r s (by_inlining t e short tree h is) (by_checks u f small to
 told_once all text r s (by_inlining t e short tree h is) (by_inlining u f small too k also) =
     let same = tree-once all.laws.lexed_once all.laws.spelt_once text u t too.0 tree.0 in
     let one = all.inline_refused_once (bound t) e f h (subst (λ (x : Tree). IsInlineRefused (bound x) f.refusal f.statement) same k) in
-    alike r s (is ∙ ap Inline one ∙ sym also)
+    is ∙ ap Inline one ∙ sym also
 
-pub refused_once : OnceLaws → (text : List ℕ) (r s : Refusal) → IsRefusal text r → IsRefusal text s → IsAlike r s
+pub refused_once : OnceLaws → (text : List ℕ) (r s : Refusal) → IsRefusal text r → IsRefusal text s → r ≡ s
 refused_once all text r s f g = told_once all text r s (told text r f) (told text s g)

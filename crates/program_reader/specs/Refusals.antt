@@ -5,11 +5,10 @@
 --                        that is too large, whichever comes first; else that no program is spelt, or one of another version, or
 --                        with an expression that is too deep; else that of the first statement which has one, with the least
 --                        code; else that there is too much to write out; else the first angle that isn't exact
---   IsAlike r s          two refusals are one; the place of Syntax aside
 --   IsReadFault text e   what may be told of a text: its first refusal, or want of memory
 --   program_of s         the program that a source stands for
 --   lex_fault, parse_fault   a fault of the tokens or of the grammar, as it is told
-use Rattle.std.specs.Prelude.{◌≡◌, ℕ, ◌<◌, ◌≤◌, List, length}
+use Rattle.std.specs.Prelude.{ℕ, ◌<◌, ◌≤◌, List, length}
 use Rattle.qasm_lexer.specs.Tokens.{AreTokens, IsLexFault}
 use Rattle.qasm_lexer.specs.declared.Token.{Token}
 use Rattle.qasm_lexer.specs.declared.LexFault.{LexFault}
@@ -43,10 +42,6 @@ IsRefusal text (Version place) = IsWithin text × IsUnparsed text (parsing.Versi
 IsRefusal text (Depth place) = IsWithin text × IsUnparsed text (parsing.Depth place)
 IsRefusal text (Check r) = IsWithin text × (t : Tree) × IsTreeOf text t × IsCheckRefused t r
 IsRefusal text (Inline r) = IsWithin text × (t : Tree) × IsSource text t × IsInlineRefused (bound t) r.refusal r.statement
-
-abbrev pub IsAlike : Refusal → Refusal → Type 0
-IsAlike (Syntax a) (Syntax b) = Unit {0}
-IsAlike r s = r ≡ s
 
 abbrev pub IsReadFault : List ℕ → ReadFault → Type 0
 IsReadFault text (Refused r) = IsRefusal text r

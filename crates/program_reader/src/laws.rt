@@ -1,8 +1,8 @@
 //! What holds of every text, as functions whose contracts are the laws.
 
-ghost use Rattle.std.specs.Prelude.{◌≡◌, ℕ, List};
+ghost use Rattle.std.specs.Prelude.{◌≡◌, ◌⊎◌, ℕ, List};
 ghost use Rattle.gate_inline.specs.Programs.{IsAccepted, IsWritten, Program as Meant};
-ghost use Rattle.program_reader.specs.Refusals.{IsAlike, IsRefusal};
+ghost use Rattle.program_reader.specs.Refusals.{IsRefusal};
 ghost use Rattle.program_reader.specs.declared.refusal.Refusal.{Refusal as First};
 
 /// A text means one program at most.
@@ -25,10 +25,19 @@ pub fn accepted_has_no_refusal()
     gate_inline::inlined_has_no_fault();
 }
 
-/// A text has one refusal at most, the place of Syntax aside. Of a text that spells no program the definition asks only that the
-/// place is within the text, for no definition here says which first parts of a text some program begins with.
+/// A text is accepted, or has a refusal.
+pub fn accepted_or_refused()
+    ensures { (text : List ℕ) → ((p : Meant) × IsAccepted text p) ⊎ ((r : First) × IsRefusal text r) }
+{
+    qasm_lexer::lexed_or_refused();
+    qasm_parser::parsed_or_refused();
+    qasm_check::checked_or_refused();
+    gate_inline::inlined_or_refused();
+}
+
+/// A text has one refusal at most.
 pub fn refused_once()
-    ensures { (text : List ℕ) (r s : First) → IsRefusal text r → IsRefusal text s → IsAlike r s }
+    ensures { (text : List ℕ) (r s : First) → IsRefusal text r → IsRefusal text s → r ≡ s }
 {
     qasm_lexer::lexed_once();
     qasm_lexer::accepted_has_no_fault();

@@ -3,7 +3,7 @@
 //! In goes a text of any bytes. Out comes the program that it spells, over all of the readers: tokens, tree, checks, and gates
 //! written out. The contract says that the text is accepted as this program, by the definition of what a text means. Else it
 //! tells the text's first refusal, exactly, with its place or statement. Each stage is dropped once the next one is there.
-//! `laws` says that a text means one program at most and has one refusal at most, and that an accepted one has none.
+//! `laws` says that a text means one program at most, that it is accepted or has a refusal, never both, and one at most.
 #![tactic(auto)]
 
 mod laws;
@@ -13,7 +13,7 @@ mod source;
 #[cfg(test)]
 mod tests;
 
-pub use laws::{accepted_has_no_refusal, means_once, refused_once};
+pub use laws::{accepted_has_no_refusal, accepted_or_refused, means_once, refused_once};
 pub use reading::{TEXT_LIMIT, read_program};
 pub use refusal::{ReadFault, Refusal};
 pub use source::Source;

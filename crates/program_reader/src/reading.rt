@@ -5,7 +5,7 @@ ghost use Rattle.gate_expand.specs.Expansion.{IsFineOp};
 ghost use Rattle.gate_inline.specs.Programs.{IsAccepted, IsTreeOf, IsWithinLimits, Means, text_limit};
 ghost use Rattle.gate_inline.specs.Registers.{AreRegisters, IsRead};
 ghost use Rattle.gate_inline.specs.Sizes.{operation_limit};
-ghost use Rattle.gate_library.specs.Limits.{most_qubits};
+ghost use Rattle.unitary_model.specs.Limits.{most_qubits};
 ghost use Rattle.program_reader.specs.Refusals.{IsReadFault, program_of};
 ghost use Rattle.program_reader.specs.Stages.{IsUnchecked, IsUnwritten};
 ghost use Rattle.qasm_check.specs.Checking.{IsFineTree, bound};

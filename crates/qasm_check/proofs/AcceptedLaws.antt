@@ -36,6 +36,7 @@ use Rattle.qasm_check.specs.declared.refusal.Refusal.TheVariants.{UnknownName, W
 use Rattle.qasm_check.specs.declared.bits.Bits.{Bits}
 use Rattle.qasm_check.proofs.RegisterLaws.{registers_apart, registers_free, registers_sizes, registers_sum}
 use Rattle.qasm_check.proofs.SoundLaws.{HasGates, are_gates-push, both, callee, each-uses, first, fits-callee, gate_at-front, gate_sound, le_test, lt_test, neither_first, neither_second, not_false, not_not, second, test_le, test_lt}
+use Rattle.unitary_model.specs.Limits.{most_qubits}
 
 abbrev pub kind_size : Bool → ℕ → ℕ → ℕ
 kind_size true wires bits = wires
@@ -46,7 +47,7 @@ pub record IsSoundKnown (k : Known) : Type 0 where
   pub many : 31 ≤ length k.gates
   pub numbers : (name : List ℕ) (c : ℕ) → k.declared name ≡ Some (Numbered c) → c < length k.gates
   pub registers : (name : List ℕ) (r : Reg) → k.declared name ≡ Some (Register r) → r.first + r.size ≤ kind_size r.quantum k.wires k.bits
-  pub few_wires : k.wires ≤ 64
+  pub few_wires : k.wires ≤ most_qubits
   pub few_bits : k.bits ≤ 1024
 
 -- ---- names
@@ -133,8 +134,8 @@ wider false w b v c n le lf e = omega arith
 
 sound-wires : (k : Known) → IsSoundKnown k → (name : List ℕ) (size : ℕ) → IsFine k (register true name size) → IsSoundKnown (after k (register true name size))
 sound-wires k sound name size fine =
-    let many : nat_lt 64 (k.wires + size) ≡ false = fine TooManyQubits in
-    let few : k.wires + size ≤ 64 = grind (arith, nat_tests) in
+    let many : nat_lt most_qubits (k.wires + size) ≡ false = fine TooManyQubits in
+    let few : k.wires + size ≤ most_qubits = grind (arith, nat_tests) in
     let made : Reg = record { quantum = true; first = k.wires; size = size } in
     record {
       gates = sound.gates;

@@ -1,4 +1,5 @@
 mod AcceptedLaws
+mod EitherLaws
 mod ListingLaws
 mod LoopLaws
 mod OnceLaws

@@ -24,7 +24,8 @@ use Rattle.qasm_parser.specs.declared.tree.Arg.{Arg}
 use Rattle.gate_library.specs.Gates.{Gate, gate_at, gate_params, gate_qubits, is_opaque}
 use Rattle.gate_library.specs.Known.{Known, meaning}
 use Rattle.gate_library.specs.Library.{standard_names, table_names, is_standard}
-use Rattle.gate_library.specs.Limits.{most_bits, most_qubits}
+use Rattle.gate_library.specs.Limits.{most_bits}
+use Rattle.unitary_model.specs.Limits.{most_qubits}
 use Rattle.gate_library.specs.Meanings.{is_beyond as goes_beyond, is_gate, is_other, is_register}
 use Rattle.gate_library.specs.Names.{has_repeat, is_one_of}
 use Rattle.gate_library.specs.Operands.{broadcast, differs_from, measure_differs, repeats, wires_of}

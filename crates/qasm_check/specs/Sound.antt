@@ -17,7 +17,8 @@ use Rattle.std.specs.List.{list_all, list_any, sum_by}
 use Rattle.std.specs.Str.{bytes_eq}
 use Rattle.gate_library.specs.Gates.{Formula, number, pi, param, negated, called, binary, Item, call, barrier, Gate, u, cx, opaque, composed, gate_at, gate_params, gate_qubits, is_opaque}
 use Rattle.gate_library.specs.Library.{table_names}
-use Rattle.gate_library.specs.Limits.{most_bits, most_qubits}
+use Rattle.gate_library.specs.Limits.{most_bits}
+use Rattle.unitary_model.specs.Limits.{most_qubits}
 use Rattle.gate_library.specs.Names.{has_repeat, is_one_of}
 use Rattle.gate_library.specs.Operands.{broadcast, differs_from, repeats, sizes_differ}
 use Rattle.gate_library.specs.declared.operand.Operand.{Operand}

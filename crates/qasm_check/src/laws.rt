@@ -1,6 +1,6 @@
 //! What holds of every tree, as functions whose contracts are the laws.
 
-ghost use Rattle.std.specs.Prelude.{◌≡◌, ◌++◌, length};
+ghost use Rattle.std.specs.Prelude.{◌≡◌, ◌⊎◌, ◌++◌, length};
 ghost use Rattle.gate_library.specs.Listing.{added, standard};
 ghost use Rattle.qasm_parser.specs.Tree.{Tree};
 ghost use Rattle.qasm_check.specs.Checking.{IsCheckFault, IsCheckRefused, IsFineTree, bound};
@@ -13,6 +13,11 @@ ghost use Rattle.qasm_check.specs.declared.refusal.Refused.{Refused as Told};
 /// A tree has one refusal at most: the statement and its code.
 pub fn refused_once()
     ensures { (t : Tree) (a b : Told) → IsCheckRefused t a → IsCheckRefused t b → a ≡ b }
+{}
+
+/// A tree is accepted, or has a first refusal.
+pub fn checked_or_refused()
+    ensures { (t : Tree) → IsFineTree t ⊎ ((r : Told) × IsCheckRefused t r) }
 {}
 
 /// Each gate of the tables, written as a program would define it, spells a definition that is bound to the table's gate.

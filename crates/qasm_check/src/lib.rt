@@ -24,13 +24,15 @@ mod tests;
 pub use bits::Bits;
 pub use checked::Checked;
 pub use gate_library::{Formula, Gate, Item, Operand};
-pub use laws::{accepted_has_no_fault, accepted_is_sound, listing_is_spelt, refused_once};
+pub use laws::{
+    accepted_has_no_fault, accepted_is_sound, checked_or_refused, listing_is_spelt, refused_once,
+};
 pub use program::check;
 pub use refusal::{CheckFault, Refusal, Refused};
 pub use statement::Step;
 
-/// The most qubits that a program has.
-pub const QUBIT_LIMIT: u64 = 64;
+/// The most qubits that a program has: as many as a circuit has wires.
+pub const QUBIT_LIMIT: u64 = 256;
 
 /// The most classical bits that a program has.
 pub const BIT_LIMIT: u64 = 1024;

@@ -1,5 +1,5 @@
 -- What the loops over lists need: the list so far is put in front of what is still to come.
---   more-first, more-step, more-last, more-fail   the first member, one more, none more, one that can't be read
+--   more-first, more-step, more-last   the first member, one more, none more
 --   names, args, angles   these for each kind of list
 use Rattle.std.proofs.Common.{◌≡◌, ℕ, Bool, true, false, if◌then◌else◌, List, [], ◌∷◌, ◌++◌, Option, Some, None, refl, sym, ap, ◌∙◌, map, append-nil, lit≤, option_map}
 use Rattle.qasm_parser.specs.declared.symbols.Mark.TheVariants.{Comma}
@@ -10,7 +10,7 @@ use Rattle.qasm_parser.specs.declared.tree.Expr.{Expr}
 use Rattle.qasm_parser.specs.Tree.{Expression, expression, depth_limit}
 use Rattle.qasm_parser.specs.Spelling.{SpellsAngle, SpellsArg, SpellsName}
 use Rattle.qasm_parser.specs.Reading.{Read, all, angle_of, arg_of, first_of, is_mark, list_of, more_of, name_of, onto, read, skip}
-use Rattle.qasm_parser.proofs.RepeatLaws.{Shrinks, all-end, all-more, all-none, more-shrinks, onto-onto, skip-sound}
+use Rattle.qasm_parser.proofs.RepeatLaws.{Shrinks, all-end, all-more, more-shrinks, onto-onto, skip-sound}
 use Rattle.qasm_parser.proofs.ExpressionLaws.{NoSign}
 use Rattle.qasm_parser.proofs.FormLaws.{Any, NoBracket, angle-complete, angle-sound, angle-takes, shown, arg-complete, arg-sound, arg-takes, name-complete, name-list, name-takes}
 
@@ -40,9 +40,6 @@ module _ {A : Type 0} (item : List Symbol → Option (Read A)) where
   more-last front deep ts h =
       ap (onto front deep) (all-end (more_of item) ts (more-other ts h)) ∙ rw (append-nil, first_of-none) refl
 
-  more-fail : (front : List A) (deep : Option ℕ) (ts us : List Symbol) → skip Comma ts ≡ Some us → item us ≡ None → onto front deep (all (more_of item) ts) ≡ None
-  more-fail front deep ts us h e = ap (onto front deep) (all-none (more_of item) ts (more-comma ts us h ∙ ap (option_map Some) e))
-
   list-first : (ts : List Symbol) (x : Read A) → item ts ≡ Some x → list_of item ts ≡ onto (x.value ∷ []) x.deep (all (more_of item) x.rest)
   list-first ts x e = rw (e, list_of) refl
 
@@ -60,13 +57,7 @@ names-step front ts us rest n h e = sym (more-step name_of names-shrink front No
 pub names-last : (front : List (List ℕ)) (ts : List Symbol) → skip Comma ts ≡ None → onto front None (all (more_of name_of) ts) ≡ Some (read front None ts)
 names-last front ts h = more-last name_of front None ts h
 
-pub names-fail : (front : List (List ℕ)) (ts us : List Symbol) → skip Comma ts ≡ Some us → name_of us ≡ None → onto front None (all (more_of name_of) ts) ≡ None
-names-fail front ts us h e = more-fail name_of front None ts us h e
-
-pub names-none : (ts : List Symbol) → name_of ts ≡ None → list_of name_of ts ≡ None
-names-none ts e = rw (e, list_of) refl
-
-pub ruleset names = (names-first, names-step, names-last, names-fail, names-none)
+pub ruleset names = (names-first, names-step, names-last)
 
 -- ---- arguments
 args-shrink : (plain : Bool) → Shrinks (more_of (arg_of plain))
@@ -83,13 +74,7 @@ args-step plain front ts us rest a h e = sym (more-step (arg_of plain) (args-shr
 pub args-last : (plain : Bool) (front : List Arg) (ts : List Symbol) → skip Comma ts ≡ None → onto front None (all (more_of (arg_of plain)) ts) ≡ Some (read front None ts)
 args-last plain front ts h = more-last (arg_of plain) front None ts h
 
-pub args-fail : (plain : Bool) (front : List Arg) (ts us : List Symbol) → skip Comma ts ≡ Some us → arg_of plain us ≡ None → onto front None (all (more_of (arg_of plain)) ts) ≡ None
-args-fail plain front ts us h e = more-fail (arg_of plain) front None ts us h e
-
-pub args-none : (plain : Bool) (ts : List Symbol) → arg_of plain ts ≡ None → list_of (arg_of plain) ts ≡ None
-args-none plain ts e = rw (e, list_of) refl
-
-pub ruleset args = (args-first, args-step, args-last, args-fail, args-none)
+pub ruleset args = (args-first, args-step, args-last)
 
 -- ---- angles
 angles-shrink : Shrinks (more_of (angle_of depth_limit))
@@ -110,11 +95,4 @@ pub angles-last : (front : List Expression) (deep : Option ℕ) (ts : List Symbo
     → onto front deep (all (more_of (angle_of depth_limit)) ts) ≡ Some (read front deep ts)
 angles-last front deep ts h = more-last (angle_of depth_limit) front deep ts h
 
-pub angles-fail : (front : List Expression) (deep : Option ℕ) (ts us : List Symbol) → skip Comma ts ≡ Some us → angle_of depth_limit us ≡ None
-    → onto front deep (all (more_of (angle_of depth_limit)) ts) ≡ None
-angles-fail front deep ts us h e = more-fail (angle_of depth_limit) front deep ts us h e
-
-pub angles-none : (ts : List Symbol) → angle_of depth_limit ts ≡ None → list_of (angle_of depth_limit) ts ≡ None
-angles-none ts e = rw (e, list_of) refl
-
-pub ruleset angles = (angles-first, angles-step, angles-last, angles-fail, angles-none)
+pub ruleset angles = (angles-first, angles-step, angles-last)

@@ -4,8 +4,11 @@
 --   only_one         two trees that are spelt by the same symbols are one
 --   spelt_once, no_fault   the same of a text; a text that is accepted has no fault
 --   refused_once     a text has one fault
---   accepted, refused, other_version, too_deep   what a reading says of a text
-use Rattle.std.proofs.Common.{◌≡◌, ◌≢◌, ℕ, ◌≤◌, max, Bool, true, false, nat_le, if◌then◌else◌, List, [], ◌∷◌, ◌++◌, Option, Some, None, refl, sym, ap, ◌∙◌, subst, length, map, arith, lit≤}
+--   accepted, other_version, too_deep   what a reading says of a text
+--   accepted_or_refused   a text is accepted, or has a fault
+use Rattle.std.proofs.Common.{◌≡◌, ◌≢◌, ℕ, ◌≤◌, max, Bool, true, false, nat_le, if◌then◌else◌, List, [], ◌∷◌, ◌++◌, Option, Some, None, refl, sym, ap, ◌∙◌, subst, length, map, arith, lit≤, ℤ, pos, negsuc, ◌⊎◌, inl, inr}
+use Rattle.std.proofs.lemmas.Bool.{cases_eq}
+use Rattle.angle_fraction.specs.Fraction.{Fraction, fraction}
 use Rattle.std.proofs.lemmas.Bool.Decides.{nat_tests}
 use Rattle.qasm_lexer.specs.declared.Token.{Token}
 use Rattle.qasm_parser.specs.Symbols.{Symbol, mark, place_of, symbols}
@@ -16,9 +19,14 @@ use Rattle.qasm_parser.specs.Tree.{depth, Application, apply, measure, reset, ba
 use Rattle.qasm_parser.specs.Machine.{capped}
 use Rattle.qasm_parser.specs.Spelling.{BehindComma, Form, by_u, by_cx, alone, empty, listed, Seen, Grammar, SpellsAction, SpellsAngle, SpellsApplication, SpellsEach, SpellsForm, SpellsItem, SpellsList, SpellsStatement, SpellsTree, first_deep}
 use Rattle.qasm_parser.specs.Reading.{Read, first_of, kept, read, tree_of}
-use Rattle.qasm_parser.specs.Parsing.{IsAlike, IsParseFault, IsProgram, first_deep_of, real_place, two, Spells}
+use Rattle.qasm_parser.specs.Parsing.{IsParseFault, IsProgram, first_deep_of, real_place, two, Spells}
 use Rattle.qasm_parser.proofs.RepeatLaws.{first_deep-append}
 use Rattle.qasm_parser.proofs.FormLaws.{shown, shown_action, shown_application}
+use Rattle.qasm_parser.specs.Shapes.{tree_shape}
+use Rattle.qasm_parser.specs.Ways.{Outcome, past, stuck, walk}
+use Rattle.qasm_parser.proofs.ReaderWays.{rests, tree-agrees, went}
+use Rattle.qasm_parser.proofs.SumAgrees.{sums-agree}
+use Rattle.qasm_parser.proofs.SyntaxPlaces.{place-once, place-there, unspelt}
 use Rattle.qasm_parser.proofs.StatementLaws.{shown_statement, shown_tree, tree-complete, tree-sound}
 
 -- ---- limits
@@ -139,9 +147,6 @@ accepted text tokens t rest e version =
     let same : t ≡ s.it = s.value ∙ tree-shown depth_limit (lit≤ tt) s.it (symbols text tokens) s.found s.spells (sym s.deep) in
     (s.found, subst (λ (x : Tree). Spells text tokens x s.found) (sym same) s.spells, version, sym s.deep)
 
-pub refused : (text : List ℕ) (tokens : List Token) → tree_of depth_limit (symbols text tokens) ≡ None → (t : Tree) (found : List Seen) → Spells text tokens t found → ⊥
-refused text tokens e t found s = let k = tree-complete depth_limit (lit≤ tt) t (symbols text tokens) found s in cc
-
 pub other_version : (text : List ℕ) (tokens : List Token) (t : Tree) (d : Option ℕ) (rest : List Symbol) → tree_of depth_limit (symbols text tokens) ≡ Some (read t d rest)
     → t.version ≢ two → IsParseFault text tokens (Version (real_place text tokens))
 other_version text tokens t d rest e version =
@@ -154,7 +159,7 @@ too_deep text tokens t left rest e version =
     let s = tree-sound depth_limit (lit≤ tt) (symbols text tokens) (read t (Some left) rest) e in
     (s.it, s.found, left, s.spells, sym (ap (λ (x : Tree). x.version) s.value) ∙ version, sym s.deep, refl)
 
-pub ruleset verdicts = (accepted, refused, other_version, too_deep)
+pub ruleset verdicts = (accepted, other_version, too_deep)
 
 -- ---- exactness
 pub spelt_once : (text : List ℕ) (tokens : List Token) (a b : Tree) (f g : List Seen) → Spells text tokens a f → Spells text tokens b g
@@ -179,8 +184,8 @@ not_both text tokens a b f g =
     f.3 (ap (λ (x : Tree). x.version) same.0 ∙ g.4)
 
 pub refused_once : (text : List ℕ) (tokens : List Token) (a b : ParseFault) → IsParseFault text tokens a → IsParseFault text tokens b
-    → a ≢ NoMemory → b ≢ NoMemory → IsAlike a b
-refused_once text tokens (Syntax a) (Syntax b) f g some other = tt
+    → a ≢ NoMemory → b ≢ NoMemory → a ≡ b
+refused_once text tokens (Syntax a) (Syntax b) f g some other = ap Syntax (place-once text tokens a b f.1 g.1)
 refused_once text tokens (Syntax a) (Version b) f g some other = absurd (f.0 g.0 g.1 g.2)
 refused_once text tokens (Syntax a) (Depth b) f g some other = absurd (f.0 g.0 g.1 g.3)
 refused_once text tokens (Syntax a) NoMemory f g some other = absurd (other refl)
@@ -197,3 +202,37 @@ refused_once text tokens (Depth a) (Depth b) f g some other =
     ap Depth (f.6 ∙ ap (place_of text tokens) left ∙ sym g.6)
 refused_once text tokens (Depth a) NoMemory f g some other = absurd (other refl)
 refused_once text tokens NoMemory b f g some other = absurd (some refl)
+
+-- ---- accepted or refused
+two_or : (v : Fraction) → (v ≡ two) ⊎ (v ≢ two)
+two_or v = elim (cases_eq v.den 1) [ inl d ↦ by_num v.num refl d | inr n ↦ inr (λ e. n (ap (λ (x : Fraction). x.den) e)) ]
+  where
+    by_num : (z : ℤ) → v.num ≡ z → v.den ≡ 1 → (v ≡ two) ⊎ (v ≢ two)
+    by_num (pos n) is d = elim (cases_eq n 2) [
+      | inl e ↦ inl (ap (λ z. fraction z v.den) (is ∙ ap pos e) ∙ ap (fraction (pos 2)) d)
+      | inr differs ↦ inr (λ e. differs (let same : pos n ≡ pos 2 = sym is ∙ ap (λ (x : Fraction). x.num) e in cc))
+    ]
+    by_num (negsuc n) is d = inr (λ e. let same : negsuc n ≡ pos 2 = sym is ∙ ap (λ (x : Fraction). x.num) e in cc)
+
+pub accepted_or_refused : (text : List ℕ) (tokens : List Token)
+    → ((t : Tree) × IsProgram text tokens t) ⊎ ((fault : ParseFault) × (fault ≢ NoMemory) × IsParseFault text tokens fault)
+accepted_or_refused text tokens = by_reading (tree_of depth_limit (symbols text tokens)) refl
+  where
+    misfit : tree_of depth_limit (symbols text tokens) ≡ None → (o : Outcome) → walk tree_shape (symbols text tokens) ≡ o
+        → ((t : Tree) × IsProgram text tokens t) ⊎ ((fault : ParseFault) × (fault ≢ NoMemory) × IsParseFault text tokens fault)
+    misfit none (past rest) is =
+        let no : Some rest ≡ None = ap went (sym is) ∙ tree-agrees depth_limit sums-agree (symbols text tokens) ∙ ap (λ (r : Option (Read Tree)). rests r) none in cc
+    misfit none (stuck left) is = inr (Syntax (place_of text tokens left), (λ e. cc), (unspelt text tokens left is, place-there text tokens left is))
+
+    by_deep : (t : Tree) (rest : List Symbol) (d : Option ℕ) → tree_of depth_limit (symbols text tokens) ≡ Some (read t d rest) → t.version ≡ two
+        → ((t : Tree) × IsProgram text tokens t) ⊎ ((fault : ParseFault) × (fault ≢ NoMemory) × IsParseFault text tokens fault)
+    by_deep t rest None is v = inl (t, accepted text tokens t rest is v)
+    by_deep t rest (Some left) is v = inr (Depth (place_of text tokens left), (λ e. cc), too_deep text tokens t left rest is v)
+
+    by_reading : (o : Option (Read Tree)) → tree_of depth_limit (symbols text tokens) ≡ o
+        → ((t : Tree) × IsProgram text tokens t) ⊎ ((fault : ParseFault) × (fault ≢ NoMemory) × IsParseFault text tokens fault)
+    by_reading None is = misfit is (walk tree_shape (symbols text tokens)) refl
+    by_reading (Some r) is = elim (two_or r.value.version) [
+      | inl v ↦ by_deep r.value r.rest r.deep is v
+      | inr n ↦ inr (Version (real_place text tokens), (λ e. cc), other_version text tokens r.value r.deep r.rest is n)
+    ]

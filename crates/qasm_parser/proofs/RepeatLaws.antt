@@ -1,6 +1,6 @@
 -- Reading again and again.
 --   Shrinks          each step that gives something leaves fewer symbols
---   all-none, all-end, all-more   the steps from here on, by the first
+--   all-end, all-more   the steps from here on, by the first
 --   onto-onto, onto-nothing       what is put in front
 --   Sound, Complete  a reader gives only what is spelt; it gives what is spelt, where what follows doesn't continue it
 --   each-sound, each-complete, list-sound, list-complete   the same for lists
@@ -39,9 +39,6 @@ onto-nothing (Some r) = refl
 module _ {A : Type 0} (step : List Symbol → Option (Option (Read A))) where
   abbrev pub Shrinks : Type 0
   Shrinks = (ts : List Symbol) (r : Read A) → step ts ≡ Some (Some r) → length r.rest < length ts
-
-  pub all-none : (ts : List Symbol) → step ts ≡ None → all step ts ≡ None
-  all-none ts e = rw (e, repeat) refl
 
   pub all-end : (ts : List Symbol) → step ts ≡ Some None → all step ts ≡ Some (read [] None ts)
   all-end ts e = rw (e, repeat) refl

@@ -7,7 +7,7 @@ use Rattle.qasm_parser.specs.declared.tree.Stmt.{Stmt}
 use Rattle.qasm_parser.specs.Symbols.{Symbol}
 use Rattle.qasm_parser.specs.Tree.{Action, Statement, action, statement, depth_limit}
 use Rattle.qasm_parser.specs.Reading.{Read, all, begins_with, first_of, item_of, more_items, more_statements, onto, read, statement_of}
-use Rattle.qasm_parser.proofs.RepeatLaws.{Shrinks, all-end, all-more, all-none, onto-nothing, onto-onto}
+use Rattle.qasm_parser.proofs.RepeatLaws.{Shrinks, all-end, all-more, onto-nothing, onto-onto}
 use Rattle.qasm_parser.proofs.FormLaws.{item-long, item-sound}
 use Rattle.qasm_parser.proofs.StatementLaws.{items-shrink, statement-long, statement-sound, statements-shrink}
 
@@ -26,9 +26,6 @@ module _ {A X : Type 0} (view : X → A) (step : List Symbol → Option (Option 
   last-step : (front : List A) (deep : Option ℕ) (ts : List Symbol) → step ts ≡ Some None → onto front deep (all step ts) ≡ Some (read front deep ts)
   last-step front deep ts h = ap (onto front deep) (all-end step ts h) ∙ rw (append-nil, first_of-none) refl
 
-  failed-step : (front : List A) (deep : Option ℕ) (ts : List Symbol) → step ts ≡ None → onto front deep (all step ts) ≡ None
-  failed-step front deep ts h = ap (onto front deep) (all-none step ts h)
-
 -- ---- items
 more-item : (ts : List Symbol) → begins_with CloseBrace ts ≡ false → more_items depth_limit ts ≡ option_map Some (item_of depth_limit ts)
 more-item ts h = rw (h, more_items) refl
@@ -43,17 +40,13 @@ pub items-last : (front : List Action) (deep : Option ℕ) (ts : List Symbol) �
     → onto front deep (all (more_items depth_limit) ts) ≡ Some (read front deep ts)
 items-last front deep ts h = last-step {X = Stmt} action (more_items depth_limit) front deep ts (rw (h, more_items) refl)
 
-pub items-fail : (front : List Action) (deep : Option ℕ) (ts : List Symbol) → begins_with CloseBrace ts ≡ false → item_of depth_limit ts ≡ None
-    → onto front deep (all (more_items depth_limit) ts) ≡ None
-items-fail front deep ts h k = failed-step {X = Stmt} action (more_items depth_limit) front deep ts (more-item ts h ∙ ap (option_map Some) k)
-
 pub item-shorter : (ts rest : List Symbol) (x : Action) (d : Option ℕ) → item_of depth_limit ts ≡ Some (read x d rest) → length rest < length ts
 item-shorter ts rest x d h = let s = item-sound depth_limit (lit≤ tt) ts _ h in item-long s.it ts rest s.found s.spells
 
 pub items-begin : (r : Option (Read (List Action))) → onto [] None r ≡ r
 items-begin r = onto-nothing r
 
-pub ruleset items = (items-step, items-last, items-fail, item-shorter, items-begin)
+pub ruleset items = (items-step, items-last, item-shorter, items-begin)
 
 -- ---- statements
 pub statements-step : (front : List Stmt) (deep : Option ℕ) (ts rest : List Symbol) (x : Stmt) (d : Option ℕ) → 1 ≤ length ts
@@ -68,15 +61,10 @@ pub statements-last : (front : List Statement) (deep : Option ℕ) (ts : List Sy
 statements-last front deep [] h = last-step {X = Stmt} statement (more_statements depth_limit) front deep [] refl
 statements-last front deep (t ∷ ts) h = absurd (omega arith)
 
-pub statements-fail : (front : List Statement) (deep : Option ℕ) (ts : List Symbol) → 1 ≤ length ts → statement_of depth_limit ts ≡ None
-    → onto front deep (all (more_statements depth_limit) ts) ≡ None
-statements-fail front deep [] h k = absurd (omega arith)
-statements-fail front deep (t ∷ ts) h k = failed-step {X = Stmt} statement (more_statements depth_limit) front deep (t ∷ ts) (ap (option_map Some) k)
-
 pub statement-shorter : (ts rest : List Symbol) (x : Statement) (d : Option ℕ) → statement_of depth_limit ts ≡ Some (read x d rest) → length rest < length ts
 statement-shorter ts rest x d h = let s = statement-sound depth_limit (lit≤ tt) ts _ h in statement-long depth_limit (lit≤ tt) s.it ts rest s.found s.spells
 
 pub statements-begin : (r : Option (Read (List Statement))) → onto [] None r ≡ r
 statements-begin r = onto-nothing r
 
-pub ruleset statements = (statements-step, statements-last, statements-fail, statement-shorter, statements-begin)
+pub ruleset statements = (statements-step, statements-last, statement-shorter, statements-begin)

@@ -2,6 +2,7 @@
 pub mod DeclaredNames
 pub mod Expressions
 pub mod Parsing
+pub mod Places
 pub mod Spelling
 pub mod Symbols
 pub mod Tree
@@ -13,4 +14,6 @@ pub mod Misread
 pub mod Modes
 pub mod Parts
 pub mod Reading
+pub mod Shapes
 pub mod Views
+pub mod Ways

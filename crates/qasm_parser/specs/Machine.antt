@@ -9,6 +9,7 @@
 --   Reduced, reduced   the frames that aren't closed, and the part behind them
 --   closes         the first frame binds at least so tightly
 --   reduce         closes the frames that bind at least so tightly
+--   open_in        how many parentheses are open
 --   Role           what a symbol can be in an expression
 --   atom, begins, ends, calls, joins, none   a whole part; the start or the end of a parenthesis; a function; a sign; none of these
 --   word_role, mark_role, role   what a reserved word, a mark, a symbol can be
@@ -18,7 +19,7 @@
 --   run            the expression that is read to its end, and the symbols after it
 --   parenthesis    the same where a parenthesis ends behind a part
 --   sum_of         the same, from the beginning
-use Rattle.std.specs.Prelude.{ℕ, Bool, false, drop, nat_le, List, [], ◌∷◌, Option, Some, None, if◌then◌else◌}
+use Rattle.std.specs.Prelude.{ℕ, suc, Bool, false, drop, nat_le, List, [], ◌∷◌, Option, Some, None, if◌then◌else◌}
 use Rattle.angle_fraction.specs.declared.signs.Function.{Function}
 use Rattle.angle_fraction.specs.declared.signs.Binary.{Binary}
 use Rattle.angle_fraction.specs.declared.signs.Binary.TheVariants.{Add, Sub, Mul, Div, Pow}
@@ -89,6 +90,13 @@ reduce limit b (f ∷ fs) part = if nat_le b (tightness f) then reduce limit b f
 abbrev pub closes : ℕ → List Frame → Bool
 closes b [] = false
 closes b (f ∷ fs) = nat_le b (tightness f)
+
+abbrev pub open_in : List Frame → ℕ
+open_in [] = 0
+open_in (minus ∷ fs) = open_in fs
+open_in (opened ∷ fs) = suc (open_in fs)
+open_in (called f ∷ fs) = suc (open_in fs)
+open_in (before s left ∷ fs) = open_in fs
 
 pub data Role : Type 0 where
   atom : (it : Expression) → Role

@@ -1,5 +1,6 @@
 -- Working form. Where the code stands in an expression.
 --   go      what the machine gives from there
+--   way_go    what comes of the form from there
 --   steps   how many steps it may still take, with so many symbols to come
 use Rattle.std.specs.Prelude.{ℕ, ◌+◌, ◌*◌, List, Option, Some}
 use Rattle.qasm_parser.specs.declared.expression.Mode.{Mode}
@@ -7,6 +8,7 @@ use Rattle.qasm_parser.specs.declared.expression.Mode.TheVariants.{Front, Behind
 use Rattle.qasm_parser.specs.Symbols.{Symbol}
 use Rattle.qasm_parser.specs.Parts.{part_of}
 use Rattle.qasm_parser.specs.Tree.{Expression, depth_limit}
+use Rattle.qasm_parser.specs.Ways.{Outcome, past, way, lacking, holding}
 use Rattle.qasm_parser.specs.Machine as spec
 
 abbrev pub go : List spec.Frame → Mode → List Symbol → Option (Option Expression × List Symbol)
@@ -17,3 +19,8 @@ go fs (Done part) ts = Some (part_of part, ts)
 abbrev pub steps : Mode → ℕ → ℕ
 steps (Done part) n = 2 * n
 steps _ n = 2 * n + 1
+
+abbrev pub way_go : ℕ → Mode → List Symbol → Outcome
+way_go n Front ts = way n lacking ts
+way_go n (Behind part) ts = way n holding ts
+way_go n (Done part) ts = past ts

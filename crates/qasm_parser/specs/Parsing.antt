@@ -5,12 +5,12 @@
 --   real_place    where the second token stands
 --   IsProgram     the tree of the text is accepted
 --   IsParseFault  a fault that the text has
---   IsAlike       two faults are of one kind and at one place; the place of Syntax aside
-use Rattle.std.specs.Prelude.{◌≡◌, ◌≢◌, ◌≤◌, ℕ, List, Option, Some, None, pos, drop, length}
+use Rattle.std.specs.Prelude.{◌≡◌, ◌≢◌, ℕ, List, Option, Some, None, pos, drop, length}
 use Rattle.angle_fraction.specs.Fraction.{Fraction, fraction}
 use Rattle.qasm_lexer.specs.declared.Token.{Token}
 use Rattle.qasm_parser.specs.Symbols.{first_place, place_of, symbols}
 use Rattle.qasm_parser.specs.Tree.{Tree, depth_limit}
+use Rattle.qasm_parser.specs.Places.{IsSyntaxPlace}
 use Rattle.qasm_parser.specs.Spelling.{Seen, SpellsTree, first_deep}
 use Rattle.qasm_parser.specs.declared.ParseFault.{ParseFault}
 use Rattle.qasm_parser.specs.declared.ParseFault.TheVariants.{Syntax, Version, Depth, NoMemory}
@@ -32,14 +32,10 @@ abbrev pub IsProgram : List ℕ → List Token → Tree → Type 0
 IsProgram text tokens t = (found : List Seen) × Spells text tokens t found × (t.version ≡ two) × (first_deep_of found ≡ None)
 
 abbrev pub IsParseFault : List ℕ → List Token → ParseFault → Type 0
-IsParseFault text tokens (Syntax place) = ((t : Tree) (found : List Seen) → Spells text tokens t found → ⊥) × (place ≤ length text)
+IsParseFault text tokens (Syntax place) = ((t : Tree) (found : List Seen) → Spells text tokens t found → ⊥) × IsSyntaxPlace text tokens place
 IsParseFault text tokens (Version place) =
     (t : Tree) × (found : List Seen) × Spells text tokens t found × (t.version ≢ two) × (place ≡ real_place text tokens)
 IsParseFault text tokens (Depth place) =
     (t : Tree) × (found : List Seen) × (left : ℕ) × Spells text tokens t found × (t.version ≡ two)
     × (first_deep_of found ≡ Some left) × (place ≡ place_of text tokens left)
 IsParseFault text tokens NoMemory = Unit {0}
-
-abbrev pub IsAlike : ParseFault → ParseFault → Type 0
-IsAlike (Syntax a) (Syntax b) = Unit {0}
-IsAlike a b = a ≡ b

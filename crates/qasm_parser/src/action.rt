@@ -3,6 +3,9 @@
 
 ghost use Rattle.std.specs.Prelude.{◌≡◌, ◌≤◌, ◌<◌, Some, None, map, IfOk, IfErr, OnOk, length};
 ghost use Rattle.qasm_parser.specs.Misread.{IsMisread};
+ghost use Rattle.qasm_parser.specs.Ways.{this_mark, until, past, walk};
+ghost use Rattle.qasm_parser.specs.Shapes.{action_shape, application_shape, args_shape, body_shape, item_shape, measure_shape, reset_shape};
+ghost use Rattle.qasm_parser.specs.declared.symbols.Mark.TheVariants.{CloseBrace};
 ghost use Rattle.qasm_parser.specs.Tree.{act, action, depth_limit, statement};
 ghost use Rattle.qasm_parser.specs.Reading.{action_of, all, application_of, barrier_of, body_of, item_of, measure_of, more_items, read, reset_of, with_apply};
 
@@ -15,11 +18,12 @@ use crate::tree::Stmt;
 use std::alloc::Global;
 
 /// A measure, from behind its word.
-#[tactic(auto, unfolding(crate::specs::Reading::measure_of))]
+#[tactic(auto, unfolding(crate::specs::Reading::measure_of, crate::specs::Shapes::measure_shape))]
 fn measure(alloc: Global, cursor: &mut Cursor<'_>) -> Result<Stmt, Stop>
     ensures ok { IfOk result (λ s. measure_of cursor.old ≡ Some (read (action s) None cursor.new)) }
     ensures acts { IfOk result (λ s. statement s ≡ act (action s)) }
-    ensures err { IfErr result (IsMisread (measure_of cursor.old) (length cursor.old)) }
+    ensures walked { OnOk result (walk measure_shape cursor.old ≡ past cursor.new) }
+    ensures err { IfErr result (IsMisread (walk measure_shape cursor.old)) }
     ensures rest { OnOk result (length cursor.new ≤ length cursor.old) }
 {
     let qubit = arg(alloc, cursor, false)?;
@@ -30,11 +34,12 @@ fn measure(alloc: Global, cursor: &mut Cursor<'_>) -> Result<Stmt, Stop>
 }
 
 /// A reset, from behind its word.
-#[tactic(auto, unfolding(crate::specs::Reading::reset_of))]
+#[tactic(auto, unfolding(crate::specs::Reading::reset_of, crate::specs::Shapes::reset_shape))]
 fn reset(alloc: Global, cursor: &mut Cursor<'_>) -> Result<Stmt, Stop>
     ensures ok { IfOk result (λ s. reset_of cursor.old ≡ Some (read (action s) None cursor.new)) }
     ensures acts { IfOk result (λ s. statement s ≡ act (action s)) }
-    ensures err { IfErr result (IsMisread (reset_of cursor.old) (length cursor.old)) }
+    ensures walked { OnOk result (walk reset_shape cursor.old ≡ past cursor.new) }
+    ensures err { IfErr result (IsMisread (walk reset_shape cursor.old)) }
     ensures rest { OnOk result (length cursor.new ≤ length cursor.old) }
 {
     let arg = arg(alloc, cursor, false)?;
@@ -47,7 +52,8 @@ fn reset(alloc: Global, cursor: &mut Cursor<'_>) -> Result<Stmt, Stop>
 pub fn barrier(alloc: Global, cursor: &mut Cursor<'_>, plain: bool) -> Result<Stmt, Stop>
     ensures ok { IfOk result (λ s. barrier_of plain cursor.old ≡ Some (read (action s) None cursor.new)) }
     ensures acts { IfOk result (λ s. statement s ≡ act (action s)) }
-    ensures err { IfErr result (IsMisread (barrier_of plain cursor.old) (length cursor.old)) }
+    ensures walked { OnOk result (walk (args_shape plain) cursor.old ≡ past cursor.new) }
+    ensures err { IfErr result (IsMisread (walk (args_shape plain) cursor.old)) }
     ensures rest { OnOk result (length cursor.new ≤ length cursor.old) }
 {
     let args = args(alloc, cursor, plain)?;
@@ -62,7 +68,8 @@ fn applying(
 ) -> Result<(Stmt, Option<usize>), Stop>
     ensures ok { IfOk result (λ r. with_apply (application_of depth_limit plain cursor.old) ≡ Some (read (action r.0) r.1 cursor.new)) }
     ensures acts { IfOk result (λ r. statement r.0 ≡ act (action r.0)) }
-    ensures err { IfErr result (IsMisread (with_apply (application_of depth_limit plain cursor.old)) (length cursor.old)) }
+    ensures walked { OnOk result (walk (application_shape plain) cursor.old ≡ past cursor.new) }
+    ensures err { IfErr result (IsMisread (walk (application_shape plain) cursor.old)) }
     ensures rest { OnOk result (length cursor.new ≤ length cursor.old) }
 {
     let (apply, deep) = application(alloc, cursor, plain)?;
@@ -70,11 +77,12 @@ fn applying(
 }
 
 /// What may stand behind `if`: an application, a measure or a reset.
-#[tactic(auto, using(crate::proofs::CodeLaws::actions))]
+#[tactic(auto, using(crate::proofs::CodeLaws::actions, crate::proofs::LoopLaws::actions))]
 pub fn action(alloc: Global, cursor: &mut Cursor<'_>) -> Result<(Stmt, Option<usize>), Stop>
     ensures ok { IfOk result (λ r. action_of depth_limit cursor.old ≡ Some (read (action r.0) r.1 cursor.new)) }
     ensures acts { IfOk result (λ r. statement r.0 ≡ act (action r.0)) }
-    ensures err { IfErr result (IsMisread (action_of depth_limit cursor.old) (length cursor.old)) }
+    ensures walked { OnOk result (walk action_shape cursor.old ≡ past cursor.new) }
+    ensures err { IfErr result (IsMisread (walk action_shape cursor.old)) }
     ensures rest { OnOk result (length cursor.new ≤ length cursor.old) }
 {
     let word = next_word(cursor);
@@ -90,10 +98,11 @@ pub fn action(alloc: Global, cursor: &mut Cursor<'_>) -> Result<(Stmt, Option<us
 }
 
 /// What may stand in a gate's body: an application or a barrier of plain names.
-#[tactic(auto, using(crate::proofs::CodeLaws::actions))]
+#[tactic(auto, using(crate::proofs::CodeLaws::actions, crate::proofs::LoopLaws::actions))]
 fn item(alloc: Global, cursor: &mut Cursor<'_>) -> Result<(Stmt, Option<usize>), Stop>
     ensures ok { IfOk result (λ r. item_of depth_limit cursor.old ≡ Some (read (action r.0) r.1 cursor.new)) }
-    ensures err { IfErr result (IsMisread (item_of depth_limit cursor.old) (length cursor.old)) }
+    ensures walked { OnOk result (walk item_shape cursor.old ≡ past cursor.new) }
+    ensures err { IfErr result (IsMisread (walk item_shape cursor.old)) }
     ensures rest { OnOk result (length cursor.new ≤ length cursor.old) }
 {
     if take_word(cursor, Keyword::Barrier) {
@@ -103,10 +112,11 @@ fn item(alloc: Global, cursor: &mut Cursor<'_>) -> Result<(Stmt, Option<usize>),
 }
 
 /// The items of a gate's body, up to its end.
-#[tactic(auto, using(crate::proofs::StepLaws::items))]
+#[tactic(auto, using(crate::proofs::StepLaws::items, crate::proofs::LoopLaws::items))]
 fn items(alloc: Global, cursor: &mut Cursor<'_>) -> Result<(Vec<Stmt>, Option<usize>), Stop>
     ensures ok { IfOk result (λ r. all (more_items depth_limit) cursor.old ≡ Some (read (map action r.0.items) r.1 cursor.new)) }
-    ensures err { IfErr result (IsMisread (all (more_items depth_limit) cursor.old) (length cursor.old)) }
+    ensures walked { OnOk result (walk (until (this_mark CloseBrace) item_shape) cursor.old ≡ past cursor.new) }
+    ensures err { IfErr result (IsMisread (walk (until (this_mark CloseBrace) item_shape) cursor.old)) }
     ensures rest { OnOk result (length cursor.new ≤ length cursor.old) }
 {
     let mut list = Vec::new(alloc);
@@ -120,10 +130,11 @@ fn items(alloc: Global, cursor: &mut Cursor<'_>) -> Result<(Vec<Stmt>, Option<us
 }
 
 /// A gate's body, from behind its brace.
-#[tactic(auto, unfolding(crate::specs::Reading::body_of))]
+#[tactic(auto, unfolding(crate::specs::Reading::body_of, crate::specs::Shapes::body_shape))]
 pub fn body(alloc: Global, cursor: &mut Cursor<'_>) -> Result<(Vec<Stmt>, Option<usize>), Stop>
     ensures ok { IfOk result (λ r. body_of depth_limit cursor.old ≡ Some (read (map action r.0.items) r.1 cursor.new)) }
-    ensures err { IfErr result (IsMisread (body_of depth_limit cursor.old) (length cursor.old)) }
+    ensures walked { OnOk result (walk body_shape cursor.old ≡ past cursor.new) }
+    ensures err { IfErr result (IsMisread (walk body_shape cursor.old)) }
     ensures rest { OnOk result (length cursor.new ≤ length cursor.old) }
 {
     let (mut list, deep) = items(alloc, cursor)?;

@@ -3,6 +3,8 @@
 
 ghost use Rattle.std.specs.Prelude.{◌≡◌, ◌≤◌, ◌<◌, Some, None, map, IfOk, IfErr, OnOk, length};
 ghost use Rattle.qasm_parser.specs.Misread.{IsMisread};
+ghost use Rattle.qasm_parser.specs.Ways.{past, sum as sum_shape, walk};
+ghost use Rattle.qasm_parser.specs.Shapes.{angles_shape, application_shape, head_shape, list_shape, optional_shape, u_shape};
 ghost use Rattle.qasm_parser.specs.Tree.{application, depth_limit, expression};
 ghost use Rattle.qasm_parser.specs.Reading.{angle_of, angles_of, angles_of_u, application_of, first_of, head_of, list_of, optional_of, read};
 ghost use Rattle.qasm_parser.specs.Heads.{head_view};
@@ -19,7 +21,8 @@ use std::alloc::Global;
 #[tactic(auto, unfolding(crate::specs::Reading::angle_of))]
 fn angle(alloc: Global, cursor: &mut Cursor<'_>) -> Result<(Expr, Option<usize>), Stop>
     ensures ok { IfOk result (λ r. angle_of depth_limit cursor.old ≡ Some (read (expression r.0) r.1 cursor.new)) }
-    ensures err { IfErr result (IsMisread (angle_of depth_limit cursor.old) (length cursor.old)) }
+    ensures walked { OnOk result (walk sum_shape cursor.old ≡ past cursor.new) }
+    ensures err { IfErr result (IsMisread (walk sum_shape cursor.old)) }
     ensures rest { OnOk result (length cursor.new ≤ length cursor.old) }
 {
     let left = cursor.left();
@@ -40,10 +43,11 @@ pub fn earlier(a: Option<usize>, b: Option<usize>) -> Option<usize>
 }
 
 /// Expressions with commas between.
-#[tactic(auto, using(crate::proofs::ListLaws::angles))]
+#[tactic(auto, using(crate::proofs::ListLaws::angles, crate::proofs::LoopLaws::angles))]
 fn angle_list(alloc: Global, cursor: &mut Cursor<'_>) -> Result<(Vec<Expr>, Option<usize>), Stop>
     ensures ok { IfOk result (λ r. list_of (angle_of depth_limit) cursor.old ≡ Some (read (map expression r.0.items) r.1 cursor.new)) }
-    ensures err { IfErr result (IsMisread (list_of (angle_of depth_limit) cursor.old) (length cursor.old)) }
+    ensures walked { OnOk result (walk (list_shape sum_shape) cursor.old ≡ past cursor.new) }
+    ensures err { IfErr result (IsMisread (walk (list_shape sum_shape) cursor.old)) }
     ensures rest { OnOk result (length cursor.new ≤ length cursor.old) }
 {
     let mut list = Vec::with_capacity(alloc, 1)?;
@@ -66,10 +70,11 @@ pub struct Head {
 }
 
 /// Angles up to the end of the parenthesis.
-#[tactic(auto, unfolding(crate::specs::Reading::angles_of))]
+#[tactic(auto, unfolding(crate::specs::Reading::angles_of, crate::specs::Shapes::angles_shape))]
 fn angles(alloc: Global, cursor: &mut Cursor<'_>) -> Result<(Vec<Expr>, Option<usize>), Stop>
     ensures ok { IfOk result (λ r. angles_of depth_limit cursor.old ≡ Some (read (map expression r.0.items) r.1 cursor.new)) }
-    ensures err { IfErr result (IsMisread (angles_of depth_limit cursor.old) (length cursor.old)) }
+    ensures walked { OnOk result (walk angles_shape cursor.old ≡ past cursor.new) }
+    ensures err { IfErr result (IsMisread (walk angles_shape cursor.old)) }
     ensures rest { OnOk result (length cursor.new ≤ length cursor.old) }
 {
     let (mut list, deep) = angle_list(alloc, cursor)?;
@@ -79,10 +84,11 @@ fn angles(alloc: Global, cursor: &mut Cursor<'_>) -> Result<(Vec<Expr>, Option<u
 }
 
 /// The angles of a gate with a name: in parentheses, or none.
-#[tactic(auto, unfolding(crate::specs::Reading::optional_of))]
+#[tactic(auto, unfolding(crate::specs::Reading::optional_of, crate::specs::Shapes::optional_shape))]
 fn optional(alloc: Global, cursor: &mut Cursor<'_>) -> Result<(Vec<Expr>, Option<usize>), Stop>
     ensures ok { IfOk result (λ r. optional_of depth_limit cursor.old ≡ Some (read (map expression r.0.items) r.1 cursor.new)) }
-    ensures err { IfErr result (IsMisread (optional_of depth_limit cursor.old) (length cursor.old)) }
+    ensures walked { OnOk result (walk optional_shape cursor.old ≡ past cursor.new) }
+    ensures err { IfErr result (IsMisread (walk optional_shape cursor.old)) }
     ensures rest { OnOk result (length cursor.new ≤ length cursor.old) }
 {
     if !take(cursor, Mark::Open) {
@@ -95,10 +101,11 @@ fn optional(alloc: Global, cursor: &mut Cursor<'_>) -> Result<(Vec<Expr>, Option
 }
 
 /// The angles of `U`.
-#[tactic(auto, unfolding(crate::specs::Reading::angles_of_u))]
+#[tactic(auto, unfolding(crate::specs::Reading::angles_of_u, crate::specs::Shapes::u_shape))]
 fn angles_of_u(alloc: Global, cursor: &mut Cursor<'_>) -> Result<(Vec<Expr>, Option<usize>), Stop>
     ensures ok { IfOk result (λ r. angles_of_u depth_limit cursor.old ≡ Some (read (map expression r.0.items) r.1 cursor.new)) }
-    ensures err { IfErr result (IsMisread (angles_of_u depth_limit cursor.old) (length cursor.old)) }
+    ensures walked { OnOk result (walk u_shape cursor.old ≡ past cursor.new) }
+    ensures err { IfErr result (IsMisread (walk u_shape cursor.old)) }
     ensures rest { OnOk result (length cursor.new ≤ length cursor.old) }
 {
     expect(cursor, Mark::Open)?;
@@ -106,10 +113,11 @@ fn angles_of_u(alloc: Global, cursor: &mut Cursor<'_>) -> Result<(Vec<Expr>, Opt
 }
 
 /// A gate's name and its angles.
-#[tactic(auto, unfolding(crate::specs::Reading::head_of))]
+#[tactic(auto, unfolding(crate::specs::Reading::head_of, crate::specs::Shapes::head_shape))]
 fn gate_head(alloc: Global, cursor: &mut Cursor<'_>) -> Result<Head, Stop>
     ensures ok { IfOk result (λ h. head_of depth_limit cursor.old ≡ Some (read (head_view h) h.deep cursor.new)) }
-    ensures err { IfErr result (IsMisread (head_of depth_limit cursor.old) (length cursor.old)) }
+    ensures walked { OnOk result (walk head_shape cursor.old ≡ past cursor.new) }
+    ensures err { IfErr result (IsMisread (walk head_shape cursor.old)) }
     ensures rest { OnOk result (length cursor.new ≤ length cursor.old) }
 {
     let left = cursor.left();
@@ -140,14 +148,15 @@ fn gate_head(alloc: Global, cursor: &mut Cursor<'_>) -> Result<Head, Stop>
 }
 
 /// A gate with its angles and arguments, up to the semicolon.
-#[tactic(auto, unfolding(crate::specs::Reading::application_of))]
+#[tactic(auto, unfolding(crate::specs::Reading::application_of, crate::specs::Shapes::application_shape))]
 pub fn application(
     alloc: Global,
     cursor: &mut Cursor<'_>,
     plain: bool,
 ) -> Result<(Apply, Option<usize>), Stop>
     ensures ok { IfOk result (λ r. application_of depth_limit plain cursor.old ≡ Some (read (application r.0) r.1 cursor.new)) }
-    ensures err { IfErr result (IsMisread (application_of depth_limit plain cursor.old) (length cursor.old)) }
+    ensures walked { OnOk result (walk (application_shape plain) cursor.old ≡ past cursor.new) }
+    ensures err { IfErr result (IsMisread (walk (application_shape plain) cursor.old)) }
     ensures rest { OnOk result (length cursor.new ≤ length cursor.old) }
 {
     let Head { gate, angles, deep } = gate_head(alloc, cursor)?;

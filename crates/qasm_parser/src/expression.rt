@@ -1,12 +1,13 @@
 //! Expressions, read from left to right without recursion.
 
-ghost use Rattle.std.specs.Prelude.{◌≡◌, ◌<◌, ◌≤◌, ◌+◌, ◌*◌, Some, IfOk, IfErr, OnOk, List, ◌∷◌, length};
-ghost use Rattle.qasm_parser.specs.Machine.{behind, front, parenthesis, run, sum_of};
-ghost use Rattle.qasm_parser.specs.Modes.{go, steps};
+ghost use Rattle.std.specs.Prelude.{◌≡◌, ◌<◌, ◌≤◌, ◌+◌, ◌*◌, ℕ, List, false, Some, IfOk, IfErr, OnOk, ◌∷◌, length};
+ghost use Rattle.qasm_parser.specs.Machine.{behind, closes, finished, front, open_in, parenthesis, reduce as reduced_by, run, sum_of};
+ghost use Rattle.qasm_parser.specs.Modes.{go, steps, way_go};
 ghost use Rattle.qasm_parser.specs.Frames.{stack};
 ghost use Rattle.qasm_parser.specs.Parts.{part_of};
 ghost use Rattle.qasm_parser.specs.Tree.{depth_limit, expression};
 ghost use Rattle.qasm_parser.specs.Misread.{IsMisread};
+ghost use Rattle.qasm_parser.specs.Ways.{calling, finish as finish_way, holding, lacking, past, shut, stuck, sum as sum_shape, walk, way};
 ghost use Rattle.qasm_parser.specs.Symbols.{Symbol as SpecSymbol, mark};
 ghost use Rattle.qasm_parser.specs.declared.symbols.Mark.TheVariants.{Open};
 ghost use Rattle.qasm_parser.specs.declared.stop.Stop.TheVariants.{Misfit};
@@ -32,7 +33,7 @@ pub enum Mode {
 /// The parenthesis that follows a function.
 fn open(cursor: &mut Cursor<'_>) -> Result<(), Stop>
     ensures ok { OnOk result (cursor.old ≡ mark Open ∷ cursor.new) }
-    ensures err { IfErr result (λ e. (e ≡ Misfit (length cursor.old)) × ((ts : List SpecSymbol) → cursor.old ≡ mark Open ∷ ts → ⊥)) }
+    ensures err { IfErr result (λ e. (e ≡ Misfit (length cursor.old)) × ((n : ℕ) → way n calling cursor.old ≡ stuck (length cursor.old))) }
 {
     let left = cursor.left();
     match cursor.peek() {
@@ -45,10 +46,11 @@ fn open(cursor: &mut Cursor<'_>) -> Result<(), Stop>
 }
 
 /// Where a part is to come: an atom, or what begins one.
-#[tactic(auto, using(crate::proofs::FrameLaws::stacks))]
+#[tactic(auto, using(crate::proofs::FrameLaws::stacks, crate::proofs::OpenLaws::opens))]
 fn begin(alloc: Global, cursor: &mut Cursor<'_>, frames: &mut Frames) -> Result<Mode, Stop>
     ensures ok { IfOk result (λ m. run depth_limit (stack frames.old) front cursor.old ≡ go (stack frames.new) m cursor.new) }
-    ensures err { IfErr result (IsMisread (run depth_limit (stack frames.old) front cursor.old) (length cursor.old)) }
+    ensures walked { IfOk result (λ m. way (open_in (stack frames.old)) lacking cursor.old ≡ way_go (open_in (stack frames.new)) m cursor.new) }
+    ensures err { IfErr result (IsMisread (way (open_in (stack frames.old)) lacking cursor.old)) }
     ensures shorter { OnOk result (length cursor.new < length cursor.old) }
 {
     let left = cursor.left();
@@ -91,16 +93,18 @@ fn begin(alloc: Global, cursor: &mut Cursor<'_>, frames: &mut Frames) -> Result<
 }
 
 /// The end of a parenthesis; where none is open it no longer belongs to the expression.
-#[tactic(auto, using(crate::proofs::FrameLaws::stacks))]
+#[tactic(auto, using(crate::proofs::FrameLaws::stacks, crate::proofs::OpenLaws::opens))]
 fn close(
     alloc: Global,
     cursor: &mut Cursor<'_>,
     frames: &mut Frames,
     part: Option<Part>,
 ) -> Result<Mode, Stop>
-    requires { 0 < length cursor.old }
+    requires some { 0 < length cursor.old }
+    requires waits { closes 1 (stack frames.old) ≡ false }
     ensures ok { IfOk result (λ m. parenthesis depth_limit (stack frames.old) (part_of part) cursor.old ≡ go (stack frames.new) m cursor.new) }
-    ensures err { IfErr result (IsMisread (parenthesis depth_limit (stack frames.old) (part_of part) cursor.old) (length cursor.old)) }
+    ensures walked { IfOk result (λ m. shut (open_in (stack frames.old)) cursor.old ≡ way_go (open_in (stack frames.new)) m cursor.new) }
+    ensures err { IfErr result (IsMisread (shut (open_in (stack frames.old)) cursor.old)) }
     ensures shorter { IfOk result (λ m. steps m (length cursor.new) < 2 * length cursor.old + 1) }
 {
     let left = cursor.left();
@@ -120,8 +124,24 @@ fn close(
     }
 }
 
+/// The end of the expression before what no longer belongs to it, so many symbols from the end: nothing may be open.
+#[tactic(auto, using(crate::proofs::FrameLaws::stacks, crate::proofs::OpenLaws::opens))]
+fn finish(alloc: Global, frames: &mut Frames, part: Option<Part>, left: usize) -> Result<Mode, Stop>
+    ensures ok { IfOk result (λ m. (ts : List SpecSymbol) → finished (reduced_by depth_limit 1 (stack frames.old) (part_of part)) ts ≡ go (stack frames.new) m ts) }
+    ensures walked { IfOk result (λ m. (ts : List SpecSymbol) → finish_way (open_in (stack frames.old)) ts ≡ way_go (open_in (stack frames.new)) m ts) }
+    ensures err { IfErr result (λ e. (ts : List SpecSymbol) → left ≡ length ts → IsMisread (finish_way (open_in (stack frames.old)) ts) e) }
+    ensures shorter { IfOk result (λ m. steps m left ≡ 2 * left) }
+{
+    let part = reduce(alloc, frames, part, 1)?;
+    if frames.is_empty() {
+        Ok(Mode::Done(part))
+    } else {
+        Err(Stop::Misfit { left })
+    }
+}
+
 /// Behind a part: a sign, the end of a parenthesis, or what no longer belongs to the expression.
-#[tactic(auto, using(crate::proofs::FrameLaws::stacks))]
+#[tactic(auto, using(crate::proofs::FrameLaws::stacks, crate::proofs::OpenLaws::opens))]
 fn after(
     alloc: Global,
     cursor: &mut Cursor<'_>,
@@ -129,7 +149,8 @@ fn after(
     part: Option<Part>,
 ) -> Result<Mode, Stop>
     ensures ok { IfOk result (λ m. run depth_limit (stack frames.old) (behind (part_of part)) cursor.old ≡ go (stack frames.new) m cursor.new) }
-    ensures err { IfErr result (IsMisread (run depth_limit (stack frames.old) (behind (part_of part)) cursor.old) (length cursor.old)) }
+    ensures walked { IfOk result (λ m. way (open_in (stack frames.old)) holding cursor.old ≡ way_go (open_in (stack frames.new)) m cursor.new) }
+    ensures err { IfErr result (IsMisread (way (open_in (stack frames.old)) holding cursor.old)) }
     ensures shorter { IfOk result (λ m. steps m (length cursor.new) < 2 * length cursor.old + 1) }
 {
     let left = cursor.left();
@@ -144,21 +165,15 @@ fn after(
             let part = reduce(alloc, frames, part, 1)?;
             close(alloc, cursor, frames, part)
         }
-        _ => {
-            let part = reduce(alloc, frames, part, 1)?;
-            if frames.is_empty() {
-                Ok(Mode::Done(part))
-            } else {
-                Err(Stop::Misfit { left })
-            }
-        }
+        _ => finish(alloc, frames, part, left),
     }
 }
 
 /// The expression that comes next, as far as it goes; none where it is deeper than 64.
 pub fn sum(alloc: Global, cursor: &mut Cursor<'_>) -> Result<Option<Part>, Stop>
     ensures ok { IfOk result (λ p. sum_of depth_limit cursor.old ≡ Some (part_of p, cursor.new)) }
-    ensures err { IfErr result (IsMisread (sum_of depth_limit cursor.old) (length cursor.old)) }
+    ensures walked { OnOk result (walk sum_shape cursor.old ≡ past cursor.new) }
+    ensures err { IfErr result (IsMisread (walk sum_shape cursor.old)) }
     ensures rest { OnOk result (length cursor.new ≤ length cursor.old) }
 {
     let mut frames = Frames::new(alloc);

@@ -1,8 +1,8 @@
 //! What was begun in an expression and waits for its right part, the last on top.
 
-ghost use Rattle.std.specs.Prelude.{◌≡◌, ◌↔◌, ◌++◌, ◌∷◌, [], IsTrue, drop, reverse, IfErr, IfOk, MatchOption, OnOk, Option};
+ghost use Rattle.std.specs.Prelude.{◌≡◌, ◌≤◌, false, ◌↔◌, ◌++◌, ◌∷◌, [], IsTrue, drop, reverse, IfErr, IfOk, MatchOption, OnOk, Option};
 ghost use Rattle.qasm_parser.specs.Tree.{Expression as SpecExpression, depth_limit};
-ghost use Rattle.qasm_parser.specs.Machine.{before, binding, called, closed, closes, minus, opened, reduce, reduced, tightness};
+ghost use Rattle.qasm_parser.specs.Machine.{before, binding, called, closed, closes, minus, open_in, opened, reduce, reduced, tightness};
 ghost use Rattle.qasm_parser.specs.Parts.{part_of};
 ghost use Rattle.qasm_parser.specs.Frames.{first_left, frame_with, stack};
 ghost use Rattle.qasm_parser.specs.declared.stop.Stop.TheVariants.{NoMemory};
@@ -184,7 +184,9 @@ pub fn reduce(
     part: Option<Part>,
     binding: u8,
 ) -> Result<Option<Part>, AllocError>
-    ensures { IfOk result (λ p. reduce depth_limit binding (stack frames.old) (part_of part) ≡ reduced (stack frames.new) (part_of p)) }
+    ensures ok { IfOk result (λ p. reduce depth_limit binding (stack frames.old) (part_of part) ≡ reduced (stack frames.new) (part_of p)) }
+    ensures open_still { OnOk result (1 ≤ binding → open_in (stack frames.new) ≡ open_in (stack frames.old)) }
+    ensures waits { OnOk result (closes binding (stack frames.new) ≡ false) }
 {
     let mut part = part;
     'frames: while frames.closes(binding) {

@@ -1,13 +1,13 @@
 //! What holds of every text, as functions whose contracts are the laws. They take nothing and do nothing.
 
-ghost use Rattle.std.specs.Prelude.{◌≡◌, ◌≢◌, ◌≤◌, ℕ, List, All, length};
+ghost use Rattle.std.specs.Prelude.{◌≡◌, ◌≢◌, ◌≤◌, ◌⊎◌, ℕ, List, All, length};
 ghost use Rattle.qasm_lexer.specs.Names.{IsName};
 ghost use Rattle.qasm_lexer.specs.Tokens.{IsTokenOf};
 ghost use Rattle.qasm_lexer.specs.declared.Token.{Token as LexToken};
 ghost use Rattle.qasm_parser.specs.Tree.{Tree};
 ghost use Rattle.qasm_parser.specs.Spelling.{Seen};
 ghost use Rattle.qasm_parser.specs.DeclaredNames.{HasNames};
-ghost use Rattle.qasm_parser.specs.Parsing.{IsAlike, IsParseFault, IsProgram, Spells, first_deep_of};
+ghost use Rattle.qasm_parser.specs.Parsing.{IsParseFault, IsProgram, Spells, first_deep_of};
 ghost use Rattle.qasm_parser.specs.declared.ParseFault.{ParseFault as Fault};
 ghost use Rattle.qasm_parser.specs.declared.ParseFault.TheVariants.{NoMemory};
 
@@ -22,10 +22,15 @@ pub fn accepted_has_no_fault()
     ensures { (text : List ℕ) (tokens : List LexToken) (t : Tree) (fault : Fault) → IsProgram text tokens t → IsParseFault text tokens fault → fault ≡ NoMemory }
 {}
 
-/// A text with its tokens has one refusal at most, the place of Syntax aside.
+/// A text with its tokens is accepted, or has a fault.
+pub fn parsed_or_refused()
+    ensures { (text : List ℕ) (tokens : List LexToken) → ((t : Tree) × IsProgram text tokens t) ⊎ ((fault : Fault) × (fault ≢ NoMemory) × IsParseFault text tokens fault) }
+{}
+
+/// A text with its tokens has one refusal at most.
 pub fn refused_once()
     ensures { (text : List ℕ) (tokens : List LexToken) (a b : Fault) → IsParseFault text tokens a → IsParseFault text tokens b
-        → a ≢ NoMemory → b ≢ NoMemory → IsAlike a b }
+        → a ≢ NoMemory → b ≢ NoMemory → a ≡ b }
 {}
 
 /// A tree has no more statements than its text has tokens.

@@ -25,7 +25,10 @@ mod tests;
 mod tree;
 
 pub use angle_fraction::{Binary, Function};
-pub use laws::{accepted_has_no_fault, declares_names, few_statements, refused_once, spelt_once};
+pub use laws::{
+    accepted_has_no_fault, declares_names, few_statements, parsed_or_refused, refused_once,
+    spelt_once,
+};
 pub use program::parse;
 use thiserror::Error;
 pub use tree::{Apply, Arg, Expr, GateDef, Name, Program, Sides, Stmt};

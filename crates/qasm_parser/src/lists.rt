@@ -2,6 +2,8 @@
 
 ghost use Rattle.std.specs.Prelude.{◌≡◌, ◌≤◌, ◌<◌, Some, None, true, false, IfOk, IfErr, OnOk, List, drop, length};
 ghost use Rattle.qasm_parser.specs.Misread.{IsMisread};
+ghost use Rattle.qasm_parser.specs.Ways.{a_name, a_whole, one, this_mark, past, walk};
+ghost use Rattle.qasm_parser.specs.Shapes.{arg_shape, args_shape, bracketed_shape, index_shape, list_shape};
 ghost use Rattle.qasm_parser.specs.Symbols.{Symbol as SpecSymbol};
 ghost use Rattle.qasm_parser.specs.Reading.{args_of, arg_of, begins_with, begins_word, bracketed_of, first_word, index_of, list_of, mark_code, name_of, read, skip, whole_number, whole_of, word_code};
 
@@ -47,7 +49,9 @@ pub fn is_next(cursor: &Cursor<'_>, mark: Mark) -> bool
 /// Goes past this sign, where it comes next.
 #[tactic(auto, using(crate::proofs::CodeLaws::signs))]
 pub fn take(cursor: &mut Cursor<'_>, mark: Mark) -> bool
+    ensures test { result ≡ begins_with mark cursor.old }
     ensures taken { result ≡ true → skip mark cursor.old ≡ Some cursor.new }
+    ensures advanced { result ≡ true → cursor.new ≡ drop 1 cursor.old }
     ensures shorter { result ≡ true → length cursor.new < length cursor.old }
     ensures other { result ≡ false → skip mark cursor.old ≡ None }
     ensures stays { result ≡ false → cursor.new ≡ cursor.old }
@@ -63,7 +67,8 @@ pub fn take(cursor: &mut Cursor<'_>, mark: Mark) -> bool
 #[tactic(auto, using(crate::proofs::CodeLaws::signs))]
 pub fn expect(cursor: &mut Cursor<'_>, mark: Mark) -> Result<(), Stop>
     ensures ok { OnOk result (skip mark cursor.old ≡ Some cursor.new) }
-    ensures err { IfErr result (IsMisread (skip mark cursor.old) (length cursor.old)) }
+    ensures walked { OnOk result (walk (one (this_mark mark)) cursor.old ≡ past cursor.new) }
+    ensures err { IfErr result (IsMisread (walk (one (this_mark mark)) cursor.old)) }
     ensures rest { OnOk result (length cursor.new ≤ length cursor.old) }
 {
     let left = cursor.left();
@@ -136,7 +141,8 @@ pub fn take_word(cursor: &mut Cursor<'_>, keyword: Keyword) -> bool
 #[tactic(auto, unfolding(crate::specs::Reading::name_of))]
 pub fn name(alloc: Global, cursor: &mut Cursor<'_>) -> Result<Name, Stop>
     ensures ok { IfOk result (λ n. name_of cursor.old ≡ Some (read n None cursor.new)) }
-    ensures err { IfErr result (IsMisread (name_of cursor.old) (length cursor.old)) }
+    ensures walked { OnOk result (walk (one a_name) cursor.old ≡ past cursor.new) }
+    ensures err { IfErr result (IsMisread (walk (one a_name) cursor.old)) }
     ensures rest { OnOk result (length cursor.new ≤ length cursor.old) }
 {
     let left = cursor.left();
@@ -167,7 +173,8 @@ fn whole_number(value: Frac) -> Option<u64>
 #[tactic(auto, unfolding(crate::specs::Reading::whole_of))]
 pub fn whole(cursor: &mut Cursor<'_>) -> Result<u64, Stop>
     ensures ok { IfOk result (λ n. whole_of cursor.old ≡ Some (read n None cursor.new)) }
-    ensures err { IfErr result (IsMisread (whole_of cursor.old) (length cursor.old)) }
+    ensures walked { OnOk result (walk (one a_whole) cursor.old ≡ past cursor.new) }
+    ensures err { IfErr result (IsMisread (walk (one a_whole) cursor.old)) }
     ensures rest { OnOk result (length cursor.new ≤ length cursor.old) }
 {
     let left = cursor.left();
@@ -184,10 +191,11 @@ pub fn whole(cursor: &mut Cursor<'_>) -> Result<u64, Stop>
 }
 
 /// A whole number and the end of its bracket.
-#[tactic(auto, unfolding(crate::specs::Reading::bracketed_of))]
+#[tactic(auto, unfolding(crate::specs::Reading::bracketed_of, crate::specs::Shapes::bracketed_shape))]
 pub fn bracketed(cursor: &mut Cursor<'_>) -> Result<u64, Stop>
     ensures ok { IfOk result (λ n. bracketed_of cursor.old ≡ Some (read n None cursor.new)) }
-    ensures err { IfErr result (IsMisread (bracketed_of cursor.old) (length cursor.old)) }
+    ensures walked { OnOk result (walk bracketed_shape cursor.old ≡ past cursor.new) }
+    ensures err { IfErr result (IsMisread (walk bracketed_shape cursor.old)) }
     ensures rest { OnOk result (length cursor.new ≤ length cursor.old) }
 {
     let number = whole(cursor)?;
@@ -198,7 +206,8 @@ pub fn bracketed(cursor: &mut Cursor<'_>) -> Result<u64, Stop>
 /// The index in brackets, where one is there; none in a gate's body.
 fn index(cursor: &mut Cursor<'_>, plain: bool) -> Result<Option<u64>, Stop>
     ensures ok { IfOk result (λ i. index_of plain cursor.old ≡ Some (read i None cursor.new)) }
-    ensures err { IfErr result (IsMisread (index_of plain cursor.old) (length cursor.old)) }
+    ensures walked { OnOk result (walk (index_shape plain) cursor.old ≡ past cursor.new) }
+    ensures err { IfErr result (IsMisread (walk (index_shape plain) cursor.old)) }
     ensures rest { OnOk result (length cursor.new ≤ length cursor.old) }
 {
     if plain {
@@ -212,10 +221,11 @@ fn index(cursor: &mut Cursor<'_>, plain: bool) -> Result<Option<u64>, Stop>
 }
 
 /// An argument; in a gate's body it is a plain name.
-#[tactic(auto, unfolding(crate::specs::Reading::arg_of))]
+#[tactic(auto, unfolding(crate::specs::Reading::arg_of, crate::specs::Shapes::arg_shape))]
 pub fn arg(alloc: Global, cursor: &mut Cursor<'_>, plain: bool) -> Result<Arg, Stop>
     ensures ok { IfOk result (λ a. arg_of plain cursor.old ≡ Some (read a None cursor.new)) }
-    ensures err { IfErr result (IsMisread (arg_of plain cursor.old) (length cursor.old)) }
+    ensures walked { OnOk result (walk (arg_shape plain) cursor.old ≡ past cursor.new) }
+    ensures err { IfErr result (IsMisread (walk (arg_shape plain) cursor.old)) }
     ensures rest { OnOk result (length cursor.new ≤ length cursor.old) }
 {
     let name = name(alloc, cursor)?;
@@ -224,10 +234,11 @@ pub fn arg(alloc: Global, cursor: &mut Cursor<'_>, plain: bool) -> Result<Arg, S
 }
 
 /// Names with commas between.
-#[tactic(auto, using(crate::proofs::ListLaws::names))]
+#[tactic(auto, using(crate::proofs::ListLaws::names, crate::proofs::LoopLaws::names))]
 pub fn names(alloc: Global, cursor: &mut Cursor<'_>) -> Result<Vec<Name>, Stop>
     ensures ok { IfOk result (λ v. list_of name_of cursor.old ≡ Some (read v.items None cursor.new)) }
-    ensures err { IfErr result (IsMisread (list_of name_of cursor.old) (length cursor.old)) }
+    ensures walked { OnOk result (walk (list_shape (one a_name)) cursor.old ≡ past cursor.new) }
+    ensures err { IfErr result (IsMisread (walk (list_shape (one a_name)) cursor.old)) }
     ensures rest { OnOk result (length cursor.new ≤ length cursor.old) }
 {
     let mut list = Vec::new(alloc);
@@ -240,10 +251,11 @@ pub fn names(alloc: Global, cursor: &mut Cursor<'_>) -> Result<Vec<Name>, Stop>
 }
 
 /// Arguments with commas between.
-#[tactic(auto, using(crate::proofs::ListLaws::args))]
+#[tactic(auto, using(crate::proofs::ListLaws::args, crate::proofs::LoopLaws::args))]
 fn arg_list(alloc: Global, cursor: &mut Cursor<'_>, plain: bool) -> Result<Vec<Arg>, Stop>
     ensures ok { IfOk result (λ v. list_of (arg_of plain) cursor.old ≡ Some (read v.items None cursor.new)) }
-    ensures err { IfErr result (IsMisread (list_of (arg_of plain) cursor.old) (length cursor.old)) }
+    ensures walked { OnOk result (walk (list_shape (arg_shape plain)) cursor.old ≡ past cursor.new) }
+    ensures err { IfErr result (IsMisread (walk (list_shape (arg_shape plain)) cursor.old)) }
     ensures rest { OnOk result (length cursor.new ≤ length cursor.old) }
 {
     let mut list = Vec::with_capacity(alloc, 2)?;
@@ -255,10 +267,11 @@ fn arg_list(alloc: Global, cursor: &mut Cursor<'_>, plain: bool) -> Result<Vec<A
 }
 
 /// Arguments up to the semicolon.
-#[tactic(auto, unfolding(crate::specs::Reading::args_of))]
+#[tactic(auto, unfolding(crate::specs::Reading::args_of, crate::specs::Shapes::args_shape))]
 pub fn args(alloc: Global, cursor: &mut Cursor<'_>, plain: bool) -> Result<Vec<Arg>, Stop>
     ensures ok { IfOk result (λ v. args_of plain cursor.old ≡ Some (read v.items None cursor.new)) }
-    ensures err { IfErr result (IsMisread (args_of plain cursor.old) (length cursor.old)) }
+    ensures walked { OnOk result (walk (args_shape plain) cursor.old ≡ past cursor.new) }
+    ensures err { IfErr result (IsMisread (walk (args_shape plain) cursor.old)) }
     ensures rest { OnOk result (length cursor.new ≤ length cursor.old) }
 {
     let mut list = arg_list(alloc, cursor, plain)?;

@@ -2,6 +2,8 @@
 
 ghost use Rattle.std.specs.Prelude.{◌≡◌, ◌≤◌, ◌<◌, ◌↔◌, ◌^◌, All, Some, None, IsTrue, map, IfOk, IfErr, OnOk, length};
 ghost use Rattle.qasm_parser.specs.Misread.{IsMisread};
+ghost use Rattle.qasm_parser.specs.Ways.{the_end, until, past, walk};
+ghost use Rattle.qasm_parser.specs.Shapes.{header_shape, statement_shape, tree_shape, version_shape};
 ghost use Rattle.qasm_parser.specs.Tree.{depth_limit, program, statement};
 ghost use Rattle.qasm_parser.specs.Symbols.{place_of};
 ghost use Rattle.qasm_lexer.specs.Tokens.{IsTokenOf};
@@ -21,10 +23,11 @@ use qasm_lexer::Token;
 use std::alloc::Global;
 
 /// The version and its semicolon.
-#[tactic(auto, unfolding(crate::specs::Reading::version_of))]
+#[tactic(auto, unfolding(crate::specs::Reading::version_of, crate::specs::Shapes::version_shape))]
 fn version(cursor: &mut Cursor<'_>) -> Result<Frac, Stop>
     ensures ok { IfOk result (λ v. version_of cursor.old ≡ Some (read v None cursor.new)) }
-    ensures err { IfErr result (IsMisread (version_of cursor.old) (length cursor.old)) }
+    ensures walked { OnOk result (walk version_shape cursor.old ≡ past cursor.new) }
+    ensures err { IfErr result (IsMisread (walk version_shape cursor.old)) }
     ensures rest { OnOk result (length cursor.new ≤ length cursor.old) }
 {
     let left = cursor.left();
@@ -40,10 +43,11 @@ fn version(cursor: &mut Cursor<'_>) -> Result<Frac, Stop>
 }
 
 /// The first line of a program.
-#[tactic(auto, using(crate::proofs::CodeLaws::headers))]
+#[tactic(auto, using(crate::proofs::CodeLaws::headers, crate::proofs::LoopLaws::headers))]
 fn header(cursor: &mut Cursor<'_>) -> Result<Frac, Stop>
     ensures ok { IfOk result (λ v. header_of cursor.old ≡ Some (read v None cursor.new)) }
-    ensures err { IfErr result (IsMisread (header_of cursor.old) (length cursor.old)) }
+    ensures walked { OnOk result (walk header_shape cursor.old ≡ past cursor.new) }
+    ensures err { IfErr result (IsMisread (walk header_shape cursor.old)) }
     ensures rest { OnOk result (length cursor.new ≤ length cursor.old) }
 {
     let left = cursor.left();
@@ -54,10 +58,11 @@ fn header(cursor: &mut Cursor<'_>) -> Result<Frac, Stop>
 }
 
 /// Statements up to the end.
-#[tactic(auto, using(crate::proofs::StepLaws::statements))]
+#[tactic(auto, using(crate::proofs::StepLaws::statements, crate::proofs::LoopLaws::statements))]
 fn statements(alloc: Global, cursor: &mut Cursor<'_>) -> Result<(Vec<Stmt>, Option<usize>), Stop>
     ensures ok { IfOk result (λ r. all (more_statements depth_limit) cursor.old ≡ Some (read (map statement r.0.items) r.1 cursor.new)) }
-    ensures err { IfErr result (IsMisread (all (more_statements depth_limit) cursor.old) (length cursor.old)) }
+    ensures walked { OnOk result (walk (until the_end statement_shape) cursor.old ≡ past cursor.new) }
+    ensures err { IfErr result (IsMisread (walk (until the_end statement_shape) cursor.old)) }
 {
     let mut list = Vec::new(alloc);
     let mut deep = None;
@@ -70,10 +75,11 @@ fn statements(alloc: Global, cursor: &mut Cursor<'_>) -> Result<(Vec<Stmt>, Opti
 }
 
 /// A program, and where the first expression that is too deep begins.
-#[tactic(auto, unfolding(crate::specs::Reading::tree_of))]
+#[tactic(auto, unfolding(crate::specs::Reading::tree_of, crate::specs::Shapes::tree_shape))]
 fn tree(alloc: Global, cursor: &mut Cursor<'_>) -> Result<(Program, Option<usize>), Stop>
     ensures ok { IfOk result (λ r. tree_of depth_limit cursor.old ≡ Some (read (program r.0) r.1 cursor.new)) }
-    ensures err { IfErr result (IsMisread (tree_of depth_limit cursor.old) (length cursor.old)) }
+    ensures walked { OnOk result (walk tree_shape cursor.old ≡ past cursor.new) }
+    ensures err { IfErr result (IsMisread (walk tree_shape cursor.old)) }
 {
     let version = header(cursor)?;
     let (list, deep) = statements(alloc, cursor)?;

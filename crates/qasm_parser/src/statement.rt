@@ -2,6 +2,8 @@
 
 ghost use Rattle.std.specs.Prelude.{◌≡◌, ◌≤◌, ◌<◌, [], Some, None, map, IfOk, IfErr, OnOk, length};
 ghost use Rattle.qasm_parser.specs.Misread.{IsMisread};
+ghost use Rattle.qasm_parser.specs.Ways.{a_text, one, past, walk};
+ghost use Rattle.qasm_parser.specs.Shapes.{conditional_shape, gate_shape, include_shape, listed_shape, names_shape, opaque_shape, params_shape, register_shape, statement_shape};
 ghost use Rattle.qasm_parser.specs.Tree.{action, definition, depth_limit, gate as gate_tree, opaque as opaque_tree, statement};
 ghost use Rattle.qasm_parser.specs.Reading.{conditional_of, gate_of, include_of, listed_of, names_of, opaque_of, params_of, quoted_of, read, register_of, statement_of};
 
@@ -14,10 +16,11 @@ use crate::tree::{GateDef, Name, Stmt};
 use std::alloc::Global;
 
 /// Names up to the end of the parenthesis.
-#[tactic(auto, unfolding(crate::specs::Reading::listed_of))]
+#[tactic(auto, unfolding(crate::specs::Reading::listed_of, crate::specs::Shapes::listed_shape))]
 fn listed(alloc: Global, cursor: &mut Cursor<'_>) -> Result<Vec<Name>, Stop>
     ensures ok { IfOk result (λ v. listed_of cursor.old ≡ Some (read v.items None cursor.new)) }
-    ensures err { IfErr result (IsMisread (listed_of cursor.old) (length cursor.old)) }
+    ensures walked { OnOk result (walk listed_shape cursor.old ≡ past cursor.new) }
+    ensures err { IfErr result (IsMisread (walk listed_shape cursor.old)) }
     ensures rest { OnOk result (length cursor.new ≤ length cursor.old) }
 {
     let list = names(alloc, cursor)?;
@@ -26,10 +29,11 @@ fn listed(alloc: Global, cursor: &mut Cursor<'_>) -> Result<Vec<Name>, Stop>
 }
 
 /// A gate's parameters: in parentheses, or none.
-#[tactic(auto, unfolding(crate::specs::Reading::params_of))]
+#[tactic(auto, unfolding(crate::specs::Reading::params_of, crate::specs::Shapes::params_shape))]
 fn params(alloc: Global, cursor: &mut Cursor<'_>) -> Result<Vec<Name>, Stop>
     ensures ok { IfOk result (λ v. params_of cursor.old ≡ Some (read v.items None cursor.new)) }
-    ensures err { IfErr result (IsMisread (params_of cursor.old) (length cursor.old)) }
+    ensures walked { OnOk result (walk params_shape cursor.old ≡ past cursor.new) }
+    ensures err { IfErr result (IsMisread (walk params_shape cursor.old)) }
     ensures rest { OnOk result (length cursor.new ≤ length cursor.old) }
 {
     if !take(cursor, Mark::Open) {
@@ -50,10 +54,11 @@ struct Heading {
 }
 
 /// A gate up to its body.
-#[tactic(auto, unfolding(crate::specs::Reading::names_of))]
+#[tactic(auto, unfolding(crate::specs::Reading::names_of, crate::specs::Shapes::names_shape))]
 fn names_of_gate(alloc: Global, cursor: &mut Cursor<'_>) -> Result<Heading, Stop>
     ensures ok { IfOk result (λ h. names_of cursor.old ≡ Some (read (definition h.name h.params.items h.qubits.items []) None cursor.new)) }
-    ensures err { IfErr result (IsMisread (names_of cursor.old) (length cursor.old)) }
+    ensures walked { OnOk result (walk names_shape cursor.old ≡ past cursor.new) }
+    ensures err { IfErr result (IsMisread (walk names_shape cursor.old)) }
     ensures rest { OnOk result (length cursor.new ≤ length cursor.old) }
 {
     let name = name(alloc, cursor)?;
@@ -91,10 +96,11 @@ fn undefined(heading: Heading, body: Vec<Stmt>) -> Stmt
 }
 
 /// A gate's declaration, from behind its word.
-#[tactic(auto, unfolding(crate::specs::Reading::gate_of))]
+#[tactic(auto, unfolding(crate::specs::Reading::gate_of, crate::specs::Shapes::gate_shape))]
 fn gate(alloc: Global, cursor: &mut Cursor<'_>) -> Result<(Stmt, Option<usize>), Stop>
     ensures ok { IfOk result (λ r. gate_of depth_limit cursor.old ≡ Some (read (statement r.0) r.1 cursor.new)) }
-    ensures err { IfErr result (IsMisread (gate_of depth_limit cursor.old) (length cursor.old)) }
+    ensures walked { OnOk result (walk gate_shape cursor.old ≡ past cursor.new) }
+    ensures err { IfErr result (IsMisread (walk gate_shape cursor.old)) }
     ensures rest { OnOk result (length cursor.new ≤ length cursor.old) }
 {
     let heading = names_of_gate(alloc, cursor)?;
@@ -104,10 +110,11 @@ fn gate(alloc: Global, cursor: &mut Cursor<'_>) -> Result<(Stmt, Option<usize>),
 }
 
 /// An opaque gate's declaration, from behind its word.
-#[tactic(auto, unfolding(crate::specs::Reading::opaque_of))]
+#[tactic(auto, unfolding(crate::specs::Reading::opaque_of, crate::specs::Shapes::opaque_shape))]
 fn opaque(alloc: Global, cursor: &mut Cursor<'_>) -> Result<Stmt, Stop>
     ensures ok { IfOk result (λ s. opaque_of cursor.old ≡ Some (read (statement s) None cursor.new)) }
-    ensures err { IfErr result (IsMisread (opaque_of cursor.old) (length cursor.old)) }
+    ensures walked { OnOk result (walk opaque_shape cursor.old ≡ past cursor.new) }
+    ensures err { IfErr result (IsMisread (walk opaque_shape cursor.old)) }
     ensures rest { OnOk result (length cursor.new ≤ length cursor.old) }
 {
     let heading = names_of_gate(alloc, cursor)?;
@@ -119,7 +126,8 @@ fn opaque(alloc: Global, cursor: &mut Cursor<'_>) -> Result<Stmt, Stop>
 #[tactic(auto, unfolding(crate::specs::Reading::quoted_of))]
 fn quoted(alloc: Global, cursor: &mut Cursor<'_>) -> Result<Name, Stop>
     ensures ok { IfOk result (λ n. quoted_of cursor.old ≡ Some (read n None cursor.new)) }
-    ensures err { IfErr result (IsMisread (quoted_of cursor.old) (length cursor.old)) }
+    ensures walked { OnOk result (walk (one a_text) cursor.old ≡ past cursor.new) }
+    ensures err { IfErr result (IsMisread (walk (one a_text) cursor.old)) }
     ensures rest { OnOk result (length cursor.new ≤ length cursor.old) }
 {
     let left = cursor.left();
@@ -133,10 +141,11 @@ fn quoted(alloc: Global, cursor: &mut Cursor<'_>) -> Result<Name, Stop>
 }
 
 /// An include, from behind its word.
-#[tactic(auto, unfolding(crate::specs::Reading::include_of))]
+#[tactic(auto, unfolding(crate::specs::Reading::include_of, crate::specs::Shapes::include_shape))]
 fn include(alloc: Global, cursor: &mut Cursor<'_>) -> Result<Stmt, Stop>
     ensures ok { IfOk result (λ s. include_of cursor.old ≡ Some (read (statement s) None cursor.new)) }
-    ensures err { IfErr result (IsMisread (include_of cursor.old) (length cursor.old)) }
+    ensures walked { OnOk result (walk include_shape cursor.old ≡ past cursor.new) }
+    ensures err { IfErr result (IsMisread (walk include_shape cursor.old)) }
     ensures rest { OnOk result (length cursor.new ≤ length cursor.old) }
 {
     let file = quoted(alloc, cursor)?;
@@ -145,10 +154,11 @@ fn include(alloc: Global, cursor: &mut Cursor<'_>) -> Result<Stmt, Stop>
 }
 
 /// A register, from behind its word.
-#[tactic(auto, unfolding(crate::specs::Reading::register_of))]
+#[tactic(auto, unfolding(crate::specs::Reading::register_of, crate::specs::Shapes::register_shape))]
 fn register(alloc: Global, cursor: &mut Cursor<'_>, quantum: bool) -> Result<Stmt, Stop>
     ensures ok { IfOk result (λ s. register_of quantum cursor.old ≡ Some (read (statement s) None cursor.new)) }
-    ensures err { IfErr result (IsMisread (register_of quantum cursor.old) (length cursor.old)) }
+    ensures walked { OnOk result (walk register_shape cursor.old ≡ past cursor.new) }
+    ensures err { IfErr result (IsMisread (walk register_shape cursor.old)) }
     ensures rest { OnOk result (length cursor.new ≤ length cursor.old) }
 {
     let name = name(alloc, cursor)?;
@@ -163,10 +173,11 @@ fn register(alloc: Global, cursor: &mut Cursor<'_>, quantum: bool) -> Result<Stm
 }
 
 /// A conditional statement, from behind its word.
-#[tactic(auto, unfolding(crate::specs::Reading::conditional_of))]
+#[tactic(auto, unfolding(crate::specs::Reading::conditional_of, crate::specs::Shapes::conditional_shape))]
 fn conditional(alloc: Global, cursor: &mut Cursor<'_>) -> Result<(Stmt, Option<usize>), Stop>
     ensures ok { IfOk result (λ r. conditional_of depth_limit cursor.old ≡ Some (read (statement r.0) r.1 cursor.new)) }
-    ensures err { IfErr result (IsMisread (conditional_of depth_limit cursor.old) (length cursor.old)) }
+    ensures walked { OnOk result (walk conditional_shape cursor.old ≡ past cursor.new) }
+    ensures err { IfErr result (IsMisread (walk conditional_shape cursor.old)) }
     ensures rest { OnOk result (length cursor.new ≤ length cursor.old) }
 {
     expect(cursor, Mark::Open)?;
@@ -180,10 +191,11 @@ fn conditional(alloc: Global, cursor: &mut Cursor<'_>) -> Result<(Stmt, Option<u
 }
 
 /// A statement.
-#[tactic(auto, using(crate::proofs::CodeLaws::statements))]
+#[tactic(auto, using(crate::proofs::CodeLaws::statements, crate::proofs::LoopLaws::beginnings))]
 pub fn statement(alloc: Global, cursor: &mut Cursor<'_>) -> Result<(Stmt, Option<usize>), Stop>
     ensures ok { IfOk result (λ r. statement_of depth_limit cursor.old ≡ Some (read (statement r.0) r.1 cursor.new)) }
-    ensures err { IfErr result (IsMisread (statement_of depth_limit cursor.old) (length cursor.old)) }
+    ensures walked { OnOk result (walk statement_shape cursor.old ≡ past cursor.new) }
+    ensures err { IfErr result (IsMisread (walk statement_shape cursor.old)) }
     ensures rest { OnOk result (length cursor.new ≤ length cursor.old) }
 {
     let word = next_word(cursor);

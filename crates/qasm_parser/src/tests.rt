@@ -154,7 +154,7 @@ fn nested(
 
 #[test]
 fn faults(rt: HostRuntime) -> Result<(), Fail> {
-    let rows: [(&[u8], ParseFault); 13] = [
+    let rows: [(&[u8], ParseFault); 17] = [
         (
             b"OPENQASM 2.0;\nqreg q[1]",
             ParseFault::Syntax { place: 23 },
@@ -183,6 +183,15 @@ fn faults(rt: HostRuntime) -> Result<(), Fail> {
             ParseFault::Syntax { place: 22 },
         ),
         (b"OPENQASM 2.0;t q[0]];", ParseFault::Syntax { place: 19 }),
+        // the end of the text, behind a comment too
+        (b"", ParseFault::Syntax { place: 0 }),
+        (
+            b"OPENQASM 2.0;h q[0] // end",
+            ParseFault::Syntax { place: 26 },
+        ),
+        // the first of two
+        (b"OPENQASM 2.0;h q[;x ];", ParseFault::Syntax { place: 17 }),
+        (b"OPENQASM 2.0;u1(2*) q;", ParseFault::Syntax { place: 18 }),
     ];
     for (text, fault) in rows {
         assert_eq!(rt; fault_of(rt.alloc(), text)?, Some(fault));

@@ -25,6 +25,7 @@ use Rattle.qasm_writer.specs.Trees.{bits_statement, wires_statements}
 use Rattle.qasm_writer.proofs.MeasureLaws.{AreDeclared, sizes}
 use Rattle.qasm_writer.proofs.RunLaws.{Run, Run-append, Run-nil}
 use Rattle.qasm_writer.proofs.StatementLaws.{bits_register, wires_register, bits_run, wires_run}
+use Rattle.unitary_model.specs.Limits.{most_qubits}
 
 pub left_of : (a b : Bool) → (a || b) ≡ false → a ≡ false
 left_of true b e = e
@@ -92,7 +93,7 @@ wired_some q n = record {
 abbrev IsWiredRun : List ℕ → ℕ → List Statement → Type 0
 IsWiredRun q n ss = Run begun ss [] [] (λ bit. None) × Wired (fold after begun ss) q n
 
-pub wires_checked : (q : List ℕ) (n : ℕ) → is_one_of table_names q ≡ false → n ≤ 64
+pub wires_checked : (q : List ℕ) (n : ℕ) → is_one_of table_names q ≡ false → n ≤ most_qubits
     → Run begun (wires_statements q n) [] [] (λ bit. None) × Wired (fold after begun (wires_statements q n)) q n
 wires_checked q n t few = go (n == 0) refl
   where

@@ -1,5 +1,5 @@
 -- A written tree: no refusal applies, and it means what was written.
---   AreParts q n us rs os   what may be written: the quantum register's name, at most 64 wires, operations that have a name, on
+--   AreParts q n us rs os   what may be written: the quantum register's name, at most `most_qubits` wires, operations that have a name, on
 --                        wires that are there, registers as a program may have them, and a read for each of their bits
 --   written_tree-fine    no refusal of a statement applies
 --   written_tree-means   it means these wires, operations, reads and registers
@@ -10,6 +10,7 @@ use Rattle.std.specs.Option.{option_or}
 use Rattle.std.specs.Str.{bytes_eq}
 use Rattle.std.proofs.lemmas.List.Elements.{recursion_from_All}
 use Rattle.std.proofs.lemmas.List.Sums.{fold-append}
+use Rattle.unitary_model.specs.Limits.{most_qubits}
 use Rattle.unitary_model.specs.declared.Op.{Op}
 use Rattle.qasm_parser.specs.Tree.{Statement, include}
 use Rattle.qasm_check.specs.Checking.{IsFineTree, bound, steps}
@@ -34,7 +35,7 @@ use Rattle.qasm_writer.proofs.StatementLaws.{IsReady, include_run}
 
 pub record AreParts (q : List ℕ) (n : ℕ) (us : List Op) (rs : List Bits) (os : List (Option ℕ)) : Type 0 where
   pub name : IsQubitsName rs q
-  pub few : n ≤ 64
+  pub few : n ≤ most_qubits
   pub ops : All (IsWritable n) us
   pub registers : AreRegisters rs (length os)
   pub reads : All (IsRead n) os

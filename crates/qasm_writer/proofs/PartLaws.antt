@@ -11,8 +11,9 @@ use Rattle.qasm_writer.specs.Trees.{written_tree}
 use Rattle.qasm_writer.specs.declared.output.Output.{Output}
 use Rattle.qasm_writer.proofs.GateLaws.{IsWritable, IsWritable-ops}
 use Rattle.qasm_writer.proofs.MeaningLaws.{AreParts, written_tree-fine, written_tree-means}
+use Rattle.unitary_model.specs.Limits.{most_qubits}
 
-pub AreParts-output : (o : Output) (q : List ℕ) → IsOutput o → IsQubitsName (map bits_of o.registers.now) q → o.body.now.wires ≤ 64
+pub AreParts-output : (o : Output) (q : List ℕ) → IsOutput o → IsQubitsName (map bits_of o.registers.now) q → o.body.now.wires ≤ most_qubits
     → All (IsFine o.body.now.wires) o.body.now.gates
     → AreParts q o.body.now.wires (ops o.body.now.gates) (map bits_of o.registers.now) o.reads.now
 AreParts-output o q h name few fine = record {
@@ -24,7 +25,7 @@ AreParts-output o q h name few fine = record {
   reads = h.reads;
 }
 
-pub IsWritten-spelt : (o : Output) (q text : List ℕ) → IsOutput o → IsQubitsName (map bits_of o.registers.now) q → o.body.now.wires ≤ 64
+pub IsWritten-spelt : (o : Output) (q text : List ℕ) → IsOutput o → IsQubitsName (map bits_of o.registers.now) q → o.body.now.wires ≤ most_qubits
     → All (IsFine o.body.now.wires) o.body.now.gates
     → IsTreeOf text (written_tree q o.body.now.wires (ops o.body.now.gates) (map bits_of o.registers.now) o.reads.now)
     → IsWritten text (program_of o)

@@ -13,6 +13,7 @@ use Rattle.std.specs.Prelude.{codes, is_none, is_some, not, nat_eq, nat_le, nat_
 use Rattle.std.specs.List.{cons_option, list_any}
 use Rattle.std.specs.Option.{option_or}
 use Rattle.std.proofs.lemmas.Bool.Decides.{nat_tests}
+use Rattle.unitary_model.specs.Limits.{most_qubits}
 use Rattle.unitary_model.specs.declared.Op.{Op}
 use Rattle.qasm_parser.specs.Tree.{Expression, include, register, act, measure}
 use Rattle.qasm_parser.specs.declared.tree.Arg.{Arg}
@@ -93,14 +94,14 @@ include_fine _ = refl
 pub include_run : Run fresh (include (codes "qelib1.inc") ∷ []) [] [] (λ bit. None)
 include_run = Run-quiet fresh (include (codes "qelib1.inc")) None include_fine refl refl
 
-wires_fine : (k : Known) (q : List ℕ) (n : ℕ) → k.declared q ≡ None → is_one_of table_names q ≡ false → 0 < n → k.wires + n ≤ 64
+wires_fine : (k : Known) (q : List ℕ) (n : ℕ) → k.declared q ≡ None → is_one_of table_names q ≡ false → 0 < n → k.wires + n ≤ most_qubits
     → IsFine k (register true q n)
 wires_fine k q n d t some few NameTaken = λ j. is_some (d j) || t j
 wires_fine k q n d t some few EmptyRegister = not_nought n some
-wires_fine k q n d t some few TooManyQubits = within 64 (k.wires + n) few
+wires_fine k q n d t some few TooManyQubits = within most_qubits (k.wires + n) few
 wires_fine k q n d t some few _ = refl
 
-pub wires_run : (k : Known) (q : List ℕ) (n : ℕ) → k.declared q ≡ None → is_one_of table_names q ≡ false → 0 < n → k.wires + n ≤ 64
+pub wires_run : (k : Known) (q : List ℕ) (n : ℕ) → k.declared q ≡ None → is_one_of table_names q ≡ false → 0 < n → k.wires + n ≤ most_qubits
     → Run k (register true q n ∷ []) [] [] (λ bit. None)
 wires_run k q n d t some few = Run-quiet k (register true q n) None (wires_fine k q n d t some few) refl refl
 

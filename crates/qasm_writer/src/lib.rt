@@ -17,6 +17,7 @@ ghost use Rattle.qasm_writer.specs.Outputs.{HasText, IsOutput, IsText, bits_of, 
 ghost use Rattle.qasm_writer.specs.Pieces.{HasRoom};
 ghost use Rattle.qasm_writer.specs.Texts.{IsQubitsName, with_underscores};
 
+use circuit_list::laws::{fine_below, fine_plain};
 use growing::Growing;
 use lines::put_lines;
 use output::{Output, Register};
@@ -138,6 +139,8 @@ fn write_lines<S: Sink>(output: &Output, room: &mut Vec<u8>, sink: &mut S) -> Re
     ensures capacity { 4096 ≤ vec_capacity room.new }
 {
     qasm_lexer::lexed_exactly();
+    fine_plain();
+    fine_below();
     let wires = output.body.wires();
     let q = underscores(output.registers);
     put_lines(output, q, wires, room, sink)?;

@@ -15,6 +15,7 @@ fn writes_each_gate(rt: HostRuntime) -> Result<(), Fail> {
         (Gate::H { q: 0 }, "h q_[0];\n"),
         (Gate::X { q: 11 }, "x q_[11];\n"),
         (Gate::Cx { c: 10, t: 3 }, "cx q_[10],q_[3];\n"),
+        (Gate::Cx { c: 255, t: 100 }, "cx q_[255],q_[100];\n"),
         (Gate::P { k: 1, q: 0 }, "t q_[0];\n"),
         (Gate::P { k: 2, q: 1 }, "s q_[1];\n"),
         (Gate::P { k: 3, q: 2 }, "u1(3*pi/4) q_[2];\n"),

@@ -10,7 +10,7 @@ use Rattle.qasm_writer.proofs.write_lines.Goals as goal
 pub returns-in_err-put_lines-clause-err : goal.returns-in_err-put_lines-clause-err
 returns-in_err-put_lines-clause-err g c =
     let o = c.args.output.now in
-    on_err _ _ (HasText-written c.lexed_exactly.ensures.has_tokens o c.underscores-q.result c.wires-wires.result
+    on_err _ _ (HasText-written c.lexed_exactly.ensures.has_tokens c.fine_plain.ensures.plain c.fine_below.ensures.below o c.underscores-q.result c.wires-wires.result
     (λ text. GainsPrefix (g.S.Sink.held c.args.sink.now) (g.S.Sink.held c.put_lines.new.sink) text) c.requires.output c.underscores-q.ensures
     c.wires-wires.ensures.wires c.wires-wires.ensures.few c.wires-wires.ensures.fine
     (fault-whole _ _ c.args.room.now.items (written_text (with_underscores c.underscores-q.result) c.wires-wires.result (ops o.body.now.gates) (map bits_of o.registers.now) o.reads.now) c.requires.empty c.in_err-put_lines.ensures.err))
@@ -19,7 +19,7 @@ pub returns-clause-ok : goal.returns-clause-ok
 returns-clause-ok g c =
     let o = c.args.output.now in
     on_ok-map _ (Gains (g.S.Sink.held c.put_lines.new.sink) (g.S.Sink.held c.send_room.new.sink) c.put_lines.new.room.items) _
-    (λ gained. HasText-written c.lexed_exactly.ensures.has_tokens o c.underscores-q.result c.wires-wires.result
+    (λ gained. HasText-written c.lexed_exactly.ensures.has_tokens c.fine_plain.ensures.plain c.fine_below.ensures.below o c.underscores-q.result c.wires-wires.result
     (λ text. Gains (g.S.Sink.held c.args.sink.now) (g.S.Sink.held c.send_room.new.sink) text) c.requires.output c.underscores-q.ensures
     c.wires-wires.ensures.wires c.wires-wires.ensures.few c.wires-wires.ensures.fine
     (Sends-rest _ _ _ _ _ _ c.requires.empty c.in_ok-put_lines.ensures.ok gained)) c.send_room.ensures.ok
@@ -28,7 +28,7 @@ pub returns-clause-err : goal.returns-clause-err
 returns-clause-err g c =
     let o = c.args.output.now in
     on_err-map _ (GainsPrefix (g.S.Sink.held c.put_lines.new.sink) (g.S.Sink.held c.send_room.new.sink) c.put_lines.new.room.items) _
-    (λ failed. HasText-written c.lexed_exactly.ensures.has_tokens o c.underscores-q.result c.wires-wires.result
+    (λ failed. HasText-written c.lexed_exactly.ensures.has_tokens c.fine_plain.ensures.plain c.fine_below.ensures.below o c.underscores-q.result c.wires-wires.result
     (λ text. GainsPrefix (g.S.Sink.held c.args.sink.now) (g.S.Sink.held c.send_room.new.sink) text) c.requires.output c.underscores-q.ensures
     c.wires-wires.ensures.wires c.wires-wires.ensures.few c.wires-wires.ensures.fine
     (rest-fault _ _ _ _ _ _ c.requires.empty c.in_ok-put_lines.ensures.ok failed)) c.send_room.ensures.err

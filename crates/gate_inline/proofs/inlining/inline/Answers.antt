@@ -15,6 +15,7 @@ use Rattle.gate_inline.proofs.ReadWires.{inlined_reads, length-reads}
 use Rattle.gate_inline.proofs.LengthLaws.{inlined_short}
 use Rattle.gate_inline.proofs.FineLaws.{fault_same, fine_ops, inlined_same, steps_wide}
 use Rattle.gate_inline.proofs.inlining.inline.Goals as goal
+use Rattle.unitary_model.specs.Limits.{most_qubits}
 
 in_ok : {A E : Type 0} (P Q : A → Type 0) (r : Result A E) → ((x : A) → P x → Q x) → IfOk r P → IfOk r Q
 in_ok P Q (Ok x) f h = f x h
@@ -65,7 +66,7 @@ pub written_out-requires-clause-placed : goal.written_out-requires-clause-placed
 written_out-requires-clause-placed c =
     let b : Bound = program c.args.checked.now in
     let sound : IsSound b = c.args.checked.now.sound in
-    let few : b.wires ≤ 4294967296 = (let w : b.wires ≤ 64 = sound.wires in omega arith) in
+    let few : b.wires ≤ 4294967296 = (let w : b.wires ≤ most_qubits = sound.wires in omega arith) in
     let wide : All (IsPlaced 4294967296 b.bits) b.steps = steps_wide b 4294967296 sound few in
     let here : All (IsPlaced 4294967296 c.bits.result) b.steps = subst (λ n. All (IsPlaced 4294967296 n) b.steps) (sym c.bits.ensures) wide in
     subst (λ (steps : List Step). All (IsPlaced 4294967296 c.bits.result) steps) (sym c.steps.ensures) here

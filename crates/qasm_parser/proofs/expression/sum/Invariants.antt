@@ -1,13 +1,15 @@
 use Rattle.std.proofs.Common.{◌≡◌, ◌≤◌, length}
 use Rattle.qasm_parser.specs.Tree.{depth_limit}
 use Rattle.qasm_parser.specs.Frames.{stack}
-use Rattle.qasm_parser.specs.Machine.{sum_of}
-use Rattle.qasm_parser.specs.Modes.{go, steps}
+use Rattle.qasm_parser.specs.Machine.{open_in, sum_of}
+use Rattle.qasm_parser.specs.Modes.{go, steps, way_go}
+use Rattle.qasm_parser.specs.Ways.{sum, walk}
 use Rattle.qasm_parser.proofs.expression.sum.Given as goal
 
 abbrev pub invariant-steps : goal.invariant-steps
 invariant-steps l = record {
   same : go (stack l.frames) l.mode l.cursor ≡ sum_of depth_limit l.initial.cursor;
+  walked : way_go (open_in (stack l.frames)) l.mode l.cursor ≡ walk sum l.initial.cursor;
   shorter : length l.cursor ≤ length l.initial.cursor;
 }
 
