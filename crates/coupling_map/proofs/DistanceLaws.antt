@@ -1,76 +1,107 @@
 -- Laws of the number that `distance` computes, and of the greatest distance.
---   leads-walk           where `leads` says so, a walk of so many pairs leads there
---   leads-along          a walk is one that `leads` finds
---   distance-exact       a distance below the number of qubits is what `distance` computes
+--   cheapest-far         it is at most n * top
+--   cheapest-walk        where it is less, a walk costs so much
+--   cheapest-along       no walk of at most m pairs costs less
 --   IsDiameter-greatest  the greatest entry of the table of all distances
---   IsDiameter-below     it is below the number of qubits
-use Rattle.std.proofs.Common.{◌≡◌, ℕ, zero, suc, ◌+◌, ◌*◌, ◌/◌, ◌%◌, ◌<◌, ◌≤◌, Bool, true, false, List, [], ◌∷◌, length, get_or, refl, sym, ap, ◌∙◌, subst, arith, zero-add, ◌⊎◌, inl, inr}
-use Rattle.std.specs.Prelude.{All, fold, max, ◌==◌, ◌&&◌, ◌||◌}
-use Rattle.std.specs.List.{list_any, range_with_len}
-use Rattle.std.proofs.lemmas.List.Elements.{All-get_or}
-use Rattle.std.proofs.lemmas.List.Folds.{list_any_at}
+use Rattle.std.proofs.Common.{◌≡◌, ℕ, zero, suc, ◌+◌, ◌*◌, ◌/◌, ◌%◌, ◌<◌, ◌≤◌, Bool, true, false, cond, List, [], ◌∷◌, length, get_or, refl, sym, ap, ◌∙◌, subst, arith, zero-add, ◌⊎◌, inl, inr}
+use Rattle.std.specs.Prelude.{All, fold, max, min, ◌==◌}
+use Rattle.std.specs.List.{range_with_len}
 use Rattle.std.proofs.lemmas.List.FromFn.{get_or-range_with_len, length-range_with_len}
-use Rattle.std.proofs.lemmas.List.Sums.{position_or_len_is}
 use Rattle.std.proofs.lemmas.Bool.Decides.{nat_tests}
 use Rattle.std.proofs.lemmas.Bool.{cases_lt}
 use Rattle.std.proofs.lemmas.Nat.{mul-add-lt, div-add-mod'}
 use Rattle.std.proofs.Math.Nat.{mod-lt, div-lt_iff_lt-mul}
-use Rattle.coupling_map.specs.Walks.{is_near, leads, distance, IsWalk, IsDiameter, IsDistance}
+use Rattle.coupling_map.specs.Walks.{is_near, cheapest, walk_cost, IsWalk, IsDiameter, IsDistance}
 use Rattle.coupling_map.specs.Tables.{AreDistances}
 use Rattle.coupling_map.proofs.WalkLaws.{is_near-below, IsDistance-same}
 
--- ---- a walk of so many pairs
+-- ---- the least of some numbers
 
-and_parts : (p q : Bool) → (p && q) ≡ true → (p ≡ true) × (q ≡ true)
-and_parts true q h = (refl, h)
-and_parts false q h = absurd (cc)
+abbrev least : (ℕ → ℕ) → ℕ → List ℕ → ℕ
+least f k xs = fold (λ k c. min k (f c)) k xs
 
-and_both : (p q : Bool) → p ≡ true → q ≡ true → (p && q) ≡ true
-and_both true q h g = g
-and_both false q h g = absurd (cc)
+least-start : (f : ℕ → ℕ) (k : ℕ) (xs : List ℕ) → least f k xs ≤ k
+least-start f k [] = omega arith
+least-start f k (x ∷ xs) = omega (arith, least-start f (min k (f x)) xs)
 
-found : (p : ℕ → Bool) (xs : List ℕ) → list_any p xs ≡ true → (c : ℕ) × (p c ≡ true)
-found p [] t = absurd (cc)
-found p (x ∷ xs) t = go (p x) refl (found p xs)
-  where
-    go : (b : Bool) → p x ≡ b → (list_any p xs ≡ true → (c : ℕ) × (p c ≡ true)) → (c : ℕ) × (p c ≡ true)
-    go true e later = (x, e)
-    go false e later = later (sym (λ i. e i || list_any p xs) ∙ t)
+least-at : (f : ℕ → ℕ) (k : ℕ) (xs : List ℕ) (i : ℕ) → i < length xs → least f k xs ≤ f (get_or xs i 0)
+least-at f k [] i l = absurd (omega arith)
+least-at f k (x ∷ xs) zero l = omega (arith, least-start f (min k (f x)) xs)
+least-at f k (x ∷ xs) (suc i) l = least-at f (min k (f x)) xs i (omega arith)
 
-pub leads-walk : (n : ℕ) (es : List (ℕ × ℕ)) (k a b : ℕ) → leads n es k a b ≡ true → (cs : List ℕ) × (length cs ≡ k) × IsWalk es a cs b
-unfolding leads
-leads-walk n es zero a b t = ([], refl, same a b t)
-  where
-    same : (a b : ℕ) → (a == b) ≡ true → a ≡ b
-    same a b t = grind (arith, nat_tests)
-leads-walk n es (suc k) a b t =
-    let c = found (λ c. is_near es a c && leads n es k c b) (range_with_len 0 n) t in
-    let h = and_parts (is_near es a c.0) (leads n es k c.0 b) c.1 in
-    let w = leads-walk n es k c.0 b h.1 in
-    (c.0 ∷ w.0, ap (λ m. suc m) w.1, (h.0, w.2))
+least-taken : (f : ℕ → ℕ) (k : ℕ) (xs : List ℕ) → (least f k xs ≡ k) ⊎ ((c : ℕ) × (least f k xs ≡ f c))
+least-taken f k [] = inl refl
+least-taken f k (x ∷ xs) = elim (least-taken f (min k (f x)) xs) [
+  | inr g ↦ inr g
+  | inl e ↦ elim (cases_lt k (f x)) [
+    | inl l ↦ inl (omega (arith, e, l))
+    | inr l ↦ inr (x, omega (arith, e, l))
+  ]
+]
 
-pub leads-along : (n : ℕ) (es : List (ℕ × ℕ)) → All (λ e. (e.0 < n) × (e.1 < n)) es → (cs : List ℕ) (a b : ℕ) → IsWalk es a cs b → leads n es (length cs) a b ≡ true
-unfolding leads
-leads-along n es h [] a b w = same a b w
-  where
-    same : (a b : ℕ) → a ≡ b → (a == b) ≡ true
-    same a b e = grind (arith, nat_tests)
-leads-along n es h (c ∷ cs) a b w =
-    let l = (is_near-below n es a c h w.0).1 in
-    let at : get_or (range_with_len 0 n) c 0 ≡ c = get_or-range_with_len 0 n c 0 l ∙ zero-add c in
-    list_any_at (λ c. is_near es a c && leads n es (length cs) c b) (range_with_len 0 n) c 0 (omega (arith, l, length-range_with_len 0 n))
-    (ap (λ x. is_near es a x && leads n es (length cs) x b) at ∙ and_both (is_near es a c) (leads n es (length cs) c b) w.0 (leads-along n es h cs c b w.1))
+-- ---- the least cost of a walk of so many pairs
 
-pub distance-exact : (n : ℕ) (es : List (ℕ × ℕ)) (a b k : ℕ) → All (λ e. (e.0 < n) × (e.1 < n)) es → IsDistance es a b k → k < n → distance n es a b ≡ k
-unfolding distance
-distance-exact n es a b k h d l =
-    position_or_len_is (λ j. leads n es j a b) (range_with_len 0 n) k 0 (omega (arith, l, length-range_with_len 0 n))
-    (λ j g. ap (λ m. leads n es m a b) (get_or-range_with_len 0 n j 0 (omega (arith, l, g)) ∙ zero-add j) ∙ none j g (leads n es j a b) refl)
-    (λ g. ap (λ m. leads n es m a b) (get_or-range_with_len 0 n k 0 l ∙ zero-add k ∙ sym d.walked.1) ∙ leads-along n es h d.walked.0 a b d.walked.2)
-  where
-    none : (j : ℕ) → j < k → (t : Bool) → leads n es j a b ≡ t → leads n es j a b ≡ false
-    none j g false e = e
-    none j g true e = let w = leads-walk n es j a b e in absurd (omega (arith, d.least w.0 w.2, w.1, g))
+at_most : (t : Bool) (f : ℕ) → cond t 0 f ≤ f
+at_most true f = omega arith
+at_most false f = omega arith
+
+pub cheapest-far : (top n : ℕ) (es : List (ℕ × ℕ)) (w : ℕ → ℕ → ℕ) (m a b : ℕ) → cheapest top n es w m a b ≤ n * top
+unfolding cheapest
+cheapest-far top n es w zero a b = at_most (a == b) (n * top)
+cheapest-far top n es w (suc m) a b =
+    omega (arith, at_most (a == b) (n * top), least-start (λ c. cond (is_near es a c) (w a c + cheapest top n es w m c b) (n * top)) (cond (a == b) 0 (n * top)) (range_with_len 0 n))
+
+same_qubit : (a b : ℕ) → (a == b) ≡ true → a ≡ b
+same_qubit a b t = grind (arith, nat_tests)
+
+module _ (top n : ℕ) (es : List (ℕ × ℕ)) (w : ℕ → ℕ → ℕ) where
+  here-walk : (a b k : ℕ) → k ≡ cond (a == b) 0 (n * top) → k < n * top → (cs : List ℕ) × (walk_cost w a cs ≡ k) × IsWalk es a cs b
+  here-walk a b k e l = go (a == b) refl e
+    where
+      go : (t : Bool) → (a == b) ≡ t → k ≡ cond t 0 (n * top) → (cs : List ℕ) × (walk_cost w a cs ≡ k) × IsWalk es a cs b
+      go true t f = ([], sym f, same_qubit a b t)
+      go false t f = absurd (omega (arith, f, l))
+
+  pub cheapest-walk : (m a b : ℕ) → cheapest top n es w m a b < n * top → (cs : List ℕ) × (walk_cost w a cs ≡ cheapest top n es w m a b) × IsWalk es a cs b
+  unfolding cheapest
+  cheapest-walk zero a b l = here-walk a b (cond (a == b) 0 (n * top)) refl l
+  cheapest-walk (suc m) a b l = elim (least-taken f (cond (a == b) 0 (n * top)) (range_with_len 0 n)) [
+    | inl e ↦ here-walk a b (least f (cond (a == b) 0 (n * top)) (range_with_len 0 n)) e l
+    | inr g ↦ go g.0 (is_near es a g.0) refl g.1 (cheapest-walk m g.0 b)
+  ]
+    where
+      f : ℕ → ℕ
+      f c = cond (is_near es a c) (w a c + cheapest top n es w m c b) (n * top)
+
+      go : (c : ℕ) (t : Bool) → is_near es a c ≡ t → least f (cond (a == b) 0 (n * top)) (range_with_len 0 n) ≡ f c
+          → (cheapest top n es w m c b < n * top → (cs : List ℕ) × (walk_cost w c cs ≡ cheapest top n es w m c b) × IsWalk es c cs b)
+          → (cs : List ℕ) × (walk_cost w a cs ≡ least f (cond (a == b) 0 (n * top)) (range_with_len 0 n)) × IsWalk es a cs b
+      go c false t e later = absurd (omega (arith, l, e ∙ (λ i. cond (t i) (w a c + cheapest top n es w m c b) (n * top))))
+      go c true t e later =
+          let z : least f (cond (a == b) 0 (n * top)) (range_with_len 0 n) ≡ w a c + cheapest top n es w m c b =
+          e ∙ (λ i. cond (t i) (w a c + cheapest top n es w m c b) (n * top)) in
+          let r = later (omega (arith, z, l)) in
+          (c ∷ r.0, omega (arith, r.1, z), (t, r.2))
+
+  pub cheapest-along : All (λ e. (e.0 < n) × (e.1 < n)) es → (m : ℕ) (cs : List ℕ) (a b : ℕ) → IsWalk es a cs b → length cs ≤ m → cheapest top n es w m a b ≤ walk_cost w a cs
+  unfolding cheapest
+  cheapest-along h zero [] a b g l = omega (arith, none a b g)
+    where
+      none : (a b : ℕ) → a ≡ b → ◌≡◌ {A = ℕ} (cond (a == b) 0 (n * top)) 0
+      none a b e = grind (arith, nat_tests)
+  cheapest-along h zero (c ∷ cs) a b g l = absurd (omega arith)
+  cheapest-along h (suc m) [] a b g l =
+      omega (arith, none a b g, least-start (λ c. cond (is_near es a c) (w a c + cheapest top n es w m c b) (n * top)) (cond (a == b) 0 (n * top)) (range_with_len 0 n))
+    where
+      none : (a b : ℕ) → a ≡ b → ◌≡◌ {A = ℕ} (cond (a == b) 0 (n * top)) 0
+      none a b e = grind (arith, nat_tests)
+  cheapest-along h (suc m) (c ∷ cs) a b g l =
+      let f : ℕ → ℕ = λ x. cond (is_near es a x) (w a x + cheapest top n es w m x b) (n * top) in
+      let lc = (is_near-below n es a c h g.0).1 in
+      let at : get_or (range_with_len 0 n) c 0 ≡ c = get_or-range_with_len 0 n c 0 lc ∙ zero-add c in
+      let here = least-at f (cond (a == b) 0 (n * top)) (range_with_len 0 n) c (omega (arith, lc, length-range_with_len 0 n)) in
+      let value : f c ≡ w a c + cheapest top n es w m c b = λ i. cond (g.0 i) (w a c + cheapest top n es w m c b) (n * top) in
+      omega (arith, here, ap f at, value, cheapest-along h m cs c b g.1 (omega (arith, l)))
 
 -- ---- the diameter
 
@@ -94,14 +125,14 @@ taken-fold m (x ∷ xs) = elim (taken-fold (max m x) xs) [
   | inr f ↦ inr (suc f.0, omega (arith, f.1), f.2)
 ]
 
-pub IsDiameter-greatest : (n : ℕ) (es : List (ℕ × ℕ)) (table : List ℕ) → 0 < n → AreDistances n es n table → IsDiameter n es (fold max 0 table)
-IsDiameter-greatest n es table h t = record {
+pub IsDiameter-greatest : (n : ℕ) (es : List (ℕ × ℕ)) (w : ℕ → ℕ → ℕ) (table : List ℕ) → 0 < n → AreDistances n es w n table → IsDiameter n es w (fold max 0 table)
+IsDiameter-greatest n es w table h t = record {
   reached = elim (taken-fold 0 table) [
     | inl e ↦ at 0 0 h h (omega (arith, entry-fold 0 table (0 * n + 0) (inside 0 0 h h), e))
     | inr f ↦ placed f.0 (omega (arith, f.1, t.long)) f.2
   ];
   most = λ a b j la lb d.
-      let e : get_or table (b * n + a) 0 ≡ j = IsDistance-same es a b _ j (t.exact a b la lb) d in
+      let e : get_or table (b * n + a) 0 ≡ j = IsDistance-same es w a b _ j (t.exact a b la lb) d in
       omega (arith, e, entry-fold 0 table (b * n + a) (inside a b la lb));
 }
   where
@@ -109,18 +140,11 @@ IsDiameter-greatest n es table h t = record {
     inside a b la lb = omega (arith, t.long, mul-add-lt b n a n lb la)
 
     at : (a b : ℕ) → a < n → b < n → get_or table (b * n + a) 0 ≡ fold max 0 table
-        → (a : ℕ) × (b : ℕ) × (a < n) × (b < n) × IsDistance es a b (fold max 0 table)
-    at a b la lb e = (a, b, la, lb, subst (IsDistance es a b) e (t.exact a b la lb))
+        → (a : ℕ) × (b : ℕ) × (a < n) × (b < n) × IsDistance es w a b (fold max 0 table)
+    at a b la lb e = (a, b, la, lb, subst (IsDistance es w a b) e (t.exact a b la lb))
 
     placed : (k : ℕ) → k < n * n → get_or table k 0 ≡ fold max 0 table
-        → (a : ℕ) × (b : ℕ) × (a < n) × (b < n) × IsDistance es a b (fold max 0 table)
+        → (a : ℕ) × (b : ℕ) × (a < n) × (b < n) × IsDistance es w a b (fold max 0 table)
     placed k l e =
         at (k % n) (k / n) (mod-lt k h) ((div-lt_iff_lt-mul h).1 l)
         (ap (λ m. get_or table m 0) (div-add-mod' k n) ∙ e)
-
-pub IsDiameter-below : (n : ℕ) (es : List (ℕ × ℕ)) (table : List ℕ) (k : ℕ) → AreDistances n es n table → IsDiameter n es k → k < n
-IsDiameter-below n es table k t d =
-    let r = d.reached in
-    let e : get_or table (r.1 * n + r.0) 0 ≡ k = IsDistance-same es r.0 r.1 _ k (t.exact r.0 r.1 r.2 r.3) r.4 in
-    let inside : r.1 * n + r.0 < length table = omega (arith, t.long, mul-add-lt r.1 n r.0 n r.3 r.2) in
-    omega (arith, e, All-get_or (λ m. m < n) table (r.1 * n + r.0) 0 inside t.short)

@@ -1,6 +1,9 @@
 pub mod Lists
 pub mod Tables
 pub mod WalkLaws
+pub mod Limits
+pub mod CostLaws
+pub mod NearestLaws
 pub mod TextLaws
 pub mod TableLaws
 pub mod NeighbourLaws
@@ -9,4 +12,5 @@ pub mod RowLaws
 pub mod DistanceLaws
 pub mod CouplingLaws
 pub mod ConnectedLaws
-mod OnceLaws
+pub mod OnceLaws
+pub mod DescribedLaws

@@ -4,14 +4,15 @@
 --   IsDeviceTextCause          the same where no table is read
 --   IsShapeCause               the same where a value has not its shape
 --   IsRangeCause               the same where a number is out of its range
+--   IsCostCause                the same where a cost is out of its range, on the edge with these ends
 --   IsTableCause               the same where the table says no graph
 --   IsGraphCause               the same where the graph is not connected
-use Rattle.std.specs.Prelude.{◌≡◌, ℕ, List, Option, None, ⊤}
+use Rattle.std.specs.Prelude.{◌≡◌, ℕ, List, Option, Some, None, ⊤}
 use Rattle.coupling_map.specs.declared.faults.DeviceFault.{DeviceFault}
 use Rattle.coupling_map.specs.declared.faults.DeviceFault.TheVariants as fault
 use Rattle.coupling_map.specs.declared.faults.DeviceError.{DeviceError}
 use Rattle.coupling_map.specs.declared.faults.DeviceError.TheVariants as error
-use Rattle.coupling_map.specs.Text.{HasNoTable, Outcome, Says, shape, range, self_edge, graph}
+use Rattle.coupling_map.specs.Text.{HasNoTable, Outcome, Says, shape, range, self_edge, edge_cost, graph}
 use Rattle.coupling_map.specs.Walks.{IsLeastApart}
 
 abbrev pub IsDeviceFault : List ℕ → DeviceFault → Type 0
@@ -19,8 +20,9 @@ IsDeviceFault text fault.Text = HasNoTable text
 IsDeviceFault text fault.Shape = Says text shape
 IsDeviceFault text fault.Range = Says text range
 IsDeviceFault text (fault.SelfEdge qubit) = Says text (self_edge qubit)
+IsDeviceFault text (fault.EdgeCost from to) = Says text (edge_cost from to)
 IsDeviceFault text (fault.NotConnected from to) =
-    (n : ℕ) × (es : List (ℕ × ℕ)) × Says text (graph n es) × (from ≡ 0) × IsLeastApart n es to
+    (n : ℕ) × (es : List (ℕ × ℕ)) × (cs : Option (List ℕ)) × Says text (graph n es cs) × (from ≡ 0) × IsLeastApart n es to
 
 abbrev pub IsCause : List ℕ → DeviceError → Type 0
 IsCause text error.NoMemory = ⊤
@@ -41,12 +43,18 @@ IsRangeCause o error.NoMemory = ⊤
 IsRangeCause o (error.Refused fault.Range) = o ≡ None
 IsRangeCause o (error.Refused other) = ⊥
 
+abbrev pub IsCostCause : Option (ℕ × ℕ) → DeviceError → Type 0
+IsCostCause o error.NoMemory = ⊤
+IsCostCause o (error.Refused (fault.EdgeCost from to)) = o ≡ Some (from, to)
+IsCostCause o (error.Refused other) = ⊥
+
 abbrev pub IsTableCause : Outcome → DeviceError → Type 0
 IsTableCause o error.NoMemory = ⊤
 IsTableCause o (error.Refused fault.Text) = ⊥
 IsTableCause o (error.Refused fault.Shape) = o ≡ shape
 IsTableCause o (error.Refused fault.Range) = o ≡ range
 IsTableCause o (error.Refused (fault.SelfEdge qubit)) = o ≡ self_edge qubit
+IsTableCause o (error.Refused (fault.EdgeCost from to)) = o ≡ edge_cost from to
 IsTableCause o (error.Refused (fault.NotConnected from to)) = ⊥
 
 abbrev pub IsGraphCause : ℕ → List (ℕ × ℕ) → DeviceError → Type 0

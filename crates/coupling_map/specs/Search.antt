@@ -1,14 +1,18 @@
--- Working form. The search by layers from one qubit: a row has the distance of each qubit that was reached.
---   distance_in row y    the distance of y in a row
+-- Working form. The search from one qubit: a row has for each qubit that was reached the cost of a walk from it, and marks tell from
+-- which qubits on the search has yet to go. Costs of near pairs are w, at most top.
+--   distance_in row y    the entry of y in a row
 --   IsReached row y      y was reached
---   unreached row        how many were not
---   HasVisited           what a visit of some qubits changes: those without a distance get the value v
---   near_in lists x      the qubits near x, by the lists of all
---   HasSpread            what the visit of all that is near some layer changes
---   IsSearched           what a row and its layer say once the qubits up to some distance are known
+--   reached row          how many were
+--   IsAbove v o          an entry that isn't there, or is more than v
+--   mark marks y         whether y is marked;  marked: how many are
+--   IsGood               what a row says: each entry is the cost of a walk to s, and small
+--   IsSeen               the entry of a qubit lessens no entry near it
+--   IsSearched           .. and near a qubit that isn't marked no entry can be lessened by it
+--   IsRelaxing           .. but for the qubit q, of whose near ones the first i were seen to
 --   IsRow                what a row says once the search has ended
-use Rattle.std.specs.Prelude.{◌≡◌, ◌⊎◌, ℕ, suc, ◌+◌, ◌<◌, ◌≤◌, List, [], Option, Some, None, Contains, IsTrue, count_by, is_none, length, slice_index, slice_index_or}
-use Rattle.coupling_map.specs.Walks.{is_near}
+--   work                 a number that the search lowers
+use Rattle.std.specs.Prelude.{◌≡◌, ◌≢◌, ℕ, ◌+◌, ◌*◌, ◌<◌, ◌≤◌, Bool, true, false, List, Option, Some, None, IsTrue, ⊤, count_by, is_some, length, slice_index, slice_index_or, sum_by, unwrap_or}
+use Rattle.coupling_map.specs.Walks.{is_near, walk_cost, IsWalk}
 
 abbrev pub distance_in : List (Option ℕ) → ℕ → Option ℕ
 distance_in row y = slice_index_or row y None
@@ -16,54 +20,52 @@ distance_in row y = slice_index_or row y None
 abbrev pub IsReached : List (Option ℕ) → ℕ → Type 0
 IsReached row y = (k : ℕ) × (distance_in row y ≡ Some k)
 
-abbrev pub unreached : List (Option ℕ) → ℕ
-unreached row = count_by is_none row
+abbrev pub reached : List (Option ℕ) → ℕ
+reached row = count_by is_some row
 
--- the first i of the near qubits were visited, where the row and the queue were old and are new
-pub record HasVisited (near : List ℕ) (i v : ℕ) (old : List (Option ℕ)) (queue : List ℕ) (new : List (Option ℕ)) (longer : List ℕ) : Type 0 where
-  pub long : length new ≡ length old
-  pub kept : (y k : ℕ) → distance_in old y ≡ Some k → distance_in new y ≡ Some k
-  pub added : (y k : ℕ) → distance_in new y ≡ Some k →
-      (distance_in old y ≡ Some k) ⊎ ((k ≡ v) × Contains longer y × ((j : ℕ) × (j < i) × (slice_index near j ≡ y)))
-  pub reached : (j : ℕ) → j < i → IsReached new (slice_index near j)
-  pub queued : (y : ℕ) → Contains queue y → Contains longer y
-  pub fresh : (y : ℕ) → Contains longer y → Contains queue y ⊎ (distance_in new y ≡ Some v)
-  pub count : unreached new + length longer ≡ unreached old + length queue
+-- no entry, or one that is more than v
+abbrev pub IsAbove : ℕ → Option ℕ → Type 0
+IsAbove v None = ⊤
+IsAbove v (Some m) = v < m
 
--- the qubits near x, by the lists of all
-abbrev pub near_in : List (List ℕ) → ℕ → List ℕ
-near_in lists x = slice_index_or lists x []
+abbrev pub mark : List Bool → ℕ → Bool
+mark marks y = slice_index_or marks y false
 
--- all that is near the first i of the layer was visited, and the queue was empty
-pub record HasSpread (lists : List (List ℕ)) (layer : List ℕ) (i v : ℕ) (old new : List (Option ℕ)) (next : List ℕ) : Type 0 where
-  pub long : length new ≡ length old
-  pub kept : (y k : ℕ) → distance_in old y ≡ Some k → distance_in new y ≡ Some k
-  pub added : (y k : ℕ) → distance_in new y ≡ Some k →
-      (distance_in old y ≡ Some k) ⊎ ((k ≡ v) × Contains next y × ((j : ℕ) × (j < i) × Contains (near_in lists (slice_index layer j)) y))
-  pub reached : (j : ℕ) → j < i → (y : ℕ) → Contains (near_in lists (slice_index layer j)) y → IsReached new y
-  pub fresh : (y : ℕ) → Contains next y → distance_in new y ≡ Some v
-  pub count : unreached new + length next ≡ unreached old
+abbrev pub marked : List Bool → ℕ
+marked marks = count_by (λ b. b) marks
 
--- The layer has the qubits at distance d from s; what is near a qubit nearer than that is known too.
-pub record IsSearched (n : ℕ) (es : List (ℕ × ℕ)) (s d : ℕ) (row : List (Option ℕ)) (layer : List ℕ) : Type 0 where
+pub record IsGood (n : ℕ) (es : List (ℕ × ℕ)) (w : ℕ → ℕ → ℕ) (top s : ℕ) (row : List (Option ℕ)) : Type 0 where
   pub long : length row ≡ n
   pub start : distance_in row s ≡ Some 0
-  pub only : (y : ℕ) → distance_in row y ≡ Some 0 → y ≡ s
-  pub back : (y k : ℕ) → distance_in row y ≡ Some (suc k) → (x : ℕ) × IsTrue (is_near es y x) × (distance_in row x ≡ Some k)
-  pub on : (y k : ℕ) → distance_in row y ≡ Some k → k < d → (x : ℕ) → x < n → IsTrue (is_near es y x) →
-      (m : ℕ) × (distance_in row x ≡ Some m) × (m ≤ suc k)
-  pub most : (y k : ℕ) → distance_in row y ≡ Some k → k ≤ d
-  pub last : (y : ℕ) → distance_in row y ≡ Some d → Contains layer y
-  pub layer_at : (y : ℕ) → Contains layer y → distance_in row y ≡ Some d
-  pub short : (y k : ℕ) → distance_in row y ≡ Some k → k < n
-  pub room : 0 < length layer → unreached row + d < n
+  pub walked : (y k : ℕ) → distance_in row y ≡ Some k → (cs : List ℕ) × (walk_cost w y cs ≡ k) × IsWalk es y cs s
+  pub short : (y k : ℕ) → distance_in row y ≡ Some k → k + top ≤ reached row * top
 
--- s alone has distance 0, each other reached qubit is near one that is one nearer, and near qubits differ by at most 1.
-pub record IsRow (n : ℕ) (es : List (ℕ × ℕ)) (s : ℕ) (row : List (Option ℕ)) : Type 0 where
+-- the entry of y lessens no entry near y
+abbrev pub IsSeen : ℕ → List (ℕ × ℕ) → (ℕ → ℕ → ℕ) → List (Option ℕ) → ℕ → ℕ → Type 0
+IsSeen n es w row y k = (x : ℕ) → x < n → IsTrue (is_near es y x) → (m : ℕ) × (distance_in row x ≡ Some m) × (m ≤ w x y + k)
+
+pub record IsSearched (n : ℕ) (es : List (ℕ × ℕ)) (w : ℕ → ℕ → ℕ) (top s : ℕ) (row : List (Option ℕ)) (marks : List Bool) : Type 0 where
+  pub good : IsGood n es w top s row
+  pub as_many : length marks ≡ n
+  pub looked : (y : ℕ) → mark marks y ≡ true → IsReached row y
+  pub on : (y k : ℕ) → distance_in row y ≡ Some k → mark marks y ≡ false → IsSeen n es w row y k
+
+pub record IsRelaxing (n : ℕ) (es : List (ℕ × ℕ)) (w : ℕ → ℕ → ℕ) (top s q v : ℕ) (near : List ℕ) (i : ℕ) (row : List (Option ℕ)) (marks : List Bool) : Type 0 where
+  pub good : IsGood n es w top s row
+  pub as_many : length marks ≡ n
+  pub looked : (y : ℕ) → mark marks y ≡ true → IsReached row y
+  pub on : (y k : ℕ) → y ≢ q → distance_in row y ≡ Some k → mark marks y ≡ false → IsSeen n es w row y k
+  pub here : distance_in row q ≡ Some v
+  pub seen : (j : ℕ) → j < i → (m : ℕ) × (distance_in row (slice_index near j) ≡ Some m) × (m ≤ w (slice_index near j) q + v)
+
+-- each entry is the cost of a walk, and is lessened by no near one
+pub record IsRow (n : ℕ) (es : List (ℕ × ℕ)) (w : ℕ → ℕ → ℕ) (top s : ℕ) (row : List (Option ℕ)) : Type 0 where
   pub long : length row ≡ n
   pub start : distance_in row s ≡ Some 0
-  pub only : (y : ℕ) → distance_in row y ≡ Some 0 → y ≡ s
-  pub back : (y k : ℕ) → distance_in row y ≡ Some (suc k) → (x : ℕ) × IsTrue (is_near es y x) × (distance_in row x ≡ Some k)
-  pub on : (y k : ℕ) → distance_in row y ≡ Some k → (x : ℕ) → x < n → IsTrue (is_near es y x) →
-      (m : ℕ) × (distance_in row x ≡ Some m) × (m ≤ suc k)
-  pub short : (y k : ℕ) → distance_in row y ≡ Some k → k < n
+  pub walked : (y k : ℕ) → distance_in row y ≡ Some k → (cs : List ℕ) × (walk_cost w y cs ≡ k) × IsWalk es y cs s
+  pub on : (y k : ℕ) → distance_in row y ≡ Some k → IsSeen n es w row y k
+  pub short : (y k : ℕ) → distance_in row y ≡ Some k → k + top ≤ n * top
+
+-- entries count, one that there isn't more than each; a lessened entry outweighs all marks
+unfoldable pub work : ℕ → ℕ → List (Option ℕ) → List Bool → ℕ
+work n far row marks = sum_by (λ o. unwrap_or o far) row * (n + 1) + marked marks

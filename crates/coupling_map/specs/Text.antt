@@ -2,26 +2,33 @@
 --   IsTable text table   the table of the text
 --   HasNoTable text      there is none
 --   list_of items        the elements of an array
---   pair_of_two, pair_in, pair_of
---                        two whole numbers: of two values, of a list of two, of an array of two
+--   priced_by, priced_in, priced_of
+--                        whether the edges have costs, by the whole number at `format`: 2 says that they do, 1 that they don't, as
+--                        no value does
+--   three, entry_in, entry_of
+--                        the ends and the cost of an edge: of three whole numbers, of a list, of an array; without costs each costs 1
 --   qubits_of table      the whole number at `qubits`
---   edges_of table       the pairs of whole numbers at `edges`
+--   entries_of priced table   the entries of `edges`
 --   size_of x            a number of qubits from 1 to the limit
 --   below n x            a qubit below n
---   ends_of_two, ends_below n e
---                        the ends of an edge, if both are there; if both are below n
+--   edge_of, edge_below n e   an entry whose ends are qubits: if both are there; if both are below n
 --   is_self_edge e       an edge from a qubit to itself
+--   cost_in x            a cost from 1 to the greatest
+--   ends e               the two ends of an edge
+--   bad_cost priced es   the ends of the first edge whose cost is out of its range, where edges have costs
+--   costs_of priced es   the costs of the edges, where they have any
 --   Outcome              what a table may say;  shape: something in it has a wrong form;  range: a number is out of its range;
---                        self_edge: the first edge from a qubit to itself is on this one;  graph: so many qubits, with edges
---                        between different ones
---   without_self_edge, in_range, in_shape, outcome_of
+--                        self_edge: the first edge from a qubit to itself is on this one;  edge_cost: the first edge whose cost is
+--                        out of its range has these ends;  graph: so many qubits, with edges between different ones, and their costs
+--   in_costs, without_self_edge, in_range, in_shape, in_format, outcome_of
 --                        what the table says, in the order of the refusals: the last is of the table itself
 --   Says text o          the text has a table that says o
-use Rattle.std.specs.Prelude.{◌≡◌, ℕ, ◌==◌, ◌||◌, Bool, ℤ, pos, negsuc, List, [], ◌∷◌, Option, Some, None, if◌then◌else◌, codes, find, nat_lt, option_and_then, IsUtf8}
+use Rattle.std.specs.Prelude.{◌≡◌, ℕ, ◌==◌, ◌||◌, Bool, true, false, ℤ, pos, negsuc, List, [], ◌∷◌, Option, Some, None, if◌then◌else◌, codes, find, is_none, map, nat_lt, option_and_then, option_map, IsUtf8}
 use Rattle.std.specs.Option.{option_map_or}
 use Rattle.toml.specs.Data.{Data, Items, no_items, item, Members, get_member, as_array, as_integer}
 use Rattle.toml.specs.Parse.{parse_document}
 use Rattle.unitary_model.specs.Limits.{most_qubits}
+use Rattle.coupling_map.specs.Costs.{most_cost}
 use Rattle.coupling_map.specs.Lists.{all_some}
 
 -- the text is UTF-8, and toml reads it as this table
@@ -37,24 +44,36 @@ abbrev pub list_of : Items → List Data
 list_of no_items = []
 list_of (item d ds) = d ∷ list_of ds
 
-abbrev pub pair_of_two : Option ℤ → Option ℤ → Option (ℤ × ℤ)
-pair_of_two (Some a) (Some b) = Some (a, b)
-pair_of_two _ _ = None
+abbrev pub priced_by : ℤ → Option Bool
+priced_by (pos n) = if n == 1 then Some false else if n == 2 then Some true else None
+priced_by (negsuc n) = None
 
-abbrev pub pair_in : List Data → Option (ℤ × ℤ)
-pair_in (a ∷ b ∷ []) = pair_of_two (as_integer a) (as_integer b)
-pair_in ds = None
+abbrev pub priced_in : Option Data → Option Bool
+priced_in None = Some false
+priced_in (Some d) = option_and_then priced_by (as_integer d)
 
-abbrev pub pair_of : Data → Option (ℤ × ℤ)
-pair_of d = option_and_then (λ ds. pair_in (list_of ds)) (as_array d)
+abbrev pub priced_of : Members → Option Bool
+priced_of table = priced_in (get_member (codes "format") table)
+
+abbrev pub three : Option ℤ → Option ℤ → Option ℤ → Option (ℤ × ℤ × ℤ)
+three (Some a) (Some b) (Some c) = Some (a, b, c)
+three _ _ _ = None
+
+abbrev pub entry_in : Bool → List Data → Option (ℤ × ℤ × ℤ)
+entry_in false (a ∷ b ∷ []) = three (as_integer a) (as_integer b) (Some (pos 1))
+entry_in true (a ∷ b ∷ c ∷ []) = three (as_integer a) (as_integer b) (as_integer c)
+entry_in priced ds = None
+
+abbrev pub entry_of : Bool → Data → Option (ℤ × ℤ × ℤ)
+entry_of priced d = option_and_then (λ ds. entry_in priced (list_of ds)) (as_array d)
 
 -- the value of `qubits`, if it is a whole number
 abbrev pub qubits_of : Members → Option ℤ
 qubits_of table = option_and_then as_integer (get_member (codes "qubits") table)
 
--- the pairs of `edges`, if it is an array of arrays of two whole numbers
-abbrev pub edges_of : Members → Option (List (ℤ × ℤ))
-edges_of table = option_and_then (λ ds. all_some pair_of (list_of ds))
+-- the entries of `edges`, if it is an array of arrays of two whole numbers, or of three where edges have costs
+abbrev pub entries_of : Bool → Members → Option (List (ℤ × ℤ × ℤ))
+entries_of priced table = option_and_then (λ ds. all_some (entry_of priced) (list_of ds))
     (option_and_then as_array (get_member (codes "edges") table))
 
 abbrev pub size_of : ℤ → Option ℕ
@@ -65,36 +84,61 @@ abbrev pub below : ℕ → ℤ → Option ℕ
 below n (pos k) = if nat_lt k n then Some k else None
 below n (negsuc k) = None
 
-abbrev pub ends_of_two : Option ℕ → Option ℕ → Option (ℕ × ℕ)
-ends_of_two (Some a) (Some b) = Some (a, b)
-ends_of_two _ _ = None
+abbrev pub edge_of : Option ℕ → Option ℕ → ℤ → Option (ℕ × ℕ × ℤ)
+edge_of (Some a) (Some b) c = Some (a, b, c)
+edge_of _ _ c = None
 
-abbrev pub ends_below : ℕ → ℤ × ℤ → Option (ℕ × ℕ)
-ends_below n e = ends_of_two (below n e.0) (below n e.1)
+abbrev pub edge_below : ℕ → ℤ × ℤ × ℤ → Option (ℕ × ℕ × ℤ)
+edge_below n e = edge_of (below n e.0) (below n e.1) e.2
 
-abbrev pub is_self_edge : ℕ × ℕ → Bool
+abbrev pub is_self_edge : ℕ × ℕ × ℤ → Bool
 is_self_edge e = e.0 == e.1
+
+abbrev pub cost_in : ℤ → Option ℕ
+cost_in (pos k) = if nat_lt k 1 || nat_lt most_cost k then None else Some k
+cost_in (negsuc k) = None
+
+abbrev pub ends : ℕ × ℕ × ℤ → ℕ × ℕ
+ends e = (e.0, e.1)
+
+abbrev pub bad_cost : Bool → List (ℕ × ℕ × ℤ) → Option (ℕ × ℕ)
+bad_cost false es = None
+bad_cost true es = option_map ends (find (λ e. is_none (cost_in e.2)) es)
+
+abbrev pub costs_of : Bool → List (ℕ × ℕ × ℤ) → Option (List ℕ)
+costs_of false es = None
+costs_of true es = all_some (λ e. cost_in e.2) es
 
 pub data Outcome : Type 0 where
   shape : Outcome
   range : Outcome
   self_edge : ℕ → Outcome
-  graph : ℕ → List (ℕ × ℕ) → Outcome
+  edge_cost : ℕ → ℕ → Outcome
+  graph : ℕ → List (ℕ × ℕ) → Option (List ℕ) → Outcome
 
-abbrev pub without_self_edge : ℕ → List (ℕ × ℕ) → Option (ℕ × ℕ) → Outcome
-without_self_edge n es None = graph n es
-without_self_edge n es (Some e) = self_edge e.0
+abbrev pub in_costs : Bool → ℕ → List (ℕ × ℕ × ℤ) → Option (ℕ × ℕ) → Outcome
+in_costs priced n es None = graph n (map ends es) (costs_of priced es)
+in_costs priced n es (Some e) = edge_cost e.0 e.1
 
-abbrev pub in_range : Option ℕ → List (ℤ × ℤ) → Outcome
-in_range None pairs = range
-in_range (Some n) pairs = option_map_or (λ es. without_self_edge n es (find is_self_edge es)) (all_some (ends_below n) pairs) range
+abbrev pub without_self_edge : Bool → ℕ → List (ℕ × ℕ × ℤ) → Option (ℕ × ℕ × ℤ) → Outcome
+without_self_edge priced n es None = in_costs priced n es (bad_cost priced es)
+without_self_edge priced n es (Some e) = self_edge e.0
 
-abbrev pub in_shape : Option ℤ → Option (List (ℤ × ℤ)) → Outcome
-in_shape (Some n) (Some pairs) = in_range (size_of n) pairs
-in_shape _ _ = shape
+abbrev pub in_range : Bool → Option ℕ → List (ℤ × ℤ × ℤ) → Outcome
+in_range priced None entries = range
+in_range priced (Some n) entries =
+    option_map_or (λ es. without_self_edge priced n es (find is_self_edge es)) (all_some (edge_below n) entries) range
+
+abbrev pub in_shape : Bool → Option ℤ → Option (List (ℤ × ℤ × ℤ)) → Outcome
+in_shape priced (Some n) (Some entries) = in_range priced (size_of n) entries
+in_shape priced _ _ = shape
+
+abbrev pub in_format : Option Bool → Members → Outcome
+in_format None table = shape
+in_format (Some priced) table = in_shape priced (qubits_of table) (entries_of priced table)
 
 abbrev pub outcome_of : Members → Outcome
-outcome_of table = in_shape (qubits_of table) (edges_of table)
+outcome_of table = in_format (priced_of table) table
 
 abbrev pub Says : List ℕ → Outcome → Type 0
 Says text o = (table : Members) × IsTable text table × (outcome_of table ≡ o)

@@ -1,11 +1,13 @@
 //! The device: its edges, its distances, and how it is read.
 
-ghost use Rattle.std.specs.Prelude.{◌≡◌, ◌≢◌, ◌<◌, ◌↔◌, IfErr, IfOk, IsTrue};
-ghost use Rattle.coupling_map.specs.Coupling.{IsCoupling, IsGraph, IsNeighbours, IsToward};
+ghost use Rattle.std.specs.Prelude.{◌≡◌, ◌≢◌, ◌+◌, ◌*◌, ◌<◌, ◌≤◌, ◌↔◌, IfErr, IfOk, IsTrue, None, option_map};
+ghost use Rattle.coupling_map.specs.Costs.{AreCosts, most_cost};
+ghost use Rattle.coupling_map.specs.Coupling.{IsCoupling, IsGraph, IsNeighbours, IsToward, cost, format_of};
 ghost use Rattle.coupling_map.specs.Refusals.{IsCause, IsGraphCause};
 ghost use Rattle.coupling_map.specs.Text.{graph, Says};
 ghost use Rattle.coupling_map.specs.Walks.{is_edge, is_near, IsDiameter, IsDistance};
 
+use crate::edge_costs::{Cost, EdgeCosts, edge_costs};
 use crate::faults::DeviceError;
 use crate::graph::{Graph, neighbour_lists, place};
 use crate::search::{check_connected, distance_table, greatest};
@@ -17,6 +19,7 @@ use std::marker::Model;
 #[derive(Drop)]
 pub struct Device {
     graph: Graph,
+    costs: EdgeCosts,
     /// The qubits near each, ascending.
     neighbours: Vec<Vec<u32>>,
     /// The distance from a to b at the place b * N + a.
@@ -27,13 +30,13 @@ pub struct Device {
 impl Model for Device {
     ghost use Rattle.std.specs.Prelude.{map};
     ghost use Rattle.coupling_map.specs.Coupling.{Coupling};
-    ghost use Rattle.coupling_map.specs.Tables.{IsKept};
+    ghost use Rattle.coupling_map.specs.Tables.{IsKept, listed_costs};
 
     ghost Value = { Coupling };
 
-    ghost view = { λ a. record { size = a.graph.size; edges = a.graph.edges } };
+    ghost view = { λ a. record { size = a.graph.size; edges = a.graph.edges; costs = listed_costs a.costs } };
 
-    ghost invariant = { λ a. IsKept (record { size = a.graph.size; edges = a.graph.edges })
+    ghost invariant = { λ a. IsKept (record { size = a.graph.size; edges = a.graph.edges; costs = listed_costs a.costs }) a.costs
         (map (λ v. v.items) a.neighbours.items) a.distances.items a.diameter };
 }
 
@@ -72,32 +75,53 @@ impl Device {
         self.neighbours[a as usize].as_slice()
     }
 
-    /// The distance from `a` to `b`, in near pairs along a shortest walk.
+    /// The cost of a near pair.
+    pub fn cost(&self, a: u32, b: u32) -> u64
+        requires near { IsTrue (is_near self.now.edges a b) }
+        ensures exact { result ≡ cost self.now a b }
+        ensures positive { 1 ≤ result }
+        ensures limited { result ≤ most_cost }
+    {
+        self.costs.cost(a, b)
+    }
+
+    /// The format of the device's text: 1 where no costs are listed, else 2.
+    pub fn format(&self) -> u32
+        ensures { result ≡ format_of self.now.costs }
+    {
+        match &self.costs {
+            EdgeCosts::Unit(_) => 1,
+            EdgeCosts::Listed(..) => 2,
+        }
+    }
+
+    /// The distance from `a` to `b`: the cost of a cheapest walk.
     pub fn dist(&self, a: u32, b: u32) -> u64
         requires first { a < self.now.size }
         requires second { b < self.now.size }
-        ensures exact { IsDistance self.now.edges a b result }
-        ensures symmetric { IsDistance self.now.edges b a result }
-        ensures short { result < self.now.size }
+        ensures exact { IsDistance self.now.edges (cost self.now) a b result }
+        ensures symmetric { IsDistance self.now.edges (cost self.now) b a result }
+        ensures short { result + most_cost ≤ self.now.size * most_cost }
         ensures zero { (result ≡ 0) ↔ (a ≡ b) }
-        ensures one { (result ≡ 1) ↔ IsTrue (is_near self.now.edges a b) }
+        ensures few { self.now.costs ≡ None → result < self.now.size }
+        ensures one { self.now.costs ≡ None → (result ≡ 1) ↔ IsTrue (is_near self.now.edges a b) }
     {
         u64::from(self.distances[place(self.graph.size(), b, a)])
     }
 
-    /// The least qubit near `a` that is one nearer to `b`, for `a` and `b` that differ.
+    /// The least qubit near `a` that is nearer to `b` by what the pair costs, for `a` and `b` that differ.
     pub fn toward(&self, a: u32, b: u32) -> u32
         requires first { a < self.now.size }
         requires second { b < self.now.size }
         requires apart { a ≢ b }
-        ensures toward { IsToward self.now.edges a b result }
+        ensures toward { IsToward self.now.edges (cost self.now) a b result }
         ensures below { result < self.now.size }
     {
         // The size's contract says that the device is connected.
         let _size = self.size();
         let distance = self.dist(a, b);
         'near: for qubit in self.neighbours(a) {
-            if self.dist(*qubit, b) + 1 == distance {
+            if self.cost(a, *qubit) + self.dist(*qubit, b) == distance {
                 return *qubit;
             }
         }
@@ -106,28 +130,31 @@ impl Device {
 
     /// The greatest distance of two qubits.
     pub fn diameter(&self) -> u64
-        ensures diameter { IsDiameter self.now.size self.now.edges result }
-        ensures short { result < self.now.size }
+        ensures diameter { IsDiameter self.now.size self.now.edges (cost self.now) result }
+        ensures few { self.now.costs ≡ None → result < self.now.size }
     {
         u64::from(self.diameter)
     }
 }
 
 /// The device of listed edges, if it is connected.
-fn connect(alloc: Global, listed: Listed) -> Result<Device, DeviceError>
-    requires { IsGraph listed.size listed.edges.items }
-    ensures ok { IfOk result (λ d. (d.size ≡ listed.size) × (d.edges ≡ listed.edges.items)) }
+pub fn connect(alloc: Global, listed: Listed) -> Result<Device, DeviceError>
+    requires graph { IsGraph listed.size listed.edges.items }
+    requires costs { AreCosts listed.edges.items (option_map (λ v. v.items) listed.costs) }
+    ensures ok { IfOk result (λ d. (d.size ≡ listed.size) × (d.edges ≡ listed.edges.items) × (d.costs ≡ option_map (λ v. v.items) listed.costs)) }
     ensures coupling { IfOk result (λ d. IsCoupling d) }
     ensures err { IfErr result (IsGraphCause listed.size listed.edges.items) }
 {
-    let Listed { size, edges } = listed;
+    let Listed { size, edges, costs } = listed;
+    let costs = edge_costs(alloc, size, &edges, costs)?;
     let graph = Graph::new(alloc, size, edges)?;
     let neighbours = neighbour_lists(alloc, &graph)?;
     check_connected(alloc, &graph, &neighbours)?;
-    let distances = distance_table(alloc, &graph, &neighbours)?;
+    let distances = distance_table(alloc, &graph, &neighbours, &costs)?;
     let diameter = greatest(&distances);
     Ok(Device {
         graph,
+        costs,
         neighbours,
         distances,
         diameter,
@@ -138,7 +165,7 @@ fn connect(alloc: Global, listed: Listed) -> Result<Device, DeviceError>
 ///
 /// Refused, by the first fault that applies, where the text describes none; want of memory is no refusal.
 pub fn read_device(alloc: Global, text: &[u8]) -> Result<Device, DeviceError>
-    ensures ok { IfOk result (λ d. Says text.now (graph d.size d.edges)) }
+    ensures ok { IfOk result (λ d. Says text.now (graph d.size d.edges d.costs)) }
     ensures coupling { IfOk result (λ d. IsCoupling d) }
     ensures err { IfErr result (IsCause text.now) }
 {

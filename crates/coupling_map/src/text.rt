@@ -1,15 +1,16 @@
 //! From a device text to its edges.
 
-ghost use Rattle.std.specs.Prelude.{◌≡◌, ◌<◌, Some, IfOk, IfErr, map, find, option_and_then, option_map};
+ghost use Rattle.std.specs.Prelude.{◌≡◌, ◌<◌, true, Some, None, IfOk, IfErr, map, find, option_and_then, option_map};
 ghost use Rattle.toml.specs.Data.{as_array, as_integer, get_member};
 ghost use Rattle.toml.specs.View.{items_view, table_view, view};
 ghost use Rattle.coupling_map.specs.Coupling.{IsGraph};
+ghost use Rattle.coupling_map.specs.Costs.{AreCosts};
 ghost use Rattle.coupling_map.specs.Lists.{all_some};
-ghost use Rattle.coupling_map.specs.Refusals.{IsDeviceTextCause, IsRangeCause, IsShapeCause, IsTableCause};
-ghost use Rattle.coupling_map.specs.Text.{IsTable, below, edges_of, ends_below, graph, is_self_edge, outcome_of, pair_in, pair_of, size_of};
+ghost use Rattle.coupling_map.specs.Refusals.{IsCostCause, IsDeviceTextCause, IsRangeCause, IsShapeCause, IsTableCause};
+ghost use Rattle.coupling_map.specs.Text.{IsTable, bad_cost, below, cost_in, costs_of, edge_below, ends, entries_of, entry_in, entry_of, graph, is_self_edge, outcome_of, priced_by, priced_of, size_of, three};
 
-use crate::QUBIT_LIMIT;
 use crate::faults::{DeviceError, DeviceFault};
+use crate::{COST_LIMIT, QUBIT_LIMIT};
 use std::alloc::Global;
 use toml::{Table, Value};
 
@@ -18,6 +19,8 @@ use toml::{Table, Value};
 pub struct Listed {
     pub size: u32,
     pub edges: Vec<(u32, u32)>,
+    /// The cost of each edge, where they are listed.
+    pub costs: Option<Vec<u32>>,
 }
 
 /// The table of a text.
@@ -68,56 +71,105 @@ fn array_at<'a>(table: &'a Table, key: &str) -> Option<&'a [Value]>
     }
 }
 
-/// The two whole numbers of an array of two.
-#[tactic(auto, using(crate::proofs::Tables::lists))]
-fn pair(value: &Value) -> Option<(i64, i64)>
-    ensures { result ≡ pair_of (view value.now) }
+/// Whether edges have costs, by a format.
+fn priced(format: i64) -> Option<bool>
+    ensures { result ≡ priced_by format }
 {
-    match value.as_array() {
-        None => None,
-        Some(values) => pair_of_values(values),
-    }
-}
-
-/// The two whole numbers of a list of two.
-#[tactic(auto, using(crate::proofs::Tables::lists))]
-fn pair_of_values(values: &[Value]) -> Option<(i64, i64)>
-    ensures { result ≡ pair_in (map view values.now) }
-{
-    if values.len() != 2 {
-        return None;
-    }
-    match (values[0].as_integer(), values[1].as_integer()) {
-        (Some(a), Some(b)) => Some((a, b)),
+    match format {
+        1 => Some(false),
+        2 => Some(true),
         _ => None,
     }
 }
 
-/// The two whole numbers of each element.
-#[tactic(auto, using(crate::proofs::Lists::walk))]
-fn edge_pairs(alloc: Global, values: &[Value]) -> Result<Vec<(i64, i64)>, DeviceError>
-    ensures ok { IfOk result (λ v. all_some pair_of (map view values.now) ≡ Some v.items) }
-    ensures err { IfErr result (IsShapeCause (all_some pair_of (map view values.now))) }
+/// Whether the edges of a table have costs.
+fn priced_at(table: &Table) -> Option<bool>
+    ensures { result ≡ priced_of (table_view table.now) }
 {
-    let mut pairs = Vec::new(alloc);
-    'values: for value in values {
-        match pair(value) {
-            None => return Err(DeviceError::Refused(DeviceFault::Shape)),
-            Some(found) => pairs.push(found)?,
-        }
+    match member(table, "format") {
+        None => Some(false),
+        Some(value) => match value.as_integer() {
+            None => None,
+            Some(format) => priced(format),
+        },
     }
-    Ok(pairs)
 }
 
-/// The pairs of `edges`.
+/// Three whole numbers, if each is there.
+fn whole(a: Option<i64>, b: Option<i64>, c: Option<i64>) -> Option<(i64, i64, i64)>
+    ensures { result ≡ three a b c }
+{
+    match (a, b, c) {
+        (Some(a), Some(b), Some(c)) => Some((a, b, c)),
+        _ => None,
+    }
+}
+
+/// The ends and the cost of an edge, of a list of two whole numbers or, with a cost, of three.
 #[tactic(auto, using(crate::proofs::Tables::lists))]
-fn pairs_at(alloc: Global, table: &Table) -> Result<Vec<(i64, i64)>, DeviceError>
-    ensures ok { IfOk result (λ v. edges_of (table_view table.now) ≡ Some v.items) }
-    ensures err { IfErr result (IsShapeCause (edges_of (table_view table.now))) }
+fn entry_of_values(priced: bool, values: &[Value]) -> Option<(i64, i64, i64)>
+    ensures { result ≡ entry_in priced (map view values.now) }
+{
+    if priced {
+        if values.len() != 3 {
+            return None;
+        }
+        return whole(
+            values[0].as_integer(),
+            values[1].as_integer(),
+            values[2].as_integer(),
+        );
+    }
+    if values.len() != 2 {
+        return None;
+    }
+    whole(values[0].as_integer(), values[1].as_integer(), Some(1))
+}
+
+/// The ends and the cost of an edge, of an array of two whole numbers or, with a cost, of three.
+#[tactic(auto, using(crate::proofs::Tables::lists))]
+fn entry(priced: bool, value: &Value) -> Option<(i64, i64, i64)>
+    ensures { result ≡ entry_of priced (view value.now) }
+{
+    match value.as_array() {
+        None => None,
+        Some(values) => entry_of_values(priced, values),
+    }
+}
+
+/// The ends and the cost of each edge.
+#[tactic(auto, using(crate::proofs::Lists::walk))]
+fn entries(
+    alloc: Global,
+    priced: bool,
+    values: &[Value],
+) -> Result<Vec<(i64, i64, i64)>, DeviceError>
+    ensures ok { IfOk result (λ v. all_some (entry_of priced) (map view values.now) ≡ Some v.items) }
+    ensures err { IfErr result (IsShapeCause (all_some (entry_of priced) (map view values.now))) }
+{
+    let mut entries = Vec::new(alloc);
+    'values: for value in values {
+        match entry(priced, value) {
+            None => return Err(DeviceError::Refused(DeviceFault::Shape)),
+            Some(found) => entries.push(found)?,
+        }
+    }
+    Ok(entries)
+}
+
+/// The entries of `edges`.
+#[tactic(auto, using(crate::proofs::Tables::lists))]
+fn entries_at(
+    alloc: Global,
+    priced: bool,
+    table: &Table,
+) -> Result<Vec<(i64, i64, i64)>, DeviceError>
+    ensures ok { IfOk result (λ v. entries_of priced (table_view table.now) ≡ Some v.items) }
+    ensures err { IfErr result (IsShapeCause (entries_of priced (table_view table.now))) }
 {
     match array_at(table, "edges") {
         None => Err(DeviceError::Refused(DeviceFault::Shape)),
-        Some(values) => edge_pairs(alloc, values),
+        Some(values) => entries(alloc, priced, values),
     }
 }
 
@@ -141,25 +193,29 @@ fn qubit(n: u32, x: i64) -> Option<u32>
     Some(x as u32)
 }
 
-/// The ends of an edge, both below `n`.
-fn ends(n: u32, pair: (i64, i64)) -> Option<(u32, u32)>
-    ensures { result ≡ ends_below n pair }
+/// An edge whose ends are both below `n`, with its cost as it is listed.
+fn edge(n: u32, entry: (i64, i64, i64)) -> Option<(u32, u32, i64)>
+    ensures { result ≡ edge_below n entry }
 {
-    match (qubit(n, pair.0), qubit(n, pair.1)) {
-        (Some(a), Some(b)) => Some((a, b)),
+    match (qubit(n, entry.0), qubit(n, entry.1)) {
+        (Some(a), Some(b)) => Some((a, b, entry.2)),
         _ => None,
     }
 }
 
-/// The ends of each edge, all below `n`.
+/// The edges whose ends are all below `n`.
 #[tactic(auto, using(crate::proofs::Lists::walk))]
-fn edges_below(alloc: Global, n: u32, pairs: &[(i64, i64)]) -> Result<Vec<(u32, u32)>, DeviceError>
-    ensures ok { IfOk result (λ v. all_some (ends_below n) pairs.now ≡ Some v.items) }
-    ensures err { IfErr result (IsRangeCause (all_some (ends_below n) pairs.now)) }
+fn edges_below(
+    alloc: Global,
+    n: u32,
+    entries: &[(i64, i64, i64)],
+) -> Result<Vec<(u32, u32, i64)>, DeviceError>
+    ensures ok { IfOk result (λ v. all_some (edge_below n) entries.now ≡ Some v.items) }
+    ensures err { IfErr result (IsRangeCause (all_some (edge_below n) entries.now)) }
 {
     let mut edges = Vec::new(alloc);
-    'pairs: for pair in pairs {
-        match ends(n, *pair) {
+    'entries: for entry in entries {
+        match edge(n, *entry) {
             None => return Err(DeviceError::Refused(DeviceFault::Range)),
             Some(found) => edges.push(found)?,
         }
@@ -168,28 +224,97 @@ fn edges_below(alloc: Global, n: u32, pairs: &[(i64, i64)]) -> Result<Vec<(u32, 
 }
 
 /// The first edge from a qubit to itself.
-fn first_self_edge(edges: &[(u32, u32)]) -> Option<(u32, u32)>
+fn first_self_edge(edges: &[(u32, u32, i64)]) -> Option<(u32, u32, i64)>
     ensures { result ≡ find is_self_edge edges.now }
 {
     edges.iter().copied().find(|edge| edge.0 == edge.1)
 }
 
-/// The edges that a table says.
+/// The cost of an edge, from 1 to the greatest.
+#[tactic(auto, unfolding(crate::specs::Costs::most_cost))]
+fn cost(edge: (u32, u32, i64)) -> Option<u32>
+    ensures { result ≡ cost_in edge.2 }
+{
+    if edge.2 < 1 || edge.2 > i64::from(COST_LIMIT) {
+        return None;
+    }
+    Some(edge.2 as u32)
+}
+
+/// The costs of the edges.
+fn listed_costs(alloc: Global, edges: &[(u32, u32, i64)]) -> Result<Vec<u32>, DeviceError>
+    ensures ok { IfOk result (λ v. (bad_cost true edges.now ≡ None) × (costs_of true edges.now ≡ Some v.items)) }
+    ensures err { IfErr result (IsCostCause (bad_cost true edges.now)) }
+{
+    let mut costs = Vec::new(alloc);
+    'edges: for edge in edges {
+        match cost(*edge) {
+            None => {
+                return Err(DeviceError::Refused(DeviceFault::EdgeCost {
+                    from: edge.0,
+                    to: edge.1,
+                }));
+            }
+            Some(found) => costs.push(found)?,
+        }
+    }
+    Ok(costs)
+}
+
+/// The costs of the edges, where they have any.
+fn costs_at(
+    alloc: Global,
+    priced: bool,
+    edges: &[(u32, u32, i64)],
+) -> Result<Option<Vec<u32>>, DeviceError>
+    ensures ok { IfOk result (λ o. (bad_cost priced edges.now ≡ None) × (costs_of priced edges.now ≡ option_map (λ v. v.items) o)) }
+    ensures err { IfErr result (IsCostCause (bad_cost priced edges.now)) }
+{
+    if priced {
+        let costs = listed_costs(alloc, edges)?;
+        return Ok(Some(costs));
+    }
+    Ok(None)
+}
+
+/// The ends of the edges.
+fn ends_of(alloc: Global, edges: &[(u32, u32, i64)]) -> Result<Vec<(u32, u32)>, DeviceError>
+    ensures ok { IfOk result (λ v. v.items ≡ map ends edges.now) }
+    ensures err { IfErr result (λ e. e ≡ DeviceError.NoMemory) }
+{
+    let mut pairs = Vec::new(alloc);
+    'edges: for edge in edges {
+        pairs.push((edge.0, edge.1))?;
+    }
+    Ok(pairs)
+}
+
+/// The edges that a table says, with their costs where it lists them.
 pub fn edges_of_table(alloc: Global, table: &Table) -> Result<Listed, DeviceError>
-    ensures ok { IfOk result (λ g. outcome_of (table_view table.now) ≡ graph g.size g.edges.items) }
+    ensures ok { IfOk result (λ g. outcome_of (table_view table.now) ≡ graph g.size g.edges.items (option_map (λ v. v.items) g.costs)) }
     ensures graph { IfOk result (λ g. IsGraph g.size g.edges.items) }
+    ensures costs { IfOk result (λ g. AreCosts g.edges.items (option_map (λ v. v.items) g.costs)) }
     ensures err { IfErr result (IsTableCause (outcome_of (table_view table.now))) }
 {
+    let Some(priced) = priced_at(table) else {
+        return Err(DeviceError::Refused(DeviceFault::Shape));
+    };
     let Some(qubits) = integer_at(table, "qubits") else {
         return Err(DeviceError::Refused(DeviceFault::Shape));
     };
-    let pairs = pairs_at(alloc, table)?;
+    let entries = entries_at(alloc, priced, table)?;
     let Some(n) = size(qubits) else {
         return Err(DeviceError::Refused(DeviceFault::Range));
     };
-    let edges = edges_below(alloc, n, &pairs)?;
-    match first_self_edge(&edges) {
-        Some(edge) => Err(DeviceError::Refused(DeviceFault::SelfEdge { qubit: edge.0 })),
-        None => Ok(Listed { size: n, edges }),
+    let edges = edges_below(alloc, n, &entries)?;
+    if let Some(edge) = first_self_edge(&edges) {
+        return Err(DeviceError::Refused(DeviceFault::SelfEdge { qubit: edge.0 }));
     }
+    let costs = costs_at(alloc, priced, &edges)?;
+    let pairs = ends_of(alloc, &edges)?;
+    Ok(Listed {
+        size: n,
+        edges: pairs,
+        costs,
+    })
 }

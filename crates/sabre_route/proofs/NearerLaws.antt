@@ -1,67 +1,63 @@
--- What a swap of near qubits can gain: no end of a pair comes nearer by more than 1.
+-- What a swap of near qubits can gain: no end of a pair comes nearer by more than they cost.
 --   dist-step             a distance from a near qubit is less by 1 at most
 --   total-nearer          the sum after the swap of near qubits is less by the number of ends on them at most
 --   ends-take             the ends on a qubit of one pair more
 --   ends-few              a pair has two ends
 --   end-more, ends-more   one end is counted, and both ends of a pair
---   places-moved          where a qubit is after a swap
 --   score-ordered         the score of a swap is that of the lesser qubit first
 --   front-short, score-short     the sum of the front layer after a swap, and a score, are small
 --   score-above           a swap whose front layer weighs too much has a greater score
 --   near-more             one near qubit more was tried
-use Rattle.std.proofs.Common.{◌≡◌, ◌≢◌, ℕ, suc, ◌+◌, ◌*◌, ◌<◌, ◌≤◌, ◌⊎◌, inl, inr, true, cond, List, [], ◌∷◌, ◌++◌, get_or, length, max, min, nat_eq, set, slice_index, take, sym, ◌∙◌, ap, subst, arith}
-use Rattle.std.proofs.Math.Nat.{mul-le-mul_left}
+use Rattle.std.proofs.Common.{◌≡◌, ◌≢◌, ℕ, suc, ◌+◌, ◌*◌, ◌<◌, ◌≤◌, ◌⊎◌, inl, inr, Bool, true, false, cond, List, [], ◌∷◌, ◌++◌, get_or, length, max, min, nat_eq, set, slice_index, take, sym, ◌∙◌, ap, subst, arith}
+use Rattle.std.proofs.Math.Nat.{mul-add, mul-le-mul_left}
 use Rattle.std.proofs.lemmas.Bool.{cases_eq, cases_lt}
 use Rattle.std.proofs.lemmas.Bool.Decides.{nat_tests}
 use Rattle.std.proofs.lemmas.List.{get_or-set_same, get_or-set_other, length-set, take_more}
-use Rattle.coupling_map.specs.Coupling.{Coupling}
+use Rattle.coupling_map.specs.Coupling.{Coupling, cost, dist}
 use Rattle.coupling_map.specs.Walks.{is_near}
 use Rattle.unitary_model.specs.Limits.{most_qubits}
 use Rattle.unitary_model.specs.Placement.{exchanged}
 use Rattle.sabre_route.specs.declared.best.Choice.{Choice}
-use Rattle.sabre_route.specs.Search.{dist, most_extended, IsNotAbove}
-use Rattle.sabre_route.specs.Scores.{ends_on, score_on, total, AreWithin, HasTried, IsMetric}
+use Rattle.sabre_route.specs.Search.{most_extended, IsNotAbove}
+use Rattle.sabre_route.specs.Scores.{ends_on, score_on, total, AreWithin, HasTried, IsMetric, most_distance}
 use Rattle.sabre_route.proofs.DistanceLaws.{near-symmetric}
-use Rattle.sabre_route.proofs.ScoreLaws.{exchanged-below, exchanged-from, exchanged-off, exchanged-to, not_above-trans, partner-more, product-le, total-comm, total-short}
+use Rattle.sabre_route.proofs.ScoreLaws.{exchanged-below, exchanged-from, exchanged-off, exchanged-to, not_above-trans, product-le, total-comm, total-short}
 
--- ---- a step is 1
-pub dist-step : (d : Coupling) (a b y : ℕ) → IsMetric d → a < d.size → b < d.size → y < d.size → is_near d.edges a b ≡ true → dist d a y ≤ dist d b y + 1
-dist-step d a b y m la lb ly near =
-    let walk = (m.exact b y lb ly).walked in
-    omega (arith, walk.1, (m.exact a y la ly).least (b ∷ walk.0) (near, walk.2))
+-- ---- a step is as much as the pair costs
+at-same : (x a c : ℕ) → x ≡ a → ◌≡◌ {A = ℕ} (cond (nat_eq x a) c 0) c
+at-same x a c e = grind (arith, nat_tests)
 
-at-same : (x a : ℕ) → x ≡ a → ◌≡◌ {A = ℕ} (cond (nat_eq x a) 1 0) 1
-at-same x a e = grind (arith, nat_tests)
-
-at-other : (x a : ℕ) → x ≢ a → ◌≡◌ {A = ℕ} (cond (nat_eq x a) 1 0) 0
-at-other x a n = grind (arith, nat_tests)
+at-other : (x a c : ℕ) → x ≢ a → ◌≡◌ {A = ℕ} (cond (nat_eq x a) c 0) 0
+at-other x a c n = grind (arith, nat_tests)
 
 -- one end of a pair is moved
-end-nearer : (d : Coupling) (a b x y : ℕ) → IsMetric d → a < d.size → b < d.size → y < d.size → is_near d.edges a b ≡ true
-    → dist d x y ≤ dist d (exchanged a b x) y + (cond (nat_eq x a) 1 0 + cond (nat_eq x b) 1 0)
-end-nearer d a b x y m la lb ly near = go (cases_eq x a) (cases_eq x b)
+end-nearer : (d : Coupling) (a b x y : ℕ) → IsMetric d → y < d.size → is_near d.edges a b ≡ true
+    → dist d x y ≤ dist d (exchanged a b x) y + (cond (nat_eq x a) (cost d a b) 0 + cond (nat_eq x b) (cost d a b) 0)
+end-nearer d a b x y m ly near = go (cases_eq x a) (cases_eq x b)
   where
-    go : (x ≡ a) ⊎ (x ≡ a → ⊥) → (x ≡ b) ⊎ (x ≡ b → ⊥) → dist d x y ≤ dist d (exchanged a b x) y + (cond (nat_eq x a) 1 0 + cond (nat_eq x b) 1 0)
+    go : (x ≡ a) ⊎ (x ≡ a → ⊥) → (x ≡ b) ⊎ (x ≡ b → ⊥) → dist d x y ≤ dist d (exchanged a b x) y + (cond (nat_eq x a) (cost d a b) 0 + cond (nat_eq x b) (cost d a b) 0)
     go (inl e) r =
         omega (
           arith,
-          dist-step d a b y m la lb ly near,
+          m.step a b y ly near,
           ap (λ u. dist d u y) e,
           ap (λ u. dist d u y) (exchanged-from a b x e),
-          at-same x a e,
+          at-same x a (cost d a b) e,
         )
     go (inr n) (inl e) =
         omega (
           arith,
-          dist-step d b a y m lb la ly (near-symmetric d.edges b a ∙ near),
+          m.step b a y ly (near-symmetric d.edges b a ∙ near),
+          m.turned a b,
           ap (λ u. dist d u y) e,
           ap (λ u. dist d u y) (exchanged-to a b x e),
-          at-same x b e,
+          at-same x b (cost d a b) e,
         )
     go (inr n) (inr o) = omega (arith, ap (λ u. dist d u y) (exchanged-off a b x n o))
 
 pair-nearer : (d : Coupling) (a b : ℕ) (p : ℕ × ℕ) → IsMetric d → a < d.size → b < d.size → (p.0 < d.size) × (p.1 < d.size) → is_near d.edges a b ≡ true
-    → dist d p.0 p.1 ≤ dist d (exchanged a b p.0) (exchanged a b p.1) + ((cond (nat_eq p.0 a) 1 0 + cond (nat_eq p.0 b) 1 0) + (cond (nat_eq p.1 a) 1 0 + cond (nat_eq p.1 b) 1 0))
+    → dist d p.0 p.1 ≤ dist d (exchanged a b p.0) (exchanged a b p.1)
+    + ((cond (nat_eq p.0 a) (cost d a b) 0 + cond (nat_eq p.0 b) (cost d a b) 0) + (cond (nat_eq p.1 a) (cost d a b) 0 + cond (nat_eq p.1 b) (cost d a b) 0))
 pair-nearer d a b p m la lb w near =
     let u : ℕ = exchanged a b p.0 in
     let v : ℕ = exchanged a b p.1 in
@@ -69,17 +65,49 @@ pair-nearer d a b p m la lb w near =
     let lv : v < d.size = exchanged-below d.size a b p.1 la lb w.1 in
     omega (
       arith,
-      end-nearer d a b p.0 p.1 m la lb w.1 near,
-      end-nearer d a b p.1 u m la lb lu near,
+      end-nearer d a b p.0 p.1 m w.1 near,
+      end-nearer d a b p.1 u m lu near,
       m.symmetric u p.1 lu w.1,
       m.symmetric u v lu lv,
     )
 
+-- the ends on a qubit, each as much as c
+abbrev costs-on : ℕ → List (ℕ × ℕ) → ℕ → ℕ
+costs-on c [] a = 0
+costs-on c (p ∷ ps) a = cond (nat_eq p.0 a) c 0 + (cond (nat_eq p.1 a) c 0 + costs-on c ps a)
+
+one-end : (c : ℕ) (t : Bool) → cond t c 0 ≡ c * cond t 1 0
+one-end c true = omega arith
+one-end c false = omega arith
+
+costs-ends : (c : ℕ) (ps : List (ℕ × ℕ)) (a : ℕ) → costs-on c ps a ≡ c * ends_on ps a
+costs-ends c [] a = omega arith
+costs-ends c (p ∷ ps) a =
+    omega (
+      arith,
+      one-end c (nat_eq p.0 a),
+      one-end c (nat_eq p.1 a),
+      costs-ends c ps a,
+      mul-add c (cond (nat_eq p.0 a) 1 0) (cond (nat_eq p.1 a) 1 0 + ends_on ps a),
+      mul-add c (cond (nat_eq p.1 a) 1 0) (ends_on ps a),
+    )
+
+total-costs : (d : Coupling) (a b : ℕ) (ps : List (ℕ × ℕ)) → IsMetric d → a < d.size → b < d.size → AreWithin d.size ps → is_near d.edges a b ≡ true
+    → total d (λ q. q) ps ≤ total d (exchanged a b) ps + (costs-on (cost d a b) ps a + costs-on (cost d a b) ps b)
+total-costs d a b [] m la lb w near = omega arith
+total-costs d a b (p ∷ ps) m la lb w near =
+    omega (arith, pair-nearer d a b p m la lb (w 0 p (omega arith)) near, total-costs d a b ps m la lb (λ k q lt. w (suc k) q (omega (arith, lt))) near)
+
 pub total-nearer : (d : Coupling) (a b : ℕ) (ps : List (ℕ × ℕ)) → IsMetric d → a < d.size → b < d.size → AreWithin d.size ps → is_near d.edges a b ≡ true
-    → total d (λ q. q) ps ≤ total d (exchanged a b) ps + (ends_on ps a + ends_on ps b)
-total-nearer d a b [] m la lb w near = omega arith
-total-nearer d a b (p ∷ ps) m la lb w near =
-    omega (arith, pair-nearer d a b p m la lb (w 0 p (omega arith)) near, total-nearer d a b ps m la lb (λ k q lt. w (suc k) q (omega (arith, lt))) near)
+    → total d (λ q. q) ps ≤ total d (exchanged a b) ps + cost d a b * (ends_on ps a + ends_on ps b)
+total-nearer d a b ps m la lb w near =
+    omega (
+      arith,
+      total-costs d a b ps m la lb w near,
+      costs-ends (cost d a b) ps a,
+      costs-ends (cost d a b) ps b,
+      mul-add (cost d a b) (ends_on ps a) (ends_on ps b),
+    )
 
 -- ---- ends
 ends-append : (ps rs : List (ℕ × ℕ)) (a : ℕ) → ends_on (ps ++ rs) a ≡ ends_on ps a + ends_on rs a
@@ -109,23 +137,15 @@ end-more m x a lx = go (cases_eq x a)
           ap (λ k. slice_index (set m x (slice_index m x + 1)) k) e,
           get_or-set_same m x (slice_index m x + 1) 0 lx,
           ap (slice_index m) e,
-          at-same x a e,
+          at-same x a 1 e,
         )
-    go (inr n) = omega (arith, get_or-set_other m x a (slice_index m x + 1) 0 (λ z. n (sym z)), at-other x a n)
+    go (inr n) = omega (arith, get_or-set_other m x a (slice_index m x + 1) 0 (λ z. n (sym z)), at-other x a 1 n)
 
 pub ends-more : (m : List ℕ) (x y a : ℕ) → x < length m → y < length m
     → slice_index (set (set m x (slice_index m x + 1)) y (slice_index (set m x (slice_index m x + 1)) y + 1)) a ≡ slice_index m a + (cond (nat_eq x a) 1 0 + cond (nat_eq y a) 1 0)
 ends-more m x y a lx ly =
     let one : List ℕ = set m x (slice_index m x + 1) in
     omega (arith, end-more one y a (omega (arith, length-set m x (slice_index m x + 1))), end-more m x a lx)
-
--- ---- places
-moved : (a b q : ℕ) → cond (nat_eq a q) b (cond (nat_eq b q) a q) ≡ exchanged a b q
-unfolding exchanged
-moved a b q = grind (arith, nat_tests)
-
-pub places-moved : (m : List ℕ) (a b q : ℕ) → a < length m → b < length m → slice_index m q ≡ q → slice_index (set (set m b a) a b) q ≡ exchanged a b q
-places-moved m a b q la lb e = partner-more m a b q q la lb e ∙ moved a b q
 
 -- ---- scores
 score-turned : (d : Coupling) (fs es : List (ℕ × ℕ)) (a b : ℕ) → score_on d fs es b a ≡ score_on d fs es a b
@@ -146,24 +166,24 @@ score-ordered d fs es a b = go (cases_lt a b)
         (λ z. score_on d fs es (low z) (high z)) ∙ score-turned d fs es a b
 
 pub front-short : (d : Coupling) (fs : List (ℕ × ℕ)) (a b : ℕ) → IsMetric d → a < d.size → b < d.size → AreWithin d.size fs → length fs ≤ most_qubits
-    → total d (exchanged a b) fs ≤ most_qubits * most_qubits
-front-short d fs a b m la lb w few = omega (arith, total-short d a b fs m la lb w, product-le (length fs) d.size most_qubits most_qubits few m.graph.limited)
+    → total d (exchanged a b) fs ≤ most_qubits * most_distance
+front-short d fs a b m la lb w few = omega (arith, total-short d a b fs m la lb w, product-le (length fs) most_distance most_qubits most_distance few (omega arith))
 
-pub extended-short : (d : Coupling) (es : List (ℕ × ℕ)) (n : ℕ) → IsMetric d → length es ≤ most_extended → n ≤ length es * d.size → n ≤ most_extended * most_qubits
-extended-short d es n m few le = omega (arith, product-le (length es) d.size most_extended most_qubits few m.graph.limited)
+pub extended-short : (d : Coupling) (es : List (ℕ × ℕ)) (n : ℕ) → IsMetric d → length es ≤ most_extended → n ≤ length es * most_distance → n ≤ most_extended * most_distance
+extended-short d es n m few le = omega (arith, product-le (length es) most_distance most_extended most_distance few (omega arith))
 
-pub weighed-short : (k f x y : ℕ) → k ≤ most_extended → f ≤ most_qubits → x ≤ most_qubits * most_qubits → y ≤ most_extended * most_qubits
-    → 2 * max 1 k * x + f * y ≤ 2 * most_extended * (most_qubits * most_qubits) + most_qubits * (most_extended * most_qubits)
+pub weighed-short : (k f x y : ℕ) → k ≤ most_extended → f ≤ most_qubits → x ≤ most_qubits * most_distance → y ≤ most_extended * most_distance
+    → 2 * max 1 k * x + f * y ≤ 2 * most_extended * (most_qubits * most_distance) + most_qubits * (most_extended * most_distance)
 weighed-short k f x y lk lf lx ly =
     let weight : 2 * max 1 k ≤ 2 * most_extended = omega (arith, lk) in
     omega (
       arith,
-      product-le (2 * max 1 k) x (2 * most_extended) (most_qubits * most_qubits) weight lx,
-      product-le f y most_qubits (most_extended * most_qubits) lf ly,
+      product-le (2 * max 1 k) x (2 * most_extended) (most_qubits * most_distance) weight lx,
+      product-le f y most_qubits (most_extended * most_distance) lf ly,
     )
 
 pub score-short : (d : Coupling) (fs es : List (ℕ × ℕ)) (a b : ℕ) → IsMetric d → a < d.size → b < d.size → AreWithin d.size fs → AreWithin d.size es → length fs ≤ most_qubits → length es ≤ most_extended
-    → score_on d fs es a b ≤ 2 * most_extended * (most_qubits * most_qubits) + most_qubits * (most_extended * most_qubits)
+    → score_on d fs es a b ≤ 2 * most_extended * (most_qubits * most_distance) + most_qubits * (most_extended * most_distance)
 unfolding score_on
 score-short d fs es a b m la lb wf we lf le =
     weighed-short (length es) (length fs) (total d (exchanged a b) fs) (total d (exchanged a b) es) le lf (front-short d fs a b m la lb wf lf)
@@ -173,10 +193,10 @@ over : (s f w x y n : ℕ) → s + f * n < w + f * x → x ≤ y + n → s < w +
 over s f w x y n above le = omega (arith, mul-le-mul_left f le)
 
 pub score-above : (d : Coupling) (fs es : List (ℕ × ℕ)) (a b s w : ℕ) → IsMetric d → a < d.size → b < d.size → AreWithin d.size es → is_near d.edges a b ≡ true
-    → w ≡ 2 * max 1 (length es) * total d (exchanged a b) fs + length fs * total d (λ q. q) es → s + length fs * (ends_on es a + ends_on es b) < w → s < score_on d fs es a b
+    → w ≡ 2 * max 1 (length es) * total d (exchanged a b) fs + length fs * total d (λ q. q) es → s + length fs * (cost d a b * (ends_on es a + ends_on es b)) < w → s < score_on d fs es a b
 unfolding score_on
 score-above d fs es a b s w m la lb we near e above =
-    over s (length fs) (2 * max 1 (length es) * total d (exchanged a b) fs) (total d (λ q. q) es) (total d (exchanged a b) es) (ends_on es a + ends_on es b) (omega (arith, e)) (total-nearer d a b es m la lb we near)
+    over s (length fs) (2 * max 1 (length es) * total d (exchanged a b) fs) (total d (λ q. q) es) (total d (exchanged a b) es) (cost d a b * (ends_on es a + ends_on es b)) (omega (arith, e)) (total-nearer d a b es m la lb we near)
 
 HasTried-better : (d : Coupling) (fs es : List (ℕ × ℕ)) (old new : Choice) (a b : ℕ) → IsNotAbove new.score new.a new.b old.score old.a old.b → HasTried d fs es old a b → HasTried d fs es new a b
 HasTried-better d fs es old new a b better h =

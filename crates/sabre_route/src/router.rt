@@ -3,16 +3,19 @@
 ghost use Rattle.std.specs.Prelude.{◌≡◌, ℕ, [], ◌+◌, ◌*◌, ◌≤◌, All, IfOk, OnOk, length};
 ghost use Rattle.circuit_list.specs.declared.Gate.{Gate};
 ghost use Rattle.circuit_list.specs.Gates.{IsFine, ops};
+ghost use Rattle.coupling_map.specs.Coupling.{cost};
 ghost use Rattle.coupling_map.specs.Edges.{FollowsEdges};
 ghost use Rattle.coupling_map.specs.Walks.{IsDiameter};
 ghost use Rattle.sabre_route.specs.Machine.{IsChosen, IsEmittable, IsWalk};
+ghost use Rattle.sabre_route.specs.Measures.{bound};
 ghost use Rattle.sabre_route.specs.Routing.{IsLayout, IsRouted};
 ghost use Rattle.sabre_route.specs.Underway.{HasEnded, HasStepped, IsFitting, IsMove, IsRealising};
 ghost use Rattle.unitary_model.specs.Operations.{cx_count, t_count};
 ghost use Rattle.unitary_model.specs.Placement.{IsPlacement};
 ghost use Rattle.unitary_model.specs.Realises.{Realises};
 
-use crate::choice::choose_swap;
+use crate::best::QUBITS;
+use crate::choice::{Room, choose_swap_in};
 use crate::emission::Written;
 use crate::laws::few_swaps;
 use crate::links::gates_of;
@@ -63,21 +66,23 @@ fn choose_walk(state: &RouteState, device: &Device) -> (u32, u32)
 }
 
 /// The two qubits that the machine swaps where no gate can be emitted.
-fn choose(state: &RouteState, device: &Device) -> (u32, u32)
+///
+/// The room is for the qubits of the front layer, so that a run makes it once.
+fn choose(room: &mut Room, state: &RouteState, device: &Device) -> (u32, u32)
     requires placed { length state.now.placement ≡ device.now.size }
     requires left { state.now.rest ≡ [] → ⊥ }
     requires stuck { (j : ℕ) (g : Gate) → IsEmittable device.now.edges state.now.placement state.now.rest j g → ⊥ }
     ensures { IsChosen device.now state.now result.0 result.1 }
 {
     if state.stalled() < device.size() {
-        choose_swap(state, device)
+        choose_swap_in(room, state, device)
     } else {
         choose_walk(state, device)
     }
 }
 
 /// One step of the machine, and what it does.
-fn step(state: &mut RouteState, device: &Device) -> Result<Move, AllocError>
+fn step(room: &mut Room, state: &mut RouteState, device: &Device) -> Result<Move, AllocError>
     requires placed { length state.old.placement ≡ device.now.size }
     requires left { state.old.rest ≡ [] → ⊥ }
     ensures { IfOk result (λ m. IsMove device.now state.old m state.new) }
@@ -88,13 +93,14 @@ fn step(state: &mut RouteState, device: &Device) -> Result<Move, AllocError>
     if let Some(gate) = state.emit_earliest(device)? {
         return Ok(Move::Emitted(gate));
     }
-    let (a, b) = choose(state, device);
+    let (a, b) = choose(room, state, device);
     state.swap(a, b);
     Ok(Move::Swapped(a, b))
 }
 
 /// One step of the machine, and what it does is written.
 fn write_step(
+    room: &mut Room,
     state: &mut RouteState,
     device: &Device,
     written: &mut Written,
@@ -110,7 +116,7 @@ fn write_step(
     distances_on_device();
     let _size = device.size();
     let _qubits = state.placement().size();
-    match step(state, device)? {
+    match step(room, state, device)? {
         Move::Emitted(gate) => written.write_gate(device, state.placement(), gate),
         Move::Swapped(a, b) => written.write_swap(device, a, b),
     }
@@ -137,8 +143,9 @@ fn run(
     let size = device.size();
     let mut state = RouteState::start(alloc, gates, wires, given)?;
     let mut written = Written::nothing(alloc, size)?;
+    let mut room = [(0, 0); QUBITS];
     'steps: while !state.is_done() {
-        write_step(&mut state, device, &mut written)?;
+        write_step(&mut room, &mut state, device, &mut written)?;
     }
     let Written { body, swaps, turn } = written;
     Ok(Routed {
@@ -168,8 +175,9 @@ fn settle(
     let _qubits = given.size();
     let _size = device.size();
     let mut state = RouteState::start(alloc, gates, wires, given)?;
+    let mut room = [(0, 0); QUBITS];
     'steps: while !state.is_done() {
-        let _move = step(&mut state, device)?;
+        let _move = step(&mut room, &mut state, device)?;
     }
     let placement = state.into_placement();
     // Its contract says that it is a placement.
@@ -197,8 +205,8 @@ pub fn route(
     ensures t_count { IfOk result (λ r. t_count (ops r.body.gates) ≡ t_count (ops circuit.now.gates)) }
     ensures cx_count { IfOk result (λ r.
         cx_count (ops r.body.gates) ≡ cx_count (ops circuit.now.gates) + 3 * r.swaps) }
-    ensures few_swaps { IfOk result (λ r. (k : ℕ) → IsDiameter device.now.size device.now.edges k →
-        r.swaps ≤ cx_count (ops circuit.now.gates) * (device.now.size + k)) }
+    ensures few_swaps { IfOk result (λ r. (k : ℕ) → IsDiameter device.now.size device.now.edges (cost device.now) k →
+        r.swaps ≤ cx_count (ops circuit.now.gates) * bound device.now k) }
 {
     // Their contracts say how few swaps a run has, that the device is connected, and that `given` is a
     // placement.

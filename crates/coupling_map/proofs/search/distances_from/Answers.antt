@@ -1,20 +1,25 @@
-use Rattle.std.proofs.Common.{◌≡◌, length, sym, ◌∙◌, arith}
-use Rattle.std.proofs.lemmas.List.{length-map}
-use Rattle.coupling_map.proofs.WalkLaws.{is_near-symmetric}
-use Rattle.coupling_map.proofs.SearchLaws.{IsSearched-more, layer-below, near-below, positive_length}
+use Rattle.std.proofs.Common.{◌≡◌, ℕ, false, true, subst, arith}
+use Rattle.coupling_map.specs.Search.{mark}
+use Rattle.coupling_map.proofs.SearchLaws.{marked-below, IsRow-searched, IsSearched-start}
 use Rattle.coupling_map.proofs.search.distances_from.Goals as goal
 
-pub next_layer-requires-clause-layer : goal.next_layer-requires-clause-layer
-next_layer-requires-clause-layer c =
-    let long : length c.args.neighbours.now ≡ c.args.graph.now.size = sym (length-map c.args.neighbours.now (λ w. w.items)) ∙ c.requires.near.long in
-    rw (c.deref.ensures.value, long) (layer-below _ _ _ _ _ _ c.layers.invariant)
+pub qubits-init : goal.qubits-init
+qubits-init g c =
+    rw (c.in_ok-row.ensures, c.size.ensures.size, c.in_ok-marks.ensures, c.size-2.ensures.size)
+    (IsSearched-start c.args.graph.now.size _ _ _ c.args.from c.requires.from)
 
-pub next_layer-requires-clause-near : goal.next_layer-requires-clause-near
-next_layer-requires-clause-near c =
-    near-below (λ w. w.items) c.args.graph.now.size _ c.args.graph.now.edges _ c.requires.near (omega (arith, c.layers.invariant.long, c.layers.row.ok.0))
+pub returns-in-None : goal.returns-in-None
+returns-in-None g c =
+    IsRow-searched _ _ _ _ _ c.qubits.row.items c.qubits.marks.items c.qubits.invariant
+    (subst (λ ms. (y : ℕ) → mark ms y ≡ false) c.deref-in-qubits.ensures.value (c.nearest.ensures.none c.in-None.is))
 
-pub layers-preserved : goal.layers-preserved
-layers-preserved c =
-    IsSearched-more _ _ _ _ _ _ _ _ _ (is_near-symmetric c.args.graph.now.edges) c.requires.near
-    (positive_length c.layers.layer.items _ c.layers.layer.ok.0 c.layers-test.ensures) c.layers.invariant
-    (rw c.deref.ensures.value at c.in_ok-layer-2.ensures)
+pub look_at-requires : goal.look_at-requires
+look_at-requires g c =
+    let on = subst (λ ms. mark ms c.in-Some.qubit ≡ true) c.deref-in-qubits.ensures.value c.in-Some.ensures.some in
+    record {
+      near = c.requires.near;
+      listed = c.requires.listed;
+      qubit = omega (arith, marked-below c.qubits.marks.items c.in-Some.qubit on, c.qubits.invariant.as_many);
+      marked = on;
+      searched = c.qubits.invariant;
+    }
