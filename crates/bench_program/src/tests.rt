@@ -58,10 +58,14 @@ fn programs(rt: HostRuntime) -> Result<(), Fail> {
             (4294967295, 12, 64),
             "cx44.42 u002.62 cx56.37 cx0.43 u007.31 cx32.43 cx24.5 u007.16 u001.3 u002.35 u007.40 cx4.7 ",
         ),
+        (
+            (3, 12, 256),
+            "u002.251 u002.202 u404.163 cx85.69 u001.83 u007.104 cx198.23 u002.59 cx88.214 cx251.197 cx155.3 u002.205 ",
+        ),
         ((2, 0, 3), ""),
     ];
     for ((start, gates, size), words) in rows {
-        assert!(rt; gates <= 20000 && 0 < size && size <= 64);
+        assert!(rt; gates <= 20000 && 0 < size && size <= 256);
         let program = made(alloc, start, gates, size)?;
         let text = told(alloc, &program)?;
         assert_eq!(rt; text.as_str(), words, "from {start}");

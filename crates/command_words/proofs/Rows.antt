@@ -5,12 +5,13 @@
 --   of_route, of_route_..            `route` with its device
 --   of_route_trivial, of_trivial_..  `route` with its device and `--trivial`
 --   of_bench, of_bench_..            `bench` with its start, gates and device
+--   of_amplitude, ..                 `amplitude` with its bits
 --   no_.., and other of_..           words that mean no command
 use Rattle.std.proofs.Common.{◌≡◌, ℕ, List, [], ◌∷◌, Some, None, refl, codes, true, false}
 use Rattle.std.specs.Fmt.{digits}
 use Rattle.clap.proofs.OnLiterals.{clap_on_literals}
 use Rattle.command_words.specs.Commands.{command_of}
-use Rattle.command_words.specs.declared.commands.Command.TheVariants.{Opt, Route, Check, Stages, Bench}
+use Rattle.command_words.specs.declared.commands.Command.TheVariants.{Opt, Route, Check, Stages, Bench, Amplitude}
 
 pub of_opt : (name : List ℕ) → command_of (name ∷ codes "opt" ∷ []) ≡ Some Opt
 unfolding clap_on_literals
@@ -319,3 +320,35 @@ no_start_behind_a_minus name = refl
 pub no_second_gates : (name : List ℕ) → command_of (name ∷ codes "bench" ∷ codes "--start" ∷ codes "1" ∷ codes "--gates" ∷ codes "1" ∷ codes "--gates" ∷ codes "1" ∷ codes "--device" ∷ codes "d" ∷ []) ≡ None
 unfolding clap_on_literals digits
 no_second_gates name = refl
+
+pub of_amplitude : (name : List ℕ) → command_of (name ∷ codes "amplitude" ∷ codes "--from" ∷ codes "01" ∷ codes "--to" ∷ codes "10" ∷ []) ≡ Some (Amplitude (false ∷ true ∷ []) (true ∷ false ∷ []))
+unfolding clap_on_literals
+of_amplitude name = refl
+
+pub of_amplitude_to_first : (name : List ℕ) → command_of (name ∷ codes "amplitude" ∷ codes "--to=1" ∷ codes "--from=001" ∷ []) ≡ Some (Amplitude (false ∷ false ∷ true ∷ []) (true ∷ []))
+unfolding clap_on_literals
+of_amplitude_to_first name = refl
+
+pub of_amplitude_empty : (name : List ℕ) → command_of (name ∷ codes "amplitude" ∷ codes "--from" ∷ [] ∷ codes "--to=" ∷ []) ≡ Some (Amplitude [] [])
+unfolding clap_on_literals
+of_amplitude_empty name = refl
+
+pub no_other_character : (name : List ℕ) → command_of (name ∷ codes "amplitude" ∷ codes "--from" ∷ codes "02" ∷ codes "--to" ∷ codes "00" ∷ []) ≡ None
+unfolding clap_on_literals
+no_other_character name = refl
+
+pub no_space_in_bits : (name : List ℕ) → command_of (name ∷ codes "amplitude" ∷ codes "--from" ∷ codes "0" ∷ codes "--to" ∷ codes "0 " ∷ []) ≡ None
+unfolding clap_on_literals
+no_space_in_bits name = refl
+
+pub amplitude_without_to : (name : List ℕ) → command_of (name ∷ codes "amplitude" ∷ codes "--from" ∷ codes "0" ∷ []) ≡ None
+unfolding clap_on_literals
+amplitude_without_to name = refl
+
+pub no_second_from : (name : List ℕ) → command_of (name ∷ codes "amplitude" ∷ codes "--from" ∷ codes "0" ∷ codes "--from" ∷ codes "0" ∷ codes "--to" ∷ codes "0" ∷ []) ≡ None
+unfolding clap_on_literals
+no_second_from name = refl
+
+pub no_device_of_amplitude : (name : List ℕ) → command_of (name ∷ codes "amplitude" ∷ codes "--from" ∷ codes "0" ∷ codes "--to" ∷ codes "0" ∷ codes "--device" ∷ codes "d" ∷ []) ≡ None
+unfolding clap_on_literals
+no_device_of_amplitude name = refl

@@ -7,26 +7,33 @@
 --   stages_command      the subcommand `stages`, which takes none
 --   route_command       the subcommand `route`, which takes `--device` and `--trivial`
 --   bench_command       the subcommand `bench`, which takes `--start`, `--gates` and `--device`
+--   amplitude_command   the subcommand `amplitude`, which takes `--from` and `--to`
 --   plain_commands      the program with the subcommands that take no argument
---   qroute_command      the program with its subcommands
+--   device_commands     .. and with those that take a device
+--   qroute_command      the program with all of its subcommands
 --   device_of rows      the name behind `--device` in what was matched, none where there is none
 --   is_trivial rows     whether `--trivial` was matched
 --   number_of a b text  the number from a to b whose decimal digits the text is, none where there is none
 --   start_of rows       the number behind `--start`, 0 to 4294967295
 --   gates_of rows       the number behind `--gates`, 1 to 20000
 --   bench_of rows       what `bench` asks for, with what was matched
+--   is_bit c            the character is 0 or 1
+--   bits_of text        the bits whose digits the text is, none where there is another character
+--   from_of, to_of      the bits behind `--from` and `--to`
+--   amplitude_of rows   what `amplitude` asks for, with what was matched
 --   meaning name rows   what the subcommand of this name asks for, with what it matched
 --   command_of words    the command that the words mean, the program's name first; none where they mean none
 --   HasFewGates c       `bench` has 1 to 20000 gates
-use Rattle.std.specs.Prelude.{ℕ, List, ◌==◌, ◌≤◌, ◌&&◌, Bool, true, false, Option, Some, None, if◌then◌else◌, codes, decimal, length, nat_le, option_map, option_and_then}
+use Rattle.std.specs.Prelude.{ℕ, List, ◌==◌, ◌≤◌, ◌&&◌, ◌||◌, Bool, true, false, Option, Some, None, if◌then◌else◌, codes, decimal, length, map, nat_le, option_map, option_and_then}
 use Rattle.std.specs.Option.{option_map_or}
+use Rattle.std.specs.List.{list_all}
 use Rattle.std.specs.Str.{bytes_eq}
 use Rattle.std.specs.Str.Parse.{digits_value}
 use Rattle.clap.specs.Simple.{on_top}
 use Rattle.clap.specs.Words.{App, Row, Rule, Text, fault_of, first_of, new_app, new_rule, subcommand_of, with_rule, with_subcommand}
 use Rattle.clap.specs.declared.builder.action.ArgAction.TheVariants.{Set, SetTrue}
 use Rattle.command_words.specs.declared.commands.Command.{Command}
-use Rattle.command_words.specs.declared.commands.Command.TheVariants.{Opt, Route, Check, Stages, Bench}
+use Rattle.command_words.specs.declared.commands.Command.TheVariants.{Opt, Route, Check, Stages, Bench, Amplitude}
 
 abbrev pub root_command : App
 root_command = on_top (λ s. record s {
@@ -64,11 +71,17 @@ abbrev pub bench_command : App
 bench_command = with_rule (with_rule (with_rule (new_app (codes "bench")) (needed_option (codes "start"))) (needed_option (codes "gates")))
     (needed_option (codes "device"))
 
+abbrev pub amplitude_command : App
+amplitude_command = with_rule (with_rule (new_app (codes "amplitude")) (needed_option (codes "from"))) (needed_option (codes "to"))
+
 abbrev pub plain_commands : App
 plain_commands = with_subcommand (with_subcommand (with_subcommand root_command opt_command.top) check_command.top) stages_command.top
 
+abbrev pub device_commands : App
+device_commands = with_subcommand (with_subcommand plain_commands route_command.top) bench_command.top
+
 abbrev pub qroute_command : App
-qroute_command = with_subcommand (with_subcommand plain_commands route_command.top) bench_command.top
+qroute_command = with_subcommand device_commands amplitude_command.top
 
 abbrev pub device_of : List Row → Option Text
 device_of rows = first_of (codes "device") rows
@@ -92,12 +105,29 @@ abbrev pub bench_of : List Row → Option Command
 bench_of rows = option_and_then (λ start. option_and_then (λ gates. option_map (λ device. Bench start gates device)
     (device_of rows)) (gates_of rows)) (start_of rows)
 
+-- 48 is the character 0, 49 is 1
+abbrev pub is_bit : ℕ → Bool
+is_bit c = c == 48 || c == 49
+
+abbrev pub bits_of : Text → Option (List Bool)
+bits_of text = if list_all is_bit text then Some (map (λ c. c == 49) text) else None
+
+abbrev pub from_of : List Row → Option (List Bool)
+from_of rows = option_and_then bits_of (first_of (codes "from") rows)
+
+abbrev pub to_of : List Row → Option (List Bool)
+to_of rows = option_and_then bits_of (first_of (codes "to") rows)
+
+abbrev pub amplitude_of : List Row → Option Command
+amplitude_of rows = option_and_then (λ from. option_map (λ to. Amplitude from to) (to_of rows)) (from_of rows)
+
 abbrev pub meaning : Text → List Row → Option Command
 meaning name rows = if bytes_eq name (codes "opt") then Some Opt
     else (if bytes_eq name (codes "check") then Some Check
     else (if bytes_eq name (codes "stages") then Some Stages
     else (if bytes_eq name (codes "bench") then bench_of rows
-    else option_map (λ device. Route device (is_trivial rows)) (device_of rows))))
+    else (if bytes_eq name (codes "amplitude") then amplitude_of rows
+    else option_map (λ device. Route device (is_trivial rows)) (device_of rows)))))
 
 -- none where `clap` finds a fault, and else what the subcommand asks for
 abbrev pub command_of : List Text → Option Command
@@ -109,4 +139,5 @@ HasFewGates Opt = Unit {0}
 HasFewGates (Route device trivial) = Unit {0}
 HasFewGates Check = Unit {0}
 HasFewGates Stages = Unit {0}
+HasFewGates (Amplitude from to) = Unit {0}
 HasFewGates (Bench start gates device) = (1 ≤ gates) × (gates ≤ 20000)

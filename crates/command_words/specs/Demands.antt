@@ -3,9 +3,10 @@
 --   device_name c     the name of the device that it loads, if it loads one
 --   writes_out c      it writes to the output
 --   writes_report c   it writes a line of its own to the report; faults are told there by every command
+--   asked_entry c     the bits from which and to which it asks for an entry of the program's unitary, if it asks for one
 use Rattle.std.specs.Prelude.{ℕ, Bool, true, false, List, Option, Some, None}
 use Rattle.command_words.specs.declared.commands.Command.{Command}
-use Rattle.command_words.specs.declared.commands.Command.TheVariants.{Opt, Route, Check, Stages, Bench}
+use Rattle.command_words.specs.declared.commands.Command.TheVariants.{Opt, Route, Check, Stages, Bench, Amplitude}
 
 abbrev pub reads_input : Command → Bool
 reads_input Opt = true
@@ -13,6 +14,7 @@ reads_input (Route name trivial) = true
 reads_input Check = true
 reads_input Stages = true
 reads_input (Bench start gates name) = false
+reads_input (Amplitude from to) = true
 
 abbrev pub device_name : Command → Option (List ℕ)
 device_name Opt = None
@@ -20,6 +22,7 @@ device_name (Route name trivial) = Some name
 device_name Check = None
 device_name Stages = None
 device_name (Bench start gates name) = Some name
+device_name (Amplitude from to) = None
 
 abbrev pub writes_out : Command → Bool
 writes_out Opt = true
@@ -27,6 +30,7 @@ writes_out (Route name trivial) = true
 writes_out Check = false
 writes_out Stages = true
 writes_out (Bench start gates name) = true
+writes_out (Amplitude from to) = true
 
 abbrev pub writes_report : Command → Bool
 writes_report Opt = true
@@ -34,3 +38,12 @@ writes_report (Route name trivial) = true
 writes_report Check = true
 writes_report Stages = false
 writes_report (Bench start gates name) = true
+writes_report (Amplitude from to) = false
+
+abbrev pub asked_entry : Command → Option (List Bool × List Bool)
+asked_entry Opt = None
+asked_entry (Route name trivial) = None
+asked_entry Check = None
+asked_entry Stages = None
+asked_entry (Bench start gates name) = None
+asked_entry (Amplitude from to) = Some (from, to)

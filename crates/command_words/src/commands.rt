@@ -1,5 +1,6 @@
 //! What the words of a command line ask for.
 
+use crate::bits::BitList;
 use crate::name::Name;
 use std::alloc::AllocError;
 use thiserror::Error;
@@ -28,6 +29,13 @@ pub enum Command {
         gates: u32,
         /// The name of the device text.
         device: Name,
+    },
+    /// Reads a program and writes one entry of its unitary.
+    Amplitude {
+        /// The bits that come in.
+        from: BitList,
+        /// The bits that go out.
+        to: BitList,
     },
 }
 

@@ -2,14 +2,16 @@
 //!
 //! The words of a command line go in, the program's name first; the command that they mean comes out. `clap` reads them: one
 //! level of subcommands, of which one has to be there, and no help. A number is its decimal digits alone, without a sign or a
-//! leading zero, and in the range of its option. The contract of `command` says that the answer is the command of the words
+//! leading zero, and in the range of its option; bits are the digits 0 and 1, as many as there are. The contract of `command` says that the answer is the command of the words
 //! by `clap`'s own definitions, and that words are refused exactly where they mean none.
 
-ghost use Rattle.std.specs.Prelude.{◌≡◌, IfOk, IsErrOf, Some, None, map, false, option_and_then};
+ghost use Rattle.std.specs.Prelude.{◌≡◌, ◌==◌, IfOk, IsErrOf, Some, None, map, false, option_and_then};
+ghost use Rattle.std.specs.List.{list_all};
 ghost use Rattle.clap.specs.Words.{app_of, first_of, found_of, kind_of, rows_of, rule_of};
 ghost use Rattle.clap.specs.declared.builder.Command.TheViews.{out-Command as fields_of};
-ghost use Rattle.command_words.specs.Commands.{HasFewGates, bench_command, bench_of, check_command, command_of, meaning, needed_option, number_of, opt_command, plain_commands, qroute_command, root_command, route_command, stages_command, trivial_flag};
+ghost use Rattle.command_words.specs.Commands.{HasFewGates, amplitude_command, amplitude_of, bench_command, bench_of, bits_of, check_command, command_of, device_commands, is_bit, meaning, needed_option, number_of, opt_command, plain_commands, qroute_command, root_command, route_command, stages_command, trivial_flag};
 
+use crate::bits::BitList;
 use crate::commands::{self, WordsFault};
 use crate::name::Name;
 use clap::error::ErrorKind;
@@ -92,6 +94,16 @@ fn bench_command<'a>(alloc: Global) -> Result<Command<'a>, AllocError>
         .arg(needed_option(alloc, "device"))
 }
 
+/// `amplitude`, which takes two lists of bits.
+fn amplitude_command<'a>(alloc: Global) -> Result<Command<'a>, AllocError>
+    ensures command { IfOk result (λ c. app_of c ≡ amplitude_command) }
+    ensures local { IfOk result (λ c. (fields_of c).has_globals ≡ false) }
+{
+    Command::new(alloc, "amplitude")
+        .arg(needed_option(alloc, "from"))?
+        .arg(needed_option(alloc, "to"))
+}
+
 /// The program with the subcommands that take no argument.
 fn plain_commands<'a>(alloc: Global) -> Result<Command<'a>, AllocError>
     ensures { IfOk result (λ c. app_of c ≡ plain_commands) }
@@ -102,13 +114,20 @@ fn plain_commands<'a>(alloc: Global) -> Result<Command<'a>, AllocError>
         .subcommand(stages_command(alloc))
 }
 
-/// The program with all of its subcommands.
-fn qroute_command<'a>(alloc: Global) -> Result<Command<'a>, AllocError>
-    ensures { IfOk result (λ c. app_of c ≡ qroute_command) }
+/// The program with the subcommands that take a device, too.
+fn device_commands<'a>(alloc: Global) -> Result<Command<'a>, AllocError>
+    ensures { IfOk result (λ c. app_of c ≡ device_commands) }
 {
     plain_commands(alloc)?
         .subcommand(route_command(alloc)?)?
         .subcommand(bench_command(alloc)?)
+}
+
+/// The program with all of its subcommands.
+fn qroute_command<'a>(alloc: Global) -> Result<Command<'a>, AllocError>
+    ensures { IfOk result (λ c. app_of c ≡ qroute_command) }
+{
+    device_commands(alloc)?.subcommand(amplitude_command(alloc)?)
 }
 
 /// The number from `least` to `most` whose decimal digits the text is.
@@ -159,6 +178,64 @@ fn bench_of(alloc: Global, matches: &ArgMatches<'_>) -> Result<commands::Command
     })
 }
 
+/// Whether a text is of the digits 0 and 1.
+fn are_bits(text: &str) -> bool
+    ensures { result ≡ list_all is_bit text.now }
+{
+    text.as_bytes()
+        .iter()
+        .all(|byte| *byte == b'0' || *byte == b'1')
+}
+
+/// The bits that the digits of a text are.
+fn bits_in(alloc: Global, text: &str) -> Result<Vec<bool>, AllocError>
+    ensures { IfOk result (λ v. v.items ≡ map (λ c. c == 49) text.now) }
+{
+    text.as_bytes()
+        .iter()
+        .map(|byte| *byte == b'1')
+        .collect(alloc)
+}
+
+/// The bits whose digits a text is.
+fn bits(alloc: Global, text: &str) -> Result<Option<BitList>, AllocError>
+    ensures { IfOk result (λ o. o ≡ bits_of text.now) }
+{
+    if !are_bits(text) {
+        return Ok(None);
+    }
+    Ok(Some(BitList::new(bits_in(alloc, text)?)))
+}
+
+/// The bits behind an option.
+fn bits_behind(
+    alloc: Global,
+    matches: &ArgMatches<'_>,
+    id: &str,
+) -> Result<Option<BitList>, AllocError>
+    ensures { IfOk result (λ o. o ≡ option_and_then bits_of (first_of id.now (rows_of (found_of matches.now)))) }
+{
+    match matches.get_str(id) {
+        None => Ok(None),
+        Some(text) => Ok(bits(alloc, text)?),
+    }
+}
+
+/// What `amplitude` with its matches asks for.
+fn amplitude_of(alloc: Global, matches: &ArgMatches<'_>) -> Result<commands::Command, WordsFault>
+    ensures ok { IfOk result (λ c. amplitude_of (rows_of (found_of matches.now)) ≡ Some c) }
+    ensures bad { IsErrOf result WordsFault.BadWords → amplitude_of (rows_of (found_of matches.now)) ≡ None }
+    ensures few { IfOk result HasFewGates }
+{
+    let Some(from) = bits_behind(alloc, matches, "from")? else {
+        return Err(WordsFault::BadWords);
+    };
+    let Some(to) = bits_behind(alloc, matches, "to")? else {
+        return Err(WordsFault::BadWords);
+    };
+    Ok(commands::Command::Amplitude { from, to })
+}
+
 /// What a subcommand with its matches asks for.
 fn meaning_of(
     alloc: Global,
@@ -180,6 +257,9 @@ fn meaning_of(
     }
     if name == "bench" {
         return bench_of(alloc, matches);
+    }
+    if name == "amplitude" {
+        return amplitude_of(alloc, matches);
     }
     let Some(device) = matches.get_str("device") else {
         return Err(WordsFault::BadWords);

@@ -7,7 +7,7 @@ use Rattle.outside_io.specs.Shelf.{IsTextCause, TellsText}
 use Rattle.outside_io.specs.declared.TextFault.{TextFault}
 use Rattle.outside_io.specs.declared.TextFault.TheVariants as text_fault
 use Rattle.coupling_map.specs.Coupling.{Coupling}
-use Rattle.coupling_map.specs.Text.{Outcome, Says, graph, outcome_of, range, self_edge, shape}
+use Rattle.coupling_map.specs.Text.{Outcome, Says, edge_cost, graph, outcome_of, range, self_edge, shape}
 use Rattle.coupling_map.specs.Walks.{IsJoined}
 use Rattle.coupling_map.specs.declared.faults.DeviceFault.TheVariants as fault
 use Rattle.qroute_top.specs.Causes.{IsDeviceCause}
@@ -28,16 +28,18 @@ Says-once text o p (t, is, e) (u, too, f) =
     some_same x y e = cc
 
 abbrev pub size_said : Outcome → ℕ
-size_said (graph n es) = n
+size_said (graph n es cs) = n
 size_said shape = 0
 size_said range = 0
 size_said (self_edge q) = 0
+size_said (edge_cost from to) = 0
 
 abbrev pub edges_said : Outcome → List (ℕ × ℕ)
-edges_said (graph n es) = es
+edges_said (graph n es cs) = es
 edges_said shape = []
 edges_said range = []
 edges_said (self_edge q) = []
+edges_said (edge_cost from to) = []
 
 -- where a text describes a device with a qubit for each wire, it is not refused
 pub IsDevice-refused : (text : List ℕ) (d : Coupling) (n : ℕ) (r : DeviceRefusal) → IsDevice text d → n ≤ d.size → IsDeviceRefusal text n r → ⊥
@@ -49,7 +51,8 @@ IsDevice-refused text d n (device.Fault fault.Text) is fits r =
 IsDevice-refused text d n (device.Fault fault.Shape) is fits r = let e = Says-once text _ _ is.says r.1 in cc
 IsDevice-refused text d n (device.Fault fault.Range) is fits r = let e = Says-once text _ _ is.says r.1 in cc
 IsDevice-refused text d n (device.Fault (fault.SelfEdge q)) is fits r = let e = Says-once text _ _ is.says r.1 in cc
-IsDevice-refused text d n (device.Fault (fault.NotConnected from to)) is fits (short, (m, es, says, first, apart)) =
+IsDevice-refused text d n (device.Fault (fault.EdgeCost from to)) is fits r = let e = Says-once text _ _ is.says r.1 in cc
+IsDevice-refused text d n (device.Fault (fault.NotConnected from to)) is fits (short, (m, es, cs, says, first, apart)) =
     let e = Says-once text _ _ says is.says in
     let size : m ≡ d.size = ap size_said e in
     let edges : es ≡ d.edges = ap edges_said e in

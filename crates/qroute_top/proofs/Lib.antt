@@ -2,5 +2,6 @@ pub mod StatusLaws
 pub mod SourceLaws
 pub mod DeviceLaws
 pub mod TargetLaws
+pub mod CostLaws
 pub mod PlanLaws
 pub mod RunLaws

@@ -3,8 +3,7 @@
 --   reads_wider          reads of fewer wires are reads of more
 --   NamesAreAscii, name_is_utf8, ok_of   a register's name is UTF-8
 --   few_cx_counts, few_t_counts   the counts of few operations fit
---   Makes-planned        a target that stands for the source is made as it should be
---   Rewrites-in_place, Rewrites-routed     on its own wires, and on a device
+--   Rewrites-planned     what is planned for a target that stands for the source
 --   HasPlanned-written   what came of a program came of its target
 use Rattle.std.proofs.Common.{◌≡◌, ℕ, suc, ◌+◌, ◌*◌, ◌%◌, ◌<◌, ◌≤◌, Bool, true, false, List, [], ◌∷◌, Option, Some, None, Result, Ok, Err, All, refl, sym, ap, subst, ◌∙◌, arith, inl, inr, length, map, get_or}
 use Rattle.std.proofs.lemmas.List.Elements.{recursion_from_All, All-from_recursion}
@@ -17,21 +16,17 @@ use Rattle.qasm_lexer.specs.Names.{IsName}
 use Rattle.unitary_model.specs.declared.Op.{Op}
 use Rattle.unitary_model.specs.declared.Op.TheVariants.{U, Cx as OpCx}
 use Rattle.unitary_model.specs.Operations.{IsPlain, cx_count, t_count}
-use Rattle.unitary_model.specs.Placement.{identity}
 use Rattle.circuit_list.specs.declared.Gate.{Gate}
 use Rattle.circuit_list.specs.declared.Gate.TheVariants.{H, X, P, Cx}
 use Rattle.circuit_list.specs.Gates.{IsFine, ops}
-use Rattle.coupling_map.specs.Coupling.{Coupling}
 use Rattle.gate_inline.specs.Registers.{IsFree, IsRead}
-use Rattle.gate_inline.specs.Programs.{IsWritten}
+use Rattle.gate_inline.specs.Programs.{IsWritten, Program}
 use Rattle.program_reader.specs.Refusals.{program_of}
 use Rattle.program_reader.specs.declared.source.Source.{Source}
-use Rattle.coupling_map.specs.Edges.{FollowsEdges}
-use Rattle.qroute_top.specs.Delivered.{IsInPlace, IsOnQubits, Makes, Rewrites, placed_read}
+use Rattle.route_report.specs.declared.lines.Report.{Report}
+use Rattle.qroute_top.specs.Delivered.{Rewrites, StandsFor, placed_read}
 use Rattle.qroute_top.specs.Plans.{HasPlanned, IsPlanned, TellsReport, target_program}
-use Rattle.qroute_top.specs.Runs.{HasFewSwaps, IsMachineRun}
-use Rattle.qroute_top.specs.Settled.{IsSettled}
-use Rattle.qroute_top.specs.Targets.{Stands}
+use Rattle.qroute_top.specs.Targets.{IsTold}
 use Rattle.qroute_top.specs.declared.target.Target.{Target}
 
 -- ---- the operations of a circuit
@@ -58,61 +53,16 @@ reads_wider n m rs fits h = All-from_recursion (IsRead m) rs (by_list rs (recurs
     by_list (r ∷ xs) h = (wider r h.0, by_list xs h.1)
 
 -- ---- a target that stands for the source
-pub Makes-planned : (s : Source) (t : Target) (text line : List ℕ) → Stands s.ops.wires s.ops.list t → All (IsFine t.body.wires) t.body.gates
-    → (plan : IsPlanned s t text line) → Makes (program_of s) (target_program s t) plan.told text line
-Makes-planned s t text line stands fine plan =
-    let r = plan.numbers in
-    record {
-      written = plan.written;
-      registers = refl;
-      plain = plain_of t.body.wires t.body.gates fine;
-      report = plan.report;
-      numbers = record {
-        barriers = r.barriers;
-        cx_after = r.cx_after;
-        cx_before = r.cx_before;
-        device = r.device;
-        qubits = r.qubits;
-        t_after = r.t_after;
-        t_before = r.t_before;
-      };
-      unitary = rw (r.initial, r.last, r.phase) stands.realises;
-      reads = ap (λ (p : List ℕ). map (placed_read p) s.ops.reads) (sym r.last);
-      t_gates = stands.t_gates;
-      cx_gates = rw r.swaps stands.cx_gates;
-    }
-
-pub Rewrites-in_place : (s : Source) (t : Target) (text line : List ℕ) → Stands s.ops.wires s.ops.list t → All (IsFine t.body.wires) t.body.gates
-    → t.body.wires ≡ s.ops.wires → IsSettled s.ops.wires (ops t.body.gates) → t.swaps ≡ 0 → t.initial ≡ identity s.ops.wires → t.last ≡ identity s.ops.wires
-    → IsPlanned s t text line → Rewrites (program_of s) (IsInPlace (program_of s)) text line
-Rewrites-in_place s t text line stands fine wires settled swaps initial last plan =
-    let r = plan.numbers in
+pub Rewrites-planned : (s : Source) (t : Target) (IsPlaced : Program → Report → Type 0) (text line : List ℕ)
+    → ((told : Report) → IsTold t told → StandsFor (program_of s) (target_program s t) told)
+    → ((told : Report) → IsTold t told → IsPlaced (target_program s t) told) → IsPlanned s t text line → Rewrites (program_of s) IsPlaced text line
+Rewrites-planned s t IsPlaced text line stands placed plan =
+    let told = plan.numbers.told in
     record {
       target = target_program s t;
       told = plan.told;
-      made = Makes-planned s t text line stands fine plan;
-      placed = record { wires = wires; swaps = r.swaps ∙ swaps; initial = r.initial ∙ initial; last = r.last ∙ last; settled = settled };
-    }
-
-pub Rewrites-routed : (s : Source) (t : Target) (d : Coupling) (trivial : Bool) (text line : List ℕ) → Stands s.ops.wires s.ops.list t
-    → All (IsFine t.body.wires) t.body.gates → t.body.wires ≡ d.size → FollowsEdges d.edges (ops t.body.gates)
-    → (trivial ≡ true → t.initial ≡ identity d.size)
-    → IsMachineRun d trivial s.ops.wires s.ops.list (ops t.body.gates) t.initial t.last t.swaps t.turn
-    → HasFewSwaps d s.ops.list (ops t.body.gates) t.swaps
-    → IsPlanned s t text line → Rewrites (program_of s) (IsOnQubits d trivial (program_of s)) text line
-Rewrites-routed s t d trivial text line stands fine wires edges initial run few plan =
-    let r = plan.numbers in
-    record {
-      target = target_program s t;
-      told = plan.told;
-      made = Makes-planned s t text line stands fine plan;
-      placed = record {
-        qubits = wires;
-        edges = edges;
-        placed = λ e. r.initial ∙ initial e ∙ sym (ap identity wires);
-        run = rw (r.initial, r.last, r.swaps, r.phase) run;
-        swaps = rw r.swaps few;
-      };
+      made = record { written = plan.written; report = plan.report; numbers = plan.numbers.numbers; stands = stands plan.told told };
+      placed = placed plan.told told;
     }
 
 -- what came of a program came of its target
@@ -125,7 +75,7 @@ HasPlanned-written s t text line Done bits reads registers same (told, report, n
     (text, line, record { written = here; told = told; report = report; numbers = numbers }, came)
 
 -- ---- counts
-few_cx : (us : List Op) → cx_count us ≤ length us
+pub few_cx : (us : List Op) → cx_count us ≤ length us
 few_cx [] = omega arith
 few_cx (OpCx c t ∷ us) = let more = few_cx us in omega (arith, more)
 few_cx (U a b c q ∷ us) = let more = few_cx us in omega (arith, more)
@@ -146,7 +96,7 @@ few_cx_counts us few = let more = few_cx us in omega (arith, few, more)
 pub few_t_counts : (us : List Op) → length us ≤ 65536 → t_count us < 18446744073709551616
 few_t_counts us few = let more = few_t us in omega (arith, few, more)
 
-pub ruleset plans = (Rewrites-in_place, Rewrites-routed, reads_wider)
+pub ruleset plans = (Rewrites-planned, reads_wider)
 
 pub ruleset counts = (few_cx_counts, few_t_counts)
 

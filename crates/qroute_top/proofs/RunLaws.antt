@@ -2,9 +2,10 @@
 --   NoRefusal, MeansOnce     laws of the reader, as they are handed in
 --   handed                   what the program is handed, part by part
 --   same_command, reads_same   the words mean one command, and so do what asks of it
---   IsCause-source, IsCause-device, IsCause-words   from the parts of `decide` to the cause of a stop
+--   IsCause-source, IsCause-device, IsCause-words, IsCause-question   from the parts of `decide` to the cause of a stop
 --   Reaches-read, Reaches-drawn   a device is reached with a program that was read, or for one that is drawn
---   Delivers-opt, Delivers-check, Delivers-stages, Delivers-routed, Delivers-drawn   from the parts of `decide` to what is delivered
+--   Answered, AnsweredInput   no refusal of a question applies
+--   Delivers-opt, Delivers-check, Delivers-stages, Delivers-entry, Delivers-routed, Delivers-drawn   from the parts of `decide` to what is delivered
 --   stopped-..               what follows of a status after a stop
 --   planned-..               what follows where a work was decided on
 use Rattle.std.proofs.Common.{◌≡◌, ◌⊎◌, inl, inr, ℕ, ◌≤◌, Bool, true, false, List, [], Option, Some, None, Result, Err, refl, sym, ap, ◌∙◌, arith, subst, is_some}
@@ -16,19 +17,23 @@ use Rattle.gate_inline.specs.Programs.{IsAccepted, IsWritten, Program}
 use Rattle.program_reader.specs.Refusals.{IsRefusal}
 use Rattle.program_reader.specs.declared.refusal.Refusal.{Refusal}
 use Rattle.command_words.specs.Commands.{command_of}
-use Rattle.command_words.specs.Demands.{device_name, reads_input}
+use Rattle.command_words.specs.Demands.{asked_entry, device_name, reads_input}
 use Rattle.command_words.specs.declared.commands.Command.{Command}
-use Rattle.command_words.specs.declared.commands.Command.TheVariants.{Opt, Route, Check, Stages, Bench}
+use Rattle.command_words.specs.declared.commands.Command.TheVariants.{Opt, Route, Check, Stages, Bench, Amplitude}
 use Rattle.route_report.specs.Lines.{check_line}
-use Rattle.qroute_top.specs.Causes.{Handed, IsCause, IsDeviceCause, IsRefusedDevice, IsRefusedSource, IsSourceCause, Reaches, Reads}
+use Rattle.qroute_top.specs.Causes.{Handed, IsCause, IsDeviceCause, IsRefusedDevice, IsRefusedQuestion, IsRefusedSource, IsSourceCause, Reaches, Reads}
 use Rattle.qroute_top.specs.Delivered.{Content, Delivered, Delivers, IsAnswer, IsHad, IsInPlace, IsOnDevice, IsOnQubits, IsStages, Rewrites, counts_of, drawn_program}
 use Rattle.qroute_top.specs.Devices.{HasDevice, IsDevice, IsDeviceRefusal, HasSource}
 use Rattle.qroute_top.specs.Plans.{HasWork, IsWork}
-use Rattle.qroute_top.specs.Stops.{IsUnasked, device_stopped, source_stopped}
+use Rattle.qroute_top.specs.Questions.{IsEntryText, IsQuestionRefusal}
+use Rattle.qroute_top.specs.Stops.{IsUnanswered, IsUnasked, device_stopped, question_stopped, source_stopped}
 use Rattle.qroute_top.specs.declared.plan.Work.{Work}
 use Rattle.qroute_top.specs.declared.stops.DeviceRefusal.{DeviceRefusal}
 use Rattle.qroute_top.specs.declared.stops.DeviceStop.{DeviceStop}
 use Rattle.qroute_top.specs.declared.stops.DeviceStop.TheVariants as device_stop
+use Rattle.qroute_top.specs.declared.stops.QuestionRefusal.{QuestionRefusal}
+use Rattle.qroute_top.specs.declared.stops.QuestionStop.{QuestionStop}
+use Rattle.qroute_top.specs.declared.stops.QuestionStop.TheVariants as question_stop
 use Rattle.qroute_top.specs.declared.stops.SourceStop.{SourceStop}
 use Rattle.qroute_top.specs.declared.stops.SourceStop.TheVariants as source_stop
 use Rattle.qroute_top.specs.declared.stops.Stop.{Stop}
@@ -69,6 +74,7 @@ IsCause-words h (stop.Program r) u = absurd u
 IsCause-words h stop.Shelf u = absurd u
 IsCause-words h stop.Absent u = absurd u
 IsCause-words h (stop.Device r) u = absurd u
+IsCause-words h (stop.Question r) u = absurd u
 
 reads_of : (h : Handed) (c : Command) → command_of h.words ≡ Some c → reads_input c ≡ true → Reads h
 reads_of h c asked reads = record { command = c; asked = asked; reads = reads }
@@ -122,30 +128,50 @@ IsCause-device h name n device_stop.Absent route r calm = (name, route.0, r, cal
 IsCause-device h name n (device_stop.Refused x) route r calm =
     (name, route.0, subst (λ (m : ℕ). IsRefusedDevice (h.content name) m x) route.1 r, calm (λ f. cc))
 
+-- a question is reached with a program that was read
+pub IsCause-question : (h : Handed) (c : Command) (from to : List Bool) (new : Option (List ℕ)) (p : Program) (e : QuestionStop) → command_of h.words ≡ Some c
+    → c ≡ Amplitude from to → HasRead h.input new p → IsUnanswered (from, to) p e → IsCause h (question_stopped e)
+IsCause-question h c from to new p question_stop.NoMemory asked is read u = tt
+IsCause-question h c from to new p (question_stop.Refused r) asked is read u = (
+  record { command = Amplitude from to; asked = asked ∙ ap (λ x. Some x) is; reads = refl },
+  (read.0, p, Tells-taken h.input new read.0 read.1, read.2, u),
+)
+
+-- no refusal of a question on the program applies
+abbrev pub Answered : Command → Program → Type 0
+Answered c p = (r : QuestionRefusal) → IsQuestionRefusal (asked_entry c) p r → ⊥
+
 delivers : (words : List (List ℕ)) (content : Content) (c : Command) (old new : Option (List ℕ)) (p : Program) (text line : List ℕ)
-    → command_of words ≡ Some c → IsHad (reads_input c) old new p → IsAnswer content c p text line → Delivers words content old new text line
-delivers words content c old new p text line asked had answer = record {
+    → command_of words ≡ Some c → IsHad (reads_input c) old new p → Answered c p → IsAnswer content c p text line → Delivers words content old new text line
+delivers words content c old new p text line asked had answered answer = record {
   command = c;
   asked = asked;
   source = p;
   had = had;
+  answered = answered;
   answer = answer;
 }
 
 pub Delivers-opt : (words : List (List ℕ)) (content : Content) (c : Command) (old new : Option (List ℕ)) (p : Program) (text line : List ℕ)
     → command_of words ≡ Some c → c ≡ Opt → HasRead old new p → Rewrites p (IsInPlace p) text line → Delivers words content old new text line
 Delivers-opt words content c old new p text line asked is read made =
-    delivers words content Opt old new p text line (asked ∙ ap (λ x. Some x) is) read made
+    delivers words content Opt old new p text line (asked ∙ ap (λ x. Some x) is) read (λ r u. u) made
 
 pub Delivers-check : (words : List (List ℕ)) (content : Content) (c : Command) (old new : Option (List ℕ)) (p : Program) (text line : List ℕ)
     → command_of words ≡ Some c → c ≡ Check → HasRead old new p → text ≡ [] → line ≡ check_line (counts_of p) → Delivers words content old new text line
 Delivers-check words content c old new p text line asked is read none told =
-    delivers words content Check old new p text line (asked ∙ ap (λ x. Some x) is) read (none, told)
+    delivers words content Check old new p text line (asked ∙ ap (λ x. Some x) is) read (λ r u. u) (none, told)
 
 pub Delivers-stages : (words : List (List ℕ)) (content : Content) (c : Command) (old new : Option (List ℕ)) (p : Program) (text line : List ℕ)
     → command_of words ≡ Some c → c ≡ Stages → HasRead old new p → IsStages p text → line ≡ [] → Delivers words content old new text line
 Delivers-stages words content c old new p text line asked is read told none =
-    delivers words content Stages old new p text line (asked ∙ ap (λ x. Some x) is) read (told, none)
+    delivers words content Stages old new p text line (asked ∙ ap (λ x. Some x) is) read (λ r u. u) (told, none)
+
+pub Delivers-entry : (words : List (List ℕ)) (content : Content) (c : Command) (from to : List Bool) (old new : Option (List ℕ)) (p : Program) (text line : List ℕ)
+    → command_of words ≡ Some c → c ≡ Amplitude from to → HasRead old new p → ((r : QuestionRefusal) → IsQuestionRefusal (Some (from, to)) p r → ⊥)
+    → IsEntryText p.ops from to text × (line ≡ []) → Delivers words content old new text line
+Delivers-entry words content c from to old new p text line asked is read answered told =
+    delivers words content (Amplitude from to) old new p text line (asked ∙ ap (λ x. Some x) is) read answered told
 
 pub Delivers-routed : (words : List (List ℕ)) (content : Content) (c : Command) (name : List ℕ) (trivial : Bool) (old new : Option (List ℕ)) (p : Program)
     (d : Coupling) (n : ℕ) (text line : List ℕ)
@@ -153,7 +179,7 @@ pub Delivers-routed : (words : List (List ℕ)) (content : Content) (c : Command
     → (t : List ℕ) × TellsText (content name) t × IsDevice t d × (n ≤ d.size)
     → Rewrites p (IsOnQubits d trivial p) text line → Delivers words content old new text line
 Delivers-routed words content c name trivial old new p d n text line asked is read loaded made =
-    delivers words content (Route name trivial) old new p text line (asked ∙ ap (λ x. Some x) is) read (record {
+    delivers words content (Route name trivial) old new p text line (asked ∙ ap (λ x. Some x) is) read (λ r u. u) (record {
       target = made.target;
       told = made.told;
       made = made.made;
@@ -172,7 +198,7 @@ pub Delivers-drawn : (words : List (List ℕ)) (content : Content) (c : Command)
     → (t : List ℕ) × TellsText (content name) t × IsDevice t d × (n ≤ d.size)
     → p ≡ drawn_program start gates d.size → Rewrites p (IsOnQubits d false p) text line → Delivers words content old new text line
 Delivers-drawn words content c start gates name old new p d n text line asked is loaded drawn made =
-    delivers words content (Bench start gates name) old new p text line (asked ∙ ap (λ x. Some x) is) tt (record {
+    delivers words content (Bench start gates name) old new p text line (asked ∙ ap (λ x. Some x) is) tt (λ r u. u) (record {
       target = made.target;
       told = made.told;
       made = made.made;
@@ -197,6 +223,7 @@ stopped-no_command h (stop.Program r) n c e two = absurd (grind arith)
 stopped-no_command h stop.Shelf n c e two = absurd (grind arith)
 stopped-no_command h stop.Absent n c e two = absurd (grind arith)
 stopped-no_command h (stop.Device r) n c e two = absurd (grind arith)
+stopped-no_command h (stop.Question r) n c e two = absurd (grind arith)
 
 pub stopped-words : (h : Handed) (s : Stop) (n : ℕ) → IsCause h s → Ends s n → command_of h.words ≡ None → (n ≡ 2) ⊎ (n ≡ 7)
 stopped-words h stop.NoMemory n c e none = inr (grind arith)
@@ -206,6 +233,7 @@ stopped-words h (stop.Program r) n c e none = let asked = c.0.asked in cc
 stopped-words h stop.Shelf n c e none = let asked = c.1.asked in cc
 stopped-words h stop.Absent n c e none = let asked = c.1.asked in cc
 stopped-words h (stop.Device r) n c e none = let asked = c.1.asked in cc
+stopped-words h (stop.Question r) n c e none = let asked = c.0.asked in cc
 
 pub stopped-input : (h : Handed) (s : Stop) (n : ℕ) → IsCause h s → Ends s n → n ≡ 5 → Rose h.faults_before h.faults_after
 stopped-input h stop.NoMemory n c e five = absurd (grind arith)
@@ -215,6 +243,7 @@ stopped-input h (stop.Program r) n c e five = absurd (grind arith)
 stopped-input h stop.Shelf n c e five = absurd (grind arith)
 stopped-input h stop.Absent n c e five = absurd (grind arith)
 stopped-input h (stop.Device r) n c e five = absurd (grind arith)
+stopped-input h (stop.Question r) n c e five = absurd (grind arith)
 
 -- ---- texts that are told
 told_text : (input : Option (List ℕ)) (t text : List ℕ) → input ≡ Some t → Tells input text → text ≡ t
@@ -245,6 +274,14 @@ reached_or_refused law h a name t r route asked reads told refusal =
     let read : reads_input route.command ≡ true = subst (λ x. reads_input x ≡ true) same reads in
     needed_or_refused law h.input (reads_input route.command) route.wires t r read route.source told refusal
 
+-- nor is one on which a question is asked
+questioned_or_refused : NoRefusal → (input : Option (List ℕ)) (bits : Option (List Bool × List Bool)) (x : QuestionRefusal) (t : List ℕ) (r : Refusal)
+    → IsRefusedQuestion input bits x → input ≡ Some t → IsRefusal t r → ⊥
+questioned_or_refused law input bits x t r (text, p, tells, ok, refused) told refusal =
+    let same = told_text input t text told tells in
+    let here : IsAccepted t p = rw same at ok in
+    law t p r here refusal
+
 pub stopped-refuses : NoRefusal → (h : Handed) (s : Stop) (n : ℕ) (a : Command) (t : List ℕ) (r : Refusal) → IsCause h s → Ends s n → command_of h.words ≡ Some a
     → reads_input a ≡ true → h.input ≡ Some t → IsRefusal t r → (Rose h.faults_before h.faults_after → ⊥) → (n ≡ 3) ⊎ (n ≡ 7)
 stopped-refuses law h stop.NoMemory n a t r c e asked reads told is calm = inr (grind arith)
@@ -254,6 +291,8 @@ stopped-refuses law h (stop.Program x) n a t r c e asked reads told is calm = gr
 stopped-refuses law h stop.Shelf n a t r c e asked reads told is calm = absurd (reached_or_refused law h a c.0 t r c.1 asked reads told is)
 stopped-refuses law h stop.Absent n a t r c e asked reads told is calm = absurd (reached_or_refused law h a c.0 t r c.1 asked reads told is)
 stopped-refuses law h (stop.Device x) n a t r c e asked reads told is calm = absurd (reached_or_refused law h a c.0 t r c.1 asked reads told is)
+stopped-refuses law h (stop.Question x) n a t r c e asked reads told is calm =
+    absurd (questioned_or_refused law h.input (asked_entry c.0.command) x t r c.1 told is)
 
 -- ---- the device that is asked for
 written_of : (text : List ℕ) (p : Program) → IsAccepted text p → IsWritten text p
@@ -304,16 +343,51 @@ absent_text (Some x) u e h = cc
 same_device : (name other : List ℕ) (o : Option (List ℕ)) → o ≡ Some name → o ≡ Some other → name ≡ other
 same_device name other o e f = cc
 
--- what is asked of a command: its words, its input, and counts that didn't rise
+-- a command that loads a device asks no question
+unasked : (c : Command) (name : List ℕ) (p : Program) (r : QuestionRefusal) → device_name c ≡ Some name → IsQuestionRefusal (asked_entry c) p r → ⊥
+unasked Opt name p r wants u = u
+unasked (Route other trivial) name p r wants u = u
+unasked Check name p r wants u = u
+unasked Stages name p r wants u = u
+unasked (Bench start gates other) name p r wants u = u
+unasked (Amplitude from to) name p r wants u = cc
+
+-- a command that asks a question reads a program
+asking_reads : (c : Command) (p : Program) (r : QuestionRefusal) → IsQuestionRefusal (asked_entry c) p r → reads_input c ≡ true
+asking_reads Opt p r u = absurd u
+asking_reads (Route other trivial) p r u = absurd u
+asking_reads Check p r u = absurd u
+asking_reads Stages p r u = absurd u
+asking_reads (Bench start gates other) p r u = absurd u
+asking_reads (Amplitude from to) p r u = cc
+
+-- no refusal of a question applies to the program of the input
+abbrev pub AnsweredInput : Option (List ℕ) → Command → Type 0
+AnsweredInput input c = (t : List ℕ) (p : Program) (r : QuestionRefusal) → input ≡ Some t → IsAccepted t p → IsQuestionRefusal (asked_entry c) p r → ⊥
+
+pub answered_on : (input : Option (List ℕ)) (c : Command) (name : List ℕ) → device_name c ≡ Some name → AnsweredInput input c
+answered_on input c name wants = λ t p r told ok u. unasked c name p r wants u
+
+questioned_or_answered : (input : Option (List ℕ)) (b : Bool) (q : ℕ) (bits : Option (List Bool × List Bool)) (r : QuestionRefusal) → b ≡ true
+    → HasSource b (λ t. input ≡ Some t) q → IsRefusedQuestion input bits r
+    → ((t : List ℕ) (p : Program) (x : QuestionRefusal) → input ≡ Some t → IsAccepted t p → IsQuestionRefusal bits p x → ⊥) → ⊥
+questioned_or_answered input true q bits r reads (t, u, told, good, wires) (text, p, tells, ok, refused) none =
+    let same = told_text input t text told tells in
+    let here : IsAccepted t p = rw same at ok in
+    none t p r told here refused
+questioned_or_answered input false q bits r reads needs refused none = cc
+
+-- what is asked of a command: its words, its input, its question, and counts that didn't rise
 pub record IsAsked (h : Handed) (c : Command) (q : ℕ) : Type 0 where
   pub asked : command_of h.words ≡ Some c
   pub needs : HasSource (reads_input c) (λ t. h.input ≡ Some t) q
+  pub answered : AnsweredInput h.input c
   pub calm : reads_input c ≡ true → Rose h.faults_before h.faults_after → ⊥
   pub shelf_calm : is_some (device_name c) ≡ true → Rose h.shelf_before h.shelf_after → ⊥
 
 pub asked_of : (h : Handed) (c : Command) (q : ℕ) → command_of h.words ≡ Some c → HasSource (reads_input c) (λ t. h.input ≡ Some t) q
-    → (reads_input c ≡ true → Rose h.faults_before h.faults_after → ⊥) → (is_some (device_name c) ≡ true → Rose h.shelf_before h.shelf_after → ⊥) → IsAsked h c q
-asked_of h c q asked needs calm shelf_calm = record { asked = asked; needs = needs; calm = calm; shelf_calm = shelf_calm }
+    → AnsweredInput h.input c → (reads_input c ≡ true → Rose h.faults_before h.faults_after → ⊥) → (is_some (device_name c) ≡ true → Rose h.shelf_before h.shelf_after → ⊥) → IsAsked h c q
+asked_of h c q asked needs answered calm shelf_calm = record { asked = asked; needs = needs; answered = answered; calm = calm; shelf_calm = shelf_calm }
 
 wanted : (o : Option (List ℕ)) (name : List ℕ) → o ≡ Some name → is_some o ≡ true
 wanted None name e = cc
@@ -331,6 +405,23 @@ stopped_early law h stop.Shelf n c q w e a absent refused =
     absurd (a.shelf_calm (wanted (device_name c) w.0 (same_name h w.0 c w.1 a.asked)) w.2)
 stopped_early law h stop.Absent n c q w e a absent refused = absurd (absent refl)
 stopped_early law h (stop.Device r) n c q w e a absent refused = absurd (refused r refl)
+stopped_early law h (stop.Question r) n c q w e a absent refused =
+    let same = same_command h.words w.0.command c w.0.asked a.asked in
+    let here : IsRefusedQuestion h.input (asked_entry c) r = subst (λ x. IsRefusedQuestion h.input (asked_entry x) r) same w.1 in
+    absurd (questioned_or_answered h.input (reads_input c) q (asked_entry c) r (reads_same h c w.0 a.asked) a.needs here a.answered)
+
+-- a command whose question is refused
+pub stopped-refuses_question : (h : Handed) (s : Stop) (n : ℕ) (a : Command) (t : List ℕ) (p : Program) (r : QuestionRefusal) → IsCause h s → Ends s n
+    → command_of h.words ≡ Some a → h.input ≡ Some t → IsAccepted t p → IsQuestionRefusal (asked_entry a) p r
+    → (Rose h.faults_before h.faults_after → ⊥) → (n ≡ 3) ⊎ (n ≡ 7)
+stopped-refuses_question h stop.NoMemory n a t p r c e asked told ok is calm = inr (grind arith)
+stopped-refuses_question h stop.Words n a t p r c e asked told ok is calm = cc
+stopped-refuses_question h stop.Input n a t p r c e asked told ok is calm = absurd (calm c.1)
+stopped-refuses_question h (stop.Program x) n a t p r c e asked told ok is calm = grind arith
+stopped-refuses_question h stop.Shelf n a t p r c e asked told ok is calm = absurd (unasked a c.0 p r (same_name h c.0 a c.1 asked) is)
+stopped-refuses_question h stop.Absent n a t p r c e asked told ok is calm = absurd (unasked a c.0 p r (same_name h c.0 a c.1 asked) is)
+stopped-refuses_question h (stop.Device x) n a t p r c e asked told ok is calm = absurd (unasked a c.0 p r (same_name h c.0 a c.1 asked) is)
+stopped-refuses_question h (stop.Question x) n a t p r c e asked told ok is calm = grind arith
 
 -- the text of the device that is asked for
 told_device : MeansOnce → (h : Handed) (c : Command) (name t : List ℕ) (q : ℕ) (r : DeviceRefusal) → IsCause h (stop.Device r) → IsAsked h c q
@@ -356,6 +447,7 @@ by_stop stop.Words = inr (inr ((λ e. cc), (λ r e. cc)))
 by_stop stop.Input = inr (inr ((λ e. cc), (λ r e. cc)))
 by_stop stop.Shelf = inr (inr ((λ e. cc), (λ r e. cc)))
 by_stop (stop.Program x) = inr (inr ((λ e. cc), (λ r e. cc)))
+by_stop (stop.Question x) = inr (inr ((λ e. cc), (λ r e. cc)))
 
 -- the name of a device that a stop speaks of is one that the command wants
 absent_wants : (h : Handed) (c : Command) (q : ℕ) → IsCause h stop.Absent → IsAsked h c q → (name : List ℕ) × (device_name c ≡ Some name)
@@ -466,6 +558,27 @@ planned-refuses law words content old new w n text r c delivers (inl seven) aske
 planned-refuses law words content old new w n text r c delivers (inr (x, l, is)) asked reads told refusal =
     absurd (refused_or_delivered law words content old new x l text r c (delivers x l is) asked reads told refusal)
 
+-- what is delivered isn't for a question that is refused
+answered_had : MeansOnce → (old new : Option (List ℕ)) (b : Bool) (p q : Program) (text : List ℕ) → b ≡ true → IsHad b old new q → old ≡ Some text
+    → IsAccepted text p → q ≡ p
+answered_had once old new true p q text reads (t, taken, ok) told good =
+    let same = told_text old text t told (Tells-taken old new t taken) in
+    let here : IsAccepted text q = rw same at ok in
+    once text q p (written_of text q here) (written_of text p good)
+answered_had once old new false p q text reads had told good = cc
+
+pub planned-refuses_question : MeansOnce → (words : List (List ℕ)) (content : Content) (old new : Option (List ℕ)) (w : Work) (n : ℕ) (text : List ℕ) (p : Program)
+    (r : QuestionRefusal) (c : Command) → DeliversWork words content old new w → Came w n → command_of words ≡ Some c
+    → old ≡ Some text → IsAccepted text p → IsQuestionRefusal (asked_entry c) p r → (n ≡ 3) ⊎ (n ≡ 7)
+planned-refuses_question once words content old new w n text p r c delivers (inl seven) asked told ok refused = inr seven
+planned-refuses_question once words content old new w n text p r c delivers (inr (x, l, is)) asked told ok refused =
+    let d = delivers x l is in
+    let same = same_command words c d.command asked d.asked in
+    let read : reads_input d.command ≡ true = subst (λ y. reads_input y ≡ true) same (asking_reads c p r refused) in
+    let one : d.source ≡ p = answered_had once old new (reads_input d.command) p d.source text read d.had told ok in
+    let there : IsQuestionRefusal (asked_entry d.command) p r = subst (λ y. IsQuestionRefusal (asked_entry y) p r) same refused in
+    absurd (d.answered r (subst (λ (y : Program). IsQuestionRefusal (asked_entry d.command) y r) (sym one) there))
+
 -- what is delivered for a command that loads a device comes of the text of its device
 answer_on : (content : Content) (name : List ℕ) (c : Command) (source : Program) (x l : List ℕ) → device_name c ≡ Some name → IsAnswer content c source x l
     → (trivial : Bool) × Rewrites source (IsOnDevice content name trivial source) x l
@@ -474,6 +587,7 @@ answer_on content name (Route other trivial) source x l wants answer =
     let same : other ≡ name = cc in (trivial, subst (λ y. Rewrites source (IsOnDevice content y trivial source) x l) same answer)
 answer_on content name Check source x l wants answer = cc
 answer_on content name Stages source x l wants answer = cc
+answer_on content name (Amplitude from to) source x l wants answer = cc
 answer_on content name (Bench start gates other) source x l wants answer =
     let same : other ≡ name = cc in (
       false,
@@ -509,7 +623,7 @@ refused_or_routed once words content old new x l name c t q r d asked wants need
     let described : IsDevice t placed.device = rw same at placed.described in
     let there = subst (λ y. HasSource (reads_input y) (λ u. old ≡ Some u) q) (same_command words c d.command asked d.asked) needs in
     let wires = had_needs once old new (reads_input d.command) q d.source there d.had in
-    let fits : d.source.wires ≤ placed.device.size = rw (← placed.routed.qubits) on.1.made.unitary.fits in
+    let fits : d.source.wires ≤ placed.device.size = rw (← placed.routed.qubits) on.1.made.stands.unitary.fits in
     IsDevice-refused t placed.device q r described (omega (arith, wires, fits)) refusal
 
 pub planned-refuses_device : MeansOnce → (words : List (List ℕ)) (content : Content) (old new : Option (List ℕ)) (w : Work) (n : ℕ) (name : List ℕ) (c : Command)
@@ -532,6 +646,7 @@ stopped-read (stop.Program r) n e three is = cc
 stopped-read stop.Shelf n e three is = cc
 stopped-read stop.Absent n e three is = cc
 stopped-read (stop.Device r) n e three is = cc
+stopped-read (stop.Question r) n e three is = cc
 
 pub stopped-two : (s : Stop) (n : ℕ) → Ends s n → n ≡ 2 → s ≡ stop.Words
 stopped-two stop.NoMemory n e two = absurd (grind arith)
@@ -541,6 +656,7 @@ stopped-two (stop.Program r) n e two = absurd (grind arith)
 stopped-two stop.Shelf n e two = absurd (grind arith)
 stopped-two stop.Absent n e two = absurd (grind arith)
 stopped-two (stop.Device r) n e two = absurd (grind arith)
+stopped-two (stop.Question r) n e two = absurd (grind arith)
 
 pub ruleset decided = (IsCause-words, IsCause-source)
 

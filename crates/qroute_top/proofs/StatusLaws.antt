@@ -2,13 +2,16 @@
 --   status-stop           the status of the fault that a stop is told as
 --   Ends s n              a stop ends with want of memory or with its status
 --   not_late              it is none of those that a plan ends with
+--   not_memory            a fault that is told isn't want of memory
 --   Gains-nothing         what is untouched gained no bytes
 --   HasWork-line, HasWork-told, no_text_of   what came of a work that has a line alone
 --   on_ok, on_err         what holds anyway holds of an answer
+--   on_calm               what holds of an answer that is Ok, where the count of faults did not rise
 --   HasText-stays, HasText-prefix   a program that came, and a sink that then keeps what it holds
-use Rattle.std.proofs.Common.{◌≡◌, ◌⊎◌, ℕ, List, [], Option, Some, None, Result, Ok, Err, true, false, refl, sym, ap, subst, arith, append-nil}
+use Rattle.std.proofs.Common.{◌≡◌, ◌⊎◌, inl, inr, ℕ, List, [], Option, Some, None, Result, Ok, Err, true, false, refl, sym, ap, subst, arith, append-nil}
 use Rattle.std.specs.Prelude.{OnErr, OnOk, Vec}
 use Rattle.std.specs.declared.alloc.Global.{Global}
+use Rattle.outside_io.specs.Causes.{HasCause, Rose}
 use Rattle.outside_io.specs.Bytes.{Gains, GainsPrefix, Stays}
 use Rattle.outside_io.proofs.Known.{Gains-stays, GainsPrefix-stays}
 use Rattle.coupling_map.specs.declared.faults.DeviceFault.TheVariants as device_fault_is
@@ -26,12 +29,14 @@ use Rattle.route_report.specs.declared.faults.Fault.{Fault}
 use Rattle.route_report.specs.declared.faults.Fault.TheVariants as fault
 use Rattle.qasm_writer.specs.Outputs.{HasText}
 use Rattle.qasm_writer.specs.declared.output.Output.{Output}
-use Rattle.qroute_top.specs.Causes.{device_fault, fault_of, refusal_fault, stop_status}
+use Rattle.qroute_top.specs.Causes.{device_fault, fault_of, is_early_fault, question_fault, refusal_fault, stop_status}
 use Rattle.qroute_top.specs.Plans.{HasWork, has_text}
 use Rattle.qroute_top.specs.declared.plan.Work.{Work}
 use Rattle.qroute_top.specs.declared.plan.Work.TheVariants as work
 use Rattle.qroute_top.specs.declared.stops.DeviceRefusal.{DeviceRefusal}
 use Rattle.qroute_top.specs.declared.stops.DeviceRefusal.TheVariants as device
+use Rattle.qroute_top.specs.declared.stops.QuestionRefusal.{QuestionRefusal}
+use Rattle.qroute_top.specs.declared.stops.QuestionRefusal.TheVariants as question
 use Rattle.qroute_top.specs.declared.stops.Stop.{Stop}
 use Rattle.qroute_top.specs.declared.stops.Stop.TheVariants as stop
 
@@ -82,8 +87,14 @@ device_status (device.Fault device_fault_is.Text) = refl
 device_status (device.Fault device_fault_is.Shape) = refl
 device_status (device.Fault device_fault_is.Range) = refl
 device_status (device.Fault (device_fault_is.SelfEdge qubit)) = refl
+device_status (device.Fault (device_fault_is.EdgeCost from to)) = refl
 device_status (device.Fault (device_fault_is.NotConnected from to)) = refl
 device_status (device.TooFewQubits size qubits) = refl
+
+question_status : (r : QuestionRefusal) → status_of (question_fault r) ≡ 3
+question_status (question.WideProgram qubits) = refl
+question_status (question.ManyBranches branches) = refl
+question_status (question.BitsLength qubits) = refl
 
 pub status-stop : (s : Stop) (f : Fault) (n : ℕ) → fault_of s ≡ Some f → n ≡ status_of f → n ≡ stop_status s
 status-stop stop.NoMemory f n e is = cc
@@ -93,6 +104,7 @@ status-stop stop.Shelf f n e is = by_fault fault.Shelf f n 9 e is refl
 status-stop stop.Absent f n e is = by_fault fault.Absent f n 9 e is refl
 status-stop (stop.Program r) f n e is = by_fault (refusal_fault r) f n 3 e is (program_status r)
 status-stop (stop.Device r) f n e is = by_fault (device_fault r) f n 4 e is (device_status r)
+status-stop (stop.Question r) f n e is = by_fault (question_fault r) f n 3 e is (question_status r)
 
 abbrev pub Ends : Stop → ℕ → Type 0
 Ends s n = (n ≡ 7) ⊎ (n ≡ stop_status s)
@@ -106,12 +118,21 @@ not_late (stop.Program r) n e late = grind arith
 not_late stop.Shelf n e late = grind arith
 not_late stop.Absent n e late = grind arith
 not_late (stop.Device r) n e late = grind arith
+not_late (stop.Question r) n e late = grind arith
+
+pub not_memory : (n : ℕ) → (n ≡ 6) ⊎ (is_early_fault n ≡ true) → n ≡ 7 → ⊥
+not_memory n (inl six) seven = grind arith
+not_memory n (inr early) seven = let no : is_early_fault n ≡ false = ap is_early_fault seven in cc
 
 pub Gains-nothing : (held : Option (List ℕ)) → Gains held held []
 Gains-nothing None = tt
 Gains-nothing (Some bytes) = sym (append-nil bytes)
 
-pub ruleset told = (status-stop)
+pub on_calm : {T E : Type 0} (before now : ℕ) (r : Result T E) (P : Type 0) → HasCause before now r → OnOk r P → (Rose before now → ⊥) → P
+on_calm before now (Ok x) P cause h calm = h
+on_calm before now (Err e) P cause h calm = absurd (calm cause.failed)
+
+pub ruleset told = (status-stop, on_calm)
 
 -- a work that has a line alone
 pub HasWork-line : (w : Work) (v : Vec ℕ Global) (line : List ℕ) (a b c : Option (List ℕ)) → w ≡ work.Line v → line ≡ v.items → Gains b c line

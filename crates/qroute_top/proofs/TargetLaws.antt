@@ -1,8 +1,8 @@
 -- A circuit that was rewritten, and then routed, stands for the source.
 --   IsSettled-left         what the last pass leaves is settled
 --   IsOptimised-rewritten  expanded, and then rewritten to a settled circuit
---   Stands-in_place        wire for wire
---   Stands-routed          on the qubits of a device
+--   Realises-in_place      wire for wire
+--   Realises-routed        on the qubits of a device
 --   IsMachineRun-routed, HasFewSwaps-routed   what is written is the machine's run, with few swaps
 use Rattle.std.proofs.Common.{◌≡◌, ℕ, ◌+◌, ◌*◌, ◌%◌, ◌<◌, ◌≤◌, Bool, false, List, All, length, refl, ◌∙◌, ap, subst, arith}
 use Rattle.std.proofs.lemmas.Nat.{mul-le}
@@ -20,14 +20,14 @@ use Rattle.unitary_model.proofs.RealisesLaws.{Realises_chain, Realises_same}
 use Rattle.commute_rules.specs.Reducible.{NoReducible}
 use Rattle.hadamard_reduce.specs.Windows.{IsWindow}
 use Rattle.rewrite_pass.specs.Law.{IsRewriting}
-use Rattle.coupling_map.specs.Coupling.{Coupling}
+use Rattle.coupling_map.specs.Coupling.{Coupling, cost}
 use Rattle.coupling_map.specs.Walks.{IsDiameter}
+use Rattle.sabre_route.specs.Measures.{bound}
 use Rattle.sabre_route.specs.Routing.{IsLayout, IsRouted, turned}
 use Rattle.sabre_route.specs.declared.router.Routed.{Routed}
 use Rattle.qroute_top.specs.Runs.{HasFewSwaps, IsMachineRun}
 use Rattle.qroute_top.specs.Settled.{IsSettled}
-use Rattle.qroute_top.specs.Targets.{IsOptimised, Stands}
-use Rattle.qroute_top.specs.declared.target.Target.{Target}
+use Rattle.qroute_top.specs.Targets.{IsOptimised}
 
 pub IsSettled-left : (n : ℕ) (gs : List Gate) → ((i : ℕ) → i < length gs → IsWindow gs i → ⊥) × NoReducible gs × (t_count (ops gs) ≡ odd_paths n (ops gs))
     → IsSettled n (ops gs)
@@ -53,30 +53,18 @@ IsOptimised-rewritten n S e r t wires below same odd cx r_wires law left turn =
       settled = settled;
     }
 
--- the target's own wires, placements and turn are variables here, which the caller has equations for
-pub Stands-in_place : (n : ℕ) (S : List Op) (c : Passed) (t : Target) → IsOptimised n S c → t.body ≡ c.body → t.initial ≡ identity n → t.last ≡ identity n
-    → t.turn ≡ c.turn → Stands n S t
-Stands-in_place n S c t is body initial last turn =
-    let same = Realises_same S (ops c.body.gates) n c.turn is.below is.same in
-    let t_same : t_count (ops t.body.gates) ≡ t_count (ops c.body.gates) = ap (λ b. t_count (ops b.gates)) body in
-    let cx_same : cx_count (ops t.body.gates) ≡ cx_count (ops c.body.gates) = ap (λ b. cx_count (ops b.gates)) body in
-    record {
-      realises = rw (body, is.wires, initial, last, turn) same;
-      t_gates = omega (arith, is.t_gates, t_same);
-      cx_gates = omega (arith, is.cx_gates, cx_same);
-    }
+pub Realises-in_place : (n : ℕ) (S : List Op) (c : Passed) (first last : List ℕ) (turn : ℕ) → IsOptimised n S c → first ≡ identity n → last ≡ identity n
+    → turn ≡ c.turn → Realises S n (ops c.body.gates) c.body.wires first last turn
+Realises-in_place n S c first last turn is begins ends same =
+    rw (is.wires, begins, ends, same) (Realises_same S (ops c.body.gates) n c.turn is.below is.same)
 
-pub Stands-routed : (n m : ℕ) (S : List Op) (c : Passed) (t : Target) (first : List ℕ) (j : ℕ) → IsOptimised n S c
-    → t.body.wires ≡ m → Realises (ops c.body.gates) c.body.wires (ops t.body.gates) m first t.last j → t.initial ≡ first → t.turn ≡ (c.turn + j) % 8
-    → t_count (ops t.body.gates) ≡ t_count (ops c.body.gates) → cx_count (ops t.body.gates) ≡ cx_count (ops c.body.gates) + 3 * t.swaps → Stands n S t
-Stands-routed n m S c t first j is wires realises initial turn t_same cx_more =
+pub Realises-routed : (n m : ℕ) (S us : List Op) (c : Passed) (wires : ℕ) (first last begins ends : List ℕ) (j turn : ℕ) → IsOptimised n S c
+    → wires ≡ m → Realises (ops c.body.gates) c.body.wires us m first last j → begins ≡ first → ends ≡ last → turn ≡ (c.turn + j) % 8
+    → Realises S n us wires begins ends turn
+Realises-routed n m S us c wires first last begins ends j turn is size realises b e sum =
     let same = Realises_same S (ops c.body.gates) n c.turn is.below is.same in
-    let chain = Realises_chain S (ops c.body.gates) (ops t.body.gates) n m first t.last c.turn j same (rw is.wires at realises) in
-    record {
-      realises = rw (wires, initial, turn) chain;
-      t_gates = omega (arith, is.t_gates, t_same);
-      cx_gates = omega (arith, is.cx_gates, cx_more);
-    }
+    let chain = Realises_chain S (ops c.body.gates) us n m first last c.turn j same (rw is.wires at realises) in
+    rw (size, b, e, sum) chain
 
 pub IsMachineRun-routed : (d : Coupling) (trivial : Bool) (n : ℕ) (S : List Op) (c : Passed) (r : Routed) (given : List ℕ) (phase : ℕ) → IsOptimised n S c
     → All (IsFine c.body.wires) c.body.gates → IsRouted d c.body.gates given r → phase ≡ (c.turn + r.turn) % 8 → (trivial ≡ false → IsLayout d c.body.gates given)
@@ -100,16 +88,16 @@ IsMachineRun-routed d trivial n S c r given phase is fine run sum laid_out = rec
     whole : (a b j t : ℕ) → j ≡ b % 8 → t ≡ (a + j) % 8 → t ≡ (a + b) % 8
     whole a b j t e f = omega (arith, e, f)
 
-pub HasFewSwaps-routed : (d : Coupling) (S gates us : List Op) (swaps k : ℕ) → IsDiameter d.size d.edges k → cx_count gates ≤ cx_count S
-    → ((m : ℕ) → IsDiameter d.size d.edges m → swaps ≤ cx_count gates * (d.size + m)) → cx_count us ≡ cx_count gates + 3 * swaps
+pub HasFewSwaps-routed : (d : Coupling) (S gates us : List Op) (swaps k : ℕ) → IsDiameter d.size d.edges (cost d) k → cx_count gates ≤ cx_count S
+    → ((m : ℕ) → IsDiameter d.size d.edges (cost d) m → swaps ≤ cx_count gates * bound d m) → cx_count us ≡ cx_count gates + 3 * swaps
     → HasFewSwaps d S us swaps
 HasFewSwaps-routed d S gates us swaps k is fewer few more =
-    let bound : swaps ≤ cx_count S * (d.size + k) = above (cx_count S) (cx_count gates) (d.size + k) swaps fewer (few k is) in
+    let below : swaps ≤ cx_count S * bound d k = above (cx_count S) (cx_count gates) (bound d k) swaps fewer (few k is) in
     record {
       diameter = k;
       is_diameter = is;
-      few = bound;
-      cx_gates = spread (cx_count S) (cx_count gates) (cx_count us) swaps (d.size + k) fewer bound more;
+      few = below;
+      cx_gates = spread (cx_count S) (cx_count gates) (cx_count us) swaps (bound d k) fewer below more;
     }
   where
     above : (a b m s : ℕ) → b ≤ a → s ≤ b * m → s ≤ a * m
@@ -120,5 +108,3 @@ HasFewSwaps-routed d S gates us swaps k is fewer few more =
 
     spread : (a b t s m : ℕ) → b ≤ a → s ≤ a * m → t ≡ b + 3 * s → t ≤ a * (1 + 3 * m)
     spread a b t s m l g e = omega (arith, l, g, e, mul-three a m)
-
-pub ruleset targets = (Stands-in_place, Stands-routed)

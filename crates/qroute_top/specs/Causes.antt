@@ -5,9 +5,11 @@
 --                         program with so many wires
 --   IsRefusedSource input r   the input has a text, the told one where one is told, and r is its first refusal
 --   IsRefusedDevice ..    the same of the text of a device, for a program on n wires
+--   IsRefusedQuestion ..  the input has an accepted text, and r is the first refusal of the question for this entry by its program
 --   IsCause h s           the stop s has its cause; want of memory is free
 --   IsSourceCause, IsDeviceCause   why the program isn't read, and why the device isn't had
---   refusal_fault, device_fault   the fault that a refusal of the program, or of the device, is told as
+--   refusal_fault, device_fault, question_fault   the fault that a refusal of the program, of the device, or of a question is
+--                         told as
 --   fault_of s            the fault that a stop is told as
 --   EndsWithFault h n t   the program ends with status n for a stop that has its cause, and t holds of its fault
 --   stop_status s         the status that a stop ends with
@@ -22,23 +24,27 @@ use Rattle.route_report.specs.declared.faults.Fault.{Fault}
 use Rattle.route_report.specs.declared.faults.Fault.TheVariants as fault
 use Rattle.route_report.specs.Faults.{fault_line, status_of}
 use Rattle.gate_inline.specs.Inlined.{code as inline_code}
+use Rattle.gate_inline.specs.Programs.{IsAccepted, Program}
 use Rattle.qasm_check.specs.Refusals.{code as check_code}
 use Rattle.program_reader.specs.Refusals.{IsRefusal}
 use Rattle.program_reader.specs.declared.refusal.Refusal.{Refusal}
 use Rattle.program_reader.specs.declared.refusal.Refusal.TheVariants as refusal
 use Rattle.command_words.specs.declared.commands.Command.{Command}
 use Rattle.command_words.specs.Commands.{command_of}
-use Rattle.command_words.specs.Demands.{device_name, reads_input}
+use Rattle.command_words.specs.Demands.{asked_entry, device_name, reads_input}
 use Rattle.qroute_top.specs.declared.stops.DeviceRefusal.{DeviceRefusal}
 use Rattle.qroute_top.specs.declared.stops.DeviceRefusal.TheVariants as device
 use Rattle.qroute_top.specs.declared.stops.DeviceStop.{DeviceStop}
 use Rattle.qroute_top.specs.declared.stops.DeviceStop.TheVariants as device_stop
+use Rattle.qroute_top.specs.declared.stops.QuestionRefusal.{QuestionRefusal}
+use Rattle.qroute_top.specs.declared.stops.QuestionRefusal.TheVariants as question
 use Rattle.qroute_top.specs.declared.stops.SourceStop.{SourceStop}
 use Rattle.qroute_top.specs.declared.stops.SourceStop.TheVariants as source_stop
 use Rattle.qroute_top.specs.declared.stops.Stop.{Stop}
 use Rattle.qroute_top.specs.declared.stops.Stop.TheVariants as stop
 use Rattle.qroute_top.specs.Delivered.{Content}
 use Rattle.qroute_top.specs.Devices.{IsDeviceRefusal, HasSource}
+use Rattle.qroute_top.specs.Questions.{IsQuestionRefusal}
 
 pub record Handed : Type 0 where
   pub words : List (List ℕ)
@@ -67,6 +73,9 @@ IsRefusedSource input r = (text : List ℕ) × Tells input text × IsRefusal tex
 abbrev pub IsRefusedDevice : Option (Option (List ℕ)) → ℕ → DeviceRefusal → Type 0
 IsRefusedDevice content n r = (text : List ℕ) × TellsText content text × IsDeviceRefusal text n r
 
+abbrev pub IsRefusedQuestion : Option (List ℕ) → Option (List Bool × List Bool) → QuestionRefusal → Type 0
+IsRefusedQuestion input bits r = (text : List ℕ) × (p : Program) × Tells input text × IsAccepted text p × IsQuestionRefusal bits p r
+
 abbrev pub IsCause : Handed → Stop → Type 0
 IsCause h stop.NoMemory = ⊤
 IsCause h stop.Words = command_of h.words ≡ None
@@ -76,6 +85,7 @@ IsCause h stop.Shelf = (name : List ℕ) × Reaches h name × Rose h.shelf_befor
 IsCause h stop.Absent = (name : List ℕ) × Reaches h name × HasNoText (h.content name) × (h.shelf_after ≡ h.shelf_before)
 IsCause h (stop.Device r) = (name : List ℕ) × (asked : Reaches h name) × IsRefusedDevice (h.content name) asked.wires r
     × (h.shelf_after ≡ h.shelf_before)
+IsCause h (stop.Question r) = (asked : Reads h) × IsRefusedQuestion h.input (asked_entry asked.command) r
 
 -- why reading the program stops
 abbrev pub IsSourceCause : Option (List ℕ) → ℕ → ℕ → SourceStop → Type 0
@@ -106,8 +116,14 @@ device_fault (device.Fault device_fault_is.Text) = fault.Plain 50
 device_fault (device.Fault device_fault_is.Shape) = fault.Plain 51
 device_fault (device.Fault device_fault_is.Range) = fault.Plain 52
 device_fault (device.Fault (device_fault_is.SelfEdge qubit)) = fault.SelfEdge qubit
+device_fault (device.Fault (device_fault_is.EdgeCost from to)) = fault.EdgeCost from to
 device_fault (device.Fault (device_fault_is.NotConnected from to)) = fault.NotConnected from to
 device_fault (device.TooFewQubits size qubits) = fault.TooFewQubits size qubits
+
+abbrev pub question_fault : QuestionRefusal → Fault
+question_fault (question.WideProgram qubits) = fault.WideProgram qubits
+question_fault (question.ManyBranches branches) = fault.ManyBranches branches
+question_fault (question.BitsLength qubits) = fault.BitsLength qubits
 
 abbrev pub fault_of : Stop → Option Fault
 fault_of stop.NoMemory = None
@@ -117,6 +133,7 @@ fault_of (stop.Program r) = Some (refusal_fault r)
 fault_of stop.Shelf = Some fault.Shelf
 fault_of stop.Absent = Some fault.Absent
 fault_of (stop.Device r) = Some (device_fault r)
+fault_of (stop.Question r) = Some (question_fault r)
 
 -- the status that a stop ends with
 abbrev pub stop_status : Stop → ℕ
@@ -127,6 +144,7 @@ stop_status (stop.Program r) = 3
 stop_status stop.Shelf = 9
 stop_status stop.Absent = 9
 stop_status (stop.Device r) = 4
+stop_status (stop.Question r) = 3
 
 -- the line that is told of an output that fails
 abbrev pub output_fault_line : List ℕ

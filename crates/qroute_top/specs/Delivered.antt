@@ -2,8 +2,8 @@
 --   Content                     what a shelf tells of each name: nothing, no text, or a text
 --   Reports source target r     the report's numbers are those of both programs
 --   placed_read p r             the qubit at which the wire of a read stands by p
---   Makes source target r ..    the text and the report line are right for a source: the target is the source, up to the
---                               reported power of w and the reported placements
+--   StandsFor source target r   the target is the source, up to the reported power of w and the reported placements
+--   Makes source target r ..    the text and the report line are right for a source: they are those of a target that stands for it
 --   Rewrites source P ..        there is such a target, and of its qubits, placements and edges P holds
 --   IsInPlace, IsOnDevice       this P for `opt` and `route`, and part of it for `bench`;  IsOnQubits: for a device that is known
 --   counts_of source            what `check` tells of a program
@@ -14,7 +14,7 @@
 --                               a program that is drawn is told by the answer
 --   Delivers words content ..   the words mean a command, and the text and the line are its answer for such a program
 --   Delivered ..                some text and line are so, and this was done with them
-use Rattle.std.specs.Prelude.{◌≡◌, ℕ, ◌+◌, ◌*◌, ◌≤◌, Bool, true, false, List, [], Option, Some, All, length, map, option_map, slice_index}
+use Rattle.std.specs.Prelude.{◌≡◌, ℕ, ◌+◌, ◌*◌, ◌≤◌, Bool, true, false, List, [], Option, None, Some, All, length, map, option_map, slice_index}
 use Rattle.outside_io.specs.Bytes.{TakesAll}
 use Rattle.outside_io.specs.Shelf.{TellsText}
 use Rattle.coupling_map.specs.Coupling.{Coupling}
@@ -32,10 +32,13 @@ use Rattle.gate_inline.specs.Programs.{IsAccepted, IsWritten, Program}
 use Rattle.layer_stages.specs.Stages.{IsStageText}
 use Rattle.phase_poly.specs.Layers.{layers_of}
 use Rattle.command_words.specs.declared.commands.Command.{Command}
-use Rattle.command_words.specs.declared.commands.Command.TheVariants.{Opt, Route, Check, Stages, Bench}
+use Rattle.command_words.specs.declared.commands.Command.TheVariants.{Opt, Route, Check, Stages, Bench, Amplitude}
 use Rattle.command_words.specs.Commands.{command_of}
-use Rattle.command_words.specs.Demands.{reads_input}
+use Rattle.command_words.specs.Demands.{asked_entry, reads_input}
+use Rattle.qroute_top.specs.Costs.{told_cost}
 use Rattle.qroute_top.specs.Devices.{IsDevice}
+use Rattle.qroute_top.specs.Questions.{IsEntryText, IsQuestionRefusal}
+use Rattle.qroute_top.specs.declared.stops.QuestionRefusal.{QuestionRefusal}
 use Rattle.qroute_top.specs.Runs.{HasFewSwaps, IsMachineRun}
 use Rattle.qroute_top.specs.Settled.{IsSettled}
 
@@ -54,14 +57,10 @@ pub record Reports (source target : Program) (r : Report) : Type 0 where
 abbrev pub placed_read : List ℕ → Option ℕ → Option ℕ
 placed_read p r = option_map (slice_index p) r
 
-pub record Makes (source target : Program) (told : Report) (text line : List ℕ) : Type 0 where
-  -- the text is a program with the same classical registers and of plain operations
-  pub written : IsWritten text target
+pub record StandsFor (source target : Program) (told : Report) : Type 0 where
+  -- it has the same classical registers and plain operations
   pub registers : target.registers ≡ source.registers
   pub plain : All IsPlain target.ops
-  -- the line tells a report, whose numbers are those of both programs
-  pub report : line ≡ report_line told
-  pub numbers : Reports source target told
   -- the target's unitary is the source's, up to the reported power of w and the reported placements; spare wires only move
   pub unitary : Realises source.ops source.wires target.ops target.wires told.initial told.last told.phase
   -- each bit reads its wire of the source, where it ends
@@ -69,6 +68,15 @@ pub record Makes (source target : Program) (told : Report) (text line : List ℕ
   -- no more T gates than the source has odd path parities, and no more CNOTs but three a swap
   pub t_gates : t_count target.ops ≤ odd_paths source.wires source.ops
   pub cx_gates : cx_count target.ops ≤ cx_count source.ops + 3 * told.swaps
+
+pub record Makes (source target : Program) (told : Report) (text line : List ℕ) : Type 0 where
+  -- the text is the target's
+  pub written : IsWritten text target
+  -- the line tells a report, whose numbers are those of both programs
+  pub report : line ≡ report_line told
+  pub numbers : Reports source target told
+  -- and the target stands for the source
+  pub stands : StandsFor source target told
 
 pub record Rewrites (source : Program) (IsPlaced : Program → Report → Type 0) (text line : List ℕ) : Type 0 where
   pub target : Program
@@ -82,15 +90,18 @@ pub record IsInPlace (source target : Program) (told : Report) : Type 0 where
   pub swaps : told.swaps ≡ 0
   pub initial : told.initial ≡ identity source.wires
   pub last : told.last ≡ identity source.wires
+  pub cost : told.cost ≡ None
   pub settled : IsSettled source.wires target.ops
 
--- the qubits are a device's, each CNOT follows an edge, and what is written is the routing machine's run, with few swaps
+-- the qubits are a device's, each CNOT follows an edge, what is written is the routing machine's run, with few swaps, and where
+-- the device lists costs of edges, the line tells what the CNOTs cost
 pub record IsOnQubits (device : Coupling) (trivial : Bool) (source target : Program) (told : Report) : Type 0 where
   pub qubits : target.wires ≡ device.size
   pub edges : FollowsEdges device.edges target.ops
   pub placed : trivial ≡ true → told.initial ≡ identity target.wires
   pub run : IsMachineRun device trivial source.wires source.ops target.ops told.initial told.last told.swaps told.phase
   pub swaps : HasFewSwaps device source.ops target.ops told.swaps
+  pub cost : told.cost ≡ told_cost device target.ops
 
 -- the device is the one that the shelf's text of this name describes
 pub record IsOnDevice (content : Content) (name : List ℕ) (trivial : Bool) (source target : Program) (told : Report) : Type 0 where
@@ -127,6 +138,7 @@ IsAnswer content Opt source text line = Rewrites source (IsInPlace source) text 
 IsAnswer content (Route name trivial) source text line = Rewrites source (IsOnDevice content name trivial source) text line
 IsAnswer content Check source text line = (text ≡ []) × (line ≡ check_line (counts_of source))
 IsAnswer content Stages source text line = IsStages source text × (line ≡ [])
+IsAnswer content (Amplitude from to) source text line = IsEntryText source.ops from to text × (line ≡ [])
 IsAnswer content (Bench start gates name) source text line = Rewrites source
     (λ target told. IsOnDevice content name false source target told × (source ≡ drawn_program start gates target.wires)) text line
 
@@ -139,6 +151,8 @@ pub record Delivers (words : List (List ℕ)) (content : Content) (input after :
   pub asked : command_of words ≡ Some command
   pub source : Program
   pub had : IsHad (reads_input command) input after source
+  -- no refusal of a question applies, where the command asks one
+  pub answered : (r : QuestionRefusal) → IsQuestionRefusal (asked_entry command) source r → ⊥
   pub answer : IsAnswer content command source text line
 
 abbrev pub Delivered : List (List ℕ) → Content → Option (List ℕ) → Option (List ℕ) → (List ℕ → List ℕ → Type 0) → Type 0

@@ -19,7 +19,7 @@ device_limit = 1048576
 
 pub record IsDevice (text : List ℕ) (d : Coupling) : Type 0 where
   pub short : length text ≤ device_limit
-  pub says : Says text (graph d.size d.edges)
+  pub says : Says text (graph d.size d.edges d.costs)
   pub coupling : IsCoupling d
 
 abbrev pub IsDeviceRefusal : List ℕ → ℕ → DeviceRefusal → Type 0

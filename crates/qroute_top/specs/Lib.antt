@@ -1,7 +1,9 @@
 -- ---- definitions that public clauses reach
 pub mod Devices
+pub mod Questions
 pub mod Settled
 pub mod Runs
+pub mod Costs
 pub mod Delivered
 pub mod Causes
 -- ---- working forms

@@ -9,19 +9,20 @@
 --   IsFitWork w          what is asked of a work before it is done
 --   IsWork w ..          the text and the line that are right for a work
 --   HasWork w Done       some text and line are right for the work, and this was done with them
-use Rattle.std.specs.Prelude.{◌≡◌, ℕ, ◌≤◌, Bool, true, false, List, [], All, length, map}
+use Rattle.std.specs.Prelude.{◌≡◌, ℕ, ◌≤◌, Bool, true, false, None, List, [], All, length, map}
 use Rattle.circuit_list.specs.Gates.{ops}
 use Rattle.gate_inline.specs.Programs.{IsWritten, Program}
 use Rattle.gate_inline.specs.Registers.{AreRegisters, IsRead}
 use Rattle.gate_inline.specs.Sizes.{operation_limit}
+use Rattle.program_reader.specs.Refusals.{program_of}
 use Rattle.program_reader.specs.declared.source.Source.{Source}
 use Rattle.route_report.specs.declared.lines.Report.{Report}
 use Rattle.route_report.specs.Lines.{report_line}
-use Rattle.unitary_model.specs.Operations.{cx_count, t_count}
 use Rattle.qroute_top.specs.declared.plan.Work.{Work}
 use Rattle.qroute_top.specs.declared.plan.Work.TheVariants as work
 use Rattle.qroute_top.specs.declared.target.Target.{Target}
-use Rattle.qroute_top.specs.Delivered.{placed_read}
+use Rattle.qroute_top.specs.Delivered.{Reports, placed_read}
+use Rattle.qroute_top.specs.Targets.{IsTold}
 
 abbrev pub target_program : Source → Target → Program
 target_program s t = record {
@@ -39,17 +40,8 @@ pub record IsFit (s : Source) (t : Target) : Type 0 where
   pub reads : All (IsRead t.body.wires) s.ops.reads
 
 pub record IsReport (s : Source) (t : Target) (r : Report) : Type 0 where
-  pub barriers : r.barriers ≡ s.barriers
-  pub cx_after : r.cx_after ≡ cx_count (ops t.body.gates)
-  pub cx_before : r.cx_before ≡ cx_count s.ops.list
-  pub device : r.device ≡ t.body.wires
-  pub last : r.last ≡ t.last
-  pub initial : r.initial ≡ t.initial
-  pub phase : r.phase ≡ t.turn
-  pub qubits : r.qubits ≡ s.ops.wires
-  pub swaps : r.swaps ≡ t.swaps
-  pub t_after : r.t_after ≡ t_count (ops t.body.gates)
-  pub t_before : r.t_before ≡ t_count s.ops.list
+  pub numbers : Reports (program_of s) (target_program s t) r
+  pub told : IsTold t r
 
 abbrev pub TellsReport : Source → Target → List ℕ → Type 0
 TellsReport s t line = (told : Report) × (line ≡ report_line told) × IsReport s t told

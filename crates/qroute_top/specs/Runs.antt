@@ -2,14 +2,15 @@
 --   IsMachineRun d trivial n S us ..    the operations us, the placements, the number of swaps and the phase are those of the
 --                                       machine's run on the device d over a settled list of gates on n wires that stands for the
 --                                       source, operations S; it begins at the layout of this list, unless the placement is trivial
---   HasFewSwaps d S us swaps            for each CNOT of S at most as many swaps as the qubits and the diameter, so at most three
---                                       times as many CNOTs more
+--   HasFewSwaps d S us swaps            for each CNOT of S at most as many swaps as the qubits and the diameter, or twice as many as
+--                                       the qubits where costs are listed, so at most three times as many CNOTs more
 use Rattle.std.specs.Prelude.{◌≡◌, ℕ, ◌+◌, ◌*◌, ◌%◌, ◌≤◌, All, Bool, false, List}
 use Rattle.circuit_list.specs.declared.Gate.{Gate}
 use Rattle.circuit_list.specs.Gates.{IsFine, ops}
-use Rattle.coupling_map.specs.Coupling.{Coupling}
+use Rattle.coupling_map.specs.Coupling.{Coupling, cost}
 use Rattle.coupling_map.specs.Walks.{IsDiameter}
 use Rattle.sabre_route.specs.Machine.{Event, IsRun, State, start}
+use Rattle.sabre_route.specs.Measures.{bound}
 use Rattle.sabre_route.specs.Routing.{IsLayout, swap_count, turned, written}
 use Rattle.unitary_model.specs.declared.Op.{Op}
 use Rattle.unitary_model.specs.Operations.{cx_count}
@@ -35,6 +36,6 @@ pub record IsMachineRun (d : Coupling) (trivial : Bool) (n : ℕ) (S us : List O
 
 pub record HasFewSwaps (d : Coupling) (S us : List Op) (swaps : ℕ) : Type 0 where
   pub diameter : ℕ
-  pub is_diameter : IsDiameter d.size d.edges diameter
-  pub few : swaps ≤ cx_count S * (d.size + diameter)
-  pub cx_gates : cx_count us ≤ cx_count S * (1 + 3 * (d.size + diameter))
+  pub is_diameter : IsDiameter d.size d.edges (cost d) diameter
+  pub few : swaps ≤ cx_count S * bound d diameter
+  pub cx_gates : cx_count us ≤ cx_count S * (1 + 3 * bound d diameter)

@@ -3,8 +3,9 @@
 --   unloaded f           why a text of the shelf isn't had, as a stop of the device
 --   IsUndescribed text n e   why a text that isn't too long gives no device for a program on n wires
 --   IsUnasked words s    why words give no command
---   source_stopped e, device_stopped e   a stop of reading, or of the device, as one of the run
-use Rattle.std.specs.Prelude.{◌≡◌, ℕ, List, None, ⊤}
+--   source_stopped e, device_stopped e, question_stopped e   a stop of reading, of the device, or of a question, as one of the run
+--   IsUnanswered bits p e   why an entry of the program p between these bits isn't told
+use Rattle.std.specs.Prelude.{◌≡◌, ℕ, Bool, List, None, Some, ⊤}
 use Rattle.command_words.specs.Commands.{command_of}
 use Rattle.outside_io.specs.declared.TextFault.{TextFault}
 use Rattle.outside_io.specs.declared.TextFault.TheVariants as text_fault
@@ -13,11 +14,15 @@ use Rattle.program_reader.specs.declared.refusal.ReadFault.TheVariants as read_f
 use Rattle.qroute_top.specs.declared.stops.DeviceRefusal.TheVariants as device
 use Rattle.qroute_top.specs.declared.stops.DeviceStop.{DeviceStop}
 use Rattle.qroute_top.specs.declared.stops.DeviceStop.TheVariants as device_stop
+use Rattle.qroute_top.specs.declared.stops.QuestionStop.{QuestionStop}
+use Rattle.qroute_top.specs.declared.stops.QuestionStop.TheVariants as question_stop
 use Rattle.qroute_top.specs.declared.stops.SourceStop.{SourceStop}
 use Rattle.qroute_top.specs.declared.stops.SourceStop.TheVariants as source_stop
 use Rattle.qroute_top.specs.declared.stops.Stop.{Stop}
 use Rattle.qroute_top.specs.declared.stops.Stop.TheVariants as stop
+use Rattle.gate_inline.specs.Programs.{Program}
 use Rattle.qroute_top.specs.Devices.{IsDeviceRefusal}
+use Rattle.qroute_top.specs.Questions.{IsQuestionRefusal}
 
 abbrev pub unread : ReadFault → SourceStop
 unread read_fault.NoMemory = source_stop.NoMemory
@@ -33,6 +38,14 @@ device_stopped device_stop.NoMemory = stop.NoMemory
 device_stopped device_stop.Failed = stop.Shelf
 device_stopped device_stop.Absent = stop.Absent
 device_stopped (device_stop.Refused r) = stop.Device r
+
+abbrev pub question_stopped : QuestionStop → Stop
+question_stopped question_stop.NoMemory = stop.NoMemory
+question_stopped (question_stop.Refused r) = stop.Question r
+
+abbrev pub IsUnanswered : (List Bool × List Bool) → Program → QuestionStop → Type 0
+IsUnanswered bits p question_stop.NoMemory = ⊤
+IsUnanswered bits p (question_stop.Refused r) = IsQuestionRefusal (Some bits) p r
 
 abbrev pub unloaded : TextFault → DeviceStop
 unloaded text_fault.Failed = device_stop.Failed

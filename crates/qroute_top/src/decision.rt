@@ -12,6 +12,7 @@ ghost use Rattle.qroute_top.specs.Stops.{IsUnasked};
 use crate::device::load_device;
 use crate::pipeline::{optimise, route_on};
 use crate::plan::{Work, check_work, stage_work};
+use crate::question::entry_work;
 use crate::source::{drawn_source, read_source};
 use crate::stops::Stop;
 use command_words::commands::{Command, WordsFault};
@@ -74,6 +75,10 @@ pub fn decide<I: Input, F: Shelf>(
         Command::Stages => {
             let source = read_source(alloc, input)?;
             Ok(stage_work(alloc, &source)?)
+        }
+        Command::Amplitude { from, to } => {
+            let source = read_source(alloc, input)?;
+            Ok(entry_work(alloc, &source, &from, &to)?)
         }
         Command::Route {
             device: name,

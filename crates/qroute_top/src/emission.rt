@@ -6,11 +6,11 @@ ghost use Rattle.outside_io.specs.Causes.{HasCause, Rose};
 ghost use Rattle.qasm_writer.specs.Outputs.{HasText, IsOutput};
 ghost use Rattle.route_report.specs.Faults.{fault_line, status_of};
 ghost use Rattle.route_report.specs.declared.faults.Fault.{Fault as Told};
-ghost use Rattle.qroute_top.specs.Causes.{device_fault, fault_of, output_fault_line, refusal_fault, stop_status};
+ghost use Rattle.qroute_top.specs.Causes.{device_fault, fault_of, output_fault_line, question_fault, refusal_fault, stop_status};
 ghost use Rattle.qroute_top.specs.Plans.{HasPlanned, HasWork, IsFit, IsFitWork, has_line, has_text};
 
 use crate::plan::{Prepared, Work, prepare};
-use crate::stops::{DeviceRefusal, Stop};
+use crate::stops::{DeviceRefusal, QuestionRefusal, Stop};
 use crate::target::Target;
 use coupling_map::DeviceFault;
 use outside_io::{Failed, Sink, send};
@@ -64,10 +64,22 @@ fn fault_of_device(refusal: DeviceRefusal) -> Fault
         DeviceRefusal::Fault(DeviceFault::Shape) => Fault::Plain { code: 51 },
         DeviceRefusal::Fault(DeviceFault::Range) => Fault::Plain { code: 52 },
         DeviceRefusal::Fault(DeviceFault::SelfEdge { qubit }) => Fault::SelfEdge { qubit },
+        DeviceRefusal::Fault(DeviceFault::EdgeCost { from, to }) => Fault::EdgeCost { from, to },
         DeviceRefusal::Fault(DeviceFault::NotConnected { from, to }) => {
             Fault::NotConnected { from, to }
         }
         DeviceRefusal::TooFewQubits { device, qubits } => Fault::TooFewQubits { device, qubits },
+    }
+}
+
+/// The fault that a question's refusal is told as.
+fn fault_of_question(refusal: QuestionRefusal) -> Fault
+    ensures { result ≡ question_fault refusal }
+{
+    match refusal {
+        QuestionRefusal::WideProgram { qubits } => Fault::WideProgram { qubits },
+        QuestionRefusal::ManyBranches { branches } => Fault::ManyBranches { branches },
+        QuestionRefusal::BitsLength { qubits } => Fault::BitsLength { qubits },
     }
 }
 
@@ -83,6 +95,7 @@ fn fault_of(stop: Stop) -> Option<Fault>
         Stop::Shelf => Some(Fault::Shelf),
         Stop::Absent => Some(Fault::Absent),
         Stop::Device(refusal) => Some(fault_of_device(refusal)),
+        Stop::Question(refusal) => Some(fault_of_question(refusal)),
     }
 }
 
@@ -92,6 +105,7 @@ pub fn tell<R: Sink>(alloc: Global, stop: Stop, report: &mut R) -> u8
     ensures status { (result ≡ 7) ⊎ (result ≡ stop_status stop) }
     ensures told { (result ≡ 7) × (report.new ≡ report.old) ⊎ ((f : Told) × (fault_of stop ≡ Some f) × (result ≡ status_of f)
         × GainsUnlessFault (R.held report.old) (R.held report.new) (R.faults report.old) (R.faults report.new) (fault_line f)) }
+    ensures flushed { (result ≡ 7 → ⊥) → (Rose (R.faults report.old) (R.faults report.new) → ⊥) → R.flushed report.new ≡ true }
 {
     let Some(fault) = fault_of(stop) else {
         return NO_MEMORY;
@@ -106,10 +120,12 @@ pub fn tell<R: Sink>(alloc: Global, stop: Stop, report: &mut R) -> u8
 }
 
 /// Tells in the report that the output failed.
+#[tactic(auto, using(crate::proofs::StatusLaws::told))]
 fn tell_failed<R: Sink>(fault: &[u8], report: &mut R) -> u8
     requires { fault.now ≡ output_fault_line }
     ensures status { result ≡ 6 }
     ensures told { GainsUnlessFault (R.held report.old) (R.held report.new) (R.faults report.old) (R.faults report.new) output_fault_line }
+    ensures flushed { (Rose (R.faults report.old) (R.faults report.new) → ⊥) → R.flushed report.new ≡ true }
 {
     let _ = send(report, fault);
     OUTPUT_FAILED
@@ -136,6 +152,7 @@ fn emit_text<O: Sink, R: Sink>(text: &[u8], fault: &[u8], out: &mut O, report: &
         × (O.faults out.new ≡ O.faults out.old) × (report.new ≡ report.old) }
     ensures output { result ≡ 6 → GainsPrefix (O.held out.old) (O.held out.new) text.now × Rose (O.faults out.old) (O.faults out.new)
         × GainsUnlessFault (R.held report.old) (R.held report.new) (R.faults report.old) (R.faults report.new) output_fault_line }
+    ensures fault_flushed { result ≡ 6 → (Rose (R.faults report.old) (R.faults report.new) → ⊥) → R.flushed report.new ≡ true }
 {
     match send(out, text) {
         Ok(()) => DONE,
@@ -178,6 +195,7 @@ fn emit_program<O: Sink, R: Sink>(
     ensures output { result ≡ 6 → HasText output.now (λ text. GainsPrefix (O.held out.old) (O.held out.new) text)
         × Rose (O.faults out.old) (O.faults out.new)
         × GainsUnlessFault (R.held report.old) (R.held report.new) (R.faults report.old) (R.faults report.new) output_fault_line }
+    ensures fault_flushed { result ≡ 6 → (Rose (R.faults report.old) (R.faults report.new) → ⊥) → R.flushed report.new ≡ true }
     ensures report { result ≡ 8 → HasText output.now (λ text. Gains (O.held out.old) (O.held out.new) text)
         × (O.flushed out.new ≡ true) × (O.faults out.new ≡ O.faults out.old)
         × GainsPrefix (R.held report.old) (R.held report.new) line.now × Rose (R.faults report.old) (R.faults report.new) }
@@ -205,6 +223,7 @@ fn emit_target<O: Sink, R: Sink>(
     ensures output { result ≡ 6 → HasPlanned source.now target.now (λ text line. GainsPrefix (O.held out.old) (O.held out.new) text)
         × Rose (O.faults out.old) (O.faults out.new)
         × GainsUnlessFault (R.held report.old) (R.held report.new) (R.faults report.old) (R.faults report.new) output_fault_line }
+    ensures fault_flushed { result ≡ 6 → (Rose (R.faults report.old) (R.faults report.new) → ⊥) → R.flushed report.new ≡ true }
     ensures untouched { result ≡ 7 → (out.new ≡ out.old) × (report.new ≡ report.old) }
     ensures report { result ≡ 8 → HasPlanned source.now target.now (λ text line. Gains (O.held out.old) (O.held out.new) text
         × GainsPrefix (R.held report.old) (R.held report.new) line)
@@ -243,6 +262,7 @@ pub fn emit<O: Sink, R: Sink>(alloc: Global, work: &Work, out: &mut O, report: &
     ensures output { result ≡ 6 → HasWork work.now (λ text line. GainsPrefix (O.held out.old) (O.held out.new) text)
         × Rose (O.faults out.old) (O.faults out.new)
         × GainsUnlessFault (R.held report.old) (R.held report.new) (R.faults report.old) (R.faults report.new) output_fault_line }
+    ensures fault_flushed { result ≡ 6 → (Rose (R.faults report.old) (R.faults report.new) → ⊥) → R.flushed report.new ≡ true }
     ensures untouched { result ≡ 7 → (out.new ≡ out.old) × (report.new ≡ report.old) }
     ensures report { result ≡ 8 → HasWork work.now (λ text line. Gains (O.held out.old) (O.held out.new) text
         × GainsPrefix (R.held report.old) (R.held report.new) line)

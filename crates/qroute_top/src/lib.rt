@@ -7,11 +7,12 @@
 //! classical bit reads the wire that it read before. On a device each CNOT follows an edge, and what is written is the routing
 //! machine's run, whose swaps are few; on its own wires the program is settled. Each status comes exactly where its cause is.
 //! A text that is refused is told with its place or statement, a device with its reason, and nothing is written then. `check`
-//! tells of a program without writing one, and `stages` writes a line for each layer of its gates. `bench` reads none: it routes
+//! tells of a program without writing one, `stages` writes a line for each layer of its gates, and `amplitude` writes one entry of
+//! its unitary. `bench` reads none: it routes
 //! one that it draws for the device, gate by gate.
 //!
 //! `source` reads the input, over all of the readers, or draws a program; `device` loads the device of a name; `target` makes the
-//! circuit that is to be written, and `plan` all that takes memory, before `emission` writes the first byte. A program goes out
+//! circuit that is to be written, `question` the entry that is asked for, and `plan` all that takes memory, before `emission` writes the first byte. A program goes out
 //! in pieces, so its text never stands whole in memory. What a command asks of its surroundings is told by `command_words`, so
 //! that each clause is said once for all commands.
 #![tactic(auto)]
@@ -23,27 +24,32 @@ ghost use Rattle.route_report.specs.Faults.{fault_line};
 ghost use Rattle.program_reader.specs.Refusals.{IsRefusal};
 ghost use Rattle.program_reader.specs.declared.refusal.Refusal.{Refusal as Refused};
 ghost use Rattle.command_words.specs.Commands.{command_of};
-ghost use Rattle.command_words.specs.Demands.{device_name, reads_input, writes_out, writes_report};
+ghost use Rattle.command_words.specs.Demands.{asked_entry, device_name, reads_input, writes_out, writes_report};
 ghost use Rattle.command_words.specs.declared.commands.Command.{Command as Asked};
 ghost use Rattle.qroute_top.specs.declared.stops.DeviceRefusal.{DeviceRefusal as RefusedDevice};
+ghost use Rattle.gate_inline.specs.Programs.{IsAccepted, Program};
+ghost use Rattle.qroute_top.specs.declared.stops.QuestionRefusal.{QuestionRefusal as RefusedQuestion};
 ghost use Rattle.qroute_top.specs.Devices.{HasDevice, IsDeviceRefusal, HasSource};
+ghost use Rattle.qroute_top.specs.Questions.{IsQuestionRefusal};
 ghost use Rattle.qroute_top.specs.Causes.{EndsWithFault, is_early_fault, output_fault_line};
 ghost use Rattle.qroute_top.specs.Delivered.{Delivered};
 
 pub use bench_program::made;
-pub use command_words::{commands, name, words};
+pub use command_words::{bits, commands, name, words};
 use decision::decide;
 use emission::{emit, tell};
 use outside_io::{Shelf, Sink, Source};
 use program_reader::{accepted_has_no_refusal, means_once};
 use std::alloc::Global;
 
+mod cost;
 mod decision;
 mod device;
 mod emission;
 mod passes;
 mod pipeline;
 mod plan;
+mod question;
 mod source;
 mod stops;
 mod target;
@@ -61,11 +67,13 @@ pub fn run<I: Source, F: Shelf, O: Sink, R: Sink>(
     // No other status comes.
     ensures ends { (result ≡ 0) ⊎ ((result ≡ 6) ⊎ ((result ≡ 7) ⊎ ((result ≡ 8) ⊎ (is_early_fault result ≡ true)))) }
 
-    // 0: what is made for the program is written and reported, and both sinks are flushed.
+    // 0: what is made for the program is written and reported.
     ensures headline { result ≡ 0 → Delivered (map (λ w. w.now) words.now) (F.content shelf.old) (I.left input.old) (I.left input.new)
         (λ text line. Gains (O.held out.old) (O.held out.new) text × Gains (R.held report.old) (R.held report.new) line) }
-    ensures flushed { result ≡ 0 → (c : Asked) → command_of (map (λ w. w.now) words.now) ≡ Some c
-        → (writes_out c ≡ true → O.flushed out.new ≡ true) × (writes_report c ≡ true → R.flushed report.new ≡ true) }
+    // What is written to is flushed: with 0, and, where the report's count of faults didn't rise, a fault line.
+    ensures flushed { (result ≡ 0 → (c : Asked) → command_of (map (λ w. w.now) words.now) ≡ Some c
+        → (writes_out c ≡ true → O.flushed out.new ≡ true) × (writes_report c ≡ true → R.flushed report.new ≡ true))
+        × ((result ≡ 6) ⊎ (is_early_fault result ≡ true) → (Rose (R.faults report.old) (R.faults report.new) → ⊥) → R.flushed report.new ≡ true) }
     ensures calm { result ≡ 0 → (I.faults input.new ≡ I.faults input.old) × (F.faults shelf.new ≡ F.faults shelf.old)
         × (O.faults out.new ≡ O.faults out.old) × (R.faults report.new ≡ R.faults report.old) }
 
@@ -93,6 +101,11 @@ pub fn run<I: Source, F: Shelf, O: Sink, R: Sink>(
         → I.left input.old ≡ Some text → IsRefusal text r → (Rose (I.faults input.old) (I.faults input.new) → ⊥)
         → (result ≡ 3) ⊎ (result ≡ 7) }
 
+    // .. or where the program is accepted and the question that the command asks on it is refused.
+    ensures refuses_question { (c : Asked) (text : List ℕ) (p : Program) (r : RefusedQuestion) → command_of (map (λ w. w.now) words.now) ≡ Some c
+        → I.left input.old ≡ Some text → IsAccepted text p → IsQuestionRefusal (asked_entry c) p r
+        → (Rose (I.faults input.old) (I.faults input.new) → ⊥) → (result ≡ 3) ⊎ (result ≡ 7) }
+
     // 9 exactly where the shelf has no text of the device's name, unless it failed.
     ensures absent { (c : Asked) (name : List ℕ) (n : ℕ) → command_of (map (λ w. w.now) words.now) ≡ Some c
         → device_name c ≡ Some name → HasSource (reads_input c) (λ text. I.left input.old ≡ Some text) n
@@ -106,10 +119,12 @@ pub fn run<I: Source, F: Shelf, O: Sink, R: Sink>(
         → (reads_input c ≡ true → Rose (I.faults input.old) (I.faults input.new) → ⊥) → (Rose (F.faults shelf.old) (F.faults shelf.new) → ⊥)
         → F.content shelf.old name ≡ Some (Some device_text) → IsDeviceRefusal device_text n r → (result ≡ 4) ⊎ (result ≡ 7) }
 
-    // A command whose input, where it reads one, is accepted, and whose device, where it wants one, has a qubit for each wire,
-    // ends well, or wants memory, unless a count of faults rose.
+    // A command whose input, where it reads one, is accepted, whose device, where it wants one, has a qubit for each wire, and
+    // whose question, where it asks one, isn't refused, ends well, or wants memory, unless a count of faults rose.
     ensures complete { (c : Asked) (n : ℕ) → command_of (map (λ w. w.now) words.now) ≡ Some c
         → HasSource (reads_input c) (λ text. I.left input.old ≡ Some text) n → HasDevice (F.content shelf.old) (device_name c) n
+        → ((text : List ℕ) (p : Program) (r : RefusedQuestion) → I.left input.old ≡ Some text → IsAccepted text p
+        → IsQuestionRefusal (asked_entry c) p r → ⊥)
         → (reads_input c ≡ true → Rose (I.faults input.old) (I.faults input.new) → ⊥)
         → (is_some (device_name c) ≡ true → Rose (F.faults shelf.old) (F.faults shelf.new) → ⊥)
         → (writes_out c ≡ true → Rose (O.faults out.old) (O.faults out.new) → ⊥)
@@ -152,14 +167,14 @@ mod bench_tests;
 #[cfg(test)]
 mod cases_tests;
 #[cfg(test)]
-mod check_tests;
-#[cfg(test)]
 mod literature_tests;
 #[cfg(test)]
 mod opt_tests;
 #[cfg(test)]
+mod read_tests;
+#[cfg(test)]
 mod route_tests;
 #[cfg(test)]
-mod stage_tests;
-#[cfg(test)]
 mod stop_tests;
+#[cfg(test)]
+mod walk_tests;

@@ -4,7 +4,7 @@ ghost use Rattle.std.specs.Prelude.{◌≡◌, ◌≤◌, ℕ, List, All, IfOk, 
 ghost use Rattle.gate_expand.specs.Expansion.{IsFineOp};
 ghost use Rattle.gate_inline.specs.Registers.{AreRegisters, IsRead};
 ghost use Rattle.gate_inline.specs.Sizes.{operation_limit};
-ghost use Rattle.gate_library.specs.Limits.{most_qubits};
+ghost use Rattle.unitary_model.specs.Limits.{most_qubits};
 ghost use Rattle.program_reader.specs.Refusals.{program_of};
 ghost use Rattle.qroute_top.specs.Delivered.{IsInPlace, IsOnQubits, Rewrites};
 ghost use Rattle.qroute_top.specs.Plans.{IsFitWork, IsWork, has_line, has_text};
@@ -29,7 +29,7 @@ pub fn optimise(alloc: Global, source: Source) -> Result<Work, AllocError>
     ensures fit { IfOk result IsFitWork }
 {
     let passed = optimised(alloc, &source.ops)?;
-    let target = in_place(alloc, &source.ops, passed)?;
+    let target = in_place(alloc, &source, passed)?;
     Ok(work_of(source, target))
 }
 
@@ -53,6 +53,6 @@ pub fn route_on(
     ensures fit { IfOk result IsFitWork }
 {
     let passed = optimised(alloc, &source.ops)?;
-    let target = on_device(alloc, &source.ops, &passed, device, trivial)?;
+    let target = on_device(alloc, &source, &passed, device, trivial)?;
     Ok(work_of(source, target))
 }

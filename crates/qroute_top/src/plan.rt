@@ -1,11 +1,11 @@
 //! What a command has to write, and all that is made before the first byte goes out.
 
 ghost use Rattle.std.specs.Prelude.{◌≡◌, ◌≤◌, ℕ, List, [], All, IfOk, length, map, false, true, vec_capacity};
-ghost use Rattle.circuit_list.specs.Gates.{IsFine};
 ghost use Rattle.gate_expand.specs.Expansion.{IsFineOp};
 ghost use Rattle.gate_inline.specs.Registers.{IsFree, IsRead};
 ghost use Rattle.gate_inline.specs.Sizes.{operation_limit};
-ghost use Rattle.gate_library.specs.Limits.{most_bits, most_qubits};
+ghost use Rattle.gate_library.specs.Limits.{most_bits};
+ghost use Rattle.unitary_model.specs.Limits.{most_qubits};
 ghost use Rattle.program_reader.specs.Refusals.{program_of};
 ghost use Rattle.qasm_writer.specs.Outputs.{bits_of};
 ghost use Rattle.route_report.specs.Lines.{check_line};
@@ -126,6 +126,7 @@ fn report_of(alloc: Global, source: &Source, target: &Target) -> Result<Report, 
     let initial = Wires::new(Vec::from_slice(alloc, target.initial.as_slice())?);
     Ok(Report {
         barriers: counts.barriers,
+        cost: target.cost,
         cx_after: target.body.count_cx() as u64,
         cx_before: counts.cx,
         device: target.body.wires(),
@@ -143,12 +144,10 @@ fn report_of(alloc: Global, source: &Source, target: &Target) -> Result<Report, 
 pub fn work_of(source: Source, target: Target) -> Work
     requires { IsFit source target }
     ensures planned { (text line : List ℕ) → IsWork result text line → IsPlanned source target text line }
-    ensures fine { All (IsFine target.body.wires) target.body.gates }
     ensures fit { IsFitWork result }
     ensures writes { has_text result ≡ true }
     ensures tells { has_line result ≡ true }
 {
-    let _wires = target.body.wires();
     Work::Program { source, target }
 }
 

@@ -7,7 +7,7 @@ ghost use Rattle.gate_expand.specs.Expansion.{IsFineOp};
 ghost use Rattle.gate_inline.specs.Programs.{IsAccepted};
 ghost use Rattle.gate_inline.specs.Registers.{AreRegisters, IsRead};
 ghost use Rattle.gate_inline.specs.Sizes.{operation_limit};
-ghost use Rattle.gate_library.specs.Limits.{most_qubits};
+ghost use Rattle.unitary_model.specs.Limits.{most_qubits};
 ghost use Rattle.program_reader.specs.Refusals.{program_of};
 ghost use Rattle.qroute_top.specs.Causes.{IsSourceCause};
 ghost use Rattle.qroute_top.specs.Delivered.{drawn_program};

@@ -15,6 +15,17 @@ pub enum DeviceRefusal {
     TooFewQubits { device: u32, qubits: u32 },
 }
 
+/// Why a question on a program, that for an entry of its unitary, is refused.
+#[derive(Clone, Copy, Debug, PartialEq, Eq)]
+pub enum QuestionRefusal {
+    /// The program has more than 12 wires.
+    WideProgram { qubits: u32 },
+    /// More than 60 of its operations are branches.
+    ManyBranches { branches: u64 },
+    /// There aren't as many bits as the program has wires.
+    BitsLength { qubits: u32 },
+}
+
 /// Why the program isn't read.
 #[derive(Clone, Copy, Debug, PartialEq, Eq)]
 pub enum SourceStop {
@@ -39,6 +50,15 @@ pub enum DeviceStop {
     Refused(DeviceRefusal),
 }
 
+/// Why a question isn't answered.
+#[derive(Clone, Copy, Debug, PartialEq, Eq)]
+pub enum QuestionStop {
+    /// Memory was wanting.
+    NoMemory,
+    /// The question is refused.
+    Refused(QuestionRefusal),
+}
+
 /// Want of memory, or a fault with what the fault line tells of it.
 #[derive(Clone, Copy, Debug, PartialEq, Eq)]
 pub enum Stop {
@@ -56,6 +76,8 @@ pub enum Stop {
     Absent,
     /// The device is refused.
     Device(DeviceRefusal),
+    /// The question is refused.
+    Question(QuestionRefusal),
 }
 
 impl From<ReadFault> for SourceStop {
@@ -110,6 +132,31 @@ impl From<DeviceStop> for Stop {
             DeviceStop::Failed => Stop::Shelf,
             DeviceStop::Absent => Stop::Absent,
             DeviceStop::Refused(refusal) => Stop::Device(refusal),
+        }
+    }
+}
+
+impl From<AllocError> for QuestionStop {
+    ghost use Rattle.std.specs.Prelude.{◌≡◌};
+    ghost use Rattle.qroute_top.specs.declared.stops.QuestionStop.TheVariants.{NoMemory};
+
+    ghost from_gives = { λ _ s. s ≡ NoMemory };
+
+    fn from(_error: AllocError) -> QuestionStop {
+        QuestionStop::NoMemory
+    }
+}
+
+impl From<QuestionStop> for Stop {
+    ghost use Rattle.std.specs.Prelude.{◌≡◌};
+    ghost use Rattle.qroute_top.specs.Stops.{question_stopped};
+
+    ghost from_gives = { λ e s. s ≡ question_stopped e };
+
+    fn from(stop: QuestionStop) -> Stop {
+        match stop {
+            QuestionStop::NoMemory => Stop::NoMemory,
+            QuestionStop::Refused(refusal) => Stop::Question(refusal),
         }
     }
 }

@@ -1,21 +1,24 @@
 //! The circuit that is to be written for a source, and where its wires begin and end.
 
 ghost use Rattle.std.specs.Prelude.{◌≡◌, ◌≤◌, ◌<◌, All, IfOk, false, length, true};
-ghost use Rattle.circuit_list.specs.Gates.{ops};
 ghost use Rattle.gate_expand.specs.Expansion.{IsFineOp};
-ghost use Rattle.gate_library.specs.Limits.{most_qubits};
+ghost use Rattle.gate_inline.specs.Sizes.{operation_limit};
+ghost use Rattle.unitary_model.specs.Limits.{most_qubits};
 ghost use Rattle.unitary_model.specs.Placement.{identity};
-ghost use Rattle.coupling_map.specs.Edges.{FollowsEdges};
+ghost use Rattle.program_reader.specs.Refusals.{program_of};
+ghost use Rattle.route_report.specs.declared.lines.Report.{Report};
 ghost use Rattle.sabre_route.specs.Routing.{IsLayout};
-ghost use Rattle.qroute_top.specs.Runs.{HasFewSwaps, IsMachineRun};
-ghost use Rattle.qroute_top.specs.Settled.{IsSettled};
-ghost use Rattle.qroute_top.specs.Targets.{IsOptimised, Stands};
+ghost use Rattle.qroute_top.specs.Delivered.{IsInPlace, IsOnQubits, StandsFor};
+ghost use Rattle.qroute_top.specs.Plans.{target_program};
+ghost use Rattle.qroute_top.specs.Targets.{IsOptimised, IsTold};
 
+use crate::cost::cost_of;
 use crate::passes::rewritten;
 use circuit_list::{Circuit, Passed};
 use coupling_map::Device;
 use gate_expand::{Ops, expand};
 use placement::Placement;
+use program_reader::Source;
 use route_report::Wires;
 use sabre_route::{layout, route};
 use std::alloc::{AllocError, Global};
@@ -34,6 +37,8 @@ pub struct Target {
     pub swaps: u64,
     /// The turn `j`, below 8: the body's unitary is `w^j` times the source's, between the placements.
     pub turn: u8,
+    /// What its CNOTs cost on the device's edges, where the device lists costs.
+    pub cost: Option<u64>,
 }
 
 /// The circuit of a source's operations after all passes, and its turn against the source.
@@ -61,15 +66,12 @@ fn qubits_of(alloc: Global, placement: &Placement) -> Result<Wires, AllocError>
 }
 
 /// The circuit on its own wires.
-#[tactic(auto, using(crate::proofs::TargetLaws::targets))]
-pub fn in_place(alloc: Global, source: &Ops, passed: Passed) -> Result<Target, AllocError>
-    requires { IsOptimised source.now.wires source.now.list passed }
-    ensures stands { IfOk result (Stands source.now.wires source.now.list) }
-    ensures wires { IfOk result (λ t. t.body.wires ≡ source.now.wires) }
-    ensures settled { IfOk result (λ t. IsSettled source.now.wires (ops t.body.gates)) }
-    ensures swaps { IfOk result (λ t. t.swaps ≡ 0) }
-    ensures initial { IfOk result (λ t. t.initial ≡ identity source.now.wires) }
-    ensures last { IfOk result (λ t. t.last ≡ identity source.now.wires) }
+pub fn in_place(alloc: Global, source: &Source, passed: Passed) -> Result<Target, AllocError>
+    requires { IsOptimised source.now.ops.wires source.now.ops.list passed }
+    ensures stands { IfOk result (λ t. (told : Report) → IsTold t told → StandsFor (program_of source.now) (target_program source.now t) told) }
+    ensures placed { IfOk result (λ t. (told : Report) → IsTold t told → IsInPlace (program_of source.now) (target_program source.now t) told) }
+    ensures wires { IfOk result (λ t. t.body.wires ≡ source.now.ops.wires) }
+    ensures size { IfOk result (λ t. length t.last ≡ t.body.wires) }
 {
     let last = Placement::identity(alloc, passed.body.wires())?;
     let initial = qubits_of(alloc, &last)?;
@@ -79,6 +81,7 @@ pub fn in_place(alloc: Global, source: &Ops, passed: Passed) -> Result<Target, A
         last,
         swaps: 0,
         turn: passed.turn,
+        cost: None,
     })
 }
 
@@ -102,34 +105,36 @@ fn first_placement(
 }
 
 /// The circuit on the qubits of a device: the routing machine's run.
-#[tactic(auto, using(crate::proofs::TargetLaws::targets))]
 pub fn on_device(
     alloc: Global,
-    source: &Ops,
+    source: &Source,
     passed: &Passed,
     device: &Device,
     trivial: bool,
 ) -> Result<Target, AllocError>
-    requires optimised { IsOptimised source.now.wires source.now.list passed.now }
-    requires fits { source.now.wires ≤ device.now.size }
-    ensures stands { IfOk result (Stands source.now.wires source.now.list) }
+    requires optimised { IsOptimised source.now.ops.wires source.now.ops.list passed.now }
+    requires fits { source.now.ops.wires ≤ device.now.size }
+    requires short { length source.now.ops.list ≤ operation_limit }
+    ensures stands { IfOk result (λ t. (told : Report) → IsTold t told → StandsFor (program_of source.now) (target_program source.now t) told) }
+    ensures placed { IfOk result (λ t. (told : Report) → IsTold t told → IsOnQubits device.now trivial (program_of source.now) (target_program source.now t) told) }
     ensures wires { IfOk result (λ t. t.body.wires ≡ device.now.size) }
-    ensures edges { IfOk result (λ t. FollowsEdges device.now.edges (ops t.body.gates)) }
-    ensures initial { IfOk result (λ t. trivial ≡ true → t.initial ≡ identity device.now.size) }
-    ensures run { IfOk result (λ t. IsMachineRun device.now trivial source.now.wires source.now.list (ops t.body.gates) t.initial t.last t.swaps t.turn) }
-    ensures few_swaps { IfOk result (λ t. HasFewSwaps device.now source.now.list (ops t.body.gates) t.swaps) }
+    ensures size { IfOk result (λ t. length t.last ≡ t.body.wires) }
 {
-    // Their contracts say that the gates are on these wires, and that the device has a diameter.
+    // Their contracts say that the gates are on these wires, how many qubits a device has at most, and that it has a diameter.
     let _wires = passed.body.wires();
+    let _size = device.size();
     let _diameter = device.diameter();
     let given = first_placement(alloc, &passed.body, device, trivial)?;
     let initial = qubits_of(alloc, &given)?;
     let routed = route(alloc, &passed.body, device, given)?;
+    let _qubits = routed.body.wires();
+    let cost = cost_of(device, &routed.body);
     Ok(Target {
         body: routed.body,
         initial,
         last: routed.last,
         swaps: routed.swaps,
         turn: turn_sum(passed.turn, routed.turn),
+        cost,
     })
 }

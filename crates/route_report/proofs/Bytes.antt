@@ -1,7 +1,8 @@
 -- The lines as plain bytes, piece by piece.
 --   in_quotes             a text between quotation marks
 --   listed                whole numbers in brackets, with commas between
---   report_pieces         the pieces of the report line
+--   cost_pieces, format_piece     those of the costs, where they are told, and of the format
+--   pieces_with, report_pieces    the pieces of the report line
 --   report_line-pieces    it is these
 --   compact_text-name_of  a refusal's name stands as it is: none has a character that JSON escapes
 --   outside_pieces        the pieces of the line of a fault that is no refusal: its name, its status
@@ -9,7 +10,7 @@
 --   fault_pieces          the pieces of the line of each fault
 --   fault_line-pieces     it is these
 use Rattle.std.proofs.Common.{◌≡◌, ℕ, List, [], ◌∷◌, ◌++◌, ◌==◌, ap, append_assoc, codes, cond, map, refl}
-use Rattle.std.specs.Prelude.{Some, decimal, false, find, true}
+use Rattle.std.specs.Prelude.{Option, None, Some, decimal, false, find, true}
 use Rattle.std.specs.Fmt.{digits}
 use Rattle.std.specs.List.{concat, join_with_byte}
 use Rattle.std.specs.Option.{option_map_or}
@@ -58,24 +59,41 @@ items_text-wholes : (ns : List ℕ) →
 items_text-wholes [] = refl
 items_text-wholes (n ∷ ns) = items_text-later n ns
 
-abbrev pub report_pieces : Report → List (List ℕ)
-report_pieces r =
+-- the pieces of the costs, where they are told
+abbrev pub cost_pieces : Option ℕ → List (List ℕ)
+cost_pieces None = []
+cost_pieces (Some cost) = codes ",\"cost\":" ∷ decimal cost ∷ []
+
+abbrev pub format_piece : Option ℕ → List ℕ
+format_piece None = codes ",\"format\":1,\"initial\":"
+format_piece (Some cost) = codes ",\"format\":2,\"initial\":"
+
+abbrev pub pieces_with : Report → Option ℕ → List (List ℕ)
+pieces_with r cost =
     codes "{\"barriers\":" ∷ decimal r.barriers
-    ∷ codes ",\"cx_after\":" ∷ decimal r.cx_after
+    ∷ (cost_pieces cost
+    ++ codes ",\"cx_after\":" ∷ decimal r.cx_after
     ∷ codes ",\"cx_before\":" ∷ decimal r.cx_before
     ∷ codes ",\"device\":" ∷ decimal r.device
     ∷ codes ",\"final\":" ∷ listed r.last
-    ∷ codes ",\"format\":1,\"initial\":" ∷ listed r.initial
+    ∷ format_piece cost ∷ listed r.initial
     ∷ codes ",\"phase\":" ∷ decimal r.phase
     ∷ codes ",\"qubits\":" ∷ decimal r.qubits
     ∷ codes ",\"swaps\":" ∷ decimal r.swaps
     ∷ codes ",\"t_after\":" ∷ decimal r.t_after
     ∷ codes ",\"t_before\":" ∷ decimal r.t_before
-    ∷ codes "}" ∷ []
+    ∷ codes "}" ∷ [])
+
+abbrev pub report_pieces : Report → List (List ℕ)
+report_pieces r = pieces_with r r.cost
 
 pub report_line-pieces : (r : Report) → report_line r ≡ concat (report_pieces r) ++ 10 ∷ []
 unfolding serde_json_on_literals digits
-report_line-pieces r = rw (items_text-wholes r.last, items_text-wholes r.initial) refl
+report_line-pieces r = go r.cost
+  where
+    go : (o : Option ℕ) → report_line (record r { cost = o }) ≡ concat (pieces_with r o) ++ 10 ∷ []
+    go None = rw (items_text-wholes r.last, items_text-wholes r.initial) refl
+    go (Some cost) = rw (items_text-wholes r.last, items_text-wholes r.initial) refl
 
 abbrev pub outside_pieces : List ℕ → ℕ → List (List ℕ)
 outside_pieces name status =
@@ -108,6 +126,18 @@ fault_pieces (fault.TooFewQubits device qubits) =
     codes "{\"code\":56,\"device\":" ∷ decimal device
     ∷ codes ",\"fault\":\"TooFewQubits\",\"qubits\":" ∷ decimal qubits
     ∷ codes ",\"status\":4}" ∷ []
+fault_pieces (fault.EdgeCost from to) =
+    codes "{\"code\":57,\"fault\":\"EdgeCost\",\"from\":" ∷ decimal from
+    ∷ codes ",\"status\":4,\"to\":" ∷ decimal to ∷ codes "}" ∷ []
+fault_pieces (fault.WideProgram qubits) =
+    codes "{\"code\":70,\"fault\":\"WideProgram\",\"qubits\":" ∷ decimal qubits
+    ∷ codes ",\"status\":3}" ∷ []
+fault_pieces (fault.ManyBranches branches) =
+    codes "{\"branches\":" ∷ decimal branches
+    ∷ codes ",\"code\":71,\"fault\":\"ManyBranches\",\"status\":3}" ∷ []
+fault_pieces (fault.BitsLength qubits) =
+    codes "{\"code\":72,\"fault\":\"BitsLength\",\"qubits\":" ∷ decimal qubits
+    ∷ codes ",\"status\":3}" ∷ []
 
 refusal-alike : (code : ℕ) (kept : List (List ℕ)) →
     concat (refusal_pieces code (compact_text (string (name_of code))) kept) ++ 10 ∷ []
@@ -130,3 +160,7 @@ fault_line-pieces (fault.Statement code statement) =
 fault_line-pieces (fault.SelfEdge qubit) = refl
 fault_line-pieces (fault.NotConnected from to) = refl
 fault_line-pieces (fault.TooFewQubits device qubits) = refl
+fault_line-pieces (fault.EdgeCost from to) = refl
+fault_line-pieces (fault.WideProgram qubits) = refl
+fault_line-pieces (fault.ManyBranches branches) = refl
+fault_line-pieces (fault.BitsLength qubits) = refl

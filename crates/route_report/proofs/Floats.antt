@@ -4,7 +4,8 @@
 --   has_float-check          nor have the numbers of a check
 --   has_float-fault          nor has a fault
 --   floats                   all of them, for the check to use
-use Rattle.std.proofs.Common.{◌≡◌, ℕ, List, [], ◌∷◌, map, false, refl}
+use Rattle.std.proofs.Common.{◌≡◌, ℕ, List, [], ◌∷◌, map, false, refl, Option, None, Some, codes}
+use Rattle.serde_json.specs.Data.{member, object}
 use Rattle.serde_json.specs.View.{items_of}
 use Rattle.serde_json.specs.Written.{has_float, items_have_float}
 use Rattle.route_report.specs.declared.lines.Counts.{Counts}
@@ -13,14 +14,18 @@ use Rattle.route_report.specs.declared.faults.Fault.{Fault}
 use Rattle.route_report.specs.declared.faults.Fault.TheVariants as fault
 use Rattle.route_report.specs.Compact.{whole}
 use Rattle.route_report.specs.Faults.{fault_data}
-use Rattle.route_report.specs.Lines.{check_data, report_data}
+use Rattle.route_report.specs.Lines.{check_data, later_members, report_data, with_cost}
 
 items_have_float-wholes : (ns : List ℕ) → items_have_float (items_of (map whole ns)) ≡ false
 items_have_float-wholes [] = refl
 items_have_float-wholes (n ∷ ns) = items_have_float-wholes ns
 
 pub has_float-report : (r : Report) → has_float (report_data r) ≡ false
-has_float-report r = rw (items_have_float-wholes r.last, items_have_float-wholes r.initial) refl
+has_float-report r = go r.cost
+  where
+    go : (o : Option ℕ) → has_float (object (member (codes "barriers") (whole r.barriers) (with_cost o (later_members r)))) ≡ false
+    go None = rw (items_have_float-wholes r.last, items_have_float-wholes r.initial) refl
+    go (Some cost) = rw (items_have_float-wholes r.last, items_have_float-wholes r.initial) refl
 
 pub has_float-check : (c : Counts) → has_float (check_data c) ≡ false
 has_float-check c = refl
@@ -37,5 +42,9 @@ has_float-fault (fault.Statement code statement) = refl
 has_float-fault (fault.SelfEdge qubit) = refl
 has_float-fault (fault.NotConnected from to) = refl
 has_float-fault (fault.TooFewQubits device qubits) = refl
+has_float-fault (fault.EdgeCost from to) = refl
+has_float-fault (fault.WideProgram qubits) = refl
+has_float-fault (fault.ManyBranches branches) = refl
+has_float-fault (fault.BitsLength qubits) = refl
 
 pub ruleset floats = (has_float-report, has_float-check, has_float-fault)

@@ -1,13 +1,15 @@
 -- Lines of worked records, computed by their definitions.
-use Rattle.std.proofs.Common.{◌≡◌, [], ◌∷◌, codes, refl}
+use Rattle.std.proofs.Common.{◌≡◌, [], ◌∷◌, codes, refl, None, Some, pos, negsuc}
 use Rattle.std.specs.Fmt.{digits}
 use Rattle.serde_json.proofs.OnLiterals.{serde_json_on_literals}
 use Rattle.route_report.specs.declared.faults.Fault.TheVariants as fault
+use Rattle.route_report.specs.Entries.{entry_line}
 use Rattle.route_report.specs.Faults.{fault_line}
 use Rattle.route_report.specs.Lines.{report_line}
 
 pub one_wire : report_line (record {
   barriers = 0;
+  cost = None;
   cx_after = 0;
   cx_before = 0;
   device = 1;
@@ -24,6 +26,7 @@ one_wire = refl
 
 pub three_wires : report_line (record {
   barriers = 1;
+  cost = None;
   cx_after = 4;
   cx_before = 2;
   device = 3;
@@ -40,6 +43,7 @@ three_wires = refl
 
 pub no_wire : report_line (record {
   barriers = 0;
+  cost = None;
   cx_after = 0;
   cx_before = 0;
   device = 0;
@@ -53,6 +57,23 @@ pub no_wire : report_line (record {
 }) ≡ codes "{\"barriers\":0,\"cx_after\":0,\"cx_before\":0,\"device\":0,\"final\":[],\"format\":1,\"initial\":[],\"phase\":0,\"qubits\":0,\"swaps\":0,\"t_after\":0,\"t_before\":0}\n"
 unfolding serde_json_on_literals digits
 no_wire = refl
+
+pub costs : report_line (record {
+  barriers = 0;
+  cost = Some 4;
+  cx_after = 4;
+  cx_before = 1;
+  device = 4;
+  last = 2 ∷ 1 ∷ 0 ∷ 3 ∷ [];
+  initial = 0 ∷ 1 ∷ 2 ∷ 3 ∷ [];
+  phase = 4;
+  qubits = 4;
+  swaps = 1;
+  t_after = 0;
+  t_before = 0;
+}) ≡ codes "{\"barriers\":0,\"cost\":4,\"cx_after\":4,\"cx_before\":1,\"device\":4,\"final\":[2,1,0,3],\"format\":2,\"initial\":[0,1,2,3],\"phase\":4,\"qubits\":4,\"swaps\":1,\"t_after\":0,\"t_before\":0}\n"
+unfolding serde_json_on_literals digits
+costs = refl
 
 pub words : fault_line fault.Words ≡ codes "{\"fault\":\"Words\",\"status\":2}\n"
 unfolding serde_json_on_literals digits
@@ -101,3 +122,23 @@ not_connected = refl
 pub too_few_qubits : fault_line (fault.TooFewQubits 4 5) ≡ codes "{\"code\":56,\"device\":4,\"fault\":\"TooFewQubits\",\"qubits\":5,\"status\":4}\n"
 unfolding serde_json_on_literals digits
 too_few_qubits = refl
+
+pub edge_cost : fault_line (fault.EdgeCost 0 1) ≡ codes "{\"code\":57,\"fault\":\"EdgeCost\",\"from\":0,\"status\":4,\"to\":1}\n"
+unfolding serde_json_on_literals digits
+edge_cost = refl
+
+pub wide_program : fault_line (fault.WideProgram 13) ≡ codes "{\"code\":70,\"fault\":\"WideProgram\",\"qubits\":13,\"status\":3}\n"
+unfolding serde_json_on_literals digits
+wide_program = refl
+
+pub many_branches : fault_line (fault.ManyBranches 61) ≡ codes "{\"branches\":61,\"code\":71,\"fault\":\"ManyBranches\",\"status\":3}\n"
+unfolding serde_json_on_literals digits
+many_branches = refl
+
+pub bits_length : fault_line (fault.BitsLength 1) ≡ codes "{\"code\":72,\"fault\":\"BitsLength\",\"qubits\":1,\"status\":3}\n"
+unfolding serde_json_on_literals digits
+bits_length = refl
+
+pub half_entry : entry_line (record { a = negsuc 0; b = pos 0; c = negsuc 0; d = pos 0; e = 1 }) ≡ codes "-1 0 -1 0 1\n"
+unfolding digits
+half_entry = refl

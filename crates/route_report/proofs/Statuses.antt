@@ -7,5 +7,5 @@ use Rattle.route_report.specs.Refusals.{stops_with}
 pub stops_with-program : (code : ℕ) → code < 50 → stops_with code ≡ 3
 stops_with-program code below = grind arith
 
-pub stops_with-device : (code : ℕ) → 50 ≤ code → code ≤ 56 → stops_with code ≡ 4
+pub stops_with-device : (code : ℕ) → 50 ≤ code → code ≤ 57 → stops_with code ≡ 4
 stops_with-device code from to = grind arith

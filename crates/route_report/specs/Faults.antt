@@ -8,7 +8,7 @@ use Rattle.serde_json.specs.Data.{Data, member, no_members, object, string}
 use Rattle.route_report.specs.declared.faults.Fault.{Fault}
 use Rattle.route_report.specs.declared.faults.Fault.TheVariants as fault
 use Rattle.route_report.specs.Compact.{line, whole}
-use Rattle.route_report.specs.Refusals.{name_of, not_connected, self_edge, stops_with, too_few_qubits}
+use Rattle.route_report.specs.Refusals.{bits_length, edge_cost, many_branches, name_of, not_connected, self_edge, stops_with, too_few_qubits, wide_program}
 
 abbrev pub status_of : Fault → ℕ
 status_of fault.Words = 2
@@ -22,6 +22,10 @@ status_of (fault.Statement code statement) = stops_with code
 status_of (fault.SelfEdge qubit) = stops_with self_edge
 status_of (fault.NotConnected from to) = stops_with not_connected
 status_of (fault.TooFewQubits device qubits) = stops_with too_few_qubits
+status_of (fault.EdgeCost from to) = stops_with edge_cost
+status_of (fault.WideProgram qubits) = stops_with wide_program
+status_of (fault.ManyBranches branches) = stops_with many_branches
+status_of (fault.BitsLength qubits) = stops_with bits_length
 
 abbrev pub outside_data : List ℕ → ℕ → Data
 outside_data name status = object
@@ -65,6 +69,27 @@ fault_data (fault.TooFewQubits device qubits) = object
     (member (codes "fault") (string (name_of too_few_qubits))
     (member (codes "qubits") (whole qubits)
     (member (codes "status") (whole (stops_with too_few_qubits)) no_members)))))
+fault_data (fault.EdgeCost from to) = object
+    (member (codes "code") (whole edge_cost)
+    (member (codes "fault") (string (name_of edge_cost))
+    (member (codes "from") (whole from)
+    (member (codes "status") (whole (stops_with edge_cost))
+    (member (codes "to") (whole to) no_members)))))
+fault_data (fault.WideProgram qubits) = object
+    (member (codes "code") (whole wide_program)
+    (member (codes "fault") (string (name_of wide_program))
+    (member (codes "qubits") (whole qubits)
+    (member (codes "status") (whole (stops_with wide_program)) no_members))))
+fault_data (fault.ManyBranches branches) = object
+    (member (codes "branches") (whole branches)
+    (member (codes "code") (whole many_branches)
+    (member (codes "fault") (string (name_of many_branches))
+    (member (codes "status") (whole (stops_with many_branches)) no_members))))
+fault_data (fault.BitsLength qubits) = object
+    (member (codes "code") (whole bits_length)
+    (member (codes "fault") (string (name_of bits_length))
+    (member (codes "qubits") (whole qubits)
+    (member (codes "status") (whole (stops_with bits_length)) no_members))))
 
 abbrev pub fault_line : Fault → List ℕ
 fault_line f = line (fault_data f)

@@ -3,3 +3,4 @@ pub mod Compact
 pub mod Refusals
 pub mod Lines
 pub mod Faults
+pub mod Entries

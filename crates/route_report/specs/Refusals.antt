@@ -1,5 +1,5 @@
--- The refusals of a program's text and of a device's text, by their codes.
---   self_edge, not_connected, too_few_qubits
+-- The refusals of a program's text, of a device's text and of a question on a program, by their codes.
+--   self_edge, not_connected, too_few_qubits, edge_cost, wide_program, many_branches, bits_length
 --               the codes of the refusals that tell more than their code
 --   refusals    the table: code and name
 --   name_of     the name of a code ("Unknown" where the table has none)
@@ -15,6 +15,18 @@ not_connected = 54
 
 abbrev pub too_few_qubits : ℕ
 too_few_qubits = 56
+
+abbrev pub edge_cost : ℕ
+edge_cost = 57
+
+abbrev pub wide_program : ℕ
+wide_program = 70
+
+abbrev pub many_branches : ℕ
+many_branches = 71
+
+abbrev pub bits_length : ℕ
+bits_length = 72
 
 abbrev pub refusals : List (ℕ × List ℕ)
 refusals =
@@ -51,12 +63,16 @@ refusals =
     (not_connected, codes "NotConnected") ∷
     (55, codes "DeviceTooLong") ∷
     (too_few_qubits, codes "TooFewQubits") ∷
+    (edge_cost, codes "EdgeCost") ∷
     (60, codes "TextTooLong") ∷
+    (wide_program, codes "WideProgram") ∷
+    (many_branches, codes "ManyBranches") ∷
+    (bits_length, codes "BitsLength") ∷
     []
 
 abbrev pub name_of : ℕ → List ℕ
 name_of code = option_map_or (λ row. row.1) (find (λ row. row.0 == code) refusals) (codes "Unknown")
 
--- those of a device's text have codes from 50 to 56
+-- those of a device's text have codes from 50 to 57
 abbrev pub stops_with : ℕ → ℕ
-stops_with code = if nat_le 50 code && nat_le code 56 then 4 else 3
+stops_with code = if nat_le 50 code && nat_le code 57 then 4 else 3

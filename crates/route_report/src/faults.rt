@@ -4,7 +4,10 @@ ghost use Rattle.std.specs.Prelude.{◌≡◌, IfOk};
 ghost use Rattle.serde_json.specs.View.{view};
 ghost use Rattle.route_report.specs.Faults.{fault_data, outside_data, status_of};
 
-use crate::refusals::{NOT_CONNECTED, SELF_EDGE, TOO_FEW_QUBITS, refusal_name, refusal_status};
+use crate::refusals::{
+    BITS_LENGTH, EDGE_COST, MANY_BRANCHES, NOT_CONNECTED, SELF_EDGE, TOO_FEW_QUBITS, WIDE_PROGRAM,
+    refusal_name, refusal_status,
+};
 use serde_json::{Value, json};
 use std::alloc::{AllocError, Global};
 
@@ -33,6 +36,14 @@ pub enum Fault {
     NotConnected { from: u32, to: u32 },
     /// The device has fewer qubits than the program.
     TooFewQubits { device: u32, qubits: u32 },
+    /// An edge of the device, from control to target, has a cost out of range.
+    EdgeCost { from: u32, to: u32 },
+    /// The program has too many qubits for an entry of its unitary.
+    WideProgram { qubits: u32 },
+    /// So many of its operations branch, more than an entry is told of.
+    ManyBranches { branches: u64 },
+    /// There aren't as many bits as the program has qubits.
+    BitsLength { qubits: u32 },
 }
 
 /// The status that the program ends with, from 2 to 9.
@@ -49,6 +60,10 @@ pub fn status(fault: &Fault) -> u8
         Fault::SelfEdge { .. } => refusal_status(SELF_EDGE),
         Fault::NotConnected { .. } => refusal_status(NOT_CONNECTED),
         Fault::TooFewQubits { .. } => refusal_status(TOO_FEW_QUBITS),
+        Fault::EdgeCost { .. } => refusal_status(EDGE_COST),
+        Fault::WideProgram { .. } => refusal_status(WIDE_PROGRAM),
+        Fault::ManyBranches { .. } => refusal_status(MANY_BRANCHES),
+        Fault::BitsLength { .. } => refusal_status(BITS_LENGTH),
     }
 }
 
@@ -69,6 +84,10 @@ pub(crate) fn fault_value(alloc: Global, fault: &Fault) -> Result<Value, AllocEr
         Fault::SelfEdge { qubit } => self_edge_value(alloc, qubit),
         Fault::NotConnected { from, to } => not_connected_value(alloc, from, to),
         Fault::TooFewQubits { device, qubits } => too_few_value(alloc, device, qubits),
+        Fault::EdgeCost { from, to } => edge_cost_value(alloc, from, to),
+        Fault::WideProgram { qubits } => wide_value(alloc, qubits),
+        Fault::ManyBranches { branches } => many_value(alloc, branches),
+        Fault::BitsLength { qubits } => length_value(alloc, qubits),
     }
 }
 
@@ -124,4 +143,32 @@ fn too_few_value(alloc: Global, device: u32, qubits: u32) -> Result<Value, Alloc
         "qubits": qubits,
         "status": status
     })
+}
+
+fn edge_cost_value(alloc: Global, from: u32, to: u32) -> Result<Value, AllocError>
+    ensures { IfOk result (λ v. view v ≡ fault_data (Fault.EdgeCost from to)) }
+{
+    let (name, status) = (refusal_name(EDGE_COST), refusal_status(EDGE_COST));
+    json!(in alloc; {"code": EDGE_COST, "fault": name, "from": from, "status": status, "to": to})
+}
+
+fn wide_value(alloc: Global, qubits: u32) -> Result<Value, AllocError>
+    ensures { IfOk result (λ v. view v ≡ fault_data (Fault.WideProgram qubits)) }
+{
+    let (name, status) = (refusal_name(WIDE_PROGRAM), refusal_status(WIDE_PROGRAM));
+    json!(in alloc; {"code": WIDE_PROGRAM, "fault": name, "qubits": qubits, "status": status})
+}
+
+fn many_value(alloc: Global, branches: u64) -> Result<Value, AllocError>
+    ensures { IfOk result (λ v. view v ≡ fault_data (Fault.ManyBranches branches)) }
+{
+    let (name, status) = (refusal_name(MANY_BRANCHES), refusal_status(MANY_BRANCHES));
+    json!(in alloc; {"branches": branches, "code": MANY_BRANCHES, "fault": name, "status": status})
+}
+
+fn length_value(alloc: Global, qubits: u32) -> Result<Value, AllocError>
+    ensures { IfOk result (λ v. view v ≡ fault_data (Fault.BitsLength qubits)) }
+{
+    let (name, status) = (refusal_name(BITS_LENGTH), refusal_status(BITS_LENGTH));
+    json!(in alloc; {"code": BITS_LENGTH, "fault": name, "qubits": qubits, "status": status})
 }

@@ -1,8 +1,8 @@
-//! The lines of JSON that a run tells of itself.
+//! The lines that a run tells.
 //!
 //! A `Report`, the `Counts` of a checked program, or a `Fault` goes in, and the bytes of its line come out: one compact JSON object with its
-//! keys in the order of their bytes, then a line break. The contracts give these bytes exactly, and the
-//! status that a fault ends with. Every record has a line; the only error is want of memory.
+//! keys in the order of their bytes, then a line break. An `Entry` of a unitary is a line of five numbers. The contracts give these
+//! bytes exactly, and the status that a fault ends with. Every record has a line; the only error is want of memory.
 #![tactic(auto)]
 
 ghost use Rattle.std.specs.Prelude.{◌≡◌, IfOk};
@@ -12,11 +12,13 @@ ghost use Rattle.route_report.specs.Lines.{check_line, report_line};
 use std::alloc::{AllocError, Global};
 
 mod compact;
+pub mod entries;
 pub mod faults;
 pub mod lines;
 mod refusals;
 pub mod wires;
 
+pub use entries::{Entry, entry_line};
 pub use faults::{Fault, status};
 pub use lines::{Counts, Report};
 pub use wires::Wires;

@@ -1,8 +1,10 @@
 //! What a run tells of itself.
 
-ghost use Rattle.std.specs.Prelude.{◌≡◌, IfOk};
+ghost use Rattle.std.specs.Prelude.{◌≡◌, IfOk, codes};
 ghost use Rattle.serde_json.specs.View.{view};
-ghost use Rattle.route_report.specs.Lines.{check_data, report_data};
+ghost use Rattle.serde_json.specs.Data.{Members, member, object, put};
+ghost use Rattle.route_report.specs.Compact.{whole};
+ghost use Rattle.route_report.specs.Lines.{check_data, format_of, later_members, report_data};
 
 use crate::compact::number_array;
 use crate::wires::Wires;
@@ -16,6 +18,8 @@ use std::alloc::{AllocError, Global};
 pub struct Report {
     /// Barrier statements of the source, outside gate bodies.
     pub barriers: u64,
+    /// The sum of what the CNOTs of the written program cost on their edges, where the device lists costs.
+    pub cost: Option<u64>,
     /// CNOTs of the written program.
     pub cx_after: u64,
     /// CNOTs of the source's operations.
@@ -55,19 +59,30 @@ pub struct Counts {
     pub t: u64,
 }
 
-/// The JSON object of a report.
-pub(crate) fn report_value(alloc: Global, report: &Report) -> Result<Value, AllocError>
-    ensures { IfOk result (λ v. view v ≡ report_data report.now) }
+/// The format of a report: 2 where costs are told, else 1.
+fn format_number(cost: Option<u64>) -> u8
+    ensures { result ≡ format_of cost }
+{
+    match cost {
+        None => 1,
+        Some(_cost) => 2,
+    }
+}
+
+/// The JSON object of a report but for its costs.
+fn costless_value(alloc: Global, report: &Report) -> Result<Value, AllocError>
+    ensures { IfOk result (λ v. view v ≡ object (member (codes "barriers") (whole report.now.barriers) (later_members report.now))) }
 {
     let last = number_array(alloc, report.last.as_slice())?;
     let initial = number_array(alloc, report.initial.as_slice())?;
+    let format = format_number(report.cost);
     json!(in alloc; {
         "barriers": report.barriers,
         "cx_after": report.cx_after,
         "cx_before": report.cx_before,
         "device": report.device,
         "final": last,
-        "format": 1u8,
+        "format": format,
         "initial": initial,
         "phase": report.phase,
         "qubits": report.qubits,
@@ -75,6 +90,30 @@ pub(crate) fn report_value(alloc: Global, report: &Report) -> Result<Value, Allo
         "t_after": report.t_after,
         "t_before": report.t_before
     })
+}
+
+/// An object with a member more.
+fn with_member(alloc: Global, value: Value, key: &str, member: Value) -> Result<Value, AllocError>
+    ensures { IfOk result (λ v. (ms : Members) → view value ≡ object ms → view v ≡ object (put key.now (view member) ms)) }
+{
+    match value {
+        Value::Object(mut map) => {
+            serde_json::put(&mut map, alloc, key, member)?;
+            Ok(Value::Object(map))
+        }
+        other => Ok(other),
+    }
+}
+
+/// The JSON object of a report.
+pub(crate) fn report_value(alloc: Global, report: &Report) -> Result<Value, AllocError>
+    ensures { IfOk result (λ v. view v ≡ report_data report.now) }
+{
+    let value = costless_value(alloc, report)?;
+    match report.cost {
+        None => Ok(value),
+        Some(cost) => Ok(with_member(alloc, value, "cost", Value::from(cost))?),
+    }
 }
 
 /// The JSON object of a checked program's numbers.

@@ -1,4 +1,4 @@
-//! The refusals of a program's text and of a device's text, by their codes.
+//! The refusals of a program's text, of a device's text and of a question on a program, by their codes.
 
 ghost use Rattle.std.specs.Prelude.{◌≡◌};
 ghost use Rattle.route_report.specs.Refusals.{name_of, stops_with};
@@ -8,6 +8,14 @@ pub(crate) const SELF_EDGE: u8 = 53;
 pub(crate) const NOT_CONNECTED: u8 = 54;
 
 pub(crate) const TOO_FEW_QUBITS: u8 = 56;
+
+pub(crate) const EDGE_COST: u8 = 57;
+
+pub(crate) const WIDE_PROGRAM: u8 = 70;
+
+pub(crate) const MANY_BRANCHES: u8 = 71;
+
+pub(crate) const BITS_LENGTH: u8 = 72;
 
 /// The name of a refusal.
 pub(crate) fn refusal_name(code: u8) -> &'static str
@@ -47,7 +55,11 @@ pub(crate) fn refusal_name(code: u8) -> &'static str
         NOT_CONNECTED => "NotConnected",
         55 => "DeviceTooLong",
         TOO_FEW_QUBITS => "TooFewQubits",
+        EDGE_COST => "EdgeCost",
         60 => "TextTooLong",
+        WIDE_PROGRAM => "WideProgram",
+        MANY_BRANCHES => "ManyBranches",
+        BITS_LENGTH => "BitsLength",
         _ => "Unknown",
     }
 }
@@ -57,7 +69,7 @@ pub(crate) fn refusal_status(code: u8) -> u8
     ensures { result ≡ stops_with code }
 {
     match code {
-        50..=56 => 4,
+        50..=57 => 4,
         _ => 3,
     }
 }

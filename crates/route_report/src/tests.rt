@@ -1,10 +1,13 @@
-use crate::{Counts, Fault, Report, Wires, check_line, fault_line, report_line, status};
+use crate::{
+    Counts, Entry, Fault, Report, Wires, check_line, entry_line, fault_line, report_line, status,
+};
 use std::test::Fail;
 
 #[test]
 fn writes_the_worked_lines(rt: HostRuntime) -> Result<(), Fail> {
     let one_wire = Report {
         barriers: 0,
+        cost: None,
         cx_after: 0,
         cx_before: 0,
         device: 1,
@@ -18,6 +21,7 @@ fn writes_the_worked_lines(rt: HostRuntime) -> Result<(), Fail> {
     };
     let three_wires = Report {
         barriers: 1,
+        cost: None,
         cx_after: 4,
         cx_before: 2,
         device: 3,
@@ -31,6 +35,7 @@ fn writes_the_worked_lines(rt: HostRuntime) -> Result<(), Fail> {
     };
     let no_wire = Report {
         barriers: 0,
+        cost: None,
         cx_after: 0,
         cx_before: 0,
         device: 0,
@@ -42,7 +47,25 @@ fn writes_the_worked_lines(rt: HostRuntime) -> Result<(), Fail> {
         t_after: 0,
         t_before: 0,
     };
+    let costed = Report {
+        barriers: 0,
+        cost: Some(4),
+        cx_after: 4,
+        cx_before: 1,
+        device: 4,
+        last: Wires::new(vec![in rt.alloc(); 2, 1, 0, 3]?),
+        initial: Wires::new(vec![in rt.alloc(); 0, 1, 2, 3]?),
+        phase: 4,
+        qubits: 4,
+        swaps: 1,
+        t_after: 0,
+        t_before: 0,
+    };
     for (report, want) in [
+        (
+            &costed,
+            "{\"barriers\":0,\"cost\":4,\"cx_after\":4,\"cx_before\":1,\"device\":4,\"final\":[2,1,0,3],\"format\":2,\"initial\":[0,1,2,3],\"phase\":4,\"qubits\":4,\"swaps\":1,\"t_after\":0,\"t_before\":0}\n",
+        ),
         (
             &one_wire,
             "{\"barriers\":0,\"cx_after\":0,\"cx_before\":0,\"device\":1,\"final\":[0],\"format\":1,\"initial\":[0],\"phase\":0,\"qubits\":1,\"swaps\":0,\"t_after\":1,\"t_before\":1}\n",
@@ -112,6 +135,26 @@ fn writes_the_worked_lines(rt: HostRuntime) -> Result<(), Fail> {
             4,
             "{\"code\":56,\"device\":4,\"fault\":\"TooFewQubits\",\"qubits\":5,\"status\":4}\n",
         ),
+        (
+            Fault::EdgeCost { from: 0, to: 1 },
+            4,
+            "{\"code\":57,\"fault\":\"EdgeCost\",\"from\":0,\"status\":4,\"to\":1}\n",
+        ),
+        (
+            Fault::WideProgram { qubits: 13 },
+            3,
+            "{\"code\":70,\"fault\":\"WideProgram\",\"qubits\":13,\"status\":3}\n",
+        ),
+        (
+            Fault::ManyBranches { branches: 61 },
+            3,
+            "{\"branches\":61,\"code\":71,\"fault\":\"ManyBranches\",\"status\":3}\n",
+        ),
+        (
+            Fault::BitsLength { qubits: 1 },
+            3,
+            "{\"code\":72,\"fault\":\"BitsLength\",\"qubits\":1,\"status\":3}\n",
+        ),
     ] {
         assert_eq!(rt; status(&fault), ends_with, "{want}");
         assert_eq!(rt;
@@ -152,6 +195,35 @@ fn writes_the_check_lines(rt: HostRuntime) -> Result<(), Fail> {
         ),
     ] {
         let line = check_line(rt.alloc(), counts)?;
+        assert_eq!(rt; line.as_slice(), want.as_bytes());
+    }
+    Ok(())
+}
+
+#[test]
+fn writes_the_entry_lines(rt: HostRuntime) -> Result<(), Fail> {
+    let half = Entry {
+        a: -1,
+        b: 0,
+        c: -1,
+        d: 0,
+        e: 1,
+    };
+    let large = Entry {
+        a: 1329227995784915872903807060280344576,
+        b: -1329227995784915872903807060280344576,
+        c: 0,
+        d: 7,
+        e: 60,
+    };
+    for (entry, want) in [
+        (&half, "-1 0 -1 0 1\n"),
+        (
+            &large,
+            "1329227995784915872903807060280344576 -1329227995784915872903807060280344576 0 7 60\n",
+        ),
+    ] {
+        let line = entry_line(rt.alloc(), entry)?;
         assert_eq!(rt; line.as_slice(), want.as_bytes());
     }
     Ok(())

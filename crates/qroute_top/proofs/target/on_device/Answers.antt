@@ -1,18 +1,45 @@
 -- From the circuit's unitary to the source's, and the machine's run.
+use Rattle.std.proofs.Common.{refl, sym, ◌∙◌, ap, arith, map}
 use Rattle.circuit_list.specs.Gates.{ops}
-use Rattle.qroute_top.proofs.TargetLaws.{HasFewSwaps-routed, IsMachineRun-routed, Stands-routed}
+use Rattle.unitary_model.specs.Placement.{identity}
+use Rattle.qroute_top.specs.Delivered.{placed_read}
+use Rattle.qroute_top.proofs.CostLaws.{listed-few}
+use Rattle.qroute_top.proofs.PlanLaws.{plain_of}
+use Rattle.qroute_top.proofs.TargetLaws.{HasFewSwaps-routed, IsMachineRun-routed, Realises-routed}
 use Rattle.qroute_top.proofs.target.on_device.Goals as goal
 
 pub returns-clause-stands : goal.returns-clause-stands
 returns-clause-stands c =
-    Stands-routed _ _ _ c.args.passed.now _ _ _ c.requires.optimised c.in_ok-routed.ensures.wires c.in_ok-routed.ensures.realises c.in_ok-initial.ensures
-    c.turn_sum.ensures.sum c.in_ok-routed.ensures.t_count c.in_ok-routed.ensures.cx_count
+    let is = c.requires.optimised in
+    let r = c.in_ok-routed.ensures in
+    λ told t. record {
+      registers = refl;
+      plain = plain_of _ _ c.wires-qubits.ensures.fine;
+      unitary = Realises-routed _ _ _ _ c.args.passed.now _ _ _ _ _ _ _ is r.wires r.realises (t.initial ∙ c.in_ok-initial.ensures) t.last
+          (t.phase ∙ c.turn_sum.ensures.sum);
+      reads = ap (λ p. map (placed_read p) c.args.source.now.ops.reads) (sym t.last);
+      t_gates = let few = is.t_gates in let same = r.t_count in omega (arith, few, same);
+      cx_gates = let few = is.cx_gates in let more = r.cx_count in let swaps = t.swaps in omega (arith, few, more, swaps);
+    }
 
-pub returns-clause-run : goal.returns-clause-run
-returns-clause-run c =
-    rw c.in_ok-initial.ensures
-    (IsMachineRun-routed _ _ _ _ c.args.passed.now _ _ _ c.requires.optimised c.wires-wires.ensures.fine c.in_ok-routed.ensures.run c.turn_sum.ensures.sum c.in_ok-given.ensures.laid_out)
+pub returns-clause-placed : goal.returns-clause-placed
+returns-clause-placed c =
+    let is = c.requires.optimised in
+    let r = c.in_ok-routed.ensures in
+    λ told t. record {
+      qubits = r.wires;
+      edges = r.edges;
+      placed = λ e. t.initial ∙ c.in_ok-initial.ensures ∙ c.in_ok-given.ensures.trivial e ∙ sym (ap identity r.wires);
+      run = rw (t.initial, t.last, t.swaps, t.phase, c.in_ok-initial.ensures)
+          (IsMachineRun-routed _ _ _ _ c.args.passed.now _ _ _ is c.wires-wires.ensures.fine r.run c.turn_sum.ensures.sum c.in_ok-given.ensures.laid_out);
+      swaps = rw t.swaps
+          (HasFewSwaps-routed _ _ (ops c.args.passed.now.body.gates) _ _ _ c.diameter-diameter.ensures.diameter is.cx_gates r.few_swaps r.cx_count);
+      cost = t.cost ∙ c.cost_of-cost.ensures;
+    }
 
-pub returns-clause-few_swaps : goal.returns-clause-few_swaps
-returns-clause-few_swaps c =
-    HasFewSwaps-routed _ _ (ops c.args.passed.now.body.gates) _ _ _ c.diameter-diameter.ensures.diameter c.requires.optimised.cx_gates c.in_ok-routed.ensures.few_swaps c.in_ok-routed.ensures.cx_count
+pub cost_of-cost-requires-clause-few : goal.cost_of-cost-requires-clause-few
+cost_of-cost-requires-clause-few c =
+    let r = c.in_ok-routed.ensures in
+    let size = c.size-size.ensures in
+    λ listed. listed-few c.args.device.now c.args.source.now.ops.list _ _ _ c.diameter-diameter.result listed size.coupling.graph.limited
+    c.requires.optimised.cx_gates c.requires.short (r.few_swaps _ c.diameter-diameter.ensures.diameter) r.cx_count

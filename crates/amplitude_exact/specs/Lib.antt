@@ -1,0 +1,5 @@
+-- ---- definitions that public clauses reach
+pub mod Entries
+pub mod Values
+-- ---- working forms
+pub mod Columns

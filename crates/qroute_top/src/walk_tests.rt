@@ -1,0 +1,143 @@
+//! `opt` against its passes one by one in their written order, and against another program's texts.
+
+use crate::cases_tests::{HEAD, run_opt};
+use crate::source::drawn_source;
+use crate::target::optimised;
+use circuit_list::Passed;
+use gate_cancel::CancelPass;
+use gate_expand::expand;
+use hadamard_reduce::HadamardPass;
+use not_propagate::NotPass;
+use phase_poly::ResynthPass;
+use rewrite_pass::Pass;
+use rotation_merge::MergePass;
+use std::alloc::{AllocError, Global};
+use std::test::Fail;
+
+/// What one more pass makes.
+fn after<P: Pass>(alloc: Global, before: Passed, pass: &P) -> Result<Passed, AllocError> {
+    let Passed { body, turn } = pass.run(alloc, before.body)?;
+    Ok(Passed {
+        body,
+        turn: before.turn.wrapping_add(turn) % 8,
+    })
+}
+
+/// One round: NOT propagation, Hadamard reduction, cancellation, rotation merging.
+fn round(alloc: Global, before: Passed) -> Result<Passed, AllocError> {
+    let first = after(alloc, before, &NotPass)?;
+    let second = after(alloc, first, &HadamardPass)?;
+    let third = after(alloc, second, &CancelPass)?;
+    after(alloc, third, &MergePass)
+}
+
+/// Rounds as long as one more leaves fewer gates; one that doesn't is dropped.
+fn rounds(alloc: Global, before: Passed) -> Result<Passed, AllocError> {
+    let mut kept = round(alloc, before)?;
+    'rounds: for _ in 0..u64::MAX {
+        let copy = Passed {
+            body: kept.body.copy()?,
+            turn: kept.turn,
+        };
+        let next = round(alloc, copy)?;
+        if next.body.len() >= kept.body.len() {
+            break;
+        }
+        kept = next;
+    }
+    Ok(kept)
+}
+
+/// Hadamard reduction, cancellation and rotation merging, as long as the last two leave fewer gates than the first.
+fn settled(alloc: Global, before: Passed) -> Result<Passed, AllocError> {
+    let mut kept = before;
+    'turns: for _ in 0..u64::MAX {
+        let first = after(alloc, kept, &HadamardPass)?;
+        let count = first.body.len();
+        let second = after(alloc, first, &CancelPass)?;
+        kept = after(alloc, second, &MergePass)?;
+        if kept.body.len() >= count {
+            break;
+        }
+    }
+    Ok(kept)
+}
+
+/// Programs that are drawn for 2 to 5 wires: the gates and the turn are those of the passes one by one.
+#[test]
+fn keeps_the_order_of_the_passes(rt: HostRuntime) -> Result<(), Fail> {
+    let alloc = rt.alloc();
+    'starts: for start in 0..120u32 {
+        let source = drawn_source(alloc, start, 70, start % 4 + 2)?;
+        let rounded = rounds(alloc, expand(alloc, &source.ops)?)?;
+        let want = settled(alloc, after(alloc, rounded, &ResynthPass)?)?;
+        let got = optimised(alloc, &source.ops)?;
+        assert_eq!(rt; got.turn, want.turn, "{start}");
+        assert_eq!(rt; got.body.len(), want.body.len(), "{start}");
+        'gates: for place in 0..got.body.len().min(want.body.len()) {
+            assert!(rt; got.body.gate(place) == want.body.gate(place), "{start}");
+        }
+    }
+    Ok(())
+}
+
+/// The next number below a limit: the upper 31 bits of a linear congruence modulo 2^64.
+fn draw(state: &mut u64, limit: u32) -> u32 {
+    *state = state
+        .wrapping_mul(6_364_136_223_846_793_005)
+        .wrapping_add(1_442_695_040_888_963_407);
+    (*state >> 33) as u32 % limit.max(1)
+}
+
+/// A program of so many gates, each of one of the kinds, on drawn wires.
+fn drawn(alloc: Global, row: (u64, u32, u32, &str)) -> Result<String, AllocError> {
+    let (start, wires, gates, kinds) = row;
+    let mut state = start;
+    let mut text = format!(in alloc; "{HEAD}qreg q[{wires}];\n")?;
+    'gates: for _ in 0..gates {
+        let kind = draw(&mut state, 8) as usize;
+        let name = kinds.split(' ').nth(kind).unwrap_or("h");
+        let wire = draw(&mut state, wires);
+        if name == "cx" {
+            let steps = u64::from(draw(&mut state, wires.saturating_sub(1)));
+            let target = (u64::from(wire) + 1 + steps) % u64::from(wires.max(1));
+            write!(text, "cx q[{wire}],q[{target}];\n")?;
+        } else {
+            write!(text, "{name} q[{wire}];\n")?;
+        }
+    }
+    Ok(text)
+}
+
+/// The checksum of bytes by Fowler, Noll and Vo (1a, 64 bits), behind that of others.
+fn checksum(before: u64, bytes: &[u8]) -> u64 {
+    let mut sum = before;
+    'bytes: for byte in bytes {
+        sum = (sum ^ u64::from(*byte)).wrapping_mul(0x100_0000_01b3);
+    }
+    sum
+}
+
+/// Starts, wires, gates, the eight kinds that they are drawn from, and the checksum of output and report as another program,
+/// made apart from this one from its specification, has them.
+#[test]
+fn writes_what_another_program_writes(rt: HostRuntime) -> Result<(), Fail> {
+    let alloc = rt.alloc();
+    let rows = [
+        (1, 3, 60, "h t tdg s x cx cx cx", 0xe6a7_3702_4cef_cb35),
+        (2, 4, 100, "h t cx cx s cx x cx", 0xcc13_e041_7f8e_d469),
+        (3, 5, 140, "h t tdg s x cx cx cx", 0xd63a_3c8e_37aa_c477),
+        (4, 5, 200, "h t cx cx s cx tdg cx", 0xbbe5_ba18_eee8_102a),
+        (5, 6, 240, "h t cx cx x cx cx cx", 0x1ebe_cb04_aceb_adf6),
+        (6, 7, 300, "h t tdg s x cx cx cx", 0x744a_aacf_74e2_013b),
+        (7, 8, 300, "h t cx cx s cx cx cx", 0xb33e_cf58_1808_86af),
+        (8, 8, 180, "h s cx x tdg cx t h", 0x2640_3cf6_81aa_93de),
+    ];
+    'rows: for (start, wires, gates, kinds, want) in rows {
+        let text = drawn(alloc, (start, wires, gates, kinds))?;
+        let got = run_opt(alloc, &rt, text.as_str())?;
+        let sum = checksum(0xcbf2_9ce4_8422_2325, &got.out);
+        assert_eq!(rt; checksum(sum, &got.report), want, "{start}");
+    }
+    Ok(())
+}
