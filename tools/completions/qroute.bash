@@ -9,14 +9,15 @@ _qroute() {
         word=
     fi
     if [ "$COMP_CWORD" -eq 1 ]; then
-        mapfile -t COMPREPLY < <(compgen -W "opt route check stages bench" -- "$word")
+        mapfile -t COMPREPLY < <(compgen -W "opt route check stages amplitude bench" -- "$word")
         return
     fi
     case "${COMP_WORDS[1]}" in
         route) options="--device --trivial" ;;
+        amplitude) options="--from --to" ;;
         bench) options="--start --gates --device" ;;
     esac
-    if [ -z "$options" ] || [ "$before" = --start ] || [ "$before" = --gates ]; then
+    if [ -z "$options" ] || [ "$before" = --start ] || [ "$before" = --gates ] || [ "$before" = --from ] || [ "$before" = --to ]; then
         return
     elif [ "$before" = --device ]; then
         mapfile -t COMPREPLY < <(compgen -f -X '!*.toml' -- "$word"; compgen -d -- "$word")

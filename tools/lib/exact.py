@@ -1,7 +1,8 @@
 """State vectors over the ring Z[w], w being the eighth root of unity: exact, with no float.
 
 A value is four whole numbers a, b, c, d for a + b w + c w^2 + d w^3. A state of n wires is a list of 2^n values, in which
-bit i of the index is wire i, and a number of halvings: the state is the list divided by the square root of 2 so often.
+bit i of the index is wire i, and a number of halvings: the state is the list divided by the square root of 2 so often. A
+sparse state has the values that aren't 0 alone, by their indices, on any number of wires.
 """
 
 ZERO = (0, 0, 0, 0)
@@ -123,6 +124,43 @@ class State:
         self.halvings += halvings
 
 
+class Overgrown(Exception):
+    """A sparse state that takes more work than it may."""
+
+
+class Sparse:
+    """The basis state of an index, and what becomes of it by so many changes of values at most."""
+
+    def __init__(self, index, most):
+        self.values = {index: (1, 0, 0, 0)}
+        self.halvings = 0
+        self.left = most
+
+    def run(self, operations):
+        for it in operations:
+            self.left -= len(self.values)
+            if self.left < 0:
+                raise Overgrown
+            if it[0] == "CX":
+                control, flip = it[1], 1 << it[2]
+                self.values = {i ^ flip if i >> control & 1 else i: value for i, value in self.values.items()}
+            else:
+                self._u(*entries(*it[1:4]), it[4])
+        return self
+
+    def _u(self, rows, halvings, wire):
+        found = {}
+        for i, value in self.values.items():
+            bit = i >> wire & 1
+            for row in (0, 1):
+                if rows[row][bit]:
+                    j = i ^ (bit ^ row) << wire
+                    part = weighed(rows[row][bit], value)
+                    found[j] = added(found[j], part) if j in found else part
+        self.values = {i: value for i, value in found.items() if value != ZERO}
+        self.halvings += halvings
+
+
 def basis(wires, index):
     """The basis state of this index."""
     values = [ZERO] * 2**wires
@@ -141,6 +179,17 @@ def mixed(wires):
             parts.append((x >> 33) % 2_000_003 - 1_000_001)
         values.append(tuple(parts))
     return State(values)
+
+
+def scattered(size):
+    """Numbers of so many bits that look random, the same at each call."""
+    x = size
+    while True:
+        found = 0
+        for _ in range(0, size, 31):
+            x = (x * 6364136223846793005 + 1442695040888963407) % 2**64
+            found = found << 31 | x >> 33
+        yield found % 2**size
 
 
 def first_difference(left, right, turn):

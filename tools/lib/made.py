@@ -25,7 +25,7 @@ def clause_list(function):
 
 
 def clauses(crate):
-    """The public calls of a crate with their clauses, and its edits."""
+    """The public calls of a crate with their clauses."""
     lines = []
     listed = sources.public_functions(crate)
     named = [it for it in listed if any(it.clauses)]
@@ -40,24 +40,20 @@ def clauses(crate):
     rest = [call_name(it) for it in listed if not any(it.clauses)]
     if rest:
         lines += ["", f"{'Besides these, calls' if named else 'Calls'} whose clauses have no name: {', '.join(rest)}."]
-    edits = sources.edits(crate)
-    if edits:
-        listed = ", ".join(f"`{it}`" for it in edits)
-        lines += ["", f"Edits of the code that the prover must refuse, {len(edits)}: {listed}."]
+    lines += edits(crate)
     return "\n".join(lines).strip("\n")
 
 
-def modules():
-    """The modules of each crate, with the first sentence of each; tests left out."""
-    lines = ["| crate and module | what it is |", "|---|---|"]
-    for crate in sources.crates():
-        folder = os.path.join(sources.TOP, "crates", crate, "src")
-        names = sorted(os.listdir(folder), key=lambda it: (it not in ("lib.rt", "main.rt"), it))
-        for name in names:
-            if name.endswith(".rt") and not sources.is_test(f"crates/{crate}/src/{name}"):
-                says = sources.first_sentence(f"crates/{crate}/src/{name}").replace("|", "\\|")
-                lines.append(f"| `{crate}/src/{name}` | {says} |")
-    return "\n".join(lines)
+def edits(crate):
+    """The edits of a crate of which `tools/mutate` found what they say."""
+    says = {}
+    for it in sources.edit_rows():
+        if (it.crate, it.role, it.proved) == (crate, "says", "yes") and it.edit in sources.edits(crate):
+            says.setdefault(it.edit, []).append(it.said)
+    if not says:
+        return []
+    lines = ["", "| edit of the code that the prover must refuse | proved without |", "|---|---|"]
+    return lines + [f"| `{name}` | {', '.join(listed)} |" for name, listed in sorted(says.items())]
 
 
 def laws():
@@ -78,9 +74,38 @@ def reading():
     )
 
 
+# what README.md shows of docs/RESULTS.md
+SHOWN = ["tof_10", "barenco_tof_10", "mod5_4", "vbe_adder_3", "gf2_16_mult"]
+ROUTED = ["tof_10", "barenco_tof_10", "vbe_adder_3", "cuccaro_adder_8", "hidden_shift_20"]
+
+
+def result_rows(kind):
+    """The cells of the rows of a table of docs/RESULTS.md."""
+    with open(os.path.join(sources.TOP, "docs/RESULTS.md"), encoding="utf-8") as file:
+        table = re.search(rf"<!-- results: {kind} -->\n(.*?)<!-- /results -->", file.read(), re.DOTALL).group(1)
+    return [[cell.strip() for cell in line.strip("|").split("|")] for line in table.splitlines()[2:]]
+
+
+def results():
+    """Some lines of docs/RESULTS.md."""
+    rows = {row[0]: row for row in result_rows("opt")}
+    lines = ["| `opt` on | gates | by VOQC | T gates | by VOQC |", "|---|---|---|---|---|"]
+    for name in SHOWN:
+        row = rows[name]
+        lines.append(f"| `{name}` | {row[2]} → {row[3]} | {row[5]} | {row[8]} → {row[9]} | {row[11]} |")
+    swaps = {row[0]: row[3] for row in result_rows("route") if row[1] == "ibm_tokyo"}
+    listed = ", ".join(f"{swaps[name]} for `{name}`" for name in ROUTED)
+    return "\n".join([*lines, "", f"Swaps that `route` puts in on IBM's Tokyo: {listed}."])
+
+
 def part(name):
     """What a part says; None for one that nothing makes."""
-    whole = {"definitions": lambda: reach.table(reach.reached()), "laws": laws, "modules": modules, "reading": reading}
+    whole = {
+        "definitions": lambda: reach.table(reach.by_claim()),
+        "laws": laws,
+        "reading": reading,
+        "results": results,
+    }
     if name in whole:
         return whole[name]()
     kind, _, crate = name.partition(" of ")

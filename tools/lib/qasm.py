@@ -13,7 +13,7 @@ import re
 import typing
 
 # what `qroute` reads at most; a program that it writes may have more operations
-MOST_WIRES = 64
+MOST_WIRES = 256
 MOST_BITS = 1_024
 MOST_DEPTH = 64
 MOST_PART = 2**62  # of a number in lowest terms
@@ -607,3 +607,17 @@ def t_count(found):
 
 def cx_count(found):
     return sum(it[0] == "CX" for it in found)
+
+
+def gate_count(program):
+    """The gates of a program: those on one wire and CNOTs count one each, others as many as their bodies have."""
+    known = {}
+
+    def size(gate):
+        if gate is CX or len(gate.qubits) == 1:
+            return 1
+        if id(gate) not in known:
+            known[id(gate)] = sum(size(inner) for inner, _, _ in gate.body)
+        return known[id(gate)]
+
+    return sum(size(program.gates[it.name]) for it in program.steps if it.kind == "gate")

@@ -8,8 +8,52 @@ import re
 import sources
 
 WORD = re.compile(r"[^\s(){}\[\],;]+")
+TYPE = re.compile(r"(?:\b\w+::)*\b[A-Z]\w*")
+TAKES = re.compile(r"^(?:pub )?use ([\w:]+?)::(?:\{(.*)\}|(\w+))(?: as (\w+))?;$")
 USE = re.compile(r"^(?:pub |ghost |unfoldable )*use ([\w.]+?)(?:\.\{(.*)\}|(?: as (\w+)))?;?$")
 DEFINES = re.compile(r"^(?:(?:abbrev|unfoldable|pub|record|data|syntax|inline|opaque|postulate)\b ?)*([^\s(){}:,.]+)")
+
+
+@dataclasses.dataclass
+class Claim:
+    """What someone may want to believe, and the definitions that it is told in."""
+
+    short: str
+    says: str
+    begins: dict  # module: names
+
+
+ALL = "all"
+CLAIMS = [
+    Claim(
+        "language",
+        "what the text of a program means: which are accepted, and their operations, reads and registers",
+        {"gate_inline.specs.Programs": "IsAccepted IsWritten"},
+    ),
+    Claim(
+        "unitary",
+        "that operations have the unitary of others, between placements, and what is counted of them",
+        {
+            "unitary_model.specs.Realises": "Realises",
+            "unitary_model.specs.Operations": "IsPlain t_count cx_count",
+            "unitary_model.specs.OddPaths": "odd_paths",
+        },
+    ),
+    Claim("headline", "the headline alone: both of these, the reads and the report line", {"qroute_top.specs.Delivered": "Makes"}),
+    Claim("settled", "that what `opt` writes is settled", {"qroute_top.specs.Settled": "IsSettled"}),
+    Claim(
+        "edges",
+        "that each CNOT follows an edge of the device",
+        {"coupling_map.specs.Edges": "FollowsEdges", "qroute_top.specs.Devices": "IsDevice"},
+    ),
+    Claim(
+        "machine",
+        "that what `route` writes is the routing machine's run, with few swaps",
+        {"qroute_top.specs.Runs": "IsMachineRun HasFewSwaps"},
+    ),
+    Claim("stages", "what `stages` writes", {"qroute_top.specs.Delivered": "IsStages"}),
+    Claim("faults", "that each fault has its cause, and its line tells it", {"qroute_top.specs.Causes": "EndsWithFault"}),
+]
 
 
 @dataclasses.dataclass
@@ -110,7 +154,7 @@ class Reach:
         for path in glob.glob("crates/*/specs/*.antt", root_dir=top):
             self.files[module_of(path)] = file_of(path, top)
         self.parts = {}  # module: set of indices of its parts
-        self.types = set()  # (crate, name)
+        self.types = set()  # (file, name)
         self.constants = set()
         self.outside = {}  # module of a library: names
         self.below = {}  # module: the modules that it needs
@@ -136,8 +180,18 @@ class Reach:
         elif "TheConstants" in pieces:
             self.constants.add((crate, name))
         else:
-            behind = [it for it in pieces[pieces.index("declared") + 1 :] if it != "TheVariants" and it[0].isupper()]
-            self.types.add((crate, behind[-1] if behind else name))
+            at = pieces.index("declared") + 1
+            behind = [it for it in pieces[at:] if it != "TheVariants" and it[0].isupper()]
+            self.take_type(crate, [it for it in pieces[at:] if not it[0].isupper()], behind[-1] if behind else name)
+
+    def take_type(self, crate, modules, name):
+        """Takes a type of the code in, and those of its parts."""
+        path = file_of_type(crate, modules, name, self.top)
+        if path is None or (path, name) in self.types:
+            return
+        self.types.add((path, name))
+        for it in parts_of_type(path, name, self.top):
+            self.take_type(*it)
 
     def take_part(self, module, name):
         file = self.files[module]
@@ -161,6 +215,60 @@ class Reach:
             first, _, rest = word.partition(".")
             if rest and first in modules:
                 self.take(modules[first], rest.split(".")[0], wanted_by=here)
+
+
+def declaration(path, name, top):
+    """The lines of a type's declaration, and the words that its file takes from elsewhere: (path of modules, name there)."""
+    with open(os.path.join(top, path), encoding="utf-8") as file:
+        text = file.read()
+    taken = {}
+    for line in re.sub(r",?\n *", " ", re.sub(r"\{\n *", "{", text)).split("\n") + text.split("\n"):
+        if match := TAKES.match(line):
+            behind, listed, one, here = match.groups()
+            for it in (listed or one or "").split(","):
+                there, _, alias = it.strip().partition(" as ")
+                taken[here or alias or there] = (behind.split("::"), there)
+    lines = text.split("\n")
+    first = next((i for i, line in enumerate(lines) if re.match(rf"pub(\(\w+\))? (struct|enum) {name}\b", line)), None)
+    if first is None:
+        return None, taken
+    found = []
+    for line in lines[first:]:
+        found.append(line.split("//")[0])
+        if line.startswith("}") or line.endswith(";"):
+            break
+    return found, taken
+
+
+def file_of_type(crate, modules, name, top):
+    """The file that declares a type: that of its module, or any of the crate's."""
+    places = [f"crates/{crate}/src/{'/'.join(modules)}.rt"] if modules else [f"crates/{crate}/src/lib.rt"]
+    for path in places + sorted(glob.glob(f"crates/{crate}/src/**/*.rt", root_dir=top, recursive=True)):
+        if os.path.exists(os.path.join(top, path)) and declaration(path, name, top)[0]:
+            return path
+    return None
+
+
+def parts_of_type(path, name, top):
+    """The types of the repository that a declaration names, each as (crate, modules, name)."""
+    crate = path.split("/")[1]
+    lines, taken = declaration(path, name, top)
+    for word in sorted({word for line in lines for word in TYPE.findall(line)} - {name}):
+        behind, here = word.split("::")[:-1], word.split("::")[-1]
+        if here in taken and not behind:
+            behind, here = taken[here]
+        if not behind:
+            if declaration(path, here, top)[0]:
+                yield crate, path_of(path), here
+        elif behind[0] in sources.crates(top):
+            yield behind[0], behind[1:], here
+        elif behind[0] in ("crate", "self") or os.path.exists(os.path.join(top, f"crates/{crate}/src/{behind[0]}.rt")):
+            yield crate, [it for it in behind if it not in ("crate", "self")], here
+
+
+def path_of(path):
+    """The modules of a file of code, as a path."""
+    return [sources.module_of(path)] if sources.module_of(path) else []
 
 
 def module_of(path):
@@ -223,11 +331,11 @@ def lines_of(found, module):
 
 
 def where_of(crate, name, top):
-    """File and line of a type or a constant of the code."""
+    """The file of a constant of the code."""
     for path in sorted(glob.glob(f"crates/{crate}/src/**/*.rt", root_dir=top, recursive=True)):
         with open(os.path.join(top, path), encoding="utf-8") as file:
-            for number, line in enumerate(file, 1):
-                if re.match(rf"\s*pub(\(\w+\))? (struct|enum|const|static|type) {name}\b", line):
+            for line in file:
+                if re.match(rf"\s*pub(\(\w+\))? (const|static) {name}\b", line):
                     return f"`{path}`"
     return f"crate `{crate}`"
 
@@ -237,31 +345,82 @@ def sizes(found):
     return len(found.parts), sum(lines_of(found, it)[0] for it in found.parts)
 
 
+def by_claim(top=sources.TOP):
+    """What each claim reaches, under its short name; all that `run` promises comes last."""
+    found = {}
+    for claim in CLAIMS:
+        here = Reach(top)
+        if all(f"Rattle.{module}" in here.files for module in claim.begins):
+            found[claim.short] = here
+            for module, names in claim.begins.items():
+                for name in names.split():
+                    here.take(f"Rattle.{module}", name)
+    found[ALL] = reached(top)
+    return found
+
+
+def claims(found):
+    """The table of claims in Markdown: what each begins with, and how much it reaches."""
+    rows = ["| who wants to believe | begins with | files | lines | types |", "|---|---|---|---|---|"]
+    for claim in CLAIMS:
+        if claim.short not in found:
+            continue
+        files, lines = sizes(found[claim.short])
+        begins = ", ".join(f"`{name}`" for names in claim.begins.values() for name in names.split())
+        rows.append(f"| {claim.says} ({claim.short}) | {begins} | {files} | {lines} | {len(found[claim.short].types)} |")
+    files, lines = sizes(found[ALL])
+    rows.append(f"| all that `run` promises ({ALL}) | its contract | {files} | {lines} | {len(found[ALL].types)} |")
+    return rows
+
+
+def files(found, names):
+    """The table of files in reading order: the lines that each claim reaches of each."""
+    whole = found[ALL]
+    rows = [
+        "| | file | what it says | " + " | ".join(found) + " |",
+        "|---|---|---|" + "---|" * len(found),
+    ]
+    for number, module in enumerate(in_order(whole), 1):
+        file = whole.files[module]
+        says = file.says.rstrip(".:") if not names else ", ".join(sorted(n for n, i in file.names.items() if i in whole.parts[module]))
+        counts = [str(lines_of(it, module)[0]) if module in it.parts else "" for it in found.values()]
+        read, has = lines_of(whole, module)
+        counts[-1] = str(read) if read == has else f"{read} of {has}"
+        rows.append(f"| {number} | `{file.path}` | {says} | " + " | ".join(counts) + " |")
+    sums = [str(sizes(it)[1]) for it in found.values()]
+    sums[-1] += f" of {sum(lines_of(whole, it)[1] for it in whole.parts)}"
+    rows.append(f"| | {len(whole.parts)} files | | " + " | ".join(sums) + " |")
+    return rows
+
+
+def types(found):
+    """The types of the code that definitions name, and the parts of their declarations: by file, with the claims that need them."""
+    rows = ["| types | file | for |", "|---|---|---|"]
+    paths = sorted({path for path, _ in found[ALL].types})
+    for path in paths:
+        here = sorted(name for it, name in found[ALL].types if it == path)
+        needed = [short for short, it in found.items() if short != ALL and any(p == path for p, _ in it.types)]
+        rows.append(f"| {', '.join(f'`{name}`' for name in here)} | `{path}` | {', '.join(needed)} |")
+    return rows
+
+
 def table(found, names=False):
-    """The table in Markdown."""
-    rows = ["| | file | lines | what it says |", "|---|---|---|---|"]
-    total = whole = 0
-    for number, module in enumerate(in_order(found), 1):
-        read, has = lines_of(found, module)
-        total += read
-        whole += has
-        file = found.files[module]
-        lines = str(read) if read == has else f"{read} of {has}"
-        says = file.says.rstrip(".:") if not names else ", ".join(sorted(n for n, i in file.names.items() if i in found.parts[module]))
-        rows.append(f"| {number} | `{file.path}` | {lines} | {says} |")
-    rows.append(f"| | {len(found.parts)} files | {total} of {whole} | |")
+    """What has to be read, claim by claim, in Markdown."""
+    whole = found[ALL]
+    rows = claims(found)
+    rows += ["", "The lines of each file that each claim reaches, in reading order:", ""] + files(found, names)
+    rows += ["", "Types of the code that they name, and those that the declarations of these name:", ""] + types(found)
     rows.append("")
-    rows += ["Types of the code that they name:", ""]
-    rows += [f"- `{name}` ({where_of(crate, name, found.top)})" for crate, name in sorted(found.types)]
-    rows.append("")
-    if found.constants:
+    if whole.constants:
         rows += ["Constants of the code that they name:", ""]
-        rows += [f"- `{name}` ({where_of(crate, name, found.top)})" for crate, name in sorted(found.constants)]
+        rows += [f"- `{name}` ({where_of(crate, name, whole.top)})" for crate, name in sorted(whole.constants)]
         rows.append("")
     libraries = {}
-    for module, cited in found.outside.items():
+    for module, cited in whole.outside.items():
         if module.startswith("Rattle."):
             libraries.setdefault(module.split(".")[1], set()).update(cited)
-    counts = ", ".join(f"{len(cited)} of `{library}`" for library, cited in sorted(libraries.items()))
-    rows.append(f"Words of the kit's libraries that they cite: {counts}.")
+    rows += ["Words of the kit's libraries that they cite:", ""]
+    for library, cited in sorted(libraries.items()):
+        listed = "" if library == "std" else ": " + ", ".join(f"`{it}`" for it in sorted(cited))
+        rows.append(f"- {len(cited)} of `{library}`{listed}")
     return "\n".join(rows)

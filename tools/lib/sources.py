@@ -1,4 +1,4 @@
-"""The sources of the repository as text: functions with their clauses, files of definitions, types, edits.
+"""The sources of the repository as text: functions with their clauses, files of definitions, types.
 
 Nothing here understands the language: it goes by the layout that `rt fmt` keeps, one item at the left margin or in an `impl`
 or a `trait`, one `ensures` at the beginning of a line.
@@ -88,17 +88,6 @@ def public_functions(crate, top=TOP):
     ]
 
 
-def first_sentence(path, top=TOP):
-    """The first sentence of the comment at the head of a file of code."""
-    said = []
-    with open(os.path.join(top, path), encoding="utf-8") as file:
-        for line in file:
-            if not line.startswith("//!") or (said and not line[3:].strip()):
-                break
-            said.append(line[3:].strip())
-    return re.split(r"(?<=\.)\s", " ".join(said))[0].rstrip(".")
-
-
 def doc_sentence(path, line, top=TOP):
     """The first sentence of the comment above a line of code."""
     with open(os.path.join(top, path), encoding="utf-8") as file:
@@ -178,6 +167,40 @@ def edits(crate, top=TOP):
     """The names of the edits that must be refused."""
     found = glob.glob(f"crates/{crate}/must-fail/*.edit", root_dir=top)
     return sorted(os.path.basename(it)[: -len(".edit")] for it in found)
+
+
+@dataclasses.dataclass
+class EditRow:
+    """A line of docs/edits.tsv: see `tools/mutate`."""
+
+    crate: str
+    edit: str
+    role: str  # says, or with
+    file: str
+    part: str  # a record, a function or a lemma
+    name: str  # its field, or its clause
+    proved: str  # yes or no, as `tools/mutate` found it
+
+    @property
+    def said(self):
+        return f"`{self.name}` of `{self.part}`"
+
+
+EDIT_HEAD = "crate\tedit\trole\tfile\tpart\tname\tproved"
+
+
+def edit_rows(top=TOP):
+    """What docs/edits.tsv has."""
+    path = os.path.join(top, "docs", "edits.tsv")
+    if not os.path.exists(path):
+        return []
+    with open(path, encoding="utf-8") as file:
+        return [EditRow(*line.rstrip("\n").split("\t")) for line in file if line.rstrip("\n") != EDIT_HEAD]
+
+
+def edit_text(rows):
+    """The text of docs/edits.tsv."""
+    return "".join(f"{it}\n" for it in [EDIT_HEAD] + ["\t".join(dataclasses.astuple(row)) for row in rows])
 
 
 def tracked(top=TOP):

@@ -41,9 +41,10 @@ class Picture:
         listed = " ".join(f"{number(x)},{number(y)}" for x, y in points)
         self.parts.append(f"<polygon points='{listed}' fill='{fill}'/>")
 
-    def polyline(self, points, ink=INK, width=1.6):
+    def polyline(self, points, ink=INK, width=1.6, dashes=None):
+        dash = f" stroke-dasharray='{dashes}'" if dashes else ""
         listed = " ".join(f"{number(x)},{number(y)}" for x, y in points)
-        self.parts.append(f"<polyline points='{listed}' fill='none' stroke='{ink}' stroke-width='{width}'/>")
+        self.parts.append(f"<polyline points='{listed}' fill='none' stroke='{ink}' stroke-width='{width}'{dash}/>")
 
     def text(self, x, y, says, size=12, anchor="middle", ink=INK, bold=False, halo=False):
         """Text whose middle stands at the height y; a halo keeps lines off it."""

@@ -132,10 +132,35 @@ class CheckSmall(ToolTest):
         status, out, _ = self.checked(BELL, TURNED, report(), "--device", device)
         self.assertEqual((status, out), (1, f"differs: the output has 2 qubits, and {device} 3\n"))
 
+    def test_costs(self):
+        source = HEAD + "qreg q[2];\ncx q[0],q[1];\n"
+        device = self.file("d", "format = 2\nqubits = 2\nedges = [[0, 1, 9], [1, 0, 7]]\n")
+        for told, status in (({"cost": 7}, 0), ({"cost": 9}, 1), ({"cost": "7"}, 1), ({}, 1)):
+            self.assertEqual(self.checked(source, source, report(phase=0, format=2, **told), "--device", device)[0], status)
+        self.assertEqual(self.checked(source, source, report(phase=0), "--device", device)[0], 1)
+
+    def test_many_wires(self):
+        half = "".join(f"ccx q[{i}],q[{i + 1}],q[{i + 2}];\n" for i in range(0, 38, 2))
+        source = f"{HEAD}qreg q[40];\n{half}h q[0];\nh q[0];\n"
+        other = f"{HEAD}qreg q[40];\n{half}z q[39];\n"
+        wires = list(range(40))
+        told = {"device": 40, "qubits": 40, "initial": wires, "final": wires, "cx_before": 114, "cx_after": 114, "t_before": 133}
+        # two Hadamards are w^2 times nothing
+        status, out, err = self.checked(source, f"{HEAD}qreg q[40];\n{half}", report(**told, t_after=133, phase=6))
+        self.assertEqual((status, err), (0, ""))
+        self.assertTrue(out.startswith("agrees on 16 of 2^40 basis states: "), out)
+        status, out, _ = self.checked(source, other, report(**told, t_after=133, phase=6))
+        self.assertEqual(status, 1)
+        self.assertIn("differs: from |", out)
+        mixed = f"{HEAD}qreg q[40];\nh q;\ncx q[0],q[1];\n"
+        told |= {"cx_before": 1, "cx_after": 1, "t_before": 0}
+        status, _, err = self.checked(mixed, mixed, report(**told, phase=0))
+        self.assertEqual((status, err), (2, "check-small: 40 wires take part, and a basis state branches too often\n"))
+
     def test_the_bounds(self):
         doubled = "gate g0 a { %s }\n" + "".join(f"gate g{i} a {{ g{i - 1} a; g{i - 1} a; }}\n" for i in range(1, 40))
         for body, said in (
-            ("qreg r[9999999999999];", "with this register more than 64 qubits"),
+            ("qreg r[9999999999999];", "with this register more than 256 qubits"),
             ("creg r[1025];", "with this register more than 1024 classical bits"),
             ("u1(1.0e99999999) q[0];", "a number with a part above 2^62"),
             ("u1((3^9999)^9999) q[0];", "a number with a part above 2^62"),

@@ -24,16 +24,17 @@ class Completions(unittest.TestCase):
         asked qroute bench --; asked qroute bench --gates 5 --; asked qroute bench --start ''
         asked qroute bench --start 1 --device devices/line
         asked qroute route --device = devices/line; asked qroute route --device = devices/line_5.toml --
-        asked qroute bench --gates = ''; cd devices; asked qroute route --device =
+        asked qroute bench --gates = ''; asked qroute amplitude --; asked qroute amplitude --from 01 --
+        cd devices; asked qroute route --device =
         """
         *found, devices = said("bash", "-c", script).splitlines()
         self.assertEqual(sorted(devices.split()), sorted(os.listdir(os.path.join(TOP, "devices"))))
         self.assertEqual(
             found,
             [
-                *("opt route check stages bench", "route", "--device --trivial", "--device", "", "devices/line_5.toml"),
+                *("opt route check stages amplitude bench", "route", "--device --trivial", "--device", "", "devices/line_5.toml"),
                 *("--start --gates --device", "--start --device", "", "devices/line_5.toml"),
-                *("devices/line_5.toml", "--trivial", ""),
+                *("devices/line_5.toml", "--trivial", "", "--from --to", "--to"),
             ],
         )
 
@@ -43,10 +44,11 @@ class Completions(unittest.TestCase):
             out = said("fish", "--no-config", "-c", f"source {FOLDER}/qroute.fish; complete -C '{line}'")
             return [it.split("\t")[0] for it in out.splitlines()]
 
-        self.assertEqual(sorted(asked("qroute ")), ["bench", "check", "opt", "route", "stages"])
+        self.assertEqual(sorted(asked("qroute ")), ["amplitude", "bench", "check", "opt", "route", "stages"])
         self.assertEqual(asked("qroute route --"), ["--device", "--trivial"])
         self.assertEqual(asked("qroute route --device devices/line"), ["devices/line_5.toml"])
         self.assertEqual(sorted(asked("qroute bench --")), ["--device", "--gates", "--start"])
+        self.assertEqual(sorted(asked("qroute amplitude --")), ["--from", "--to"])
 
     @unittest.skipUnless(shutil.which("zsh"), "zsh isn't here")
     def test_zsh(self):

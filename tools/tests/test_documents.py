@@ -36,7 +36,11 @@ LOW_LIB = """//! Numbers: even ones.
 pub mod laws;
 
 pub enum Kind {
-    One,
+    One(Part),
+}
+
+pub struct Part {
+    pub size: u8,
 }
 """
 LOW_LAWS = """//! Laws.
@@ -76,6 +80,7 @@ Read `low/specs/Words.antt`, as a whole.
 | crate | what |
 |---|---|
 | `low` | `two_is_even`: `even` |
+| **the rest** | |
 | `outside_io` | `read`: `bound` |
 | `qroute_top` | `run`: `headline`, `calm` |
 | `qroute` | |
@@ -107,7 +112,6 @@ class Documents(ToolTest):
             "crates/low/src/laws.rt": LOW_LAWS,
             "crates/low/specs/Words.antt": WORDS,
             "crates/low/specs/Ground.antt": GROUND,
-            "crates/low/must-fail/two_is_odd.edit": "file: src/lib.rt\n",
             "crates/outside_io/src/lib.rt": OUTSIDE_LIB,
             "crates/qroute_top/src/lib.rt": TOP_LIB,
             "crates/qroute/src/main.rt": "//! The program.\n",
@@ -137,10 +141,12 @@ class Documents(ToolTest):
         rows = [line for line in out.splitlines() if line.startswith("| 1 ") or line.startswith("| 2 ")]
         self.assertEqual(
             rows,
-            ["| 1 | `crates/low/specs/Ground.antt` | 3 | Halves |", "| 2 | `crates/low/specs/Words.antt` | 5 of 7 | Even numbers |"],
+            ["| 1 | `crates/low/specs/Ground.antt` | Halves | 3 |", "| 2 | `crates/low/specs/Words.antt` | Even numbers | 5 of 7 |"],
         )
-        self.assertIn("| | 2 files | 8 of 10 | |", out)
-        self.assertIn("- `Kind` (`crates/low/src/lib.rt`)", out)
+        self.assertIn("| | 2 files | | 8 of 10 |", out)
+        self.assertIn("| all that `run` promises (all) | its contract | 2 | 8 | 2 |", out)
+        # a type, and one that its declaration names
+        self.assertIn("| `Kind`, `Part` | `crates/low/src/lib.rt` |", out)
         # suc is imported and not used
         self.assertIn("1 of `std`", out)
 
@@ -151,10 +157,7 @@ class Documents(ToolTest):
             text = file.read()
         self.assertIn("| `run` | `headline`, `calm` |", text)
         self.assertIn("| `two_is_even` | `low` | Two is even |", text)
-        self.assertIn("must refuse, 1: `two_is_odd`.", text)
         self.assertEqual(self.found(), ["nothing found"])
-        self.file("crates/low/must-fail/three_is_even.edit", "file: src/lib.rt\n")
-        self.assertEqual(self.found(), ["docs/CLAIMS.md:1: a part is stale: clauses of low"])
 
     def test_findings(self):
         self.script("check-docs", "--mend")
@@ -184,10 +187,10 @@ class Documents(ToolTest):
         self.script("check-docs", "--mend")
         self.assertEqual(self.found(), ["nothing found"])
         for name, old, new, wanted in (
-            ("README.md", "#it)", "#code)", "README.md:12: no heading #code in README.md"),
-            ("README.md", "c-1)", "c-2)", "README.md:12: no heading #it-is-a-b_c-2 in docs/CLAIMS.md"),
-            ("README.md", "(docs/CLAIMS.md)", "(CLAIMS.md)", "README.md:12: no file CLAIMS.md for a link"),
-            ("README.md", "tools/definitions", "tools/words", "README.md:15: no file tools/words"),
+            ("README.md", "#it)", "#code)", "README.md:13: no heading #code in README.md"),
+            ("README.md", "c-1)", "c-2)", "README.md:13: no heading #it-is-a-b_c-2 in docs/CLAIMS.md"),
+            ("README.md", "(docs/CLAIMS.md)", "(CLAIMS.md)", "README.md:13: no file CLAIMS.md for a link"),
+            ("README.md", "tools/definitions", "tools/words", "README.md:16: no file tools/words"),
             ("docs/it.1", "check\\-docs", "check\\-words", "docs/it.1:1: no file tools/check-words"),
             ("docs/it.1", "CLAIMS", "CLAIM", "docs/it.1:2: no file docs/CLAIM.md"),
         ):
@@ -214,7 +217,7 @@ class Documents(ToolTest):
         self.change("README.md", "1.4", "7.4")
         status, out = self.script("check-transcripts", "--mend")
         self.assertEqual(status, 1)
-        self.assertIn("README.md:12: what comes out is\n", out)
+        self.assertIn("README.md:13: what comes out is\n", out)
         self.assertIn("docs/made.svg isn't what is written\n", out)
         self.assertEqual(self.script("check-transcripts"), (0, "nothing differs in 1 transcripts\n"))
 

@@ -1,4 +1,5 @@
 import json
+import math
 import xml.etree.ElementTree
 
 from tool import ToolTest
@@ -14,6 +15,10 @@ ccx q[0],q[1],q[2];
 measure q[0] -> c[0];
 """
 SVG = "{http://www.w3.org/2000/svg}"
+
+
+def angle(start, end):
+    return math.atan2(end[1] - start[1], end[0] - start[0])
 
 
 class Draw(ToolTest):
@@ -57,11 +62,49 @@ class Draw(ToolTest):
         )  # fmt: skip
         texts = self.texts(picture)
         self.assertIn("p.qasm (1 idle qubits left out)", texts)
-        self.assertIn("q0 at q[0] ", texts)
+        self.assertIn("q0 at Q0 ", texts)
         self.assertIn("q0 → q1", texts)
         self.assertIn("q1 → q0", texts)
         # one edge has one direction
         self.assertEqual(len(list(picture.iter(f"{SVG}polygon"))), 1)
+
+    def test_names_of_the_source(self):
+        told = {"device": 2, "final": [1, 0], "initial": [0, 1], "qubits": 2}
+        source = self.file("s.qasm", 'OPENQASM 2.0;\ninclude "qelib1.inc";\nqreg a[1];\nqreg b[1];\ncx b[0],a[0];\n')
+        target = self.file("t.qasm", 'OPENQASM 2.0;\ninclude "qelib1.inc";\nqreg q[2];\ncx q[1],q[0];\nh q[0];\nt q[0];\n')
+        device = self.file("d.toml", "qubits = 2\nedges = [[0, 1]]\n")
+        report = self.file("r", json.dumps(told) + "\n")
+        picture = self.drawn(source, target, "--report", report, "--device", device, "--columns", "2", "--counts")
+        texts = self.texts(picture)
+        for wanted in ("a[0] at Q0 ", "b[0] at Q1 ", "Q0", "a[0] → b[0]", "s.qasm: 1 gates, 1 CNOTs, 0 T gates"):
+            self.assertIn(wanted, texts)
+        # where a line goes on its name stands again
+        self.assertEqual(texts.count("Q1 "), 1)
+
+    def test_labels_beside_bits_and_edges(self):
+        text = "OPENQASM 2.0;\nqreg q[1];\ncreg a_long_register[1];\nmeasure q[0] -> a_long_register[0];\n"
+        picture = self.drawn(self.file("p.qasm", text))
+        line = max(float(it.get("x2")) for it in picture.iter(f"{SVG}line"))
+        bit = next(it for it in picture.iter(f"{SVG}text") if "long" in "".join(it.itertext()))
+        self.assertLess(float(bit.get("x")) + 5.4 * len("a_long_register[0]"), line)
+        # edges to the left, to the right and downwards leave room above
+        told = {"device": 4, "final": [0, 1, 2, 3], "initial": [0, 1, 2, 3], "qubits": 4}
+        text = "OPENQASM 2.0;\nqreg q[4];\n"
+        picture = self.drawn(
+            self.file("p.qasm", text),
+            "--report", self.file("r", json.dumps(told) + "\n"),
+            "--device", self.file("d.toml", "qubits = 4\nedges = [[0, 1], [0, 2], [0, 3]]\n"),
+        )  # fmt: skip
+        places = {"".join(it.itertext()): (float(it.get("x")), float(it.get("y"))) for it in picture.iter(f"{SVG}text")}
+        middle, label = places["Q0"], places["q0 → q0"]
+        for other in ("Q1", "Q2", "Q3"):
+            self.assertGreater(abs(angle(middle, places[other]) - angle(middle, label)), 0.3)
+    def test_costs_stand_on_the_map(self):
+        text = "format = 2\nqubits = 3\nedges = [[0, 1, 70], [1, 0, 40], [2, 1, 900]]\n"
+        texts = self.texts(self.drawn(self.file("p.qasm", PROGRAM), "--device", self.file("d.toml", text)))
+        # of a pair the lesser of its two
+        self.assertEqual([it for it in texts if it in ("70", "40", "900")], ["40", "900"])
+        self.assertIn("d.toml; on each line what a CNOT there costs", texts)
 
     def test_what_cannot_be_drawn(self):
         path = self.file("p.qasm", "OPENQASM 2.0;\nqreg q[1];\nh q[0];\n")
@@ -81,10 +124,13 @@ class Draw(ToolTest):
             ("qubits = 2\nedges = [[0]]", "the edge [0] is no pair of whole numbers"),
             ("qubits = 2\nedges = [0]", "`edges` is no list of pairs"),
             ("qubits = 2\nedges = [[0, 0]]", "qubit 0 has an edge to itself"),
-            ("qubits = 0\nedges = []", "`qubits` is 0 and not a whole number from 1 to 64"),
-            ("edges = []", "`qubits` is None and not a whole number from 1 to 64"),
+            ("qubits = 0\nedges = []", "`qubits` is 0 and not a whole number from 1 to 256"),
+            ("edges = []", "`qubits` is None and not a whole number from 1 to 256"),
             ("qubits = 2", "`edges` is no list of pairs"),
             ("qubits =", "no TOML in UTF-8"),
+            ("format = 3\nqubits = 2\nedges = []", "`format` is 3 and neither 1 nor 2"),
+            ("format = 2\nqubits = 2\nedges = [[0, 1]]", "the edge [0, 1] is no triple of whole numbers"),
+            ("format = 2\nqubits = 2\nedges = [[0, 1, 0]]", "the edge [0, 1] costs 0 and not a number from 1 to 1,000,000"),
         ):
             path = self.file("d.toml", text)
             self.assertEqual(self.run_tool("draw", program, "--device", path), (1, "", f"draw: {path}: {said}\n"))

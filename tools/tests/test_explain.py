@@ -1,3 +1,5 @@
+import json
+
 from tool import ToolTest
 
 HEAD = 'OPENQASM 2.0;\ninclude "qelib1.inc";\n'
@@ -45,7 +47,7 @@ class Explain(ToolTest):
     def test_other_lines_are_passed_over(self):
         status, out, _ = self.explained('qroute: built in 3 seconds\n{"fault":"Words","status":2}')
         self.assertEqual(status, 0)
-        self.assertTrue(out.startswith("Words: "))
+        self.assertEqual(out, "Words: the words mean no command; the manual, `man docs/qroute.1`, has them all\n")
         status, out, err = self.explained('{"format":1,"phase":0}')
         self.assertEqual((status, out), (1, ""))
         self.assertIn("no fault line", err)
@@ -71,3 +73,49 @@ class Explain(ToolTest):
         self.assertTrue(out.startswith(f"{path}:1:12: "), out)
         _, out, _ = self.explained('{"fault":"\\u001b[31m","status":3}', path)
         self.assertEqual(out, f"{path}: \\x1b[31m: no words for this fault\n")
+
+    def test_which_name(self):
+        body = "qreg q[2];\ncreg c[2];\n"
+        for text, name in (
+            ("h q[0],r[1];", "r"),
+            ("hh q;", "hh"),
+            ("rz(pi/x) q;", "x"),
+            ("rz(q) q;", "q"),
+            ("gate g(a) b { rz(a) b; cx b,q; }", "q"),
+            ("gate g b { g b; }", "g"),
+            ("if (d == 1) x q;", "d"),
+            ("measure q -> q0;", "q0"),
+        ):
+            path = self.file("p.qasm", HEAD + body + text)
+            _, out, _ = self.explained('{"code":22,"fault":"UnknownName","statement":4,"status":3}', path)
+            column = text.rindex(name) + 1 if name != "q" or "b,q" in text else text.index("q") + 1
+            self.assertTrue(out.startswith(f"{path}:5:{column}: UnknownName: a name here means nothing: {name} (statement 4)\n"), out)
+
+    def test_a_later_language(self):
+        path = self.file("p.qasm", "// new\nOPENQASM 3.0;\nqubit[2] q;\n")
+        _, out, _ = self.explained('{"code":12,"fault":"Syntax","place":26,"status":3}', path)
+        self.assertIn("p.qasm:3:6: Syntax: this doesn't fit here; this is OpenQASM 3, and what is read is OpenQASM 2.0", out)
+
+    def test_costs(self):
+        device = self.file("d.toml", "format = 2\nqubits = 2\nedges = [[0, 1, 5], [1, 0, 0]]\n")
+        _, out, _ = self.explained('{"code":57,"fault":"EdgeCost","from":1,"status":4,"to":0}', "--device", device)
+        self.assertTrue(out.startswith(f"{device}:3:21: EdgeCost: the cost of the edge from qubit 1 to qubit 0 isn't from 1"), out)
+
+    def test_json(self):
+        path = self.file("p.qasm", HEAD + "qreg q[1];\n h r;\n")
+        status, out, _ = self.explained('{"code":22,"fault":"UnknownName","statement":3,"status":3}', "--json", path)
+        wanted = {
+            "fault": "UnknownName",
+            "status": 3,
+            "code": 22,
+            "file": path,
+            "says": "a name here means nothing: r",
+            "statement": 3,
+            "name": "r",
+            "offset": len(HEAD) + 14,
+            "line": 4,
+            "column": 4,
+        }
+        self.assertEqual((status, out.count("\n"), json.loads(out)), (0, 1, wanted))
+        _, out, _ = self.explained('{"fault":"Words","status":2}', "--json")
+        self.assertEqual(set(json.loads(out)), {"fault", "status", "says"})

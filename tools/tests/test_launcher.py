@@ -1,18 +1,34 @@
 import os
+import re
 import shutil
 import subprocess
 import time
 
 from tool import TOP, ToolTest
 
-# Stands for rt: notes each build, waits or fails as it is told, and builds a program that says what it was built of.
+# Stands for rt: proves all crates and notes that, waits or fails as it is told, and builds a program that says what it was
+# built of.
 FAKE_RT = """#!/bin/bash
 here=$(dirname -- "$(readlink -f -- "$0")")/..
 [ "$1" = version ] && { cat "$here/kit"; exit; }
-echo build >>"$here/builds"
-[ -e "$here/meanwhile" ] && { eval "$(cat "$here/meanwhile")"; rm "$here/meanwhile"; }
-sleep "$(cat "$here/seconds" 2>/dev/null || echo 0)"
-[ -e "$here/fails" ] && { echo "one goal is open" >&2; exit 1; }
+if [ "$1 $2 $3" = "all check --jobs" ]; then
+    echo build >>"$here/builds"
+    echo "$4" >>"$here/jobs"
+    [ -e "$here/meanwhile" ] && { eval "$(cat "$here/meanwhile")"; rm "$here/meanwhile"; }
+    sleep "$(cat "$here/seconds" 2>/dev/null || echo 0)"
+    echo == low; echo it is proved
+    if [ -e "$here/fails" ]; then
+        printf '%s\\n' "== top" "one goal is open" "== summary" "low: ok" "top: failed (1)" "qroute: not run, since top failed"
+        exit 1
+    elif [ -e "$here/kills" ]; then
+        rm "$here/kills"
+        printf '%s\\n' "== top" "== summary" "low: ok" "top: failed (-9)" "qroute: not run, since top failed"
+        exit 1
+    fi
+    [ -e "$here/wide" ] && { echo == other; sleep 30; }
+    printf '%s\\n' "== top" "it is proved" "== qroute" "== summary" "low: ok" "top: ok" "qroute: ok"
+    exit 0
+fi
 [ -e "$here/leaves" ] && exit 3
 mkdir -p out
 if [ -e "$here/shell" ]; then cp /bin/bash out/qroute; exit 3; fi
@@ -28,6 +44,7 @@ class Launcher(ToolTest):
         super().setUp()
         self.top = os.path.join(self.room, "checkout")
         self.checkout(self.top)
+        self.write("seconds", "0")
         self.write("bin/rt", FAKE_RT)
         os.chmod(os.path.join(self.room, "bin/rt"), 0o755)
         self.write("kit", "kit 1\n")
@@ -42,6 +59,8 @@ class Launcher(ToolTest):
         self.put(top, "crates/low/src/tests.rt", "tests")
         self.put(top, "crates/low/specs/Lib.antt", "specs")
         self.put(top, "crates/other/src/lib.rt", "other")
+        os.makedirs(os.path.join(top, "docs"))
+        self.put(top, "docs/qroute.1", ".B qroute opt\n<\n.br\n.B qroute route \\-\\-device\n")
         shutil.copy(os.path.join(TOP, "qroute"), top)
 
     def put(self, top, name, text):
@@ -62,7 +81,7 @@ class Launcher(ToolTest):
         path = f"{self.room}/bin:{os.environ['PATH']}"
         top = self.top if top is None else top
         name = os.path.join(os.fsencode(top), b"qroute")
-        return [*before, name, *words], {"PATH": path, "HOME": self.room}
+        return [*before, name, *words], {"PATH": path, "HOME": self.room, "QROUTE_JOBS": "3"}
 
     def launch(self, *words, **more):
         line, env = self.command(*words, **more)
@@ -70,13 +89,15 @@ class Launcher(ToolTest):
         return ran.returncode, ran.stdout.decode(), ran.stderr.decode("utf-8", "replace")
 
     def assert_runs(self, says, builds, **more):
-        status, out, err = self.launch("a word", **more)
-        self.assertEqual((status, out, self.builds()), (0, f"{says} a word\n", builds), err)
+        status, out, err = self.launch("opt", "a word", **more)
+        self.assertEqual((status, out, self.builds()), (0, f"{says} opt a word\n", builds), err)
         return err
 
     def test_builds_once(self):
         err = self.assert_runs("one", 1)
         self.assertIn("qroute: building the program, and proving it first", err)
+        lines = [it for it in err.splitlines() if it.startswith("qroute: crate ")]
+        self.assertEqual(lines, [f"qroute: crate {i} of 3, {it}, 0 minutes so far" for i, it in enumerate(("low", "top", "qroute"), 1)])
         self.assertIn("qroute: built in ", err)
         self.assertEqual(self.assert_runs("one", 1), "")
 
@@ -107,9 +128,10 @@ class Launcher(ToolTest):
         self.put(self.top, "crates/qroute/src/main.rt", "two")
         self.write("fails", "")
         for builds in (2, 3):
-            status, out, err = self.launch("a word")
+            status, out, err = self.launch("opt")
             self.assertEqual((status, out, self.builds()), (70, "", builds))
-            self.assertIn("one goal is open\n", err)
+            self.assertIn("== top: failed (1)\none goal is open\n", err)
+            self.assertNotIn("it is proved", err)
             self.assertIn("qroute: the build failed after ", err)
         # what rt had built is where it was, too
         with open(os.path.join(self.top, "crates/qroute/out/qroute"), encoding="utf-8") as file:
@@ -122,11 +144,54 @@ class Launcher(ToolTest):
         self.put(self.top, "crates/qroute/src/main.rt", "two")
         # another run of rt has built, and this one fails
         self.write("meanwhile", f"cp {self.top}/crates/qroute/out/qroute.before {self.top}/crates/qroute/out/qroute; touch $here/fails")
-        self.assertEqual(self.launch("a word")[:2], (70, ""))
+        self.assertEqual(self.launch("opt")[:2], (70, ""))
         os.remove(os.path.join(self.room, "fails"))
         # rt can't write
         self.write("leaves", "")
-        self.assertEqual(self.launch("a word")[:2], (70, ""))
+        status, out, err = self.launch("opt")
+        self.assertEqual((status, out), (70, ""))
+        self.assertIn("it is proved\n", err)
+        self.assertNotIn("qroute: over", err)
+
+    def test_the_last_crates_have_all_processors(self):
+        # nothing can be built beside top and qroute, so the check of all crates is ended before them
+        self.put(self.top, "crates.txt", CRATES.replace("top: low", "top: low other").replace("other: low", "other:"))
+        self.write("wide", "")
+        began = time.time()
+        err = self.assert_runs("one", 1)
+        self.assertLess(time.time() - began, 20)
+        self.assertIn("qroute: crate 2 of 4, other, 0 minutes so far\nqroute: the last 2 crates with all processors\n", err)
+
+    def test_a_check_that_was_killed(self):
+        self.write("kills", "")
+        err = self.assert_runs("one", 2)
+        self.assertIn("qroute: the check of top was killed, most likely for want of memory\n", err)
+        with open(os.path.join(self.room, "jobs"), encoding="utf-8") as file:
+            self.assertEqual(file.read().split(), ["3", "1"])
+
+    def test_words_that_no_command_begins_with(self):
+        wanted = (
+            f"qroute: these words are no command; the manual is `man {self.top}/docs/qroute.1`\n",
+            '{"fault":"Words","status":2}\n',
+        )
+        for words in ((), ("--help",), ("",), ("op",), ("--", "opt"), ("opt\nroute",)):
+            self.assertEqual(self.launch(*words), (2, "", "".join(wanted)))
+        self.assertEqual(self.builds(), 0)
+        # what is built answers itself
+        self.assert_runs("one", 1)
+        self.assertEqual(self.launch("--help"), (0, "one --help\n", ""))
+
+    def test_the_commands_of_the_manual(self):
+        # the launcher knows those, and the completions name the same
+        with open(os.path.join(TOP, "docs/qroute.1"), encoding="utf-8") as file:
+            named = re.findall(r"^\.B qroute (\w+)", file.read(), re.MULTILINE)
+        with open(os.path.join(TOP, "tools/completions/qroute.bash"), encoding="utf-8") as file:
+            completed = re.search(r'compgen -W "([a-z ]+)" -- "\$word"', file.read()).group(1).split()
+        self.assertEqual(sorted(named), sorted(completed))
+
+    def test_no_manual(self):
+        os.remove(os.path.join(self.top, "docs/qroute.1"))
+        self.assertEqual(self.launch("--help")[:2], (0, "one --help\n"))
 
     def test_another_kit(self):
         self.assert_runs("one", 1)
@@ -146,32 +211,33 @@ class Launcher(ToolTest):
 
     def test_a_build_whose_launcher_was_killed(self):
         self.write("seconds", "2")
-        line, env = self.command("first")
+        line, env = self.command("opt", "first")
         first = subprocess.Popen(line, stdout=subprocess.PIPE, stderr=subprocess.PIPE, env=env)
         while self.builds() == 0:
             time.sleep(0.05)
         first.kill()
         self.put(self.top, "crates/qroute/src/main.rt", "two")
         self.write("fails", "")
-        status, out, err = self.launch("second")
+        status, out, err = self.launch("opt", "second")
         self.assertEqual((status, out), (70, ""))
         self.assertIn("qroute: waiting for a build that another call began\n", err)
         first.communicate(timeout=60)
 
     def test_a_second_call_waits(self):
         self.write("seconds", "2")
-        line, env = self.command("first")
+        line, env = self.command("opt", "first")
         first = subprocess.Popen(line, stdout=subprocess.PIPE, stderr=subprocess.PIPE, env=env)
         while self.builds() == 0:
             time.sleep(0.05)
-        status, out, err = self.launch("second")
-        self.assertEqual((status, out), (0, "one second\n"))
+        status, out, err = self.launch("opt", "second")
+        self.assertEqual((status, out), (0, "one opt second\n"))
         self.assertEqual(err, "qroute: waiting for a build that another call began\n")
-        self.assertEqual(first.communicate(timeout=60)[0], b"one first\n")
+        self.assertEqual(first.communicate(timeout=60)[0], b"one opt first\n")
         self.assertEqual(self.builds(), 1)
 
     def test_the_plain_name(self):
         self.write("shell", "")
+        self.launch("opt")
         self.assertEqual(self.launch("-c", "echo $0")[:2], (0, "qroute\n"))
 
     def test_a_path_that_is_no_utf_8(self):
@@ -191,7 +257,7 @@ class Launcher(ToolTest):
         os.chmod(self.room, 0o755)
         for folder, _, _ in os.walk(self.top):
             os.chmod(folder, 0o555)
-        status, out, err = self.launch("a word", before=before)
+        status, out, err = self.launch("opt", before=before)
         self.assertEqual((status, out), (70, ""))
         self.assertEqual(err, f"qroute: can't write to {self.top}/out, and the program has to be built\n")
         for folder, _, _ in os.walk(self.top):
@@ -207,7 +273,7 @@ class Launcher(ToolTest):
         self.assert_runs("one", 1)
         for name in ("bash", "readlink", "sed", "sort", "find", "xargs"):
             os.symlink(shutil.which(name), os.path.join(self.room, "bin", name))
-        line, env = self.command("a word")
+        line, env = self.command("opt")
         ran = subprocess.run(line, capture_output=True, env=env | {"PATH": f"{self.room}/bin"}, timeout=60)
         self.assertEqual((ran.returncode, ran.stdout), (70, b""))
         self.assertEqual(ran.stderr, b"qroute: the command sha256sum isn't there, and the launcher needs it\n")

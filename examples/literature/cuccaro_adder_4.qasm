@@ -1,0 +1,30 @@
+// Adds two numbers of 4 bits in place: b = q[1], q[3], .. becomes a + b with a = q[2], q[4], .., the carry in on q[0]
+// and the carry out on q[9]. Cuccaro, Draper, Kutin and Moulton, "A new quantum ripple-carry addition circuit", 2004.
+OPENQASM 2.0;
+include "qelib1.inc";
+qreg q[10];
+cx q[2],q[1];
+cx q[2],q[0];
+ccx q[0],q[1],q[2];
+cx q[4],q[3];
+cx q[4],q[2];
+ccx q[2],q[3],q[4];
+cx q[6],q[5];
+cx q[6],q[4];
+ccx q[4],q[5],q[6];
+cx q[8],q[7];
+cx q[8],q[6];
+ccx q[6],q[7],q[8];
+cx q[8],q[9];
+ccx q[6],q[7],q[8];
+cx q[8],q[6];
+cx q[6],q[7];
+ccx q[4],q[5],q[6];
+cx q[6],q[4];
+cx q[4],q[5];
+ccx q[2],q[3],q[4];
+cx q[4],q[2];
+cx q[2],q[3];
+ccx q[0],q[1],q[2];
+cx q[2],q[0];
+cx q[0],q[1];

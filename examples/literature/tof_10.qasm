@@ -1,0 +1,23 @@
+// A NOT with 10 controls, q[0] to q[9], on q[18], of Toffoli gates that collect the controls on 8 clean wires and take them off again.
+// Nielsen and Chuang, Quantum Computation and Quantum Information, 2000, figure 4.10; wires and order as tof_10 of the benchmarks of
+// Amy, Maslov and Mosca, "Polynomial-time T-depth optimization of Clifford+T circuits via matroid partitioning", 2014.
+OPENQASM 2.0;
+include "qelib1.inc";
+qreg q[19];
+ccx q[0],q[1],q[10];
+ccx q[2],q[10],q[11];
+ccx q[3],q[11],q[12];
+ccx q[4],q[12],q[13];
+ccx q[5],q[13],q[14];
+ccx q[6],q[14],q[15];
+ccx q[7],q[15],q[16];
+ccx q[8],q[16],q[17];
+ccx q[9],q[17],q[18];
+ccx q[8],q[16],q[17];
+ccx q[7],q[15],q[16];
+ccx q[6],q[14],q[15];
+ccx q[5],q[13],q[14];
+ccx q[4],q[12],q[13];
+ccx q[3],q[11],q[12];
+ccx q[2],q[10],q[11];
+ccx q[0],q[1],q[10];

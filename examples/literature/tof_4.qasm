@@ -1,0 +1,11 @@
+// A NOT with 4 controls, q[0] to q[3], on q[6], of Toffoli gates that collect the controls on 2 clean wires and take them off again.
+// Nielsen and Chuang, Quantum Computation and Quantum Information, 2000, figure 4.10; wires and order as tof_4 of the benchmarks of
+// Amy, Maslov and Mosca, "Polynomial-time T-depth optimization of Clifford+T circuits via matroid partitioning", 2014.
+OPENQASM 2.0;
+include "qelib1.inc";
+qreg q[7];
+ccx q[0],q[1],q[4];
+ccx q[2],q[4],q[5];
+ccx q[3],q[5],q[6];
+ccx q[2],q[4],q[5];
+ccx q[0],q[1],q[4];

@@ -1,0 +1,13 @@
+// A NOT with 5 controls, q[0] to q[4], on q[8], of Toffoli gates that collect the controls on 3 clean wires and take them off again.
+// Nielsen and Chuang, Quantum Computation and Quantum Information, 2000, figure 4.10; wires and order as tof_5 of the benchmarks of
+// Amy, Maslov and Mosca, "Polynomial-time T-depth optimization of Clifford+T circuits via matroid partitioning", 2014.
+OPENQASM 2.0;
+include "qelib1.inc";
+qreg q[9];
+ccx q[0],q[1],q[5];
+ccx q[2],q[5],q[6];
+ccx q[3],q[6],q[7];
+ccx q[4],q[7],q[8];
+ccx q[3],q[6],q[7];
+ccx q[2],q[5],q[6];
+ccx q[0],q[1],q[5];

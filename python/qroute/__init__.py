@@ -1,0 +1,410 @@
+"""Calls `qroute`, the proved optimiser and router for OpenQASM 2.0 over exact Clifford+T, from Python.
+
+    import qroute
+    result = qroute.route(text, qroute.Device.named("ibm_tokyo"))
+    print(result.text, result.swaps, result.initial, result.final)
+
+Nothing is rewritten here: each call runs the program once, hands it the text, and reads what it wrote. The program is the
+file that the environment's QROUTE names; else the one that the launcher of this checkout has built, the one that was
+installed with this file, or one beside it; else `qroute` along PATH. A refusal, and every other end than a result, is an
+exception (`QrouteError`), which says in words what happened. The device files that come with `qroute` are found in this
+checkout, in `share/qroute/devices` beside the program's folder or Python's, or in the folder that the environment's
+QROUTE_DEVICES names.
+
+It needs Python 3.11 and no packages. docs/PYTHON.md says how to come from Qiskit and from pytket, and back.
+"""
+
+from __future__ import annotations
+
+import collections.abc
+import dataclasses
+import json
+import os
+import pathlib
+import re
+import shutil
+import subprocess
+import sys
+import tempfile
+import tomllib
+import typing
+
+__all__ = [
+    "Checked",
+    "Device",
+    "DeviceRefused",
+    "Fault",
+    "NoCommand",
+    "NoMemory",
+    "NoProgram",
+    "QrouteError",
+    "Refused",
+    "Result",
+    "SAYS",
+    "Stage",
+    "StreamFault",
+    "amplitude",
+    "check",
+    "opt",
+    "program",
+    "route",
+    "stages",
+]
+__version__ = "0.9.0"
+
+HERE = pathlib.Path(__file__).resolve().parent
+
+# What each fault means, by its name in the fault line; braces hold keys of that line.
+SAYS = {
+    "Words": "the words mean no command; the manual, `man docs/qroute.1`, has them all",
+    "Input": "the input failed, before its end was read",
+    "Output": "the output failed: it holds some first part of the program",
+    "Shelf": "the device file could not be read",
+    "Absent": "there is no device file of this name",
+    "BadByte": "no token begins here",
+    "Number": "this number is too large: a part of its fraction in lowest terms is above 2^62",
+    "Syntax": "this doesn't fit here",
+    "Version": "the version must be 2.0",
+    "Depth": "this expression is deeper than 64",
+    "Include": "only qelib1.inc can be included, and only once",
+    "NameTaken": "a name that is declared here is taken",
+    "UnknownName": "a name here means nothing",
+    "WrongKind": "a name here means something else than is wanted: a gate, a quantum or a classical register",
+    "IndexRange": "an index isn't below its register's size",
+    "EmptyRegister": "a register must have a size of at least 1",
+    "ParamCount": "the gate takes another number of angles",
+    "QubitCount": "the gate takes another number of qubits",
+    "SizeDiffers": "registers of different sizes meet",
+    "RepeatedQubit": "a qubit stands twice",
+    "Conditional": "conditions (`if`) aren't read by this tool",
+    "Reset": "`reset` isn't read by this tool",
+    "OpaqueApplied": "an opaque gate has no body that could be applied",
+    "AfterMeasure": "a gate is on a qubit that was measured before",
+    "TooManyQubits": "with this register there are more than 256 qubits",
+    "TooManyBits": "with this register there are more than 1,024 classical bits",
+    "AngleForm": "an angle has a form that has no exact value here",
+    "AngleZero": "an angle is divided by 0",
+    "AngleRange": "an angle's exact value is too large",
+    "AngleStep": "an angle is no whole multiple of pi/4",
+    "TooManyOps": "from here on there are too many operations (65,536), or gates of gates to write out (1,048,576)",
+    "DeviceText": "the device file isn't TOML in UTF-8",
+    "DeviceShape": "the device file lacks `qubits`, a whole number, or `edges`, an array of pairs (with `format = 2` of triples)",
+    "DeviceRange": "the device hasn't 1 to 256 qubits, or an edge has a qubit that isn't there",
+    "DeviceTooLong": "the device file is longer than 1,048,576 bytes",
+    "SelfEdge": "an edge leads from qubit {qubit} to itself",
+    "EdgeCost": "the cost of the edge from qubit {from} to qubit {to} isn't from 1 to 1,000,000",
+    "NotConnected": "there is no way from qubit {from} to qubit {to}",
+    "TooFewQubits": "the device has {device} qubits, and the program {qubits}",
+    "TextTooLong": "the program is longer than 4,194,304 bytes",
+    "WideProgram": "amplitudes are those of at most 12 qubits, and the program has {qubits}",
+    "ManyBranches": "amplitudes are those of at most 60 gates that branch, and the program has {branches}",
+    "BitsLength": "a basis state has a 0 or 1 for each of the program's {qubits} qubits",
+}
+# What ends without a line of its own, by the status.
+SILENT = {7: "memory was wanting; nothing was written at all", 8: "the report failed; the output is complete"}
+
+
+def says(told: collections.abc.Mapping[str, typing.Any]) -> str:
+    """What a fault line means, in words."""
+    try:
+        return SAYS[told["fault"]].format(**told)
+    except KeyError:
+        return "no words for this fault"
+
+
+class QrouteError(Exception):
+    """No result."""
+
+
+class NoProgram(QrouteError):
+    """There is no `qroute` to run, or it could not be run."""
+
+
+class Fault(QrouteError):
+    """The program ended with another status than 0.
+
+    `name` is the fault's, as `Syntax`, `code` its number where it has one, `status` the program's, and `told` the line itself.
+    """
+
+    def __init__(self, told: dict[str, typing.Any], status: int, where: str = "") -> None:
+        self.told = told
+        self.status = status
+        self.name: str = told.get("fault", "")
+        self.code: int | None = told.get("code")
+        self.says = says(told) if told else SILENT.get(status, f"the program ended with status {status}")
+        super().__init__(f"{where}{self.name}: {self.says}" if self.name else self.says)
+
+
+class NoCommand(Fault):
+    """The words mean no command of this program: it is older than this module, or newer."""
+
+
+class Refused(Fault):
+    """The text was refused. `line` and `column`, from 1, tell where, and `offset` in bytes, where the refusal has a place."""
+
+    def __init__(self, told: dict[str, typing.Any], status: int, text: bytes) -> None:
+        self.offset = offset_of(told, text)
+        self.line: int | None = None
+        self.column: int | None = None
+        where = ""
+        if self.offset is not None:
+            self.line, self.column = position(text, self.offset)
+            where = f"line {self.line}, column {self.column}: "
+        super().__init__(told, status, where)
+
+
+class DeviceRefused(Fault):
+    """The device was refused, or it has fewer qubits than the program."""
+
+
+class StreamFault(Fault):
+    """Reading or writing failed."""
+
+
+class NoMemory(Fault):
+    """Memory was wanting."""
+
+
+KINDS: dict[int, type[Fault]] = {2: NoCommand, 4: DeviceRefused, 5: StreamFault, 6: StreamFault, 7: NoMemory, 8: StreamFault, 9: StreamFault}
+
+TOKEN = re.compile(rb'\s+|//[^\n]*|"[^"\n]*"|[{};]|[^\s{};"/]+|.')
+
+
+def statement_offset(text: bytes, number: int) -> int | None:
+    """The offset of a statement, counted from 1 behind the header's; None where there is none."""
+    depth = count = 0
+    begins = False
+    for match in TOKEN.finditer(text):
+        token = match.group()
+        if token.isspace() or token.startswith(b"//"):
+            continue
+        if begins and depth == 0:
+            count += 1
+            begins = False
+            if count == number:
+                return match.start()
+        depth += {b"{": 1, b"}": -1}.get(token, 0)
+        begins = begins or (depth == 0 and token in (b";", b"}"))
+    return None
+
+
+def offset_of(told: collections.abc.Mapping[str, typing.Any], text: bytes) -> int | None:
+    """The offset in bytes that a fault line tells, of its place or its statement."""
+    if "statement" in told:
+        return statement_offset(text, told["statement"])
+    return told.get("place")
+
+
+def position(text: bytes, offset: int) -> tuple[int, int]:
+    """Line and column of an offset, from 1; a column is a character."""
+    before = text[:offset]
+    begins = before.rfind(b"\n") + 1
+    return before.count(b"\n") + 1, len(before[begins:].decode("utf-8", "replace")) + 1
+
+
+@dataclasses.dataclass(frozen=True)
+class Device:
+    """A coupling map, as the text of a device file. `name` is for messages alone."""
+
+    text: str
+    name: str = "device"
+
+    @classmethod
+    def of(cls, edges: collections.abc.Iterable[collections.abc.Sequence[int]], qubits: int | None = None, both: bool = False) -> Device:
+        """The device with these edges: pairs of control and target, or triples with a cost from 1 to 1,000,000.
+
+        It has as many qubits as the edges need, or as `qubits` says; with `both` a CNOT may have each edge in both directions.
+        """
+        listed = [tuple(int(part) for part in it) for it in edges]
+        if both:
+            listed += [(b, a, *cost) for a, b, *cost in listed if (b, a) not in {it[:2] for it in listed}]
+        size = max((max(it[:2]) for it in listed), default=0) + 1 if qubits is None else qubits
+        has_costs = any(len(it) > 2 for it in listed)
+        head = "format = 2\n" if has_costs else ""
+        whole = [it if len(it) > 2 or not has_costs else (*it, 1) for it in listed]
+        return cls(f"{head}qubits = {size}\nedges = [{', '.join(str(list(it)) for it in whole)}]\n")
+
+    @classmethod
+    def load(cls, path: str | os.PathLike[str]) -> Device:
+        """The device of a file."""
+        return cls(pathlib.Path(path).read_text(encoding="utf-8"), os.fspath(path))
+
+    @classmethod
+    def named(cls, name: str) -> Device:
+        """A device of those that come with `qroute`, as `ibm_tokyo`."""
+        for folder in device_folders():
+            path = folder / f"{name}.toml"
+            if re.fullmatch(r"\w+", name) and path.is_file():
+                return cls.load(path)
+        raise KeyError(f"no device {name}; there are {', '.join(cls.names()) or 'none'}")
+
+    @classmethod
+    def names(cls) -> list[str]:
+        """The names of the devices that come with `qroute`."""
+        return sorted({path.stem for folder in device_folders() for path in folder.glob("*.toml")})
+
+    def edges(self) -> list[list[int]]:
+        """The edges, as the file has them."""
+        return tomllib.loads(self.text)["edges"]
+
+    def qubits(self) -> int:
+        """The number of qubits, as the file says it."""
+        return tomllib.loads(self.text)["qubits"]
+
+
+def device_folders() -> list[pathlib.Path]:
+    """Where device files may be."""
+    found = [pathlib.Path(os.environ["QROUTE_DEVICES"])] if "QROUTE_DEVICES" in os.environ else []
+    found.append(HERE.parent.parent / "devices")
+    roots = [pathlib.Path(sys.prefix)]
+    try:
+        roots.insert(0, pathlib.Path(program()).resolve().parent.parent)
+    except NoProgram:
+        pass
+    found += [it / "share/qroute/devices" for it in roots]
+    return [it for it in found if it.is_dir()]
+
+
+@dataclasses.dataclass(frozen=True)
+class Result:
+    """A written program, and what the report tells of it.
+
+    Entry i of `initial` and `final` is the qubit on which wire i begins and ends; wires from `qubits` on are the spare ones
+    of the device. The written unitary is exp(i pi/4) to the power `phase` times the source's, between the two.
+    """
+
+    text: str
+    initial: tuple[int, ...]
+    final: tuple[int, ...]
+    phase: int
+    swaps: int
+    qubits: int
+    device: int
+    barriers: int
+    cx_before: int
+    cx_after: int
+    t_before: int
+    t_after: int
+    cost: int | None = None
+    report: dict[str, typing.Any] = dataclasses.field(default_factory=dict, repr=False, compare=False)
+
+
+@dataclasses.dataclass(frozen=True)
+class Checked:
+    """What is in a program: its qubits and classical bits, operations with gates written out, CNOTs, T gates, barriers."""
+
+    qubits: int
+    bits: int
+    operations: int
+    cx: int
+    t: int
+    barriers: int
+
+
+@dataclasses.dataclass(frozen=True)
+class Stage:
+    """A layer of gates between H: its gates, its parities with an odd coefficient, and into how few independent blocks they fall.
+
+    `witness` of the parities have the rank `rank`, which is why fewer blocks don't do.
+    """
+
+    layer: int
+    gates: int
+    parities: int
+    blocks: int
+    witness: int
+    rank: int
+
+
+def installed() -> list[pathlib.Path]:
+    """Where `tools/install` puts the program, if it has put this file here."""
+    return [HERE.parents[3] / "bin/qroute"] if HERE.parent.name == "site-packages" else []
+
+
+def program() -> str:
+    """The path of the program that is run."""
+    if asked := os.environ.get("QROUTE"):
+        return asked
+    for path in (HERE.parent.parent / "out/qroute", HERE / "qroute", *installed()):
+        if path.is_file() and os.access(path, os.X_OK):
+            return str(path)
+    found = shutil.which("qroute")
+    if found is None:
+        raise NoProgram("there is no `qroute`: set QROUTE to its path, or run the launcher of the checkout once")
+    return found
+
+
+def lines_of(told: bytes) -> dict[str, typing.Any]:
+    """The last object among the lines of standard error; a launcher that builds writes others before it."""
+    for line in reversed(told.decode("utf-8", "replace").splitlines()):
+        try:
+            found = json.loads(line)
+        except ValueError:
+            continue
+        if isinstance(found, dict):
+            return found
+    return {}
+
+
+def run(words: list[str], text: bytes, timeout: float | None) -> tuple[str, dict[str, typing.Any]]:
+    """What the program writes, and its line."""
+    path = program()
+    try:
+        ran = subprocess.run([path, *words], input=text, capture_output=True, timeout=timeout)
+    except OSError as fault:
+        raise NoProgram(f"{path}: {fault.strerror}") from fault
+    told = lines_of(ran.stderr)
+    if ran.returncode == 0:
+        return ran.stdout.decode("ascii"), told
+    if ran.returncode == 70 or ran.returncode < 0:
+        raise NoProgram(f"{path} ended with {ran.returncode}: {ran.stderr.decode('utf-8', 'replace').strip()[-500:]}")
+    if ran.returncode == 3:
+        raise Refused(told, 3, text)
+    raise KINDS.get(ran.returncode, Fault)(told, ran.returncode)
+
+
+def as_bytes(text: str | bytes) -> bytes:
+    return text.encode() if isinstance(text, str) else text
+
+
+def result(written: str, told: dict[str, typing.Any]) -> Result:
+    names = [it.name for it in dataclasses.fields(Result) if it.name in told]
+    values = {it: tuple(told[it]) if isinstance(told[it], list) else told[it] for it in names}
+    return Result(text=written, report=told, **values)
+
+
+def opt(text: str | bytes, *, timeout: float | None = None) -> Result:
+    """The program on its own qubits, with fewer gates where some are found."""
+    return result(*run(["opt"], as_bytes(text), timeout))
+
+
+def route(text: str | bytes, device: Device, trivial: bool = False, *, timeout: float | None = None) -> Result:
+    """The program on the qubits of a device; with `trivial` wire i begins on qubit i."""
+    with tempfile.TemporaryDirectory() as room:
+        path = os.path.join(room, "device.toml")
+        with open(path, "w", encoding="utf-8") as file:
+            file.write(device.text)
+        words = ["route", "--device", path, *(["--trivial"] if trivial else [])]
+        return result(*run(words, as_bytes(text), timeout))
+
+
+def check(text: str | bytes, *, timeout: float | None = None) -> Checked:
+    """What is in a program."""
+    _, told = run(["check"], as_bytes(text), timeout)
+    return Checked(**{it.name: told[it.name] for it in dataclasses.fields(Checked)})
+
+
+def stages(text: str | bytes, *, timeout: float | None = None) -> list[Stage]:
+    """The layers of a program's gates between H, as they are before anything is rewritten."""
+    written, _ = run(["stages"], as_bytes(text), timeout)
+    rows = [line.split() for line in written.splitlines()]
+    return [Stage(**{name: int(value) for name, value in zip(row[::2], row[1::2], strict=True)}) for row in rows]
+
+
+def amplitude(text: str | bytes, begins: str, ends: str, *, timeout: float | None = None) -> tuple[int, int, int, int, int]:
+    """The entry of a program's unitary from one basis state to another, exactly: (a, b, c, d, e) for
+    (a + b w + c w^2 + d w^3) / 2^e with w = exp(i pi/4). A state is a text with a 0 or 1 for each wire, wire 0 first.
+    """
+    written, _ = run(["amplitude", "--from", begins, "--to", ends], as_bytes(text), timeout)
+    a, b, c, d, e = map(int, written.split())
+    return a, b, c, d, e

@@ -1,0 +1,175 @@
+"""Texts that take long to read or to rewrite, or much memory: the worst that are known, of each kind, made on the spot.
+
+`KINDS` lists them: what a text is called, the words of the command, the status that it must end with, what makes the program's
+text, and what makes the device's where there is one. Each text is as long as it may be, or has as many operations.
+"""
+
+import dataclasses
+import typing
+
+HEAD = 'OPENQASM 2.0;\ninclude "qelib1.inc";\n'
+ONE = HEAD + "qreg q[1]; "
+MOST_BYTES = 4_194_304
+MOST_OPERATIONS = 65_536
+MOST_DEVICE = 1_048_576
+SEEDS = 6364136223846793005, 1442695040888963407
+
+
+@dataclasses.dataclass(frozen=True)
+class Kind:
+    name: str
+    words: tuple[str, ...]  # `DEVICE` stands for the device's file
+    status: int
+    text: typing.Callable[[], str]
+    device: typing.Callable[[], str] | None = None
+
+
+def filled(begins, part, ends=""):
+    """A text of the greatest length between its begin and its end."""
+    return begins + part * ((MOST_BYTES - len(begins) - len(ends)) // len(part)) + ends
+
+
+def nest(opens, inner, closes):
+    """As many pairs as fit around a part."""
+    count = (MOST_BYTES - len(ONE) - 64) // (len(opens) + len(closes))
+    return f"{ONE}u1({opens * count}{inner}{closes * count}) q[0];"
+
+
+def chain():
+    """Gates of which each applies the one before."""
+    lines = ["gate g0 a { }", *(f"gate g{i} a {{ g{i - 1} a; }}" for i in range(1, 100_000))]
+    return HEAD + "\n".join(lines) + "\nqreg q[1]; g99999 q[0];"
+
+
+def doublings():
+    """Gates of which each applies the one before twice."""
+    lines = ["gate g0 a { x a; }", *(f"gate g{i} a {{ g{i - 1} a; g{i - 1} a; }}" for i in range(1, 15_000))]
+    return HEAD + "\n".join(lines) + "\nqreg q[1]; g14999 q[0];"
+
+
+def angles_apart(levels=18, terms=900):
+    """Each of 2^18 applications has an angle of its own, a long sum, and none of them has an operation."""
+    part = f"({'+'.join(['p'] * 60)})"
+    lines = ["gate e(p) a { }", f"gate g0(p) a {{ e({'+'.join([part] * (terms // 60))}) a; }}"]
+    lines += [f"gate g{i}(p) a {{ g{i - 1}(p) a; g{i - 1}(p+{2 ** (i - 1)}) a; }}" for i in range(1, levels + 1)]
+    return HEAD + "\n".join(lines) + f"\nqreg q[1]; g{levels}(0) q[0];"
+
+
+def declarations():
+    """As many gates of one's own as fit."""
+    lines, size, i = [HEAD], len(HEAD), 0
+    while size < MOST_BYTES - 200:
+        lines.append(f"gate g{i}(t) a,b {{ cx a,b; u1(t/2) b; h a; }}\n")
+        size += len(lines[-1])
+        i += 1
+    return "".join(lines) + f"qreg q[2]; g{i - 1}(pi) q[0],q[1];"
+
+
+def sums():
+    """Angles of sixty terms each."""
+    return ONE + "u1({}) q[0];\n".format("+".join(["pi/4"] * 60)) * 12_000
+
+
+def underscores(operations):
+    """A register that is written with 1,024 underscores behind its name, since classical ones have all others."""
+    lines = [f"creg q{'_' * i}[1];" for i in range(1_024)]
+    return HEAD + "\n".join([*lines, "qreg w[1];", *["h w[0];", "t w[0];"] * (operations // 2)])
+
+
+def levels(count):
+    """Each round of the passes takes off one level."""
+    down = "cx q[0],q[1]; t q[1]; cx q[0],q[1]; h q[0];\n"
+    up = "h q[0]; cx q[1],q[0]; tdg q[0]; cx q[1],q[0];\n"
+    return HEAD + "qreg q[2];\n" + down * count + up * count
+
+
+def nested():
+    """All cancels, from the middle on."""
+    count = MOST_OPERATIONS // 4
+    return ONE + "h q[0]; t q[0];\n" * count + "tdg q[0]; h q[0];\n" * count
+
+
+def mixed(wires, kinds, operations=MOST_OPERATIONS):
+    """Gates that look random."""
+    x, lines = wires, [HEAD + f"qreg q[{wires}];"]
+
+    def below(n):
+        nonlocal x
+        x = (x * SEEDS[0] + SEEDS[1]) % 2**64
+        return (x >> 33) % n
+
+    for _ in range(operations):
+        kind, wire = kinds[below(len(kinds))], below(wires)
+        lines.append(f"cx q[{wire}],q[{(wire + 1 + below(wires - 1)) % wires}];" if kind == "cx" else f"{kind} q[{wire}];")
+    return "\n".join(lines)
+
+
+def there_and_back(wires=64):
+    """CNOTs that all cancel, far apart."""
+    half = MOST_OPERATIONS // 2
+    lines = [f"cx q[{i % wires}],q[{(i + 1 + i // wires % (wires - 1)) % wires}];" for i in range(half)]
+    return HEAD + f"qreg q[{wires}];\n" + "\n".join(lines + lines[::-1])
+
+
+def device(size, edges):
+    return f"qubits = {size}\nedges = {[list(it) for it in edges]}\n"
+
+
+def line(size):
+    return device(size, [(i, i + 1) for i in range(size - 1)])
+
+
+def grid(rows, columns):
+    pairs = [(i, i + 1) for i in range(rows * columns) if i % columns < columns - 1]
+    return device(rows * columns, pairs + [(i, i + columns) for i in range((rows - 1) * columns)])
+
+
+def long_device(part, begins="", ends=""):
+    """A device file of the greatest length, with so many parts before a device of one qubit."""
+    whole = "qubits = 1\nedges = []\n"
+    room = MOST_DEVICE - len(begins) - len(ends) - len(whole)
+    return whole + begins + part * (room // len(part)) + ends
+
+
+CHECK, OPT, STAGES = ("check",), ("opt",), ("stages",)
+ROUTE = ("route", "--device", "DEVICE")
+KINDS = [
+    Kind("parentheses", CHECK, 3, lambda: filled(ONE + "u1(", "(")),
+    Kind("parentheses that close", CHECK, 3, lambda: nest("(", "pi", ")")),
+    Kind("minus signs", CHECK, 3, lambda: filled(ONE + "u1(", "-")),
+    Kind("powers", CHECK, 3, lambda: filled(ONE + "u1(", "2^")),
+    Kind("functions", CHECK, 3, lambda: filled(ONE + "u1(", "sin(")),
+    Kind("a sum", CHECK, 3, lambda: filled(ONE + "u1(1", "+1", ") q[0];")),
+    Kind("a list of angles", CHECK, 3, lambda: filled(ONE + "u1(0", ",0", ") q[0];")),
+    Kind("a list of qubits", CHECK, 0, lambda: filled(ONE + "barrier q[0]", ",q[0]", ";")),
+    Kind("barriers", OPT, 0, lambda: filled(ONE, "barrier q;\n")),
+    Kind("a comment", OPT, 0, lambda: filled(ONE + "t q[0]; //", "/")),
+    Kind("digits", CHECK, 0, lambda: filled(ONE + "u1(0.", "0", ") q[0];")),
+    Kind("a long name", CHECK, 0, lambda: f"{HEAD}qreg {'a' * 2_000_000}[1]; h {'a' * 2_000_000};"),
+    Kind("sums of sixty terms", CHECK, 0, sums),
+    Kind("declarations", CHECK, 0, declarations),
+    Kind("a chain of gates", OPT, 0, chain),
+    Kind("gates that double", CHECK, 3, doublings),
+    Kind("gates that double, each angle another", CHECK, 0, angles_apart),
+    Kind("1,024 underscores", OPT, 0, lambda: underscores(MOST_OPERATIONS)),
+    Kind("1,024 underscores", ROUTE, 0, lambda: underscores(MOST_OPERATIONS // 4), lambda: line(64)),
+    Kind("a nest", OPT, 0, nested),
+    Kind("CNOTs there and back", OPT, 0, there_and_back),
+    Kind("8,000 gates in levels", OPT, 0, lambda: levels(1_000)),
+    Kind("32,000 gates in levels", OPT, 0, lambda: levels(4_000)),
+    Kind("CNOTs and T gates", OPT, 0, lambda: mixed(64, ["cx", "t"])),
+    Kind("CNOTs and T gates", STAGES, 0, lambda: mixed(64, ["cx", "t"])),
+    Kind("H, CNOTs and T gates", STAGES, 0, lambda: mixed(64, ["cx", "cx", "t", "h"])),
+    Kind("CNOTs on a line of 64", ROUTE, 0, lambda: mixed(64, ["cx"]), lambda: line(64)),
+    Kind("CNOTs on a grid of 64", (*ROUTE, "--trivial"), 0, lambda: mixed(64, ["cx", "cx", "t"]), lambda: grid(8, 8)),
+    Kind("CNOTs on a grid of 256", ROUTE, 0, lambda: mixed(256, ["cx", "cx", "t"]), lambda: grid(16, 16)),
+    Kind("a device of nested arrays", ROUTE, 4, lambda: ONE, lambda: long_device("[", "other = ")),
+    Kind("a device of dotted keys", ROUTE, 4, lambda: ONE, lambda: long_device("a.", "", "a = 1")),
+    Kind("a device of many keys", ROUTE, 0, lambda: ONE, lambda: "".join(f"k{i} = 1\n" for i in range(80_000)) + "qubits = 1\nedges = []\n"),
+    Kind("a device with a long key", ROUTE, 0, lambda: ONE, lambda: long_device("a", "", " = 1")),
+    Kind("a device with a long text", ROUTE, 0, lambda: ONE, lambda: long_device("a", "other = '", "'")),
+    Kind("a device with a long number", ROUTE, 4, lambda: ONE, lambda: long_device("9", "other = ")),
+    Kind("a device with one edge many times", ROUTE, 0, lambda: ONE, lambda: "qubits = 2\nedges = [" + "[0, 1]," * 149_000 + "]"),
+    Kind("a device with all edges", ROUTE, 0, lambda: ONE, lambda: device(256, [(a, b) for a in range(256) for b in range(256) if a != b])),
+    Kind("a device of comments", ROUTE, 0, lambda: ONE, lambda: long_device("#\n")),
+]

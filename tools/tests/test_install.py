@@ -1,0 +1,65 @@
+import os
+import shutil
+import subprocess
+import sys
+
+from tool import TOP, ToolTest
+
+COPIED = ["tools", "docs", "devices", "python", "LICENSE", "NOTICE", "VERSION"]
+
+
+class Install(ToolTest):
+    """A copy of the checkout whose launcher stands for one that has built."""
+
+    def setUp(self):
+        super().setUp()
+        self.top = os.path.join(self.room, "checkout")
+        os.mkdir(self.top)
+        for name in COPIED:
+            source, target = os.path.join(TOP, name), os.path.join(self.top, name)
+            (shutil.copytree if os.path.isdir(source) else shutil.copy)(source, target)
+        self.program("exit 0")
+        self.prefix = os.path.join(self.room, "prefix")
+
+    def program(self, launcher):
+        for name, text in (("qroute", launcher), ("out/qroute", 'echo "it runs" "$@"')):
+            path = self.file(f"checkout/{name}", f"#!/bin/sh\n{text}\n")
+            os.chmod(path, 0o755)
+
+    def install(self, *words):
+        ran = subprocess.run([os.path.join(self.top, "tools/install"), *words], capture_output=True, text=True, timeout=60)
+        return ran.returncode, ran.stdout, ran.stderr
+
+    def files(self):
+        return sorted(os.path.join(folder, it) for folder, _, names in os.walk(self.prefix) for it in names)
+
+    def test_puts_and_takes_away(self):
+        own = self.file("prefix/share/man/man1/other.1", "mine")
+        self.assertEqual(self.install(self.prefix)[0], 0)
+        ran = subprocess.run([os.path.join(self.prefix, "bin/qroute"), "opt"], capture_output=True, text=True)
+        self.assertEqual(ran.stdout, "it runs opt\n")
+        found = self.files()
+        for place in ("share/man/man1/qroute.1", "share/zsh/site-functions/_qroute", "share/qroute/devices/ibm_tokyo.toml"):
+            self.assertIn(os.path.join(self.prefix, place), found)
+        # once more is the same
+        self.assertEqual(self.install(self.prefix)[0], 0)
+        self.assertEqual(self.files(), found)
+        status, out, _ = self.install("--remove", self.prefix)
+        self.assertEqual((status, out), (0, f"took away {len(found) - 1} files below {self.prefix}\n"))
+        self.assertEqual(self.files(), [own])
+        self.assertEqual(os.listdir(self.prefix), ["share"])
+        self.assertEqual(self.install("--remove", self.prefix)[0], 1)
+
+    def test_the_module_finds_the_program_and_the_devices(self):
+        self.install(self.prefix)
+        site = os.path.join(self.prefix, f"lib/python{sys.version_info.major}.{sys.version_info.minor}/site-packages")
+        script = "import qroute; print(qroute.program(), qroute.Device.named('ibm_tokyo').name)"
+        env = {"PYTHONPATH": site, "PATH": os.environ["PATH"]}
+        ran = subprocess.run([sys.executable, "-c", script], capture_output=True, text=True, env=env, cwd=self.room)
+        wanted = f"{self.prefix}/bin/qroute {self.prefix}/share/qroute/devices/ibm_tokyo.toml\n"
+        self.assertEqual((ran.stdout, ran.stderr), (wanted, ""))
+
+    def test_no_program(self):
+        self.program("exit 70")
+        self.assertEqual(self.install(self.prefix), (2, "", "install: there is no program to install\n"))
+        self.assertFalse(os.path.exists(self.prefix))

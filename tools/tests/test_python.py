@@ -1,0 +1,178 @@
+import json
+import os
+import subprocess
+import sys
+from unittest import mock
+
+from tool import TOP, ToolTest
+
+sys.path.insert(0, os.path.join(TOP, "python"))
+import qroute
+
+# Stands for the program: writes down its words, its input and the device's text, and answers from files.
+STAND_IN = """#!/bin/bash
+room=$(dirname -- "$0")
+printf '%s\\n' "$@" >"$room/words"
+[ "$2" = --device ] && cp -- "$3" "$room/device"
+cat >"$room/in"
+cat -- "$room/out"
+cat -- "$room/err" >&2
+exit "$(cat -- "$room/status")"
+"""
+REPORT = {
+    "barriers": 1,
+    "cx_after": 5,
+    "cx_before": 2,
+    "device": 3,
+    "final": [2, 1, 0],
+    "format": 1,
+    "initial": [0, 1, 2],
+    "phase": 3,
+    "qubits": 2,
+    "swaps": 1,
+    "t_after": 0,
+    "t_before": 1,
+}
+SOURCE = 'OPENQASM 2.0;\ninclude "qelib1.inc"; // here; {\nqreg q[2];\n  gate g a { h a; }\n  h r[0];\n'
+BUILT = os.path.join(TOP, "out/qroute")
+
+
+class Module(ToolTest):
+    """The module over a program that stands in for the real one."""
+
+    def setUp(self):
+        super().setUp()
+        self.program = self.file("qroute", STAND_IN)
+        os.chmod(self.program, 0o755)
+        patch = mock.patch.dict(os.environ, {"QROUTE": self.program})
+        patch.start()
+        self.addCleanup(patch.stop)
+
+    def answers(self, status, out="", err=""):
+        self.file("status", str(status))
+        self.file("out", out)
+        self.file("err", err if isinstance(err, str) else json.dumps(err) + "\n")
+
+    def given(self, name):
+        with open(os.path.join(self.room, name), encoding="utf-8") as file:
+            return file.read()
+
+    def test_results(self):
+        self.answers(0, "written\n", REPORT)
+        found = qroute.route(SOURCE, qroute.Device.of([(0, 1), (2, 1)]), trivial=True)
+        self.assertEqual((found.text, found.initial, found.final), ("written\n", (0, 1, 2), (2, 1, 0)))
+        self.assertEqual((found.phase, found.swaps, found.cx_before, found.cx_after, found.cost), (3, 1, 2, 5, None))
+        self.assertEqual(self.given("in"), SOURCE)
+        self.assertEqual(self.given("device"), "qubits = 3\nedges = [[0, 1], [2, 1]]\n")
+        words = self.given("words").split()
+        self.assertEqual((words[:2], words[3:]), (["route", "--device"], ["--trivial"]))
+        # a launcher that builds says so first
+        self.answers(0, "written\n", f"qroute: building the program\n{json.dumps(REPORT | {'cost': 9})}\n")
+        self.assertEqual(qroute.opt(SOURCE.encode()).cost, 9)
+        self.assertEqual(self.given("words"), "opt\n")
+
+    def test_lines(self):
+        told = {"barriers": 0, "bits": 1, "cx": 2, "format": 1, "operations": 3, "qubits": 4, "t": 5}
+        self.answers(0, "", told)
+        self.assertEqual(qroute.check(SOURCE), qroute.Checked(qubits=4, bits=1, operations=3, cx=2, t=5, barriers=0))
+        self.answers(0, "layer 1 gates 2 parities 3 blocks 4 witness 5 rank 6\n")
+        self.assertEqual(qroute.stages(SOURCE), [qroute.Stage(1, 2, 3, 4, 5, 6)])
+        self.answers(0, "1 0 -1 0 1\n")
+        self.assertEqual(qroute.amplitude(SOURCE, "00", "10"), (1, 0, -1, 0, 1))
+        self.assertEqual(self.given("words").split(), ["amplitude", "--from", "00", "--to", "10"])
+
+    def fault(self, kind, status, told):
+        self.answers(status, "", told)
+        with self.assertRaises(kind) as caught:
+            qroute.opt(SOURCE)
+        return caught.exception
+
+    def test_refusals(self):
+        fault = self.fault(qroute.Refused, 3, {"code": 12, "fault": "Syntax", "place": 52, "status": 3})
+        self.assertEqual((fault.code, fault.name, fault.line, fault.column, fault.offset), (12, "Syntax", 3, 6, 52))
+        self.assertEqual(str(fault), "line 3, column 6: Syntax: this doesn't fit here")
+        # the include, the register and the gate come first; braces and signs in comments are none
+        fault = self.fault(qroute.Refused, 3, {"code": 22, "fault": "UnknownName", "statement": 4, "status": 3})
+        self.assertEqual((fault.line, fault.column), (5, 3))
+        fault = self.fault(qroute.Refused, 3, {"code": 60, "fault": "TextTooLong", "status": 3})
+        self.assertEqual((fault.line, fault.column), (None, None))
+
+    def test_other_faults(self):
+        told = {"code": 54, "fault": "NotConnected", "from": 0, "status": 4, "to": 2}
+        self.assertEqual(str(self.fault(qroute.DeviceRefused, 4, told)), "NotConnected: there is no way from qubit 0 to qubit 2")
+        self.assertEqual(self.fault(qroute.NoCommand, 2, {"fault": "Words", "status": 2}).name, "Words")
+        self.assertEqual(str(self.fault(qroute.NoMemory, 7, "")), "memory was wanting; nothing was written at all")
+        for status, name in ((5, "Input"), (6, "Output"), (9, "Absent")):
+            self.assertEqual(self.fault(qroute.StreamFault, status, {"fault": name, "status": status}).name, name)
+        self.assertEqual(self.fault(qroute.StreamFault, 8, "").status, 8)
+        self.assertIn("no rt\n"[:-1], str(self.fault(qroute.NoProgram, 70, "qroute: no rt\n")))
+
+    def test_no_program(self):
+        for path in (os.path.join(self.room, "none"), self.room):
+            with mock.patch.dict(os.environ, {"QROUTE": path}), self.assertRaises(qroute.NoProgram):
+                qroute.opt(SOURCE)
+
+    def test_where_the_program_is(self):
+        self.assertEqual(qroute.program(), self.program)
+        with mock.patch.dict(os.environ, {"QROUTE": "", "PATH": self.room}), mock.patch.object(qroute, "HERE", qroute.HERE / "none/x"):
+            self.assertEqual(qroute.program(), self.program)
+            os.rename(self.program, self.program + "-")
+            with self.assertRaises(qroute.NoProgram):
+                qroute.program()
+
+    def test_devices(self):
+        self.assertEqual(qroute.Device.of([(0, 1)], 3, both=True).edges(), [[0, 1], [1, 0]])
+        costs = qroute.Device.of([(0, 1, 5), (2, 1)], both=True)
+        self.assertEqual(costs.text, "format = 2\nqubits = 3\nedges = [[0, 1, 5], [2, 1, 1], [1, 0, 5], [1, 2, 1]]\n")
+        self.assertEqual(qroute.Device.of([]).qubits(), 1)
+        tokyo = qroute.Device.named("ibm_tokyo")
+        self.assertEqual(tokyo.qubits(), 20)
+        self.assertIn("ibm_tokyo", qroute.Device.names())
+        for name in ("ibm", "../devices/ibm_tokyo"):
+            with self.assertRaises(KeyError):
+                qroute.Device.named(name)
+        path = self.file("devices/own.toml", "qubits = 1\nedges = []\n")
+        self.assertEqual(qroute.Device.load(path).edges(), [])
+        with mock.patch.dict(os.environ, {"QROUTE_DEVICES": os.path.dirname(path)}):
+            self.assertEqual(qroute.Device.named("own").qubits(), 1)
+
+    def test_one_version(self):
+        with open(os.path.join(TOP, "VERSION"), encoding="utf-8") as file:
+            self.assertEqual(file.read().strip(), qroute.__version__)
+
+    def test_a_table(self):
+        self.answers(0, "written\n", REPORT)
+        words = [os.path.join(TOP, "python/route_table.py"), os.path.join(TOP, "examples/bell.qasm"), "--device", "line_5", "ibm_tokyo"]
+        ran = subprocess.run(words, capture_output=True, text=True, timeout=60)
+        rows = [it.split() for it in ran.stdout.splitlines()[1:]]
+        self.assertEqual(rows, [["bell", it, "1", "2", "5", "1", "0"] for it in ("line_5", "ibm_tokyo")], ran.stderr)
+
+
+class Built(ToolTest):
+    """The module over the program that the launcher built, where there is one."""
+
+    def setUp(self):
+        super().setUp()
+        if not os.access(os.environ.get("QROUTE", BUILT), os.X_OK):
+            self.skipTest("there is no built program")
+
+    def test_answers(self):
+        with open(os.path.join(TOP, "examples/toffoli.qasm"), encoding="utf-8") as file:
+            text = file.read()
+        found = qroute.route(text, qroute.Device.named("line_5"))
+        self.assertEqual((found.qubits, found.device, found.t_after), (3, 5, 7))
+        source, written = self.file("source", text), self.file("written", found.text)
+        report = self.file("report", json.dumps(found.report) + "\n")
+        status, out, err = self.run_tool("check-small", source, written, report, "--device", os.path.join(TOP, "devices/line_5.toml"))
+        self.assertEqual(status, 0, out + err)
+        self.assertEqual(qroute.opt(text).qubits, 3)
+        self.assertEqual(qroute.check(text).t, 7)
+        # the seven parities of a Toffoli gate, on three wires
+        self.assertEqual([(it.parities, it.blocks, it.rank) for it in qroute.stages(text)], [(7, 3, 3)])
+
+    def test_faults(self):
+        with self.assertRaises(qroute.Refused) as caught:
+            qroute.opt(SOURCE)
+        self.assertEqual((caught.exception.name, caught.exception.line, caught.exception.column), ("UnknownName", 5, 3))
+        with self.assertRaises(qroute.DeviceRefused):
+            qroute.route("OPENQASM 2.0;\nqreg q[4];\n", qroute.Device.of([(0, 1)]))
