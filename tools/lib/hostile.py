@@ -49,8 +49,8 @@ def doublings():
 
 def angles_apart(levels=18, terms=900):
     """Each of 2^18 applications has an angle of its own, a long sum, and none of them has an operation."""
-    part = f"({'+'.join(['p'] * 60)})"
-    lines = ["gate e(p) a { }", f"gate g0(p) a {{ e({'+'.join([part] * (terms // 60))}) a; }}"]
+    part = f"({'+'.join(['p'] * 30)})"
+    lines = ["gate e(p) a { }", f"gate g0(p) a {{ e({'+'.join([part] * (terms // 30))}) a; }}"]
     lines += [f"gate g{i}(p) a {{ g{i - 1}(p) a; g{i - 1}(p+{2 ** (i - 1)}) a; }}" for i in range(1, levels + 1)]
     return HEAD + "\n".join(lines) + f"\nqreg q[1]; g{levels}(0) q[0];"
 
