@@ -39,7 +39,7 @@ use window::window_at;
 pub struct HadamardRules;
 
 impl Rule for HadamardRules {
-    ghost use Rattle.hadamard_reduce.specs.Windows.{IsWindow};
+    ghost use Rattle.rewrite_pass.specs.Windows.{IsWindow};
 
     ghost window = { IsWindow };
 
@@ -57,7 +57,7 @@ pub struct HadamardPass;
 
 impl Pass for HadamardPass {
     ghost use Rattle.std.specs.Prelude.{◌≤◌, length};
-    ghost use Rattle.hadamard_reduce.specs.Windows.{HasNoWindow};
+    ghost use Rattle.rewrite_pass.specs.Windows.{HasNoWindow};
 
     ghost shape = { λ n gs. HasNoWindow gs };
 

@@ -18,7 +18,7 @@ use Rattle.unitary_model.specs.SameUpTo.{SameUpTo}
 use Rattle.unitary_model.proofs.AmplitudeLaws.{SameUpTo_trans}
 use Rattle.unitary_model.proofs.RealisesLaws.{Realises_chain, Realises_same}
 use Rattle.commute_rules.specs.Reducible.{NoReducible}
-use Rattle.hadamard_reduce.specs.Windows.{IsWindow}
+use Rattle.rewrite_pass.specs.Windows.{IsWindow}
 use Rattle.rewrite_pass.specs.Law.{IsRewriting}
 use Rattle.coupling_map.specs.Coupling.{Coupling, cost}
 use Rattle.coupling_map.specs.Walks.{IsDiameter}
