@@ -3,9 +3,9 @@
 --   gate_between m q        the gate between two H on a wire
 --   IsFound gs i w          the window w begins at place i
 --   HasFinePhase w          its phase k is at most 8
+--   number_of w             the number of its rule in the table
 --   change_of i w           the change for the window w at place i
---   IsMade gs i c           c is the change for a window that begins at place i
-use Rattle.std.specs.Prelude.{◌≡◌, ℕ, ◌≤◌, List}
+use Rattle.std.specs.Prelude.{ℕ, ◌≤◌, cond, nat_eq, List}
 use Rattle.circuit_list.specs.declared.Gate.{Gate}
 use Rattle.circuit_list.specs.declared.Gate.TheVariants.{H, X, P}
 use Rattle.rewrite_pass.specs.declared.rule.Change.{Change}
@@ -33,6 +33,14 @@ HasFinePhase (Turned middle q j k) = Unit {0}
 HasFinePhase (Surrounded c t a m d e) = Unit {0}
 HasFinePhase (Conjugated k t a b e) = k ≤ 8
 
+abbrev pub number_of : Window → ℕ
+number_of (Turned S q j k) = 1
+number_of (Turned Sdg q j k) = 2
+number_of (Turned Z q j k) = 3
+number_of (Turned Not q j k) = 4
+number_of (Surrounded c t a m d e) = 5
+number_of (Conjugated k t a b e) = cond (nat_eq k 2) 6 7
+
 abbrev pub change_of : ℕ → Window → Change
 change_of i (Turned S q j k) = three_edits (placed i (P 6 q)) (placed j (H q)) (placed k (P 6 q)) 6
 change_of i (Turned Sdg q j k) = three_edits (placed i (P 2 q)) (placed j (H q)) (placed k (P 2 q)) 0
@@ -40,8 +48,3 @@ change_of i (Turned Z q j k) = three_edits (taken i) (placed j (X q)) (taken k) 
 change_of i (Turned Not q j k) = three_edits (taken i) (placed j (P 4 q)) (taken k) 4
 change_of i (Surrounded c t a m d e) = surrounded_change i c t a m d e
 change_of i (Conjugated k t a b e) = conjugated_change i k t a b e
-
-pub record IsMade (gs : List Gate) (i : ℕ) (c : Change) : Type 0 where
-  pub window : Window
-  pub found : IsFound gs i window
-  pub change : c ≡ change_of i window

@@ -1,22 +1,24 @@
 //! The change for each window.
 
 ghost use Rattle.std.specs.Prelude.{◌≡◌};
-ghost use Rattle.hadamard_reduce.specs.Found.{HasFinePhase, change_of, gone, put, three_edits};
+ghost use Rattle.rewrite_pass.specs.Edits.{placed, taken};
+ghost use Rattle.rewrite_pass.specs.WindowPlaces.{three_edits};
+ghost use Rattle.hadamard_reduce.specs.Found.{HasFinePhase, change_of};
 
 use crate::window::{Middle, Window};
 use circuit_list::Gate;
 use rewrite_pass::{Change, Edit};
 
 /// Takes a gate away.
-fn gone(place: usize) -> Edit
-    ensures { result ≡ gone place }
+fn taken(place: usize) -> Edit
+    ensures { result ≡ taken place }
 {
     Edit { place, put: None }
 }
 
 /// Puts a gate in the place of another.
-fn put(place: usize, gate: Gate) -> Edit
-    ensures { result ≡ put place gate }
+fn placed(place: usize, gate: Gate) -> Edit
+    ensures { result ≡ placed place gate }
 {
     Edit {
         place,
@@ -44,10 +46,10 @@ fn change_of_three(middle: Middle, q: u32, first: usize, second: usize, third: u
     let z = Gate::P { k: 4, q };
     let not = Gate::X { q };
     match middle {
-        Middle::S => three_edits(put(first, sdg), put(second, had), put(third, sdg), 6),
-        Middle::Sdg => three_edits(put(first, s), put(second, had), put(third, s), 0),
-        Middle::Z => three_edits(gone(first), put(second, not), gone(third), 0),
-        Middle::Not => three_edits(gone(first), put(second, z), gone(third), 4),
+        Middle::S => three_edits(placed(first, sdg), placed(second, had), placed(third, sdg), 6),
+        Middle::Sdg => three_edits(placed(first, s), placed(second, had), placed(third, s), 0),
+        Middle::Z => three_edits(taken(first), placed(second, not), taken(third), 0),
+        Middle::Not => three_edits(taken(first), placed(second, z), taken(third), 4),
     }
 }
 
@@ -72,11 +74,11 @@ pub(crate) fn change_of(place: usize, window: Window) -> Change
             fifth,
         } => Change {
             edits: [
-                gone(place),
-                gone(second),
-                put(third, Gate::Cx { c: t, t: c }),
-                gone(fourth),
-                gone(fifth),
+                taken(place),
+                taken(second),
+                placed(third, Gate::Cx { c: t, t: c }),
+                taken(fourth),
+                taken(fifth),
             ],
             count: 5,
             turn: 4,
@@ -89,11 +91,11 @@ pub(crate) fn change_of(place: usize, window: Window) -> Change
             fifth,
         } => Change {
             edits: [
-                gone(place),
-                put(second, Gate::P { k: 8 - k, q: t }),
-                put(fourth, Gate::P { k, q: t }),
-                gone(fifth),
-                gone(fifth),
+                taken(place),
+                placed(second, Gate::P { k: 8 - k, q: t }),
+                placed(fourth, Gate::P { k, q: t }),
+                taken(fifth),
+                taken(fifth),
             ],
             count: 4,
             turn: 6,

@@ -1,3 +1,12 @@
 pub mod RewritingLaws
 pub mod EditLaws
 pub mod MakeLaws
+pub mod GateSteps
+pub mod GateWindows
+pub mod PieceLaws
+pub mod WindowSteps
+pub mod WindowLaws
+pub mod ListLaws
+pub mod PairLaws
+pub mod TraceLaws
+pub mod AlikeLaws

@@ -9,7 +9,7 @@
 --     constants_turn n old new    the new constant less the old one, modulo 8
 --     IsStep n old s new t    on n wires the step s leads from the gates `old` to `new`, and takes the turn t
 --     AreSteps n old ss new t the steps ss one after the other
-use Rattle.std.specs.Prelude.{◌≡◌, ℕ, ◌+◌, ◌-◌, ◌%◌, List, [], ◌∷◌, None, Some, length, set, All}
+use Rattle.std.specs.Prelude.{◌≡◌, ℕ, ◌+◌, ◌-◌, ◌%◌, List, [], ◌∷◌, length, set, All}
 use Rattle.std.specs.List.{remove}
 use Rattle.circuit_list.specs.declared.Gate.{Gate}
 use Rattle.circuit_list.specs.declared.Gate.TheVariants.{H, X, P, Cx}

@@ -1,0 +1,234 @@
+-- What the steps of a trace keep.
+--     Kept n old new t        on n wires the new gates are fine, and w^t times the old ones
+--     changed_alike           changes that say the same of each place
+--     rule_step               a change that says of each place what a window's edits do is the step of the window's rule
+--     swap                    two gates that are taken, in either order
+--     window_kept             a window that is changed
+--     step_kept, steps_kept   a step, and steps one after the other
+use Rattle.std.proofs.Common.{◌≡◌, ◌≢◌, ◌⊎◌, inl, inr, ℕ, ◌+◌, ◌-◌, ◌%◌, ◌<◌, Bool, true, false, cond, List, [], ◌∷◌, ◌++◌, length, refl, sym, subst, ◌∙◌, ap, arith, Option, None, Some, All, set}
+use Rattle.std.specs.Prelude.{nat_eq}
+use Rattle.std.specs.List.{remove, AllByRecursion}
+use Rattle.std.proofs.lemmas.List.Elements.{recursion_from_All, All-from_recursion}
+use Rattle.circuit_list.specs.declared.Gate.{Gate}
+use Rattle.circuit_list.specs.declared.Gate.TheVariants.{H, X, P, Cx}
+use Rattle.circuit_list.specs.Gates.{IsFine, ops}
+use Rattle.commute_rules.specs.Cancels.{with_phase}
+use Rattle.commute_rules.proofs.CancelLaws.{cancel_below, merge_fine}
+use Rattle.path_parity.specs.NamedSums.{constant_of}
+use Rattle.path_parity.proofs.SamePathSumLaws.{same_path_sum}
+use Rattle.unitary_model.specs.SameUpTo.{SameUpTo}
+use Rattle.unitary_model.proofs.AmplitudeLaws.{SameUpTo_refl, SameUpTo_trans}
+use Rattle.rewrite_pass.specs.declared.rule.Edit.{Edit}
+use Rattle.rewrite_pass.specs.declared.rule.Change.{Change}
+use Rattle.rewrite_pass.specs.Edits.{taken, placed, put_at, instead, changed, changed_from}
+use Rattle.rewrite_pass.specs.Law.{IsRewriting}
+use Rattle.rewrite_pass.specs.Windows.{At, IsTurned, IsConjugated, IsSurrounded, IsWindow, HadSHad, HadSdgHad, HadZHad, HadXHad, FourHads, SCxSdg, SdgCxS}
+use Rattle.rewrite_pass.specs.WindowPlaces.{Others, IsTurnedAt, IsConjugatedAt, IsSurroundedAt, three_edits, surrounded_change, conjugated_change}
+use Rattle.rewrite_pass.specs.Traces.{Step, Rule, Both, Join, Sums, edited, edits_of, rule_of, turn_of, constants_turn, IsRuleStep, IsBothStep, IsJoinStep, IsSumsStep, IsStep, AreSteps}
+use Rattle.rewrite_pass.proofs.EditLaws.{changed_fine}
+use Rattle.rewrite_pass.proofs.PieceLaws.{Lawful}
+use Rattle.rewrite_pass.proofs.RewritingLaws.{Step-IsRewriting}
+use Rattle.rewrite_pass.proofs.WindowLaws.{fine_at, turned_s, turned_sdg, turned_z, turned_not, surrounded_law, conjugated_law}
+use Rattle.rewrite_pass.proofs.PairLaws.{pair_gone, pair_merged}
+use Rattle.rewrite_pass.proofs.ListLaws.{all_remove, all_set}
+
+pub record Kept (n : ℕ) (old new : List Gate) (t : ℕ) : Type 0 where
+  pub below : t < 8
+  pub same : SameUpTo t n (ops old) (ops new)
+  pub fine : AllByRecursion (IsFine n) new
+
+-- ---- changes that say the same of each place
+pub changed_alike : (c d : Change) (i : ℕ) (gs : List Gate) → ((k : ℕ) → put_at c.edits c.count k ≡ put_at d.edits d.count k) → changed_from c i gs ≡ changed_from d i gs
+changed_alike c d i [] h = refl
+changed_alike c d i (g ∷ gs) h = λ z. instead (h i z) g ++ changed_alike c d (i + 1) gs h z
+
+pub rule_step : (gs : List Gate) (i : ℕ) (c : Change) (w : IsWindow gs i) → ((k : ℕ) → put_at c.edits c.count k ≡ put_at (edits_of gs i w) (length (edits_of gs i w)) k) → c.turn ≡ turn_of gs i w
+    → IsRuleStep (rule_of gs i w) i gs (changed c gs) c.turn
+rule_step gs i c w told turn = record {
+  window = w;
+  rule = refl;
+  gates = changed_alike c (record { edits = edits_of gs i w; count = length (edits_of gs i w); turn = 0 }) 0 gs told;
+  turn = turn;
+}
+
+edited-kept : (n : ℕ) (gs : List Gate) (c : Change) (es : List Edit) → All (IsFine n) gs → Lawful n gs c → ((k : ℕ) → put_at c.edits c.count k ≡ put_at es (length es) k) → Kept n gs (edited es gs) c.turn
+edited-kept n gs c es all h told =
+    let same : changed c gs ≡ edited es gs = changed_alike c (record { edits = es; count = length es; turn = 0 }) 0 gs told in
+    record {
+      below = h.law.below;
+      same = subst (λ xs. SameUpTo c.turn n (ops gs) (ops xs)) same h.law.same;
+      fine = subst (AllByRecursion (IsFine n)) same (recursion_from_All (IsFine n) (changed c gs) (changed_fine n gs c h.change all));
+    }
+
+-- ---- H on both wires of a CNOT: the two before it, and the two behind it, in their order
+-- two gates that are taken, in either order
+pub swap : (s u : Bool) (x : Option (Option Gate)) → cond s (Some None) (cond u (Some None) x) ≡ cond u (Some None) (cond s (Some None) x)
+swap true true x = refl
+swap true false x = refl
+swap false true x = refl
+swap false false x = refl
+
+order : (a b : ℕ) → (a < b) ⊎ ((a ≡ b) ⊎ (b < a))
+order a b = grind arith
+
+same_wire : (gs : List Gate) (a b c t : ℕ) → At gs a (H c) → At gs b (H t) → a ≡ b → c ≡ t
+same_wire gs a b c t f g e =
+    let h : At gs a (H t) = subst (λ k. At gs k (H t)) (sym e) g in
+    cc
+
+pub record Surrounded (gs : List Gate) (i : ℕ) (c t m d e x y : ℕ) : Type 0 where
+  pub a : ℕ
+  pub b : ℕ
+  pub u : ℕ
+  pub v : ℕ
+  pub window : IsSurroundedAt gs c t a b m u v
+  pub start : a ≡ i
+  pub told : (k : ℕ) → put_at (surrounded_change a c t b m u v).edits 5 k ≡ put_at (taken x ∷ taken y ∷ placed m (Cx t c) ∷ taken d ∷ taken e ∷ []) 5 k
+
+surrounded : (gs : List Gate) (i : ℕ) (w : IsSurrounded gs i) → w.c ≢ w.t → Surrounded gs i w.c w.t w.m w.d w.e w.a w.b
+surrounded gs i w ne = go (order w.a w.b) (order w.d w.e)
+  where
+    left : Others w.c w.t w.c w.t
+    left = inl (refl, refl)
+
+    right : Others w.c w.t w.t w.c
+    right = inr (refl, refl)
+
+    begin : w.a < w.b → w.a ≡ i
+    begin lt = let e = w.begins in omega arith
+
+    begin' : w.b < w.a → w.b ≡ i
+    begin' lt = let e = w.begins in omega arith
+
+    rest : ℕ → Option (Option Gate)
+    rest k = cond (nat_eq w.d k) (Some None) (cond (nat_eq w.e k) (Some None) None)
+
+    inner : (k : ℕ) → Option (Option Gate) → Option (Option Gate)
+    inner k x = cond (nat_eq w.m k) (Some (Some (Cx w.t w.c))) x
+
+    middle : At gs w.m (Cx w.c w.t)
+    middle = w.middle_control.there
+
+    go : (w.a < w.b) ⊎ ((w.a ≡ w.b) ⊎ (w.b < w.a)) → (w.d < w.e) ⊎ ((w.d ≡ w.e) ⊎ (w.e < w.d)) → Surrounded gs i w.c w.t w.m w.d w.e w.a w.b
+    go (inr (inl e)) z = absurd (ne (same_wire gs w.a w.b w.c w.t w.control_before w.target_before e))
+    go z (inr (inl e)) = absurd (ne (same_wire gs w.d w.e w.c w.t w.control_behind.there w.target_behind.there e))
+    go (inl f) (inl g) = record {
+      a = w.a; b = w.b; u = w.d; v = w.e; start = begin f; told = λ k. refl;
+      window = record {
+        q = w.c; r = w.t; u = w.c; v = w.t; before = left; behind = left;
+        first = w.control_before; second = w.target_before; third = middle; fourth = w.control_behind.there; fifth = w.target_behind.there;
+        first_second = f; second_third = w.middle_target.next.behind; third_fourth = w.control_behind.next.behind; fourth_fifth = g;
+        first_quiet = w.middle_control.next.none; second_quiet = w.middle_target.next.none; fourth_quiet = w.control_behind.next.none; fifth_quiet = w.target_behind.next.none };
+    }
+    go (inl f) (inr (inr g)) = record {
+      a = w.a; b = w.b; u = w.e; v = w.d; start = begin f;
+      told = λ k. ap (λ x. cond (nat_eq w.a k) (Some None) (cond (nat_eq w.b k) (Some None) (inner k x))) (swap (nat_eq w.e k) (nat_eq w.d k) None);
+      window = record {
+        q = w.c; r = w.t; u = w.t; v = w.c; before = left; behind = right;
+        first = w.control_before; second = w.target_before; third = middle; fourth = w.target_behind.there; fifth = w.control_behind.there;
+        first_second = f; second_third = w.middle_target.next.behind; third_fourth = w.target_behind.next.behind; fourth_fifth = g;
+        first_quiet = w.middle_control.next.none; second_quiet = w.middle_target.next.none; fourth_quiet = w.target_behind.next.none; fifth_quiet = w.control_behind.next.none };
+    }
+    go (inr (inr f)) (inl g) = record {
+      a = w.b; b = w.a; u = w.d; v = w.e; start = begin' f;
+      told = λ k. swap (nat_eq w.b k) (nat_eq w.a k) (inner k (rest k));
+      window = record {
+        q = w.t; r = w.c; u = w.c; v = w.t; before = right; behind = left;
+        first = w.target_before; second = w.control_before; third = middle; fourth = w.control_behind.there; fifth = w.target_behind.there;
+        first_second = f; second_third = w.middle_control.next.behind; third_fourth = w.control_behind.next.behind; fourth_fifth = g;
+        first_quiet = w.middle_target.next.none; second_quiet = w.middle_control.next.none; fourth_quiet = w.control_behind.next.none; fifth_quiet = w.target_behind.next.none };
+    }
+    go (inr (inr f)) (inr (inr g)) = record {
+      a = w.b; b = w.a; u = w.e; v = w.d; start = begin' f;
+      told = λ k. swap (nat_eq w.b k) (nat_eq w.a k) (inner k (cond (nat_eq w.e k) (Some None) (cond (nat_eq w.d k) (Some None) None)))
+          ∙ ap (λ x. cond (nat_eq w.a k) (Some None) (cond (nat_eq w.b k) (Some None) (inner k x))) (swap (nat_eq w.e k) (nat_eq w.d k) None);
+      window = record {
+        q = w.t; r = w.c; u = w.t; v = w.c; before = right; behind = right;
+        first = w.target_before; second = w.control_before; third = middle; fourth = w.target_behind.there; fifth = w.control_behind.there;
+        first_second = f; second_third = w.middle_control.next.behind; third_fourth = w.target_behind.next.behind; fourth_fifth = g;
+        first_quiet = w.middle_target.next.none; second_quiet = w.middle_control.next.none; fourth_quiet = w.target_behind.next.none; fifth_quiet = w.control_behind.next.none };
+    }
+
+-- ---- windows
+turned_at : (mid : ℕ → Gate) (gs : List Gate) (i : ℕ) (w : IsTurned mid gs i) → IsTurnedAt mid gs w.q i w.j w.k
+turned_at mid gs i w = record { first = w.first; second = w.second; third = w.third }
+
+conjugated_at : (k : ℕ) (gs : List Gate) (i : ℕ) → (k ≡ 2) ⊎ (k ≡ 6) → (w : IsConjugated k gs i) → IsConjugatedAt k gs w.t i w.a w.b w.e
+conjugated_at k gs i p w = record { c = w.c; m = w.m; phase = p; first = w.first; second = w.second; third = w.third; fourth = w.fourth; fifth = w.fifth }
+
+pub window_kept : (n : ℕ) (gs : List Gate) (i : ℕ) (w : IsWindow gs i) → All (IsFine n) gs → Kept n gs (edited (edits_of gs i w) gs) (turn_of gs i w)
+window_kept n gs i (HadSHad w) all = edited-kept n gs (three_edits (placed i (P 6 w.q)) (placed w.j (H w.q)) (placed w.k (P 6 w.q)) 6) (edits_of gs i (HadSHad w)) all (turned_s n gs w.q i w.j w.k all (turned_at (P 2) gs i w)) (λ k. refl)
+window_kept n gs i (HadSdgHad w) all = edited-kept n gs (three_edits (placed i (P 2 w.q)) (placed w.j (H w.q)) (placed w.k (P 2 w.q)) 0) (edits_of gs i (HadSdgHad w)) all (turned_sdg n gs w.q i w.j w.k all (turned_at (P 6) gs i w)) (λ k. refl)
+window_kept n gs i (HadZHad w) all = edited-kept n gs (three_edits (taken i) (placed w.j (X w.q)) (taken w.k) 0) (edits_of gs i (HadZHad w)) all (turned_z n gs w.q i w.j w.k all (turned_at (P 4) gs i w)) (λ k. refl)
+window_kept n gs i (HadXHad w) all = edited-kept n gs (three_edits (taken i) (placed w.j (P 4 w.q)) (taken w.k) 4) (edits_of gs i (HadXHad w)) all (turned_not n gs w.q i w.j w.k all (turned_at X gs i w)) (λ k. refl)
+window_kept n gs i (FourHads w) all =
+    let s = surrounded gs i w (fine_at n gs w.m (Cx w.c w.t) all w.middle_control.there).1.1 in
+    edited-kept n gs (surrounded_change s.a w.c w.t s.b w.m s.u s.v) (edits_of gs i (FourHads w)) all (surrounded_law n gs w.c w.t s.a s.b w.m s.u s.v all s.window) s.told
+window_kept n gs i (SCxSdg w) all = edited-kept n gs (conjugated_change i 2 w.t w.a w.b w.e) (edits_of gs i (SCxSdg w)) all (conjugated_law n gs 2 w.t i w.a w.b w.e all (conjugated_at 2 gs i (inl refl) w)) (λ k. refl)
+window_kept n gs i (SdgCxS w) all = edited-kept n gs (conjugated_change i 6 w.t w.a w.b w.e) (edits_of gs i (SdgCxS w)) all (conjugated_law n gs 6 w.t i w.a w.b w.e all (conjugated_at 6 gs i (inr refl) w)) (λ k. refl)
+
+-- ---- steps
+by_law : (n : ℕ) (old new : List Gate) (t : ℕ) → AllByRecursion (IsFine n) new → IsRewriting n old new t → Kept n old new t
+by_law n old new t fine h = record { below = h.below; same = h.same; fine = fine }
+
+same_kept : (n : ℕ) (old new other : List Gate) (t u : ℕ) → new ≡ other → t ≡ u → Kept n old other u → Kept n old new t
+same_kept n old new other t u e f h = subst (λ k. Kept n old new k) (sym f) (subst (λ xs. Kept n old xs u) (sym e) h)
+
+rule_kept : (n k i : ℕ) (old new : List Gate) (t : ℕ) → AllByRecursion (IsFine n) old → IsRuleStep k i old new t → Kept n old new t
+rule_kept n k i old new t fine h = same_kept n old new (edited (edits_of old i h.window) old) t (turn_of old i h.window) h.gates h.turn
+    (window_kept n old i h.window (All-from_recursion (IsFine n) old fine))
+
+both_kept : (n i j : ℕ) (old new : List Gate) (t : ℕ) → AllByRecursion (IsFine n) old → IsBothStep i j old new t → Kept n old new t
+both_kept n i j old new t fine h =
+    let p = h.pair in
+    let rest : List Gate = remove (remove old j) i in
+    let fine' : AllByRecursion (IsFine n) rest = all_remove (IsFine n) (remove old j) i (all_remove (IsFine n) old j fine) in
+    same_kept n old new rest t t h.gates refl
+    (by_law n old rest t fine' (Step-IsRewriting n old rest t (All-from_recursion (IsFine n) old fine) (All-from_recursion (IsFine n) rest fine') (cancel_below p.first p.second t h.cancel)
+    (pair_gone n p.first p.second old i j t fine p.at_first p.at_second p.before h.cancel (λ k b l m e. p.commute k b l m e))))
+
+join_kept : (n i j : ℕ) (old new : List Gate) (t : ℕ) → AllByRecursion (IsFine n) old → IsJoinStep i j old new t → Kept n old new t
+join_kept n i j old new t fine h =
+    let p = h.pair in
+    let g : Gate = with_phase h.k p.first in
+    let rest : List Gate = remove (set old i g) j in
+    let f : IsFine n p.first = fine_at n old i p.first (All-from_recursion (IsFine n) old fine) p.at_first in
+    let fine' : AllByRecursion (IsFine n) rest = all_remove (IsFine n) (set old i g) j (all_set (IsFine n) old i g (merge_fine n p.first p.second h.k h.merge f) fine) in
+    same_kept n old new rest t 0 h.gates h.turn
+    (by_law n old rest 0 fine' (Step-IsRewriting n old rest 0 (All-from_recursion (IsFine n) old fine) (All-from_recursion (IsFine n) rest fine') (omega arith)
+    (pair_merged n h.k p.first p.second old i j fine p.at_first p.at_second p.before h.merge (λ k b l m e. p.commute k b l m e))))
+
+sums_kept : (n : ℕ) (gates old new : List Gate) (t : ℕ) → AllByRecursion (IsFine n) old → IsSumsStep n gates old new t → Kept n old new t
+sums_kept n gates old new t fine h =
+    let fine' : AllByRecursion (IsFine n) gates = recursion_from_All (IsFine n) gates h.fine in
+    let t' : ℕ = constants_turn n old gates in
+    same_kept n old new gates t t' h.becomes h.turn (record {
+      below = omega arith;
+      same = same_path_sum n old gates t' fine fine' h.same (turned (constant_of n old) (constant_of n gates));
+      fine = fine';
+    })
+  where
+    turned : (a b : ℕ) → (a + (b + (8 - a % 8)) % 8) % 8 ≡ b % 8
+    turned a b = omega arith
+
+pub step_kept : (n : ℕ) (old : List Gate) (s : Step) (new : List Gate) (t : ℕ) → AllByRecursion (IsFine n) old → IsStep n old s new t → Kept n old new t
+step_kept n old (Rule k i) new t fine h = rule_kept n k i old new t fine h
+step_kept n old (Both i j) new t fine h = both_kept n i j old new t fine h
+step_kept n old (Join i j) new t fine h = join_kept n i j old new t fine h
+step_kept n old (Sums gates) new t fine h = sums_kept n gates old new t fine h
+
+pub Kept_refl : (n : ℕ) (gs : List Gate) → AllByRecursion (IsFine n) gs → Kept n gs gs 0
+Kept_refl n gs fine = record { below = omega arith; same = SameUpTo_refl n (ops gs); fine = fine }
+
+pub Kept_trans : (n : ℕ) (a b c : List Gate) (j k t : ℕ) → Kept n a b j → Kept n b c k → t ≡ (j + k) % 8 → Kept n a c t
+Kept_trans n a b c j k t f g e = record {
+  below = omega (arith, e);
+  same = subst (λ m. SameUpTo m n (ops a) (ops c)) (sym e) (SameUpTo_trans j k n (ops a) (ops b) (ops c) f.below g.below f.same g.same);
+  fine = g.fine;
+}
+
+pub steps_kept : (n : ℕ) (old : List Gate) (ss : List Step) (new : List Gate) (t : ℕ) → AllByRecursion (IsFine n) old → AreSteps n old ss new t → Kept n old new t
+steps_kept n old [] new t fine h = same_kept n old new old t 0 h.0 h.1 (Kept_refl n old fine)
+steps_kept n old (s ∷ ss) new t fine h =
+    let one = step_kept n old s h.0.gates h.0.first fine h.1.0 in
+    Kept_trans n old h.0.gates new h.0.first h.0.rest t one (steps_kept n h.0.gates ss new h.0.rest one.fine h.1.1.0) h.1.1.1
