@@ -3,7 +3,7 @@
 ghost use Rattle.std.specs.Prelude.{◌≡◌};
 ghost use Rattle.rewrite_pass.specs.Edits.{placed, taken};
 ghost use Rattle.rewrite_pass.specs.WindowPlaces.{three_edits};
-ghost use Rattle.hadamard_reduce.specs.Found.{HasFinePhase, change_of};
+ghost use Rattle.hadamard_reduce.specs.Found.{HasFinePhase, change_of, number_of};
 
 use crate::window::{Middle, Window};
 use circuit_list::Gate;
@@ -50,6 +50,40 @@ fn change_of_three(middle: Middle, q: u32, first: usize, second: usize, third: u
         Middle::Sdg => three_edits(placed(first, s), placed(second, had), placed(third, s), 0),
         Middle::Z => three_edits(taken(first), placed(second, not), taken(third), 0),
         Middle::Not => three_edits(taken(first), placed(second, z), taken(third), 4),
+    }
+}
+
+/// The number of a window's rule in the table of traces.
+pub(crate) fn number_of(window: Window) -> u8
+    ensures { result ≡ number_of window }
+{
+    match window {
+        Window::Turned {
+            middle,
+            q: _,
+            second: _,
+            third: _,
+        } => match middle {
+            Middle::S => 1,
+            Middle::Sdg => 2,
+            Middle::Z => 3,
+            Middle::Not => 4,
+        },
+        Window::Surrounded {
+            c: _,
+            t: _,
+            second: _,
+            third: _,
+            fourth: _,
+            fifth: _,
+        } => 5,
+        Window::Conjugated {
+            k,
+            t: _,
+            second: _,
+            fourth: _,
+            fifth: _,
+        } => { if k == 2 { 6 } else { 7 } }
     }
 }
 

@@ -17,9 +17,9 @@ mod window;
 
 ghost use Rattle.std.specs.Prelude.{◌<◌};
 
-use change::change_of;
+use change::{change_of, number_of};
 use circuit_list::{Circuit, Passed};
-use rewrite_pass::{Change, Pass, Rule, Sweep};
+use rewrite_pass::{Change, NumberedRule, Pass, Rule, Sweep, Trace, Traced};
 use std::alloc::{AllocError, Global};
 use window::window_at;
 
@@ -39,15 +39,29 @@ use window::window_at;
 pub struct HadamardRules;
 
 impl Rule for HadamardRules {
+    ghost use Rattle.std.specs.Prelude.{ℕ};
+    ghost use Rattle.rewrite_pass.specs.Edits.{changed};
+    ghost use Rattle.rewrite_pass.specs.Traces.{IsRuleStep};
     ghost use Rattle.rewrite_pass.specs.Windows.{IsWindow};
 
     ghost window = { IsWindow };
+
+    ghost made = { λ gs i c. (k : ℕ) × IsRuleStep k i gs (changed c gs) c.turn };
 
     fn at(&self, body: &Circuit, place: usize) -> Option<Change> {
         // it says that the gates are fine, and the slots in order
         let _wires = body.wires();
         let window = window_at(body, place)?;
         Some(change_of(place, window))
+    }
+}
+
+impl NumberedRule for HadamardRules {
+    fn number(&self, body: &Circuit, place: usize) -> u8 {
+        // it says that the gates are fine, and the slots in order
+        let _wires = body.wires();
+        let window = window_at(body, place).unwrap();
+        number_of(window)
     }
 }
 
@@ -65,6 +79,17 @@ impl Pass for HadamardPass {
 
     fn run(&self, alloc: Global, body: Circuit) -> Result<Passed, AllocError> {
         Sweep(HadamardRules).run(alloc, body)
+    }
+}
+
+impl Traced for HadamardPass {
+    fn run_traced(
+        &self,
+        alloc: Global,
+        body: Circuit,
+        trace: &mut Trace,
+    ) -> Result<Passed, AllocError> {
+        Sweep(HadamardRules).run_traced(alloc, body, trace)
     }
 }
 

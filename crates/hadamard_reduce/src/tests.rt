@@ -5,7 +5,7 @@ ghost use Rattle.std.specs.Prelude.{◌≡◌};
 use crate::{HadamardPass, HadamardRules};
 use circuit_list::Circuit;
 use circuit_samples::{Kind, Random, circuit_of_text, gates_of, gates_of_text, is_fine, is_turned};
-use rewrite_pass::{Change, Pass, Rule};
+use rewrite_pass::{Change, Pass, Rule, Trace, Traced};
 use std::process::Abort;
 use std::test::Fail;
 
@@ -108,19 +108,34 @@ fn nothing_where_no_window_begins(rt: HostRuntime) -> Result<(), Fail> {
 fn sweeps_all_windows_away(rt: HostRuntime) -> Result<(), Fail> {
     let alloc = rt.alloc();
     let rows = [
-        ("", "", 0),
-        ("h.0 1.0 h.0", "h.0 1.0 h.0", 0),
-        ("h.0 4.0 h.0 h.0 x.0 h.0", "x.0 4.0", 4),
-        ("h.0 h.0 4.0 h.0 h.0", "4.0", 4),
+        ("", "", 0, ""),
+        ("h.0 1.0 h.0", "h.0 1.0 h.0", 0, ""),
+        (
+            "h.0 4.0 h.0 h.0 x.0 h.0",
+            "x.0 4.0",
+            4,
+            "rule 3 0\nrule 4 1\n",
+        ),
+        ("h.0 h.0 4.0 h.0 h.0", "4.0", 4, "rule 3 1\nrule 4 0\n"),
         (
             "h.1 2.1 c01 6.1 h.1 h.0 2.0 h.0",
             "6.1 c01 2.1 6.0 h.0 6.0",
             4,
+            "rule 6 0\nrule 1 3\n",
         ),
     ];
-    'rows: for (text, want, turn) in rows {
+    'rows: for (text, want, turn, lines) in rows {
         let body = circuit_of_text(alloc, 3, text)?.expect(&rt, text);
+        let mut trace = Trace::start(alloc);
+        let traced = HadamardPass.run_traced(alloc, body.copy()?, &mut trace)?;
+        assert_eq!(rt; trace.lines()?.as_slice(), lines.as_bytes(), "at {text}");
         let passed = HadamardPass.run(alloc, body)?;
+        assert_eq!(rt;
+            gates_of(alloc, &traced.body)?,
+            gates_of(alloc, &passed.body)?,
+            "at {text}"
+        );
+        assert_eq!(rt; traced.turn, passed.turn, "at {text}");
         assert_eq!(rt;
             gates_of(alloc, &passed.body)?,
             gates_of_text(alloc, want)?,

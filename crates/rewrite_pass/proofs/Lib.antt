@@ -10,3 +10,4 @@ pub mod ListLaws
 pub mod PairLaws
 pub mod TraceLaws
 pub mod AlikeLaws
+pub mod TracedLaws

@@ -6,21 +6,28 @@
 //! A rule ([`Rule`]) finds a local change of a few gates; [`Sweep`] makes a pass of a rule, and
 //! [`Then`], [`WhileSmaller`] and [`Settle`] make passes of passes. They name no gate: what they
 //! promise follows from what their parts promise.
+//! A pass that is [`Traced`] also tells its steps ([`Trace`]): steps of a table (`specs/Traces.antt`) that lead from the circuit
+//! to the result, which anyone can check again.
 //!
 //! A circuit is always fine, so no pass refuses one: the only error is want of memory.
 #![tactic(auto)]
 
 mod combine;
+mod lines;
 mod make;
 mod pass;
 mod rule;
 mod sweep;
+mod trace;
+mod traced;
 mod walks;
 
 pub use combine::{Settle, Then, WhileSmaller};
 pub use pass::{KeepsPairs, Pass, Shrinks};
-pub use rule::{Change, Edit, Rule};
+pub use rule::{Change, Edit, NumberedRule, Rule};
 pub use sweep::Sweep;
+pub use trace::{Trace, TraceStep};
+pub use traced::Traced;
 
 #[cfg(test)]
 mod tests;

@@ -3,8 +3,10 @@
 ghost use Rattle.std.specs.Prelude.{ℕ, ◌<◌, List, length, IfSome, IfNone};
 ghost use Rattle.circuit_list.specs.declared.Gate.{Gate};
 ghost use Rattle.circuit_list.specs.Gates.{h_count};
+ghost use Rattle.rewrite_pass.specs.declared.rule.Change.{Change};
 ghost use Rattle.rewrite_pass.specs.Edits.{IsChange, changed};
 ghost use Rattle.rewrite_pass.specs.Law.{IsRewriting};
+ghost use Rattle.rewrite_pass.specs.Traces.{IsRuleStep};
 
 use circuit_list::{Circuit, Gate};
 
@@ -28,6 +30,9 @@ pub trait Rule {
     /// Whether a window of these gates begins at this place.
     ghost window: { List Gate → ℕ → Type 0 };
 
+    /// What holds of each change that is found: of the gates, the place and the change.
+    ghost made: { List Gate → ℕ → Change → Type 0 };
+
     /// The change for the window that begins at a place, and nothing where none does.
     fn at(&self, body: &Circuit, place: usize) -> Option<Change>
         requires { place < length body.now.gates }
@@ -35,5 +40,16 @@ pub trait Rule {
         ensures none { IfNone result (¬ window body.now.gates place) }
         ensures change { IfSome result (λ c. IsChange body.now.wires body.now.gates c) }
         ensures law { IfSome result (λ c. IsRewriting body.now.wires body.now.gates (changed c body.now.gates) c.turn) }
-        ensures fewer { IfSome result (λ c. h_count (changed c body.now.gates) < h_count body.now.gates) };
+        ensures fewer { IfSome result (λ c. h_count (changed c body.now.gates) < h_count body.now.gates) }
+        ensures made { IfSome result (λ c. made body.now.gates place c) };
+}
+
+/// A rule whose windows and changes are those of the table of traces, each with a number.
+pub trait NumberedRule: Rule {
+    /// The number of the rule whose window begins at a place: a change that was found there is that rule's.
+    fn number(&self, body: &Circuit, place: usize) -> u8
+        requires place { place < length body.now.gates }
+        requires window { Self.window body.now.gates place }
+        ensures number { (c : Change) → Self.made body.now.gates place c →
+            IsRuleStep result place body.now.gates (changed c body.now.gates) c.turn };
 }
