@@ -10,14 +10,20 @@
 //! [`queue`] has them: the walks that follow visit these alone, and a last one looks at every place again.
 #![tactic(auto)]
 
+mod log;
 mod queue;
 mod reduction;
 mod search;
 mod walk;
 
+ghost use Rattle.std.specs.Prelude.{◌≡◌, IfOk};
+ghost use Rattle.commute_rules.specs.Reducible.{NoReducible};
+ghost use Rattle.gate_cancel.specs.Reductions.{IsCancelled};
+
 use circuit_list::{Circuit, Passed};
+use log::Log;
 use queue::Queue;
-use rewrite_pass::{KeepsPairs, Pass, Shrinks};
+use rewrite_pass::{KeepsPairs, Pass, Shrinks, Trace, Traced};
 use std::alloc::{AllocError, Global};
 use unitary_model::turn_sum;
 use walk::{walk_all, walk_queue};
@@ -39,19 +45,42 @@ impl Pass for CancelPass {
     ghost kept = { λ n old new. KeepsCnots old new × IsSmallerOrSame old new };
 
     fn run(&self, alloc: Global, body: Circuit) -> Result<Passed, AllocError> {
-        let mut body = body;
-        let mut queue = Queue::new(alloc, body.wires())?;
-        let mut turn = 0;
-        body.link()?;
-        'walks: loop {
-            let Some(more) = walk_all(&mut body, &mut queue)? else {
-                return Ok(Passed { body, turn });
-            };
-            let rest = walk_queue(alloc, &mut body, &mut queue)?;
-            turn = turn_sum(turn, turn_sum(more, rest));
-            // the queue is empty, so no slot is kept anywhere
-            body.compact()?;
-        }
+        cancelled(alloc, body, &mut Log::new(alloc, false))
+    }
+}
+
+impl Traced for CancelPass {
+    fn run_traced(
+        &self,
+        alloc: Global,
+        body: Circuit,
+        trace: &mut Trace,
+    ) -> Result<Passed, AllocError> {
+        let mut log = Log::new(alloc, true);
+        let passed = cancelled(alloc, body, &mut log)?;
+        trace.append(&mut log.trace)?;
+        Ok(passed)
+    }
+}
+
+/// What [`CancelPass`] gives, with its steps in the log.
+fn cancelled(alloc: Global, body: Circuit, log: &mut Log) -> Result<Passed, AllocError>
+    ensures wires { IfOk result (λ p. p.body.wires ≡ body.wires) }
+    ensures none { IfOk result (λ p. NoReducible p.body.gates) }
+    ensures cancelled { IfOk result (λ p. IsCancelled body.wires body.gates p.body.gates p.turn log.old log.new) }
+{
+    let mut body = body;
+    let mut queue = Queue::new(alloc, body.wires())?;
+    let mut turn = 0;
+    body.link()?;
+    'walks: loop {
+        let Some(more) = walk_all(&mut body, &mut queue, log)? else {
+            return Ok(Passed { body, turn });
+        };
+        let rest = walk_queue(alloc, &mut body, &mut queue, log)?;
+        turn = turn_sum(turn, turn_sum(more, rest));
+        // the queue is empty, so no slot is kept anywhere
+        body.compact()?;
     }
 }
 

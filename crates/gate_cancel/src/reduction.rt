@@ -4,10 +4,13 @@ ghost use Rattle.std.specs.Prelude.{◌≡◌, IfOk};
 ghost use Rattle.circuit_list.specs.Slots.{IsLive, place_of};
 ghost use Rattle.commute_rules.specs.Cancels.{with_phase};
 ghost use Rattle.commute_rules.specs.Reducible.{IsReducible};
+ghost use Rattle.rewrite_pass.specs.Traces.{Step};
+ghost use Rattle.gate_cancel.specs.declared.log.Log.{Log};
 ghost use Rattle.gate_cancel.specs.declared.search.Reach.{Reach};
 ghost use Rattle.gate_cancel.specs.Reaches.{IsReach};
-ghost use Rattle.gate_cancel.specs.Reductions.{IsOutcome, IsReduced, IsReduction, IsStanding};
+ghost use Rattle.gate_cancel.specs.Reductions.{IsOutcome, IsPushed, IsReduced, IsReduction, IsStanding};
 
+use crate::log::Log;
 use crate::queue::Queue;
 use crate::search::{Reach, search};
 use circuit_list::{Circuit, Gate, Slot};
@@ -42,7 +45,8 @@ fn take_out(body: &mut Circuit, first: Slot, second: Slot, turn: u8)
     requires pair { IsReducible body.old.gates (place_of first body.old.slots) (place_of second body.old.slots) }
     requires told { IsOutcome body.old.gates (place_of first body.old.slots) (place_of second body.old.slots) (Cancel.Both turn) }
     ensures wires { body.new.wires ≡ body.old.wires }
-    ensures reduced { IsReduced body.old.wires body.old.gates body.new.gates turn }
+    ensures reduced { (x y : Log) → IsPushed (Step.Both (place_of first body.old.slots) (place_of second body.old.slots)) x y →
+        IsReduced body.old.wires body.old.gates body.new.gates turn x y }
 {
     // it says that the gates are fine
     let _wires = body.wires();
@@ -59,7 +63,8 @@ fn merge(body: &mut Circuit, first: Slot, second: Slot, k: u8)
     ensures wires { body.new.wires ≡ body.old.wires }
     ensures live { IsLive body.new first }
     ensures reach { (r : Reach) → IsReach body.old first r → IsReach body.new first r }
-    ensures reduced { IsReduced body.old.wires body.old.gates body.new.gates 0 }
+    ensures reduced { (x y : Log) → IsPushed (Step.Join (place_of first body.old.slots) (place_of second body.old.slots)) x y →
+        IsReduced body.old.wires body.old.gates body.new.gates 0 x y }
 {
     // it says that the gates are fine
     let _wires = body.wires();
@@ -73,10 +78,11 @@ pub(crate) fn reduce(
     body: &mut Circuit,
     slot: Slot,
     queue: &mut Queue,
+    log: &mut Log,
 ) -> Result<Reduction, AllocError>
     requires { IsLive body.old slot }
     ensures wires { IfOk result (λ s. body.new.wires ≡ body.old.wires) }
-    ensures reduction { IfOk result (IsReduction body.old.wires body.old.gates body.new.gates (place_of slot body.old.slots)) }
+    ensures reduction { IfOk result (IsReduction body.old.wires body.old.gates body.new.gates (place_of slot body.old.slots) log.old log.new) }
     ensures live { IfOk result (λ s. IsStanding s body.old body.new slot) }
 {
     let mut reach = Reach {
@@ -91,12 +97,14 @@ pub(crate) fn reduce(
         };
         match cancels(body.gate_at(slot), body.gate_at(partner)) {
             Cancel::Merge { k } => {
+                log.push_join(body, slot, partner)?;
                 merge(body, slot, partner, k);
                 reach = further;
                 done = Reduction::Merged;
             }
             Cancel::Both { turn } => {
                 queue.note(body, slot, partner)?;
+                log.push_both(body, slot, partner)?;
                 take_out(body, slot, partner, turn);
                 return Ok(Reduction::Gone { turn });
             }

@@ -6,7 +6,7 @@ use crate::CancelPass;
 use circuit_list::Gate;
 use circuit_samples::{Kind, Random, circuit_of, gates_of, gates_of_text};
 use commute_rules::{Cancel, cancels, commute};
-use rewrite_pass::Pass;
+use rewrite_pass::{Pass, Then, Trace, Traced, WhileSmaller};
 use std::alloc::Global;
 use std::process::Abort;
 use std::test::Fail;
@@ -52,6 +52,28 @@ fn rows_by_hand(rt: HostRuntime) -> Result<(), Fail> {
             makes(&rt, alloc, wires, &gates, &expected, turn)?,
             "at {source}"
         );
+    }
+    Ok(())
+}
+
+/// The steps of rows by hand; nothing is left to the passes that come behind.
+#[test]
+fn tells_its_steps(rt: HostRuntime) -> Result<(), Fail> {
+    let alloc = rt.alloc();
+    let rows = [
+        ("h.0 x.0 h.0", ""),
+        ("x.0 x.0", "both 0 1\n"),
+        ("1.0 h.0 h.0 1.0", "both 1 2\njoin 0 1\n"),
+        ("c01 c02 1.0 c01", "both 0 3\n"),
+    ];
+    'rows: for (source, lines) in rows {
+        let gates = gates_of_text(alloc, source)?;
+        let body = circuit_of(alloc, 3, &gates)?.expect(&rt, "gates on the wires");
+        let mut trace = Trace::start(alloc);
+        let passes = Then(CancelPass, WhileSmaller(CancelPass));
+        let passed = passes.run_traced(alloc, body, &mut trace)?;
+        assert!(rt; passed.turn < 8);
+        assert_eq!(rt; trace.lines()?.as_slice(), lines.as_bytes(), "at {source}");
     }
     Ok(())
 }

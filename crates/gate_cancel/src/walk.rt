@@ -4,6 +4,7 @@ ghost use Rattle.std.specs.Prelude.{◌≡◌, IfOk, MatchOption};
 ghost use Rattle.commute_rules.specs.Reducible.{NoReducible};
 ghost use Rattle.gate_cancel.specs.Reductions.{IsCancelled, IsReduced};
 
+use crate::log::Log;
 use crate::queue::Queue;
 use crate::reduction::{Reduction, reduce};
 use circuit_list::{Circuit, Slot};
@@ -11,16 +12,20 @@ use std::alloc::{AllocError, Global};
 use unitary_model::turn_sum;
 
 /// Goes from the first gate to the last. Its turn, or none where no gate has a partner.
-pub(crate) fn walk_all(body: &mut Circuit, queue: &mut Queue) -> Result<Option<u8>, AllocError>
+pub(crate) fn walk_all(
+    body: &mut Circuit,
+    queue: &mut Queue,
+    log: &mut Log,
+) -> Result<Option<u8>, AllocError>
     ensures wires { IfOk result (λ o. body.new.wires ≡ body.old.wires) }
-    ensures walked { IfOk result (λ o. MatchOption o (NoReducible body.new.gates × (body.new.gates ≡ body.old.gates))
-        (IsReduced body.old.wires body.old.gates body.new.gates)) }
+    ensures walked { IfOk result (λ o. MatchOption o (NoReducible body.new.gates × ((body.new.gates ≡ body.old.gates) × (log.new ≡ log.old)))
+        (λ t. IsReduced body.old.wires body.old.gates body.new.gates t log.old log.new)) }
 {
     let mut changed = false;
     let mut turn = 0;
     let mut here = body.first();
     'slots: while let Some(slot) = here {
-        match reduce(body, slot, queue)? {
+        match reduce(body, slot, queue, log)? {
             Reduction::Same => here = body.after(slot),
             Reduction::Merged => {
                 changed = true;
@@ -41,9 +46,10 @@ pub(crate) fn walk_queue(
     alloc: Global,
     body: &mut Circuit,
     queue: &mut Queue,
+    log: &mut Log,
 ) -> Result<u8, AllocError>
     ensures wires { IfOk result (λ t. body.new.wires ≡ body.old.wires) }
-    ensures cancelled { IfOk result (IsCancelled body.old.wires body.old.gates body.new.gates) }
+    ensures cancelled { IfOk result (λ t. IsCancelled body.old.wires body.old.gates body.new.gates t log.old log.new) }
 {
     let mut turn = 0;
     // each walk that notes a slot takes gates out
@@ -52,20 +58,25 @@ pub(crate) fn walk_queue(
         if slots.is_empty() {
             break;
         }
-        let more = visit(body, &slots, queue)?;
+        let more = visit(body, &slots, queue, log)?;
         turn = turn_sum(turn, more);
     }
     Ok(turn)
 }
 
 /// One walk over slots, some of which may be gone.
-fn visit(body: &mut Circuit, slots: &[Slot], queue: &mut Queue) -> Result<u8, AllocError>
+fn visit(
+    body: &mut Circuit,
+    slots: &[Slot],
+    queue: &mut Queue,
+    log: &mut Log,
+) -> Result<u8, AllocError>
     ensures wires { IfOk result (λ t. body.new.wires ≡ body.old.wires) }
-    ensures cancelled { IfOk result (IsCancelled body.old.wires body.old.gates body.new.gates) }
+    ensures cancelled { IfOk result (λ t. IsCancelled body.old.wires body.old.gates body.new.gates t log.old log.new) }
 {
     let mut turn = 0;
     'slots: for slot in slots {
-        let more = revisit(body, *slot, queue)?;
+        let more = revisit(body, *slot, queue, log)?;
         turn = turn_sum(turn, more);
     }
     Ok(turn)
@@ -73,9 +84,14 @@ fn visit(body: &mut Circuit, slots: &[Slot], queue: &mut Queue) -> Result<u8, Al
 
 /// Settles the gate in a slot, if it is still there. Its turn.
 #[tactic(auto, using(crate::proofs::ReductionLaws::cancelled_laws))]
-fn revisit(body: &mut Circuit, slot: Slot, queue: &mut Queue) -> Result<u8, AllocError>
+fn revisit(
+    body: &mut Circuit,
+    slot: Slot,
+    queue: &mut Queue,
+    log: &mut Log,
+) -> Result<u8, AllocError>
     ensures wires { IfOk result (λ t. body.new.wires ≡ body.old.wires) }
-    ensures cancelled { IfOk result (IsCancelled body.old.wires body.old.gates body.new.gates) }
+    ensures cancelled { IfOk result (λ t. IsCancelled body.old.wires body.old.gates body.new.gates t log.old log.new) }
 {
     let Some(here) = body.slot_from(slot) else {
         return Ok(0);
@@ -83,7 +99,7 @@ fn revisit(body: &mut Circuit, slot: Slot, queue: &mut Queue) -> Result<u8, Allo
     if here != slot {
         return Ok(0);
     }
-    match reduce(body, here, queue)? {
+    match reduce(body, here, queue, log)? {
         Reduction::Same => Ok(0),
         Reduction::Merged => Ok(0),
         Reduction::Gone { turn } => Ok(turn),

@@ -10,7 +10,7 @@ invariant-partners l = record {
   wires : l.body.wires ≡ l.fn.body.wires;
   live : IsLive l.body l.slot;
   reach : IsReach l.body l.slot l.reach;
-  so_far : IsSoFar l.done l.fn.body l.body;
+  so_far : IsSoFar l.done l.fn.body l.body l.fn.log l.log;
 }
 
 abbrev pub decreases-partners : goal.decreases-partners

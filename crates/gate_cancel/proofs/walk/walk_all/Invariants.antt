@@ -7,7 +7,7 @@ abbrev pub invariant-slots : goal.invariant-slots
 invariant-slots l = record {
   wires : l.body.wires ≡ l.fn.body.wires;
   here : IsHere l.body l.here;
-  so_far : IsWalked l.changed l.fn.body.wires l.fn.body.gates l.body.gates l.turn (place_here l.body l.here);
+  so_far : IsWalked l.changed l.fn.body.wires l.fn.body.gates l.body.gates l.turn l.fn.log l.log (place_here l.body l.here);
 }
 
 abbrev pub decreases-slots : goal.decreases-slots
