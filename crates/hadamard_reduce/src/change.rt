@@ -46,7 +46,12 @@ fn change_of_three(middle: Middle, q: u32, first: usize, second: usize, third: u
     let z = Gate::P { k: 4, q };
     let not = Gate::X { q };
     match middle {
-        Middle::S => three_edits(placed(first, sdg), placed(second, had), placed(third, sdg), 6),
+        Middle::S => three_edits(
+            placed(first, sdg),
+            placed(second, had),
+            placed(third, sdg),
+            6,
+        ),
         Middle::Sdg => three_edits(placed(first, s), placed(second, had), placed(third, s), 0),
         Middle::Z => three_edits(taken(first), placed(second, not), taken(third), 0),
         Middle::Not => three_edits(taken(first), placed(second, z), taken(third), 4),

@@ -113,40 +113,121 @@ surrounded gs i w ne = go (order w.a w.b) (order w.d w.e)
     go (inr (inl e)) z = absurd (ne (same_wire gs w.a w.b w.c w.t w.control_before w.target_before e))
     go z (inr (inl e)) = absurd (ne (same_wire gs w.d w.e w.c w.t w.control_behind.there w.target_behind.there e))
     go (inl f) (inl g) = record {
-      a = w.a; b = w.b; u = w.d; v = w.e; start = begin f; told = λ k. refl;
+      a = w.a;
+      b = w.b;
+      u = w.d;
+      v = w.e;
+      start = begin f;
+      told = λ k. refl;
       window = record {
-        q = w.c; r = w.t; u = w.c; v = w.t; before = left; behind = left;
-        first = w.control_before; second = w.target_before; third = middle; fourth = w.control_behind.there; fifth = w.target_behind.there;
-        first_second = f; second_third = w.middle_target.next.behind; third_fourth = w.control_behind.next.behind; fourth_fifth = g;
-        first_quiet = w.middle_control.next.none; second_quiet = w.middle_target.next.none; fourth_quiet = w.control_behind.next.none; fifth_quiet = w.target_behind.next.none };
+        q = w.c;
+        r = w.t;
+        u = w.c;
+        v = w.t;
+        before = left;
+        behind = left;
+        first = w.control_before;
+        second = w.target_before;
+        third = middle;
+        fourth = w.control_behind.there;
+        fifth = w.target_behind.there;
+        first_second = f;
+        second_third = w.middle_target.next.behind;
+        third_fourth = w.control_behind.next.behind;
+        fourth_fifth = g;
+        first_quiet = w.middle_control.next.none;
+        second_quiet = w.middle_target.next.none;
+        fourth_quiet = w.control_behind.next.none;
+        fifth_quiet = w.target_behind.next.none;
+      };
     }
     go (inl f) (inr (inr g)) = record {
-      a = w.a; b = w.b; u = w.e; v = w.d; start = begin f;
+      a = w.a;
+      b = w.b;
+      u = w.e;
+      v = w.d;
+      start = begin f;
       told = λ k. ap (λ x. cond (nat_eq w.a k) (Some None) (cond (nat_eq w.b k) (Some None) (inner k x))) (swap (nat_eq w.e k) (nat_eq w.d k) None);
       window = record {
-        q = w.c; r = w.t; u = w.t; v = w.c; before = left; behind = right;
-        first = w.control_before; second = w.target_before; third = middle; fourth = w.target_behind.there; fifth = w.control_behind.there;
-        first_second = f; second_third = w.middle_target.next.behind; third_fourth = w.target_behind.next.behind; fourth_fifth = g;
-        first_quiet = w.middle_control.next.none; second_quiet = w.middle_target.next.none; fourth_quiet = w.target_behind.next.none; fifth_quiet = w.control_behind.next.none };
+        q = w.c;
+        r = w.t;
+        u = w.t;
+        v = w.c;
+        before = left;
+        behind = right;
+        first = w.control_before;
+        second = w.target_before;
+        third = middle;
+        fourth = w.target_behind.there;
+        fifth = w.control_behind.there;
+        first_second = f;
+        second_third = w.middle_target.next.behind;
+        third_fourth = w.target_behind.next.behind;
+        fourth_fifth = g;
+        first_quiet = w.middle_control.next.none;
+        second_quiet = w.middle_target.next.none;
+        fourth_quiet = w.target_behind.next.none;
+        fifth_quiet = w.control_behind.next.none;
+      };
     }
     go (inr (inr f)) (inl g) = record {
-      a = w.b; b = w.a; u = w.d; v = w.e; start = begin' f;
+      a = w.b;
+      b = w.a;
+      u = w.d;
+      v = w.e;
+      start = begin' f;
       told = λ k. swap (nat_eq w.b k) (nat_eq w.a k) (inner k (rest k));
       window = record {
-        q = w.t; r = w.c; u = w.c; v = w.t; before = right; behind = left;
-        first = w.target_before; second = w.control_before; third = middle; fourth = w.control_behind.there; fifth = w.target_behind.there;
-        first_second = f; second_third = w.middle_control.next.behind; third_fourth = w.control_behind.next.behind; fourth_fifth = g;
-        first_quiet = w.middle_target.next.none; second_quiet = w.middle_control.next.none; fourth_quiet = w.control_behind.next.none; fifth_quiet = w.target_behind.next.none };
+        q = w.t;
+        r = w.c;
+        u = w.c;
+        v = w.t;
+        before = right;
+        behind = left;
+        first = w.target_before;
+        second = w.control_before;
+        third = middle;
+        fourth = w.control_behind.there;
+        fifth = w.target_behind.there;
+        first_second = f;
+        second_third = w.middle_control.next.behind;
+        third_fourth = w.control_behind.next.behind;
+        fourth_fifth = g;
+        first_quiet = w.middle_target.next.none;
+        second_quiet = w.middle_control.next.none;
+        fourth_quiet = w.control_behind.next.none;
+        fifth_quiet = w.target_behind.next.none;
+      };
     }
     go (inr (inr f)) (inr (inr g)) = record {
-      a = w.b; b = w.a; u = w.e; v = w.d; start = begin' f;
+      a = w.b;
+      b = w.a;
+      u = w.e;
+      v = w.d;
+      start = begin' f;
       told = λ k. swap (nat_eq w.b k) (nat_eq w.a k) (inner k (cond (nat_eq w.e k) (Some None) (cond (nat_eq w.d k) (Some None) None)))
           ∙ ap (λ x. cond (nat_eq w.a k) (Some None) (cond (nat_eq w.b k) (Some None) (inner k x))) (swap (nat_eq w.e k) (nat_eq w.d k) None);
       window = record {
-        q = w.t; r = w.c; u = w.t; v = w.c; before = right; behind = right;
-        first = w.target_before; second = w.control_before; third = middle; fourth = w.target_behind.there; fifth = w.control_behind.there;
-        first_second = f; second_third = w.middle_control.next.behind; third_fourth = w.target_behind.next.behind; fourth_fifth = g;
-        first_quiet = w.middle_target.next.none; second_quiet = w.middle_control.next.none; fourth_quiet = w.target_behind.next.none; fifth_quiet = w.control_behind.next.none };
+        q = w.t;
+        r = w.c;
+        u = w.t;
+        v = w.c;
+        before = right;
+        behind = right;
+        first = w.target_before;
+        second = w.control_before;
+        third = middle;
+        fourth = w.target_behind.there;
+        fifth = w.control_behind.there;
+        first_second = f;
+        second_third = w.middle_control.next.behind;
+        third_fourth = w.target_behind.next.behind;
+        fourth_fifth = g;
+        first_quiet = w.middle_target.next.none;
+        second_quiet = w.middle_control.next.none;
+        fourth_quiet = w.target_behind.next.none;
+        fifth_quiet = w.control_behind.next.none;
+      };
     }
 
 -- ---- windows

@@ -3,8 +3,7 @@
 --     AreSteps-append         steps behind steps
 --     IsTraced_trans          what two passes add
 --     IsTraced_refl, IsTraced_step    no step, and one step more
---     IsTraced_behind         a trace of its own, put behind another
---     grown-take              what a trace had is its first steps;  grown-before: who keeps those of a grown trace keeps these
+--     grown-before            who keeps the steps of a trace that has grown keeps those before it grew
 use Rattle.std.proofs.Common.{◌≡◌, ℕ, ◌+◌, ◌%◌, ◌<◌, List, [], ◌∷◌, ◌++◌, length, take, refl, sym, subst, ◌∙◌, ap, arith, append_assoc, append-nil}
 use Rattle.circuit_list.specs.declared.Gate.{Gate}
 use Rattle.rewrite_pass.specs.Traces.{Step, IsStep, AreSteps}
@@ -34,13 +33,6 @@ IsTraced_trans n m a b c j k t x y z w f g e = record {
   steps = AreSteps-append n a b c f.added g.added j k t f.steps (subst (λ i. AreSteps i b g.added c k) w g.steps) e;
 }
 
-pub grown-take : (x y added : List Step) → y ≡ x ++ added → take (length x) y ≡ x
-grown-take x y added e = ap (take (length x)) e ∙ whole x added
-  where
-    whole : (x added : List Step) → take (length x) (x ++ added) ≡ x
-    whole [] added = refl
-    whole (s ∷ x) added = ap (λ r. s ∷ r) (whole x added)
-
 pub IsTraced_refl : (n : ℕ) (a : List Gate) (x : List Step) → IsTraced n a a 0 x x
 IsTraced_refl n a x = record { added = []; grown = sym (append-nil x); steps = (refl, refl) }
 
@@ -54,10 +46,6 @@ IsTraced_step n a b c t u v s x y z f h g e =
     sums : (t u v : ℕ) → v ≡ (t + u) % 8 → v ≡ (t + u % 8) % 8
     sums t u v e = omega (arith, e)
 
-pub IsTraced_behind : (n : ℕ) (a b : List Gate) (t : ℕ) (x y z : List Step) → IsTraced n a b t [] y → z ≡ x ++ y → IsTraced n a b t x z
-IsTraced_behind n a b t x y z f e = record { added = f.added; grown = e ∙ ap (λ s. x ++ s) f.grown; steps = f.steps }
-
--- who keeps the first steps of a grown trace keeps those before it grew
 pub grown-before : (x added z : List Step) → take (length (x ++ added)) z ≡ x ++ added → take (length x) z ≡ x
 grown-before [] added z e = refl
 grown-before (s ∷ x) added [] e = absurd (cc)

@@ -30,12 +30,7 @@ fn push_one(bytes: &mut Vec<u8>, word: &[u8], number: usize) -> Result<(), Alloc
 }
 
 /// A line of a word and two numbers.
-fn push_two(
-    bytes: &mut Vec<u8>,
-    word: &[u8],
-    first: usize,
-    second: usize,
-) -> Result<(), AllocError>
+fn push_two(bytes: &mut Vec<u8>, word: &[u8], first: usize, second: usize) -> Result<(), AllocError>
     ensures { OnOk result (bytes.new.items ≡ bytes.old.items ++ (words word.now (first ∷ second ∷ []) ++ 10 ∷ [])) }
 {
     bytes.extend_from_slice(word)?;
