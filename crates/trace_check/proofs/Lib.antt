@@ -1,0 +1,4 @@
+pub mod RouteLaws
+pub mod SoundLaws
+pub mod SpellingLaws
+pub mod ExactLaws
