@@ -13,4 +13,5 @@ pub mod RunLaws
 pub mod ProductLaws
 pub mod CompletionLaws
 pub mod EliminationLaws
+pub mod WideLaws
 pub mod WorkedRows

@@ -2,7 +2,9 @@
 pub mod Rows
 pub mod Completions
 pub mod Matrices
+pub mod Wide
 -- ---- working forms
 pub mod Words
 pub mod Bases
 pub mod Eliminations
+pub mod Sifts

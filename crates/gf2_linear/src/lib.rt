@@ -5,8 +5,10 @@
 //! Contracts see a row as the number whose bits are its wires, and a matrix as the list of its rows. Independence and
 //! rank are defined by all choices of rows, and each call is exact both ways: where it answers that there is no sum
 //! or no inverse, there is none. A `Basis` keeps independent rows in reduced form, so that a row is brought in, or told
-//! as a sum, in time linear in their number. There is no bad input: callers keep wires below the limit, and ask
-//! `is_independent` where a call wants independent rows. Want of memory leaves nothing behind.
+//! as a sum, in time linear in their number. Where spare wires stand beside the others, `complete_wide` completes rows
+//! that needn't be independent, and `widened` makes a matrix of rows on wires and spares. There is no bad input: callers
+//! keep wires below the limit, and ask `is_independent` or `rank` where a call wants independent rows, or enough spares.
+//! Want of memory leaves nothing behind.
 #![tactic(auto)]
 
 mod bases;
@@ -14,12 +16,14 @@ mod elimination;
 mod matrices;
 mod rows;
 mod sums;
+mod wide;
 
 pub use bases::Basis;
 pub use elimination::{additions, invert, quotient};
 pub use matrices::Matrix;
 pub use rows::{Row, WIRE_LIMIT};
 pub use sums::{basis_of, complete, express, is_independent, places_in, rank};
+pub use wide::{complete_wide, widened};
 
 #[cfg(test)]
 mod tests;

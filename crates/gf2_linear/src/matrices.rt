@@ -1,7 +1,7 @@
 //! Square matrices over the field of two elements.
 
 ghost use Rattle.std.specs.Prelude.{◌≡◌, ℕ, ◌<◌, ◌≤◌, ◌^◌, Contains, IfOk, IfSome, IfNone, All, length, slice_index, slice_set, slice_get, Some};
-ghost use Rattle.gf2_linear.specs.Matrices.{added, identity_rows, product, IsWireOf};
+ghost use Rattle.gf2_linear.specs.Matrices.{added, identity_rows, product, IsMatrix, IsWireOf};
 ghost use Rattle.gf2_linear.specs.Rows.{combined};
 
 use crate::rows::Row;
@@ -60,6 +60,21 @@ impl Matrix {
         ensures { result.now ≡ self.now }
     {
         self.rows.as_slice()
+    }
+
+    /// All rows, given away.
+    pub fn into_rows(self) -> Vec<Row>
+        ensures { result.items ≡ self }
+    {
+        self.rows
+    }
+
+    /// The matrix that has these rows, as many as it has wires.
+    pub fn from_rows(rows: Vec<Row>) -> Matrix
+        requires { IsMatrix rows.items }
+        ensures { result ≡ rows.items }
+    {
+        Matrix { rows }
     }
 
     /// The wire on which a row stands, the least of them; None exactly where it stands on none.
