@@ -190,10 +190,10 @@ pub record Completed (rows : List ℕ) (n : ℕ) (wide : List ℕ) : Type 0 wher
   pub rank : rank wide ≡ n
   pub among : StandAmong wide rows
 
-pub completed : (rows basis left m first most wide : List ℕ) (n c : ℕ) → All (λ r. r < 2 ^ n) rows → IsSifted rows basis left → IsCompletion basis n m
+pub completed : {rows basis left m first most wide : List ℕ} {n : ℕ} (c : ℕ) → All (λ r. r < 2 ^ n) rows → IsSifted rows basis left → IsCompletion basis n m
     → length m ≡ n → ((k : ℕ) → get_or m k 0 < 2 ^ length m) → is_independent m ≡ true
     → first ≡ m → most ≡ first ++ left → wide ≡ most ++ replicate c 0 → Completed rows n wide
-completed rows basis left m first most wide n c a s p e b i f o w =
+completed {rows} {basis} {left} {m} {first} {most} {wide} {n} c a s p e b i f o w =
     let low : All (λ r. r < 2 ^ n) m = All-from_get_or (λ r. r < 2 ^ n) m 0 (λ k _. subst (λ j. get_or m k 0 < 2 ^ j) e (b k)) in
     let rest : All (λ r. r < 2 ^ n) left = among-all (λ r. r < 2 ^ n) rows left (λ v. omega (arith, s.among v)) a in
     let is : wide ≡ (m ++ left) ++ replicate c 0 = w ∙ ap (λ (q : List ℕ). q ++ replicate c 0) (o ∙ ap (λ (q : List ℕ). q ++ left) f) in

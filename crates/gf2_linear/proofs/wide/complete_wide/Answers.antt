@@ -1,4 +1,4 @@
-use Rattle.std.proofs.Common.{◌+◌, ◌-◌, ◌<◌, ◌^◌, length, arith}
+use Rattle.std.proofs.Common.{◌<◌, ◌^◌, arith}
 use Rattle.gf2_linear.proofs.WideLaws.{among-all, completed}
 use Rattle.gf2_linear.proofs.wide.complete_wide.Goals as goal
 
@@ -8,21 +8,15 @@ complete-requires-clause-below c =
 
 pub returns-clause-below : goal.returns-clause-below
 returns-clause-below c =
-    (completed c.args.rows.now c.in_ok-basis.field-0.basis c.in_ok-basis.field-0.left.items c.in_ok-matrix.matrix c.into_rows-most.result.items c.append.new.self.items
-    c.in_ok-wide.wide.items c.args.wires (c.args.wires + c.args.spares - length c.append.new.self.items) c.requires.below c.in_ok-basis.ensures c.in_ok-matrix.ensures.places
-    c.in_ok-matrix.ensures.wires c.wires-wires.ensures.below c.in_ok-matrix.ensures.independent c.into_rows-most.ensures c.in_ok-append.ensures.items
-    c.in_ok-wide.ensures).below
+    (completed _ c.requires.below c.in_ok-basis.ensures c.in_ok-matrix.ensures.places c.in_ok-matrix.ensures.wires c.wires-wires.ensures.below
+    c.in_ok-matrix.ensures.independent c.into_rows-most.ensures c.in_ok-append.ensures.items c.in_ok-wide.ensures).below
 
 pub returns-clause-rank : goal.returns-clause-rank
 returns-clause-rank c =
-    (completed c.args.rows.now c.in_ok-basis.field-0.basis c.in_ok-basis.field-0.left.items c.in_ok-matrix.matrix c.into_rows-most.result.items c.append.new.self.items
-    c.in_ok-wide.wide.items c.args.wires (c.args.wires + c.args.spares - length c.append.new.self.items) c.requires.below c.in_ok-basis.ensures c.in_ok-matrix.ensures.places
-    c.in_ok-matrix.ensures.wires c.wires-wires.ensures.below c.in_ok-matrix.ensures.independent c.into_rows-most.ensures c.in_ok-append.ensures.items
-    c.in_ok-wide.ensures).rank
+    (completed _ c.requires.below c.in_ok-basis.ensures c.in_ok-matrix.ensures.places c.in_ok-matrix.ensures.wires c.wires-wires.ensures.below
+    c.in_ok-matrix.ensures.independent c.into_rows-most.ensures c.in_ok-append.ensures.items c.in_ok-wide.ensures).rank
 
 pub returns-clause-each : goal.returns-clause-each
 returns-clause-each c =
-    (completed c.args.rows.now c.in_ok-basis.field-0.basis c.in_ok-basis.field-0.left.items c.in_ok-matrix.matrix c.into_rows-most.result.items c.append.new.self.items
-    c.in_ok-wide.wide.items c.args.wires (c.args.wires + c.args.spares - length c.append.new.self.items) c.requires.below c.in_ok-basis.ensures c.in_ok-matrix.ensures.places
-    c.in_ok-matrix.ensures.wires c.wires-wires.ensures.below c.in_ok-matrix.ensures.independent c.into_rows-most.ensures c.in_ok-append.ensures.items
-    c.in_ok-wide.ensures).among
+    (completed _ c.requires.below c.in_ok-basis.ensures c.in_ok-matrix.ensures.places c.in_ok-matrix.ensures.wires c.wires-wires.ensures.below
+    c.in_ok-matrix.ensures.independent c.into_rows-most.ensures c.in_ok-append.ensures.items c.in_ok-wide.ensures).among
