@@ -9,3 +9,7 @@ pub mod OpenLaws
 pub mod SearchLaws
 pub mod ShiftLaws
 pub mod PartLaws
+pub mod SpareLaws
+pub mod ClosedLaws
+pub mod DealingLaws
+pub mod DealtLaws

@@ -37,7 +37,7 @@ abbrev r_of : List ℕ → ℕ → ℕ
 r_of rows i = get_or rows i 0
 
 -- ---- full blocks
-all_span-from : (all : List ℕ) (r : ℕ → ℕ) (ps : List ℕ) → ((y : ℕ) → Has ps y → Span all (r y)) → All_span all (map r ps)
+pub all_span-from : (all : List ℕ) (r : ℕ → ℕ) (ps : List ℕ) → ((y : ℕ) → Has ps y → Span all (r y)) → All_span all (map r ps)
 all_span-from all r [] h = tt
 all_span-from all r (p ∷ ps) h = (h p (inl refl), all_span-from all r ps (λ y t. h y (inr t)))
 
@@ -129,7 +129,7 @@ pub state-none : (rows homes : List ℕ) (blocks : List Block) → IsState rows 
 state-none rows homes blocks st i g = times-none blocks i (λ k h. let l : i < length homes = (st.only k i h).0 in absurd (omega arith))
 
 -- ---- witnesses
-has-is_in : (S : List ℕ) (y : ℕ) → Has S y → is_in S y ≡ true
+pub has-is_in : (S : List ℕ) (y : ℕ) → Has S y → is_in S y ≡ true
 has-is_in [] y h = absurd h
 has-is_in (s ∷ S) y h = elim h [
   | inl e ↦ ap (λ t. cond t true (is_in S y)) (eq-eqb y s (sym e))
@@ -140,15 +140,15 @@ has-is_in (s ∷ S) y h = elim h [
     go true k = refl
     go false k = k
 
-is_in-none : (S : List ℕ) (y : ℕ) → (Has S y → ⊥) → is_in S y ≡ false
+pub is_in-none : (S : List ℕ) (y : ℕ) → (Has S y → ⊥) → is_in S y ≡ false
 is_in-none [] y n = refl
 is_in-none (s ∷ S) y n = ap (λ t. cond t true (is_in S y)) (ne_eqb y s (λ e. n (inl (sym e)))) ∙ is_in-none S y (λ h. n (inr h))
 
-distinct-ascending : (S : List ℕ) → IsAscending S → Distinct S
+pub distinct-ascending : (S : List ℕ) → IsAscending S → Distinct S
 distinct-ascending [] a = tt
 distinct-ascending (s ∷ S) a = (is_in-none S s (λ h. let l : s < s = a.0 s h in absurd (omega arith)), distinct-ascending S a.1)
 
-kept-has : (S ps : List ℕ) (y : ℕ) → Has ps y → Has S y → Has (kept S ps) y
+pub kept-has : (S ps : List ℕ) (y : ℕ) → Has ps y → Has S y → Has (kept S ps) y
 kept-has S [] y h m = absurd h
 kept-has S (p ∷ ps) y h m = elim h [
   | inl e ↦ subst (λ (t : Bool). Has (cond t (p ∷ kept S ps) (kept S ps)) y) (sym (ap (is_in S) e ∙ has-is_in S y m)) (inl e)
@@ -159,23 +159,23 @@ kept-has S (p ∷ ps) y h m = elim h [
     go true k = inr k
     go false k = k
 
-kept-all : (S ps : List ℕ) → ((y : ℕ) → Has ps y → Has S y) → kept S ps ≡ ps
+pub kept-all : (S ps : List ℕ) → ((y : ℕ) → Has ps y → Has S y) → kept S ps ≡ ps
 kept-all S [] h = refl
 kept-all S (p ∷ ps) h =
     ap (λ t. cond t (p ∷ kept S ps) (kept S ps)) (has-is_in S p (h p (inl refl))) ∙ ap (λ k. p ∷ k) (kept-all S ps (λ y t. h y (inr t)))
 
-at_most-from : (S : List ℕ) (lists : List (List ℕ)) → ((y : ℕ) → times y lists ≤ 1) → At_most_once S lists
+pub at_most-from : (S : List ℕ) (lists : List (List ℕ)) → ((y : ℕ) → times y lists ≤ 1) → At_most_once S lists
 at_most-from [] lists h = tt
 at_most-from (s ∷ S) lists h = (h s, at_most-from S lists h)
 
-close-from : (r : ℕ → ℕ) (S : List ℕ) (blocks : List Block) → ((k : ℕ) → k < length blocks → (y : ℕ) → Has S y → Span (map r (kept S (places_at blocks k))) (r y)) → All_close r S (lists_of blocks)
+pub close-from : (r : ℕ → ℕ) (S : List ℕ) (blocks : List Block) → ((k : ℕ) → k < length blocks → (y : ℕ) → Has S y → Span (map r (kept S (places_at blocks k))) (r y)) → All_close r S (lists_of blocks)
 close-from r S [] h = tt
 close-from r S (b ∷ blocks) h = (
   all_span-from (map r (kept S b.places.items)) r S (λ y s. h 0 (omega arith) y s),
   close-from r S blocks (λ k l y s. h (suc k) (omega arith) y s),
 )
 
-within-from : (n : ℕ) (S : List ℕ) → ((y : ℕ) → Has S y → y < n) → All (λ i. i < n) S
+pub within-from : (n : ℕ) (S : List ℕ) → ((y : ℕ) → Has S y → y < n) → All (λ i. i < n) S
 within-from n S h k d l = h (get_or S k d) (at-Has S k d l)
 
 pub witness-shown : (rows homes : List ℕ) (blocks : List Block) (S : List ℕ) → IsState rows homes blocks → IsAscending S → ((y : ℕ) → Has S y → y < length homes + 1) → Has S (length homes)
@@ -196,15 +196,15 @@ witness-shown rows homes blocks S st a w e c = record {
     ]
 
 -- ---- ranges
-range-from : (a n y : ℕ) → Has (range_with_len a n) y → a ≤ y
+pub range-from : (a n y : ℕ) → Has (range_with_len a n) y → a ≤ y
 range-from a zero y h = absurd h
 range-from a (suc n) y h = elim h [ inl e ↦ omega arith | inr t ↦ let l : a + 1 ≤ y = range-from (a + 1) n y t in omega arith ]
 
-range-ascending : (a n : ℕ) → IsAscending (range_with_len a n)
+pub range-ascending : (a n : ℕ) → IsAscending (range_with_len a n)
 range-ascending a zero = tt
 range-ascending a (suc n) = ((λ y h. let l : a + 1 ≤ y = range-from (a + 1) n y h in omega arith), range-ascending (a + 1) n)
 
-filter-from : (p : ℕ → Bool) (xs : List ℕ) (y : ℕ) → Has (filter p xs) y → Has xs y × (p y ≡ true)
+pub filter-from : (p : ℕ → Bool) (xs : List ℕ) (y : ℕ) → Has (filter p xs) y → Has xs y × (p y ≡ true)
 filter-from p [] y h = absurd h
 filter-from p (x ∷ xs) y h = go (p x) refl h (filter-from p xs y)
   where
@@ -212,7 +212,7 @@ filter-from p (x ∷ xs) y h = go (p x) refl h (filter-from p xs y)
     go true e h k = elim h [ inl q ↦ (inl q, ap p (sym q) ∙ e) | inr t ↦ let r : Has xs y × (p y ≡ true) = k t in (inr r.0, r.1) ]
     go false e h k = let r : Has xs y × (p y ≡ true) = k h in (inr r.0, r.1)
 
-filter-has : (p : ℕ → Bool) (xs : List ℕ) (y : ℕ) → Has xs y → p y ≡ true → Has (filter p xs) y
+pub filter-has : (p : ℕ → Bool) (xs : List ℕ) (y : ℕ) → Has xs y → p y ≡ true → Has (filter p xs) y
 filter-has p [] y h t = absurd h
 filter-has p (x ∷ xs) y h t = elim h [
   | inl e ↦ subst (λ (b : Bool). Has (cond b (x ∷ filter p xs) (filter p xs)) y) (sym (ap p e ∙ t)) (inl e)
@@ -223,7 +223,7 @@ filter-has p (x ∷ xs) y h t = elim h [
     go true k = inr k
     go false k = k
 
-filter-ascending : (p : ℕ → Bool) (xs : List ℕ) → IsAscending xs → IsAscending (filter p xs)
+pub filter-ascending : (p : ℕ → Bool) (xs : List ℕ) → IsAscending xs → IsAscending (filter p xs)
 filter-ascending p [] a = tt
 filter-ascending p (x ∷ xs) a = go (p x) (filter-ascending p xs a.1)
   where
@@ -231,7 +231,7 @@ filter-ascending p (x ∷ xs) a = go (p x) (filter-ascending p xs a.1)
     go true k = ((λ y h. a.0 y (filter-from p xs y h).0), k)
     go false k = k
 
-range-to : (n y : ℕ) → Has (range_with_len 0 n) y → y < n
+pub range-to : (n y : ℕ) → Has (range_with_len 0 n) y → y < n
 range-to n y h = let r : (j : ℕ) × (j < length (range_with_len 0 n)) × (get_or (range_with_len 0 n) j 0 ≡ y) = Has-at (range_with_len 0 n) y h in
     subst (λ m. m < n) r.2 (range-below n r.0 0 r.1)
 
@@ -399,7 +399,7 @@ IsWitness-shown rows n homes blocks unfilled all witness shown count lists u e c
     nowhere [] i z t = absurd (omega (arith, t))
     nowhere (b ∷ bs) i z t = absurd (omega (arith, z))
 
-ascending-increasing : (xs : List ℕ) → IsStrictlyIncreasing xs → IsAscending xs
+pub ascending-increasing : (xs : List ℕ) → IsStrictlyIncreasing xs → IsAscending xs
 ascending-increasing [] a = tt
 ascending-increasing (x ∷ xs) a = (above xs x (head xs x a) later, ascending-increasing xs later)
   where
@@ -421,7 +421,7 @@ ascending-increasing (x ∷ xs) a = (above xs x (head xs x a) later, ascending-i
               (λ k g. let e : suc k + 1 ≡ suc (k + 1) = omega arith in subst (λ m. get_or ys k 0 < get_or (w ∷ ys) m 0) e (b (suc k) (omega arith))) z t
         ]
 
-distinct-increasing : (xs : List ℕ) → IsStrictlyIncreasing xs → Distinct xs
+pub distinct-increasing : (xs : List ℕ) → IsStrictlyIncreasing xs → Distinct xs
 distinct-increasing xs a = distinct-ascending xs (ascending-increasing xs a)
 
 at_least-from : (rows : List ℕ) (other : List (List ℕ)) → IsPartition rows other → (S : List ℕ) → ((y : ℕ) → Has S y → y < length rows) → At_least_once S other

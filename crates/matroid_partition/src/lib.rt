@@ -10,16 +10,23 @@
 //! come in one by one: a block with room takes the row; where none has room, the shortest chain of exchanges
 //! that the search meets first makes some; where there is no chain, the row opens a block, and what the search
 //! reached is the witness. A block with as many rows as the rank of all that came is passed over. There is no bad input; want of memory leaves nothing behind.
+//!
+//! `partition_spares` lets a block have some rows more than its rank, as where its circuit has wires to spare.
 #![tactic(auto)]
 
 mod blocks;
+mod dealing;
+mod dealt;
 mod entry;
 mod exchange;
 mod parts;
 mod search;
+mod settle;
+mod spares;
 mod taken;
 
 pub use parts::{Parts, partition};
+pub use spares::partition_spares;
 
 #[cfg(test)]
 mod tests;

@@ -49,7 +49,7 @@ pub fn partition(alloc: Global, rows: &[Row]) -> Result<Parts, AllocError>
 }
 
 /// Brings a row into the basis of all rows. Where it is no sum of those before it, no block is known to be full.
-fn widen(
+pub fn widen(
     alloc: Global,
     row: &Row,
     all: &mut Basis,
@@ -68,7 +68,7 @@ fn widen(
 }
 
 /// The witness for so many blocks: all rows where there is one.
-fn shown(
+pub fn shown(
     alloc: Global,
     count: usize,
     rows: usize,

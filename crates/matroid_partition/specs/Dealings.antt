@@ -1,0 +1,130 @@
+-- Working form. Rows that are dealt out among blocks whose number is held.
+--   IsHeld rows d             the rows that have a place in a block: the held ones, each with its place among all rows
+--   IsTakenIn rows place o d  one row more is held, and no block
+--   IsStuck rows place d seen what was reached from a row that found no place
+--   IsUnchanged o d           nothing has changed
+--   names_at d k              the places of the k-th block, among all rows
+--   IsMarked old new names seen   the names that are seen are marked too, and no other places
+--   AreMarked rows d marks    each marked row is a sum of the marked rows of each block
+--   AreRows rows d            the rows that are put by
+--   IsBack rows o d           one of the rows that were put by is held
+--   IsBegun rows place o d    one row more is held, in a block of its own
+--   IsOpened rows o d         the last of them opened a block
+--   IsDealing rows n m c d    the first n rows are held or put by, with at most m for each block put by, and c more
+--   IsShownWide rows k m w    a choice of the rows with more than k times the sum of its rank and m
+--   IsStuckAll rows o d marks   what was reached from all rows that were put by, none of which found a place
+--   IsWritten old new places numbers n    the first n numbers are written at the places
+--   at_home homes k           the places whose home is the k-th block
+--   IsHoused n m d homes      the homes of n rows: of those held as they are, of those put by m to a block
+use Rattle.std.specs.Prelude.{◌≡◌, ◌⊎◌, ℕ, ◌+◌, ◌*◌, ◌/◌, ◌<◌, ◌≤◌, All, Bool, true, cond, filter, nat_eq, nat_lt, List, [], ◌∷◌, ◌++◌, length, map, remove, slice_index}
+use Rattle.std.specs.List.{range_with_len}
+use Rattle.std.specs.List.Sorted.{IsStrictlyIncreasing}
+use Rattle.gf2_linear.specs.Rows.{is_sum, rank, rows_at}
+use Rattle.matroid_partition.specs.Partitions.{count_of}
+use Rattle.matroid_partition.specs.Blocks.{IsOpen, IsState, SpansFirst, places_at}
+use Rattle.matroid_partition.specs.Closed.{IsClosed, seen_among}
+use Rattle.matroid_partition.specs.Places.{Has}
+use Rattle.matroid_partition.specs.Searches.{IsSeen}
+use Rattle.matroid_partition.specs.declared.dealing.Dealing.{Dealing}
+
+pub record IsHeld (rows : List ℕ) (d : Dealing) : Type 0 where
+  pub count : length d.homes.items ≡ length d.held.items
+  pub named : length d.names.items ≡ length d.held.items
+  pub told : (p : ℕ) → p < length d.held.items → slice_index d.held.items p ≡ slice_index rows (slice_index d.names.items p)
+  pub state : IsState d.held.items d.homes.items d.blocks.items
+  pub rooms : IsOpen (length d.all) d.blocks.items d.unfilled.items
+  pub spans : SpansFirst (length d.held.items) d.held.items d.all
+
+pub record IsTakenIn (rows : List ℕ) (place : ℕ) (o d : Dealing) : Type 0 where
+  pub held : IsHeld rows d
+  pub names : d.names.items ≡ o.names.items ++ place ∷ []
+  pub over : d.over.items ≡ o.over.items
+  pub all : d.all ≡ o.all
+  pub blocks : length d.blocks.items ≡ length o.blocks.items
+
+pub record IsUnchanged (o d : Dealing) : Type 0 where
+  pub held : d.held.items ≡ o.held.items
+  pub names : d.names.items ≡ o.names.items
+  pub over : d.over.items ≡ o.over.items
+  pub blocks : d.blocks.items ≡ o.blocks.items
+  pub homes : d.homes.items ≡ o.homes.items
+  pub unfilled : d.unfilled.items ≡ o.unfilled.items
+  pub all : d.all ≡ o.all
+
+pub record IsStuck (rows : List ℕ) (place : ℕ) (o d : Dealing) (seen : List Bool) : Type 0 where
+  pub same : IsUnchanged o d
+  pub closed : IsClosed (o.held.items ++ slice_index rows place ∷ []) o.homes.items o.blocks.items seen
+
+abbrev pub names_at : Dealing → ℕ → List ℕ
+names_at d k = map (slice_index d.names.items) (places_at d.blocks.items k)
+
+pub record IsMarked (old new : List Bool) (names : List ℕ) (seen : List Bool) : Type 0 where
+  pub long : length new ≡ length old
+  pub kept : (y : ℕ) → IsSeen old y → IsSeen new y
+  pub marked : (p : ℕ) → p < length names → IsSeen seen p → IsSeen new (slice_index names p)
+  pub only : (y : ℕ) → IsSeen new y → IsSeen old y ⊎ ((p : ℕ) × ((p < length names) × (IsSeen seen p × (slice_index names p ≡ y))))
+
+abbrev pub AreMarked : List ℕ → Dealing → List Bool → Type 0
+AreMarked rows d marks = (k y : ℕ) → k < length d.blocks.items → IsSeen marks y → is_sum (rows_at rows (seen_among marks (names_at d k))) (slice_index rows y) ≡ true
+
+pub record AreRows (rows : List ℕ) (d : Dealing) : Type 0 where
+  pub below : (i : ℕ) → Has d.over.items i → i < length rows
+  pub sums : (i : ℕ) → Has d.over.items i → is_sum d.all (slice_index rows i) ≡ true
+  pub named : (p : ℕ) → p < length d.names.items → slice_index d.names.items p < length rows
+
+pub record IsBack (rows : List ℕ) (o d : Dealing) : Type 0 where
+  pub place : ℕ
+  pub index : ℕ
+  pub there : index < length o.over.items
+  pub is : slice_index o.over.items index ≡ place
+  pub held : IsHeld rows d
+  pub names : d.names.items ≡ o.names.items ++ place ∷ []
+  pub over : d.over.items ≡ remove o.over.items index
+  pub all : d.all ≡ o.all
+  pub blocks : length d.blocks.items ≡ length o.blocks.items
+
+pub record IsStuckAll (rows : List ℕ) (o d : Dealing) (marks : List Bool) : Type 0 where
+  pub same : IsUnchanged o d
+  pub long : length marks ≡ length rows
+  pub over : (i : ℕ) → Has o.over.items i → IsSeen marks i
+  pub closed : AreMarked rows o marks
+
+pub record IsBegun (rows : List ℕ) (place : ℕ) (o d : Dealing) : Type 0 where
+  pub held : IsHeld rows d
+  pub names : d.names.items ≡ o.names.items ++ place ∷ []
+  pub over : d.over.items ≡ o.over.items
+  pub all : d.all ≡ o.all
+  pub blocks : length d.blocks.items ≡ length o.blocks.items + 1
+
+pub record IsOpened (rows : List ℕ) (o d : Dealing) : Type 0 where
+  pub place : ℕ
+  pub held : IsHeld rows d
+  pub names : d.names.items ≡ o.names.items ++ place ∷ []
+  pub over : o.over.items ≡ d.over.items ++ place ∷ []
+  pub all : d.all ≡ o.all
+  pub blocks : length d.blocks.items ≡ length o.blocks.items + 1
+
+pub record IsDealing (rows : List ℕ) (n m c : ℕ) (d : Dealing) : Type 0 where
+  pub held : IsHeld rows d
+  pub once : (y : ℕ) → count_of y d.names.items + count_of y d.over.items ≡ cond (nat_lt y n) 1 0
+  pub within : n ≤ length rows
+  pub sums : SpansFirst n rows d.all
+  pub few : length d.over.items ≤ length d.blocks.items * m + c
+
+pub record IsShownWide (rows : List ℕ) (k m : ℕ) (witness : List ℕ) : Type 0 where
+  pub within : All (λ i. i < length rows) witness
+  pub ascending : IsStrictlyIncreasing witness
+  pub more : k * (rank (rows_at rows witness) + m) < length witness
+
+pub record IsWritten (old new places numbers : List ℕ) (n : ℕ) : Type 0 where
+  pub long : length new ≡ length old
+  pub there : (j : ℕ) → j < n → slice_index new (slice_index places j) ≡ slice_index numbers j
+  pub others : (y : ℕ) → (Has places y → ⊥) → slice_index new y ≡ slice_index old y
+
+abbrev pub at_home : List ℕ → ℕ → List ℕ
+at_home homes k = filter (λ p. nat_eq (slice_index homes p) k) (range_with_len 0 (length homes))
+
+pub record IsHoused (n m : ℕ) (d : Dealing) (homes : List ℕ) : Type 0 where
+  pub long : length homes ≡ n
+  pub held : (p : ℕ) → p < length d.names.items → slice_index homes (slice_index d.names.items p) ≡ slice_index d.homes.items p
+  pub over : (j : ℕ) → j < length d.over.items → slice_index homes (slice_index d.over.items j) ≡ j / m
