@@ -8,7 +8,7 @@
 --   marks-*, unchanged-twice, closed-same    one place more is marked; nothing changed, twice
 --   dealing-back, dealing-opened     one of the rows that were put by is held
 --   shown-marked          what was reached from all of them is a witness
---   dealing-taken, dealing-put_by    one row more; dealing-few, dealing-none
+--   dealing-taken, dealing-put_by    one row more; dealing-few
 --   witness-by_names      reached rows, by their names, are more than k blocks take
 use Rattle.std.proofs.Common.{◌≡◌, ℕ, zero, suc, ◌+◌, ◌*◌, ◌<◌, ◌≤◌, Bool, true, false, cond, List, [], ◌∷◌, ◌++◌, length, map, get_or, is_none, is_some, not, Option, None, Some, IfNone, IfSome, refl, set, sym, ap, subst, ◌∙◌, arith, ◌⊎◌, inl, inr}
 use Rattle.std.specs.Prelude.{nat_eq, nat_lt, filter, remove}
@@ -31,9 +31,10 @@ use Rattle.gf2_linear.proofs.Ranks.{is_sum-spanned, Span-is_sum}
 use Rattle.matroid_partition.proofs.Exchanges.{Has-span}
 use Rattle.matroid_partition.proofs.PlaceLaws.{Has-at, at-Has, IsStrictlyIncreasing-ascending}
 use Rattle.matroid_partition.proofs.StateLaws.{places_at-is}
-use Rattle.matroid_partition.proofs.Witnesses.{is_in, is_in-has, kept, At_most_once, All_close}
+use Rattle.matroid_partition.proofs.Witnesses.{is_in, is_in-has, kept, All_close}
 use Rattle.matroid_partition.proofs.OpenLaws.{Has-range}
-use Rattle.matroid_partition.proofs.PartLaws.{all_span-from, distinct-ascending, filter-ascending, filter-from, filter-has, has-is_in, range-ascending, state-once}
+use Rattle.matroid_partition.proofs.PartLaws.{all_span-from, at_most-from, distinct-ascending, filter-ascending, filter-from, has-is_in, range-ascending, state-once}
+use Rattle.matroid_partition.proofs.ClosedLaws.{seen-has}
 use Rattle.matroid_partition.proofs.SpareLaws.{spare-witness-more}
 
 rows-agree : (xs ys ps : List ℕ) → ((i : ℕ) → Has ps i → get_or xs i 0 ≡ get_or ys i 0) → map (λ i. get_or xs i 0) ps ≡ map (λ i. get_or ys i 0) ps
@@ -170,10 +171,6 @@ length-named : (names : List ℕ) (blocks : List Block) → length (named_lists 
 length-named names [] = refl
 length-named names (b ∷ blocks) = ap suc (length-named names blocks)
 
-at_most : (S over : List ℕ) (lists : List (List ℕ)) → ((y : ℕ) → times y (over ∷ lists) ≤ 1) → At_most_once S (over ∷ lists)
-at_most [] over lists h = tt
-at_most (s ∷ S) over lists h = (h s, at_most S over lists h)
-
 pub witness-by_names : (r : ℕ → ℕ) (m : ℕ) (held homes names over S : List ℕ) (blocks : List Block) → IsState held homes blocks → length homes ≡ length names
     → ((y : ℕ) → count_of y names + count_of y over ≤ 1) → IsAscending S → ((y : ℕ) → Has over y → Has S y)
     → ((k : ℕ) → k < length blocks → (y : ℕ) → Has S y → Span (map r (kept S (map (λ q. get_or names q 0) (places_at blocks k)))) (r y))
@@ -181,7 +178,7 @@ pub witness-by_names : (r : ℕ → ℕ) (m : ℕ) (held homes names over S : Li
 witness-by_names r m held homes names over S blocks st n once a o c g =
     subst (λ k. k * (rank (map r S) + m) < length S) (length-named names blocks)
     (spare-witness-more r m S over (named_lists names blocks) (distinct-ascending S a)
-    (at_most S over (named_lists names blocks) (λ y. let u : count_of y names + count_of y over ≤ 1 = once y in
+    (at_most-from S (over ∷ named_lists names blocks) (λ y. let u : count_of y names + count_of y over ≤ 1 = once y in
     let t : times y (named_lists names blocks) ≡ count_of y names = times-named held homes names blocks y st n (omega arith) in omega (arith, t)))
     (closed-lists r S names blocks c) o (subst (λ k. k * m < length over) (sym (length-named names blocks)) g))
 
@@ -201,9 +198,6 @@ held-same rows o d u h = record {
   spans = λ i l. ap (λ (q : List ℕ). is_sum q (get_or d.held.items i 0)) u.all
       ∙ ap (λ (q : List ℕ). is_sum o.all (get_or q i 0)) u.held ∙ h.spans i (subst (λ (q : List ℕ). i < length q) u.held l);
 }
-
-seen-has : (marks : List Bool) (ps : List ℕ) (y : ℕ) → Has ps y → IsSeen marks y → Has (seen_among marks ps) y
-seen-has marks ps y h s = filter-has (λ p. get_or marks p false) ps y h s
 
 seen-from : (marks : List Bool) (ps : List ℕ) (y : ℕ) → Has (seen_among marks ps) y → Has ps y × IsSeen marks y
 seen-from marks ps y h = filter-from (λ p. get_or marks p false) ps y h
@@ -395,10 +389,6 @@ shown-marked rows o d n m marks S u g f e = subst (IsShownWide rows (length o.bl
     few y c true q = let z : count_of y o.names.items + count_of y o.over.items ≡ 1 = c ∙ ap (λ b. cond b 1 0) q in omega arith
     few y c false q = let z : count_of y o.names.items + count_of y o.over.items ≡ 0 = c ∙ ap (λ b. cond b 1 0) q in omega arith
 
-pub Has-last : (xs : List ℕ) (x : ℕ) → Has (xs ++ x ∷ []) x
-Has-last [] x = inl refl
-Has-last (y ∷ xs) x = inr (Has-last xs x)
-
 pub dealing-same : (rows : List ℕ) (o d : Dealing) (n m c : ℕ) → IsUnchanged o d → IsDealing rows n m c o → IsDealing rows n m c d
 dealing-same rows o d n m c u g = record {
   held = held-same rows o d u g.held;
@@ -493,38 +483,6 @@ dealing-rows rows n m c d g = record {
 -- no more were put by than the blocks take
 pub dealing-few : (rows : List ℕ) (n m c : ℕ) (d : Dealing) → IsDealing rows n m c d → length d.over.items ≤ length d.blocks.items * m → IsDealing rows n m 0 d
 dealing-few rows n m c d g f = record { held = g.held; once = g.once; within = g.within; sums = g.sums; few = omega arith }
-
--- no rows
-pub dealing-none : (rows : List ℕ) (m : ℕ) (d : Dealing) → d.held.items ≡ [] → d.names.items ≡ [] → d.over.items ≡ [] → d.blocks.items ≡ [] → d.homes.items ≡ []
-    → d.unfilled.items ≡ [] → IsDealing rows 0 m 0 d
-dealing-none rows m d e n v b s f = record {
-  held = record {
-    count = ap length s ∙ sym (ap length e);
-    named = ap length n ∙ sym (ap length e);
-    told = λ p l. absurd (not_held p l);
-    state = record {
-      few = let k : length d.homes.items ≡ 0 = ap length s in omega (arith, k);
-      block = λ k x l. absurd (no_block k l);
-      home = λ i l. let k : length d.homes.items ≡ 0 = ap length s in absurd (omega (arith, k));
-      only = λ k i h. absurd (subst (λ (q : List Block). Has (places_at q k) i) b h);
-    };
-    rooms = record {
-      within = λ k x l. let z : length d.unfilled.items ≡ 0 = ap length f in absurd (omega (arith, z));
-      others = λ k x l w. absurd (no_block k l);
-    };
-    spans = λ i l. absurd (not_held i l);
-  };
-  once = λ y. (λ i. count_of y (n i) + count_of y (v i)) ∙ (let z : nat_lt y 0 ≡ false = grind (arith, nat_tests) in sym (ap (λ t. cond t 1 0) z));
-  within = omega arith;
-  sums = λ i l. absurd (omega arith);
-  few = let k : length d.over.items ≡ 0 = ap length v in omega (arith, k);
-}
-  where
-    not_held : (p : ℕ) → p < length d.held.items → ⊥
-    not_held p l = let k : length d.held.items ≡ 0 = ap length e in absurd (omega (arith, k))
-
-    no_block : (k : ℕ) → k < length d.blocks.items → ⊥
-    no_block k l = let z : length d.blocks.items ≡ 0 = ap length b in absurd (omega (arith, z))
 
 pub none_is : {A : Type 0} (o : Option A) (b : Bool) → is_some o ≡ not b → b ≡ true → is_none o ≡ true
 none_is None b e h = refl

@@ -7,7 +7,7 @@
 --   covered                 different places that stand in two lists are no more than both together
 --   wide-home               a list has at most m places more than its rank
 --   lists-more, housed-partition, housed-ascending      the lists
---   UnderwayWide, wide-opened, wide-entered    the rows that have come in so far, one more
+--   UnderwayWide            the rows that have come in so far
 --   shares-apart            rows are put by only where there are spares
 --   IsSpareWitness-shown, least-wide        all rows
 use Rattle.std.proofs.Common.{◌≡◌, ℕ, zero, suc, ◌+◌, ◌-◌, ◌*◌, ◌/◌, ◌%◌, ◌<◌, ◌≤◌, Bool, true, false, cond, List, [], ◌∷◌, ◌++◌, length, map, get_or, set, refl, sym, ap, subst, ◌∙◌, arith, ◌⊎◌, inl, inr}
@@ -56,7 +56,7 @@ written-more old now places numbers n w l once b = record {
     x = get_or numbers n 0
 
 -- ---- the homes
-pub shares-apart : (k m n : ℕ) → n ≤ k * m + 0 → 0 < n → 0 < m
+shares-apart : (k m n : ℕ) → n ≤ k * m + 0 → 0 < n → 0 < m
 shares-apart k zero n f l = absurd (omega arith)
 shares-apart k (suc m) n f l = omega arith
 
@@ -66,12 +66,6 @@ count-names rows n m c y d g = go (nat_lt y n) (g.once y)
     go : (b : Bool) → count_of y d.names.items + count_of y d.over.items ≡ cond b 1 0 → count_of y d.names.items + count_of y d.over.items ≤ 1
     go true e = omega (arith, e)
     go false e = omega (arith, e)
-
-pub names-once : (rows : List ℕ) (n m c : ℕ) (d : Dealing) → IsDealing rows n m c d → (y : ℕ) → count_of y d.names.items ≤ 1
-names-once rows n m c d g y = let s : count_of y d.names.items + count_of y d.over.items ≤ 1 = count-names rows n m c y d g in omega arith
-
-pub over-once : (rows : List ℕ) (n m c : ℕ) (d : Dealing) → IsDealing rows n m c d → (y : ℕ) → count_of y d.over.items ≤ 1
-over-once rows n m c d g y = let s : count_of y d.names.items + count_of y d.over.items ≤ 1 = count-names rows n m c y d g in omega arith
 
 pub names-below : (rows : List ℕ) (n m c : ℕ) (d : Dealing) → IsDealing rows n m c d → All (λ y. y < length rows) d.names.items
 names-below rows n m c d g = within-from (length rows) d.names.items (λ y h.
@@ -186,7 +180,7 @@ rows-named : (rows held names ps : List ℕ) → ((q : ℕ) → Has ps q → get
 rows-named rows held names [] h = refl
 rows-named rows held names (p ∷ ps) h = λ i. h p (inl refl) i ∷ rows-named rows held names ps (λ q t. h q (inr t)) i
 
-pub wide-home : (rows : List ℕ) (m k : ℕ) (d : Dealing) (homes : List ℕ) → IsDealing rows (length rows) m 0 d → IsHoused (length rows) m d homes
+wide-home : (rows : List ℕ) (m k : ℕ) (d : Dealing) (homes : List ℕ) → IsDealing rows (length rows) m 0 d → IsHoused (length rows) m d homes
     → length (at_home homes k) ≤ rank (rows_at rows (at_home homes k)) + m
 unfolding rows_at
 wide-home rows m k d homes g h = wide-dealt (λ i. get_or rows i 0) m (names_at d k) (at_home homes k) free there few
@@ -253,22 +247,6 @@ pub record UnderwayWide (rows : List ℕ) (n m : ℕ) (d : Dealing) (witness : L
   pub dealing : IsDealing rows n m 0 d
   pub shown : 0 < length d.blocks.items → IsShownWide rows (length d.blocks.items - 1) m witness
   pub none : length d.blocks.items ≡ 0 → witness ≡ []
-
-pub wide-opened : (rows : List ℕ) (n m : ℕ) (o d : Dealing) (witness : List ℕ) → IsDealing rows n m 0 d → length d.blocks.items ≡ length o.blocks.items + 1
-    → IsShownWide rows (length o.blocks.items) m witness → UnderwayWide rows n m d witness
-wide-opened rows n m o d witness g b w = record {
-  dealing = g;
-  shown = λ l. let e : length o.blocks.items ≡ length d.blocks.items - 1 = omega (arith, b) in subst (λ k. IsShownWide rows k m witness) e w;
-  none = λ e. absurd (omega (arith, b, e));
-}
-
-pub wide-entered : (rows : List ℕ) (n k m : ℕ) (o d : Dealing) (witness : List ℕ) → UnderwayWide rows n m o witness → IsDealing rows k m 0 d
-    → length d.blocks.items ≡ length o.blocks.items → UnderwayWide rows k m d witness
-wide-entered rows n k m o d witness u g b = record {
-  dealing = g;
-  shown = λ l. subst (λ j. IsShownWide rows (j - 1) m witness) (sym b) (u.shown (subst (λ j. 0 < j) b l));
-  none = λ e. u.none (sym b ∙ e);
-}
 
 -- ---- the end
 pub IsSpareWitness-shown : (rows : List ℕ) (m count : ℕ) (d : Dealing) (witness shown : List ℕ) (lists : List (List ℕ)) → UnderwayWide rows (length rows) m d witness

@@ -35,7 +35,7 @@ Has-append_old : (ps qs : List ℕ) (y : ℕ) → Has ps y → Has (ps ++ qs) y
 Has-append_old [] qs y h = absurd h
 Has-append_old (p ∷ ps) qs y h = elim h [ inl e ↦ inl e | inr t ↦ inr (Has-append_old ps qs y t) ]
 
-Has-append_new : (ps : List ℕ) (x : ℕ) → Has (ps ++ x ∷ []) x
+pub Has-append_new : (ps : List ℕ) (x : ℕ) → Has (ps ++ x ∷ []) x
 Has-append_new [] x = inl refl
 Has-append_new (p ∷ ps) x = inr (Has-append_new ps x)
 

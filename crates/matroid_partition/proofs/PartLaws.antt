@@ -140,7 +140,7 @@ has-is_in (s ∷ S) y h = elim h [
     go true k = refl
     go false k = k
 
-pub is_in-none : (S : List ℕ) (y : ℕ) → (Has S y → ⊥) → is_in S y ≡ false
+is_in-none : (S : List ℕ) (y : ℕ) → (Has S y → ⊥) → is_in S y ≡ false
 is_in-none [] y n = refl
 is_in-none (s ∷ S) y n = ap (λ t. cond t true (is_in S y)) (ne_eqb y s (λ e. n (inl (sym e)))) ∙ is_in-none S y (λ h. n (inr h))
 
@@ -148,7 +148,7 @@ pub distinct-ascending : (S : List ℕ) → IsAscending S → Distinct S
 distinct-ascending [] a = tt
 distinct-ascending (s ∷ S) a = (is_in-none S s (λ h. let l : s < s = a.0 s h in absurd (omega arith)), distinct-ascending S a.1)
 
-pub kept-has : (S ps : List ℕ) (y : ℕ) → Has ps y → Has S y → Has (kept S ps) y
+kept-has : (S ps : List ℕ) (y : ℕ) → Has ps y → Has S y → Has (kept S ps) y
 kept-has S [] y h m = absurd h
 kept-has S (p ∷ ps) y h m = elim h [
   | inl e ↦ subst (λ (t : Bool). Has (cond t (p ∷ kept S ps) (kept S ps)) y) (sym (ap (is_in S) e ∙ has-is_in S y m)) (inl e)
@@ -168,7 +168,7 @@ pub at_most-from : (S : List ℕ) (lists : List (List ℕ)) → ((y : ℕ) → t
 at_most-from [] lists h = tt
 at_most-from (s ∷ S) lists h = (h s, at_most-from S lists h)
 
-pub close-from : (r : ℕ → ℕ) (S : List ℕ) (blocks : List Block) → ((k : ℕ) → k < length blocks → (y : ℕ) → Has S y → Span (map r (kept S (places_at blocks k))) (r y)) → All_close r S (lists_of blocks)
+close-from : (r : ℕ → ℕ) (S : List ℕ) (blocks : List Block) → ((k : ℕ) → k < length blocks → (y : ℕ) → Has S y → Span (map r (kept S (places_at blocks k))) (r y)) → All_close r S (lists_of blocks)
 close-from r S [] h = tt
 close-from r S (b ∷ blocks) h = (
   all_span-from (map r (kept S b.places.items)) r S (λ y s. h 0 (omega arith) y s),
@@ -196,7 +196,7 @@ witness-shown rows homes blocks S st a w e c = record {
     ]
 
 -- ---- ranges
-pub range-from : (a n y : ℕ) → Has (range_with_len a n) y → a ≤ y
+range-from : (a n y : ℕ) → Has (range_with_len a n) y → a ≤ y
 range-from a zero y h = absurd h
 range-from a (suc n) y h = elim h [ inl e ↦ omega arith | inr t ↦ let l : a + 1 ≤ y = range-from (a + 1) n y t in omega arith ]
 
@@ -253,7 +253,7 @@ all-shown rows homes blocks all S st sp o e =
     (is_sum-spanned (map (r_of rows) (get_or blocks k d).places.items) (r_of rows y)
     (subst (λ (q : List ℕ). is_sum q (r_of rows y) ≡ true) (st.block k d l).basis (full-spans rows homes blocks all k d y st sp l (o.others k d l (λ z. z)) (omega arith)))))))
 
-all_in-span : (r : ℕ → ℕ) (ps es : List ℕ) → ((y : ℕ) → Has es y → Has ps y) → Span (map r ps) (row_sum (map r es))
+pub all_in-span : (r : ℕ → ℕ) (ps es : List ℕ) → ((y : ℕ) → Has es y → Has ps y) → Span (map r ps) (row_sum (map r es))
 unfolding row_sum
 all_in-span r ps [] h = Span-zero (map r ps)
 all_in-span r ps (e ∷ es) h = Span-add (map r ps) (r e) (row_sum (map r es)) (Has-span r e ps (h e (inl refl))) (all_in-span r ps es (λ y t. h y (inr t)))
@@ -399,7 +399,7 @@ IsWitness-shown rows n homes blocks unfilled all witness shown count lists u e c
     nowhere [] i z t = absurd (omega (arith, t))
     nowhere (b ∷ bs) i z t = absurd (omega (arith, z))
 
-pub ascending-increasing : (xs : List ℕ) → IsStrictlyIncreasing xs → IsAscending xs
+ascending-increasing : (xs : List ℕ) → IsStrictlyIncreasing xs → IsAscending xs
 ascending-increasing [] a = tt
 ascending-increasing (x ∷ xs) a = (above xs x (head xs x a) later, ascending-increasing xs later)
   where

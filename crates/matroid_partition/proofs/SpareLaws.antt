@@ -53,7 +53,7 @@ span-right : (ps qs : List ℕ) (v : ℕ) → Span qs v → Span (ps ++ qs) v
 span-right [] qs v s = s
 span-right (p ∷ ps) qs v s = inl (span-right ps qs v s)
 
-pub rank-kept : (r : ℕ → ℕ) (S block : List ℕ) → rank (map r block) ≤ rank (map r (kept S block)) + length (others S block)
+rank-kept : (r : ℕ → ℕ) (S block : List ℕ) → rank (map r block) ≤ rank (map r (kept S block)) + length (others S block)
 rank-kept r S block =
     let p : (b : List ℕ) × Choice (map r (kept S block)) b × Free b × All_span b (map r (kept S block)) = basis-among (map r (kept S block)) in
     let l : length p.0 ≤ rank (map r (kept S block)) = rank-least p.0 (map r (kept S block)) p.1 p.2 in
@@ -73,7 +73,7 @@ rank-within xs ys s =
     let m : rank ys ≤ length p.0 = rank-below p.0 ys (All_span-within p.0 xs ys p.3 s) in
     omega arith
 
-pub wide-kept : (r : ℕ → ℕ) (m : ℕ) (S block : List ℕ) → length block ≤ rank (map r block) + m → length (kept S block) ≤ rank (map r S) + m
+wide-kept : (r : ℕ → ℕ) (m : ℕ) (S block : List ℕ) → length block ≤ rank (map r block) + m → length (kept S block) ≤ rank (map r S) + m
 wide-kept r m S block w =
     let a : rank (map r block) ≤ rank (map r (kept S block)) + length (others S block) = rank-kept r S block in
     let b : rank (map r (kept S block)) ≤ rank (map r S) = rank-within (map r S) (map r (kept S block)) (kept-spanned r S block) in
@@ -92,7 +92,7 @@ kept_total-wide r m S (b ∷ blocks) w =
     let e : suc (length blocks) * (rank (map r S) + m) ≡ length blocks * (rank (map r S) + m) + (rank (map r S) + m) = suc-mul (length blocks) (rank (map r S) + m) in
     omega (arith, e)
 
-pub covered-wide : (r : ℕ → ℕ) (m : ℕ) (S : List ℕ) (blocks : List (List ℕ)) → Distinct S → At_least_once S blocks → All_wide r m blocks
+covered-wide : (r : ℕ → ℕ) (m : ℕ) (S : List ℕ) (blocks : List (List ℕ)) → Distinct S → At_least_once S blocks → All_wide r m blocks
     → length S ≤ length blocks * (rank (map r S) + m)
 covered-wide r m S blocks d a w =
     let low : length S ≤ times_total S blocks = times_total-all S blocks a in
