@@ -6,7 +6,7 @@ use Rattle.matroid_partition.proofs.spares.partition_spares.Goals as goal
 
 pub rows-init : goal.rows-init
 rows-init c = record {
-  dealing = c.undealt-dealing.ensures.dealing c.args.rows.now c.args.spares;
+  dealing = c.undealt-dealing.ensures.dealing c.args.rows.now _;
   shown = λ l. absurd (omega (arith, l, c.undealt-dealing.ensures.blocks));
   none = λ e. refl;
 }
