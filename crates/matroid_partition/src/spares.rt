@@ -20,7 +20,7 @@ use std::alloc::{AllocError, Global};
 
 /// As few blocks of nonzero rows as there can be, each with at most `spares` rows more than its rank, and a witness: a choice
 /// of rows with more than (blocks - 1) times the sum of its rank and `spares`. Where all rows fit one block, each row is in
-/// the witness; without rows there is neither a block nor a witness. Without spares it is `partition`.
+/// the witness; without rows there is neither a block nor a witness. Without spares it promises what `partition` does.
 pub fn partition_spares(alloc: Global, rows: &[Row], spares: u32) -> Result<Parts, AllocError>
     requires nonzero { All (λ r. r ≡ 0 → ⊥) rows.now }
     ensures partition { IfOk result (λ p. IsSparePartition rows.now spares (blocks_of p)) }
