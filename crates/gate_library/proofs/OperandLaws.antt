@@ -1,12 +1,14 @@
 -- Operands, and the numbers of a broadcast.
 --   list_any_upto_more, list_any_upto_at   a test of the numbers below one
 --   broadcast_whole, broadcast_single      by the next operand
-use Rattle.std.specs.Prelude.{is_none}
+--   single_once                            no wire of one operand stands twice
+use Rattle.std.specs.Prelude.{is_none, map, nat_eq}
 use Rattle.std.specs.List.{list_any}
 use Rattle.std.proofs.Common.{◌≡◌, ℕ, zero, suc, ◌+◌, ◌<◌, List, [], ◌∷◌, Option, Some, None, Bool, true, false, ◌||◌, refl, sym, ap, ◌∙◌, length, drop, get_or, add-one, arith, ⊎_elim}
 use Rattle.std.proofs.lemmas.Bool.{cases_eq}
 use Rattle.std.proofs.lemmas.List.Folds.{list_any-append}
 use Rattle.std.proofs.Math.Seq.{drop-cons}
+use Rattle.gate_library.specs.Names.{has_repeat}
 use Rattle.gate_library.specs.Operands.{broadcast, broadcast_by, times, upto, wire_at, wires_of}
 use Rattle.gate_library.specs.declared.operand.Operand.{Operand}
 use Rattle.gate_library.proofs.ListLaws.{list_any-map}
@@ -70,6 +72,12 @@ broadcast_whole ps i d lt e = ap broadcast (drop_read ps i d lt) ∙ whole_first
 pub broadcast_single : (ps : List Operand) (i : ℕ) (d : Operand) → i < length ps → is_none (get_or ps i d).index ≡ false
     → broadcast (drop (i + 1) ps) ≡ broadcast (drop i ps)
 broadcast_single ps i d lt e = sym (ap broadcast (drop_read ps i d lt) ∙ single_first (get_or ps i d) (drop (i + 1) ps) e)
+
+-- ---- one operand
+pub single_once : (j : ℕ) (ps : List Operand) → length ps < 2 → false ≡ has_repeat nat_eq (map (wire_at j) ps)
+single_once j [] few = refl
+single_once j (p ∷ []) few = refl
+single_once j (p ∷ q ∷ ps) few = absurd (omega (arith, few))
 
 pub ruleset broadcasts = (broadcast_whole, broadcast_single)
 

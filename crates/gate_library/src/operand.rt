@@ -1,7 +1,8 @@
 //! What arguments name, and what a broadcast over them is.
 
-ghost use Rattle.std.specs.Prelude.{◌≡◌, IfOk, map};
+ghost use Rattle.std.specs.Prelude.{◌≡◌, IfOk, map, nat_eq};
 ghost use Rattle.std.specs.List.{list_any};
+ghost use Rattle.gate_library.specs.Names.{has_repeat};
 ghost use Rattle.gate_library.specs.Operands.{broadcast, differs_from, measure_differs, operand_in, repeats, times, wire_at};
 
 use crate::meaning::Meaning;
@@ -110,14 +111,27 @@ fn wires_at(alloc: Global, operands: &[Operand], j: u32) -> Result<Vec<u64>, All
         .collect(alloc)
 }
 
+/// Whether at an index of the broadcast one wire stands twice.
+#[tactic(auto, using(crate::proofs::OperandLaws::single_once))]
+fn repeats_at(alloc: Global, operands: &[Operand], j: u32) -> Result<bool, AllocError>
+    ensures { IfOk result (λ b. b ≡ has_repeat nat_eq (map (wire_at j) operands.now)) }
+{
+    if operands.len() < 2 {
+        return Ok(false);
+    }
+    if let [first, second] = operands {
+        return Ok(first.wire_at(j) == second.wire_at(j));
+    }
+    wires_repeat(alloc, &wires_at(alloc, operands, j)?)
+}
+
 /// Whether at some index of the broadcast one wire stands twice.
 #[tactic(auto, using(crate::proofs::OperandLaws::uptos))]
 pub fn repeats_wire(alloc: Global, operands: &[Operand]) -> Result<bool, AllocError>
     ensures { IfOk result (λ b. b ≡ repeats operands.now) }
 {
     'indices: for j in 0..broadcast(operands) {
-        let wires = wires_at(alloc, operands, j)?;
-        if wires_repeat(alloc, &wires)? {
+        if repeats_at(alloc, operands, j)? {
             return Ok(true);
         }
     }

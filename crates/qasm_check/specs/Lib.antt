@@ -10,4 +10,5 @@ pub mod Steps
 pub mod Texts
 -- ---- working forms
 pub mod Bodies
+pub mod Naming
 pub mod Verdicts

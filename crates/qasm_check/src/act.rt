@@ -2,17 +2,16 @@
 
 ghost use Rattle.std.specs.Prelude.{◌≡◌, None, IfOk, IfErr, []};
 ghost use Rattle.qasm_parser.specs.Tree.{act, apply as applied, application as application_tree, barrier as barred, measure as measured};
-ghost use Rattle.gate_library.specs.Known.{gate_number, meaning};
+ghost use Rattle.gate_library.specs.Known.{Known as Names, gate_number, meaning};
 ghost use Rattle.gate_library.specs.State.{state};
 ghost use Rattle.qasm_check.specs.Arguments.{operands};
+ghost use Rattle.qasm_check.specs.Naming.{AreNamed};
 ghost use Rattle.qasm_check.specs.Refusals.{applies_opaque, params_differ, qubits_differ, unknown_in_act, wrong_in_act};
 ghost use Rattle.qasm_check.specs.Steps.{act_step};
 ghost use Rattle.qasm_check.specs.Verdicts.{IsStop, verdict};
 ghost use Rattle.qasm_check.specs.StepViews.{step};
 
-use crate::arguments::{
-    any_beyond, any_unknown, any_wrong, is_beyond, is_unknown, is_wrong, operand, operands,
-};
+use crate::arguments::{NamedArgs, is_beyond, is_unknown, is_wrong, named, operand};
 use crate::expression::{any_foreign, formulas};
 use crate::refusal::Refusal;
 use crate::statement::Step;
@@ -20,100 +19,111 @@ use crate::stop::Stop;
 use gate_library::{
     Indices, Known, Meaning, Operand, is_register, measure_differs, repeats_wire, sizes_differ,
 };
-use qasm_parser::{Apply, Arg, Name};
+use qasm_parser::{Apply, Arg};
 use std::alloc::Global;
 
-/// The number of the gate that this name stands for.
-pub fn gate_number<'a>(known: &Known<'a>, name: &'a Name) -> usize
-    ensures { result ≡ gate_number (meaning (state known.now) name.now) }
+/// The number of the gate that a name stands for.
+pub fn number_of(found: Option<Meaning>) -> usize
+    ensures { result ≡ gate_number found }
 {
-    match known.meaning(name.as_bytes()) {
+    match found {
         Some(Meaning::Gate(number)) => number,
         _ => 0,
     }
 }
 
-/// Whether the gate has another number of parameters than there are angles.
-pub fn params_differ<'a>(known: &Known<'a>, apply: &'a Apply) -> bool
+/// Whether the gate, as which its name was found, has another number of parameters than there are angles.
+pub fn params_differ<'a>(known: &Known<'a>, found: Option<Meaning>, apply: &'a Apply) -> bool
+    requires { found ≡ meaning (state known.now) apply.now.gate }
     ensures { result ≡ params_differ (state known.now) (application_tree apply.now) }
 {
-    match known.meaning(apply.gate.as_bytes()) {
+    match found {
         Some(Meaning::Gate(number)) => known.params(number) != apply.angles.len(),
         _ => false,
     }
 }
 
-/// Whether the gate has another number of qubits than there are arguments.
-pub fn qubits_differ<'a>(known: &Known<'a>, apply: &'a Apply) -> bool
+/// Whether the gate, as which its name was found, has another number of qubits than there are arguments.
+pub fn qubits_differ<'a>(known: &Known<'a>, found: Option<Meaning>, apply: &'a Apply) -> bool
+    requires { found ≡ meaning (state known.now) apply.now.gate }
     ensures { result ≡ qubits_differ (state known.now) (application_tree apply.now) }
 {
-    match known.meaning(apply.gate.as_bytes()) {
+    match found {
         Some(Meaning::Gate(number)) => known.qubits(number) != apply.args.len(),
         _ => false,
     }
 }
 
-/// Whether the gate has no body.
-pub fn applies_opaque<'a>(known: &Known<'a>, apply: &'a Apply) -> bool
+/// Whether the gate, as which its name was found, has no body.
+pub fn applies_opaque<'a>(known: &Known<'a>, found: Option<Meaning>, apply: &'a Apply) -> bool
+    requires { found ≡ meaning (state known.now) apply.now.gate }
     ensures { result ≡ applies_opaque (state known.now) (application_tree apply.now) }
 {
-    match known.meaning(apply.gate.as_bytes()) {
+    match found {
         Some(Meaning::Gate(number)) => known.is_opaque(number),
         _ => false,
     }
 }
 
 /// Whether the application has a name that stands for nothing. No name in an expression stands for anything here.
-fn is_unknown_in<'a>(known: &Known<'a>, none: &Indices<'a>, apply: &'a Apply) -> bool
+fn is_unknown_in<'a>(
+    found: Option<Meaning>,
+    named: &NamedArgs,
+    none: &Indices<'a>,
+    apply: &'a Apply,
+) -> bool
     requires { none.now ≡ [] }
-    ensures { result ≡ unknown_in_act (state known.now) (applied (application_tree apply.now)) }
+    ensures { (k : Names) → found ≡ meaning k apply.now.gate → AreNamed k apply.now.args.items named.now
+        → result ≡ unknown_in_act k (applied (application_tree apply.now)) }
 {
-    known.meaning(apply.gate.as_bytes()).is_none()
-        || any_unknown(known, &apply.args)
-        || any_foreign(none, &apply.angles)
+    found.is_none() || named.unknown || any_foreign(none, &apply.angles)
 }
 
 /// Whether the application has a register for a gate, or an argument that is no register of wires.
-fn is_wrong_in<'a>(known: &Known<'a>, apply: &'a Apply) -> bool
-    ensures { result ≡ wrong_in_act (state known.now) (applied (application_tree apply.now)) }
+fn is_wrong_in<'a>(found: Option<Meaning>, named: &NamedArgs, apply: &'a Apply) -> bool
+    ensures { (k : Names) → found ≡ meaning k apply.now.gate → AreNamed k apply.now.args.items named.now
+        → result ≡ wrong_in_act k (applied (application_tree apply.now)) }
 {
-    is_register(known.meaning(apply.gate.as_bytes())) || any_wrong(known, &apply.args)
+    is_register(found) || named.wrong
 }
 
-/// What the arguments of an application name, where it isn't refused.
+/// What the arguments of an application name, where it isn't refused; its gate's name was found as this.
 fn tested<'a>(
     alloc: Global,
     known: &Known<'a>,
+    found: Option<Meaning>,
     none: &Indices<'a>,
     apply: &'a Apply,
 ) -> Result<Vec<Operand>, Stop>
-    requires { none.now ≡ [] }
+    requires none { none.now ≡ [] }
+    requires found { found ≡ meaning (state known.now) apply.now.gate }
     ensures ok { IfOk result (λ v. (verdict (state known.now) (act (applied (application_tree apply.now))) ≡ None) × (v.items ≡ operands (state known.now) apply.now.args.items)) }
     ensures err { IfErr result (IsStop (verdict (state known.now) (act (applied (application_tree apply.now))))) }
 {
-    if is_unknown_in(known, none, apply) {
+    let named = named(alloc, known, &apply.args)?;
+    if is_unknown_in(found, &named, none, apply) {
         return Err(Stop::Refused(Refusal::UnknownName));
     }
-    if is_wrong_in(known, apply) {
+    if is_wrong_in(found, &named, apply) {
         return Err(Stop::Refused(Refusal::WrongKind));
     }
-    if any_beyond(known, &apply.args) {
+    if named.beyond {
         return Err(Stop::Refused(Refusal::IndexRange));
     }
-    if params_differ(known, apply) {
+    if params_differ(known, found, apply) {
         return Err(Stop::Refused(Refusal::ParamCount));
     }
-    if qubits_differ(known, apply) {
+    if qubits_differ(known, found, apply) {
         return Err(Stop::Refused(Refusal::QubitCount));
     }
-    let operands = operands(alloc, known, &apply.args)?;
+    let operands = named.operands;
     if sizes_differ(&operands) {
         return Err(Stop::Refused(Refusal::SizeDiffers));
     }
     if repeats_wire(alloc, &operands)? {
         return Err(Stop::Refused(Refusal::RepeatedQubit));
     }
-    if applies_opaque(known, apply) {
+    if applies_opaque(known, found, apply) {
         return Err(Stop::Refused(Refusal::OpaqueApplied));
     }
     if known.any_measured(&operands) {
@@ -128,10 +138,11 @@ pub fn application<'a>(alloc: Global, known: &Known<'a>, apply: &'a Apply) -> Re
     ensures err { IfErr result (IsStop (verdict (state known.now) (act (applied (application_tree apply.now))))) }
 {
     let none = Indices::none(alloc);
-    let operands = tested(alloc, known, &none, apply)?;
+    let found = known.meaning(apply.gate.as_bytes());
+    let operands = tested(alloc, known, found, &none, apply)?;
     let angles = formulas(alloc, &none, &apply.angles)?;
     Ok(Step::Apply {
-        gate: gate_number(known, &apply.gate),
+        gate: number_of(found),
         angles,
         operands,
     })
@@ -167,15 +178,17 @@ pub fn barrier<'a>(alloc: Global, known: &Known<'a>, args: &'a [Arg]) -> Result<
     ensures ok { IfOk result (λ s. (verdict (state known.now) (act (barred args.now)) ≡ None) × (step s ≡ act_step (state known.now) (barred args.now))) }
     ensures err { IfErr result (IsStop (verdict (state known.now) (act (barred args.now)))) }
 {
-    if any_unknown(known, args) {
+    let named = named(alloc, known, args)?;
+    if named.unknown {
         return Err(Stop::Refused(Refusal::UnknownName));
     }
-    if any_wrong(known, args) {
+    if named.wrong {
         return Err(Stop::Refused(Refusal::WrongKind));
     }
-    if any_beyond(known, args) {
+    if named.beyond {
         return Err(Stop::Refused(Refusal::IndexRange));
     }
-    let operands = operands(alloc, known, args)?;
-    Ok(Step::Barrier { operands })
+    Ok(Step::Barrier {
+        operands: named.operands,
+    })
 }

@@ -1,9 +1,10 @@
 //! Arguments outside bodies, and what they name.
 
-ghost use Rattle.std.specs.Prelude.{◌≡◌, IfOk, true, false};
-ghost use Rattle.std.specs.List.{list_any};
+ghost use Rattle.std.specs.Prelude.{◌≡◌, ◌++◌, IfOk, OnOk};
+ghost use Rattle.std.specs.Option.{option_to_list};
 ghost use Rattle.gate_library.specs.State.{state};
-ghost use Rattle.qasm_check.specs.Arguments.{operand, operands};
+ghost use Rattle.qasm_check.specs.Arguments.{operand};
+ghost use Rattle.qasm_check.specs.Naming.{AreNamed};
 ghost use Rattle.qasm_check.specs.Refusals.{is_beyond, is_unknown, is_wrong};
 
 use gate_library::{Known, Operand, is_beyond as goes_beyond, is_other, operand_in};
@@ -38,56 +39,49 @@ pub fn operand<'a>(known: &Known<'a>, arg: &'a Arg) -> Option<Operand>
     operand_in(known.meaning(arg.name.as_bytes()), arg.index)
 }
 
-/// Whether a name stands for nothing.
-pub fn any_unknown<'a>(known: &Known<'a>, args: &'a [Arg]) -> bool
-    ensures { result ≡ list_any (is_unknown (state known.now)) args.now }
-{
-    'each: for arg in args {
-        if is_unknown(known, arg) {
-            return true;
-        }
-    }
-    false
+/// What some arguments name, and what is wrong with them.
+#[derive(Drop)]
+pub struct NamedArgs {
+    /// Whether a name stands for nothing.
+    pub unknown: bool,
+    /// Whether one names no register of wires.
+    pub wrong: bool,
+    /// Whether an index isn't below its register's size.
+    pub beyond: bool,
+    /// What they name, in order.
+    pub operands: Vec<Operand>,
 }
 
-/// Whether one names no register of wires.
-pub fn any_wrong<'a>(known: &Known<'a>, args: &'a [Arg]) -> bool
-    ensures { result ≡ list_any (is_wrong (state known.now) true) args.now }
+/// Puts what an argument names, where it names something, behind the others.
+fn add(operands: &mut Vec<Operand>, operand: Option<Operand>) -> Result<(), AllocError>
+    ensures { OnOk result (operands.new.items ≡ operands.old.items ++ option_to_list operand) }
 {
-    'each: for arg in args {
-        if is_wrong(known, true, arg) {
-            return true;
-        }
+    match operand {
+        Some(operand) => Ok(operands.push(operand)?),
+        None => Ok(()),
     }
-    false
 }
 
-/// Whether an index isn't below its register's size.
-pub fn any_beyond<'a>(known: &Known<'a>, args: &'a [Arg]) -> bool
-    ensures { result ≡ list_any (is_beyond (state known.now)) args.now }
-{
-    'each: for arg in args {
-        if is_beyond(known, arg) {
-            return true;
-        }
-    }
-    false
-}
-
-/// What the arguments name.
+/// What the arguments name: each name is looked up once.
 #[tactic(auto, using(crate::proofs::LoopLaws::loops))]
-pub fn operands<'a>(
-    alloc: Global,
-    known: &Known<'a>,
-    args: &'a [Arg],
-) -> Result<Vec<Operand>, AllocError>
-    ensures { IfOk result (λ v. v.items ≡ operands (state known.now) args.now) }
+pub fn named<'a>(alloc: Global, known: &Known<'a>, args: &'a [Arg]) -> Result<NamedArgs, AllocError>
+    ensures { IfOk result (AreNamed (state known.now) args.now) }
 {
-    let mut list = Vec::new(alloc);
+    let mut unknown = false;
+    let mut wrong = false;
+    let mut beyond = false;
+    let mut operands = Vec::with_capacity(alloc, args.len())?;
     'each: for arg in args {
-        if let Some(operand) = operand(known, arg) {
-            list.push(operand)?;
-        }
+        let found = known.meaning(arg.name.as_bytes());
+        unknown |= found.is_none();
+        wrong |= is_other(true, found);
+        beyond |= goes_beyond(found, arg.index);
+        add(&mut operands, operand_in(found, arg.index))?;
     }
-    Ok(list)
+    Ok(NamedArgs {
+        unknown,
+        wrong,
+        beyond,
+        operands,
+    })
 }

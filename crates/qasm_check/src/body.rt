@@ -14,7 +14,7 @@ ghost use Rattle.qasm_check.specs.Steps.{bound_gate, item as bound_item};
 ghost use Rattle.qasm_check.specs.Verdicts.{IsStop, verdict};
 ghost use Rattle.gate_library.specs.Views.{gate as gate_view, item as item_view};
 
-use crate::act::{applies_opaque, gate_number, params_differ, qubits_differ};
+use crate::act::{applies_opaque, number_of, params_differ, qubits_differ};
 use crate::expression::{any_foreign, formulas};
 use crate::refusal::Refusal;
 use crate::stop::Stop;
@@ -39,11 +39,12 @@ pub enum Flaw {
 fn has_flaw<'a>(known: &Known<'a>, flaw: Flaw, apply: &'a Apply) -> bool
     ensures { result ≡ has_flaw (state known.now) flaw (application_tree apply.now) }
 {
+    let found = known.meaning(apply.gate.as_bytes());
     match flaw {
-        Flaw::Register => is_register(known.meaning(apply.gate.as_bytes())),
-        Flaw::Params => params_differ(known, apply),
-        Flaw::Qubits => qubits_differ(known, apply),
-        Flaw::Opaque => applies_opaque(known, apply),
+        Flaw::Register => is_register(found),
+        Flaw::Params => params_differ(known, found, apply),
+        Flaw::Qubits => qubits_differ(known, found, apply),
+        Flaw::Opaque => applies_opaque(known, found, apply),
     }
 }
 
@@ -268,7 +269,7 @@ fn item<'a>(
 {
     match item {
         Stmt::Apply(apply) => Ok(Item::Call {
-            gate: gate_number(known, &apply.gate),
+            gate: number_of(known.meaning(apply.gate.as_bytes())),
             angles: formulas(alloc, params, &apply.angles)?,
             qubits: qubit_indices(alloc, qubits, &apply.args)?,
         }),

@@ -1,32 +1,48 @@
 //! A text's symbols from left to right.
 
-ghost use Rattle.std.specs.Prelude.{◌≡◌, ◌<◌, ◌^◌, ◌∷◌, [], All, MatchOption, drop, length};
+ghost use Rattle.std.specs.Prelude.{◌≡◌, ◌<◌, ◌^◌, All, drop, length};
 ghost use Rattle.qasm_parser.specs.Symbols.{first_value, symbols};
 ghost use Rattle.qasm_lexer.specs.Tokens.{IsTokenOf};
-ghost use Rattle.qasm_parser.specs.Views.{symbol};
+ghost use Rattle.qasm_parser.specs.Views.{IsFirst};
 
 use crate::symbols::{Symbol, number_of, symbol_of};
 use angle_fraction::Frac;
 use qasm_lexer::Token;
 use std::marker::Model;
 
-/// The symbols that are still to come.
+/// The first symbol of some tokens.
+#[tactic(auto, using(crate::proofs::SymbolLaws::firsts))]
+fn first_symbol<'a>(text: &'a [u8], tokens: &'a [Token]) -> Option<Symbol<'a>>
+    requires short { length text.now < 2 ^ 32 }
+    requires tokens { All (IsTokenOf text.now) tokens.now }
+    ensures { IsFirst result (symbols text.now tokens.now) }
+{
+    match tokens.first() {
+        Some(token) => Some(symbol_of(text, token)),
+        None => None,
+    }
+}
+
+/// The symbols that are still to come. The next one is read once, whatever is asked of it.
 #[derive(Drop)]
 pub struct Cursor<'a> {
     text: &'a [u8],
     tokens: &'a [Token],
+    next: Option<Symbol<'a>>,
 }
 
 impl<'a> Model for Cursor<'a> {
     ghost use Rattle.std.specs.Prelude.{◌<◌, ◌^◌, All, List, length};
     ghost use Rattle.qasm_lexer.specs.Tokens.{IsTokenOf};
     ghost use Rattle.qasm_parser.specs.Symbols.{Symbol, symbols};
+    ghost use Rattle.qasm_parser.specs.Views.{IsFirst};
 
     ghost Value = { List Symbol };
 
     ghost view = { λ c. symbols c.text.now c.tokens.now };
 
-    ghost invariant = { λ c. (length c.text.now < 2 ^ 32) × All (IsTokenOf c.text.now) c.tokens.now };
+    ghost invariant = { λ c. (length c.text.now < 2 ^ 32) × All (IsTokenOf c.text.now) c.tokens.now
+        × IsFirst c.next (symbols c.text.now c.tokens.now) };
 }
 
 impl<'a> Cursor<'a> {
@@ -36,7 +52,11 @@ impl<'a> Cursor<'a> {
         requires tokens { All (IsTokenOf text.now) tokens.now }
         ensures { result ≡ symbols text.now tokens.now }
     {
-        Cursor { text, tokens }
+        Cursor {
+            text,
+            tokens,
+            next: first_symbol(text, tokens),
+        }
     }
 
     /// How many symbols are still to come.
@@ -47,14 +67,10 @@ impl<'a> Cursor<'a> {
     }
 
     /// The next symbol.
-    #[tactic(auto, using(crate::proofs::SymbolLaws::firsts))]
     pub fn peek(&self) -> Option<Symbol<'a>>
-        ensures { MatchOption result (self.now ≡ []) (λ s. self.now ≡ symbol s (first_value self.now) ∷ drop 1 self.now) }
+        ensures { IsFirst result self.now }
     {
-        match self.tokens.first() {
-            Some(token) => Some(symbol_of(self.text, token)),
-            None => None,
-        }
+        self.next
     }
 
     /// The value of the next symbol, where it is a number; else 0.
@@ -73,6 +89,7 @@ impl<'a> Cursor<'a> {
     {
         if !self.tokens.is_empty() {
             self.tokens = &self.tokens[1..];
+            self.next = first_symbol(self.text, self.tokens);
         }
     }
 }

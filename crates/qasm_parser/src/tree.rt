@@ -3,13 +3,14 @@
 ghost use Rattle.std.specs.Prelude.{◌≡◌, IfOk};
 
 use angle_fraction::{Binary, Frac, Function};
+use smallvec::SmallVec;
 use std::alloc::{AllocError, Global};
 use std::marker::Model;
 
-/// A name of a program, or the file that it includes; contracts see its bytes.
+/// A name of a program, or the file that it includes; contracts see its bytes. Up to 16 bytes lie in the value itself.
 #[derive(Drop)]
 pub struct Name {
-    bytes: Vec<u8>,
+    bytes: SmallVec<u8, 16>,
 }
 
 impl Model for Name {
@@ -21,19 +22,12 @@ impl Model for Name {
 }
 
 impl Name {
-    /// The name of these bytes.
-    pub fn new(bytes: Vec<u8>) -> Name
-        ensures { result ≡ bytes.items }
-    {
-        Name { bytes }
-    }
-
     /// A name of these bytes.
     pub fn copied(alloc: Global, bytes: &[u8]) -> Result<Name, AllocError>
         ensures { IfOk result (λ n. n ≡ bytes.now) }
     {
         Ok(Name {
-            bytes: bytes.to_vec(alloc)?,
+            bytes: SmallVec::from_slice(alloc, bytes)?,
         })
     }
 
@@ -41,7 +35,7 @@ impl Name {
     pub fn as_bytes(&self) -> &[u8]
         ensures { result.now ≡ self.now }
     {
-        &self.bytes
+        self.bytes.as_slice()
     }
 }
 

@@ -1,4 +1,4 @@
-use Rattle.std.proofs.Common.{◌<◌, ap, sym, subst, map, ◌∙◌}
+use Rattle.std.proofs.Common.{◌<◌, sym, subst, map, ◌∙◌}
 use Rattle.std.specs.Prelude.{nat_eq}
 use Rattle.gate_library.specs.Names.{has_repeat}
 use Rattle.gate_library.specs.Operands.{broadcast, wire_at}
@@ -9,4 +9,4 @@ pub returns-then-branch : goal.returns-then-branch
 returns-then-branch c =
     let below : c.indices.j < broadcast c.args.operands.now = subst (λ n. c.indices.j < n) c.broadcast-j-end.ensures c.indices-test.true in
     sym (list_any_upto_at (λ j. has_repeat nat_eq (map (wire_at j) c.args.operands.now)) (broadcast c.args.operands.now) c.indices.j below
-    (ap (has_repeat nat_eq) (sym (c.deref.ensures.value ∙ c.in_ok-wires.ensures)) ∙ sym c.in_ok-wires_repeat.ensures ∙ c.if-branch.true))
+    (sym c.in_ok-repeats_at.ensures ∙ c.if-branch.true))

@@ -13,7 +13,7 @@ pub returns-clause-ok : goal.returns-clause-ok
 returns-clause-ok c =
     let K = state c.args.known.now in
     let a = application c.args.apply.now in
-    let number : c.gate_number.result ≡ gate_number (meaning K a.gate) = c.gate_number.ensures in
+    let number : c.number_of.result ≡ gate_number (meaning K a.gate) = c.number_of.ensures ∙ ap gate_number (c.meaning-found.ensures ∙ ap (meaning K) c.as_bytes.ensures) in
     let angles : map formula c.in_ok-angles.angles.items ≡ map (bound []) a.angles =
     c.in_ok-angles.ensures
     ∙ ap (λ (ps : List (List ℕ)). map (λ (e : Expr). bound ps (expression e)) c.deref.result.now) c.none-none.ensures

@@ -14,7 +14,8 @@ returns-in_ok-qubit_indices-in-Apply c =
     let K = state c.args.known.now in
     let P = c.args.params.now in
     let a = c.in-Apply.apply in
-    let number : c.gate_number.result ≡ gate_number (meaning K a.gate) = c.gate_number.ensures in
+    let number : c.number_of.result ≡ gate_number (meaning K a.gate) =
+    c.number_of.ensures ∙ ap gate_number (c.meaning.ensures ∙ ap (meaning K) c.as_bytes.ensures) in
     let angles : map formula c.in_ok-formulas-in-Apply.field-0.items ≡ map (bound P) (map expression a.angles.items) =
     c.in_ok-formulas-in-Apply.ensures ∙ ap (map (λ (e : Expr). bound P (expression e))) c.deref.ensures.value ∙ sym (map-map (bound P) expression a.angles.items) in
     let qubits : c.in_ok-qubit_indices-in-Apply.field-0.items ≡ map (λ x. index_of c.args.qubits.now x.name) a.args.items =
