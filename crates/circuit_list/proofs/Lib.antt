@@ -6,5 +6,4 @@ pub mod MarkLaws
 pub mod OnWireLaws
 pub mod SlotLaws
 pub mod TreeLaws
-pub mod UseLaws
 pub mod WalkLaws

@@ -423,6 +423,3 @@ pub struct Passed {
     pub body: Circuit,
     pub turn: u8,
 }
-
-#[cfg(test)]
-mod tests;

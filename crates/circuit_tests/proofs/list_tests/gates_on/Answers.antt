@@ -2,8 +2,8 @@ use Rattle.std.proofs.Common.{sym, arith, drop, length-drop}
 use Rattle.std.proofs.lemmas.List.Sums.{count_by-le-length}
 use Rattle.circuit_list.specs.Gates.{is_on}
 use Rattle.circuit_list.specs.Slots.{place_of}
-use Rattle.circuit_list.proofs.UseLaws.{count_end, count_here, count_next}
-use Rattle.circuit_list.proofs.tests.gates_on.Goals as goal
+use Rattle.circuit_tests.proofs.UseLaws.{count_end, count_here, count_next}
+use Rattle.circuit_tests.proofs.list_tests.gates_on.Goals as goal
 
 pub walk-init : goal.walk-init
 walk-init c = record {

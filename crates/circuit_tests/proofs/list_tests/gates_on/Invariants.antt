@@ -3,7 +3,7 @@ use Rattle.std.proofs.Common.{◌≡◌, ◌+◌, ◌-◌, true, drop, length}
 use Rattle.std.specs.List.{count_by}
 use Rattle.circuit_list.specs.Gates.{is_on}
 use Rattle.circuit_list.specs.Slots.{IsLive, is_on_at, place_of}
-use Rattle.circuit_list.proofs.tests.gates_on.Given as goal
+use Rattle.circuit_tests.proofs.list_tests.gates_on.Given as goal
 
 abbrev pub invariant-walk : goal.invariant-walk
 invariant-walk l = record {

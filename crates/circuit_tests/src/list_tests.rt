@@ -1,28 +1,38 @@
-ghost use Rattle.std.specs.Prelude.{◌≡◌, ℕ, ◌+◌, ◌*◌, ◌/◌, ◌%◌, ◌<◌, drop, false, remove, true};
+ghost use Rattle.std.specs.Prelude.{◌≡◌, ℕ, ◌+◌, ◌*◌, ◌/◌, ◌%◌, ◌<◌, IfOk, drop, false, remove, true};
 ghost use Rattle.std.specs.List.{count_by};
 ghost use Rattle.circuit_list.specs.Gates.{IsFine, is_on};
 ghost use Rattle.circuit_list.specs.Slots.{IsLive, IsNextOn, NoneBehind, is_on_at, place_of};
 
-use crate::{Circuit, Gate, Slot};
+use circuit_list::{Circuit, Gate, Slot};
+use circuit_samples::circuit_of;
 use std::alloc::Global;
 use std::process::Abort;
 use std::test::Fail;
 
+/// The circuit of some gates that may stand on its wires.
+fn made(rt: &impl Abort, alloc: Global, wires: u32, gates: &[Gate]) -> Result<Circuit, Fail>
+    ensures { IfOk result (λ c. c.wires ≡ wires) }
+{
+    let made = circuit_of(alloc, wires, gates)?;
+    Ok(made.expect(rt, "gates on the wires"))
+}
+
 #[test]
 fn keeps_gates_and_counts_them(rt: HostRuntime) -> Result<(), Fail> {
-    let alloc = rt.alloc();
-    let mut circuit = Circuit::empty(alloc, 3)?;
-    circuit.push(Gate::H { q: 0 })?;
-    circuit.push(Gate::P { k: 1, q: 2 })?;
-    circuit.push(Gate::Cx { c: 0, t: 2 })?;
-    circuit.push(Gate::P { k: 2, q: 1 })?;
-    circuit.push(Gate::P { k: 7, q: 1 })?;
-    circuit.push(Gate::X { q: 1 })?;
-    assert_eq!(rt; circuit.wires(), 3);
-    assert_eq!(rt; circuit.len(), 6);
-    assert_eq!(rt; circuit.count_t(), 2);
-    assert_eq!(rt; circuit.count_cx(), 1);
-    assert_eq!(rt; circuit.count_h(), 1);
+    let gates = [
+        Gate::H { q: 0 },
+        Gate::P { k: 1, q: 2 },
+        Gate::Cx { c: 0, t: 2 },
+        Gate::P { k: 2, q: 1 },
+        Gate::P { k: 7, q: 1 },
+        Gate::X { q: 1 },
+    ];
+    let circuit = made(&rt, rt.alloc(), 3, &gates)?;
+    assert_eq!(rt; (circuit.wires(), circuit.len()), (3, 6));
+    assert_eq!(rt;
+        (circuit.count_t(), circuit.count_cx(), circuit.count_h()),
+        (2, 1, 1)
+    );
     let mut copy = circuit.copy()?;
     assert!(rt; copy.len() == 6 && copy.wires() == 3);
     assert_eq!(rt; copy.gate(4), Gate::P { k: 7, q: 1 });
@@ -30,54 +40,94 @@ fn keeps_gates_and_counts_them(rt: HostRuntime) -> Result<(), Fail> {
     assert!(rt; copy.len() == 5 && copy.wires() == 3);
     assert_eq!(rt; copy.gate(1), Gate::Cx { c: 0, t: 2 });
     copy.replace(1, Gate::X { q: 2 });
+    assert!(rt; copy.len() == 5);
     assert_eq!(rt; copy.gate(1), Gate::X { q: 2 });
-    assert_eq!(rt; copy.count_cx(), 0);
-    assert_eq!(rt; circuit.count_cx(), 1);
+    assert_eq!(rt; (copy.count_cx(), circuit.count_cx()), (0, 1));
     Ok(())
+}
+
+/// The slots of the next and of the last gate on a wire.
+type Near = (Option<Slot>, Option<Slot>);
+
+/// Those on the first and on the second wire of the gate at a place.
+fn near(rt: &impl Abort, circuit: &Circuit, place: usize) -> (Near, Near) {
+    assert!(rt; place < circuit.len());
+    let slot = circuit.slot(place);
+    let (first, second) = circuit.gate_at(slot).wires();
+    let second = second.unwrap_or(first);
+    (
+        (circuit.next_on(slot, first), circuit.prev_on(slot, first)),
+        (circuit.next_on(slot, second), circuit.prev_on(slot, second)),
+    )
+}
+
+/// The slot of the gate at a place, if one is told.
+fn slot_at(rt: &impl Abort, circuit: &Circuit, place: Option<usize>) -> Option<Slot> {
+    let place = place?;
+    assert!(rt; place < circuit.len());
+    Some(circuit.slot(place))
+}
+
+/// A place, whether the second wire of its gate is meant, and the places of the next and of the last gate on the wire.
+type Row = (usize, bool, Option<usize>, Option<usize>);
+
+fn compare_rows(rt: &impl Abort, circuit: &Circuit, rows: &[Row]) {
+    'rows: for row in rows {
+        let (place, is_second, next, last) = *row;
+        let (on_first, on_second) = near(rt, circuit, place);
+        let (found_next, found_last) = if is_second { on_second } else { on_first };
+        assert_eq!(rt; found_next, slot_at(rt, circuit, next), "{place}");
+        assert_eq!(rt; found_last, slot_at(rt, circuit, last), "{place}");
+    }
 }
 
 #[test]
 fn finds_the_next_gate_on_a_wire(rt: HostRuntime) -> Result<(), Fail> {
-    let mut circuit = Circuit::empty(rt.alloc(), 2)?;
-    circuit.push(Gate::H { q: 0 })?;
-    circuit.push(Gate::Cx { c: 0, t: 1 })?;
-    circuit.push(Gate::P { k: 1, q: 1 })?;
-    let first = circuit.slot(0);
-    let second = circuit.slot(1);
+    let gates = [
+        Gate::H { q: 0 },
+        Gate::Cx { c: 0, t: 1 },
+        Gate::P { k: 1, q: 1 },
+    ];
+    let mut circuit = made(&rt, rt.alloc(), 2, &gates)?;
+    let rows = [
+        (0, false, Some(1), None),
+        (1, true, Some(2), None),
+        (2, false, None, Some(1)),
+    ];
+    compare_rows(&rt, &circuit, &rows);
+    assert!(rt; circuit.len() == 3);
     let third = circuit.slot(2);
-    assert_eq!(rt; circuit.next_on(first, 0), Some(second));
-    assert_eq!(rt; circuit.next_on(second, 1), Some(third));
-    assert_eq!(rt; circuit.next_on(third, 1), None);
-    assert_eq!(rt; circuit.prev_on(third, 1), Some(second));
     circuit.remove(1);
-    assert_eq!(rt; circuit.next_on(first, 0), None);
-    let last = circuit.slot(1);
-    assert_eq!(rt; last, third);
-    assert_eq!(rt; circuit.prev_on(last, 1), None);
+    assert!(rt; circuit.len() == 2);
+    assert_eq!(rt; circuit.slot(1), third);
+    compare_rows(
+        &rt,
+        &circuit,
+        &[(0, false, None, None), (1, false, None, None)],
+    );
     Ok(())
 }
 
 /// Wires that differ by a multiple of 64 are told apart.
 #[test]
 fn tells_wires_of_one_bit_apart(rt: HostRuntime) -> Result<(), Fail> {
-    let mut circuit = Circuit::empty(rt.alloc(), 256)?;
-    circuit.push(Gate::Cx { c: 1, t: 193 })?;
-    circuit.push(Gate::H { q: 65 })?;
-    circuit.push(Gate::H { q: 129 })?;
-    circuit.push(Gate::X { q: 193 })?;
-    circuit.push(Gate::H { q: 1 })?;
-    circuit.push(Gate::Cx { c: 65, t: 129 })?;
-    let first = circuit.slot(0);
-    let second = circuit.slot(1);
-    let third = circuit.slot(2);
-    assert_eq!(rt; circuit.next_on(first, 1), Some(circuit.slot(4)));
-    assert_eq!(rt; circuit.next_on(first, 193), Some(circuit.slot(3)));
-    assert_eq!(rt; circuit.prev_on(second, 65), None);
-    let last = circuit.slot(5);
-    assert_eq!(rt; circuit.next_on(second, 65), Some(last));
-    assert_eq!(rt; circuit.prev_on(last, 129), Some(third));
-    assert_eq!(rt; circuit.prev_on(last, 65), Some(second));
-    assert_eq!(rt; circuit.next_on(last, 129), None);
+    let gates = [
+        Gate::Cx { c: 1, t: 193 },
+        Gate::H { q: 65 },
+        Gate::H { q: 129 },
+        Gate::X { q: 193 },
+        Gate::H { q: 1 },
+        Gate::Cx { c: 65, t: 129 },
+    ];
+    let circuit = made(&rt, rt.alloc(), 256, &gates)?;
+    let rows = [
+        (0, false, Some(4), None),
+        (0, true, Some(3), None),
+        (1, false, Some(5), None),
+        (5, false, None, Some(1)),
+        (5, true, None, Some(2)),
+    ];
+    compare_rows(&rt, &circuit, &rows);
     Ok(())
 }
 
@@ -125,39 +175,58 @@ fn finds_gates_far_away(rt: HostRuntime) -> Result<(), Fail> {
     Ok(())
 }
 
-fn compare_hollow(rt: &impl Abort, circuit: &Circuit) {
-    assert!(rt; circuit.len() == 4);
+/// The slots of so many gates that are put in one by one.
+fn first_slots(alloc: Global, count: usize) -> Result<Vec<Slot>, Fail> {
+    let mut circuit = Circuit::empty(alloc, 1)?;
+    let mut slots = Vec::new(alloc);
+    'pushes: for place in 0..count {
+        circuit.push(Gate::X { q: 0 })?;
+        if place < circuit.len() {
+            slots.push(circuit.slot(place))?;
+        }
+    }
+    Ok(slots)
+}
+
+fn compare_hollow(rt: &impl Abort, circuit: &Circuit, slots: &[Slot]) {
+    assert!(rt; circuit.len() == 4 && slots.len() > 303);
     let second = circuit.slot(1);
     let far = circuit.slot(2);
     assert_eq!(rt; circuit.after(second), Some(far));
     assert_eq!(rt; circuit.before(far), Some(second));
-    assert_eq!(rt; far, Slot::new(301));
-    let far = Some(Slot::new(301));
-    assert_eq!(rt; circuit.slot_from(Slot::new(0)), Some(Slot::new(0)));
-    assert_eq!(rt; circuit.slot_from(Slot::new(2)), far);
-    assert_eq!(rt; circuit.slot_from(Slot::new(255)), far);
-    assert_eq!(rt; circuit.slot_from(Slot::new(301)), far);
-    assert_eq!(rt; circuit.slot_from(Slot::new(303)), None);
-    assert_eq!(rt; circuit.slot_from(Slot::new(usize::MAX)), None);
+    assert_eq!(rt; far, slots[301]);
+    let rows = [
+        (0, Some(slots[0])),
+        (2, Some(far)),
+        (255, Some(far)),
+        (301, Some(far)),
+        (303, None),
+        (slots.len() - 1, None),
+    ];
+    'rows: for (index, found) in rows {
+        assert_eq!(rt; circuit.slot_from(slots[index]), found, "{index}");
+    }
 }
 
 #[test]
 fn finds_gates_past_empty_slots(rt: HostRuntime) -> Result<(), Fail> {
-    compare_hollow(&rt, &hollow(&rt, rt.alloc(), false)?);
-    compare_hollow(&rt, &hollow(&rt, rt.alloc(), true)?);
+    let slots = first_slots(rt.alloc(), 70_000)?;
+    compare_hollow(&rt, &hollow(&rt, rt.alloc(), false)?, &slots);
+    compare_hollow(&rt, &hollow(&rt, rt.alloc(), true)?, &slots);
     Ok(())
 }
 
 #[test]
 fn drops_empty_slots(rt: HostRuntime) -> Result<(), Fail> {
+    let slots = first_slots(rt.alloc(), 4)?;
     let mut circuit = hollow(&rt, rt.alloc(), true)?;
     circuit.compact()?;
-    assert!(rt; circuit.len() == 4 && circuit.wires() == 2);
+    assert!(rt; circuit.len() == 4 && circuit.wires() == 2 && slots.len() == 4);
     assert_eq!(rt; circuit.gate(0), Gate::H { q: 1 });
     assert_eq!(rt; circuit.gate(1), Gate::X { q: 0 });
     assert_eq!(rt; circuit.gate(2), Gate::H { q: 1 });
     assert_eq!(rt; circuit.gate(3), Gate::X { q: 0 });
-    assert_eq!(rt; circuit.slot(3), Slot::new(3));
+    assert_eq!(rt; circuit.slot(3), slots[3]);
     Ok(())
 }
 
@@ -259,10 +328,10 @@ impl Plain {
         found
     }
 
-    /// New slots from 0 on.
-    fn compact(&mut self) {
-        'slots: for (index, slot) in self.slots.iter_mut().enumerate() {
-            *slot = Slot::new(index);
+    /// New slots: the first of all.
+    fn compact(&mut self, first: &[Slot]) {
+        'slots: for (slot, new) in self.slots.iter_mut().zip(first.iter()) {
+            *slot = *new;
         }
     }
 }
@@ -311,7 +380,7 @@ fn edit(
 }
 
 /// All answers at one place, and the first slot from some other slot on, which may have had a gate or never been there.
-fn compare(rt: &impl Abort, circuit: &Circuit, plain: &Plain, place: usize, other: usize) {
+fn compare(rt: &impl Abort, circuit: &Circuit, plain: &Plain, place: usize, other: Slot) {
     assert_eq!(rt; circuit.len(), plain.gates.len());
     assert!(rt;
         place < circuit.len() && place < plain.gates.len() && plain.gates.len() == plain.slots.len()
@@ -338,7 +407,6 @@ fn compare(rt: &impl Abort, circuit: &Circuit, plain: &Plain, place: usize, othe
     assert_eq!(rt; circuit.prev_on(slot, first), plain.prev_on(place, first));
     assert_eq!(rt; circuit.prev_on(slot, second), plain.prev_on(place, second));
     assert_eq!(rt; circuit.slot_from(slot), Some(slot));
-    let other = Slot::new(other);
     assert_eq!(rt; circuit.slot_from(other), plain.slot_from(other));
 }
 
@@ -347,6 +415,7 @@ fn compare(rt: &impl Abort, circuit: &Circuit, plain: &Plain, place: usize, othe
 #[test]
 fn answers_as_a_plain_list_does(rt: HostRuntime) -> Result<(), Fail> {
     let alloc = rt.alloc();
+    let slots = first_slots(alloc, 7_100)?;
     let mut random = Random { state: 1 };
     let mut circuit = Circuit::empty(alloc, 256)?;
     let mut plain = Plain {
@@ -361,13 +430,14 @@ fn answers_as_a_plain_list_does(rt: HostRuntime) -> Result<(), Fail> {
         edit(&rt, &mut circuit, &mut plain, &mut random)?;
         if random.below(60) == 0 {
             circuit.compact()?;
-            plain.compact();
+            plain.compact(&slots);
         }
         let len = circuit.len();
         if len > 0 {
             let place = random.below(len);
             let other = random.below(len.saturating_add(40));
-            compare(&rt, &circuit, &plain, place, other);
+            assert!(rt; other < slots.len());
+            compare(&rt, &circuit, &plain, place, slots[other]);
         }
     }
     Ok(())
@@ -406,24 +476,42 @@ fn take_out_pair(circuit: &mut Circuit, first: Slot, wire: u32) -> bool
     true
 }
 
+/// The gates from a place on that are on the first or the second wire of the gate there.
+fn counted(rt: &impl Abort, circuit: &Circuit, place: usize) -> (usize, usize) {
+    assert!(rt; place < circuit.len());
+    let slot = circuit.slot(place);
+    let (first, second) = circuit.gate_at(slot).wires();
+    let second = second.unwrap_or(first);
+    (
+        gates_on(circuit, slot, first),
+        gates_on(circuit, slot, second),
+    )
+}
+
+/// Takes the gate at a place and the next one on its first wire out.
+fn take_out(rt: &impl Abort, circuit: &mut Circuit, place: usize) -> bool {
+    assert!(rt; place < circuit.len());
+    let slot = circuit.slot(place);
+    let (wire, _) = circuit.gate_at(slot).wires();
+    take_out_pair(circuit, slot, wire)
+}
+
 #[test]
 fn walks_along_a_wire(rt: HostRuntime) -> Result<(), Fail> {
-    let mut circuit = Circuit::empty(rt.alloc(), 3)?;
-    circuit.push(Gate::Cx { c: 0, t: 2 })?;
-    circuit.push(Gate::H { q: 1 })?;
-    circuit.push(Gate::H { q: 0 })?;
-    circuit.push(Gate::Cx { c: 1, t: 2 })?;
-    circuit.push(Gate::H { q: 0 })?;
-    circuit.push(Gate::P { k: 1, q: 0 })?;
-    let first = circuit.slot(0);
-    assert_eq!(rt; gates_on(&circuit, first, 0), 4);
-    assert_eq!(rt; gates_on(&circuit, first, 2), 2);
-    let pair = circuit.slot(2);
-    assert!(rt; take_out_pair(&mut circuit, pair, 0));
-    assert_eq!(rt; circuit.len(), 4);
+    let gates = [
+        Gate::Cx { c: 0, t: 2 },
+        Gate::H { q: 1 },
+        Gate::H { q: 0 },
+        Gate::Cx { c: 1, t: 2 },
+        Gate::H { q: 0 },
+        Gate::P { k: 1, q: 0 },
+    ];
+    let mut circuit = made(&rt, rt.alloc(), 3, &gates)?;
+    assert_eq!(rt; counted(&rt, &circuit, 0), (4, 2));
+    assert!(rt; take_out(&rt, &mut circuit, 2));
+    assert!(rt; circuit.len() == 4);
     assert_eq!(rt; circuit.gate(3), Gate::P { k: 1, q: 0 });
-    let last = circuit.slot(3);
-    assert!(rt; !take_out_pair(&mut circuit, last, 0));
+    assert!(rt; !take_out(&rt, &mut circuit, 3));
     assert_eq!(rt; circuit.len(), 4);
     Ok(())
 }
