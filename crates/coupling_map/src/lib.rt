@@ -32,6 +32,3 @@ pub const QUBIT_LIMIT: u32 = 256;
 
 /// The greatest cost of an edge.
 pub const COST_LIMIT: u32 = 1_000_000;
-
-#[cfg(test)]
-mod tests;

@@ -1,6 +1,6 @@
-//! Worked examples: refused texts with their refusals, and devices with their answers.
+//! Device texts: refused ones with their refusals, and devices with their answers.
 
-use super::*;
+use coupling_map::{DeviceError, DeviceFault, read_device};
 use std::test::Fail;
 
 #[test]
