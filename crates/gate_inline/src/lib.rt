@@ -10,12 +10,8 @@
 #![tactic(auto)]
 
 mod body;
-#[cfg(test)]
-mod inline_tests;
 mod inlining;
 mod laws;
-#[cfg(test)]
-mod matrix_tests;
 mod memo;
 mod program;
 mod refusal;

@@ -25,8 +25,3 @@ pub use pass::ResynthPass;
 pub use polynomial::Poly;
 pub use resynthesis::resynth;
 pub use walk::poly;
-
-#[cfg(test)]
-mod plain;
-#[cfg(test)]
-mod tests;

@@ -10,8 +10,6 @@ mod laws;
 mod reading;
 mod refusal;
 mod source;
-#[cfg(test)]
-mod tests;
 
 pub use laws::{accepted_has_no_refusal, accepted_or_refused, means_once, refused_once};
 pub use reading::{TEXT_LIMIT, read_program};

@@ -18,8 +18,6 @@ mod program;
 mod refusal;
 mod statement;
 mod stop;
-#[cfg(test)]
-mod tests;
 
 pub use bits::Bits;
 pub use checked::Checked;

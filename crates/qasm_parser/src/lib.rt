@@ -20,8 +20,6 @@ mod program;
 mod statement;
 mod stop;
 mod symbols;
-#[cfg(test)]
-mod tests;
 mod tree;
 
 pub use angle_fraction::{Binary, Function};

@@ -161,20 +161,3 @@ pub fn run<I: Source, F: Shelf, O: Sink, R: Sink>(
         Err(stop) => tell(alloc, stop, report),
     }
 }
-
-#[cfg(test)]
-mod bench_tests;
-#[cfg(test)]
-mod cases_tests;
-#[cfg(test)]
-mod literature_tests;
-#[cfg(test)]
-mod opt_tests;
-#[cfg(test)]
-mod read_tests;
-#[cfg(test)]
-mod route_tests;
-#[cfg(test)]
-mod stop_tests;
-#[cfg(test)]
-mod walk_tests;

@@ -1,6 +1,6 @@
 //! What is read of texts, and the borders of the limits.
 
-use crate::{ReadFault, Refusal, Source, read_program};
+use program_reader::{ReadFault, Refusal, Source, read_program};
 use std::alloc::{AllocError, Global};
 use std::test::Fail;
 

@@ -1,9 +1,9 @@
 //! `opt` against its passes one by one in their written order, and against another program's texts.
 
+use crate::bench_tests::text_of;
 use crate::cases_tests::{HEAD, run_opt};
-use crate::source::drawn_source;
-use crate::target::optimised;
-use circuit_list::Passed;
+use bench_program::made;
+use circuit_list::{Circuit, Gate, Passed};
 use gate_cancel::CancelPass;
 use gate_expand::expand;
 use hadamard_reduce::HadamardPass;
@@ -63,20 +63,48 @@ fn settled(alloc: Global, before: Passed) -> Result<Passed, AllocError> {
     Ok(kept)
 }
 
+/// The name of a phase.
+fn phase_name(k: u8) -> &'static str {
+    match k {
+        1 => "t",
+        2 => "s",
+        3 => "u1(3*pi/4)",
+        4 => "z",
+        5 => "u1(5*pi/4)",
+        6 => "sdg",
+        _ => "tdg",
+    }
+}
+
+/// The text of a program with the gates of a circuit.
+fn circuit_text(alloc: Global, circuit: &Circuit) -> Result<String, AllocError> {
+    let wires = circuit.wires();
+    let mut text = format!(in alloc; "{HEAD}qreg q[{wires}];\n")?;
+    'gates: for place in 0..circuit.len() {
+        match circuit.gate(place) {
+            Gate::H { q } => write!(text, "h q[{q}];\n")?,
+            Gate::X { q } => write!(text, "x q[{q}];\n")?,
+            Gate::P { k, q } => write!(text, "{} q[{q}];\n", phase_name(k))?,
+            Gate::Cx { c, t } => write!(text, "cx q[{c}],q[{t}];\n")?,
+        }
+    }
+    Ok(text)
+}
+
 /// Programs that are drawn for 2 to 5 wires: the gates and the turn are those of the passes one by one.
 #[test]
 fn keeps_the_order_of_the_passes(rt: HostRuntime) -> Result<(), Fail> {
     let alloc = rt.alloc();
     'starts: for start in 0..120u32 {
-        let source = drawn_source(alloc, start, 70, start % 4 + 2)?;
-        let rounded = rounds(alloc, expand(alloc, &source.ops)?)?;
-        let want = settled(alloc, after(alloc, rounded, &ResynthPass)?)?;
-        let got = optimised(alloc, &source.ops)?;
-        assert_eq!(rt; got.turn, want.turn, "{start}");
-        assert_eq!(rt; got.body.len(), want.body.len(), "{start}");
-        'gates: for place in 0..got.body.len().min(want.body.len()) {
-            assert!(rt; got.body.gate(place) == want.body.gate(place), "{start}");
-        }
+        let program = made(alloc, start, 70, start % 4 + 2)?;
+        let rounded = rounds(alloc, expand(alloc, &program)?)?;
+        let Passed { body, turn } = settled(alloc, after(alloc, rounded, &ResynthPass)?)?;
+        let got = run_opt(alloc, &rt, text_of(alloc, &program)?.as_str())?;
+        let want = circuit_text(alloc, &body)?;
+        assert_eq!(rt; got.out.as_slice(), want.as_bytes(), "{start}");
+        let told = str::from_utf8(&got.report).expect(&rt, "a report in UTF-8");
+        let phase = format!(in alloc; "\"phase\":{turn},")?;
+        assert!(rt; told.contains(phase.as_str()), "{start}");
     }
     Ok(())
 }

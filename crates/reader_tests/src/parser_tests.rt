@@ -2,9 +2,9 @@
 
 ghost use Rattle.std.specs.Prelude.{◌<◌, ◌^◌};
 
-use crate::{Binary, Expr, ParseFault, Program, Stmt, parse};
 use angle_fraction::Frac;
 use qasm_lexer::lex;
+use qasm_parser::{Binary, Expr, ParseFault, Program, Stmt, parse};
 use std::alloc::{AllocError, Global};
 use std::test::Fail;
 

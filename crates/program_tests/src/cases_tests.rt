@@ -15,8 +15,8 @@
 //!     ~  a piece of the report
 //!     <  the most lines that the output may have behind heading and register
 
-use crate::run;
 use outside_io::{MemShelf, MemSink, MemSource, NamedText};
+use qroute_top::run;
 use std::alloc::{AllocError, Global};
 use std::process::Abort;
 use std::test::Fail;

@@ -2,8 +2,8 @@
 
 ghost use Rattle.std.specs.Prelude.{◌<◌, ◌^◌};
 
-use crate::{InlineFault, inline};
 use gate_expand::Ops;
+use gate_inline::{InlineFault, inline};
 use qasm_check::check;
 use qasm_lexer::lex;
 use qasm_parser::parse;

@@ -125,7 +125,7 @@ fn writes_what_is_drawn(rt: HostRuntime) -> Result<(), Fail> {
 }
 
 /// The text of a program whose gates are those that are drawn.
-fn text_of(alloc: Global, program: &Ops) -> Result<String, AllocError> {
+pub fn text_of(alloc: Global, program: &Ops) -> Result<String, AllocError> {
     let qubits = program.wires;
     let mut text = format!(in alloc; "{HEAD}qreg q[{qubits}];\n")?;
     'gates: for op in program.list.as_slice() {

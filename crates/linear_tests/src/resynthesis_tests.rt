@@ -1,7 +1,9 @@
+//! Layers, phase polynomials and resynthesis: worked lists, and a comparison with the written walk.
+
 use crate::plain::walked;
-use crate::{ResynthPass, layers, poly, resynth};
 use circuit_list::{Circuit, Gate};
 use gf2_linear::Row;
+use phase_poly::{ResynthPass, layers, poly, resynth};
 use rewrite_pass::Pass;
 use std::alloc::{AllocError, Global};
 use std::test::Fail;

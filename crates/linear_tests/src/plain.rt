@@ -1,11 +1,11 @@
 //! The written walk of resynthesis, word by word, for the tests: a row is a word, and nothing is kept between two steps.
 
-use crate::{Layer, layers};
 use circuit_list::{Circuit, Gate};
+use phase_poly::{Layer, layers};
 use std::alloc::{AllocError, Global};
 
 /// The gates of a circuit, each layer resynthesised where that has fewer CNOTs; its own gates where no layer has.
-pub(crate) fn walked(alloc: Global, body: &Circuit) -> Result<Vec<Gate>, AllocError> {
+pub fn walked(alloc: Global, body: &Circuit) -> Result<Vec<Gate>, AllocError> {
     let mut gates = Vec::new(alloc);
     let mut is_new = false;
     for layer in &layers(alloc, body)? {

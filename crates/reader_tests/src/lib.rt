@@ -1,0 +1,15 @@
+//! Tests of the reader, stage by stage: `qasm_parser`, `qasm_check`, `gate_inline` and `program_reader`.
+//!
+//! Each test function is proved too, so they stand in a crate of their own: these crates are proved once.
+#![tactic(auto)]
+
+#[cfg(test)]
+mod check_tests;
+#[cfg(test)]
+mod inline_tests;
+#[cfg(test)]
+mod matrix_tests;
+#[cfg(test)]
+mod parser_tests;
+#[cfg(test)]
+mod reading_tests;
