@@ -175,10 +175,10 @@ class EditRow:
 
     crate: str
     edit: str
-    role: str  # says, or with
+    role: str  # says, with, cut or instead
     file: str
-    part: str  # a record, a function or a lemma
-    name: str  # its field, or its clause
+    part: str  # a record, a function or a lemma, or the words of a file
+    name: str  # its field, or its clause, or the words instead
     proved: str  # yes or no, as `tools/mutate` found it
 
     @property
