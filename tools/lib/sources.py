@@ -183,7 +183,7 @@ class EditRow:
 
     @property
     def said(self):
-        return f"`{self.name}` of `{self.part}`"
+        return f"`{self.name}` of `{self.part}`" if self.name else f"the clause of `{self.part}`"
 
 
 EDIT_HEAD = "crate\tedit\trole\tfile\tpart\tname\tproved"

@@ -94,6 +94,25 @@ class Mutate(ToolTest):
         self.assertEqual((status, lines[0].split(";")[0]), (1, "four: refused all the same"))
         self.assertEqual(self.kept(), ["no"])
 
+    def test_unnamed(self):
+        self.file("crates/low/src/lib.rt", LIB.replace("ensures even {", "ensures {"))
+        self.file("bin/rt", RT.replace("'ensures even'", "'ensures {'").replace("|| grep -q 'twice'", "&& grep -q 'twice'"))
+        os.chmod(os.path.join(self.room, "bin/rt"), 0o755)
+        self.edit("says\tsrc/lib.rt\ttwo\t\t")
+        self.assertEqual(self.mutate("low"), (0, ["four: says the clause of `two`"]))
+
+    def test_promise(self):
+        pass_of = "impl Pass for Two {\n    ghost shape = { λ n gates. IsTwo n };\n    ghost kept = { IsKept };\n}\n"
+        self.file("crates/low/src/lib.rt", LIB + pass_of)
+        self.file("bin/rt", RT.replace("'ensures even'", "IsTwo").replace("|| grep -q 'twice'", "&& grep -q 'twice'"))
+        os.chmod(os.path.join(self.room, "bin/rt"), 0o755)
+        self.edit("says\tsrc/lib.rt\tTwo\tshape\t")
+        self.assertEqual(self.mutate("low"), (0, ["four: says `shape` of `Two`"]))
+        self.edit("says\tsrc/lib.rt\tTwo\tkept\t")
+        self.assertEqual(self.mutate("low")[0], 1)
+        self.edit("says\tsrc/lib.rt\tThree\tshape\t")
+        self.assertEqual(self.mutate("low"), (1, ["four: can't be made: no shape of Three"]))
+
     def test_nothing(self):
         self.edit()
         self.assertEqual(self.mutate("low"), (1, ["four: names nothing"]))
