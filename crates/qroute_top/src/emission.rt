@@ -103,7 +103,8 @@ fn fault_of(stop: Stop) -> Option<Fault>
 #[tactic(auto, using(crate::proofs::StatusLaws::told))]
 pub fn tell<R: Sink>(alloc: Global, stop: Stop, report: &mut R) -> u8
     ensures status { (result ≡ 7) ⊎ (result ≡ stop_status stop) }
-    ensures told { (result ≡ 7) × (report.new ≡ report.old) ⊎ ((f : Told) × (fault_of stop ≡ Some f) × (result ≡ status_of f)
+    ensures memory { result ≡ 7 → report.new ≡ report.old }
+    ensures told { (result ≡ 7) ⊎ ((f : Told) × (fault_of stop ≡ Some f) × (result ≡ status_of f)
         × GainsUnlessFault (R.held report.old) (R.held report.new) (R.faults report.old) (R.faults report.new) (fault_line f)) }
     ensures flushed { (result ≡ 7 → ⊥) → (Rose (R.faults report.old) (R.faults report.new) → ⊥) → R.flushed report.new ≡ true }
 {
