@@ -62,7 +62,7 @@ exponent-split N v (H q ∷ gs) w n = ap (λ e. e + cond (value N v (w q)) (cond
 exponent-split N v (X q ∷ gs) w n = ap (λ e. e + 2) (exponent-split N v gs (with_label w q (flipped (w q))) n) ∙ add_assoc _ _ _
 exponent-split N v (Cx c t ∷ gs) w n = exponent-split N v gs (with_label w t (add_labels (w t) (w c))) n
 
-last_labels-frame : (gs : List Gate) (w : Wires) (n : ℕ) → last_labels gs w n ≡ last_labels (frame gs) w n
+pub last_labels-frame : (gs : List Gate) (w : Wires) (n : ℕ) → last_labels gs w n ≡ last_labels (frame gs) w n
 last_labels-frame [] w n = refl
 last_labels-frame (P k q ∷ gs) w n = last_labels-frame gs w n
 last_labels-frame (H q ∷ gs) w n = last_labels-frame gs (with_label w q (fresh n)) (suc n)
