@@ -13,6 +13,7 @@
 #![tactic(auto)]
 
 mod combine;
+mod gates;
 mod lines;
 mod make;
 mod pass;

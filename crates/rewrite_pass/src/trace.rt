@@ -2,11 +2,12 @@
 
 ghost use Rattle.std.specs.Prelude.{◌≡◌, ◌≤◌, ◌++◌, ◌∷◌, [], length, map, take, IfOk, OnErr, OnOk, List};
 ghost use Rattle.rewrite_pass.specs.TraceLines.{steps_text};
-ghost use Rattle.rewrite_pass.specs.TraceOf.{step_of};
+ghost use Rattle.rewrite_pass.specs.TraceOf.{AddsSums, step_of};
 ghost use Rattle.rewrite_pass.specs.Traces.{Step};
 
+use crate::gates::{are_same, gates_of};
 use crate::lines::push_step;
-use circuit_list::Gate;
+use circuit_list::{Circuit, Gate};
 use std::alloc::{AllocError, Global};
 use std::marker::Model;
 
@@ -65,6 +66,19 @@ impl Trace {
     {
         self.steps.push(step)?;
         Ok(())
+    }
+
+    /// The step from one circuit to another with the same path sum: the gates of the new one come in place of all. There is none
+    /// where these are the same. After want of memory nothing has changed.
+    pub fn push_sums(&mut self, old: &Circuit, new: &Circuit) -> Result<(), AllocError>
+        ensures told { OnOk result (AddsSums old.now.gates new.now.gates self.old self.new) }
+        ensures unchanged { OnErr result (self.new ≡ self.old) }
+    {
+        if are_same(old, new) {
+            return Ok(());
+        }
+        let gates = gates_of(self.alloc, new)?;
+        self.push(TraceStep::Sums { gates })
     }
 
     /// The steps of another trace behind these; that one has none then. After want of memory nothing has changed.
