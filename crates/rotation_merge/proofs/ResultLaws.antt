@@ -45,7 +45,7 @@ totals_of-small n gs s = let e : totals_of n gs s ≡ total s (signed (own_marks
 marks-result : (n : ℕ) (gs : List Gate) → own_marks n (merged n gs) ≡ kept_marks (own_marks n gs) (totals_of n gs)
 marks-result n gs = marks-merged gs (own_labels n) n (totals_of n gs)
 
-total-result : (n : ℕ) (gs : List Gate) (s : ℕ) → total s (signed (own_marks n (merged n gs))) % 8 ≡ total s (signed (own_marks n gs)) % 8
+pub total-result : (n : ℕ) (gs : List Gate) (s : ℕ) → total s (signed (own_marks n (merged n gs))) % 8 ≡ total s (signed (own_marks n gs)) % 8
 total-result n gs s =
     ap (λ ms. total s (signed ms) % 8) (marks-result n gs)
     ∙ ap (λ k. k % 8) (total-kept s (own_marks n gs) (totals_of n gs) (totals_of-small n gs) (λ e. totals_of-marks n gs s ∙ ap (λ k. k % 8) (total-has s (own_marks n gs) e)) ∙ totals_of-marks n gs s)
@@ -54,7 +54,7 @@ total-result n gs s =
     twice : (k : ℕ) → k % 8 % 8 ≡ k % 8
     twice k = omega arith
 
-result-fine : (n : ℕ) (gs : List Gate) → AreFine n gs → AreFine n (merged n gs)
+pub result-fine : (n : ℕ) (gs : List Gate) → AreFine n gs → AreFine n (merged n gs)
 result-fine n gs f = merged-fine gs n n (own_labels n) (totals_of n gs) (totals_of-small n gs) f
 
 -- ---- odd path parities
@@ -96,7 +96,7 @@ result-turns n gs t f e = merge_pass_law gs (merged n gs) n t (sym (frame-merged
     ∙ ap (λ k. k % 8) (sym (constant_from-marks (merged n gs) (own_labels n) n)) ∙ e ∙ ap (λ k. (k + t) % 8) (constant_from-marks gs (own_labels n) n)
     ∙ sym (ap (λ ms. (constant ms + t) % 8) (marks-start gs n x f)))
 
-all_fine : (n : ℕ) (gs : List Gate) → AreFine n gs → All (IsFine n) gs
+pub all_fine : (n : ℕ) (gs : List Gate) → AreFine n gs → All (IsFine n) gs
 all_fine n gs f = All-from_recursion (IsFine n) gs (go gs f)
   where
     go : (gs : List Gate) → AreFine n gs → AllByRecursion (IsFine n) gs

@@ -2,7 +2,8 @@
 //!
 //! In goes a circuit; out comes one with at most one phase for each set of path variables, and its turn. The contract is
 //! that of a pass (`rewrite_pass`): the circuit is the same up to w^turn, with no more T gates, CNOTs and odd path parities;
-//! it takes exactly as many T gates as it has odd path parities; and either it has fewer gates, or it is what went in.
+//! it takes exactly as many T gates as it has odd path parities; and either it has fewer gates, or it is what went in. A trace
+//! gets one step, with the new gates, where they aren't what went in.
 //!
 //! A circuit is always fine, so nothing is refused: the only error is want of memory. A CNOT and a phase take time in the words
 //! of their wires' labels (`path_parity`), and each other gate takes the time to put one in. Memory holds the labels of the
@@ -16,7 +17,8 @@ mod totals;
 ghost use Rattle.std.specs.Prelude.{◌≡◌, ◌%◌, All, IfOk};
 ghost use Rattle.circuit_list.specs.Gates.{IsFine, ops};
 ghost use Rattle.path_parity.specs.PathSum.{own_labels, phase_labels};
-ghost use Rattle.rewrite_pass.specs.Law.{IsSmallerOrSame};
+ghost use Rattle.rewrite_pass.specs.Law.{IsRewriting, IsSmallerOrSame};
+ghost use Rattle.rewrite_pass.specs.Traces.{IsSumsStep};
 ghost use Rattle.rotation_merge.specs.Merging.{constant_of, totals_of};
 ghost use Rattle.rotation_merge.specs.Sums.{AreNoted, HasTotals, IsMerged, rows};
 ghost use Rattle.unitary_model.specs.Operations.{t_count};
@@ -24,7 +26,7 @@ ghost use Rattle.unitary_model.specs.OddPaths.{odd_paths};
 
 use circuit_list::{Circuit, Passed};
 use path_parity::Walk;
-use rewrite_pass::{Pass, Shrinks};
+use rewrite_pass::{Pass, Shrinks, Trace, Traced};
 use std::alloc::{AllocError, Global};
 use totals::Totals;
 
@@ -40,13 +42,37 @@ impl Pass for MergePass {
     ghost kept = { λ _ old new. IsSmallerOrSame old new };
 
     fn run(&self, alloc: Global, body: Circuit) -> Result<Passed, AllocError> {
-        let totals = gathered(alloc, &body)?;
-        rewritten(alloc, &body, totals)
+        merged(alloc, &body)
+    }
+}
+
+impl Traced for MergePass {
+    fn run_traced(
+        &self,
+        alloc: Global,
+        body: Circuit,
+        trace: &mut Trace,
+    ) -> Result<Passed, AllocError> {
+        let passed = merged(alloc, &body)?;
+        trace.push_sums(&body, &passed.body)?;
+        Ok(passed)
     }
 }
 
 impl Shrinks for MergePass {
     ghost shrinks = { λ _ _ _ holds. holds };
+}
+
+/// What [`MergePass`] gives. It has the path sum of the circuit, so one step leads there.
+fn merged(alloc: Global, body: &Circuit) -> Result<Passed, AllocError>
+    ensures wires { IfOk result (λ p. p.body.wires ≡ body.now.wires) }
+    ensures law { IfOk result (λ p. IsRewriting body.now.wires body.now.gates p.body.gates p.turn) }
+    ensures shape { IfOk result (λ p. t_count (ops p.body.gates) ≡ odd_paths body.now.wires (ops p.body.gates)) }
+    ensures kept { IfOk result (λ p. IsSmallerOrSame body.now.gates p.body.gates) }
+    ensures sums { IfOk result (λ p. IsSumsStep body.now.wires p.body.gates body.now.gates p.body.gates p.turn) }
+{
+    let totals = gathered(alloc, body)?;
+    rewritten(alloc, body, totals)
 }
 
 /// The totals of a circuit, and the labels of its phases.

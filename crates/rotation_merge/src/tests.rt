@@ -3,7 +3,7 @@
 use crate::MergePass;
 use circuit_samples::{Kind, Random, circuit_of_text, gates_of, gates_of_text, is_turned};
 use path_parity::odd_paths;
-use rewrite_pass::Pass;
+use rewrite_pass::{Pass, Trace, Traced};
 use std::test::Fail;
 
 #[test]
@@ -31,6 +31,29 @@ fn rows_by_hand(rt: HostRuntime) -> Result<(), Fail> {
             "at {source}"
         );
         assert_eq!(rt; passed.turn, turn, "at {source}");
+    }
+    Ok(())
+}
+
+// Where the gates change there is one step, with the new ones, and else none.
+#[test]
+fn tells_one_step(rt: HostRuntime) -> Result<(), Fail> {
+    let alloc = rt.alloc();
+    let rows = [
+        ("1.0 h.0 1.0", ""),
+        ("x.0 3.0", ""),
+        ("4.0 4.0", "sums 0\n"),
+        (
+            "c01 1.1 c01 h.2 1.1 2.1",
+            "sums 5\nC 0 1\nP 1 1\nC 0 1\nH 2\nP 3 1\n",
+        ),
+    ];
+    'rows: for (source, lines) in rows {
+        let body = circuit_of_text(alloc, 3, source)?.expect(&rt, source);
+        let mut trace = Trace::start(alloc);
+        let passed = MergePass.run_traced(alloc, body, &mut trace)?;
+        assert_eq!(rt; passed.turn, 0, "at {source}");
+        assert_eq!(rt; trace.lines()?.as_slice(), lines.as_bytes(), "at {source}");
     }
     Ok(())
 }
