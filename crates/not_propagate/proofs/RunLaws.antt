@@ -2,6 +2,8 @@
 --     fits_first, none_first, begins    at first nothing is written, and all gates are left
 --     goes_on             one gate more
 --     ends, ends_x        at the end no gate is left: the law, and the shape
+--     next_gate           the gates from a place on
+--     length-flags_at     as many flags behind a gate as before it
 --     fits_on, none_more  one flag for each wire, and no X among what is written
 use Rattle.std.proofs.Common.{◌≡◌, ℕ, ◌+◌, ◌-◌, ◌≤◌, Bool, true, false, cond, List, [], ◌∷◌, ◌++◌, length, replicate, drop, refl, sym, subst, ◌∙◌, ap, arith, add-one, append_assoc, append-nil, Some, All}
 use Rattle.std.specs.Prelude.{slice_get}
@@ -37,7 +39,7 @@ begins n m gs w g f t = subst (λ out. Turned n gs (out ++ (waiting w.flags.item
     (subst (Turned n gs gs) (sym t) (Turned_refl n gs))))
 
 -- the gates from place i on
-next_gate : (gs : List Gate) (i : ℕ) (g : Gate) → slice_get gs i ≡ Some g → drop i gs ≡ g ∷ drop (i + 1) gs
+pub next_gate : (gs : List Gate) (i : ℕ) (g : Gate) → slice_get gs i ≡ Some g → drop i gs ≡ g ∷ drop (i + 1) gs
 next_gate gs i g e =
     drop-cons gs i g (slice_get_within gs i g e)
     ∙ (λ j. get_or_from_slice_get gs i g g e j ∷ drop (sym (add-one i) j) gs)
@@ -62,7 +64,7 @@ goes_on n gs i g old new fits there fine walked so_far =
     ∙ (λ j. sym walked.gates j ++ (waiting (sym walked.flags j) ++ rest))
     ) after
 
-length-flags_at : (g : Gate) (fs : List Bool) → length (flags_at g fs) ≡ length fs
+pub length-flags_at : (g : Gate) (fs : List Bool) → length (flags_at g fs) ≡ length fs
 length-flags_at (H q) fs = go (flag_of fs q)
   where
     go : (b : Bool) → length (cond b (set fs q false) fs) ≡ length fs

@@ -3,7 +3,7 @@
 //! In goes a circuit; out comes one without an X but for the last gates of wires, and its turn. The
 //! contract is that of a pass (`rewrite_pass`): the circuit is the same up to w^turn, with no more T
 //! gates, CNOTs and odd path parities; and each X is the last gate on its wire, so each wire has one
-//! at most (`specs/LastX.antt`).
+//! at most (`specs/LastX.antt`). A trace gets one step, with the new gates, where they aren't what went in.
 //!
 //! A circuit is always fine, so nothing is refused: the only error is want of memory. Time is linear
 //! in the gates, but for the logarithm that putting one in takes.
@@ -13,10 +13,13 @@
 mod tests;
 mod walk;
 
+ghost use Rattle.std.specs.Prelude.{◌≡◌, IfOk};
 ghost use Rattle.not_propagate.specs.LastX.{XLast};
+ghost use Rattle.rewrite_pass.specs.Law.{IsRewriting};
+ghost use Rattle.rewrite_pass.specs.Traces.{IsSumsStep};
 
 use circuit_list::{Circuit, Passed};
-use rewrite_pass::Pass;
+use rewrite_pass::{Pass, Trace, Traced};
 use std::alloc::{AllocError, Global};
 use walk::Walk;
 
@@ -31,10 +34,33 @@ impl Pass for NotPass {
     ghost kept = { λ _ _ _. Unit {0} };
 
     fn run(&self, alloc: Global, body: Circuit) -> Result<Passed, AllocError> {
-        let mut walk = Walk::start(alloc, body.wires(), body.len())?;
-        'gates: for i in 0..body.len() {
-            walk.step(body.gate(i))?;
-        }
-        walk.finish()
+        propagated(alloc, &body)
     }
+}
+
+impl Traced for NotPass {
+    fn run_traced(
+        &self,
+        alloc: Global,
+        body: Circuit,
+        trace: &mut Trace,
+    ) -> Result<Passed, AllocError> {
+        let passed = propagated(alloc, &body)?;
+        trace.push_sums(&body, &passed.body)?;
+        Ok(passed)
+    }
+}
+
+/// What [`NotPass`] gives. It has the path sum of the circuit, so one step leads there.
+fn propagated(alloc: Global, body: &Circuit) -> Result<Passed, AllocError>
+    ensures wires { IfOk result (λ p. p.body.wires ≡ body.now.wires) }
+    ensures law { IfOk result (λ p. IsRewriting body.now.wires body.now.gates p.body.gates p.turn) }
+    ensures shape { IfOk result (λ p. XLast p.body.gates) }
+    ensures sums { IfOk result (λ p. IsSumsStep body.now.wires p.body.gates body.now.gates p.body.gates p.turn) }
+{
+    let mut walk = Walk::start(alloc, body.wires(), body.len())?;
+    'gates: for i in 0..body.len() {
+        walk.step(body.gate(i))?;
+    }
+    walk.finish()
 }

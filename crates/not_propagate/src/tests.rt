@@ -2,7 +2,7 @@
 
 use crate::NotPass;
 use circuit_samples::{Kind, Random, circuit_of_text, gates_of, gates_of_text, is_turned};
-use rewrite_pass::Pass;
+use rewrite_pass::{Pass, Trace, Traced};
 use std::test::Fail;
 
 #[test]
@@ -30,6 +30,26 @@ fn rows_by_hand(rt: HostRuntime) -> Result<(), Fail> {
             "at {source}"
         );
         assert_eq!(rt; passed.turn, turn, "at {source}");
+    }
+    Ok(())
+}
+
+// Where the gates change there is one step, with the new ones, and else none.
+#[test]
+fn tells_one_step(rt: HostRuntime) -> Result<(), Fail> {
+    let alloc = rt.alloc();
+    let rows = [
+        ("h.0 1.0 c01", "", 0),
+        ("c01 x.0 x.1", "", 0),
+        ("x.0 x.0", "sums 0\n", 4),
+        ("x.0 3.0 c01", "sums 4\nP 5 0\nC 0 1\nX 0\nX 1\n", 7),
+    ];
+    'rows: for (source, lines, turn) in rows {
+        let body = circuit_of_text(alloc, 3, source)?.expect(&rt, source);
+        let mut trace = Trace::start(alloc);
+        let passed = NotPass.run_traced(alloc, body, &mut trace)?;
+        assert_eq!(rt; passed.turn, turn, "at {source}");
+        assert_eq!(rt; trace.lines()?.as_slice(), lines.as_bytes(), "at {source}");
     }
     Ok(())
 }

@@ -1,0 +1,51 @@
+-- The walk begins, goes on, and ends.
+use Rattle.std.proofs.Common.{◌∙◌, ap, false, replicate, sym, subst, arith}
+use Rattle.std.proofs.lemmas.Result.{IfOk-weaker}
+use Rattle.circuit_list.specs.Gates.{IsFine}
+use Rattle.rewrite_pass.specs.Law.{IsRewriting}
+use Rattle.rewrite_pass.specs.Traces.{IsSumsStep}
+use Rattle.not_propagate.specs.LastX.{XLast}
+use Rattle.not_propagate.specs.Walks.{HasFinished}
+use Rattle.not_propagate.proofs.FollowLaws.{follows_first, follows_on, follows_end}
+use Rattle.not_propagate.proofs.RunLaws.{fits_first, none_first, begins, fits_on, none_more, goes_on, ends, ends_x}
+use Rattle.not_propagate.proofs.propagated.Goals as goal
+
+pub gates-init : goal.gates-init
+gates-init c =
+    let first = c.in_ok-walk.ensures in
+    record {
+      fits = fits_first c.wires.result c.in_ok-walk.walk first.wires first.flags first.turn;
+      wires = first.wires ∙ c.wires.ensures.wires;
+      turned = begins c.args.body.now.wires c.wires.result c.args.body.now.gates c.in_ok-walk.walk first.gates first.flags first.turn;
+      none = none_first c.in_ok-walk.walk first.gates;
+      follows = follows_first c.args.body.now.wires c.args.body.now.gates c.in_ok-walk.walk first.gates (first.flags ∙ ap (λ m. replicate m false) c.wires.ensures.wires) first.turn;
+    }
+
+pub gates-preserved : goal.gates-preserved
+gates-preserved c =
+    let known = c.gates.invariant in
+    let fine = subst (λ m. IsFine m c.gate.result) (sym known.wires) c.gate.ensures.fine in
+    record {
+      fits = fits_on c.gate.result c.gates.walk c.step.new.self known.fits c.in_ok-step.ensures;
+      wires = c.in_ok-step.ensures.wires ∙ known.wires;
+      turned = goes_on c.args.body.now.wires c.args.body.now.gates c.gates.i c.gate.result c.gates.walk c.step.new.self known.fits c.gate.ensures.there fine c.in_ok-step.ensures known.turned;
+      none = none_more c.gate.result c.gates.walk c.step.new.self c.in_ok-step.ensures known.none;
+      follows = follows_on c.args.body.now.wires c.args.body.now.gates c.gates.i c.gate.result c.gates.walk c.step.new.self c.gate.ensures.there c.in_ok-step.ensures known.follows;
+    }
+
+pub returns-clause-law : goal.returns-clause-law
+returns-clause-law c =
+    IfOk-weaker c.finish.result (HasFinished c.gates.walk) (λ p. IsRewriting c.args.body.now.wires c.args.body.now.gates p.body.gates p.turn)
+    (λ p done. ends c.args.body.now.wires c.args.body.now.gates c.gates.i c.gates.walk p c.wires.ensures.fine (omega arith) c.gates.invariant.wires c.gates.invariant.turned done)
+    c.finish.ensures
+
+pub returns-clause-shape : goal.returns-clause-shape
+returns-clause-shape c = IfOk-weaker c.finish.result (HasFinished c.gates.walk) (λ p. XLast p.body.gates)
+    (λ p done. ends_x c.gates.walk p c.gates.invariant.none done)
+    c.finish.ensures
+
+pub returns-clause-sums : goal.returns-clause-sums
+returns-clause-sums c =
+    IfOk-weaker c.finish.result (HasFinished c.gates.walk) (λ p. IsSumsStep c.args.body.now.wires p.body.gates c.args.body.now.gates p.body.gates p.turn)
+    (λ p done. follows_end c.args.body.now.wires c.args.body.now.gates c.gates.i c.gates.walk p c.wires.ensures.fine (omega arith) c.gates.invariant.wires c.gates.invariant.fits done c.gates.invariant.follows)
+    c.finish.ensures
