@@ -139,6 +139,21 @@ $ qroute amplitude --from 0 --to 0
 {"code":70,"fault":"WideProgram","qubits":13,"status":3}
 ! 0 1 1 0
 
+# sixty branches are told, and X is none
+$ qroute amplitude --from 0 --to 0
+| qreg q[1]; gate d a { h a; h a; h a; h a; h a; h a; }
+| d q[0]; d q[0]; d q[0]; d q[0]; d q[0]; d q[0]; d q[0]; d q[0]; d q[0]; d q[0]; x q[0]; x q[0];
+> 1 0 0 0 0
+! 0 1 0 1
+
+# one more isn't, and that is told before the bits
+$ qroute amplitude --from 00 --to 0
+| qreg q[1]; gate d a { h a; h a; h a; h a; h a; h a; }
+| d q[0]; d q[0]; d q[0]; d q[0]; d q[0]; d q[0]; d q[0]; d q[0]; d q[0]; d q[0]; h q[0];
+= 3
+{"branches":61,"code":71,"fault":"ManyBranches","status":3}
+! 0 1 1 0
+
 $ qroute amplitude --from 0 --to 2
 | qreg q[1];
 = 2

@@ -44,7 +44,7 @@ pub fn operand<'a>(known: &Known<'a>, arg: &'a Arg) -> Option<Operand>
 pub struct NamedArgs {
     /// Whether a name stands for nothing.
     pub unknown: bool,
-    /// Whether one names no register of wires.
+    /// Whether one names something else than a register of wires.
     pub wrong: bool,
     /// Whether an index isn't below its register's size.
     pub beyond: bool,

@@ -23,8 +23,7 @@ each-preserved c =
     let i = c.each.arg-index in
     let x = c.arg-item.result in
     let before = c.each.invariant in
-    let found : c.meaning-found.result ≡ meaning K x.name = c.meaning-found.ensures ∙ ap (meaning K) c.as_bytes.ensures in
-    (
+    let found : c.meaning-found.result ≡ meaning K x.name = c.meaning-found.ensures ∙ ap (meaning K) c.as_bytes.ensures in (
       list_any_step (is_unknown K) xs i x _ _ c.each-test.true c.arg-item.is before.0 (none_by _ _ c.is_none-unknown.ensures ∙ ap is_none found),
       list_any_step (is_wrong K true) xs i x _ _ c.each-test.true c.arg-item.is before.1 (c.is_other-wrong.ensures ∙ ap (is_other true) found),
       list_any_step (is_beyond K) xs i x _ _ c.each-test.true c.arg-item.is before.2 (c.is_beyond-beyond.ensures ∙ ap (λ m. goes_beyond m x.index) found),
