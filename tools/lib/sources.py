@@ -42,7 +42,7 @@ class Function:
 def owner_of(line):
     """The type of `impl .. for T`, of `impl T`, or the name of a trait."""
     line = re.sub(r"<[^<>]*>", "", re.sub(r"<[^<>]*>", "", line))
-    found = re.search(r"\bfor (?:crate::)?([\w:]+)", line) or re.search(r"(?:impl|trait) ([\w:]+)", line)
+    found = re.search(r"\bfor (?:crate::)?([\w:]+)", line) or re.search(r"(?:impl|trait) ((?:\w+::)*\w+)", line)
     return found.group(1).split("::")[-1] if found else ""
 
 

@@ -25,7 +25,7 @@ pub trait Source {
         ensures bound { true };
 }
 
-pub trait Sink {
+pub trait Sink: Source {
 }
 
 pub trait Shelf {
