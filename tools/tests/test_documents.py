@@ -19,13 +19,13 @@ pub fn run<I: Source>(input: &mut I) -> u8
 """
 OUTSIDE_LIB = """//! Traits.
 
-pub trait Source {
+pub trait Source: Sink {
     /// Reads.
     fn read(&mut self) -> u8
         ensures bound { true };
 }
 
-pub trait Sink: Source {
+pub trait Sink {
 }
 
 pub trait Shelf {
