@@ -175,10 +175,10 @@ class EditRow:
 
     crate: str
     edit: str
-    role: str  # says, with, cut or instead
+    role: str  # says, with, cut, instead or add
     file: str
-    part: str  # a record, a function or a lemma, or the words of a file
-    name: str  # its field, or its clause, or the words instead
+    part: str  # a record, a function or a lemma, or the words of a file, or nothing
+    name: str  # its field, or its clause, or the words instead or of a file
     proved: str  # yes or no, as `tools/mutate` found it
 
     @property

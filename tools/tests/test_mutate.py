@@ -113,6 +113,21 @@ class Mutate(ToolTest):
         self.edit("says\tsrc/lib.rt\tThree\tshape\t")
         self.assertEqual(self.mutate("low"), (1, ["four: can't be made: no shape of Three"]))
 
+    def test_added(self):
+        add = "add\tproofs/four/Answers.antt\t\t-- Four.\\nreturns c = refl\\n\t"
+        answers = os.path.join(self.room, "crates/low/proofs/four/Answers.antt")
+        self.file("bin/rt", RT.replace("echo", "[ \"$(tail -n 1 proofs/four/Answers.antt)\" = 'returns c = refl' ] && echo"))
+        os.chmod(os.path.join(self.room, "bin/rt"), 0o755)
+        says = ["says\tsrc/lib.rt\ttwo\teven\t", "with\tspecs/Words.antt\tIsEven\ttwice\t", PROOF]
+        self.edit(*says)
+        self.assertEqual(self.mutate("low")[0], 1)
+        self.edit(*says, add)
+        self.assertEqual(self.mutate("low"), (0, ["four: says `even` of `two`"]))
+        self.assertFalse(os.path.exists(answers))
+        # where the file is there, it is no file that the edit alone needs
+        self.file("crates/low/proofs/four/Answers.antt", "-- Four.\n")
+        self.assertEqual(self.mutate("low"), (1, ["four: can't be made: there is a file Answers.antt already"]))
+
     def test_nothing(self):
         self.edit()
         self.assertEqual(self.mutate("low"), (1, ["four: names nothing"]))
