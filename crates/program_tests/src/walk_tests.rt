@@ -1,11 +1,15 @@
 //! `opt` against its passes one by one in their written order, and against another program's texts.
 
+ghost use Rattle.std.specs.Prelude.{◌<◌, ◌≤◌, All, IfOk};
+ghost use Rattle.gate_expand.specs.Expansion.{IsFineOp};
+ghost use Rattle.unitary_model.specs.Limits.{most_qubits};
+
 use crate::bench_tests::text_of;
 use crate::cases_tests::{HEAD, run_opt};
 use bench_program::made;
 use circuit_list::{Circuit, Gate, Passed};
 use gate_cancel::CancelPass;
-use gate_expand::expand;
+use gate_expand::{Ops, expand};
 use hadamard_reduce::HadamardPass;
 use not_propagate::NotPass;
 use phase_poly::ResynthPass;
@@ -91,12 +95,23 @@ fn circuit_text(alloc: Global, circuit: &Circuit) -> Result<String, AllocError> 
     Ok(text)
 }
 
+/// A program of 70 gates on so many wires, drawn from a start.
+fn drawn_ops(alloc: Global, start: u32, wires: u32) -> Result<Ops, AllocError>
+    requires some { 0 < wires }
+    requires limit { wires ≤ most_qubits }
+    ensures few { IfOk result (λ p. p.wires ≤ most_qubits) }
+    ensures fine { IfOk result (λ p. All (IsFineOp p.wires) p.list) }
+{
+    let ops = made(alloc, start, 70, wires)?;
+    Ok(ops)
+}
+
 /// Programs that are drawn for 2 to 5 wires: the gates and the turn are those of the passes one by one.
 #[test]
 fn keeps_the_order_of_the_passes(rt: HostRuntime) -> Result<(), Fail> {
     let alloc = rt.alloc();
     'starts: for start in 0..120u32 {
-        let program = made(alloc, start, 70, start % 4 + 2)?;
+        let program = drawn_ops(alloc, start, start % 4 + 2)?;
         let rounded = rounds(alloc, expand(alloc, &program)?)?;
         let Passed { body, turn } = settled(alloc, after(alloc, rounded, &ResynthPass)?)?;
         let got = run_opt(alloc, &rt, text_of(alloc, &program)?.as_str())?;
