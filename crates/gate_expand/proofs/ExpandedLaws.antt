@@ -18,7 +18,7 @@ use Rattle.unitary_model.specs.SameUpTo.{SameUpTo}
 use Rattle.unitary_model.proofs.AmplitudeLaws.{Turns-amplitude, Turns_sum}
 use Rattle.unitary_model.proofs.OddPathsForm.{odd_paths-events}
 use Rattle.unitary_model.proofs.PathLaws.{Covers-size}
-use Rattle.unitary_model.proofs.Steps.{events-append, t_count-append, cx_count-append}
+use Rattle.unitary_model.proofs.Steps.{events-append, t_count-append, cx_count-append, WiresBelow-append}
 use Rattle.unitary_model.proofs.TurnsLaws.{Turns_refl, Turns_before, Turns_after}
 use Rattle.circuit_list.specs.declared.Gate.{Gate}
 use Rattle.circuit_list.specs.declared.Gate.TheVariants.{H, X, P}
@@ -31,15 +31,10 @@ ops-expanded : (u : Op) (us : List Op) → ops (expanded (u ∷ us)) ≡ ops (ga
 ops-expanded u us = ap ops (flat_map-cons gates_of u us) ∙ map-append op_of (gates_of u) (expanded us)
 
 -- ---- wires
-below-append : (n : ℕ) (A B : List Op) → WiresBelow n A → WiresBelow n B → WiresBelow n (A ++ B)
-below-append n [] B f g = g
-below-append n (U a b c q ∷ A) B f g = (f.0, below-append n A B f.1 g)
-below-append n (Cx c t ∷ A) B f g = (f.0, (f.1.0, below-append n A B f.1.1 g))
-
 below_around : (n j k q : ℕ) (G : List Gate) → q < n → WiresBelow n (ops G) → WiresBelow n (ops (phase j q ++ (G ++ phase k q)))
 below_around n j k q G h g =
-    subst (WiresBelow n) (sym (map-append op_of (phase j q) (G ++ phase k q))) (below-append n (ops (phase j q)) _ (one j)
-    (subst (WiresBelow n) (sym (map-append op_of G (phase k q))) (below-append n (ops G) _ g (one k))))
+    subst (WiresBelow n) (sym (map-append op_of (phase j q) (G ++ phase k q))) (WiresBelow-append n (ops (phase j q)) _ (one j)
+    (subst (WiresBelow n) (sym (map-append op_of G (phase k q))) (WiresBelow-append n (ops G) _ g (one k))))
   where
     one : (m : ℕ) → WiresBelow n (ops (phase m q))
     one m = go (m % 8 == 0)
@@ -64,7 +59,7 @@ WiresBelow-gates n (U a b c q) h = go (a == 0) (a == 2) (a == 4) (a == 6)
 
 below_expanded : (n : ℕ) (us : List Op) → AllByRecursion (IsFineOp n) us → WiresBelow n (ops (expanded us))
 below_expanded n [] h = tt
-below_expanded n (u ∷ us) h = subst (WiresBelow n) (sym (ops-expanded u us)) (below-append n (ops (gates_of u)) _ (WiresBelow-gates n u h.0) (below_expanded n us h.1))
+below_expanded n (u ∷ us) h = subst (WiresBelow n) (sym (ops-expanded u us)) (WiresBelow-append n (ops (gates_of u)) _ (WiresBelow-gates n u h.0) (below_expanded n us h.1))
 
 below_source : (n : ℕ) (us : List Op) → AllByRecursion (IsFineOp n) us → WiresBelow n us
 below_source n [] h = tt

@@ -1,7 +1,6 @@
 -- Circuits that differ in their P alone.
 --     marks gs w n            each P with its label;  frame gs: the circuit without its P;  pcount gs: their number
 --     phase_sum N v ms        what the P add to the exponent
---     turn_same               turns that are alike modulo 8
 --     start n x               the first n wires' own labels; each wire from n on has its bit in its label
 --     start_low, start_bits   these labels are low, and their values are x
 --     merged_law              the same frame, and P that add the same, up to a turn
@@ -15,7 +14,7 @@ use Rattle.circuit_list.specs.Gates.{ops}
 use Rattle.unitary_model.specs.Ring.{Ring, plus, turn, double}
 use Rattle.unitary_model.specs.Acts.{Bits, applied, Turns}
 use Rattle.unitary_model.specs.Operations.{weight}
-use Rattle.unitary_model.proofs.RingLaws.{turn_wraps, double-plus, double-turn, double-double}
+use Rattle.unitary_model.proofs.RingLaws.{turn_same, double-plus, double-turn, double-double}
 use Rattle.unitary_model.proofs.GateActs.{skew}
 use Rattle.path_parity.specs.PathSum.{PathLabel, label, xor, odd_over, value, Wires, with_label, add_labels, flipped, fresh, last_labels, exponent}
 use Rattle.path_parity.specs.PathForm.{hcount, over, norm}
@@ -92,23 +91,6 @@ norm-frame (P k q ∷ gs) r = ap (double 1) (norm-frame gs r)
 norm-frame (H q ∷ gs) r = ap skew (norm-frame gs r) ∙ sym (double-skew (pcount gs) (norm (frame gs) r))
 norm-frame (X q ∷ gs) r = ap (double 1) (norm-frame gs r) ∙ double-double 1 (pcount gs) (norm (frame gs) r) ∙ ap (λ m. double m (norm (frame gs) r)) (add_comm 1 (pcount gs)) ∙ sym (double-double (pcount gs) 1 (norm (frame gs) r))
 norm-frame (Cx c t ∷ gs) r = norm-frame gs r
-
--- turns that are alike modulo 8
-turns_of : (q k : ℕ) (v : Ring) → turn (k + q * 8) v ≡ turn k v
-turns_of zero k v = ap (λ m. turn m v) (none k)
-  where
-    none : (k : ℕ) → k + 0 * 8 ≡ k
-    none k = omega arith
-turns_of (suc q) k v = ap (λ m. turn m v) (more q k) ∙ turn_wraps (k + q * 8) v ∙ turns_of q k v
-  where
-    more : (q k : ℕ) → k + suc q * 8 ≡ k + q * 8 + 8
-    more q k = omega arith
-
-pub turn_same : (a b : ℕ) (v : Ring) → a % 8 ≡ b % 8 → turn a v ≡ turn b v
-turn_same a b v h = ap (λ m. turn m v) (parts a) ∙ turns_of (a / 8) (a % 8) v ∙ ap (λ m. turn m v) h ∙ sym (turns_of (b / 8) (b % 8) v) ∙ sym (ap (λ m. turn m v) (parts b))
-  where
-    parts : (a : ℕ) → a ≡ a % 8 + a / 8 * 8
-    parts a = omega arith
 
 -- the wires' own labels; from n on a wire's bit stands in its label
 unfoldable pub start : ℕ → Bits → Wires

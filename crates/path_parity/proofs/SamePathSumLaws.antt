@@ -21,13 +21,13 @@ use Rattle.unitary_model.specs.SameUpTo.{SameUpTo}
 use Rattle.unitary_model.specs.Acts.{Bits, applied}
 use Rattle.unitary_model.proofs.AmplitudeLaws.{front, amplitude-applied}
 use Rattle.unitary_model.proofs.PlacementLaws.{front-same}
-use Rattle.unitary_model.proofs.RingLaws.{double-turn, double-double, turn-turn, turn-plus}
+use Rattle.unitary_model.proofs.RingLaws.{turn_same, double-turn, double-double, turn-turn, turn-plus}
 use Rattle.path_parity.specs.PathSum.{xor, odd_over, value, Wires, with_label, add_labels, flipped, fresh, own_labels}
 use Rattle.path_parity.specs.PathForm.{hcount}
 use Rattle.path_parity.specs.PathAmplitude.{x_and_p_count, skewed}
 use Rattle.path_parity.specs.NamedSums.{Seen, unseen, seen_more, next_variable, named_last, hadamards, terms, constant, constant_of, SamePathSum}
 use Rattle.path_parity.proofs.PathSumLaws.{bits_of, Low, odd_over_own}
-use Rattle.path_parity.proofs.MergeLaws.{start, start_low, start_bits, turn_same}
+use Rattle.path_parity.proofs.MergeLaws.{start, start_low, start_bits}
 use Rattle.path_parity.proofs.AmplitudeLaws.{norm-skewed, start-own_labels}
 use Rattle.path_parity.proofs.Totals.{sum_on, by_totals}
 use Rattle.path_parity.proofs.NamedLaws.{has, Once, over_list, list-hom, Untouched, AllBelow, named_exponent, collected, named_sum, named_law}

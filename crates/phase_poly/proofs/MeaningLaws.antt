@@ -16,11 +16,11 @@ use Rattle.unitary_model.specs.Operations.{weight, WiresBelow}
 use Rattle.unitary_model.specs.Ring.{Ring, nought, unit, turn, double}
 use Rattle.unitary_model.proofs.AmplitudeLaws.{front, amplitude-applied}
 use Rattle.unitary_model.proofs.PlacementLaws.{front-identity, front-same, same_bits-refl, same_bits-eq}
-use Rattle.unitary_model.proofs.RingLaws.{turn-nought, double-nought}
+use Rattle.unitary_model.proofs.RingLaws.{turn_same, turn-nought, double-nought}
 use Rattle.path_parity.specs.PathSum.{xor, odd_over, last_labels, exponent}
 use Rattle.path_parity.proofs.PathSumLaws.{bits_of, odd_over-xor, odd_over_own, xor_false}
 use Rattle.path_parity.proofs.Totals.{sum_on, by_totals}
-use Rattle.path_parity.proofs.MergeLaws.{marks, start, turn_same, odd_over_none}
+use Rattle.path_parity.proofs.MergeLaws.{marks, start, odd_over_none}
 use Rattle.path_parity.proofs.MergeSums.{signed, phase_sum-signed}
 use Rattle.path_parity.proofs.LayerLaws.{applied-flat}
 use Rattle.gf2_linear.specs.Matrices.{identity_rows, added, run}

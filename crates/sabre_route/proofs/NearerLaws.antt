@@ -17,11 +17,12 @@ use Rattle.coupling_map.specs.Coupling.{Coupling, cost, dist}
 use Rattle.coupling_map.specs.Walks.{is_near}
 use Rattle.unitary_model.specs.Limits.{most_qubits}
 use Rattle.unitary_model.specs.Placement.{exchanged}
+use Rattle.unitary_model.proofs.PlacementLaws.{exchanged-below}
 use Rattle.sabre_route.specs.declared.best.Choice.{Choice}
 use Rattle.sabre_route.specs.Search.{most_extended, IsNotAbove}
 use Rattle.sabre_route.specs.Scores.{ends_on, score_on, total, AreWithin, HasTried, IsMetric, most_distance}
 use Rattle.sabre_route.proofs.DistanceLaws.{near-symmetric}
-use Rattle.sabre_route.proofs.ScoreLaws.{exchanged-below, exchanged-from, exchanged-off, exchanged-to, not_above-trans, product-le, total-comm, total-short}
+use Rattle.sabre_route.proofs.ScoreLaws.{exchanged-from, exchanged-off, exchanged-to, not_above-trans, product-le, total-comm, total-short}
 
 -- ---- a step is as much as the pair costs
 at-same : (x a c : ℕ) → x ≡ a → ◌≡◌ {A = ℕ} (cond (nat_eq x a) c 0) c

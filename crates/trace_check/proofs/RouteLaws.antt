@@ -1,9 +1,7 @@
 -- What the lines behind `place` keep.
---     placement-exchanged         a placement on which two qubits are exchanged
 --     first-moved                 a gate that is first on its wires comes to the front
 --     Underway e s                what is kept from `place` on
 --     placed_underway, emit_underway, back_underway, swap_underway        line by line
---     Realises_back               a realisation of a list of the same unitary
 --     end_realises                what `end` says
 use Rattle.std.proofs.Common.{◌≡◌, ◌≢◌, ℕ, zero, suc, ◌+◌, ◌-◌, ◌%◌, ◌<◌, ◌≤◌, false, cond, List, [], ◌∷◌, ◌++◌, Some, map, nat_eq, slice_get, slice_index, take, refl, sym, ◌∙◌, ap, subst, arith, append-nil, append_assoc}
 use Rattle.std.specs.List.{AllByRecursion, remove}
@@ -15,7 +13,6 @@ use Rattle.circuit_list.specs.declared.Gate.TheVariants.{H, X, P, Cx}
 use Rattle.circuit_list.specs.Gates.{IsFine, first_wire, second_wire, is_on, op_of, ops}
 use Rattle.circuit_list.specs.Slots.{NoneBefore}
 use Rattle.gate_expand.specs.Expansion.{expanded, turn_of}
-use Rattle.path_parity.proofs.MergeLaws.{turn_same}
 use Rattle.unitary_model.specs.declared.Op.{Op}
 use Rattle.unitary_model.specs.declared.Op.TheVariants.{U, Cx as OpCx}
 use Rattle.unitary_model.specs.Acts.{Turns, place}
@@ -27,56 +24,18 @@ use Rattle.unitary_model.specs.Realises.{Realises}
 use Rattle.unitary_model.specs.Ring.{Ring, nought, unit, plus, turn1, turn, double}
 use Rattle.unitary_model.specs.SameUpTo.{SameUpTo}
 use Rattle.unitary_model.proofs.HadamardWindows.{had}
-use Rattle.unitary_model.proofs.PlacementLaws.{length-moved}
+use Rattle.unitary_model.proofs.PlacementLaws.{length-moved, placement-exchanged}
 use Rattle.unitary_model.proofs.ReachedLaws.{Reached-start, Reached-more, Reached-swapped, Reached-mod, Reached-source}
-use Rattle.unitary_model.proofs.RealisesLaws.{realises_by, Realises_same, Realises_chain}
-use Rattle.unitary_model.proofs.RingLaws.{double-swap, double-turn, double-nought, double_cancel, turn-turn, turn-nought}
+use Rattle.unitary_model.proofs.RealisesLaws.{realises_by, Realises_same, Realises_chain, Realises_back}
+use Rattle.unitary_model.proofs.RingLaws.{turn_same, double-swap, double-turn, double-nought, double_cancel, turn-turn, turn-nought}
 use Rattle.unitary_model.proofs.Slide.{Turns_slide_back}
 use Rattle.unitary_model.proofs.TurnsLaws.{Turns_refl, Turns_trans, Turns_inside}
 use Rattle.unitary_model.proofs.Windows.{Agree, in_place}
+use Rattle.unitary_model.proofs.Steps.{WiresBelow-append}
 use Rattle.rewrite_pass.proofs.GateSteps.{AllOff, OffGate, off_op}
 use Rattle.rewrite_pass.proofs.ListLaws.{all_remove}
 use Rattle.rewrite_pass.proofs.RewritingLaws.{ops_joined}
 use Rattle.trace_check.specs.Proves.{Claim, Placed, on_qubits, turned_cx, swap_cx, turn_cx, IsFirst}
-
--- ---- placements
-exchanged-twice : (a b j : ℕ) → exchanged a b (exchanged a b j) ≡ j
-unfolding exchanged
-exchanged-twice a b j = grind (arith, nat_tests)
-
-exchanged-below : (n a b j : ℕ) → a < n → b < n → j < n → exchanged a b j < n
-unfolding exchanged
-exchanged-below n a b j ha hb hj = grind (arith, nat_tests)
-
-exchanged-same : (a b i j : ℕ) → nat_eq (exchanged a b i) (exchanged a b j) ≡ nat_eq i j
-unfolding exchanged
-exchanged-same a b i j = grind (arith, nat_tests)
-
-position-exchanged : (a b j : ℕ) (q : List ℕ) → position_of (exchanged a b j) (map (exchanged a b) q) ≡ position_of j q
-position-exchanged a b j [] = refl
-position-exchanged a b j (i ∷ q) = λ z. cond (exchanged-same a b i j z) 0 (suc (position-exchanged a b j q z))
-
-pub placement-exchanged : (n a b : ℕ) (q : List ℕ) → a < n → b < n → IsPlacement n q → IsPlacement n (map (exchanged a b) q)
-placement-exchanged n a b q ha hb h = record {
-  long = length-map q (exchanged a b) ∙ h.long;
-  within = λ i lt. subst (λ k. k < n) (sym (at i lt)) (exchanged-below n a b (slice_index q i) ha hb (h.within i lt));
-  once = λ i lt. ap (λ k. position_of k (map (exchanged a b) q)) (at i lt) ∙ position-exchanged a b (slice_index q i) q ∙ h.once i lt;
-  each = λ j lt. subst (λ k. k < n) (sym (where_is j)) (h.each (exchanged a b j) (below j lt));
-  there = λ j lt.
-      ap (slice_index (map (exchanged a b) q)) (where_is j)
-      ∙ at (position_of (exchanged a b j) q) (h.each (exchanged a b j) (below j lt))
-      ∙ ap (exchanged a b) (h.there (exchanged a b j) (below j lt))
-      ∙ exchanged-twice a b j;
-}
-  where
-    at : (i : ℕ) → i < n → slice_index (map (exchanged a b) q) i ≡ exchanged a b (slice_index q i)
-    at i lt = get_or-map (exchanged a b) q i 0 0 (omega (arith, lt, h.long))
-
-    below : (j : ℕ) → j < n → exchanged a b j < n
-    below j lt = exchanged-below n a b j ha hb lt
-
-    where_is : (j : ℕ) → position_of j (map (exchanged a b) q) ≡ position_of (exchanged a b j) q
-    where_is j = ap (λ k. position_of k (map (exchanged a b) q)) (sym (exchanged-twice a b j)) ∙ position-exchanged a b (exchanged a b j) q
 
 -- ---- a gate that is first on its wires
 off_one : (g x : Gate) → is_on (first_wire g) x ≡ false → is_on (second_wire g) x ≡ false → OffGate g (x ∷ [])
@@ -135,11 +94,6 @@ wires_below n (X q ∷ gs) f = (f.0, wires_below n gs f.1)
 wires_below n (P k q ∷ gs) f = (f.0.0, wires_below n gs f.1)
 wires_below n (Cx c t ∷ gs) f = (f.0.0, (f.0.1.0, wires_below n gs f.1))
 
-below-append : (n : ℕ) (us vs : List Op) → WiresBelow n us → WiresBelow n vs → WiresBelow n (us ++ vs)
-below-append n [] vs h g = g
-below-append n (U a b c q ∷ us) vs h g = (h.0, below-append n us vs h.1 g)
-below-append n (OpCx c t ∷ us) vs h g = (h.0, (h.1.0, below-append n us vs h.1.1 g))
-
 more_wires : (n m : ℕ) (g : Gate) → n ≤ m → IsFine n g → WiresBelow m (op_of g ∷ [])
 more_wires n m (H q) le f = (omega (arith, le, f), tt)
 more_wires n m (X q) le f = (omega (arith, le, f), tt)
@@ -197,7 +151,7 @@ gate_underway e s i g vs l first lt wires window u =
       fits = u.fits;
       starts = u.starts;
       placed = u.placed;
-      within = subst (WiresBelow e.qubits) shape (below-append e.qubits (ops s.written) (ops vs) u.within wires);
+      within = subst (WiresBelow e.qubits) shape (WiresBelow-append e.qubits (ops s.written) (ops vs) u.within wires);
       reached = subst (λ (us : List Op). Reached e.qubits s.first (u.done ++ o ∷ []) us s.now ((u.k + l) % 8)) shape
           (Reached-mod e.qubits s.first (u.done ++ o ∷ []) (ops s.written ++ ops vs) s.now (u.k + l) (omega (arith, u.k_below, lt))
           (Reached-more e.qubits s.first u.done (ops s.written) s.now u.k o (ops vs) l u.reached (more_wires e.wires e.qubits g u.fits f) window));
@@ -261,7 +215,7 @@ exchange_underway e s a b vs l ha hb ne lt wires window u =
       fits = u.fits;
       starts = u.starts;
       placed = placement-exchanged e.qubits a b s.now ha hb u.placed;
-      within = subst (WiresBelow e.qubits) shape (below-append e.qubits (ops s.written) (ops vs) u.within wires);
+      within = subst (WiresBelow e.qubits) shape (WiresBelow-append e.qubits (ops s.written) (ops vs) u.within wires);
       reached = subst (λ (us : List Op). Reached e.qubits s.first u.done us q ((u.k + l) % 8)) shape
           (Reached-mod e.qubits s.first u.done (ops s.written ++ ops vs) q (u.k + l) (omega (arith, u.k_below, lt))
           (Reached-swapped e.qubits s.first u.done (ops s.written) s.now u.k a b (ops vs) l u.reached u.placed.long ha hb ne window));
@@ -279,43 +233,6 @@ pub turn_underway : (e : Claim) (s : Placed) (a b : ℕ) → a < e.qubits → b 
     Underway e (record s { now = map (exchanged a b) s.now; written = s.written ++ turn_cx a b; turn = (s.turn + 4) % 8 })
 turn_underway e s a b ha hb ne u = exchange_underway e s a b (turn_cx a b) 4 ha hb ne (omega arith)
     (ha, (hb, (hb, (ha, (ha, (hb, (hb, (ha, (ha, (hb, tt)))))))))) (turned_swap a b ne) u
-
--- ---- a list of the same unitary in the place of what realises
-turn_cancel : (r : ℕ) (v u : Ring) → r < 8 → turn r v ≡ turn r u → v ≡ u
-turn_cancel r v u lt e = back v ∙ ap (turn (8 - r)) e ∙ sym (back u)
-  where
-    whole : (r : ℕ) → r < 8 → 8 - r + r ≡ 8
-    whole r lt = omega arith
-
-    back : (v : Ring) → v ≡ turn (8 - r) (turn r v)
-    back v = sym (turn_same 8 0 v refl) ∙ ap (λ k. turn k v) (sym (whole r lt)) ∙ sym (turn-turn (8 - r) r v)
-
-pub Realises_back : (S Q R : List Op) (n size : ℕ) (p q : List ℕ) (i r : ℕ) → r < 8 → Realises S n Q size p q i → SameUpTo r size R Q → Realises S n R size p q ((i + (8 - r)) % 8)
-Realises_back S Q R n size p q i r lt h b = record {
-  fits = h.fits;
-  below = omega arith;
-  starts = h.starts;
-  ends = h.ends;
-  agree = λ x y ex ey d.
-      let s : Ring = amplitude S (take n x) (take n y) in
-      let c : Ring = amplitude Q (moved size p x) (moved size q y) in
-      let a : Ring = amplitude R (moved size p x) (moved size q y) in
-      let m : ℕ = (i + (8 - r)) % 8 in
-      let back : double (weight R) c ≡ turn r (double (weight Q) a) = b.law (moved size p x) (moved size q y) (length-moved size p x) (length-moved size q y) in
-      double_cancel (weight Q) _ _ (turn_cancel r _ _ lt (
-      ap (turn r) (double-swap (weight Q) (weight S) a) ∙ sym (double-turn (weight S) r (double (weight Q) a)) ∙ ap (double (weight S)) (sym back) ∙ double-swap (weight S) (weight R) c
-      ∙ ap (double (weight R)) (h.agree x y ex ey d) ∙ double-turn (weight R) i (double (weight Q) s) ∙ ap (turn i) (double-swap (weight R) (weight Q) s)
-      ∙ turn_same i (r + m) (double (weight Q) (double (weight R) s)) (around i r lt) ∙ sym (turn-turn r m (double (weight Q) (double (weight R) s)))
-      ∙ ap (turn r) (sym (double-turn (weight Q) m (double (weight R) s)))));
-  elsewhere = λ x y ex ey d.
-      let c : Ring = amplitude Q (moved size p x) (moved size q y) in
-      let a : Ring = amplitude R (moved size p x) (moved size q y) in
-      let back : double (weight R) c ≡ turn r (double (weight Q) a) = b.law (moved size p x) (moved size q y) (length-moved size p x) (length-moved size q y) in
-      double_cancel (weight Q) _ _ (turn_cancel r _ _ lt (sym back ∙ ap (double (weight R)) (h.elsewhere x y ex ey d) ∙ double-nought (weight R) ∙ sym (turn-nought r) ∙ ap (turn r) (sym (double-nought (weight Q)))));
-}
-  where
-    around : (i r : ℕ) → r < 8 → i % 8 ≡ (r + (i + (8 - r)) % 8) % 8
-    around i r lt = omega arith
 
 -- ---- the end
 pub end_realises : (e : Claim) (s : Placed) → Underway e s → s.rest ≡ [] → s.written ≡ expanded e.target → SameUpTo (turn_of e.target) e.qubits e.target (ops (expanded e.target)) →

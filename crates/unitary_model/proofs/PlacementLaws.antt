@@ -15,7 +15,7 @@ use Rattle.std.proofs.lemmas.Bool.{cases_lt}
 use Rattle.std.proofs.lemmas.Bool.Decides.{nat_tests}
 use Rattle.unitary_model.specs.Acts.{Bits}
 use Rattle.unitary_model.specs.Amplitude.{bit_of, same_bits}
-use Rattle.unitary_model.specs.Placement.{position_of, IsPlacement, composed, identity, moved}
+use Rattle.unitary_model.specs.Placement.{exchanged, position_of, IsPlacement, composed, identity, moved}
 use Rattle.std.proofs.lemmas.List.FromFn.{length-range_with_len, get_or-range_with_len, length-map-range_with_len}
 use Rattle.std.proofs.lemmas.List.{get_or-map, length-map}
 use Rattle.unitary_model.proofs.AmplitudeLaws.{front, front_bit, front_of}
@@ -278,3 +278,42 @@ moved-composed size p q hp hq x =
     sym (front-identity size f)
     ∙ front-same size f g (λ j lt. ap (bit_of x) (position_of-composed size p q hp hq j lt) ∙ sym (bit_of-moved size p x (position_of j q) (hq.each j lt)))
     ∙ front-identity size g
+
+-- ---- two qubits exchanged
+pub exchanged-twice : (a b j : ℕ) → exchanged a b (exchanged a b j) ≡ j
+unfolding exchanged
+exchanged-twice a b j = grind (arith, nat_tests)
+
+pub exchanged-below : (n a b j : ℕ) → a < n → b < n → j < n → exchanged a b j < n
+unfolding exchanged
+exchanged-below n a b j ha hb hj = grind (arith, nat_tests)
+
+exchanged-same : (a b i j : ℕ) → nat_eq (exchanged a b i) (exchanged a b j) ≡ nat_eq i j
+unfolding exchanged
+exchanged-same a b i j = grind (arith, nat_tests)
+
+position-exchanged : (a b j : ℕ) (q : List ℕ) → position_of (exchanged a b j) (map (exchanged a b) q) ≡ position_of j q
+position-exchanged a b j [] = refl
+position-exchanged a b j (i ∷ q) = λ z. cond (exchanged-same a b i j z) 0 (suc (position-exchanged a b j q z))
+
+pub placement-exchanged : (n a b : ℕ) (q : List ℕ) → a < n → b < n → IsPlacement n q → IsPlacement n (map (exchanged a b) q)
+placement-exchanged n a b q ha hb h = record {
+  long = length-map q (exchanged a b) ∙ h.long;
+  within = λ i lt. subst (λ k. k < n) (sym (at i lt)) (exchanged-below n a b (slice_index q i) ha hb (h.within i lt));
+  once = λ i lt. ap (λ k. position_of k (map (exchanged a b) q)) (at i lt) ∙ position-exchanged a b (slice_index q i) q ∙ h.once i lt;
+  each = λ j lt. subst (λ k. k < n) (sym (where_is j)) (h.each (exchanged a b j) (below j lt));
+  there = λ j lt.
+      ap (slice_index (map (exchanged a b) q)) (where_is j)
+      ∙ at (position_of (exchanged a b j) q) (h.each (exchanged a b j) (below j lt))
+      ∙ ap (exchanged a b) (h.there (exchanged a b j) (below j lt))
+      ∙ exchanged-twice a b j;
+}
+  where
+    at : (i : ℕ) → i < n → slice_index (map (exchanged a b) q) i ≡ exchanged a b (slice_index q i)
+    at i lt = get_or-map (exchanged a b) q i 0 0 (omega (arith, lt, h.long))
+
+    below : (j : ℕ) → j < n → exchanged a b j < n
+    below j lt = exchanged-below n a b j ha hb lt
+
+    where_is : (j : ℕ) → position_of j (map (exchanged a b) q) ≡ position_of (exchanged a b j) q
+    where_is j = ap (λ k. position_of k (map (exchanged a b) q)) (sym (exchanged-twice a b j)) ∙ position-exchanged a b (exchanged a b j) q

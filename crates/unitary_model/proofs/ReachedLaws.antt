@@ -18,16 +18,12 @@ use Rattle.unitary_model.specs.Placement.{exchanged, IsPlacement}
 use Rattle.unitary_model.specs.Realised.{Placing, PlacedBy, carried, Realised}
 use Rattle.unitary_model.proofs.RingLaws.{double-swap, double-turn, double_cancel}
 use Rattle.unitary_model.proofs.AmplitudeLaws.{turn_mod}
-use Rattle.unitary_model.proofs.PlacementLaws.{placing, from_low, from_high}
+use Rattle.unitary_model.proofs.PlacementLaws.{exchanged-twice, placing, from_low, from_high}
 use Rattle.unitary_model.proofs.Slide.{bit_put, bit_off}
 use Rattle.unitary_model.proofs.RealisedLaws.{Realised_then, Realised_emit, Realised_turns, applied_cx, flipped_by}
 use Rattle.unitary_model.specs.Reached.{Reached}
 
 -- ---- an exchange of two qubits
-exchanged-twice : (a b j : ℕ) → exchanged a b (exchanged a b j) ≡ j
-unfolding exchanged
-exchanged-twice a b j = grind (arith, nat_tests)
-
 pub exchanged-comm : (a b : ℕ) → exchanged a b ≡ exchanged b a
 unfolding exchanged
 exchanged-comm a b = fun_ext (λ j. at a b j)

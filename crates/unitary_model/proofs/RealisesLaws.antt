@@ -9,7 +9,8 @@
 --     Realises_chain          what realises a realisation realises the first list
 --     Realises_composed       the same where wires have moved: the placements compose
 --     Realises_joined         joined lists
-use Rattle.std.proofs.Common.{◌≡◌, ℕ, zero, suc, ◌+◌, ◌%◌, ◌<◌, ◌≤◌, Bool, true, false, cond, List, [], ◌∷◌, ◌++◌, length, take, drop, refl, sym, ◌∙◌, ap, arith}
+--     Realises_back           a list of the same unitary in the place of what realises
+use Rattle.std.proofs.Common.{◌≡◌, ℕ, zero, suc, ◌+◌, ◌-◌, ◌%◌, ◌<◌, ◌≤◌, Bool, true, false, cond, List, [], ◌∷◌, ◌++◌, length, take, drop, refl, sym, ◌∙◌, ap, arith}
 use Rattle.std.proofs.Math.Path.{fun_ext}
 use Rattle.std.proofs.Math.Seq.{take-length, take-append_seam, drop-append_seam}
 use Rattle.std.proofs.Math.ListN.{drop_of_length-le}
@@ -26,7 +27,7 @@ use Rattle.unitary_model.specs.SameUpTo.{SameUpTo}
 use Rattle.unitary_model.specs.Placement.{IsPlacement, composed, identity, moved}
 use Rattle.unitary_model.specs.Realises.{Realises}
 use Rattle.unitary_model.specs.Realised.{Placing, PlacedBy, Realised}
-use Rattle.unitary_model.proofs.RingLaws.{turn-turn, turn-plus, turn-nought, turn-mul, double-plus, double-turn, double-double, double-swap, double-nought, double-mul, double_cancel}
+use Rattle.unitary_model.proofs.RingLaws.{turn_cancel, turn_same, turn-turn, turn-plus, turn-nought, turn-mul, double-plus, double-turn, double-double, double-swap, double-nought, double-mul, double_cancel}
 use Rattle.unitary_model.proofs.ActLaws.{act-append, act-double, act-turn, act-nought}
 use Rattle.unitary_model.proofs.TurnsLaws.{weight-append}
 use Rattle.unitary_model.proofs.AmplitudeForm.{listed, amplitude_form, amplitude-act}
@@ -288,3 +289,31 @@ Realises_joined A B R T n size p q r i j a b = from_lists (A ++ B) (R ++ T) n si
         let front : take n (z ++ drop n x) ≡ z = ap (λ k. take k (z ++ drop n x)) m ∙ take-append_seam z (drop n x) in
         (to_lists B T n size q r j b).law f (z ++ drop n x) (length-rest n size z x a.fits ex e)
         ∙ (λ k. turn j (double (weight T) (listed B (λ u. f (moved size r (u ++ rest k))) (front k))))
+
+-- ---- a list of the same unitary in the place of what realises
+pub Realises_back : (S Q R : List Op) (n size : ℕ) (p q : List ℕ) (i r : ℕ) → r < 8 → Realises S n Q size p q i → SameUpTo r size R Q → Realises S n R size p q ((i + (8 - r)) % 8)
+Realises_back S Q R n size p q i r lt h b = record {
+  fits = h.fits;
+  below = omega arith;
+  starts = h.starts;
+  ends = h.ends;
+  agree = λ x y ex ey d.
+      let s : Ring = amplitude S (take n x) (take n y) in
+      let c : Ring = amplitude Q (moved size p x) (moved size q y) in
+      let a : Ring = amplitude R (moved size p x) (moved size q y) in
+      let m : ℕ = (i + (8 - r)) % 8 in
+      let back : double (weight R) c ≡ turn r (double (weight Q) a) = b.law (moved size p x) (moved size q y) (length-moved size p x) (length-moved size q y) in
+      double_cancel (weight Q) _ _ (turn_cancel r _ _ (
+      ap (turn r) (double-swap (weight Q) (weight S) a) ∙ sym (double-turn (weight S) r (double (weight Q) a)) ∙ ap (double (weight S)) (sym back) ∙ double-swap (weight S) (weight R) c
+      ∙ ap (double (weight R)) (h.agree x y ex ey d) ∙ double-turn (weight R) i (double (weight Q) s) ∙ ap (turn i) (double-swap (weight R) (weight Q) s)
+      ∙ turn_same i (r + m) (double (weight Q) (double (weight R) s)) (around i r lt) ∙ sym (turn-turn r m (double (weight Q) (double (weight R) s)))
+      ∙ ap (turn r) (sym (double-turn (weight Q) m (double (weight R) s)))));
+  elsewhere = λ x y ex ey d.
+      let c : Ring = amplitude Q (moved size p x) (moved size q y) in
+      let a : Ring = amplitude R (moved size p x) (moved size q y) in
+      let back : double (weight R) c ≡ turn r (double (weight Q) a) = b.law (moved size p x) (moved size q y) (length-moved size p x) (length-moved size q y) in
+      double_cancel (weight Q) _ _ (turn_cancel r _ _ (sym back ∙ ap (double (weight R)) (h.elsewhere x y ex ey d) ∙ double-nought (weight R) ∙ sym (turn-nought r) ∙ ap (turn r) (sym (double-nought (weight Q)))));
+}
+  where
+    around : (i r : ℕ) → r < 8 → i % 8 ≡ (r + (i + (8 - r)) % 8) % 8
+    around i r lt = omega arith

@@ -2,10 +2,11 @@
 --     ring_path               values are equal where their parts are
 --     plus_assoc, plus_comm, nought-plus, plus-nought, swap_inner     sums
 --     plus-turn4, turn8, turn-plus, turn-turn, turn_wraps, turn_cancel     turns; w^4 is -1 and w^8 is 1
+--     turn_same       turns that are alike modulo 8
 --     double-plus, double-turn, double-double, double-swap, double_cancel  doublings
 --     turn-nought, double-nought      nothing turned and nothing doubled
 --     mul-plus, mul-turn1, nought-mul, unit-mul, double-mul, turn-mul      products, in their first factor
-use Rattle.std.proofs.Common.{◌≡◌, ℕ, zero, suc, ◌+◌, refl, sym, subst, ◌∙◌, ap, arith, zero-add, suc-add}
+use Rattle.std.proofs.Common.{◌≡◌, ℕ, zero, suc, ◌+◌, ◌*◌, ◌/◌, ◌%◌, refl, sym, subst, ◌∙◌, ap, arith, zero-add, suc-add}
 use Rattle.std.proofs.Math.Nat.{add_comm}
 use Rattle.std.proofs.lemmas.Int.{ints}
 use Rattle.std.proofs.Math.IntN.{ℤ, pos, ◌+ℤ◌, ◌*ℤ◌, ℤ_ind, one, pred_ℤ, ◌-ℤ◌, suc_ℤ-+ℤ, pred_ℤ-+ℤ, +ℤ_one, -ℤ_one, +ℤ_invl, zero-*ℤ, *ℤ-one, *ℤ_comm, suc_ℤ, suc_ℤ-*ℤ, pred_ℤ-*ℤ, neg_ℤ, +ℤ_assoc, +ℤ_comm, +ℤ_idl, +ℤ_idr, +ℤ_invr, neg_ℤ-+ℤ, neg_ℤ-neg_ℤ}
@@ -58,6 +59,23 @@ turn_cancel (suc k) v u h = turn_cancel k v u (sym (turn8 (turn k v)) ∙ ap (tu
 
 pub turn_wraps : (k : ℕ) (v : Ring) → turn (k + 8) v ≡ turn k v
 turn_wraps k v = sym (turn-turn k 8 v) ∙ ap (turn k) (turn8 v)
+
+-- turns that are alike modulo 8
+turns_of : (q k : ℕ) (v : Ring) → turn (k + q * 8) v ≡ turn k v
+turns_of zero k v = ap (λ m. turn m v) (none k)
+  where
+    none : (k : ℕ) → k + 0 * 8 ≡ k
+    none k = omega arith
+turns_of (suc q) k v = ap (λ m. turn m v) (more q k) ∙ turn_wraps (k + q * 8) v ∙ turns_of q k v
+  where
+    more : (q k : ℕ) → k + suc q * 8 ≡ k + q * 8 + 8
+    more q k = omega arith
+
+pub turn_same : (a b : ℕ) (v : Ring) → a % 8 ≡ b % 8 → turn a v ≡ turn b v
+turn_same a b v h = ap (λ m. turn m v) (parts a) ∙ turns_of (a / 8) (a % 8) v ∙ ap (λ m. turn m v) h ∙ sym (turns_of (b / 8) (b % 8) v) ∙ sym (ap (λ m. turn m v) (parts b))
+  where
+    parts : (a : ℕ) → a ≡ a % 8 + a / 8 * 8
+    parts a = omega arith
 
 pub swap_inner : (p q r s : Ring) → plus (plus p q) (plus r s) ≡ plus (plus p r) (plus q s)
 swap_inner p q r s =

@@ -1,6 +1,6 @@
 -- All that a step of a pass keeps, at once, in every place.
 --     Step k A B              `Turns k`, `Covers` of the events, no more T gates, no more CNOTs
---     events-append, t_count-append, cx_count-append      joined lists
+--     events-append, t_count-append, cx_count-append, WiresBelow-append      joined lists
 --     Step_refl, Step_trans, Step_then, Step_inside       a congruence; powers add up
 --     Step_slide, Step_slide_back     an operation past what does not touch its wires
 --     Step_gather             three operations of one wire with others between, gathered into a window
@@ -42,6 +42,11 @@ pub cx_count-append : (A B : List Op) → cx_count (A ++ B) ≡ cx_count A + cx_
 cx_count-append [] B = omega arith
 cx_count-append (U a b c q ∷ A) B = cx_count-append A B
 cx_count-append (Cx c t ∷ A) B = omega (arith, cx_count-append A B)
+
+pub WiresBelow-append : (n : ℕ) (us vs : List Op) → WiresBelow n us → WiresBelow n vs → WiresBelow n (us ++ vs)
+WiresBelow-append n [] vs h g = g
+WiresBelow-append n (U a b c q ∷ us) vs h g = (h.0, WiresBelow-append n us vs h.1 g)
+WiresBelow-append n (Cx c t ∷ us) vs h g = (h.0, (h.1.0, WiresBelow-append n us vs h.1.1 g))
 
 pub Step_refl : (A : List Op) → Step 0 A A
 Step_refl A = record { turns = Turns_refl A; covers = Covers_refl (events A); t_gates = omega arith; cx_gates = omega arith }
