@@ -1,4 +1,4 @@
-//! Exact angles: a plain fraction and a fraction of pi.
+//! Exact angles, a plain fraction and a fraction of pi; the signs and functions of expressions.
 //!
 //! In go two angles, out comes their sum, difference, product, quotient or power, or the reason why it has none: the
 //! result has a part with pi^2 or the like (`Form`), a divisor is 0 (`ZeroDivisor`), or a part of the result in lowest

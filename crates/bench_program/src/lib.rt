@@ -1,4 +1,4 @@
-//! The operations of generated benchmark programs.
+//! The operations of generated benchmark programs, drawn from a start, as the command `bench` routes them.
 //!
 //! In go a start, a number of gates and a number of wires; out come the operations ([`Ops`]) of the program that is drawn from
 //! that start, the same ones in each run. `specs/Program.antt` says which they are: one draw for the kind of a gate, one for its

@@ -1,4 +1,4 @@
-//! A circuit over H, X, CNOT and phases, as the list of its gates.
+//! A circuit over H, X, CNOT and phases, as the list of its gates with their slots.
 //!
 //! In go gates, one by one; out come the same gates, and the counts that a report tells. Contracts
 //! see a circuit as its number of wires, the list of its gates, whose meaning is a list of

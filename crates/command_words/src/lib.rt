@@ -1,4 +1,4 @@
-//! The command of the words of a command line.
+//! The command of the words of a command line, and what each command asks of its surroundings.
 //!
 //! The words go in, the program's name first; the command that they mean comes out, by `clap`'s own definitions of what a
 //! command line may be. A number in them is its decimal digits alone, and in its range;

@@ -1,4 +1,4 @@
-//! The coupling map of a device: which qubits share a CNOT, and how far apart two qubits are.
+//! The coupling map of a device, as its text says: which qubits share a CNOT, at what cost, and how far apart two qubits are.
 //!
 //! In goes a device text, a TOML document: `qubits` says how many qubits there are, and each entry of
 //! `edges` names two of them, the control of a CNOT first. With `format = 2` each entry has a third

@@ -1,4 +1,4 @@
-//! Cancellation across commuting gates.
+//! Cancellation across commuting gates: the pass that takes away or merges pairs, past gates that commute.
 //!
 //! In goes a circuit, out comes one without a reducible pair: no gate can be brought past commuting gates to a later one with
 //! which it is nothing, or one phase. [`CancelPass`] is a pass; its contract says that the amplitudes are the circuit's up to

@@ -1,4 +1,4 @@
-//! Linear algebra over the field of two elements, on rows of up to 256 wires.
+//! Linear algebra over the field of two elements, on rows of up to 256 wires: rank, sums, completion, products and inverses.
 //!
 //! In go rows, each a set of wires; their sum is the symmetric difference. Out come the rank of rows, whether they are
 //! independent, the places of rows that sum to another, a square matrix that has given rows, and the inverse of a matrix.

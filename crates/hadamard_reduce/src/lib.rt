@@ -1,4 +1,4 @@
-//! Hadamard reduction: seven local rules, each of which takes H away.
+//! Hadamard reduction: seven local rules, each of which takes H away, and the pass that they make.
 //!
 //! In goes a circuit and a place; out comes the change for the window that begins there, or nothing where none does
 //! ([`HadamardRules`]). Or in goes a circuit, and out comes one in which no window is left ([`HadamardPass`]). A window is a few

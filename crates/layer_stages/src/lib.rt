@@ -1,4 +1,4 @@
-//! One line for each layer of a circuit that has a gate other than H.
+//! One line for each layer of a circuit that has a gate other than H: its odd parities, and their least partition.
 //!
 //! In goes a circuit; out come lines with the numbers of each layer: its gates, the sums of wires that turn by an odd
 //! number of eighths, the least number of independent blocks of these, and the size and the rank of a choice of them

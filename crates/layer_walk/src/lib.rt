@@ -1,4 +1,4 @@
-//! The layers of a circuit, by levels and by a walk.
+//! The layers of a circuit by a walk, and the law that they are those by levels.
 //!
 //! [`layers_by_walk`] says that `layers_of` of `phase_poly`, which gives each wire a level, is the walk that takes in each
 //! turn the gates on free wires and then the H that are first on theirs. It takes nothing and does nothing.

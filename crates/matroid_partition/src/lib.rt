@@ -1,4 +1,5 @@
-//! Partition of rows into the least number of independent blocks.
+//! Partition of rows into the least number of independent blocks, or of blocks with some rows more than their rank, with a
+//! witness that fewer don't do.
 //!
 //! In go nonzero rows over the field of two elements. Out come blocks of their places: each place stands in
 //! exactly one block, the rows of a block are independent, and no partition into independent blocks has fewer.

@@ -1,4 +1,4 @@
-//! Path labels of a circuit over H, X, CNOT and phases.
+//! Path labels and odd path parities of a circuit over H, X, CNOT and phases, and the laws of path sums.
 //!
 //! In goes a circuit; out come the label of the wire at each phase, and the number of odd path parities. A label is a set of
 //! path variables and one complement bit: each wire begins with a variable of its own, a CNOT adds the control's label to the

@@ -1,4 +1,4 @@
-//! Where the wires of a circuit stand on a device.
+//! Where the wires of a circuit stand on a device: a permutation of qubits, with its inverse.
 //!
 //! In comes a number of qubits, then exchanges of two of them; out comes the qubit of a wire and the
 //! wire of a qubit. A `Placement` is a permutation of 0 to N - 1, which contracts see as the list whose

@@ -1,4 +1,4 @@
-//! The tokens of a program text in OpenQASM 2.0.
+//! The tokens of a program text in OpenQASM 2.0, with their kinds and offsets, and the values of its numbers.
 //!
 //! In goes a text, out come the kinds and places of its tokens; white space and comments are left out. The contract says
 //! that the text is lexemes one behind the other, each the longest at its place, and that these are the tokens among

@@ -1,4 +1,4 @@
-//! The grammar of programs in OpenQASM 2.0.
+//! The grammar of programs in OpenQASM 2.0: the tree that the tokens of a text spell.
 //!
 //! In go a text and its tokens, out comes the tree that they spell. The contract says that all tokens of the text are
 //! those of this tree, that its version is 2 and that no expression is deeper than 64; a text with its tokens spells at

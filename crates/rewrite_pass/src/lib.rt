@@ -1,4 +1,4 @@
-//! Rewriting passes over circuits, and how passes are put together.
+//! What a rewriting pass and a rule are, their law, how passes are put together, and the steps that passes tell.
 //!
 //! In go circuits, out come circuits on the same wires with the turn that the rewriting took. Each
 //! pass keeps one law ([`Pass`], `specs/Law.antt`): the amplitudes up to that power of w, and no more T

@@ -1,4 +1,5 @@
-//! The unitary of a list of operations, over exact Clifford+T.
+//! Definitions and laws of the unitary of a list of operations, over exact Clifford+T: amplitudes, counts, odd path parities,
+//! placements, and when one list realises another.
 //!
 //! In goes a list of operations [`Op`] in circuit order: each is a `U`, whose three angles are
 //! counted in eighths of a turn, or a `Cx`. What comes out are definitions and laws, which the
