@@ -3,7 +3,7 @@
     <!-- made: NAME -->
     <!-- /made -->
 
-is written by `tools/check-docs --mend`.
+is written by `tools/check-docs --mend`. Of the part `claims` the last cells are written by hand, and stay with their crate.
 """
 
 import os
@@ -56,12 +56,66 @@ def edits(crate):
     return lines + [f"| `{name}` | {', '.join(listed)} |" for name, listed in sorted(says.items())]
 
 
+def cell(text):
+    """A text as a cell of a table."""
+    return text.replace("|", "\\|")
+
+
+def row(cells):
+    """A row of a table."""
+    return "|" + "".join(f" {it} |" if it else " |" for it in cells)
+
+
+def by_room(columns, cells):
+    """A table with a row for each crate, room by room."""
+    lines = [row(columns), "|" + "---|" * len(columns)]
+    for room, listed in sources.rooms().items():
+        lines.append(row([f"**{room}**"] + [""] * (len(columns) - 1)))
+        lines += [row([f"`{crate}`", *cells(crate)]) for crate in listed]
+    return "\n".join(lines)
+
+
+def crates():
+    """What each crate stands on, and what it is."""
+    below = sources.crates()
+
+    def cells(crate):
+        tests = sources.only_tested(crate)
+        listed = [f"`{it}`" + (" (in tests)" if it in tests else "") for it in below[crate]]
+        return ", ".join(listed), cell(sources.crate_sentence(crate))
+
+    return by_room(["crate", "stands on", "what it is"], cells)
+
+
+def rooms():
+    """The crates of each room."""
+    lines = ["| room | its crates |", "|---|---|"]
+    return "\n".join(lines + [row([room, ", ".join(f"`{it}`" for it in listed)]) for room, listed in sources.rooms().items()])
+
+
+def written_cells(text):
+    """The cells behind the second one of each crate's row."""
+    found = {}
+    for line in text.splitlines():
+        cells = [it.strip() for it in re.split(r"(?<!\\)\|", line)[1:-1]]
+        if cells and re.fullmatch(r"`\w+`", cells[0]):
+            found[cells[0].strip("`")] = cells[2:]
+    return found
+
+
+def claims(old):
+    """What each crate is, and what is proved of it and what isn't: these cells are those of the old text."""
+    written = written_cells(old)
+    columns = ["crate", "what it is", "what is proved, by `call`: `clause`", "what isn't"]
+    return by_room(columns, lambda crate: [cell(sources.crate_sentence(crate)), *written.get(crate, ["", ""])])
+
+
 def laws():
     """The laws: public functions of modules `laws`, with the first sentence of what is said of each."""
     lines = ["| law | crate | what it says |", "|---|---|---|"]
     for it in sources.functions():
         if it.module == "laws" and it.is_public:
-            lines.append(f"| `{it.name}` | `{it.crate}` | {sources.doc_sentence(it.file, it.line).replace('|', chr(92) + '|')} |")
+            lines.append(f"| `{it.name}` | `{it.crate}` | {cell(sources.doc_sentence(it.file, it.line))} |")
     return "\n".join(lines)
 
 
@@ -98,9 +152,12 @@ def results():
     return "\n".join([*lines, "", f"Swaps that `route` puts in on IBM's Tokyo: {listed}."])
 
 
-def part(name):
-    """What a part says; None for one that nothing makes."""
+def part(name, old):
+    """What a part says, whose text was another; None for one that nothing makes."""
     whole = {
+        "crates": crates,
+        "rooms": rooms,
+        "claims": lambda: claims(old),
         "definitions": lambda: reach.table(reach.by_claim()),
         "laws": laws,
         "reading": reading,
@@ -117,7 +174,7 @@ def mended(text):
     stale = []
 
     def made(match):
-        wanted = part(match.group(1))
+        wanted = part(match.group(1), match.group(2))
         if wanted is None:
             stale.append(f"{match.group(1)} (nothing makes it)")
             return match.group()

@@ -6,17 +6,20 @@ or a `trait`, one `ensures` at the beginning of a line.
 
 import dataclasses
 import glob
+import itertools
 import os
 import re
 
 TOP = os.path.dirname(os.path.dirname(os.path.dirname(os.path.realpath(__file__))))
 FUNCTION = re.compile(r"(\s*)(pub(?:\(\w+\))? )?(?:const )?fn (\w+)")
 CLAUSE = re.compile(r"(?<![\w`])ensures (?:(\w+) )?\{")
+WORD = re.compile(r"\w+")
+INLINE_TESTS = re.compile(r"^#\[cfg\(test\)\]\nmod \w+ \{\n.*?^\}", re.MULTILINE | re.DOTALL)
 OPENING = re.compile(r"(pub(?:\(\w+\))? )?(impl|trait)\b.*\{$")
 
 
 def crates(top=TOP):
-    """The crates of the repository with what they stand on, lowest first."""
+    """The crates of the repository with what they stand on, in the order of crates.txt."""
     found = {}
     with open(os.path.join(top, "crates.txt"), encoding="utf-8") as file:
         for line in file:
@@ -24,6 +27,19 @@ def crates(top=TOP):
             if line:
                 name, below = line.split(":")
                 found[name.split()[0]] = below.split()
+    return found
+
+
+def rooms(top=TOP):
+    """The rooms with their crates, in the order of crates.txt: a comment of its own above crates is the name of their room."""
+    found = {}
+    room = ""
+    with open(os.path.join(top, "crates.txt"), encoding="utf-8") as file:
+        for line in file:
+            if line.startswith("#"):
+                room = line[1:].strip()
+            elif name := line.split("#")[0].split(":")[0].split():
+                found.setdefault(room, []).append(name[0])
     return found
 
 
@@ -63,6 +79,35 @@ def is_test(path, top=TOP):
         return bool(re.search(rf"^#\[cfg\(test\)\]\nmod {module_of(path)};", file.read(), re.MULTILINE))
 
 
+def named(crate, top=TOP):
+    """The words that the sources of a crate have, comments left out: those of its code, and those of its tests."""
+    code, tests = set(), set()
+    for folder, ending in (("src", "rt"), ("specs", "antt"), ("proofs", "antt")):
+        for path in glob.glob(f"crates/{crate}/{folder}/**/*.{ending}", root_dir=top, recursive=True):
+            with open(os.path.join(top, path), encoding="utf-8") as file:
+                text = re.sub(r"(//|--).*", "", file.read())
+            module = path.split("/")[3]
+            source = path if folder == "src" else f"crates/{crate}/src/{module}.rt"
+            if folder != "specs" and is_test(source, top):
+                tests |= set(WORD.findall(text))
+            else:
+                tests |= {word for part in INLINE_TESTS.findall(text) for word in WORD.findall(part)}
+                code |= set(WORD.findall(INLINE_TESTS.sub("", text)))
+    return code, tests
+
+
+def is_of_tests(crate, top=TOP):
+    """Whether a crate has nothing but tests."""
+    paths = glob.glob(f"crates/{crate}/src/**/*.rt", root_dir=top, recursive=True)
+    return any(is_test(it, top) for it in paths) and not any(functions_of(crate, it, top) for it in paths if not is_test(it, top))
+
+
+def only_tested(crate, top=TOP):
+    """The crates that only the tests of a crate name, of those that it stands on; none for a crate of tests."""
+    code, tests = named(crate, top)
+    return [] if is_of_tests(crate, top) else [it for it in crates(top)[crate] if it in tests and it not in code]
+
+
 def exported(crate, top=TOP):
     """The modules that are public, and the names that the root hands on."""
     modules, names = {""}, set()
@@ -88,6 +133,12 @@ def public_functions(crate, top=TOP):
     ]
 
 
+def first_sentence(said):
+    """The first sentence of the lines of a comment, without its full stop."""
+    said = said[: said.index("")] if "" in said else said
+    return re.split(r"(?<=\.)\s", " ".join(said))[0].rstrip(".")
+
+
 def doc_sentence(path, line, top=TOP):
     """The first sentence of the comment above a line of code."""
     with open(os.path.join(top, path), encoding="utf-8") as file:
@@ -99,8 +150,20 @@ def doc_sentence(path, line, top=TOP):
             said.insert(0, it[3:].strip())
         elif not it.startswith("#["):
             break
-    said = said[: said.index("")] if "" in said else said
-    return re.split(r"(?<=\.)\s", " ".join(said))[0].rstrip(".")
+    return first_sentence(said)
+
+
+def crate_sentence(crate, top=TOP):
+    """What a crate is: the first sentence of the comment at the head of its root."""
+    for name in ("lib", "main"):
+        path = os.path.join(top, "crates", crate, "src", f"{name}.rt")
+        if os.path.exists(path):
+            with open(path, encoding="utf-8") as file:
+                head = itertools.takewhile(lambda it: it.startswith("//!"), file)
+                said = first_sentence([it[3:].strip() for it in head])
+            # the words that `rt doc` links
+            return re.sub(r"\[(`[^`]*`)\]", r"\1", said)
+    return ""
 
 
 def functions_of(crate, path, top=TOP):

@@ -4,7 +4,10 @@ import subprocess
 
 from tool import TOP, ToolTest
 
-TOP_LIB = """//! The top call. More of it.
+TOP_LIB = """//! The top call, [`run`], of
+//! two lines. More of it.
+//!
+//! Still more.
 
 ghost use Rattle.low.specs.Words.{IsEven as Even};
 ghost use Rattle.low.specs.declared.Kind.{Kind};
@@ -31,9 +34,11 @@ pub trait Sink {
 pub trait Shelf {
 }
 """
-LOW_LIB = """//! Numbers: even ones.
+LOW_LIB = """//! Numbers: even | ones.
 
 pub mod laws;
+#[cfg(test)]
+mod tests;
 
 pub enum Kind {
     One(Part),
@@ -73,31 +78,55 @@ abbrev pub half : ℕ → ℕ
 half 0 = 0
 half (suc n) = n
 """
+CRATES = """# Each crate.
+# the ground
+low: itoa
+outside_io:
+# the rest
+qroute_top: low outside_io
+qroute: qroute_top
+"""
 README = """# It
 
 Read `low/specs/Words.antt`, as a whole.
 
-| crate | what |
-|---|---|
-| `low` | `two_is_even`: `even` |
-| **the rest** | |
-| `outside_io` | `read`: `bound` |
-| `qroute_top` | `run`: `headline`, `calm` |
-| `qroute` | |
+<!-- made: claims -->
+| `qroute` | | it returns | |
+| `low` | what it was | `two_is_even`: `even` | that `IsEven` is so |
+| `outside_io` | | `read`: `bound` | |
+| `qroute_top` | | `run`: `headline`, `calm` | |
+<!-- /made -->
 """
 ARCHITECTURE = """# Architecture
 
-| crate | stands on | what |
-|---|---|---|
-| `low` | | |
-| `outside_io` | | |
-| `qroute_top` | `low`, `outside_io` | |
-| `qroute` | `qroute_top` | |
+<!-- made: crates -->
+<!-- /made -->
+
+<!-- made: rooms -->
+<!-- /made -->
 """
-CLAIMS = "# Claims\n" + "".join(
-    f"\n<!-- made: {it} -->\n<!-- /made -->\n"
-    for it in ("definitions", "laws", *(f"clauses of {crate}" for crate in ("low", "outside_io", "qroute_top", "qroute")))
-)
+
+
+def parts(*names):
+    return "".join(f"\n<!-- made: {it} -->\n<!-- /made -->\n" for it in names)
+
+
+CLAIMS = f"""# Claims
+{parts("definitions", "laws")}
+## Crate by crate
+
+### The ground
+
+#### `low`
+{parts("clauses of low")}
+#### `outside_io`
+{parts("clauses of outside_io")}
+### The rest
+
+#### `qroute_top`
+{parts("clauses of qroute_top")}
+#### `qroute`
+{parts("clauses of qroute")}"""
 
 
 class Documents(ToolTest):
@@ -107,9 +136,10 @@ class Documents(ToolTest):
         super().setUp()
         shutil.copytree(os.path.join(TOP, "tools"), os.path.join(self.room, "tools"))
         for name, text in {
-            "crates.txt": "low:\noutside_io:\nqroute_top: low outside_io\nqroute: qroute_top\n",
+            "crates.txt": CRATES,
             "crates/low/src/lib.rt": LOW_LIB,
             "crates/low/src/laws.rt": LOW_LAWS,
+            "crates/low/src/tests.rt": "//! Tests.\nuse itoa::{Buffer};\n",
             "crates/low/specs/Words.antt": WORDS,
             "crates/low/specs/Ground.antt": GROUND,
             "crates/outside_io/src/lib.rt": OUTSIDE_LIB,
@@ -133,6 +163,10 @@ class Documents(ToolTest):
         self.assertIn(old, text)
         self.file(name, text.replace(old, new, 1))
 
+    def text(self, name):
+        with open(os.path.join(self.room, name), encoding="utf-8") as file:
+            return file.read()
+
     def found(self):
         return self.script("check-docs")[1].splitlines()
 
@@ -153,11 +187,56 @@ class Documents(ToolTest):
     def test_parts_are_made(self):
         self.assertIn("docs/CLAIMS.md:1: a part is stale: clauses of low", self.found())
         self.assertEqual(self.script("check-docs", "--mend")[1].splitlines()[-1], "nothing found")
-        with open(os.path.join(self.room, "docs/CLAIMS.md"), encoding="utf-8") as file:
-            text = file.read()
+        text = self.text("docs/CLAIMS.md")
         self.assertIn("| `run` | `headline`, `calm` |", text)
         self.assertIn("| `two_is_even` | `low` | Two is even |", text)
         self.assertEqual(self.found(), ["nothing found"])
+
+    def test_tables_of_crates(self):
+        self.script("check-docs", "--mend")
+        rows = [line for line in self.text("docs/ARCHITECTURE.md").splitlines() if line.startswith("|")]
+        self.assertEqual(
+            rows,
+            [
+                "| crate | stands on | what it is |",
+                "|---|---|---|",
+                "| **the ground** | | |",
+                "| `low` | `itoa` (in tests) | Numbers: even \\| ones |",
+                "| `outside_io` | | Traits |",
+                "| **the rest** | | |",
+                "| `qroute_top` | `low`, `outside_io` | The top call, `run`, of two lines |",
+                "| `qroute` | `qroute_top` | The program |",
+                "| room | its crates |",
+                "|---|---|",
+                "| the ground | `low`, `outside_io` |",
+                "| the rest | `qroute_top`, `qroute` |",
+            ],
+        )
+        # what is written by hand stays with its crate
+        rows = [line for line in self.text("README.md").splitlines() if line.startswith("|")]
+        low = "| `low` | Numbers: even \\| ones | `two_is_even`: `even` | that `IsEven` is so |"
+        self.assertEqual(rows[2:4], ["| **the ground** | | | |", low])
+        self.assertEqual(rows[-1], "| `qroute` | The program | it returns | |")
+
+    def test_what_only_tests_stand_on(self):
+        inside = "#[cfg(test)]\nmod tests {\n    use itoa::{Buffer};\n}\n"
+        for name, old, new, wanted in (
+            ("crates/low/src/laws.rt", "//! Laws.", "//! Laws of itoa.", "`itoa` (in tests)"),
+            ("crates/low/src/laws.rt", "{}", "{ itoa() }", "`itoa`"),
+            ("crates/low/specs/Ground.antt", "half 0 = 0", "half 0 = itoa", "`itoa`"),
+            ("crates/low/src/tests.rt", "use itoa::{Buffer};", "", "`itoa`"),
+            # a module of tests inside another file
+            ("crates/outside_io/src/lib.rt", "pub trait Shelf", f"{inside}\npub trait Shelf", "`itoa` (in tests)"),
+            # nothing but tests
+            ("crates/low/src/laws.rt", self.text("crates/low/src/laws.rt"), "//! Laws.\n", "`itoa`"),
+        ):
+            before = self.text(name)
+            self.change(name, old, new)
+            crate = name.split("/")[1]
+            self.file("crates.txt", CRATES.replace(f"\n{crate}:", f"\n{crate}: itoa").replace("itoa itoa", "itoa"))
+            self.script("check-docs", "--mend")
+            self.assertIn(f"| `{crate}` | {wanted} |", self.text("docs/ARCHITECTURE.md"))
+            self.file(name, before)
 
     def test_findings(self):
         self.script("check-docs", "--mend")
@@ -165,17 +244,41 @@ class Documents(ToolTest):
             ("README.md", "Words.antt`", "Word.antt`", "README.md:3: no file low/specs/Word.antt"),
             ("README.md", ", as a whole.", ". It is short.", "README.md:3: more than one sentence on a line"),
             ("README.md", "as a whole", "as `whole_thing`", "README.md:3: `whole_thing` stands nowhere"),
-            ("README.md", "`even`", "`odd`", "README.md:7: two_is_even has no clause odd"),
-            ("README.md", "| `low` | `two", "| `lower` | `two", "README.md:7: there is no crate lower"),
-            ("README.md", "| `qroute` | |\n", "", "README.md:1: no table has the crate qroute"),
-            ("docs/ARCHITECTURE.md", "`low`, `outside_io`", "`low`", "docs/ARCHITECTURE.md:7: qroute_top stands on low outside_io by crates.txt"),
+            ("README.md", "`even`", "`odd`", "README.md:9: two_is_even has no clause odd"),
+            ("README.md", "| it returns |", "| |", "README.md:5: nothing says what is proved of qroute"),
+            ("README.md", "| `low` | Num", "| `lower` | Num", "README.md:1: a part is stale: claims"),
+            ("README.md", "made: claims", "made: rooms", "README.md:1: no part claims"),
+            ("docs/ARCHITECTURE.md", "made: rooms", "made: crates", "docs/ARCHITECTURE.md:1: no part rooms"),
+            ("docs/ARCHITECTURE.md", "`low`, `outside_io` | T", "`low` | T", "docs/ARCHITECTURE.md:1: a part is stale: crates"),
+            ("docs/CLAIMS.md", "clauses of qroute -", "clauses of low -", "docs/CLAIMS.md:1: no part clauses of qroute"),
+            ("crates/outside_io/src/lib.rt", "//! Traits.", "//! Three traits.", "docs/ARCHITECTURE.md:1: a part is stale: crates"),
         ):
-            with open(os.path.join(self.room, name), encoding="utf-8") as file:
-                before = file.read()
+            before = self.text(name)
             self.change(name, old, new)
             self.assertIn(wanted, self.found())
             self.file(name, before)
         self.assertEqual(self.found(), ["nothing found"])
+
+    def test_order_of_crates(self):
+        self.script("check-docs", "--mend")
+        claims = self.text("docs/CLAIMS.md")
+        low, outside, rest = (claims.index(it) for it in ("#### `low`", "#### `outside_io`", "### The rest"))
+        exchanged = claims[:low] + claims[outside:rest] + claims[low:outside] + claims[rest:]
+        unheaded = claims.replace("#### `qroute`\n", "")
+        for new, line, wanted in (
+            (exchanged, "#### `outside_io`", "by crates.txt the next heading is #### `low`"),
+            (claims.replace("### The rest\n", ""), "#### `qroute_top`", "by crates.txt the next heading is ### The rest"),
+            (claims + "\n### More\n", "### More", "by crates.txt the next heading is none"),
+            (unheaded, "# Claims", "no heading #### `qroute`"),
+            (unheaded, "<!-- made: clauses of qroute -->", "the part of qroute stands below another heading"),
+        ):
+            self.file("docs/CLAIMS.md", new)
+            self.assertIn(f"docs/CLAIMS.md:{new[: new.index(line)].count(chr(10)) + 1}: {wanted}", self.found())
+        self.file("docs/CLAIMS.md", claims)
+        self.file("crates.txt", CRATES.replace("low: itoa", "low: outside_io"))
+        self.assertIn("crates.txt: low stands above outside_io, on which it stands", self.found())
+        self.file("crates.txt", CRATES.replace("# Each crate.\n# the ground\n", ""))
+        self.assertIn("crates.txt: low has no room", self.found())
 
     def test_links_and_bare_paths(self):
         self.script("check-docs", "--mend")
@@ -187,10 +290,10 @@ class Documents(ToolTest):
         self.script("check-docs", "--mend")
         self.assertEqual(self.found(), ["nothing found"])
         for name, old, new, wanted in (
-            ("README.md", "#it)", "#code)", "README.md:13: no heading #code in README.md"),
-            ("README.md", "c-1)", "c-2)", "README.md:13: no heading #it-is-a-b_c-2 in docs/CLAIMS.md"),
-            ("README.md", "(docs/CLAIMS.md)", "(CLAIMS.md)", "README.md:13: no file CLAIMS.md for a link"),
-            ("README.md", "tools/definitions", "tools/words", "README.md:16: no file tools/words"),
+            ("README.md", "#it)", "#code)", "README.md:16: no heading #code in README.md"),
+            ("README.md", "c-1)", "c-2)", "README.md:16: no heading #it-is-a-b_c-2 in docs/CLAIMS.md"),
+            ("README.md", "(docs/CLAIMS.md)", "(CLAIMS.md)", "README.md:16: no file CLAIMS.md for a link"),
+            ("README.md", "tools/definitions", "tools/words", "README.md:19: no file tools/words"),
             ("docs/it.1", "check\\-docs", "check\\-words", "docs/it.1:1: no file tools/check-words"),
             ("docs/it.1", "CLAIMS", "CLAIM", "docs/it.1:2: no file docs/CLAIM.md"),
         ):
@@ -217,7 +320,7 @@ class Documents(ToolTest):
         self.change("README.md", "1.4", "7.4")
         status, out = self.script("check-transcripts", "--mend")
         self.assertEqual(status, 1)
-        self.assertIn("README.md:13: what comes out is\n", out)
+        self.assertIn("README.md:12: what comes out is\n", out)
         self.assertIn("docs/made.svg isn't what is written\n", out)
         self.assertEqual(self.script("check-transcripts"), (0, "nothing differs in 1 transcripts\n"))
 
