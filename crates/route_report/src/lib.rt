@@ -1,8 +1,9 @@
 //! The lines that a run tells, byte for byte: the report line, the check line, the line of an entry, and the fault line.
 //!
-//! A `Report`, the `Counts` of a checked program, or a `Fault` goes in, and the bytes of its line come out: one compact JSON object with its
-//! keys in the order of their bytes, then a line break. An `Entry` of a unitary is a line of five numbers. The contracts give these
-//! bytes exactly, and the status that a fault ends with. Every record has a line; the only error is want of memory.
+//! A `Report`, the `Counts` of a checked program, or a `Fault` goes in, and the bytes of its line come out: one compact JSON
+//! object with its keys in the order of their bytes, then a line break. An `Entry` of a unitary is a line of five numbers. The
+//! contracts give these bytes exactly, and the status that a fault ends with. Every record has a line; the only error is want
+//! of memory.
 #![tactic(auto)]
 
 ghost use Rattle.std.specs.Prelude.{◌≡◌, IfOk};
