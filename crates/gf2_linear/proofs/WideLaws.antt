@@ -3,7 +3,7 @@
 --   among-all                          what holds of all rows holds of those that stand among them
 --   known, known-not                   the half of a clause by cases that is known
 --   Sifting rows i basis left          the first i rows, those of the basis and the others
---   sifting-none, sifting-insert, sifting-left, sifting-end     no row; one row more, of either kind; all of them
+--   sifting-insert, sifting-left, sifting-end     one row more, of either kind; all of them
 --   spans-all                          an independent square matrix spans all rows on its wires
 --   wide-below, wide-rank, wide-among  a completion with the other rows and spares behind it
 --   Completed rows n wide, completed   all that is promised of it
@@ -92,15 +92,6 @@ pub record Sifting (rows : List ℕ) (i : ℕ) (basis left : List ℕ) : Type 0 
   pub within : i ≤ length rows
   pub long : length basis + length left ≡ i
   pub among : (v : ℕ) → count_of v (take i rows) ≡ count_of v basis + count_of v left
-
-pub sifting-none : (rows basis left : List ℕ) → basis ≡ [] → left ≡ [] → Sifting rows 0 basis left
-sifting-none rows basis left b l =
-    subst (λ (q : List ℕ). Sifting rows 0 q left) (sym b) (subst (λ (q : List ℕ). Sifting rows 0 [] q) (sym l) (record {
-      gathered = gathered-none rows [] refl;
-      within = omega arith;
-      long = refl;
-      among = λ v. refl;
-    }))
 
 count-more : (v : ℕ) (rows : List ℕ) (i x : ℕ) → i < length rows → x ≡ get_or rows i x → count_of v (take (i + 1) rows) ≡ count_of v (take i rows) + count_of v (x ∷ [])
 count-more v rows i x l e = ap (count_of v) (take-more rows i l ∙ ap (λ (y : ℕ). take i rows ++ y ∷ []) (sym (item rows i x l e))) ∙ count-append v (take i rows) (x ∷ [])

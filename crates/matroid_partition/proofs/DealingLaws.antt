@@ -18,7 +18,8 @@ use Rattle.std.proofs.lemmas.Bool.Decides.{nat_tests}
 use Rattle.std.proofs.lemmas.Bool.{both_ways, cases_lt, cases_eq, eq-eqb, ne_eqb}
 use Rattle.std.proofs.lemmas.List.{length-append, get_or_append_left, get_or_past, get_or_push, get_or-set_same, get_or-set_other}
 use Rattle.matroid_partition.specs.declared.blocks.Block.{Block}
-use Rattle.matroid_partition.specs.Partitions.{count_of, times}
+use Rattle.gf2_linear.specs.Wide.{count_of}
+use Rattle.matroid_partition.specs.Partitions.{times}
 use Rattle.matroid_partition.specs.Places.{Has, IsAscending}
 use Rattle.matroid_partition.specs.Blocks.{IsBlock, IsOpen, IsState, SpansFirst, places_at}
 use Rattle.matroid_partition.specs.Closed.{IsClosed, seen_among}

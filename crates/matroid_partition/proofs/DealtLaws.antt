@@ -21,7 +21,8 @@ use Rattle.std.proofs.lemmas.List.Elements.{All-map}
 use Rattle.std.proofs.lemmas.List.FromFn.{length-range_with_len}
 use Rattle.std.proofs.lemmas.Nat.{div-add-mod', div_below, mod_below}
 use Rattle.matroid_partition.specs.declared.dealing.Dealing.{Dealing}
-use Rattle.matroid_partition.specs.Partitions.{count_of, times}
+use Rattle.gf2_linear.specs.Wide.{count_of}
+use Rattle.matroid_partition.specs.Partitions.{times}
 use Rattle.matroid_partition.specs.Spares.{IsSparePartition, IsSpareWitness}
 use Rattle.matroid_partition.specs.Places.{Has, IsAscending}
 use Rattle.matroid_partition.specs.Blocks.{places_at}

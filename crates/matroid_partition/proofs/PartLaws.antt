@@ -19,7 +19,8 @@ use Rattle.std.proofs.lemmas.List.Elements.{All-map, All-weaker}
 use Rattle.std.proofs.lemmas.List.FromFn.{length-range_with_len}
 use Rattle.matroid_partition.specs.declared.blocks.Block.{Block}
 use Rattle.matroid_partition.specs.declared.search.Node.{Node}
-use Rattle.matroid_partition.specs.Partitions.{count_of, times, IsPartition, IsWitness}
+use Rattle.gf2_linear.specs.Wide.{count_of}
+use Rattle.matroid_partition.specs.Partitions.{times, IsPartition, IsWitness}
 use Rattle.matroid_partition.specs.Places.{Has, IsAscending}
 use Rattle.matroid_partition.specs.Blocks.{IsOpen, IsShown, IsState, OthersSpan, SpansFirst, places_at}
 use Rattle.matroid_partition.specs.Searches.{parts, node_at, row_of, IsChain, IsFront, IsSeen, IsSpread}

@@ -12,7 +12,7 @@ use Rattle.std.specs.Prelude.{nat_eq, nat_lt}
 use Rattle.std.specs.List.Sorted.{IsStrictlyIncreasing}
 use Rattle.std.proofs.lemmas.Bool.{eqb-false, eq-eqb, ne_eqb, cases_eq, le-ltb, ltb-true, ltb-false}
 use Rattle.matroid_partition.specs.Places.{Has, IsAscending, put_in, taken_out}
-use Rattle.matroid_partition.specs.Partitions.{count_of}
+use Rattle.gf2_linear.specs.Wide.{count_of}
 
 pub Has-cases : (ps : List ℕ) (y : ℕ) → Has ps y ⊎ (Has ps y → ⊥)
 Has-cases [] y = inr (λ h. h)

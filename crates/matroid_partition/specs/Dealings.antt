@@ -20,7 +20,7 @@ use Rattle.std.specs.Prelude.{◌≡◌, ◌⊎◌, ℕ, ◌+◌, ◌*◌, ◌/�
 use Rattle.std.specs.List.{range_with_len}
 use Rattle.std.specs.List.Sorted.{IsStrictlyIncreasing}
 use Rattle.gf2_linear.specs.Rows.{is_sum, rank, rows_at}
-use Rattle.matroid_partition.specs.Partitions.{count_of}
+use Rattle.gf2_linear.specs.Wide.{count_of}
 use Rattle.matroid_partition.specs.Blocks.{IsOpen, IsState, SpansFirst, places_at}
 use Rattle.matroid_partition.specs.Closed.{IsClosed, seen_among}
 use Rattle.matroid_partition.specs.Places.{Has}

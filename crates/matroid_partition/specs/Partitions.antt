@@ -1,16 +1,13 @@
 -- Partitions of rows into independent blocks. A block is the list of the places of its rows.
---   count_of, times i blocks   how often the place i stands in the blocks
+--   times i blocks             how often the place i stands in the blocks
 --   IsPartition rows blocks    each row stands in exactly one block, and the blocks are independent
 --   blocks_of parts            the places of each block
 --   IsWitness rows blocks w    a choice of the rows with more than (blocks - 1) times its rank
-use Rattle.std.specs.Prelude.{◌≡◌, ℕ, ◌+◌, ◌-◌, ◌*◌, ◌<◌, ◌==◌, List, [], ◌∷◌, All, IsTrue, cond, length, map}
+use Rattle.std.specs.Prelude.{◌≡◌, ℕ, ◌+◌, ◌-◌, ◌*◌, ◌<◌, List, [], ◌∷◌, All, IsTrue, length, map}
 use Rattle.std.specs.List.Sorted.{IsStrictlyIncreasing}
 use Rattle.matroid_partition.specs.declared.parts.Parts.{Parts}
 use Rattle.gf2_linear.specs.Rows.{is_independent, rank, rows_at}
-
-abbrev pub count_of : ℕ → List ℕ → ℕ
-count_of i [] = 0
-count_of i (p ∷ places) = cond (p == i) 1 0 + count_of i places
+use Rattle.gf2_linear.specs.Wide.{count_of}
 
 abbrev pub times : ℕ → List (List ℕ) → ℕ
 times i [] = 0

@@ -4,7 +4,7 @@ ghost use Rattle.std.specs.Prelude.{◌≡◌, ℕ, ◌/◌, ◌<◌, ◌≤◌,
 ghost use Rattle.std.specs.List.{range_with_len};
 ghost use Rattle.std.specs.List.Sorted.{IsStrictlyIncreasing};
 ghost use Rattle.matroid_partition.specs.Dealings.{IsDealing, IsHoused, IsWritten, at_home};
-ghost use Rattle.matroid_partition.specs.Partitions.{count_of};
+ghost use Rattle.gf2_linear.specs.Wide.{count_of};
 ghost use Rattle.matroid_partition.specs.Spares.{IsSparePartition};
 
 use crate::dealing::Dealing;

@@ -4,7 +4,8 @@ use Rattle.std.proofs.Common.{◌≡◌, ℕ, zero, suc, ◌+◌, ◌*◌, ◌%�
 use Rattle.std.specs.Prelude.{nat_eq}
 use Rattle.std.proofs.lemmas.Bool.Decides.{nat_tests}
 use Rattle.std.proofs.Math.Nat.{add-mul}
-use Rattle.matroid_partition.specs.Partitions.{count_of, times}
+use Rattle.gf2_linear.specs.Wide.{count_of}
+use Rattle.matroid_partition.specs.Partitions.{times}
 use Rattle.phase_poly.specs.Polys.{Term, coefficient}
 use Rattle.phase_poly.specs.Resynthesis.{odd_terms, at_places, picked, AllBelow, BlocksBelow}
 

@@ -224,9 +224,6 @@ line-plain (Swap u v) = plain4 115 119 97 112 (omega arith) (omega arith) (omega
 line-plain (Turn u v) = plain4 116 117 114 110 (omega arith) (omega arith) (omega arith) (omega arith)
 line-plain (End j) = ((λ e. absurd (omega (arith, e))), ((λ e. absurd (omega (arith, e))), ((λ e. absurd (omega (arith, e))), tt)))
 
-small-rule : (k : ℕ) (ks : List ℕ) → Small (k ∷ ks) → Small (k ∷ [])
-small-rule k ks h = (h.0, tt)
-
 pub first-small : (l : Line) → Small (numbers_of l) → Small (first_numbers l)
 first-small Heading h = (omega arith, tt)
 first-small (Rewrite (Rule k i)) h = h
