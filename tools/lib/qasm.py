@@ -30,6 +30,7 @@ TOKEN = re.compile(
     re.VERBOSE,
 )
 
+FUNCTIONS = "sin cos tan exp ln sqrt".split()
 LIBRARY = """
 gate u3(t,p,l) q { U(t,p,l) q; } gate u2(p,l) q { U(pi/2,p,l) q; } gate u1(l) q { U(0,0,l) q; }
 gate cx c,t { CX c,t; } gate id a { U(0,0,0) a; } gate x a { u3(pi,0,pi) a; } gate y a { u3(pi,pi/2,pi/2) a; }
@@ -65,13 +66,17 @@ class Token:
 
 @dataclasses.dataclass
 class Step:
-    """A gate, a measurement or a barrier on wires; `bit` is a measurement's, `angles` are a gate's, exact."""
+    """A gate, a measurement or a barrier on wires; `bit` is a measurement's, `angles` are a gate's, exact.
+
+    `gate` is what a gate's name means where it stands: a name of the library may mean another gate further on.
+    """
 
     kind: str
     name: str
     angles: list
     wires: list
     bit: int = -1
+    gate: typing.Any = None
 
 
 @dataclasses.dataclass
@@ -365,12 +370,15 @@ class Reader:
         if name == "pi":
             return Expression(1, lambda env: PI)
 
-        def value_of(env):
-            if name not in env:
-                raise ValueError(f"{name} has no exact value here")
-            return env[name]
+        def none(env):
+            raise ValueError(f"{name} has no exact value here")
 
-        return Expression(1, value_of)
+        if name in FUNCTIONS:
+            self.take("(")
+            part = self.expression()
+            self.take(")")
+            return self.deeper(part.depth, none)
+        return Expression(1, lambda env: env[name] if name in env else none(env))
 
     def joined(self, rule, left, right):
         return self.deeper(max(left.depth, right.depth), lambda env: rule(left.value(env), right.value(env)))
@@ -553,7 +561,7 @@ class ProgramReader(Reader):
             on = [wires[i] if is_whole else wires[0] for wires, is_whole in arguments]
             self.look_at_sizes(gate, angles, on)
             self.count(gate)
-            self.program.steps.append(Step("gate", name, angles, on))
+            self.program.steps.append(Step("gate", name, angles, on, gate=gate))
         self.take(";")
 
 
@@ -607,9 +615,9 @@ def operations(program):
     for step in program.steps:
         if step.kind != "gate":
             continue
-        key = (step.name, *step.angles)
+        key = (id(step.gate), *step.angles)
         if key not in known:
-            known[key] = list(written(program.gates[step.name], step.angles, range(len(step.wires))))
+            known[key] = list(written(step.gate, step.angles, range(len(step.wires))))
         on = step.wires
         found += [(it[0], on[it[1]], on[it[2]]) if it[0] == "CX" else (*it[:4], on[it[4]]) for it in known[key]]
     return found
@@ -637,6 +645,8 @@ def written_out(path, text, most=MOST_OPERATIONS):
         raise ValueError(f"{path}: {fault}") from None
     except (RecursionError, MemoryError):
         raise ValueError(f"{path}: too much for this tool") from None
+    except (ArithmeticError, LookupError, TypeError) as fault:
+        raise ValueError(f"{path}: this tool can't write it out: {type(fault).__name__}") from None
 
 
 def t_count(found):
@@ -664,4 +674,4 @@ def gate_count(program):
             known[id(gate)] = sum(size(inner) for inner, _, _ in gate.body)
         return known[id(gate)]
 
-    return sum(size(program.gates[it.name]) for it in program.steps if it.kind == "gate")
+    return sum(size(it.gate) for it in program.steps if it.kind == "gate")

@@ -237,6 +237,12 @@ class CheckTrace(ToolTest):
         ran = self.run_tool("check-trace", self.file("s", "OPENQASM"), f"{self.room}/none")
         self.assertEqual((ran[0], ran[1]), (3, ""))
 
+    def test_a_name_that_gets_another_meaning(self):
+        # before its own declaration `p` is the library's; a function is read where nothing applies it
+        body = "p(pi/4) q[0]; gate p a { x a; } p q[0]; gate f(a) b { rz(sin(a)) b; }"
+        lines = ["TRACE 1", "place 0", "emit 0", "emit 0", "end 0"]
+        self.assertEqual(self.said(program(1, body), program(1, "t q[0]; x q[0];"), lines), "yes 0")
+
     def test_words(self):
         path = self.file("p", program(1, ""))
         for words in ([], [path], [path] * 4, ["--device", path, path]):
