@@ -99,6 +99,7 @@ SAYS = {
     "WideProgram": "amplitudes are those of at most 12 qubits, and the program has {qubits}",
     "ManyBranches": "amplitudes are those of at most 60 gates that branch, and the program has {branches}",
     "BitsLength": "a basis state has a 0 or 1 for each of the program's {qubits} qubits",
+    "Trace": "line {line} of the trace doesn't apply",
 }
 # What ends without a line of its own, by the status.
 SILENT = {7: "memory was wanting; nothing was written at all", 8: "the report failed; the output is complete"}

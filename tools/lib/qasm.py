@@ -30,6 +30,7 @@ TOKEN = re.compile(
     re.VERBOSE,
 )
 
+FUNCTIONS = "sin cos tan exp ln sqrt".split()
 LIBRARY = """
 gate u3(t,p,l) q { U(t,p,l) q; } gate u2(p,l) q { U(pi/2,p,l) q; } gate u1(l) q { U(0,0,l) q; }
 gate cx c,t { CX c,t; } gate id a { U(0,0,0) a; } gate x a { u3(pi,0,pi) a; } gate y a { u3(pi,pi/2,pi/2) a; }
@@ -65,13 +66,17 @@ class Token:
 
 @dataclasses.dataclass
 class Step:
-    """A gate, a measurement or a barrier on wires; `bit` is a measurement's, `angles` are a gate's, exact."""
+    """A gate, a measurement or a barrier on wires; `bit` is a measurement's, `angles` are a gate's, exact.
+
+    `gate` is what a gate's name means where it stands: a name of the library may mean another gate further on.
+    """
 
     kind: str
     name: str
     angles: list
     wires: list
     bit: int = -1
+    gate: typing.Any = None
 
 
 @dataclasses.dataclass
@@ -92,6 +97,15 @@ class Program:
 
     def measured(self):
         return {step.wires[0] for step in self.steps if step.kind == "measure"}
+
+    def has_gates_behind_measurements(self):
+        measured = set()
+        for step in self.steps:
+            if step.kind == "measure":
+                measured.add(step.wires[0])
+            elif step.kind == "gate" and not measured.isdisjoint(step.wires):
+                return True
+        return False
 
 
 @dataclasses.dataclass
@@ -117,6 +131,12 @@ def gate_of(params, qubits, body):
 def text_of(data):
     """The text of bytes, a character for each byte, so that an offset in one is an offset in the other."""
     return data.decode("latin-1")
+
+
+def text_in(path):
+    """The text in a file."""
+    with open(path, "rb") as file:
+        return text_of(file.read())
 
 
 def tokens(text):
@@ -179,6 +199,8 @@ def fitted(angle):
 
 def number(text):
     """The value of a number; None where a part of it is above 2^62, which is seen before a large power of ten is made."""
+    if len(text) < 19 and text.isdigit():
+        return fractions.Fraction(int(text))
     mantissa, _, exponent = text.lower().partition("e")
     whole, _, behind = mantissa.partition(".")
     digits = (whole + behind).rstrip("0")
@@ -348,12 +370,15 @@ class Reader:
         if name == "pi":
             return Expression(1, lambda env: PI)
 
-        def value_of(env):
-            if name not in env:
-                raise ValueError(f"{name} has no exact value here")
-            return env[name]
+        def none(env):
+            raise ValueError(f"{name} has no exact value here")
 
-        return Expression(1, value_of)
+        if name in FUNCTIONS:
+            self.take("(")
+            part = self.expression()
+            self.take(")")
+            return self.deeper(part.depth, none)
+        return Expression(1, lambda env: env[name] if name in env else none(env))
 
     def joined(self, rule, left, right):
         return self.deeper(max(left.depth, right.depth), lambda env: rule(left.value(env), right.value(env)))
@@ -432,6 +457,8 @@ class ProgramReader(Reader):
         name = self.take(kind="word")
         size = self.index()
         most = MOST_WIRES if known is self.quantum else MOST_BITS
+        if size == 0:
+            self.fail("a register must have a size of at least 1")
         if len(numbered) + size > most:
             self.fail(f"with this register more than {most} {'qubits' if known is self.quantum else 'classical bits'}")
         self.take(";")
@@ -534,7 +561,7 @@ class ProgramReader(Reader):
             on = [wires[i] if is_whole else wires[0] for wires, is_whole in arguments]
             self.look_at_sizes(gate, angles, on)
             self.count(gate)
-            self.program.steps.append(Step("gate", name, angles, on))
+            self.program.steps.append(Step("gate", name, angles, on, gate=gate))
         self.take(";")
 
 
@@ -584,15 +611,42 @@ def turns(angles):
 def operations(program):
     """The operations of a program's gates, in order."""
     found = []
+    known = {}  # those of a gate with some angles, on its own wires from 0 on
     for step in program.steps:
         if step.kind != "gate":
             continue
-        for gate, angles, wires in applied(program.gates[step.name], step.angles, step.wires):
-            if gate is CX:
-                found.append(("CX", *wires))
-            elif gate is U:
-                found.append(("U", *turns(angles), wires[0]))
+        key = (id(step.gate), *step.angles)
+        if key not in known:
+            known[key] = list(written(step.gate, step.angles, range(len(step.wires))))
+        on = step.wires
+        found += [(it[0], on[it[1]], on[it[2]]) if it[0] == "CX" else (*it[:4], on[it[4]]) for it in known[key]]
     return found
+
+
+def written(gate, angles, wires):
+    """The operations of one gate."""
+    for inner, values, on in applied(gate, angles, wires):
+        if inner is CX:
+            yield ("CX", *on)
+        elif inner is U:
+            yield ("U", *turns(values), on[0])
+
+
+def written_out(path, text, most=MOST_OPERATIONS):
+    """The program of a file's text, and its operations, at most so many; else a ValueError that tells where it fails."""
+    try:
+        program = read(text, most)
+        if program.has_gates_behind_measurements():
+            raise ValueError("a gate is on a qubit that was measured before")
+        return program, operations(program)
+    except Fault as fault:
+        raise ValueError(f"{path}:{text.count(chr(10), 0, fault.offset) + 1}: {fault}") from None
+    except ValueError as fault:
+        raise ValueError(f"{path}: {fault}") from None
+    except (RecursionError, MemoryError):
+        raise ValueError(f"{path}: too much for this tool") from None
+    except (ArithmeticError, LookupError, TypeError) as fault:
+        raise ValueError(f"{path}: this tool can't write it out: {type(fault).__name__}") from None
 
 
 def t_count(found):
@@ -620,4 +674,4 @@ def gate_count(program):
             known[id(gate)] = sum(size(inner) for inner, _, _ in gate.body)
         return known[id(gate)]
 
-    return sum(size(program.gates[it.name]) for it in program.steps if it.kind == "gate")
+    return sum(size(it.gate) for it in program.steps if it.kind == "gate")

@@ -101,6 +101,29 @@ class Explain(ToolTest):
         _, out, _ = self.explained('{"code":57,"fault":"EdgeCost","from":1,"status":4,"to":0}', "--device", device)
         self.assertTrue(out.startswith(f"{device}:3:21: EdgeCost: the cost of the edge from qubit 1 to qubit 0 isn't from 1"), out)
 
+    def test_traces(self):
+        source = self.file("s.qasm", HEAD + "qreg q[1];\nt q[0];\nt q[0];\n")
+        text = HEAD + "qreg q[1];\ns q[0];\n//!TRACE 1\n// two T\n//!join 0 2\n//!place 0\n"
+        target = self.file("t.qasm", text)
+        line = '{"fault":"Trace","line":2,"status":1}'
+        why = "Trace: line 2 of the trace doesn't apply"
+        shown = "\n    //!join 0 2\n       ^\n"
+        status, out, _ = self.explained(line, source, "--target", target)
+        self.assertEqual((status, out), (0, f"{target}:7:4: {why}: there is no place 2 in a list of length 2{shown}"))
+        self.assertEqual(self.explained(line, "--target", target)[1], f"{target}:7:4: {why}{shown}")
+        self.assertEqual(self.explained(line, source)[1], f"{why}\n")
+        self.assertEqual(self.explained(line, self.file("u", "OPENQASM"), "--target", target)[1], f"{target}:7:4: {why}{shown}")
+        # a line that is missing
+        target = self.file("t.qasm", text.replace("0 2", "0 1"))
+        status, out, _ = self.explained(line.replace("2", "4"), source, "--target", target)
+        says = "line 4 of the trace doesn't apply: the trace ends before `end`; the text ends here"
+        self.assertEqual((status, out), (0, f"{target}:8:11: Trace: {says}\n    //!place 0\n              ^\n"))
+        # another line than that which the check here tells
+        _, out, _ = self.explained(line, source, "--target", target)
+        self.assertIn(f"{why}; check-trace says otherwise: no, line 4: the trace ends before `end`\n", out)
+        _, out, _ = self.explained('{"fault":"Trace","status":1}', source, "--target", target)
+        self.assertEqual(out, f"{target}: Trace: no words for this fault\n")
+
     def test_json(self):
         path = self.file("p.qasm", HEAD + "qreg q[1];\n h r;\n")
         status, out, _ = self.explained('{"code":22,"fault":"UnknownName","statement":3,"status":3}', "--json", path)

@@ -20,6 +20,7 @@ class Streams(ToolTest):
         self.map = self.file("map", "[[0, 1]]")
         self.calls = {
             "check-small": [program, program, report],
+            "check-trace": [program, program, self.file("trace", "TRACE 1\nplace 0\nend 0\n")],
             "device": [self.map],
             "draw": [program],
             "explain": [],

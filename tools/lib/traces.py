@@ -1,0 +1,330 @@
+"""Traces: lines that say, step by step, why one program realises another; and a check of them.
+
+`of_text` finds the lines of a trace in a program's text, `lines_of` in a file of its own. `checked` says what they prove, or
+the first line that doesn't apply, and why. It is written from the definition in docs/SPECIFICATION.md ('Traces'), one method
+for each word that a line begins with, and shares nothing with the program.
+"""
+
+import dataclasses
+import re
+
+import gates as gate_lists
+import qasm
+import streams
+
+LINE = re.compile(r"([A-Za-z]+)((?: (?:0|[1-9][0-9]{0,9}))*)")
+MOST = 2**32
+MOST_SHOWN = 80  # characters of a line
+COUNTED = {"H": 1, "X": 1, "P": 2, "C": 2}  # the numbers of a gate
+ABOVE, BEHIND = "above `place`", "behind `place`"
+# where a line may stand, and how many numbers it has; `place` has one for each qubit
+WORDS = {
+    "rule": (ABOVE, 2),
+    "both": (ABOVE, 2),
+    "join": (ABOVE, 2),
+    "sums": (ABOVE, 1),
+    "place": (ABOVE, None),
+    "emit": (BEHIND, 1),
+    "back": (BEHIND, 1),
+    "swap": (BEHIND, 2),
+    "turn": (BEHIND, 2),
+    "end": (BEHIND, 1),
+}
+# H, a gate, H on one wire: the gate between, what comes in place of the three, and the turn
+TURNED = {
+    1: (("P", 2), [("P", 6), ("H",), ("P", 6)], 6),
+    2: (("P", 6), [("P", 2), ("H",), ("P", 2)], 0),
+    3: (("P", 4), [None, ("X",), None], 0),
+    4: (("X",), [None, ("P", 4), None], 4),
+}
+# H, P(k), a CNOT, P(8 - k), H on the CNOT's target: the k
+CONJUGATED = {6: 2, 7: 6}
+
+
+class Stop(Exception):
+    """Why a line doesn't apply."""
+
+
+@dataclasses.dataclass
+class Verdict:
+    """A trace's power, or the line at which it stops, what stands there (None where it is missing), and why it stops."""
+
+    power: int | None = None
+    line: int | None = None
+    stood: str | None = None
+    why: str = ""
+
+    def in_words(self):
+        if self.line is None:
+            return f"yes {self.power}"
+        if self.stood is None:
+            return f"no, line {self.line}: {self.why}"
+        stood = streams.printable(self.stood[:MOST_SHOWN]) + (".." if len(self.stood) > MOST_SHOWN else "")
+        return f"no, line {self.line}: `{stood}` doesn't apply: {self.why}"
+
+
+def lines_of(text):
+    """The lines of a text; the last one may end with it."""
+    found = text.split("\n")
+    return found if found[-1] else found[:-1]
+
+
+def of_text(text):
+    """The lines of the trace that a program's text holds, each with the offset where it begins."""
+    offset = 0
+    for line in lines_of(text):
+        if line.startswith("//!"):
+            yield offset + 3, line[3:]
+        offset += len(line) + 1
+
+
+def read(line):
+    """The word and the numbers of a line."""
+    match = LINE.fullmatch(line)
+    if match is not None:
+        numbers = [int(it) for it in match.group(2).split()]
+        if all(it < MOST for it in numbers):
+            return match.group(1), numbers
+    raise Stop("a line is a word and numbers below 2^32, each without leading zeros and behind one space")
+
+
+def side(path, text):
+    """A program as `checked` wants it: how many wires it has, and its operations."""
+    program, operations = qasm.written_out(path, text)
+    return len(program.wires), operations
+
+
+def checked(source, target, lines):
+    """What a trace says of two programs, each its number of wires and its operations."""
+    lines = list(lines)
+    check = Check(source, target, lines)
+    try:
+        while check.power is None:
+            check.step()
+    except Stop as why:
+        stood = lines[check.done] if check.done < len(lines) else None
+        return Verdict(None, check.done + 1, stood, str(why))
+    return Verdict(check.power)
+
+
+class Check:
+    """What the lines of a trace have led to so far."""
+
+    def __init__(self, source, target, lines):
+        self.lines = lines
+        self.done = 0  # as many lines applied
+        self.wires, operations = source
+        listed, self.turns = gate_lists.expanded(operations)
+        self.list = gate_lists.Gates(listed)
+        self.qubits, operations = target
+        self.target, self.target_turns = gate_lists.expanded(operations)
+        self.written = []  # the gates that were appended
+        self.now = None  # behind `place` the qubit of each wire
+        self.power = None  # behind `end` what is proved
+
+    def step(self):
+        """The next line."""
+        if self.done == len(self.lines):
+            raise Stop(f"the trace ends before `{'end' if self.done else 'TRACE 1'}`")
+        word, numbers = read(self.lines[self.done])
+        if self.done == 0 or word == "TRACE":
+            if self.done or (word, numbers) != ("TRACE", [1]):
+                raise Stop("the first line, and no other, is `TRACE 1`")
+            self.done = 1
+            return
+        if word not in WORDS:
+            raise Stop(f"no line of a trace begins with `{word}`")
+        where, count = WORDS[word]
+        if (where == ABOVE) != (self.now is None):
+            raise Stop(f"`{word}` stands {where}" if word != "place" else "`place` stands once")
+        if count not in (None, len(numbers)):
+            raise Stop(f"`{word}` has {count} number{'s' if count > 1 else ''}")
+        # `sums` takes the lines of its gates besides
+        more = getattr(self, word)(*numbers)
+        self.done += 1 + (more or 0)
+
+    def slot(self, place):
+        if place >= len(self.list):
+            raise Stop(f"there is no place {place} in a list of length {len(self.list)}")
+        return self.list.places.at(place)
+
+    def gate(self, slot):
+        return self.list.gates[slot]
+
+    def at(self, slot):
+        """A gate with its place, in words."""
+        return f"{gate_lists.shown(self.gate(slot))} at place {self.list.places.of(slot)}"
+
+    # lines above `place`
+
+    def rule(self, k, i):
+        first = self.slot(i)
+        if k not in (*TURNED, 5, *CONJUGATED):
+            raise Stop("the rules are 1 to 7")
+        if k in TURNED:
+            made = self.turned(first, *TURNED[k])
+        elif k == 5:
+            made = self.surrounded(first)
+        else:
+            made = self.conjugated(first, CONJUGATED[k])
+        if made is None:
+            wire = gate_lists.wires_of(self.gate(first))[0]
+            there = ", ".join(gate_lists.shown(self.gate(it)) for it in self.list.follow(first, wire, 5))
+            raise Stop(f"no window of rule {k} begins at place {i}: from there on wire {wire} has {there}")
+        edits, turn = made
+        for slot, gate in edits:
+            if gate is None:
+                self.list.take(slot)
+            else:
+                self.list.put(slot, gate)
+        self.turns += turn
+
+    def turned(self, first, middle, new, turn):
+        """The edits of H, `middle`, H on one wire, and the turn; None where they don't stand there."""
+        wire = self.gate(first)[-1]
+        slots = self.list.follow(first, wire, 3)
+        if [self.gate(it) for it in slots] != [("H", wire), (*middle, wire), ("H", wire)]:
+            return None
+        return [(slot, it and (*it, wire)) for slot, it in zip(slots, new)], turn
+
+    def surrounded(self, first):
+        """The same for a CNOT with four H around it, of which the first one stands here."""
+        slots = self.list.follow(first, self.gate(first)[-1], 2)
+        if self.gate(first)[0] != "H" or len(slots) < 2 or self.gate(slots[1])[0] != "C":
+            return None
+        middle = slots[1]
+        _, control, target = self.gate(middle)
+        around = [it.get((middle, wire)) for it in (self.list.before, self.list.behind) for wire in (control, target)]
+        if None in around or [self.gate(it) for it in around] != [("H", control), ("H", target)] * 2 or first != min(around):
+            return None
+        return [(middle, ("C", target, control))] + [(it, None) for it in around], 4
+
+    def conjugated(self, first, k):
+        """The same for H, P(k), a CNOT, P(8 - k), H on the CNOT's target."""
+        wire = self.gate(first)[-1]
+        slots = self.list.follow(first, wire, 5)
+        there = [self.gate(it) for it in slots]
+        if len(there) < 5 or there[:2] + there[3:] != [("H", wire), ("P", k, wire), ("P", 8 - k, wire), ("H", wire)]:
+            return None
+        if there[2][0] != "C" or there[2][2] != wire:
+            return None
+        return [(slots[0], None), (slots[1], ("P", 8 - k, wire)), (slots[3], ("P", k, wire)), (slots[4], None)], 6
+
+    def pair(self, i, j, wanted):
+        """The slots of two gates that cancel or merge, and what is left of them."""
+        if i >= j:
+            raise Stop(f"place {j} isn't behind place {i}")
+        first, second = self.slot(i), self.slot(j)
+        left = gate_lists.cancelled(self.gate(first), self.gate(second))
+        if left is None:
+            raise Stop(f"{self.at(first)} and {self.at(second)} neither cancel nor merge")
+        if left[0] != wanted:
+            says = "cancel with nothing left" if left[0] == "both" else f"merge to P({left[1]})"
+            raise Stop(f"{self.at(first)} and {self.at(second)} {says}")
+        for slot in self.list.between(first, second):
+            if not gate_lists.commute(self.gate(first), self.gate(slot)):
+                raise Stop(f"{self.at(first)} doesn't commute with {self.at(slot)}, which stands between")
+        return first, second, left[1]
+
+    def both(self, i, j):
+        first, second, turn = self.pair(i, j, "both")
+        self.list.take(first)
+        self.list.take(second)
+        self.turns += turn
+
+    def join(self, i, j):
+        first, second, k = self.pair(i, j, "join")
+        self.list.put(first, ("P", k, self.gate(first)[-1]))
+        self.list.take(second)
+
+    def sums(self, count):
+        begins = self.done + 1
+        if begins + count > len(self.lines):
+            raise Stop(f"fewer lines stand behind it, {len(self.lines) - begins}")
+        new = [self.gate_of(it) for it in range(begins, begins + count)]
+        bits = {}
+        old = gate_lists.path_sum(self.wires, self.list.listed(), bits)
+        its = gate_lists.path_sum(self.wires, new, bits)
+        for why in gate_lists.differences(old, its, bits):
+            raise Stop(f"its gates haven't the path sum of the list: {why}")
+        self.list = gate_lists.Gates(new)
+        self.turns += its.constant - old.constant
+        return count
+
+    def gate_of(self, index):
+        """The gate of a line behind `sums`."""
+        try:
+            word, numbers = read(self.lines[index])
+        except Stop:
+            word, numbers = None, []
+        gate = (word, *numbers)
+        if COUNTED.get(word) != len(numbers) or not gate_lists.is_fine(gate, self.wires):
+            raise Stop(f"line {index + 1}, `{self.lines[index]}`, is no gate on wires below {self.wires}")
+        return gate
+
+    def place(self, *qubits):
+        if self.wires > self.qubits:
+            raise Stop(f"{self.wires} wires of the source don't fit on the qubits of the target ({self.qubits})")
+        if sorted(qubits) != list(range(self.qubits)):
+            raise Stop(f"its numbers aren't those below {self.qubits}, each once")
+        self.now = list(qubits)
+
+    # lines behind `place`
+
+    def first(self, i):
+        """The slot of the gate at a place, no gate before it being on a wire of it."""
+        slot = self.slot(i)
+        for wire in gate_lists.wires_of(self.gate(slot)):
+            if (slot, wire) in self.list.before:
+                raise Stop(f"{self.at(slot)} has {self.at(self.list.before[slot, wire])} before it, on wire {wire}")
+        return slot
+
+    def emit(self, i):
+        gate = self.list.take(self.first(i))
+        on = [self.now[it] for it in gate_lists.wires_of(gate)]
+        self.written.append((*gate[: len(gate) - len(on)], *on))
+
+    def back(self, i):
+        slot = self.first(i)
+        if self.gate(slot)[0] != "C":
+            raise Stop(f"{self.at(slot)} is no CNOT")
+        _, control, target = self.list.take(slot)
+        self.written += turned_cnot(self.now[control], self.now[target])
+        self.turns += 4
+
+    def exchange(self, u, v):
+        if u == v or max(u, v) >= self.qubits:
+            raise Stop(f"{u} and {v} aren't two different qubits below {self.qubits}")
+        at_u, at_v = self.now.index(u), self.now.index(v)
+        self.now[at_u], self.now[at_v] = v, u
+
+    def swap(self, u, v):
+        self.exchange(u, v)
+        self.written += [("C", u, v), ("C", v, u), ("C", u, v)]
+
+    def turn(self, u, v):
+        self.exchange(u, v)
+        self.written += [("C", u, v), *turned_cnot(v, u), ("C", u, v)]
+        self.turns += 4
+
+    def end(self, power):
+        if self.done + 1 < len(self.lines):
+            raise Stop("lines stand behind it")
+        if len(self.list):
+            raise Stop(f"the list isn't empty: it begins with {self.at(self.slot(0))}")
+        for i, (one, other) in enumerate(zip(self.written, self.target), 1):
+            if one != other:
+                raise Stop(f"gate {i} of the target is {gate_lists.shown(other)}, and {gate_lists.shown(one)} was appended")
+        if len(self.written) != len(self.target):
+            raise Stop(f"gates of the target: {len(self.target)}; appended: {len(self.written)}")
+        wanted = (self.turns - self.target_turns) % 8
+        if power != wanted:
+            raise Stop(f"all turns together are {wanted}")
+        self.power = power
+
+
+def turned_cnot(control, target):
+    """A CNOT by one the other way round, up to w^4."""
+    around = [("H", control), ("H", target)]
+    return [*around, ("C", target, control), *around]
+

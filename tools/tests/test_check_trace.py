@@ -1,0 +1,286 @@
+import os
+import random
+import sys
+
+from tool import TOP, ToolTest
+
+sys.path.insert(0, os.path.join(TOP, "tools", "lib"))
+import gates
+import traces
+
+HEAD = 'OPENQASM 2.0;\ninclude "qelib1.inc";\n'
+AROUND = "h q[0]; h q[1]; "
+
+# wires and body of the source, qubits and body of the target, the lines behind `TRACE 1`, the power
+RIGHT = {
+    "two T are an S": (1, "t q[0]; t q[0];", 1, "s q[0];", "join 0 1|place 0|emit 0|end 0", 0),
+    "two H go": (1, "h q[0]; h q[0];", 1, "", "both 0 1|place 0|end 6", 6),
+    "two X go": (1, "x q[0]; x q[0];", 1, "", "both 0 1|place 0|end 4", 4),
+    "two CNOTs go": (
+        3, "cx q[0],q[1]; t q[0]; x q[1]; h q[2]; cx q[0],q[2]; cx q[0],q[1];", 3, "t q[0]; x q[1]; h q[2]; cx q[0],q[2];",
+        "both 0 5|place 0 1 2|emit 0|emit 0|emit 0|emit 0|end 0", 0,
+    ),
+    "rule 1": (1, "h q[0]; s q[0]; h q[0];", 1, "sdg q[0]; h q[0]; sdg q[0];", "rule 1 0|place 0|emit 0|emit 0|emit 0|end 6", 6),
+    "rule 2": (1, "h q[0]; sdg q[0]; h q[0];", 1, "s q[0]; h q[0]; s q[0];", "rule 2 0|place 0|emit 0|emit 0|emit 0|end 0", 0),
+    "rule 3": (1, "h q[0]; z q[0]; h q[0];", 1, "x q[0];", "rule 3 0|place 0|emit 0|end 0", 0),
+    "rule 4": (1, "h q[0]; x q[0]; h q[0];", 1, "z q[0];", "rule 4 0|place 0|emit 0|end 4", 4),
+    "rule 5": (2, AROUND + "cx q[0],q[1]; " + AROUND, 2, "cx q[1],q[0];", "rule 5 0|place 0 1|emit 0|end 4", 4),
+    "rule 6": (
+        2, "h q[1]; s q[1]; t q[0]; cx q[0],q[1]; sdg q[1]; h q[1];", 2, "sdg q[1]; t q[0]; cx q[0],q[1]; s q[1];",
+        "rule 6 0|place 0 1|emit 0|emit 0|emit 0|emit 0|end 6", 6,
+    ),
+    "rule 7": (
+        2, "h q[1]; sdg q[1]; cx q[0],q[1]; s q[1]; h q[1];", 2, "s q[1]; cx q[0],q[1]; sdg q[1];",
+        "rule 7 0|place 0 1|emit 0|emit 0|emit 0|end 6", 6,
+    ),
+    "phases on one parity": (
+        2, "cx q[0],q[1]; t q[1]; cx q[0],q[1]; cx q[1],q[0]; t q[0]; cx q[1],q[0];", 2, "cx q[0],q[1]; s q[1]; cx q[0],q[1];",
+        "sums 3|C 0 1|P 2 1|C 0 1|place 0 1|emit 0|emit 0|emit 0|end 0", 0,
+    ),
+    # the old constant is 2 + 1 + 2, the new one 0
+    "a T between X": (1, "x q[0]; t q[0]; x q[0];", 1, "tdg q[0];", "sums 1|P 7 0|place 0|emit 0|end 3", 3),
+    "an X that an H passes": (1, "x q[0]; h q[0];", 1, "h q[0]; z q[0];", "sums 2|H 0|P 4 0|place 0|emit 0|emit 0|end 6", 6),
+    "no gates": (1, "t q[0]; tdg q[0];", 1, "", "sums 0|place 0|end 0", 0),
+    "no wires": (0, "", 0, "", "place|end 0", 0),
+    "a spare qubit": (1, "t q[0];", 3, "t q[2];", "place 2 0 1|emit 0|end 0", 0),
+    "gates out of order": (2, "t q[0]; s q[1];", 2, "s q[1]; t q[0];", "place 0 1|emit 1|emit 0|end 0", 0),
+    "a CNOT turned round": (2, "cx q[0],q[1];", 2, AROUND + "cx q[1],q[0];" + AROUND, "place 0 1|back 0|end 4", 4),
+    "a swap": (2, "t q[0];", 2, "cx q[0],q[1]; cx q[1],q[0]; cx q[0],q[1]; t q[1];", "place 0 1|swap 0 1|emit 0|end 0", 0),
+    "a swap turned round": (
+        2, "t q[0];", 2, f"cx q[0],q[1]; h q[1]; h q[0]; cx q[0],q[1]; h q[1]; h q[0]; cx q[0],q[1]; t q[1];",
+        "place 0 1|turn 0 1|emit 0|end 4", 4,
+    ),
+    # the expansion of a U with an odd first angle takes turn 2, on both sides
+    "turns of both texts": (1, "ry(pi/4) q[0];", 1, "ry(pi/4) q[0];", "place 0|" + "emit 0|" * 5 + "end 0", 0),
+}  # fmt: skip
+
+# of one of these: the line that is exchanged for others, the line that is told, and why
+WRONG = [
+    ("two T are an S", "end 0", "end 4", 5, "all turns together are 0"),
+    ("two T are an S", "end 0", "end 8", 5, "all turns together are 0"),
+    ("two T are an S", "end 0", None, 5, "the trace ends before `end`"),
+    ("two T are an S", "end 0", "end 0|end 0", 5, "lines stand behind it"),
+    ("two T are an S", "end 0", "end 0 0", 5, "`end` has 1 number"),
+    ("two T are an S", "join 0 1", None, 4, "the list isn't empty: it begins with P 1 0 at place 0"),
+    ("two T are an S", "join 0 1", "both 0 1", 2, "P 1 0 at place 0 and P 1 0 at place 1 merge to P(2)"),
+    ("two T are an S", "join 0 1", "join 1 0", 2, "place 0 isn't behind place 1"),
+    ("two T are an S", "join 0 1", "join 0 2", 2, "there is no place 2 in a list of length 2"),
+    ("two T are an S", "join 0 1", "join 0", 2, "`join` has 2 numbers"),
+    ("two T are an S", "join 0 1", "join 0 1|join 0 1", 3, "there is no place 1 in a list of length 1"),
+    ("two T are an S", "join 0 1", "emit 0", 2, "`emit` stands behind `place`"),
+    ("two T are an S", "join 0 1", "TRACE 1", 2, "the first line, and no other, is `TRACE 1`"),
+    ("two T are an S", "join 0 1", "merge 0 1", 2, "no line of a trace begins with `merge`"),
+    ("two T are an S", "place 0", "place 0|place 0", 4, "`place` stands once"),
+    ("two T are an S", "place 0", "place 1", 3, "its numbers aren't those below 1, each once"),
+    ("two T are an S", "place 0", "place 0 1", 3, "its numbers aren't those below 1, each once"),
+    ("two T are an S", "emit 0", "emit 0|emit 0", 5, "there is no place 0 in a list of length 0"),
+    ("two T are an S", "emit 0", "back 0", 4, "P 2 0 at place 0 is no CNOT"),
+    ("two T are an S", "emit 0", "join 0 1", 4, "`join` stands above `place`"),
+    ("two T are an S", "emit 0", "swap 0 0", 4, "0 and 0 aren't two different qubits below 1"),
+    ("two H go", "both 0 1", "join 0 1", 2, "H 0 at place 0 and H 0 at place 1 cancel with nothing left"),
+    ("two H go", "end 6", "end 0", 4, "all turns together are 6"),
+    ("two CNOTs go", "both 0 5", "both 0 4", 2, "C 0 1 at place 0 and C 0 2 at place 4 neither cancel nor merge"),
+    ("two CNOTs go", "emit 0|emit 0|emit 0|emit 0", "emit 3", 4, "C 0 2 at place 3 has P 1 0 at place 0 before it, on wire 0"),
+    ("rule 3", "rule 3 0", "rule 3 1", 2, "no window of rule 3 begins at place 1: from there on wire 0 has P 4 0, H 0"),
+    ("rule 3", "rule 3 0", "rule 8 0", 2, "the rules are 1 to 7"),
+    ("rule 3", "rule 3 0", "place 0|rule 3 0", 3, "`rule` stands above `place`"),
+    ("rule 5", "rule 5 0", "rule 5 1", 2, "no window of rule 5 begins at place 1: from there on wire 1 has H 1, C 0 1, H 1"),
+    ("phases on one parity", "P 2 1", "P 1 1", 2, "its gates haven't the path sum of the list: phases of 1 on wire 0 + wire 1 in place of 2"),
+    ("phases on one parity", "P 2 1", "P 2 2", 2, "line 4, `P 2 2`, is no gate on wires below 2"),
+    ("phases on one parity", "P 2 1", "P 8 1", 2, "line 4, `P 8 1`, is no gate on wires below 2"),
+    ("phases on one parity", "P 2 1", "C 1 1", 2, "line 4, `C 1 1`, is no gate on wires below 2"),
+    ("phases on one parity", "sums 3", "sums 4", 2, "line 6, `place 0 1`, is no gate on wires below 2"),
+    ("phases on one parity", "sums 3", "sums 9", 2, "fewer lines stand behind it, 8"),
+    ("phases on one parity", "sums 3", "sums 2", 2, "its gates haven't the path sum of the list: wire 0 + wire 1 at the end of wire 1 in place of wire 1"),
+    ("a T between X", "P 7 0", "P 1 0", 2, "its gates haven't the path sum of the list: phases of 1 on wire 0 in place of 7"),
+    ("an X that an H passes", "sums 2|H 0", "sums 3|H 0|H 0", 2, "its gates haven't the path sum of the list: 2 H on wire 0 in place of 1"),
+    ("an X that an H passes", "sums 2|H 0", "sums 3|H 0|X 0", 2, "its gates haven't the path sum of the list: H 1 of wire 0 + 1 at the end of wire 0 in place of H 1 of wire 0"),
+    ("a spare qubit", "place 2 0 1", "place 2 0", 2, "its numbers aren't those below 3, each once"),
+    ("a spare qubit", "place 2 0 1", "place 1 0 2", 4, "gate 1 of the target is P 1 2, and P 1 1 was appended"),
+    ("gates out of order", "emit 1|emit 0", "emit 0|emit 0", 5, "gate 1 of the target is P 2 1, and P 1 0 was appended"),
+    ("a CNOT turned round", "back 0", "emit 0", 4, "gate 1 of the target is H 0, and C 0 1 was appended"),
+    ("a CNOT turned round", "end 4", "end 0", 4, "all turns together are 4"),
+    ("a swap", "swap 0 1", "swap 1 0", 5, "gate 1 of the target is C 0 1, and C 1 0 was appended"),
+    ("a swap", "swap 0 1", "swap 0 2", 3, "0 and 2 aren't two different qubits below 2"),
+    ("a swap", "swap 0 1", "swap 0 1|swap 0 1", 6, "gate 4 of the target is P 1 1, and C 0 1 was appended"),
+    ("a swap turned round", "turn 0 1", "swap 0 1", 5, "gate 2 of the target is H 1, and C 1 0 was appended"),
+    ("a swap turned round", "emit 0", None, 4, "the list isn't empty: it begins with P 1 0 at place 0"),
+    ("turns of both texts", "emit 0|emit 0|emit 0|emit 0|emit 0", "emit 0|emit 0|emit 0|emit 0", 7, "the list isn't empty: it begins with P 2 0 at place 0"),
+]  # fmt: skip
+
+
+def program(size, body):
+    register = f"qreg q[{size}];\n" if size else ""
+    return HEAD + register + body + "\n"
+
+
+def commented(lines):
+    return "".join(f"//!{it}\n" for it in lines)
+
+
+class CheckTrace(ToolTest):
+    def checked(self, source, target, *trace):
+        files = [self.file("s", source), self.file("t", target)] + [self.file("trace", it) for it in trace]
+        return self.run_tool("check-trace", *files)
+
+    def said(self, source, target, lines):
+        """What is said of two programs, without a process of its own."""
+        return traces.checked(*(traces.side("", it) for it in (source, target)), lines).in_words()
+
+    def said_of(self, name, lines):
+        """What is said of the programs of a row with other lines."""
+        wires, source, qubits, target, _, _ = RIGHT[name]
+        return self.said(program(wires, source), program(qubits, target), lines)
+
+    def test_right_rows(self):
+        for name, row in RIGHT.items():
+            with self.subTest(name):
+                self.assertEqual(self.said_of(name, ["TRACE 1", *row[4].split("|")]), f"yes {row[5]}")
+
+    def test_wrong_rows(self):
+        for name, old, new, line, why in WRONG:
+            with self.subTest(name=name, new=new):
+                behind = f"|{RIGHT[name][4]}|"
+                self.assertIn(f"|{old}|", behind)
+                lines = f"TRACE 1{behind.replace(f'|{old}|', f'|{new}|' if new else '|', 1)}".strip("|").split("|")
+                stood = f"`{lines[line - 1]}` doesn't apply: " if line <= len(lines) else ""
+                self.assertEqual(self.said_of(name, lines), f"no, line {line}: {stood}{why}")
+
+    def test_each_rule_has_its_window(self):
+        for k in range(1, 8):
+            for other in range(1, 8):
+                lines = ["TRACE 1", *RIGHT[f"rule {k}"][4].replace(f"rule {k}", f"rule {other}").split("|")]
+                said = self.said_of(f"rule {k}", lines)
+                self.assertEqual(said[:12], f"yes {RIGHT[f'rule {k}'][5]}" if k == other else "no, line 2: ", (k, other))
+
+    def test_gates_between(self):
+        # what the first gate doesn't commute with
+        for gate in ("t q[1];", "x q[0];", "h q[0];", "cx q[1],q[2];", "cx q[2],q[0];", "cx q[1],q[0];"):
+            source = program(3, f"cx q[0],q[1]; h q[2]; {gate} cx q[0],q[1];")
+            said = self.said(source, program(3, ""), ["TRACE 1", "both 0 3"])
+            wanted = "no, line 2: `both 0 3` doesn't apply: C 0 1 at place 0 doesn't commute with "
+            self.assertEqual(said[: len(wanted)], wanted, gate)
+        for gate in ("s q[0];", "x q[1];", "h q[2];", "cx q[0],q[2];", "cx q[2],q[1];", "x q[2];"):
+            source = program(3, f"cx q[0],q[1]; {gate} cx q[0],q[1];")
+            said = self.said(source, program(3, ""), ["TRACE 1", "both 0 2"])
+            self.assertEqual(said, "no, line 3: the trace ends before `end`", gate)
+
+    def test_windows_lie_on_wires(self):
+        # other wires don't matter, a gate on the window's wires does
+        for between, line in (("t q[2]; cx q[2],q[3];", 3), ("t q[0];", 2), ("cx q[2],q[1];", 2)):
+            source = program(4, f"h q[1]; h q[0]; {between} cx q[0],q[1]; {AROUND}")
+            said = self.said(source, program(4, ""), ["TRACE 1", "rule 5 0"])
+            self.assertEqual(said[: said.index(":")], f"no, line {line}", between)
+
+    def test_what_is_a_line(self):
+        lines = ["TRACE 1", "join 0 1", "place 0", "emit 0", "end 0"]
+        for i, other in (
+            (0, "trace 1"), (0, "TRACE 2"), (0, "TRACE 01"), (0, " TRACE 1"), (0, "TRACE 1 "), (0, "TRACE"), (0, ""),
+            (1, "join  0 1"), (1, "join 0\t1"), (1, "join 0 +1"), (1, "join 0 01"), (1, "join 0 1\r"), (1, "join -0 1"),
+            (1, "join 0 4294967296"), (1, "join 0 0x1"), (1, "join0 1"), (1, "join 0 1."), (1, "\x00"), (1, "join 0 \xb2"),
+            (1, "rule 0 0"), (1, "rule 4294967295 4294967295"), (1, "sums 4294967295"), (1, "join 0 " + "1" * 5000),
+            (4, "end"), (4, "END 0"), (4, "end 0 "),
+        ):  # fmt: skip
+            changed = lines[:i] + [other] + lines[i + 1 :]
+            self.assertTrue(self.said_of("two T are an S", changed).startswith(f"no, line {i + 1}: `"), other)
+        said = self.said_of("two T are an S", ["TRACE 1", "\x1b[31m" + "x" * 100])
+        self.assertIn("no, line 2: `\\x1b[31m" + "x" * 75 + "..` doesn't apply: a line is a word", said)
+
+    def test_the_trace_of_a_text(self):
+        source, head = program(1, "t q[0]; t q[0];"), program(1, "s q[0];")
+        lines = ["TRACE 1", "join 0 1", "place 0", "emit 0", "end 0"]
+        found = commented(lines)
+        around = "// no line\n" + found.replace("//!place", "// //!no\n //!no\n\n//! ".rstrip("! ") + "\n//!place")
+        for text in (head + found, head + found[:-1], found + head, head + around, head.replace("s q", f"\n{found}s q")):
+            self.assertEqual(self.checked(source, text), (0, "yes 0\n", ""), text)
+        self.assertEqual(self.checked(source, head)[:2], (1, "no, line 1: the trace ends before `TRACE 1`\n"))
+        self.assertEqual(self.checked(source, head + found.replace("//!j", " //!j"))[1][:11], "no, line 4:")
+        self.assertEqual(self.checked(source, head + found.replace("\n", "\r\n"))[1][:11], "no, line 1:")
+        # a file of its own, whatever the text holds
+        own = "".join(f"{it}\n" for it in lines)
+        self.assertEqual(self.checked(source, head, own), (0, "yes 0\n", ""))
+        self.assertEqual(self.checked(source, head + "//!TRACE 2\n", own[:-1]), (0, "yes 0\n", ""))
+        self.assertEqual(self.checked(source, head + found, "")[1], "no, line 1: the trace ends before `TRACE 1`\n")
+        self.assertEqual(self.checked(source, head + found, "\n")[1][:14], "no, line 1: ``")
+
+    def test_fewer_qubits_than_wires(self):
+        said = self.said(program(2, ""), program(1, ""), ["TRACE 1", "place 0", "end 0"])
+        why = "2 wires of the source don't fit on the qubits of the target (1)"
+        self.assertEqual(said, f"no, line 2: `place 0` doesn't apply: {why}")
+
+    def test_a_toffoli_gate(self):
+        """What was written for examples/toffoli.qasm on devices/line_5.toml, and each line of its trace left out."""
+        with open(os.path.join(TOP, "tools/tests/toffoli_traced.qasm"), encoding="utf-8") as file:
+            text = file.read()
+        source = os.path.join(TOP, "examples/toffoli.qasm")
+        self.assertEqual(self.run_tool("check-trace", source, self.file("t", text)), (0, "yes 0\n", ""))
+        lines = [line for _, line in traces.of_text(text)]
+        with open(source, encoding="utf-8") as file:
+            given = file.read()
+        for i, line in enumerate(lines):
+            self.assertEqual(self.said(given, text, lines[:i] + lines[i + 1 :])[:9], "no, line ", line)
+
+    def test_programs_that_are_refused(self):
+        right, target = program(1, ""), program(1, "") + commented(["TRACE 1", "place 0", "end 0"])
+        self.assertEqual(self.checked(right, target)[0], 0)
+        for wrong, why in (
+            ("OPENQASM 2.0;\nqreg q;\n", ":2: ';' where [ is wanted"),
+            ("OPENQASM 2.0;\nqreg q[0];\n", ":2: a register must have a size of at least 1"),
+            (program(1, "u1(pi/8) q[0];"), ": an angle that is no multiple of pi/4"),
+            (program(1, "creg c[1]; measure q[0] -> c[0]; x q[0];"), ": a gate is on a qubit that was measured before"),
+        ):
+            status, out, err = self.checked(wrong, target)
+            self.assertEqual((status, out, err), (3, "", f"check-trace: the source is refused: {self.room}/s{why}\n"))
+            status, out, err = self.checked(right, wrong)
+            self.assertEqual((status, out, err), (3, "", f"check-trace: the target is refused: {self.room}/t{why}\n"))
+        # the source is looked at before the target is there
+        ran = self.run_tool("check-trace", self.file("s", "OPENQASM"), f"{self.room}/none")
+        self.assertEqual((ran[0], ran[1]), (3, ""))
+
+    def test_a_name_that_gets_another_meaning(self):
+        # before its own declaration `p` is the library's; a function is read where nothing applies it
+        body = "p(pi/4) q[0]; gate p a { x a; } p q[0]; gate f(a) b { rz(sin(a)) b; }"
+        lines = ["TRACE 1", "place 0", "emit 0", "emit 0", "end 0"]
+        self.assertEqual(self.said(program(1, body), program(1, "t q[0]; x q[0];"), lines), "yes 0")
+
+    def test_words(self):
+        path = self.file("p", program(1, ""))
+        for words in ([], [path], [path] * 4, ["--device", path, path]):
+            self.assertEqual(self.run_tool("check-trace", *words)[:2], (2, ""))
+        self.assertEqual(self.run_tool("check-trace", "--help")[0], 0)
+        status, out, err = self.run_tool("check-trace", path, path, f"{self.room}/none")
+        self.assertEqual((status, out, err), (2, "", f"check-trace: {self.room}/none: No such file or directory\n"))
+
+
+class Places(ToolTest):
+    def test_places_in_a_list_that_shrinks(self):
+        draw = random.Random(1)
+        for size in (0, 1, 2, 7, 8, 9, 100):
+            places, left = gates.Places(size), list(range(size))
+            while left:
+                place = draw.randrange(len(left))
+                self.assertEqual([places.at(it) for it in range(len(left))], left)
+                self.assertEqual([places.of(it) for it in left], list(range(len(left))))
+                places.take(left.pop(place))
+            self.assertEqual(places.left, 0)
+
+    def test_neighbours_on_wires(self):
+        draw = random.Random(2)
+        drawn = [draw.choice([("H", it % 4), ("P", 3, it % 3), ("C", it % 4, (it + 1) % 4)]) for it in range(60)]
+        left, listed = list(enumerate(drawn)), gates.Gates(drawn)
+        while left:
+            listed.take(left.pop(draw.randrange(len(left)))[0])
+            for wire in range(4):
+                on = [slot for slot, it in left if wire in gates.wires_of(it)]
+                self.assertEqual(listed.follow(on[0], wire, 99) if on else [], on)
+        self.assertEqual((len(listed), listed.before, listed.behind), (0, {}, {}))
+
+
+class Expansion(ToolTest):
+    def test_every_angle(self):
+        self.assertEqual(gates.gates_of(("U", 1, 0, 0, 5)), ([("P", 6, 5), ("H", 5), ("P", 1, 5), ("H", 5), ("P", 2, 5)], 2))
+        self.assertEqual(gates.gates_of(("U", 0, 5, 3, 0)), ([], 0))
+        self.assertEqual(gates.gates_of(("U", 2, 1, 5, 0)), ([("P", 1, 0), ("H", 0), ("P", 1, 0)], 0))
+        self.assertEqual(gates.gates_of(("U", 4, 0, 4, 0)), ([("X", 0)], 0))
+        self.assertEqual(gates.gates_of(("U", 6, 4, 2, 0)), ([("P", 2, 0), ("H", 0)], 2))
+        self.assertEqual(traces.gate_lists.expanded([("U", 6, 0, 0, 0)] * 5 + [("CX", 1, 0)])[1], 2)
