@@ -19,4 +19,5 @@ pub mod TermLaws
 pub mod WalkLaws
 pub mod NamedLaws
 pub mod NamingLaws
+pub mod SumLaws
 pub mod SwapSums
