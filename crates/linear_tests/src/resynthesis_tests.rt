@@ -4,7 +4,7 @@ use crate::plain::walked;
 use circuit_list::{Circuit, Gate};
 use gf2_linear::Row;
 use phase_poly::{ResynthPass, layers, poly, resynth};
-use rewrite_pass::Pass;
+use rewrite_pass::{Pass, Trace, Traced};
 use std::alloc::{AllocError, Global};
 use std::test::Fail;
 
@@ -181,17 +181,66 @@ fn drawn(alloc: Global, seed: u32) -> Result<Circuit, AllocError> {
     Ok(body)
 }
 
-/// The pass gives what the written walk gives.
+/// A trace gets one step, with the gates of the result, where a layer is replaced, and none where no layer is. In the first row
+/// an X comes in the place of two: the constant was 4 and is 2, so the turn is 6.
+#[test]
+fn tells_one_step(rt: HostRuntime) -> Result<(), Fail> {
+    let alloc = rt.alloc();
+    let flipped = [
+        Gate::X { q: 0 },
+        Gate::Cx { c: 0, t: 1 },
+        Gate::X { q: 0 },
+        Gate::Cx { c: 0, t: 1 },
+    ];
+    let two_layers = [
+        Gate::Cx { c: 0, t: 1 },
+        Gate::Cx { c: 1, t: 2 },
+        Gate::Cx { c: 0, t: 1 },
+        Gate::Cx { c: 1, t: 2 },
+        Gate::H { q: 1 },
+        Gate::H { q: 0 },
+        Gate::Cx { c: 0, t: 1 },
+        Gate::P { k: 1, q: 1 },
+    ];
+    let none = [Gate::H { q: 1 }, Gate::H { q: 0 }, Gate::Cx { c: 0, t: 1 }];
+    let rows = [
+        (flipped.as_slice(), "sums 1\nX 1\n", 6),
+        (
+            two_layers.as_slice(),
+            "sums 5\nC 0 2\nH 0\nH 1\nC 0 1\nP 1 1\n",
+            0,
+        ),
+        (none.as_slice(), "", 0),
+    ];
+    'rows: for (list, lines, turn) in rows {
+        let mut body = Circuit::empty(alloc, 3)?;
+        for gate in list {
+            push_fine(&mut body, *gate)?;
+        }
+        let mut trace = Trace::start(alloc);
+        let passed = ResynthPass.run_traced(alloc, body, &mut trace)?;
+        assert_eq!(rt; passed.turn, turn, "for {lines}");
+        assert_eq!(rt; trace.lines()?.as_slice(), lines.as_bytes());
+    }
+    Ok(())
+}
+
+/// The pass gives what the written walk gives, and gives the same with a trace.
 #[test]
 fn as_the_written_walk(rt: HostRuntime) -> Result<(), Fail> {
     for seed in 0..64u32 {
         let body = drawn(rt.alloc(), seed)?;
         let expected = walked(rt.alloc(), &body)?;
+        let mut trace = Trace::start(rt.alloc());
+        let traced = ResynthPass.run_traced(rt.alloc(), body.copy()?, &mut trace)?;
         let passed = ResynthPass.run(rt.alloc(), body)?;
         assert_eq!(rt; passed.body.len(), expected.len(), "at {seed}");
+        assert_eq!(rt; traced.body.len(), expected.len(), "at {seed}");
+        assert_eq!(rt; traced.turn, passed.turn, "at {seed}");
         for place in 0..expected.len() {
-            if place < passed.body.len() {
+            if place < passed.body.len() && place < traced.body.len() {
                 assert_eq!(rt; passed.body.gate(place), expected[place], "at {seed}");
+                assert_eq!(rt; traced.body.gate(place), expected[place], "at {seed}");
             }
         }
     }

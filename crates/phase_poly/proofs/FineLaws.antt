@@ -3,7 +3,7 @@
 --   rewriting_new       they are a rewriting
 --   bound_new, bound_old   the bound, where they are taken and where not
 --   dihedral_told, told  the layers are dihedral, and the gates are replaced layers, as the function knows it
-use Rattle.std.proofs.Common.{◌≡◌, ℕ, zero, suc, ◌<◌, ◌≤◌, Bool, true, false, cond, All, List, [], ◌∷◌, ◌++◌, sym, subst, arith, inl, inr}
+use Rattle.std.proofs.Common.{◌≡◌, ℕ, zero, suc, ◌<◌, ◌≤◌, Bool, true, false, cond, All, List, [], ◌∷◌, sym, subst, arith, inl, inr}
 use Rattle.std.specs.Prelude.{nat_lt}
 use Rattle.unitary_model.specs.Operations.{cx_count}
 use Rattle.circuit_list.specs.declared.Gate.{Gate}
@@ -15,6 +15,7 @@ use Rattle.phase_poly.specs.Resynthesis.{AllBelow}
 use Rattle.phase_poly.specs.Replaced.{IsTaken, IsReplaced, AreFine, DihedralLayers, IsRelinked, KeepsBound, lesser}
 use Rattle.rewrite_pass.specs.Law.{IsRewriting}
 use Rattle.rewrite_pass.proofs.RewritingLaws.{Step-IsRewriting}
+use Rattle.phase_poly.proofs.LayerLaws.{fine-append}
 use Rattle.phase_poly.proofs.PassLaws.{layers_dihedral, resynth_step, layers_few}
 
 pub fine_of : (n : ℕ) (gs : List Gate) → All (IsFine n) gs → AreFine n gs
@@ -25,10 +26,6 @@ pub of_fine : (n : ℕ) (gs : List Gate) → AreFine n gs → All (IsFine n) gs
 of_fine n [] h k d l = absurd (omega arith)
 of_fine n (g ∷ gs) h zero d l = h.0
 of_fine n (g ∷ gs) h (suc k) d l = of_fine n gs h.1 k d (omega arith)
-
-fine-append : (n : ℕ) (A B : List Gate) → AreFine n A → AreFine n B → AreFine n (A ++ B)
-fine-append n [] B f g = g
-fine-append n (x ∷ A) B f g = (f.0, fine-append n A B f.1 g)
 
 dihedral_fine : (n : ℕ) (gs : List Gate) → AreDihedral n gs → AreFine n gs
 dihedral_fine n [] f = tt

@@ -2,8 +2,11 @@ pub mod BlockLaws
 pub mod BuildLaws
 pub mod BuildingLaws
 pub mod FineLaws
+pub mod LayerAlike
 pub mod LayerExamples
 pub mod LayerLaws
+pub mod LayerSums
+pub mod ListSums
 pub mod MapLaws
 pub mod MeaningLaws
 pub mod PassLaws
@@ -16,3 +19,5 @@ pub mod TermLaws
 pub mod WalkLaws
 pub mod NamedLaws
 pub mod NamingLaws
+pub mod SumLaws
+pub mod SwapSums

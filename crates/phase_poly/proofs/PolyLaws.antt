@@ -1,6 +1,7 @@
 -- What a polynomial says of a list: the labels at its end, the turn of each value of the wires, and the odd path parities.
 --   Agrees n p w        map and flips are the wires' labels
 --   walked_*            the polynomial of a list against its path sum
+--   SameWalk n t p r    r is as p, but t more in the constant;  same_walk: so where the polynomials are the same
 --   same_turns          lists with the same polynomial, but t more in the constant, are `Turns t`
 --   same_covers, covers_back    and they cover one another
 --   same_odd_paths      so they have as many odd path parities
@@ -183,7 +184,7 @@ flip_turn (H q ∷ gs) = flip_turn gs
 flip_turn (P k q ∷ gs) = flip_turn gs
 flip_turn (Cx c t ∷ gs) = flip_turn gs
 
-walked_coefficient : (n m : ℕ) (gs : List Gate) (p : PolyBody) (w : Wires) → AreDihedral n gs → Agrees n p w →
+pub walked_coefficient : (n m : ℕ) (gs : List Gate) (p : PolyBody) (w : Wires) → AreDihedral n gs → Agrees n p w →
     coefficient m (polyed_all gs p).terms % 8 ≡ (coefficient m p.terms + total m (signed (marks gs w n))) % 8
 walked_coefficient n m [] p w f h = ap (λ z. z % 8) (more (coefficient m p.terms))
   where
@@ -210,7 +211,7 @@ walked_coefficient n m (P k q ∷ gs) p w f h =
     here true e = coefficient-with m (get_or p.map q 0) (8 - k) p.terms ∙ (λ i. (coefficient m p.terms + cond (nat_eq (h.rows q f.0.0 i) m) (cond ((sym e ∙ h.bits q f.0.0) i) (8 - k) k) 0) % 8)
     here false e = coefficient-with m (get_or p.map q 0) k p.terms ∙ (λ i. (coefficient m p.terms + cond (nat_eq (h.rows q f.0.0 i) m) (cond ((sym e ∙ h.bits q f.0.0) i) (8 - k) k) 0) % 8)
 
-walked_constant : (n : ℕ) (gs : List Gate) (p : PolyBody) (w : Wires) → AreDihedral n gs → Agrees n p w →
+pub walked_constant : (n : ℕ) (gs : List Gate) (p : PolyBody) (w : Wires) → AreDihedral n gs → Agrees n p w →
     (polyed_all gs p).constant % 8 ≡ (p.constant + (constant (marks gs w n) + flip_turn gs)) % 8
 walked_constant n [] p w f h = ap (λ z. z % 8) (more p.constant)
   where
@@ -281,13 +282,13 @@ elsewhere n q (Cx c t ∷ gs) w le f = elsewhere n q gs (with_label w t (add_lab
     off = let h : t < n = f.0.1.0 in grind (arith, nat_tests)
 
 -- ---- the law
-record SameWalk (n t : ℕ) (p r : PolyBody) : Type 0 where
-  map : r.map ≡ p.map
-  flips : r.flips ≡ p.flips
-  coefficients : (m : ℕ) → coefficient m r.terms % 8 ≡ coefficient m p.terms % 8
-  constant : r.constant ≡ (p.constant + t) % 8
+pub record SameWalk (n t : ℕ) (p r : PolyBody) : Type 0 where
+  pub map : r.map ≡ p.map
+  pub flips : r.flips ≡ p.flips
+  pub coefficients : (m : ℕ) → coefficient m r.terms % 8 ≡ coefficient m p.terms % 8
+  pub constant : r.constant ≡ (p.constant + t) % 8
 
-same_walk : (n t : ℕ) (A B : List Gate) → SamePoly n t A B → SameWalk n t (walked_poly n A) (walked_poly n B)
+pub same_walk : (n t : ℕ) (A B : List Gate) → SamePoly n t A B → SameWalk n t (walked_poly n A) (walked_poly n B)
 same_walk n t A B s = record {
   map = s.map;
   flips = s.flips;

@@ -1,20 +1,21 @@
 //! The pass that resynthesises layers.
 
-ghost use Rattle.std.specs.Prelude.{◌≡◌, ◌≤◌, All, IfOk};
+ghost use Rattle.std.specs.Prelude.{◌≡◌, ◌≤◌, All, IfOk, IfSome, MatchOption};
 ghost use Rattle.circuit_list.specs.Gates.{most_wires, IsFine};
 ghost use Rattle.rewrite_pass.specs.Law.{IsRewriting};
+ghost use Rattle.rewrite_pass.specs.Traces.{IsSumsStep};
 ghost use Rattle.phase_poly.specs.Replaced.{KeepsBound};
 
 use crate::levels::layers;
 use crate::relinking::{cx_number, relinked};
 use circuit_list::{Circuit, Gate, Passed};
-use rewrite_pass::Pass;
+use rewrite_pass::{Pass, Trace, Traced};
 use std::alloc::{AllocError, Global};
 
 /// Replaces each layer by its resynthesis where that has fewer CNOTs: the circuit is then its layers in order, each
 /// followed by its H on ascending wires. Where no layer is replaced the circuit comes back as it is. Results are any
 /// circuits; their CNOTs are at most, layer by layer, the lesser of the layer's own and `(b + 1) * n * n` for b
-/// independent blocks of its sums, on n wires.
+/// independent blocks of its sums, on n wires. A trace gets one step, with the new gates, where a layer is replaced.
 #[derive(Clone, Copy, Debug)]
 pub struct ResynthPass;
 
@@ -24,27 +25,49 @@ impl Pass for ResynthPass {
     ghost kept = { KeepsBound };
 
     fn run(&self, alloc: Global, body: Circuit) -> Result<Passed, AllocError> {
-        let passed = remade(alloc, body)?;
-        Ok(passed)
+        match remade(alloc, &body)? {
+            Some(passed) => Ok(passed),
+            None => Ok(Passed { body, turn: 0 }),
+        }
     }
 }
 
-/// What [`ResynthPass`] gives.
-fn remade(alloc: Global, body: Circuit) -> Result<Passed, AllocError>
-    ensures wires { IfOk result (λ p. p.body.wires ≡ body.wires) }
-    ensures law { IfOk result (λ p. IsRewriting body.wires body.gates p.body.gates p.turn) }
-    ensures kept { IfOk result (λ p. KeepsBound body.wires body.gates p.body.gates) }
+impl Traced for ResynthPass {
+    fn run_traced(
+        &self,
+        alloc: Global,
+        body: Circuit,
+        trace: &mut Trace,
+    ) -> Result<Passed, AllocError> {
+        match remade(alloc, &body)? {
+            Some(passed) => {
+                trace.push_sums(&body, &passed.body)?;
+                Ok(passed)
+            }
+            None => Ok(Passed { body, turn: 0 }),
+        }
+    }
+}
+
+/// What [`ResynthPass`] gives, where it has fewer CNOTs than the circuit. It has the path sum of the circuit, so one step leads
+/// there.
+fn remade(alloc: Global, body: &Circuit) -> Result<Option<Passed>, AllocError>
+    ensures wires { IfOk result (λ o. IfSome o (λ p. p.body.wires ≡ body.now.wires)) }
+    ensures law { IfOk result (λ o. IfSome o (λ p. IsRewriting body.now.wires body.now.gates p.body.gates p.turn)) }
+    ensures kept { IfOk result (λ o. MatchOption o (KeepsBound body.now.wires body.now.gates body.now.gates)
+        (λ p. KeepsBound body.now.wires body.now.gates p.body.gates)) }
+    ensures sums { IfOk result (λ o. IfSome o (λ p. IsSumsStep body.now.wires p.body.gates body.now.gates p.body.gates p.turn)) }
 {
-    let layers = layers(alloc, &body)?;
+    let layers = layers(alloc, body)?;
     let other = relinked(alloc, body.wires(), &layers)?;
     if cx_number(&other.list) < body.count_cx() {
         let made = circuit_of(alloc, body.wires(), &other.list)?;
-        return Ok(Passed {
+        return Ok(Some(Passed {
             body: made,
             turn: other.turn,
-        });
+        }));
     }
-    Ok(Passed { body, turn: 0 })
+    Ok(None)
 }
 
 /// A circuit of these gates.
