@@ -1,6 +1,6 @@
 //! The routing machine's run, and the layout that two of its runs find.
 
-ghost use Rattle.std.specs.Prelude.{◌≡◌, ℕ, [], ◌+◌, ◌*◌, ◌≤◌, All, IfOk, OnOk, length};
+ghost use Rattle.std.specs.Prelude.{◌≡◌, ℕ, [], ◌+◌, ◌*◌, ◌≤◌, All, IfOk, IfSome, OnOk, length};
 ghost use Rattle.circuit_list.specs.declared.Gate.{Gate};
 ghost use Rattle.circuit_list.specs.Gates.{IsFine, ops};
 ghost use Rattle.coupling_map.specs.Coupling.{cost};
@@ -9,7 +9,9 @@ ghost use Rattle.coupling_map.specs.Walks.{IsDiameter};
 ghost use Rattle.sabre_route.specs.Machine.{IsChosen, IsEmittable, IsWalk};
 ghost use Rattle.sabre_route.specs.Measures.{bound};
 ghost use Rattle.sabre_route.specs.Routing.{IsLayout, IsRouted};
-ghost use Rattle.sabre_route.specs.Underway.{HasEnded, HasStepped, IsFitting, IsMove, IsRealising};
+ghost use Rattle.sabre_route.specs.Teller.{HasToldStep};
+ghost use Rattle.sabre_route.specs.Telling.{IsRoutedBy};
+ghost use Rattle.sabre_route.specs.Underway.{HasEnded, IsFitting, IsMove, IsRealising};
 ghost use Rattle.unitary_model.specs.Operations.{cx_count, t_count};
 ghost use Rattle.unitary_model.specs.Placement.{IsPlacement};
 ghost use Rattle.unitary_model.specs.Realises.{Realises};
@@ -17,6 +19,7 @@ ghost use Rattle.unitary_model.specs.Realises.{Realises};
 use crate::best::QUBITS;
 use crate::choice::{Room, choose_swap_in};
 use crate::emission::Written;
+use crate::events::{Event, Teller};
 use crate::laws::few_swaps;
 use crate::links::gates_of;
 use crate::state::RouteState;
@@ -98,18 +101,20 @@ fn step(room: &mut Room, state: &mut RouteState, device: &Device) -> Result<Move
     Ok(Move::Swapped(a, b))
 }
 
-/// One step of the machine, and what it does is written.
+/// One step of the machine, and what it does is written, and told where the teller tells.
 fn write_step(
     room: &mut Room,
     state: &mut RouteState,
     device: &Device,
     written: &mut Written,
+    teller: &mut Teller,
 ) -> Result<(), AllocError>
     requires placed { length state.old.placement ≡ device.now.size }
     requires fine { All (IsFine device.now.size) state.old.rest }
-    requires left { state.old.rest ≡ [] → ⊥ }
+    requires some { state.old.rest ≡ [] → ⊥ }
     requires fits { IsFitting device.now.size written.old }
-    ensures { OnOk result (HasStepped device.now state.old written.old state.new written.new) }
+    requires left { IfSome teller.old.left (λ gs. gs ≡ state.old.rest) }
+    ensures { OnOk result (HasToldStep device.now state.old written.old teller.old state.new written.new teller.new) }
 {
     // Their contracts say that near qubits are qubits of the device, and that the wires stand on
     // different qubits.
@@ -117,25 +122,35 @@ fn write_step(
     let _size = device.size();
     let _qubits = state.placement().size();
     match step(room, state, device)? {
-        Move::Emitted(gate) => written.write_gate(device, state.placement(), gate),
-        Move::Swapped(a, b) => written.write_swap(device, a, b),
+        Move::Emitted(gate) => {
+            teller.emit(gate)?;
+            written.write_gate(device, state.placement(), gate)
+        }
+        Move::Swapped(a, b) => {
+            teller.swap(a, b)?;
+            written.write_swap(device, a, b)
+        }
     }
 }
 
-/// The machine's run over a list of gates, and what it writes.
+/// The machine's run over a list of gates, what it writes, and its events where the teller tells them.
 fn run(
     alloc: Global,
     gates: Vec<Gate>,
     wires: u32,
     device: &Device,
     given: Placement,
-) -> Result<Routed, AllocError>
+    teller: Teller,
+) -> Result<(Routed, Vec<Event>), AllocError>
     requires fine { All (IsFine wires) gates.items }
     requires fits { wires ≤ device.now.size }
     requires placed { length given ≡ device.now.size }
-    ensures wires { IfOk result (λ r. r.body.wires ≡ device.now.size) }
-    ensures run { IfOk result (λ r. IsRouted device.now gates.items given r) }
-    ensures realises { IfOk result (λ r. IsRealising device.now wires gates.items given r) }
+    requires left { IfSome teller.left (λ gs. gs ≡ gates.items) }
+    requires untold { teller.events.items ≡ [] }
+    ensures wires { IfOk result (λ r. r.0.body.wires ≡ device.now.size) }
+    ensures run { IfOk result (λ r. IsRouted device.now gates.items given r.0) }
+    ensures events { IfSome teller.left (λ gs. IfOk result (λ r. IsRoutedBy device.now gs given r.0 r.1.items)) }
+    ensures realises { IfOk result (λ r. IsRealising device.now wires gates.items given r.0) }
 {
     // Their contracts say what distances are, and that `given` is a placement.
     distances_on_device();
@@ -143,17 +158,19 @@ fn run(
     let size = device.size();
     let mut state = RouteState::start(alloc, gates, wires, given)?;
     let mut written = Written::nothing(alloc, size)?;
+    let mut teller = teller;
     let mut room = [(0, 0); QUBITS];
     'steps: while !state.is_done() {
-        write_step(&mut room, &mut state, device, &mut written)?;
+        write_step(&mut room, &mut state, device, &mut written, &mut teller)?;
     }
     let Written { body, swaps, turn } = written;
-    Ok(Routed {
+    let routed = Routed {
         body,
         last: state.into_placement(),
         swaps,
         turn,
-    })
+    };
+    Ok((routed, teller.events))
 }
 
 /// The placement at the end of the machine's run over a list of gates.
@@ -215,8 +232,45 @@ pub fn route(
     let _qubits = given.size();
     let wires = circuit.wires();
     let gates = gates_of(alloc, circuit)?;
-    let routed = run(alloc, gates, wires, device, given)?;
+    let teller = Teller::silent(alloc);
+    let (routed, _events) = run(alloc, gates, wires, device, given, teller)?;
     Ok(routed)
+}
+
+/// What [`route`] gives, and the events of the machine's run in their order. It takes as many steps as `route`, and for each
+/// event as many more as the logarithm of the number of gates.
+///
+/// It asks for what `route` asks for; want of memory is the only error, and leaves nothing behind.
+pub fn route_traced(
+    alloc: Global,
+    circuit: &Circuit,
+    device: &Device,
+    given: Placement,
+) -> Result<(Routed, Vec<Event>), AllocError>
+    requires fits { circuit.now.wires ≤ device.now.size }
+    requires placed { length given ≡ device.now.size }
+    ensures events { IfOk result (λ r. IsRoutedBy device.now circuit.now.gates given r.0 r.1.items) }
+    ensures run { IfOk result (λ r. IsRouted device.now circuit.now.gates given r.0) }
+    ensures wires { IfOk result (λ r. r.0.body.wires ≡ device.now.size) }
+    ensures realises { IfOk result (λ r.
+        Realises (ops circuit.now.gates) circuit.now.wires (ops r.0.body.gates) device.now.size given r.0.last r.0.turn) }
+    ensures edges { IfOk result (λ r. FollowsEdges device.now.edges (ops r.0.body.gates)) }
+    ensures t_count { IfOk result (λ r. t_count (ops r.0.body.gates) ≡ t_count (ops circuit.now.gates)) }
+    ensures cx_count { IfOk result (λ r.
+        cx_count (ops r.0.body.gates) ≡ cx_count (ops circuit.now.gates) + 3 * r.0.swaps) }
+    ensures few_swaps { IfOk result (λ r. (k : ℕ) → IsDiameter device.now.size device.now.edges (cost device.now) k →
+        r.0.swaps ≤ cx_count (ops circuit.now.gates) * bound device.now k) }
+{
+    // Their contracts say how few swaps a run has, that the device is connected, and that `given` is a
+    // placement.
+    few_swaps();
+    let _size = device.size();
+    let _qubits = given.size();
+    let wires = circuit.wires();
+    let gates = gates_of(alloc, circuit)?;
+    let teller = Teller::telling(alloc, circuit)?;
+    let (routed, events) = run(alloc, gates, wires, device, given, teller)?;
+    Ok((routed, events))
 }
 
 /// The placement at which to begin: where the machine ends over the circuit from the identity, and

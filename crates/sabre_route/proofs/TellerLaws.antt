@@ -1,0 +1,143 @@
+-- Telling the events of a run, where they are asked for.
+--   telling-start           a teller that hasn't told anything
+--   telling-known           it knows the gates that are left
+--   known-first             so an emitted gate is first on its wires there
+--   emitted-told, swapped-told     a step, what is written and what is told of it
+--   told-run_start, told-run_stepped     the machine underway
+--   routed-told             the machine ended, where its events were told
+use Rattle.std.proofs.Common.{◌≡◌, ℕ, Bool, true, false, List, [], ◌∷◌, ◌++◌, Option, None, Some, remove, refl, sym, ◌∙◌, ap, subst}
+use Rattle.std.proofs.lemmas.List.{map-append}
+use Rattle.std.specs.Option.{IfSome, is_some}
+use Rattle.circuit_list.specs.declared.Gate.{Gate}
+use Rattle.coupling_map.specs.Coupling.{Coupling}
+use Rattle.sabre_route.specs.declared.emission.Written.{Written}
+use Rattle.sabre_route.specs.declared.events.Event.{Event as Told}
+use Rattle.sabre_route.specs.declared.events.Event.TheVariants.{Emit as ToldEmit, Swap as ToldSwap}
+use Rattle.sabre_route.specs.declared.events.Teller.{Teller}
+use Rattle.sabre_route.specs.declared.router.Move.TheVariants.{Emitted}
+use Rattle.sabre_route.specs.Emission.{emitted, emitted_turn, swap_gates, swap_turn}
+use Rattle.sabre_route.specs.Left.{IsFirstGate}
+use Rattle.sabre_route.specs.Machine.{Event, State, Emit, Swap, start, IsEmission, IsExchange}
+use Rattle.sabre_route.specs.Teller.{HasEmitted, HasSwapped, HasToldStep, IsTelling, IsToldRun, left_if, told_if}
+use Rattle.sabre_route.specs.Telling.{told, IsRoutedBy}
+use Rattle.sabre_route.specs.Underway.{HasWritten, IsMove}
+use Rattle.sabre_route.proofs.BoundLaws.{emitted-parts, swapped-parts}
+use Rattle.sabre_route.proofs.LeftLaws.{first-one}
+use Rattle.sabre_route.proofs.UnderwayLaws.{emitted-stepped, routed-end, swapped-stepped, underway-start, underway-stepped}
+
+-- ---- what a teller knows
+pub telling-start : (gs : List Gate) (t : Teller) → IfSome t.left (λ xs. xs ≡ gs) → t.events.items ≡ [] → IsTelling (is_some t.left) gs [] t
+telling-start gs t h e = record { left = known t.left h; events = e ∙ none (is_some t.left) }
+  where
+    known : (o : Option (List Gate)) → IfSome o (λ xs. xs ≡ gs) → o ≡ left_if (is_some o) gs
+    known None h = refl
+    known (Some xs) h = ap Some h
+
+    none : (b : Bool) → [] ≡ told_if b []
+    none true = refl
+    none false = refl
+
+pub telling-known : (b : Bool) (gs : List Gate) (es : List Event) (t : Teller) → IsTelling b gs es t → IfSome t.left (λ xs. xs ≡ gs)
+telling-known b gs es t h = subst (λ (o : Option (List Gate)). IfSome o (λ xs. xs ≡ gs)) (sym h.left) (known b)
+  where
+    known : (b : Bool) → IfSome (left_if b gs) (λ xs. xs ≡ gs)
+    known true = refl
+    known false = tt
+
+-- ---- an emission
+first-gate : (d : Coupling) (s u : State) (j : ℕ) (g : Gate) → IsEmission d s j g u → IsFirstGate s.rest j g
+first-gate d s u j g h = record { there = h.can.there; first = h.can.first }
+
+pub known-first : (d : Coupling) (s u : State) (g : Gate) (o : Option (List Gate)) → IfSome o (λ xs. xs ≡ s.rest) → IsMove d s (Emitted g) u → IfSome o (λ gs. (j : ℕ) × IsFirstGate gs j g)
+known-first d s u g None known h = tt
+known-first d s u g (Some xs) known h = (h.0, subst (λ (gs : List Gate). IsFirstGate gs h.0 g) (sym known) (first-gate d s u h.0 g h.1))
+
+told-more : (b : Bool) (es : List Event) (e : Event) → told_if b (es ++ e ∷ []) ≡ told_if b es ++ told_if b (e ∷ [])
+told-more true es e = map-append told es (e ∷ [])
+told-more false es e = refl
+
+telling-emitted : (d : Coupling) (s u : State) (j : ℕ) (g : Gate) (t v : Teller) → IsEmission d s j g u → HasEmitted g t.left t.events.items v.left v.events.items
+    → (b : Bool) (es : List Event) → IsTelling b s.rest es t → IsTelling b u.rest (es ++ Emit j g ∷ []) v
+telling-emitted d s u j g t v step h b es k =
+    let r = go b t.left t.events.items k.left k.events h in
+    record {
+      left = r.0 ∙ ap (left_if b) (sym (emitted-parts s u j g step.after).rest);
+      events = r.1 ∙ sym (told-more b es (Emit j g));
+    }
+  where
+    go : (b : Bool) (o : Option (List Gate)) (xs : List Told) → o ≡ left_if b s.rest → xs ≡ told_if b es → HasEmitted g o xs v.left v.events.items
+        → (v.left ≡ left_if b (remove s.rest j)) × (v.events.items ≡ told_if b es ++ told_if b (Emit j g ∷ []))
+    go true None xs e f h = absurd (cc)
+    go false (Some gs) xs e f h = absurd (cc)
+    go false None xs e f h = (h.0, h.1 ∙ f)
+    go true (Some gs) xs e f (i, first, left, events) =
+        let rest : gs ≡ s.rest = cc in
+        let same : i ≡ j = first-one s.rest i j g (subst (λ (ys : List Gate). IsFirstGate ys i g) rest first) (first-gate d s u j g step) in
+        (left ∙ (λ z. Some (remove (rest z) (same z))), events ∙ (λ z. f z ++ ToldEmit (same z) ∷ []))
+
+-- ---- a swap
+telling-swapped : (d : Coupling) (s u : State) (a b : ℕ) (t v : Teller) → IsExchange d s a b u → HasSwapped a b t.left t.events.items v.left v.events.items
+    → (c : Bool) (es : List Event) → IsTelling c s.rest es t → IsTelling c u.rest (es ++ Swap a b ∷ []) v
+telling-swapped d s u a b t v step h c es k =
+    let r = go c t.left t.events.items k.left k.events h in
+    record {
+      left = r.0 ∙ ap (left_if c) (sym (swapped-parts d.size s u a b step.after).rest);
+      events = r.1 ∙ sym (told-more c es (Swap a b));
+    }
+  where
+    go : (c : Bool) (o : Option (List Gate)) (xs : List Told) → o ≡ left_if c s.rest → xs ≡ told_if c es → HasSwapped a b o xs v.left v.events.items
+        → (v.left ≡ left_if c s.rest) × (v.events.items ≡ told_if c es ++ told_if c (Swap a b ∷ []))
+    go true None xs e f h = absurd (cc)
+    go false (Some gs) xs e f h = absurd (cc)
+    go false None xs e f h = (h.0, h.1 ∙ f)
+    go true (Some gs) xs e f h = (h.0 ∙ e, h.1 ∙ ap (λ ys. ys ++ ToldSwap a b ∷ []) f)
+
+-- ---- a step
+pub emitted-told : (d : Coupling) (s u : State) (g : Gate) (old new : Written) (t v : Teller) → IsMove d s (Emitted g) u
+    → HasWritten (emitted d.edges s.placement g) (emitted_turn d.edges s.placement g) 0 old new → HasEmitted g t.left t.events.items v.left v.events.items → HasToldStep d s old t u new v
+unfolding emitted-stepped
+emitted-told d s u g old new t v h w e = record {
+  stepped = emitted-stepped d s u g old new h w;
+  tells = telling-emitted d s u h.0 g t v h.1 e;
+}
+
+pub swapped-told : (d : Coupling) (s u : State) (a b : ℕ) (old new : Written) (t v : Teller) → IsExchange d s a b u
+    → HasWritten (swap_gates d.edges a b) (swap_turn d.edges a b) 1 old new → HasSwapped a b t.left t.events.items v.left v.events.items → HasToldStep d s old t u new v
+unfolding swapped-stepped
+swapped-told d s u a b old new t v h w e = record {
+  stepped = swapped-stepped d s u a b old new h w;
+  tells = telling-swapped d s u a b t v h e;
+}
+
+-- ---- the machine underway
+pub told-run_start : (d : Coupling) (gs : List Gate) (given : List ℕ) (s : State) (w : Written) (t : Teller) → s ≡ start given gs → w.body.wires ≡ d.size → w.body.gates ≡ [] → w.swaps ≡ 0 → w.turn ≡ 0
+    → IfSome t.left (λ xs. xs ≡ gs) → t.events.items ≡ [] → IsToldRun (is_some t.left) d gs given s w t
+unfolding underway-start
+told-run_start d gs given s w t e wires gates swaps turn known untold = record {
+  underway = underway-start d gs given s w e wires gates swaps turn;
+  telling = subst (λ (xs : List Gate). IsTelling (is_some t.left) xs [] t) (sym (ap (λ (x : State). x.rest) e)) (telling-start gs t known untold);
+}
+
+pub told-run_stepped : (b : Bool) (d : Coupling) (gs : List Gate) (given : List ℕ) (s u : State) (old new : Written) (t v : Teller) → HasToldStep d s old t u new v
+    → IsToldRun b d gs given s old t → IsToldRun b d gs given u new v
+unfolding underway-stepped
+told-run_stepped b d gs given s u old new t v h r = record {
+  underway = underway-stepped d gs given s u old new h.stepped r.underway;
+  telling = h.tells b r.underway.events r.telling;
+}
+
+-- ---- the end
+routed-by : (b : Bool) (d : Coupling) (gs : List Gate) (given : List ℕ) (s : State) (w : Written) (t : Teller) (p : List ℕ) → IsToldRun b d gs given s w t → s.rest ≡ [] → p ≡ s.placement
+    → b ≡ true → IsRoutedBy d gs given (record { body = w.body; last = p; swaps = w.swaps; turn = w.turn }) t.events.items
+unfolding routed-end
+routed-by b d gs given s w t p r none e asked = record {
+  routed = routed-end d gs given s w p r.underway none e;
+  events = r.telling.events ∙ ap (λ c. told_if c r.underway.events) asked;
+}
+
+pub routed-told : (d : Coupling) (gs : List Gate) (given : List ℕ) (s : State) (w : Written) (t : Teller) (p : List ℕ) (o : Option (List Gate)) → IfSome o (λ xs. xs ≡ gs)
+    → IsToldRun (is_some o) d gs given s w t → s.rest ≡ [] → p ≡ s.placement
+    → IfSome o (λ xs. IsRoutedBy d xs given (record { body = w.body; last = p; swaps = w.swaps; turn = w.turn }) t.events.items)
+routed-told d gs given s w t p None known r none e = tt
+routed-told d gs given s w t p (Some xs) known r none e =
+    subst (λ (ys : List Gate). IsRoutedBy d ys given (record { body = w.body; last = p; swaps = w.swaps; turn = w.turn }) t.events.items) (sym known) (routed-by true d gs given s w t p r none e refl)
