@@ -183,7 +183,7 @@ flip_turn (H q ∷ gs) = flip_turn gs
 flip_turn (P k q ∷ gs) = flip_turn gs
 flip_turn (Cx c t ∷ gs) = flip_turn gs
 
-walked_coefficient : (n m : ℕ) (gs : List Gate) (p : PolyBody) (w : Wires) → AreDihedral n gs → Agrees n p w →
+pub walked_coefficient : (n m : ℕ) (gs : List Gate) (p : PolyBody) (w : Wires) → AreDihedral n gs → Agrees n p w →
     coefficient m (polyed_all gs p).terms % 8 ≡ (coefficient m p.terms + total m (signed (marks gs w n))) % 8
 walked_coefficient n m [] p w f h = ap (λ z. z % 8) (more (coefficient m p.terms))
   where
@@ -210,7 +210,7 @@ walked_coefficient n m (P k q ∷ gs) p w f h =
     here true e = coefficient-with m (get_or p.map q 0) (8 - k) p.terms ∙ (λ i. (coefficient m p.terms + cond (nat_eq (h.rows q f.0.0 i) m) (cond ((sym e ∙ h.bits q f.0.0) i) (8 - k) k) 0) % 8)
     here false e = coefficient-with m (get_or p.map q 0) k p.terms ∙ (λ i. (coefficient m p.terms + cond (nat_eq (h.rows q f.0.0 i) m) (cond ((sym e ∙ h.bits q f.0.0) i) (8 - k) k) 0) % 8)
 
-walked_constant : (n : ℕ) (gs : List Gate) (p : PolyBody) (w : Wires) → AreDihedral n gs → Agrees n p w →
+pub walked_constant : (n : ℕ) (gs : List Gate) (p : PolyBody) (w : Wires) → AreDihedral n gs → Agrees n p w →
     (polyed_all gs p).constant % 8 ≡ (p.constant + (constant (marks gs w n) + flip_turn gs)) % 8
 walked_constant n [] p w f h = ap (λ z. z % 8) (more p.constant)
   where
@@ -264,7 +264,7 @@ eighths n (P k q ∷ gs) w f = (f.0.1.1, eighths n gs w f.1)
 eighths n (Cx c t ∷ gs) w f = eighths n gs (with_label w t (add_labels (w t) (w c))) f.1
 
 -- wires from n on keep their labels
-elsewhere : (n q : ℕ) (gs : List Gate) (w : Wires) → n ≤ q → AreDihedral n gs → last_labels gs w n q ≡ w q
+pub elsewhere : (n q : ℕ) (gs : List Gate) (w : Wires) → n ≤ q → AreDihedral n gs → last_labels gs w n q ≡ w q
 elsewhere n q [] w le f = refl
 elsewhere n q (H p ∷ gs) w le f = absurd f.0
 elsewhere n q (P k p ∷ gs) w le f = elsewhere n q gs w le f.1
