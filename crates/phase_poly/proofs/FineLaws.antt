@@ -27,18 +27,18 @@ of_fine n [] h k d l = absurd (omega arith)
 of_fine n (g ∷ gs) h zero d l = h.0
 of_fine n (g ∷ gs) h (suc k) d l = of_fine n gs h.1 k d (omega arith)
 
-dihedral_fine : (n : ℕ) (gs : List Gate) → AreDihedral n gs → AreFine n gs
+pub dihedral_fine : (n : ℕ) (gs : List Gate) → AreDihedral n gs → AreFine n gs
 dihedral_fine n [] f = tt
 dihedral_fine n (H q ∷ gs) f = absurd f.0
 dihedral_fine n (X q ∷ gs) f = (f.0, dihedral_fine n gs f.1)
 dihedral_fine n (P k q ∷ gs) f = (f.0, dihedral_fine n gs f.1)
 dihedral_fine n (Cx c t ∷ gs) f = (f.0, dihedral_fine n gs f.1)
 
-hadamards_fine : (n : ℕ) (qs : List ℕ) → AllBelow n qs → AreFine n (hadamards qs)
+pub hadamards_fine : (n : ℕ) (qs : List ℕ) → AllBelow n qs → AreFine n (hadamards qs)
 hadamards_fine n [] h = tt
 hadamards_fine n (q ∷ qs) h = (h.0, hadamards_fine n qs h.1)
 
-abbrev HadsBelow : ℕ → List LayerBody → Type 0
+abbrev pub HadsBelow : ℕ → List LayerBody → Type 0
 HadsBelow n [] = Unit {0}
 HadsBelow n (l ∷ ls) = AllBelow n l.hadamards × HadsBelow n ls
 
@@ -62,7 +62,7 @@ hads_at n zero g (l ∷ ls) f h = (hads_with n g l f h.0, h.1)
 hads_at n (suc k) g [] f h = (tt, hads_at n k g [] f tt)
 hads_at n (suc k) g (l ∷ ls) f h = (h.0, hads_at n k g ls f h.1)
 
-hads_walked : (n : ℕ) (gs : List Gate) (s : Walk) → AreFine n gs → HadsBelow n s.layers → HadsBelow n (walked_all gs s).layers
+pub hads_walked : (n : ℕ) (gs : List Gate) (s : Walk) → AreFine n gs → HadsBelow n s.layers → HadsBelow n (walked_all gs s).layers
 hads_walked n [] s f h = h
 hads_walked n (g ∷ gs) s f h = hads_walked n gs (walked g s) f.1 (hads_at n (level_of s.levels g) g s.layers f.0 h)
 

@@ -10,7 +10,7 @@ use Rattle.phase_poly.specs.Polys.{Term, coefficient}
 use Rattle.phase_poly.specs.Resynthesis.{odd_terms, at_places, picked, AllBelow, BlocksBelow}
 
 -- ---- a sum over terms, each counted c(place) times
-abbrev sum_of : (Term → ℕ) → List Term → ℕ
+abbrev pub sum_of : (Term → ℕ) → List Term → ℕ
 sum_of f [] = 0
 sum_of f (e ∷ ts) = f e + sum_of f ts
 
@@ -97,7 +97,7 @@ sum_picked f ts (b ∷ blocks) h = sum_of-append f (at_places ts b) (picked ts b
     ∙ (λ j. sum_places f ts b h.0 j + sum_picked f ts blocks h.1 j)
     ∙ sym (sum_by-plus (λ i. count_of i b) (λ i. times i blocks) f 0 ts)
 
-picked_sum : (f : Term → ℕ) (ts : List Term) (blocks : List (List ℕ)) → BlocksBelow (length ts) blocks → ((i : ℕ) → i < length ts → times i blocks ≡ 1) → sum_of f (picked ts blocks) ≡ sum_of f ts
+pub picked_sum : (f : Term → ℕ) (ts : List Term) (blocks : List (List ℕ)) → BlocksBelow (length ts) blocks → ((i : ℕ) → i < length ts → times i blocks ≡ 1) → sum_of f (picked ts blocks) ≡ sum_of f ts
 picked_sum f ts blocks h once = sum_picked f ts blocks h ∙ sum_by-ones (λ i. times i blocks) f 0 ts (λ j a b. once j (omega arith))
 
 coefficient_sum : (m : ℕ) (ts : List Term) → coefficient m ts ≡ sum_of (λ e. cond (nat_eq e.0 m) e.1 0) ts

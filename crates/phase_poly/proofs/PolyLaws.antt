@@ -265,7 +265,7 @@ eighths n (P k q ∷ gs) w f = (f.0.1.1, eighths n gs w f.1)
 eighths n (Cx c t ∷ gs) w f = eighths n gs (with_label w t (add_labels (w t) (w c))) f.1
 
 -- wires from n on keep their labels
-elsewhere : (n q : ℕ) (gs : List Gate) (w : Wires) → n ≤ q → AreDihedral n gs → last_labels gs w n q ≡ w q
+pub elsewhere : (n q : ℕ) (gs : List Gate) (w : Wires) → n ≤ q → AreDihedral n gs → last_labels gs w n q ≡ w q
 elsewhere n q [] w le f = refl
 elsewhere n q (H p ∷ gs) w le f = absurd f.0
 elsewhere n q (P k p ∷ gs) w le f = elsewhere n q gs w le f.1

@@ -17,7 +17,7 @@ use Rattle.matroid_partition.specs.Partitions.{IsPartition}
 use Rattle.phase_poly.specs.Resynthesis.{cx_bound, rows_of}
 use Rattle.phase_poly.proofs.BuildLaws.{cx_ops}
 
-linked-append : (ls ms : List LayerBody) → linked (ls ++ ms) ≡ linked ls ++ linked ms
+pub linked-append : (ls ms : List LayerBody) → linked (ls ++ ms) ≡ linked ls ++ linked ms
 linked-append [] ms = refl
 linked-append (l ∷ ls) ms = ap (λ z. line l ++ z) (linked-append ls ms) ∙ sym (append_assoc (line l) (linked ls) (linked ms))
 

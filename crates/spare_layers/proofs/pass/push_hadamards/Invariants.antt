@@ -1,0 +1,6 @@
+use Rattle.std.proofs.Common.{◌≡◌, ◌++◌, take}
+use Rattle.phase_poly.specs.Layers.{hadamards}
+use Rattle.spare_layers.proofs.pass.push_hadamards.Given as goal
+
+abbrev pub invariant-pushed : goal.invariant-pushed
+invariant-pushed l = l.list.items ≡ l.initial.list.items ++ hadamards (take l.q-index l.wires)

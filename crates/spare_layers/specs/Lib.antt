@@ -1,0 +1,5 @@
+-- ---- definitions that public clauses reach
+pub mod Spared
+pub mod SparedLayers
+-- ---- working forms
+pub mod Weaving
