@@ -2,13 +2,14 @@
 //!
 //! In comes a number of qubits, then exchanges of two of them; out comes the qubit of a wire and the
 //! wire of a qubit. A `Placement` is a permutation of 0 to N - 1, which contracts see as the list whose
-//! entry i is the device qubit of wire i. Its inverse is kept beside it, so that every call but the two
-//! makers (`identity`, `copy`) takes constant time and no memory. The contracts promise that the list
-//! stays a permutation, and that `logical` undoes `phys`. There is no bad input: the callers keep wires
-//! and qubits below the size. Want of memory leaves nothing behind.
+//! entry i is the device qubit of wire i. Its inverse is kept beside it, so that every call but the
+//! makers (`identity`, `of`, `copy`) takes constant time and no memory. The contracts promise that the list
+//! stays a permutation, that `logical` undoes `phys`, and that `of` takes just the lists that are permutations.
+//! There is no other bad input: the callers keep wires and qubits below the size. Want of memory leaves nothing behind.
 #![tactic(auto)]
 
-ghost use Rattle.std.specs.Prelude.{◌≡◌, ◌<◌, IfOk, length, map, slice_index};
+ghost use Rattle.std.specs.Prelude.{◌≡◌, ℕ, ◌^◌, ◌<◌, false, true, IfNone, IfOk, IfSome, length, map, set, slice_index};
+ghost use Rattle.placement.specs.Inverse.{AreInverse, IsUndone, Writes};
 ghost use Rattle.unitary_model.specs.Placement.{exchanged, identity, position_of, IsPlacement};
 
 use std::alloc::{AllocError, Global};
@@ -46,7 +47,71 @@ fn ascending(alloc: Global, n: u32) -> Result<Vec<u32>, AllocError>
     Ok(numbers)
 }
 
+/// Whether each number of a list is an index of another, where it stands in the first.
+fn undoes(list: &[u32], other: &[u32]) -> bool
+    ensures yes { result ≡ true → (i : ℕ) → i < length list.now → IsUndone list.now other.now i }
+    ensures no { result ≡ false → (i : ℕ) × ((i < length list.now) × (IsUndone list.now other.now i → ⊥)) }
+{
+    'places: for place in 0..list.len() {
+        let number = list[place] as usize;
+        if number >= other.len() || other[number] as usize != place {
+            return false;
+        }
+    }
+    true
+}
+
+/// Whether two lists of one length say each where the numbers stand in the other.
+#[tactic(auto, using(crate::proofs::InverseLaws::inverses))]
+fn are_inverse(list: &[u32], other: &[u32]) -> bool
+    requires long { length other.now ≡ length list.now }
+    requires fits { length list.now < 2 ^ 32 }
+    ensures yes { result ≡ true → AreInverse list.now other.now }
+    ensures no { result ≡ false → Writes list.now other.now (length list.now) → IsPlacement (length list.now) list.now → ⊥ }
+{
+    undoes(list, other) && undoes(other, list)
+}
+
+/// Writes a number into a list, if it has the index.
+fn write(list: &mut Vec<u32>, index: usize, number: u32)
+    ensures long { length list.new.items ≡ length list.old.items }
+    ensures written { index < length list.old.items → list.new.items ≡ set list.old.items index number }
+{
+    if index < list.len() {
+        list[index] = number;
+    }
+}
+
+/// Where each number stands in a list of all numbers below its length.
+fn inverse(alloc: Global, list: &[u32]) -> Result<Vec<u32>, AllocError>
+    requires { length list.now < 2 ^ 32 }
+    ensures long { IfOk result (λ v. length v.items ≡ length list.now) }
+    ensures undone { IfOk result (λ v. Writes list.now v.items (length list.now)) }
+{
+    let mut places = vec![in alloc; 0; list.len()]?;
+    'places: for place in 0..list.len() {
+        write(&mut places, list[place] as usize, place as u32);
+    }
+    Ok(places)
+}
+
 impl Placement {
+    /// The placement that a list is, if each number below its length stands in it once.
+    #[tactic(auto, using(crate::proofs::PlacementLaws::laws))]
+    pub fn of(alloc: Global, list: &[u32]) -> Result<Option<Placement>, AllocError>
+        requires { length list.now < 2 ^ 32 }
+        ensures some { IfOk result (λ o. IfSome o (λ p. p ≡ list.now)) }
+        ensures placement { IfOk result (λ o. IfSome o (λ p. IsPlacement (length list.now) list.now)) }
+        ensures none { IfOk result (λ o. IfNone o (IsPlacement (length list.now) list.now → ⊥)) }
+    {
+        let wires = inverse(alloc, list)?;
+        if !are_inverse(list, &wires) {
+            return Ok(None);
+        }
+        let qubits = Vec::from_slice(alloc, list)?;
+        Ok(Some(Placement { qubits, wires }))
+    }
+
     /// The placement of `n` wires that puts each on the qubit of its own number.
     #[tactic(auto, using(crate::proofs::PlacementLaws::identities))]
     pub fn identity(alloc: Global, n: u32) -> Result<Placement, AllocError>
