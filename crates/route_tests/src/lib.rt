@@ -6,6 +6,8 @@
 #[cfg(test)]
 mod device_tests;
 #[cfg(test)]
+mod event_tests;
+#[cfg(test)]
 mod plain;
 #[cfg(test)]
 mod router_tests;
