@@ -3,10 +3,8 @@
 --     Underway e s                what is kept from `place` on
 --     placed_underway, emit_underway, back_underway, swap_underway        line by line
 --     end_realises                what `end` says
-use Rattle.std.proofs.Common.{◌≡◌, ◌≢◌, ℕ, zero, suc, ◌+◌, ◌-◌, ◌%◌, ◌<◌, ◌≤◌, false, cond, List, [], ◌∷◌, ◌++◌, Some, map, nat_eq, slice_get, slice_index, take, refl, sym, ◌∙◌, ap, subst, arith, append-nil, append_assoc}
+use Rattle.std.proofs.Common.{◌≡◌, ◌≢◌, ℕ, zero, suc, ◌+◌, ◌-◌, ◌%◌, ◌<◌, ◌≤◌, false, List, [], ◌∷◌, ◌++◌, Some, map, slice_get, slice_index, refl, sym, ◌∙◌, ap, subst, arith, append-nil, append_assoc}
 use Rattle.std.specs.List.{AllByRecursion, remove}
-use Rattle.std.proofs.lemmas.Bool.Decides.{nat_tests}
-use Rattle.std.proofs.lemmas.List.{get_or-map, length-map}
 use Rattle.std.proofs.lemmas.Option.{same_Some}
 use Rattle.circuit_list.specs.declared.Gate.{Gate}
 use Rattle.circuit_list.specs.declared.Gate.TheVariants.{H, X, P, Cx}
@@ -14,20 +12,18 @@ use Rattle.circuit_list.specs.Gates.{IsFine, first_wire, second_wire, is_on, op_
 use Rattle.circuit_list.specs.Slots.{NoneBefore}
 use Rattle.gate_expand.specs.Expansion.{expanded, turn_of}
 use Rattle.unitary_model.specs.declared.Op.{Op}
-use Rattle.unitary_model.specs.declared.Op.TheVariants.{U, Cx as OpCx}
+use Rattle.unitary_model.specs.declared.Op.TheVariants.{Cx as OpCx}
 use Rattle.unitary_model.specs.Acts.{Turns, place}
-use Rattle.unitary_model.specs.Amplitude.{amplitude}
-use Rattle.unitary_model.specs.Operations.{weight, WiresBelow}
-use Rattle.unitary_model.specs.Placement.{exchanged, position_of, moved, IsPlacement}
+use Rattle.unitary_model.specs.Operations.{WiresBelow}
+use Rattle.unitary_model.specs.Placement.{exchanged, position_of, IsPlacement}
 use Rattle.unitary_model.specs.Reached.{Reached}
 use Rattle.unitary_model.specs.Realises.{Realises}
-use Rattle.unitary_model.specs.Ring.{Ring, nought, unit, plus, turn1, turn, double}
+use Rattle.unitary_model.specs.Ring.{nought, unit, plus, turn1}
 use Rattle.unitary_model.specs.SameUpTo.{SameUpTo}
 use Rattle.unitary_model.proofs.HadamardWindows.{had}
-use Rattle.unitary_model.proofs.PlacementLaws.{length-moved, placement-exchanged}
+use Rattle.unitary_model.proofs.PlacementLaws.{placement-exchanged}
 use Rattle.unitary_model.proofs.ReachedLaws.{Reached-start, Reached-more, Reached-swapped, Reached-mod, Reached-source}
 use Rattle.unitary_model.proofs.RealisesLaws.{realises_by, Realises_same, Realises_chain, Realises_back}
-use Rattle.unitary_model.proofs.RingLaws.{turn_same, double-swap, double-turn, double-nought, double_cancel, turn-turn, turn-nought}
 use Rattle.unitary_model.proofs.Slide.{Turns_slide_back}
 use Rattle.unitary_model.proofs.TurnsLaws.{Turns_refl, Turns_trans, Turns_inside}
 use Rattle.unitary_model.proofs.Windows.{Agree, in_place}

@@ -2,7 +2,7 @@
 --     NoSpace l               no byte is a space
 --     cut                     bytes without a space, with a space or nothing behind them, are cut at one place
 --     words-unique            a word and its numbers are known by their bytes
---     gates-unique            so are gates
+--     gate-unique, gates-unique       so are a gate, and gates
 --     line_word, first_numbers, line_gates    a line as its word, its numbers, and the gates behind it
 --     line_from, line-read    and back
 --     spelt-unique            a line, and what is behind it, are known by their bytes
@@ -17,6 +17,7 @@ use Rattle.circuit_list.specs.declared.Gate.TheVariants.{H, X, P, Cx}
 use Rattle.rewrite_pass.specs.Traces.{Rule, Both, Join, Sums}
 use Rattle.rewrite_pass.specs.TraceLines.{words, gate_line, gate_numbers}
 use Rattle.trace_check.specs.Lines.{Line, Heading, Rewrite, Place, Emit, Back, Swap, Turn, End, spelt, numbers_of, IsSmall}
+use Rattle.trace_check.specs.Spelling.{gate_word}
 
 abbrev pub NoSpace : List ℕ → Type 0
 NoSpace l = AllByRecursion (λ b. b ≢ 32) l
@@ -78,19 +79,13 @@ words-unique w v ks ls nw nv hk hl e =
     (c.front, tail-unique ks ls hk hl c.back)
 
 -- ---- gates
-abbrev gate_word : Gate → List ℕ
-gate_word (H q) = codes "H"
-gate_word (X q) = codes "X"
-gate_word (P k q) = codes "P"
-gate_word (Cx c t) = codes "C"
-
-gate-spelt : (g : Gate) → gate_line g ≡ words (gate_word g) (gate_numbers g)
+pub gate-spelt : (g : Gate) → gate_line g ≡ words (gate_word g) (gate_numbers g)
 gate-spelt (H q) = refl
 gate-spelt (X q) = refl
 gate-spelt (P k q) = refl
 gate-spelt (Cx c t) = refl
 
-gate-plain : (g : Gate) → NoSpace (gate_word g)
+pub gate-plain : (g : Gate) → NoSpace (gate_word g)
 gate-plain (H q) = ((λ e. absurd (omega (arith, e))), tt)
 gate-plain (X q) = ((λ e. absurd (omega (arith, e))), tt)
 gate-plain (P k q) = ((λ e. absurd (omega (arith, e))), tt)
@@ -124,12 +119,12 @@ gate-read (Cx c t) = refl
 some : {A : Type 0} (a b : A) → ◌≡◌ {A = Option A} (Some a) (Some b) → a ≡ b
 some a b e = cc
 
-gate-unique : (g h : Gate) → Small (gate_numbers g) → Small (gate_numbers h) → gate_line g ≡ gate_line h → g ≡ h
+pub gate-unique : (g h : Gate) → Small (gate_numbers g) → Small (gate_numbers h) → gate_line g ≡ gate_line h → g ≡ h
 gate-unique g h sg sh e =
     let u = words-unique (gate_word g) (gate_word h) (gate_numbers g) (gate_numbers h) (gate-plain g) (gate-plain h) sg sh (sym (gate-spelt g) ∙ e ∙ gate-spelt h) in
     some g h (sym (gate-read g) ∙ (λ i. gate_from (u.0 i) (u.1 i)) ∙ gate-read h)
 
-small-split : (a b : List ℕ) → Small (a ++ b) → Small a × Small b
+pub small-split : (a b : List ℕ) → Small (a ++ b) → Small a × Small b
 small-split [] b h = (tt, h)
 small-split (k ∷ a) b h = let r = small-split a b h.1 in ((h.0, r.0), r.1)
 

@@ -2,7 +2,21 @@
 //!
 //! What goes in is a claim, the operations of a source and of a target, and the bytes of a trace. `specs/Lines.antt` says which
 //! bytes spell which lines, `specs/Proves.antt` when a line applies. The laws say that what a trace proves is so, whoever wrote
-//! it, and that a trace proves one thing at most or stops at one line, and never both.
+//! it, and that a trace proves one thing at most or stops at one line, and never both. [`check`] tells which of the two it is.
 #![tactic(auto)]
 
+mod checker;
+mod gates;
 pub mod laws;
+mod lines;
+mod mark;
+mod numbers;
+mod pairs;
+mod routed;
+mod routing;
+mod sums;
+mod windows;
+mod wires;
+mod words;
+
+pub use checker::{Outcome, check};

@@ -1,0 +1,223 @@
+-- The variables of a walk, and its labels.
+--     befores-push, AreRows-push      one H more
+--     before-lookup, absent           what the program's map has at a variable
+--     other_variable                  two H have different variables
+--     seen-set                        one H more on a wire
+--     IsWalk-had                      a walk past an H
+--     none-push                       no H on one wire more
+--     viewed                          what contracts see of a walk
+--     label-here, count-here          the label of a wire, and how many H stand before
+--     passes-x, passes-cx, passes-h   a walk past one gate
+--     same-before, before-same        the program's maps are equal where the sets before all H are the same
+use Rattle.std.proofs.Common.{◌≡◌, ℕ, zero, suc, ◌+◌, ◌*◌, ◌/◌, ◌%◌, ◌<◌, ◌≤◌, Bool, true, false, cond, List, [], ◌∷◌, ◌++◌, All, Option, Some, None, Vec, length, map, get_or, set, append-nil, refl, sym, ◌∙◌, ap, subst, arith}
+use Rattle.std.specs.Prelude.{nat_eq}
+use Rattle.std.specs.Cmp.{nat_eq_equiv}
+use Rattle.std.specs.HashMap.{hash_map_eq}
+use Rattle.std.specs.HashMap.Eq.{get_from_hash_map_eq, hash_map_eq_from_get}
+use Rattle.std.specs.Map.{lookup}
+use Rattle.indexmap.specs.IndexMap.{IndexMap}
+use Rattle.std.specs.Option.{option_map, option_eq}
+use Rattle.std.specs.Cmp.Lexicographic.{bytes_decides}
+use Rattle.std.specs.declared.alloc.Global.{Global}
+use Rattle.std.proofs.Math.Path.{fun_ext}
+use Rattle.std.proofs.lemmas.Bool.Decides.{nat_tests}
+use Rattle.std.proofs.lemmas.List.{length-set, get_or-map}
+use Rattle.std.proofs.lemmas.Nat.{mod-mul-add, div-mul-add}
+use Rattle.circuit_list.specs.declared.Gate.TheVariants.{H, X, Cx}
+use Rattle.path_parity.specs.declared.label.Label.{Label}
+use Rattle.path_parity.specs.NamedSums.{Seen, seen_more, set_before}
+use Rattle.path_parity.specs.LabelWalks.{labels_of_list}
+use Rattle.path_parity.specs.PathSum.{label, with_label, add_labels, flipped, fresh}
+use Rattle.path_parity.specs.Sets.{IsLabel, IsPacked, label_of, set_of}
+use Rattle.path_parity.proofs.SetLaws.{set-same}
+use Rattle.path_parity.proofs.WalkLaws.{labels-set}
+use Rattle.trace_check.proofs.CollectLaws.{equal, own, same_row}
+use Rattle.trace_check.specs.Sums.{AreRows, IsWalk, NamedWalk, Passes, befores}
+
+-- ---- numbers
+differ : (m s : ℕ) → (m ≡ s → ⊥) → nat_eq m s ≡ false
+differ m s e = grind (arith, nat_tests)
+
+turned : (m s : ℕ) (b : Bool) → nat_eq m s ≡ b → nat_eq s m ≡ b
+turned m s true e = (λ i. nat_eq s (equal m s e i)) ∙ own s
+turned m s false e = differ s m (λ f. clash m s (sym f) e)
+  where
+    clash : (m s : ℕ) → m ≡ s → nat_eq m s ≡ false → ⊥
+    clash m s f e = grind (arith, nat_tests)
+
+-- ---- the map from variables to rows
+pub befores-push : (es : List (ℕ × Vec ℕ Global)) (v : ℕ) (row : Vec ℕ Global) → befores (es ++ (v, row) ∷ []) ≡ befores es ++ (v, set_of row.items) ∷ []
+befores-push [] v row = refl
+befores-push (e ∷ es) v row = ap (λ hs. (e.0, set_of e.1.items) ∷ hs) (befores-push es v row)
+
+pub AreRows-push : (es : List (ℕ × Vec ℕ Global)) (v : ℕ) (row : Vec ℕ Global) → AreRows es → IsPacked row.items → AreRows (es ++ (v, row) ∷ [])
+AreRows-push [] v row h p = (p, tt)
+AreRows-push (e ∷ es) v row h p = (h.0, AreRows-push es v row h.1 p)
+
+abbrev set_in : Vec ℕ Global → ℕ
+set_in row = set_of row.items
+
+pub before-lookup : (es : List (ℕ × Vec ℕ Global)) (v : ℕ) → set_before v (befores es) ≡ option_map set_in (lookup (nat_eq v) es)
+before-lookup [] v = refl
+before-lookup (e ∷ es) v = go (nat_eq v e.0) refl (before-lookup es v)
+  where
+    go : (b : Bool) → nat_eq v e.0 ≡ b → set_before v (befores es) ≡ option_map set_in (lookup (nat_eq v) es) →
+        cond (nat_eq e.0 v) (Some (set_of e.1.items)) (set_before v (befores es)) ≡ option_map set_in (cond b (Some e.1) (lookup (nat_eq v) es))
+    go true f h = λ i. cond (turned v e.0 true f i) (Some (set_of e.1.items)) (set_before v (befores es))
+    go false f h = (λ i. cond (turned v e.0 false f i) (Some (set_of e.1.items)) (set_before v (befores es))) ∙ h
+
+pub absent : (es : List (ℕ × Vec ℕ Global)) (v : ℕ) → set_before v (befores es) ≡ None → lookup (nat_eq v) es ≡ None
+absent es v h = go (lookup (nat_eq v) es) (sym (before-lookup es v) ∙ h)
+  where
+    go : (o : Option (Vec ℕ Global)) → option_map set_in o ≡ None → o ≡ None
+    go None e = refl
+    go (Some x) e = absurd (cc)
+
+still_absent : (hs : List (ℕ × ℕ)) (v u m : ℕ) → (u ≡ v → ⊥) → set_before v hs ≡ None → set_before v (hs ++ (u, m) ∷ []) ≡ None
+still_absent [] v u m ne h = λ i. cond (differ u v ne i) (Some m) None
+still_absent (x ∷ hs) v u m ne h = go (nat_eq x.0 v) h (still_absent hs v u m ne)
+  where
+    go : (b : Bool) → cond b (Some x.1) (set_before v hs) ≡ None → (set_before v hs ≡ None → set_before v (hs ++ (u, m) ∷ []) ≡ None) → cond b (Some x.1) (set_before v (hs ++ (u, m) ∷ [])) ≡ None
+    go true e r = absurd (cc)
+    go false e r = r e
+
+-- ---- one H more
+pub other_variable : (n a b q p : ℕ) → q < n → p < n → a * n + q ≡ b * n + p → (q ≡ p) × (a ≡ b)
+other_variable n a b q p lt mt e = (
+  sym (mod-mul-add a n q lt) ∙ ap (λ m. m % n) e ∙ mod-mul-add b n p mt,
+  sym (div-mul-add a n q lt) ∙ ap (λ m. m / n) e ∙ div-mul-add b n p mt,
+)
+
+set-at : (xs : List ℕ) (q x p : ℕ) → q < length xs → get_or (set xs q x) p 0 ≡ cond (nat_eq p q) x (get_or xs p 0)
+set-at [] q x p h = absurd (omega arith)
+set-at (y ∷ ys) zero x zero h = refl
+set-at (y ∷ ys) zero x (suc p) h = λ i. cond (sym (never p) i) x (get_or ys p 0)
+  where
+    never : (p : ℕ) → nat_eq (suc p) 0 ≡ false
+    never p = grind (arith, nat_tests)
+set-at (y ∷ ys) (suc q) x zero h = λ i. cond (sym (never q) i) x y
+  where
+    never : (q : ℕ) → nat_eq 0 (suc q) ≡ false
+    never q = grind (arith, nat_tests)
+set-at (y ∷ ys) (suc q) x (suc p) h = set-at ys q x p (omega arith) ∙ (λ i. cond (same p q i) x (get_or ys p 0))
+  where
+    same : (p q : ℕ) → nat_eq p q ≡ nat_eq (suc p) (suc q)
+    same p q = grind (arith, nat_tests)
+
+abbrev pub counts : List ℕ → Seen
+counts seen = λ q. get_or seen q 0
+
+pub seen-set : (seen : List ℕ) (q : ℕ) → q < length seen → counts (set seen q (suc (get_or seen q 0))) ≡ seen_more (counts seen) q
+seen-set seen q h = fun_ext (λ p. set-at seen q (suc (get_or seen q 0)) p h ∙ go p (nat_eq p q) refl)
+  where
+    go : (p : ℕ) (b : Bool) → nat_eq p q ≡ b → cond b (suc (get_or seen q 0)) (get_or seen p 0) ≡ cond b (suc (get_or seen p 0)) (get_or seen p 0)
+    go p true e = ap (λ k. suc (get_or seen k 0)) (sym (equal p q e))
+    go p false e = refl
+
+pub IsWalk-had : (n : ℕ) (labels more : List Label) (seen : List ℕ) (es : List (ℕ × Vec ℕ Global)) (q : ℕ) (row : Vec ℕ Global) →
+    IsWalk n labels seen es → q < n → IsPacked row.items → length more ≡ n → All IsLabel more →
+    IsWalk n more (set seen q (suc (get_or seen q 0))) (es ++ (suc (get_or seen q 0) * n + q, row) ∷ [])
+IsWalk-had n labels more seen es q row h lt packed long each = record {
+  labelled = long;
+  counted = length-set seen q (suc (get_or seen q 0)) ∙ h.counted;
+  packed = each;
+  rows = AreRows-push es (suc (get_or seen q 0) * n + q) row h.rows packed;
+  to_come = λ p k mt le. ap (set_before (suc k * n + p)) (befores-push es (suc (get_or seen q 0) * n + q) row)
+      ∙ go p k mt (nat_eq p q) refl (subst (λ m. m ≤ k) (set-at seen q (suc (get_or seen q 0)) p (subst (λ m. q < m) (sym h.counted) lt)) le);
+}
+  where
+    further : (a b : ℕ) → suc a ≡ suc b → suc a ≤ b → ⊥
+    further a b e l = omega arith
+
+    clash : (m s : ℕ) → m ≡ s → nat_eq m s ≡ false → ⊥
+    clash m s f e = grind (arith, nat_tests)
+
+    go : (p k : ℕ) → p < n → (b : Bool) → nat_eq p q ≡ b → cond b (suc (get_or seen q 0)) (get_or seen p 0) ≤ k →
+        set_before (suc k * n + p) (befores es ++ (suc (get_or seen q 0) * n + q, set_of row.items) ∷ []) ≡ None
+    go p k mt true e le = still_absent (befores es) (suc k * n + p) (suc (get_or seen q 0) * n + q) (set_of row.items)
+        (λ f. further (get_or seen q 0) k (other_variable n (suc (get_or seen q 0)) (suc k) q p lt mt f).1 le)
+        (h.to_come p k mt (subst (λ r. get_or seen r 0 ≤ k) (sym (equal p q e)) (omega arith)))
+    go p k mt false e le = still_absent (befores es) (suc k * n + p) (suc (get_or seen q 0) * n + q) (set_of row.items)
+        (λ f. clash p q (sym (other_variable n (suc (get_or seen q 0)) (suc k) q p lt mt f).0) e)
+        (h.to_come p k mt le)
+
+-- ---- two maps
+IsSome-row : Option (Vec ℕ Global) → Type 0
+IsSome-row None = Unit {0}
+IsSome-row (Some row) = IsPacked row.items
+
+looked : (es : List (ℕ × Vec ℕ Global)) (v : ℕ) → AreRows es → IsSome-row (lookup (nat_eq v) es)
+unfolding IsSome-row
+looked [] v h = tt
+looked (e ∷ es) v h = go (nat_eq v e.0) (looked es v h.1)
+  where
+    go : (b : Bool) → IsSome-row (lookup (nat_eq v) es) → IsSome-row (cond b (Some e.1) (lookup (nat_eq v) es))
+    go true r = h.0
+    go false r = r
+
+agree : (o p : Option (Vec ℕ Global)) → option_eq same_row o p ≡ true → option_map set_in o ≡ option_map set_in p
+agree None None e = refl
+agree None (Some y) e = absurd (cc)
+agree (Some x) None e = absurd (cc)
+agree (Some x) (Some y) e = ap (λ (zs : List ℕ). Some (set_of zs)) ((bytes_decides x.items y.items).0 e)
+
+agreed : (o p : Option (Vec ℕ Global)) → IsSome-row o → IsSome-row p → option_map set_in o ≡ option_map set_in p → option_eq same_row o p ≡ true
+unfolding IsSome-row
+agreed None None f g e = refl
+agreed None (Some y) f g e = absurd (cc)
+agreed (Some x) None f g e = absurd (cc)
+agreed (Some x) (Some y) f g e = let same : set_of x.items ≡ set_of y.items = cc in (bytes_decides x.items y.items).1 (set-same x.items y.items f g same)
+
+pub same-before : {S : Type 0} (m n : IndexMap ℕ (Vec ℕ Global) S) → hash_map_eq nat_eq same_row m n ≡ true → (v : ℕ) → set_before v (befores m.entries) ≡ set_before v (befores n.entries)
+same-before m n h v = before-lookup m.entries v ∙ agree (lookup (nat_eq v) m.entries) (lookup (nat_eq v) n.entries) (get_from_hash_map_eq nat_eq same_row nat_eq_equiv m n h v) ∙ sym (before-lookup n.entries v)
+
+pub before-same : {S : Type 0} (m n : IndexMap ℕ (Vec ℕ Global) S) → AreRows m.entries → AreRows n.entries → ((v : ℕ) → set_before v (befores m.entries) ≡ set_before v (befores n.entries)) →
+    hash_map_eq nat_eq same_row m n ≡ true
+before-same m n f g h = hash_map_eq_from_get nat_eq same_row m n
+    (λ v. agreed (lookup (nat_eq v) m.entries) (lookup (nat_eq v) n.entries) (looked m.entries v f) (looked n.entries v g) (sym (before-lookup m.entries v) ∙ h v ∙ before-lookup n.entries v))
+
+-- ---- what a walk passes
+abbrev pub viewed : ℕ → List Label → List ℕ → List (ℕ × Vec ℕ Global) → NamedWalk
+viewed n labels seen es = record { wires = n; labels = map label_of labels; seen = seen; sets = befores es }
+
+pub label-here : (labels : List Label) (q : ℕ) (l : Label) → q < length labels → l ≡ get_or labels q l → label_of l ≡ labels_of_list (map label_of labels) q
+label-here labels q l lt e = ap label_of e ∙ sym (get_or-map label_of labels q l (label 0 false) lt)
+
+pub passes-x : (n : ℕ) (labels : List Label) (seen : List ℕ) (es : List (ℕ × Vec ℕ Global)) (q : ℕ) (l : Label) → q < length labels → label_of l ≡ flipped (labels_of_list (map label_of labels) q) →
+    Passes (X q) (viewed n labels seen es) (viewed n (set labels q l) seen es)
+passes-x n labels seen es q l lt e = record {
+  wires = refl;
+  labels = labels-set label_of labels q l lt ∙ ap (with_label (labels_of_list (map label_of labels)) q) e;
+  seen = refl;
+  sets = sym (append-nil (befores es));
+}
+
+pub passes-cx : (n : ℕ) (labels : List Label) (seen : List ℕ) (es : List (ℕ × Vec ℕ Global)) (c t : ℕ) (l : Label) → t < length labels →
+    label_of l ≡ add_labels (labels_of_list (map label_of labels) t) (labels_of_list (map label_of labels) c) → Passes (Cx c t) (viewed n labels seen es) (viewed n (set labels t l) seen es)
+passes-cx n labels seen es c t l lt e = record {
+  wires = refl;
+  labels = labels-set label_of labels t l lt ∙ ap (with_label (labels_of_list (map label_of labels)) t) e;
+  seen = refl;
+  sets = sym (append-nil (befores es));
+}
+
+pub passes-h : (n : ℕ) (labels : List Label) (seen : List ℕ) (es : List (ℕ × Vec ℕ Global)) (q : ℕ) (l : Label) (row : Vec ℕ Global) → q < length labels → q < length seen →
+    label_of l ≡ fresh (suc (get_or seen q 0) * n + q) → set_of row.items ≡ (labels_of_list (map label_of labels) q).variables →
+    Passes (H q) (viewed n labels seen es) (viewed n (set labels q l) (set seen q (suc (get_or seen q 0))) (es ++ (suc (get_or seen q 0) * n + q, row) ∷ []))
+passes-h n labels seen es q l row lt mt e f = record {
+  wires = refl;
+  labels = labels-set label_of labels q l lt ∙ ap (with_label (labels_of_list (map label_of labels)) q) e;
+  seen = seen-set seen q mt;
+  sets = befores-push es (suc (get_or seen q 0) * n + q) row ∙ ap (λ (m : ℕ). befores es ++ (suc (get_or seen q 0) * n + q, m) ∷ []) f;
+}
+
+pub count-here : (seen : List ℕ) (q k : ℕ) → q < length seen → k ≡ get_or seen q k → k ≡ get_or seen q 0
+count-here [] q k lt e = absurd (omega arith)
+count-here (x ∷ xs) zero k lt e = e
+count-here (x ∷ xs) (suc q) k lt e = count-here xs q k (omega arith) e
+
+pub none-push : (seen : List ℕ) (q : ℕ) → ((p : ℕ) → get_or seen p 0 ≡ 0) → get_or (seen ++ 0 ∷ []) q 0 ≡ 0
+none-push [] zero h = refl
+none-push [] (suc q) h = refl
+none-push (x ∷ xs) zero h = h 0
+none-push (x ∷ xs) (suc q) h = none-push xs q (λ p. h (suc p))

@@ -1,0 +1,41 @@
+-- A checker that goes along a trace.
+--     came-start          before the first line
+--     came-more           one line more, which applies
+--     came-stops          a line that doesn't apply, or is missing
+--     came-proves         the end
+--     stuck-nothing       no line is left
+--     stuck-unread        the first line that is left is no word with numbers
+use Rattle.std.proofs.Common.{◌≡◌, ℕ, ◌+◌, List, [], ◌∷◌, ◌++◌, length, refl, sym, subst, ◌∙◌, ap, append_assoc, append-nil}
+use Rattle.std.proofs.lemmas.List.{length-append}
+use Rattle.trace_check.specs.Lines.{Line, IsSmall, all_spelt, lines_of, spelt}
+use Rattle.trace_check.specs.Proves.{Applies, Claim, IsOpen, IsStuck, Proved, Proves, Runs, State, StopsAt, Unread}
+use Rattle.trace_check.specs.Progress.{Came}
+
+spelt-append : (ls ms : List Line) → all_spelt (ls ++ ms) ≡ all_spelt ls ++ all_spelt ms
+spelt-append [] ms = refl
+spelt-append (l ∷ ls) ms = ap (λ t. spelt l ++ t) (spelt-append ls ms) ∙ sym (append_assoc (spelt l) (all_spelt ls) (all_spelt ms))
+
+runs-append : (e : Claim) (s m : State) (ls ms : List Line) (behind : List (List ℕ)) (u : State) → Runs e s ls (all_spelt ms ++ behind) m → Runs e m ms behind u → Runs e s (ls ++ ms) behind u
+runs-append e s m [] ms behind u a b = subst (λ x. Runs e x ms behind u) a b
+runs-append e s m (l ∷ ls) ms behind u a b =
+    (a.0, (a.1.0, (subst (λ t. Applies e s l t a.0) shape a.1.1.0, runs-append e a.0 m ls ms behind u a.1.1.1 b)))
+  where
+    shape : all_spelt ls ++ (all_spelt ms ++ behind) ≡ all_spelt (ls ++ ms) ++ behind
+    shape = sym (append_assoc (all_spelt ls) (all_spelt ms) behind) ∙ ap (λ t. t ++ behind) (sym (spelt-append ls ms))
+
+pub came-start : (e : Claim) (trace : List ℕ) → Came e trace Unread (lines_of trace) 0
+came-start e trace = record { done = []; text = refl; run = refl; count = refl }
+
+pub came-more : (e : Claim) (trace : List ℕ) (s u : State) (l : Line) (rest : List (List ℕ)) (n : ℕ) → Came e trace s (spelt l ++ rest) n → IsSmall l → Applies e s l rest u → Came e trace u rest (n + length (spelt l))
+came-more e trace s u l rest n c small a = record {
+  done = c.done ++ l ∷ [];
+  text = c.text ∙ sym (append_assoc (all_spelt c.done) (spelt l) rest) ∙ ap (λ t. (all_spelt c.done ++ t) ++ rest) (sym (append-nil (spelt l))) ∙ ap (λ t. t ++ rest) (sym (spelt-append c.done (l ∷ [])));
+  run = runs-append e Unread s c.done (l ∷ []) rest u (subst (λ t. Runs e Unread c.done t s) (ap (λ t. t ++ rest) (sym (append-nil (spelt l)))) c.run) (u, (small, (a, refl)));
+  count = ap (λ k. k + length (spelt l)) c.count ∙ sym (length-append (all_spelt c.done) (spelt l)) ∙ ap (λ t. length (all_spelt c.done ++ t)) (sym (append-nil (spelt l))) ∙ ap length (sym (spelt-append c.done (l ∷ [])));
+}
+
+pub came-stops : (e : Claim) (trace : List ℕ) (s : State) (behind : List (List ℕ)) (n : ℕ) → Came e trace s behind n → IsOpen s → IsStuck e s behind → StopsAt e trace (n + 1)
+came-stops e trace s behind n c free stuck = record { done = c.done; state = s; behind = behind; text = c.text; run = c.run; unproved = free; stuck = stuck; line_is = ap (λ k. k + 1) c.count }
+
+pub came-proves : (e : Claim) (trace p q : List ℕ) (j n : ℕ) → Came e trace (Proved p q j) [] n → Proves e trace p q j
+came-proves e trace p q j n c = record { lines = c.done; text = c.text ∙ append-nil (all_spelt c.done); run = c.run }

@@ -1,0 +1,21 @@
+use Rattle.std.proofs.Common.{◌≡◌, ℕ, List, ◌∷◌, IfOk, MatchOption, refl, rules, subst, sym}
+use Rattle.rewrite_pass.specs.TraceLines.{words}
+use Rattle.trace_check.specs.Lines.{lines_of}
+use Rattle.trace_check.specs.Progress.{Blocked, Leads}
+use Rattle.trace_check.specs.Spelling.{spelling}
+use Rattle.trace_check.specs.declared.mark.Mark.{Mark}
+use Rattle.trace_check.specs.declared.words.Word.TheVariants as kind
+use Rattle.trace_check.proofs.checker.changed.Goals as goal
+
+pub returns-then-eq-clause-step : goal.returns-then-eq-clause-step
+returns-then-eq-clause-step c =
+    let ks : List ℕ = c.args.numbers.now.items in
+    let lines : List (List ℕ) = lines_of c.args.mark.text.now in
+    let word : c.args.word ≡ kind.Sums = search rules in
+    subst (λ w. IfOk c.replaced.result (λ o. MatchOption o (Blocked c.args.state.now (words (spelling w) ks ∷ lines)) (λ (m : Mark). Leads c.args.state.now c.replaced.new.state (words (spelling w) ks ∷ lines) (lines_of m.text.now))))
+    (sym word) c.replaced.ensures.step
+
+pub returns-then-rewrites-clause-step : goal.returns-then-rewrites-clause-step
+returns-then-rewrites-clause-step c =
+    let lines : List (List ℕ) = lines_of c.args.mark.text.now in
+    subst (λ l. Leads c.args.state.now c.rewrites.new.state (words (spelling c.args.word) l ∷ lines) lines) c.deref.ensures.value (c.if-rewrites.ensures.applies refl lines)

@@ -1,0 +1,64 @@
+-- One H more.
+use Rattle.std.proofs.Common.{◌≡◌, ◌<◌, ◌+◌, ◌*◌, ℕ, suc, [], ◌∷◌, ◌++◌, Vec, length, map, set, get_or, sym, subst, ◌∙◌, ap, arith}
+use Rattle.std.specs.Prelude.{nat_eq}
+use Rattle.std.specs.declared.alloc.Global.{Global}
+use Rattle.std.proofs.lemmas.List.{length-set}
+use Rattle.std.proofs.lemmas.List.Elements.{All-set}
+use Rattle.indexmap.proofs.CallerLemmas.{insert_entry-new}
+use Rattle.circuit_list.specs.declared.Gate.TheVariants.{H}
+use Rattle.path_parity.specs.LabelWalks.{labels_of_list}
+use Rattle.path_parity.specs.NamedSums.{set_before}
+use Rattle.path_parity.specs.PathSum.{PathLabel, fresh}
+use Rattle.path_parity.specs.Sets.{IsLabel, IsPacked, label_of, set_of}
+use Rattle.trace_check.specs.Sums.{IsWalk, NamedWalk, Passes, befores}
+use Rattle.trace_check.proofs.NameLaws.{IsWalk-had, absent, count-here, label-here, passes-h, viewed}
+use Rattle.trace_check.proofs.sums.Walk.pass_hadamard.Goals as goal
+
+pub invariant_of-self-2 : goal.invariant_of-self-2
+invariant_of-self-2 c =
+    let a = c.self.inside in
+    let q = c.args.q in
+    let v : ℕ = c.in_ok-seen.variable in
+    let row : Vec ℕ Global = c.in_ok-set.set in
+    let wires : a.wires ≡ c.args.self.now.wires = ap (λ (z : NamedWalk). z.wires) c.self.view_is in
+    let lt : q < a.wires = omega (arith, c.requires) in
+    let at : q < length a.labels.items = omega (arith, c.self.invariant.labelled) in
+    let counted : q < length a.seen.items = omega (arith, c.self.invariant.counted) in
+    let had : c.index.result.now ≡ get_or a.seen.items q 0 = count-here a.seen.items q c.index.result.now counted c.index.ensures in
+    let variable : v ≡ suc (get_or a.seen.items q 0) * a.wires + q = c.in_ok-seen.ensures.variable ∙ ap (λ k. suc k * a.wires + q) had in
+    let seen : c.in_ok-seen.seen ≡ suc (get_or a.seen.items q 0) = c.in_ok-seen.ensures.seen ∙ ap (λ k. suc k) had in
+    let fresh_here = absent a.sets.entries v (ap (λ k. set_before k (befores a.sets.entries)) variable ∙ c.self.invariant.to_come q (get_or a.seen.items q 0) lt (omega arith)) in
+    let grown : c.insert.new.self.entries ≡ a.sets.entries ++ (suc (get_or a.seen.items q 0) * a.wires + q, row) ∷ [] =
+    c.in_ok-insert.ensures.entries ∙ insert_entry-new nat_eq a.sets v row fresh_here ∙ ap (λ k. a.sets.entries ++ (k, row) ∷ []) variable in
+    let old_label : IsLabel c.index-label.result.now = subst IsLabel (sym c.index-label.ensures) (c.self.invariant.packed q c.index-label.result.now at) in
+    let packed : IsPacked row.items = subst IsPacked (sym (c.in_ok-set.ensures.items ∙ c.deref.ensures.value)) old_label in
+    let fresh_label : IsLabel c.swap.new.x = subst IsLabel (sym c.swap.ensures.x_after) c.in_ok-write_fresh.ensures.packed in
+    subst (λ es. IsWalk a.wires (set a.labels.items q c.swap.new.x) (set a.seen.items q c.in_ok-seen.seen) es) (sym grown)
+    (subst (λ k. IsWalk a.wires (set a.labels.items q c.swap.new.x) (set a.seen.items q k) (a.sets.entries ++ (suc (get_or a.seen.items q 0) * a.wires + q, row) ∷ [])) (sym seen)
+    (IsWalk-had a.wires a.labels.items (set a.labels.items q c.swap.new.x) a.seen.items a.sets.entries q row c.self.invariant lt packed
+    (length-set a.labels.items q c.swap.new.x ∙ c.self.invariant.labelled) (All-set IsLabel a.labels.items q c.swap.new.x fresh_label c.self.invariant.packed)))
+
+pub returns-clause-passes : goal.returns-clause-passes
+returns-clause-passes c =
+    let a = c.self.inside in
+    let q = c.args.q in
+    let v : ℕ = c.in_ok-seen.variable in
+    let row : Vec ℕ Global = c.in_ok-set.set in
+    let wires : a.wires ≡ c.args.self.now.wires = ap (λ (z : NamedWalk). z.wires) c.self.view_is in
+    let lt : q < a.wires = omega (arith, c.requires) in
+    let at : q < length a.labels.items = omega (arith, c.self.invariant.labelled) in
+    let counted : q < length a.seen.items = omega (arith, c.self.invariant.counted) in
+    let had : c.index.result.now ≡ get_or a.seen.items q 0 = count-here a.seen.items q c.index.result.now counted c.index.ensures in
+    let variable : v ≡ suc (get_or a.seen.items q 0) * a.wires + q = c.in_ok-seen.ensures.variable ∙ ap (λ k. suc k * a.wires + q) had in
+    let seen : c.in_ok-seen.seen ≡ suc (get_or a.seen.items q 0) = c.in_ok-seen.ensures.seen ∙ ap (λ k. suc k) had in
+    let fresh_here = absent a.sets.entries v (ap (λ k. set_before k (befores a.sets.entries)) variable ∙ c.self.invariant.to_come q (get_or a.seen.items q 0) lt (omega arith)) in
+    let grown : c.insert.new.self.entries ≡ a.sets.entries ++ (suc (get_or a.seen.items q 0) * a.wires + q, row) ∷ [] =
+    c.in_ok-insert.ensures.entries ∙ insert_entry-new nat_eq a.sets v row fresh_here ∙ ap (λ k. a.sets.entries ++ (k, row) ∷ []) variable in
+    let before = label-here a.labels.items q c.index-label.result.now at c.index-label.ensures in
+    let same_set : set_of row.items ≡ (labels_of_list (map label_of a.labels.items) q).variables =
+    ap set_of (c.in_ok-set.ensures.items ∙ c.deref.ensures.value) ∙ ap (λ (l : PathLabel). l.variables) before in
+    subst (λ (old : NamedWalk). Passes (H q) old (viewed a.wires (set a.labels.items q c.swap.new.x) (set a.seen.items q c.in_ok-seen.seen) c.insert.new.self.entries)) c.self.view_is
+    (subst (λ es. Passes (H q) (viewed a.wires a.labels.items a.seen.items a.sets.entries) (viewed a.wires (set a.labels.items q c.swap.new.x) (set a.seen.items q c.in_ok-seen.seen) es)) (sym grown)
+    (subst (λ k. Passes (H q) (viewed a.wires a.labels.items a.seen.items a.sets.entries) (viewed a.wires (set a.labels.items q c.swap.new.x) (set a.seen.items q k) (a.sets.entries ++ (suc (get_or a.seen.items q 0) * a.wires + q, row) ∷ []))) (sym seen)
+    (passes-h a.wires a.labels.items a.seen.items a.sets.entries q c.swap.new.x row at counted
+    (ap label_of c.swap.ensures.x_after ∙ c.in_ok-write_fresh.ensures.label ∙ ap fresh variable) same_set)))

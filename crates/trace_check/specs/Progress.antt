@@ -1,0 +1,69 @@
+-- Working form.
+-- How far a checker has come along a trace.
+--     placed s                what the lines behind `place` work on
+--     Came e trace s behind n the first n lines of the trace lead to the state s, and the lines `behind` are left
+--     IsRouting s             what the lines behind `place` work on is fit
+--     IsKept s t              from s to t the first placement and the numbers of wires and qubits stay, and what is fit stays fit
+--     Goes w ks s t           a line of the word w and the numbers ks applies, and leads from s to t
+--     Halts w ks s            no such line applies
+--     step_of w i j           the step of a line of the word w and the numbers i and j
+--     reached s               gates that are rewritten, with their turn
+--     Leads s t ls behind     the first of the lines ls apply, and lead from s to t, and the lines `behind` are left
+--     Blocked s ls            no line applies that the first of the lines ls spell
+--     Ends e goal             the gates and the turn of the target are those
+use Rattle.std.specs.Prelude.{◌≡◌, ℕ, ◌<◌, ◌≤◌, List, [], ◌∷◌, ◌++◌, Option, Some, None, length}
+use Rattle.circuit_list.specs.declared.Passed.{Passed}
+use Rattle.gate_expand.specs.Expansion.{expanded, turn_of}
+use Rattle.rewrite_pass.specs.Traces.{Step, Rule, Both, Join}
+use Rattle.rewrite_pass.specs.TraceLines.{words}
+use Rattle.trace_check.specs.Lines.{IsSmall, Line, all_spelt, lines_of, spelt}
+use Rattle.trace_check.specs.Proves.{Applies, Claim, IsStuck, Placed, Rewritten, Routed, Runs, State, Unread}
+use Rattle.trace_check.specs.Spelling.{spelling}
+use Rattle.trace_check.specs.declared.words.Word.{Word}
+use Rattle.trace_check.specs.declared.words.Word.TheVariants as word
+use Rattle.trace_check.specs.declared.routing.Routing.{Routing}
+
+abbrev pub placed : Routing → Placed
+placed s = record { first = s.first.items; now = s.now; rest = s.rest.gates; written = s.written.items; turn = s.turn }
+
+pub record Came (e : Claim) (trace : List ℕ) (s : State) (behind : List (List ℕ)) (n : ℕ) : Type 0 where
+  pub done : List Line
+  pub text : lines_of trace ≡ all_spelt done ++ behind
+  pub run : Runs e Unread done behind s
+  pub count : n ≡ length (all_spelt done)
+
+pub record IsRouting (s : Routing) : Type 0 where
+  pub fits : s.rest.wires ≤ length s.now
+  pub turn : s.turn < 8
+
+pub record IsKept (s t : Routing) : Type 0 where
+  pub first : t.first ≡ s.first
+  pub qubits : length t.now ≡ length s.now
+  pub fit : IsRouting t
+
+abbrev pub Goes : Word → List ℕ → Placed → Placed → Type 0
+Goes w ks s t = (e : Claim) (behind : List (List ℕ)) → e.qubits ≡ length s.now →
+    (l : Line) × (IsSmall l × ((spelt l ≡ words (spelling w) ks ∷ []) × Applies e (Routed s) l behind (Routed t)))
+
+abbrev pub Halts : Word → List ℕ → Placed → Type 0
+Halts w ks s = (e : Claim) (behind : List (List ℕ)) → e.qubits ≡ length s.now → IsStuck e (Routed s) (words (spelling w) ks ∷ behind)
+
+abbrev pub step_of : Word → ℕ → ℕ → Option Step
+step_of word.Rule i j = Some (Rule i j)
+step_of word.Both i j = Some (Both i j)
+step_of word.Join i j = Some (Join i j)
+step_of _ i j = None
+
+abbrev pub reached : Passed → State
+reached s = Rewritten s.body.gates s.turn
+
+abbrev pub Leads : Passed → Passed → List (List ℕ) → List (List ℕ) → Type 0
+Leads s t ls behind = (e : Claim) → e.wires ≡ s.body.wires →
+    (l : Line) × (IsSmall l × ((ls ≡ spelt l ++ behind) × Applies e (reached s) l behind (reached t)))
+
+abbrev pub Blocked : Passed → List (List ℕ) → Type 0
+Blocked s ls = (e : Claim) → e.wires ≡ s.body.wires → IsStuck e (reached s) ls
+
+pub record Ends (e : Claim) (goal : Passed) : Type 0 where
+  pub gates : expanded e.target ≡ goal.body.gates
+  pub turn : turn_of e.target ≡ goal.turn

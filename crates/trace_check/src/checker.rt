@@ -1,0 +1,334 @@
+//! The checker: it goes along the lines of a trace.
+
+ghost use Rattle.std.specs.Prelude.{
+  ◌≡◌,
+  ℕ,
+  ◌+◌,
+  ◌^◌,
+  ◌<◌,
+  ◌≤◌,
+  ◌∷◌,
+  [],
+  List,
+  All,
+  IfOk,
+  IfSome,
+  MatchOption,
+  codes,
+  false,
+  length,
+  true,
+};
+ghost use Rattle.circuit_list.specs.Gates.{most_wires};
+ghost use Rattle.circuit_list.specs.declared.Gate.{Gate};
+ghost use Rattle.gate_expand.specs.Expansion.{IsFineOp};
+ghost use Rattle.rewrite_pass.specs.TraceLines.{words};
+ghost use Rattle.rewrite_pass.specs.Traces.{IsStep, Step};
+ghost use Rattle.trace_check.specs.Lines.{lines_of};
+ghost use Rattle.trace_check.specs.Outcomes.{IsOutcome, claim};
+ghost use Rattle.trace_check.specs.Progress.{Blocked, Came, IsRouting, Leads, placed, reached, step_of};
+ghost use Rattle.trace_check.specs.Proves.{Claim, IsStuck, Routed, StopsAt, Unread};
+ghost use Rattle.trace_check.specs.Spelling.{spelling};
+ghost use Rattle.trace_check.specs.declared.words.Word.TheVariants as kind;
+
+use crate::gates::read_gates;
+use crate::lines::first_line;
+use crate::mark::Mark;
+use crate::pairs::{both, join};
+use crate::routed::routed;
+use crate::routing::Routing;
+use crate::sums::sums;
+use crate::windows::rule;
+use crate::words::{Word, known_small, one, read_words, two};
+use circuit_list::{Circuit, Passed};
+use gate_expand::{Ops, expand};
+use placement::Placement;
+use std::alloc::{AllocError, Global};
+use unitary_model::turn_sum;
+
+/// What a trace says of a claim.
+#[derive(Debug, Drop)]
+pub enum Outcome {
+    /// It proves it: the qubit of each wire at first and at last, and the power of w.
+    Proved {
+        initial: Vec<u32>,
+        last: Vec<u32>,
+        phase: u8,
+    },
+    /// This line, from 1, is the first one that doesn't apply, or that is missing.
+    Stopped {
+        line: u32,
+    },
+}
+
+/// What a trace says of two lists of operations: whether it proves that the target realises the source, and else the line
+/// at which it stops. Fails for want of memory alone.
+pub fn check(alloc: Global, source: &Ops, target: &Ops, trace: &[u8]) -> Result<Outcome, AllocError>
+    requires few_wires { source.now.wires ≤ most_wires }
+    requires few_qubits { target.now.wires ≤ most_wires }
+    requires source { All (IsFineOp source.now.wires) source.now.list }
+    requires target { All (IsFineOp target.now.wires) target.now.list }
+    requires short { length trace.now < 2 ^ 31 }
+    ensures { IfOk result (IsOutcome (claim source.now target.now) trace.now) }
+{
+    let mut numbers = Vec::new(alloc);
+    let Some(text) = headed(trace, &mut numbers)? else {
+        return Ok(Outcome::Stopped { line: 1 });
+    };
+    let start = Mark { text, line: 2 };
+    let mut state = expand(alloc, source)?;
+    state.body.link()?;
+    let reached = rewritten(alloc, start, &mut state, &mut numbers)?;
+    let (text, line) = (reached.mark.text, reached.mark.line);
+    if !reached.placed {
+        return Ok(Outcome::Stopped { line });
+    }
+    let goal = expand(alloc, target)?;
+    let Some(routing) = placing(alloc, state, goal.body.wires(), &numbers)? else {
+        return Ok(Outcome::Stopped { line: line - 1 });
+    };
+    routed(alloc, text, line, routing, &goal, &mut numbers)
+}
+
+/// The text behind the first line, if that begins a trace.
+fn headed<'a>(text: &'a [u8], numbers: &mut Vec<u32>) -> Result<Option<&'a [u8]>, AllocError>
+    ensures lines { IfOk result (λ o. MatchOption o ((e : Claim) → IsStuck e Unread (lines_of text.now))
+        (λ t. lines_of text.now ≡ words (codes "TRACE") (1 ∷ []) ∷ lines_of t.now)) }
+    ensures shorter { IfOk result (λ o. IfSome o (λ t. length t.now < length text.now)) }
+{
+    let Some((line, behind)) = first_line(text) else {
+        return Ok(None);
+    };
+    let Some(word) = read_words(line, numbers)? else {
+        return Ok(None);
+    };
+    if word == Word::Trace && is_one(numbers) {
+        Ok(Some(behind))
+    } else {
+        Ok(None)
+    }
+}
+
+/// Whether some numbers are the number 1 alone.
+fn is_one(numbers: &[u32]) -> bool
+    ensures yes { result ≡ true → numbers.now ≡ 1 ∷ [] }
+    ensures no { result ≡ false → numbers.now ≡ 1 ∷ [] → ⊥ }
+{
+    match one(numbers) {
+        Some(number) => number == 1,
+        None => false,
+    }
+}
+
+/// Where the lines that rewrite end: behind a line `place`, or before a line that doesn't apply or is missing.
+#[derive(Clone, Copy, Debug)]
+struct Reached<'a> {
+    placed: bool,
+    mark: Mark<'a>,
+}
+
+/// Goes along the lines that rewrite.
+fn rewritten<'a>(
+    alloc: Global,
+    start: Mark<'a>,
+    state: &mut Passed,
+    numbers: &mut Vec<u32>,
+) -> Result<Reached<'a>, AllocError>
+    requires turn { state.old.turn < 8 }
+    requires short { start.line + length start.text.now < 2 ^ 32 }
+    ensures wires { state.new.body.wires ≡ state.old.body.wires }
+    ensures turn { state.new.turn < 8 }
+    ensures short { IfOk result (λ r. r.mark.line + length r.mark.text.now < 2 ^ 32) }
+    ensures later { IfOk result (λ r. start.entry.line ≤ r.mark.line) }
+    ensures place { IfOk result (λ r. r.placed ≡ true → (e : Claim) (trace : List ℕ) (n : ℕ) → e.wires ≡ state.old.body.wires →
+        Came e trace (reached state.old) (lines_of start.entry.text.now) n → start.entry.line ≡ n + 1 →
+        (m : ℕ) × (Came e trace (reached state.new) (words (codes "place") numbers.new.items ∷ lines_of r.mark.text.now) m
+        × (r.mark.line ≡ m + 2))) }
+    ensures stops { IfOk result (λ r. r.placed ≡ false → (e : Claim) (trace : List ℕ) (n : ℕ) → e.wires ≡ state.old.body.wires →
+        Came e trace (reached state.old) (lines_of start.entry.text.now) n → start.entry.line ≡ n + 1 →
+        StopsAt e trace r.mark.line) }
+{
+    let mut mark = start;
+    'lines: while let Some((line, text)) = first_line(mark.text) {
+        let behind = Mark {
+            text,
+            line: mark.line + 1,
+        };
+        let Some(word) = read_words(line, numbers)? else {
+            break 'lines;
+        };
+        if word == Word::Place {
+            return Ok(Reached {
+                placed: true,
+                mark: behind,
+            });
+        }
+        let Some(next) = changed(alloc, behind, state, word, numbers)? else {
+            break 'lines;
+        };
+        mark = next;
+    }
+    Ok(Reached {
+        placed: false,
+        mark,
+    })
+}
+
+/// Makes the step of a line behind which a walk is, and goes past the gates that are listed with it. None where it doesn't apply.
+fn changed<'a>(
+    alloc: Global,
+    mark: Mark<'a>,
+    state: &mut Passed,
+    word: Word,
+    numbers: &mut Vec<u32>,
+) -> Result<Option<Mark<'a>>, AllocError>
+    requires on { word ≡ kind.Place → ⊥ }
+    requires turn { state.old.turn < 8 }
+    requires short { mark.line + length mark.text.now < 2 ^ 32 }
+    ensures wires { state.new.body.wires ≡ state.old.body.wires }
+    ensures turn { state.new.turn < 8 }
+    ensures shorter { IfOk result (λ o. IfSome o (λ m. length m.text.now ≤ length mark.entry.text.now)) }
+    ensures short { IfOk result (λ o. IfSome o (λ m. m.line + length m.text.now ≤ mark.entry.line + length mark.entry.text.now)) }
+    ensures later { IfOk result (λ o. IfSome o (λ m. mark.entry.line ≤ m.line)) }
+    ensures counted { IfOk result (λ o. IfSome o
+        (λ m. m.line + length (lines_of m.text.now) ≡ mark.entry.line + length (lines_of mark.entry.text.now))) }
+    ensures step { IfOk result
+        (λ o. MatchOption o (Blocked state.old (words (spelling word) numbers.old.items ∷ lines_of mark.entry.text.now))
+        (λ m. Leads state.old state.new (words (spelling word) numbers.old.items ∷ lines_of mark.entry.text.now)
+        (lines_of m.text.now))) }
+{
+    if word == Word::Sums {
+        return replaced(alloc, mark, state, numbers);
+    }
+    if rewrites(state, word, numbers) {
+        Ok(Some(mark))
+    } else {
+        Ok(None)
+    }
+}
+
+/// Makes the step of a line `rule`, `both` or `join`. False where it doesn't apply.
+fn rewrites(state: &mut Passed, word: Word, numbers: &[u32]) -> bool
+    requires place { word ≡ kind.Place → ⊥ }
+    requires sums { word ≡ kind.Sums → ⊥ }
+    requires turn { state.old.turn < 8 }
+    ensures wires { state.new.body.wires ≡ state.old.body.wires }
+    ensures turn { state.new.turn < 8 }
+    ensures applies { result ≡ true → (behind : List (List ℕ)) →
+        Leads state.old state.new (words (spelling word) numbers.now ∷ behind) behind }
+    ensures not { result ≡ false → (behind : List (List ℕ)) → Blocked state.old (words (spelling word) numbers.now ∷ behind) }
+{
+    let Some((first, second)) = two(numbers) else {
+        return false;
+    };
+    match step(&mut state.body, word, first, second) {
+        Some(turn) => {
+            state.turn = turn_sum(state.turn, turn);
+            true
+        }
+        None => false,
+    }
+}
+
+/// Makes the step that a word and two numbers tell, and gives its turn. None where there is none, or where it doesn't apply.
+fn step(body: &mut Circuit, word: Word, first: u32, second: u32) -> Option<u8>
+    ensures wires { body.new.wires ≡ body.old.wires }
+    ensures turn { IfSome result (λ turn. turn < 8) }
+    ensures step { MatchOption result ((p : Step) (gates : List Gate) (turn : ℕ) → step_of word first second ≡ Some p →
+        IsStep body.old.wires body.old.gates p gates turn → ⊥)
+        (λ turn. (p : Step) × ((step_of word first second ≡ Some p)
+        × IsStep body.old.wires body.old.gates p body.new.gates turn)) }
+{
+    match word {
+        Word::Rule => rule(body, first, second as usize),
+        Word::Both => both(body, first as usize, second as usize),
+        Word::Join => {
+            if join(body, first as usize, second as usize) {
+                Some(0)
+            } else {
+                None
+            }
+        }
+        Word::Trace
+        | Word::Sums
+        | Word::Place
+        | Word::Emit
+        | Word::Back
+        | Word::Swap
+        | Word::Turn
+        | Word::End => None,
+    }
+}
+
+/// Puts the gates that are listed behind a line `sums` in the place of all. None where it doesn't apply.
+fn replaced<'a>(
+    alloc: Global,
+    mark: Mark<'a>,
+    state: &mut Passed,
+    numbers: &mut Vec<u32>,
+) -> Result<Option<Mark<'a>>, AllocError>
+    requires turn { state.old.turn < 8 }
+    requires short { mark.line + length mark.text.now < 2 ^ 32 }
+    ensures wires { state.new.body.wires ≡ state.old.body.wires }
+    ensures turn { state.new.turn < 8 }
+    ensures shorter { IfOk result (λ o. IfSome o (λ m. length m.text.now ≤ length mark.entry.text.now)) }
+    ensures short { IfOk result (λ o. IfSome o (λ m. m.line + length m.text.now ≤ mark.entry.line + length mark.entry.text.now)) }
+    ensures later { IfOk result (λ o. IfSome o (λ m. mark.entry.line ≤ m.line)) }
+    ensures counted { IfOk result (λ o. IfSome o
+        (λ m. m.line + length (lines_of m.text.now) ≡ mark.entry.line + length (lines_of mark.entry.text.now))) }
+    ensures step { IfOk result
+        (λ o. MatchOption o (Blocked state.old (words (codes "sums") numbers.old.items ∷ lines_of mark.entry.text.now))
+        (λ m. Leads state.old state.new (words (codes "sums") numbers.old.items ∷ lines_of mark.entry.text.now)
+        (lines_of m.text.now))) }
+{
+    known_small(numbers);
+    let Some(count) = one(numbers) else {
+        return Ok(None);
+    };
+    let Some(listed) = read_gates(alloc, mark.text, state.body.wires(), count, numbers)? else {
+        return Ok(None);
+    };
+    let _listed = listed.body.wires();
+    let Some(turn) = sums(alloc, &state.body, &listed.body)? else {
+        return Ok(None);
+    };
+    let mut body = listed.body;
+    body.link()?;
+    state.body = body;
+    state.turn = turn_sum(state.turn, turn);
+    Ok(Some(Mark {
+        text: listed.behind,
+        line: mark.line + count,
+    }))
+}
+
+/// What a line `place` with these numbers leads to, on so many qubits. None where it doesn't apply.
+fn placing(
+    alloc: Global,
+    state: Passed,
+    qubits: u32,
+    numbers: &[u32],
+) -> Result<Option<Routing>, AllocError>
+    requires turn { state.turn < 8 }
+    ensures fit { IfOk result (λ o. IfSome o (λ r. IsRouting r × (length r.now ≡ qubits))) }
+    ensures place { IfOk result (λ o. MatchOption o ((e : Claim) (behind : List (List ℕ)) → e.wires ≡ state.body.wires →
+        e.qubits ≡ qubits →
+        IsStuck e (reached state) (words (codes "place") numbers.now ∷ behind))
+        (λ r. (e : Claim) (trace : List ℕ) (behind : List (List ℕ)) (n : ℕ) → e.wires ≡ state.body.wires → e.qubits ≡ qubits →
+        Came e trace (reached state) (words (codes "place") numbers.now ∷ behind) n →
+        Came e trace (Routed (placed r)) behind (n + 1))) }
+{
+    if numbers.len() != qubits as usize || state.body.wires() > qubits {
+        return Ok(None);
+    }
+    let Some(now) = Placement::of(alloc, numbers)? else {
+        return Ok(None);
+    };
+    Ok(Some(Routing {
+        first: Vec::from_slice(alloc, numbers)?,
+        now,
+        rest: state.body,
+        written: Vec::new(alloc),
+        turn: state.turn,
+    }))
+}
