@@ -38,7 +38,7 @@ const H: Op = Op::U {
     q: 0,
 };
 
-const H1: Op = Op::U {
+const SECOND_H: Op = Op::U {
     a: 2,
     b: 0,
     c: 4,
@@ -217,12 +217,12 @@ fn rows_on_two_wires(rt: HostRuntime) -> Result<(), Fail> {
         (&[CX], &[XC], "TRACE 1\nplace 1 0\nemit 0\nend 0", (true, 0)),
         (
             &[CX],
-            &[H, H1, XC, H, H1],
+            &[H, SECOND_H, XC, H, SECOND_H],
             "TRACE 1\nplace 0 1\nback 0\nend 4",
             (true, 4),
         ),
         (
-            &[H, H1, CX, H, H1],
+            &[H, SECOND_H, CX, H, SECOND_H],
             &[XC],
             "TRACE 1\nrule 5 0\nplace 0 1\nemit 0\nend 4",
             (true, 4),
@@ -235,7 +235,7 @@ fn rows_on_two_wires(rt: HostRuntime) -> Result<(), Fail> {
         ),
         (
             &[CX],
-            &[CX, H1, H, CX, H1, H, CX, XC],
+            &[CX, SECOND_H, H, CX, SECOND_H, H, CX, XC],
             "TRACE 1\nplace 0 1\nturn 0 1\nemit 0\nend 4",
             (true, 4),
         ),
@@ -300,7 +300,7 @@ fn rows_that_stop(rt: HostRuntime) -> Result<(), Fail> {
 fn rows_with_other_numbers_of_wires(rt: HostRuntime) -> Result<(), Fail> {
     let alloc = rt.alloc();
     let trace = "TRACE 1\nplace 1 0\nemit 0\nend 0";
-    assert_eq!(rt; said(alloc, (1, &[H]), (2, &[H1]), trace)?, (true, 0));
+    assert_eq!(rt; said(alloc, (1, &[H]), (2, &[SECOND_H]), trace)?, (true, 0));
     assert_eq!(rt; said(alloc, (1, &[H]), (2, &[H]), trace)?, (false, 4));
     let trace = "TRACE 1\nplace 0\nend 0";
     assert_eq!(rt; said(alloc, (2, &[]), (1, &[]), trace)?, (false, 2));
