@@ -1,4 +1,5 @@
 -- ---- definitions that public clauses reach
 pub mod Refusals
+pub mod Sources
 -- ---- working forms
 pub mod Stages

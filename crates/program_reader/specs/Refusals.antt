@@ -6,7 +6,6 @@
 --                        with an expression that is too deep; else that of the first statement which has one, with the least
 --                        code; else that there is too much to write out; else the first angle that isn't exact
 --   IsReadFault text e   what may be told of a text: its first refusal, or want of memory
---   program_of s         the program that a source stands for
 --   lex_fault, parse_fault   a fault of the tokens or of the grammar, as it is told
 use Rattle.std.specs.Prelude.{ℕ, ◌<◌, ◌≤◌, List, length}
 use Rattle.qasm_lexer.specs.Tokens.{AreTokens, IsLexFault}
@@ -19,12 +18,11 @@ use Rattle.qasm_parser.specs.declared.ParseFault.{ParseFault}
 use Rattle.qasm_parser.specs.declared.ParseFault.TheVariants as parsing
 use Rattle.qasm_check.specs.Checking.{IsCheckRefused, bound}
 use Rattle.gate_inline.specs.Inlined.{IsInlineRefused}
-use Rattle.gate_inline.specs.Programs.{IsSource, IsTreeOf, Program, text_limit}
+use Rattle.gate_inline.specs.Programs.{IsSource, IsTreeOf, text_limit}
 use Rattle.program_reader.specs.declared.refusal.Refusal.{Refusal}
 use Rattle.program_reader.specs.declared.refusal.Refusal.TheVariants.{TooLong, BadByte, Number, Syntax, Version, Depth, Check, Inline}
 use Rattle.program_reader.specs.declared.refusal.ReadFault.{ReadFault}
 use Rattle.program_reader.specs.declared.refusal.ReadFault.TheVariants.{Refused, NoMemory}
-use Rattle.program_reader.specs.declared.source.Source.{Source}
 
 abbrev pub IsUnparsed : List ℕ → ParseFault → Type 0
 IsUnparsed text fault = (tokens : List Token) × AreTokens text tokens × IsParseFault text tokens fault
@@ -46,15 +44,6 @@ IsRefusal text (Inline r) = IsWithin text × (t : Tree) × IsSource text t × Is
 abbrev pub IsReadFault : List ℕ → ReadFault → Type 0
 IsReadFault text (Refused r) = IsRefusal text r
 IsReadFault text NoMemory = Unit {0}
-
-abbrev pub program_of : Source → Program
-program_of s = record {
-  wires = s.ops.wires;
-  ops = s.ops.list;
-  reads = s.ops.reads;
-  registers = s.registers.items;
-  barriers = s.barriers;
-}
 
 abbrev pub lex_fault : LexFault → ReadFault
 lex_fault (lexing.BadByte place) = Refused (BadByte place)

@@ -14,4 +14,4 @@ mod source;
 pub use laws::{accepted_has_no_refusal, accepted_or_refused, means_once, refused_once};
 pub use reading::{TEXT_LIMIT, read_program};
 pub use refusal::{ReadFault, Refusal};
-pub use source::Source;
+pub use source::SourceProgram;

@@ -1,12 +1,8 @@
 //! The stages of the reader, one behind the other.
 
 ghost use Rattle.std.specs.Prelude.{◌≡◌, ◌<◌, ◌≤◌, All, IfOk, IfErr, length, ◌^◌};
-ghost use Rattle.gate_expand.specs.Expansion.{IsFineOp};
 ghost use Rattle.gate_inline.specs.Programs.{IsAccepted, IsTreeOf, IsWithinLimits, Means, text_limit};
-ghost use Rattle.gate_inline.specs.Registers.{AreRegisters, IsRead};
-ghost use Rattle.gate_inline.specs.Sizes.{operation_limit};
-ghost use Rattle.unitary_model.specs.Limits.{most_qubits};
-ghost use Rattle.program_reader.specs.Refusals.{IsReadFault, program_of};
+ghost use Rattle.program_reader.specs.Refusals.{IsReadFault};
 ghost use Rattle.program_reader.specs.Stages.{IsUnchecked, IsUnwritten};
 ghost use Rattle.qasm_check.specs.Checking.{IsFineTree, bound};
 ghost use Rattle.qasm_check.specs.CheckedView.{program as bound_program};
@@ -15,7 +11,7 @@ ghost use Rattle.qasm_parser.specs.DeclaredNames.{HasNames};
 ghost use Rattle.qasm_parser.specs.Tree.{program as tree_of};
 
 use crate::refusal::{ReadFault, Refusal};
-use crate::source::Source;
+use crate::source::SourceProgram;
 use gate_inline::{InlineFault, inline};
 use qasm_check::{Bits, CheckFault, Checked, check};
 use qasm_lexer::{lex, tokens_are_lexemes};
@@ -70,14 +66,9 @@ fn registers_of(alloc: Global, checked: &Checked) -> Result<Vec<Bits>, AllocErro
 }
 
 /// The operations, reads and registers of a program with its names bound.
-fn write_out(alloc: Global, checked: &Checked) -> Result<Source, ReadFault>
+fn write_out(alloc: Global, checked: &Checked) -> Result<SourceProgram, ReadFault>
     requires { All (λ r. IsName r.name) (bound_program checked.now).registers }
-    ensures ok { IfOk result (λ s. IsWithinLimits (bound_program checked.now) × Means (bound_program checked.now) (program_of s)) }
-    ensures few { IfOk result (λ s. s.ops.wires ≤ most_qubits) }
-    ensures short { IfOk result (λ s. length s.ops.list ≤ operation_limit) }
-    ensures fine { IfOk result (λ s. All (IsFineOp s.ops.wires) s.ops.list) }
-    ensures registers { IfOk result (λ s. AreRegisters s.registers.items (length s.ops.reads)) }
-    ensures reads { IfOk result (λ s. All (IsRead s.ops.wires) s.ops.reads) }
+    ensures ok { IfOk result (λ s. IsWithinLimits (bound_program checked.now) × Means (bound_program checked.now) s) }
     ensures err { IfErr result (IsUnwritten (bound_program checked.now)) }
 {
     let ops = match inline(alloc, checked) {
@@ -87,23 +78,14 @@ fn write_out(alloc: Global, checked: &Checked) -> Result<Source, ReadFault>
         }
         Err(InlineFault::NoMemory) => return Err(ReadFault::NoMemory),
     };
-    Ok(Source {
-        ops,
-        registers: registers_of(alloc, checked)?,
-        barriers: checked.barriers(),
-    })
+    let registers = registers_of(alloc, checked)?;
+    Ok(SourceProgram::new(ops, registers, checked.barriers()))
 }
 
-/// The program that a text spells: its operations, each such as `expand` asks for, its reads and its registers. Else the
-/// text's first refusal.
+/// The program that a text spells: its operations, reads and registers. Else the text's first refusal.
 #[tactic(auto, using(crate::proofs::ReaderLaws::reader))]
-pub fn read_program(alloc: Global, text: &[u8]) -> Result<Source, ReadFault>
-    ensures ok { IfOk result (λ s. IsAccepted text.now (program_of s)) }
-    ensures few { IfOk result (λ s. s.ops.wires ≤ most_qubits) }
-    ensures short { IfOk result (λ s. length s.ops.list ≤ operation_limit) }
-    ensures fine { IfOk result (λ s. All (IsFineOp s.ops.wires) s.ops.list) }
-    ensures registers { IfOk result (λ s. AreRegisters s.registers.items (length s.ops.reads)) }
-    ensures reads { IfOk result (λ s. All (IsRead s.ops.wires) s.ops.reads) }
+pub fn read_program(alloc: Global, text: &[u8]) -> Result<SourceProgram, ReadFault>
+    ensures ok { IfOk result (IsAccepted text.now) }
     ensures err { IfErr result (IsReadFault text.now) }
 {
     if text.len() > TEXT_LIMIT {

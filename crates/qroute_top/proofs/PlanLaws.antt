@@ -21,8 +21,6 @@ use Rattle.circuit_list.specs.declared.Gate.TheVariants.{H, X, P, Cx}
 use Rattle.circuit_list.specs.Gates.{IsFine, ops}
 use Rattle.gate_inline.specs.Registers.{IsFree, IsRead}
 use Rattle.gate_inline.specs.Programs.{IsWritten, Program}
-use Rattle.program_reader.specs.Refusals.{program_of}
-use Rattle.program_reader.specs.declared.source.Source.{Source}
 use Rattle.route_report.specs.declared.lines.Report.{Report}
 use Rattle.qroute_top.specs.Delivered.{Rewrites, StandsFor, placed_read}
 use Rattle.qroute_top.specs.Plans.{HasPlanned, IsPlanned, TellsReport, target_program}
@@ -53,9 +51,9 @@ reads_wider n m rs fits h = All-from_recursion (IsRead m) rs (by_list rs (recurs
     by_list (r ∷ xs) h = (wider r h.0, by_list xs h.1)
 
 -- ---- a target that stands for the source
-pub Rewrites-planned : (s : Source) (t : Target) (IsPlaced : Program → Report → Type 0) (text line : List ℕ)
-    → ((told : Report) → IsTold t told → StandsFor (program_of s) (target_program s t) told)
-    → ((told : Report) → IsTold t told → IsPlaced (target_program s t) told) → IsPlanned s t text line → Rewrites (program_of s) IsPlaced text line
+pub Rewrites-planned : (s : Program) (t : Target) (IsPlaced : Program → Report → Type 0) (text line : List ℕ)
+    → ((told : Report) → IsTold t told → StandsFor s (target_program s t) told)
+    → ((told : Report) → IsTold t told → IsPlaced (target_program s t) told) → IsPlanned s t text line → Rewrites s IsPlaced text line
 Rewrites-planned s t IsPlaced text line stands placed plan =
     let told = plan.numbers.told in
     record {
@@ -66,8 +64,8 @@ Rewrites-planned s t IsPlaced text line stands placed plan =
     }
 
 -- what came of a program came of its target
-pub HasPlanned-written : (s : Source) (t : Target) (text line : List ℕ) (Done : List ℕ → Type 0) (bits : List Bits) (reads : List (Option ℕ))
-    → bits ≡ s.registers.items → reads ≡ map (placed_read t.last) s.ops.reads → TellsReport s t line
+pub HasPlanned-written : (s : Program) (t : Target) (text line : List ℕ) (Done : List ℕ → Type 0) (bits : List Bits) (reads : List (Option ℕ))
+    → bits ≡ s.registers → reads ≡ map (placed_read t.last) s.reads → TellsReport s t line
     → IsWritten text (record { wires = t.body.wires; ops = ops t.body.gates; reads = reads; registers = bits; barriers = 0 }) → Done text
     → HasPlanned s t (λ x _. Done x)
 HasPlanned-written s t text line Done bits reads registers same (told, report, numbers) written came =

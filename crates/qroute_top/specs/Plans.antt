@@ -9,13 +9,9 @@
 --   IsFitWork w          what is asked of a work before it is done
 --   IsWork w ..          the text and the line that are right for a work
 --   HasWork w Done       some text and line are right for the work, and this was done with them
-use Rattle.std.specs.Prelude.{◌≡◌, ℕ, ◌≤◌, Bool, true, false, None, List, [], All, length, map}
+use Rattle.std.specs.Prelude.{◌≡◌, ℕ, ◌≤◌, Bool, true, false, None, List, [], length, map}
 use Rattle.circuit_list.specs.Gates.{ops}
 use Rattle.gate_inline.specs.Programs.{IsWritten, Program}
-use Rattle.gate_inline.specs.Registers.{AreRegisters, IsRead}
-use Rattle.gate_inline.specs.Sizes.{operation_limit}
-use Rattle.program_reader.specs.Refusals.{program_of}
-use Rattle.program_reader.specs.declared.source.Source.{Source}
 use Rattle.route_report.specs.declared.lines.Report.{Report}
 use Rattle.route_report.specs.Lines.{report_line}
 use Rattle.qroute_top.specs.declared.plan.Work.{Work}
@@ -24,35 +20,33 @@ use Rattle.qroute_top.specs.declared.target.Target.{Target}
 use Rattle.qroute_top.specs.Delivered.{Reports, placed_read}
 use Rattle.qroute_top.specs.Targets.{IsTold}
 
-abbrev pub target_program : Source → Target → Program
+abbrev pub target_program : Program → Target → Program
 target_program s t = record {
   wires = t.body.wires;
   ops = ops t.body.gates;
-  reads = map (placed_read t.last) s.ops.reads;
-  registers = s.registers.items;
+  reads = map (placed_read t.last) s.reads;
+  registers = s.registers;
   barriers = 0;
 }
 
-pub record IsFit (s : Source) (t : Target) : Type 0 where
-  pub short : length s.ops.list ≤ operation_limit
+pub record IsFit (s : Program) (t : Target) : Type 0 where
   pub placed : length t.last ≡ t.body.wires
-  pub registers : AreRegisters s.registers.items (length s.ops.reads)
-  pub reads : All (IsRead t.body.wires) s.ops.reads
+  pub fits : s.wires ≤ t.body.wires
 
-pub record IsReport (s : Source) (t : Target) (r : Report) : Type 0 where
-  pub numbers : Reports (program_of s) (target_program s t) r
+pub record IsReport (s : Program) (t : Target) (r : Report) : Type 0 where
+  pub numbers : Reports s (target_program s t) r
   pub told : IsTold t r
 
-abbrev pub TellsReport : Source → Target → List ℕ → Type 0
+abbrev pub TellsReport : Program → Target → List ℕ → Type 0
 TellsReport s t line = (told : Report) × (line ≡ report_line told) × IsReport s t told
 
-pub record IsPlanned (s : Source) (t : Target) (text line : List ℕ) : Type 0 where
+pub record IsPlanned (s : Program) (t : Target) (text line : List ℕ) : Type 0 where
   pub written : IsWritten text (target_program s t)
   pub told : Report
   pub report : line ≡ report_line told
   pub numbers : IsReport s t told
 
-abbrev pub HasPlanned : Source → Target → (List ℕ → List ℕ → Type 0) → Type 0
+abbrev pub HasPlanned : Program → Target → (List ℕ → List ℕ → Type 0) → Type 0
 HasPlanned s t Done = (text : List ℕ) × (line : List ℕ) × IsPlanned s t text line × Done text line
 
 abbrev pub has_text : Work → Bool

@@ -85,7 +85,7 @@ pub fn decide<I: Input, F: Shelf>(
             trivial,
         } => {
             let source = read_source(alloc, input)?;
-            let device = load_device(alloc, shelf, &name, source.ops.wires)?;
+            let device = load_device(alloc, shelf, &name, source.ops().wires)?;
             Ok(route_on(alloc, source, &device, trivial)?)
         }
         Command::Bench {

@@ -14,7 +14,7 @@ use crate::stops::{DeviceRefusal, QuestionRefusal, Stop};
 use crate::target::Target;
 use coupling_map::DeviceFault;
 use outside_io::{Failed, Sink, send};
-use program_reader::{Refusal, Source};
+use program_reader::{Refusal, SourceProgram};
 use qasm_writer::output::Output;
 use qasm_writer::write_program;
 use route_report::{Fault, fault_line, status};
@@ -210,7 +210,7 @@ fn emit_program<O: Sink, R: Sink>(
 /// Prepares what a program takes, and writes it and its report line; from the first byte on no memory is taken.
 fn emit_target<O: Sink, R: Sink>(
     alloc: Global,
-    source: &Source,
+    source: &SourceProgram,
     target: &Target,
     out: &mut O,
     report: &mut R,

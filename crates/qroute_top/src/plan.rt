@@ -1,12 +1,7 @@
 //! What a command has to write, and all that is made before the first byte goes out.
 
 ghost use Rattle.std.specs.Prelude.{◌≡◌, ◌≤◌, ℕ, List, [], All, IfOk, length, map, false, true, vec_capacity};
-ghost use Rattle.gate_expand.specs.Expansion.{IsFineOp};
 ghost use Rattle.gate_inline.specs.Registers.{IsFree, IsRead};
-ghost use Rattle.gate_inline.specs.Sizes.{operation_limit};
-ghost use Rattle.gate_library.specs.Limits.{most_bits};
-ghost use Rattle.unitary_model.specs.Limits.{most_qubits};
-ghost use Rattle.program_reader.specs.Refusals.{program_of};
 ghost use Rattle.qasm_writer.specs.Outputs.{bits_of};
 ghost use Rattle.route_report.specs.Lines.{check_line};
 ghost use Rattle.qroute_top.specs.Causes.{output_fault_line};
@@ -17,7 +12,7 @@ use crate::target::Target;
 use gate_expand::expand;
 use layer_stages::stage_lines;
 use placement::Placement;
-use program_reader::Source;
+use program_reader::SourceProgram;
 use qasm_check::Bits;
 use qasm_lexer::names_are_ascii;
 use qasm_writer::empty_room;
@@ -30,11 +25,18 @@ use unitary_plain::counts::{cx_count_of, t_count_of};
 #[derive(Drop)]
 pub enum Work {
     /// A program that stands for a source goes to the output, and its report line to the report.
-    Program { source: Source, target: Target },
+    Program {
+        source: SourceProgram,
+        target: Target,
+    },
     /// A text goes to the output.
-    Text { text: Vec<u8> },
+    Text {
+        text: Vec<u8>,
+    },
     /// A line goes to the report.
-    Line { line: Vec<u8> },
+    Line {
+        line: Vec<u8>,
+    },
 }
 
 /// All that takes memory, made before the first byte of a program goes out.
@@ -52,19 +54,19 @@ pub struct Prepared<'a> {
 
 /// What the line tells of a program.
 #[tactic(auto, using(crate::proofs::PlanLaws::counts))]
-fn counts_of(source: &Source) -> Counts
-    requires short { length source.now.ops.list ≤ operation_limit }
-    requires bits { length source.now.ops.reads ≤ most_bits }
-    ensures { result ≡ counts_of (program_of source.now) }
+fn counts_of(source: &SourceProgram) -> Counts
+    ensures { result ≡ counts_of source.now }
 {
-    let ops = source.ops.list.as_slice();
+    source.facts();
+    let ops = source.ops();
+    let list = ops.list.as_slice();
     Counts {
-        barriers: source.barriers,
-        bits: source.ops.reads.as_slice().len() as u32,
-        cx: cx_count_of(ops),
-        operations: ops.len() as u64,
-        qubits: source.ops.wires,
-        t: t_count_of(ops),
+        barriers: source.barriers(),
+        bits: ops.reads.as_slice().len() as u32,
+        cx: cx_count_of(list),
+        operations: list.len() as u64,
+        qubits: ops.wires,
+        t: t_count_of(list),
     }
 }
 
@@ -116,9 +118,7 @@ fn registers_of<'a>(alloc: Global, bits: &'a [Bits]) -> Result<Vec<Register<'a>>
 }
 
 /// The report of a target that stands for a source.
-fn report_of(alloc: Global, source: &Source, target: &Target) -> Result<Report, AllocError>
-    requires short { length source.now.ops.list ≤ operation_limit }
-    requires bits { length source.now.ops.reads ≤ most_bits }
+fn report_of(alloc: Global, source: &SourceProgram, target: &Target) -> Result<Report, AllocError>
     ensures { IfOk result (IsReport source.now target.now) }
 {
     let counts = counts_of(source);
@@ -141,7 +141,7 @@ fn report_of(alloc: Global, source: &Source, target: &Target) -> Result<Report, 
 }
 
 /// The work of writing a target that stands for a source.
-pub fn work_of(source: Source, target: Target) -> Work
+pub fn work_of(source: SourceProgram, target: Target) -> Work
     requires { IsFit source target }
     ensures planned { (text line : List ℕ) → IsWork result text line → IsPlanned source target text line }
     ensures fit { IsFitWork result }
@@ -154,20 +154,21 @@ pub fn work_of(source: Source, target: Target) -> Work
 /// All that is made for a target that stands for a source.
 pub fn prepare<'a>(
     alloc: Global,
-    source: &'a Source,
+    source: &'a SourceProgram,
     target: &Target,
 ) -> Result<Prepared<'a>, AllocError>
     requires { IsFit source.now target.now }
-    ensures registers { IfOk result (λ p. map bits_of p.registers.items ≡ source.now.registers.items) }
-    ensures reads { IfOk result (λ p. p.reads.items ≡ map (placed_read target.now.last) source.now.ops.reads) }
+    ensures registers { IfOk result (λ p. map bits_of p.registers.items ≡ source.now.registers) }
+    ensures reads { IfOk result (λ p. p.reads.items ≡ map (placed_read target.now.last) source.now.reads) }
     ensures there { IfOk result (λ p. All (IsRead target.now.body.wires) p.reads.items) }
     ensures empty { IfOk result (λ p. p.room.items ≡ []) }
     ensures capacity { IfOk result (λ p. 4096 ≤ vec_capacity p.room) }
     ensures line { IfOk result (λ p. TellsReport source.now target.now p.line.items) }
     ensures fault { IfOk result (λ p. p.fault.items ≡ output_fault_line) }
 {
-    let registers = registers_of(alloc, &source.registers)?;
-    let reads = placed_reads(alloc, source.ops.reads.as_slice(), &target.last)?;
+    source.facts();
+    let registers = registers_of(alloc, source.registers())?;
+    let reads = placed_reads(alloc, source.ops().reads.as_slice(), &target.last)?;
     let report = report_of(alloc, source, target)?;
     let line = report_line(alloc, &report)?;
     let fault = fault_line(alloc, &Fault::Output)?;
@@ -182,10 +183,8 @@ pub fn prepare<'a>(
 }
 
 /// The line that tells what a program has; nothing goes to the output.
-pub fn check_work(alloc: Global, source: &Source) -> Result<Work, AllocError>
-    requires short { length source.now.ops.list ≤ operation_limit }
-    requires bits { length source.now.ops.reads ≤ most_bits }
-    ensures made { IfOk result (λ w. (text line : List ℕ) → IsWork w text line → (text ≡ []) × (line ≡ check_line (counts_of (program_of source.now)))) }
+pub fn check_work(alloc: Global, source: &SourceProgram) -> Result<Work, AllocError>
+    ensures made { IfOk result (λ w. (text line : List ℕ) → IsWork w text line → (text ≡ []) × (line ≡ check_line (counts_of source.now))) }
     ensures fit { IfOk result IsFitWork }
     ensures writes { IfOk result (λ w. has_text w ≡ false) }
     ensures tells { IfOk result (λ w. has_line w ≡ true) }
@@ -195,15 +194,14 @@ pub fn check_work(alloc: Global, source: &Source) -> Result<Work, AllocError>
 }
 
 /// The lines of the layers of a program's gates; nothing goes to the report.
-pub fn stage_work(alloc: Global, source: &Source) -> Result<Work, AllocError>
-    requires few { source.now.ops.wires ≤ most_qubits }
-    requires fine { All (IsFineOp source.now.ops.wires) source.now.ops.list }
-    ensures made { IfOk result (λ w. (text line : List ℕ) → IsWork w text line → IsStages (program_of source.now) text × (line ≡ [])) }
+pub fn stage_work(alloc: Global, source: &SourceProgram) -> Result<Work, AllocError>
+    ensures made { IfOk result (λ w. (text line : List ℕ) → IsWork w text line → IsStages source.now text × (line ≡ [])) }
     ensures fit { IfOk result IsFitWork }
     ensures writes { IfOk result (λ w. has_text w ≡ true) }
     ensures tells { IfOk result (λ w. has_line w ≡ false) }
 {
-    let gates = expand(alloc, &source.ops)?;
+    source.facts();
+    let gates = expand(alloc, source.ops())?;
     let text = stage_lines(alloc, &gates.body)?;
     Ok(Work::Text { text })
 }

@@ -2,7 +2,6 @@
 
 ghost use Rattle.std.specs.Prelude.{◌≡◌, ◌≤◌, ℕ, List, [], length, None, Some, IfOk, IfErr, IfSome, false, true};
 ghost use Rattle.amplitude_exact.specs.Entries.{branches, most_branches, most_wires};
-ghost use Rattle.program_reader.specs.Refusals.{program_of};
 ghost use Rattle.qroute_top.specs.Plans.{IsFitWork, IsWork, has_line, has_text};
 ghost use Rattle.qroute_top.specs.Questions.{IsEntryText, IsQuestionRefusal};
 ghost use Rattle.qroute_top.specs.Stops.{IsUnanswered};
@@ -12,7 +11,7 @@ use crate::plan::Work;
 use crate::stops::{QuestionRefusal, QuestionStop};
 use amplitude_exact::{Amp, amplitude, branches_of};
 use command_words::bits::BitList;
-use program_reader::Source;
+use program_reader::SourceProgram;
 use route_report::{Entry, entry_line};
 use std::alloc::Global;
 
@@ -23,19 +22,20 @@ const WIRE_LIMIT: u32 = 12;
 const BRANCH_LIMIT: usize = 60;
 
 /// Why the entry of a program between two lists of bits isn't told.
-fn refusal_of(source: &Source, from: &[bool], to: &[bool]) -> Option<QuestionRefusal>
-    ensures refused { IfSome result (IsQuestionRefusal (Some (from.now, to.now)) (program_of source.now)) }
-    ensures answered { result ≡ None → (r : RefusedQuestion) → IsQuestionRefusal (Some (from.now, to.now)) (program_of source.now) r → ⊥ }
-    ensures few_wires { result ≡ None → source.now.ops.wires ≤ most_wires }
-    ensures few_branches { result ≡ None → branches source.now.ops.list ≤ most_branches }
-    ensures from_length { result ≡ None → length from.now ≡ source.now.ops.wires }
-    ensures to_length { result ≡ None → length to.now ≡ source.now.ops.wires }
+fn refusal_of(source: &SourceProgram, from: &[bool], to: &[bool]) -> Option<QuestionRefusal>
+    ensures refused { IfSome result (IsQuestionRefusal (Some (from.now, to.now)) source.now) }
+    ensures answered { result ≡ None → (r : RefusedQuestion) → IsQuestionRefusal (Some (from.now, to.now)) source.now r → ⊥ }
+    ensures few_wires { result ≡ None → source.now.wires ≤ most_wires }
+    ensures few_branches { result ≡ None → branches source.now.ops ≤ most_branches }
+    ensures from_length { result ≡ None → length from.now ≡ source.now.wires }
+    ensures to_length { result ≡ None → length to.now ≡ source.now.wires }
 {
-    let wires = source.ops.wires;
+    let ops = source.ops();
+    let wires = ops.wires;
     if wires > WIRE_LIMIT {
         return Some(QuestionRefusal::WideProgram { qubits: wires });
     }
-    let branches = branches_of(source.ops.list.as_slice());
+    let branches = branches_of(ops.list.as_slice());
     if branches > BRANCH_LIMIT {
         return Some(QuestionRefusal::ManyBranches {
             branches: branches as u64,
@@ -70,23 +70,23 @@ fn told(amp: Amp) -> Entry
 /// The line of the entry of a program's unitary between two lists of bits; nothing goes to the report.
 pub fn entry_work(
     alloc: Global,
-    source: &Source,
+    source: &SourceProgram,
     from: &BitList,
     to: &BitList,
 ) -> Result<Work, QuestionStop>
-    ensures made { IfOk result (λ w. (text line : List ℕ) → IsWork w text line → IsEntryText source.now.ops.list from.now to.now text × (line ≡ [])) }
-    ensures answered { IfOk result (λ w. (r : RefusedQuestion) → IsQuestionRefusal (Some (from.now, to.now)) (program_of source.now) r → ⊥) }
+    ensures made { IfOk result (λ w. (text line : List ℕ) → IsWork w text line → IsEntryText source.now.ops from.now to.now text × (line ≡ [])) }
+    ensures answered { IfOk result (λ w. (r : RefusedQuestion) → IsQuestionRefusal (Some (from.now, to.now)) source.now r → ⊥) }
     ensures fit { IfOk result IsFitWork }
     ensures writes { IfOk result (λ w. has_text w ≡ true) }
     ensures tells { IfOk result (λ w. has_line w ≡ false) }
-    ensures err { IfErr result (IsUnanswered (from.now, to.now) (program_of source.now)) }
+    ensures err { IfErr result (IsUnanswered (from.now, to.now) source.now) }
 {
     let from = from.as_slice();
     let to = to.as_slice();
     match refusal_of(source, from, to) {
         Some(refusal) => Err(QuestionStop::Refused(refusal)),
         None => {
-            let amp = amplitude(alloc, &source.ops, from, to)?;
+            let amp = amplitude(alloc, source.ops(), from, to)?;
             let text = entry_line(alloc, &told(amp))?;
             Ok(Work::Text { text })
         }

@@ -3,30 +3,21 @@
 ghost use Rattle.std.specs.Prelude.{◌≡◌, ◌<◌, ◌≤◌, ℕ, List, All, IfOk, IfErr, Err, length};
 ghost use Rattle.outside_io.specs.Bytes.{TakesAll};
 ghost use Rattle.bench_program.specs.Program.{most_gates};
-ghost use Rattle.gate_expand.specs.Expansion.{IsFineOp};
 ghost use Rattle.gate_inline.specs.Programs.{IsAccepted};
-ghost use Rattle.gate_inline.specs.Registers.{AreRegisters, IsRead};
-ghost use Rattle.gate_inline.specs.Sizes.{operation_limit};
 ghost use Rattle.unitary_model.specs.Limits.{most_qubits};
-ghost use Rattle.program_reader.specs.Refusals.{program_of};
 ghost use Rattle.qroute_top.specs.Causes.{IsSourceCause};
 ghost use Rattle.qroute_top.specs.Delivered.{drawn_program};
 
 use crate::stops::SourceStop;
 use bench_program::made;
-use outside_io::{ReadFault, Source as Input, read_all};
-use program_reader::{Refusal, Source, TEXT_LIMIT, read_program};
+use outside_io::{ReadFault, Source, read_all};
+use program_reader::{Refusal, SourceProgram, TEXT_LIMIT, read_program};
 use std::alloc::{AllocError, Global};
 
 /// Reads the input to its end, or to one byte past the limit, and the program that it spells.
 #[tactic(auto, using(crate::proofs::SourceLaws::read))]
-pub fn read_source<I: Input>(alloc: Global, input: &mut I) -> Result<Source, SourceStop>
-    ensures ok { IfOk result (λ s. (text : List ℕ) × TakesAll (I.left input.old) (I.left input.new) text × IsAccepted text (program_of s)) }
-    ensures few { IfOk result (λ s. s.ops.wires ≤ most_qubits) }
-    ensures short { IfOk result (λ s. length s.ops.list ≤ operation_limit) }
-    ensures fine { IfOk result (λ s. All (IsFineOp s.ops.wires) s.ops.list) }
-    ensures registers { IfOk result (λ s. AreRegisters s.registers.items (length s.ops.reads)) }
-    ensures reads { IfOk result (λ s. All (IsRead s.ops.wires) s.ops.reads) }
+pub fn read_source<I: Source>(alloc: Global, input: &mut I) -> Result<SourceProgram, SourceStop>
+    ensures ok { IfOk result (λ s. (text : List ℕ) × TakesAll (I.left input.old) (I.left input.new) text × IsAccepted text s) }
     ensures err { IfErr result (IsSourceCause (I.left input.old) (I.faults input.old) (I.faults input.new)) }
     ensures later { I.faults input.old ≤ I.faults input.new }
     ensures calm { (result ≡ Err SourceStop.Failed → ⊥) → I.faults input.new ≡ I.faults input.old }
@@ -45,21 +36,12 @@ pub fn drawn_source(
     start: u32,
     gates: u32,
     qubits: u32,
-) -> Result<Source, AllocError>
+) -> Result<SourceProgram, AllocError>
     requires few_gates { gates ≤ most_gates }
     requires some { 0 < qubits }
     requires limit { qubits ≤ most_qubits }
-    ensures drawn { IfOk result (λ s. program_of s ≡ drawn_program start gates qubits) }
-    ensures few { IfOk result (λ s. s.ops.wires ≤ most_qubits) }
-    ensures short { IfOk result (λ s. length s.ops.list ≤ operation_limit) }
-    ensures fine { IfOk result (λ s. All (IsFineOp s.ops.wires) s.ops.list) }
-    ensures registers { IfOk result (λ s. AreRegisters s.registers.items (length s.ops.reads)) }
-    ensures reads { IfOk result (λ s. All (IsRead s.ops.wires) s.ops.reads) }
+    ensures drawn { IfOk result (λ s. s ≡ drawn_program start gates qubits) }
 {
     let ops = made(alloc, start, gates, qubits)?;
-    Ok(Source {
-        ops,
-        registers: Vec::new(alloc),
-        barriers: 0,
-    })
+    Ok(SourceProgram::new(ops, Vec::new(alloc), 0))
 }

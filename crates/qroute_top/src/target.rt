@@ -1,11 +1,7 @@
 //! The circuit that is to be written for a source, and where its wires begin and end.
 
 ghost use Rattle.std.specs.Prelude.{◌≡◌, ◌≤◌, ◌<◌, All, IfOk, false, length, true};
-ghost use Rattle.gate_expand.specs.Expansion.{IsFineOp};
-ghost use Rattle.gate_inline.specs.Sizes.{operation_limit};
-ghost use Rattle.unitary_model.specs.Limits.{most_qubits};
 ghost use Rattle.unitary_model.specs.Placement.{identity};
-ghost use Rattle.program_reader.specs.Refusals.{program_of};
 ghost use Rattle.route_report.specs.declared.lines.Report.{Report};
 ghost use Rattle.sabre_route.specs.Routing.{IsLayout};
 ghost use Rattle.qroute_top.specs.Delivered.{IsInPlace, IsOnQubits, StandsFor};
@@ -16,9 +12,9 @@ use crate::cost::cost_of;
 use crate::passes::rewritten;
 use circuit_list::{Circuit, Passed};
 use coupling_map::Device;
-use gate_expand::{Ops, expand};
+use gate_expand::expand;
 use placement::Placement;
-use program_reader::Source;
+use program_reader::SourceProgram;
 use route_report::Wires;
 use sabre_route::{layout, route};
 use std::alloc::{AllocError, Global};
@@ -42,12 +38,11 @@ pub struct Target {
 }
 
 /// The circuit of a source's operations after all passes, and its turn against the source.
-pub fn optimised(alloc: Global, source: &Ops) -> Result<Passed, AllocError>
-    requires few { source.now.wires ≤ most_qubits }
-    requires fine { All (IsFineOp source.now.wires) source.now.list }
-    ensures { IfOk result (IsOptimised source.now.wires source.now.list) }
+pub fn optimised(alloc: Global, source: &SourceProgram) -> Result<Passed, AllocError>
+    ensures { IfOk result (IsOptimised source.now.wires source.now.ops) }
 {
-    let Passed { body, turn } = expand(alloc, source)?;
+    source.facts();
+    let Passed { body, turn } = expand(alloc, source.ops())?;
     let Passed {
         body,
         turn: further,
@@ -66,11 +61,11 @@ fn qubits_of(alloc: Global, placement: &Placement) -> Result<Wires, AllocError>
 }
 
 /// The circuit on its own wires.
-pub fn in_place(alloc: Global, source: &Source, passed: Passed) -> Result<Target, AllocError>
-    requires { IsOptimised source.now.ops.wires source.now.ops.list passed }
-    ensures stands { IfOk result (λ t. (told : Report) → IsTold t told → StandsFor (program_of source.now) (target_program source.now t) told) }
-    ensures placed { IfOk result (λ t. (told : Report) → IsTold t told → IsInPlace (program_of source.now) (target_program source.now t) told) }
-    ensures wires { IfOk result (λ t. t.body.wires ≡ source.now.ops.wires) }
+pub fn in_place(alloc: Global, source: &SourceProgram, passed: Passed) -> Result<Target, AllocError>
+    requires { IsOptimised source.now.wires source.now.ops passed }
+    ensures stands { IfOk result (λ t. (told : Report) → IsTold t told → StandsFor source.now (target_program source.now t) told) }
+    ensures placed { IfOk result (λ t. (told : Report) → IsTold t told → IsInPlace source.now (target_program source.now t) told) }
+    ensures wires { IfOk result (λ t. t.body.wires ≡ source.now.wires) }
     ensures size { IfOk result (λ t. length t.last ≡ t.body.wires) }
 {
     let last = Placement::identity(alloc, passed.body.wires())?;
@@ -107,19 +102,19 @@ fn first_placement(
 /// The circuit on the qubits of a device: the routing machine's run.
 pub fn on_device(
     alloc: Global,
-    source: &Source,
+    source: &SourceProgram,
     passed: &Passed,
     device: &Device,
     trivial: bool,
 ) -> Result<Target, AllocError>
-    requires optimised { IsOptimised source.now.ops.wires source.now.ops.list passed.now }
-    requires fits { source.now.ops.wires ≤ device.now.size }
-    requires short { length source.now.ops.list ≤ operation_limit }
-    ensures stands { IfOk result (λ t. (told : Report) → IsTold t told → StandsFor (program_of source.now) (target_program source.now t) told) }
-    ensures placed { IfOk result (λ t. (told : Report) → IsTold t told → IsOnQubits device.now trivial (program_of source.now) (target_program source.now t) told) }
+    requires optimised { IsOptimised source.now.wires source.now.ops passed.now }
+    requires fits { source.now.wires ≤ device.now.size }
+    ensures stands { IfOk result (λ t. (told : Report) → IsTold t told → StandsFor source.now (target_program source.now t) told) }
+    ensures placed { IfOk result (λ t. (told : Report) → IsTold t told → IsOnQubits device.now trivial source.now (target_program source.now t) told) }
     ensures wires { IfOk result (λ t. t.body.wires ≡ device.now.size) }
     ensures size { IfOk result (λ t. length t.last ≡ t.body.wires) }
 {
+    source.facts();
     // Their contracts say that the gates are on these wires, how many qubits a device has at most, and that it has a diameter.
     let _wires = passed.body.wires();
     let _size = device.size();

@@ -1,6 +1,6 @@
 //! What is read of texts, and the borders of the limits.
 
-use program_reader::{ReadFault, Refusal, Source, read_program};
+use program_reader::{ReadFault, Refusal, SourceProgram, read_program};
 use std::alloc::{AllocError, Global};
 use std::test::Fail;
 
@@ -20,14 +20,12 @@ fn told(alloc: Global, text: &[u8]) -> Result<String, AllocError> {
     }
 }
 
-fn told_source(alloc: Global, source: &Source) -> Result<String, AllocError> {
-    let operations = source.ops.list.as_slice().len();
-    let bits = source.ops.reads.as_slice().len();
-    let mut text = format!(in alloc;
-        "{} {operations} {bits} {}",
-        source.ops.wires, source.barriers
-    )?;
-    for register in &source.registers {
+fn told_source(alloc: Global, source: &SourceProgram) -> Result<String, AllocError> {
+    let ops = source.ops();
+    let operations = ops.list.as_slice().len();
+    let bits = ops.reads.as_slice().len();
+    let mut text = format!(in alloc; "{} {operations} {bits} {}", ops.wires, source.barriers())?;
+    for register in source.registers() {
         let name = str::from_utf8(register.name.as_bytes()).unwrap_or("?");
         write!(text, " {name}[{}]", register.size)?;
     }

@@ -4,7 +4,6 @@ pub mod SpellingLaws
 pub mod ExactLaws
 pub mod FirstLaws
 pub mod NumberLaws
-pub mod LineLaws
 pub mod WordLaws
 pub mod KindLaws
 pub mod ProgressLaws

@@ -24,7 +24,8 @@ use Rattle.rewrite_pass.specs.Traces.{Step, Rule, Both, Join, Sums, IsStep, cons
 use Rattle.rewrite_pass.specs.TraceLines.{gate_line, gate_numbers, words}
 use Rattle.trace_check.specs.declared.words.Word.{Word}
 use Rattle.trace_check.specs.declared.words.Word.TheVariants as word
-use Rattle.trace_check.specs.Lines.{Line, Heading, Rewrite, Place, Emit, Back, Swap, Turn, End, IsSmall, lines_of, numbers_of, spelt}
+use Rattle.trace_check.specs.Lines.{Line, Heading, Rewrite, Place, Emit, Back, Swap, Turn, End, IsSmall, numbers_of, spelt}
+use Rattle.trace_text.specs.Texts.{lines_of}
 use Rattle.trace_check.specs.Progress.{Blocked, Came, Leads, reached, step_of}
 use Rattle.trace_check.specs.Proves.{Applies, Claim, IsStuck, Placed, Rewritten, Routed, State, StopsAt, Unread}
 use Rattle.unitary_model.specs.Placement.{IsPlacement}

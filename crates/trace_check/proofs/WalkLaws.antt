@@ -16,7 +16,8 @@ use Rattle.circuit_list.specs.declared.Passed.{Passed}
 use Rattle.rewrite_pass.specs.TraceLines.{gate_line, words}
 use Rattle.trace_check.specs.declared.words.Word.{Word}
 use Rattle.trace_check.specs.declared.words.Word.TheVariants as word
-use Rattle.trace_check.specs.Lines.{Line, End, begun, lines_of, spelt}
+use Rattle.trace_check.specs.Lines.{Line, End, spelt}
+use Rattle.trace_text.specs.Texts.{begun, lines_of}
 use Rattle.trace_check.specs.Progress.{Came, Ends, Goes}
 use Rattle.trace_check.specs.Proves.{Applies, Claim, IsEnd, IsStuck, Placed, Proved, Proves, Routed, State, StopsAt}
 use Rattle.trace_check.specs.Spelling.{AreSmall, spelling}

@@ -26,7 +26,8 @@ use Rattle.gate_expand.specs.Expansion.{expanded, turn_of}
 use Rattle.rewrite_pass.specs.Traces.{Step, IsStep}
 use Rattle.unitary_model.specs.declared.Op.{Op}
 use Rattle.unitary_model.specs.Placement.{IsPlacement, exchanged}
-use Rattle.trace_check.specs.Lines.{Line, Heading, Rewrite, Place, Emit, Back, Swap, Turn, End, IsSmall, all_spelt, lines_of, spelt}
+use Rattle.trace_check.specs.Lines.{Line, Heading, Rewrite, Place, Emit, Back, Swap, Turn, End, IsSmall, all_spelt, spelt}
+use Rattle.trace_text.specs.Texts.{lines_of}
 
 pub record Claim : Type 0 where
   pub source : List Op

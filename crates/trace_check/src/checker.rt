@@ -24,7 +24,7 @@ ghost use Rattle.circuit_list.specs.declared.Gate.{Gate};
 ghost use Rattle.gate_expand.specs.Expansion.{IsFineOp};
 ghost use Rattle.rewrite_pass.specs.TraceLines.{words};
 ghost use Rattle.rewrite_pass.specs.Traces.{IsStep, Step};
-ghost use Rattle.trace_check.specs.Lines.{lines_of};
+ghost use Rattle.trace_text.specs.Texts.{lines_of};
 ghost use Rattle.trace_check.specs.Outcomes.{IsOutcome, claim};
 ghost use Rattle.trace_check.specs.Progress.{Blocked, Came, IsRouting, Leads, placed, reached, step_of};
 ghost use Rattle.trace_check.specs.Proves.{Claim, IsStuck, Routed, StopsAt, Unread};
@@ -32,7 +32,6 @@ ghost use Rattle.trace_check.specs.Spelling.{spelling};
 ghost use Rattle.trace_check.specs.declared.words.Word.TheVariants as kind;
 
 use crate::gates::read_gates;
-use crate::lines::first_line;
 use crate::mark::Mark;
 use crate::pairs::{both, join};
 use crate::routed::routed;
@@ -44,6 +43,7 @@ use circuit_list::{Circuit, Passed};
 use gate_expand::{Ops, expand};
 use placement::Placement;
 use std::alloc::{AllocError, Global};
+use trace_text::first_line;
 use unitary_model::turn_sum;
 
 /// What a trace says of a claim.

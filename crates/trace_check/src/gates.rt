@@ -5,13 +5,13 @@ ghost use Rattle.std.specs.List.{flat_map};
 ghost use Rattle.circuit_list.specs.Gates.{IsFine, most_wires};
 ghost use Rattle.circuit_list.specs.declared.Gate.{Gate};
 ghost use Rattle.rewrite_pass.specs.TraceLines.{gate_line, gate_numbers, words};
-ghost use Rattle.trace_check.specs.Lines.{lines_of};
+ghost use Rattle.trace_text.specs.Texts.{lines_of};
 ghost use Rattle.trace_check.specs.Spelling.{AreSmall, gate_word};
 
-use crate::lines::first_line;
 use crate::words::{one, split_words, two};
 use circuit_list::{Circuit, Gate};
 use std::alloc::{AllocError, Global};
+use trace_text::first_line;
 
 /// A circuit that was read from lines, and the text behind them.
 #[derive(Drop)]

@@ -8,7 +8,6 @@
 mod checker;
 mod gates;
 pub mod laws;
-mod lines;
 mod mark;
 mod numbers;
 mod pairs;

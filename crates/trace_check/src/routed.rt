@@ -1,18 +1,18 @@
 //! The walk along the lines behind `place`.
 
 ghost use Rattle.std.specs.Prelude.{◌≡◌, ℕ, ◌+◌, ◌-◌, ◌%◌, ◌^◌, ◌<◌, ◌≤◌, ◌∷◌, [], List, IfOk, false, length, true};
-ghost use Rattle.trace_check.specs.Lines.{lines_of};
+ghost use Rattle.trace_text.specs.Texts.{lines_of};
 ghost use Rattle.trace_check.specs.Outcomes.{IsOutcome};
 ghost use Rattle.trace_check.specs.Progress.{Came, Ends, Goes, Halts, IsKept, IsRouting, placed};
 ghost use Rattle.trace_check.specs.Proves.{Claim, Routed};
 ghost use Rattle.trace_check.specs.declared.words.Word.TheVariants as kind;
 
 use crate::checker::Outcome;
-use crate::lines::first_line;
 use crate::routing::{Routing, back, emit, swap, turn};
 use crate::words::{Word, one, read_words, two};
 use circuit_list::{Circuit, Gate, Passed};
 use std::alloc::{AllocError, Global};
+use trace_text::first_line;
 use unitary_model::turn_sum;
 
 /// The line `emit`. False where it doesn't apply.

@@ -3,7 +3,7 @@ use Rattle.std.proofs.Common.{arith}
 use Rattle.qasm_check.specs.CheckedView.{program as bound_program}
 use Rattle.qasm_parser.specs.Tree.{program as tree_of}
 use Rattle.gate_inline.specs.Programs.{IsAccepted}
-use Rattle.program_reader.specs.Refusals.{IsReadFault, program_of}
+use Rattle.program_reader.specs.Refusals.{IsReadFault}
 use Rattle.program_reader.specs.Stages.{IsUnwritten}
 use Rattle.program_reader.proofs.ReaderLaws.{IsAccepted-read, IsReadFault-written, in_err, in_ok}
 use Rattle.program_reader.proofs.RegisterLaws.{named_registers}
@@ -15,8 +15,8 @@ write_out-requires c =
 
 pub returns-clause-ok : goal.returns-clause-ok
 returns-clause-ok c =
-    in_ok _ (λ s. IsAccepted c.args.text.now (program_of s)) c.write_out.result
-    (λ s h. IsAccepted-read c.args.text.now (tree_of c.in_ok-program.program) (bound_program c.in_ok-checked.checked) (program_of s) (omega (arith, c.if-text-gt-TEXT_LIMIT.false))
+    in_ok _ (IsAccepted c.args.text.now) c.write_out.result
+    (λ s h. IsAccepted-read c.args.text.now (tree_of c.in_ok-program.program) (bound_program c.in_ok-checked.checked) s (omega (arith, c.if-text-gt-TEXT_LIMIT.false))
     c.in_ok-program.ensures.ok c.in_ok-checked.ensures.ok.0 c.in_ok-checked.ensures.ok.1 h) c.write_out.ensures.ok
 
 pub returns-clause-err : goal.returns-clause-err

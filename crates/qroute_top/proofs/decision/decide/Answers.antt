@@ -1,7 +1,6 @@
 -- Why the device isn't had, and what is delivered on one that is.
 use Rattle.std.proofs.Common.{refl, map, ap, ◌∙◌}
 use Rattle.std.proofs.lemmas.Result.{err_from_is_err_and}
-use Rattle.program_reader.specs.Refusals.{program_of}
 use Rattle.qroute_top.specs.Causes.{Handed}
 use Rattle.qroute_top.specs.Delivered.{drawn_program}
 use Rattle.qroute_top.proofs.RunLaws.{Delivers-drawn, Delivers-entry, Delivers-routed, IsCause-device, IsCause-question, Reaches-drawn, Reaches-read, device_failed, handed}
@@ -33,14 +32,14 @@ returns-in_err-device-in-Bench-clause-stop g c =
 pub returns-in_ok-route_on-in-Route-clause-made : goal.returns-in_ok-route_on-in-Route-clause-made
 returns-in_ok-route_on-in-Route-clause-made g c =
     λ text line is. Delivers-routed (map (λ w. w.now) c.args.words.now) (g.F.Shelf.content c.args.shelf.now) c.in_ok-command.command c.in-Route.name
-    c.in-Route.trivial (g.I.Source.left c.args.input.now) (g.I.Source.left c.read_source-in-Route.new.input) (program_of c.in_ok-source-in-Route.source)
-    c.in_ok-device-in-Route.device c.in_ok-source-in-Route.source.ops.wires text line c.in_ok-command.ensures.ok c.in-Route.is
+    c.in-Route.trivial (g.I.Source.left c.args.input.now) (g.I.Source.left c.read_source-in-Route.new.input) c.in_ok-source-in-Route.source
+    c.in_ok-device-in-Route.device c.in_ok-source-in-Route.source.wires text line c.in_ok-command.ensures.ok c.in-Route.is
     c.in_ok-source-in-Route.ensures.ok c.in_ok-device-in-Route.ensures.ok (c.in_ok-route_on-in-Route.ensures.made text line is)
 
 pub returns-in_ok-route_on-in-Bench-clause-made : goal.returns-in_ok-route_on-in-Bench-clause-made
 returns-in_ok-route_on-in-Bench-clause-made g c =
     λ text line is. Delivers-drawn (map (λ w. w.now) c.args.words.now) (g.F.Shelf.content c.args.shelf.now) c.in_ok-command.command c.in-Bench.start
-    c.in-Bench.gates c.in-Bench.name (g.I.Source.left c.args.input.now) (g.I.Source.left c.args.input.now) (program_of c.in_ok-source-in-Bench.source)
+    c.in-Bench.gates c.in-Bench.name (g.I.Source.left c.args.input.now) (g.I.Source.left c.args.input.now) c.in_ok-source-in-Bench.source
     c.in_ok-device-in-Bench.device 0 text line c.in_ok-command.ensures.ok c.in-Bench.is c.in_ok-device-in-Bench.ensures.ok
     (c.in_ok-source-in-Bench.ensures.drawn ∙ ap (λ k. drawn_program c.in-Bench.start c.in-Bench.gates k) c.size.ensures.size)
     (c.in_ok-route_on-in-Bench.ensures.made text line is)
@@ -52,13 +51,13 @@ returns-in_err-entry_work-in-Amplitude-clause-stop g c =
     (g.I.Source.faults c.read_source-in-Amplitude.new.input) (g.F.Shelf.content c.args.shelf.now) (g.F.Shelf.faults c.args.shelf.now)
     (g.F.Shelf.faults c.args.shelf.now) in
     let it = IsCause-question h c.in_ok-command.command c.in-Amplitude.from c.in-Amplitude.to (g.I.Source.left c.read_source-in-Amplitude.new.input)
-    (program_of c.in_ok-source-in-Amplitude.source) _ c.in_ok-command.ensures.ok c.in-Amplitude.is c.in_ok-source-in-Amplitude.ensures.ok
+    c.in_ok-source-in-Amplitude.source _ c.in_ok-command.ensures.ok c.in-Amplitude.is c.in_ok-source-in-Amplitude.ensures.ok
     c.in_err-entry_work-in-Amplitude.ensures.err in
     rw (p.1, p.2) it
 
 pub returns-in_ok-entry_work-in-Amplitude-clause-made : goal.returns-in_ok-entry_work-in-Amplitude-clause-made
 returns-in_ok-entry_work-in-Amplitude-clause-made g c =
     λ text line is. Delivers-entry (map (λ w. w.now) c.args.words.now) (g.F.Shelf.content c.args.shelf.now) c.in_ok-command.command c.in-Amplitude.from
-    c.in-Amplitude.to (g.I.Source.left c.args.input.now) (g.I.Source.left c.read_source-in-Amplitude.new.input) (program_of c.in_ok-source-in-Amplitude.source)
+    c.in-Amplitude.to (g.I.Source.left c.args.input.now) (g.I.Source.left c.read_source-in-Amplitude.new.input) c.in_ok-source-in-Amplitude.source
     text line c.in_ok-command.ensures.ok c.in-Amplitude.is c.in_ok-source-in-Amplitude.ensures.ok c.in_ok-entry_work-in-Amplitude.ensures.answered
     (c.in_ok-entry_work-in-Amplitude.ensures.made text line is)

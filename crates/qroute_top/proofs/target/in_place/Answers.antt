@@ -14,7 +14,7 @@ returns-clause-stands c =
       registers = refl;
       plain = plain_of c.args.passed.body.wires c.args.passed.body.gates c.wires.ensures.fine;
       unitary = Realises-in_place _ _ c.args.passed _ _ _ is (t.initial ∙ c.in_ok-initial.ensures ∙ last) (t.last ∙ last) t.phase;
-      reads = ap (λ p. map (placed_read p) c.args.source.now.ops.reads) (sym t.last);
+      reads = ap (λ p. map (placed_read p) c.args.source.now.reads) (sym t.last);
       t_gates = is.t_gates;
       cx_gates = let few = is.cx_gates in omega (arith, few);
     }

@@ -17,7 +17,7 @@ returns-clause-stands c =
       plain = plain_of _ _ c.wires-qubits.ensures.fine;
       unitary = Realises-routed _ _ _ _ c.args.passed.now _ _ _ _ _ _ _ is r.wires r.realises (t.initial ∙ c.in_ok-initial.ensures) t.last
           (t.phase ∙ c.turn_sum.ensures.sum);
-      reads = ap (λ p. map (placed_read p) c.args.source.now.ops.reads) (sym t.last);
+      reads = ap (λ p. map (placed_read p) c.args.source.now.reads) (sym t.last);
       t_gates = let few = is.t_gates in let same = r.t_count in omega (arith, few, same);
       cx_gates = let few = is.cx_gates in let more = r.cx_count in let swaps = t.swaps in omega (arith, few, more, swaps);
     }
@@ -41,5 +41,5 @@ pub cost_of-cost-requires-clause-few : goal.cost_of-cost-requires-clause-few
 cost_of-cost-requires-clause-few c =
     let r = c.in_ok-routed.ensures in
     let size = c.size-size.ensures in
-    λ listed. listed-few c.args.device.now c.args.source.now.ops.list _ _ _ c.diameter-diameter.result listed size.coupling.graph.limited
-    c.requires.optimised.cx_gates c.requires.short (r.few_swaps _ c.diameter-diameter.ensures.diameter) r.cx_count
+    λ listed. listed-few c.args.device.now c.args.source.now.ops _ _ _ c.diameter-diameter.result listed size.coupling.graph.limited
+    c.requires.optimised.cx_gates c.facts.ensures.operations_limit (r.few_swaps _ c.diameter-diameter.ensures.diameter) r.cx_count

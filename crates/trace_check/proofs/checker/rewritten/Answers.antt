@@ -2,7 +2,7 @@ use Rattle.std.proofs.Common.{◌≡◌, ◌∙◌, ℕ, ◌+◌, List, ◌∷�
 use Rattle.std.specs.Prelude.{codes}
 use Rattle.circuit_list.specs.declared.Passed.{Passed}
 use Rattle.rewrite_pass.specs.TraceLines.{words}
-use Rattle.trace_check.specs.Lines.{lines_of}
+use Rattle.trace_text.specs.Texts.{lines_of}
 use Rattle.trace_check.specs.Progress.{Blocked, Came, Leads, reached}
 use Rattle.trace_check.specs.Spelling.{spelling}
 use Rattle.trace_check.specs.declared.mark.Mark.{Mark}

@@ -1,5 +1,5 @@
 use Rattle.std.proofs.Common.{◌≡◌, ℕ, ◌+◌, ◌<◌, ◌≤◌, ◌^◌, List, length}
-use Rattle.trace_check.specs.Lines.{lines_of}
+use Rattle.trace_text.specs.Texts.{lines_of}
 use Rattle.trace_check.specs.Progress.{Came, reached}
 use Rattle.trace_check.specs.Proves.{Claim}
 use Rattle.trace_check.proofs.checker.rewritten.Given as goal

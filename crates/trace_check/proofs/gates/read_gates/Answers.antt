@@ -2,7 +2,7 @@ use Rattle.std.proofs.Common.{◌≡◌, ◌∙◌, ◌∷◌, arith, sym}
 use Rattle.std.proofs.lemmas.List.Elements.{recursion_from_All}
 use Rattle.circuit_list.specs.Gates.{IsFine}
 use Rattle.rewrite_pass.specs.TraceLines.{gate_line}
-use Rattle.trace_check.specs.Lines.{lines_of}
+use Rattle.trace_text.specs.Texts.{lines_of}
 use Rattle.trace_check.proofs.GateLaws.{next_gate}
 use Rattle.trace_check.proofs.WordLaws.{none-of}
 use Rattle.trace_check.proofs.gates.read_gates.Goals as goal

@@ -1,6 +1,6 @@
 use Rattle.std.proofs.Common.{◌≡◌, ◌+◌, ◌≤◌, ◌++◌, length, map}
 use Rattle.rewrite_pass.specs.TraceLines.{gate_line}
-use Rattle.trace_check.specs.Lines.{lines_of}
+use Rattle.trace_text.specs.Texts.{lines_of}
 use Rattle.trace_check.proofs.gates.read_gates.Given as goal
 
 abbrev pub invariant-lines : goal.invariant-lines

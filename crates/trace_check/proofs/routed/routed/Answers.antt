@@ -1,7 +1,7 @@
 use Rattle.std.proofs.Common.{◌≡◌, ℕ, ◌+◌, ◌-◌, ◌%◌, ◌∙◌, List, [], ◌∷◌, ap, arith, length, refl, rules, subst, sym}
 use Rattle.std.specs.Prelude.{codes}
 use Rattle.rewrite_pass.specs.TraceLines.{words}
-use Rattle.trace_check.specs.Lines.{lines_of}
+use Rattle.trace_text.specs.Texts.{lines_of}
 use Rattle.trace_check.specs.Progress.{Goes, Halts, placed}
 use Rattle.trace_check.specs.Proves.{IsStuck, Placed, Proves, Routed}
 use Rattle.trace_check.specs.Spelling.{AreSmall, spelling}

@@ -1,5 +1,5 @@
 use Rattle.std.proofs.Common.{◌≡◌, ℕ, ◌+◌, ◌<◌, ◌^◌, List, length}
-use Rattle.trace_check.specs.Lines.{lines_of}
+use Rattle.trace_text.specs.Texts.{lines_of}
 use Rattle.trace_check.specs.Progress.{Came, Ends, IsRouting, placed}
 use Rattle.trace_check.specs.Proves.{Claim, Routed}
 use Rattle.trace_check.proofs.routed.routed.Given as goal

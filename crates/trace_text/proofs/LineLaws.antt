@@ -4,7 +4,7 @@
 use Rattle.std.proofs.Common.{◌≡◌, ℕ, suc, ◌+◌, ◌<◌, Bool, true, false, cond, List, [], ◌∷◌, length, take, drop, refl, sym, ◌∙◌, ap, arith}
 use Rattle.std.specs.Prelude.{nat_eq, not}
 use Rattle.std.specs.List.{prefix_len}
-use Rattle.trace_check.specs.Lines.{begun, lines_of}
+use Rattle.trace_text.specs.Texts.{begun, lines_of}
 
 abbrev inside : ℕ → Bool
 inside b = not (nat_eq b 10)

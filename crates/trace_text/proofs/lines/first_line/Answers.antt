@@ -1,8 +1,8 @@
 use Rattle.std.proofs.Common.{◌≡◌, ◌∙◌, ℕ, ◌+◌, ◌<◌, List, ◌∷◌, length, take, drop, sym, ap, subst}
 use Rattle.std.proofs.lemmas.List.{take_rest}
-use Rattle.trace_check.specs.Lines.{lines_of}
-use Rattle.trace_check.proofs.LineLaws.{lines-broken}
-use Rattle.trace_check.proofs.lines.first_line.Goals as goal
+use Rattle.trace_text.specs.Texts.{lines_of}
+use Rattle.trace_text.proofs.LineLaws.{lines-broken}
+use Rattle.trace_text.proofs.lines.first_line.Goals as goal
 
 pub returns-then-size-text-clause-lines : goal.returns-then-size-text-clause-lines
 returns-then-size-text-clause-lines c =

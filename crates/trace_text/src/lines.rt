@@ -2,11 +2,11 @@
 
 ghost use Rattle.std.specs.Prelude.{◌≡◌, ◌∷◌, ◌<◌, ◌≤◌, [], MatchOption, length, nat_eq, not};
 ghost use Rattle.std.specs.List.{prefix_len};
-ghost use Rattle.trace_check.specs.Lines.{lines_of};
+ghost use Rattle.trace_text.specs.Texts.{lines_of};
 
 /// The first line of a text, without its line break, and the text behind it. None where the text is empty.
 #[tactic(auto, using(crate::proofs::LineLaws::first_lines))]
-pub(crate) fn first_line(text: &[u8]) -> Option<(&[u8], &[u8])>
+pub fn first_line(text: &[u8]) -> Option<(&[u8], &[u8])>
     ensures lines { MatchOption result (lines_of text.now ≡ []) (λ l. lines_of text.now ≡ l.0.now ∷ lines_of l.1.now) }
     ensures shorter { MatchOption result (Unit {0}) (λ l. length l.1.now < length text.now) }
 {
