@@ -4,4 +4,5 @@ pub mod DeviceLaws
 pub mod TargetLaws
 pub mod CostLaws
 pub mod PlanLaws
+pub mod ClaimLaws
 pub mod RunLaws

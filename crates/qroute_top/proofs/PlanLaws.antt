@@ -22,7 +22,8 @@ use Rattle.circuit_list.specs.Gates.{IsFine, ops}
 use Rattle.gate_inline.specs.Registers.{IsFree, IsRead}
 use Rattle.gate_inline.specs.Programs.{IsWritten, Program}
 use Rattle.route_report.specs.declared.lines.Report.{Report}
-use Rattle.qroute_top.specs.Delivered.{Rewrites, StandsFor, placed_read}
+use Rattle.trace_text.specs.Texts.{trace_of}
+use Rattle.qroute_top.specs.Delivered.{IsOwnTrace, Rewrites, StandsFor, placed_read}
 use Rattle.qroute_top.specs.Plans.{HasPlanned, IsPlanned, TellsReport, target_program}
 use Rattle.qroute_top.specs.Targets.{IsTold}
 use Rattle.qroute_top.specs.declared.target.Target.{Target}
@@ -51,26 +52,29 @@ reads_wider n m rs fits h = All-from_recursion (IsRead m) rs (by_list rs (recurs
     by_list (r ∷ xs) h = (wider r h.0, by_list xs h.1)
 
 -- ---- a target that stands for the source
-pub Rewrites-planned : (s : Program) (t : Target) (IsPlaced : Program → Report → Type 0) (text line : List ℕ)
+pub Rewrites-planned : (s : Program) (t : Target) (traced : Bool) (IsPlaced : Program → Report → Type 0) (text line : List ℕ)
     → ((told : Report) → IsTold t told → StandsFor s (target_program s t) told)
-    → ((told : Report) → IsTold t told → IsPlaced (target_program s t) told) → IsPlanned s t text line → Rewrites s IsPlaced text line
-Rewrites-planned s t IsPlaced text line stands placed plan =
+    → ((told : Report) → IsTold t told → IsPlaced (target_program s t) told)
+    → ((told : Report) → IsTold t told → IsOwnTrace traced s (target_program s t) told t.trace.items) → IsPlanned s t text line
+    → Rewrites s traced IsPlaced text line
+Rewrites-planned s t traced IsPlaced text line stands placed carried plan =
     let told = plan.numbers.told in
     record {
       target = target_program s t;
       told = plan.told;
       made = record { written = plan.written; report = plan.report; numbers = plan.numbers.numbers; stands = stands plan.told told };
+      trace = subst (λ v. IsOwnTrace traced s (target_program s t) plan.told v) (sym plan.trace) (carried plan.told told);
       placed = placed plan.told told;
     }
 
 -- what came of a program came of its target
 pub HasPlanned-written : (s : Program) (t : Target) (text line : List ℕ) (Done : List ℕ → Type 0) (bits : List Bits) (reads : List (Option ℕ))
-    → bits ≡ s.registers → reads ≡ map (placed_read t.last) s.reads → TellsReport s t line
+    → bits ≡ s.registers → reads ≡ map (placed_read t.last) s.reads → TellsReport s t line → trace_of text ≡ t.trace.items
     → IsWritten text (record { wires = t.body.wires; ops = ops t.body.gates; reads = reads; registers = bits; barriers = 0 }) → Done text
     → HasPlanned s t (λ x _. Done x)
-HasPlanned-written s t text line Done bits reads registers same (told, report, numbers) written came =
+HasPlanned-written s t text line Done bits reads registers same (told, report, numbers) trace written came =
     let here : IsWritten text (target_program s t) = rw (registers, same) at written in
-    (text, line, record { written = here; told = told; report = report; numbers = numbers }, came)
+    (text, line, record { written = here; trace = trace; told = told; report = report; numbers = numbers }, came)
 
 -- ---- counts
 pub few_cx : (us : List Op) → cx_count us ≤ length us

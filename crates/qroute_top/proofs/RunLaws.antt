@@ -6,6 +6,7 @@
 --   Reaches-read, Reaches-drawn   a device is reached with a program that was read, or for one that is drawn
 --   Answered, AnsweredInput   no refusal of a question applies
 --   Delivers-opt, Delivers-check, Delivers-stages, Delivers-entry, Delivers-routed, Delivers-drawn   from the parts of `decide` to what is delivered
+--   Delivers-verified, IsCause-claim   the same where `verify` is asked
 --   stopped-..               what follows of a status after a stop
 --   planned-..               what follows where a work was decided on
 use Rattle.std.proofs.Common.{◌≡◌, ◌⊎◌, inl, inr, ℕ, ◌≤◌, Bool, true, false, List, [], Option, Some, None, Result, Err, refl, sym, ap, ◌∙◌, arith, subst, is_some}
@@ -17,17 +18,20 @@ use Rattle.gate_inline.specs.Programs.{IsAccepted, IsWritten, Program}
 use Rattle.program_reader.specs.Refusals.{IsRefusal}
 use Rattle.program_reader.specs.declared.refusal.Refusal.{Refusal}
 use Rattle.command_words.specs.Commands.{command_of}
-use Rattle.command_words.specs.Demands.{asked_entry, device_name, reads_input}
+use Rattle.command_words.specs.Demands.{asked_entry, asked_texts, device_name, reads_input, writes_out, writes_report}
 use Rattle.command_words.specs.declared.commands.Command.{Command}
-use Rattle.command_words.specs.declared.commands.Command.TheVariants.{Opt, Route, Check, Stages, Bench, Amplitude}
+use Rattle.command_words.specs.declared.commands.Command.TheVariants.{Opt, Route, Check, Stages, Bench, Amplitude, Verify}
 use Rattle.route_report.specs.Lines.{check_line}
-use Rattle.qroute_top.specs.Causes.{Handed, IsCause, IsDeviceCause, IsRefusedDevice, IsRefusedQuestion, IsRefusedSource, IsSourceCause, Reaches, Reads}
+use Rattle.qroute_top.specs.Claims.{AreTold, Compares, Ending, IsEnding, IsVerified, Proved, ending_status}
+use Rattle.qroute_top.specs.Causes.{Handed, claim_status, IsCause, IsDeviceCause, IsRefusedDevice, IsRefusedQuestion, IsRefusedSource, IsSourceCause, Reaches, Reads}
 use Rattle.qroute_top.specs.Delivered.{Content, Delivered, Delivers, IsAnswer, IsHad, IsInPlace, IsOnDevice, IsOnQubits, IsStages, Rewrites, counts_of, drawn_program}
 use Rattle.qroute_top.specs.Devices.{HasDevice, IsDevice, IsDeviceRefusal, HasSource}
 use Rattle.qroute_top.specs.Plans.{HasWork, IsWork}
 use Rattle.qroute_top.specs.Questions.{IsEntryText, IsQuestionRefusal}
-use Rattle.qroute_top.specs.Stops.{IsUnanswered, IsUnasked, device_stopped, question_stopped, source_stopped}
+use Rattle.qroute_top.specs.Stops.{IsClaimStop, IsUnanswered, IsUnasked, device_stopped, question_stopped, source_stopped}
 use Rattle.qroute_top.specs.declared.plan.Work.{Work}
+use Rattle.qroute_top.specs.declared.stops.ClaimStop.{ClaimStop}
+use Rattle.qroute_top.specs.declared.stops.ClaimStop.TheVariants as claim
 use Rattle.qroute_top.specs.declared.stops.DeviceRefusal.{DeviceRefusal}
 use Rattle.qroute_top.specs.declared.stops.DeviceStop.{DeviceStop}
 use Rattle.qroute_top.specs.declared.stops.DeviceStop.TheVariants as device_stop
@@ -38,6 +42,7 @@ use Rattle.qroute_top.specs.declared.stops.SourceStop.{SourceStop}
 use Rattle.qroute_top.specs.declared.stops.SourceStop.TheVariants as source_stop
 use Rattle.qroute_top.specs.declared.stops.Stop.{Stop}
 use Rattle.qroute_top.specs.declared.stops.Stop.TheVariants as stop
+use Rattle.qroute_top.proofs.ClaimLaws.{Readable, Traceable, ended-claim, ended-verified, same_ending}
 use Rattle.qroute_top.proofs.DeviceLaws.{IsDevice-refused}
 use Rattle.qroute_top.proofs.SourceLaws.{Tells-taken}
 use Rattle.qroute_top.proofs.StatusLaws.{Ends}
@@ -75,6 +80,7 @@ IsCause-words h stop.Shelf u = absurd u
 IsCause-words h stop.Absent u = absurd u
 IsCause-words h (stop.Device r) u = absurd u
 IsCause-words h (stop.Question r) u = absurd u
+IsCause-words h (stop.Claim x) u = absurd u
 
 reads_of : (h : Handed) (c : Command) → command_of h.words ≡ Some c → reads_input c ≡ true → Reads h
 reads_of h c asked reads = record { command = c; asked = asked; reads = reads }
@@ -93,11 +99,11 @@ HasRead old new p = (t : List ℕ) × TakesAll old new t × IsAccepted t p
 abbrev pub ReachesFor : Handed → List ℕ → ℕ → Type 0
 ReachesFor h name n = (route : Reaches h name) × (n ≡ route.wires)
 
-pub Reaches-read : (h : Handed) (c : Command) (name : List ℕ) (trivial : Bool) (new : Option (List ℕ)) (p : Program) → command_of h.words ≡ Some c
-    → c ≡ Route name trivial → HasRead h.input new p → ReachesFor h name p.wires
-Reaches-read h c name trivial new p asked is read = (
+pub Reaches-read : (h : Handed) (c : Command) (name : List ℕ) (trivial traced : Bool) (new : Option (List ℕ)) (p : Program) → command_of h.words ≡ Some c
+    → c ≡ Route name trivial traced → HasRead h.input new p → ReachesFor h name p.wires
+Reaches-read h c name trivial traced new p asked is read = (
   record {
-    command = Route name trivial;
+    command = Route name trivial traced;
     asked = asked ∙ ap (λ x. Some x) is;
     wants = refl;
     wires = p.wires;
@@ -153,7 +159,7 @@ delivers words content c old new p text line asked had answered answer = record 
 }
 
 pub Delivers-opt : (words : List (List ℕ)) (content : Content) (c : Command) (old new : Option (List ℕ)) (p : Program) (text line : List ℕ)
-    → command_of words ≡ Some c → c ≡ Opt → HasRead old new p → Rewrites p (IsInPlace p) text line → Delivers words content old new text line
+    → command_of words ≡ Some c → c ≡ Opt → HasRead old new p → Rewrites p false (IsInPlace p) text line → Delivers words content old new text line
 Delivers-opt words content c old new p text line asked is read made =
     delivers words content Opt old new p text line (asked ∙ ap (λ x. Some x) is) read (λ r u. u) made
 
@@ -173,16 +179,17 @@ pub Delivers-entry : (words : List (List ℕ)) (content : Content) (c : Command)
 Delivers-entry words content c from to old new p text line asked is read answered told =
     delivers words content (Amplitude from to) old new p text line (asked ∙ ap (λ x. Some x) is) read answered told
 
-pub Delivers-routed : (words : List (List ℕ)) (content : Content) (c : Command) (name : List ℕ) (trivial : Bool) (old new : Option (List ℕ)) (p : Program)
+pub Delivers-routed : (words : List (List ℕ)) (content : Content) (c : Command) (name : List ℕ) (trivial traced : Bool) (old new : Option (List ℕ)) (p : Program)
     (d : Coupling) (n : ℕ) (text line : List ℕ)
-    → command_of words ≡ Some c → c ≡ Route name trivial → HasRead old new p
+    → command_of words ≡ Some c → c ≡ Route name trivial traced → HasRead old new p
     → (t : List ℕ) × TellsText (content name) t × IsDevice t d × (n ≤ d.size)
-    → Rewrites p (IsOnQubits d trivial p) text line → Delivers words content old new text line
-Delivers-routed words content c name trivial old new p d n text line asked is read loaded made =
-    delivers words content (Route name trivial) old new p text line (asked ∙ ap (λ x. Some x) is) read (λ r u. u) (record {
+    → Rewrites p traced (IsOnQubits d trivial p) text line → Delivers words content old new text line
+Delivers-routed words content c name trivial traced old new p d n text line asked is read loaded made =
+    delivers words content (Route name trivial traced) old new p text line (asked ∙ ap (λ x. Some x) is) read (λ r u. u) (record {
       target = made.target;
       told = made.told;
       made = made.made;
+      trace = made.trace;
       placed = record {
         device_text = loaded.0;
         loaded = loaded.1;
@@ -196,12 +203,13 @@ pub Delivers-drawn : (words : List (List ℕ)) (content : Content) (c : Command)
     (d : Coupling) (n : ℕ) (text line : List ℕ)
     → command_of words ≡ Some c → c ≡ Bench start gates name
     → (t : List ℕ) × TellsText (content name) t × IsDevice t d × (n ≤ d.size)
-    → p ≡ drawn_program start gates d.size → Rewrites p (IsOnQubits d false p) text line → Delivers words content old new text line
+    → p ≡ drawn_program start gates d.size → Rewrites p false (IsOnQubits d false p) text line → Delivers words content old new text line
 Delivers-drawn words content c start gates name old new p d n text line asked is loaded drawn made =
     delivers words content (Bench start gates name) old new p text line (asked ∙ ap (λ x. Some x) is) tt (λ r u. u) (record {
       target = made.target;
       told = made.told;
       made = made.made;
+      trace = made.trace;
       placed = (
         record {
           device_text = loaded.0;
@@ -214,6 +222,55 @@ Delivers-drawn words content c start gates name old new p d n text line asked is
       );
     })
 
+pub Delivers-verified : (words : List (List ℕ)) (content : Content) (c : Command) (a b : List ℕ) (old new : Option (List ℕ)) (text line : List ℕ)
+    → command_of words ≡ Some c → c ≡ Verify a b → IsVerified content a b text × (line ≡ []) → Delivers words content old new text line
+Delivers-verified words content c a b old new text line asked is told =
+    delivers words content (Verify a b) old new told.0.source text line (asked ∙ ap (λ x. Some x) is) tt (λ r u. u) told
+
+-- a claim's stop is one of `verify`
+pub IsCause-claim : (h : Handed) (c : Command) (a b : List ℕ) (s : Stop) → command_of h.words ≡ Some c → c ≡ Verify a b
+    → IsClaimStop h.content a b h.shelf_before h.shelf_after s → IsCause h s
+IsCause-claim h c a b stop.NoMemory asked is x = tt
+IsCause-claim h c a b stop.Words asked is x = absurd x
+IsCause-claim h c a b stop.Input asked is x = absurd x
+IsCause-claim h c a b (stop.Program r) asked is x = absurd x
+IsCause-claim h c a b stop.Shelf asked is x = absurd x
+IsCause-claim h c a b stop.Absent asked is x = absurd x
+IsCause-claim h c a b (stop.Device r) asked is x = absurd x
+IsCause-claim h c a b (stop.Question r) asked is x = absurd x
+IsCause-claim h c a b (stop.Claim y) asked is x = (a, b, record { command = Verify a b; asked = asked ∙ ap (λ y. Some y) is; texts = refl }, x)
+
+-- `verify` reads no input and loads no device
+apart : (c : Command) (a b : List ℕ) → asked_texts c ≡ Some (a, b) → (reads_input c ≡ false) × (device_name c ≡ None)
+apart Opt a b e = cc
+apart (Route name trivial traced) a b e = cc
+apart Check a b e = cc
+apart Stages a b e = cc
+apart (Bench start gates name) a b e = cc
+apart (Amplitude from to) a b e = cc
+apart (Verify x y) a b e = (refl, refl)
+
+compares_texts : (h : Handed) (c : Command) (a b : List ℕ) → Compares h.words a b → command_of h.words ≡ Some c → asked_texts c ≡ Some (a, b)
+compares_texts h c a b x asked = subst (λ y. asked_texts y ≡ Some (a, b)) (same_command h.words x.command c x.asked asked) x.texts
+
+compares_reads : (h : Handed) (c : Command) (a b : List ℕ) → Compares h.words a b → command_of h.words ≡ Some c → reads_input c ≡ true → ⊥
+compares_reads h c a b x asked reads = let no = (apart c a b (compares_texts h c a b x asked)).0 in cc
+
+pub device_alone : (c : Command) (name : List ℕ) → device_name c ≡ Some name → asked_texts c ≡ None
+device_alone Opt name e = cc
+device_alone (Route other trivial traced) name e = refl
+device_alone Check name e = cc
+device_alone Stages name e = cc
+device_alone (Bench start gates other) name e = refl
+device_alone (Amplitude from to) name e = cc
+device_alone (Verify x y) name e = cc
+
+claim_late : (x : ClaimStop) (n : ℕ) → (n ≡ 7) ⊎ (n ≡ claim_status x) → (n ≡ 2) ⊎ (n ≡ 5) → ⊥
+claim_late claim.Failed n e two = grind arith
+claim_late claim.Absent n e two = grind arith
+claim_late (claim.Refused s r) n e two = grind arith
+claim_late (claim.Trace line) n e two = grind arith
+
 -- ---- the status of a stop
 pub stopped-no_command : (h : Handed) (s : Stop) (n : ℕ) → IsCause h s → Ends s n → n ≡ 2 → command_of h.words ≡ None
 stopped-no_command h stop.NoMemory n c e two = absurd (grind arith)
@@ -224,6 +281,7 @@ stopped-no_command h stop.Shelf n c e two = absurd (grind arith)
 stopped-no_command h stop.Absent n c e two = absurd (grind arith)
 stopped-no_command h (stop.Device r) n c e two = absurd (grind arith)
 stopped-no_command h (stop.Question r) n c e two = absurd (grind arith)
+stopped-no_command h (stop.Claim x) n c e two = absurd (claim_late x n e (inl two))
 
 pub stopped-words : (h : Handed) (s : Stop) (n : ℕ) → IsCause h s → Ends s n → command_of h.words ≡ None → (n ≡ 2) ⊎ (n ≡ 7)
 stopped-words h stop.NoMemory n c e none = inr (grind arith)
@@ -234,6 +292,7 @@ stopped-words h stop.Shelf n c e none = let asked = c.1.asked in cc
 stopped-words h stop.Absent n c e none = let asked = c.1.asked in cc
 stopped-words h (stop.Device r) n c e none = let asked = c.1.asked in cc
 stopped-words h (stop.Question r) n c e none = let asked = c.0.asked in cc
+stopped-words h (stop.Claim x) n c e none = let asked = c.2.asked in cc
 
 pub stopped-input : (h : Handed) (s : Stop) (n : ℕ) → IsCause h s → Ends s n → n ≡ 5 → Rose h.faults_before h.faults_after
 stopped-input h stop.NoMemory n c e five = absurd (grind arith)
@@ -244,6 +303,7 @@ stopped-input h stop.Shelf n c e five = absurd (grind arith)
 stopped-input h stop.Absent n c e five = absurd (grind arith)
 stopped-input h (stop.Device r) n c e five = absurd (grind arith)
 stopped-input h (stop.Question r) n c e five = absurd (grind arith)
+stopped-input h (stop.Claim x) n c e five = absurd (claim_late x n e (inr five))
 
 -- ---- texts that are told
 told_text : (input : Option (List ℕ)) (t text : List ℕ) → input ≡ Some t → Tells input text → text ≡ t
@@ -293,6 +353,7 @@ stopped-refuses law h stop.Absent n a t r c e asked reads told is calm = absurd 
 stopped-refuses law h (stop.Device x) n a t r c e asked reads told is calm = absurd (reached_or_refused law h a c.0 t r c.1 asked reads told is)
 stopped-refuses law h (stop.Question x) n a t r c e asked reads told is calm =
     absurd (questioned_or_refused law h.input (asked_entry c.0.command) x t r c.1 told is)
+stopped-refuses law h (stop.Claim x) n a t r c e asked reads told is calm = absurd (compares_reads h a c.0 c.1 c.2 asked reads)
 
 -- ---- the device that is asked for
 written_of : (text : List ℕ) (p : Program) → IsAccepted text p → IsWritten text p
@@ -346,20 +407,22 @@ same_device name other o e f = cc
 -- a command that loads a device asks no question
 unasked : (c : Command) (name : List ℕ) (p : Program) (r : QuestionRefusal) → device_name c ≡ Some name → IsQuestionRefusal (asked_entry c) p r → ⊥
 unasked Opt name p r wants u = u
-unasked (Route other trivial) name p r wants u = u
+unasked (Route other trivial traced) name p r wants u = u
 unasked Check name p r wants u = u
 unasked Stages name p r wants u = u
 unasked (Bench start gates other) name p r wants u = u
 unasked (Amplitude from to) name p r wants u = cc
+unasked (Verify a b) name p r wants u = u
 
 -- a command that asks a question reads a program
 asking_reads : (c : Command) (p : Program) (r : QuestionRefusal) → IsQuestionRefusal (asked_entry c) p r → reads_input c ≡ true
 asking_reads Opt p r u = absurd u
-asking_reads (Route other trivial) p r u = absurd u
+asking_reads (Route other trivial traced) p r u = absurd u
 asking_reads Check p r u = absurd u
 asking_reads Stages p r u = absurd u
 asking_reads (Bench start gates other) p r u = absurd u
 asking_reads (Amplitude from to) p r u = cc
+asking_reads (Verify a b) p r u = absurd u
 
 -- no refusal of a question applies to the program of the input
 abbrev pub AnsweredInput : Option (List ℕ) → Command → Type 0
@@ -380,14 +443,15 @@ questioned_or_answered input false q bits r reads needs refused none = cc
 -- what is asked of a command: its words, its input, its question, and counts that didn't rise
 pub record IsAsked (h : Handed) (c : Command) (q : ℕ) : Type 0 where
   pub asked : command_of h.words ≡ Some c
+  pub alone : asked_texts c ≡ None
   pub needs : HasSource (reads_input c) (λ t. h.input ≡ Some t) q
   pub answered : AnsweredInput h.input c
   pub calm : reads_input c ≡ true → Rose h.faults_before h.faults_after → ⊥
   pub shelf_calm : is_some (device_name c) ≡ true → Rose h.shelf_before h.shelf_after → ⊥
 
-pub asked_of : (h : Handed) (c : Command) (q : ℕ) → command_of h.words ≡ Some c → HasSource (reads_input c) (λ t. h.input ≡ Some t) q
+pub asked_of : (h : Handed) (c : Command) (q : ℕ) → command_of h.words ≡ Some c → asked_texts c ≡ None → HasSource (reads_input c) (λ t. h.input ≡ Some t) q
     → AnsweredInput h.input c → (reads_input c ≡ true → Rose h.faults_before h.faults_after → ⊥) → (is_some (device_name c) ≡ true → Rose h.shelf_before h.shelf_after → ⊥) → IsAsked h c q
-asked_of h c q asked needs answered calm shelf_calm = record { asked = asked; needs = needs; answered = answered; calm = calm; shelf_calm = shelf_calm }
+asked_of h c q asked alone needs answered calm shelf_calm = record { asked = asked; alone = alone; needs = needs; answered = answered; calm = calm; shelf_calm = shelf_calm }
 
 wanted : (o : Option (List ℕ)) (name : List ℕ) → o ≡ Some name → is_some o ≡ true
 wanted None name e = cc
@@ -409,6 +473,10 @@ stopped_early law h (stop.Question r) n c q w e a absent refused =
     let same = same_command h.words w.0.command c w.0.asked a.asked in
     let here : IsRefusedQuestion h.input (asked_entry c) r = subst (λ x. IsRefusedQuestion h.input (asked_entry x) r) same w.1 in
     absurd (questioned_or_answered h.input (reads_input c) q (asked_entry c) r (reads_same h c w.0 a.asked) a.needs here a.answered)
+stopped_early law h (stop.Claim x) n c q w e a absent refused =
+    let texts = compares_texts h c w.0 w.1 w.2 a.asked in
+    let alone = a.alone in
+    cc
 
 -- a command whose question is refused
 pub stopped-refuses_question : (h : Handed) (s : Stop) (n : ℕ) (a : Command) (t : List ℕ) (p : Program) (r : QuestionRefusal) → IsCause h s → Ends s n
@@ -422,6 +490,8 @@ stopped-refuses_question h stop.Shelf n a t p r c e asked told ok is calm = absu
 stopped-refuses_question h stop.Absent n a t p r c e asked told ok is calm = absurd (unasked a c.0 p r (same_name h c.0 a c.1 asked) is)
 stopped-refuses_question h (stop.Device x) n a t p r c e asked told ok is calm = absurd (unasked a c.0 p r (same_name h c.0 a c.1 asked) is)
 stopped-refuses_question h (stop.Question x) n a t p r c e asked told ok is calm = grind arith
+stopped-refuses_question h (stop.Claim x) n a t p r c e asked told ok is calm =
+    absurd (compares_reads h a c.0 c.1 c.2 asked (asking_reads a p r is))
 
 -- the text of the device that is asked for
 told_device : MeansOnce → (h : Handed) (c : Command) (name t : List ℕ) (q : ℕ) (r : DeviceRefusal) → IsCause h (stop.Device r) → IsAsked h c q
@@ -448,6 +518,7 @@ by_stop stop.Input = inr (inr ((λ e. cc), (λ r e. cc)))
 by_stop stop.Shelf = inr (inr ((λ e. cc), (λ r e. cc)))
 by_stop (stop.Program x) = inr (inr ((λ e. cc), (λ r e. cc)))
 by_stop (stop.Question x) = inr (inr ((λ e. cc), (λ r e. cc)))
+by_stop (stop.Claim x) = inr (inr ((λ e. cc), (λ r e. cc)))
 
 -- the name of a device that a stop speaks of is one that the command wants
 absent_wants : (h : Handed) (c : Command) (q : ℕ) → IsCause h stop.Absent → IsAsked h c q → (name : List ℕ) × (device_name c ≡ Some name)
@@ -581,26 +652,29 @@ planned-refuses_question once words content old new w n text p r c delivers (inr
 
 -- what is delivered for a command that loads a device comes of the text of its device
 answer_on : (content : Content) (name : List ℕ) (c : Command) (source : Program) (x l : List ℕ) → device_name c ≡ Some name → IsAnswer content c source x l
-    → (trivial : Bool) × Rewrites source (IsOnDevice content name trivial source) x l
+    → (trivial : Bool) × (traced : Bool) × Rewrites source traced (IsOnDevice content name trivial source) x l
 answer_on content name Opt source x l wants answer = cc
-answer_on content name (Route other trivial) source x l wants answer =
-    let same : other ≡ name = cc in (trivial, subst (λ y. Rewrites source (IsOnDevice content y trivial source) x l) same answer)
+answer_on content name (Route other trivial traced) source x l wants answer =
+    let same : other ≡ name = cc in (trivial, traced, subst (λ y. Rewrites source traced (IsOnDevice content y trivial source) x l) same answer)
 answer_on content name Check source x l wants answer = cc
 answer_on content name Stages source x l wants answer = cc
 answer_on content name (Amplitude from to) source x l wants answer = cc
+answer_on content name (Verify a b) source x l wants answer = cc
 answer_on content name (Bench start gates other) source x l wants answer =
     let same : other ≡ name = cc in (
+      false,
       false,
       record {
         target = answer.target;
         told = answer.told;
         made = answer.made;
+        trace = answer.trace;
         placed = subst (λ y. IsOnDevice content y false source answer.target answer.told) same answer.placed.0;
       },
     )
 
 planned_on : (words : List (List ℕ)) (content : Content) (old new : Option (List ℕ)) (x l name : List ℕ) (c : Command) (d : Delivers words content old new x l)
-    → command_of words ≡ Some c → device_name c ≡ Some name → (trivial : Bool) × Rewrites d.source (IsOnDevice content name trivial d.source) x l
+    → command_of words ≡ Some c → device_name c ≡ Some name → (trivial : Bool) × (traced : Bool) × Rewrites d.source traced (IsOnDevice content name trivial d.source) x l
 planned_on words content old new x l name c d asked wants =
     let same = same_command words c d.command asked d.asked in
     answer_on content name d.command d.source x l (subst (λ y. device_name y ≡ Some name) same wants) d.answer
@@ -611,19 +685,19 @@ pub planned-absent : (words : List (List ℕ)) (content : Content) (old new : Op
 planned-absent words content old new w n name c delivers (inl seven) asked wants none = inr seven
 planned-absent words content old new w n name c delivers (inr (x, l, is)) asked wants none =
     let on = planned_on words content old new x l name c (delivers x l is) asked wants in
-    absurd (absent_text (content name) on.1.placed.device_text none on.1.placed.loaded)
+    absurd (absent_text (content name) on.2.placed.device_text none on.2.placed.loaded)
 
 refused_or_routed : MeansOnce → (words : List (List ℕ)) (content : Content) (old new : Option (List ℕ)) (x l name : List ℕ) (c : Command) (t : List ℕ)
     (q : ℕ) (r : DeviceRefusal) → Delivers words content old new x l → command_of words ≡ Some c → device_name c ≡ Some name
     → HasSource (reads_input c) (λ u. old ≡ Some u) q → content name ≡ Some (Some t) → IsDeviceRefusal t q r → ⊥
 refused_or_routed once words content old new x l name c t q r d asked wants needs here refusal =
     let on = planned_on words content old new x l name c d asked wants in
-    let placed = on.1.placed in
+    let placed = on.2.placed in
     let same = device_text (content name) t placed.device_text here placed.loaded in
     let described : IsDevice t placed.device = rw same at placed.described in
     let there = subst (λ y. HasSource (reads_input y) (λ u. old ≡ Some u) q) (same_command words c d.command asked d.asked) needs in
     let wires = had_needs once old new (reads_input d.command) q d.source there d.had in
-    let fits : d.source.wires ≤ placed.device.size = rw (← placed.routed.qubits) on.1.made.stands.unitary.fits in
+    let fits : d.source.wires ≤ placed.device.size = rw (← placed.routed.qubits) on.2.made.stands.unitary.fits in
     IsDevice-refused t placed.device q r described (omega (arith, wires, fits)) refusal
 
 pub planned-refuses_device : MeansOnce → (words : List (List ℕ)) (content : Content) (old new : Option (List ℕ)) (w : Work) (n : ℕ) (name : List ℕ) (c : Command)
@@ -647,6 +721,7 @@ stopped-read stop.Shelf n e three is = cc
 stopped-read stop.Absent n e three is = cc
 stopped-read (stop.Device r) n e three is = cc
 stopped-read (stop.Question r) n e three is = cc
+stopped-read (stop.Claim x) n e three is = cc
 
 pub stopped-two : (s : Stop) (n : ℕ) → Ends s n → n ≡ 2 → s ≡ stop.Words
 stopped-two stop.NoMemory n e two = absurd (grind arith)
@@ -657,6 +732,7 @@ stopped-two stop.Shelf n e two = absurd (grind arith)
 stopped-two stop.Absent n e two = absurd (grind arith)
 stopped-two (stop.Device r) n e two = absurd (grind arith)
 stopped-two (stop.Question r) n e two = absurd (grind arith)
+stopped-two (stop.Claim x) n e two = absurd (claim_late x n e (inl two))
 
 pub ruleset decided = (IsCause-words, IsCause-source)
 
@@ -684,3 +760,77 @@ pub Delivered-done : (words : List (List ℕ)) (content : Content) (old new : Op
     → DeliversWork words content old new w → HasWork w Done
     → Delivered words content old new Done
 Delivered-done words content old new w Done delivers (text, line, is, done) = (text, line, delivers text line is, done)
+
+-- ---- how `verify` ends
+same_texts : (a b c d : List ℕ) (o : Option (List ℕ × List ℕ)) → o ≡ Some (a, b) → o ≡ Some (c, d) → (a ≡ c) × (b ≡ d)
+same_texts a b c d o e f = cc
+
+-- a stop of the run, where the command is `verify`
+pub stopped-verdict : Readable → Traceable → (h : Handed) (s : Stop) (n : ℕ) (c : Command) (a b : List ℕ) (x : Ending) → IsCause h s → Ends s n
+    → command_of h.words ≡ Some c → asked_texts c ≡ Some (a, b) → AreTold h.content a b → IsEnding h.content a b x
+    → (Rose h.shelf_before h.shelf_after → ⊥) → (n ≡ ending_status x) ⊎ (n ≡ 7)
+stopped-verdict law traces h stop.NoMemory n c a b x w e asked texts told is calm = inr (grind arith)
+stopped-verdict law traces h stop.Words n c a b x w e asked texts told is calm = cc
+stopped-verdict law traces h stop.Input n c a b x w e asked texts told is calm =
+    let reads = reads_same h c w.0 asked in let no = (apart c a b texts).0 in cc
+stopped-verdict law traces h (stop.Program r) n c a b x w e asked texts told is calm =
+    let reads = reads_same h c w.0 asked in let no = (apart c a b texts).0 in cc
+stopped-verdict law traces h stop.Shelf n c a b x w e asked texts told is calm =
+    let name = same_name h w.0 c w.1 asked in let no = (apart c a b texts).1 in cc
+stopped-verdict law traces h stop.Absent n c a b x w e asked texts told is calm =
+    let name = same_name h w.0 c w.1 asked in let no = (apart c a b texts).1 in cc
+stopped-verdict law traces h (stop.Device r) n c a b x w e asked texts told is calm =
+    let name = same_name h w.0 c w.1 asked in let no = (apart c a b texts).1 in cc
+stopped-verdict law traces h (stop.Question r) n c a b x w e asked texts told is calm =
+    let reads = reads_same h c w.0 asked in let no = (apart c a b texts).0 in cc
+stopped-verdict law traces h (stop.Claim y) n c a b x w e asked texts told is calm =
+    let both = same_texts w.0 w.1 a b (asked_texts c) (compares_texts h c w.0 w.1 w.2 asked) texts in
+    let ended = ended-claim h.content w.0 w.1 h.shelf_before h.shelf_after y w.3 calm in
+    let here : IsEnding h.content a b ended.0 = subst (λ v. IsEnding h.content a v ended.0) both.1 (subst (λ v. IsEnding h.content v w.1 ended.0) both.0 ended.1) in
+    let same : ended.0 ≡ x = same_ending law traces h.content a b ended.0 x told here is in
+    by_status n (claim_status y) (ending_status x) e (ended.2 ∙ ap ending_status same)
+  where
+    by_status : (n k m : ℕ) → (n ≡ 7) ⊎ (n ≡ k) → k ≡ m → (n ≡ m) ⊎ (n ≡ 7)
+    by_status n k m (inl seven) same = inr seven
+    by_status n k m (inr is) same = inl (is ∙ same)
+
+-- what is delivered where the command is `verify`
+verified_of : (content : Content) (c : Command) (a b : List ℕ) (p : Program) (x l : List ℕ) → asked_texts c ≡ Some (a, b) → IsAnswer content c p x l
+    → IsVerified content a b x
+verified_of content Opt a b p x l e answer = cc
+verified_of content (Route name trivial traced) a b p x l e answer = cc
+verified_of content Check a b p x l e answer = cc
+verified_of content Stages a b p x l e answer = cc
+verified_of content (Bench start gates name) a b p x l e answer = cc
+verified_of content (Amplitude from to) a b p x l e answer = cc
+verified_of content (Verify c d) a b p x l e answer =
+    let both = same_texts c d a b (Some (c, d)) refl e in
+    subst (λ v. IsVerified content a v x) both.1 (subst (λ v. IsVerified content v d x) both.0 answer.0)
+
+verify_writes : (c : Command) (a b : List ℕ) → asked_texts c ≡ Some (a, b) → (writes_out c ≡ true) × (writes_report c ≡ false)
+verify_writes Opt a b e = cc
+verify_writes (Route name trivial traced) a b e = cc
+verify_writes Check a b e = cc
+verify_writes Stages a b e = cc
+verify_writes (Bench start gates name) a b e = cc
+verify_writes (Amplitude from to) a b e = cc
+verify_writes (Verify c d) a b e = (refl, refl)
+
+pub planned-verdict : Readable → Traceable → (words : List (List ℕ)) (content : Content) (old new : Option (List ℕ)) (w : Work) (n : ℕ) (c : Command)
+    (a b : List ℕ) (x : Ending) (line : Bool) (out : Type 0) → DeliversWork words content old new w → Came w n → (n ≡ 0) ⊎ ((n ≡ 6) ⊎ ((n ≡ 7) ⊎ (n ≡ 8)))
+    → command_of words ≡ Some c → asked_texts c ≡ Some (a, b) → line ≡ writes_report c → (n ≡ 6 → out) → (line ≡ false → n ≡ 8 → ⊥)
+    → AreTold content a b → IsEnding content a b x → (ending_status x ≡ 0 → out → ⊥) → (n ≡ ending_status x) ⊎ (n ≡ 7)
+planned-verdict law traces words content old new w n c a b x line out delivers (inl seven) ends asked texts tells failed quiet told is calm = inr seven
+planned-verdict law traces words content old new w n c a b x line out delivers (inr (t, l, made)) ends asked texts tells failed quiet told is calm =
+    let d = delivers t l made in
+    let there : asked_texts d.command ≡ Some (a, b) = subst (λ y. asked_texts y ≡ Some (a, b)) (same_command words c d.command asked d.asked) texts in
+    let v = verified_of content d.command a b d.source t l there d.answer in
+    let same = same_ending law traces content a b (Proved v.first v.last v.phase) x told (ended-verified content a b t v) is in
+    let zero : ending_status x ≡ 0 = sym (ap ending_status same) in
+    by_end n (ending_status x) ends zero (λ six. calm zero (failed six)) (quiet (tells ∙ (verify_writes c a b texts).1))
+  where
+    by_end : (n m : ℕ) → (n ≡ 0) ⊎ ((n ≡ 6) ⊎ ((n ≡ 7) ⊎ (n ≡ 8))) → m ≡ 0 → (n ≡ 6 → ⊥) → (n ≡ 8 → ⊥) → (n ≡ m) ⊎ (n ≡ 7)
+    by_end n m (inl e) zero six eight = inl (e ∙ sym zero)
+    by_end n m (inr (inl e)) zero six eight = absurd (six e)
+    by_end n m (inr (inr (inl e))) zero six eight = inr e
+    by_end n m (inr (inr (inr e))) zero six eight = absurd (eight e)

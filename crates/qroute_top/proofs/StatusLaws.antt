@@ -26,13 +26,16 @@ use Rattle.qasm_check.specs.Refusals.{code as check_code}
 use Rattle.route_report.specs.Faults.{status_of}
 use Rattle.route_report.specs.Refusals.{stops_with}
 use Rattle.route_report.specs.declared.faults.Fault.{Fault}
+use Rattle.route_report.specs.declared.faults.Side.{Side}
 use Rattle.route_report.specs.declared.faults.Fault.TheVariants as fault
 use Rattle.qasm_writer.specs.Outputs.{HasText}
 use Rattle.qasm_writer.specs.declared.output.Output.{Output}
-use Rattle.qroute_top.specs.Causes.{device_fault, fault_of, is_early_fault, question_fault, refusal_fault, stop_status}
+use Rattle.qroute_top.specs.Causes.{claim_fault, claim_status, device_fault, fault_of, is_early_fault, question_fault, refusal_fault, stop_status, text_fault}
 use Rattle.qroute_top.specs.Plans.{HasWork, has_text}
 use Rattle.qroute_top.specs.declared.plan.Work.{Work}
 use Rattle.qroute_top.specs.declared.plan.Work.TheVariants as work
+use Rattle.qroute_top.specs.declared.stops.ClaimStop.{ClaimStop}
+use Rattle.qroute_top.specs.declared.stops.ClaimStop.TheVariants as claim
 use Rattle.qroute_top.specs.declared.stops.DeviceRefusal.{DeviceRefusal}
 use Rattle.qroute_top.specs.declared.stops.DeviceRefusal.TheVariants as device
 use Rattle.qroute_top.specs.declared.stops.QuestionRefusal.{QuestionRefusal}
@@ -64,6 +67,22 @@ inline_status inline.AngleZero = refl
 inline_status inline.AngleRange = refl
 inline_status inline.AngleStep = refl
 inline_status inline.TooManyOps = refl
+
+text_status : (s : Side) (r : Refusal) → status_of (text_fault s r) ≡ 3
+text_status s refusal.TooLong = refl
+text_status s (refusal.BadByte place) = refl
+text_status s (refusal.Number place) = refl
+text_status s (refusal.Syntax place) = refl
+text_status s (refusal.Version place) = refl
+text_status s (refusal.Depth place) = refl
+text_status s (refusal.Check r) = check_status r.refusal
+text_status s (refusal.Inline r) = inline_status r.refusal
+
+claim_told : (x : ClaimStop) → status_of (claim_fault x) ≡ claim_status x
+claim_told claim.Failed = refl
+claim_told claim.Absent = refl
+claim_told (claim.Refused s r) = text_status s r
+claim_told (claim.Trace line) = refl
 
 some_same : {X : Type 0} (x y : X) → Some x ≡ Some y → x ≡ y
 some_same x y e = cc
@@ -105,6 +124,7 @@ status-stop stop.Absent f n e is = by_fault fault.Absent f n 9 e is refl
 status-stop (stop.Program r) f n e is = by_fault (refusal_fault r) f n 3 e is (program_status r)
 status-stop (stop.Device r) f n e is = by_fault (device_fault r) f n 4 e is (device_status r)
 status-stop (stop.Question r) f n e is = by_fault (question_fault r) f n 3 e is (question_status r)
+status-stop (stop.Claim x) f n e is = by_fault (claim_fault x) f n (claim_status x) e is (claim_told x)
 
 abbrev pub Ends : Stop → ℕ → Type 0
 Ends s n = (n ≡ 7) ⊎ (n ≡ stop_status s)
@@ -119,6 +139,10 @@ not_late stop.Shelf n e late = grind arith
 not_late stop.Absent n e late = grind arith
 not_late (stop.Device r) n e late = grind arith
 not_late (stop.Question r) n e late = grind arith
+not_late (stop.Claim claim.Failed) n e late = grind arith
+not_late (stop.Claim claim.Absent) n e late = grind arith
+not_late (stop.Claim (claim.Refused s r)) n e late = grind arith
+not_late (stop.Claim (claim.Trace line)) n e late = grind arith
 
 pub not_memory : (n : ℕ) → (n ≡ 6) ⊎ (is_early_fault n ≡ true) → n ≡ 7 → ⊥
 not_memory n (inl six) seven = grind arith
@@ -149,11 +173,11 @@ HasWork-told w v line a b c is same came =
     subst (λ (y : Work). HasWork y (λ x l. Gains a a x × GainsPrefix b c l)) (sym is) ([], line, (refl, same), (Gains-nothing a, came))
 
 pub HasText-stays : (o : Output) (a b c : Option (List ℕ)) → HasText o (λ text. Gains a b text) → Stays b c → HasText o (λ text. Gains a c text)
-HasText-stays o a b c (text, is, written, came) stays = (text, is, written, Gains-stays a b c text came stays)
+HasText-stays o a b c (text, is, written, trace, came) stays = (text, is, written, trace, Gains-stays a b c text came stays)
 
 pub HasText-prefix : (o : Output) (a b c : Option (List ℕ)) → HasText o (λ text. Gains a b text) → Stays b c
     → HasText o (λ text. GainsPrefix a c text)
-HasText-prefix o a b c (text, is, written, came) stays = (text, is, written, GainsPrefix-stays a b c text came stays)
+HasText-prefix o a b c (text, is, written, trace, came) stays = (text, is, written, trace, GainsPrefix-stays a b c text came stays)
 
 pub on_ok : {T E : Type 0} (r : Result T E) (P : Type 0) → P → OnOk r P
 on_ok (Ok x) P h = h

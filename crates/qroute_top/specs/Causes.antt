@@ -6,10 +6,11 @@
 --   IsRefusedSource input r   the input has a text, the told one where one is told, and r is its first refusal
 --   IsRefusedDevice ..    the same of the text of a device, for a program on n wires
 --   IsRefusedQuestion ..  the input has an accepted text, and r is the first refusal of the question for this entry by its program
+--   IsClaimCause content a b before after x   why a claim on the texts of these names isn't proved
 --   IsCause h s           the stop s has its cause; want of memory is free
 --   IsSourceCause, IsDeviceCause   why the program isn't read, and why the device isn't had
 --   refusal_fault, device_fault, question_fault   the fault that a refusal of the program, of the device, or of a question is
---                         told as
+--                         told as;  text_fault, claim_fault: that of a text of `verify`, and of a stop of it
 --   fault_of s            the fault that a stop is told as
 --   EndsWithFault h n t   the program ends with status n for a stop that has its cause, and t holds of its fault
 --   stop_status s         the status that a stop ends with
@@ -20,6 +21,7 @@ use Rattle.outside_io.specs.Bytes.{Tells}
 use Rattle.outside_io.specs.Causes.{Rose}
 use Rattle.outside_io.specs.Shelf.{HasNoText, TellsText}
 use Rattle.coupling_map.specs.declared.faults.DeviceFault.TheVariants as device_fault_is
+use Rattle.route_report.specs.declared.faults.Side.{Side}
 use Rattle.route_report.specs.declared.faults.Fault.{Fault}
 use Rattle.route_report.specs.declared.faults.Fault.TheVariants as fault
 use Rattle.route_report.specs.Faults.{fault_line, status_of}
@@ -40,8 +42,12 @@ use Rattle.qroute_top.specs.declared.stops.QuestionRefusal.{QuestionRefusal}
 use Rattle.qroute_top.specs.declared.stops.QuestionRefusal.TheVariants as question
 use Rattle.qroute_top.specs.declared.stops.SourceStop.{SourceStop}
 use Rattle.qroute_top.specs.declared.stops.SourceStop.TheVariants as source_stop
+use Rattle.qroute_top.specs.declared.stops.ClaimStop.{ClaimStop}
+use Rattle.qroute_top.specs.declared.stops.ClaimStop.TheVariants as claim
 use Rattle.qroute_top.specs.declared.stops.Stop.{Stop}
 use Rattle.qroute_top.specs.declared.stops.Stop.TheVariants as stop
+use Rattle.qroute_top.specs.Claims.{Compares, IsEnding}
+use Rattle.qroute_top.specs.Claims as ending
 use Rattle.qroute_top.specs.Delivered.{Content}
 use Rattle.qroute_top.specs.Devices.{IsDeviceRefusal, HasSource}
 use Rattle.qroute_top.specs.Questions.{IsQuestionRefusal}
@@ -76,6 +82,12 @@ IsRefusedDevice content n r = (text : List ℕ) × TellsText content text × IsD
 abbrev pub IsRefusedQuestion : Option (List ℕ) → Option (List Bool × List Bool) → QuestionRefusal → Type 0
 IsRefusedQuestion input bits r = (text : List ℕ) × (p : Program) × Tells input text × IsAccepted text p × IsQuestionRefusal bits p r
 
+abbrev pub IsClaimCause : Content → List ℕ → List ℕ → ℕ → ℕ → ClaimStop → Type 0
+IsClaimCause content a b before after claim.Failed = Rose before after
+IsClaimCause content a b before after claim.Absent = IsEnding content a b ending.Absent × (after ≡ before)
+IsClaimCause content a b before after (claim.Refused s r) = IsEnding content a b (ending.Refused s r) × (after ≡ before)
+IsClaimCause content a b before after (claim.Trace line) = IsEnding content a b (ending.Stopped line) × (after ≡ before)
+
 abbrev pub IsCause : Handed → Stop → Type 0
 IsCause h stop.NoMemory = ⊤
 IsCause h stop.Words = command_of h.words ≡ None
@@ -85,6 +97,7 @@ IsCause h stop.Shelf = (name : List ℕ) × Reaches h name × Rose h.shelf_befor
 IsCause h stop.Absent = (name : List ℕ) × Reaches h name × HasNoText (h.content name) × (h.shelf_after ≡ h.shelf_before)
 IsCause h (stop.Device r) = (name : List ℕ) × (asked : Reaches h name) × IsRefusedDevice (h.content name) asked.wires r
     × (h.shelf_after ≡ h.shelf_before)
+IsCause h (stop.Claim x) = (a : List ℕ) × (b : List ℕ) × Compares h.words a b × IsClaimCause h.content a b h.shelf_before h.shelf_after x
 IsCause h (stop.Question r) = (asked : Reads h) × IsRefusedQuestion h.input (asked_entry asked.command) r
 
 -- why reading the program stops
@@ -125,6 +138,22 @@ question_fault (question.WideProgram qubits) = fault.WideProgram qubits
 question_fault (question.ManyBranches branches) = fault.ManyBranches branches
 question_fault (question.BitsLength qubits) = fault.BitsLength qubits
 
+abbrev pub text_fault : Side → Refusal → Fault
+text_fault s refusal.TooLong = fault.TextPlain 60 s
+text_fault s (refusal.BadByte place) = fault.TextPlace 10 place s
+text_fault s (refusal.Number place) = fault.TextPlace 11 place s
+text_fault s (refusal.Syntax place) = fault.TextPlace 12 place s
+text_fault s (refusal.Version place) = fault.TextPlace 13 place s
+text_fault s (refusal.Depth place) = fault.TextPlace 14 place s
+text_fault s (refusal.Check r) = fault.TextStatement (check_code r.refusal) r.statement s
+text_fault s (refusal.Inline r) = fault.TextStatement (inline_code r.refusal) r.statement s
+
+abbrev pub claim_fault : ClaimStop → Fault
+claim_fault claim.Failed = fault.Shelf
+claim_fault claim.Absent = fault.Absent
+claim_fault (claim.Refused s r) = text_fault s r
+claim_fault (claim.Trace line) = fault.Trace line
+
 abbrev pub fault_of : Stop → Option Fault
 fault_of stop.NoMemory = None
 fault_of stop.Words = Some fault.Words
@@ -134,6 +163,13 @@ fault_of stop.Shelf = Some fault.Shelf
 fault_of stop.Absent = Some fault.Absent
 fault_of (stop.Device r) = Some (device_fault r)
 fault_of (stop.Question r) = Some (question_fault r)
+fault_of (stop.Claim x) = Some (claim_fault x)
+
+abbrev pub claim_status : ClaimStop → ℕ
+claim_status claim.Failed = 9
+claim_status claim.Absent = 9
+claim_status (claim.Refused s r) = 3
+claim_status (claim.Trace line) = 1
 
 -- the status that a stop ends with
 abbrev pub stop_status : Stop → ℕ
@@ -145,13 +181,14 @@ stop_status stop.Shelf = 9
 stop_status stop.Absent = 9
 stop_status (stop.Device r) = 4
 stop_status (stop.Question r) = 3
+stop_status (stop.Claim x) = claim_status x
 
 -- the line that is told of an output that fails
 abbrev pub output_fault_line : List ℕ
 output_fault_line = fault_line fault.Output
 
 abbrev pub is_early_fault : ℕ → Bool
-is_early_fault n = (n == 2) || ((n == 3) || ((n == 4) || ((n == 5) || (n == 9))))
+is_early_fault n = (n == 1) || ((n == 2) || ((n == 3) || ((n == 4) || ((n == 5) || (n == 9)))))
 
 abbrev pub EndsWithFault : Handed → ℕ → (Fault → Type 0) → Type 0
 EndsWithFault h status told = (s : Stop) × IsCause h s × ((f : Fault) × (fault_of s ≡ Some f) × (status ≡ status_of f) × told f)

@@ -4,7 +4,9 @@
 --   placed_read p r             the qubit at which the wire of a read stands by p
 --   StandsFor source target r   the target is the source, up to the reported power of w and the reported placements
 --   Makes source target r ..    the text and the report line are right for a source: they are those of a target that stands for it
---   Rewrites source P ..        there is such a target, and of its qubits, placements and edges P holds
+--   IsOwnTrace traced source target told trace   where a trace is asked for, it proves that the target realises the source, from and
+--                               to the reported placements and up to the reported power; else it is empty
+--   Rewrites source traced P .. there is such a target, with its trace, and of its qubits, placements and edges P holds
 --   IsInPlace, IsOnDevice       this P for `opt` and `route`, and part of it for `bench`;  IsOnQubits: for a device that is known
 --   counts_of source            what `check` tells of a program
 --   IsStages source text        what `stages` writes of it: the lines of the layers of its gates
@@ -31,10 +33,14 @@ use Rattle.gate_expand.specs.Expansion.{expanded}
 use Rattle.gate_inline.specs.Programs.{IsAccepted, IsWritten, Program}
 use Rattle.layer_stages.specs.Stages.{IsStageText}
 use Rattle.phase_poly.specs.Layers.{layers_of}
+use Rattle.trace_check.specs.Proves.{Proves}
+use Rattle.trace_check.specs.Verdicts.{claim_of}
+use Rattle.trace_text.specs.Texts.{trace_of}
 use Rattle.command_words.specs.declared.commands.Command.{Command}
-use Rattle.command_words.specs.declared.commands.Command.TheVariants.{Opt, Route, Check, Stages, Bench, Amplitude}
+use Rattle.command_words.specs.declared.commands.Command.TheVariants.{Opt, Route, Check, Stages, Bench, Amplitude, Verify}
 use Rattle.command_words.specs.Commands.{command_of}
 use Rattle.command_words.specs.Demands.{asked_entry, reads_input}
+use Rattle.qroute_top.specs.Claims.{IsVerified}
 use Rattle.qroute_top.specs.Costs.{told_cost}
 use Rattle.qroute_top.specs.Devices.{IsDevice}
 use Rattle.qroute_top.specs.Questions.{IsEntryText, IsQuestionRefusal}
@@ -78,10 +84,15 @@ pub record Makes (source target : Program) (told : Report) (text line : List ℕ
   -- and the target stands for the source
   pub stands : StandsFor source target told
 
-pub record Rewrites (source : Program) (IsPlaced : Program → Report → Type 0) (text line : List ℕ) : Type 0 where
+abbrev pub IsOwnTrace : Bool → Program → Program → Report → List ℕ → Type 0
+IsOwnTrace true source target told trace = Proves (claim_of source target) trace told.initial told.last told.phase
+IsOwnTrace false source target told trace = trace ≡ []
+
+pub record Rewrites (source : Program) (traced : Bool) (IsPlaced : Program → Report → Type 0) (text line : List ℕ) : Type 0 where
   pub target : Program
   pub told : Report
   pub made : Makes source target told text line
+  pub trace : IsOwnTrace traced source target told (trace_of text)
   pub placed : IsPlaced target told
 
 -- no wire moves, there is no spare one, and the program is settled
@@ -134,12 +145,13 @@ drawn_program start gates n = record {
 }
 
 abbrev pub IsAnswer : Content → Command → Program → List ℕ → List ℕ → Type 0
-IsAnswer content Opt source text line = Rewrites source (IsInPlace source) text line
-IsAnswer content (Route name trivial) source text line = Rewrites source (IsOnDevice content name trivial source) text line
+IsAnswer content Opt source text line = Rewrites source false (IsInPlace source) text line
+IsAnswer content (Route name trivial traced) source text line = Rewrites source traced (IsOnDevice content name trivial source) text line
 IsAnswer content Check source text line = (text ≡ []) × (line ≡ check_line (counts_of source))
 IsAnswer content Stages source text line = IsStages source text × (line ≡ [])
 IsAnswer content (Amplitude from to) source text line = IsEntryText source.ops from to text × (line ≡ [])
-IsAnswer content (Bench start gates name) source text line = Rewrites source
+IsAnswer content (Verify a b) source text line = IsVerified content a b text × (line ≡ [])
+IsAnswer content (Bench start gates name) source text line = Rewrites source false
     (λ target told. IsOnDevice content name false source target told × (source ≡ drawn_program start gates target.wires)) text line
 
 abbrev pub IsHad : Bool → Option (List ℕ) → Option (List ℕ) → Program → Type 0

@@ -4,6 +4,7 @@ pub mod Questions
 pub mod Settled
 pub mod Runs
 pub mod Costs
+pub mod Claims
 pub mod Delivered
 pub mod Causes
 -- ---- working forms

@@ -14,6 +14,8 @@ use Rattle.circuit_list.specs.Gates.{ops}
 use Rattle.gate_inline.specs.Programs.{IsWritten, Program}
 use Rattle.route_report.specs.declared.lines.Report.{Report}
 use Rattle.route_report.specs.Lines.{report_line}
+use Rattle.rewrite_pass.specs.TraceLines.{ended}
+use Rattle.trace_text.specs.Texts.{lines_of, trace_of}
 use Rattle.qroute_top.specs.declared.plan.Work.{Work}
 use Rattle.qroute_top.specs.declared.plan.Work.TheVariants as work
 use Rattle.qroute_top.specs.declared.target.Target.{Target}
@@ -32,6 +34,7 @@ target_program s t = record {
 pub record IsFit (s : Program) (t : Target) : Type 0 where
   pub placed : length t.last ≡ t.body.wires
   pub fits : s.wires ≤ t.body.wires
+  pub trace : ended (lines_of t.trace.items) ≡ t.trace.items
 
 pub record IsReport (s : Program) (t : Target) (r : Report) : Type 0 where
   pub numbers : Reports s (target_program s t) r
@@ -42,6 +45,7 @@ TellsReport s t line = (told : Report) × (line ≡ report_line told) × IsRepor
 
 pub record IsPlanned (s : Program) (t : Target) (text line : List ℕ) : Type 0 where
   pub written : IsWritten text (target_program s t)
+  pub trace : trace_of text ≡ t.trace.items
   pub told : Report
   pub report : line ≡ report_line told
   pub numbers : IsReport s t told

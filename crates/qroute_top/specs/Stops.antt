@@ -5,7 +5,12 @@
 --   IsUnasked words s    why words give no command
 --   source_stopped e, device_stopped e, question_stopped e   a stop of reading, of the device, or of a question, as one of the run
 --   IsUnanswered bits p e   why an entry of the program p between these bits isn't told
-use Rattle.std.specs.Prelude.{◌≡◌, ℕ, Bool, List, None, Some, ⊤}
+--   unloaded_text side f     why a text of the shelf isn't had, as a stop of the run
+--   IsUnreadText side text s   why a text that isn't too long isn't accepted
+--   IsTextStop ..        why a text of `verify` isn't had as a program
+--   IsTraceStop e trace s    why a trace proves no claim
+--   IsClaimStop ..       why a claim on two texts isn't proved
+use Rattle.std.specs.Prelude.{◌≡◌, ℕ, Bool, List, Option, None, Some, ⊤}
 use Rattle.command_words.specs.Commands.{command_of}
 use Rattle.outside_io.specs.declared.TextFault.{TextFault}
 use Rattle.outside_io.specs.declared.TextFault.TheVariants as text_fault
@@ -21,6 +26,14 @@ use Rattle.qroute_top.specs.declared.stops.SourceStop.TheVariants as source_stop
 use Rattle.qroute_top.specs.declared.stops.Stop.{Stop}
 use Rattle.qroute_top.specs.declared.stops.Stop.TheVariants as stop
 use Rattle.gate_inline.specs.Programs.{Program}
+use Rattle.outside_io.specs.Causes.{Rose}
+use Rattle.outside_io.specs.Shelf.{HasNoText}
+use Rattle.program_reader.specs.declared.refusal.Refusal.TheVariants as refusal
+use Rattle.route_report.specs.declared.faults.Side.{Side}
+use Rattle.trace_check.specs.Proves.{Claim, StopsAt}
+use Rattle.qroute_top.specs.declared.stops.ClaimStop.TheVariants as claim
+use Rattle.qroute_top.specs.Causes.{IsClaimCause}
+use Rattle.qroute_top.specs.Claims.{Bad, IsTextRefused, Says}
 use Rattle.qroute_top.specs.Devices.{IsDeviceRefusal}
 use Rattle.qroute_top.specs.Questions.{IsQuestionRefusal}
 
@@ -63,3 +76,31 @@ abbrev pub IsUnasked : List (List ℕ) → Stop → Type 0
 IsUnasked words stop.NoMemory = ⊤
 IsUnasked words stop.Words = command_of words ≡ None
 IsUnasked words _ = ⊥
+
+abbrev pub unloaded_text : Side → TextFault → Stop
+unloaded_text s text_fault.Failed = stop.Claim claim.Failed
+unloaded_text s text_fault.Absent = stop.Claim claim.Absent
+unloaded_text s text_fault.TooLong = stop.Claim (claim.Refused s refusal.TooLong)
+unloaded_text s text_fault.NoMemory = stop.NoMemory
+
+abbrev pub IsUnreadText : Side → List ℕ → Stop → Type 0
+IsUnreadText s text stop.NoMemory = ⊤
+IsUnreadText s text (stop.Claim (claim.Refused t r)) = (t ≡ s) × IsTextRefused s text r
+IsUnreadText s text _ = ⊥
+
+abbrev pub IsTextStop : Side → Option (Option (List ℕ)) → ℕ → ℕ → Stop → Type 0
+IsTextStop s content before after stop.NoMemory = ⊤
+IsTextStop s content before after (stop.Claim claim.Failed) = Rose before after
+IsTextStop s content before after (stop.Claim claim.Absent) = HasNoText content
+IsTextStop s content before after (stop.Claim (claim.Refused t r)) = (t ≡ s) × Says content s (Bad r)
+IsTextStop s content before after _ = ⊥
+
+abbrev pub IsTraceStop : Claim → List ℕ → Stop → Type 0
+IsTraceStop e trace stop.NoMemory = ⊤
+IsTraceStop e trace (stop.Claim (claim.Trace line)) = StopsAt e trace line
+IsTraceStop e trace _ = ⊥
+
+abbrev pub IsClaimStop : (List ℕ → Option (Option (List ℕ))) → List ℕ → List ℕ → ℕ → ℕ → Stop → Type 0
+IsClaimStop content a b before after stop.NoMemory = ⊤
+IsClaimStop content a b before after (stop.Claim x) = IsClaimCause content a b before after x
+IsClaimStop content a b before after _ = ⊥

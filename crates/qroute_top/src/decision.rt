@@ -2,13 +2,14 @@
 
 ghost use Rattle.std.specs.Prelude.{◌≡◌, ℕ, List, Some, None, Err, false, map, IfOk, IfErr};
 ghost use Rattle.command_words.specs.Commands.{HasFewGates, command_of};
-ghost use Rattle.command_words.specs.Demands.{device_name, reads_input, writes_out, writes_report};
+ghost use Rattle.command_words.specs.Demands.{asked_texts, device_name, reads_input, writes_out, writes_report};
 ghost use Rattle.command_words.specs.declared.commands.Command.{Command as Asked};
 ghost use Rattle.qroute_top.specs.Causes.{IsCause};
 ghost use Rattle.qroute_top.specs.Delivered.{Delivers};
 ghost use Rattle.qroute_top.specs.Plans.{IsFitWork, IsWork, has_line, has_text};
 ghost use Rattle.qroute_top.specs.Stops.{IsUnasked};
 
+use crate::claim::claim_work;
 use crate::device::load_device;
 use crate::pipeline::{optimise, route_on};
 use crate::plan::{Work, check_work, stage_work};
@@ -57,10 +58,10 @@ pub fn decide<I: Input, F: Shelf>(
     })) }
     ensures calm { (result ≡ Err Stop.Input → ⊥) → I.faults input.new ≡ I.faults input.old }
     ensures words_only { result ≡ Err Stop.Words → (input.new ≡ input.old) × (shelf.new ≡ shelf.old) }
-    ensures shelf_calm { (result ≡ Err Stop.Shelf → ⊥) → F.faults shelf.new ≡ F.faults shelf.old }
+    ensures shelf_calm { IfOk result (λ _. F.faults shelf.new ≡ F.faults shelf.old) }
     ensures shelf_keeps { (name : List ℕ) → F.content shelf.new name ≡ F.content shelf.old name }
     ensures no_input { (c : Asked) → command_of (map (λ w. w.now) words.now) ≡ Some c → reads_input c ≡ false → input.new ≡ input.old }
-    ensures no_shelf { (c : Asked) → command_of (map (λ w. w.now) words.now) ≡ Some c → device_name c ≡ None → shelf.new ≡ shelf.old }
+    ensures no_shelf { (c : Asked) → command_of (map (λ w. w.now) words.now) ≡ Some c → device_name c ≡ None → asked_texts c ≡ None → shelf.new ≡ shelf.old }
 {
     let command = asked(alloc, words)?;
     match command {
@@ -83,10 +84,11 @@ pub fn decide<I: Input, F: Shelf>(
         Command::Route {
             device: name,
             trivial,
+            trace,
         } => {
             let source = read_source(alloc, input)?;
             let device = load_device(alloc, shelf, &name, source.ops().wires)?;
-            Ok(route_on(alloc, source, &device, trivial)?)
+            Ok(route_on(alloc, source, &device, trivial, trace)?)
         }
         Command::Bench {
             start,
@@ -96,7 +98,8 @@ pub fn decide<I: Input, F: Shelf>(
             // The program is made for the device, so any device has enough qubits.
             let device = load_device(alloc, shelf, &name, 0)?;
             let source = drawn_source(alloc, start, gates, device.size())?;
-            Ok(route_on(alloc, source, &device, false)?)
+            Ok(route_on(alloc, source, &device, false, false)?)
         }
+        Command::Verify { source, target } => claim_work(alloc, shelf, &source, &target),
     }
 }

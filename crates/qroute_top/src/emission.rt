@@ -6,18 +6,18 @@ ghost use Rattle.outside_io.specs.Causes.{HasCause, Rose};
 ghost use Rattle.qasm_writer.specs.Outputs.{HasText, IsOutput};
 ghost use Rattle.route_report.specs.Faults.{fault_line, status_of};
 ghost use Rattle.route_report.specs.declared.faults.Fault.{Fault as Told};
-ghost use Rattle.qroute_top.specs.Causes.{device_fault, fault_of, output_fault_line, question_fault, refusal_fault, stop_status};
+ghost use Rattle.qroute_top.specs.Causes.{claim_fault, device_fault, fault_of, output_fault_line, question_fault, refusal_fault, stop_status, text_fault};
 ghost use Rattle.qroute_top.specs.Plans.{HasPlanned, HasWork, IsFit, IsFitWork, has_line, has_text};
 
 use crate::plan::{Prepared, Work, prepare};
-use crate::stops::{DeviceRefusal, QuestionRefusal, Stop};
+use crate::stops::{ClaimStop, DeviceRefusal, QuestionRefusal, Stop};
 use crate::target::Target;
 use coupling_map::DeviceFault;
 use outside_io::{Failed, Sink, send};
 use program_reader::{Refusal, SourceProgram};
 use qasm_writer::output::Output;
 use qasm_writer::write_program;
-use route_report::{Fault, fault_line, status};
+use route_report::{Fault, Side, fault_line, status};
 use std::alloc::{AllocError, Global};
 
 /// The work is done.
@@ -83,6 +83,42 @@ fn fault_of_question(refusal: QuestionRefusal) -> Fault
     }
 }
 
+/// The fault that a refusal of a text of `verify` is told as.
+fn fault_of_text(side: Side, refusal: Refusal) -> Fault
+    ensures { result ≡ text_fault side refusal }
+{
+    match refusal {
+        Refusal::TooLong => Fault::TextPlain { code: 60, side },
+        Refusal::BadByte { place } => Fault::TextPlace { code: 10, place, side },
+        Refusal::Number { place } => Fault::TextPlace { code: 11, place, side },
+        Refusal::Syntax { place } => Fault::TextPlace { code: 12, place, side },
+        Refusal::Version { place } => Fault::TextPlace { code: 13, place, side },
+        Refusal::Depth { place } => Fault::TextPlace { code: 14, place, side },
+        Refusal::Check(refused) => Fault::TextStatement {
+            code: refused.refusal.code(),
+            statement: refused.statement,
+            side,
+        },
+        Refusal::Inline(refused) => Fault::TextStatement {
+            code: refused.refusal.code(),
+            statement: refused.statement,
+            side,
+        },
+    }
+}
+
+/// The fault that a stop of `verify` is told as.
+fn fault_of_claim(stop: ClaimStop) -> Fault
+    ensures { result ≡ claim_fault stop }
+{
+    match stop {
+        ClaimStop::Failed => Fault::Shelf,
+        ClaimStop::Absent => Fault::Absent,
+        ClaimStop::Refused { side, refusal } => fault_of_text(side, refusal),
+        ClaimStop::Trace { line } => Fault::Trace { line },
+    }
+}
+
 /// The fault that a stop is told as; want of memory isn't told.
 fn fault_of(stop: Stop) -> Option<Fault>
     ensures { result ≡ fault_of stop }
@@ -96,6 +132,7 @@ fn fault_of(stop: Stop) -> Option<Fault>
         Stop::Absent => Some(Fault::Absent),
         Stop::Device(refusal) => Some(fault_of_device(refusal)),
         Stop::Question(refusal) => Some(fault_of_question(refusal)),
+        Stop::Claim(stop) => Some(fault_of_claim(stop)),
     }
 }
 
@@ -245,6 +282,7 @@ fn emit_target<O: Sink, R: Sink>(
                 body: &target.body,
                 registers: &registers,
                 reads: &reads,
+                trace: &target.trace,
             };
             emit_program(&output, &mut room, &line, &fault, out, report)
         }

@@ -24,7 +24,7 @@ ghost use Rattle.route_report.specs.Faults.{fault_line};
 ghost use Rattle.program_reader.specs.Refusals.{IsRefusal};
 ghost use Rattle.program_reader.specs.declared.refusal.Refusal.{Refusal as Refused};
 ghost use Rattle.command_words.specs.Commands.{command_of};
-ghost use Rattle.command_words.specs.Demands.{asked_entry, device_name, reads_input, writes_out, writes_report};
+ghost use Rattle.command_words.specs.Demands.{asked_entry, asked_texts, device_name, reads_input, writes_out, writes_report};
 ghost use Rattle.command_words.specs.declared.commands.Command.{Command as Asked};
 ghost use Rattle.qroute_top.specs.declared.stops.DeviceRefusal.{DeviceRefusal as RefusedDevice};
 ghost use Rattle.gate_inline.specs.Programs.{IsAccepted, Program};
@@ -32,6 +32,7 @@ ghost use Rattle.qroute_top.specs.declared.stops.QuestionRefusal.{QuestionRefusa
 ghost use Rattle.qroute_top.specs.Devices.{HasDevice, IsDeviceRefusal, HasSource};
 ghost use Rattle.qroute_top.specs.Questions.{IsQuestionRefusal};
 ghost use Rattle.qroute_top.specs.Causes.{EndsWithFault, is_early_fault, output_fault_line};
+ghost use Rattle.qroute_top.specs.Claims.{AreTold, Ending, IsEnding, ending_status};
 ghost use Rattle.qroute_top.specs.Delivered.{Delivered};
 
 pub use bench_program::made;
@@ -39,9 +40,11 @@ pub use command_words::{bits, commands, name, words};
 use decision::decide;
 use emission::{emit, tell};
 use outside_io::{Shelf, Sink, Source};
-use program_reader::{accepted_has_no_refusal, means_once};
+use program_reader::{accepted_has_no_refusal, accepted_text_has_no_refusal, means_once, text_refused_once};
 use std::alloc::Global;
+use trace_check::laws::traces_are_exact;
 
+mod claim;
 mod cost;
 mod decision;
 mod device;
@@ -77,7 +80,7 @@ pub fn run<I: Source, F: Shelf, O: Sink, R: Sink>(
     ensures calm { result ≡ 0 → (I.faults input.new ≡ I.faults input.old) × (F.faults shelf.new ≡ F.faults shelf.old)
         × (O.faults out.new ≡ O.faults out.old) × (R.faults report.new ≡ R.faults report.old) }
 
-    // 2, 3, 4, 5, 9: a fault that has its cause; the report tells it.
+    // 1, 2, 3, 4, 5, 9: a fault that has its cause; the report tells it.
     ensures fault { is_early_fault result ≡ true → EndsWithFault (record {
       words = map (λ w. w.now) words.now;
       input = I.left input.old;
@@ -121,7 +124,7 @@ pub fn run<I: Source, F: Shelf, O: Sink, R: Sink>(
 
     // A command whose input, where it reads one, is accepted, whose device, where it wants one, has a qubit for each wire, and
     // whose question, where it asks one, isn't refused, ends well, or wants memory, unless a count of faults rose.
-    ensures complete { (c : Asked) (n : ℕ) → command_of (map (λ w. w.now) words.now) ≡ Some c
+    ensures complete { (c : Asked) (n : ℕ) → command_of (map (λ w. w.now) words.now) ≡ Some c → asked_texts c ≡ None
         → HasSource (reads_input c) (λ text. I.left input.old ≡ Some text) n → HasDevice (F.content shelf.old) (device_name c) n
         → ((text : List ℕ) (p : Program) (r : RefusedQuestion) → I.left input.old ≡ Some text → IsAccepted text p
         → IsQuestionRefusal (asked_entry c) p r → ⊥)
@@ -129,6 +132,14 @@ pub fn run<I: Source, F: Shelf, O: Sink, R: Sink>(
         → (is_some (device_name c) ≡ true → Rose (F.faults shelf.old) (F.faults shelf.new) → ⊥)
         → (writes_out c ≡ true → Rose (O.faults out.old) (O.faults out.new) → ⊥)
         → (writes_report c ≡ true → Rose (R.faults report.old) (R.faults report.new) → ⊥) → (result ≡ 0) ⊎ (result ≡ 7) }
+
+    // A command that compares two texts which the shelf tells, or tells to be absent, ends as these and the trace in the second say,
+    // or wants memory: 9 where one is absent, 3 where one is refused, 1 where the trace stops at a line, and 0 where it proves that
+    // the second realises the first, unless a count of faults rose.
+    ensures verdict { (c : Asked) (a b : List ℕ) (x : Ending) → command_of (map (λ w. w.now) words.now) ≡ Some c
+        → asked_texts c ≡ Some (a, b) → AreTold (F.content shelf.old) a b → IsEnding (F.content shelf.old) a b x
+        → (Rose (F.faults shelf.old) (F.faults shelf.new) → ⊥) → (ending_status x ≡ 0 → Rose (O.faults out.old) (O.faults out.new) → ⊥)
+        → (result ≡ ending_status x) ⊎ (result ≡ 7) }
 
     // 6 and 8: the output or the report failed, with a prefix of what is made.
     ensures output { result ≡ 6 → Rose (O.faults out.old) (O.faults out.new)
@@ -149,13 +160,16 @@ pub fn run<I: Source, F: Shelf, O: Sink, R: Sink>(
     ensures untouched { (result ≡ 7) ⊎ (is_early_fault result ≡ true) → out.new ≡ out.old }
     ensures shelf { (name : List ℕ) → F.content shelf.new name ≡ F.content shelf.old name }
     ensures no_input { (c : Asked) → command_of (map (λ w. w.now) words.now) ≡ Some c → reads_input c ≡ false → input.new ≡ input.old }
-    ensures no_shelf { (c : Asked) → command_of (map (λ w. w.now) words.now) ≡ Some c → device_name c ≡ None → shelf.new ≡ shelf.old }
+    ensures no_shelf { (c : Asked) → command_of (map (λ w. w.now) words.now) ≡ Some c → device_name c ≡ None → asked_texts c ≡ None → shelf.new ≡ shelf.old }
     ensures no_out { (c : Asked) → command_of (map (λ w. w.now) words.now) ≡ Some c → writes_out c ≡ false → out.new ≡ out.old }
     ensures no_report { (c : Asked) → command_of (map (λ w. w.now) words.now) ≡ Some c → writes_report c ≡ false
         → (result ≡ 8 → ⊥) × (result ≡ 0 → report.new ≡ report.old) }
 {
     accepted_has_no_refusal();
     means_once();
+    accepted_text_has_no_refusal();
+    text_refused_once();
+    traces_are_exact();
     match decide(alloc, words, input, shelf) {
         Ok(work) => emit(alloc, &work, out, report),
         Err(stop) => tell(alloc, stop, report),

@@ -1,8 +1,9 @@
 //! The passes that rewrite a circuit, in their order.
 
-ghost use Rattle.std.specs.Prelude.{◌≡◌, IfOk};
+ghost use Rattle.std.specs.Prelude.{◌≡◌, IfOk, IfSome, is_some};
 ghost use Rattle.circuit_list.specs.Gates.{ops};
 ghost use Rattle.rewrite_pass.specs.Law.{IsRewriting};
+ghost use Rattle.rewrite_pass.specs.Traces.{AreSteps};
 ghost use Rattle.qroute_top.specs.Settled.{IsSettled};
 
 use circuit_list::{Circuit, Passed};
@@ -10,19 +11,38 @@ use gate_cancel::CancelPass;
 use hadamard_reduce::{HadamardPass, HadamardRules};
 use not_propagate::NotPass;
 use phase_poly::ResynthPass;
-use rewrite_pass::{Pass, Settle, Then, WhileSmaller};
+use rewrite_pass::{Pass, Settle, Then, Trace, Traced, WhileSmaller};
 use rotation_merge::MergePass;
 use std::alloc::{AllocError, Global};
 
+/// A circuit that was rewritten, with its turn, and the steps that led to it where they are asked for.
+#[derive(Drop)]
+pub struct Rewritten {
+    pub passed: Passed,
+    pub steps: Option<Trace>,
+}
+
 /// The circuit after rounds of NOT propagation, Hadamard reduction, cancellation and rotation merging, one round after the
 /// other while that leaves fewer gates; then after resynthesis of its layers, and after Hadamard reduction, cancellation and
-/// rotation merging again as long as the last two leave fewer gates; and its turn.
-pub fn rewritten(alloc: Global, body: Circuit) -> Result<Passed, AllocError>
-    ensures wires { IfOk result (λ p. p.body.wires ≡ body.wires) }
-    ensures law { IfOk result (λ p. IsRewriting body.wires body.gates p.body.gates p.turn) }
-    ensures settled { IfOk result (λ p. IsSettled body.wires (ops p.body.gates)) }
+/// rotation merging again as long as the last two leave fewer gates; and its turn. The steps are told where `traced` says so.
+pub fn rewritten(alloc: Global, body: Circuit, traced: bool) -> Result<Rewritten, AllocError>
+    ensures wires { IfOk result (λ r. r.passed.body.wires ≡ body.wires) }
+    ensures law { IfOk result (λ r. IsRewriting body.wires body.gates r.passed.body.gates r.passed.turn) }
+    ensures settled { IfOk result (λ r. IsSettled body.wires (ops r.passed.body.gates)) }
+    ensures asked { IfOk result (λ r. is_some r.steps ≡ traced) }
+    ensures steps { IfOk result (λ r. IfSome r.steps (λ ss. AreSteps body.wires body.gates ss r.passed.body.gates r.passed.turn)) }
 {
     let round = Then(NotPass, Then(HadamardPass, Then(CancelPass, MergePass)));
     let rest = Settle(HadamardRules, CancelPass, MergePass);
-    Then(WhileSmaller(round), Then(ResynthPass, rest)).run(alloc, body)
+    let passes = Then(WhileSmaller(round), Then(ResynthPass, rest));
+    if traced {
+        let mut trace = Trace::start(alloc);
+        let passed = passes.run_traced(alloc, body, &mut trace)?;
+        return Ok(Rewritten {
+            passed,
+            steps: Some(trace),
+        });
+    }
+    let passed = passes.run(alloc, body)?;
+    Ok(Rewritten { passed, steps: None })
 }

@@ -2,6 +2,7 @@
 
 use coupling_map::DeviceFault;
 use program_reader::{ReadFault, Refusal};
+use route_report::Side;
 use std::alloc::AllocError;
 
 /// Why a device text is refused.
@@ -59,6 +60,19 @@ pub enum QuestionStop {
     Refused(QuestionRefusal),
 }
 
+/// Why a claim on two texts isn't proved.
+#[derive(Clone, Copy, Debug, PartialEq, Eq)]
+pub enum ClaimStop {
+    /// The shelf failed.
+    Failed,
+    /// The shelf has no text of the name.
+    Absent,
+    /// A text is refused.
+    Refused { side: Side, refusal: Refusal },
+    /// The trace stops at this line.
+    Trace { line: u32 },
+}
+
 /// Want of memory, or a fault with what the fault line tells of it.
 #[derive(Clone, Copy, Debug, PartialEq, Eq)]
 pub enum Stop {
@@ -78,6 +92,8 @@ pub enum Stop {
     Device(DeviceRefusal),
     /// The question is refused.
     Question(QuestionRefusal),
+    /// The claim isn't proved.
+    Claim(ClaimStop),
 }
 
 impl From<ReadFault> for SourceStop {

@@ -1,22 +1,26 @@
 //! The circuit that is to be written for a source, and where its wires begin and end.
 
-ghost use Rattle.std.specs.Prelude.{◌≡◌, ◌≤◌, ◌<◌, All, IfOk, false, length, true};
-ghost use Rattle.unitary_model.specs.Placement.{identity};
+ghost use Rattle.std.specs.Prelude.{◌≡◌, ◌≤◌, ◌<◌, [], All, IfOk, IfSome, None, false, is_some, length, true};
+ghost use Rattle.rewrite_pass.specs.TraceLines.{ended};
+ghost use Rattle.trace_text.specs.Texts.{lines_of};
+ghost use Rattle.unitary_model.specs.Placement.{IsPlacement, identity};
 ghost use Rattle.route_report.specs.declared.lines.Report.{Report};
 ghost use Rattle.sabre_route.specs.Routing.{IsLayout};
-ghost use Rattle.qroute_top.specs.Delivered.{IsInPlace, IsOnQubits, StandsFor};
+ghost use Rattle.sabre_route.specs.Telling.{IsRoutedBy};
+ghost use Rattle.qroute_top.specs.Delivered.{IsInPlace, IsOnQubits, IsOwnTrace, StandsFor};
 ghost use Rattle.qroute_top.specs.Plans.{target_program};
-ghost use Rattle.qroute_top.specs.Targets.{IsOptimised, IsTold};
+ghost use Rattle.qroute_top.specs.Targets.{HasSteps, IsOptimised, IsRunOf, IsRunTrace, IsTold};
 
 use crate::cost::cost_of;
-use crate::passes::rewritten;
+use crate::passes::{Rewritten, rewritten};
 use circuit_list::{Circuit, Passed};
 use coupling_map::Device;
 use gate_expand::expand;
 use placement::Placement;
 use program_reader::SourceProgram;
 use route_report::Wires;
-use sabre_route::{layout, route};
+use route_trace::route_trace;
+use sabre_route::{Event, Routed, layout, route, route_traced};
 use std::alloc::{AllocError, Global};
 use unitary_model::turn_sum;
 
@@ -35,21 +39,31 @@ pub struct Target {
     pub turn: u8,
     /// What its CNOTs cost on the device's edges, where the device lists costs.
     pub cost: Option<u64>,
+    /// The lines of its trace; empty where none is asked for.
+    pub trace: Vec<u8>,
 }
 
-/// The circuit of a source's operations after all passes, and its turn against the source.
-pub fn optimised(alloc: Global, source: &SourceProgram) -> Result<Passed, AllocError>
-    ensures { IfOk result (IsOptimised source.now.wires source.now.ops) }
+/// The circuit of a source's operations after all passes, its turn against the source, and the steps from the source's gates to it
+/// where they are asked for.
+pub fn optimised(
+    alloc: Global,
+    source: &SourceProgram,
+    traced: bool,
+) -> Result<Rewritten, AllocError>
+    ensures optimised { IfOk result (λ r. IsOptimised source.now.wires source.now.ops r.passed) }
+    ensures asked { IfOk result (λ r. is_some r.steps ≡ traced) }
+    ensures steps { IfOk result (λ r. IfSome r.steps (HasSteps source.now.wires source.now.ops r.passed)) }
 {
     source.facts();
-    let Passed { body, turn } = expand(alloc, source.ops())?;
-    let Passed {
-        body,
-        turn: further,
-    } = rewritten(alloc, body)?;
-    Ok(Passed {
-        body,
-        turn: turn_sum(turn, further),
+    let expanded = expand(alloc, source.ops())?;
+    let Rewritten { passed, steps } = rewritten(alloc, expanded.body, traced)?;
+    let turn = turn_sum(expanded.turn, passed.turn);
+    Ok(Rewritten {
+        passed: Passed {
+            body: passed.body,
+            turn,
+        },
+        steps,
     })
 }
 
@@ -67,6 +81,7 @@ pub fn in_place(alloc: Global, source: &SourceProgram, passed: Passed) -> Result
     ensures placed { IfOk result (λ t. (told : Report) → IsTold t told → IsInPlace source.now (target_program source.now t) told) }
     ensures wires { IfOk result (λ t. t.body.wires ≡ source.now.wires) }
     ensures size { IfOk result (λ t. length t.last ≡ t.body.wires) }
+    ensures trace { IfOk result (λ t. t.trace.items ≡ []) }
 {
     let last = Placement::identity(alloc, passed.body.wires())?;
     let initial = qubits_of(alloc, &last)?;
@@ -77,6 +92,7 @@ pub fn in_place(alloc: Global, source: &SourceProgram, passed: Passed) -> Result
         swaps: 0,
         turn: passed.turn,
         cost: None,
+        trace: Vec::new(alloc),
     })
 }
 
@@ -99,29 +115,104 @@ fn first_placement(
     }
 }
 
-/// The circuit on the qubits of a device: the routing machine's run.
+/// The routing machine's run over a circuit, with its events where they are asked for.
+#[derive(Drop)]
+struct Run {
+    routed: Routed,
+    events: Vec<Event>,
+}
+
+/// The run from the given placement on.
+fn run_from(
+    alloc: Global,
+    circuit: &Circuit,
+    device: &Device,
+    given: Placement,
+    traced: bool,
+) -> Result<Run, AllocError>
+    requires fits { circuit.now.wires ≤ device.now.size }
+    requires placed { length given ≡ device.now.size }
+    ensures run { IfOk result (λ r. IsRunOf device.now circuit.now.wires circuit.now.gates given r.routed) }
+    ensures events { IfOk result (λ r. traced ≡ true → IsRoutedBy device.now circuit.now.gates given r.routed r.events.items) }
+{
+    if traced {
+        let (routed, events) = route_traced(alloc, circuit, device, given)?;
+        return Ok(Run { routed, events });
+    }
+    let routed = route(alloc, circuit, device, given)?;
+    Ok(Run {
+        routed,
+        events: Vec::new(alloc),
+    })
+}
+
+/// The bytes of the trace of a run over a circuit that was rewritten, where its steps are told; else none.
+fn trace_of_run(
+    alloc: Global,
+    rewritten: &Rewritten,
+    device: &Device,
+    given: &[u32],
+    run: &Run,
+    turn: u8,
+) -> Result<Vec<u8>, AllocError>
+    requires fits { rewritten.now.passed.body.wires ≤ device.now.size }
+    requires placed { IsPlacement device.now.size given.now }
+    requires turn { turn < 8 }
+    requires events { is_some rewritten.now.steps ≡ true →
+        IsRoutedBy device.now rewritten.now.passed.body.gates given.now run.now.routed run.now.events.items }
+    ensures told { IfOk result (λ v. IfSome rewritten.now.steps (λ ss. IsRunTrace device.now rewritten.now.passed ss given.now
+        run.now.routed turn v.items)) }
+    ensures silent { IfOk result (λ v. rewritten.now.steps ≡ None → v.items ≡ []) }
+    ensures lines { IfOk result (λ v. ended (lines_of v.items) ≡ v.items) }
+{
+    match &rewritten.steps {
+        None => Ok(Vec::new(alloc)),
+        Some(steps) => route_trace(
+            alloc,
+            steps,
+            &rewritten.passed.body,
+            device,
+            given,
+            &run.events,
+            &run.routed,
+            turn,
+        ),
+    }
+}
+
+/// The circuit on the qubits of a device: the routing machine's run. Its trace is told where the steps before it are.
 pub fn on_device(
     alloc: Global,
     source: &SourceProgram,
-    passed: &Passed,
+    rewritten: &Rewritten,
     device: &Device,
     trivial: bool,
 ) -> Result<Target, AllocError>
-    requires optimised { IsOptimised source.now.wires source.now.ops passed.now }
+    requires optimised { IsOptimised source.now.wires source.now.ops rewritten.now.passed }
+    requires steps { IfSome rewritten.now.steps (HasSteps source.now.wires source.now.ops rewritten.now.passed) }
     requires fits { source.now.wires ≤ device.now.size }
     ensures stands { IfOk result (λ t. (told : Report) → IsTold t told → StandsFor source.now (target_program source.now t) told) }
     ensures placed { IfOk result (λ t. (told : Report) → IsTold t told → IsOnQubits device.now trivial source.now (target_program source.now t) told) }
     ensures wires { IfOk result (λ t. t.body.wires ≡ device.now.size) }
     ensures size { IfOk result (λ t. length t.last ≡ t.body.wires) }
+    ensures trace { IfOk result (λ t. (told : Report) → IsTold t told →
+        IsOwnTrace (is_some rewritten.now.steps) source.now (target_program source.now t) told t.trace.items) }
+    ensures lines { IfOk result (λ t. ended (lines_of t.trace.items) ≡ t.trace.items) }
 {
     source.facts();
-    // Their contracts say that the gates are on these wires, how many qubits a device has at most, and that it has a diameter.
+    let passed = &rewritten.passed;
+    // Their contracts say that the gates are on these wires, how many qubits a device has at most, that it has a diameter, and that
+    // what is given is a placement.
     let _wires = passed.body.wires();
     let _size = device.size();
     let _diameter = device.diameter();
     let given = first_placement(alloc, &passed.body, device, trivial)?;
+    let _placed = given.size();
     let initial = qubits_of(alloc, &given)?;
-    let routed = route(alloc, &passed.body, device, given)?;
+    let run = run_from(alloc, &passed.body, device, given, rewritten.steps.is_some())?;
+    let turn = turn_sum(passed.turn, run.routed.turn);
+    let trace = trace_of_run(alloc, rewritten, device, initial.as_slice(), &run, turn)?;
+    let routed = run.routed;
     let _qubits = routed.body.wires();
     let cost = cost_of(device, &routed.body);
     Ok(Target {
@@ -129,7 +220,8 @@ pub fn on_device(
         initial,
         last: routed.last,
         swaps: routed.swaps,
-        turn: turn_sum(passed.turn, routed.turn),
+        turn,
         cost,
+        trace,
     })
 }

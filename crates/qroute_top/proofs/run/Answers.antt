@@ -4,7 +4,8 @@ use Rattle.outside_io.specs.Bytes.{Gains, GainsPrefix}
 use Rattle.command_words.specs.Demands.{writes_out, writes_report}
 use Rattle.qroute_top.specs.Causes.{Handed}
 use Rattle.qroute_top.specs.Plans.{has_line, has_text}
-use Rattle.qroute_top.proofs.RunLaws.{Delivered-done, answered_on, asked_of, came, handed, planned-absent, planned-complete, planned-refuses, planned-refuses_device, planned-refuses_question, same_stop, stopped-absent, stopped-complete, stopped-read, stopped-refuses, stopped-refuses_device, stopped-refuses_question, stopped-two}
+use Rattle.qroute_top.proofs.RunLaws.{Delivered-done, device_alone, answered_on, asked_of, came, handed, planned-absent, planned-complete, planned-refuses, planned-refuses_device, planned-refuses_question, planned-verdict, same_stop, stopped-absent, stopped-complete, stopped-read, stopped-refuses, stopped-refuses_device, stopped-refuses_question, stopped-two, stopped-verdict}
+use Rattle.qroute_top.proofs.ClaimLaws.{Readable, Traceable}
 use Rattle.qroute_top.proofs.StatusLaws.{not_late, not_memory}
 use Rattle.qroute_top.proofs.run.Goals as goal
 
@@ -65,7 +66,7 @@ pub returns-in-Ok-clause-complete : goal.returns-in-Ok-clause-complete
 returns-in-Ok-clause-complete g c =
     let e = c.emit.ensures in
     let d = c.in-Ok.ensures in
-    λ a n asked needs has answered calm shelf_calm out_calm report_calm. planned-complete (has_text c.in-Ok.work) (has_line c.in-Ok.work) (writes_out a)
+    λ a n asked alone needs has answered calm shelf_calm out_calm report_calm. planned-complete (has_text c.in-Ok.work) (has_line c.in-Ok.work) (writes_out a)
     (writes_report a) c.emit.result _ _ e.ends (d.writes a asked) (d.tells a asked) (λ six. (e.output six).1) (λ eight. (e.report eight).3) e.no_fault
     e.no_report out_calm report_calm
 
@@ -111,7 +112,7 @@ returns-in-Err-clause-absent g c =
     (g.I.Source.faults c.decide.new.input) (g.F.Shelf.content c.args.shelf.now) (g.F.Shelf.faults c.args.shelf.now)
     (g.F.Shelf.faults c.decide.new.shelf) in
     λ a name n asked wants needs calm shelf_calm none. stopped-absent c.accepted_has_no_refusal.ensures h c.in-Err.stop c.tell.result a name n c.in-Err.ensures.stop
-    c.tell.ensures.status (asked_of h a n asked needs (answered_on (g.I.Source.left c.args.input.now) a name wants) calm (λ w. shelf_calm)) wants none
+    c.tell.ensures.status (asked_of h a n asked (device_alone a name wants) needs (answered_on (g.I.Source.left c.args.input.now) a name wants) calm (λ w. shelf_calm)) wants none
 
 pub returns-in-Err-clause-refuses_device : goal.returns-in-Err-clause-refuses_device
 returns-in-Err-clause-refuses_device g c =
@@ -119,15 +120,15 @@ returns-in-Err-clause-refuses_device g c =
     (g.I.Source.faults c.decide.new.input) (g.F.Shelf.content c.args.shelf.now) (g.F.Shelf.faults c.args.shelf.now)
     (g.F.Shelf.faults c.decide.new.shelf) in
     λ a name device_text n r asked wants needs calm shelf_calm here refusal. stopped-refuses_device c.accepted_has_no_refusal.ensures h c.in-Err.stop c.tell.result a name
-    device_text n c.in-Err.ensures.stop c.tell.ensures.status (asked_of h a n asked needs (answered_on (g.I.Source.left c.args.input.now) a name wants) calm (λ w. shelf_calm)) wants here
+    device_text n c.in-Err.ensures.stop c.tell.ensures.status (asked_of h a n asked (device_alone a name wants) needs (answered_on (g.I.Source.left c.args.input.now) a name wants) calm (λ w. shelf_calm)) wants here
 
 pub returns-in-Err-clause-complete : goal.returns-in-Err-clause-complete
 returns-in-Err-clause-complete g c =
     let h : Handed = handed (map (λ w. w.now) c.args.words.now) (g.I.Source.left c.args.input.now) (g.I.Source.faults c.args.input.now)
     (g.I.Source.faults c.decide.new.input) (g.F.Shelf.content c.args.shelf.now) (g.F.Shelf.faults c.args.shelf.now)
     (g.F.Shelf.faults c.decide.new.shelf) in
-    λ a n asked needs has answered calm shelf_calm out_calm report_calm. stopped-complete c.accepted_has_no_refusal.ensures c.means_once.ensures h c.in-Err.stop c.tell.result a n
-    c.in-Err.ensures.stop c.tell.ensures.status (asked_of h a n asked needs answered calm shelf_calm) has
+    λ a n asked alone needs has answered calm shelf_calm out_calm report_calm. stopped-complete c.accepted_has_no_refusal.ensures c.means_once.ensures h c.in-Err.stop c.tell.result a n
+    c.in-Err.ensures.stop c.tell.ensures.status (asked_of h a n asked alone needs answered calm shelf_calm) has
 
 pub returns-in-Ok-clause-refuses_question : goal.returns-in-Ok-clause-refuses_question
 returns-in-Ok-clause-refuses_question g c =
@@ -145,3 +146,24 @@ returns-in-Err-clause-refuses_question g c =
     (g.F.Shelf.faults c.decide.new.shelf) in
     λ a text p r asked told ok is calm. stopped-refuses_question h c.in-Err.stop c.tell.result a text p r c.in-Err.ensures.stop
     c.tell.ensures.status asked told ok is calm
+
+pub returns-in-Ok-clause-verdict : goal.returns-in-Ok-clause-verdict
+returns-in-Ok-clause-verdict g c =
+    let e = c.emit.ensures in
+    let some = came c.in-Ok.work c.emit.result e.ends (λ z. let h = e.done z in (h.0, h.1, h.2)) (λ z. let h = (e.output z).0 in (h.0, h.1, h.2))
+    (λ z. let h = (e.report z).0 in (h.0, h.1, h.2)) in
+    let law : Readable = record { accepted = c.accepted_text_has_no_refusal.ensures; refused = c.text_refused_once.ensures; means = c.means_once.ensures } in
+    let traces : Traceable = record { not_both = c.traces_are_exact.ensures.not_both; one_line = c.traces_are_exact.ensures.one_line; one_proof = c.traces_are_exact.ensures.one_proof } in
+    λ a x y end asked texts told is calm out_calm. planned-verdict law traces (map (λ w. w.now) c.args.words.now) (g.F.Shelf.content c.args.shelf.now)
+    (g.I.Source.left c.args.input.now) (g.I.Source.left c.decide.new.input) c.in-Ok.work c.emit.result a x y end (has_line c.in-Ok.work) _
+    c.in-Ok.ensures.made some e.ends asked texts (c.in-Ok.ensures.tells a asked) (λ six. (e.output six).1) e.no_report told is out_calm
+
+pub returns-in-Err-clause-verdict : goal.returns-in-Err-clause-verdict
+returns-in-Err-clause-verdict g c =
+    let h : Handed = handed (map (λ w. w.now) c.args.words.now) (g.I.Source.left c.args.input.now) (g.I.Source.faults c.args.input.now)
+    (g.I.Source.faults c.decide.new.input) (g.F.Shelf.content c.args.shelf.now) (g.F.Shelf.faults c.args.shelf.now)
+    (g.F.Shelf.faults c.decide.new.shelf) in
+    let law : Readable = record { accepted = c.accepted_text_has_no_refusal.ensures; refused = c.text_refused_once.ensures; means = c.means_once.ensures } in
+    let traces : Traceable = record { not_both = c.traces_are_exact.ensures.not_both; one_line = c.traces_are_exact.ensures.one_line; one_proof = c.traces_are_exact.ensures.one_proof } in
+    λ a x y end asked texts told is calm out_calm. stopped-verdict law traces h c.in-Err.stop c.tell.result a x y end c.in-Err.ensures.stop c.tell.ensures.status
+    asked texts told is calm

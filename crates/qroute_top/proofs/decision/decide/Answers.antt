@@ -12,7 +12,7 @@ returns-in_err-device-in-Route-clause-stop g c =
     let h : Handed = handed (map (λ w. w.now) c.args.words.now) (g.I.Source.left c.args.input.now) (g.I.Source.faults c.args.input.now)
     (g.I.Source.faults c.read_source-in-Route.new.input) (g.F.Shelf.content c.args.shelf.now) (g.F.Shelf.faults c.args.shelf.now)
     (g.F.Shelf.faults c.load_device.new.shelf) in
-    let route = Reaches-read h c.in_ok-command.command c.in-Route.name c.in-Route.trivial _ _ c.in_ok-command.ensures.ok c.in-Route.is
+    let route = Reaches-read h c.in_ok-command.command c.in-Route.name c.in-Route.trivial c.in-Route.trace _ _ c.in_ok-command.ensures.ok c.in-Route.is
     c.in_ok-source-in-Route.ensures.ok in
     let it = IsCause-device h c.in-Route.name _ _ route c.in_err-device-in-Route.ensures.err
     (λ f. c.in_err-device-in-Route.ensures.calm (λ e. f (device_failed _ _ _ refl e))) in
@@ -32,7 +32,7 @@ returns-in_err-device-in-Bench-clause-stop g c =
 pub returns-in_ok-route_on-in-Route-clause-made : goal.returns-in_ok-route_on-in-Route-clause-made
 returns-in_ok-route_on-in-Route-clause-made g c =
     λ text line is. Delivers-routed (map (λ w. w.now) c.args.words.now) (g.F.Shelf.content c.args.shelf.now) c.in_ok-command.command c.in-Route.name
-    c.in-Route.trivial (g.I.Source.left c.args.input.now) (g.I.Source.left c.read_source-in-Route.new.input) c.in_ok-source-in-Route.source
+    c.in-Route.trivial c.in-Route.trace (g.I.Source.left c.args.input.now) (g.I.Source.left c.read_source-in-Route.new.input) c.in_ok-source-in-Route.source
     c.in_ok-device-in-Route.device c.in_ok-source-in-Route.source.wires text line c.in_ok-command.ensures.ok c.in-Route.is
     c.in_ok-source-in-Route.ensures.ok c.in_ok-device-in-Route.ensures.ok (c.in_ok-route_on-in-Route.ensures.made text line is)
 

@@ -14,5 +14,5 @@ returns-in-Ok-clause-output g c = λ e.
     let reads = c.deref-in-Ok.ensures.value ∙ p.reads in
     let planned = HasPlanned-written c.args.source.now c.args.target.now came.0 c.in-Ok.field-0.line.items
     (GainsPrefix (g.O.Sink.held c.args.out.now) (g.O.Sink.held c.emit_program.new.out)) (map bits_of c.deref.result.now) c.deref-in-Ok.result.now registers
-    reads p.line came.2 came.3 in
+    reads p.line came.3 came.2 came.4 in
     (planned, h.1, h.2)

@@ -1,0 +1,203 @@
+-- Claims on two texts: how `verify` ends.
+--   IsTextStop-text, IsTextStop-read   why a text isn't had as a program
+--   IsClaimStop-source, IsClaimStop-target, IsClaimStop-trace   why the claim isn't proved
+--   Readable, Traceable      laws of the reader and of traces, as they are handed in
+--   same_ending              on texts that are told `verify` ends in one way
+--   ended-claim, ended-verified   from the cause of a stop, and from what is verified, to the way in which it ends
+use Rattle.std.proofs.Common.{◌≡◌, ◌⊎◌, inl, inr, ℕ, ◌<◌, ◌≤◌, List, Option, Some, None, refl, sym, ap, ◌∙◌, arith, subst, length}
+use Rattle.outside_io.specs.Causes.{Rose}
+use Rattle.outside_io.specs.Shelf.{IsTextCause, TellsText}
+use Rattle.outside_io.specs.declared.TextFault.{TextFault}
+use Rattle.outside_io.specs.declared.TextFault.TheVariants as text_fault
+use Rattle.gate_inline.specs.Programs.{IsWritten, Program}
+use Rattle.program_reader.specs.Refusals.{IsAcceptedText, IsTextRefusal}
+use Rattle.program_reader.specs.declared.refusal.Refusal.{Refusal}
+use Rattle.program_reader.specs.declared.refusal.Refusal.TheVariants.{TooLong}
+use Rattle.route_report.specs.declared.faults.Side.{Side}
+use Rattle.route_report.specs.declared.faults.Side.TheVariants as side
+use Rattle.trace_check.specs.Proves.{Claim, Proves, StopsAt}
+use Rattle.trace_check.specs.Verdicts.{claim_of}
+use Rattle.trace_text.specs.Texts.{trace_of}
+use Rattle.qroute_top.specs.Causes.{IsClaimCause, claim_status}
+use Rattle.qroute_top.specs.Claims.{Absent, AreTold, Bad, Ending, Found, Good, IsBehind, IsCompared, IsEnding, IsJudged, IsTextRefused, IsVerified, Missing, Proved, Refused, Says, Stopped, ending_status, limit_of}
+use Rattle.qroute_top.specs.Stops.{IsClaimStop, IsTextStop, IsTraceStop, IsUnreadText, unloaded_text}
+use Rattle.qroute_top.specs.declared.stops.ClaimStop.{ClaimStop}
+use Rattle.qroute_top.specs.declared.stops.ClaimStop.TheVariants as claim
+use Rattle.qroute_top.specs.declared.stops.Stop.{Stop}
+use Rattle.qroute_top.specs.declared.stops.Stop.TheVariants as stop
+
+-- ---- a text that isn't had as a program
+pub IsTextStop-text : (s : Side) (content : Option (Option (List ℕ))) (before after : ℕ) (f : TextFault) (x : Stop)
+    → IsTextCause content (limit_of s) before after f → x ≡ unloaded_text s f → IsTextStop s content before after x
+IsTextStop-text s content before after text_fault.Failed x c is = rw is c
+IsTextStop-text s content before after text_fault.Absent x c is = rw is c
+IsTextStop-text s content before after text_fault.TooLong x (text, tells, long) is = rw is (refl, (text, tells, inl (refl, long)))
+IsTextStop-text s content before after text_fault.NoMemory x c is = rw is tt
+
+pub IsTextStop-read : (s : Side) (content : Option (Option (List ℕ))) (before after : ℕ) (text : List ℕ) (x : Stop) → TellsText content text
+    → IsUnreadText s text x → IsTextStop s content before after x
+IsTextStop-read s content before after text stop.NoMemory t u = tt
+IsTextStop-read s content before after text stop.Words t u = absurd u
+IsTextStop-read s content before after text stop.Input t u = absurd u
+IsTextStop-read s content before after text (stop.Program r) t u = absurd u
+IsTextStop-read s content before after text stop.Shelf t u = absurd u
+IsTextStop-read s content before after text stop.Absent t u = absurd u
+IsTextStop-read s content before after text (stop.Device r) t u = absurd u
+IsTextStop-read s content before after text (stop.Question r) t u = absurd u
+IsTextStop-read s content before after text (stop.Claim claim.Failed) t u = absurd u
+IsTextStop-read s content before after text (stop.Claim claim.Absent) t u = absurd u
+IsTextStop-read s content before after text (stop.Claim (claim.Refused v r)) t u = (u.0, (text, t, u.1))
+IsTextStop-read s content before after text (stop.Claim (claim.Trace line)) t u = absurd u
+
+-- ---- a claim that isn't proved
+abbrev pub Content : Type 0
+Content = List ℕ → Option (Option (List ℕ))
+
+abbrev pub Calm : Stop → ℕ → ℕ → Type 0
+Calm x before after = (x ≡ stop.Claim claim.Failed → ⊥) → after ≡ before
+
+pub IsClaimStop-source : (content : Content) (a b : List ℕ) (before after : ℕ) (x : Stop) → IsTextStop side.Source (content a) before after x
+    → Calm x before after → IsClaimStop content a b before after x
+IsClaimStop-source content a b before after stop.NoMemory t calm = tt
+IsClaimStop-source content a b before after stop.Words t calm = absurd t
+IsClaimStop-source content a b before after stop.Input t calm = absurd t
+IsClaimStop-source content a b before after (stop.Program r) t calm = absurd t
+IsClaimStop-source content a b before after stop.Shelf t calm = absurd t
+IsClaimStop-source content a b before after stop.Absent t calm = absurd t
+IsClaimStop-source content a b before after (stop.Device r) t calm = absurd t
+IsClaimStop-source content a b before after (stop.Question r) t calm = absurd t
+IsClaimStop-source content a b before after (stop.Claim claim.Failed) t calm = t
+IsClaimStop-source content a b before after (stop.Claim claim.Absent) t calm = ((Missing, t, refl), calm (λ e. cc))
+IsClaimStop-source content a b before after (stop.Claim (claim.Refused s r)) t calm = ((Bad r, t.1, ap (λ y. Refused y r) t.0), calm (λ e. cc))
+IsClaimStop-source content a b before after (stop.Claim (claim.Trace line)) t calm = absurd t
+
+pub IsClaimStop-target : (content : Content) (a b text : List ℕ) (p : Program) (before after : ℕ) (x : Stop) → Says (content a) side.Source (Good text p)
+    → IsTextStop side.Target (content b) before after x → Calm x before after → IsClaimStop content a b before after x
+IsClaimStop-target content a b text p before after stop.NoMemory told t calm = tt
+IsClaimStop-target content a b text p before after stop.Words told t calm = absurd t
+IsClaimStop-target content a b text p before after stop.Input told t calm = absurd t
+IsClaimStop-target content a b text p before after (stop.Program r) told t calm = absurd t
+IsClaimStop-target content a b text p before after stop.Shelf told t calm = absurd t
+IsClaimStop-target content a b text p before after stop.Absent told t calm = absurd t
+IsClaimStop-target content a b text p before after (stop.Device r) told t calm = absurd t
+IsClaimStop-target content a b text p before after (stop.Question r) told t calm = absurd t
+IsClaimStop-target content a b text p before after (stop.Claim claim.Failed) told t calm = t
+IsClaimStop-target content a b text p before after (stop.Claim claim.Absent) told t calm = ((Good text p, told, (Missing, t, refl)), calm (λ e. cc))
+IsClaimStop-target content a b text p before after (stop.Claim (claim.Refused s r)) told t calm =
+    ((Good text p, told, (Bad r, t.1, ap (λ y. Refused y r) t.0)), calm (λ e. cc))
+IsClaimStop-target content a b text p before after (stop.Claim (claim.Trace line)) told t calm = absurd t
+
+pub IsClaimStop-trace : (content : Content) (a b text other : List ℕ) (p q : Program) (before after : ℕ) (x : Stop) → Says (content a) side.Source (Good text p)
+    → Says (content b) side.Target (Good other q) → IsTraceStop (claim_of p q) (trace_of other) x → after ≡ before → IsClaimStop content a b before after x
+IsClaimStop-trace content a b text other p q before after stop.NoMemory told too t calm = tt
+IsClaimStop-trace content a b text other p q before after stop.Words told too t calm = absurd t
+IsClaimStop-trace content a b text other p q before after stop.Input told too t calm = absurd t
+IsClaimStop-trace content a b text other p q before after (stop.Program r) told too t calm = absurd t
+IsClaimStop-trace content a b text other p q before after stop.Shelf told too t calm = absurd t
+IsClaimStop-trace content a b text other p q before after stop.Absent told too t calm = absurd t
+IsClaimStop-trace content a b text other p q before after (stop.Device r) told too t calm = absurd t
+IsClaimStop-trace content a b text other p q before after (stop.Question r) told too t calm = absurd t
+IsClaimStop-trace content a b text other p q before after (stop.Claim claim.Failed) told too t calm = absurd t
+IsClaimStop-trace content a b text other p q before after (stop.Claim claim.Absent) told too t calm = absurd t
+IsClaimStop-trace content a b text other p q before after (stop.Claim (claim.Refused s r)) told too t calm = absurd t
+IsClaimStop-trace content a b text other p q before after (stop.Claim (claim.Trace line)) told too t calm = ((Good text p, told, (Good other q, too, t)), calm)
+
+pub ruleset texts = (IsTextStop-text, IsTextStop-read)
+
+-- ---- one ending
+pub record Readable : Type 0 where
+  pub accepted : (text : List ℕ) (p : Program) (r : Refusal) → IsAcceptedText text p → IsTextRefusal text r → ⊥
+  pub refused : (text : List ℕ) (r s : Refusal) → IsTextRefusal text r → IsTextRefusal text s → r ≡ s
+  pub means : (text : List ℕ) (p q : Program) → IsWritten text p → IsWritten text q → p ≡ q
+
+pub record Traceable : Type 0 where
+  pub not_both : (e : Claim) (trace : List ℕ) (n : ℕ) (p q : List ℕ) (j : ℕ) → StopsAt e trace n → Proves e trace p q j → ⊥
+  pub one_line : (e : Claim) (trace : List ℕ) (m n : ℕ) → StopsAt e trace m → StopsAt e trace n → m ≡ n
+  pub one_proof : (e : Claim) (trace p q r s : List ℕ) (j k : ℕ) → Proves e trace p q j → Proves e trace r s k → (p ≡ r) × ((q ≡ s) × (j ≡ k))
+
+written_of : (text : List ℕ) (p : Program) → IsAcceptedText text p → IsWritten text p
+written_of text p a = (a.tree, a.source, a.means)
+
+refused_same : Readable → (s : Side) (text : List ℕ) (r q : Refusal) → IsTextRefused s text r → IsTextRefused s text q → r ≡ q
+refused_same law s text r q (inl x) (inl y) = x.0 ∙ sym y.0
+refused_same law s text r q (inl x) (inr y) = absurd (omega (arith, x.1, y.0))
+refused_same law s text r q (inr x) (inl y) = absurd (omega (arith, x.0, y.1))
+refused_same law s text r q (inr x) (inr y) = law.refused text r q x.1 y.1
+
+refused_or_good : Readable → (s : Side) (text : List ℕ) (r : Refusal) (p : Program) → IsTextRefused s text r → length text ≤ limit_of s → IsAcceptedText text p → ⊥
+refused_or_good law s text r p (inl x) short ok = omega (arith, x.1, short)
+refused_or_good law s text r p (inr x) short ok = law.accepted text p r ok x.1
+
+same_text : (u : Option (List ℕ)) (t v : List ℕ) → u ≡ Some t → u ≡ Some v → t ≡ v
+same_text u t v e f = cc
+
+same_found : Readable → (u : Option (List ℕ)) (s : Side) (x y : Found) → Says (Some u) s x → Says (Some u) s y → x ≡ y
+same_found law u s Missing Missing a b = refl
+same_found law u s Missing (Bad r) a (t, told, is) = cc
+same_found law u s Missing (Good t p) a (told, is) = cc
+same_found law u s (Bad r) Missing (t, told, is) b = cc
+same_found law u s (Bad r) (Bad q) (t, told, is) (v, too, es) =
+    let same : t ≡ v = same_text u t v told too in
+    let here : IsTextRefused s v r = subst (λ w. IsTextRefused s w r) same is in
+    ap (λ w. Bad w) (refused_same law s v r q here es)
+same_found law u s (Bad r) (Good v p) (t, told, is) (too, short, ok) =
+    let same : t ≡ v = same_text u t v told too in
+    absurd (refused_or_good law s v r p (subst (λ w. IsTextRefused s w r) same is) short ok)
+same_found law u s (Good v p) Missing (told, is) b = cc
+same_found law u s (Good v p) (Bad r) (too, short, ok) (t, told, is) =
+    let same : t ≡ v = same_text u t v told too in
+    absurd (refused_or_good law s v r p (subst (λ w. IsTextRefused s w r) same is) short ok)
+same_found law u s (Good t p) (Good v q) (told, short, ok) (too, few, good) =
+    let same : t ≡ v = same_text u t v told too in
+    let here : IsAcceptedText v p = subst (λ w. IsAcceptedText w p) same ok in
+    let one : p ≡ q = law.means v p q (written_of v p here) (written_of v q good) in
+    ap (λ w. Good w p) same ∙ ap (λ w. Good v w) one
+
+same_judged : Traceable → (e : Claim) (trace : List ℕ) (x y : Ending) → IsJudged e trace x → IsJudged e trace y → x ≡ y
+same_judged law e trace Absent y a b = absurd a
+same_judged law e trace (Refused s r) y a b = absurd a
+same_judged law e trace (Stopped m) Absent a b = absurd b
+same_judged law e trace (Stopped m) (Refused s r) a b = absurd b
+same_judged law e trace (Stopped m) (Stopped n) a b = ap (λ w. Stopped w) (law.one_line e trace m n a b)
+same_judged law e trace (Stopped m) (Proved p q j) a b = absurd (law.not_both e trace m p q j a b)
+same_judged law e trace (Proved p q j) Absent a b = absurd b
+same_judged law e trace (Proved p q j) (Refused s r) a b = absurd b
+same_judged law e trace (Proved p q j) (Stopped n) a b = absurd (law.not_both e trace n p q j b a)
+same_judged law e trace (Proved p q j) (Proved r s k) a b =
+    let same = law.one_proof e trace p q r s j k a b in
+    ap (λ w. Proved w q j) same.0 ∙ (ap (λ w. Proved r w j) same.1 ∙ ap (λ w. Proved r s w) same.2)
+
+same_compared : Traceable → (p : Program) (f : Found) (x y : Ending) → IsCompared p f x → IsCompared p f y → x ≡ y
+same_compared law p Missing x y a b = a ∙ sym b
+same_compared law p (Bad r) x y a b = a ∙ sym b
+same_compared law p (Good text q) x y a b = same_judged law (claim_of p q) (trace_of text) x y a b
+
+told_as : Readable → (content : Option (Option (List ℕ))) (u : Option (List ℕ)) (s : Side) (x y : Found) → content ≡ Some u → Says content s x
+    → Says content s y → x ≡ y
+told_as law content u s x y told a b = same_found law u s x y (subst (λ c. Says c s x) told a) (subst (λ c. Says c s y) told b)
+
+same_behind : Readable → Traceable → (content : Content) (a b : List ℕ) (f : Found) (x y : Ending) → AreTold content a b → Says (content a) side.Source f
+    → IsBehind (content b) f x → IsBehind (content b) f y → x ≡ y
+same_behind law traces content a b Missing x y told says c d = c ∙ sym d
+same_behind law traces content a b (Bad r) x y told says c d = c ∙ sym d
+same_behind law traces content a b (Good text p) x y told says (f, found, c) (g, too, d) =
+    let other = told.second text p says in
+    let same : f ≡ g = told_as law (content b) other.0 side.Target f g other.1 found too in
+    same_compared traces p g x y (subst (λ w. IsCompared p w x) same c) d
+
+pub same_ending : Readable → Traceable → (content : Content) (a b : List ℕ) (x y : Ending) → AreTold content a b → IsEnding content a b x
+    → IsEnding content a b y → x ≡ y
+same_ending law traces content a b x y told (f, found, c) (g, too, d) =
+    let same : f ≡ g = told_as law (content a) told.first side.Source f g told.first_told found too in
+    same_behind law traces content a b g x y told too (subst (λ w. IsBehind (content b) w x) same c) d
+
+-- ---- how it ended
+pub ended-claim : (content : Content) (a b : List ℕ) (before after : ℕ) (x : ClaimStop) → IsClaimCause content a b before after x → (Rose before after → ⊥)
+    → (y : Ending) × IsEnding content a b y × (claim_status x ≡ ending_status y)
+ended-claim content a b before after claim.Failed c calm = absurd (calm c)
+ended-claim content a b before after claim.Absent c calm = (Absent, c.0, refl)
+ended-claim content a b before after (claim.Refused s r) c calm = (Refused s r, c.0, refl)
+ended-claim content a b before after (claim.Trace line) c calm = (Stopped line, c.0, refl)
+
+pub ended-verified : (content : Content) (a b text : List ℕ) (v : IsVerified content a b text) → IsEnding content a b (Proved v.first v.last v.phase)
+ended-verified content a b text v = (Good v.source_text v.source, v.source_told, (Good v.target_text v.target, v.target_told, v.proves))
