@@ -4,14 +4,16 @@
 --   of_stages, of_stages_dashes      `stages`, and `stages` with `--` behind it
 --   of_route, of_route_..            `route` with its device
 --   of_route_trivial, of_trivial_..  `route` with its device and `--trivial`
+--   of_route_trace, of_trace_..      `route` with its device and `--trace`
 --   of_bench, of_bench_..            `bench` with its start, gates and device
 --   of_amplitude, ..                 `amplitude` with its bits
+--   of_verify, ..                    `verify` with its names
 --   no_.., and other of_..           words that mean no command
 use Rattle.std.proofs.Common.{◌≡◌, ℕ, List, [], ◌∷◌, Some, None, refl, codes, true, false}
 use Rattle.std.specs.Fmt.{digits}
 use Rattle.clap.proofs.OnLiterals.{clap_on_literals}
 use Rattle.command_words.specs.Commands.{command_of}
-use Rattle.command_words.specs.declared.commands.Command.TheVariants.{Opt, Route, Check, Stages, Bench, Amplitude}
+use Rattle.command_words.specs.declared.commands.Command.TheVariants.{Opt, Route, Check, Stages, Bench, Amplitude, Verify}
 
 pub of_opt : (name : List ℕ) → command_of (name ∷ codes "opt" ∷ []) ≡ Some Opt
 unfolding clap_on_literals
@@ -125,43 +127,43 @@ pub of_opt_dashes_twice : (name : List ℕ) → command_of (name ∷ codes "opt"
 unfolding clap_on_literals
 of_opt_dashes_twice name = refl
 
-pub of_route : (name : List ℕ) → command_of (name ∷ codes "route" ∷ codes "--device" ∷ codes "d" ∷ []) ≡ Some (Route (codes "d") false)
+pub of_route : (name : List ℕ) → command_of (name ∷ codes "route" ∷ codes "--device" ∷ codes "d" ∷ []) ≡ Some (Route (codes "d") false false)
 unfolding clap_on_literals
 of_route name = refl
 
-pub of_route_equals : (name : List ℕ) → command_of (name ∷ codes "route" ∷ codes "--device=x" ∷ []) ≡ Some (Route (codes "x") false)
+pub of_route_equals : (name : List ℕ) → command_of (name ∷ codes "route" ∷ codes "--device=x" ∷ []) ≡ Some (Route (codes "x") false false)
 unfolding clap_on_literals
 of_route_equals name = refl
 
-pub of_route_dash : (name : List ℕ) → command_of (name ∷ codes "route" ∷ codes "--device" ∷ codes "-" ∷ []) ≡ Some (Route (codes "-") false)
+pub of_route_dash : (name : List ℕ) → command_of (name ∷ codes "route" ∷ codes "--device" ∷ codes "-" ∷ []) ≡ Some (Route (codes "-") false false)
 unfolding clap_on_literals
 of_route_dash name = refl
 
-pub of_route_equals_dashed : (name : List ℕ) → command_of (name ∷ codes "route" ∷ codes "--device=-x" ∷ []) ≡ Some (Route (codes "-x") false)
+pub of_route_equals_dashed : (name : List ℕ) → command_of (name ∷ codes "route" ∷ codes "--device=-x" ∷ []) ≡ Some (Route (codes "-x") false false)
 unfolding clap_on_literals
 of_route_equals_dashed name = refl
 
-pub of_route_equals_empty : (name : List ℕ) → command_of (name ∷ codes "route" ∷ codes "--device=" ∷ []) ≡ Some (Route [] false)
+pub of_route_equals_empty : (name : List ℕ) → command_of (name ∷ codes "route" ∷ codes "--device=" ∷ []) ≡ Some (Route [] false false)
 unfolding clap_on_literals
 of_route_equals_empty name = refl
 
-pub of_route_empty : (name : List ℕ) → command_of (name ∷ codes "route" ∷ codes "--device" ∷ [] ∷ []) ≡ Some (Route [] false)
+pub of_route_empty : (name : List ℕ) → command_of (name ∷ codes "route" ∷ codes "--device" ∷ [] ∷ []) ≡ Some (Route [] false false)
 unfolding clap_on_literals
 of_route_empty name = refl
 
-pub of_route_opt : (name : List ℕ) → command_of (name ∷ codes "route" ∷ codes "--device" ∷ codes "opt" ∷ []) ≡ Some (Route (codes "opt") false)
+pub of_route_opt : (name : List ℕ) → command_of (name ∷ codes "route" ∷ codes "--device" ∷ codes "opt" ∷ []) ≡ Some (Route (codes "opt") false false)
 unfolding clap_on_literals
 of_route_opt name = refl
 
-pub of_route_dashes : (name : List ℕ) → command_of (name ∷ codes "route" ∷ codes "--device" ∷ codes "d" ∷ codes "--" ∷ []) ≡ Some (Route (codes "d") false)
+pub of_route_dashes : (name : List ℕ) → command_of (name ∷ codes "route" ∷ codes "--device" ∷ codes "d" ∷ codes "--" ∷ []) ≡ Some (Route (codes "d") false false)
 unfolding clap_on_literals
 of_route_dashes name = refl
 
-pub of_route_trivial : (name : List ℕ) → command_of (name ∷ codes "route" ∷ codes "--device" ∷ codes "d" ∷ codes "--trivial" ∷ []) ≡ Some (Route (codes "d") true)
+pub of_route_trivial : (name : List ℕ) → command_of (name ∷ codes "route" ∷ codes "--device" ∷ codes "d" ∷ codes "--trivial" ∷ []) ≡ Some (Route (codes "d") true false)
 unfolding clap_on_literals
 of_route_trivial name = refl
 
-pub of_trivial_route : (name : List ℕ) → command_of (name ∷ codes "route" ∷ codes "--trivial" ∷ codes "--device" ∷ codes "d" ∷ []) ≡ Some (Route (codes "d") true)
+pub of_trivial_route : (name : List ℕ) → command_of (name ∷ codes "route" ∷ codes "--trivial" ∷ codes "--device" ∷ codes "d" ∷ []) ≡ Some (Route (codes "d") true false)
 unfolding clap_on_literals
 of_trivial_route name = refl
 
@@ -352,3 +354,111 @@ no_second_from name = refl
 pub no_device_of_amplitude : (name : List ℕ) → command_of (name ∷ codes "amplitude" ∷ codes "--from" ∷ codes "0" ∷ codes "--to" ∷ codes "0" ∷ codes "--device" ∷ codes "d" ∷ []) ≡ None
 unfolding clap_on_literals
 no_device_of_amplitude name = refl
+
+pub of_route_trace : (name : List ℕ) → command_of (name ∷ codes "route" ∷ codes "--device" ∷ codes "d" ∷ codes "--trace" ∷ []) ≡ Some (Route (codes "d") false true)
+unfolding clap_on_literals
+of_route_trace name = refl
+
+pub of_trace_route : (name : List ℕ) → command_of (name ∷ codes "route" ∷ codes "--trace" ∷ codes "--device" ∷ codes "d" ∷ []) ≡ Some (Route (codes "d") false true)
+unfolding clap_on_literals
+of_trace_route name = refl
+
+pub of_trace_trivial : (name : List ℕ) → command_of (name ∷ codes "route" ∷ codes "--device" ∷ codes "d" ∷ codes "--trace" ∷ codes "--trivial" ∷ []) ≡ Some (Route (codes "d") true true)
+unfolding clap_on_literals
+of_trace_trivial name = refl
+
+pub of_trivial_trace : (name : List ℕ) → command_of (name ∷ codes "route" ∷ codes "--device" ∷ codes "d" ∷ codes "--trivial" ∷ codes "--trace" ∷ []) ≡ Some (Route (codes "d") true true)
+unfolding clap_on_literals
+of_trivial_trace name = refl
+
+pub no_device_but_trace : (name : List ℕ) → command_of (name ∷ codes "route" ∷ codes "--trace" ∷ []) ≡ None
+unfolding clap_on_literals
+no_device_but_trace name = refl
+
+pub no_second_trace : (name : List ℕ) → command_of (name ∷ codes "route" ∷ codes "--device" ∷ codes "d" ∷ codes "--trace" ∷ codes "--trace" ∷ []) ≡ None
+unfolding clap_on_literals
+no_second_trace name = refl
+
+pub no_value_of_trace : (name : List ℕ) → command_of (name ∷ codes "route" ∷ codes "--device" ∷ codes "d" ∷ codes "--trace=1" ∷ []) ≡ None
+unfolding clap_on_literals
+no_value_of_trace name = refl
+
+pub no_abbreviated_trace : (name : List ℕ) → command_of (name ∷ codes "route" ∷ codes "--device" ∷ codes "d" ∷ codes "--tra" ∷ []) ≡ None
+unfolding clap_on_literals
+no_abbreviated_trace name = refl
+
+pub no_trace_of_check : (name : List ℕ) → command_of (name ∷ codes "check" ∷ codes "--trace" ∷ []) ≡ None
+unfolding clap_on_literals
+no_trace_of_check name = refl
+
+pub no_trace_of_opt : (name : List ℕ) → command_of (name ∷ codes "opt" ∷ codes "--trace" ∷ []) ≡ None
+unfolding clap_on_literals
+no_trace_of_opt name = refl
+
+pub of_verify : (name : List ℕ) → command_of (name ∷ codes "verify" ∷ codes "--source" ∷ codes "a" ∷ codes "--target" ∷ codes "b" ∷ []) ≡ Some (Verify (codes "a") (codes "b"))
+unfolding clap_on_literals
+of_verify name = refl
+
+pub of_verify_target_first : (name : List ℕ) → command_of (name ∷ codes "verify" ∷ codes "--target" ∷ codes "b" ∷ codes "--source" ∷ codes "a" ∷ []) ≡ Some (Verify (codes "a") (codes "b"))
+unfolding clap_on_literals
+of_verify_target_first name = refl
+
+pub of_verify_equals : (name : List ℕ) → command_of (name ∷ codes "verify" ∷ codes "--source=a" ∷ codes "--target=b" ∷ []) ≡ Some (Verify (codes "a") (codes "b"))
+unfolding clap_on_literals
+of_verify_equals name = refl
+
+pub of_verify_dashes : (name : List ℕ) → command_of (name ∷ codes "verify" ∷ codes "--source" ∷ codes "a" ∷ codes "--target" ∷ codes "b" ∷ codes "--" ∷ []) ≡ Some (Verify (codes "a") (codes "b"))
+unfolding clap_on_literals
+of_verify_dashes name = refl
+
+pub of_verify_dash : (name : List ℕ) → command_of (name ∷ codes "verify" ∷ codes "--source" ∷ codes "-" ∷ codes "--target=-x" ∷ []) ≡ Some (Verify (codes "-") (codes "-x"))
+unfolding clap_on_literals
+of_verify_dash name = refl
+
+pub of_verify_empty : (name : List ℕ) → command_of (name ∷ codes "verify" ∷ codes "--source=" ∷ codes "--target" ∷ [] ∷ []) ≡ Some (Verify [] [])
+unfolding clap_on_literals
+of_verify_empty name = refl
+
+pub of_verify_one_text : (name : List ℕ) → command_of (name ∷ codes "verify" ∷ codes "--source" ∷ codes "a" ∷ codes "--target" ∷ codes "a" ∷ []) ≡ Some (Verify (codes "a") (codes "a"))
+unfolding clap_on_literals
+of_verify_one_text name = refl
+
+pub no_texts : (name : List ℕ) → command_of (name ∷ codes "verify" ∷ []) ≡ None
+unfolding clap_on_literals
+no_texts name = refl
+
+pub verify_without_target : (name : List ℕ) → command_of (name ∷ codes "verify" ∷ codes "--source" ∷ codes "a" ∷ []) ≡ None
+unfolding clap_on_literals
+verify_without_target name = refl
+
+pub verify_without_source : (name : List ℕ) → command_of (name ∷ codes "verify" ∷ codes "--target" ∷ codes "b" ∷ []) ≡ None
+unfolding clap_on_literals
+verify_without_source name = refl
+
+pub no_second_source : (name : List ℕ) → command_of (name ∷ codes "verify" ∷ codes "--source" ∷ codes "a" ∷ codes "--target" ∷ codes "b" ∷ codes "--source" ∷ codes "a" ∷ []) ≡ None
+unfolding clap_on_literals
+no_second_source name = refl
+
+pub no_second_target : (name : List ℕ) → command_of (name ∷ codes "verify" ∷ codes "--source" ∷ codes "a" ∷ codes "--target" ∷ codes "b" ∷ codes "--target" ∷ codes "b" ∷ []) ≡ None
+unfolding clap_on_literals
+no_second_target name = refl
+
+pub no_word_behind_verify : (name : List ℕ) → command_of (name ∷ codes "verify" ∷ codes "--source" ∷ codes "a" ∷ codes "--target" ∷ codes "b" ∷ codes "x" ∷ []) ≡ None
+unfolding clap_on_literals
+no_word_behind_verify name = refl
+
+pub no_single_dash_of_source : (name : List ℕ) → command_of (name ∷ codes "verify" ∷ codes "-source" ∷ codes "a" ∷ codes "--target" ∷ codes "b" ∷ []) ≡ None
+unfolding clap_on_literals
+no_single_dash_of_source name = refl
+
+pub no_dashed_target : (name : List ℕ) → command_of (name ∷ codes "verify" ∷ codes "--source" ∷ codes "a" ∷ codes "--target" ∷ codes "-x" ∷ []) ≡ None
+unfolding clap_on_literals
+no_dashed_target name = refl
+
+pub no_trace_of_verify : (name : List ℕ) → command_of (name ∷ codes "verify" ∷ codes "--source" ∷ codes "a" ∷ codes "--target" ∷ codes "b" ∷ codes "--trace" ∷ []) ≡ None
+unfolding clap_on_literals
+no_trace_of_verify name = refl
+
+pub no_device_of_verify : (name : List ℕ) → command_of (name ∷ codes "verify" ∷ codes "--source" ∷ codes "a" ∷ codes "--target" ∷ codes "b" ∷ codes "--device" ∷ codes "d" ∷ []) ≡ None
+unfolding clap_on_literals
+no_device_of_verify name = refl

@@ -2,17 +2,22 @@
 --   root_command        the program: its name, no help, and a subcommand that has to be there
 --   opt_command         the subcommand `opt`, which takes no argument
 --   needed_option id    `--ID VALUE`, which has to be there, once
---   trivial_flag        `--trivial`, at most once
+--   flag id             `--ID`, at most once
 --   check_command       the subcommand `check`, which takes none either
 --   stages_command      the subcommand `stages`, which takes none
---   route_command       the subcommand `route`, which takes `--device` and `--trivial`
+--   route_command       the subcommand `route`, which takes `--device`, `--trivial` and `--trace`
 --   bench_command       the subcommand `bench`, which takes `--start`, `--gates` and `--device`
 --   amplitude_command   the subcommand `amplitude`, which takes `--from` and `--to`
+--   verify_command      the subcommand `verify`, which takes `--source` and `--target`
 --   plain_commands      the program with the subcommands that take no argument
 --   device_commands     .. and with those that take a device
+--   entry_commands      .. and with `amplitude`
 --   qroute_command      the program with all of its subcommands
 --   device_of rows      the name behind `--device` in what was matched, none where there is none
+--   is_given id rows    whether the flag `--ID` was matched
 --   is_trivial rows     whether `--trivial` was matched
+--   is_traced rows      whether `--trace` was matched
+--   route_of rows       what `route` asks for, with what was matched
 --   number_of a b text  the number from a to b whose decimal digits the text is, none where there is none
 --   start_of rows       the number behind `--start`, 0 to 4294967295
 --   gates_of rows       the number behind `--gates`, 1 to 20000
@@ -21,6 +26,8 @@
 --   bits_of text        the bits whose digits the text is, none where there is another character
 --   from_of, to_of      the bits behind `--from` and `--to`
 --   amplitude_of rows   what `amplitude` asks for, with what was matched
+--   source_of, target_of the names behind `--source` and `--target`
+--   verify_of rows      what `verify` asks for, with what was matched
 --   meaning name rows   what the subcommand of this name asks for, with what it matched
 --   command_of words    the command that the words mean, the program's name first; none where they mean none
 --   HasFewGates c       `bench` has 1 to 20000 gates
@@ -33,7 +40,7 @@ use Rattle.clap.specs.Simple.{on_top}
 use Rattle.clap.specs.Words.{App, Row, Rule, Text, fault_of, first_of, new_app, new_rule, subcommand_of, with_rule, with_subcommand}
 use Rattle.clap.specs.declared.builder.action.ArgAction.TheVariants.{Set, SetTrue}
 use Rattle.command_words.specs.declared.commands.Command.{Command}
-use Rattle.command_words.specs.declared.commands.Command.TheVariants.{Opt, Route, Check, Stages, Bench, Amplitude}
+use Rattle.command_words.specs.declared.commands.Command.TheVariants.{Opt, Route, Check, Stages, Bench, Amplitude, Verify}
 
 abbrev pub root_command : App
 root_command = on_top (λ s. record s {
@@ -58,14 +65,15 @@ needed_option id = record (new_rule id) {
   required = true;
 }
 
-abbrev pub trivial_flag : Rule
-trivial_flag = record (new_rule (codes "trivial")) {
-  long = Some (codes "trivial");
+abbrev pub flag : Text → Rule
+flag id = record (new_rule id) {
+  long = Some id;
   action = Some SetTrue;
 }
 
 abbrev pub route_command : App
-route_command = with_rule (with_rule (new_app (codes "route")) (needed_option (codes "device"))) trivial_flag
+route_command = with_rule (with_rule (with_rule (new_app (codes "route")) (needed_option (codes "device"))) (flag (codes "trivial")))
+    (flag (codes "trace"))
 
 abbrev pub bench_command : App
 bench_command = with_rule (with_rule (with_rule (new_app (codes "bench")) (needed_option (codes "start"))) (needed_option (codes "gates")))
@@ -74,21 +82,36 @@ bench_command = with_rule (with_rule (with_rule (new_app (codes "bench")) (neede
 abbrev pub amplitude_command : App
 amplitude_command = with_rule (with_rule (new_app (codes "amplitude")) (needed_option (codes "from"))) (needed_option (codes "to"))
 
+abbrev pub verify_command : App
+verify_command = with_rule (with_rule (new_app (codes "verify")) (needed_option (codes "source"))) (needed_option (codes "target"))
+
 abbrev pub plain_commands : App
 plain_commands = with_subcommand (with_subcommand (with_subcommand root_command opt_command.top) check_command.top) stages_command.top
 
 abbrev pub device_commands : App
 device_commands = with_subcommand (with_subcommand plain_commands route_command.top) bench_command.top
 
+abbrev pub entry_commands : App
+entry_commands = with_subcommand device_commands amplitude_command.top
+
 abbrev pub qroute_command : App
-qroute_command = with_subcommand device_commands amplitude_command.top
+qroute_command = with_subcommand entry_commands verify_command.top
 
 abbrev pub device_of : List Row → Option Text
 device_of rows = first_of (codes "device") rows
 
 -- a flag that was given matches the value `true`
+abbrev pub is_given : Text → List Row → Bool
+is_given id rows = option_map_or (λ t. bytes_eq t (codes "true")) (first_of id rows) false
+
 abbrev pub is_trivial : List Row → Bool
-is_trivial rows = option_map_or (λ t. bytes_eq t (codes "true")) (first_of (codes "trivial") rows) false
+is_trivial rows = is_given (codes "trivial") rows
+
+abbrev pub is_traced : List Row → Bool
+is_traced rows = is_given (codes "trace") rows
+
+abbrev pub route_of : List Row → Option Command
+route_of rows = option_map (λ device. Route device (is_trivial rows) (is_traced rows)) (device_of rows)
 
 -- only the value of the digits can be this number, and its decimal digits have to be the text
 abbrev pub number_of : ℕ → ℕ → Text → Option ℕ
@@ -121,13 +144,23 @@ to_of rows = option_and_then bits_of (first_of (codes "to") rows)
 abbrev pub amplitude_of : List Row → Option Command
 amplitude_of rows = option_and_then (λ from. option_map (λ to. Amplitude from to) (to_of rows)) (from_of rows)
 
+abbrev pub source_of : List Row → Option Text
+source_of rows = first_of (codes "source") rows
+
+abbrev pub target_of : List Row → Option Text
+target_of rows = first_of (codes "target") rows
+
+abbrev pub verify_of : List Row → Option Command
+verify_of rows = option_and_then (λ source. option_map (λ target. Verify source target) (target_of rows)) (source_of rows)
+
 abbrev pub meaning : Text → List Row → Option Command
 meaning name rows = if bytes_eq name (codes "opt") then Some Opt
     else (if bytes_eq name (codes "check") then Some Check
     else (if bytes_eq name (codes "stages") then Some Stages
     else (if bytes_eq name (codes "bench") then bench_of rows
     else (if bytes_eq name (codes "amplitude") then amplitude_of rows
-    else option_map (λ device. Route device (is_trivial rows)) (device_of rows)))))
+    else (if bytes_eq name (codes "verify") then verify_of rows
+    else route_of rows)))))
 
 -- none where `clap` finds a fault, and else what the subcommand asks for
 abbrev pub command_of : List Text → Option Command
@@ -136,8 +169,9 @@ command_of words = if length (fault_of qroute_command words) == 0
 
 abbrev pub HasFewGates : Command → Type 0
 HasFewGates Opt = Unit {0}
-HasFewGates (Route device trivial) = Unit {0}
+HasFewGates (Route device trivial trace) = Unit {0}
 HasFewGates Check = Unit {0}
 HasFewGates Stages = Unit {0}
 HasFewGates (Amplitude from to) = Unit {0}
+HasFewGates (Verify source target) = Unit {0}
 HasFewGates (Bench start gates device) = (1 ≤ gates) × (gates ≤ 20000)

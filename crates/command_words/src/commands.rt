@@ -16,6 +16,8 @@ pub enum Command {
         device: Name,
         /// Whether the wires begin on the qubits of their own numbers.
         trivial: bool,
+        /// Whether a trace is written in place of the program.
+        trace: bool,
     },
     /// Reads a program and reports on it.
     Check,
@@ -36,6 +38,13 @@ pub enum Command {
         from: BitList,
         /// The bits that go out.
         to: BitList,
+    },
+    /// Reads a trace, and the two programs that it is of, and tells what it proves of them.
+    Verify {
+        /// The name of the text of the program that the trace begins with.
+        source: Name,
+        /// The name of the text of the program that it ends with.
+        target: Name,
     },
 }
 

@@ -9,7 +9,7 @@ ghost use Rattle.std.specs.Prelude.{◌≡◌, ◌==◌, IfOk, IsErrOf, Some, No
 ghost use Rattle.std.specs.List.{list_all};
 ghost use Rattle.clap.specs.Words.{app_of, first_of, found_of, kind_of, rows_of, rule_of};
 ghost use Rattle.clap.specs.declared.builder.Command.TheViews.{out-Command as fields_of};
-ghost use Rattle.command_words.specs.Commands.{HasFewGates, amplitude_command, amplitude_of, bench_command, bench_of, bits_of, check_command, command_of, device_commands, is_bit, meaning, needed_option, number_of, opt_command, plain_commands, qroute_command, root_command, route_command, stages_command, trivial_flag};
+ghost use Rattle.command_words.specs.Commands.{HasFewGates, amplitude_command, amplitude_of, bench_command, bench_of, bits_of, check_command, command_of, device_commands, entry_commands, flag, is_bit, is_given, meaning, needed_option, number_of, opt_command, plain_commands, qroute_command, root_command, route_command, route_of, stages_command, verify_command, verify_of};
 
 use crate::bits::BitList;
 use crate::commands::{self, WordsFault};
@@ -63,24 +63,23 @@ fn needed_option<'a>(alloc: Global, id: &'a str) -> Arg<'a>
         .required(true)
 }
 
-/// `--trivial`, at most once.
-fn trivial_flag<'a>(alloc: Global) -> Arg<'a>
-    ensures rule { rule_of result ≡ trivial_flag }
+/// `--ID`, at most once.
+fn flag<'a>(alloc: Global, id: &'a str) -> Arg<'a>
+    ensures rule { rule_of result ≡ flag id.now }
     ensures local { result.global ≡ false }
 {
-    Arg::new(alloc, "trivial")
-        .long("trivial")
-        .action(ArgAction::SetTrue)
+    Arg::new(alloc, id).long(id).action(ArgAction::SetTrue)
 }
 
-/// `route`, which takes a device and a flag.
+/// `route`, which takes a device and two flags.
 fn route_command<'a>(alloc: Global) -> Result<Command<'a>, AllocError>
     ensures command { IfOk result (λ c. app_of c ≡ route_command) }
     ensures local { IfOk result (λ c. (fields_of c).has_globals ≡ false) }
 {
     Command::new(alloc, "route")
         .arg(needed_option(alloc, "device"))?
-        .arg(trivial_flag(alloc))
+        .arg(flag(alloc, "trivial"))?
+        .arg(flag(alloc, "trace"))
 }
 
 /// `bench`, which takes two numbers and a device.
@@ -104,6 +103,16 @@ fn amplitude_command<'a>(alloc: Global) -> Result<Command<'a>, AllocError>
         .arg(needed_option(alloc, "to"))
 }
 
+/// `verify`, which takes the names of two texts.
+fn verify_command<'a>(alloc: Global) -> Result<Command<'a>, AllocError>
+    ensures command { IfOk result (λ c. app_of c ≡ verify_command) }
+    ensures local { IfOk result (λ c. (fields_of c).has_globals ≡ false) }
+{
+    Command::new(alloc, "verify")
+        .arg(needed_option(alloc, "source"))?
+        .arg(needed_option(alloc, "target"))
+}
+
 /// The program with the subcommands that take no argument.
 fn plain_commands<'a>(alloc: Global) -> Result<Command<'a>, AllocError>
     ensures { IfOk result (λ c. app_of c ≡ plain_commands) }
@@ -123,11 +132,58 @@ fn device_commands<'a>(alloc: Global) -> Result<Command<'a>, AllocError>
         .subcommand(bench_command(alloc)?)
 }
 
+/// The program with the subcommand that asks for an entry, too.
+fn entry_commands<'a>(alloc: Global) -> Result<Command<'a>, AllocError>
+    ensures { IfOk result (λ c. app_of c ≡ entry_commands) }
+{
+    device_commands(alloc)?.subcommand(amplitude_command(alloc)?)
+}
+
 /// The program with all of its subcommands.
 fn qroute_command<'a>(alloc: Global) -> Result<Command<'a>, AllocError>
     ensures { IfOk result (λ c. app_of c ≡ qroute_command) }
 {
-    device_commands(alloc)?.subcommand(amplitude_command(alloc)?)
+    entry_commands(alloc)?.subcommand(verify_command(alloc)?)
+}
+
+/// The name behind an option.
+fn name_behind(
+    alloc: Global,
+    matches: &ArgMatches<'_>,
+    id: &str,
+) -> Result<Option<Name>, AllocError>
+    ensures { IfOk result (λ o. o ≡ first_of id.now (rows_of (found_of matches.now))) }
+{
+    match matches.get_str(id) {
+        None => Ok(None),
+        Some(text) => Ok(Some(Name::new(alloc, text)?)),
+    }
+}
+
+/// Whether a flag was given.
+fn is_given(matches: &ArgMatches<'_>, id: &str) -> bool
+    ensures { result ≡ is_given id.now (rows_of (found_of matches.now)) }
+{
+    match matches.get_str(id) {
+        Some(text) => text == "true",
+        None => false,
+    }
+}
+
+/// What `route` with its matches asks for.
+fn route_of(alloc: Global, matches: &ArgMatches<'_>) -> Result<commands::Command, WordsFault>
+    ensures ok { IfOk result (λ c. route_of (rows_of (found_of matches.now)) ≡ Some c) }
+    ensures bad { IsErrOf result WordsFault.BadWords → route_of (rows_of (found_of matches.now)) ≡ None }
+    ensures few { IfOk result HasFewGates }
+{
+    let Some(device) = name_behind(alloc, matches, "device")? else {
+        return Err(WordsFault::BadWords);
+    };
+    Ok(commands::Command::Route {
+        device,
+        trivial: is_given(matches, "trivial"),
+        trace: is_given(matches, "trace"),
+    })
 }
 
 /// The number from `least` to `most` whose decimal digits the text is.
@@ -168,13 +224,13 @@ fn bench_of(alloc: Global, matches: &ArgMatches<'_>) -> Result<commands::Command
     let Some(gates) = number_behind(matches, "gates", 1, 20_000) else {
         return Err(WordsFault::BadWords);
     };
-    let Some(name) = matches.get_str("device") else {
+    let Some(name) = name_behind(alloc, matches, "device")? else {
         return Err(WordsFault::BadWords);
     };
     Ok(commands::Command::Bench {
         start,
         gates,
-        device: Name::new(alloc, name)?,
+        device: name,
     })
 }
 
@@ -236,6 +292,21 @@ fn amplitude_of(alloc: Global, matches: &ArgMatches<'_>) -> Result<commands::Com
     Ok(commands::Command::Amplitude { from, to })
 }
 
+/// What `verify` with its matches asks for.
+fn verify_of(alloc: Global, matches: &ArgMatches<'_>) -> Result<commands::Command, WordsFault>
+    ensures ok { IfOk result (λ c. verify_of (rows_of (found_of matches.now)) ≡ Some c) }
+    ensures bad { IsErrOf result WordsFault.BadWords → verify_of (rows_of (found_of matches.now)) ≡ None }
+    ensures few { IfOk result HasFewGates }
+{
+    let Some(source) = name_behind(alloc, matches, "source")? else {
+        return Err(WordsFault::BadWords);
+    };
+    let Some(target) = name_behind(alloc, matches, "target")? else {
+        return Err(WordsFault::BadWords);
+    };
+    Ok(commands::Command::Verify { source, target })
+}
+
 /// What a subcommand with its matches asks for.
 fn meaning_of(
     alloc: Global,
@@ -261,17 +332,10 @@ fn meaning_of(
     if name == "amplitude" {
         return amplitude_of(alloc, matches);
     }
-    let Some(device) = matches.get_str("device") else {
-        return Err(WordsFault::BadWords);
-    };
-    let trivial = match matches.get_str("trivial") {
-        Some(text) => text == "true",
-        None => false,
-    };
-    Ok(commands::Command::Route {
-        device: Name::new(alloc, device)?,
-        trivial,
-    })
+    if name == "verify" {
+        return verify_of(alloc, matches);
+    }
+    route_of(alloc, matches)
 }
 
 /// What an error of `clap` is here: want of memory, or words that it doesn't take.

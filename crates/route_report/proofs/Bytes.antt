@@ -6,7 +6,8 @@
 --   report_line-pieces    it is these
 --   compact_text-name_of  a refusal's name stands as it is: none has a character that JSON escapes
 --   outside_pieces        the pieces of the line of a fault that is no refusal: its name, its status
---   refusal_pieces        those of the line of a refusal with this text of its name
+--   refusal_pieces        those of the line of a refusal with this text of its name, what it keeps before its status, and behind it
+--   text_pieces           those that tell which text it is
 --   fault_pieces          the pieces of the line of each fault
 --   fault_line-pieces     it is these
 use Rattle.std.proofs.Common.{◌≡◌, ℕ, List, [], ◌∷◌, ◌++◌, ◌==◌, ap, append_assoc, codes, cond, map, refl}
@@ -20,6 +21,8 @@ use Rattle.serde_json.specs.View.{items_of}
 use Rattle.serde_json.specs.Written.{compact_text, items_text}
 use Rattle.route_report.specs.declared.faults.Fault.{Fault}
 use Rattle.route_report.specs.declared.faults.Fault.TheVariants as fault
+use Rattle.route_report.specs.declared.faults.Side.{Side}
+use Rattle.route_report.specs.declared.faults.Side.TheVariants.{Source, Target}
 use Rattle.route_report.specs.declared.lines.Report.{Report}
 use Rattle.route_report.specs.Compact.{whole}
 use Rattle.route_report.specs.Faults.{fault_line}
@@ -100,10 +103,14 @@ outside_pieces name status =
     codes "{\"fault\":" ∷ in_quotes name ∷ codes ",\"status\":" ∷ decimal status ∷ codes "}" ∷ []
 
 -- what a refusal keeps stands between its name and its status
-abbrev pub refusal_pieces : ℕ → List ℕ → List (List ℕ) → List (List ℕ)
-refusal_pieces code name kept =
+abbrev pub refusal_pieces : ℕ → List ℕ → List (List ℕ) → List (List ℕ) → List (List ℕ)
+refusal_pieces code name kept behind =
     codes "{\"code\":" ∷ decimal code ∷ codes ",\"fault\":" ∷ name
-    ∷ (kept ++ codes ",\"status\":" ∷ decimal (stops_with code) ∷ codes "}" ∷ [])
+    ∷ (kept ++ codes ",\"status\":" ∷ decimal (stops_with code) ∷ (behind ++ codes "}" ∷ []))
+
+abbrev pub text_pieces : Side → List (List ℕ)
+text_pieces Source = codes ",\"text\":\"source\"" ∷ []
+text_pieces Target = codes ",\"text\":\"target\"" ∷ []
 
 abbrev pub fault_pieces : Fault → List (List ℕ)
 fault_pieces fault.Words = outside_pieces (codes "Words") 2
@@ -111,11 +118,11 @@ fault_pieces fault.Input = outside_pieces (codes "Input") 5
 fault_pieces fault.Output = outside_pieces (codes "Output") 6
 fault_pieces fault.Shelf = outside_pieces (codes "Shelf") 9
 fault_pieces fault.Absent = outside_pieces (codes "Absent") 9
-fault_pieces (fault.Plain code) = refusal_pieces code (in_quotes (name_of code)) []
+fault_pieces (fault.Plain code) = refusal_pieces code (in_quotes (name_of code)) [] []
 fault_pieces (fault.Place code place) =
-    refusal_pieces code (in_quotes (name_of code)) (codes ",\"place\":" ∷ decimal place ∷ [])
+    refusal_pieces code (in_quotes (name_of code)) (codes ",\"place\":" ∷ decimal place ∷ []) []
 fault_pieces (fault.Statement code statement) =
-    refusal_pieces code (in_quotes (name_of code)) (codes ",\"statement\":" ∷ decimal statement ∷ [])
+    refusal_pieces code (in_quotes (name_of code)) (codes ",\"statement\":" ∷ decimal statement ∷ []) []
 fault_pieces (fault.SelfEdge qubit) =
     codes "{\"code\":53,\"fault\":\"SelfEdge\",\"qubit\":" ∷ decimal qubit
     ∷ codes ",\"status\":4}" ∷ []
@@ -138,12 +145,19 @@ fault_pieces (fault.ManyBranches branches) =
 fault_pieces (fault.BitsLength qubits) =
     codes "{\"code\":72,\"fault\":\"BitsLength\",\"qubits\":" ∷ decimal qubits
     ∷ codes ",\"status\":3}" ∷ []
+fault_pieces (fault.TextPlain code side) = refusal_pieces code (in_quotes (name_of code)) [] (text_pieces side)
+fault_pieces (fault.TextPlace code place side) =
+    refusal_pieces code (in_quotes (name_of code)) (codes ",\"place\":" ∷ decimal place ∷ []) (text_pieces side)
+fault_pieces (fault.TextStatement code statement side) =
+    refusal_pieces code (in_quotes (name_of code)) (codes ",\"statement\":" ∷ decimal statement ∷ []) (text_pieces side)
+fault_pieces (fault.Trace at_line) =
+    codes "{\"fault\":\"Trace\",\"line\":" ∷ decimal at_line ∷ codes ",\"status\":1}" ∷ []
 
-refusal-alike : (code : ℕ) (kept : List (List ℕ)) →
-    concat (refusal_pieces code (compact_text (string (name_of code))) kept) ++ 10 ∷ []
-    ≡ concat (refusal_pieces code (in_quotes (name_of code)) kept) ++ 10 ∷ []
-refusal-alike code kept =
-    ap (λ name. concat (refusal_pieces code name kept) ++ 10 ∷ []) (compact_text-name_of code)
+refusal-alike : (code : ℕ) (kept behind : List (List ℕ)) →
+    concat (refusal_pieces code (compact_text (string (name_of code))) kept behind) ++ 10 ∷ []
+    ≡ concat (refusal_pieces code (in_quotes (name_of code)) kept behind) ++ 10 ∷ []
+refusal-alike code kept behind =
+    ap (λ name. concat (refusal_pieces code name kept behind) ++ 10 ∷ []) (compact_text-name_of code)
 
 pub fault_line-pieces : (f : Fault) → fault_line f ≡ concat (fault_pieces f) ++ 10 ∷ []
 unfolding serde_json_on_literals digits
@@ -152,11 +166,11 @@ fault_line-pieces fault.Input = refl
 fault_line-pieces fault.Output = refl
 fault_line-pieces fault.Shelf = refl
 fault_line-pieces fault.Absent = refl
-fault_line-pieces (fault.Plain code) = refusal-alike code []
+fault_line-pieces (fault.Plain code) = refusal-alike code [] []
 fault_line-pieces (fault.Place code place) =
-    refusal-alike code (codes ",\"place\":" ∷ decimal place ∷ [])
+    refusal-alike code (codes ",\"place\":" ∷ decimal place ∷ []) []
 fault_line-pieces (fault.Statement code statement) =
-    refusal-alike code (codes ",\"statement\":" ∷ decimal statement ∷ [])
+    refusal-alike code (codes ",\"statement\":" ∷ decimal statement ∷ []) []
 fault_line-pieces (fault.SelfEdge qubit) = refl
 fault_line-pieces (fault.NotConnected from to) = refl
 fault_line-pieces (fault.TooFewQubits device qubits) = refl
@@ -164,3 +178,14 @@ fault_line-pieces (fault.EdgeCost from to) = refl
 fault_line-pieces (fault.WideProgram qubits) = refl
 fault_line-pieces (fault.ManyBranches branches) = refl
 fault_line-pieces (fault.BitsLength qubits) = refl
+fault_line-pieces (fault.TextPlain code Source) = refusal-alike code [] (text_pieces Source)
+fault_line-pieces (fault.TextPlain code Target) = refusal-alike code [] (text_pieces Target)
+fault_line-pieces (fault.TextPlace code place Source) =
+    refusal-alike code (codes ",\"place\":" ∷ decimal place ∷ []) (text_pieces Source)
+fault_line-pieces (fault.TextPlace code place Target) =
+    refusal-alike code (codes ",\"place\":" ∷ decimal place ∷ []) (text_pieces Target)
+fault_line-pieces (fault.TextStatement code statement Source) =
+    refusal-alike code (codes ",\"statement\":" ∷ decimal statement ∷ []) (text_pieces Source)
+fault_line-pieces (fault.TextStatement code statement Target) =
+    refusal-alike code (codes ",\"statement\":" ∷ decimal statement ∷ []) (text_pieces Target)
+fault_line-pieces (fault.Trace at_line) = refl

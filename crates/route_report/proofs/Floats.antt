@@ -46,5 +46,9 @@ has_float-fault (fault.EdgeCost from to) = refl
 has_float-fault (fault.WideProgram qubits) = refl
 has_float-fault (fault.ManyBranches branches) = refl
 has_float-fault (fault.BitsLength qubits) = refl
+has_float-fault (fault.TextPlain code side) = refl
+has_float-fault (fault.TextPlace code place side) = refl
+has_float-fault (fault.TextStatement code statement side) = refl
+has_float-fault (fault.Trace at_line) = refl
 
 pub ruleset floats = (has_float-report, has_float-check, has_float-fault)

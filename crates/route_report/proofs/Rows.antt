@@ -3,9 +3,11 @@ use Rattle.std.proofs.Common.{◌≡◌, [], ◌∷◌, codes, refl, None, Some,
 use Rattle.std.specs.Fmt.{digits}
 use Rattle.serde_json.proofs.OnLiterals.{serde_json_on_literals}
 use Rattle.route_report.specs.declared.faults.Fault.TheVariants as fault
+use Rattle.route_report.specs.declared.faults.Side.TheVariants.{Source, Target}
 use Rattle.route_report.specs.Entries.{entry_line}
 use Rattle.route_report.specs.Faults.{fault_line}
 use Rattle.route_report.specs.Lines.{report_line}
+use Rattle.route_report.specs.Verdicts.{verdict_line}
 
 pub one_wire : report_line (record {
   barriers = 0;
@@ -139,6 +141,42 @@ pub bits_length : fault_line (fault.BitsLength 1) ≡ codes "{\"code\":72,\"faul
 unfolding serde_json_on_literals digits
 bits_length = refl
 
+pub text_too_long_of_source : fault_line (fault.TextPlain 60 Source) ≡ codes "{\"code\":60,\"fault\":\"TextTooLong\",\"status\":3,\"text\":\"source\"}\n"
+unfolding serde_json_on_literals digits
+text_too_long_of_source = refl
+
+pub text_too_long_of_target : fault_line (fault.TextPlain 60 Target) ≡ codes "{\"code\":60,\"fault\":\"TextTooLong\",\"status\":3,\"text\":\"target\"}\n"
+unfolding serde_json_on_literals digits
+text_too_long_of_target = refl
+
+pub bad_byte_of_source : fault_line (fault.TextPlace 10 14 Source) ≡ codes "{\"code\":10,\"fault\":\"BadByte\",\"place\":14,\"status\":3,\"text\":\"source\"}\n"
+unfolding serde_json_on_literals digits
+bad_byte_of_source = refl
+
+pub syntax_of_target : fault_line (fault.TextPlace 12 23 Target) ≡ codes "{\"code\":12,\"fault\":\"Syntax\",\"place\":23,\"status\":3,\"text\":\"target\"}\n"
+unfolding serde_json_on_literals digits
+syntax_of_target = refl
+
+pub empty_register_of_source : fault_line (fault.TextStatement 25 2 Source) ≡ codes "{\"code\":25,\"fault\":\"EmptyRegister\",\"statement\":2,\"status\":3,\"text\":\"source\"}\n"
+unfolding serde_json_on_literals digits
+empty_register_of_source = refl
+
+pub angle_step_of_target : fault_line (fault.TextStatement 43 3 Target) ≡ codes "{\"code\":43,\"fault\":\"AngleStep\",\"statement\":3,\"status\":3,\"text\":\"target\"}\n"
+unfolding serde_json_on_literals digits
+angle_step_of_target = refl
+
+pub trace : fault_line (fault.Trace 5) ≡ codes "{\"fault\":\"Trace\",\"line\":5,\"status\":1}\n"
+unfolding serde_json_on_literals digits
+trace = refl
+
 pub half_entry : entry_line (record { a = negsuc 0; b = pos 0; c = negsuc 0; d = pos 0; e = 1 }) ≡ codes "-1 0 -1 0 1\n"
 unfolding digits
 half_entry = refl
+
+pub phase_zero : verdict_line 0 ≡ codes "yes 0\n"
+unfolding digits
+phase_zero = refl
+
+pub phase_seven : verdict_line 7 ≡ codes "yes 7\n"
+unfolding digits
+phase_seven = refl

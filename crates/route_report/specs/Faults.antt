@@ -1,12 +1,18 @@
 -- The line of a fault: one JSON object, its keys in the order of their bytes.
 --   status_of     the status that the program ends with
 --   outside_data  the object of a fault that is no refusal: its name and its status
+--   side_word     the word of one of the two texts of a trace
+--   plain_data, place_data, statement_data
+--                 the object of a refusal, of one at a place and of one of a statement, with what stands behind its status
+--   text_member   the member that tells which text it is
 --   fault_data    the object: for a refusal also its code, and what it keeps
 --   fault_line    its line
 use Rattle.std.specs.Prelude.{ℕ, List, codes}
-use Rattle.serde_json.specs.Data.{Data, member, no_members, object, string}
+use Rattle.serde_json.specs.Data.{Data, Members, member, no_members, object, string}
 use Rattle.route_report.specs.declared.faults.Fault.{Fault}
 use Rattle.route_report.specs.declared.faults.Fault.TheVariants as fault
+use Rattle.route_report.specs.declared.faults.Side.{Side}
+use Rattle.route_report.specs.declared.faults.Side.TheVariants.{Source, Target}
 use Rattle.route_report.specs.Compact.{line, whole}
 use Rattle.route_report.specs.Refusals.{bits_length, edge_cost, many_branches, name_of, not_connected, self_edge, stops_with, too_few_qubits, wide_program}
 
@@ -26,11 +32,42 @@ status_of (fault.EdgeCost from to) = stops_with edge_cost
 status_of (fault.WideProgram qubits) = stops_with wide_program
 status_of (fault.ManyBranches branches) = stops_with many_branches
 status_of (fault.BitsLength qubits) = stops_with bits_length
+status_of (fault.TextPlain code side) = stops_with code
+status_of (fault.TextPlace code place side) = stops_with code
+status_of (fault.TextStatement code statement side) = stops_with code
+status_of (fault.Trace at_line) = 1
 
 abbrev pub outside_data : List ℕ → ℕ → Data
 outside_data name status = object
     (member (codes "fault") (string name)
     (member (codes "status") (whole status) no_members))
+
+abbrev pub side_word : Side → List ℕ
+side_word Source = codes "source"
+side_word Target = codes "target"
+
+abbrev pub plain_data : ℕ → Members → Data
+plain_data code others = object
+    (member (codes "code") (whole code)
+    (member (codes "fault") (string (name_of code))
+    (member (codes "status") (whole (stops_with code)) others)))
+
+abbrev pub place_data : ℕ → ℕ → Members → Data
+place_data code place others = object
+    (member (codes "code") (whole code)
+    (member (codes "fault") (string (name_of code))
+    (member (codes "place") (whole place)
+    (member (codes "status") (whole (stops_with code)) others))))
+
+abbrev pub statement_data : ℕ → ℕ → Members → Data
+statement_data code statement others = object
+    (member (codes "code") (whole code)
+    (member (codes "fault") (string (name_of code))
+    (member (codes "statement") (whole statement)
+    (member (codes "status") (whole (stops_with code)) others))))
+
+abbrev pub text_member : Side → Members
+text_member side = member (codes "text") (string (side_word side)) no_members
 
 abbrev pub fault_data : Fault → Data
 fault_data fault.Words = outside_data (codes "Words") (status_of fault.Words)
@@ -38,20 +75,9 @@ fault_data fault.Input = outside_data (codes "Input") (status_of fault.Input)
 fault_data fault.Output = outside_data (codes "Output") (status_of fault.Output)
 fault_data fault.Shelf = outside_data (codes "Shelf") (status_of fault.Shelf)
 fault_data fault.Absent = outside_data (codes "Absent") (status_of fault.Absent)
-fault_data (fault.Plain code) = object
-    (member (codes "code") (whole code)
-    (member (codes "fault") (string (name_of code))
-    (member (codes "status") (whole (stops_with code)) no_members)))
-fault_data (fault.Place code place) = object
-    (member (codes "code") (whole code)
-    (member (codes "fault") (string (name_of code))
-    (member (codes "place") (whole place)
-    (member (codes "status") (whole (stops_with code)) no_members))))
-fault_data (fault.Statement code statement) = object
-    (member (codes "code") (whole code)
-    (member (codes "fault") (string (name_of code))
-    (member (codes "statement") (whole statement)
-    (member (codes "status") (whole (stops_with code)) no_members))))
+fault_data (fault.Plain code) = plain_data code no_members
+fault_data (fault.Place code place) = place_data code place no_members
+fault_data (fault.Statement code statement) = statement_data code statement no_members
 fault_data (fault.SelfEdge qubit) = object
     (member (codes "code") (whole self_edge)
     (member (codes "fault") (string (name_of self_edge))
@@ -90,6 +116,13 @@ fault_data (fault.BitsLength qubits) = object
     (member (codes "fault") (string (name_of bits_length))
     (member (codes "qubits") (whole qubits)
     (member (codes "status") (whole (stops_with bits_length)) no_members))))
+fault_data (fault.TextPlain code side) = plain_data code (text_member side)
+fault_data (fault.TextPlace code place side) = place_data code place (text_member side)
+fault_data (fault.TextStatement code statement side) = statement_data code statement (text_member side)
+fault_data (fault.Trace at_line) = object
+    (member (codes "fault") (string (codes "Trace"))
+    (member (codes "line") (whole at_line)
+    (member (codes "status") (whole (status_of (fault.Trace at_line))) no_members)))
 
 abbrev pub fault_line : Fault → List ℕ
 fault_line f = line (fault_data f)

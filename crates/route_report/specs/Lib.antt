@@ -4,3 +4,4 @@ pub mod Refusals
 pub mod Lines
 pub mod Faults
 pub mod Entries
+pub mod Verdicts

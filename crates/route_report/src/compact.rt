@@ -1,6 +1,7 @@
 //! Compact JSON, a value a line.
 
 ghost use Rattle.std.specs.Prelude.{◌≡◌, IfOk, false};
+ghost use Rattle.serde_json.specs.Data.{Members, object, put};
 ghost use Rattle.serde_json.specs.View.{view};
 ghost use Rattle.serde_json.specs.Written.{has_float};
 ghost use Rattle.route_report.specs.Compact.{line, wholes};
@@ -17,6 +18,24 @@ pub(crate) fn number_array(alloc: Global, numbers: &[u32]) -> Result<Value, Allo
         list.push(Value::from(*number))?;
     }
     Ok(Value::Array(list))
+}
+
+/// An object with a member more.
+pub(crate) fn with_member(
+    alloc: Global,
+    value: Value,
+    key: &str,
+    member: Value,
+) -> Result<Value, AllocError>
+    ensures { IfOk result (λ v. (ms : Members) → view value ≡ object ms → view v ≡ object (put key.now (view member) ms)) }
+{
+    match value {
+        Value::Object(mut map) => {
+            serde_json::put(&mut map, alloc, key, member)?;
+            Ok(Value::Object(map))
+        }
+        other => Ok(other),
+    }
 }
 
 /// The text of a value that holds no float, without a space, and a line break.

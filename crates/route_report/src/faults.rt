@@ -1,15 +1,26 @@
 //! Why a run gives no result.
 
-ghost use Rattle.std.specs.Prelude.{◌≡◌, IfOk};
+ghost use Rattle.std.specs.Prelude.{◌≡◌, IfOk, codes};
+ghost use Rattle.serde_json.specs.Data.{Members, object, put, string};
 ghost use Rattle.serde_json.specs.View.{view};
-ghost use Rattle.route_report.specs.Faults.{fault_data, outside_data, status_of};
+ghost use Rattle.route_report.specs.Faults.{fault_data, outside_data, side_word, status_of};
 
+use crate::compact::with_member;
 use crate::refusals::{
     BITS_LENGTH, EDGE_COST, MANY_BRANCHES, NOT_CONNECTED, SELF_EDGE, TOO_FEW_QUBITS, WIDE_PROGRAM,
     refusal_name, refusal_status,
 };
 use serde_json::{Value, json};
 use std::alloc::{AllocError, Global};
+
+/// One of the two program texts that a trace is verified against.
+#[derive(Clone, Copy, Debug, PartialEq, Eq)]
+pub enum Side {
+    /// The text of the program that the trace begins with.
+    Source,
+    /// The text of the program that it ends with.
+    Target,
+}
 
 /// A fault, with what its line tells. A `code` is that of a refusal.
 #[derive(Clone, Copy, Debug, PartialEq, Eq)]
@@ -25,28 +36,84 @@ pub enum Fault {
     /// There is no text of the device's name.
     Absent,
     /// A refusal that tells nothing but its code.
-    Plain { code: u8 },
+    Plain {
+        code: u8,
+    },
     /// A refusal of the text at a place: bytes that stand before it.
-    Place { code: u8, place: u32 },
+    Place {
+        code: u8,
+        place: u32,
+    },
     /// A refusal of a statement; those after the header are counted from 1 on.
-    Statement { code: u8, statement: u32 },
+    Statement {
+        code: u8,
+        statement: u32,
+    },
     /// An edge of the device has equal ends.
-    SelfEdge { qubit: u32 },
+    SelfEdge {
+        qubit: u32,
+    },
     /// No walk of the device leads from one qubit to the other.
-    NotConnected { from: u32, to: u32 },
+    NotConnected {
+        from: u32,
+        to: u32,
+    },
     /// The device has fewer qubits than the program.
-    TooFewQubits { device: u32, qubits: u32 },
+    TooFewQubits {
+        device: u32,
+        qubits: u32,
+    },
     /// An edge of the device, from control to target, has a cost out of range.
-    EdgeCost { from: u32, to: u32 },
+    EdgeCost {
+        from: u32,
+        to: u32,
+    },
     /// The program has too many qubits for an entry of its unitary.
-    WideProgram { qubits: u32 },
+    WideProgram {
+        qubits: u32,
+    },
     /// So many of its operations branch, more than an entry is told of.
-    ManyBranches { branches: u64 },
+    ManyBranches {
+        branches: u64,
+    },
     /// There aren't as many bits as the program has qubits.
-    BitsLength { qubits: u32 },
+    BitsLength {
+        qubits: u32,
+    },
+    /// A refusal of one of the two texts, which tells nothing but its code and which text it is.
+    TextPlain {
+        code: u8,
+        side: Side,
+    },
+    /// A refusal of one of the two texts at a place: bytes that stand before it.
+    TextPlace {
+        code: u8,
+        place: u32,
+        side: Side,
+    },
+    /// A refusal of a statement of one of the two texts; those after the header count from 1 on.
+    TextStatement {
+        code: u8,
+        statement: u32,
+        side: Side,
+    },
+    /// The trace stops at a line; lines are counted from 1 on.
+    Trace {
+        line: u32,
+    },
 }
 
-/// The status that the program ends with, from 2 to 9.
+/// The word of a side in the line.
+fn side_word(side: Side) -> &'static str
+    ensures { result.now ≡ side_word side }
+{
+    match side {
+        Side::Source => "source",
+        Side::Target => "target",
+    }
+}
+
+/// The status that the program ends with, from 1 to 9.
 pub fn status(fault: &Fault) -> u8
     ensures { result ≡ status_of fault.now }
 {
@@ -55,8 +122,12 @@ pub fn status(fault: &Fault) -> u8
         Fault::Input => 5,
         Fault::Output => 6,
         Fault::Shelf | Fault::Absent => 9,
-        Fault::Plain { code } | Fault::Place { code, .. } | Fault::Statement { code, .. } =>
-            refusal_status(code),
+        Fault::Plain { code }
+        | Fault::Place { code, .. }
+        | Fault::Statement { code, .. }
+        | Fault::TextPlain { code, .. }
+        | Fault::TextPlace { code, .. }
+        | Fault::TextStatement { code, .. } => refusal_status(code),
         Fault::SelfEdge { .. } => refusal_status(SELF_EDGE),
         Fault::NotConnected { .. } => refusal_status(NOT_CONNECTED),
         Fault::TooFewQubits { .. } => refusal_status(TOO_FEW_QUBITS),
@@ -64,6 +135,7 @@ pub fn status(fault: &Fault) -> u8
         Fault::WideProgram { .. } => refusal_status(WIDE_PROGRAM),
         Fault::ManyBranches { .. } => refusal_status(MANY_BRANCHES),
         Fault::BitsLength { .. } => refusal_status(BITS_LENGTH),
+        Fault::Trace { .. } => 1,
     }
 }
 
@@ -88,6 +160,16 @@ pub(crate) fn fault_value(alloc: Global, fault: &Fault) -> Result<Value, AllocEr
         Fault::WideProgram { qubits } => wide_value(alloc, qubits),
         Fault::ManyBranches { branches } => many_value(alloc, branches),
         Fault::BitsLength { qubits } => length_value(alloc, qubits),
+        Fault::TextPlain { code, side } => with_side(alloc, plain_value(alloc, code)?, side),
+        Fault::TextPlace { code, place, side } => {
+            with_side(alloc, place_value(alloc, code, place)?, side)
+        }
+        Fault::TextStatement {
+            code,
+            statement,
+            side,
+        } => with_side(alloc, statement_value(alloc, code, statement)?, side),
+        Fault::Trace { line } => trace_value(alloc, line),
     }
 }
 
@@ -171,4 +253,18 @@ fn length_value(alloc: Global, qubits: u32) -> Result<Value, AllocError>
 {
     let (name, status) = (refusal_name(BITS_LENGTH), refusal_status(BITS_LENGTH));
     json!(in alloc; {"code": BITS_LENGTH, "fault": name, "qubits": qubits, "status": status})
+}
+
+/// An object with the side's word behind its other members.
+fn with_side(alloc: Global, value: Value, side: Side) -> Result<Value, AllocError>
+    ensures { IfOk result (λ v. (ms : Members) → view value ≡ object ms → view v ≡ object (put (codes "text") (string (side_word side)) ms)) }
+{
+    let word = json!(in alloc; side_word(side))?;
+    with_member(alloc, value, "text", word)
+}
+
+fn trace_value(alloc: Global, line: u32) -> Result<Value, AllocError>
+    ensures { IfOk result (λ v. view v ≡ fault_data (Fault.Trace line)) }
+{
+    json!(in alloc; {"fault": "Trace", "line": line, "status": 1u8})
 }

@@ -1,9 +1,10 @@
-//! The lines that a run tells, byte for byte: the report line, the check line, the line of an entry, and the fault line.
+//! The lines that a run tells, byte for byte: the report line, the check line, the line of an entry, the line of a verdict, and
+//! the fault line.
 //!
 //! A `Report`, the `Counts` of a checked program, or a `Fault` goes in, and the bytes of its line come out: one compact JSON
-//! object with its keys in the order of their bytes, then a line break. An `Entry` of a unitary is a line of five numbers. The
-//! contracts give these bytes exactly, and the status that a fault ends with. Every record has a line; the only error is want
-//! of memory.
+//! object with its keys in the order of their bytes, then a line break. An `Entry` of a unitary is a line of five numbers, and
+//! the verdict on a trace is a line of a word and a number. The contracts give these bytes exactly, and the status that a fault
+//! ends with. Every record has a line; the only error is want of memory.
 #![tactic(auto)]
 
 ghost use Rattle.std.specs.Prelude.{◌≡◌, IfOk};
@@ -17,11 +18,13 @@ pub mod entries;
 pub mod faults;
 pub mod lines;
 mod refusals;
+pub mod verdicts;
 pub mod wires;
 
 pub use entries::{Entry, entry_line};
-pub use faults::{Fault, status};
+pub use faults::{Fault, Side, status};
 pub use lines::{Counts, Report};
+pub use verdicts::verdict_line;
 pub use wires::Wires;
 
 /// The bytes of the report line; `Err` for want of memory alone.

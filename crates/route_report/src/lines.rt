@@ -2,11 +2,11 @@
 
 ghost use Rattle.std.specs.Prelude.{◌≡◌, IfOk, codes};
 ghost use Rattle.serde_json.specs.View.{view};
-ghost use Rattle.serde_json.specs.Data.{Members, member, object, put};
+ghost use Rattle.serde_json.specs.Data.{member, object};
 ghost use Rattle.route_report.specs.Compact.{whole};
 ghost use Rattle.route_report.specs.Lines.{check_data, format_of, later_members, report_data};
 
-use crate::compact::number_array;
+use crate::compact::{number_array, with_member};
 use crate::wires::Wires;
 use serde_json::{Value, json};
 use std::alloc::{AllocError, Global};
@@ -90,19 +90,6 @@ fn costless_value(alloc: Global, report: &Report) -> Result<Value, AllocError>
         "t_after": report.t_after,
         "t_before": report.t_before
     })
-}
-
-/// An object with a member more.
-fn with_member(alloc: Global, value: Value, key: &str, member: Value) -> Result<Value, AllocError>
-    ensures { IfOk result (λ v. (ms : Members) → view value ≡ object ms → view v ≡ object (put key.now (view member) ms)) }
-{
-    match value {
-        Value::Object(mut map) => {
-            serde_json::put(&mut map, alloc, key, member)?;
-            Ok(Value::Object(map))
-        }
-        other => Ok(other),
-    }
 }
 
 /// The JSON object of a report.

@@ -1,5 +1,6 @@
 use crate::{
-    Counts, Entry, Fault, Report, Wires, check_line, entry_line, fault_line, report_line, status,
+    Counts, Entry, Fault, Report, Side, Wires, check_line, entry_line, fault_line, report_line,
+    status, verdict_line,
 };
 use std::test::Fail;
 
@@ -155,6 +156,37 @@ fn writes_the_worked_lines(rt: HostRuntime) -> Result<(), Fail> {
             3,
             "{\"code\":72,\"fault\":\"BitsLength\",\"qubits\":1,\"status\":3}\n",
         ),
+        (
+            Fault::TextPlain {
+                code: 60,
+                side: Side::Target,
+            },
+            3,
+            "{\"code\":60,\"fault\":\"TextTooLong\",\"status\":3,\"text\":\"target\"}\n",
+        ),
+        (
+            Fault::TextPlace {
+                code: 10,
+                place: 14,
+                side: Side::Source,
+            },
+            3,
+            "{\"code\":10,\"fault\":\"BadByte\",\"place\":14,\"status\":3,\"text\":\"source\"}\n",
+        ),
+        (
+            Fault::TextStatement {
+                code: 25,
+                statement: 2,
+                side: Side::Source,
+            },
+            3,
+            "{\"code\":25,\"fault\":\"EmptyRegister\",\"statement\":2,\"status\":3,\"text\":\"source\"}\n",
+        ),
+        (
+            Fault::Trace { line: 5 },
+            1,
+            "{\"fault\":\"Trace\",\"line\":5,\"status\":1}\n",
+        ),
     ] {
         assert_eq!(rt; status(&fault), ends_with, "{want}");
         assert_eq!(rt;
@@ -224,6 +256,15 @@ fn writes_the_entry_lines(rt: HostRuntime) -> Result<(), Fail> {
         ),
     ] {
         let line = entry_line(rt.alloc(), entry)?;
+        assert_eq!(rt; line.as_slice(), want.as_bytes());
+    }
+    Ok(())
+}
+
+#[test]
+fn writes_the_verdict_lines(rt: HostRuntime) -> Result<(), Fail> {
+    for (phase, want) in [(0, "yes 0\n"), (7, "yes 7\n")] {
+        let line = verdict_line(rt.alloc(), phase)?;
         assert_eq!(rt; line.as_slice(), want.as_bytes());
     }
     Ok(())
