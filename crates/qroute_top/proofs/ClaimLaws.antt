@@ -10,7 +10,7 @@ use Rattle.outside_io.specs.Shelf.{IsTextCause, TellsText}
 use Rattle.outside_io.specs.declared.TextFault.{TextFault}
 use Rattle.outside_io.specs.declared.TextFault.TheVariants as text_fault
 use Rattle.gate_inline.specs.Programs.{IsWritten, Program}
-use Rattle.program_reader.specs.Refusals.{IsAcceptedText, IsTextRefusal}
+use Rattle.program_reader.specs.Texts.{IsAcceptedText, IsTextRefusal}
 use Rattle.program_reader.specs.declared.refusal.Refusal.{Refusal}
 use Rattle.program_reader.specs.declared.refusal.Refusal.TheVariants.{TooLong}
 use Rattle.route_report.specs.declared.faults.Side.{Side}

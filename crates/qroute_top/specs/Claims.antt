@@ -15,7 +15,7 @@
 use Rattle.std.specs.Prelude.{◌≡◌, ◌⊎◌, ℕ, ◌<◌, ◌≤◌, List, Option, Some, length}
 use Rattle.outside_io.specs.Shelf.{HasNoText, TellsText}
 use Rattle.gate_inline.specs.Programs.{Program, text_limit}
-use Rattle.program_reader.specs.Refusals.{IsAcceptedText, IsTextRefusal}
+use Rattle.program_reader.specs.Texts.{IsAcceptedText, IsTextRefusal}
 use Rattle.program_reader.specs.declared.refusal.Refusal.{Refusal}
 use Rattle.program_reader.specs.declared.refusal.Refusal.TheVariants.{TooLong}
 use Rattle.command_words.specs.Commands.{command_of}

@@ -3,7 +3,7 @@
 ghost use Rattle.std.specs.Prelude.{◌≡◌, ◌×◌, ◌≤◌, ℕ, List, [], IfErr, IfOk, Err, false, length, true};
 ghost use Rattle.outside_io.specs.Causes.{Rose};
 ghost use Rattle.outside_io.specs.Shelf.{TellsText};
-ghost use Rattle.program_reader.specs.Refusals.{IsAcceptedText};
+ghost use Rattle.program_reader.specs.Texts.{IsAcceptedText};
 ghost use Rattle.trace_check.specs.Proves.{Proves};
 ghost use Rattle.trace_check.specs.Verdicts.{claim_of};
 ghost use Rattle.trace_text.specs.Texts.{trace_of};
