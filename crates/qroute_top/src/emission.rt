@@ -89,11 +89,31 @@ fn fault_of_text(side: Side, refusal: Refusal) -> Fault
 {
     match refusal {
         Refusal::TooLong => Fault::TextPlain { code: 60, side },
-        Refusal::BadByte { place } => Fault::TextPlace { code: 10, place, side },
-        Refusal::Number { place } => Fault::TextPlace { code: 11, place, side },
-        Refusal::Syntax { place } => Fault::TextPlace { code: 12, place, side },
-        Refusal::Version { place } => Fault::TextPlace { code: 13, place, side },
-        Refusal::Depth { place } => Fault::TextPlace { code: 14, place, side },
+        Refusal::BadByte { place } => Fault::TextPlace {
+            code: 10,
+            place,
+            side,
+        },
+        Refusal::Number { place } => Fault::TextPlace {
+            code: 11,
+            place,
+            side,
+        },
+        Refusal::Syntax { place } => Fault::TextPlace {
+            code: 12,
+            place,
+            side,
+        },
+        Refusal::Version { place } => Fault::TextPlace {
+            code: 13,
+            place,
+            side,
+        },
+        Refusal::Depth { place } => Fault::TextPlace {
+            code: 14,
+            place,
+            side,
+        },
         Refusal::Check(refused) => Fault::TextStatement {
             code: refused.refusal.code(),
             statement: refused.statement,

@@ -40,7 +40,9 @@ pub use command_words::{bits, commands, name, words};
 use decision::decide;
 use emission::{emit, tell};
 use outside_io::{Shelf, Sink, Source};
-use program_reader::{accepted_has_no_refusal, accepted_text_has_no_refusal, means_once, text_refused_once};
+use program_reader::{
+    accepted_has_no_refusal, accepted_text_has_no_refusal, means_once, text_refused_once,
+};
 use std::alloc::Global;
 use trace_check::laws::traces_are_exact;
 

@@ -44,5 +44,8 @@ pub fn rewritten(alloc: Global, body: Circuit, traced: bool) -> Result<Rewritten
         });
     }
     let passed = passes.run(alloc, body)?;
-    Ok(Rewritten { passed, steps: None })
+    Ok(Rewritten {
+        passed,
+        steps: None,
+    })
 }

@@ -209,7 +209,8 @@ pub fn on_device(
     let given = first_placement(alloc, &passed.body, device, trivial)?;
     let _placed = given.size();
     let initial = qubits_of(alloc, &given)?;
-    let run = run_from(alloc, &passed.body, device, given, rewritten.steps.is_some())?;
+    let traced = rewritten.steps.is_some();
+    let run = run_from(alloc, &passed.body, device, given, traced)?;
     let turn = turn_sum(passed.turn, run.routed.turn);
     let trace = trace_of_run(alloc, rewritten, device, initial.as_slice(), &run, turn)?;
     let routed = run.routed;
