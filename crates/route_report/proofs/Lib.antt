@@ -4,3 +4,4 @@ pub mod Rows
 pub mod Statuses
 mod CostLaws
 mod EntryLaws
+mod SideLaws
