@@ -70,16 +70,20 @@ same-turn t lt = omega arith
 
 one-emit : (e : Claim) (p q : List ℕ) (gs w : List Gate) (t j : ℕ) (g : Gate) (ls : List Line) (behind : List (List ℕ)) (u : State) → t < 8 → j < 2 ^ 32 → IsFirst gs j g →
     Runs e (at p q (remove gs j) (w ++ on_qubits q g ∷ []) ((t + 0) % 8)) ls behind u → Runs e (at p q gs w t) (Emit j ∷ ls) behind u
-one-emit e p q gs w t j g ls behind u lt small first r =
-    (at p q (remove gs j) (w ++ on_qubits q g ∷ []) ((t + 0) % 8),
-    (All-from_recursion (λ k. k < 2 ^ 32) (j ∷ []) (small, tt),
-    (record { gate = g; first = first; after = λ i. at p q (remove gs j) (w ++ on_qubits q g ∷ []) (same-turn t lt i) }, r)))
+one-emit e p q gs w t j g ls behind u lt small first r = (
+  at p q (remove gs j) (w ++ on_qubits q g ∷ []) ((t + 0) % 8),
+  (
+    All-from_recursion (λ k. k < 2 ^ 32) (j ∷ []) (small, tt),
+    (record { gate = g; first = first; after = λ i. at p q (remove gs j) (w ++ on_qubits q g ∷ []) (same-turn t lt i) }, r),
+  ),
+)
 
 one-back : (e : Claim) (p q : List ℕ) (gs w : List Gate) (t j c s : ℕ) (ls : List Line) (behind : List (List ℕ)) (u : State) → j < 2 ^ 32 → IsFirst gs j (Cx c s) →
     Runs e (at p q (remove gs j) (w ++ turned_cx (slice_index q c) (slice_index q s)) ((t + 4) % 8)) ls behind u → Runs e (at p q gs w t) (Back j ∷ ls) behind u
-one-back e p q gs w t j c s ls behind u small first r =
-    (at p q (remove gs j) (w ++ turned_cx (slice_index q c) (slice_index q s)) ((t + 4) % 8),
-    (All-from_recursion (λ k. k < 2 ^ 32) (j ∷ []) (small, tt), (record { c = c; t = s; first = first; after = refl }, r)))
+one-back e p q gs w t j c s ls behind u small first r = (
+  at p q (remove gs j) (w ++ turned_cx (slice_index q c) (slice_index q s)) ((t + 4) % 8),
+  (All-from_recursion (λ k. k < 2 ^ 32) (j ∷ []) (small, tt), (record { c = c; t = s; first = first; after = refl }, r)),
+)
 
 cx-run : (e : Claim) (p q : List ℕ) (gs w : List Gate) (t j c s : ℕ) (ls : List Line) (behind : List (List ℕ)) (u : State) → t < 8 → j < 2 ^ 32 → IsFirst gs j (Cx c s) → (b : Bool) →
     Runs e (at p q (remove gs j) (w ++ cond b (Cx (slice_index q c) (slice_index q s) ∷ []) (turned_cx (slice_index q c) (slice_index q s))) ((t + cond b 0 4) % 8)) ls behind u →
@@ -98,14 +102,20 @@ emit-run e es p q gs w t j (Cx c s) ls behind u lt small first r = cx-run e p q 
 one-swap : (e : Claim) (p q : List ℕ) (gs w : List Gate) (t a b x y : ℕ) (ls : List Line) (behind : List (List ℕ)) (u : State) → e.qubits ≤ 2 ^ 32 → x < e.qubits → y < e.qubits → x ≢ y → exchanged x y ≡ exchanged a b → (s : Bool) →
     Runs e (at p (map (exchanged a b) q) gs (w ++ (Cx x y ∷ (cond s (Cx y x ∷ []) (H y ∷ H x ∷ Cx x y ∷ H y ∷ H x ∷ []) ++ Cx x y ∷ []))) ((t + cond s 0 4) % 8)) ls behind u →
     Runs e (at p q gs w t) (cond s (Swap x y) (Turn x y) ∷ ls) behind u
-one-swap e p q gs w t a b x y ls behind u le hx hy ne f true r =
-    (at p (map (exchanged a b) q) gs (w ++ swap_cx x y) ((t + 0) % 8),
-    (All-from_recursion (λ k. k < 2 ^ 32) (x ∷ y ∷ []) (omega (arith, le, hx), (omega (arith, le, hy), tt)),
-    (record { first = hx; second = hy; differ = ne; after = λ i. at p (map (sym f i) q) gs (w ++ swap_cx x y) ((t + 0) % 8) }, r)))
-one-swap e p q gs w t a b x y ls behind u le hx hy ne f false r =
-    (at p (map (exchanged a b) q) gs (w ++ turn_cx x y) ((t + 4) % 8),
-    (All-from_recursion (λ k. k < 2 ^ 32) (x ∷ y ∷ []) (omega (arith, le, hx), (omega (arith, le, hy), tt)),
-    (record { first = hx; second = hy; differ = ne; after = λ i. at p (map (sym f i) q) gs (w ++ turn_cx x y) ((t + 4) % 8) }, r)))
+one-swap e p q gs w t a b x y ls behind u le hx hy ne f true r = (
+  at p (map (exchanged a b) q) gs (w ++ swap_cx x y) ((t + 0) % 8),
+  (
+    All-from_recursion (λ k. k < 2 ^ 32) (x ∷ y ∷ []) (omega (arith, le, hx), (omega (arith, le, hy), tt)),
+    (record { first = hx; second = hy; differ = ne; after = λ i. at p (map (sym f i) q) gs (w ++ swap_cx x y) ((t + 0) % 8) }, r),
+  ),
+)
+one-swap e p q gs w t a b x y ls behind u le hx hy ne f false r = (
+  at p (map (exchanged a b) q) gs (w ++ turn_cx x y) ((t + 4) % 8),
+  (
+    All-from_recursion (λ k. k < 2 ^ 32) (x ∷ y ∷ []) (omega (arith, le, hx), (omega (arith, le, hy), tt)),
+    (record { first = hx; second = hy; differ = ne; after = λ i. at p (map (sym f i) q) gs (w ++ turn_cx x y) ((t + 4) % 8) }, r),
+  ),
+)
 
 record Pair (n a b x y : ℕ) : Type 0 where
   first : x < n

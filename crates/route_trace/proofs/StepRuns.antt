@@ -117,9 +117,14 @@ steps-run e B old new [] j t ls behind u ln lb lo ll lj h r =
 steps-run e B old new (s ∷ ss) j t ls behind u ln lb lo ll lj h r =
     let m = h.0 in
     let k = steps-length s ss in
-    let z = step-sized e.wires B old m.gates s m.first ln lb lo (omega (arith, ll, k)) h.1.0 in
-    (Rewritten m.gates ((j + m.first) % 8),
-    (All-from_recursion (λ k. k < 2 ^ 32) (step_numbers s) z.small,
-    (record { gates = m.gates; turn = m.first; step = h.1.0; after = refl },
-    steps-run e B m.gates new ss ((j + m.first) % 8) m.rest ls behind u ln lb z.size (omega (arith, ll, k)) (omega arith) h.1.1.0
-    (λ le. subst (λ (k : ℕ). Runs e (Rewritten new k) ls behind u) (turned-twice j m.first m.rest t h.1.1.1) (r le)))))
+    let z = step-sized e.wires B old m.gates s m.first ln lb lo (omega (arith, ll, k)) h.1.0 in (
+      Rewritten m.gates ((j + m.first) % 8),
+      (
+        All-from_recursion (λ k. k < 2 ^ 32) (step_numbers s) z.small,
+        (
+          record { gates = m.gates; turn = m.first; step = h.1.0; after = refl },
+          steps-run e B m.gates new ss ((j + m.first) % 8) m.rest ls behind u ln lb z.size (omega (arith, ll, k)) (omega arith) h.1.1.0
+              (λ le. subst (λ (k : ℕ). Runs e (Rewritten new k) ls behind u) (turned-twice j m.first m.rest t h.1.1.1) (r le)),
+        ),
+      ),
+    )

@@ -86,17 +86,22 @@ whole-turn f t r c j e h = omega arith
 end-run : (e : Claim) (p q w : List ℕ) (gs v target : List Gate) (m t j : ℕ) → AllByRecursion (IsFine m) target → gs ≡ [] → v ≡ target → e.target ≡ ops target → t ≡ j → j < 8 → q ≡ w →
     Runs e (at p q gs v t) (End j ∷ []) [] (Proved p w j)
 end-run e p q w gs v target m t j fine none all goal same lt ends =
-    let zero : turn_of e.target ≡ 0 = ap turn_of goal ∙ turn-ops target in
-    (Proved p q j,
-    (All-from_recursion (λ k. k < 2 ^ 32) (j ∷ []) (omega (arith, lt), tt),
-    (record {
-      last = refl;
-      empty = none;
-      written = all ∙ sym (expanded-ops m target fine) ∙ ap expanded (sym goal);
-      turn = last-turn j (turn_of e.target) lt zero ∙ ap (λ k. (k + (8 - turn_of e.target)) % 8) (sym same);
-      after = refl;
-    },
-    ap (λ k. Proved p k j) (sym ends))))
+    let zero : turn_of e.target ≡ 0 = ap turn_of goal ∙ turn-ops target in (
+      Proved p q j,
+      (
+        All-from_recursion (λ k. k < 2 ^ 32) (j ∷ []) (omega (arith, lt), tt),
+        (
+          record {
+            last = refl;
+            empty = none;
+            written = all ∙ sym (expanded-ops m target fine) ∙ ap expanded (sym goal);
+            turn = last-turn j (turn_of e.target) lt zero ∙ ap (λ k. (k + (8 - turn_of e.target)) % 8) (sym same);
+            after = refl;
+          },
+          ap (λ k. Proved p k j) (sym ends),
+        ),
+      ),
+    )
 
 -- ---- the trace
 below : (k : ℕ) → k % 8 < 8
@@ -116,16 +121,27 @@ trace-runs d ss n m B gs given r xs turn near le fits placed fine h lt few lb e 
     let small : AllByRecursion (λ k. k < 2 ^ 32) given = entries-small given (λ i l. omega (arith, le, placed.within i (omega (arith, l, placed.long)))) in
     let fit : IsPlacement e.qubits given = subst (λ (k : ℕ). IsPlacement k given) (sym qubits) placed in
     let last : Runs e (at given run.final.placement run.final.rest ([] ++ written es given run.events) more) (End turn ∷ []) [] z =
-    end-run e given run.final.placement r.last run.final.rest (written es given run.events) r.body.gates m more turn fine run.run.ends (sym run.body) target (whole-turn f t (turned es given run.events) r.turn turn run.turn whole) lt (sym run.last) in
-    (Rewritten (expanded e.source) f,
-    (All-from_recursion (λ k. k < 2 ^ 32) [] tt,
-    (refl,
-    steps-run e B (expanded e.source) gs ss f t (Place given ∷ (ls ++ End turn ∷ [])) [] z (omega (arith, wires, fits, le)) lb source few (omega arith) steps
-    (λ size. (at given given gs [] j,
-    (All-from_recursion (λ k. k < 2 ^ 32) given small,
-    (record { fits = omega (arith, wires, qubits, fits); placement = fit; after = refl },
-    subst (λ (ys : List Told). Runs e (at given given gs [] j) (event_lines es given gs ys ++ End turn ∷ []) [] z) (sym h.events)
-    (events-run e d (start given gs) run.final run.events given [] j (End turn ∷ []) [] z near qubits le (omega (arith, size, lb)) (below (f + t)) run.run.steps last))))))))
+    end-run e given run.final.placement r.last run.final.rest (written es given run.events) r.body.gates m more turn fine run.run.ends (sym run.body) target (whole-turn f t (turned es given run.events) r.turn turn run.turn whole) lt (sym run.last) in (
+      Rewritten (expanded e.source) f,
+      (
+        All-from_recursion (λ k. k < 2 ^ 32) [] tt,
+        (
+          refl,
+          steps-run e B (expanded e.source) gs ss f t (Place given ∷ (ls ++ End turn ∷ [])) [] z (omega (arith, wires, fits, le)) lb source few (omega arith) steps
+              (λ size. (
+                at given given gs [] j,
+                (
+                  All-from_recursion (λ k. k < 2 ^ 32) given small,
+                  (
+                    record { fits = omega (arith, wires, qubits, fits); placement = fit; after = refl },
+                    subst (λ (ys : List Told). Runs e (at given given gs [] j) (event_lines es given gs ys ++ End turn ∷ []) [] z) (sym h.events)
+                        (events-run e d (start given gs) run.final run.events given [] j (End turn ∷ []) [] z near qubits le (omega (arith, size, lb)) (below (f + t)) run.run.steps last),
+                  ),
+                ),
+              )),
+        ),
+      ),
+    )
 
 pub trace-proves : (d : Coupling) (ss : List Step) (n m : ℕ) (gs : List Gate) (given : List ℕ) (r : Router) (xs : List Told) (turn : ℕ) (text : List ℕ) → Near d → d.size ≤ 256 → n ≤ d.size → IsPlacement d.size given → All (IsFine m) r.body.gates →
     IsRoutedBy d gs given r xs → turn < 8 → text ≡ ended (all_spelt (trace_lines ss given (event_lines d.edges given gs xs) turn)) → length text < 2 ^ 31 → (e : Claim) (t : ℕ) → e.wires ≡ n → e.qubits ≡ d.size → length e.source ≤ 65536 →
@@ -133,5 +149,5 @@ pub trace-proves : (d : Coupling) (ss : List Step) (n m : ℕ) (gs : List Gate) 
 trace-proves d ss n m gs given r xs turn text near le fits placed fine h lt same short e t wires qubits source ops-fine steps target whole =
     let ls : List Line = trace_lines ss given (event_lines d.edges given gs xs) turn in
     let run = trace-runs d ss n m (2 ^ 31) gs given r xs turn near (omega (arith, le)) fits placed (recursion_from_All (IsFine m) r.body.gates fine) h lt
-        (omega (arith, short, ap length same, steps-within ss given (event_lines d.edges given gs xs) turn)) (omega arith) e t wires qubits (omega (arith, source, length-expanded e.source)) steps target whole in
+    (omega (arith, short, ap length same, steps-within ss given (event_lines d.edges given gs xs) turn)) (omega arith) e t wires qubits (omega (arith, source, length-expanded e.source)) steps target whole in
     record { lines = ls; text = ap lines_of same ∙ lines-ended (all_spelt ls) (spelt-plain ls (runs-small e Unread ls [] (Proved given r.last turn) run)); run = run }

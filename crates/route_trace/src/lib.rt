@@ -48,8 +48,9 @@ fn text(
     requires there { AreThere device.now.size body.now.gates events.now }
     requires placement { IsPlacement device.now.size given.now }
     requires fits { body.now.wires ≤ device.now.size }
-    ensures { IfOk result (λ v. v.items ≡ ended (all_spelt
+    ensures bytes { IfOk result (λ v. v.items ≡ ended (all_spelt
         (trace_lines steps.now given.now (event_lines device.now.edges given.now body.now.gates events.now) turn))) }
+    ensures lines { IfOk result (λ v. ended (lines_of v.items) ≡ v.items) }
 {
     let mut bytes = Vec::new(alloc);
     push_one(&mut bytes, b"TRACE", 1)?;
@@ -99,3 +100,6 @@ pub fn route_trace(
     }
     Ok(bytes)
 }
+
+#[cfg(test)]
+mod tests;

@@ -1,12 +1,8 @@
-use Rattle.std.proofs.Common.{ℕ, ◌≡◌, List, ◌∙◌, ap, arith, subst, sym}
-use Rattle.rewrite_pass.specs.TraceLines.{ended}
+use Rattle.std.proofs.Common.{List, arith, subst, sym}
 use Rattle.sabre_route.specs.Machine.{start}
 use Rattle.sabre_route.specs.declared.events.Event.{Event as Told}
-use Rattle.trace_check.specs.Lines.{all_spelt}
-use Rattle.trace_text.specs.Texts.{lines_of}
-use Rattle.route_trace.specs.EventLines.{AreThere, event_lines, trace_lines}
+use Rattle.route_trace.specs.EventLines.{AreThere}
 use Rattle.route_trace.proofs.EventRuns.{run-there}
-use Rattle.route_trace.proofs.TextLaws.{ended-lines}
 use Rattle.route_trace.proofs.TraceLaws.{trace-proves}
 use Rattle.route_trace.proofs.route_trace.Goals as goal
 
@@ -23,10 +19,5 @@ returns-clause-proves c =
     let d = c.args.device.now in
     let coupling = c.size-size.ensures.coupling in
     trace-proves d c.args.steps.now c.args.body.now.wires _ c.args.body.now.gates c.args.given.now c.args.routed.now c.args.events.now c.args.turn c.in_ok-bytes.bytes.items
-    (λ a b n. c.distances_on_device.ensures.near d a b coupling n) coupling.graph.limited c.requires.fits c.requires.placement c.wires-wires.ensures.fine c.requires.routed c.requires.turn c.in_ok-bytes.ensures
+    (λ a b n. c.distances_on_device.ensures.near d a b coupling n) coupling.graph.limited c.requires.fits c.requires.placement c.wires-wires.ensures.fine c.requires.routed c.requires.turn c.in_ok-bytes.ensures.bytes
     (omega (arith, c.if-len-ge-SIZE_LIMIT.false, c.len.ensures))
-
-pub returns-clause-lines : goal.returns-clause-lines
-returns-clause-lines c =
-    let ls = all_spelt (trace_lines c.args.steps.now c.args.given.now (event_lines c.args.device.now.edges c.args.given.now c.args.body.now.gates c.args.events.now) c.args.turn) in
-    subst (λ (x : List ℕ). ended (lines_of x) ≡ x) (sym c.in_ok-bytes.ensures) (ended-lines ls)

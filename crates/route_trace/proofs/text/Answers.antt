@@ -1,13 +1,15 @@
-use Rattle.std.proofs.Common.{[], ◌∷◌, ◌++◌, ◌∙◌, ap}
+use Rattle.std.proofs.Common.{◌≡◌, ℕ, List, [], ◌∷◌, ◌++◌, ◌∙◌, ap, subst, sym}
 use Rattle.std.specs.Prelude.{codes}
 use Rattle.rewrite_pass.specs.TraceLines.{ended}
 use Rattle.trace_check.specs.Lines.{all_spelt}
-use Rattle.route_trace.specs.EventLines.{event_lines}
+use Rattle.trace_text.specs.Texts.{lines_of}
+use Rattle.route_trace.specs.EventLines.{event_lines, trace_lines}
+use Rattle.route_trace.proofs.TextLaws.{ended-lines}
 use Rattle.route_trace.proofs.TraceLaws.{line, text-made}
 use Rattle.route_trace.proofs.text.Goals as goal
 
-pub returns : goal.returns
-returns c =
+pub returns-clause-bytes : goal.returns-clause-bytes
+returns-clause-bytes c =
     let es = c.args.device.now.edges in
     let xs = c.args.events.now in
     let r = c.in_ok-replay.ensures in
@@ -18,3 +20,8 @@ returns c =
     c.in_ok-push_place.ensures
     (c.in_ok-push_events.ensures ∙ (λ i. c.push_place.new.bytes.items ++ ended (all_spelt (event_lines es (r.placement i) (r.rest i) xs))))
     c.in_ok-push_one-2.ensures
+
+pub returns-clause-lines : goal.returns-clause-lines
+returns-clause-lines c =
+    let ls = all_spelt (trace_lines c.args.steps.now c.args.given.now (event_lines c.args.device.now.edges c.args.given.now c.args.body.now.gates c.args.events.now) c.args.turn) in
+    subst (λ (x : List ℕ). ended (lines_of x) ≡ x) (sym (returns-clause-bytes c)) (ended-lines ls)
