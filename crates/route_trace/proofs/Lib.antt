@@ -1,0 +1,5 @@
+pub mod TextLaws
+pub mod GateLaws
+pub mod StepRuns
+pub mod EventRuns
+pub mod TraceLaws

@@ -1,0 +1,3 @@
+-- ---- working forms
+pub mod EventLines
+pub mod Replays

@@ -1,0 +1,69 @@
+//! The lines of a trace, but for those of its steps.
+
+ghost use Rattle.std.specs.Prelude.{◌≡◌, [], ◌∷◌, ◌++◌, codes, decimal, OnOk};
+ghost use Rattle.rewrite_pass.specs.TraceLines.{ended, words};
+ghost use Rattle.trace_check.specs.Lines.{spelt};
+ghost use Rattle.route_trace.specs.EventLines.{line_of};
+
+use crate::replay::EventLine;
+use itoa::Buffer;
+use std::alloc::AllocError;
+
+/// A space and a number behind it.
+fn push_number(bytes: &mut Vec<u8>, number: usize) -> Result<(), AllocError>
+    ensures { OnOk result (bytes.new.items ≡ bytes.old.items ++ 32 ∷ decimal number) }
+{
+    let mut buffer = Buffer::new();
+    bytes.push(b' ')?;
+    bytes.extend_from_slice(buffer.format(number).as_bytes())?;
+    Ok(())
+}
+
+/// A line of a word and a number.
+pub fn push_one(bytes: &mut Vec<u8>, word: &[u8], number: usize) -> Result<(), AllocError>
+    ensures { OnOk result (bytes.new.items ≡ bytes.old.items ++ (words word.now (number ∷ []) ++ 10 ∷ [])) }
+{
+    bytes.extend_from_slice(word)?;
+    push_number(bytes, number)?;
+    bytes.push(b'\n')?;
+    Ok(())
+}
+
+/// A line of a word and two numbers.
+fn push_two(bytes: &mut Vec<u8>, word: &[u8], first: usize, second: usize) -> Result<(), AllocError>
+    ensures { OnOk result (bytes.new.items ≡ bytes.old.items ++ (words word.now (first ∷ second ∷ []) ++ 10 ∷ [])) }
+{
+    bytes.extend_from_slice(word)?;
+    push_number(bytes, first)?;
+    push_number(bytes, second)?;
+    bytes.push(b'\n')?;
+    Ok(())
+}
+
+/// The line of a placement.
+pub fn push_place(bytes: &mut Vec<u8>, qubits: &[u32]) -> Result<(), AllocError>
+    ensures { OnOk result (bytes.new.items ≡ bytes.old.items ++ (words (codes "place") qubits.now ++ 10 ∷ [])) }
+{
+    bytes.extend_from_slice(b"place")?;
+    'qubits: for qubit in qubits {
+        push_number(bytes, *qubit as usize)?;
+    }
+    bytes.push(b'\n')?;
+    Ok(())
+}
+
+/// The line of an event.
+pub fn push_line(bytes: &mut Vec<u8>, line: EventLine) -> Result<(), AllocError>
+    ensures { OnOk result (bytes.new.items ≡ bytes.old.items ++ ended (spelt (line_of line))) }
+{
+    match line {
+        EventLine::Emit { place } => push_one(bytes, b"emit", place),
+        EventLine::Back { place } => push_one(bytes, b"back", place),
+        EventLine::Swap { first, second } => {
+            push_two(bytes, b"swap", first as usize, second as usize)
+        }
+        EventLine::Turn { first, second } => {
+            push_two(bytes, b"turn", first as usize, second as usize)
+        }
+    }
+}
