@@ -2,3 +2,4 @@ pub mod ReaderLaws
 pub mod OnceLaws
 pub mod RegisterLaws
 pub mod WholeLaws
+pub mod LimitLaws

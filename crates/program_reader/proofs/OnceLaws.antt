@@ -1,10 +1,10 @@
--- A text has one refusal at most.
+-- A text of any length has one refusal at most.
 --   LexRefusedOnce, ParseRefusedOnce, CheckRefusedOnce, InlineRefusedOnce, OnceLaws     laws of the stages, as they are handed in
 --   Told text r     a refusal of a text, by the stage that tells it
 --   told            each refusal is one of these
 --   told_once       two of them are one refusal
 --   refused_once    so a text has one
-use Rattle.std.proofs.Common.{◌≡◌, ◌≢◌, ℕ, ◌<◌, List, refl, sym, subst, ◌∙◌, ap, arith, length}
+use Rattle.std.proofs.Common.{◌≡◌, ◌≢◌, ℕ, List, refl, sym, subst, ◌∙◌, ap}
 use Rattle.qasm_lexer.specs.Tokens.{IsLexFault}
 use Rattle.qasm_lexer.specs.declared.LexFault.{LexFault}
 use Rattle.qasm_lexer.specs.declared.LexFault.TheVariants as lexing
@@ -18,9 +18,10 @@ use Rattle.qasm_check.specs.Checking.{IsCheckRefused, IsFineTree, bound}
 use Rattle.qasm_check.specs.declared.refusal.CheckFault.TheVariants as checking
 use Rattle.qasm_check.specs.declared.refusal.Refused.{Refused as Checked}
 use Rattle.gate_inline.specs.Inlined.{IsInlineRefused}
-use Rattle.gate_inline.specs.Programs.{IsSource, IsTreeOf, text_limit}
+use Rattle.gate_inline.specs.Programs.{IsSource, IsTreeOf}
 use Rattle.gate_inline.specs.declared.refusal.Refused.{Refused as Inlined}
-use Rattle.program_reader.specs.Refusals.{IsRefusal, IsUnparsed, IsWithin, lex_fault, parse_fault}
+use Rattle.program_reader.specs.Refusals.{lex_fault, parse_fault}
+use Rattle.program_reader.specs.Texts.{IsTextRefusal, IsUnparsed}
 use Rattle.program_reader.specs.declared.refusal.Refusal.{Refusal}
 use Rattle.program_reader.specs.declared.refusal.Refusal.TheVariants.{TooLong, BadByte, Number, Syntax, Version, Depth, Check, Inline}
 use Rattle.program_reader.specs.declared.refusal.ReadFault.TheVariants.{Refused, NoMemory}
@@ -49,22 +50,20 @@ pub record OnceLaws : Type 0 where
 
 -- ---- by the stage that tells it
 data Told (text : List ℕ) (r : Refusal) : Type 0 where
-  by_length : text_limit < length text → r ≡ TooLong → Told text r
-  by_lexer : (e : LexFault) → IsWithin text → IsLexFault text e → Refused r ≡ lex_fault e → Told text r
-  by_parser : (e : ParseFault) → IsWithin text → IsUnparsed text e → Refused r ≡ parse_fault e → Told text r
-  by_checks : (t : Tree) (e : Checked) → IsWithin text → IsTreeOf text t → IsCheckRefused t e → r ≡ Check e → Told text r
-  by_inlining : (t : Tree) (e : Inlined) → IsWithin text → IsSource text t → IsInlineRefused (bound t) e.refusal e.statement → r ≡ Inline e
-      → Told text r
+  by_lexer : (e : LexFault) → IsLexFault text e → Refused r ≡ lex_fault e → Told text r
+  by_parser : (e : ParseFault) → IsUnparsed text e → Refused r ≡ parse_fault e → Told text r
+  by_checks : (t : Tree) (e : Checked) → IsTreeOf text t → IsCheckRefused t e → r ≡ Check e → Told text r
+  by_inlining : (t : Tree) (e : Inlined) → IsSource text t → IsInlineRefused (bound t) e.refusal e.statement → r ≡ Inline e → Told text r
 
-told : (text : List ℕ) (r : Refusal) → IsRefusal text r → Told text r
-told text TooLong f = by_length f refl
-told text (BadByte place) (short, f) = by_lexer (lexing.BadByte place) short f refl
-told text (Number place) (short, f) = by_lexer (lexing.Number place) short f refl
-told text (Syntax place) (short, f) = by_parser (parsing.Syntax place) short f refl
-told text (Version place) (short, f) = by_parser (parsing.Version place) short f refl
-told text (Depth place) (short, f) = by_parser (parsing.Depth place) short f refl
-told text (Check e) (short, t, is, f) = by_checks t e short is f refl
-told text (Inline e) (short, t, is, f) = by_inlining t e short is f refl
+told : (text : List ℕ) (r : Refusal) → IsTextRefusal text r → Told text r
+told text TooLong f = absurd f
+told text (BadByte place) f = by_lexer (lexing.BadByte place) f refl
+told text (Number place) f = by_lexer (lexing.Number place) f refl
+told text (Syntax place) f = by_parser (parsing.Syntax place) f refl
+told text (Version place) f = by_parser (parsing.Version place) f refl
+told text (Depth place) f = by_parser (parsing.Depth place) f refl
+told text (Check e) (t, is, f) = by_checks t e is f refl
+told text (Inline e) (t, is, f) = by_inlining t e is f refl
 
 refused_same : (r s : Refusal) → Refused r ≡ Refused s → r ≡ s
 refused_same r s e = cc
@@ -84,9 +83,6 @@ parsed_same : (r s : Refusal) (e f : ParseFault) → e ≡ f → Refused r ≡ p
 parsed_same r s e f same h k = refused_same r s (h ∙ ap parse_fault same ∙ sym k)
 
 -- ---- two stages
-long_within : (text : List ℕ) → text_limit < length text → IsWithin text → ⊥
-long_within text long short = omega (arith, long, short)
-
 lexed_unparsed : Laws → (text : List ℕ) (r : Refusal) (e : LexFault) (f : ParseFault) → Refused r ≡ lex_fault e → IsLexFault text e → IsUnparsed text f → ⊥
 lexed_unparsed laws text r e f is h (tokens, lx, k) = lexed_some r e is (laws.no_lex_fault text tokens e lx h)
 
@@ -104,41 +100,32 @@ checked_source laws text t u e is h (also, fine) =
 
 -- ---- one refusal
 told_once : OnceLaws → (text : List ℕ) (r s : Refusal) → Told text r → Told text s → r ≡ s
-told_once all text r s (by_length h is) (by_length k also) = is ∙ sym also
-told_once all text r s (by_length h is) (by_lexer f short k also) = absurd (long_within text h short)
-told_once all text r s (by_length h is) (by_parser f short k also) = absurd (long_within text h short)
-told_once all text r s (by_length h is) (by_checks u f short too k also) = absurd (long_within text h short)
-told_once all text r s (by_length h is) (by_inlining u f short too k also) = absurd (long_within text h short)
-told_once all text r s (by_lexer e short h is) (by_length k also) = absurd (long_within text k short)
-told_once all text r s (by_lexer e short h is) (by_lexer f small k also) =
+told_once all text r s (by_lexer e h is) (by_lexer f k also) =
     lexed_same r s e f (all.lex_refused_once text e f h k (lexed_some r e is) (lexed_some s f also)) is also
-told_once all text r s (by_lexer e short h is) (by_parser f small k also) = absurd (lexed_unparsed all.laws text r e f is h k)
-told_once all text r s (by_lexer e short h is) (by_checks u f small too k also) = absurd (lexed_tree all.laws text r e u is h too)
-told_once all text r s (by_lexer e short h is) (by_inlining u f small too k also) = absurd (lexed_tree all.laws text r e u is h too.0)
-told_once all text r s (by_parser e short h is) (by_length k also) = absurd (long_within text k short)
-told_once all text r s (by_parser e short h is) (by_lexer f small k also) = absurd (lexed_unparsed all.laws text s f e also k h)
-told_once all text r s (by_parser e short (xs, lx, h) is) (by_parser f small (ys, ly, k) also) =
+told_once all text r s (by_lexer e h is) (by_parser f k also) = absurd (lexed_unparsed all.laws text r e f is h k)
+told_once all text r s (by_lexer e h is) (by_checks u f too k also) = absurd (lexed_tree all.laws text r e u is h too)
+told_once all text r s (by_lexer e h is) (by_inlining u f too k also) = absurd (lexed_tree all.laws text r e u is h too.0)
+told_once all text r s (by_parser e h is) (by_lexer f k also) = absurd (lexed_unparsed all.laws text s f e also k h)
+told_once all text r s (by_parser e (xs, lx, h) is) (by_parser f (ys, ly, k) also) =
     let same = all.laws.lexed_once text ys xs ly lx in
     let there = subst (λ (ts : List Token). IsParseFault text ts f) same k in
     parsed_same r s e f (all.parse_refused_once text xs e f h there (parsed_some r e is) (parsed_some s f also)) is also
-told_once all text r s (by_parser e short h is) (by_checks u f small too k also) = absurd (parsed_tree all.laws text r e u is h too)
-told_once all text r s (by_parser e short h is) (by_inlining u f small too k also) = absurd (parsed_tree all.laws text r e u is h too.0)
-told_once all text r s (by_checks t e short tree h is) (by_length k also) = absurd (long_within text k short)
-told_once all text r s (by_checks t e short tree h is) (by_lexer f small k also) = absurd (lexed_tree all.laws text s f t also k tree)
-told_once all text r s (by_checks t e short tree h is) (by_parser f small k also) = absurd (parsed_tree all.laws text s f t also k tree)
-told_once all text r s (by_checks t e short tree h is) (by_checks u f small too k also) =
+told_once all text r s (by_parser e h is) (by_checks u f too k also) = absurd (parsed_tree all.laws text r e u is h too)
+told_once all text r s (by_parser e h is) (by_inlining u f too k also) = absurd (parsed_tree all.laws text r e u is h too.0)
+told_once all text r s (by_checks t e tree h is) (by_lexer f k also) = absurd (lexed_tree all.laws text s f t also k tree)
+told_once all text r s (by_checks t e tree h is) (by_parser f k also) = absurd (parsed_tree all.laws text s f t also k tree)
+told_once all text r s (by_checks t e tree h is) (by_checks u f too k also) =
     let same = tree-once all.laws.lexed_once all.laws.spelt_once text u t too tree in
     let one = all.check_refused_once t e f h (subst (λ (x : Tree). IsCheckRefused x f) same k) in
     is ∙ ap Check one ∙ sym also
-told_once all text r s (by_checks t e short tree h is) (by_inlining u f small too k also) = absurd (checked_source all.laws text t u e tree h too)
-told_once all text r s (by_inlining t e short tree h is) (by_length k also) = absurd (long_within text k short)
-told_once all text r s (by_inlining t e short tree h is) (by_lexer f small k also) = absurd (lexed_tree all.laws text s f t also k tree.0)
-told_once all text r s (by_inlining t e short tree h is) (by_parser f small k also) = absurd (parsed_tree all.laws text s f t also k tree.0)
-told_once all text r s (by_inlining t e short tree h is) (by_checks u f small too k also) = absurd (checked_source all.laws text u t f too k tree)
-told_once all text r s (by_inlining t e short tree h is) (by_inlining u f small too k also) =
+told_once all text r s (by_checks t e tree h is) (by_inlining u f too k also) = absurd (checked_source all.laws text t u e tree h too)
+told_once all text r s (by_inlining t e tree h is) (by_lexer f k also) = absurd (lexed_tree all.laws text s f t also k tree.0)
+told_once all text r s (by_inlining t e tree h is) (by_parser f k also) = absurd (parsed_tree all.laws text s f t also k tree.0)
+told_once all text r s (by_inlining t e tree h is) (by_checks u f too k also) = absurd (checked_source all.laws text u t f too k tree)
+told_once all text r s (by_inlining t e tree h is) (by_inlining u f too k also) =
     let same = tree-once all.laws.lexed_once all.laws.spelt_once text u t too.0 tree.0 in
     let one = all.inline_refused_once (bound t) e f h (subst (λ (x : Tree). IsInlineRefused (bound x) f.refusal f.statement) same k) in
     is ∙ ap Inline one ∙ sym also
 
-pub refused_once : OnceLaws → (text : List ℕ) (r s : Refusal) → IsRefusal text r → IsRefusal text s → r ≡ s
+pub refused_once : OnceLaws → (text : List ℕ) (r s : Refusal) → IsTextRefusal text r → IsTextRefusal text s → r ≡ s
 refused_once all text r s f g = told_once all text r s (told text r f) (told text s g)

@@ -1,4 +1,4 @@
--- What a text means, and its refusals.
+-- What a text of any length means, and its refusals.
 --   LexedOnce, NoLexFault, SpeltOnce, NoParseFault, NoCheckFault, NoInlineFault, Laws     laws of the stages, as they are handed in
 --   FewTokens, FewStatements, DeclaresNames     more of them
 --   few_of, names_of     how many statements a tree has, and what names it declares
@@ -7,7 +7,8 @@
 --   means-once           and means one program at most
 --   unparsed, unlexed    a text that spells a tree has no fault in its tokens or its grammar
 --   accepted-no_refusal  an accepted text has no refusal
---   IsRefusal-checked, IsRefusal-written     from the stages' refusals to the text's
+--   IsTextFault-lexed, -parsed, -checked, -written     from the stages' faults to the text's
+--   IsAcceptedText-read      and from their answers to the text's program
 use Rattle.std.proofs.Common.{◌≡◌, ℕ, ◌<◌, ◌≤◌, List, All, Result, Ok, Err, IfOk, IfErr, sym, subst, ◌∙◌, arith, length}
 use Rattle.qasm_lexer.specs.Tokens.{AreTokens, IsLexFault, IsTokenOf}
 use Rattle.qasm_lexer.specs.declared.LexFault.{LexFault}
@@ -26,11 +27,12 @@ use Rattle.qasm_check.specs.declared.refusal.CheckFault.{CheckFault}
 use Rattle.qasm_check.specs.declared.refusal.CheckFault.TheVariants as checking
 use Rattle.gate_expand.specs.declared.source.Ops.{Ops}
 use Rattle.gate_inline.specs.Inlined.{IsInlineFault, IsInlined, operations}
-use Rattle.gate_inline.specs.Programs.{IsAccepted, IsTreeOf, IsWithinLimits, IsWritten, Means, Program}
+use Rattle.gate_inline.specs.Programs.{IsTreeOf, IsWithinLimits, IsWritten, Means, Program}
 use Rattle.gate_inline.specs.declared.refusal.InlineFault.{InlineFault}
 use Rattle.gate_inline.specs.declared.refusal.InlineFault.TheVariants as inlining
-use Rattle.program_reader.specs.Refusals.{IsReadFault, IsRefusal, IsUnparsed, IsWithin, lex_fault, parse_fault}
+use Rattle.program_reader.specs.Refusals.{lex_fault, parse_fault}
 use Rattle.program_reader.specs.Stages.{IsUnchecked, IsUnwritten}
+use Rattle.program_reader.specs.Texts.{IsAcceptedText, IsTextFault, IsTextRefusal, IsUnparsed}
 use Rattle.program_reader.specs.declared.refusal.Refusal.{Refusal}
 use Rattle.program_reader.specs.declared.refusal.Refusal.TheVariants.{TooLong, BadByte, Number, Syntax, Version, Depth, Check, Inline}
 use Rattle.program_reader.specs.declared.refusal.ReadFault.{ReadFault}
@@ -98,17 +100,17 @@ unlexed laws text t fault (xs, lx, is) f = laws.no_lex_fault text xs fault lx f
 inlined_of : (b : Bound) (p : Program) → IsWithinLimits b → Means b p → IsInlined b (record { wires = p.wires; list = p.ops; reads = p.reads })
 inlined_of b p small m = record { small = small; wires = m.wires; list = m.ops; reads = m.reads }
 
-pub accepted-no_refusal : Laws → (text : List ℕ) (p : Program) (r : Refusal) → IsAccepted text p → IsRefusal text r → ⊥
-accepted-no_refusal laws text p TooLong a r = omega (arith, a.short, r)
-accepted-no_refusal laws text p (BadByte place) a r = let e = unlexed laws text a.tree (lexing.BadByte place) a.source.0 r.1 in cc
-accepted-no_refusal laws text p (Number place) a r = let e = unlexed laws text a.tree (lexing.Number place) a.source.0 r.1 in cc
-accepted-no_refusal laws text p (Syntax place) a r = let e = unparsed laws text a.tree (parsing.Syntax place) a.source.0 r.1 in cc
-accepted-no_refusal laws text p (Version place) a r = let e = unparsed laws text a.tree (parsing.Version place) a.source.0 r.1 in cc
-accepted-no_refusal laws text p (Depth place) a r = let e = unparsed laws text a.tree (parsing.Depth place) a.source.0 r.1 in cc
-accepted-no_refusal laws text p (Check r) a (short, t, is, refused) =
+pub accepted-no_refusal : Laws → (text : List ℕ) (p : Program) (r : Refusal) → IsAcceptedText text p → IsTextRefusal text r → ⊥
+accepted-no_refusal laws text p TooLong a r = r
+accepted-no_refusal laws text p (BadByte place) a r = let e = unlexed laws text a.tree (lexing.BadByte place) a.source.0 r in cc
+accepted-no_refusal laws text p (Number place) a r = let e = unlexed laws text a.tree (lexing.Number place) a.source.0 r in cc
+accepted-no_refusal laws text p (Syntax place) a r = let e = unparsed laws text a.tree (parsing.Syntax place) a.source.0 r in cc
+accepted-no_refusal laws text p (Version place) a r = let e = unparsed laws text a.tree (parsing.Version place) a.source.0 r in cc
+accepted-no_refusal laws text p (Depth place) a r = let e = unparsed laws text a.tree (parsing.Depth place) a.source.0 r in cc
+accepted-no_refusal laws text p (Check r) a (t, is, refused) =
     let same = tree-once laws.lexed_once laws.spelt_once text a.tree t a.source.0 is in
     let e = laws.no_check_fault t (checking.Refused r) (subst (λ (x : Tree). IsFineTree x) same a.source.1) refused in cc
-accepted-no_refusal laws text p (Inline r) a (short, t, is, refused) =
+accepted-no_refusal laws text p (Inline r) a (t, is, refused) =
     let same = tree-once laws.lexed_once laws.spelt_once text a.tree t a.source.0 is.0 in
     let small = subst (λ (x : Tree). IsWithinLimits (bound x)) same a.few in
     let means = subst (λ (x : Tree). Means (bound x) p) same a.means in
@@ -125,8 +127,8 @@ abbrev pub DeclaresNames : Type 0
 DeclaresNames = (text : List ℕ) (tokens : List Token) (t : Tree) (found : List Seen) → All (IsTokenOf text) tokens → Spells text tokens t found
     → All (HasNames IsName) t.list
 
-pub few_of : FewTokens → FewStatements → (text : List ℕ) (tokens : List Token) (t : Tree) (n : ℕ) → IsWithin text → AreTokens text tokens
-    → IsProgram text tokens t → n ≡ length t.list → n < 4294967296
+pub few_of : FewTokens → FewStatements → (text : List ℕ) (tokens : List Token) (t : Tree) (n : ℕ) → length text < 2147483648
+    → AreTokens text tokens → IsProgram text tokens t → n ≡ length t.list → n < 4294967296
 few_of tokens_law statements_law text tokens t n short lx (found, spells, version, shallow) same =
     let a = tokens_law text tokens lx in
     let b = statements_law text tokens t found spells in
@@ -137,45 +139,44 @@ pub names_of : DeclaresNames → (text : List ℕ) (tokens : List Token) (t : Tr
 names_of law text tokens t each (found, spells, version, shallow) = law text tokens t found each spells
 
 -- ---- from the stages
-pub IsReadFault-lexed : (text : List ℕ) (e : LexFault) (f : ReadFault) → IsWithin text → IsLexFault text e → f ≡ lex_fault e → IsReadFault text f
-IsReadFault-lexed text (lexing.BadByte place) f short is e = rw e (short, is)
-IsReadFault-lexed text (lexing.Number place) f short is e = rw e (short, is)
-IsReadFault-lexed text lexing.NoMemory f short is e = rw e tt
+pub IsTextFault-lexed : (text : List ℕ) (e : LexFault) (f : ReadFault) → IsLexFault text e → f ≡ lex_fault e → IsTextFault text f
+IsTextFault-lexed text (lexing.BadByte place) f is e = rw e is
+IsTextFault-lexed text (lexing.Number place) f is e = rw e is
+IsTextFault-lexed text lexing.NoMemory f is e = rw e tt
 
-pub IsReadFault-parsed : (text : List ℕ) (tokens : List Token) (e : ParseFault) (f : ReadFault) → IsWithin text → AreTokens text tokens
-    → IsParseFault text tokens e → f ≡ parse_fault e → IsReadFault text f
-IsReadFault-parsed text tokens (parsing.Syntax place) f short lx is e = rw e (short, (tokens, lx, is))
-IsReadFault-parsed text tokens (parsing.Version place) f short lx is e = rw e (short, (tokens, lx, is))
-IsReadFault-parsed text tokens (parsing.Depth place) f short lx is e = rw e (short, (tokens, lx, is))
-IsReadFault-parsed text tokens parsing.NoMemory f short lx is e = rw e tt
+pub IsTextFault-parsed : (text : List ℕ) (tokens : List Token) (e : ParseFault) (f : ReadFault) → AreTokens text tokens
+    → IsParseFault text tokens e → f ≡ parse_fault e → IsTextFault text f
+IsTextFault-parsed text tokens (parsing.Syntax place) f lx is e = rw e (tokens, lx, is)
+IsTextFault-parsed text tokens (parsing.Version place) f lx is e = rw e (tokens, lx, is)
+IsTextFault-parsed text tokens (parsing.Depth place) f lx is e = rw e (tokens, lx, is)
+IsTextFault-parsed text tokens parsing.NoMemory f lx is e = rw e tt
 
-pub IsReadFault-checked : (text : List ℕ) (t : Tree) (e : ReadFault) → IsWithin text → IsTreeOf text t → IsUnchecked t e → IsReadFault text e
-IsReadFault-checked text t NoMemory short is u = tt
-IsReadFault-checked text t (Refused (Check r)) short is u = (short, t, is, u)
-IsReadFault-checked text t (Refused TooLong) short is u = absurd u
-IsReadFault-checked text t (Refused (BadByte place)) short is u = absurd u
-IsReadFault-checked text t (Refused (Number place)) short is u = absurd u
-IsReadFault-checked text t (Refused (Syntax place)) short is u = absurd u
-IsReadFault-checked text t (Refused (Version place)) short is u = absurd u
-IsReadFault-checked text t (Refused (Depth place)) short is u = absurd u
-IsReadFault-checked text t (Refused (Inline r)) short is u = absurd u
+pub IsTextFault-checked : (text : List ℕ) (t : Tree) (e : ReadFault) → IsTreeOf text t → IsUnchecked t e → IsTextFault text e
+IsTextFault-checked text t NoMemory is u = tt
+IsTextFault-checked text t (Refused (Check r)) is u = (t, is, u)
+IsTextFault-checked text t (Refused TooLong) is u = absurd u
+IsTextFault-checked text t (Refused (BadByte place)) is u = absurd u
+IsTextFault-checked text t (Refused (Number place)) is u = absurd u
+IsTextFault-checked text t (Refused (Syntax place)) is u = absurd u
+IsTextFault-checked text t (Refused (Version place)) is u = absurd u
+IsTextFault-checked text t (Refused (Depth place)) is u = absurd u
+IsTextFault-checked text t (Refused (Inline r)) is u = absurd u
 
-pub IsReadFault-written : (text : List ℕ) (t : Tree) (b : Bound) (e : ReadFault) → IsWithin text → IsTreeOf text t → IsFineTree t → b ≡ bound t → IsUnwritten b e → IsReadFault text e
-IsReadFault-written text t b NoMemory short is fine same u = tt
-IsReadFault-written text t b (Refused (Inline r)) short is fine same u =
-    (short, t, (is, fine), subst (λ (x : Bound). IsUnwritten x (Refused (Inline r))) same u)
-IsReadFault-written text t b (Refused TooLong) short is fine same u = absurd u
-IsReadFault-written text t b (Refused (BadByte place)) short is fine same u = absurd u
-IsReadFault-written text t b (Refused (Number place)) short is fine same u = absurd u
-IsReadFault-written text t b (Refused (Syntax place)) short is fine same u = absurd u
-IsReadFault-written text t b (Refused (Version place)) short is fine same u = absurd u
-IsReadFault-written text t b (Refused (Depth place)) short is fine same u = absurd u
-IsReadFault-written text t b (Refused (Check r)) short is fine same u = absurd u
+pub IsTextFault-written : (text : List ℕ) (t : Tree) (b : Bound) (e : ReadFault) → IsTreeOf text t → IsFineTree t → b ≡ bound t → IsUnwritten b e → IsTextFault text e
+IsTextFault-written text t b NoMemory is fine same u = tt
+IsTextFault-written text t b (Refused (Inline r)) is fine same u =
+    (t, (is, fine), subst (λ (x : Bound). IsUnwritten x (Refused (Inline r))) same u)
+IsTextFault-written text t b (Refused TooLong) is fine same u = absurd u
+IsTextFault-written text t b (Refused (BadByte place)) is fine same u = absurd u
+IsTextFault-written text t b (Refused (Number place)) is fine same u = absurd u
+IsTextFault-written text t b (Refused (Syntax place)) is fine same u = absurd u
+IsTextFault-written text t b (Refused (Version place)) is fine same u = absurd u
+IsTextFault-written text t b (Refused (Depth place)) is fine same u = absurd u
+IsTextFault-written text t b (Refused (Check r)) is fine same u = absurd u
 
-pub IsAccepted-read : (text : List ℕ) (t : Tree) (b : Bound) (p : Program) → IsWithin text → IsTreeOf text t → IsFineTree t → b ≡ bound t
-    → IsWithinLimits b × Means b p → IsAccepted text p
-IsAccepted-read text t b p short is fine same h = record {
-  short = short;
+pub IsAcceptedText-read : (text : List ℕ) (t : Tree) (b : Bound) (p : Program) → IsTreeOf text t → IsFineTree t → b ≡ bound t
+    → IsWithinLimits b × Means b p → IsAcceptedText text p
+IsAcceptedText-read text t b p is fine same h = record {
   tree = t;
   source = (is, fine);
   few = subst (λ (x : Bound). IsWithinLimits x) same h.0;
@@ -190,4 +191,4 @@ pub in_err : {A E : Type 0} (P Q : E → Type 0) (r : Result A E) → ((x : E) �
 in_err P Q (Ok x) f h = tt
 in_err P Q (Err e) f h = f e h
 
-pub ruleset reader = (IsReadFault-lexed, IsReadFault-parsed, IsReadFault-checked, IsReadFault-written, IsAccepted-read)
+pub ruleset reader = (IsTextFault-lexed, IsTextFault-parsed, IsTextFault-checked, IsTextFault-written, IsAcceptedText-read)

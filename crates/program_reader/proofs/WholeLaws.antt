@@ -1,8 +1,7 @@
--- A text is accepted, or has a refusal.
+-- A text of any length is accepted, or has a refusal.
 --   WholeLaws        laws of the stages, as they are handed in
 --   accepted_or_refused   the law of texts
-use Rattle.std.proofs.Common.{◌≢◌, ℕ, List, refl, length, ◌⊎◌, inl, inr}
-use Rattle.std.proofs.lemmas.Bool.{cases_lt}
+use Rattle.std.proofs.Common.{◌≢◌, ℕ, List, refl, ◌⊎◌, inl, inr}
 use Rattle.qasm_lexer.specs.Tokens.{AreTokens, IsLexFault}
 use Rattle.qasm_lexer.specs.declared.LexFault.{LexFault}
 use Rattle.qasm_lexer.specs.declared.LexFault.TheVariants as lexing
@@ -16,11 +15,11 @@ use Rattle.qasm_check.specs.Checking.{IsCheckRefused, IsFineTree, bound}
 use Rattle.qasm_check.specs.declared.refusal.Refused.{Refused as Checked}
 use Rattle.gate_expand.specs.declared.source.Ops.{Ops}
 use Rattle.gate_inline.specs.Inlined.{IsInlineRefused, IsInlined}
-use Rattle.gate_inline.specs.Programs.{IsAccepted, IsSource, IsTreeOf, Program, text_limit}
+use Rattle.gate_inline.specs.Programs.{IsSource, IsTreeOf, Program}
 use Rattle.gate_inline.specs.declared.refusal.Refused.{Refused as Inlined}
-use Rattle.program_reader.specs.Refusals.{IsRefusal, IsWithin}
+use Rattle.program_reader.specs.Texts.{IsAcceptedText, IsTextRefusal}
 use Rattle.program_reader.specs.declared.refusal.Refusal.{Refusal}
-use Rattle.program_reader.specs.declared.refusal.Refusal.TheVariants.{TooLong, BadByte, Number, Syntax, Version, Depth, Check, Inline}
+use Rattle.program_reader.specs.declared.refusal.Refusal.TheVariants.{BadByte, Number, Syntax, Version, Depth, Check, Inline}
 
 abbrev pub LexedOrRefused : Type 0
 LexedOrRefused = (text : List ℕ) → ((tokens : List Token) × AreTokens text tokens) ⊎ ((fault : LexFault) × (fault ≢ lexing.NoMemory) × IsLexFault text fault)
@@ -42,13 +41,12 @@ pub record WholeLaws : Type 0 where
   pub inlined : InlinedOrRefused
 
 abbrev Whole : List ℕ → Type 0
-Whole text = ((p : Program) × IsAccepted text p) ⊎ ((r : Refusal) × IsRefusal text r)
+Whole text = ((p : Program) × IsAcceptedText text p) ⊎ ((r : Refusal) × IsTextRefusal text r)
 
-written : (text : List ℕ) (t : Tree) (o : Ops) → IsWithin text → IsSource text t → IsInlined (bound t) o → Whole text
-written text t o short source h = inl (
+written : (text : List ℕ) (t : Tree) (o : Ops) → IsSource text t → IsInlined (bound t) o → Whole text
+written text t o source h = inl (
   record { wires = o.wires; ops = o.list; reads = o.reads; registers = (bound t).registers; barriers = barriers (bound t) },
   record {
-    short = short;
     tree = t;
     source = source;
     few = h.small;
@@ -56,40 +54,37 @@ written text t o short source h = inl (
   },
 )
 
-inlined : WholeLaws → (text : List ℕ) (t : Tree) → IsWithin text → IsSource text t → Whole text
-inlined laws text t short source = elim (laws.inlined (bound t)) [
-  | inl h ↦ written text t h.0 short source h.1
-  | inr r ↦ inr (Inline r.0, (short, t, source, r.1))
+inlined : WholeLaws → (text : List ℕ) (t : Tree) → IsSource text t → Whole text
+inlined laws text t source = elim (laws.inlined (bound t)) [
+  | inl h ↦ written text t h.0 source h.1
+  | inr r ↦ inr (Inline r.0, (t, source, r.1))
 ]
 
-checked : WholeLaws → (text : List ℕ) (t : Tree) → IsWithin text → IsTreeOf text t → Whole text
-checked laws text t short is = elim (laws.checked t) [
-  | inl fine ↦ inlined laws text t short (is, fine)
-  | inr r ↦ inr (Check r.0, (short, t, is, r.1))
+checked : WholeLaws → (text : List ℕ) (t : Tree) → IsTreeOf text t → Whole text
+checked laws text t is = elim (laws.checked t) [
+  | inl fine ↦ inlined laws text t (is, fine)
+  | inr r ↦ inr (Check r.0, (t, is, r.1))
 ]
 
-misspelt : (text : List ℕ) (tokens : List Token) (fault : ParseFault) → IsWithin text → AreTokens text tokens → fault ≢ parsing.NoMemory → IsParseFault text tokens fault → Whole text
-misspelt text tokens (parsing.Syntax place) short lx some h = inr (Syntax place, (short, (tokens, lx, h)))
-misspelt text tokens (parsing.Version place) short lx some h = inr (Version place, (short, (tokens, lx, h)))
-misspelt text tokens (parsing.Depth place) short lx some h = inr (Depth place, (short, (tokens, lx, h)))
-misspelt text tokens parsing.NoMemory short lx some h = absurd (some refl)
+misspelt : (text : List ℕ) (tokens : List Token) (fault : ParseFault) → AreTokens text tokens → fault ≢ parsing.NoMemory → IsParseFault text tokens fault → Whole text
+misspelt text tokens (parsing.Syntax place) lx some h = inr (Syntax place, (tokens, lx, h))
+misspelt text tokens (parsing.Version place) lx some h = inr (Version place, (tokens, lx, h))
+misspelt text tokens (parsing.Depth place) lx some h = inr (Depth place, (tokens, lx, h))
+misspelt text tokens parsing.NoMemory lx some h = absurd (some refl)
 
-parsed : WholeLaws → (text : List ℕ) (tokens : List Token) → IsWithin text → AreTokens text tokens → Whole text
-parsed laws text tokens short lx = elim (laws.parsed text tokens) [
-  | inl t ↦ checked laws text t.0 short (tokens, lx, t.1)
-  | inr f ↦ misspelt text tokens f.0 short lx f.1 f.2
+parsed : WholeLaws → (text : List ℕ) (tokens : List Token) → AreTokens text tokens → Whole text
+parsed laws text tokens lx = elim (laws.parsed text tokens) [
+  | inl t ↦ checked laws text t.0 (tokens, lx, t.1)
+  | inr f ↦ misspelt text tokens f.0 lx f.1 f.2
 ]
 
-unlexed : (text : List ℕ) (fault : LexFault) → IsWithin text → fault ≢ lexing.NoMemory → IsLexFault text fault → Whole text
-unlexed text (lexing.BadByte place) short some h = inr (BadByte place, (short, h))
-unlexed text (lexing.Number place) short some h = inr (Number place, (short, h))
-unlexed text lexing.NoMemory short some h = absurd (some refl)
+unlexed : (text : List ℕ) (fault : LexFault) → fault ≢ lexing.NoMemory → IsLexFault text fault → Whole text
+unlexed text (lexing.BadByte place) some h = inr (BadByte place, h)
+unlexed text (lexing.Number place) some h = inr (Number place, h)
+unlexed text lexing.NoMemory some h = absurd (some refl)
 
-pub accepted_or_refused : WholeLaws → (text : List ℕ) → ((p : Program) × IsAccepted text p) ⊎ ((r : Refusal) × IsRefusal text r)
-accepted_or_refused laws text = elim (cases_lt text_limit (length text)) [
-  | inl long ↦ inr (TooLong, long)
-  | inr short ↦ elim (laws.lexed text) [
-    | inl ts ↦ parsed laws text ts.0 short ts.1
-    | inr f ↦ unlexed text f.0 short f.1 f.2
-  ]
+pub accepted_or_refused : WholeLaws → (text : List ℕ) → ((p : Program) × IsAcceptedText text p) ⊎ ((r : Refusal) × IsTextRefusal text r)
+accepted_or_refused laws text = elim (laws.lexed text) [
+  | inl ts ↦ parsed laws text ts.0 ts.1
+  | inr f ↦ unlexed text f.0 f.1 f.2
 ]

@@ -1,5 +1,6 @@
 -- ---- definitions that public clauses reach
 pub mod Refusals
 pub mod Sources
+pub mod Texts
 -- ---- working forms
 pub mod Stages

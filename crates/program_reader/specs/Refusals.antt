@@ -1,31 +1,23 @@
 -- The first refusal of a text.
---   IsUnparsed text f    the text has tokens, and f is why they aren't accepted as a program
 --   IsWithin text        the text isn't too long
---   IsRefusal text r     r is the text's first refusal: its length; else the first byte that begins no token or the first number
---                        that is too large, whichever comes first; else that no program is spelt, or one of another version, or
---                        with an expression that is too deep; else that of the first statement which has one, with the least
---                        code; else that there is too much to write out; else the first angle that isn't exact
+--   IsRefusal text r     r is the text's first refusal: its length; else the first one that a text of any length may have
 --   IsReadFault text e   what may be told of a text: its first refusal, or want of memory
 --   lex_fault, parse_fault   a fault of the tokens or of the grammar, as it is told
+--   code_of r            the number under which a refusal is told
+--   at_of r              its place in the text, or its statement, counted from 1; 0 of a text that is too long
 use Rattle.std.specs.Prelude.{ℕ, ◌<◌, ◌≤◌, List, length}
-use Rattle.qasm_lexer.specs.Tokens.{AreTokens, IsLexFault}
-use Rattle.qasm_lexer.specs.declared.Token.{Token}
 use Rattle.qasm_lexer.specs.declared.LexFault.{LexFault}
 use Rattle.qasm_lexer.specs.declared.LexFault.TheVariants as lexing
-use Rattle.qasm_parser.specs.Parsing.{IsParseFault}
-use Rattle.qasm_parser.specs.Tree.{Tree}
 use Rattle.qasm_parser.specs.declared.ParseFault.{ParseFault}
 use Rattle.qasm_parser.specs.declared.ParseFault.TheVariants as parsing
-use Rattle.qasm_check.specs.Checking.{IsCheckRefused, bound}
-use Rattle.gate_inline.specs.Inlined.{IsInlineRefused}
-use Rattle.gate_inline.specs.Programs.{IsSource, IsTreeOf, text_limit}
+use Rattle.qasm_check.specs.Refusals.{code as check_code}
+use Rattle.gate_inline.specs.Inlined.{code as inline_code}
+use Rattle.gate_inline.specs.Programs.{text_limit}
+use Rattle.program_reader.specs.Texts.{IsTextRefusal}
 use Rattle.program_reader.specs.declared.refusal.Refusal.{Refusal}
 use Rattle.program_reader.specs.declared.refusal.Refusal.TheVariants.{TooLong, BadByte, Number, Syntax, Version, Depth, Check, Inline}
 use Rattle.program_reader.specs.declared.refusal.ReadFault.{ReadFault}
 use Rattle.program_reader.specs.declared.refusal.ReadFault.TheVariants.{Refused, NoMemory}
-
-abbrev pub IsUnparsed : List ℕ → ParseFault → Type 0
-IsUnparsed text fault = (tokens : List Token) × AreTokens text tokens × IsParseFault text tokens fault
 
 -- of a text that isn't too long
 abbrev pub IsWithin : List ℕ → Type 0
@@ -33,13 +25,13 @@ IsWithin text = length text ≤ text_limit
 
 abbrev pub IsRefusal : List ℕ → Refusal → Type 0
 IsRefusal text TooLong = text_limit < length text
-IsRefusal text (BadByte place) = IsWithin text × IsLexFault text (lexing.BadByte place)
-IsRefusal text (Number place) = IsWithin text × IsLexFault text (lexing.Number place)
-IsRefusal text (Syntax place) = IsWithin text × IsUnparsed text (parsing.Syntax place)
-IsRefusal text (Version place) = IsWithin text × IsUnparsed text (parsing.Version place)
-IsRefusal text (Depth place) = IsWithin text × IsUnparsed text (parsing.Depth place)
-IsRefusal text (Check r) = IsWithin text × (t : Tree) × IsTreeOf text t × IsCheckRefused t r
-IsRefusal text (Inline r) = IsWithin text × (t : Tree) × IsSource text t × IsInlineRefused (bound t) r.refusal r.statement
+IsRefusal text (BadByte place) = IsWithin text × IsTextRefusal text (BadByte place)
+IsRefusal text (Number place) = IsWithin text × IsTextRefusal text (Number place)
+IsRefusal text (Syntax place) = IsWithin text × IsTextRefusal text (Syntax place)
+IsRefusal text (Version place) = IsWithin text × IsTextRefusal text (Version place)
+IsRefusal text (Depth place) = IsWithin text × IsTextRefusal text (Depth place)
+IsRefusal text (Check r) = IsWithin text × IsTextRefusal text (Check r)
+IsRefusal text (Inline r) = IsWithin text × IsTextRefusal text (Inline r)
 
 abbrev pub IsReadFault : List ℕ → ReadFault → Type 0
 IsReadFault text (Refused r) = IsRefusal text r
@@ -55,3 +47,24 @@ parse_fault (parsing.Syntax place) = Refused (Syntax place)
 parse_fault (parsing.Version place) = Refused (Version place)
 parse_fault (parsing.Depth place) = Refused (Depth place)
 parse_fault parsing.NoMemory = NoMemory
+
+-- ---- as numbers
+abbrev pub code_of : Refusal → ℕ
+code_of TooLong = 60
+code_of (BadByte place) = 10
+code_of (Number place) = 11
+code_of (Syntax place) = 12
+code_of (Version place) = 13
+code_of (Depth place) = 14
+code_of (Check r) = check_code r.refusal
+code_of (Inline r) = inline_code r.refusal
+
+abbrev pub at_of : Refusal → ℕ
+at_of TooLong = 0
+at_of (BadByte place) = place
+at_of (Number place) = place
+at_of (Syntax place) = place
+at_of (Version place) = place
+at_of (Depth place) = place
+at_of (Check r) = r.statement
+at_of (Inline r) = r.statement

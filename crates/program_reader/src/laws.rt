@@ -3,6 +3,7 @@
 ghost use Rattle.std.specs.Prelude.{◌≡◌, ◌⊎◌, ℕ, List};
 ghost use Rattle.gate_inline.specs.Programs.{IsAccepted, IsWritten, Program as Meant};
 ghost use Rattle.program_reader.specs.Refusals.{IsRefusal};
+ghost use Rattle.program_reader.specs.Texts.{IsAcceptedText, IsTextRefusal};
 ghost use Rattle.program_reader.specs.declared.refusal.Refusal.{Refusal as First};
 
 /// A text means one program at most.
@@ -13,9 +14,9 @@ pub fn means_once()
     qasm_parser::spelt_once();
 }
 
-/// An accepted text has no refusal.
-pub fn accepted_has_no_refusal()
-    ensures { (text : List ℕ) (p : Meant) (r : First) → IsAccepted text p → IsRefusal text r → ⊥ }
+/// A text of any length that is accepted has no refusal.
+pub fn accepted_text_has_no_refusal()
+    ensures { (text : List ℕ) (p : Meant) (r : First) → IsAcceptedText text p → IsTextRefusal text r → ⊥ }
 {
     qasm_lexer::lexed_once();
     qasm_lexer::accepted_has_no_fault();
@@ -25,9 +26,9 @@ pub fn accepted_has_no_refusal()
     gate_inline::inlined_has_no_fault();
 }
 
-/// A text is accepted, or has a refusal.
-pub fn accepted_or_refused()
-    ensures { (text : List ℕ) → ((p : Meant) × IsAccepted text p) ⊎ ((r : First) × IsRefusal text r) }
+/// A text of any length is accepted, or has a refusal.
+pub fn text_accepted_or_refused()
+    ensures { (text : List ℕ) → ((p : Meant) × IsAcceptedText text p) ⊎ ((r : First) × IsTextRefusal text r) }
 {
     qasm_lexer::lexed_or_refused();
     qasm_parser::parsed_or_refused();
@@ -35,9 +36,9 @@ pub fn accepted_or_refused()
     gate_inline::inlined_or_refused();
 }
 
-/// A text has one refusal at most.
-pub fn refused_once()
-    ensures { (text : List ℕ) (r s : First) → IsRefusal text r → IsRefusal text s → r ≡ s }
+/// A text of any length has one refusal at most.
+pub fn text_refused_once()
+    ensures { (text : List ℕ) (r s : First) → IsTextRefusal text r → IsTextRefusal text s → r ≡ s }
 {
     qasm_lexer::lexed_once();
     qasm_lexer::accepted_has_no_fault();
@@ -49,4 +50,25 @@ pub fn refused_once()
     qasm_check::refused_once();
     gate_inline::inlined_has_no_fault();
     gate_inline::refused_once();
+}
+
+/// An accepted text has no refusal.
+pub fn accepted_has_no_refusal()
+    ensures { (text : List ℕ) (p : Meant) (r : First) → IsAccepted text p → IsRefusal text r → ⊥ }
+{
+    accepted_text_has_no_refusal();
+}
+
+/// A text is accepted, or has a refusal.
+pub fn accepted_or_refused()
+    ensures { (text : List ℕ) → ((p : Meant) × IsAccepted text p) ⊎ ((r : First) × IsRefusal text r) }
+{
+    text_accepted_or_refused();
+}
+
+/// A text has one refusal at most.
+pub fn refused_once()
+    ensures { (text : List ℕ) (r s : First) → IsRefusal text r → IsRefusal text s → r ≡ s }
+{
+    text_refused_once();
 }

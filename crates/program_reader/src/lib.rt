@@ -3,6 +3,7 @@
 //! In goes a text of any bytes. Out comes the program that it spells, over all of the readers: tokens, tree, checks, and gates
 //! written out. The contract says that the text is accepted as this program, by the definition of what a text means. Else it
 //! tells the text's first refusal, exactly, with its place or statement. Each stage is dropped once the next one is there.
+//! `read_program` refuses a text of more than 4 MiB as too long; `read_text` is the same of a text of any length below 2^31.
 //! `laws` says that a text means one program at most, that it is accepted or has a refusal, never both, and one at most.
 #![tactic(auto)]
 
@@ -11,7 +12,10 @@ mod reading;
 mod refusal;
 mod source;
 
-pub use laws::{accepted_has_no_refusal, accepted_or_refused, means_once, refused_once};
-pub use reading::{TEXT_LIMIT, read_program};
+pub use laws::{
+    accepted_has_no_refusal, accepted_or_refused, accepted_text_has_no_refusal, means_once,
+    refused_once, text_accepted_or_refused, text_refused_once,
+};
+pub use reading::{TEXT_LIMIT, read_program, read_text};
 pub use refusal::{ReadFault, Refusal};
 pub use source::SourceProgram;

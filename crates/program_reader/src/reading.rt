@@ -1,9 +1,10 @@
 //! The stages of the reader, one behind the other.
 
 ghost use Rattle.std.specs.Prelude.{◌≡◌, ◌<◌, ◌≤◌, All, IfOk, IfErr, length, ◌^◌};
-ghost use Rattle.gate_inline.specs.Programs.{IsAccepted, IsTreeOf, IsWithinLimits, Means, text_limit};
+ghost use Rattle.gate_inline.specs.Programs.{IsAccepted, IsTreeOf, IsWithinLimits, Means};
 ghost use Rattle.program_reader.specs.Refusals.{IsReadFault};
 ghost use Rattle.program_reader.specs.Stages.{IsUnchecked, IsUnwritten};
+ghost use Rattle.program_reader.specs.Texts.{IsAcceptedText, IsTextFault};
 ghost use Rattle.qasm_check.specs.Checking.{IsFineTree, bound};
 ghost use Rattle.qasm_check.specs.CheckedView.{program as bound_program};
 ghost use Rattle.qasm_lexer.specs.Names.{IsName};
@@ -25,11 +26,11 @@ pub const TEXT_LIMIT: usize = 4_194_304;
 /// The tree that a text spells.
 #[tactic(auto, using(crate::proofs::ReaderLaws::reader))]
 fn read_tree(alloc: Global, text: &[u8]) -> Result<Program, ReadFault>
-    requires { length text.now ≤ text_limit }
+    requires { length text.now < 2 ^ 31 }
     ensures ok { IfOk result (λ p. IsTreeOf text.now (tree_of p)) }
     ensures few { IfOk result (λ p. length p.list.items < 2 ^ 32) }
     ensures names { IfOk result (λ p. All (HasNames IsName) (tree_of p).list) }
-    ensures err { IfErr result (IsReadFault text.now) }
+    ensures err { IfErr result (IsTextFault text.now) }
 {
     tokens_are_lexemes();
     few_statements();
@@ -82,8 +83,20 @@ fn write_out(alloc: Global, checked: &Checked) -> Result<SourceProgram, ReadFaul
     Ok(SourceProgram::new(ops, registers, checked.barriers()))
 }
 
-/// The program that a text spells: its operations, reads and registers. Else the text's first refusal.
+/// The program that a text of any length below 2^31 spells: its operations, reads and registers. Else the text's first refusal
+/// but for its length.
 #[tactic(auto, using(crate::proofs::ReaderLaws::reader))]
+pub fn read_text(alloc: Global, text: &[u8]) -> Result<SourceProgram, ReadFault>
+    requires { length text.now < 2 ^ 31 }
+    ensures ok { IfOk result (IsAcceptedText text.now) }
+    ensures err { IfErr result (IsTextFault text.now) }
+{
+    let program = read_tree(alloc, text)?;
+    let checked = read_checked(alloc, program)?;
+    write_out(alloc, &checked)
+}
+
+/// The program that a text spells: its operations, reads and registers. Else the text's first refusal.
 pub fn read_program(alloc: Global, text: &[u8]) -> Result<SourceProgram, ReadFault>
     ensures ok { IfOk result (IsAccepted text.now) }
     ensures err { IfErr result (IsReadFault text.now) }
@@ -91,7 +104,5 @@ pub fn read_program(alloc: Global, text: &[u8]) -> Result<SourceProgram, ReadFau
     if text.len() > TEXT_LIMIT {
         return Err(ReadFault::Refused(Refusal::TooLong));
     }
-    let program = read_tree(alloc, text)?;
-    let checked = read_checked(alloc, program)?;
-    write_out(alloc, &checked)
+    read_text(alloc, text)
 }

@@ -26,6 +26,43 @@ pub enum Refusal {
     Inline(gate_inline::Refused),
 }
 
+impl Refusal {
+    ghost use Rattle.std.specs.Prelude.{◌≡◌};
+    ghost use Rattle.program_reader.specs.Refusals.{at_of, code_of};
+
+    /// The number under which the refusal is told: 60, one from 10 to 14, or that of the statement's refusal.
+    pub fn code(self) -> u8
+        ensures { result ≡ code_of self }
+    {
+        match self {
+            Refusal::TooLong => 60,
+            Refusal::BadByte { .. } => 10,
+            Refusal::Number { .. } => 11,
+            Refusal::Syntax { .. } => 12,
+            Refusal::Version { .. } => 13,
+            Refusal::Depth { .. } => 14,
+            Refusal::Check(refused) => refused.refusal.code(),
+            Refusal::Inline(refused) => refused.refusal.code(),
+        }
+    }
+
+    /// Its place in the text, or its statement, counted from 1; 0 where the text is too long.
+    pub fn at(self) -> u32
+        ensures { result ≡ at_of self }
+    {
+        match self {
+            Refusal::TooLong => 0,
+            Refusal::BadByte { place }
+            | Refusal::Number { place }
+            | Refusal::Syntax { place }
+            | Refusal::Version { place }
+            | Refusal::Depth { place } => place,
+            Refusal::Check(refused) => refused.statement,
+            Refusal::Inline(refused) => refused.statement,
+        }
+    }
+}
+
 /// Why there is no program.
 #[derive(Clone, Copy, Debug, PartialEq, Eq, Error)]
 pub enum ReadFault {

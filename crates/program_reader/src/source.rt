@@ -55,7 +55,9 @@ impl SourceProgram {
         ensures fine { All (IsFineOp self.now.wires) self.now.ops }
         ensures registers { AreRegisters self.now.registers (length self.now.reads) }
         ensures reads { All (IsRead self.now.wires) self.now.reads }
-    {}
+    {
+        let _ops = &self.ops;
+    }
 
     /// The number of wires, the operations on them, and what each classical bit reads at the end.
     pub fn ops(&self) -> &Ops

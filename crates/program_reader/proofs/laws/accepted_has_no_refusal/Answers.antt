@@ -1,12 +1,5 @@
-use Rattle.program_reader.proofs.ReaderLaws.{accepted-no_refusal}
+use Rattle.program_reader.proofs.LimitLaws.{accepted-no_refusal}
 use Rattle.program_reader.proofs.laws.accepted_has_no_refusal.Goals as goal
 
 pub returns : goal.returns
-returns c = accepted-no_refusal (record {
-  lexed_once = c.lexed_once.ensures;
-  no_lex_fault = c.accepted_has_no_fault.ensures;
-  spelt_once = c.spelt_once.ensures;
-  no_parse_fault = c.accepted_has_no_fault-2.ensures;
-  no_check_fault = c.accepted_has_no_fault-3.ensures;
-  no_inline_fault = c.inlined_has_no_fault.ensures;
-})
+returns c = accepted-no_refusal c.accepted_text_has_no_refusal.ensures

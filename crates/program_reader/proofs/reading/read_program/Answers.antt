@@ -1,26 +1,18 @@
--- From the stages to the whole.
+-- The limit, and then the text.
 use Rattle.std.proofs.Common.{arith}
-use Rattle.qasm_check.specs.CheckedView.{program as bound_program}
-use Rattle.qasm_parser.specs.Tree.{program as tree_of}
 use Rattle.gate_inline.specs.Programs.{IsAccepted}
 use Rattle.program_reader.specs.Refusals.{IsReadFault}
-use Rattle.program_reader.specs.Stages.{IsUnwritten}
-use Rattle.program_reader.proofs.ReaderLaws.{IsAccepted-read, IsReadFault-written, in_err, in_ok}
-use Rattle.program_reader.proofs.RegisterLaws.{named_registers}
+use Rattle.program_reader.specs.Texts.{IsAcceptedText, IsTextFault}
+use Rattle.program_reader.proofs.LimitLaws.{IsAccepted-within, IsReadFault-within}
+use Rattle.program_reader.proofs.ReaderLaws.{in_err, in_ok}
 use Rattle.program_reader.proofs.reading.read_program.Goals as goal
-
-pub write_out-requires : goal.write_out-requires
-write_out-requires c =
-    named_registers (tree_of c.in_ok-program.program) (bound_program c.in_ok-checked.checked) c.in_ok-program.ensures.names c.in_ok-checked.ensures.ok.1
 
 pub returns-clause-ok : goal.returns-clause-ok
 returns-clause-ok c =
-    in_ok _ (IsAccepted c.args.text.now) c.write_out.result
-    (λ s h. IsAccepted-read c.args.text.now (tree_of c.in_ok-program.program) (bound_program c.in_ok-checked.checked) s (omega (arith, c.if-text-gt-TEXT_LIMIT.false))
-    c.in_ok-program.ensures.ok c.in_ok-checked.ensures.ok.0 c.in_ok-checked.ensures.ok.1 h) c.write_out.ensures.ok
+    in_ok (IsAcceptedText c.args.text.now) (IsAccepted c.args.text.now) c.read_text.result
+    (λ p h. IsAccepted-within c.args.text.now p (omega (arith, c.if-text-gt-TEXT_LIMIT.false)) h) c.read_text.ensures.ok
 
 pub returns-clause-err : goal.returns-clause-err
 returns-clause-err c =
-    in_err (IsUnwritten (bound_program c.in_ok-checked.checked)) (IsReadFault c.args.text.now) c.write_out.result
-    (λ e h. IsReadFault-written c.args.text.now (tree_of c.in_ok-program.program) (bound_program c.in_ok-checked.checked) e (omega (arith, c.if-text-gt-TEXT_LIMIT.false))
-    c.in_ok-program.ensures.ok c.in_ok-checked.ensures.ok.0 c.in_ok-checked.ensures.ok.1 h) c.write_out.ensures.err
+    in_err (IsTextFault c.args.text.now) (IsReadFault c.args.text.now) c.read_text.result
+    (λ e h. IsReadFault-within c.args.text.now e (omega (arith, c.if-text-gt-TEXT_LIMIT.false)) h) c.read_text.ensures.err
