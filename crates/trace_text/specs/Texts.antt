@@ -3,6 +3,7 @@
 --     lines_of text       the lines of a text: a line ends before a byte 10, and the last one may end with the text
 --     in_line b           b is no line break
 --     IsLine l            no byte of l is a line break
+--     ended ls            the bytes of lines, a line break behind each (of `TraceLines`)
 --     IsWhole text        a line break ends each line of the text, the last one too
 --     begins p l          l begins with p
 --     traced ls           what follows `//!` in each of the lines ls that begins so
@@ -10,7 +11,7 @@
 --     commented trace     each line of a trace as a comment: behind `//!`, with a line break behind it
 use Rattle.std.specs.Prelude.{◌≡◌, ℕ, Bool, true, false, cond, not, List, [], ◌∷◌, ◌++◌, codes, drop, nat_eq}
 use Rattle.std.specs.List.{flat_map, list_all}
-use Rattle.rewrite_pass.specs.TraceLines.{ended}
+pub use Rattle.rewrite_pass.specs.TraceLines.{ended}
 
 abbrev pub begun : ℕ → List (List ℕ) → List (List ℕ)
 begun b [] = (b ∷ []) ∷ []
