@@ -1,6 +1,6 @@
 # Completion of qroute's words for bash. Source this file, for instance in ~/.bashrc.
 _qroute() {
-    local word=${COMP_WORDS[COMP_CWORD]} before=${COMP_WORDS[COMP_CWORD - 1]} option options= ending=
+    local word=${COMP_WORDS[COMP_CWORD]} before=${COMP_WORDS[COMP_CWORD - 1]} option ending='' options=
     COMPREPLY=()
     # bash takes `--device=FILE` apart at the sign
     if [ "$before" = "=" ]; then
