@@ -101,7 +101,7 @@ SAYS = {
     "WideProgram": "amplitudes are those of at most 12 qubits, and the program has {qubits}",
     "ManyBranches": "amplitudes are those of at most 60 gates that branch, and the program has {branches}",
     "BitsLength": "a basis state has a 0 or 1 for each of the program's {qubits} qubits",
-    "Trace": "line {line} of the trace doesn't apply",
+    "Trace": "line {line} of the trace doesn't apply, or is missing",
 }
 # The most bytes that a program has, and those of the target of `verify`.
 MOST_BYTES = 4_194_304

@@ -108,7 +108,7 @@ class Module(ToolTest):
             qroute.verify("OPENQASM 2.0;\nqreg q[1];\n", SOURCE)
 
         fault = self.fault(qroute.NotShown, 1, {"fault": "Trace", "line": 5, "status": 1}, call)
-        self.assertEqual((str(fault), fault.line, fault.status), ("Trace: line 5 of the trace doesn't apply", 5, 1))
+        self.assertEqual((str(fault), fault.line, fault.status), ("Trace: line 5 of the trace doesn't apply, or is missing", 5, 1))
         # a place is one of the text that is refused
         told = {"code": 12, "fault": "Syntax", "place": 20, "status": 3, "text": "source"}
         fault = self.fault(qroute.Refused, 3, told, call)
