@@ -37,6 +37,7 @@ __all__ = [
     "NoCommand",
     "NoMemory",
     "NoProgram",
+    "NotShown",
     "QrouteError",
     "Refused",
     "Result",
@@ -49,6 +50,7 @@ __all__ = [
     "program",
     "route",
     "stages",
+    "verify",
 ]
 __version__ = "0.9.0"
 
@@ -59,8 +61,8 @@ SAYS = {
     "Words": "the words mean no command; the manual, `man docs/qroute.1`, has them all",
     "Input": "the input failed, before its end was read",
     "Output": "the output failed: it holds some first part of the program",
-    "Shelf": "the device file could not be read",
-    "Absent": "there is no device file of this name",
+    "Shelf": "a file that was named could not be read",
+    "Absent": "a file that was named isn't there",
     "BadByte": "no token begins here",
     "Number": "this number is too large: a part of its fraction in lowest terms is above 2^62",
     "Syntax": "this doesn't fit here",
@@ -95,20 +97,24 @@ SAYS = {
     "EdgeCost": "the cost of the edge from qubit {from} to qubit {to} isn't from 1 to 1,000,000",
     "NotConnected": "there is no way from qubit {from} to qubit {to}",
     "TooFewQubits": "the device has {device} qubits, and the program {qubits}",
-    "TextTooLong": "the program is longer than 4,194,304 bytes",
+    "TextTooLong": "the program is longer than {most:,} bytes",
     "WideProgram": "amplitudes are those of at most 12 qubits, and the program has {qubits}",
     "ManyBranches": "amplitudes are those of at most 60 gates that branch, and the program has {branches}",
     "BitsLength": "a basis state has a 0 or 1 for each of the program's {qubits} qubits",
-    "Trace": "line {line} of the trace doesn't apply",
+    "Trace": "line {line} of the trace doesn't apply, or is missing",
 }
+# The most bytes that a program has, and those of the target of `verify`.
+MOST_BYTES = 4_194_304
+MOST_BYTES_OF_TARGET = 67_108_864
 # What ends without a line of its own, by the status.
 SILENT = {7: "memory was wanting; nothing was written at all", 8: "the report failed; the output is complete"}
 
 
 def says(told: collections.abc.Mapping[str, typing.Any]) -> str:
     """What a fault line means, in words."""
+    most = MOST_BYTES_OF_TARGET if told.get("text") == "target" else MOST_BYTES
     try:
-        return SAYS[told["fault"]].format(**told)
+        return SAYS[told["fault"]].format(**{"most": most} | told)
     except KeyError:
         return "no words for this fault"
 
@@ -141,17 +147,31 @@ class NoCommand(Fault):
 
 
 class Refused(Fault):
-    """The text was refused. `line` and `column`, from 1, tell where, and `offset` in bytes, where the refusal has a place."""
+    """The text was refused. `line` and `column`, from 1, tell where, and `offset` in bytes, where the refusal has a place.
+
+    `which` is `source` or `target` where `verify` was asked.
+    """
 
     def __init__(self, told: dict[str, typing.Any], status: int, text: bytes) -> None:
+        self.which: str | None = told.get("text")
         self.offset = offset_of(told, text)
         self.line: int | None = None
         self.column: int | None = None
-        where = ""
+        where = [self.which] if self.which else []
         if self.offset is not None:
             self.line, self.column = position(text, self.offset)
-            where = f"line {self.line}, column {self.column}: "
-        super().__init__(told, status, where)
+            where += [f"line {self.line}", f"column {self.column}"]
+        super().__init__(told, status, f"{', '.join(where)}: " if where else "")
+
+
+class NotShown(Fault):
+    """The trace doesn't show that the target is the source. `line` is the first of its lines, from 1, that doesn't apply, or is
+    missing; it counts the lines of the trace alone.
+    """
+
+    def __init__(self, told: dict[str, typing.Any], status: int) -> None:
+        self.line: int | None = told.get("line")
+        super().__init__(told, status)
 
 
 class DeviceRefused(Fault):
@@ -166,7 +186,16 @@ class NoMemory(Fault):
     """Memory was wanting."""
 
 
-KINDS: dict[int, type[Fault]] = {2: NoCommand, 4: DeviceRefused, 5: StreamFault, 6: StreamFault, 7: NoMemory, 8: StreamFault, 9: StreamFault}
+KINDS: dict[int, type[Fault]] = {
+    1: NotShown,
+    2: NoCommand,
+    4: DeviceRefused,
+    5: StreamFault,
+    6: StreamFault,
+    7: NoMemory,
+    8: StreamFault,
+    9: StreamFault,
+}
 
 TOKEN = re.compile(rb'\s+|//[^\n]*|"[^"\n]*"|[{};]|[^\s{};"/]+|.')
 
@@ -289,6 +318,11 @@ class Result:
     cost: int | None = None
     report: dict[str, typing.Any] = dataclasses.field(default_factory=dict, repr=False, compare=False)
 
+    @property
+    def trace(self) -> tuple[str, ...]:
+        """The lines of the trace that the text holds, without the signs before them; none where none was asked for."""
+        return tuple(line[3:] for line in self.text.split("\n") if line.startswith("//!"))
+
 
 @dataclasses.dataclass(frozen=True)
 class Checked:
@@ -347,8 +381,10 @@ def lines_of(told: bytes) -> dict[str, typing.Any]:
     return {}
 
 
-def run(words: list[str], text: bytes, timeout: float | None) -> tuple[str, dict[str, typing.Any]]:
-    """What the program writes, and its line."""
+def run(
+    words: list[str], text: bytes, timeout: float | None, named: dict[str, bytes] | None = None
+) -> tuple[str, dict[str, typing.Any]]:
+    """What the program writes, and its line; `named` are the texts that a refusal may be of besides its input."""
     path = program()
     try:
         ran = subprocess.run([path, *words], input=text, capture_output=True, timeout=timeout)
@@ -360,7 +396,7 @@ def run(words: list[str], text: bytes, timeout: float | None) -> tuple[str, dict
     if ran.returncode == 70 or ran.returncode < 0:
         raise NoProgram(f"{path} ended with {ran.returncode}: {ran.stderr.decode('utf-8', 'replace').strip()[-500:]}")
     if ran.returncode == 3:
-        raise Refused(told, 3, text)
+        raise Refused(told, 3, (named or {}).get(told.get("text", ""), text))
     raise KINDS.get(ran.returncode, Fault)(told, ran.returncode)
 
 
@@ -379,14 +415,30 @@ def opt(text: str | bytes, *, timeout: float | None = None) -> Result:
     return result(*run(["opt"], as_bytes(text), timeout))
 
 
-def route(text: str | bytes, device: Device, trivial: bool = False, *, timeout: float | None = None) -> Result:
-    """The program on the qubits of a device; with `trivial` wire i begins on qubit i."""
+def route(text: str | bytes, device: Device, trivial: bool = False, *, trace: bool = False, timeout: float | None = None) -> Result:
+    """The program on the qubits of a device; with `trivial` wire i begins on qubit i, with `trace` its text has its trace behind it."""
     with tempfile.TemporaryDirectory() as room:
         path = os.path.join(room, "device.toml")
         with open(path, "w", encoding="utf-8") as file:
             file.write(device.text)
-        words = ["route", "--device", path, *(["--trivial"] if trivial else [])]
+        words = ["route", "--device", path, *(["--trivial"] if trivial else []), *(["--trace"] if trace else [])]
         return result(*run(words, as_bytes(text), timeout))
+
+
+def verify(source: str | bytes, target: str | bytes, *, timeout: float | None = None) -> int:
+    """The power J for which the trace in the target's text shows that its unitary is exp(i pi/4) to the power J times the
+    source's, with the wires on the qubits that the trace says, whoever wrote it. `NotShown` where it doesn't show that.
+    """
+    named = {"source": as_bytes(source), "target": as_bytes(target)}
+    with tempfile.TemporaryDirectory() as room:
+        words = ["verify"]
+        for name, text in named.items():
+            path = os.path.join(room, f"{name}.qasm")
+            with open(path, "wb") as file:
+                file.write(text)
+            words += [f"--{name}", path]
+        written, _ = run(words, b"", timeout, named)
+    return int(written.removeprefix("yes "))
 
 
 def check(text: str | bytes, *, timeout: float | None = None) -> Checked:

@@ -1,6 +1,6 @@
 # Completion of qroute's words for bash. Source this file, for instance in ~/.bashrc.
 _qroute() {
-    local word=${COMP_WORDS[COMP_CWORD]} before=${COMP_WORDS[COMP_CWORD - 1]} option options=
+    local word=${COMP_WORDS[COMP_CWORD]} before=${COMP_WORDS[COMP_CWORD - 1]} option ending='' options=
     COMPREPLY=()
     # bash takes `--device=FILE` apart at the sign
     if [ "$before" = "=" ]; then
@@ -9,18 +9,24 @@ _qroute() {
         word=
     fi
     if [ "$COMP_CWORD" -eq 1 ]; then
-        mapfile -t COMPREPLY < <(compgen -W "opt route check stages amplitude bench" -- "$word")
+        mapfile -t COMPREPLY < <(compgen -W "opt route verify check stages amplitude bench" -- "$word")
         return
     fi
     case "${COMP_WORDS[1]}" in
-        route) options="--device --trivial" ;;
+        route) options="--device --trivial --trace" ;;
+        verify) options="--source --target" ;;
         amplitude) options="--from --to" ;;
         bench) options="--start --gates --device" ;;
     esac
-    if [ -z "$options" ] || [ "$before" = --start ] || [ "$before" = --gates ] || [ "$before" = --from ] || [ "$before" = --to ]; then
+    case "$before" in
+        --start | --gates | --from | --to) return ;;
+        --device) ending=toml ;;
+        --source | --target) ending=qasm ;;
+    esac
+    if [ -z "$options" ]; then
         return
-    elif [ "$before" = --device ]; then
-        mapfile -t COMPREPLY < <(compgen -f -X '!*.toml' -- "$word"; compgen -d -- "$word")
+    elif [ -n "$ending" ]; then
+        mapfile -t COMPREPLY < <(compgen -f -X "!*.$ending" -- "$word"; compgen -d -- "$word")
         compopt -o filenames 2>/dev/null
     else
         for option in $options; do

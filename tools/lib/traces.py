@@ -81,6 +81,8 @@ def of_text(text):
 def read(line):
     """The word and the numbers of a line."""
     match = LINE.fullmatch(line)
+    if line.endswith("\r"):
+        raise Stop("the carriage return at its end is a part of it")
     if match is not None:
         numbers = [int(it) for it in match.group(2).split()]
         if all(it < MOST for it in numbers):

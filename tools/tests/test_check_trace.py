@@ -1,5 +1,8 @@
+import glob
+import json
 import os
 import random
+import subprocess
 import sys
 
 from tool import TOP, ToolTest
@@ -109,6 +112,30 @@ WRONG = [
 ]  # fmt: skip
 
 
+# of whole texts behind the heading: source, target, the lines behind `TRACE 1`, and what is said
+TEXTS = {
+    "what is measured": (
+        "qreg q[1]; creg c[1]; t q[0]; t q[0]; measure q[0] -> c[0];", "qreg q[2]; creg d[2]; s q[1]; measure q[0] -> d[1];",
+        "join 0 1|place 1 0|emit 0|end 0", "yes 0",
+    ),
+    "barriers": ("qreg q[1]; t q[0]; barrier q; t q[0];", "qreg q[1]; barrier q[0]; s q[0];", "join 0 1|place 0|emit 0|end 0", "yes 0"),
+    "several registers": ("qreg a[1]; qreg b[1]; cx b[0],a[0];", "qreg q[2]; cx q[0],q[1];", "place 1 0|emit 0|end 0", "yes 0"),
+    "gates of one's own": ("gate g(x) a { rz(x) a; h a; } qreg q[1]; g(0) q[0]; g(pi) q[0];", "qreg q[1]; x q[0];", "rule 3 0|place 0|emit 0|end 0", "yes 0"),
+    "a gate on a register": ("qreg q[3]; z q;", "qreg q[3]; z q[2]; z q[0]; z q[1];", "place 0 1 2|emit 2|emit 0|emit 0|end 0", "yes 0"),
+    "gates that do nothing": ("qreg q[1]; id q[0]; u1(2*pi) q[0];", "qreg q[1]; id q[0];", "place 0|end 0", "yes 0"),
+    "the same in other words": ("qreg q[1]; u2(0,pi) q[0]; u1(-pi/4) q[0];", "qreg q[1]; h q[0]; tdg q[0];", "place 0|emit 0|emit 0|end 0", "yes 0"),
+    "a phase that is left": ("qreg q[1]; y q[0];", "qreg q[1]; x q[0]; z q[0];", "sums 2|X 0|P 4 0|place 0|emit 0|emit 0|end 2", "yes 2"),
+    "one gate more": ("qreg q[1];", "qreg q[1]; t q[0];", "place 0|end 0", "no, line 3: `end 0` doesn't apply: gates of the target: 1; appended: 0"),
+    "one gate less": ("qreg q[1]; t q[0];", "qreg q[1];", "place 0|emit 0|end 0", "no, line 4: `end 0` doesn't apply: gates of the target: 0; appended: 1"),
+    "a wire too many": ("qreg q[2];", "qreg q[1];", "place 0|end 0", "no, line 2: `place 0` doesn't apply: 2 wires of the source"),
+    "a swap that is only told": (
+        "qreg q[2]; t q[0];", "qreg q[2]; t q[1];", "place 0 1|swap 0 1|emit 0|end 0",
+        "no, line 5: `end 0` doesn't apply: gate 1 of the target is P 1 1, and C 0 1 was appended",
+    ),
+}  # fmt: skip
+BUILT = os.environ.get("QROUTE", os.path.join(TOP, "out/qroute"))
+
+
 def program(size, body):
     register = f"qreg q[{size}];\n" if size else ""
     return HEAD + register + body + "\n"
@@ -145,6 +172,19 @@ class CheckTrace(ToolTest):
                 lines = f"TRACE 1{behind.replace(f'|{old}|', f'|{new}|' if new else '|', 1)}".strip("|").split("|")
                 stood = f"`{lines[line - 1]}` doesn't apply: " if line <= len(lines) else ""
                 self.assertEqual(self.said_of(name, lines), f"no, line {line}: {stood}{why}")
+
+    def test_each_line_is_needed(self):
+        for name, row in RIGHT.items():
+            lines = ["TRACE 1", *row[4].split("|")]
+            for i, line in enumerate(lines):
+                with self.subTest(name=name, line=line):
+                    self.assertEqual(self.said_of(name, lines[:i] + lines[i + 1 :])[:9], "no, line ")
+
+    def test_whole_texts(self):
+        for name, (source, target, lines, says) in TEXTS.items():
+            with self.subTest(name):
+                said = self.said(HEAD + source, HEAD + target, ["TRACE 1", *lines.split("|")])
+                self.assertEqual(said[: len(says)], says)
 
     def test_each_rule_has_its_window(self):
         for k in range(1, 8):
@@ -219,6 +259,22 @@ class CheckTrace(ToolTest):
             given = file.read()
         for i, line in enumerate(lines):
             self.assertEqual(self.said(given, text, lines[:i] + lines[i + 1 :])[:9], "no, line ", line)
+
+    def test_what_route_writes(self):
+        """The traces of the examples on two devices, where there is a program that writes them."""
+        if not os.access(BUILT, os.X_OK):
+            self.skipTest("there is no built program")
+        for path in sorted(glob.glob(os.path.join(TOP, "examples/*.qasm"))):
+            for device in ("ibm_tokyo", "ibm_qx5"):
+                words = [BUILT, "route", "--device", os.path.join(TOP, f"devices/{device}.toml"), "--trace"]
+                with self.subTest(path=path, device=device), open(path, "rb") as source:
+                    ran = subprocess.run(words, stdin=source, capture_output=True)
+                    told = json.loads(ran.stderr)
+                    said = (0, f"yes {told['phase']}\n", "")
+                    target = self.file("t", ran.stdout)
+                    self.assertEqual(self.run_tool("check-trace", path, target), said)
+                    ran = subprocess.run([BUILT, "verify", "--source", path, "--target", target], capture_output=True, text=True)
+                    self.assertEqual((ran.returncode, ran.stdout, ran.stderr), said)
 
     def test_programs_that_are_refused(self):
         right, target = program(1, ""), program(1, "") + commented(["TRACE 1", "place 0", "end 0"])

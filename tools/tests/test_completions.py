@@ -21,6 +21,8 @@ class Completions(unittest.TestCase):
         asked() {{ COMP_WORDS=("$@"); COMP_CWORD=$(($# - 1)); _qroute; echo "${{COMPREPLY[*]}}"; }}
         asked qroute ''; asked qroute r; asked qroute route --; asked qroute route --trivial --; asked qroute opt ''
         asked qroute route --device devices/line
+        asked qroute route --trace --device d.toml --; asked qroute verify --; asked qroute verify --source examples/bell.qasm --
+        asked qroute verify --source examples/bel; asked qroute verify --target devices/line; asked qroute verify --target = examples/ghz
         asked qroute bench --; asked qroute bench --gates 5 --; asked qroute bench --start ''
         asked qroute bench --start 1 --device devices/line
         asked qroute route --device = devices/line; asked qroute route --device = devices/line_5.toml --
@@ -32,9 +34,10 @@ class Completions(unittest.TestCase):
         self.assertEqual(
             found,
             [
-                *("opt route check stages amplitude bench", "route", "--device --trivial", "--device", "", "devices/line_5.toml"),
+                *("opt route verify check stages amplitude bench", "route", "--device --trivial --trace", "--device --trace", ""),
+                *("devices/line_5.toml", "--trivial", "--source --target", "--target", "examples/bell.qasm", "", "examples/ghz.qasm"),
                 *("--start --gates --device", "--start --device", "", "devices/line_5.toml"),
-                *("devices/line_5.toml", "--trivial", "", "--from --to", "--to"),
+                *("devices/line_5.toml", "--trivial --trace", "", "--from --to", "--to"),
             ],
         )
 
@@ -44,9 +47,11 @@ class Completions(unittest.TestCase):
             out = said("fish", "--no-config", "-c", f"source {FOLDER}/qroute.fish; complete -C '{line}'")
             return [it.split("\t")[0] for it in out.splitlines()]
 
-        self.assertEqual(sorted(asked("qroute ")), ["amplitude", "bench", "check", "opt", "route", "stages"])
-        self.assertEqual(asked("qroute route --"), ["--device", "--trivial"])
+        self.assertEqual(sorted(asked("qroute ")), ["amplitude", "bench", "check", "opt", "route", "stages", "verify"])
+        self.assertEqual(sorted(asked("qroute route --")), ["--device", "--trace", "--trivial"])
         self.assertEqual(asked("qroute route --device devices/line"), ["devices/line_5.toml"])
+        self.assertEqual(sorted(asked("qroute verify --")), ["--source", "--target"])
+        self.assertEqual(asked("qroute verify --source examples/bel"), ["examples/bell.qasm"])
         self.assertEqual(sorted(asked("qroute bench --")), ["--device", "--gates", "--start"])
         self.assertEqual(sorted(asked("qroute amplitude --")), ["--from", "--to"])
 

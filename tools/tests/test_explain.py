@@ -111,18 +111,64 @@ class Explain(ToolTest):
         status, out, _ = self.explained(line, source, "--target", target)
         self.assertEqual((status, out), (0, f"{target}:7:4: {why}: there is no place 2 in a list of length 2{shown}"))
         self.assertEqual(self.explained(line, "--target", target)[1], f"{target}:7:4: {why}{shown}")
-        self.assertEqual(self.explained(line, source)[1], f"{why}\n")
+        self.assertEqual(self.explained(line, source)[1], f"{why}, or is missing\n")
         self.assertEqual(self.explained(line, self.file("u", "OPENQASM"), "--target", target)[1], f"{target}:7:4: {why}{shown}")
         # a line that is missing
         target = self.file("t.qasm", text.replace("0 2", "0 1"))
         status, out, _ = self.explained(line.replace("2", "4"), source, "--target", target)
-        says = "line 4 of the trace doesn't apply: the trace ends before `end`; the text ends here"
+        says = "line 4 of the trace is missing: the trace ends before `end`; the text ends here"
         self.assertEqual((status, out), (0, f"{target}:8:11: Trace: {says}\n    //!place 0\n              ^\n"))
         # another line than that which the check here tells
         _, out, _ = self.explained(line, source, "--target", target)
         self.assertIn(f"{why}; check-trace says otherwise: no, line 4: the trace ends before `end`\n", out)
         _, out, _ = self.explained('{"fault":"Trace","status":1}', source, "--target", target)
         self.assertEqual(out, f"{target}: Trace: no words for this fault\n")
+
+    def test_lines_of_traces(self):
+        source = self.file("s.qasm", HEAD + "qreg q[1];\nt q[0];\nt q[0];\n")
+        head, right = HEAD + "qreg q[1];\ns q[0];\n", "//!TRACE 1\n//!join 0 1\n//!place 0\n//!emit 0\n//!end 0\n"
+        for text, line, at, says in (
+            (head + right.replace("end 0", "end 4"), 5, "9:4", "line 5 of the trace doesn't apply: all turns together are 0"),
+            (right + head.replace("s q", "z q"), 5, "5:4", "line 5 of the trace doesn't apply: gate 1 of the target is P 4 0, and P 2 0 was appended"),
+            (head + right.replace("//!join 0 1\n", ""), 4, "8:4", "line 4 of the trace doesn't apply: the list isn't empty: it begins with P 1 0 at place 0"),
+            (head + right.replace("join 0 1", "both 0 1"), 2, "6:4", "line 2 of the trace doesn't apply: P 1 0 at place 0 and P 1 0 at place 1 merge to P(2)"),
+            (head + right.replace("\n", "\r\n"), 1, "5:4", "line 1 of the trace doesn't apply: the carriage return at its end is a part of it"),
+            (head + right[: right.index("//!emit")], 4, "7:11", "line 4 of the trace is missing: the trace ends before `end`; the text ends here"),
+            (head, 1, "4:8", "line 1 of the trace is missing: no line of the text begins with `//!`; the text ends here"),
+            (head.replace("q[0]", "r[0]") + right, 2, "6:4", "line 2 of the trace doesn't apply"),
+        ):  # fmt: skip
+            with self.subTest(says):
+                target = self.file("t.qasm", text)
+                status, out, err = self.explained('{"fault":"Trace","line":%d,"status":1}' % line, source, "--target", target)
+                self.assertEqual((status, out.splitlines()[0], err), (0, f"{target}:{at}: Trace: {says}", ""))
+                self.assertEqual(out.splitlines()[2].index("^"), int(at.split(":")[1]) + 3)
+
+    def test_what_verify_refuses(self):
+        source = self.file("s.qasm", HEAD + "qreg q[1];\n")
+        target = self.file("t.qasm", HEAD + "qreg q[1];\n x q[1];\n")
+        words = (source, "--target", target)
+        line = '{"code":24,"fault":"IndexRange","statement":%d,"status":3,"text":"%s"}'
+        says = "IndexRange: an index isn't below its register's size"
+        self.assertEqual(self.explained(line % (3, "target"), *words)[1], f"{target}:4:2: {says} (statement 3)\n     x q[1];\n     ^\n")
+        self.assertEqual(self.explained(line % (2, "source"), *words)[1].splitlines()[0], f"{source}:3:1: {says} (statement 2)")
+        self.assertEqual(self.explained(line % (2, "source"))[1], f"{says}, in the source (statement 2)\n")
+        self.assertEqual(self.explained(line % (2, "other"), *words)[1].splitlines()[0], f"{source}:3:1: {says} (statement 2)")
+        for which, path, most in (("source", source, "4,194,304"), ("target", target, "67,108,864")):
+            _, out, _ = self.explained('{"code":60,"fault":"TextTooLong","status":3,"text":"%s"}' % which, *words)
+            self.assertEqual(out, f"{path}: TextTooLong: the program is longer than {most} bytes\n")
+
+    def test_files_that_verify_misses(self):
+        there, none = self.file("s.qasm", HEAD), f"{self.room}/none"
+        absent, shelf = '{"fault":"Absent","status":9}', '{"fault":"Shelf","status":9}'
+        for line, words, out in (
+            (absent, (none, "--target", there), f"{none}: Absent: a file that was named isn't there\n"),
+            (absent, (there, "--target", none), f"{none}: Absent: a file that was named isn't there\n"),
+            (shelf, (there, "--target", self.room), f"{self.room}: Shelf: a file that was named could not be read\n"),
+            # it has come meanwhile
+            (absent, (there, "--target", there), "Absent: a file that was named isn't there\n"),
+            (absent, ("--device", none), f"{none}: Absent: a file that was named isn't there\n"),
+        ):
+            self.assertEqual(self.explained(line, *words), (0, out, ""), words)
 
     def test_json(self):
         path = self.file("p.qasm", HEAD + "qreg q[1];\n h r;\n")
@@ -140,5 +186,11 @@ class Explain(ToolTest):
             "column": 4,
         }
         self.assertEqual((status, out.count("\n"), json.loads(out)), (0, 1, wanted))
+        target = self.file("t.qasm", HEAD + "//!TRACE 1\n//!TRACE 1\n")
+        _, out, _ = self.explained('{"fault":"Trace","line":2,"status":1}', "--json", path, "--target", target)
+        wanted = {"fault": "Trace", "status": 1, "file": target, "trace_line": 2, "line": 4, "column": 4}
+        self.assertEqual({key: it for key, it in json.loads(out).items() if key in wanted}, wanted)
+        _, out, _ = self.explained('{"code":60,"fault":"TextTooLong","status":3,"text":"target"}', "--json", path, "--target", target)
+        self.assertEqual((json.loads(out)["text"], json.loads(out)["file"]), ("target", target))
         _, out, _ = self.explained('{"fault":"Words","status":2}', "--json")
         self.assertEqual(set(json.loads(out)), {"fault", "status", "says"})

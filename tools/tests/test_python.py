@@ -14,6 +14,7 @@ STAND_IN = """#!/bin/bash
 room=$(dirname -- "$0")
 printf '%s\\n' "$@" >"$room/words"
 [ "$2" = --device ] && cp -- "$3" "$room/device"
+[ "$2" = --source ] && cp -- "$3" "$room/source" && cp -- "$5" "$room/target"
 cat >"$room/in"
 cat -- "$room/out"
 cat -- "$room/err" >&2
@@ -81,11 +82,46 @@ class Module(ToolTest):
         self.assertEqual(qroute.amplitude(SOURCE, "00", "10"), (1, 0, -1, 0, 1))
         self.assertEqual(self.given("words").split(), ["amplitude", "--from", "00", "--to", "10"])
 
-    def fault(self, kind, status, told):
+    def test_traces(self):
+        self.answers(0, "written\n//!TRACE 1\n// no line\n//!end 0\n", REPORT)
+        found = qroute.route(SOURCE, qroute.Device.of([(0, 1)]), trace=True)
+        self.assertEqual(found.trace, ("TRACE 1", "end 0"))
+        self.assertEqual(self.given("words").split()[3:], ["--trace"])
+        qroute.route(SOURCE, qroute.Device.of([(0, 1)]), True, trace=True)
+        self.assertEqual(self.given("words").split()[3:], ["--trivial", "--trace"])
+        self.answers(0, "written\n", REPORT)
+        self.assertEqual(qroute.opt(SOURCE).trace, ())
+        self.answers(0, "yes 6\n")
+        self.assertEqual(qroute.verify(SOURCE, found.text.encode()), 6)
+        self.assertEqual((self.given("source"), self.given("target"), self.given("in")), (SOURCE, found.text, ""))
+        words = self.given("words").split()
+        self.assertEqual((words[0], words[1::2], len(words)), ("verify", ["--source", "--target"], 5))
+
+    def fault(self, kind, status, told, call=lambda: qroute.opt(SOURCE)):
         self.answers(status, "", told)
         with self.assertRaises(kind) as caught:
-            qroute.opt(SOURCE)
+            call()
         return caught.exception
+
+    def test_faults_of_traces(self):
+        def call():
+            qroute.verify("OPENQASM 2.0;\nqreg q[1];\n", SOURCE)
+
+        fault = self.fault(qroute.NotShown, 1, {"fault": "Trace", "line": 5, "status": 1}, call)
+        self.assertEqual((str(fault), fault.line, fault.status), ("Trace: line 5 of the trace doesn't apply, or is missing", 5, 1))
+        # a place is one of the text that is refused
+        told = {"code": 12, "fault": "Syntax", "place": 20, "status": 3, "text": "source"}
+        fault = self.fault(qroute.Refused, 3, told, call)
+        self.assertEqual((fault.which, fault.line, fault.column), ("source", 2, 7))
+        self.assertEqual(str(fault), "source, line 2, column 7: Syntax: this doesn't fit here")
+        told = {"code": 22, "fault": "UnknownName", "statement": 4, "status": 3, "text": "target"}
+        self.assertEqual(str(self.fault(qroute.Refused, 3, told, call)), "target, line 5, column 3: UnknownName: a name here means nothing")
+        told = {"code": 60, "fault": "TextTooLong", "status": 3, "text": "target"}
+        self.assertEqual(str(self.fault(qroute.Refused, 3, told, call)), "target: TextTooLong: the program is longer than 67,108,864 bytes")
+        told["text"] = "source"
+        self.assertEqual(str(self.fault(qroute.Refused, 3, told, call)), "source: TextTooLong: the program is longer than 4,194,304 bytes")
+        fault = self.fault(qroute.StreamFault, 9, {"fault": "Absent", "status": 9}, call)
+        self.assertEqual(str(fault), "Absent: a file that was named isn't there")
 
     def test_refusals(self):
         fault = self.fault(qroute.Refused, 3, {"code": 12, "fault": "Syntax", "place": 52, "status": 3})
@@ -95,7 +131,8 @@ class Module(ToolTest):
         fault = self.fault(qroute.Refused, 3, {"code": 22, "fault": "UnknownName", "statement": 4, "status": 3})
         self.assertEqual((fault.line, fault.column), (5, 3))
         fault = self.fault(qroute.Refused, 3, {"code": 60, "fault": "TextTooLong", "status": 3})
-        self.assertEqual((fault.line, fault.column), (None, None))
+        self.assertEqual((fault.line, fault.column, fault.which), (None, None, None))
+        self.assertEqual(str(fault), "TextTooLong: the program is longer than 4,194,304 bytes")
 
     def test_other_faults(self):
         told = {"code": 54, "fault": "NotConnected", "from": 0, "status": 4, "to": 2}
@@ -169,6 +206,16 @@ class Built(ToolTest):
         self.assertEqual(qroute.check(text).t, 7)
         # the seven parities of a Toffoli gate, on three wires
         self.assertEqual([(it.parities, it.blocks, it.rank) for it in qroute.stages(text)], [(7, 3, 3)])
+
+    def test_a_trace(self):
+        with open(os.path.join(TOP, "examples/toffoli.qasm"), encoding="utf-8") as file:
+            text = file.read()
+        found = qroute.route(text, qroute.Device.named("line_5"), trace=True)
+        self.assertEqual((found.trace[0], found.trace[-1]), ("TRACE 1", f"end {found.phase}"))
+        self.assertEqual(qroute.verify(text, found.text), found.phase)
+        with self.assertRaises(qroute.NotShown) as caught:
+            qroute.verify(text, found.text.replace("//!emit 0\n", "", 1))
+        self.assertEqual(caught.exception.line, len(found.trace) - 1)
 
     def test_faults(self):
         with self.assertRaises(qroute.Refused) as caught:

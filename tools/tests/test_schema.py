@@ -28,6 +28,9 @@ FAULTS = [
     {"code": 60, "fault": "TextTooLong", "status": 3},
     {"code": 54, "fault": "NotConnected", "from": 0, "status": 4, "to": 1},
     {"code": 56, "device": 5, "fault": "TooFewQubits", "qubits": 6, "status": 4},
+    {"fault": "Trace", "line": 5, "status": 1},
+    {"code": 12, "fault": "Syntax", "place": 32, "status": 3, "text": "source"},
+    {"code": 60, "fault": "TextTooLong", "status": 3, "text": "target"},
 ]
 KINDS = {"integer": int, "string": str, "array": list, "object": dict}
 BUILT = os.environ.get("QROUTE", os.path.join(TOP, "out/qroute"))
@@ -90,6 +93,8 @@ class Schema(ToolTest):
             CHECK | {"operations": 65537},
             CHECK | {"t": True},
             FAULTS[0] | {"status": 0},
+            {"fault": "Trace", "line": 0, "status": 1},
+            FAULTS[4] | {"text": "trace"},
             {"status": 3},
         ):
             self.assertNotEqual(self.flaws(line), [], line)
