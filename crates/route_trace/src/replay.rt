@@ -102,7 +102,8 @@ impl Replay {
     {
         // Its contract says that the device isn't too large.
         let _size = device.size();
-        let rest = body.copy()?;
+        let mut rest = body.copy()?;
+        rest.link()?;
         let placement = Placement::of(alloc, given)?.unwrap();
         Ok(Replay { rest, placement })
     }
