@@ -16,7 +16,7 @@ pub enum Command {
         device: Name,
         /// Whether the wires begin on the qubits of their own numbers.
         trivial: bool,
-        /// Whether a trace is written in place of the program.
+        /// Whether a trace of the run is asked for.
         trace: bool,
     },
     /// Reads a program and reports on it.

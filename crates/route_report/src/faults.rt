@@ -97,7 +97,7 @@ pub enum Fault {
         statement: u32,
         side: Side,
     },
-    /// The trace stops at a line; lines are counted from 1 on.
+    /// This line of the trace, counted from 1 on, is the first that doesn't apply, or is missing.
     Trace {
         line: u32,
     },
