@@ -1,5 +1,6 @@
 pub mod LexemeLaws
 pub mod SymbolLaws
+pub mod CommentLaws
 pub mod SpellingLaws
 pub mod RunLaws
 pub mod RowLaws

@@ -1,10 +1,10 @@
 -- The statements of a text that is put together.
 --   SpeltBefore xs text tail rest   before a tail with these symbols, the text spells the statements, and none is too deep
---   Spelt xs text      the same before any tail
+--   Spelt xs text      the same before any tail, and no line of the text is one of a trace
 --   Spelt-nil, Spelt-then   no text; one text behind another
 --   Spelt-line         a line that spells one statement
 --   IsFreeWord-underscores the quantum register has a name of the language
---   written_tree-spelt the text of a program spells its tree
+--   written_tree-spelt the text of a program spells its tree, and the comments behind it hold their trace
 use Rattle.std.proofs.Common.{◌≡◌, ℕ, zero, suc, ◌+◌, ◌<◌, ◌≤◌, ◌==◌, ◌⊎◌, inl, inr, Bool, true, false, if◌then◌else◌, List, [], ◌∷◌, ◌++◌, Option, Some, None, refl, sym, ap, ◌∙◌, subst, arith, length, drop, take, codes, map, replicate, append_assoc, append-nil, All, lit<, lit≤, nat_le}
 use Rattle.std.proofs.lemmas.List.{length-take}
 use Rattle.std.proofs.lemmas.List.Sums.{sum_by-cons}
@@ -37,7 +37,9 @@ use Rattle.unitary_model.specs.declared.Op.{Op}
 use Rattle.unitary_model.specs.declared.Op.TheVariants.{U, Cx}
 use Rattle.qasm_writer.specs.Texts.{IsQubitsName, bits_line, index_text, op_line, phase_text, read_line, read_lines, register_lines, wires_line, with_underscores, written_text}
 use Rattle.qasm_writer.specs.Trees.{applied, at, bits_statement, eighths_angle, op_statement, phase_statement, read_statements, register_statements, wires_statements, written_tree}
-use Rattle.qasm_writer.proofs.SymbolLaws.{Gives, Gives-line, Gives-name, Gives-nil, Gives-number, Gives-space, Gives-token}
+use Rattle.trace_text.specs.Texts.{commented, ended, lines_of, trace_of}
+use Rattle.qasm_writer.proofs.SymbolLaws.{Gives, Gives-line, Gives-name, Gives-number, Gives-space, Gives-token}
+use Rattle.qasm_writer.proofs.CommentLaws.{AreUnbroken, Ends-end, Ends-index, Ends-then, Gives-commented, IsHeld, Silent, Silent-line, Silent-nil, Silent-then, is_opening, opening-word, trace-behind}
 
 -- ---- texts, one behind another
 pub record SpeltBefore (xs : List Statement) (text tail : Bytes) (rest : List Symbol) : Type 0 where
@@ -49,9 +51,13 @@ pub record SpeltBefore (xs : List Statement) (text tail : Bytes) (rest : List Sy
 
 pub record Spelt (xs : List Statement) (text : Bytes) : Type 0 where
   pub before : (tail : Bytes) (rest : List Symbol) → Gives tail rest → SpeltBefore xs text tail rest
+  pub silent : Silent text
 
 pub Spelt-nil : Spelt [] []
-Spelt-nil = record { before = λ tail rest g. record { ts = rest; found = []; gives = g; spells = (refl, refl); shallow = refl } }
+Spelt-nil = record {
+  before = λ tail rest g. record { ts = rest; found = []; gives = g; spells = (refl, refl); shallow = refl };
+  silent = Silent-nil;
+}
 
 each-then : (xs ys : List Statement) (ts mid rest : List Symbol) (here later : List Seen) → SpellsEach SpellsStatement xs ts mid here
     → SpellsEach SpellsStatement ys mid rest later → SpellsEach SpellsStatement (xs ++ ys) ts rest (here ++ later)
@@ -82,13 +88,14 @@ Spelt-then xs ys s t h k = record {
         spells = each-then xs ys first.ts last.ts rest first.found last.found first.spells last.spells;
         shallow = shallow-then first.found last.found first.shallow last.shallow;
       };
+  silent = Silent-then s t h.silent k.silent;
 }
 
 pub Spelt-line : (x : Statement) (text : Bytes) (ts : List Symbol → List Symbol) (found : List Symbol → List Seen)
     → ((tail : Bytes) (rest : List Symbol) → Gives tail rest → Gives (text ++ tail) (ts rest))
     → ((rest : List Symbol) → SpellsStatement x (ts rest) rest (found rest)) → ((rest : List Symbol) → first_deep 64 (found rest) ≡ None)
-    → Spelt (x ∷ []) text
-Spelt-line x text ts found gives spells shallow = record {
+    → Silent text → Spelt (x ∷ []) text
+Spelt-line x text ts found gives spells shallow silent = record {
   before = λ tail rest g. record {
     ts = ts rest;
     found = found rest;
@@ -96,6 +103,7 @@ Spelt-line x text ts found gives spells shallow = record {
     spells = (rest, found rest, [], spells rest, (refl, refl), sym (append-nil (found rest)));
     shallow = shallow rest;
   };
+  silent = silent;
 }
 
 -- ---- words and signs
@@ -153,6 +161,7 @@ wires_spelt q n h few = by_test (n == 0)
         rw shown (gives-qreg (index_text q n ++ (codes ";\n" ++ tail)) (name q ∷ index_symbols (Some n) (mark Semicolon ∷ rest))
         (gives-index q n (codes ";\n" ++ tail) (mark Semicolon ∷ rest) h few (gives-end tail rest g))))
         (λ rest. (refl, refl)) (λ rest. refl)
+        (Silent-line (codes "qreg ") (index_text q n ++ codes ";\n") refl (Ends-index q n (codes ";\n") h (omega arith) Ends-end))
 
     by_test : (b : Bool) → Spelt (if b then [] else register true q n ∷ []) (if b then [] else codes "qreg " ++ (index_text q n ++ codes ";\n"))
     by_test true = Spelt-nil
@@ -165,6 +174,7 @@ bits_spelt r h few = Spelt-line (bits_statement r) (bits_line r)
     rw shown (gives-creg (index_text r.name r.size ++ (codes ";\n" ++ tail)) (name r.name ∷ index_symbols (Some r.size) (mark Semicolon ∷ rest))
     (gives-index r.name r.size (codes ";\n" ++ tail) (mark Semicolon ∷ rest) h few (gives-end tail rest g))))
     (λ rest. (refl, refl)) (λ rest. refl)
+    (Silent-line (codes "creg ") (index_text r.name r.size ++ codes ";\n") refl (Ends-index r.name r.size (codes ";\n") h (omega arith) Ends-end))
 
 registers_spelt : (rs : List Bits) → AllByRecursion (λ r. IsFreeWord r.name × (r.size ≤ most_part)) rs
     → Spelt (map bits_statement rs) (flat_map bits_line rs)
@@ -191,6 +201,9 @@ read_spelt q b k i h g few less = Spelt-line (act (measure (at q i) (at b k))) (
       refl,
     ))
     (λ rest. refl)
+    (Silent-line (codes "measure ") (index_text q i ++ (codes " -> " ++ (index_text b k ++ codes ";\n"))) refl
+    (Ends-index q i (codes " -> " ++ (index_text b k ++ codes ";\n")) h (omega arith)
+    (Ends-then (codes " -> ") (index_text b k ++ codes ";\n") refl (Ends-index b k (codes ";\n") g (omega arith) Ends-end))))
 
 reads_spelt : (q b : Bytes) (n k : ℕ) (reads : List (Option ℕ)) → IsFreeWord q → IsFreeWord b → n ≤ most_part
     → k + length reads ≤ most_part → AllByRecursion (IsRead n) reads → Spelt (register_statements q b k reads) (register_lines q b k reads)
@@ -246,15 +259,18 @@ cx_spelt q c t h few less = Spelt-line (op_statement q (Cx c t)) (op_line q (Cx 
       ),
     ))
     (λ rest. refl)
+    (Silent-line (codes "cx ") (index_text q c ++ (codes "," ++ (index_text q t ++ codes ";\n"))) refl
+    (Ends-index q c (codes "," ++ (index_text q t ++ codes ";\n")) h (omega arith)
+    (Ends-then (codes ",") (index_text q t ++ codes ";\n") refl (Ends-index q t (codes ";\n") h (omega arith) Ends-end))))
 
 -- a gate on one qubit, by the symbols of its name
 gate_spelt : (q gate text : Bytes) (i : ℕ) (angles : List Expression) (ts : List Symbol → List Symbol) (found : List Symbol → List Seen)
-    → IsFreeWord q → i ≤ most_part
+    → IsFreeWord q → i ≤ most_part → is_opening text ≡ true
     → ((t : Bytes) (ss : List Symbol) → Gives t ss → Gives (text ++ 32 ∷ t) (ts ss))
     → ((rest : List Symbol) → (form : Form) × SpellsForm form (record { gate = gate; angles = angles; args = at q i ∷ [] }) (ts rest) rest (found rest))
     → ((rest : List Symbol) → first_deep 64 (found rest) ≡ None)
     → Spelt (applied gate angles (at q i ∷ []) ∷ []) (text ++ (codes " " ++ (index_text q i ++ codes ";\n")))
-gate_spelt q gate text i angles ts found h few gives form shallow =
+gate_spelt q gate text i angles ts found h few opens gives form shallow =
     Spelt-line (applied gate angles (at q i ∷ [])) (text ++ (codes " " ++ (index_text q i ++ codes ";\n")))
     (λ rest. ts (name q ∷ index_symbols (Some i) (mark Semicolon ∷ rest)))
     (λ rest. found (name q ∷ index_symbols (Some i) (mark Semicolon ∷ rest)))
@@ -265,11 +281,13 @@ gate_spelt q gate text i angles ts found h few gives form shallow =
     let f = form mid in
     (f.0, mid, f.1, (mark Semicolon ∷ rest, [], [], (refl, tt, refl), (refl, refl), refl)))
     (λ rest. shallow (name q ∷ index_symbols (Some i) (mark Semicolon ∷ rest)))
+    (Silent-line text (codes " " ++ (index_text q i ++ codes ";\n")) opens
+    (Ends-then (codes " ") (index_text q i ++ codes ";\n") refl (Ends-index q i (codes ";\n") h (omega arith) Ends-end)))
 
 plain_spelt : (q gate : Bytes) (i : ℕ) → IsFreeWord q → i ≤ most_part → IsFreeWord gate
     → Spelt (applied gate [] (at q i ∷ []) ∷ []) (gate ++ (codes " " ++ (index_text q i ++ codes ";\n")))
 plain_spelt q gate i h few named =
-    gate_spelt q gate gate i [] (λ rest. name gate ∷ rest) (λ rest. []) h few
+    gate_spelt q gate gate i [] (λ rest. name gate ∷ rest) (λ rest. []) h few (opening-word gate named)
     (λ t ss g. Gives-name gate 32 t ss named refl (Gives-space t ss g)) (λ rest. (alone, (refl, refl, refl))) (λ rest. refl)
 
 -- 3*pi/4 and 5*pi/4
@@ -305,13 +323,13 @@ angle_spelt k rest = record {
 }
 
 -- k*pi/4 in parentheses is one angle, three deep
-eighths_spelt : (q text : Bytes) (i k : ℕ) → IsFreeWord q → i ≤ most_part
+eighths_spelt : (q text : Bytes) (i k : ℕ) → IsFreeWord q → i ≤ most_part → is_opening text ≡ true
     → ((t : Bytes) (ss : List Symbol) → Gives t ss → Gives (text ++ 32 ∷ t) (name (codes "u1") ∷ mark Open ∷ whole_symbol k ∷ sign Mul ∷ word Pi ∷ sign Div ∷ whole_symbol 4 ∷ mark Close ∷ ss))
     → Spelt (applied (codes "u1") (eighths_angle k ∷ []) (at q i ∷ []) ∷ []) (text ++ (codes " " ++ (index_text q i ++ codes ";\n")))
-eighths_spelt q text i k h few gives =
+eighths_spelt q text i k h few opens gives =
     gate_spelt q (codes "u1") text i (eighths_angle k ∷ [])
     (λ rest. name (codes "u1") ∷ mark Open ∷ whole_symbol k ∷ sign Mul ∷ word Pi ∷ sign Div ∷ whole_symbol 4 ∷ mark Close ∷ rest)
-    (λ rest. seen (length (whole_symbol k ∷ sign Mul ∷ word Pi ∷ sign Div ∷ whole_symbol 4 ∷ mark Close ∷ rest)) 3 ∷ []) h few gives
+    (λ rest. seen (length (whole_symbol k ∷ sign Mul ∷ word Pi ∷ sign Div ∷ whole_symbol 4 ∷ mark Close ∷ rest)) 3 ∷ []) h few opens gives
     (λ rest. (
       listed,
       (
@@ -334,9 +352,9 @@ phase_spelt : (q : Bytes) (i c : ℕ) → IsFreeWord q → i ≤ most_part
     → Spelt (phase_statement c (at q i) ∷ []) (phase_text c ++ (codes " " ++ (index_text q i ++ codes ";\n")))
 phase_spelt q i c h few (inl e) = rw e (plain_spelt q (codes "t") i h few (record { word = refl; free = refl; no_function = refl }))
 phase_spelt q i c h few (inr (inl e)) = rw e (plain_spelt q (codes "s") i h few (record { word = refl; free = refl; no_function = refl }))
-phase_spelt q i c h few (inr (inr (inl e))) = rw e (eighths_spelt q (codes "u1(3*pi/4)") i 3 h few gives-three)
+phase_spelt q i c h few (inr (inr (inl e))) = rw e (eighths_spelt q (codes "u1(3*pi/4)") i 3 h few refl gives-three)
 phase_spelt q i c h few (inr (inr (inr (inl e)))) = rw e (plain_spelt q (codes "z") i h few (record { word = refl; free = refl; no_function = refl }))
-phase_spelt q i c h few (inr (inr (inr (inr (inl e))))) = rw e (eighths_spelt q (codes "u1(5*pi/4)") i 5 h few gives-five)
+phase_spelt q i c h few (inr (inr (inr (inr (inl e))))) = rw e (eighths_spelt q (codes "u1(5*pi/4)") i 5 h few refl gives-five)
 phase_spelt q i c h few (inr (inr (inr (inr (inr (inl e)))))) = rw e (plain_spelt q (codes "sdg") i h few (record { word = refl; free = refl; no_function = refl }))
 phase_spelt q i c h few (inr (inr (inr (inr (inr (inr e)))))) = rw e (plain_spelt q (codes "tdg") i h few (record { word = refl; free = refl; no_function = refl }))
 
@@ -378,7 +396,7 @@ include_spelt = Spelt-line (include (codes "qelib1.inc")) (codes "include \"qeli
     Gives-token (codes "include") (codes " \"qelib1.inc\";\n" ++ tail) _ refl (lit< tt) refl refl
     (Gives-space (codes "\"qelib1.inc\";\n" ++ tail) _
     (Gives-token (codes "\"qelib1.inc\"") (codes ";\n" ++ tail) _ refl (lit< tt) refl refl (gives-end tail rest g))))
-    (λ rest. (refl, refl)) (λ rest. refl)
+    (λ rest. (refl, refl)) (λ rest. refl) (record { before = λ rest. refl })
 
 -- ---- the whole text
 pub IsFreeWord-underscores : (k : ℕ) → IsFreeWord (with_underscores k)
@@ -405,10 +423,11 @@ tree_by : HasTokens → (text : Bytes) (xs : List Statement) (ts : List Symbol) 
 tree_by law text xs ts found g each shallow =
     let it = g.behind [] in (it.tokens, law text it.tokens it.lexed, (found, (ts, it.spelt, each), refl, shallow))
 
-pub written_tree-spelt : HasTokens → (q : List ℕ) (n bits : ℕ) (us : List Op) (rs : List Bits) (reads : List (Option ℕ)) → n ≤ most_part
-    → IsQubitsName rs q → AreRegisters rs bits → All IsPlain us → WiresBelow n us → All (IsRead n) reads
-    → IsTreeOf (written_text q n us rs reads) (written_tree q n us rs reads)
-written_tree-spelt law q n bits us rs reads few spare registers plain there asked =
+pub written_tree-spelt : HasTokens → AreUnbroken → IsHeld → (q : List ℕ) (n bits : ℕ) (us : List Op) (rs : List Bits) (reads : List (Option ℕ)) (trace : Bytes)
+    → n ≤ most_part → IsQubitsName rs q → AreRegisters rs bits → All IsPlain us → WiresBelow n us → All (IsRead n) reads
+    → IsTreeOf (written_text q n us rs reads ++ commented trace) (written_tree q n us rs reads)
+    × (trace_of (written_text q n us rs reads ++ commented trace) ≡ ended (lines_of trace))
+written_tree-spelt law unbroken held q n bits us rs reads trace few spare registers plain there asked =
     let h : IsFreeWord q = subst IsFreeWord (sym spare.spelt) (IsFreeWord-underscores spare.underscores) in
     let named = size-le-sum rs (recursion_from_All IsFree rs registers.each) (omega (arith, registers.all, registers.few)) in
     let reads' = recursion_from_All (IsRead n) reads asked in
@@ -417,7 +436,8 @@ written_tree-spelt law q n bits us rs reads few spare registers plain there aske
     (Spelt-then (map bits_statement rs) _ (flat_map bits_line rs) _ (registers_spelt rs named)
     (Spelt-then (map (op_statement q) us) (read_statements q rs reads) (flat_map (op_line q) us) (read_lines q rs reads)
     (ops_spelt q us n h few (recursion_from_All IsPlain us plain) there) (all_reads_spelt q n rs reads h few named reads')))) in
-    let b = all.before [] [] Gives-nil in
-    let whole = gives-version _ b.ts b.gives in
-    tree_by law (written_text q n us rs reads) (written_tree q n us rs reads).list b.ts b.found
-    (subst (λ (z : Bytes). Gives (codes "OPENQASM 2.0;\n" ++ z) (word OpenQasm ∷ real two ∷ mark Semicolon ∷ b.ts)) (append-nil _) whole) b.spells b.shallow
+    let b = all.before (commented trace) [] (Gives-commented unbroken trace) in
+    let version : Silent (codes "OPENQASM 2.0;\n") = record { before = λ rest. refl } in (
+      tree_by law (written_text q n us rs reads ++ commented trace) (written_tree q n us rs reads).list b.ts b.found (gives-version _ b.ts b.gives) b.spells b.shallow,
+      trace-behind held (written_text q n us rs reads) trace (Silent-then (codes "OPENQASM 2.0;\n") _ version all.silent),
+    )

@@ -99,16 +99,16 @@ unfolding lexeme_len form_len
 Gives-line rest ss g = Gives-blank (10 ∷ []) rest ss refl (lit< tt) refl g
 
 -- ---- names
-first_of_both : (a b : Bool) → (a && b) ≡ true → a ≡ true
+pub first_of_both : (a b : Bool) → (a && b) ≡ true → a ≡ true
 first_of_both true b e = refl
 first_of_both false b e = e
 
-second_of_both : (a b : Bool) → (a && b) ≡ true → b ≡ true
+pub second_of_both : (a b : Bool) → (a && b) ≡ true → b ≡ true
 second_of_both true b e = e
 second_of_both false b e = cc
 
 -- a run of such bytes before another byte
-prefix_len-run : (p : ℕ → Bool) (t : Bytes) (c : ℕ) (rest : Bytes) → list_all p t ≡ true → p c ≡ false → prefix_len p (t ++ c ∷ rest) ≡ length t
+pub prefix_len-run : (p : ℕ → Bool) (t : Bytes) (c : ℕ) (rest : Bytes) → list_all p t ≡ true → p c ≡ false → prefix_len p (t ++ c ∷ rest) ≡ length t
 prefix_len-run p [] c rest e ends = rw ends refl
 prefix_len-run p (b ∷ t) c rest e ends =
     let first = first_of_both (p b) (list_all p t) e in
@@ -144,7 +144,7 @@ not_stray b x zero e = refl
 not_stray b x (suc n) e = rw e refl
 
 -- a lexeme that begins with no capital
-lexeme_len-plain : (b : ℕ) (x : Bytes) (n : ℕ) → is_ascii_uppercase b ≡ false → form_by b (b ∷ x) ≡ n → lexeme_len (b ∷ x) ≡ n
+pub lexeme_len-plain : (b : ℕ) (x : Bytes) (n : ℕ) → is_ascii_uppercase b ≡ false → form_by b (b ∷ x) ≡ n → lexeme_len (b ∷ x) ≡ n
 unfolding lexeme_len form_len
 lexeme_len-plain b x n e f = rw (not_stray b x (form_by b (b ∷ x)) e) f
 
@@ -186,7 +186,7 @@ number-decimal : (n : ℕ) → n < 2 ^ 64 → number (decimal n) ≡ n
 unfolding number
 number-decimal n h = digits_value-decimal digits_own n h
 
-all_digits : (n : ℕ) → n < 2 ^ 64 → list_all is_ascii_digit (decimal n) ≡ true
+pub all_digits : (n : ℕ) → n < 2 ^ 64 → list_all is_ascii_digit (decimal n) ≡ true
 all_digits n h = digits_decimal digits_own n h
 
 -- a run of such bytes alone

@@ -1,16 +1,18 @@
-//! The text of a program: a circuit, classical registers and reads go in, OpenQASM 2.0 comes out, as a text
+//! The text of a program: a circuit, classical registers, reads and a trace go in, OpenQASM 2.0 comes out, as a text
 //! ([`program_text`]) or piece by piece to a sink ([`write_program`]).
 //!
-//! The text has a header, the registers, one gate a line, and then the measurements in the order of the bits. The contract gives
-//! its bytes exactly, and says what they are worth: the text is that of a program whose operations are the circuit's, whose
-//! classical registers are the given ones and whose reads are the given ones. A caller hands over registers as a program may
-//! declare them, and a read for each of their bits; the only error is want of memory for a text, and a fault of the sink.
+//! The text has a header, the registers, one gate a line, then the measurements in the order of the bits, and the lines of the
+//! trace as comments. The contract gives its bytes exactly, and says what they are worth: the text is that of a program whose
+//! operations are the circuit's, whose classical registers are the given ones and whose reads are the given ones, and it holds the
+//! trace, whatever bytes that has. A caller hands over registers as a program may declare them, and a read for each of their bits;
+//! the only error is want of memory for a text, and a fault of the sink.
 #![tactic(auto)]
 
 ghost use Rattle.std.specs.List.{list_all, list_any};
 ghost use Rattle.std.specs.Prelude.{◌≡◌, ◌≤◌, ◌==◌, [], All, IfOk, OnErr, OnOk, length, map, vec_capacity};
 ghost use Rattle.std.specs.Str.{bytes_eq};
 ghost use Rattle.gate_inline.specs.Programs.{IsWritten};
+ghost use Rattle.trace_text.specs.Texts.{ended, lines_of, trace_of};
 ghost use Rattle.outside_io.specs.Bytes.{Gains, GainsPrefix};
 ghost use Rattle.outside_io.specs.Causes.{HasCause};
 ghost use Rattle.qasm_writer.specs.Outputs.{HasText, IsOutput, IsText, bits_of, program_of};
@@ -24,6 +26,7 @@ use output::{Output, Register};
 use outside_io::{Failed, Sink};
 use pieces::{PIECE, send_room};
 use std::alloc::{AllocError, Global};
+use trace_text::laws::{commented_trace, lines_of_text};
 
 mod growing;
 mod lines;
@@ -88,6 +91,7 @@ pub fn program_text(alloc: Global, output: &Output) -> Result<Vec<u8>, AllocErro
     requires { IsOutput output.now }
     ensures text { IfOk result (λ v. IsText output.now v.items) }
     ensures written { IfOk result (λ v. IsWritten v.items (program_of output.now)) }
+    ensures trace { IfOk result (λ v. trace_of v.items ≡ ended (lines_of output.now.trace.now)) }
 {
     let mut room = empty_room(alloc)?;
     let mut text = Growing::new(alloc);
@@ -141,6 +145,8 @@ fn write_lines<S: Sink>(output: &Output, room: &mut Vec<u8>, sink: &mut S) -> Re
     qasm_lexer::lexed_exactly();
     fine_plain();
     fine_below();
+    lines_of_text();
+    commented_trace();
     let wires = output.body.wires();
     let q = underscores(output.registers);
     put_lines(output, q, wires, room, sink)?;

@@ -5,14 +5,16 @@ ghost use Rattle.std.specs.List.{flat_map};
 ghost use Rattle.circuit_list.specs.Gates.{op_of, ops};
 ghost use Rattle.outside_io.specs.Bytes.{GainsPrefix};
 ghost use Rattle.outside_io.specs.Causes.{HasCause};
+ghost use Rattle.trace_text.specs.Texts.{commented};
 ghost use Rattle.qasm_writer.specs.Outputs.{bits_of};
 ghost use Rattle.qasm_writer.specs.Pieces.{HasRoom, Sends};
 ghost use Rattle.qasm_writer.specs.Texts.{bits_line, index_text, op_line, phase_text, read_line, read_lines, register_lines, wires_line, with_underscores, written_text};
 
 use crate::output::{Output, Register};
-use crate::pieces::{put, put_number};
+use crate::pieces::{put, put_bytes, put_number};
 use circuit_list::{Circuit, Gate};
 use outside_io::{Failed, Sink};
+use trace_text::first_line;
 
 /// Puts a place, as `[3]`.
 fn put_place<S: Sink>(room: &mut Vec<u8>, sink: &mut S, place: usize) -> Result<(), Failed>
@@ -322,8 +324,8 @@ fn put_reads<S: Sink>(
     Ok(())
 }
 
-/// Puts the whole text.
-pub fn put_lines<S: Sink>(
+/// Puts the lines of the program.
+fn put_program<S: Sink>(
     output: &Output,
     q: usize,
     wires: u32,
@@ -342,4 +344,53 @@ pub fn put_lines<S: Sink>(
     put_registers(room, sink, output.registers)?;
     put_gates(room, sink, q, output.body)?;
     put_reads(room, sink, q, output.registers, output.reads)
+}
+
+/// Puts a line of a trace as a comment.
+fn put_comment<S: Sink>(room: &mut Vec<u8>, sink: &mut S, line: &[u8]) -> Result<(), Failed>
+    requires { HasRoom room.old }
+    ensures ok { OnOk result (Sends (S.held sink.old) room.old.items (S.held sink.new) room.new.items (codes "//!" ++ (line.now ++ codes "\n"))) }
+    ensures err { OnErr result (GainsPrefix (S.held sink.old) (S.held sink.new) (room.old.items ++ (codes "//!" ++ (line.now ++ codes "\n")))) }
+    ensures cause { HasCause (S.faults sink.old) (S.faults sink.new) result }
+    ensures room { HasRoom room.new }
+{
+    put(room, sink, "//!")?;
+    put_bytes(room, sink, line)?;
+    put(room, sink, "\n")
+}
+
+/// Puts the lines of a trace.
+#[tactic(auto, using(crate::proofs::PieceLaws::loops))]
+fn put_trace<S: Sink>(room: &mut Vec<u8>, sink: &mut S, trace: &[u8]) -> Result<(), Failed>
+    requires { HasRoom room.old }
+    ensures ok { OnOk result (Sends (S.held sink.old) room.old.items (S.held sink.new) room.new.items (commented trace.now)) }
+    ensures err { OnErr result (GainsPrefix (S.held sink.old) (S.held sink.new) (room.old.items ++ commented trace.now)) }
+    ensures cause { HasCause (S.faults sink.old) (S.faults sink.new) result }
+    ensures room { HasRoom room.new }
+{
+    let mut rest = trace;
+    'lines: while let Some((line, behind)) = first_line(rest) {
+        put_comment(room, sink, line)?;
+        rest = behind;
+    }
+    Ok(())
+}
+
+/// Puts the whole text: the lines of the program, and those of the trace behind them.
+pub fn put_lines<S: Sink>(
+    output: &Output,
+    q: usize,
+    wires: u32,
+    room: &mut Vec<u8>,
+    sink: &mut S,
+) -> Result<(), Failed>
+    requires room { HasRoom room.old }
+    requires reads { sum_by (λ r. r.size) (map bits_of output.now.registers.now) ≤ length output.now.reads.now }
+    ensures ok { OnOk result (Sends (S.held sink.old) room.old.items (S.held sink.new) room.new.items (written_text (with_underscores q) wires (ops output.now.body.now.gates) (map bits_of output.now.registers.now) output.now.reads.now ++ commented output.now.trace.now)) }
+    ensures err { OnErr result (GainsPrefix (S.held sink.old) (S.held sink.new) (room.old.items ++ (written_text (with_underscores q) wires (ops output.now.body.now.gates) (map bits_of output.now.registers.now) output.now.reads.now ++ commented output.now.trace.now))) }
+    ensures cause { HasCause (S.faults sink.old) (S.faults sink.new) result }
+    ensures room { HasRoom room.new }
+{
+    put_program(output, q, wires, room, sink)?;
+    put_trace(room, sink, output.trace)
 }

@@ -19,4 +19,6 @@ pub struct Output<'a> {
     pub registers: &'a [Register<'a>],
     /// For each bit the qubit that is measured into it, or none.
     pub reads: &'a [Option<u32>],
+    /// The lines of a trace, each of which is written behind `//!` after the last line of the program; empty where there is none.
+    pub trace: &'a [u8],
 }

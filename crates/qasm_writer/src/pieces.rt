@@ -41,7 +41,7 @@ pub fn send_room<S: Sink>(room: &mut Vec<u8>, sink: &mut S) -> Result<(), Failed
 
 /// Puts bytes behind those in the room, and sends each whole piece.
 #[tactic(auto, using(crate::proofs::PieceLaws::pieces))]
-fn put_bytes<S: Sink>(room: &mut Vec<u8>, sink: &mut S, bytes: &[u8]) -> Result<(), Failed>
+pub fn put_bytes<S: Sink>(room: &mut Vec<u8>, sink: &mut S, bytes: &[u8]) -> Result<(), Failed>
     requires { HasRoom room.old }
     ensures ok { OnOk result (Sends (S.held sink.old) room.old.items (S.held sink.new) room.new.items bytes.now) }
     ensures err { OnErr result (GainsPrefix (S.held sink.old) (S.held sink.new) (room.old.items ++ bytes.now)) }

@@ -70,6 +70,7 @@ fn writes_registers_side_by_side(rt: HostRuntime) -> Result<(), Fail> {
             },
         ],
         reads: &[Some(1), None, Some(0), None, Some(1)],
+        trace: b"",
     };
     let text = program_text(alloc, &output)?;
     let mut wanted = String::from_str(alloc, HEAD)?;
@@ -87,6 +88,7 @@ fn leaves_out_a_register_without_wires(rt: HostRuntime) -> Result<(), Fail> {
         body: &body,
         registers: &[Register { name: "q", size: 2 }],
         reads: &[None, None],
+        trace: b"",
     };
     let text = program_text(alloc, &output)?;
     let mut wanted = String::from_str(alloc, HEAD)?;
@@ -106,6 +108,7 @@ fn writes_whole_pieces_and_the_rest(rt: HostRuntime) -> Result<(), Fail> {
         body: &body,
         registers: &[],
         reads: &[],
+        trace: b"",
     };
     let text = program_text(alloc, &output)?;
     // the header, and 18 bytes for each gate
@@ -130,6 +133,34 @@ fn writes_whole_pieces_and_the_rest(rt: HostRuntime) -> Result<(), Fail> {
         assert_eq!(rt; sink.as_slice(), &text[..held]);
         assert_eq!(rt; sink.calls(), calls);
         assert!(rt; room.is_empty());
+    }
+    Ok(())
+}
+
+#[test]
+fn writes_a_trace_behind_the_program(rt: HostRuntime) -> Result<(), Fail> {
+    let alloc = rt.alloc();
+    let mut body = Circuit::empty(alloc, 1)?;
+    body.push(Gate::X { q: 0 })?;
+    let rows: [(&[u8], &str); 5] = [
+        (b"", ""),
+        (b"TRACE 1\nend 0 0\n", "//!TRACE 1\n//!end 0 0\n"),
+        (b"one\n\nthree\n", "//!one\n//!\n//!three\n"),
+        (b"one\ntwo", "//!one\n//!two\n"),
+        (b"\r\n//!\"{\t\n", "//!\r\n//!//!\"{\t\n"),
+    ];
+    for (trace, comments) in rows {
+        let output = Output {
+            body: &body,
+            registers: &[],
+            reads: &[],
+            trace,
+        };
+        let text = program_text(alloc, &output)?;
+        let mut wanted = String::from_str(alloc, HEAD)?;
+        wanted.push_str("qreg q[1];\nx q[0];\n")?;
+        wanted.push_str(comments)?;
+        assert_eq!(rt; text.as_slice(), wanted.as_bytes());
     }
     Ok(())
 }

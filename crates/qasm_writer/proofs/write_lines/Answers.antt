@@ -1,25 +1,42 @@
-use Rattle.std.proofs.Common.{map}
+use Rattle.std.proofs.Common.{◌++◌, map}
 use Rattle.outside_io.specs.Bytes.{Gains, GainsPrefix}
 use Rattle.circuit_list.specs.Gates.{ops}
+use Rattle.trace_text.specs.Texts.{commented}
 use Rattle.qasm_writer.specs.Outputs.{bits_of}
 use Rattle.qasm_writer.specs.Texts.{with_underscores, written_text}
-use Rattle.qasm_writer.proofs.OutputLaws.{HasText-written}
+use Rattle.qasm_writer.proofs.OutputLaws.{AreLaws, HasText-written}
 use Rattle.qasm_writer.proofs.PieceLaws.{Sends-rest, fault-whole, on_err, on_err-map, on_ok-map, rest-fault}
 use Rattle.qasm_writer.proofs.write_lines.Goals as goal
 
 pub returns-in_err-put_lines-clause-err : goal.returns-in_err-put_lines-clause-err
 returns-in_err-put_lines-clause-err g c =
     let o = c.args.output.now in
-    on_err _ _ (HasText-written c.lexed_exactly.ensures.has_tokens c.fine_plain.ensures.plain c.fine_below.ensures.below o c.underscores-q.result c.wires-wires.result
+    let laws : AreLaws = record {
+      tokens = c.lexed_exactly.ensures.has_tokens;
+      plain = c.fine_plain.ensures.plain;
+      below = c.fine_below.ensures.below;
+      unbroken = c.lines_of_text.ensures.unbroken;
+      held = c.commented_trace.ensures.held;
+    } in
+    on_err _ _ (HasText-written laws o c.underscores-q.result c.wires-wires.result
     (λ text. GainsPrefix (g.S.Sink.held c.args.sink.now) (g.S.Sink.held c.put_lines.new.sink) text) c.requires.output c.underscores-q.ensures
     c.wires-wires.ensures.wires c.wires-wires.ensures.few c.wires-wires.ensures.fine
-    (fault-whole _ _ c.args.room.now.items (written_text (with_underscores c.underscores-q.result) c.wires-wires.result (ops o.body.now.gates) (map bits_of o.registers.now) o.reads.now) c.requires.empty c.in_err-put_lines.ensures.err))
+    (fault-whole _ _ c.args.room.now.items
+    (written_text (with_underscores c.underscores-q.result) c.wires-wires.result (ops o.body.now.gates) (map bits_of o.registers.now) o.reads.now ++ commented o.trace.now)
+    c.requires.empty c.in_err-put_lines.ensures.err))
 
 pub returns-clause-ok : goal.returns-clause-ok
 returns-clause-ok g c =
     let o = c.args.output.now in
+    let laws : AreLaws = record {
+      tokens = c.lexed_exactly.ensures.has_tokens;
+      plain = c.fine_plain.ensures.plain;
+      below = c.fine_below.ensures.below;
+      unbroken = c.lines_of_text.ensures.unbroken;
+      held = c.commented_trace.ensures.held;
+    } in
     on_ok-map _ (Gains (g.S.Sink.held c.put_lines.new.sink) (g.S.Sink.held c.send_room.new.sink) c.put_lines.new.room.items) _
-    (λ gained. HasText-written c.lexed_exactly.ensures.has_tokens c.fine_plain.ensures.plain c.fine_below.ensures.below o c.underscores-q.result c.wires-wires.result
+    (λ gained. HasText-written laws o c.underscores-q.result c.wires-wires.result
     (λ text. Gains (g.S.Sink.held c.args.sink.now) (g.S.Sink.held c.send_room.new.sink) text) c.requires.output c.underscores-q.ensures
     c.wires-wires.ensures.wires c.wires-wires.ensures.few c.wires-wires.ensures.fine
     (Sends-rest _ _ _ _ _ _ c.requires.empty c.in_ok-put_lines.ensures.ok gained)) c.send_room.ensures.ok
@@ -27,8 +44,15 @@ returns-clause-ok g c =
 pub returns-clause-err : goal.returns-clause-err
 returns-clause-err g c =
     let o = c.args.output.now in
+    let laws : AreLaws = record {
+      tokens = c.lexed_exactly.ensures.has_tokens;
+      plain = c.fine_plain.ensures.plain;
+      below = c.fine_below.ensures.below;
+      unbroken = c.lines_of_text.ensures.unbroken;
+      held = c.commented_trace.ensures.held;
+    } in
     on_err-map _ (GainsPrefix (g.S.Sink.held c.put_lines.new.sink) (g.S.Sink.held c.send_room.new.sink) c.put_lines.new.room.items) _
-    (λ failed. HasText-written c.lexed_exactly.ensures.has_tokens c.fine_plain.ensures.plain c.fine_below.ensures.below o c.underscores-q.result c.wires-wires.result
+    (λ failed. HasText-written laws o c.underscores-q.result c.wires-wires.result
     (λ text. GainsPrefix (g.S.Sink.held c.args.sink.now) (g.S.Sink.held c.send_room.new.sink) text) c.requires.output c.underscores-q.ensures
     c.wires-wires.ensures.wires c.wires-wires.ensures.few c.wires-wires.ensures.fine
     (rest-fault _ _ _ _ _ _ c.requires.empty c.in_ok-put_lines.ensures.ok failed)) c.send_room.ensures.err

@@ -1,0 +1,15 @@
+use Rattle.std.proofs.Common.{[], All, refl, lit≤, rules}
+use Rattle.std.proofs.lemmas.List.Elements.{All-from_recursion}
+use Rattle.gate_inline.specs.Registers.{IsFree}
+use Rattle.qasm_writer.proofs.tests.writes_a_trace_behind_the_program.Goals as goal
+
+pub program_text-requires : goal.program_text-requires
+program_text-requires g c = record {
+  registers = record {
+    each = All-from_recursion IsFree [] tt;
+    different = refl;
+    all = refl;
+    few = lit≤ tt;
+  };
+  reads = search rules;
+}
