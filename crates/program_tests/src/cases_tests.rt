@@ -54,10 +54,21 @@ pub fn run_case(alloc: Global, case: Case<'_>) -> Result<Outcome, AllocError> {
 
 /// A run whose input gives, whose output takes and whose report takes at most so many bytes a call.
 pub fn run_by(alloc: Global, case: Case<'_>, most: [usize; 3]) -> Result<Outcome, AllocError> {
-    let [input_fails, shelf_fails, out_fails, report_fails] = case.fails;
+    let [_, shelf_fails, _, _] = case.fails;
+    let shelf = shelf_of(alloc, case.device, shelf_fails)?;
+    run_with(alloc, case, shelf, most)
+}
+
+/// The same on a shelf of its own, in place of the one with the case's device.
+pub fn run_with(
+    alloc: Global,
+    case: Case<'_>,
+    mut shelf: MemShelf,
+    most: [usize; 3],
+) -> Result<Outcome, AllocError> {
+    let [input_fails, _, out_fails, report_fails] = case.fails;
     let [input_most, out_most, report_most] = most;
     let mut input = source_of(alloc, case.text, input_most, input_fails)?;
-    let mut shelf = shelf_of(alloc, case.device, shelf_fails)?;
     let mut out = sink_of(alloc, out_most, out_fails)?;
     let mut report = sink_of(alloc, report_most, report_fails)?;
     let status = run(
@@ -200,7 +211,7 @@ pub fn words_of<'a>(alloc: Global, line: &'a str) -> Result<Vec<&'a str>, AllocE
 
 /// The failing calls of a row; if it says nothing, the second call of the shelf, or where the text is to be refused the first
 /// of the shelf and of the output.
-fn fails_of(row: &str) -> [u64; 4] {
+pub fn fails_of(row: &str) -> [u64; 4] {
     let mut fails = [0, 2, 0, 0];
     if first(row, "$ each").is_some() {
         fails = [0, 1, 1, 0];
@@ -233,7 +244,7 @@ fn check_row(
 }
 
 /// Whether a report is the one of its row, or has its pieces.
-fn check_report(alloc: Global, rt: &impl Abort, row: &str, report: &[u8]) -> Result<(), Fail> {
+pub fn check_report(alloc: Global, rt: &impl Abort, row: &str, report: &[u8]) -> Result<(), Fail> {
     let told = str::from_utf8(report).expect(rt, "a report in UTF-8");
     if first(row, "~ ").is_none() {
         let mut want = String::new(alloc);
@@ -291,7 +302,7 @@ fn check_ends(rt: &impl Abort, row: &str, command: &str, got: &Outcome) {
 }
 
 /// The first line of a row that begins with a sign, what stands behind the sign.
-fn first<'a>(row: &'a str, sign: &str) -> Option<&'a str> {
+pub fn first<'a>(row: &'a str, sign: &str) -> Option<&'a str> {
     'lines: for line in row.split('\n') {
         if let Some(rest) = line.strip_prefix(sign) {
             return Some(rest);
@@ -301,7 +312,7 @@ fn first<'a>(row: &'a str, sign: &str) -> Option<&'a str> {
 }
 
 /// All lines of a row that begin with a sign, what stands behind the sign.
-fn all(alloc: Global, row: &str, sign: &str) -> Result<String, AllocError> {
+pub fn all(alloc: Global, row: &str, sign: &str) -> Result<String, AllocError> {
     let mut lines = String::new(alloc);
     'lines: for line in row.split('\n') {
         if let Some(rest) = line.strip_prefix(sign) {
