@@ -360,7 +360,10 @@ pub const DEVICES: [&str; 3] = [
 #[test]
 fn keeps_what_came_of_a_trace(rt: HostRuntime) -> Result<(), Fail> {
     let alloc = rt.alloc();
-    let text = headed(alloc, "qreg q[3]; creg c[3]; ccx q[0],q[1],q[2]; measure q -> c;")?;
+    let text = headed(
+        alloc,
+        "qreg q[3]; creg c[3]; ccx q[0],q[1],q[2]; measure q -> c;",
+    )?;
     let case = Case {
         words: &TRACED,
         text: &text,
