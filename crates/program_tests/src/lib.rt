@@ -18,4 +18,8 @@ mod route_tests;
 #[cfg(test)]
 mod stop_tests;
 #[cfg(test)]
+mod traced_tests;
+#[cfg(test)]
+mod verify_tests;
+#[cfg(test)]
 mod walk_tests;
