@@ -25,7 +25,7 @@ pub struct Rewritten {
 /// The circuit after rounds of NOT propagation, Hadamard reduction, cancellation and rotation merging, one round after the
 /// other while that leaves fewer gates; then after resynthesis of its layers, and after Hadamard reduction, cancellation and
 /// rotation merging again as long as the last two leave fewer gates; and its turn. The steps are told where `traced` says so.
-pub fn rewritten(alloc: Global, body: Circuit, traced: bool) -> Result<Rewritten, AllocError>
+pub fn rewrite(alloc: Global, body: Circuit, traced: bool) -> Result<Rewritten, AllocError>
     ensures wires { IfOk result (λ r. r.passed.body.wires ≡ body.wires) }
     ensures law { IfOk result (λ r. IsRewriting body.wires body.gates r.passed.body.gates r.passed.turn) }
     ensures settled { IfOk result (λ r. IsSettled body.wires (ops r.passed.body.gates)) }

@@ -12,7 +12,7 @@ ghost use Rattle.qroute_top.specs.Plans.{target_program};
 ghost use Rattle.qroute_top.specs.Targets.{HasSteps, IsOptimised, IsRunOf, IsRunTrace, IsTold};
 
 use crate::cost::cost_of;
-use crate::passes::{Rewritten, rewritten};
+use crate::passes::{Rewritten, rewrite};
 use circuit_list::{Circuit, Passed};
 use coupling_map::Device;
 use gate_expand::expand;
@@ -56,7 +56,7 @@ pub fn optimised(
 {
     source.facts();
     let expanded = expand(alloc, source.ops())?;
-    let Rewritten { passed, steps } = rewritten(alloc, expanded.body, traced)?;
+    let Rewritten { passed, steps } = rewrite(alloc, expanded.body, traced)?;
     let turn = turn_sum(expanded.turn, passed.turn);
     Ok(Rewritten {
         passed: Passed {
