@@ -2,9 +2,10 @@
 --   IsTextStop-text, IsTextStop-read   why a text isn't had as a program
 --   IsClaimStop-source, IsClaimStop-target, IsClaimStop-trace   why the claim isn't proved
 --   Readable, Traceable      laws of the reader and of traces, as they are handed in
+--   trace-short              the trace of a text is short enough for the checker
 --   same_ending              on texts that are told `verify` ends in one way
 --   ended-claim, ended-verified   from the cause of a stop, and from what is verified, to the way in which it ends
-use Rattle.std.proofs.Common.{◌≡◌, ◌⊎◌, inl, inr, ℕ, ◌<◌, ◌≤◌, List, Option, Some, None, refl, sym, ap, ◌∙◌, arith, subst, length}
+use Rattle.std.proofs.Common.{◌≡◌, ◌⊎◌, inl, inr, ℕ, ◌<◌, ◌≤◌, List, Option, Some, None, Result, Err, refl, sym, ap, ◌∙◌, arith, subst, length}
 use Rattle.outside_io.specs.Causes.{Rose}
 use Rattle.outside_io.specs.Shelf.{IsTextCause, TellsText}
 use Rattle.outside_io.specs.declared.TextFault.{TextFault}
@@ -17,7 +18,10 @@ use Rattle.route_report.specs.declared.faults.Side.{Side}
 use Rattle.route_report.specs.declared.faults.Side.TheVariants as side
 use Rattle.trace_check.specs.Proves.{Claim, Proves, StopsAt}
 use Rattle.trace_check.specs.Verdicts.{claim_of}
-use Rattle.trace_text.specs.Texts.{trace_of}
+use Rattle.std.proofs.lemmas.Grind.{common_steps}
+use Rattle.std.specs.Prelude.{Bool, true, false, cond, codes, drop, nat_eq, suc, ◌+◌, [], ◌∷◌}
+use Rattle.rewrite_pass.specs.TraceLines.{ended}
+use Rattle.trace_text.specs.Texts.{begins, begun, lines_of, trace_of, traced}
 use Rattle.qroute_top.specs.Causes.{IsClaimCause, claim_status}
 use Rattle.qroute_top.specs.Claims.{Absent, AreTold, Bad, Ending, Found, Good, IsBehind, IsCompared, IsEnding, IsJudged, IsTextRefused, IsVerified, Missing, Proved, Refused, Says, Stopped, ending_status, limit_of}
 use Rattle.qroute_top.specs.Stops.{IsClaimStop, IsTextStop, IsTraceStop, IsUnreadText, unloaded_text}
@@ -55,6 +59,9 @@ Content = List ℕ → Option (Option (List ℕ))
 
 abbrev pub Calm : Stop → ℕ → ℕ → Type 0
 Calm x before after = (x ≡ stop.Claim claim.Failed → ⊥) → after ≡ before
+
+pub failed_same : {T : Type 0} (r : Result T Stop) (s t : Stop) → r ≡ Err s → r ≡ Err t → s ≡ t
+failed_same r s t e f = cc
 
 pub IsClaimStop-source : (content : Content) (a b : List ℕ) (before after : ℕ) (x : Stop) → IsTextStop side.Source (content a) before after x
     → Calm x before after → IsClaimStop content a b before after x
@@ -103,6 +110,43 @@ IsClaimStop-trace content a b text other p q before after (stop.Claim (claim.Ref
 IsClaimStop-trace content a b text other p q before after (stop.Claim (claim.Trace line)) told too t calm = ((Good text p, told, (Good other q, too, t)), calm)
 
 pub ruleset texts = (IsTextStop-text, IsTextStop-read)
+
+-- ---- a trace is no longer than its text
+begun-length : (b : ℕ) (ls : List (List ℕ)) → length (ended (begun b ls)) ≤ length (ended ls) + 2
+begun-length b [] = omega arith
+begun-length b (l ∷ ls) = omega arith
+
+lines-length : (t : List ℕ) → length (ended (lines_of t)) ≤ length t + 1
+lines-length [] = omega arith
+lines-length (b ∷ t) = by_break (nat_eq b 10)
+  where
+    by_break : (c : Bool) → length (ended (cond c ([] ∷ lines_of t) (begun b (lines_of t)))) ≤ suc (length t) + 1
+    by_break true = let more = lines-length t in omega (arith, more)
+    by_break false = let more = lines-length t in more_by (lines_of t) more
+      where
+        more_by : (ls : List (List ℕ)) → length (ended ls) ≤ length t + 1 → length (ended (begun b ls)) ≤ suc (length t) + 1
+        more_by [] h = omega (arith, h)
+        more_by (l ∷ ls) h = omega (arith, h)
+
+drop-length : (n : ℕ) (l : List ℕ) → length (drop n l) ≤ length l
+drop-length n l = grind (arith, common_steps)
+
+traced-length : (ls : List (List ℕ)) → length (ended (traced ls)) ≤ length (ended ls)
+traced-length [] = omega arith
+traced-length (l ∷ ls) = by_sign (begins (codes "//!") l)
+  where
+    by_sign : (c : Bool) → length (ended (cond c (drop 3 l ∷ traced ls) (traced ls))) ≤ length (ended (l ∷ ls))
+    by_sign true =
+        let more = traced-length ls in
+        let less = drop-length 3 l in
+        grind (arith, common_steps)
+    by_sign false = let more = traced-length ls in grind (arith, common_steps)
+
+pub trace-short : (t : List ℕ) → length t ≤ 67108864 → length (trace_of t) < 2147483648
+trace-short t short =
+    let lines = lines-length t in
+    let less = traced-length (lines_of t) in
+    omega (arith, short, lines, less)
 
 -- ---- one ending
 pub record Readable : Type 0 where
@@ -165,7 +209,7 @@ same_judged law e trace (Proved p q j) (Refused s r) a b = absurd b
 same_judged law e trace (Proved p q j) (Stopped n) a b = absurd (law.not_both e trace n p q j b a)
 same_judged law e trace (Proved p q j) (Proved r s k) a b =
     let same = law.one_proof e trace p q r s j k a b in
-    ap (λ w. Proved w q j) same.0 ∙ (ap (λ w. Proved r w j) same.1 ∙ ap (λ w. Proved r s w) same.2)
+    ap (λ w. Proved w q j) same.0 ∙ (ap (λ w. Proved r w j) same.1.0 ∙ ap (λ w. Proved r s w) same.1.1)
 
 same_compared : Traceable → (p : Program) (f : Found) (x y : Ending) → IsCompared p f x → IsCompared p f y → x ≡ y
 same_compared law p Missing x y a b = a ∙ sym b

@@ -763,7 +763,7 @@ Delivered-done words content old new w Done delivers (text, line, is, done) = (t
 
 -- ---- how `verify` ends
 same_texts : (a b c d : List ℕ) (o : Option (List ℕ × List ℕ)) → o ≡ Some (a, b) → o ≡ Some (c, d) → (a ≡ c) × (b ≡ d)
-same_texts a b c d o e f = cc
+same_texts a b c d o e f = (cc, cc)
 
 -- a stop of the run, where the command is `verify`
 pub stopped-verdict : Readable → Traceable → (h : Handed) (s : Stop) (n : ℕ) (c : Command) (a b : List ℕ) (x : Ending) → IsCause h s → Ends s n

@@ -4,6 +4,7 @@
 --   not_late              it is none of those that a plan ends with
 --   not_memory            a fault that is told isn't want of memory
 --   Gains-nothing         what is untouched gained no bytes
+--   HasWork-program       what came of a work that has a program
 --   HasWork-line, HasWork-told, no_text_of   what came of a work that has a line alone
 --   on_ok, on_err         what holds anyway holds of an answer
 --   on_calm               what holds of an answer that is Ok, where the count of faults did not rise
@@ -31,7 +32,9 @@ use Rattle.route_report.specs.declared.faults.Fault.TheVariants as fault
 use Rattle.qasm_writer.specs.Outputs.{HasText}
 use Rattle.qasm_writer.specs.declared.output.Output.{Output}
 use Rattle.qroute_top.specs.Causes.{claim_fault, claim_status, device_fault, fault_of, is_early_fault, question_fault, refusal_fault, stop_status, text_fault}
-use Rattle.qroute_top.specs.Plans.{HasWork, has_text}
+use Rattle.gate_inline.specs.Programs.{Program}
+use Rattle.qroute_top.specs.declared.target.Target.{Target}
+use Rattle.qroute_top.specs.Plans.{HasPlanned, HasWork, has_text}
 use Rattle.qroute_top.specs.declared.plan.Work.{Work}
 use Rattle.qroute_top.specs.declared.plan.Work.TheVariants as work
 use Rattle.qroute_top.specs.declared.stops.ClaimStop.{ClaimStop}
@@ -157,6 +160,10 @@ on_calm before now (Ok x) P cause h calm = h
 on_calm before now (Err e) P cause h calm = absurd (calm cause.failed)
 
 pub ruleset told = (status-stop, on_calm)
+
+-- a work that has a program
+pub HasWork-program : (w : Work) (s : Program) (t : Target) (Done : List ℕ → List ℕ → Type 0) → w ≡ work.Program s t → HasPlanned s t Done → HasWork w Done
+HasWork-program w s t Done is h = subst (λ (y : Work). HasWork y Done) (sym is) h
 
 -- a work that has a line alone
 pub HasWork-line : (w : Work) (v : Vec ℕ Global) (line : List ℕ) (a b c : Option (List ℕ)) → w ≡ work.Line v → line ≡ v.items → Gains b c line

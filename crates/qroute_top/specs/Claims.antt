@@ -44,7 +44,7 @@ pub data Found : Type 0 where
 abbrev pub Says : Option (Option (List ℕ)) → Side → Found → Type 0
 Says content s Missing = HasNoText content
 Says content s (Bad r) = (text : List ℕ) × TellsText content text × IsTextRefused s text r
-Says content s (Good text p) = TellsText content text × ((length text ≤ limit_of s) × IsAcceptedText text p)
+Says content s (Good text p) = TellsText content text × (length text ≤ limit_of s) × IsAcceptedText text p
 
 pub data Ending : Type 0 where
   Absent : Ending

@@ -47,8 +47,8 @@ pub record IsRunOf (d : Coupling) (n : ℕ) (gates : List Gate) (given : List �
   pub wires : r.body.wires ≡ d.size
   pub realises : Realises (ops gates) n (ops r.body.gates) d.size given r.last r.turn
   pub edges : FollowsEdges d.edges (ops r.body.gates)
-  pub t_count : t_count (ops r.body.gates) ≡ t_count (ops gates)
-  pub cx_count : cx_count (ops r.body.gates) ≡ cx_count (ops gates) + 3 * r.swaps
+  pub t_gates : t_count (ops r.body.gates) ≡ t_count (ops gates)
+  pub cx_gates : cx_count (ops r.body.gates) ≡ cx_count (ops gates) + 3 * r.swaps
   pub few_swaps : (k : ℕ) → IsDiameter d.size d.edges (cost d) k → r.swaps ≤ cx_count (ops gates) * bound d k
 
 abbrev pub IsRunTrace : Coupling → Passed → List Step → List ℕ → Routed → ℕ → List ℕ → Type 0

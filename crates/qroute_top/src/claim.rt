@@ -1,6 +1,6 @@
 //! The claim that one text does what another does, by the trace in its comments.
 
-ghost use Rattle.std.specs.Prelude.{◌≡◌, ◌×◌, ◌≤◌, ℕ, List, [], IfErr, IfOk, Err, false, length, true};
+ghost use Rattle.std.specs.Prelude.{◌≡◌, ◌≤◌, ℕ, List, [], IfErr, IfOk, Err, false, length, true};
 ghost use Rattle.outside_io.specs.Causes.{Rose};
 ghost use Rattle.outside_io.specs.Shelf.{TellsText};
 ghost use Rattle.program_reader.specs.Texts.{IsAcceptedText};

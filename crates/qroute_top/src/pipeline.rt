@@ -1,6 +1,6 @@
 //! From a source to what a command has to write.
 
-ghost use Rattle.std.specs.Prelude.{◌≡◌, ◌≤◌, ℕ, List, All, IfOk, length, true};
+ghost use Rattle.std.specs.Prelude.{◌≡◌, ◌≤◌, ℕ, List, IfOk, false, true};
 ghost use Rattle.qroute_top.specs.Delivered.{IsInPlace, IsOnQubits, Rewrites};
 ghost use Rattle.qroute_top.specs.Plans.{IsFitWork, IsWork, has_line, has_text};
 

@@ -1,7 +1,12 @@
 -- A line alone.
 use Rattle.std.proofs.Common.{refl}
-use Rattle.qroute_top.proofs.StatusLaws.{HasWork-line, HasWork-told, no_text_of}
+use Rattle.qroute_top.proofs.StatusLaws.{HasWork-line, HasWork-program, HasWork-told, no_text_of}
 use Rattle.qroute_top.proofs.emission.emit.Goals as goal
+
+pub returns-in-Program-clause-output : goal.returns-in-Program-clause-output
+returns-in-Program-clause-output g c = λ e.
+    let h = c.emit_target.ensures.output e in
+    (HasWork-program c.args.work.now c.in-Program.source c.in-Program.target _ c.in-Program.is h.0, h.1, h.2)
 
 pub returns-in-Line-clause-done : goal.returns-in-Line-clause-done
 returns-in-Line-clause-done g c = λ e.

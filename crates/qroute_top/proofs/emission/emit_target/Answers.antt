@@ -1,6 +1,7 @@
 -- Where the text could not be written.
 use Rattle.std.proofs.Common.{◌∙◌, ap, map}
 use Rattle.outside_io.specs.Bytes.{GainsPrefix}
+use Rattle.trace_text.specs.Texts.{ended, lines_of}
 use Rattle.qasm_writer.specs.Outputs.{bits_of}
 use Rattle.qroute_top.proofs.PlanLaws.{HasPlanned-written}
 use Rattle.qroute_top.proofs.emission.emit_target.Goals as goal
@@ -14,5 +15,5 @@ returns-in-Ok-clause-output g c = λ e.
     let reads = c.deref-in-Ok.ensures.value ∙ p.reads in
     let planned = HasPlanned-written c.args.source.now c.args.target.now came.0 c.in-Ok.field-0.line.items
     (GainsPrefix (g.O.Sink.held c.args.out.now) (g.O.Sink.held c.emit_program.new.out)) (map bits_of c.deref.result.now) c.deref-in-Ok.result.now registers
-    reads p.line came.3 came.2 came.4 in
+    reads p.line (came.3 ∙ ap (λ x. ended (lines_of x)) c.deref-in-Ok-2.ensures.value ∙ c.requires.trace) came.2 came.4 in
     (planned, h.1, h.2)

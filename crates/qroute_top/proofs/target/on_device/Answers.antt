@@ -11,35 +11,35 @@ use Rattle.qroute_top.proofs.target.on_device.Goals as goal
 pub returns-clause-stands : goal.returns-clause-stands
 returns-clause-stands c =
     let is = c.requires.optimised in
-    let r = c.in_ok-routed.ensures in
+    let r = c.in_ok-run.ensures.run in
     λ told t. record {
       registers = refl;
       plain = plain_of _ _ c.wires-qubits.ensures.fine;
-      unitary = Realises-routed _ _ _ _ c.args.passed.now _ _ _ _ _ _ _ is r.wires r.realises (t.initial ∙ c.in_ok-initial.ensures) t.last
-          (t.phase ∙ c.turn_sum.ensures.sum);
+      unitary = Realises-routed _ _ _ _ c.args.rewritten.now.passed _ _ _ _ _ _ _ is r.wires r.realises (t.initial ∙ c.in_ok-initial.ensures) t.last
+          (t.phase ∙ c.turn_sum-turn.ensures.sum);
       reads = ap (λ p. map (placed_read p) c.args.source.now.reads) (sym t.last);
-      t_gates = let few = is.t_gates in let same = r.t_count in omega (arith, few, same);
-      cx_gates = let few = is.cx_gates in let more = r.cx_count in let swaps = t.swaps in omega (arith, few, more, swaps);
+      t_gates = let few = is.t_gates in let same = r.t_gates in omega (arith, few, same);
+      cx_gates = let few = is.cx_gates in let more = r.cx_gates in let swaps = t.swaps in omega (arith, few, more, swaps);
     }
 
 pub returns-clause-placed : goal.returns-clause-placed
 returns-clause-placed c =
     let is = c.requires.optimised in
-    let r = c.in_ok-routed.ensures in
+    let r = c.in_ok-run.ensures.run in
     λ told t. record {
       qubits = r.wires;
       edges = r.edges;
       placed = λ e. t.initial ∙ c.in_ok-initial.ensures ∙ c.in_ok-given.ensures.trivial e ∙ sym (ap identity r.wires);
       run = rw (t.initial, t.last, t.swaps, t.phase, c.in_ok-initial.ensures)
-          (IsMachineRun-routed _ _ _ _ c.args.passed.now _ _ _ is c.wires-wires.ensures.fine r.run c.turn_sum.ensures.sum c.in_ok-given.ensures.laid_out);
+          (IsMachineRun-routed _ _ _ _ c.args.rewritten.now.passed _ _ _ is c.wires-wires.ensures.fine r.run c.turn_sum-turn.ensures.sum c.in_ok-given.ensures.laid_out);
       swaps = rw t.swaps
-          (HasFewSwaps-routed _ _ (ops c.args.passed.now.body.gates) _ _ _ c.diameter-diameter.ensures.diameter is.cx_gates r.few_swaps r.cx_count);
+          (HasFewSwaps-routed _ _ (ops c.args.rewritten.now.passed.body.gates) _ _ _ c.diameter-diameter.ensures.diameter is.cx_gates r.few_swaps r.cx_gates);
       cost = t.cost ∙ c.cost_of-cost.ensures;
     }
 
 pub cost_of-cost-requires-clause-few : goal.cost_of-cost-requires-clause-few
 cost_of-cost-requires-clause-few c =
-    let r = c.in_ok-routed.ensures in
+    let r = c.in_ok-run.ensures.run in
     let size = c.size-size.ensures in
     λ listed. listed-few c.args.device.now c.args.source.now.ops _ _ _ c.diameter-diameter.result listed size.coupling.graph.limited
-    c.requires.optimised.cx_gates c.facts.ensures.operations_limit (r.few_swaps _ c.diameter-diameter.ensures.diameter) r.cx_count
+    c.requires.optimised.cx_gates c.facts.ensures.operations_limit (r.few_swaps _ c.diameter-diameter.ensures.diameter) r.cx_gates

@@ -1,8 +1,15 @@
-use Rattle.qroute_top.proofs.TargetLaws.{IsOptimised-rewritten}
+use Rattle.qroute_top.proofs.TargetLaws.{HasSteps-summed, IsOptimised-rewritten}
 use Rattle.qroute_top.proofs.target.optimised.Goals as goal
 
-pub returns : goal.returns
-returns c =
-    let e = c.in_ok-body.ensures in
-    let r = c.in_ok-body-2.ensures in
-    IsOptimised-rewritten _ _ c.in_ok-body.field-0 c.in_ok-body-2.field-0 _ e.wires e.below e.same (e.odd_paths _) e.cx_count r.wires r.law r.settled c.turn_sum.ensures.sum
+pub returns-clause-optimised : goal.returns-clause-optimised
+returns-clause-optimised c =
+    let e = c.in_ok-expanded.ensures in
+    let r = c.in_ok-passed.ensures in
+    IsOptimised-rewritten _ _ c.in_ok-expanded.expanded c.in_ok-passed.passed _ e.wires e.below e.same (e.odd_paths _) e.cx_count r.wires r.law r.settled
+    c.turn_sum-turn.ensures.sum
+
+pub returns-clause-steps : goal.returns-clause-steps
+returns-clause-steps c =
+    let e = c.in_ok-expanded.ensures in
+    let r = c.in_ok-passed.ensures in
+    HasSteps-summed _ _ c.in_ok-expanded.expanded c.in_ok-passed.passed _ _ e.wires e.gates e.turn c.turn_sum-turn.ensures.sum r.steps
