@@ -5,7 +5,7 @@
 --     emit-run, swap-run  a gate that is emitted, a swap
 --     events-run          a run of the router
 --     run-there           the places and qubits of its events are there
-use Rattle.std.proofs.Common.{◌≡◌, ◌≢◌, ℕ, zero, suc, ◌+◌, ◌%◌, ◌^◌, ◌<◌, ◌≤◌, ◌⊎◌, ◌||◌, inl, inr, Bool, not, true, false, cond, List, [], ◌∷◌, ◌++◌, Option, None, Some, length, map, refl, sym, ◌∙◌, ap, subst, arith, append_assoc, append-nil, slice_get, slice_index, take}
+use Rattle.std.proofs.Common.{◌≡◌, ◌≢◌, ℕ, zero, suc, ◌+◌, ◌%◌, ◌^◌, ◌<◌, ◌≤◌, ◌⊎◌, ◌||◌, inl, inr, Bool, not, true, false, cond, List, [], ◌∷◌, ◌++◌, Option, Some, length, map, refl, sym, ◌∙◌, subst, arith, append_assoc, append-nil, slice_get, slice_index, take}
 use Rattle.std.specs.Prelude.{IsTrue}
 use Rattle.std.specs.List.{list_any, remove}
 use Rattle.std.proofs.lemmas.List.Elements.{All-from_recursion}
@@ -13,7 +13,7 @@ use Rattle.std.proofs.lemmas.Option.{slice_get_within}
 use Rattle.circuit_list.specs.declared.Gate.{Gate}
 use Rattle.circuit_list.specs.declared.Gate.TheVariants.{H, X, P, Cx}
 use Rattle.circuit_list.specs.Gates.{first_wire, is_on, second_wire}
-use Rattle.circuit_list.specs.Slots.{NoneBefore, is_on_at}
+use Rattle.circuit_list.specs.Slots.{is_on_at}
 use Rattle.coupling_map.specs.Coupling.{Coupling}
 use Rattle.coupling_map.specs.Walks.{is_edge, is_near}
 use Rattle.sabre_route.specs.Emission.{cx_gates, cx_turn, emitted, emitted_turn, low_order, swap_gates, swap_turn}
@@ -23,10 +23,10 @@ use Rattle.sabre_route.specs.Search.{is_free, shares}
 use Rattle.sabre_route.specs.Telling.{told}
 use Rattle.sabre_route.proofs.EmissionLaws.{low_order-is}
 use Rattle.trace_check.specs.Lines.{Line, Emit, Back, Swap, Turn}
-use Rattle.trace_check.specs.Proves.{Claim, IsFirst, Placed, Routed, Runs, State, on_qubits, swap_cx, turn_cx, turned_cx}
+use Rattle.trace_check.specs.Proves.{Claim, IsFirst, Routed, Runs, State, on_qubits, swap_cx, turn_cx, turned_cx}
 use Rattle.unitary_model.specs.Placement.{exchanged}
 use Rattle.unitary_model.proofs.ReachedLaws.{exchanged-comm}
-use Rattle.route_trace.specs.EventLines.{AreThere, emitted_line, event_line, event_lines, swapped_line}
+use Rattle.route_trace.specs.EventLines.{AreThere, emitted_line, event_lines, swapped_line}
 use Rattle.route_trace.proofs.StepRuns.{remove-short}
 
 abbrev pub Near : Coupling → Type 0
@@ -55,7 +55,7 @@ either-none v w (x ∷ xs) h =
     let o = either-none v w xs p.1 in
     ((λ z. r.0 z || o.0 z), (λ z. r.1 z || o.1 z))
 
-pub free-first : (gs : List Gate) (j : ℕ) (g : Gate) → slice_get gs j ≡ Some g → is_free (take j gs) g ≡ true → IsFirst gs j g
+free-first : (gs : List Gate) (j : ℕ) (g : Gate) → slice_get gs j ≡ Some g → is_free (take j gs) g ≡ true → IsFirst gs j g
 unfolding is_free
 free-first gs j g e h =
     let n = either-none (first_wire g) (second_wire g) (take j gs) (not-true (list_any (shares g) (take j gs)) h) in
@@ -91,7 +91,7 @@ cx-run : (e : Claim) (p q : List ℕ) (gs w : List Gate) (t j c s : ℕ) (ls : L
 cx-run e p q gs w t j c s ls behind u lt small first true r = one-emit e p q gs w t j (Cx c s) ls behind u lt small first r
 cx-run e p q gs w t j c s ls behind u lt small first false r = one-back e p q gs w t j c s ls behind u small first r
 
-pub emit-run : (e : Claim) (es : List (ℕ × ℕ)) (p q : List ℕ) (gs w : List Gate) (t j : ℕ) (g : Gate) (ls : List Line) (behind : List (List ℕ)) (u : State) → t < 8 → j < 2 ^ 32 → IsFirst gs j g →
+emit-run : (e : Claim) (es : List (ℕ × ℕ)) (p q : List ℕ) (gs w : List Gate) (t j : ℕ) (g : Gate) (ls : List Line) (behind : List (List ℕ)) (u : State) → t < 8 → j < 2 ^ 32 → IsFirst gs j g →
     Runs e (at p q (remove gs j) (w ++ emitted es q g) ((t + emitted_turn es q g) % 8)) ls behind u → Runs e (at p q gs w t) (emitted_line es q (Some g) j ∷ ls) behind u
 unfolding emitted emitted_turn cx_gates cx_turn
 emit-run e es p q gs w t j (H v) ls behind u lt small first r = one-emit e p q gs w t j (H v) ls behind u lt small first r
@@ -127,7 +127,7 @@ pair : (n a b x y : ℕ) → a < n → b < n → a ≢ b → ((x ≡ a) × (y �
 pair n a b x y ha hb ne (inl (e, f)) = record { first = omega (arith, e, ha); second = omega (arith, f, hb); differ = λ d. ne (sym e ∙ d ∙ f); same = λ z. exchanged (e z) (f z) }
 pair n a b x y ha hb ne (inr (e, f)) = record { first = omega (arith, e, hb); second = omega (arith, f, ha); differ = λ d. ne (sym f ∙ sym d ∙ e); same = (λ z. exchanged (e z) (f z)) ∙ exchanged-comm b a }
 
-pub swap-run : (e : Claim) (es : List (ℕ × ℕ)) (p q : List ℕ) (gs w : List Gate) (t a b : ℕ) (ls : List Line) (behind : List (List ℕ)) (u : State) → e.qubits ≤ 2 ^ 32 → a < e.qubits → b < e.qubits → a ≢ b → is_near es a b ≡ true →
+swap-run : (e : Claim) (es : List (ℕ × ℕ)) (p q : List ℕ) (gs w : List Gate) (t a b : ℕ) (ls : List Line) (behind : List (List ℕ)) (u : State) → e.qubits ≤ 2 ^ 32 → a < e.qubits → b < e.qubits → a ≢ b → is_near es a b ≡ true →
     Runs e (at p (map (exchanged a b) q) gs (w ++ swap_gates es a b) ((t + swap_turn es a b) % 8)) ls behind u → Runs e (at p q gs w t) (swapped_line es a b ∷ ls) behind u
 unfolding swap_gates swap_turn cx_gates cx_turn
 swap-run e es p q gs w t a b ls behind u le ha hb ne near r =

@@ -3,7 +3,7 @@
 --     Sized B s new       the numbers of the step s are small, and the gates `new` are at most B
 --     step-sized          so it is where the gates before the step are at most B, and the bytes of its lines too
 --     steps-run           steps lead from gates to gates and a turn
-use Rattle.std.proofs.Common.{◌≡◌, ℕ, zero, suc, ◌+◌, ◌%◌, ◌^◌, ◌<◌, ◌≤◌, List, [], ◌∷◌, ◌++◌, All, length, map, refl, sym, ◌∙◌, ap, subst, arith, min, set}
+use Rattle.std.proofs.Common.{◌≡◌, ℕ, zero, suc, ◌+◌, ◌%◌, ◌^◌, ◌<◌, ◌≤◌, List, [], ◌∷◌, ◌++◌, length, map, refl, ◌∙◌, ap, subst, arith, min, set}
 use Rattle.std.specs.Prelude.{codes}
 use Rattle.std.specs.List.{AllByRecursion, flat_map, remove}
 use Rattle.std.proofs.lemmas.List.{length-append, length-set}
@@ -16,7 +16,7 @@ use Rattle.rewrite_pass.specs.Traces.{Step, Rule, Both, Join, Sums, AreSteps, Is
 use Rattle.rewrite_pass.specs.TraceLines.{ended, gate_line, gate_numbers, step_lines, step_numbers, steps_text, words}
 use Rattle.rewrite_pass.specs.Windows.{IsWindow, HadSHad, HadSdgHad, HadZHad, HadXHad, FourHads, SCxSdg, SdgCxS}
 use Rattle.rewrite_pass.proofs.EditLaws.{changed_short}
-use Rattle.trace_check.specs.Lines.{Line, Rewrite, IsSmall}
+use Rattle.trace_check.specs.Lines.{Line, Rewrite}
 use Rattle.trace_check.specs.Proves.{Claim, Rewritten, Runs, State}
 use Rattle.trace_check.proofs.SpellingLaws.{Small}
 use Rattle.route_trace.proofs.TextLaws.{ended-append}
@@ -28,9 +28,9 @@ remove-short (g ∷ gs) zero = omega arith
 remove-short (g ∷ gs) (suc i) = omega (arith, remove-short gs i)
 
 -- ---- the numbers of a step
-pub record Sized (B : ℕ) (s : Step) (new : List Gate) : Type 0 where
-  pub small : Small (step_numbers s)
-  pub size : length new ≤ B
+record Sized (B : ℕ) (s : Step) (new : List Gate) : Type 0 where
+  small : Small (step_numbers s)
+  size : length new ≤ B
 
 rule-below : (gs : List Gate) (i : ℕ) (w : IsWindow gs i) → rule_of gs i w < 8
 rule-below gs i (HadSHad w) = omega arith
@@ -81,7 +81,7 @@ gates-few gs B h = omega (arith, h, lines-long (map gate_line gs), length-lines 
 joined-short : (old new : List Gate) (i j : ℕ) (p : Gate) → new ≡ remove (set old i p) j → length new ≤ length old
 joined-short old new i j p e = omega (arith, ap length e, remove-short (set old i p) j, length-set old i p)
 
-pub step-sized : (n B : ℕ) (old new : List Gate) (s : Step) (t : ℕ) → n ≤ 2 ^ 32 → B < 2 ^ 32 → length old ≤ B → length (ended (step_lines s)) ≤ B → IsStep n old s new t → Sized B s new
+step-sized : (n B : ℕ) (old new : List Gate) (s : Step) (t : ℕ) → n ≤ 2 ^ 32 → B < 2 ^ 32 → length old ≤ B → length (ended (step_lines s)) ≤ B → IsStep n old s new t → Sized B s new
 step-sized n B old new (Rule k i) t ln lb lo ll h = record {
   small = (omega (arith, h.rule, rule-below old i h.window), (omega (arith, lo, lb, window-within old i h.window), tt));
   size = omega (arith, lo, ap length h.gates, changed_short (record { edits = edits_of old i h.window; count = length (edits_of old i h.window); turn = 0 }) 0 old);

@@ -1,7 +1,7 @@
 -- The bytes of lines, and the lines of bytes.
 --     ended-append        the bytes of lines that stand behind others
 --     ended-lines         the lines of the bytes of lines give the bytes again
---     NoBreak l           no byte of l is a line break
+--     NoBreak l           no byte of l is a line break;  NoBreaks ls: none of any of the lines ls
 --     lines-ended         lines without a line break are the lines of their bytes
 --     spelt-plain         the lines of a trace have none
 use Rattle.std.proofs.Common.{◌≡◌, ◌≢◌, ℕ, ◌+◌, ◌%◌, ◌^◌, ◌<◌, Bool, true, false, cond, List, [], ◌∷◌, ◌++◌, length, map, refl, sym, ◌∙◌, ap, subst, arith, append_assoc}
@@ -70,7 +70,7 @@ plain-append : (a b : List ℕ) → NoBreak a → NoBreak b → NoBreak (a ++ b)
 plain-append [] b h g = g
 plain-append (x ∷ a) b h g = (h.0, plain-append a b h.1 g)
 
-pub lines-append : (a b : List (List ℕ)) → NoBreaks a → NoBreaks b → NoBreaks (a ++ b)
+lines-append : (a b : List (List ℕ)) → NoBreaks a → NoBreaks b → NoBreaks (a ++ b)
 lines-append [] b h g = g
 lines-append (l ∷ a) b h g = (h.0, lines-append a b h.1 g)
 

@@ -1,7 +1,10 @@
 -- The trace of a routed program.
+--     line w ks           the bytes of a line of the word w and the numbers ks
 --     text-made           its bytes, as the code writes them
+--     end-run             its last line
+--     trace-runs          its lines lead from nothing to all that is claimed
 --     trace-proves        it proves the claim
-use Rattle.std.proofs.Common.{◌≡◌, ℕ, suc, ◌+◌, ◌-◌, ◌*◌, ◌%◌, ◌^◌, ◌<◌, ◌≤◌, List, [], ◌∷◌, ◌++◌, All, length, map, refl, sym, ◌∙◌, ap, subst, arith, append_assoc, append-nil, slice_index}
+use Rattle.std.proofs.Common.{◌≡◌, ℕ, suc, ◌+◌, ◌-◌, ◌%◌, ◌^◌, ◌<◌, ◌≤◌, List, [], ◌∷◌, ◌++◌, All, length, map, refl, sym, ◌∙◌, ap, subst, arith, append_assoc, append-nil, slice_index}
 use Rattle.std.specs.Prelude.{codes}
 use Rattle.std.specs.List.{AllByRecursion, flat_map}
 use Rattle.std.proofs.lemmas.List.{length-append}
@@ -16,9 +19,9 @@ use Rattle.sabre_route.specs.declared.events.Event.{Event as Told}
 use Rattle.sabre_route.specs.declared.router.Routed.{Routed as Router}
 use Rattle.sabre_route.specs.Machine.{start}
 use Rattle.sabre_route.specs.Routing.{turned, written}
-use Rattle.sabre_route.specs.Telling.{IsRoutedBy, told}
-use Rattle.trace_check.specs.Lines.{Line, Heading, Rewrite, Place, End, IsSmall, all_spelt, spelt}
-use Rattle.trace_check.specs.Proves.{Applies, Claim, Proved, Proves, Rewritten, Runs, State, Unread}
+use Rattle.sabre_route.specs.Telling.{IsRoutedBy}
+use Rattle.trace_check.specs.Lines.{Line, Rewrite, Place, End, IsSmall, all_spelt, spelt}
+use Rattle.trace_check.specs.Proves.{Claim, Proved, Proves, Rewritten, Runs, State, Unread}
 use Rattle.trace_text.specs.Texts.{lines_of}
 use Rattle.unitary_model.specs.Placement.{IsPlacement}
 use Rattle.route_trace.specs.EventLines.{event_lines, trace_lines}
@@ -107,7 +110,7 @@ end-run e p q w gs v target m t j fine none all goal same lt ends =
 below : (k : ℕ) → k % 8 < 8
 below k = omega arith
 
-pub trace-runs : (d : Coupling) (ss : List Step) (n m B : ℕ) (gs : List Gate) (given : List ℕ) (r : Router) (xs : List Told) (turn : ℕ) → Near d → d.size ≤ 2 ^ 32 → n ≤ d.size → IsPlacement d.size given → AllByRecursion (IsFine m) r.body.gates →
+trace-runs : (d : Coupling) (ss : List Step) (n m B : ℕ) (gs : List Gate) (given : List ℕ) (r : Router) (xs : List Told) (turn : ℕ) → Near d → d.size ≤ 2 ^ 32 → n ≤ d.size → IsPlacement d.size given → AllByRecursion (IsFine m) r.body.gates →
     IsRoutedBy d gs given r xs → turn < 8 → length (steps_text ss) ≤ B → B < 2 ^ 32 → (e : Claim) (t : ℕ) → e.wires ≡ n → e.qubits ≡ d.size → length (expanded e.source) ≤ B → AreSteps e.wires (expanded e.source) ss gs t → e.target ≡ ops r.body.gates →
     turn ≡ (turn_of e.source + (t + r.turn)) % 8 → Runs e Unread (trace_lines ss given (event_lines d.edges given gs xs) turn) [] (Proved given r.last turn)
 trace-runs d ss n m B gs given r xs turn near le fits placed fine h lt few lb e t wires qubits source steps target whole =

@@ -1,11 +1,12 @@
-//! The trace of a routed program: the lines of the steps that the passes made, and of the events of the router.
+//! The trace of a routed program: the steps that the passes made, and the events of the router.
 //!
-//! In go the steps that led from the gates of a source to a circuit, that circuit, and its run on a device; out come the bytes of a
-//! trace: a heading, a line or more for each step, the placement at which the run began, a line for each event, and the turn at the end.
-//! The contract of [`route_trace`] promises that the trace proves what the program claims: that what was written on the device realises
-//! the source, from the placement at the beginning to the one at the end, up to the turn. The lines of events say more than the events,
-//! whether a CNOT or the middle one of a swap was turned round, so they are found by going through the run again.
-//! There is no bad input; want of memory leaves nothing behind.
+//! In go the steps that led from the gates of a source to a circuit, that circuit, and its run on a
+//! device; out come the bytes of a trace: a heading, a line or more for each step, the placement at
+//! which the run began, a line for each event, and the turn at the end. The contract of
+//! [`route_trace`] promises that the trace proves what the program claims: that what was written on
+//! the device realises the source, from the placement at the beginning to the one at the end, up to
+//! the turn. A line says more than its event, namely whether a CNOT was turned round, so the run is
+//! gone through once more. There is no bad input; want of memory leaves nothing behind.
 #![tactic(auto)]
 
 mod lines;
@@ -63,11 +64,12 @@ fn text(
     Ok(bytes)
 }
 
-/// The bytes of the trace of a routed program, which proves that the program realises its source, up to the turn: for each source
-/// whose gates the steps lead to those of the circuit. It takes about as many steps as there are bytes and gates, and for each event
-/// as many more as the logarithm of the number of gates.
+/// The bytes of the trace of a routed program, which proves that the program realises its source up
+/// to the turn, whatever source the steps lead to the circuit from.
 ///
-/// The one error is want of memory, of which a trace of 2^31 bytes or more is one too; it leaves nothing behind.
+/// It takes about as many steps as there are bytes and gates, and for each event as many more as the
+/// logarithm of the number of gates. The only error is want of memory, which 2^31 bytes or more count
+/// as too; it leaves nothing behind.
 pub fn route_trace(
     alloc: Global,
     steps: &Trace,
@@ -90,7 +92,8 @@ pub fn route_trace(
     ensures lines { IfOk result (λ v. ended (lines_of v.items) ≡ v.items) }
     ensures short { IfOk result (λ v. length v.items < 2 ^ 31) }
 {
-    // Their contracts say that near qubits are different qubits of the device, and that the gates are fine.
+    // Their contracts say that near qubits are different qubits of the device, and that the gates are
+    // fine.
     distances_on_device();
     let _size = device.size();
     let _wires = routed.body.wires();

@@ -54,7 +54,8 @@ fn gate_line(device: &Device, placement: &Placement, gate: Gate, place: usize) -
     }
 }
 
-/// The two qubits of a swap, its first CNOT from the first to the second: the lesser first, unless the edge isn't there.
+/// The two qubits of a swap, its first CNOT from the first to the second: the lesser first, unless
+/// the edge isn't there.
 #[tactic(auto, unfolding(sabre_route::specs::Emission::low_order))]
 fn low_order(device: &Device, a: u32, b: u32) -> (u32, u32)
     requires first { a < device.now.size }

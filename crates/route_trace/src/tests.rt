@@ -37,7 +37,8 @@ fn circuit_of(alloc: Global, wires: u32, gates: &[Gate]) -> Result<Circuit, Allo
     Ok(circuit)
 }
 
-/// The trace of some gates, one on each wire of the device of a text at first, behind one step where there is one.
+/// The trace of some gates on the device of a text, from the identity on, behind a step if there is
+/// one.
 fn traced(
     alloc: Global,
     text: &[u8],
