@@ -5,7 +5,7 @@
 --   trace-short              the trace of a text is short enough for the checker
 --   same_ending              on texts that are told `verify` ends in one way
 --   ended-claim, ended-verified   from the cause of a stop, and from what is verified, to the way in which it ends
-use Rattle.std.proofs.Common.{◌≡◌, ◌⊎◌, inl, inr, ℕ, ◌<◌, ◌≤◌, List, Option, Some, None, Result, Err, refl, sym, ap, ◌∙◌, arith, subst, length}
+use Rattle.std.proofs.Common.{◌≡◌, ◌⊎◌, inl, inr, ℕ, ◌<◌, ◌≤◌, List, Option, Some, None, Result, Ok, Err, refl, sym, ap, ◌∙◌, arith, subst, length}
 use Rattle.outside_io.specs.Causes.{Rose}
 use Rattle.outside_io.specs.Shelf.{IsTextCause, TellsText}
 use Rattle.outside_io.specs.declared.TextFault.{TextFault}
@@ -60,6 +60,15 @@ Content = List ℕ → Option (Option (List ℕ))
 abbrev pub Calm : Stop → ℕ → ℕ → Type 0
 Calm x before after = (x ≡ stop.Claim claim.Failed → ⊥) → after ≡ before
 
+pub ok_is_no_err : {T : Type 0} (r : Result T Stop) (x : T) (s : Stop) → r ≡ Ok x → r ≡ Err s → ⊥
+ok_is_no_err r x s e f = cc
+
+-- a text that is loaded later, while the shelf kept its texts and didn't fail before
+pub stop_after : (s : Side) (content other : Option (Option (List ℕ))) (before middle after : ℕ) (x : Stop) → other ≡ content → middle ≡ before
+    → IsTextStop s other middle after x → IsTextStop s content before after x
+stop_after s content other before middle after x same steady h =
+    subst (λ m. IsTextStop s content m after x) steady (subst (λ o. IsTextStop s o middle after x) same h)
+
 pub failed_same : {T : Type 0} (r : Result T Stop) (s t : Stop) → r ≡ Err s → r ≡ Err t → s ≡ t
 failed_same r s t e f = cc
 
@@ -112,35 +121,26 @@ IsClaimStop-trace content a b text other p q before after (stop.Claim (claim.Tra
 pub ruleset texts = (IsTextStop-text, IsTextStop-read)
 
 -- ---- a trace is no longer than its text
-begun-length : (b : ℕ) (ls : List (List ℕ)) → length (ended (begun b ls)) ≤ length (ended ls) + 2
-begun-length b [] = omega arith
-begun-length b (l ∷ ls) = omega arith
+broken-length : (b m : ℕ) (ls : List (List ℕ)) (c : Bool) → length (ended ls) ≤ m + 1 → length (ended (cond c ([] ∷ ls) (begun b ls))) ≤ suc m + 1
+broken-length b m ls true h = omega (arith, h)
+broken-length b m [] false h = omega (arith, h)
+broken-length b m (l ∷ ls) false h = omega (arith, h)
 
 lines-length : (t : List ℕ) → length (ended (lines_of t)) ≤ length t + 1
 lines-length [] = omega arith
-lines-length (b ∷ t) = by_break (nat_eq b 10)
-  where
-    by_break : (c : Bool) → length (ended (cond c ([] ∷ lines_of t) (begun b (lines_of t)))) ≤ suc (length t) + 1
-    by_break true = let more = lines-length t in omega (arith, more)
-    by_break false = let more = lines-length t in more_by (lines_of t) more
-      where
-        more_by : (ls : List (List ℕ)) → length (ended ls) ≤ length t + 1 → length (ended (begun b ls)) ≤ suc (length t) + 1
-        more_by [] h = omega (arith, h)
-        more_by (l ∷ ls) h = omega (arith, h)
+lines-length (b ∷ t) = broken-length b (length t) (lines_of t) (nat_eq b 10) (lines-length t)
 
 drop-length : (n : ℕ) (l : List ℕ) → length (drop n l) ≤ length l
 drop-length n l = grind (arith, common_steps)
 
+taken-length : (l : List ℕ) (ls ms : List (List ℕ)) (c : Bool) → length (ended ms) ≤ length (ended ls)
+    → length (ended (cond c (drop 3 l ∷ ms) ms)) ≤ length (ended (l ∷ ls))
+taken-length l ls ms true h = let less = drop-length 3 l in grind (arith, common_steps)
+taken-length l ls ms false h = grind (arith, common_steps)
+
 traced-length : (ls : List (List ℕ)) → length (ended (traced ls)) ≤ length (ended ls)
 traced-length [] = omega arith
-traced-length (l ∷ ls) = by_sign (begins (codes "//!") l)
-  where
-    by_sign : (c : Bool) → length (ended (cond c (drop 3 l ∷ traced ls) (traced ls))) ≤ length (ended (l ∷ ls))
-    by_sign true =
-        let more = traced-length ls in
-        let less = drop-length 3 l in
-        grind (arith, common_steps)
-    by_sign false = let more = traced-length ls in grind (arith, common_steps)
+traced-length (l ∷ ls) = taken-length l ls (traced ls) (begins (codes "//!") l) (traced-length ls)
 
 pub trace-short : (t : List ℕ) → length t ≤ 67108864 → length (trace_of t) < 2147483648
 trace-short t short =
@@ -178,7 +178,7 @@ same_text u t v e f = cc
 same_found : Readable → (u : Option (List ℕ)) (s : Side) (x y : Found) → Says (Some u) s x → Says (Some u) s y → x ≡ y
 same_found law u s Missing Missing a b = refl
 same_found law u s Missing (Bad r) a (t, told, is) = cc
-same_found law u s Missing (Good t p) a (told, is) = cc
+same_found law u s Missing (Good t p) a (told, short, ok) = cc
 same_found law u s (Bad r) Missing (t, told, is) b = cc
 same_found law u s (Bad r) (Bad q) (t, told, is) (v, too, es) =
     let same : t ≡ v = same_text u t v told too in
@@ -187,7 +187,7 @@ same_found law u s (Bad r) (Bad q) (t, told, is) (v, too, es) =
 same_found law u s (Bad r) (Good v p) (t, told, is) (too, short, ok) =
     let same : t ≡ v = same_text u t v told too in
     absurd (refused_or_good law s v r p (subst (λ w. IsTextRefused s w r) same is) short ok)
-same_found law u s (Good v p) Missing (told, is) b = cc
+same_found law u s (Good v p) Missing (told, short, ok) b = cc
 same_found law u s (Good v p) (Bad r) (too, short, ok) (t, told, is) =
     let same : t ≡ v = same_text u t v told too in
     absurd (refused_or_good law s v r p (subst (λ w. IsTextRefused s w r) same is) short ok)

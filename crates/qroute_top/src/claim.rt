@@ -128,6 +128,8 @@ pub fn claim_work<F: Shelf>(
     traces_are_sound();
     let source = load_program(alloc, shelf, source, Side::Source)?;
     let target = load_program(alloc, shelf, target, Side::Target)?;
+    source.program.facts();
+    target.program.facts();
     let phase = power_of(alloc, &source.program, &target)?;
     let text = verdict_line(alloc, phase)?;
     Ok(Work::Text { text })

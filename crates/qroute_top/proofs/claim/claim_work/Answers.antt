@@ -4,7 +4,9 @@ use Rattle.std.proofs.lemmas.Result.{err_from_is_err_and}
 use Rattle.outside_io.specs.Shelf.{TellsText}
 use Rattle.route_report.specs.declared.faults.Side.TheVariants as side
 use Rattle.qroute_top.specs.Stops.{IsTextStop}
-use Rattle.qroute_top.proofs.ClaimLaws.{IsClaimStop-source, IsClaimStop-target, IsClaimStop-trace, failed_same}
+use Rattle.trace_check.specs.Verdicts.{claim_of}
+use Rattle.trace_text.specs.Texts.{trace_of}
+use Rattle.qroute_top.proofs.ClaimLaws.{IsClaimStop-source, IsClaimStop-target, IsClaimStop-trace, failed_same, ok_is_no_err, stop_after}
 use Rattle.qroute_top.proofs.claim.claim_work.Goals as goal
 
 pub returns-in_err-source-clause-err : goal.returns-in_err-source-clause-err
@@ -13,3 +15,48 @@ returns-in_err-source-clause-err g c =
     let it = IsClaimStop-source (g.F.Shelf.content c.args.shelf.now) c.args.source.now c.args.target.now (g.F.Shelf.faults c.args.shelf.now)
     (g.F.Shelf.faults c.load_program.new.shelf) _ c.in_err-source.ensures.err (λ f. c.in_err-source.ensures.calm (λ e. f (failed_same _ _ _ refl e))) in
     rw (p.1, p.2) it
+
+pub returns-in_err-target-clause-err : goal.returns-in_err-target-clause-err
+returns-in_err-target-clause-err g c =
+    let p = err_from_is_err_and c.from_residual-in_err-target.result c.from_residual-in_err-target.ensures.1 in
+    let first = c.in_ok-source.ensures in
+    let steady = first.calm (λ e. ok_is_no_err _ _ _ c.in_ok-source.was e) in
+    let second = c.in_err-target.ensures in
+    let it = IsClaimStop-target (g.F.Shelf.content c.args.shelf.now) c.args.source.now c.args.target.now c.in_ok-source.source.text.items c.in_ok-source.source.program
+    (g.F.Shelf.faults c.args.shelf.now) (g.F.Shelf.faults c.load_program-2.new.shelf) _ (first.told, first.short, first.accepted)
+    (stop_after side.Target _ _ _ _ _ _ (first.keeps c.args.target.now) steady second.err) (λ f. second.calm (λ e. f (failed_same _ _ _ refl e)) ∙ steady) in
+    rw (p.1, p.2) it
+
+pub returns-in_err-phase-clause-err : goal.returns-in_err-phase-clause-err
+returns-in_err-phase-clause-err g c =
+    let p = err_from_is_err_and c.from_residual-in_err-phase.result c.from_residual-in_err-phase.ensures.1 in
+    let first = c.in_ok-source.ensures in
+    let second = c.in_ok-target.ensures in
+    let steady = second.calm (λ e. ok_is_no_err _ _ _ c.in_ok-target.was e) ∙ first.calm (λ e. ok_is_no_err _ _ _ c.in_ok-source.was e) in
+    let it = IsClaimStop-trace (g.F.Shelf.content c.args.shelf.now) c.args.source.now c.args.target.now c.in_ok-source.source.text.items
+    c.in_ok-target.target.text.items c.in_ok-source.source.program c.in_ok-target.target.program (g.F.Shelf.faults c.args.shelf.now)
+    (g.F.Shelf.faults c.load_program-2.new.shelf) _ (first.told, first.short, first.accepted)
+    (subst (λ o. TellsText o c.in_ok-target.target.text.items) (first.keeps c.args.target.now) second.told, second.short, second.accepted)
+    c.in_err-phase.ensures.err steady in
+    rw (p.1, p.2) it
+
+pub returns-clause-made : goal.returns-clause-made
+returns-clause-made g c =
+    let first = c.in_ok-source.ensures in
+    let second = c.in_ok-target.ensures in
+    let proof = c.in_ok-phase.ensures.ok in
+    λ text line is. (record {
+      source_text = c.in_ok-source.source.text.items;
+      source = c.in_ok-source.source.program;
+      source_told = (first.told, first.short, first.accepted);
+      target_text = c.in_ok-target.target.text.items;
+      target = c.in_ok-target.target.program;
+      target_told = (subst (λ o. TellsText o c.in_ok-target.target.text.items) (first.keeps c.args.target.now) second.told, second.short, second.accepted);
+      first = proof.0;
+      last = proof.1;
+      phase = c.in_ok-phase.phase;
+      proves = proof.2;
+      realises = c.traces_are_sound.ensures.sound (claim_of c.in_ok-source.source.program c.in_ok-target.target.program)
+      (trace_of c.in_ok-target.target.text.items) proof.0 proof.1 c.in_ok-phase.phase c.facts.ensures.fine c.facts-2.ensures.fine proof.2;
+      line = is.0 ∙ c.in_ok-text.ensures;
+    }, is.1)

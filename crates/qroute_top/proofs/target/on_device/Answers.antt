@@ -1,11 +1,12 @@
 -- From the circuit's unitary to the source's, and the machine's run.
-use Rattle.std.proofs.Common.{refl, sym, ◌∙◌, ap, arith, map}
+use Rattle.std.proofs.Common.{refl, sym, subst, ◌∙◌, ap, arith, map}
 use Rattle.circuit_list.specs.Gates.{ops}
 use Rattle.unitary_model.specs.Placement.{identity}
+use Rattle.sabre_route.specs.Telling.{IsRoutedBy}
 use Rattle.qroute_top.specs.Delivered.{placed_read}
 use Rattle.qroute_top.proofs.CostLaws.{listed-few}
 use Rattle.qroute_top.proofs.PlanLaws.{plain_of}
-use Rattle.qroute_top.proofs.TargetLaws.{HasFewSwaps-routed, IsMachineRun-routed, Realises-routed}
+use Rattle.qroute_top.proofs.TargetLaws.{HasFewSwaps-routed, IsOwnTrace-run, IsMachineRun-routed, Realises-routed}
 use Rattle.qroute_top.proofs.target.on_device.Goals as goal
 
 pub returns-clause-stands : goal.returns-clause-stands
@@ -43,3 +44,17 @@ cost_of-cost-requires-clause-few c =
     let size = c.size-size.ensures in
     λ listed. listed-few c.args.device.now c.args.source.now.ops _ _ _ c.diameter-diameter.result listed size.coupling.graph.limited
     c.requires.optimised.cx_gates c.facts.ensures.operations_limit (r.few_swaps _ c.diameter-diameter.ensures.diameter) r.cx_gates
+
+pub trace_of_run-requires-clause-events : goal.trace_of_run-requires-clause-events
+trace_of_run-requires-clause-events c = λ asked.
+    subst (λ p. IsRoutedBy c.args.device.now c.args.rewritten.now.passed.body.gates p c.in_ok-run.run'.routed c.in_ok-run.run'.events.items)
+    (sym (c.as_slice.ensures ∙ c.in_ok-initial.ensures)) (c.in_ok-run.ensures.events (c.is_some-traced.ensures ∙ asked))
+
+pub returns-clause-trace : goal.returns-clause-trace
+returns-clause-trace c =
+    let is = c.requires.optimised in
+    let r = c.in_ok-run.ensures.run in
+    let f = c.facts.ensures in
+    λ told t. IsOwnTrace-run c.args.device.now c.args.source.now.wires c.args.source.now.ops c.args.rewritten.now.passed c.args.rewritten.now.steps
+    c.as_slice.result.now c.in_ok-run.run'.routed c.args.source.now _ told _ _ c.requires.steps c.in_ok-trace.ensures.told c.in_ok-trace.ensures.silent is.wires
+    f.operations_limit f.fine refl refl refl r.wires c.turn_sum-turn.ensures.sum (t.initial ∙ sym c.as_slice.ensures) t.last t.phase
