@@ -18,3 +18,4 @@ pub mod GateLaws
 pub mod StepLaws
 pub mod EditLaws
 pub mod RuleLaws
+pub mod VerdictLaws

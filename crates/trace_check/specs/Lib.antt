@@ -2,7 +2,9 @@
 pub mod Lines
 pub mod Proves
 pub mod Outcomes
+pub mod Verdicts
 -- ---- working forms
+pub mod Told
 pub mod Spelling
 pub mod Progress
 pub mod Pairs
