@@ -1,11 +1,10 @@
 -- What a text of any length spells, and its refusals but for its length.
 --   IsAcceptedText text p    an accepted program but for the text's length: a written one within the limits
 --   IsUnparsed text f        the text has tokens, and f is why they aren't accepted as a program
---   IsTextRefusal text r     r is the first refusal of the text's tokens, tree and statements: the first byte that begins no token or
---                            the first number that is too large, whichever comes first; else that no program is spelt, or one of
---                            another version, or with an expression that is too deep; else that of the first statement which has
---                            one, with the least code; else that there is too much to write out; else the first angle that isn't
---                            exact. No length is too long
+--   IsTextRefusal text r     r is the text's first refusal but for its length: the first byte that begins no token or the first
+--                            number that is too large, whichever comes first; else that no program is spelt, or one of another
+--                            version, or with an expression that is too deep; else that of the first statement which has one,
+--                            with the least code; else that there is too much to write out; else the first angle that isn't exact
 --   IsTextFault text e       what may be told of a text of any length: such a refusal, or want of memory
 use Rattle.std.specs.Prelude.{ℕ, List}
 use Rattle.qasm_lexer.specs.Tokens.{AreTokens, IsLexFault}

@@ -1,6 +1,6 @@
 //! The stages of the reader, one behind the other.
 
-ghost use Rattle.std.specs.Prelude.{◌≡◌, ◌<◌, ◌≤◌, All, IfOk, IfErr, length, ◌^◌};
+ghost use Rattle.std.specs.Prelude.{◌≡◌, ◌<◌, All, IfOk, IfErr, length, ◌^◌};
 ghost use Rattle.gate_inline.specs.Programs.{IsAccepted, IsTreeOf, IsWithinLimits, Means};
 ghost use Rattle.program_reader.specs.Refusals.{IsReadFault};
 ghost use Rattle.program_reader.specs.Stages.{IsUnchecked, IsUnwritten};

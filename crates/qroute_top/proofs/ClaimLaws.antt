@@ -60,8 +60,8 @@ Content = List ℕ → Option (Option (List ℕ))
 abbrev pub Calm : Stop → ℕ → ℕ → Type 0
 Calm x before after = (x ≡ stop.Claim claim.Failed → ⊥) → after ≡ before
 
-pub ok_is_no_err : {T : Type 0} (r : Result T Stop) (x : T) (s : Stop) → r ≡ Ok x → r ≡ Err s → ⊥
-ok_is_no_err r x s e f = cc
+pub ok_is_no_err : {T : Type 0} (x : T) (s : Stop) → Ok x ≡ Err s → ⊥
+ok_is_no_err x s e = cc
 
 -- a text that is loaded later, while the shelf kept its texts and didn't fail before
 pub stop_after : (s : Side) (content other : Option (Option (List ℕ))) (before middle after : ℕ) (x : Stop) → other ≡ content → middle ≡ before

@@ -1,8 +1,8 @@
 -- Verdicts on two texts.
 --     IsVerdict-outcome   what is told of the claim of two accepted programs, as a verdict
---     IsRealised-outcome  and that it is so
+--     IsRealised-outcome  and that it is so;  IsRealised-told: as it is told
 --     ok-of               what is known of an answer that is there
---     TextLaws            laws of texts and traces, as they are handed in
+--     MeansOnce, TracesSound, TextLaws        laws of texts and traces, as they are handed in
 --     verdicts_once       two verdicts are one
 use Rattle.std.proofs.Common.{◌≡◌, ℕ, List, All, Result, Ok, MatchResult, sym, subst, ◌∙◌, ap}
 use Rattle.gate_expand.specs.Expansion.{IsFineOp}
@@ -44,6 +44,9 @@ IsRealised-outcome once sound s t trace p q (Proved initial last phase) a b f g 
     subst (λ u. P u y) (program_once once s p x a c)
     (subst (λ v. P p v) (program_once once t q y b d) (sound (claim_of p q) trace initial.items last.items phase f g h))
 IsRealised-outcome once sound s t trace p q (Stopped line) a b f g h = tt
+
+pub IsRealised-told : (s t : List ℕ) (o : Outcome) (v : Verdict) → v ≡ verdict_of o → IsRealised s t (verdict_of o) → IsRealised s t v
+IsRealised-told s t o v told h = subst (λ w. IsRealised s t w) (sym told) h
 
 pub ok-of : {A E : Type 0} (P : A → Type 0) (Q : E → Type 0) (r : Result A E) (x : A) → r ≡ Ok x → MatchResult r P Q → P x
 ok-of P Q r x is h = subst (λ v. MatchResult v P Q) is h

@@ -3,10 +3,10 @@
 --     IsReadable text     the text is accepted as a program
 --     IsRefused text r    the text has a first refusal, of this code and at this place or statement
 --     BothSay s t P       the texts s and t are accepted as programs, and P says so of their claim
---     IsVerdict s t trace v       what is told of the source s, the target t and the trace is so: the trace proves their claim, or stops at
---                         the line; or the source is refused; or the source isn't, and the target is
---     IsRealised s t v    where the verdict v is Yes: each program that the target is accepted as realises each program that the source is
---                         accepted as, between these placements, up to the power of w
+--     IsVerdict s t trace v       what is told of the source s, the target t and the trace is so: the trace proves their claim, or
+--                         stops at the line; or the source is refused; or the source isn't, and the target is
+--     IsRealised s t v    where the verdict v is Yes: the program of the target realises the program of the source, between these
+--                         placements, up to this power of w
 --     IsSameVerdict v w   two verdicts are of one kind, and have the same numbers
 use Rattle.std.specs.Prelude.{◌≡◌, ℕ, List}
 use Rattle.gate_inline.specs.Programs.{Program}
@@ -43,7 +43,8 @@ IsRealised s t (Yes initial last phase) = (p q : Program) → IsAcceptedText s p
 IsRealised s t _ = Unit {0}
 
 abbrev pub IsSameVerdict : Verdict → Verdict → Type 0
-IsSameVerdict (Yes initial last phase) (Yes first final power) = (initial.items ≡ first.items) × (last.items ≡ final.items) × (phase ≡ power)
+IsSameVerdict (Yes initial last phase) (Yes first final power) =
+    (initial.items ≡ first.items) × (last.items ≡ final.items) × (phase ≡ power)
 IsSameVerdict (No line) (No other) = line ≡ other
 IsSameVerdict (Source r) (Source s) = r ≡ s
 IsSameVerdict (Target r) (Target s) = r ≡ s

@@ -5,3 +5,5 @@
 
 #[cfg(test)]
 mod check_tests;
+#[cfg(test)]
+mod verdict_tests;

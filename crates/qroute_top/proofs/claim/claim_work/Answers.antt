@@ -20,7 +20,7 @@ pub returns-in_err-target-clause-err : goal.returns-in_err-target-clause-err
 returns-in_err-target-clause-err g c =
     let p = err_from_is_err_and c.from_residual-in_err-target.result c.from_residual-in_err-target.ensures.1 in
     let first = c.in_ok-source.ensures in
-    let steady = first.calm (λ e. ok_is_no_err _ _ _ c.in_ok-source.was e) in
+    let steady = first.calm (λ e. ok_is_no_err _ _ e) in
     let second = c.in_err-target.ensures in
     let it = IsClaimStop-target (g.F.Shelf.content c.args.shelf.now) c.args.source.now c.args.target.now c.in_ok-source.source.text.items c.in_ok-source.source.program
     (g.F.Shelf.faults c.args.shelf.now) (g.F.Shelf.faults c.load_program-2.new.shelf) _ (first.told, first.short, first.accepted)
@@ -32,7 +32,7 @@ returns-in_err-phase-clause-err g c =
     let p = err_from_is_err_and c.from_residual-in_err-phase.result c.from_residual-in_err-phase.ensures.1 in
     let first = c.in_ok-source.ensures in
     let second = c.in_ok-target.ensures in
-    let steady = second.calm (λ e. ok_is_no_err _ _ _ c.in_ok-target.was e) ∙ first.calm (λ e. ok_is_no_err _ _ _ c.in_ok-source.was e) in
+    let steady = second.calm (λ e. ok_is_no_err _ _ e) ∙ first.calm (λ e. ok_is_no_err _ _ e) in
     let it = IsClaimStop-trace (g.F.Shelf.content c.args.shelf.now) c.args.source.now c.args.target.now c.in_ok-source.source.text.items
     c.in_ok-target.target.text.items c.in_ok-source.source.program c.in_ok-target.target.program (g.F.Shelf.faults c.args.shelf.now)
     (g.F.Shelf.faults c.load_program-2.new.shelf) _ (first.told, first.short, first.accepted)

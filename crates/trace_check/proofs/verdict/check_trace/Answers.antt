@@ -1,12 +1,12 @@
 -- What is told of the two programs is so of the two texts.
-use Rattle.std.proofs.Common.{List, ℕ, subst, sym}
+use Rattle.std.proofs.Common.{List, ℕ, rules, subst}
 use Rattle.gate_inline.specs.Programs.{Program}
 use Rattle.program_reader.specs.Texts.{IsAcceptedText}
 use Rattle.trace_check.specs.Outcomes.{IsOutcome, claim}
 use Rattle.trace_check.specs.Told.{verdict_of}
 use Rattle.trace_check.specs.Verdicts.{IsRealised, IsRefused, claim_of}
 use Rattle.trace_check.specs.declared.checker.Outcome.{Outcome}
-use Rattle.trace_check.proofs.VerdictLaws.{IsRealised-outcome, ok-of}
+use Rattle.trace_check.proofs.VerdictLaws.{IsRealised-outcome, IsRealised-told, ok-of}
 use Rattle.trace_check.proofs.verdict.check_trace.Goals as goal
 
 pub returns-clause-realises : goal.returns-clause-realises
@@ -23,4 +23,4 @@ returns-clause-realises c =
     subst (λ e. IsOutcome e trace o) (λ i. claim (c.ops.ensures i) (c.ops-2.ensures i)) c.in_ok-outcome.ensures in
     let so : IsRealised s t (verdict_of o) =
     IsRealised-outcome c.means_once.ensures c.traces_are_sound.ensures.sound s t trace p q o source target c.facts.ensures.fine c.facts-2.ensures.fine said in
-    subst (λ v. IsRealised s t v) (sym c.told.ensures) so
+    search (rules, IsRealised-told)
