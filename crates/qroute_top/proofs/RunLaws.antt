@@ -762,8 +762,11 @@ pub Delivered-done : (words : List (List ℕ)) (content : Content) (old new : Op
 Delivered-done words content old new w Done delivers (text, line, is, done) = (text, line, delivers text line is, done)
 
 -- ---- how `verify` ends
+some_texts : (a b c d : List ℕ) (o : Option (List ℕ × List ℕ)) → o ≡ Some (a, b) → o ≡ Some (c, d) → (a, b) ≡ (c, d)
+some_texts a b c d o e f = cc
+
 same_texts : (a b c d : List ℕ) (o : Option (List ℕ × List ℕ)) → o ≡ Some (a, b) → o ≡ Some (c, d) → (a ≡ c) × (b ≡ d)
-same_texts a b c d o e f = (cc, cc)
+same_texts a b c d o e f = let same = some_texts a b c d o e f in (ap (λ (p : List ℕ × List ℕ). p.0) same, ap (λ (p : List ℕ × List ℕ). p.1) same)
 
 -- a stop of the run, where the command is `verify`
 pub stopped-verdict : Readable → Traceable → (h : Handed) (s : Stop) (n : ℕ) (c : Command) (a b : List ℕ) (x : Ending) → IsCause h s → Ends s n

@@ -287,6 +287,7 @@ fn emit_target<O: Sink, R: Sink>(
         × GainsPrefix (R.held report.old) (R.held report.new) line)
         × (O.flushed out.new ≡ true) × (O.faults out.new ≡ O.faults out.old) × Rose (R.faults report.old) (R.faults report.new) }
 {
+    source.facts();
     match prepare(alloc, source, target) {
         Err(AllocError) => NO_MEMORY,
         Ok(

@@ -4,7 +4,7 @@ use Rattle.outside_io.specs.Bytes.{Gains, GainsPrefix}
 use Rattle.command_words.specs.Demands.{writes_out, writes_report}
 use Rattle.qroute_top.specs.Causes.{Handed}
 use Rattle.qroute_top.specs.Plans.{has_line, has_text}
-use Rattle.qroute_top.proofs.RunLaws.{Delivered-done, device_alone, answered_on, asked_of, came, handed, planned-absent, planned-complete, planned-refuses, planned-refuses_device, planned-refuses_question, planned-verdict, same_stop, stopped-absent, stopped-complete, stopped-read, stopped-refuses, stopped-refuses_device, stopped-refuses_question, stopped-two, stopped-verdict}
+use Rattle.qroute_top.proofs.RunLaws.{Delivered-done, device_alone, answered_on, asked_of, came, handed, planned-absent, planned-complete, planned-refuses, planned-refuses_device, planned-refuses_question, planned-verdict, same_stop, stopped-absent, stopped-complete, stopped-read, stopped-refuses, stopped-refuses_device, stopped-refuses_question, stopped-two, stopped-verdict, stopped-words}
 use Rattle.qroute_top.proofs.ClaimLaws.{Readable, Traceable}
 use Rattle.qroute_top.proofs.StatusLaws.{not_late, not_memory}
 use Rattle.qroute_top.proofs.run.Goals as goal
@@ -167,3 +167,10 @@ returns-in-Err-clause-verdict g c =
     let traces : Traceable = record { not_both = c.traces_are_exact.ensures.not_both; one_line = c.traces_are_exact.ensures.one_line; one_proof = c.traces_are_exact.ensures.one_proof } in
     λ a x y end asked texts told is calm out_calm. stopped-verdict law traces h c.in-Err.stop c.tell.result a x y end c.in-Err.ensures.stop c.tell.ensures.status
     asked texts told is calm
+
+pub returns-in-Err-clause-words : goal.returns-in-Err-clause-words
+returns-in-Err-clause-words g c =
+    let h : Handed = handed (map (λ w. w.now) c.args.words.now) (g.I.Source.left c.args.input.now) (g.I.Source.faults c.args.input.now)
+    (g.I.Source.faults c.decide.new.input) (g.F.Shelf.content c.args.shelf.now) (g.F.Shelf.faults c.args.shelf.now)
+    (g.F.Shelf.faults c.decide.new.shelf) in
+    λ none. stopped-words h c.in-Err.stop c.tell.result c.in-Err.ensures.stop c.tell.ensures.status none

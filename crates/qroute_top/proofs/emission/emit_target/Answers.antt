@@ -1,10 +1,23 @@
--- Where the text could not be written.
-use Rattle.std.proofs.Common.{◌∙◌, ap, map}
+-- What is handed to the writer, and where the text could not be written.
+use Rattle.std.proofs.Common.{◌∙◌, ap, length, map}
+use Rattle.std.proofs.lemmas.List.{length-map}
 use Rattle.outside_io.specs.Bytes.{GainsPrefix}
 use Rattle.trace_text.specs.Texts.{ended, lines_of}
 use Rattle.qasm_writer.specs.Outputs.{bits_of}
+use Rattle.qroute_top.specs.Delivered.{placed_read}
 use Rattle.qroute_top.proofs.PlanLaws.{HasPlanned-written}
 use Rattle.qroute_top.proofs.emission.emit_target.Goals as goal
+
+pub emit_program-requires-clause-output : goal.emit_program-requires-clause-output
+emit_program-requires-clause-output g c =
+    let p = c.in-Ok.ensures in
+    let registers = ap (λ x. map bits_of x) c.deref.ensures.value ∙ p.registers in
+    let reads = c.deref-in-Ok.ensures.value ∙ p.reads in
+    let sizes = ap length reads ∙ length-map c.args.source.now.reads (placed_read c.args.target.now.last) in
+    record {
+      registers = rw (registers, sizes) c.facts.ensures.registers;
+      reads = rw c.deref-in-Ok.ensures.value p.there;
+    }
 
 pub returns-in-Ok-clause-output : goal.returns-in-Ok-clause-output
 returns-in-Ok-clause-output g c = λ e.
