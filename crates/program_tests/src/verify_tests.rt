@@ -775,4 +775,3 @@ fn without_line(alloc: Global, text: &str, number: usize) -> Result<Option<Strin
     }
     Ok(Some(left))
 }
-

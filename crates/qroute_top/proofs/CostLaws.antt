@@ -5,7 +5,7 @@
 --   one-limited                what a CNOT costs at most
 --   told-listed, told-unlisted   what is told, by the format
 --   listed-few                 on a device that lists costs few CNOTs are written
-use Rattle.std.proofs.Common.{◌≡◌, ℕ, zero, suc, ◌+◌, ◌*◌, ◌≤◌, List, [], ◌∷◌, All, Option, Some, None, refl, sym, ap, ◌∙◌, arith, length, slice_get, IsTrue, true, drop}
+use Rattle.std.proofs.Common.{◌≡◌, ℕ, zero, suc, ◌+◌, ◌*◌, ◌≤◌, List, [], ◌∷◌, Option, Some, None, refl, ap, ◌∙◌, arith, length, slice_get, IsTrue, true, drop}
 use Rattle.std.specs.Prelude.{◌||◌}
 use Rattle.std.specs.List.{AllByRecursion}
 use Rattle.std.proofs.lemmas.List.Elements.{recursion_from_All}

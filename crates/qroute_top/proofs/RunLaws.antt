@@ -762,7 +762,7 @@ pub Delivered-done : (words : List (List ℕ)) (content : Content) (old new : Op
 Delivered-done words content old new w Done delivers (text, line, is, done) = (text, line, delivers text line is, done)
 
 -- ---- how `verify` ends
-some_texts : (a b c d : List ℕ) (o : Option (List ℕ × List ℕ)) → o ≡ Some (a, b) → o ≡ Some (c, d) → (a, b) ≡ (c, d)
+some_texts : (a b c d : List ℕ) (o : Option (List ℕ × List ℕ)) → o ≡ Some (a, b) → o ≡ Some (c, d) → ◌≡◌ {A = List ℕ × List ℕ} (a, b) (c, d)
 some_texts a b c d o e f = cc
 
 same_texts : (a b c d : List ℕ) (o : Option (List ℕ × List ℕ)) → o ≡ Some (a, b) → o ≡ Some (c, d) → (a ≡ c) × (b ≡ d)

@@ -81,7 +81,7 @@ pub IsOwnTrace-run : (d : Coupling) (n : ℕ) (S : List Op) (c : Passed) (o : Op
 IsOwnTrace-run d n S c None given r s t told j trace steps run none wires few fine source width target size turn begins ends phase = none refl
 IsOwnTrace-run d n S c (Some ss) given r s t told j trace steps run none wires few fine source width target size turn begins ends phase =
     let proved = run (claim_of s t) steps.turn (width ∙ sym wires) size (rw source few) (rw (source, width) fine) (rw (source, width) steps.steps) target
-        (whole c.turn steps.turn r.turn (turn_of S) j steps.sum turn ∙ ap (λ us. (turn_of us + (steps.turn + r.turn)) % 8) (sym source)) in
+    (whole c.turn steps.turn r.turn (turn_of S) j steps.sum turn ∙ ap (λ us. (turn_of us + (steps.turn + r.turn)) % 8) (sym source)) in
     rw (begins, ends, phase) proved
   where
     whole : (a b k m j : ℕ) → a ≡ (m + b) % 8 → j ≡ (a + k) % 8 → j ≡ (m + (b + k)) % 8

@@ -9,7 +9,7 @@
 --   IsFitWork w          what is asked of a work before it is done
 --   IsWork w ..          the text and the line that are right for a work
 --   HasWork w Done       some text and line are right for the work, and this was done with them
-use Rattle.std.specs.Prelude.{◌≡◌, ℕ, ◌≤◌, Bool, true, false, None, List, [], length, map}
+use Rattle.std.specs.Prelude.{◌≡◌, ℕ, ◌≤◌, Bool, true, false, List, [], length, map}
 use Rattle.circuit_list.specs.Gates.{ops}
 use Rattle.gate_inline.specs.Programs.{IsWritten, Program}
 use Rattle.route_report.specs.declared.lines.Report.{Report}

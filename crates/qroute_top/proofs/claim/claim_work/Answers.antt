@@ -1,9 +1,8 @@
 -- Why the claim isn't proved, and what is told where it is.
-use Rattle.std.proofs.Common.{◌∙◌, refl, sym, ap, subst}
+use Rattle.std.proofs.Common.{◌∙◌, refl, subst}
 use Rattle.std.proofs.lemmas.Result.{err_from_is_err_and}
 use Rattle.outside_io.specs.Shelf.{TellsText}
 use Rattle.route_report.specs.declared.faults.Side.TheVariants as side
-use Rattle.qroute_top.specs.Stops.{IsTextStop}
 use Rattle.trace_check.specs.Verdicts.{claim_of}
 use Rattle.trace_text.specs.Texts.{trace_of}
 use Rattle.qroute_top.proofs.ClaimLaws.{IsClaimStop-source, IsClaimStop-target, IsClaimStop-trace, failed_same, ok_is_no_err, stop_after}
@@ -45,18 +44,21 @@ returns-clause-made g c =
     let first = c.in_ok-source.ensures in
     let second = c.in_ok-target.ensures in
     let proof = c.in_ok-phase.ensures.ok in
-    λ text line is. (record {
-      source_text = c.in_ok-source.source.text.items;
-      source = c.in_ok-source.source.program;
-      source_told = (first.told, first.short, first.accepted);
-      target_text = c.in_ok-target.target.text.items;
-      target = c.in_ok-target.target.program;
-      target_told = (subst (λ o. TellsText o c.in_ok-target.target.text.items) (first.keeps c.args.target.now) second.told, second.short, second.accepted);
-      first = proof.0;
-      last = proof.1;
-      phase = c.in_ok-phase.phase;
-      proves = proof.2;
-      realises = c.traces_are_sound.ensures.sound (claim_of c.in_ok-source.source.program c.in_ok-target.target.program)
-      (trace_of c.in_ok-target.target.text.items) proof.0 proof.1 c.in_ok-phase.phase c.facts.ensures.fine c.facts-2.ensures.fine proof.2;
-      line = is.0 ∙ c.in_ok-text.ensures;
-    }, is.1)
+    λ text line is. (
+      record {
+        source_text = c.in_ok-source.source.text.items;
+        source = c.in_ok-source.source.program;
+        source_told = (first.told, first.short, first.accepted);
+        target_text = c.in_ok-target.target.text.items;
+        target = c.in_ok-target.target.program;
+        target_told = (subst (λ o. TellsText o c.in_ok-target.target.text.items) (first.keeps c.args.target.now) second.told, second.short, second.accepted);
+        first = proof.0;
+        last = proof.1;
+        phase = c.in_ok-phase.phase;
+        proves = proof.2;
+        realises = c.traces_are_sound.ensures.sound (claim_of c.in_ok-source.source.program c.in_ok-target.target.program)
+            (trace_of c.in_ok-target.target.text.items) proof.0 proof.1 c.in_ok-phase.phase c.facts.ensures.fine c.facts-2.ensures.fine proof.2;
+        line = is.0 ∙ c.in_ok-text.ensures;
+      },
+      is.1,
+    )

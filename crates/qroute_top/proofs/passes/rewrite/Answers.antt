@@ -1,5 +1,4 @@
 -- What the last pass leaves is settled.
-use Rattle.std.proofs.Common.{subst}
 use Rattle.qroute_top.proofs.TargetLaws.{IsSettled-left}
 use Rattle.qroute_top.proofs.passes.rewrite.Goals as goal
 

@@ -10,7 +10,7 @@ returns-clause-optimised c =
     let e = c.in_ok-expanded.ensures in
     let r = c.in_ok-passed.ensures in
     let it = IsOptimised-rewritten _ _ c.in_ok-expanded.expanded c.in_ok-passed.field-0.passed _ e.wires e.below e.same (e.odd_paths _) e.cx_count r.wires
-        r.law r.settled c.turn_sum-turn.ensures.sum in
+    r.law r.settled c.turn_sum-turn.ensures.sum in
     subst (λ (o : Ops). IsOptimised o.wires o.list (record { body = c.in_ok-passed.field-0.passed.body; turn = c.turn_sum-turn.result })) c.ops.ensures it
 
 pub returns-clause-steps : goal.returns-clause-steps
@@ -18,6 +18,6 @@ returns-clause-steps c =
     let e = c.in_ok-expanded.ensures in
     let r = c.in_ok-passed.ensures in
     let it = HasSteps-summed _ _ c.in_ok-expanded.expanded c.in_ok-passed.field-0.passed _ c.in_ok-passed.field-0.steps e.wires e.gates e.turn
-        c.turn_sum-turn.ensures.sum r.steps in
+    c.turn_sum-turn.ensures.sum r.steps in
     subst (λ (o : Ops). IfSome c.in_ok-passed.field-0.steps (HasSteps o.wires o.list (record { body = c.in_ok-passed.field-0.passed.body; turn = c.turn_sum-turn.result })))
     c.ops.ensures it
