@@ -16,7 +16,7 @@ pub enum Command {
         device: Name,
         /// Whether the wires begin on the qubits of their own numbers.
         trivial: bool,
-        /// Whether a trace of the run is asked for.
+        /// Whether the trace that shows it is written behind it.
         trace: bool,
     },
     /// Reads a program and reports on it.

@@ -8,13 +8,14 @@
 //! machine's run, whose swaps are few; on its own wires the program is settled. Each status comes exactly where its cause is.
 //! A text that is refused is told with its place or statement, a device with its reason, and nothing is written then. `check`
 //! tells of a program without writing one, `stages` writes a line for each layer of its gates, and `amplitude` writes one entry of
-//! its unitary. `bench` reads none: it routes
-//! one that it draws for the device, gate by gate.
+//! its unitary. `bench` reads none: it routes one that it draws for the device, gate by gate. With `--trace` the program that is
+//! written on a device carries a trace, which proves that it is the source; `verify` tells whether the trace in one text proves
+//! that it is another, whoever wrote them.
 //!
 //! `source` reads the input, over all of the readers, or draws a program; `device` loads the device of a name; `target` makes the
-//! circuit that is to be written, `question` the entry that is asked for, and `plan` all that takes memory, before `emission` writes the first byte. A program goes out
-//! in pieces, so its text never stands whole in memory. What a command asks of its surroundings is told by `command_words`, so
-//! that each clause is said once for all commands.
+//! circuit that is to be written and its trace, `question` the entry that is asked for, `claim` the verdict on two texts, and `plan`
+//! all that takes memory, before `emission` writes the first byte. A program goes out in pieces, so its text never stands whole in
+//! memory. What a command asks of its surroundings is told by `command_words`, so that each clause is said once for all commands.
 #![tactic(auto)]
 
 ghost use Rattle.std.specs.Prelude.{◌≡◌, ◌⊎◌, ℕ, List, Some, None, map, true, false, is_some};
