@@ -13,7 +13,7 @@
 --                         told as;  text_fault, claim_fault: that of a text of `verify`, and of a stop of it
 --   fault_of s            the fault that a stop is told as
 --   EndsWithFault h n t   the program ends with status n for a stop that has its cause, and t holds of its fault
---   stop_status s         the status that a stop ends with
+--   stop_status s         the status that a stop ends with;  claim_status: that of a stop of `verify`
 --   output_fault_line     the line that is told of an output that fails
 --   is_early_fault n      the statuses of such stops
 use Rattle.std.specs.Prelude.{◌≡◌, ℕ, Bool, true, ◌==◌, ◌||◌, List, Option, Some, None, ⊤}

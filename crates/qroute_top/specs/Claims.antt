@@ -1,11 +1,12 @@
 -- Claims on two texts, the source's and the target's, whose comments hold a trace: what is found of them, and how `verify` ends.
 --   limit_of side        the most bytes of a text: the source's as long as an input, the target's 64 MiB
 --   IsTextRefused side text r    r is the first refusal of the text: its length, or else what is refused of a text of any length
---   Found                of a text: there is none, it is refused, or it is accepted as a program
+--   Found                of a text: Missing where there is none, Bad where it is refused, or Good where it is accepted as a program
 --   Says content side x  this is found of the content of a name, the told one where one is told
---   Ending               how `verify` ends: a text is absent, or refused, or the trace stops at a line, or it proves the claim
+--   Ending               how `verify` ends: a text is Absent, or Refused, or the trace is Stopped at a line, or the claim is Proved
 --   IsJudged e trace x   by the trace the claim ends so
 --   IsCompared p y x     with the source's program p and what is found of the target it ends so
+--   IsBehind content f x  with what is found of the source, and the content of the target's name, it ends so
 --   IsEnding content a b x   it ends so on the texts of these two names: the source is judged first, and the target only where that
 --                        is accepted
 --   AreTold content a b  what the first name has is told, and what the second has where the first one's text is accepted
