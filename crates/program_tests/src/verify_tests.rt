@@ -698,31 +698,47 @@ fn writes_what_is_verified(rt: HostRuntime) -> Result<(), Fail> {
     let alloc = rt.alloc();
     'devices: for device in DEVICES {
         'programs: for program in PROGRAMS {
-            let text = headed(alloc, program)?;
-            let case = Case {
-                words: &ROUTE,
-                text: &text,
-                device,
-                fails: [0, 2, 0, 0],
-            };
-            let plain = run_case(alloc, case)?;
-            let traced = run_case(
-                alloc,
-                Case {
-                    words: &TRACED,
-                    ..case
-                },
-            )?;
-            assert_eq!(rt; (plain.status, traced.status), (0, 0), "{program}");
-            assert!(rt;
-                traced.out.as_slice().starts_with(plain.out.as_slice()),
-                "{program}"
-            );
-            assert!(rt; traced.report == plain.report, "{program}");
-            verify_traced(alloc, &rt, text.as_slice(), &traced)?;
+            writes_and_verifies(alloc, &rt, device, program)?;
         }
     }
     Ok(())
+}
+
+/// The same for one program on one device.
+fn writes_and_verifies(
+    alloc: Global,
+    rt: &impl Abort,
+    device: &str,
+    program: &str,
+) -> Result<(), Fail> {
+    let text = headed(alloc, program)?;
+    let plain = routed(alloc, &ROUTE, device, &text)?;
+    let traced = routed(alloc, &TRACED, device, &text)?;
+    assert_eq!(rt; (plain.status, traced.status), (0, 0), "{program}");
+    assert!(rt;
+        traced.out.as_slice().starts_with(plain.out.as_slice()),
+        "{program}"
+    );
+    assert!(rt; traced.report == plain.report, "{program}");
+    verify_traced(alloc, rt, &text, &traced)
+}
+
+/// What these words make of a text on a device.
+fn routed(
+    alloc: Global,
+    words: &[&str],
+    device: &str,
+    text: &[u8],
+) -> Result<Outcome, AllocError> {
+    run_case(
+        alloc,
+        Case {
+            words,
+            text,
+            device,
+            fails: [0, 2, 0, 0],
+        },
+    )
 }
 
 /// The verdict on a source and what was written of it, and on the same without a line of its trace.

@@ -4,10 +4,12 @@
 --   Readable, Traceable      laws of the reader and of traces, as they are handed in
 --   trace-short              the trace of a text is short enough for the checker
 --   same_ending              on texts that are told `verify` ends in one way
+--   ending-unrefused         .. with 0 or 1 where both are there and neither is refused
+--   yes-proved, yes-own      a trace that proves the claim gets a yes
 --   ended-claim, ended-verified   from the cause of a stop, and from what is verified, to the way in which it ends
-use Rattle.std.proofs.Common.{◌≡◌, inl, inr, ℕ, ◌<◌, ◌≤◌, List, Option, Some, Result, Ok, Err, refl, sym, ap, ◌∙◌, arith, subst, length}
+use Rattle.std.proofs.Common.{◌≡◌, ◌⊎◌, None, inl, inr, ℕ, ◌<◌, ◌≤◌, List, Option, Some, Result, Ok, Err, refl, sym, ap, ◌∙◌, arith, subst, length}
 use Rattle.outside_io.specs.Causes.{Rose}
-use Rattle.outside_io.specs.Shelf.{IsTextCause, TellsText}
+use Rattle.outside_io.specs.Shelf.{HasNoText, IsTextCause, TellsText}
 use Rattle.outside_io.specs.declared.TextFault.{TextFault}
 use Rattle.outside_io.specs.declared.TextFault.TheVariants as text_fault
 use Rattle.gate_inline.specs.Programs.{IsWritten, Program}
@@ -16,13 +18,15 @@ use Rattle.program_reader.specs.declared.refusal.Refusal.{Refusal}
 use Rattle.route_report.specs.declared.faults.Side.{Side}
 use Rattle.route_report.specs.declared.faults.Side.TheVariants as side
 use Rattle.trace_check.specs.Proves.{Claim, Proves, StopsAt}
-use Rattle.trace_check.specs.Verdicts.{claim_of}
+use Rattle.trace_check.specs.Verdicts.{IsVerdict, claim_of}
+use Rattle.trace_check.specs.declared.verdict.Verdict.{Verdict}
+use Rattle.trace_check.specs.declared.verdict.Verdict.TheVariants as verdict
 use Rattle.std.proofs.lemmas.Grind.{common_steps}
 use Rattle.std.specs.Prelude.{Bool, true, false, cond, codes, drop, nat_eq, suc, ◌+◌, [], ◌∷◌}
 use Rattle.rewrite_pass.specs.TraceLines.{ended}
 use Rattle.trace_text.specs.Texts.{begins, begun, lines_of, trace_of, traced}
 use Rattle.qroute_top.specs.Causes.{IsClaimCause, claim_status}
-use Rattle.qroute_top.specs.Claims.{Absent, AreTold, Bad, Ending, Found, Good, IsBehind, IsCompared, IsEnding, IsJudged, IsTextRefused, IsVerified, Missing, Proved, Refused, Says, Stopped, ending_status, limit_of}
+use Rattle.qroute_top.specs.Claims.{Absent, AreTold, Bad, Ending, Found, Good, IsBehind, IsCompared, IsEnding, IsJudged, IsTextRefused, IsVerified, IsYes, Missing, Proved, Refused, Says, Stopped, ending_status, limit_of}
 use Rattle.qroute_top.specs.Stops.{IsClaimStop, IsTextStop, IsTraceStop, IsUnreadText, unloaded_text}
 use Rattle.qroute_top.specs.declared.stops.ClaimStop.{ClaimStop}
 use Rattle.qroute_top.specs.declared.stops.ClaimStop.TheVariants as claim
@@ -244,3 +248,77 @@ ended-claim content a b before after (claim.Trace line) c calm = (Stopped line, 
 
 pub ended-verified : (content : Content) (a b text : List ℕ) (v : IsVerified content a b text) → IsEnding content a b (Proved v.first v.last v.phase)
 ended-verified content a b text v = (Good v.source_text v.source, v.source_told, (Good v.target_text v.target, v.target_told, v.proves))
+
+-- ---- texts that are there, and aren't refused
+no_text_here : (o : Option (Option (List ℕ))) (t : List ℕ) → o ≡ Some (Some t) → HasNoText o → ⊥
+no_text_here None t e h = cc
+no_text_here (Some x) t e h = cc
+
+this_text : (o : Option (Option (List ℕ))) (t v : List ℕ) → o ≡ Some (Some t) → TellsText o v → v ≡ t
+this_text None t v e h = cc
+this_text (Some x) t v e h = cc
+
+abbrev pub Unrefused : Side → List ℕ → Type 0
+Unrefused s text = (r : Refusal) → IsTextRefused s text r → ⊥
+
+-- of a text that is there and isn't refused nothing else is found
+good_alone : (s : Side) (o : Option (Option (List ℕ))) (t : List ℕ) (f : Found) → o ≡ Some (Some t) → Unrefused s t → Says o s f
+    → (f ≡ Missing → ⊥) × ((r : Refusal) → f ≡ Bad r → ⊥)
+good_alone s o t Missing told fine h = absurd (no_text_here o t told h)
+good_alone s o t (Bad r) told fine (text, tells, is) =
+    absurd (fine r (subst (λ w. IsTextRefused s w r) (this_text o t text told tells) is))
+good_alone s o t (Good text p) told fine h = ((λ e. cc), (λ r e. cc))
+
+judged_status : (e : Claim) (trace : List ℕ) (x : Ending) → IsJudged e trace x → (ending_status x ≡ 0) ⊎ (ending_status x ≡ 1)
+judged_status e trace Absent h = absurd h
+judged_status e trace (Refused s r) h = absurd h
+judged_status e trace (Stopped line) h = inr refl
+judged_status e trace (Proved p q j) h = inl refl
+
+compared_status : (o : Option (Option (List ℕ))) (t : List ℕ) (p : Program) (f : Found) (x : Ending) → o ≡ Some (Some t) → Unrefused side.Target t
+    → Says o side.Target f → IsCompared p f x → (ending_status x ≡ 0) ⊎ (ending_status x ≡ 1)
+compared_status o t p Missing x told fine says c = absurd ((good_alone side.Target o t Missing told fine says).0 refl)
+compared_status o t p (Bad r) x told fine says c = absurd ((good_alone side.Target o t (Bad r) told fine says).1 r refl)
+compared_status o t p (Good text q) x told fine says c = judged_status (claim_of p q) (trace_of text) x c
+
+behind_status : (o u : Option (Option (List ℕ))) (s t : List ℕ) (f : Found) (x : Ending) → o ≡ Some (Some s) → Unrefused side.Source s
+    → u ≡ Some (Some t) → Unrefused side.Target t → Says o side.Source f → IsBehind u f x → (ending_status x ≡ 0) ⊎ (ending_status x ≡ 1)
+behind_status o u s t Missing x told fine here well says c = absurd ((good_alone side.Source o s Missing told fine says).0 refl)
+behind_status o u s t (Bad r) x told fine here well says c = absurd ((good_alone side.Source o s (Bad r) told fine says).1 r refl)
+behind_status o u s t (Good text p) x told fine here well says (f, found, c) = compared_status u t p f x here well found c
+
+pub ending-unrefused : (content : Content) (a b s t : List ℕ) (x : Ending) → content a ≡ Some (Some s) → Unrefused side.Source s
+    → content b ≡ Some (Some t) → Unrefused side.Target t → IsEnding content a b x → (ending_status x ≡ 0) ⊎ (ending_status x ≡ 1)
+ending-unrefused content a b s t x told fine here well (f, says, c) = behind_status (content a) (content b) s t f x told fine here well says c
+
+-- ---- a program's own trace
+abbrev pub AcceptedOrRefused : Type 0
+AcceptedOrRefused = (text : List ℕ) → ((p : Program) × IsAcceptedText text p) ⊎ ((r : Refusal) × IsTextRefusal text r)
+
+pub yes-proved : Readable → Traceable → (s t : List ℕ) (p q : Program) (first last : List ℕ) (phase : ℕ) (v : Verdict) → IsAcceptedText s p → IsAcceptedText t q
+    → Proves (claim_of p q) (trace_of t) first last phase → IsVerdict s t (trace_of t) v → IsYes first last phase v
+yes-proved law traces s t p q first last phase (verdict.Yes i l j) ok good proves (u, w, is, too, other) =
+    let source : u ≡ p = law.means s u p (written_of s u is) (written_of s p ok) in
+    let target : w ≡ q = law.means t w q (written_of t w too) (written_of t q good) in
+    let here : Proves (claim_of p q) (trace_of t) i.items l.items j =
+        subst (λ y. Proves (claim_of p y) (trace_of t) i.items l.items j) target
+        (subst (λ y. Proves (claim_of y w) (trace_of t) i.items l.items j) source other) in
+    let same = traces.one_proof (claim_of p q) (trace_of t) i.items l.items first last j phase here proves in
+    (same.0, same.1.0, same.1.1)
+yes-proved law traces s t p q first last phase (verdict.No line) ok good proves (u, w, is, too, other) =
+    let source : u ≡ p = law.means s u p (written_of s u is) (written_of s p ok) in
+    let target : w ≡ q = law.means t w q (written_of t w too) (written_of t q good) in
+    let here : StopsAt (claim_of p q) (trace_of t) line =
+        subst (λ y. StopsAt (claim_of p y) (trace_of t) line) target (subst (λ y. StopsAt (claim_of y w) (trace_of t) line) source other) in
+    absurd (traces.not_both (claim_of p q) (trace_of t) line first last phase here proves)
+yes-proved law traces s t p q first last phase (verdict.Source r) ok good proves (f, is, code, at) = absurd (law.accepted s p f ok is)
+yes-proved law traces s t p q first last phase (verdict.Target r) ok good proves (readable, (f, is, code, at)) = absurd (law.accepted t q f good is)
+
+pub yes-own : Readable → Traceable → AcceptedOrRefused → (s t : List ℕ) (p q : Program) (first last : List ℕ) (phase : ℕ) (v : Verdict) → IsAcceptedText s p
+    → IsWritten t q → ((r : Refusal) → IsTextRefusal t r → ⊥) → Proves (claim_of p q) (trace_of t) first last phase → IsVerdict s t (trace_of t) v
+    → IsYes first last phase v
+yes-own law traces either s t p q first last phase v ok written fine proves is = elim (either t) [
+  | inl good ↦ yes-proved law traces s t p q first last phase v ok
+      (subst (IsAcceptedText t) (law.means t good.0 q (written_of t good.0 good.1) written) good.1) proves is
+  | inr refused ↦ absurd (fine refused.0 refused.1)
+]

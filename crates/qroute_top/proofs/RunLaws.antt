@@ -42,7 +42,8 @@ use Rattle.qroute_top.specs.declared.stops.SourceStop.{SourceStop}
 use Rattle.qroute_top.specs.declared.stops.SourceStop.TheVariants as source_stop
 use Rattle.qroute_top.specs.declared.stops.Stop.{Stop}
 use Rattle.qroute_top.specs.declared.stops.Stop.TheVariants as stop
-use Rattle.qroute_top.proofs.ClaimLaws.{Readable, Traceable, ended-claim, ended-verified, same_ending}
+use Rattle.route_report.specs.declared.faults.Side.TheVariants as side
+use Rattle.qroute_top.proofs.ClaimLaws.{Readable, Traceable, Unrefused, ended-claim, ended-verified, ending-unrefused, same_ending}
 use Rattle.qroute_top.proofs.DeviceLaws.{IsDevice-refused}
 use Rattle.qroute_top.proofs.SourceLaws.{Tells-taken}
 use Rattle.qroute_top.proofs.StatusLaws.{Ends}
@@ -837,3 +838,43 @@ planned-verdict law traces words content old new w n c a b x line out delivers (
     by_end n m (inr (inl e)) zero six eight = absurd (six e)
     by_end n m (inr (inr (inl e))) zero six eight = inr e
     by_end n m (inr (inr (inr e))) zero six eight = absurd (eight e)
+
+-- where both texts are there, and neither is refused
+pub stopped-complete_texts : (h : Handed) (s : Stop) (n : ℕ) (c : Command) (a b source target : List ℕ) → IsCause h s → Ends s n
+    → command_of h.words ≡ Some c → asked_texts c ≡ Some (a, b) → h.content a ≡ Some (Some source) → Unrefused side.Source source
+    → h.content b ≡ Some (Some target) → Unrefused side.Target target → (Rose h.shelf_before h.shelf_after → ⊥)
+    → (n ≡ 0) ⊎ ((n ≡ 1) ⊎ (n ≡ 7))
+stopped-complete_texts h stop.NoMemory n c a b source target w e asked texts told fine here well calm = inr (inr (grind arith))
+stopped-complete_texts h stop.Words n c a b source target w e asked texts told fine here well calm = cc
+stopped-complete_texts h stop.Input n c a b source target w e asked texts told fine here well calm =
+    let reads = reads_same h c w.0 asked in let no = (apart c a b texts).0 in cc
+stopped-complete_texts h (stop.Program r) n c a b source target w e asked texts told fine here well calm =
+    let reads = reads_same h c w.0 asked in let no = (apart c a b texts).0 in cc
+stopped-complete_texts h stop.Shelf n c a b source target w e asked texts told fine here well calm =
+    let name = same_name h w.0 c w.1 asked in let no = (apart c a b texts).1 in cc
+stopped-complete_texts h stop.Absent n c a b source target w e asked texts told fine here well calm =
+    let name = same_name h w.0 c w.1 asked in let no = (apart c a b texts).1 in cc
+stopped-complete_texts h (stop.Device r) n c a b source target w e asked texts told fine here well calm =
+    let name = same_name h w.0 c w.1 asked in let no = (apart c a b texts).1 in cc
+stopped-complete_texts h (stop.Question r) n c a b source target w e asked texts told fine here well calm =
+    let reads = reads_same h c w.0 asked in let no = (apart c a b texts).0 in cc
+stopped-complete_texts h (stop.Claim y) n c a b source target w e asked texts told fine here well calm =
+    let both = same_texts w.0 w.1 a b (asked_texts c) (compares_texts h c w.0 w.1 w.2 asked) texts in
+    let ended = ended-claim h.content w.0 w.1 h.shelf_before h.shelf_after y w.3 calm in
+    let ending : IsEnding h.content a b ended.0 = subst (λ v. IsEnding h.content a v ended.0) both.1 (subst (λ v. IsEnding h.content v w.1 ended.0) both.0 ended.1) in
+    by_status n (claim_status y) (ending_status ended.0) e ended.2 (ending-unrefused h.content a b source target ended.0 told fine here well ending)
+  where
+    by_status : (n k m : ℕ) → (n ≡ 7) ⊎ (n ≡ k) → k ≡ m → (m ≡ 0) ⊎ (m ≡ 1) → (n ≡ 0) ⊎ ((n ≡ 1) ⊎ (n ≡ 7))
+    by_status n k m (inl seven) same at = inr (inr seven)
+    by_status n k m (inr is) same (inl zero) = inl (is ∙ same ∙ zero)
+    by_status n k m (inr is) same (inr one) = inr (inl (is ∙ same ∙ one))
+
+pub planned-complete_texts : (c : Command) (a b : List ℕ) (has line : Bool) (n : ℕ) (out report : Type 0) → (n ≡ 0) ⊎ ((n ≡ 6) ⊎ ((n ≡ 7) ⊎ (n ≡ 8)))
+    → asked_texts c ≡ Some (a, b) → has ≡ writes_out c → line ≡ writes_report c → (n ≡ 6 → out) → (n ≡ 8 → report) → (has ≡ false → n ≡ 6 → ⊥)
+    → (line ≡ false → n ≡ 8 → ⊥) → (out → ⊥) → (n ≡ 0) ⊎ ((n ≡ 1) ⊎ (n ≡ 7))
+planned-complete_texts c a b has line n out report ends texts same told f g none still calm = elim
+    (planned-complete has line (writes_out c) (writes_report c) n out report ends same told f g none still (λ w. calm)
+    (λ w. let no = (verify_writes c a b texts).1 in cc)) [
+  | inl zero ↦ inl zero
+  | inr seven ↦ inr (inr seven)
+]

@@ -13,6 +13,7 @@
 --   IsVerified content a b text   the text is the line of the power up to which the target realises the source
 --   Compares words a b   the words mean `verify` with these two names
 --   ending_status x      the status that it ends with
+--   IsYes first last phase v   the verdict v is yes, from and to these placements and up to this power of w
 use Rattle.std.specs.Prelude.{◌≡◌, ◌⊎◌, ℕ, ◌<◌, ◌≤◌, List, Option, Some, length}
 use Rattle.outside_io.specs.Shelf.{HasNoText, TellsText}
 use Rattle.gate_inline.specs.Programs.{Program, text_limit}
@@ -27,6 +28,8 @@ use Rattle.route_report.specs.declared.faults.Side.{Side}
 use Rattle.route_report.specs.declared.faults.Side.TheVariants as side
 use Rattle.trace_check.specs.Proves.{Claim, Proves, StopsAt}
 use Rattle.trace_check.specs.Verdicts.{claim_of}
+use Rattle.trace_check.specs.declared.verdict.Verdict.{Verdict}
+use Rattle.trace_check.specs.declared.verdict.Verdict.TheVariants as verdict
 use Rattle.trace_text.specs.Texts.{trace_of}
 use Rattle.unitary_model.specs.Realises.{Realises}
 
@@ -103,3 +106,7 @@ ending_status Absent = 9
 ending_status (Refused s r) = 3
 ending_status (Stopped line) = 1
 ending_status (Proved first last phase) = 0
+
+abbrev pub IsYes : List ℕ → List ℕ → ℕ → Verdict → Type 0
+IsYes first last phase (verdict.Yes i l j) = (i.items ≡ first) × (l.items ≡ last) × (j ≡ phase)
+IsYes first last phase _ = ⊥

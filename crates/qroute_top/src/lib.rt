@@ -22,6 +22,7 @@ ghost use Rattle.std.specs.Prelude.{◌≡◌, ◌⊎◌, ℕ, List, Some, None,
 ghost use Rattle.outside_io.specs.Bytes.{Gains, GainsPrefix, GainsUnlessFault};
 ghost use Rattle.outside_io.specs.Causes.{Rose};
 ghost use Rattle.route_report.specs.Faults.{fault_line};
+ghost use Rattle.route_report.specs.declared.faults.Side.TheVariants as Side;
 ghost use Rattle.program_reader.specs.Refusals.{IsRefusal};
 ghost use Rattle.program_reader.specs.declared.refusal.Refusal.{Refusal as Refused};
 ghost use Rattle.command_words.specs.Commands.{command_of};
@@ -33,7 +34,7 @@ ghost use Rattle.qroute_top.specs.declared.stops.QuestionRefusal.{QuestionRefusa
 ghost use Rattle.qroute_top.specs.Devices.{HasDevice, IsDeviceRefusal, HasSource};
 ghost use Rattle.qroute_top.specs.Questions.{IsQuestionRefusal};
 ghost use Rattle.qroute_top.specs.Causes.{EndsWithFault, is_early_fault, output_fault_line};
-ghost use Rattle.qroute_top.specs.Claims.{AreTold, Ending, IsEnding, ending_status};
+ghost use Rattle.qroute_top.specs.Claims.{AreTold, Ending, IsEnding, IsTextRefused, ending_status};
 ghost use Rattle.qroute_top.specs.Delivered.{Delivered};
 
 pub use bench_program::made;
@@ -52,6 +53,7 @@ mod cost;
 mod decision;
 mod device;
 mod emission;
+pub mod laws;
 mod passes;
 mod pipeline;
 mod plan;
@@ -143,6 +145,13 @@ pub fn run<I: Source, F: Shelf, O: Sink, R: Sink>(
         → asked_texts c ≡ Some (a, b) → AreTold (F.content shelf.old) a b → IsEnding (F.content shelf.old) a b x
         → (Rose (F.faults shelf.old) (F.faults shelf.new) → ⊥) → (ending_status x ≡ 0 → Rose (O.faults out.old) (O.faults out.new) → ⊥)
         → (result ≡ ending_status x) ⊎ (result ≡ 7) }
+
+    // Where both texts are there and neither is refused, it ends with 0 or 1, or wants memory, unless a count of faults rose.
+    ensures complete_texts { (c : Asked) (a b s t : List ℕ) → command_of (map (λ w. w.now) words.now) ≡ Some c → asked_texts c ≡ Some (a, b)
+        → F.content shelf.old a ≡ Some (Some s) → ((r : Refused) → IsTextRefused Side.Source s r → ⊥)
+        → F.content shelf.old b ≡ Some (Some t) → ((r : Refused) → IsTextRefused Side.Target t r → ⊥)
+        → (Rose (F.faults shelf.old) (F.faults shelf.new) → ⊥) → (Rose (O.faults out.old) (O.faults out.new) → ⊥)
+        → (result ≡ 0) ⊎ ((result ≡ 1) ⊎ (result ≡ 7)) }
 
     // 6 and 8: the output or the report failed, with a prefix of what is made.
     ensures output { result ≡ 6 → Rose (O.faults out.old) (O.faults out.new)

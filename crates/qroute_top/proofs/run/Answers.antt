@@ -4,7 +4,7 @@ use Rattle.outside_io.specs.Bytes.{Gains, GainsPrefix}
 use Rattle.command_words.specs.Demands.{writes_out, writes_report}
 use Rattle.qroute_top.specs.Causes.{Handed}
 use Rattle.qroute_top.specs.Plans.{has_line, has_text}
-use Rattle.qroute_top.proofs.RunLaws.{Delivered-done, device_alone, answered_on, asked_of, came, handed, planned-absent, planned-complete, planned-refuses, planned-refuses_device, planned-refuses_question, planned-verdict, same_stop, stopped-absent, stopped-complete, stopped-read, stopped-refuses, stopped-refuses_device, stopped-refuses_question, stopped-two, stopped-verdict, stopped-words}
+use Rattle.qroute_top.proofs.RunLaws.{Delivered-done, device_alone, answered_on, asked_of, came, handed, planned-absent, planned-complete, planned-complete_texts, planned-refuses, planned-refuses_device, planned-refuses_question, planned-verdict, same_stop, stopped-absent, stopped-complete, stopped-complete_texts, stopped-read, stopped-refuses, stopped-refuses_device, stopped-refuses_question, stopped-two, stopped-verdict, stopped-words}
 use Rattle.qroute_top.proofs.ClaimLaws.{Readable, Traceable}
 use Rattle.qroute_top.proofs.StatusLaws.{not_late, not_memory}
 use Rattle.qroute_top.proofs.run.Goals as goal
@@ -174,3 +174,18 @@ returns-in-Err-clause-words g c =
     (g.I.Source.faults c.decide.new.input) (g.F.Shelf.content c.args.shelf.now) (g.F.Shelf.faults c.args.shelf.now)
     (g.F.Shelf.faults c.decide.new.shelf) in
     λ none. stopped-words h c.in-Err.stop c.tell.result c.in-Err.ensures.stop c.tell.ensures.status none
+
+pub returns-in-Ok-clause-complete_texts : goal.returns-in-Ok-clause-complete_texts
+returns-in-Ok-clause-complete_texts g c =
+    let e = c.emit.ensures in
+    let d = c.in-Ok.ensures in
+    λ a x y s t asked texts told fine here well calm out_calm. planned-complete_texts a x y (has_text c.in-Ok.work) (has_line c.in-Ok.work) c.emit.result _ _ e.ends
+    texts (d.writes a asked) (d.tells a asked) (λ six. (e.output six).1) (λ eight. (e.report eight).3) e.no_fault e.no_report out_calm
+
+pub returns-in-Err-clause-complete_texts : goal.returns-in-Err-clause-complete_texts
+returns-in-Err-clause-complete_texts g c =
+    let h : Handed = handed (map (λ w. w.now) c.args.words.now) (g.I.Source.left c.args.input.now) (g.I.Source.faults c.args.input.now)
+    (g.I.Source.faults c.decide.new.input) (g.F.Shelf.content c.args.shelf.now) (g.F.Shelf.faults c.args.shelf.now)
+    (g.F.Shelf.faults c.decide.new.shelf) in
+    λ a x y s t asked texts told fine here well calm out_calm. stopped-complete_texts h c.in-Err.stop c.tell.result a x y s t c.in-Err.ensures.stop
+    c.tell.ensures.status asked texts told fine here well calm
