@@ -301,15 +301,15 @@ yes-proved law traces s t p q first last phase (verdict.Yes i l j) ok good prove
     let source : u ≡ p = law.means s u p (written_of s u is) (written_of s p ok) in
     let target : w ≡ q = law.means t w q (written_of t w too) (written_of t q good) in
     let here : Proves (claim_of p q) (trace_of t) i.items l.items j =
-        subst (λ y. Proves (claim_of p y) (trace_of t) i.items l.items j) target
-        (subst (λ y. Proves (claim_of y w) (trace_of t) i.items l.items j) source other) in
+    subst (λ y. Proves (claim_of p y) (trace_of t) i.items l.items j) target
+    (subst (λ y. Proves (claim_of y w) (trace_of t) i.items l.items j) source other) in
     let same = traces.one_proof (claim_of p q) (trace_of t) i.items l.items first last j phase here proves in
     (same.0, same.1.0, same.1.1)
 yes-proved law traces s t p q first last phase (verdict.No line) ok good proves (u, w, is, too, other) =
     let source : u ≡ p = law.means s u p (written_of s u is) (written_of s p ok) in
     let target : w ≡ q = law.means t w q (written_of t w too) (written_of t q good) in
     let here : StopsAt (claim_of p q) (trace_of t) line =
-        subst (λ y. StopsAt (claim_of p y) (trace_of t) line) target (subst (λ y. StopsAt (claim_of y w) (trace_of t) line) source other) in
+    subst (λ y. StopsAt (claim_of p y) (trace_of t) line) target (subst (λ y. StopsAt (claim_of y w) (trace_of t) line) source other) in
     absurd (traces.not_both (claim_of p q) (trace_of t) line first last phase here proves)
 yes-proved law traces s t p q first last phase (verdict.Source r) ok good proves (f, is, code, at) = absurd (law.accepted s p f ok is)
 yes-proved law traces s t p q first last phase (verdict.Target r) ok good proves (readable, (f, is, code, at)) = absurd (law.accepted t q f good is)

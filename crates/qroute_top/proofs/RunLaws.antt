@@ -875,6 +875,6 @@ pub planned-complete_texts : (c : Command) (a b : List ℕ) (has line : Bool) (n
 planned-complete_texts c a b has line n out report ends texts same told f g none still calm = elim
     (planned-complete has line (writes_out c) (writes_report c) n out report ends same told f g none still (λ w. calm)
     (λ w. let no = (verify_writes c a b texts).1 in cc)) [
-  | inl zero ↦ inl zero
-  | inr seven ↦ inr (inr seven)
-]
+      | inl zero ↦ inl zero
+      | inr seven ↦ inr (inr seven)
+    ]
