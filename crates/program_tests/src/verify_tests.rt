@@ -724,12 +724,7 @@ fn writes_and_verifies(
 }
 
 /// What these words make of a text on a device.
-fn routed(
-    alloc: Global,
-    words: &[&str],
-    device: &str,
-    text: &[u8],
-) -> Result<Outcome, AllocError> {
+fn routed(alloc: Global, words: &[&str], device: &str, text: &[u8]) -> Result<Outcome, AllocError> {
     run_case(
         alloc,
         Case {
