@@ -52,6 +52,7 @@ CLAIMS = [
         {"qroute_top.specs.Runs": "IsMachineRun HasFewSwaps"},
     ),
     Claim("stages", "what `stages` writes", {"qroute_top.specs.Delivered": "IsStages"}),
+    Claim("verified", "what a yes of `verify` says", {"qroute_top.specs.Claims": "IsVerified"}),
     Claim("faults", "that each fault has its cause, and its line tells it", {"qroute_top.specs.Causes": "EndsWithFault"}),
 ]
 
