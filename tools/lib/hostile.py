@@ -1,7 +1,9 @@
 """Texts that take long to read or to rewrite, or much memory: the worst that are known, of each kind, made on the spot.
 
 `KINDS` lists them: what a text is called, the words of the command, the status that it must end with, what makes the program's
-text, and what makes the device's where there is one. Each text is as long as it may be, or has as many operations.
+text, and what makes the device's or the target's where there is one. Each text is as long as it may be, or has as many
+operations, but for the traces of H in turn with CNOTs: for a `sums` each H keeps a label up to the last use of its variable, so
+memory grows with the square of the H on one wire, and 2,000 take 130 MB where 4,000 take 500.
 """
 
 import dataclasses
@@ -9,8 +11,11 @@ import typing
 
 HEAD = 'OPENQASM 2.0;\ninclude "qelib1.inc";\n'
 ONE = HEAD + "qreg q[1]; "
+PAIR = HEAD + "qreg q[2];\n"
+TOLD = "sums 4000000000"
 MOST_BYTES = 4_194_304
 MOST_OPERATIONS = 65_536
+MOST_TARGET = 67_108_864
 MOST_DEVICE = 1_048_576
 SEEDS = 6364136223846793005, 1442695040888963407
 
@@ -18,15 +23,21 @@ SEEDS = 6364136223846793005, 1442695040888963407
 @dataclasses.dataclass(frozen=True)
 class Kind:
     name: str
-    words: tuple[str, ...]  # `DEVICE` stands for the device's file
+    words: tuple[str, ...]  # `SOURCE`, `DEVICE` and `TARGET` stand for the files
     status: int
     text: typing.Callable[[], str]
     device: typing.Callable[[], str] | None = None
+    target: typing.Callable[[], str] | None = None
+
+    def files(self):
+        """The bytes of each file that the words name."""
+        made = {"SOURCE": self.text, "DEVICE": self.device, "TARGET": self.target}
+        return {it: make().encode() for it, make in made.items() if it in self.words}
 
 
-def filled(begins, part, ends=""):
+def filled(begins, part, ends="", most=MOST_BYTES):
     """A text of the greatest length between its begin and its end."""
-    return begins + part * ((MOST_BYTES - len(begins) - len(ends)) // len(part)) + ends
+    return begins + part * ((most - len(begins) - len(ends)) // len(part)) + ends
 
 
 def nest(opens, inner, closes):
@@ -80,7 +91,7 @@ def levels(count):
     """Each round of the passes takes off one level."""
     down = "cx q[0],q[1]; t q[1]; cx q[0],q[1]; h q[0];\n"
     up = "h q[0]; cx q[1],q[0]; tdg q[0]; cx q[1],q[0];\n"
-    return HEAD + "qreg q[2];\n" + down * count + up * count
+    return PAIR + down * count + up * count
 
 
 def nested():
@@ -131,8 +142,64 @@ def long_device(part, begins="", ends=""):
     return whole + begins + part * (room // len(part)) + ends
 
 
+def commented(lines):
+    """A trace, as a program's text has it."""
+    return "".join(f"//!{it}\n" for it in lines)
+
+
+def emitted(qubits, gates, power=0):
+    """The lines that leave each wire where it is, and write the gates as they stand."""
+    return [f"place {' '.join(map(str, range(qubits)))}", *["emit 0"] * gates, f"end {power}"]
+
+
+def in_turn(pairs):
+    """A NOT, and then H and a CNOT in turn on its wire."""
+    return HEAD + "qreg q[256];\nx q[1];\n" + "h q[1];\ncx q[0],q[1];\n" * pairs
+
+
+def in_turn_target(pairs, is_again=False):
+    """What `route --trivial --trace` writes of them on a line: the NOT behind the first H, by a `sums` of all gates.
+
+    The same `sums` again and again, if told so, until the text is as long as it may be.
+    """
+    gates = ["H 1", "P 4 1", "C 0 1", *["H 1", "C 0 1"] * (pairs - 1)]
+    text = "qreg q[256];\nh q[1];\nz q[1];\ncx q[0],q[1];\n" + "h q[1];\ncx q[0],q[1];\n" * (pairs - 1)
+    begins, ends = HEAD + text + commented(["TRACE 1"]), commented(emitted(256, len(gates), 6))
+    step = commented([f"sums {len(gates)}", *gates])
+    return filled(begins, step, ends, MOST_TARGET if is_again else len(begins) + len(step) + len(ends))
+
+
+def phases(count):
+    """T gates and their inverses in turn on one wire, an even number."""
+    return ONE + "t q[0];\n" + "t q[0];\ntdg q[0];\n" * (count // 2 - 1) + "t q[0];\n"
+
+
+def far_joins(count):
+    """The one gate that they are, and a trace that joins the first of them with the last, again and again."""
+    joins = [f"join 0 {it}" for it in range(count - 1, 0, -1)]
+    return ONE + "s q[0];\n" + commented(["TRACE 1", *joins, *emitted(1, 1)])
+
+
+def far_pairs(count, wires=256):
+    """CNOTs of one control, and then once more."""
+    lines = [f"cx q[0],q[{1 + it % (wires - 1)}];\n" for it in range(count // 2)]
+    return HEAD + f"qreg q[{wires}];\n" + "".join(lines + lines)
+
+
+def far_boths(count, wires=256):
+    """Nothing of them, by a trace that takes the first and the same behind the middle away, again and again."""
+    boths = [f"both 0 {it}" for it in range(count // 2, 0, -1)]
+    return HEAD + f"qreg q[{wires}];\n" + commented(["TRACE 1", *boths, *emitted(wires, 0)])
+
+
+def traced(lines, part, begins="", wires=1):
+    """A target of the greatest length, without gates, whose trace has these lines, and then so many parts behind a begin."""
+    return filled(f"{HEAD}qreg q[{wires}];\n{commented(lines)}{begins}", part, most=MOST_TARGET)
+
+
 CHECK, OPT, STAGES = ("check",), ("opt",), ("stages",)
 ROUTE = ("route", "--device", "DEVICE")
+VERIFY = ("verify", "--source", "SOURCE", "--target", "TARGET")
 KINDS = [
     Kind("parentheses", CHECK, 3, lambda: filled(ONE + "u1(", "(")),
     Kind("parentheses that close", CHECK, 3, lambda: nest("(", "pi", ")")),
@@ -172,4 +239,16 @@ KINDS = [
     Kind("a device with one edge many times", ROUTE, 0, lambda: ONE, lambda: "qubits = 2\nedges = [" + "[0, 1]," * 149_000 + "]"),
     Kind("a device with all edges", ROUTE, 0, lambda: ONE, lambda: device(256, [(a, b) for a in range(256) for b in range(256) if a != b])),
     Kind("a device of comments", ROUTE, 0, lambda: ONE, lambda: long_device("#\n")),
+    Kind("H and CNOTs in turn, a trace", VERIFY, 0, lambda: in_turn(2_000), target=lambda: in_turn_target(2_000)),
+    Kind("the same, its one step again and again", VERIFY, 0, lambda: in_turn(2_000), target=lambda: in_turn_target(2_000, True)),
+    Kind("a trace of joins far apart", VERIFY, 0, lambda: phases(MOST_OPERATIONS), target=lambda: far_joins(MOST_OPERATIONS)),
+    Kind("a trace of pairs far apart", VERIFY, 0, lambda: far_pairs(MOST_OPERATIONS), target=lambda: far_boths(MOST_OPERATIONS)),
+    Kind("a trace that never applies", VERIFY, 1, lambda: ONE, target=lambda: traced(["TRACE 1"], "//!rule 1 0\n")),
+    Kind("a trace of empty lines", VERIFY, 1, lambda: ONE, target=lambda: traced([], "//!\n")),
+    Kind("a trace of one line", VERIFY, 1, lambda: ONE, target=lambda: traced([], "9", begins="//!")),
+    Kind("a trace of one placement", VERIFY, 1, lambda: ONE, target=lambda: traced(["TRACE 1"], " 0", begins="//!place")),
+    Kind("a trace of gates that are told", VERIFY, 1, lambda: ONE, target=lambda: HEAD + commented(["TRACE 1", TOLD, "H 0", "H 0"])),
+    Kind("a trace of gates that are listed", VERIFY, 1, lambda: ONE, target=lambda: traced(["TRACE 1", TOLD], "//!H 0\n")),
+    Kind("a trace of steps that do nothing", VERIFY, 1, lambda: ONE, target=lambda: traced(["TRACE 1"], "//!sums 0\n")),
+    Kind("a trace of swaps", VERIFY, 1, lambda: PAIR, target=lambda: traced(["TRACE 1", "place 0 1"], "//!turn 0 1\n", wires=2)),
 ]

@@ -1,9 +1,17 @@
+import contextlib
+import io
 import json
 import os
 import runpy
 import subprocess
+import sys
+from unittest import mock
 
 from tool import TOP, ToolTest
+
+sys.path.insert(0, os.path.join(TOP, "tools", "lib"))
+import hostile
+import traces
 
 LINE = "devices/line_5.toml"
 SWAPPED = "cx q[0],q[1];\ncx q[2],q[1];\ncx q[1],q[2];\ncx q[2],q[1];\ncx q[0],q[1];\n"
@@ -30,6 +38,8 @@ class Bench(ToolTest):
         self.assertIn("wrong: opt, 1000 gates: ", out)
         self.assertIn("wrong: routing on grid_8x8, 2000 gates: placements\n", out)
         self.assertIn("wrong: routing on grid_4x5, 65536 gates: placements\n", out)
+        self.assertIn("wrong: route --trace, 65536 gates: the trace begins and ends with [] in place of", out)
+        self.assertIn("wrong: verify, 65536 gates: it says b''b'' in place of b'yes None\\n'\n", out)
         self.assertIn("wrong: 20000 CNOTs on devices/grid_8x8_directed.toml: placements\n", out)
         self.assertIn("wrong: examples/bell.qasm, opt: ", out)
         self.assertIn("wrong: bench --start 1 --gates 300 --device devices/line_5.toml: ", out)
@@ -41,6 +51,7 @@ class Bench(ToolTest):
         status, out, err = self.bench("/bin/false")
         self.assertEqual((status, err), (1, ""))
         self.assertIn("wrong: opt, 65536 gates: status [1]\n", out)
+        self.assertIn("wrong: verify, 20000 gates: status [1]\n", out)
 
     def test_no_program(self):
         path = self.file("words", "no program")
@@ -89,3 +100,69 @@ class Bench(ToolTest):
         row = self.parts["drawn_row"](path, 10, LINE)
         self.assertEqual(row.words[:2], ["bench", "--start"])
         self.assertIn("it isn't what `route` writes", row.check(self.parts["answer_of"]([path, *row.words], row.text)))
+
+    def test_wrong_traces(self):
+        plain = self.answer(SWAPPED, phase=3)
+        unlike = "it isn't what `route` writes without `--trace`"
+        ends = "the trace begins and ends with {} in place of ['//!TRACE 1', '//!end 3']"
+        for lines, told, wanted in (
+            ("//!TRACE 1\n//!emit 0\n//!end 3\n", {"phase": 3}, []),
+            ("//!TRACE 1\nt q[0];\n//!end 3\n", {"phase": 3}, ["a line behind the program that is none of a trace"]),
+            ("//!TRACE 1\n//!end 4\n", {"phase": 3}, [ends.format(["//!TRACE 1", "//!end 4"])]),
+            ("//!TRACE 1\n//!end 3\n", {"phase": 3, "swaps": 2}, [unlike]),
+            ("", {"phase": 3}, [ends.format([])]),
+        ):
+            self.assertEqual(self.parts["traced_faults"](self.answer(SWAPPED + lines, **told), plain), wanted)
+        found = self.parts["traced_faults"](self.answer("//!TRACE 1\n//!end 3\n", phase=3), plain)
+        self.assertIn(unlike, found)
+
+    def test_wrong_verdicts(self):
+        made = self.parts["Answer"]
+        no = made(1, b"", b'{"fault":"Trace","line":9,"status":1}\n')
+        for answer, altered, count in (
+            (made(0, b"yes 6\n", b""), no, 0),
+            (made(0, b"yes 5\n", b""), no, 1),
+            (made(0, b"yes 6\n", b"{}\n"), no, 1),
+            (made(0, b"yes 6\n", b""), made(0, b"yes 6\n", b""), 1),
+            (made(0, b"", b""), made(1, b"yes 6\n", b""), 2),
+        ):
+            self.assertEqual(len(self.parts["verdict_faults"](answer, 6, altered)), count)
+
+    def test_files_beside_the_input(self):
+        says = """[ "$1" = route ] && echo '{"phase":2}' >&2 && exec cat "$3"; cat "$3" "$5"\n"""
+        path = self.file("program", f"#!/bin/sh\n{says}")
+        os.chmod(path, 0o755)
+        row = self.parts["verified_row"](path, 10)
+        self.assertEqual((row.command, row.words), ("verify", ["verify", "--source", "SOURCE", "--target", "TARGET"]))
+        self.assertIn(b"qubits = 20\nedges = [[0, 1], [0, 2], ", row.files["TARGET"])
+        answer = self.parts["answer_of"]([path, *row.words], row.text, row.files)
+        self.assertEqual(answer.out, row.files["SOURCE"] + row.files["TARGET"])
+        self.assertIn("in place of b'yes 2\\n'", row.check(answer)[0])
+
+    def test_hostile_traces(self):
+        def checked(source, target):
+            sides = [traces.side(name, text) for name, text in (("source", source), ("target", target))]
+            return traces.checked(*sides, [line for _, line in traces.of_text(target)]).in_words()
+
+        with mock.patch.object(hostile, "MOST_TARGET", 4_000):
+            for source, target, wanted in (
+                (hostile.in_turn(3), hostile.in_turn_target(3), "yes 6"),
+                (hostile.in_turn(3), hostile.in_turn_target(3, True), "yes 6"),
+                (hostile.phases(10), hostile.far_joins(10), "yes 0"),
+                (hostile.far_pairs(20, 4), hostile.far_boths(20, 4), "yes 0"),
+            ):
+                self.assertEqual(checked(source, target), wanted)
+            for it in hostile.KINDS:
+                if it.words == hostile.VERIFY and it.status == 1:
+                    self.assertRegex(checked(it.text(), it.target()), "^no, line ", it.name)
+
+    def test_a_hostile_text_and_its_files(self):
+        path = self.file("program", '#!/bin/sh\ncat "$2" "$3"\n[ "$1" = check ]\n')
+        os.chmod(path, 0o755)
+        made = {"text": lambda: "source", "target": lambda: "target"}
+        ends = ("check", 0), ("verify", 0), ("verify", 1)
+        kinds = [hostile.Kind("a text", (word, "SOURCE", "TARGET"), status, **made) for word, status in ends]
+        with mock.patch.object(hostile, "KINDS", kinds), contextlib.redirect_stdout(io.StringIO()) as told:
+            wrong = self.parts["hostile_texts"](path)
+        self.assertEqual(wrong, ["verify of a text: status 1 in place of 0", "verify of a text: status 1 in place of 1"])
+        self.assertIn(" 12           12\n", told.getvalue())
