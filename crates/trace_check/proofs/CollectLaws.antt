@@ -17,17 +17,16 @@ use Rattle.std.specs.declared.alloc.Global.{Global}
 use Rattle.std.proofs.lemmas.Bool.Decides.{nat_tests}
 use Rattle.indexmap.specs.IndexMap.{insert_entry}
 use Rattle.path_parity.specs.NamedSums.{total}
-use Rattle.path_parity.specs.Sets.{IsPacked, set_of}
-use Rattle.path_parity.proofs.SetLaws.{set-same}
-use Rattle.trace_check.specs.Sums.{Adds, AreTotals, Collected, sums_of}
+use Rattle.trace_check.specs.Sums.{Adds, AreTotals, Collected, IsCompact, compact_set, sums_of}
+use Rattle.trace_check.proofs.SparseLaws.{compact-same}
 
 abbrev pub same_row : Vec ℕ Global → Vec ℕ Global → Bool
 same_row x y = pointwise nat_eq x.items y.items
 
 sums-insert : (m : ℕ) (es : List (Vec ℕ Global × ℕ)) (key : Vec ℕ Global) (v : ℕ) →
-    total m (sums_of (insert_entry same_row es key v)) + cond (nat_eq (set_of key.items) m) (unwrap_or (lookup (same_row key) es) 0) 0
-    ≡ total m (sums_of es) + cond (nat_eq (set_of key.items) m) v 0
-sums-insert m [] key v = go (nat_eq (set_of key.items) m)
+    total m (sums_of (insert_entry same_row es key v)) + cond (nat_eq (compact_set key.items) m) (unwrap_or (lookup (same_row key) es) 0) 0
+    ≡ total m (sums_of es) + cond (nat_eq (compact_set key.items) m) v 0
+sums-insert m [] key v = go (nat_eq (compact_set key.items) m)
   where
     go : (t : Bool) → cond t v 0 + 0 + cond t 0 0 ≡ 0 + cond t v 0
     go true = omega arith
@@ -41,18 +40,18 @@ sums-insert m (e ∷ es) key v = go (same_row key e.0) refl (sums-insert m es ke
     further a b c d x h = omega arith
 
     go : (b : Bool) → same_row key e.0 ≡ b →
-        total m (sums_of (insert_entry same_row es key v)) + cond (nat_eq (set_of key.items) m) (unwrap_or (lookup (same_row key) es) 0) 0
-        ≡ total m (sums_of es) + cond (nat_eq (set_of key.items) m) v 0 →
-        total m (sums_of (cond b ((e.0, v) ∷ es) (e ∷ insert_entry same_row es key v))) + cond (nat_eq (set_of key.items) m) (unwrap_or (cond b (Some e.1) (lookup (same_row key) es)) 0) 0
-        ≡ cond (nat_eq (set_of e.0.items) m) e.1 0 + total m (sums_of es) + cond (nat_eq (set_of key.items) m) v 0
+        total m (sums_of (insert_entry same_row es key v)) + cond (nat_eq (compact_set key.items) m) (unwrap_or (lookup (same_row key) es) 0) 0
+        ≡ total m (sums_of es) + cond (nat_eq (compact_set key.items) m) v 0 →
+        total m (sums_of (cond b ((e.0, v) ∷ es) (e ∷ insert_entry same_row es key v))) + cond (nat_eq (compact_set key.items) m) (unwrap_or (cond b (Some e.1) (lookup (same_row key) es)) 0) 0
+        ≡ cond (nat_eq (compact_set e.0.items) m) e.1 0 + total m (sums_of es) + cond (nat_eq (compact_set key.items) m) v 0
     go true f h =
-        let same : set_of key.items ≡ set_of e.0.items = ap set_of ((bytes_decides key.items e.0.items).0 f) in
-        (λ i. cond (nat_eq (set_of e.0.items) m) v 0 + total m (sums_of es) + cond (nat_eq (same i) m) e.1 0)
-        ∙ here (nat_eq (set_of e.0.items) m) (total m (sums_of es))
-        ∙ sym (λ i. cond (nat_eq (set_of e.0.items) m) e.1 0 + total m (sums_of es) + cond (nat_eq (same i) m) v 0)
-    go false f h = further _ _ _ _ (cond (nat_eq (set_of e.0.items) m) e.1 0) h
+        let same : compact_set key.items ≡ compact_set e.0.items = ap compact_set ((bytes_decides key.items e.0.items).0 f) in
+        (λ i. cond (nat_eq (compact_set e.0.items) m) v 0 + total m (sums_of es) + cond (nat_eq (same i) m) e.1 0)
+        ∙ here (nat_eq (compact_set e.0.items) m) (total m (sums_of es))
+        ∙ sym (λ i. cond (nat_eq (compact_set e.0.items) m) e.1 0 + total m (sums_of es) + cond (nat_eq (same i) m) v 0)
+    go false f h = further _ _ _ _ (cond (nat_eq (compact_set e.0.items) m) e.1 0) h
 
-pub AreTotals-insert : (es : List (Vec ℕ Global × ℕ)) (key : Vec ℕ Global) (v : ℕ) → AreTotals es → IsPacked key.items → v < 8 → AreTotals (insert_entry same_row es key v)
+pub AreTotals-insert : (es : List (Vec ℕ Global × ℕ)) (key : Vec ℕ Global) (v : ℕ) → AreTotals es → IsCompact key.items → v < 8 → AreTotals (insert_entry same_row es key v)
 AreTotals-insert [] key v h p lt = (p, lt, tt)
 AreTotals-insert (e ∷ es) key v h p lt = go (same_row key e.0) (AreTotals-insert es key v h.2 p lt)
   where
@@ -66,7 +65,7 @@ AreNone es = All (λ (e : Vec ℕ Global × ℕ). e.1 ≡ 0) es
 
 pub sums-none : (es : List (Vec ℕ Global × ℕ)) (m : ℕ) → AreNone es → total m (sums_of es) ≡ 0
 sums-none [] m h = refl
-sums-none (e ∷ es) m h = go (nat_eq (set_of e.0.items) m) (sums-none es m (λ k d lt. h (suc k) d (omega arith))) (h 0 e (omega arith))
+sums-none (e ∷ es) m h = go (nat_eq (compact_set e.0.items) m) (sums-none es m (λ k d lt. h (suc k) d (omega arith))) (h 0 e (omega arith))
   where
     go : (b : Bool) → total m (sums_of es) ≡ 0 → e.1 ≡ 0 → cond b e.1 0 + total m (sums_of es) ≡ 0
     go true f g = omega arith
@@ -78,23 +77,23 @@ equal m s e = grind (arith, nat_tests)
 pub own : (m : ℕ) → nat_eq m m ≡ true
 own m = grind (arith, nat_tests)
 
-apart : (e : Vec ℕ Global × ℕ) (es : List (Vec ℕ Global × ℕ)) → IsPacked e.0.items → AreTotals es → AllByRecursion (λ (y : Vec ℕ Global). same_row e.0 y ≡ false) (keys_of es) → total (set_of e.0.items) (sums_of es) ≡ 0
+apart : (e : Vec ℕ Global × ℕ) (es : List (Vec ℕ Global × ℕ)) → IsCompact e.0.items → AreTotals es → AllByRecursion (λ (y : Vec ℕ Global). same_row e.0 y ≡ false) (keys_of es) → total (compact_set e.0.items) (sums_of es) ≡ 0
 apart e [] p h d = refl
-apart e (x ∷ es) p h d = go (nat_eq (set_of x.0.items) (set_of e.0.items)) refl (apart e es p h.2 d.1)
+apart e (x ∷ es) p h d = go (nat_eq (compact_set x.0.items) (compact_set e.0.items)) refl (apart e es p h.2 d.1)
   where
-    same : nat_eq (set_of x.0.items) (set_of e.0.items) ≡ true → same_row e.0 x.0 ≡ true
-    same f = (bytes_decides e.0.items x.0.items).1 (sym (set-same x.0.items e.0.items h.0 p (equal (set_of x.0.items) (set_of e.0.items) f)))
+    same : nat_eq (compact_set x.0.items) (compact_set e.0.items) ≡ true → same_row e.0 x.0 ≡ true
+    same f = (bytes_decides e.0.items x.0.items).1 (sym (compact-same x.0.items e.0.items h.0 p (equal (compact_set x.0.items) (compact_set e.0.items) f)))
 
-    go : (b : Bool) → nat_eq (set_of x.0.items) (set_of e.0.items) ≡ b → total (set_of e.0.items) (sums_of es) ≡ 0 → cond b x.1 0 + total (set_of e.0.items) (sums_of es) ≡ 0
+    go : (b : Bool) → nat_eq (compact_set x.0.items) (compact_set e.0.items) ≡ b → total (compact_set e.0.items) (sums_of es) ≡ 0 → cond b x.1 0 + total (compact_set e.0.items) (sums_of es) ≡ 0
     go true f r = absurd (true≢false (sym (same f) ∙ d.0))
-    go false f r = zero-add (total (set_of e.0.items) (sums_of es)) ∙ r
+    go false f r = zero-add (total (compact_set e.0.items) (sums_of es)) ∙ r
 
 pub none-sums : (es : List (Vec ℕ Global × ℕ)) → AreTotals es → IsDistinct same_row (keys_of es) → ((m : ℕ) → total m (sums_of es) % 8 ≡ 0) → AreNone es
 unfolding IsDistinct
 none-sums [] h d f = λ k d lt. absurd (omega arith)
 none-sums (e ∷ es) h d f =
-    let none : e.1 ≡ 0 = first (total (set_of e.0.items) (sums_of es)) (apart e es h.0 h.2 d.0) (sym (ap (λ b. (cond b e.1 0 + total (set_of e.0.items) (sums_of es)) % 8) (own (set_of e.0.items))) ∙ f (set_of e.0.items)) h.1 in
-    both none (none-sums es h.2 d.1 (λ m. later (nat_eq (set_of e.0.items) m) (total m (sums_of es)) none (f m)))
+    let none : e.1 ≡ 0 = first (total (compact_set e.0.items) (sums_of es)) (apart e es h.0 h.2 d.0) (sym (ap (λ b. (cond b e.1 0 + total (compact_set e.0.items) (sums_of es)) % 8) (own (compact_set e.0.items))) ∙ f (compact_set e.0.items)) h.1 in
+    both none (none-sums es h.2 d.1 (λ m. later (nat_eq (compact_set e.0.items) m) (total m (sums_of es)) none (f m)))
   where
     both : e.1 ≡ 0 → AreNone es → (k : ℕ) (d : Vec ℕ Global × ℕ) → k < length (e ∷ es) → (get_or (e ∷ es) k d).1 ≡ 0
     both g r zero d lt = g
@@ -119,9 +118,9 @@ Adds-set sign k set old new h e = record { sets = λ m. go (nat_eq set m) (total
 
 -- the program's map
 pub Adds-insert : (sign k c : ℕ) (es : List (Vec ℕ Global × ℕ)) (key : Vec ℕ Global) (had v : ℕ) → had ≡ unwrap_or (lookup (same_row key) es) 0 → v ≡ (had % 8 + (k * sign) % 8) % 8 →
-    Adds sign ((set_of key.items, k) ∷ []) 0 (record { sets = sums_of es; constant = c }) (record { sets = sums_of (insert_entry same_row es key v); constant = c })
-Adds-insert sign k c es key had v e f = Adds-set sign k (set_of key.items) (record { sets = sums_of es; constant = c }) (record { sets = sums_of (insert_entry same_row es key v); constant = c })
-    (λ m. go (nat_eq (set_of key.items) m) (total m (sums_of (insert_entry same_row es key v))) (total m (sums_of es)) (unwrap_or (lookup (same_row key) es) 0) e (sums-insert m es key v)) refl
+    Adds sign ((compact_set key.items, k) ∷ []) 0 (record { sets = sums_of es; constant = c }) (record { sets = sums_of (insert_entry same_row es key v); constant = c })
+Adds-insert sign k c es key had v e f = Adds-set sign k (compact_set key.items) (record { sets = sums_of es; constant = c }) (record { sets = sums_of (insert_entry same_row es key v); constant = c })
+    (λ m. go (nat_eq (compact_set key.items) m) (total m (sums_of (insert_entry same_row es key v))) (total m (sums_of es)) (unwrap_or (lookup (same_row key) es) 0) e (sums-insert m es key v)) refl
   where
     go : (b : Bool) (x y h : ℕ) → had ≡ h → x + cond b h 0 ≡ y + cond b v 0 → x % 8 ≡ (y + cond b ((k * sign) % 8) 0) % 8
     go true x y h g r = omega (arith, f)
@@ -132,7 +131,7 @@ abbrev pub is_row : List ℕ → Vec ℕ Global → Bool
 is_row row key = pointwise nat_eq row key.items
 
 sums-known : (m : ℕ) (es : List (Vec ℕ Global × ℕ)) (row : List ℕ) (had v : ℕ) → lookup (is_row row) es ≡ Some had →
-    total m (sums_of (set_value (is_row row) es v)) + cond (nat_eq (set_of row) m) had 0 ≡ total m (sums_of es) + cond (nat_eq (set_of row) m) v 0
+    total m (sums_of (set_value (is_row row) es v)) + cond (nat_eq (compact_set row) m) had 0 ≡ total m (sums_of es) + cond (nat_eq (compact_set row) m) v 0
 sums-known m [] row had v h = absurd (cc)
 sums-known m (e ∷ es) row had v h = go (is_row row e.0) refl h (sums-known m es row had v)
   where
@@ -143,16 +142,16 @@ sums-known m (e ∷ es) row had v h = go (is_row row e.0) refl h (sums-known m e
     further x a b c d h = omega arith
 
     go : (b : Bool) → is_row row e.0 ≡ b → cond b (Some e.1) (lookup (is_row row) es) ≡ Some had →
-        (lookup (is_row row) es ≡ Some had → total m (sums_of (set_value (is_row row) es v)) + cond (nat_eq (set_of row) m) had 0 ≡ total m (sums_of es) + cond (nat_eq (set_of row) m) v 0) →
-        total m (sums_of (cond b ((e.0, v) ∷ es) (e ∷ set_value (is_row row) es v))) + cond (nat_eq (set_of row) m) had 0
-        ≡ cond (nat_eq (set_of e.0.items) m) e.1 0 + total m (sums_of es) + cond (nat_eq (set_of row) m) v 0
+        (lookup (is_row row) es ≡ Some had → total m (sums_of (set_value (is_row row) es v)) + cond (nat_eq (compact_set row) m) had 0 ≡ total m (sums_of es) + cond (nat_eq (compact_set row) m) v 0) →
+        total m (sums_of (cond b ((e.0, v) ∷ es) (e ∷ set_value (is_row row) es v))) + cond (nat_eq (compact_set row) m) had 0
+        ≡ cond (nat_eq (compact_set e.0.items) m) e.1 0 + total m (sums_of es) + cond (nat_eq (compact_set row) m) v 0
     go true f g r =
-        let same : set_of row ≡ set_of e.0.items = ap set_of ((bytes_decides row e.0.items).0 f) in
+        let same : compact_set row ≡ compact_set e.0.items = ap compact_set ((bytes_decides row e.0.items).0 f) in
         let value : had ≡ e.1 = cc in
-        (λ i. cond (nat_eq (set_of e.0.items) m) v 0 + total m (sums_of es) + cond (nat_eq (same i) m) had 0)
-        ∙ here (nat_eq (set_of e.0.items) m) (total m (sums_of es))
-        ∙ (λ i. cond (nat_eq (set_of e.0.items) m) (value i) 0 + total m (sums_of es) + cond (nat_eq (sym same i) m) v 0)
-    go false f g r = further (cond (nat_eq (set_of e.0.items) m) e.1 0) (total m (sums_of (set_value (is_row row) es v))) (cond (nat_eq (set_of row) m) had 0) (total m (sums_of es)) (cond (nat_eq (set_of row) m) v 0) (r g)
+        (λ i. cond (nat_eq (compact_set e.0.items) m) v 0 + total m (sums_of es) + cond (nat_eq (same i) m) had 0)
+        ∙ here (nat_eq (compact_set e.0.items) m) (total m (sums_of es))
+        ∙ (λ i. cond (nat_eq (compact_set e.0.items) m) (value i) 0 + total m (sums_of es) + cond (nat_eq (sym same i) m) v 0)
+    go false f g r = further (cond (nat_eq (compact_set e.0.items) m) e.1 0) (total m (sums_of (set_value (is_row row) es v))) (cond (nat_eq (compact_set row) m) had 0) (total m (sums_of es)) (cond (nat_eq (compact_set row) m) v 0) (r g)
 
 pub AreTotals-known : (es : List (Vec ℕ Global × ℕ)) (row : List ℕ) (v : ℕ) → AreTotals es → v < 8 → AreTotals (set_value (is_row row) es v)
 AreTotals-known [] row v h lt = tt
@@ -163,9 +162,9 @@ AreTotals-known (e ∷ es) row v h lt = go (is_row row e.0) (AreTotals-known es 
     go false r = (h.0, h.1, r)
 
 pub Adds-known : (sign k c : ℕ) (es : List (Vec ℕ Global × ℕ)) (row : List ℕ) (had v : ℕ) → lookup (is_row row) es ≡ Some had → v ≡ (had % 8 + (k * sign) % 8) % 8 →
-    Adds sign ((set_of row, k) ∷ []) 0 (record { sets = sums_of es; constant = c }) (record { sets = sums_of (set_value (is_row row) es v); constant = c })
-Adds-known sign k c es row had v e f = Adds-set sign k (set_of row) (record { sets = sums_of es; constant = c }) (record { sets = sums_of (set_value (is_row row) es v); constant = c })
-    (λ m. go (nat_eq (set_of row) m) (total m (sums_of (set_value (is_row row) es v))) (total m (sums_of es)) (sums-known m es row had v e)) refl
+    Adds sign ((compact_set row, k) ∷ []) 0 (record { sets = sums_of es; constant = c }) (record { sets = sums_of (set_value (is_row row) es v); constant = c })
+Adds-known sign k c es row had v e f = Adds-set sign k (compact_set row) (record { sets = sums_of es; constant = c }) (record { sets = sums_of (set_value (is_row row) es v); constant = c })
+    (λ m. go (nat_eq (compact_set row) m) (total m (sums_of (set_value (is_row row) es v))) (total m (sums_of es)) (sums-known m es row had v e)) refl
   where
     go : (b : Bool) (x y : ℕ) → x + cond b had 0 ≡ y + cond b v 0 → x % 8 ≡ (y + cond b ((k * sign) % 8) 0) % 8
     go true x y r = omega (arith, f)

@@ -28,11 +28,11 @@ use Rattle.path_parity.specs.declared.label.Label.{Label}
 use Rattle.path_parity.specs.NamedSums.{Seen, seen_more, set_before}
 use Rattle.path_parity.specs.LabelWalks.{labels_of_list}
 use Rattle.path_parity.specs.PathSum.{label, with_label, add_labels, flipped, fresh}
-use Rattle.path_parity.specs.Sets.{IsLabel, IsPacked, label_of, set_of}
-use Rattle.path_parity.proofs.SetLaws.{set-same}
+use Rattle.path_parity.specs.Sets.{IsLabel, label_of}
 use Rattle.path_parity.proofs.WalkLaws.{labels-set}
 use Rattle.trace_check.proofs.CollectLaws.{equal, own, same_row}
-use Rattle.trace_check.specs.Sums.{AreRows, IsWalk, NamedWalk, Passes, befores}
+use Rattle.trace_check.proofs.SparseLaws.{compact-same}
+use Rattle.trace_check.specs.Sums.{AreRows, IsCompact, IsWalk, NamedWalk, Passes, befores, compact_set}
 
 -- ---- numbers
 differ : (m s : ℕ) → (m ≡ s → ⊥) → nat_eq m s ≡ false
@@ -46,25 +46,25 @@ turned m s false e = differ s m (λ f. clash m s (sym f) e)
     clash m s f e = grind (arith, nat_tests)
 
 -- ---- the map from variables to rows
-pub befores-push : (es : List (ℕ × Vec ℕ Global)) (v : ℕ) (row : Vec ℕ Global) → befores (es ++ (v, row) ∷ []) ≡ befores es ++ (v, set_of row.items) ∷ []
+pub befores-push : (es : List (ℕ × Vec ℕ Global)) (v : ℕ) (row : Vec ℕ Global) → befores (es ++ (v, row) ∷ []) ≡ befores es ++ (v, compact_set row.items) ∷ []
 befores-push [] v row = refl
-befores-push (e ∷ es) v row = ap (λ hs. (e.0, set_of e.1.items) ∷ hs) (befores-push es v row)
+befores-push (e ∷ es) v row = ap (λ hs. (e.0, compact_set e.1.items) ∷ hs) (befores-push es v row)
 
-pub AreRows-push : (es : List (ℕ × Vec ℕ Global)) (v : ℕ) (row : Vec ℕ Global) → AreRows es → IsPacked row.items → AreRows (es ++ (v, row) ∷ [])
+pub AreRows-push : (es : List (ℕ × Vec ℕ Global)) (v : ℕ) (row : Vec ℕ Global) → AreRows es → IsCompact row.items → AreRows (es ++ (v, row) ∷ [])
 AreRows-push [] v row h p = (p, tt)
 AreRows-push (e ∷ es) v row h p = (h.0, AreRows-push es v row h.1 p)
 
 abbrev set_in : Vec ℕ Global → ℕ
-set_in row = set_of row.items
+set_in row = compact_set row.items
 
 pub before-lookup : (es : List (ℕ × Vec ℕ Global)) (v : ℕ) → set_before v (befores es) ≡ option_map set_in (lookup (nat_eq v) es)
 before-lookup [] v = refl
 before-lookup (e ∷ es) v = go (nat_eq v e.0) refl (before-lookup es v)
   where
     go : (b : Bool) → nat_eq v e.0 ≡ b → set_before v (befores es) ≡ option_map set_in (lookup (nat_eq v) es) →
-        cond (nat_eq e.0 v) (Some (set_of e.1.items)) (set_before v (befores es)) ≡ option_map set_in (cond b (Some e.1) (lookup (nat_eq v) es))
-    go true f h = λ i. cond (turned v e.0 true f i) (Some (set_of e.1.items)) (set_before v (befores es))
-    go false f h = (λ i. cond (turned v e.0 false f i) (Some (set_of e.1.items)) (set_before v (befores es))) ∙ h
+        cond (nat_eq e.0 v) (Some (compact_set e.1.items)) (set_before v (befores es)) ≡ option_map set_in (cond b (Some e.1) (lookup (nat_eq v) es))
+    go true f h = λ i. cond (turned v e.0 true f i) (Some (compact_set e.1.items)) (set_before v (befores es))
+    go false f h = (λ i. cond (turned v e.0 false f i) (Some (compact_set e.1.items)) (set_before v (befores es))) ∙ h
 
 pub absent : (es : List (ℕ × Vec ℕ Global)) (v : ℕ) → set_before v (befores es) ≡ None → lookup (nat_eq v) es ≡ None
 absent es v h = go (lookup (nat_eq v) es) (sym (before-lookup es v) ∙ h)
@@ -115,7 +115,7 @@ seen-set seen q h = fun_ext (λ p. set-at seen q (suc (get_or seen q 0)) p h ∙
     go p false e = refl
 
 pub IsWalk-had : (n : ℕ) (labels more : List Label) (seen : List ℕ) (es : List (ℕ × Vec ℕ Global)) (q : ℕ) (row : Vec ℕ Global) →
-    IsWalk n labels seen es → q < n → IsPacked row.items → length more ≡ n → All IsLabel more →
+    IsWalk n labels seen es → q < n → IsCompact row.items → length more ≡ n → All IsLabel more →
     IsWalk n more (set seen q (suc (get_or seen q 0))) (es ++ (suc (get_or seen q 0) * n + q, row) ∷ [])
 IsWalk-had n labels more seen es q row h lt packed long each = record {
   labelled = long;
@@ -133,18 +133,18 @@ IsWalk-had n labels more seen es q row h lt packed long each = record {
     clash m s f e = grind (arith, nat_tests)
 
     go : (p k : ℕ) → p < n → (b : Bool) → nat_eq p q ≡ b → cond b (suc (get_or seen q 0)) (get_or seen p 0) ≤ k →
-        set_before (suc k * n + p) (befores es ++ (suc (get_or seen q 0) * n + q, set_of row.items) ∷ []) ≡ None
-    go p k mt true e le = still_absent (befores es) (suc k * n + p) (suc (get_or seen q 0) * n + q) (set_of row.items)
+        set_before (suc k * n + p) (befores es ++ (suc (get_or seen q 0) * n + q, compact_set row.items) ∷ []) ≡ None
+    go p k mt true e le = still_absent (befores es) (suc k * n + p) (suc (get_or seen q 0) * n + q) (compact_set row.items)
         (λ f. further (get_or seen q 0) k (other_variable n (suc (get_or seen q 0)) (suc k) q p lt mt f).1 le)
         (h.to_come p k mt (subst (λ r. get_or seen r 0 ≤ k) (sym (equal p q e)) (omega arith)))
-    go p k mt false e le = still_absent (befores es) (suc k * n + p) (suc (get_or seen q 0) * n + q) (set_of row.items)
+    go p k mt false e le = still_absent (befores es) (suc k * n + p) (suc (get_or seen q 0) * n + q) (compact_set row.items)
         (λ f. clash p q (sym (other_variable n (suc (get_or seen q 0)) (suc k) q p lt mt f).0) e)
         (h.to_come p k mt le)
 
 -- ---- two maps
 IsSome-row : Option (Vec ℕ Global) → Type 0
 IsSome-row None = Unit {0}
-IsSome-row (Some row) = IsPacked row.items
+IsSome-row (Some row) = IsCompact row.items
 
 looked : (es : List (ℕ × Vec ℕ Global)) (v : ℕ) → AreRows es → IsSome-row (lookup (nat_eq v) es)
 unfolding IsSome-row
@@ -159,14 +159,14 @@ agree : (o p : Option (Vec ℕ Global)) → option_eq same_row o p ≡ true → 
 agree None None e = refl
 agree None (Some y) e = absurd (cc)
 agree (Some x) None e = absurd (cc)
-agree (Some x) (Some y) e = ap (λ (zs : List ℕ). Some (set_of zs)) ((bytes_decides x.items y.items).0 e)
+agree (Some x) (Some y) e = ap (λ (zs : List ℕ). Some (compact_set zs)) ((bytes_decides x.items y.items).0 e)
 
 agreed : (o p : Option (Vec ℕ Global)) → IsSome-row o → IsSome-row p → option_map set_in o ≡ option_map set_in p → option_eq same_row o p ≡ true
 unfolding IsSome-row
 agreed None None f g e = refl
 agreed None (Some y) f g e = absurd (cc)
 agreed (Some x) None f g e = absurd (cc)
-agreed (Some x) (Some y) f g e = let same : set_of x.items ≡ set_of y.items = cc in (bytes_decides x.items y.items).1 (set-same x.items y.items f g same)
+agreed (Some x) (Some y) f g e = let same : compact_set x.items ≡ compact_set y.items = cc in (bytes_decides x.items y.items).1 (compact-same x.items y.items f g same)
 
 pub same-before : {S : Type 0} (m n : IndexMap ℕ (Vec ℕ Global) S) → hash_map_eq nat_eq same_row m n ≡ true → (v : ℕ) → set_before v (befores m.entries) ≡ set_before v (befores n.entries)
 same-before m n h v = before-lookup m.entries v ∙ agree (lookup (nat_eq v) m.entries) (lookup (nat_eq v) n.entries) (get_from_hash_map_eq nat_eq same_row nat_eq_equiv m n h v) ∙ sym (before-lookup n.entries v)
@@ -202,7 +202,7 @@ passes-cx n labels seen es c t l lt e = record {
 }
 
 pub passes-h : (n : ℕ) (labels : List Label) (seen : List ℕ) (es : List (ℕ × Vec ℕ Global)) (q : ℕ) (l : Label) (row : Vec ℕ Global) → q < length labels → q < length seen →
-    label_of l ≡ fresh (suc (get_or seen q 0) * n + q) → set_of row.items ≡ (labels_of_list (map label_of labels) q).variables →
+    label_of l ≡ fresh (suc (get_or seen q 0) * n + q) → compact_set row.items ≡ (labels_of_list (map label_of labels) q).variables →
     Passes (H q) (viewed n labels seen es) (viewed n (set labels q l) (set seen q (suc (get_or seen q 0))) (es ++ (suc (get_or seen q 0) * n + q, row) ∷ []))
 passes-h n labels seen es q l row lt mt e f = record {
   wires = refl;

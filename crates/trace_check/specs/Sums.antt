@@ -1,19 +1,26 @@
 -- Working form. What the program knows of the path sum of the gates that it has walked past.
 --     Collected           what stands on sets, each with its set, and what stands on none
---     sums_of es          the entries of the program's map from rows to totals, by sets
+--     words_from p words  the words that aren't 0, each behind its place, the first word's place being p
+--     sparse row          a row as those words alone;  sparse_set flat: the set that such words make
+--     is_sparse row       half of a row's words, or more, are 0
+--     mark                what stands before a sparse row: it is the place of no word
+--     compact row         a row, or where it is sparse its words that aren't 0;  compact_set flat: the set of such a row
+--     IsCompact flat      it is that of a set
+--     sums_of es          the entries of the program's map from compact rows to totals, by sets
 --     AreTotals es        the rows are those of sets, and the totals are below 8
 --     Adds sign es c old new  `sign` times what es and the constant c say was added, modulo 8
 --     AddsKnown row k old new     a row that is there has k more, modulo 8
 --     NamedWalk           a walk: the wires, the label of each and how many H stand before on it, and each H so far, as its variable
 --                         and the set before it
 --     labels_in w, seen_in w  the labels of all wires, and how many H stand before on them
---     befores es          the entries of the program's map from variables to rows, by sets;  AreRows es: the rows are those of sets
+--     befores es          the entries of the program's map from variables to compact rows, by sets
+--     AreRows es          the rows are those of sets
 --     IsWalk n labels seen es     the labels and the counts are those of n wires, the rows are those of sets, and no variable of an H
 --                         to come is among the entries
 --     Passes g old new    a walk after gate g
 --     IsWalked n gs sign old new w    the walk past all gates of a circuit, and what they added
 --     IsSameWalk one two  the same H with the same sets, and the same labels
-use Rattle.std.specs.Prelude.{◌≡◌, ℕ, suc, ◌+◌, ◌*◌, ◌%◌, ◌<◌, ◌≤◌, List, [], ◌∷◌, ◌++◌, Vec, All, None, Some, length, get_or, nat_eq}
+use Rattle.std.specs.Prelude.{◌≡◌, ℕ, suc, ◌+◌, ◌-◌, ◌*◌, ◌/◌, ◌%◌, ◌^◌, ◌<◌, ◌≤◌, Bool, true, false, cond, not, List, [], ◌∷◌, ◌++◌, Vec, All, None, Some, count_by, length, get_or, nat_eq, nat_lt}
 use Rattle.std.specs.Cmp.Lexicographic.{pointwise}
 use Rattle.std.specs.Map.{lookup, set_value}
 use Rattle.std.specs.declared.alloc.Global.{Global}
@@ -28,13 +35,48 @@ pub record Collected : Type 0 where
   pub sets : List (ℕ × ℕ)
   pub constant : ℕ
 
+abbrev pub words_from : ℕ → List ℕ → List ℕ
+words_from place [] = []
+words_from place (word ∷ words) = cond (nat_eq word 0) [] (place ∷ word ∷ []) ++ words_from (place + 1) words
+
+abbrev pub sparse : List ℕ → List ℕ
+sparse [] = []
+sparse (from ∷ words) = words_from from words
+
+abbrev pub sparse_set : List ℕ → ℕ
+sparse_set [] = 0
+sparse_set (place ∷ []) = 0
+sparse_set (place ∷ (word ∷ flat)) = word * 2 ^ (64 * place) + sparse_set flat
+
+abbrev pub is_sparse : List ℕ → Bool
+is_sparse row = nat_lt (count_by (λ word. not (nat_eq word 0)) row) (length row / 2)
+
+abbrev pub mark : ℕ
+mark = 2 ^ 64 - 1
+
+abbrev pub compact : List ℕ → List ℕ
+compact row = cond (is_sparse row) (mark ∷ sparse row) row
+
+abbrev pub marked_set : Bool → ℕ → List ℕ → ℕ
+marked_set true from words = sparse_set words
+marked_set false from words = set_of (from ∷ words)
+
+abbrev pub compact_set : List ℕ → ℕ
+compact_set [] = 0
+compact_set (from ∷ words) = marked_set (nat_eq from mark) from words
+
+pub record IsCompact (flat : List ℕ) : Type 0 where
+  pub row : List ℕ
+  pub packed : IsPacked row
+  pub words : flat ≡ compact row
+
 abbrev pub sums_of : List (Vec ℕ Global × ℕ) → List (ℕ × ℕ)
 sums_of [] = []
-sums_of (e ∷ es) = (set_of e.0.items, e.1) ∷ sums_of es
+sums_of (e ∷ es) = (compact_set e.0.items, e.1) ∷ sums_of es
 
 abbrev pub AreTotals : List (Vec ℕ Global × ℕ) → Type 0
 AreTotals [] = Unit {0}
-AreTotals (e ∷ es) = IsPacked e.0.items × (e.1 < 8) × AreTotals es
+AreTotals (e ∷ es) = IsCompact e.0.items × (e.1 < 8) × AreTotals es
 
 pub record Adds (sign : ℕ) (es : List (ℕ × ℕ)) (c : ℕ) (old new : Collected) : Type 0 where
   pub sets : (m : ℕ) → total m new.sets % 8 ≡ (total m old.sets + sign * total m es) % 8
@@ -59,11 +101,11 @@ seen_in w = λ q. get_or w.seen q 0
 
 abbrev pub befores : List (ℕ × Vec ℕ Global) → List (ℕ × ℕ)
 befores [] = []
-befores (e ∷ es) = (e.0, set_of e.1.items) ∷ befores es
+befores (e ∷ es) = (e.0, compact_set e.1.items) ∷ befores es
 
 abbrev pub AreRows : List (ℕ × Vec ℕ Global) → Type 0
 AreRows [] = Unit {0}
-AreRows (e ∷ es) = IsPacked e.1.items × AreRows es
+AreRows (e ∷ es) = IsCompact e.1.items × AreRows es
 
 pub record IsWalk (n : ℕ) (labels : List Label) (seen : List ℕ) (es : List (ℕ × Vec ℕ Global)) : Type 0 where
   pub labelled : length labels ≡ n

@@ -12,7 +12,7 @@ ghost use Rattle.path_parity.specs.LabelWalks.{labels_of_list};
 ghost use Rattle.path_parity.specs.PathSum.{own_labels};
 ghost use Rattle.path_parity.specs.Sets.{IsLabel, IsPacked, label_of, set_of};
 ghost use Rattle.rewrite_pass.specs.Traces.{constants_turn};
-ghost use Rattle.trace_check.specs.Sums.{Adds, AddsKnown, AreRows, IsSameWalk, IsWalked, Passes, befores, labels_in, seen_in};
+ghost use Rattle.trace_check.specs.Sums.{Adds, AddsKnown, AreRows, IsSameWalk, IsWalked, Passes, befores, compact, is_sparse, labels_in, mark, seen_in, sparse};
 
 use circuit_list::{Circuit, Gate};
 use indexmap::IndexMap;
@@ -21,7 +21,10 @@ use std::alloc::{AllocError, Global};
 use std::marker::Model;
 use std::mem::swap;
 
-/// What stands on each set of variables, the set by its row of bits, and on none, both modulo 8.
+/// What stands before a sparse row: no row of a set begins with it.
+const MARK: u64 = u64::MAX;
+
+/// What stands on each set of variables, the set by its compact row, and on none, both modulo 8.
 #[derive(Drop)]
 struct Totals {
     sets: IndexMap<Vec<u64>, u8>,
@@ -56,11 +59,11 @@ impl Totals {
         ensures { OnOk result (Adds sign ((set_of set.now, k) ∷ []) 0 self.old self.new) }
     {
         let k = signed(k, sign);
-        if add_known(&mut self.sets, set, k) {
+        let row = compact_row(alloc, set)?;
+        if add_known(&mut self.sets, &row, k) {
             return Ok(());
         }
-        let key = Vec::from_slice(alloc, set)?;
-        self.sets.insert(key, k)?;
+        self.sets.insert(row, k)?;
         Ok(())
     }
 
@@ -117,7 +120,8 @@ impl Totals {
     }
 }
 
-/// A walk along a circuit: the label of each wire and how many H stand before on it, and the set before each H, by its variable.
+/// A walk along a circuit: the label of each wire and how many H stand before on it, and the compact row of the set before each H,
+/// by its variable.
 #[derive(Drop)]
 struct Walk {
     wires: u32,
@@ -181,7 +185,7 @@ impl Walk {
         let (seen, variable) = next_variable(self.seen[q as usize], self.wires, q)?;
         let label = &self.labels[q as usize];
         let bit = label.bit;
-        let set = Vec::from_slice(alloc, &label.set)?;
+        let set = compact_row(alloc, &label.set)?;
         self.spare.write_fresh(variable)?;
         totals.add_turn(alloc, &self.spare.set, bit, sign)?;
         self.sets.insert(variable, set)?;
@@ -305,7 +309,42 @@ fn same_labels(left: &[Label], right: &[Label]) -> bool
     true
 }
 
-/// Adds to what stands on a set, where its row is there, and tells whether it is.
+/// Whether half of a row's words, or more, are 0.
+fn is_sparse(row: &[u64]) -> bool
+    ensures { result ≡ is_sparse row.now }
+{
+    row.iter().filter(|word| **word != 0).count() < row.len() / 2
+}
+
+/// A mark, and then a set's row as its words that aren't 0, each behind its place.
+fn sparse_row(alloc: Global, row: &[u64]) -> Result<Vec<u64>, AllocError>
+    requires { IsPacked row.now }
+    ensures { IfOk result (λ v. v.items ≡ mark ∷ sparse row.now) }
+{
+    let mut kept = Vec::new(alloc);
+    kept.push(MARK)?;
+    'words: for index in 1..row.len() {
+        if row[index] != 0 {
+            kept.push(row[0] + (index as u64 - 1))?;
+            kept.push(row[index])?;
+        }
+    }
+    kept.shrink_to_fit();
+    Ok(kept)
+}
+
+/// The shorter of a set's row and its words that aren't 0: where many H stand on one wire, rows are long and have few of them.
+fn compact_row(alloc: Global, row: &[u64]) -> Result<Vec<u64>, AllocError>
+    requires { IsPacked row.now }
+    ensures { IfOk result (λ v. v.items ≡ compact row.now) }
+{
+    if is_sparse(row) {
+        return sparse_row(alloc, row);
+    }
+    Vec::from_slice(alloc, row)
+}
+
+/// Adds to what stands on a set, where its compact row is there, and tells whether it is.
 fn add_known(sets: &mut IndexMap<Vec<u64>, u8>, row: &[u64], k: u8) -> bool
     requires { k < 8 }
     ensures known { IsTrue result → AddsKnown row.now k sets.old.entries sets.new.entries }

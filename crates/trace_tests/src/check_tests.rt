@@ -17,6 +17,13 @@ const T: Op = Op::U {
     q: 0,
 };
 
+const SECOND_T: Op = Op::U {
+    a: 0,
+    b: 0,
+    c: 1,
+    q: 1,
+};
+
 const S: Op = Op::U {
     a: 0,
     b: 0,
@@ -291,6 +298,57 @@ fn rows_that_stop(rt: HostRuntime) -> Result<(), Fail> {
             said(alloc, (2, source), (2, &[]), trace)?,
             (false, line),
             "at {trace}"
+        );
+    }
+    Ok(())
+}
+
+/// 300 times an H on the second wire, a CNOT onto it and a T on it, and a T on the first wire in front of all or behind.
+fn layers(alloc: Global, in_front: bool) -> Result<Vec<Op>, AllocError> {
+    let mut list = Vec::new(alloc);
+    if in_front {
+        list.push(T)?;
+    }
+    'layers: for _ in 0..300u32 {
+        list.push(SECOND_H)?;
+        list.push(CX)?;
+        list.push(SECOND_T)?;
+    }
+    if !in_front {
+        list.push(T)?;
+    }
+    Ok(list)
+}
+
+/// A trace that says of the layers on 256 wires that their T in front is a gate behind.
+fn layers_trace(alloc: Global, last: &str) -> Result<String, AllocError> {
+    let mut text = String::from_str(alloc, "TRACE 1\nsums 901\n")?;
+    'layers: for _ in 0..300u32 {
+        text.push_str("H 1\nC 0 1\nP 1 1\n")?;
+    }
+    text.push_str(last)?;
+    text.push_str("\nplace")?;
+    'wires: for wire in 0..256u32 {
+        write!(text, " {wire}")?;
+    }
+    'gates: for _ in 0..901u32 {
+        text.push_str("\nemit 0")?;
+    }
+    text.push_str("\nend 0")?;
+    Ok(text)
+}
+
+#[test]
+fn rows_with_many_hadamards(rt: HostRuntime) -> Result<(), Fail> {
+    let alloc = rt.alloc();
+    let source = layers(alloc, true)?;
+    let target = layers(alloc, false)?;
+    for (last, result) in [("P 1 0", (true, 0)), ("P 2 0", (false, 2))] {
+        let trace = layers_trace(alloc, last)?;
+        assert_eq!(rt;
+            said(alloc, (256, &source), (256, &target), trace.as_str())?,
+            result,
+            "at {last}"
         );
     }
     Ok(())

@@ -10,9 +10,17 @@ use Rattle.path_parity.specs.LabelWalks.{labels_of_list}
 use Rattle.path_parity.specs.NamedSums.{set_before}
 use Rattle.path_parity.specs.PathSum.{PathLabel, fresh}
 use Rattle.path_parity.specs.Sets.{IsLabel, IsPacked, label_of, set_of}
-use Rattle.trace_check.specs.Sums.{IsWalk, NamedWalk, Passes, befores}
+use Rattle.trace_check.specs.Sums.{IsCompact, IsWalk, NamedWalk, Passes, befores, compact_set}
 use Rattle.trace_check.proofs.NameLaws.{IsWalk-had, absent, count-here, label-here, passes-h, viewed}
+use Rattle.trace_check.proofs.SparseLaws.{compact_set-compact}
 use Rattle.trace_check.proofs.sums.Walk.pass_hadamard.Goals as goal
+
+pub compact_row-requires : goal.compact_row-requires
+compact_row-requires c =
+    let wires : c.self.inside.wires ≡ c.args.self.now.wires = ap (λ (z : NamedWalk). z.wires) c.self.view_is in
+    let at : c.args.q < length c.self.inside.labels.items = omega (arith, c.self.invariant.labelled, c.requires) in
+    let old_label : IsLabel c.index-label.result.now = subst IsLabel (sym c.index-label.ensures) (c.self.invariant.packed c.args.q c.index-label.result.now at) in
+    subst IsPacked (sym c.deref.ensures.value) old_label
 
 pub invariant_of-self-2 : goal.invariant_of-self-2
 invariant_of-self-2 c =
@@ -31,11 +39,11 @@ invariant_of-self-2 c =
     let grown : c.insert.new.self.entries ≡ a.sets.entries ++ (suc (get_or a.seen.items q 0) * a.wires + q, row) ∷ [] =
     c.in_ok-insert.ensures.entries ∙ insert_entry-new nat_eq a.sets v row fresh_here ∙ ap (λ k. a.sets.entries ++ (k, row) ∷ []) variable in
     let old_label : IsLabel c.index-label.result.now = subst IsLabel (sym c.index-label.ensures) (c.self.invariant.packed q c.index-label.result.now at) in
-    let packed : IsPacked row.items = subst IsPacked (sym (c.in_ok-set.ensures.items ∙ c.deref.ensures.value)) old_label in
+    let made : IsCompact row.items = record { row = c.deref.result.now; packed = subst IsPacked (sym c.deref.ensures.value) old_label; words = c.in_ok-set.ensures } in
     let fresh_label : IsLabel c.swap.new.x = subst IsLabel (sym c.swap.ensures.x_after) c.in_ok-write_fresh.ensures.packed in
     subst (λ es. IsWalk a.wires (set a.labels.items q c.swap.new.x) (set a.seen.items q c.in_ok-seen.seen) es) (sym grown)
     (subst (λ k. IsWalk a.wires (set a.labels.items q c.swap.new.x) (set a.seen.items q k) (a.sets.entries ++ (suc (get_or a.seen.items q 0) * a.wires + q, row) ∷ [])) (sym seen)
-    (IsWalk-had a.wires a.labels.items (set a.labels.items q c.swap.new.x) a.seen.items a.sets.entries q row c.self.invariant lt packed
+    (IsWalk-had a.wires a.labels.items (set a.labels.items q c.swap.new.x) a.seen.items a.sets.entries q row c.self.invariant lt made
     (length-set a.labels.items q c.swap.new.x ∙ c.self.invariant.labelled) (All-set IsLabel a.labels.items q c.swap.new.x fresh_label c.self.invariant.packed)))
 
 pub returns-clause-passes : goal.returns-clause-passes
@@ -55,8 +63,10 @@ returns-clause-passes c =
     let grown : c.insert.new.self.entries ≡ a.sets.entries ++ (suc (get_or a.seen.items q 0) * a.wires + q, row) ∷ [] =
     c.in_ok-insert.ensures.entries ∙ insert_entry-new nat_eq a.sets v row fresh_here ∙ ap (λ k. a.sets.entries ++ (k, row) ∷ []) variable in
     let before = label-here a.labels.items q c.index-label.result.now at c.index-label.ensures in
-    let same_set : set_of row.items ≡ (labels_of_list (map label_of a.labels.items) q).variables =
-    ap set_of (c.in_ok-set.ensures.items ∙ c.deref.ensures.value) ∙ ap (λ (l : PathLabel). l.variables) before in
+    let old_label : IsLabel c.index-label.result.now = subst IsLabel (sym c.index-label.ensures) (c.self.invariant.packed q c.index-label.result.now at) in
+    let packed : IsPacked c.deref.result.now = subst IsPacked (sym c.deref.ensures.value) old_label in
+    let same_set : compact_set row.items ≡ (labels_of_list (map label_of a.labels.items) q).variables =
+    ap compact_set c.in_ok-set.ensures ∙ compact_set-compact c.deref.result.now packed ∙ ap set_of c.deref.ensures.value ∙ ap (λ (l : PathLabel). l.variables) before in
     subst (λ (old : NamedWalk). Passes (H q) old (viewed a.wires (set a.labels.items q c.swap.new.x) (set a.seen.items q c.in_ok-seen.seen) c.insert.new.self.entries)) c.self.view_is
     (subst (λ es. Passes (H q) (viewed a.wires a.labels.items a.seen.items a.sets.entries) (viewed a.wires (set a.labels.items q c.swap.new.x) (set a.seen.items q c.in_ok-seen.seen) es)) (sym grown)
     (subst (λ k. Passes (H q) (viewed a.wires a.labels.items a.seen.items a.sets.entries) (viewed a.wires (set a.labels.items q c.swap.new.x) (set a.seen.items q k) (a.sets.entries ++ (suc (get_or a.seen.items q 0) * a.wires + q, row) ∷ []))) (sym seen)
