@@ -1,17 +1,22 @@
 -- Working form.
 -- How far a checker has come along a trace.
---     placed s                what the lines behind `place` work on
+--     IsWritten goal k w      the gates w were appended: the first k of the target's where k is a number, and none of the target's
+--                             beginnings where it is None
+--     Grows goal j gates k    so it is with these gates more
+--     placed s w              what the lines behind `place` work on, where the gates w were appended
 --     Came e trace s behind n the first n lines of the trace lead to the state s, and the lines `behind` are left
 --     IsRouting s             what the lines behind `place` work on is fit
 --     IsKept s t              from s to t the first placement and the numbers of wires and qubits stay, and what is fit stays fit
 --     Goes w ks s t           a line of the word w and the numbers ks applies, and leads from s to t
+--     Moves goal w ks s t     so it does whatever was appended before, and what was is known as before
 --     Halts w ks s            no such line applies
 --     step_of w i j           the step of a line of the word w and the numbers i and j
 --     reached s               gates that are rewritten, with their turn
 --     Leads s t ls behind     the first of the lines ls apply, and lead from s to t, and the lines `behind` are left
 --     Blocked s ls            no line applies that the first of the lines ls spell
 --     Ends e goal             the gates and the turn of the target are those
-use Rattle.std.specs.Prelude.{◌≡◌, ℕ, ◌<◌, ◌≤◌, List, [], ◌∷◌, ◌++◌, Option, Some, None, length}
+use Rattle.std.specs.Prelude.{◌≡◌, ℕ, ◌<◌, ◌≤◌, List, [], ◌∷◌, ◌++◌, Option, Some, None, length, take}
+use Rattle.circuit_list.specs.declared.Gate.{Gate}
 use Rattle.circuit_list.specs.declared.Passed.{Passed}
 use Rattle.gate_expand.specs.Expansion.{expanded, turn_of}
 use Rattle.rewrite_pass.specs.Traces.{Step, Rule, Both, Join}
@@ -24,8 +29,15 @@ use Rattle.trace_check.specs.declared.words.Word.{Word}
 use Rattle.trace_check.specs.declared.words.Word.TheVariants as word
 use Rattle.trace_check.specs.declared.routing.Routing.{Routing}
 
-abbrev pub placed : Routing → Placed
-placed s = record { first = s.first.items; now = s.now; rest = s.rest.gates; written = s.written.items; turn = s.turn }
+abbrev pub IsWritten : List Gate → Option ℕ → List Gate → Type 0
+IsWritten goal None written = (more : List Gate) → written ++ more ≡ goal → ⊥
+IsWritten goal (Some k) written = (k ≤ length goal) × (written ≡ take k goal)
+
+abbrev pub Grows : List Gate → Option ℕ → List Gate → Option ℕ → Type 0
+Grows goal old gates new = (written : List Gate) → IsWritten goal old written → IsWritten goal new (written ++ gates)
+
+abbrev pub placed : Routing → List Gate → Placed
+placed s written = record { first = s.first.items; now = s.now; rest = s.rest.gates; written = written; turn = s.turn }
 
 pub record Came (e : Claim) (trace : List ℕ) (s : State) (behind : List (List ℕ)) (n : ℕ) : Type 0 where
   pub done : List Line
@@ -45,6 +57,10 @@ pub record IsKept (s t : Routing) : Type 0 where
 abbrev pub Goes : Word → List ℕ → Placed → Placed → Type 0
 Goes w ks s t = (e : Claim) (behind : List (List ℕ)) → e.qubits ≡ length s.now →
     (l : Line) × (IsSmall l × ((spelt l ≡ words (spelling w) ks ∷ []) × Applies e (Routed s) l behind (Routed t)))
+
+abbrev pub Moves : List Gate → Word → List ℕ → Routing → Routing → Type 0
+Moves goal w ks s t = (old : List Gate) → IsWritten goal s.agreed old →
+    (new : List Gate) × (IsWritten goal t.agreed new × Goes w ks (placed s old) (placed t new))
 
 abbrev pub Halts : Word → List ℕ → Placed → Type 0
 Halts w ks s = (e : Claim) (behind : List (List ℕ)) → e.qubits ≡ length s.now → IsStuck e (Routed s) (words (spelling w) ks ∷ behind)

@@ -14,6 +14,7 @@ ghost use Rattle.std.specs.Prelude.{
   IfOk,
   IfSome,
   MatchOption,
+  Some,
   codes,
   false,
   length,
@@ -310,13 +311,13 @@ fn placing(
     numbers: &[u32],
 ) -> Result<Option<Routing>, AllocError>
     requires turn { state.turn < 8 }
-    ensures fit { IfOk result (λ o. IfSome o (λ r. IsRouting r × (length r.now ≡ qubits))) }
+    ensures fit { IfOk result (λ o. IfSome o (λ r. IsRouting r × (length r.now ≡ qubits) × (r.agreed ≡ Some 0))) }
     ensures place { IfOk result (λ o. MatchOption o ((e : Claim) (behind : List (List ℕ)) → e.wires ≡ state.body.wires →
         e.qubits ≡ qubits →
         IsStuck e (reached state) (words (codes "place") numbers.now ∷ behind))
         (λ r. (e : Claim) (trace : List ℕ) (behind : List (List ℕ)) (n : ℕ) → e.wires ≡ state.body.wires → e.qubits ≡ qubits →
         Came e trace (reached state) (words (codes "place") numbers.now ∷ behind) n →
-        Came e trace (Routed (placed r)) behind (n + 1))) }
+        Came e trace (Routed (placed r [])) behind (n + 1))) }
 {
     if numbers.len() != qubits as usize || state.body.wires() > qubits {
         return Ok(None);
@@ -328,7 +329,7 @@ fn placing(
         first: Vec::from_slice(alloc, numbers)?,
         now,
         rest: state.body,
-        written: Vec::new(alloc),
+        agreed: Some(0),
         turn: state.turn,
     }))
 }

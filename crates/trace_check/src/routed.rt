@@ -1,87 +1,88 @@
 //! The walk along the lines behind `place`.
 
-ghost use Rattle.std.specs.Prelude.{◌≡◌, ℕ, ◌+◌, ◌-◌, ◌%◌, ◌^◌, ◌<◌, ◌≤◌, ◌∷◌, [], List, IfOk, false, length, true};
+ghost use Rattle.std.specs.Prelude.{◌≡◌, ℕ, ◌+◌, ◌-◌, ◌%◌, ◌^◌, ◌<◌, ◌≤◌, ◌∷◌, [], List, IfOk, Some, false, length, true};
+ghost use Rattle.circuit_list.specs.declared.Gate.{Gate};
 ghost use Rattle.trace_text.specs.Texts.{lines_of};
 ghost use Rattle.trace_check.specs.Outcomes.{IsOutcome};
-ghost use Rattle.trace_check.specs.Progress.{Came, Ends, Goes, Halts, IsKept, IsRouting, placed};
+ghost use Rattle.trace_check.specs.Progress.{Came, Ends, Halts, IsKept, IsRouting, IsWritten, Moves, placed};
 ghost use Rattle.trace_check.specs.Proves.{Claim, Routed};
 ghost use Rattle.trace_check.specs.declared.words.Word.TheVariants as kind;
 
 use crate::checker::Outcome;
 use crate::routing::{Routing, back, emit, swap, turn};
 use crate::words::{Word, one, read_words, two};
-use circuit_list::{Circuit, Gate, Passed};
+use circuit_list::{Circuit, Passed};
 use std::alloc::{AllocError, Global};
 use trace_text::first_line;
 use unitary_model::turn_sum;
 
 /// The line `emit`. False where it doesn't apply.
-fn emits(state: &mut Routing, numbers: &[u32]) -> Result<bool, AllocError>
+fn emits(state: &mut Routing, goal: &Circuit, numbers: &[u32]) -> bool
     requires { IsRouting state.old }
-    ensures kept { IfOk result (λ yes. IsKept state.old state.new) }
-    ensures applies { IfOk result (λ yes. yes ≡ true → Goes kind.Emit numbers.now (placed state.old) (placed state.new)) }
-    ensures not { IfOk result (λ yes. yes ≡ false → Halts kind.Emit numbers.now (placed state.old)) }
+    ensures kept { IsKept state.old state.new }
+    ensures applies { result ≡ true → Moves goal.now.gates kind.Emit numbers.now state.old state.new }
+    ensures not { result ≡ false → (written : List Gate) → Halts kind.Emit numbers.now (placed state.old written) }
 {
     match one(numbers) {
-        Some(place) => emit(state, place as usize),
-        None => Ok(false),
+        Some(place) => emit(state, goal, place as usize),
+        None => false,
     }
 }
 
 /// The line `back`. False where it doesn't apply.
-fn backs(state: &mut Routing, numbers: &[u32]) -> Result<bool, AllocError>
+fn backs(state: &mut Routing, goal: &Circuit, numbers: &[u32]) -> bool
     requires { IsRouting state.old }
-    ensures kept { IfOk result (λ yes. IsKept state.old state.new) }
-    ensures applies { IfOk result (λ yes. yes ≡ true → Goes kind.Back numbers.now (placed state.old) (placed state.new)) }
-    ensures not { IfOk result (λ yes. yes ≡ false → Halts kind.Back numbers.now (placed state.old)) }
+    ensures kept { IsKept state.old state.new }
+    ensures applies { result ≡ true → Moves goal.now.gates kind.Back numbers.now state.old state.new }
+    ensures not { result ≡ false → (written : List Gate) → Halts kind.Back numbers.now (placed state.old written) }
 {
     match one(numbers) {
-        Some(place) => back(state, place as usize),
-        None => Ok(false),
+        Some(place) => back(state, goal, place as usize),
+        None => false,
     }
 }
 
 /// The line `swap`. False where it doesn't apply.
-fn swaps(state: &mut Routing, numbers: &[u32]) -> Result<bool, AllocError>
+fn swaps(state: &mut Routing, goal: &Circuit, numbers: &[u32]) -> bool
     requires { IsRouting state.old }
-    ensures kept { IfOk result (λ yes. IsKept state.old state.new) }
-    ensures applies { IfOk result (λ yes. yes ≡ true → Goes kind.Swap numbers.now (placed state.old) (placed state.new)) }
-    ensures not { IfOk result (λ yes. yes ≡ false → Halts kind.Swap numbers.now (placed state.old)) }
+    ensures kept { IsKept state.old state.new }
+    ensures applies { result ≡ true → Moves goal.now.gates kind.Swap numbers.now state.old state.new }
+    ensures not { result ≡ false → (written : List Gate) → Halts kind.Swap numbers.now (placed state.old written) }
 {
     match two(numbers) {
-        Some((u, v)) => swap(state, u, v),
-        None => Ok(false),
+        Some((u, v)) => swap(state, goal, u, v),
+        None => false,
     }
 }
 
 /// The line `turn`. False where it doesn't apply.
-fn turns(state: &mut Routing, numbers: &[u32]) -> Result<bool, AllocError>
+fn turns(state: &mut Routing, goal: &Circuit, numbers: &[u32]) -> bool
     requires { IsRouting state.old }
-    ensures kept { IfOk result (λ yes. IsKept state.old state.new) }
-    ensures applies { IfOk result (λ yes. yes ≡ true → Goes kind.Turn numbers.now (placed state.old) (placed state.new)) }
-    ensures not { IfOk result (λ yes. yes ≡ false → Halts kind.Turn numbers.now (placed state.old)) }
+    ensures kept { IsKept state.old state.new }
+    ensures applies { result ≡ true → Moves goal.now.gates kind.Turn numbers.now state.old state.new }
+    ensures not { result ≡ false → (written : List Gate) → Halts kind.Turn numbers.now (placed state.old written) }
 {
     match two(numbers) {
-        Some((u, v)) => turn(state, u, v),
-        None => Ok(false),
+        Some((u, v)) => turn(state, goal, u, v),
+        None => false,
     }
 }
 
 /// Does what a line behind `place` says that doesn't end the trace. False where it doesn't apply.
-fn routes(state: &mut Routing, word: Word, numbers: &[u32]) -> Result<bool, AllocError>
+fn routes(state: &mut Routing, goal: &Circuit, word: Word, numbers: &[u32]) -> bool
     requires fit { IsRouting state.old }
     requires on { word ≡ kind.End → ⊥ }
-    ensures kept { IfOk result (λ yes. IsKept state.old state.new) }
-    ensures applies { IfOk result (λ yes. yes ≡ true → Goes word numbers.now (placed state.old) (placed state.new)) }
-    ensures not { IfOk result (λ yes. yes ≡ false → Halts word numbers.now (placed state.old)) }
+    ensures kept { IsKept state.old state.new }
+    ensures applies { result ≡ true → Moves goal.now.gates word numbers.now state.old state.new }
+    ensures not { result ≡ false → (written : List Gate) → Halts word numbers.now (placed state.old written) }
 {
     match word {
-        Word::Emit => emits(state, numbers),
-        Word::Back => backs(state, numbers),
-        Word::Swap => swaps(state, numbers),
-        Word::Turn => turns(state, numbers),
+        Word::Emit => emits(state, goal, numbers),
+        Word::Back => backs(state, goal, numbers),
+        Word::Swap => swaps(state, goal, numbers),
+        Word::Turn => turns(state, goal, numbers),
         Word::Trace | Word::Rule | Word::Both | Word::Join | Word::Sums | Word::Place | Word::End =>
-            Ok(false),
+            false,
     }
 }
 
@@ -94,41 +95,28 @@ fn end_turn(state: &Routing, goal: &Passed) -> u8
     turn_sum(state.turn, (8 - goal.turn) % 8)
 }
 
-/// Whether two gates are one.
-fn is_same(left: Gate, right: Gate) -> bool
-    ensures yes { result ≡ true → left ≡ right }
-    ensures no { result ≡ false → left ≡ right → ⊥ }
+/// Whether as many gates agreed as a circuit has.
+fn are_all(agreed: Option<usize>, goal: &Circuit) -> bool
+    ensures yes { result ≡ true → agreed ≡ Some (length goal.now.gates) }
+    ensures no { result ≡ false → agreed ≡ Some (length goal.now.gates) → ⊥ }
 {
-    left == right
-}
-
-/// Whether some gates are those of a circuit.
-fn are_gates(written: &[Gate], body: &Circuit) -> bool
-    ensures yes { result ≡ true → written.now ≡ body.now.gates }
-    ensures no { result ≡ false → written.now ≡ body.now.gates → ⊥ }
-{
-    if written.len() != body.len() {
-        return false;
+    match agreed {
+        Some(count) => count == goal.len(),
+        None => false,
     }
-    'gates: for place in 0..written.len() {
-        if !is_same(written[place], body.gate(place)) {
-            return false;
-        }
-    }
-    true
 }
 
 /// Whether a line `end` with these numbers ends the trace.
 fn ends(state: &Routing, goal: &Passed, numbers: &[u32]) -> bool
     requires turn { state.now.turn < 8 }
     requires goal { goal.now.turn < 8 }
-    ensures yes { result ≡ true → (numbers.now ≡ (state.entry.now.turn + (8 - goal.now.turn)) % 8 ∷ []) × ((state.entry.now.rest.gates ≡ []) × (state.entry.now.written.items ≡ goal.now.body.gates)) }
-    ensures no { result ≡ false → numbers.now ≡ (state.entry.now.turn + (8 - goal.now.turn)) % 8 ∷ [] → state.entry.now.rest.gates ≡ [] → state.entry.now.written.items ≡ goal.now.body.gates → ⊥ }
+    ensures yes { result ≡ true → (numbers.now ≡ (state.entry.now.turn + (8 - goal.now.turn)) % 8 ∷ []) × ((state.entry.now.rest.gates ≡ []) × (state.entry.now.agreed ≡ Some (length goal.now.body.gates))) }
+    ensures no { result ≡ false → numbers.now ≡ (state.entry.now.turn + (8 - goal.now.turn)) % 8 ∷ [] → state.entry.now.rest.gates ≡ [] → state.entry.now.agreed ≡ Some (length goal.now.body.gates) → ⊥ }
 {
     match one(numbers) {
         Some(number) => {
             state.rest.len() == 0
-                && are_gates(&state.written, &goal.body)
+                && are_all(state.agreed, &goal.body)
                 && number == u32::from(end_turn(state, goal))
         }
         None => false,
@@ -147,8 +135,9 @@ pub(crate) fn routed(
     requires fit { IsRouting state }
     requires goal { goal.now.turn < 8 }
     requires lines { line + length text.now < 2 ^ 32 }
-    ensures { IfOk result (λ o. (e : Claim) (trace : List ℕ) (n : ℕ) → e.qubits ≡ length state.now → Ends e goal.now →
-        Came e trace (Routed (placed state)) (lines_of text.now) n → line ≡ n + 1 → IsOutcome e trace o) }
+    ensures { IfOk result (λ o. (e : Claim) (trace : List ℕ) (n : ℕ) (written : List Gate) → e.qubits ≡ length state.now → Ends e goal.now →
+        IsWritten goal.now.body.gates state.agreed written → Came e trace (Routed (placed state written)) (lines_of text.now) n →
+        line ≡ n + 1 → IsOutcome e trace o) }
 {
     let mut number = line;
     let mut rest = text;
@@ -166,7 +155,7 @@ pub(crate) fn routed(
             }
             break 'lines;
         }
-        if !routes(&mut state, word, numbers)? {
+        if !routes(&mut state, &goal.body, word, numbers) {
             break 'lines;
         }
         number += 1;

@@ -26,4 +26,4 @@ returns-clause-place c = λ e trace behind n q r k.
     let here : IsPlacement (length ks) ks = subst (λ o. IfSome o (λ p. IsPlacement (length ks) ks)) c.in-Some.is c.in_ok-now.ensures.placement in
     let fits : e.wires ≤ e.qubits = omega (arith, q, r, c.wires.ensures.wires) in
     came-place e trace c.args.state _ ks behind n (numbers-small ks c.type_inv.numbers) fits (subst (λ m. IsPlacement m ks) (long ∙ sym r) here)
-    c.in_ok-from_slice.ensures.items (subst (λ o. IfSome o (λ p. p ≡ ks)) c.in-Some.is c.in_ok-now.ensures.some) refl c.new.ensures.items refl k
+    c.in_ok-from_slice.ensures.items (subst (λ o. IfSome o (λ p. p ≡ ks)) c.in-Some.is c.in_ok-now.ensures.some) refl refl refl k
