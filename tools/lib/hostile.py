@@ -2,8 +2,8 @@
 
 `KINDS` lists them: what a text is called, the words of the command, the status that it must end with, what makes the program's
 text, and what makes the device's or the target's where there is one. Each text is as long as it may be, or has as many
-operations, but for the traces of H in turn with CNOTs: for a `sums` each H keeps a label up to the last use of its variable, so
-memory grows with the square of the H on one wire, and 2,000 take 130 MB where 4,000 take 500.
+operations, but for the traces of H in turn with CNOTs: for a `sums` each H takes as long as its label's row, so time grows
+with the square of the H on one wire.
 """
 
 import dataclasses
