@@ -2,7 +2,7 @@
 --     Collected           what stands on sets, each with its set, and what stands on none
 --     words_from p words  the words that aren't 0, each behind its place, the first word's place being p
 --     sparse row          a row as those words alone;  sparse_set flat: the set that such words make
---     is_sparse row       half of a row's words, or more, are 0
+--     is_sparse row       more than half of a row's numbers are 0
 --     mark                what stands before a sparse row: it is the place of no word
 --     compact row         a row, or where it is sparse its words that aren't 0;  compact_set flat: the set of such a row
 --     IsCompact flat      it is that of a set

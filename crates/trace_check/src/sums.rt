@@ -309,7 +309,7 @@ fn same_labels(left: &[Label], right: &[Label]) -> bool
     true
 }
 
-/// Whether half of a row's words, or more, are 0.
+/// Whether more than half of a row's numbers are 0.
 fn is_sparse(row: &[u64]) -> bool
     ensures { result ≡ is_sparse row.now }
 {
