@@ -4,7 +4,8 @@
 --     sparse row          a row as those words alone;  sparse_set flat: the set that such words make
 --     is_sparse row       more than half of a row's numbers are 0
 --     mark                what stands before a sparse row: it is the place of no word
---     compact row         a row, or where it is sparse its words that aren't 0;  compact_set flat: the set of such a row
+--     compact row         a row, or where it is sparse its words that aren't 0 behind the mark
+--     compact_set flat    the set of such a row;  marked_set: of one whose first number is the mark, or isn't
 --     IsCompact flat      it is that of a set
 --     sums_of es          the entries of the program's map from compact rows to totals, by sets
 --     AreTotals es        the rows are those of sets, and the totals are below 8
