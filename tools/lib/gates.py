@@ -211,6 +211,11 @@ def path_sum(size, gates, bits):
     return found
 
 
+def odd_parities(size, operations):
+    """On how many sets an odd number stands at the end: to so few T gates operations on so many wires come by merging."""
+    return sum(k % 2 for k in path_sum(size, expanded(operations)[0], {}).totals.values())
+
+
 def differences(old, new, bits):
     """Where two path sums aren't the same, in words."""
 

@@ -95,6 +95,10 @@ class Program:
                 found[step.bit] = step.wires[0]
         return found
 
+    def barriers(self):
+        """The wires of each barrier."""
+        return [step.wires for step in self.steps if step.kind == "barrier"]
+
     def measured(self):
         return {step.wires[0] for step in self.steps if step.kind == "measure"}
 
@@ -544,7 +548,8 @@ class ProgramReader(Reader):
         for argument in self.arguments():
             wires += self.wires_of(argument, self.quantum)[0]
         self.take(";")
-        self.program.steps.append(Step("barrier", "barrier", [], sorted(set(wires))))
+        # each once, in the order in which they are named
+        self.program.steps.append(Step("barrier", "barrier", [], list(dict.fromkeys(wires))))
 
     def application(self):
         name = self.peek()

@@ -61,6 +61,16 @@ class CheckSmall(ToolTest):
         self.assertIn("the report says cx_after 2, the programs say 1", out)
         self.assertIn("the report says t_before 3, the programs say 0", out)
 
+    def test_what_is_written_besides(self):
+        # each T could have been merged with the one behind the CNOTs
+        source = HEAD + "qreg q[2];\nt q[1];\ncx q[0],q[1];\ncx q[0],q[1];\nbarrier q;\nt q[1];\n"
+        told = {"barriers": 1, "phase": 0, "cx_before": 2, "cx_after": 0, "t_before": 2}
+        self.assertEqual(self.checked(source, HEAD + "qreg q[2];\ns q[1];\n", report(**told, t_after=0))[0], 0)
+        status, out, _ = self.checked(source, HEAD + "qreg q[2];\nt q[1];\nt q[1];\n", report(**told, t_after=2))
+        self.assertEqual((status, out), (1, "differs: 2 T gates, and the source has 0 odd path parities\n"))
+        status, out, _ = self.checked(source, HEAD + "qreg q[2];\nbarrier q[1];\ns q[1];\n", report(**told, t_after=0))
+        self.assertEqual((status, out), (1, "differs: the output has 1 barriers\n"))
+
     def test_the_whole_language(self):
         # u2(0,pi) is h by definition, and p(pi/4) is t; the gate's body swaps by three CNOTs
         source = (
@@ -138,6 +148,10 @@ class CheckSmall(ToolTest):
         for told, status in (({"cost": 7}, 0), ({"cost": 9}, 1), ({"cost": "7"}, 1), ({}, 1)):
             self.assertEqual(self.checked(source, source, report(phase=0, format=2, **told), "--device", device)[0], status)
         self.assertEqual(self.checked(source, source, report(phase=0), "--device", device)[0], 1)
+        source = HEAD + "qreg q[1];\n"
+        told = report(phase=0, format=2, cost=0, cx_after=0, cx_before=0, device=1, qubits=1, initial=[0], final=[0])
+        device = self.file("d", "format = 2\nqubits = 1\nedges = []\n")
+        self.assertEqual(self.checked(source, source, told, "--device", device)[0], 0)
 
     def test_many_wires(self):
         half = "".join(f"ccx q[{i}],q[{i + 1}],q[{i + 2}];\n" for i in range(0, 38, 2))
