@@ -240,12 +240,18 @@ class EditRow:
     edit: str
     role: str  # says, with, cut, instead or add
     file: str
-    part: str  # a record, a function or a lemma, or the words of a file, or nothing
-    name: str  # its field, or its clause, or the words instead or of a file
+    part: str  # a record, a function or a lemma, or a line of a definition, or the words of a file, or nothing
+    name: str  # its field, or its clause, or the line or words instead or of a file
     proved: str  # yes or no, as `tools/mutate` found it
 
     @property
+    def is_line(self):
+        return self.role == "says" and " = " in self.part
+
+    @property
     def said(self):
+        if self.is_line:
+            return f"`{self.part}`"
         return f"`{self.name}` of `{self.part}`" if self.name else f"the clause of `{self.part}`"
 
 

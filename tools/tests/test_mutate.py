@@ -113,6 +113,17 @@ class Mutate(ToolTest):
         self.edit("says\tsrc/lib.rt\tThree\tshape\t")
         self.assertEqual(self.mutate("low"), (1, ["four: can't be made: no shape of Three"]))
 
+    def test_definition(self):
+        self.file("crates/low/specs/Words.antt", WORDS + "\nabbrev pub limit : ℕ\nlimit = 2\n")
+        self.file("bin/rt", "#!/bin/sh\ngrep -q '^limit = 4$' specs/Words.antt && grep -q '^    4$' src/lib.rt && echo logic=proved\n")
+        os.chmod(os.path.join(self.room, "bin/rt"), 0o755)
+        self.edit("says\tspecs/Words.antt\tlimit = 2\tlimit = 4\t")
+        self.assertEqual(self.mutate("low"), (0, ["four: says `limit = 2`"]))
+        self.edit("says\tspecs/Words.antt\tlimit = 2\tlimit = 3\t")
+        self.assertEqual(self.mutate("low")[0], 1)
+        self.edit("says\tspecs/Words.antt\tlimit = 3\tlimit = 4\t")
+        self.assertEqual(self.mutate("low"), (1, ["four: can't be made: `limit = 3` stands 0 times"]))
+
     def test_added(self):
         add = "add\tproofs/four/Answers.antt\t\t-- Four.\\nreturns c = refl\\n\t"
         answers = os.path.join(self.room, "crates/low/proofs/four/Answers.antt")
