@@ -1,10 +1,12 @@
 -- Command lines and what they mean, computed by the definitions. The first word, the program's name, is free.
 --   of_opt, of_opt_dashes            `opt`, and `opt` with `--` behind it
+--   of_opt_kept, ..                  `opt` with `--keep-barriers`
 --   of_check, of_check_dashes        `check`, and `check` with `--` behind it
 --   of_stages, of_stages_dashes      `stages`, and `stages` with `--` behind it
 --   of_route, of_route_..            `route` with its device
 --   of_route_trivial, of_trivial_..  `route` with its device and `--trivial`
 --   of_route_trace, of_trace_..      `route` with its device and `--trace`
+--   of_route_kept, of_route_clean, ..    `route` with its device and `--keep-barriers` or `--clean` or both
 --   of_bench, of_bench_..            `bench` with its start, gates and device
 --   of_amplitude, ..                 `amplitude` with its bits
 --   of_verify, ..                    `verify` with its names
@@ -15,11 +17,11 @@ use Rattle.clap.proofs.OnLiterals.{clap_on_literals}
 use Rattle.command_words.specs.Commands.{command_of}
 use Rattle.command_words.specs.declared.commands.Command.TheVariants.{Opt, Route, Check, Stages, Bench, Amplitude, Verify}
 
-pub of_opt : (name : List ℕ) → command_of (name ∷ codes "opt" ∷ []) ≡ Some Opt
+pub of_opt : (name : List ℕ) → command_of (name ∷ codes "opt" ∷ []) ≡ Some (Opt false)
 unfolding clap_on_literals
 of_opt name = refl
 
-pub of_opt_dashes : (name : List ℕ) → command_of (name ∷ codes "opt" ∷ codes "--" ∷ []) ≡ Some Opt
+pub of_opt_dashes : (name : List ℕ) → command_of (name ∷ codes "opt" ∷ codes "--" ∷ []) ≡ Some (Opt false)
 unfolding clap_on_literals
 of_opt_dashes name = refl
 
@@ -127,43 +129,43 @@ pub of_opt_dashes_twice : (name : List ℕ) → command_of (name ∷ codes "opt"
 unfolding clap_on_literals
 of_opt_dashes_twice name = refl
 
-pub of_route : (name : List ℕ) → command_of (name ∷ codes "route" ∷ codes "--device" ∷ codes "d" ∷ []) ≡ Some (Route (codes "d") false false)
+pub of_route : (name : List ℕ) → command_of (name ∷ codes "route" ∷ codes "--device" ∷ codes "d" ∷ []) ≡ Some (Route (codes "d") false false false false)
 unfolding clap_on_literals
 of_route name = refl
 
-pub of_route_equals : (name : List ℕ) → command_of (name ∷ codes "route" ∷ codes "--device=x" ∷ []) ≡ Some (Route (codes "x") false false)
+pub of_route_equals : (name : List ℕ) → command_of (name ∷ codes "route" ∷ codes "--device=x" ∷ []) ≡ Some (Route (codes "x") false false false false)
 unfolding clap_on_literals
 of_route_equals name = refl
 
-pub of_route_dash : (name : List ℕ) → command_of (name ∷ codes "route" ∷ codes "--device" ∷ codes "-" ∷ []) ≡ Some (Route (codes "-") false false)
+pub of_route_dash : (name : List ℕ) → command_of (name ∷ codes "route" ∷ codes "--device" ∷ codes "-" ∷ []) ≡ Some (Route (codes "-") false false false false)
 unfolding clap_on_literals
 of_route_dash name = refl
 
-pub of_route_equals_dashed : (name : List ℕ) → command_of (name ∷ codes "route" ∷ codes "--device=-x" ∷ []) ≡ Some (Route (codes "-x") false false)
+pub of_route_equals_dashed : (name : List ℕ) → command_of (name ∷ codes "route" ∷ codes "--device=-x" ∷ []) ≡ Some (Route (codes "-x") false false false false)
 unfolding clap_on_literals
 of_route_equals_dashed name = refl
 
-pub of_route_equals_empty : (name : List ℕ) → command_of (name ∷ codes "route" ∷ codes "--device=" ∷ []) ≡ Some (Route [] false false)
+pub of_route_equals_empty : (name : List ℕ) → command_of (name ∷ codes "route" ∷ codes "--device=" ∷ []) ≡ Some (Route [] false false false false)
 unfolding clap_on_literals
 of_route_equals_empty name = refl
 
-pub of_route_empty : (name : List ℕ) → command_of (name ∷ codes "route" ∷ codes "--device" ∷ [] ∷ []) ≡ Some (Route [] false false)
+pub of_route_empty : (name : List ℕ) → command_of (name ∷ codes "route" ∷ codes "--device" ∷ [] ∷ []) ≡ Some (Route [] false false false false)
 unfolding clap_on_literals
 of_route_empty name = refl
 
-pub of_route_opt : (name : List ℕ) → command_of (name ∷ codes "route" ∷ codes "--device" ∷ codes "opt" ∷ []) ≡ Some (Route (codes "opt") false false)
+pub of_route_opt : (name : List ℕ) → command_of (name ∷ codes "route" ∷ codes "--device" ∷ codes "opt" ∷ []) ≡ Some (Route (codes "opt") false false false false)
 unfolding clap_on_literals
 of_route_opt name = refl
 
-pub of_route_dashes : (name : List ℕ) → command_of (name ∷ codes "route" ∷ codes "--device" ∷ codes "d" ∷ codes "--" ∷ []) ≡ Some (Route (codes "d") false false)
+pub of_route_dashes : (name : List ℕ) → command_of (name ∷ codes "route" ∷ codes "--device" ∷ codes "d" ∷ codes "--" ∷ []) ≡ Some (Route (codes "d") false false false false)
 unfolding clap_on_literals
 of_route_dashes name = refl
 
-pub of_route_trivial : (name : List ℕ) → command_of (name ∷ codes "route" ∷ codes "--device" ∷ codes "d" ∷ codes "--trivial" ∷ []) ≡ Some (Route (codes "d") true false)
+pub of_route_trivial : (name : List ℕ) → command_of (name ∷ codes "route" ∷ codes "--device" ∷ codes "d" ∷ codes "--trivial" ∷ []) ≡ Some (Route (codes "d") true false false false)
 unfolding clap_on_literals
 of_route_trivial name = refl
 
-pub of_trivial_route : (name : List ℕ) → command_of (name ∷ codes "route" ∷ codes "--trivial" ∷ codes "--device" ∷ codes "d" ∷ []) ≡ Some (Route (codes "d") true false)
+pub of_trivial_route : (name : List ℕ) → command_of (name ∷ codes "route" ∷ codes "--trivial" ∷ codes "--device" ∷ codes "d" ∷ []) ≡ Some (Route (codes "d") true false false false)
 unfolding clap_on_literals
 of_trivial_route name = refl
 
@@ -355,19 +357,19 @@ pub no_device_of_amplitude : (name : List ℕ) → command_of (name ∷ codes "a
 unfolding clap_on_literals
 no_device_of_amplitude name = refl
 
-pub of_route_trace : (name : List ℕ) → command_of (name ∷ codes "route" ∷ codes "--device" ∷ codes "d" ∷ codes "--trace" ∷ []) ≡ Some (Route (codes "d") false true)
+pub of_route_trace : (name : List ℕ) → command_of (name ∷ codes "route" ∷ codes "--device" ∷ codes "d" ∷ codes "--trace" ∷ []) ≡ Some (Route (codes "d") false true false false)
 unfolding clap_on_literals
 of_route_trace name = refl
 
-pub of_trace_route : (name : List ℕ) → command_of (name ∷ codes "route" ∷ codes "--trace" ∷ codes "--device" ∷ codes "d" ∷ []) ≡ Some (Route (codes "d") false true)
+pub of_trace_route : (name : List ℕ) → command_of (name ∷ codes "route" ∷ codes "--trace" ∷ codes "--device" ∷ codes "d" ∷ []) ≡ Some (Route (codes "d") false true false false)
 unfolding clap_on_literals
 of_trace_route name = refl
 
-pub of_trace_trivial : (name : List ℕ) → command_of (name ∷ codes "route" ∷ codes "--device" ∷ codes "d" ∷ codes "--trace" ∷ codes "--trivial" ∷ []) ≡ Some (Route (codes "d") true true)
+pub of_trace_trivial : (name : List ℕ) → command_of (name ∷ codes "route" ∷ codes "--device" ∷ codes "d" ∷ codes "--trace" ∷ codes "--trivial" ∷ []) ≡ Some (Route (codes "d") true true false false)
 unfolding clap_on_literals
 of_trace_trivial name = refl
 
-pub of_trivial_trace : (name : List ℕ) → command_of (name ∷ codes "route" ∷ codes "--device" ∷ codes "d" ∷ codes "--trivial" ∷ codes "--trace" ∷ []) ≡ Some (Route (codes "d") true true)
+pub of_trivial_trace : (name : List ℕ) → command_of (name ∷ codes "route" ∷ codes "--device" ∷ codes "d" ∷ codes "--trivial" ∷ codes "--trace" ∷ []) ≡ Some (Route (codes "d") true true false false)
 unfolding clap_on_literals
 of_trivial_trace name = refl
 
@@ -462,3 +464,155 @@ no_trace_of_verify name = refl
 pub no_device_of_verify : (name : List ℕ) → command_of (name ∷ codes "verify" ∷ codes "--source" ∷ codes "a" ∷ codes "--target" ∷ codes "b" ∷ codes "--device" ∷ codes "d" ∷ []) ≡ None
 unfolding clap_on_literals
 no_device_of_verify name = refl
+
+pub of_opt_kept : (name : List ℕ) → command_of (name ∷ codes "opt" ∷ codes "--keep-barriers" ∷ []) ≡ Some (Opt true)
+unfolding clap_on_literals
+of_opt_kept name = refl
+
+pub of_opt_kept_dashes : (name : List ℕ) → command_of (name ∷ codes "opt" ∷ codes "--keep-barriers" ∷ codes "--" ∷ []) ≡ Some (Opt true)
+unfolding clap_on_literals
+of_opt_kept_dashes name = refl
+
+pub no_second_keep_of_opt : (name : List ℕ) → command_of (name ∷ codes "opt" ∷ codes "--keep-barriers" ∷ codes "--keep-barriers" ∷ []) ≡ None
+unfolding clap_on_literals
+no_second_keep_of_opt name = refl
+
+pub no_value_of_keep : (name : List ℕ) → command_of (name ∷ codes "opt" ∷ codes "--keep-barriers=1" ∷ []) ≡ None
+unfolding clap_on_literals
+no_value_of_keep name = refl
+
+pub no_true_of_keep : (name : List ℕ) → command_of (name ∷ codes "opt" ∷ codes "--keep-barriers=true" ∷ []) ≡ None
+unfolding clap_on_literals
+no_true_of_keep name = refl
+
+pub no_abbreviated_keep : (name : List ℕ) → command_of (name ∷ codes "opt" ∷ codes "--keep" ∷ []) ≡ None
+unfolding clap_on_literals
+no_abbreviated_keep name = refl
+
+pub no_underscore_in_keep : (name : List ℕ) → command_of (name ∷ codes "opt" ∷ codes "--keep_barriers" ∷ []) ≡ None
+unfolding clap_on_literals
+no_underscore_in_keep name = refl
+
+pub no_clean_of_opt : (name : List ℕ) → command_of (name ∷ codes "opt" ∷ codes "--clean" ∷ []) ≡ None
+unfolding clap_on_literals
+no_clean_of_opt name = refl
+
+pub no_keep_before_opt : (name : List ℕ) → command_of (name ∷ codes "--keep-barriers" ∷ codes "opt" ∷ []) ≡ None
+unfolding clap_on_literals
+no_keep_before_opt name = refl
+
+pub of_route_kept : (name : List ℕ) → command_of (name ∷ codes "route" ∷ codes "--device" ∷ codes "d" ∷ codes "--keep-barriers" ∷ []) ≡ Some (Route (codes "d") false false true false)
+unfolding clap_on_literals
+of_route_kept name = refl
+
+pub of_route_clean : (name : List ℕ) → command_of (name ∷ codes "route" ∷ codes "--device" ∷ codes "d" ∷ codes "--clean" ∷ []) ≡ Some (Route (codes "d") false false false true)
+unfolding clap_on_literals
+of_route_clean name = refl
+
+pub of_route_kept_clean : (name : List ℕ) → command_of (name ∷ codes "route" ∷ codes "--device" ∷ codes "d" ∷ codes "--keep-barriers" ∷ codes "--clean" ∷ []) ≡ Some (Route (codes "d") false false true true)
+unfolding clap_on_literals
+of_route_kept_clean name = refl
+
+pub of_route_trivial_kept : (name : List ℕ) → command_of (name ∷ codes "route" ∷ codes "--device" ∷ codes "d" ∷ codes "--trivial" ∷ codes "--keep-barriers" ∷ []) ≡ Some (Route (codes "d") true false true false)
+unfolding clap_on_literals
+of_route_trivial_kept name = refl
+
+pub of_route_trivial_clean : (name : List ℕ) → command_of (name ∷ codes "route" ∷ codes "--device" ∷ codes "d" ∷ codes "--trivial" ∷ codes "--clean" ∷ []) ≡ Some (Route (codes "d") true false false true)
+unfolding clap_on_literals
+of_route_trivial_clean name = refl
+
+pub of_route_trivial_kept_clean : (name : List ℕ) → command_of (name ∷ codes "route" ∷ codes "--device" ∷ codes "d" ∷ codes "--trivial" ∷ codes "--keep-barriers" ∷ codes "--clean" ∷ []) ≡ Some (Route (codes "d") true false true true)
+unfolding clap_on_literals
+of_route_trivial_kept_clean name = refl
+
+pub of_clean_kept_route : (name : List ℕ) → command_of (name ∷ codes "route" ∷ codes "--clean" ∷ codes "--keep-barriers" ∷ codes "--device" ∷ codes "d" ∷ []) ≡ Some (Route (codes "d") false false true true)
+unfolding clap_on_literals
+of_clean_kept_route name = refl
+
+pub no_trace_beside_kept : (name : List ℕ) → command_of (name ∷ codes "route" ∷ codes "--device" ∷ codes "d" ∷ codes "--trace" ∷ codes "--keep-barriers" ∷ []) ≡ None
+unfolding clap_on_literals
+no_trace_beside_kept name = refl
+
+pub no_trace_beside_clean : (name : List ℕ) → command_of (name ∷ codes "route" ∷ codes "--device" ∷ codes "d" ∷ codes "--trace" ∷ codes "--clean" ∷ []) ≡ None
+unfolding clap_on_literals
+no_trace_beside_clean name = refl
+
+pub no_trace_beside_both : (name : List ℕ) → command_of (name ∷ codes "route" ∷ codes "--device" ∷ codes "d" ∷ codes "--trace" ∷ codes "--keep-barriers" ∷ codes "--clean" ∷ []) ≡ None
+unfolding clap_on_literals
+no_trace_beside_both name = refl
+
+pub no_trivial_trace_beside_kept : (name : List ℕ) → command_of (name ∷ codes "route" ∷ codes "--device" ∷ codes "d" ∷ codes "--trivial" ∷ codes "--trace" ∷ codes "--keep-barriers" ∷ []) ≡ None
+unfolding clap_on_literals
+no_trivial_trace_beside_kept name = refl
+
+pub no_trivial_trace_beside_clean : (name : List ℕ) → command_of (name ∷ codes "route" ∷ codes "--device" ∷ codes "d" ∷ codes "--trivial" ∷ codes "--trace" ∷ codes "--clean" ∷ []) ≡ None
+unfolding clap_on_literals
+no_trivial_trace_beside_clean name = refl
+
+pub no_trivial_trace_beside_both : (name : List ℕ) → command_of (name ∷ codes "route" ∷ codes "--device" ∷ codes "d" ∷ codes "--trivial" ∷ codes "--trace" ∷ codes "--keep-barriers" ∷ codes "--clean" ∷ []) ≡ None
+unfolding clap_on_literals
+no_trivial_trace_beside_both name = refl
+
+pub no_trace_behind_kept : (name : List ℕ) → command_of (name ∷ codes "route" ∷ codes "--device" ∷ codes "d" ∷ codes "--keep-barriers" ∷ codes "--trace" ∷ []) ≡ None
+unfolding clap_on_literals
+no_trace_behind_kept name = refl
+
+pub no_trace_behind_clean : (name : List ℕ) → command_of (name ∷ codes "route" ∷ codes "--device" ∷ codes "d" ∷ codes "--clean" ∷ codes "--trace" ∷ []) ≡ None
+unfolding clap_on_literals
+no_trace_behind_clean name = refl
+
+pub no_second_keep : (name : List ℕ) → command_of (name ∷ codes "route" ∷ codes "--device" ∷ codes "d" ∷ codes "--keep-barriers" ∷ codes "--keep-barriers" ∷ []) ≡ None
+unfolding clap_on_literals
+no_second_keep name = refl
+
+pub no_second_clean : (name : List ℕ) → command_of (name ∷ codes "route" ∷ codes "--device" ∷ codes "d" ∷ codes "--clean" ∷ codes "--clean" ∷ []) ≡ None
+unfolding clap_on_literals
+no_second_clean name = refl
+
+pub no_value_of_clean : (name : List ℕ) → command_of (name ∷ codes "route" ∷ codes "--device" ∷ codes "d" ∷ codes "--clean=1" ∷ []) ≡ None
+unfolding clap_on_literals
+no_value_of_clean name = refl
+
+pub no_abbreviated_clean : (name : List ℕ) → command_of (name ∷ codes "route" ∷ codes "--device" ∷ codes "d" ∷ codes "--cl" ∷ []) ≡ None
+unfolding clap_on_literals
+no_abbreviated_clean name = refl
+
+pub no_device_but_kept : (name : List ℕ) → command_of (name ∷ codes "route" ∷ codes "--keep-barriers" ∷ []) ≡ None
+unfolding clap_on_literals
+no_device_but_kept name = refl
+
+pub no_device_but_clean : (name : List ℕ) → command_of (name ∷ codes "route" ∷ codes "--clean" ∷ []) ≡ None
+unfolding clap_on_literals
+no_device_but_clean name = refl
+
+pub no_name_but_clean : (name : List ℕ) → command_of (name ∷ codes "route" ∷ codes "--device" ∷ codes "--clean" ∷ []) ≡ None
+unfolding clap_on_literals
+no_name_but_clean name = refl
+
+pub no_keep_of_check : (name : List ℕ) → command_of (name ∷ codes "check" ∷ codes "--keep-barriers" ∷ []) ≡ None
+unfolding clap_on_literals
+no_keep_of_check name = refl
+
+pub no_clean_of_check : (name : List ℕ) → command_of (name ∷ codes "check" ∷ codes "--clean" ∷ []) ≡ None
+unfolding clap_on_literals
+no_clean_of_check name = refl
+
+pub no_keep_of_stages : (name : List ℕ) → command_of (name ∷ codes "stages" ∷ codes "--keep-barriers" ∷ []) ≡ None
+unfolding clap_on_literals
+no_keep_of_stages name = refl
+
+pub no_clean_of_bench : (name : List ℕ) → command_of (name ∷ codes "bench" ∷ codes "--start" ∷ codes "1" ∷ codes "--gates" ∷ codes "1" ∷ codes "--device" ∷ codes "d" ∷ codes "--clean" ∷ []) ≡ None
+unfolding clap_on_literals digits
+no_clean_of_bench name = refl
+
+pub no_keep_of_bench : (name : List ℕ) → command_of (name ∷ codes "bench" ∷ codes "--start" ∷ codes "1" ∷ codes "--gates" ∷ codes "1" ∷ codes "--device" ∷ codes "d" ∷ codes "--keep-barriers" ∷ []) ≡ None
+unfolding clap_on_literals digits
+no_keep_of_bench name = refl
+
+pub no_keep_of_amplitude : (name : List ℕ) → command_of (name ∷ codes "amplitude" ∷ codes "--from" ∷ codes "0" ∷ codes "--to" ∷ codes "0" ∷ codes "--keep-barriers" ∷ []) ≡ None
+unfolding clap_on_literals
+no_keep_of_amplitude name = refl
+
+pub no_clean_of_verify : (name : List ℕ) → command_of (name ∷ codes "verify" ∷ codes "--source" ∷ codes "a" ∷ codes "--target" ∷ codes "b" ∷ codes "--clean" ∷ []) ≡ None
+unfolding clap_on_literals
+no_clean_of_verify name = refl

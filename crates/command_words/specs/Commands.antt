@@ -1,15 +1,16 @@
 -- The command of the words, by `clap`'s own definitions of what a command line may be and of what it matches.
 --   root_command        the program: its name, no help, and a subcommand that has to be there
---   opt_command         the subcommand `opt`, which takes no argument
+--   opt_command         the subcommand `opt`, which takes `--keep-barriers`
 --   needed_option id    `--ID VALUE`, which has to be there, once
 --   flag id             `--ID`, at most once
---   check_command       the subcommand `check`, which takes none either
---   stages_command      the subcommand `stages`, which takes none
---   route_command       the subcommand `route`, which takes `--device`, `--trivial` and `--trace`
+--   check_command       the subcommand `check`, which takes no argument
+--   stages_command      the subcommand `stages`, which takes none either
+--   traced_command      the subcommand `route` with `--device`, `--trivial` and `--trace`
+--   route_command       .. and with `--keep-barriers` and `--clean`, so with all that it takes
 --   bench_command       the subcommand `bench`, which takes `--start`, `--gates` and `--device`
 --   amplitude_command   the subcommand `amplitude`, which takes `--from` and `--to`
 --   verify_command      the subcommand `verify`, which takes `--source` and `--target`
---   plain_commands      the program with the subcommands that take no argument
+--   plain_commands      the program with the subcommands that take no value
 --   device_commands     .. and with those that take a device
 --   entry_commands      .. and with `amplitude`
 --   qroute_command      the program with all of its subcommands
@@ -17,6 +18,10 @@
 --   is_given id rows    whether the flag `--ID` was matched
 --   is_trivial rows     whether `--trivial` was matched
 --   is_traced rows      whether `--trace` was matched
+--   is_kept rows        whether `--keep-barriers` was matched
+--   is_cleaned rows     whether `--clean` was matched
+--   opt_of rows         what `opt` asks for, with what was matched
+--   clashes rows        `--trace` was matched, and one of the two flags that have no trace
 --   route_of rows       what `route` asks for, with what was matched
 --   number_of a b text  the number from a to b whose decimal digits the text is, none where there is none
 --   start_of rows       the number behind `--start`, 0 to 4294967295
@@ -30,8 +35,8 @@
 --   verify_of rows      what `verify` asks for, with what was matched
 --   meaning name rows   what the subcommand of this name asks for, with what it matched
 --   command_of words    the command that the words mean, the program's name first; none where they mean none
---   HasFewGates c       `bench` has 1 to 20000 gates
-use Rattle.std.specs.Prelude.{ℕ, List, ◌==◌, ◌≤◌, ◌&&◌, ◌||◌, Bool, true, false, Option, Some, None, if◌then◌else◌, codes, decimal, length, map, nat_le, option_map, option_and_then}
+--   IsAllowed c         `bench` has 1 to 20000 gates, and `route` no trace beside kept barriers or cleaning
+use Rattle.std.specs.Prelude.{◌≡◌, ℕ, List, ◌==◌, ◌≤◌, ◌&&◌, ◌||◌, Bool, true, false, Option, Some, None, if◌then◌else◌, codes, decimal, length, map, nat_le, option_map, option_and_then}
 use Rattle.std.specs.Option.{option_map_or}
 use Rattle.std.specs.List.{list_all}
 use Rattle.std.specs.Str.{bytes_eq}
@@ -48,9 +53,6 @@ root_command = on_top (λ s. record s {
   disable_help_subcommand = true;
   subcommand_required = true;
 }) (new_app (codes "qroute"))
-
-abbrev pub opt_command : App
-opt_command = new_app (codes "opt")
 
 abbrev pub check_command : App
 check_command = new_app (codes "check")
@@ -71,9 +73,15 @@ flag id = record (new_rule id) {
   action = Some SetTrue;
 }
 
-abbrev pub route_command : App
-route_command = with_rule (with_rule (with_rule (new_app (codes "route")) (needed_option (codes "device"))) (flag (codes "trivial")))
+abbrev pub opt_command : App
+opt_command = with_rule (new_app (codes "opt")) (flag (codes "keep-barriers"))
+
+abbrev pub traced_command : App
+traced_command = with_rule (with_rule (with_rule (new_app (codes "route")) (needed_option (codes "device"))) (flag (codes "trivial")))
     (flag (codes "trace"))
+
+abbrev pub route_command : App
+route_command = with_rule (with_rule traced_command (flag (codes "keep-barriers"))) (flag (codes "clean"))
 
 abbrev pub bench_command : App
 bench_command = with_rule (with_rule (with_rule (new_app (codes "bench")) (needed_option (codes "start"))) (needed_option (codes "gates")))
@@ -110,8 +118,22 @@ is_trivial rows = is_given (codes "trivial") rows
 abbrev pub is_traced : List Row → Bool
 is_traced rows = is_given (codes "trace") rows
 
+abbrev pub is_kept : List Row → Bool
+is_kept rows = is_given (codes "keep-barriers") rows
+
+abbrev pub is_cleaned : List Row → Bool
+is_cleaned rows = is_given (codes "clean") rows
+
+abbrev pub opt_of : List Row → Option Command
+opt_of rows = Some (Opt (is_kept rows))
+
+-- a trace is of the whole program, as the router leaves it
+abbrev pub clashes : List Row → Bool
+clashes rows = is_traced rows && (is_kept rows || is_cleaned rows)
+
 abbrev pub route_of : List Row → Option Command
-route_of rows = option_map (λ device. Route device (is_trivial rows) (is_traced rows)) (device_of rows)
+route_of rows = if clashes rows then None
+    else option_map (λ device. Route device (is_trivial rows) (is_traced rows) (is_kept rows) (is_cleaned rows)) (device_of rows)
 
 -- only the value of the digits can be this number, and its decimal digits have to be the text
 abbrev pub number_of : ℕ → ℕ → Text → Option ℕ
@@ -154,7 +176,7 @@ abbrev pub verify_of : List Row → Option Command
 verify_of rows = option_and_then (λ source. option_map (λ target. Verify source target) (target_of rows)) (source_of rows)
 
 abbrev pub meaning : Text → List Row → Option Command
-meaning name rows = if bytes_eq name (codes "opt") then Some Opt
+meaning name rows = if bytes_eq name (codes "opt") then opt_of rows
     else (if bytes_eq name (codes "check") then Some Check
     else (if bytes_eq name (codes "stages") then Some Stages
     else (if bytes_eq name (codes "bench") then bench_of rows
@@ -167,11 +189,11 @@ abbrev pub command_of : List Text → Option Command
 command_of words = if length (fault_of qroute_command words) == 0
     then option_and_then (λ s. meaning s.0 s.1) (subcommand_of qroute_command words) else None
 
-abbrev pub HasFewGates : Command → Type 0
-HasFewGates Opt = Unit {0}
-HasFewGates (Route device trivial trace) = Unit {0}
-HasFewGates Check = Unit {0}
-HasFewGates Stages = Unit {0}
-HasFewGates (Amplitude from to) = Unit {0}
-HasFewGates (Verify source target) = Unit {0}
-HasFewGates (Bench start gates device) = (1 ≤ gates) × (gates ≤ 20000)
+abbrev pub IsAllowed : Command → Type 0
+IsAllowed (Opt kept) = Unit {0}
+IsAllowed (Route device trivial trace kept clean) = trace ≡ true → (kept ≡ false) × (clean ≡ false)
+IsAllowed Check = Unit {0}
+IsAllowed Stages = Unit {0}
+IsAllowed (Amplitude from to) = Unit {0}
+IsAllowed (Verify source target) = Unit {0}
+IsAllowed (Bench start gates device) = (1 ≤ gates) × (gates ≤ 20000)

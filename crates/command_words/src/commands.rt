@@ -9,7 +9,10 @@ use thiserror::Error;
 #[derive(Debug, Drop, PartialEq, Eq)]
 pub enum Command {
     /// Reads a program and writes an equivalent one.
-    Opt,
+    Opt {
+        /// Whether the program's barriers are kept.
+        keep_barriers: bool,
+    },
     /// The same on the qubits of a device.
     Route {
         /// The name of the device text.
@@ -18,6 +21,10 @@ pub enum Command {
         trivial: bool,
         /// Whether the trace that shows it is written behind it.
         trace: bool,
+        /// Whether the program's barriers are kept.
+        keep_barriers: bool,
+        /// Whether gates of the routed program that cancel or merge are taken together.
+        clean: bool,
     },
     /// Reads a program and reports on it.
     Check,

@@ -2,14 +2,15 @@
 //!
 //! The words of a command line go in, the program's name first; the command that they mean comes out. `clap` reads them: one
 //! level of subcommands, of which one has to be there, and no help. A number is its decimal digits alone, without a sign or a
-//! leading zero, and in the range of its option; bits are the digits 0 and 1, as many as there are. The contract of `command` says that the answer is the command of the words
-//! by `clap`'s own definitions, and that words are refused exactly where they mean none.
+//! leading zero, and in the range of its option; bits are the digits 0 and 1, as many as there are. A trace is asked for
+//! neither beside kept barriers nor beside cleaning. The contract of `command` says that the answer is the command of the
+//! words by `clap`'s own definitions, and that words are refused exactly where they mean none.
 
 ghost use Rattle.std.specs.Prelude.{◌≡◌, ◌==◌, IfOk, IsErrOf, Some, None, map, false, option_and_then};
 ghost use Rattle.std.specs.List.{list_all};
 ghost use Rattle.clap.specs.Words.{app_of, first_of, found_of, kind_of, rows_of, rule_of};
 ghost use Rattle.clap.specs.declared.builder.Command.TheViews.{out-Command as fields_of};
-ghost use Rattle.command_words.specs.Commands.{HasFewGates, amplitude_command, amplitude_of, bench_command, bench_of, bits_of, check_command, command_of, device_commands, entry_commands, flag, is_bit, is_given, meaning, needed_option, number_of, opt_command, plain_commands, qroute_command, root_command, route_command, route_of, stages_command, verify_command, verify_of};
+ghost use Rattle.command_words.specs.Commands.{IsAllowed, amplitude_command, amplitude_of, bench_command, bench_of, bits_of, check_command, clashes, command_of, device_commands, entry_commands, flag, is_bit, is_given, meaning, needed_option, number_of, opt_command, opt_of, plain_commands, qroute_command, root_command, route_command, route_of, stages_command, traced_command, verify_command, verify_of};
 
 use crate::bits::BitList;
 use crate::commands::{self, WordsFault};
@@ -28,15 +29,7 @@ fn root_command<'a>(alloc: Global) -> Command<'a>
         .subcommand_required(true)
 }
 
-/// `opt`, which takes no argument.
-fn opt_command<'a>(alloc: Global) -> Command<'a>
-    ensures command { app_of result ≡ opt_command }
-    ensures local { (fields_of result).has_globals ≡ false }
-{
-    Command::new(alloc, "opt")
-}
-
-/// `check`, which takes no argument either.
+/// `check`, which takes no argument.
 fn check_command<'a>(alloc: Global) -> Command<'a>
     ensures command { app_of result ≡ check_command }
     ensures local { (fields_of result).has_globals ≡ false }
@@ -71,15 +64,33 @@ fn flag<'a>(alloc: Global, id: &'a str) -> Arg<'a>
     Arg::new(alloc, id).long(id).action(ArgAction::SetTrue)
 }
 
-/// `route`, which takes a device and two flags.
-fn route_command<'a>(alloc: Global) -> Result<Command<'a>, AllocError>
-    ensures command { IfOk result (λ c. app_of c ≡ route_command) }
+/// `opt`, which takes a flag.
+fn opt_command<'a>(alloc: Global) -> Result<Command<'a>, AllocError>
+    ensures command { IfOk result (λ c. app_of c ≡ opt_command) }
+    ensures local { IfOk result (λ c. (fields_of c).has_globals ≡ false) }
+{
+    Command::new(alloc, "opt").arg(flag(alloc, "keep-barriers"))
+}
+
+/// `route` with a device and two flags.
+fn traced_command<'a>(alloc: Global) -> Result<Command<'a>, AllocError>
+    ensures command { IfOk result (λ c. app_of c ≡ traced_command) }
     ensures local { IfOk result (λ c. (fields_of c).has_globals ≡ false) }
 {
     Command::new(alloc, "route")
         .arg(needed_option(alloc, "device"))?
         .arg(flag(alloc, "trivial"))?
         .arg(flag(alloc, "trace"))
+}
+
+/// `route`, which takes a device and four flags.
+fn route_command<'a>(alloc: Global) -> Result<Command<'a>, AllocError>
+    ensures command { IfOk result (λ c. app_of c ≡ route_command) }
+    ensures local { IfOk result (λ c. (fields_of c).has_globals ≡ false) }
+{
+    traced_command(alloc)?
+        .arg(flag(alloc, "keep-barriers"))?
+        .arg(flag(alloc, "clean"))
 }
 
 /// `bench`, which takes two numbers and a device.
@@ -113,12 +124,12 @@ fn verify_command<'a>(alloc: Global) -> Result<Command<'a>, AllocError>
         .arg(needed_option(alloc, "target"))
 }
 
-/// The program with the subcommands that take no argument.
+/// The program with the subcommands that take no value.
 fn plain_commands<'a>(alloc: Global) -> Result<Command<'a>, AllocError>
     ensures { IfOk result (λ c. app_of c ≡ plain_commands) }
 {
     root_command(alloc)
-        .subcommand(opt_command(alloc))?
+        .subcommand(opt_command(alloc)?)?
         .subcommand(check_command(alloc))?
         .subcommand(stages_command(alloc))
 }
@@ -170,12 +181,32 @@ fn is_given(matches: &ArgMatches<'_>, id: &str) -> bool
     }
 }
 
+/// What `opt` with its matches asks for.
+fn opt_of(matches: &ArgMatches<'_>) -> commands::Command
+    ensures ok { opt_of (rows_of (found_of matches.now)) ≡ Some result }
+    ensures few { IsAllowed result }
+{
+    commands::Command::Opt {
+        keep_barriers: is_given(matches, "keep-barriers"),
+    }
+}
+
+/// Whether a trace is asked for, and besides it what has none.
+fn clashes(matches: &ArgMatches<'_>) -> bool
+    ensures { result ≡ clashes (rows_of (found_of matches.now)) }
+{
+    is_given(matches, "trace") && (is_given(matches, "keep-barriers") || is_given(matches, "clean"))
+}
+
 /// What `route` with its matches asks for.
 fn route_of(alloc: Global, matches: &ArgMatches<'_>) -> Result<commands::Command, WordsFault>
     ensures ok { IfOk result (λ c. route_of (rows_of (found_of matches.now)) ≡ Some c) }
     ensures bad { IsErrOf result WordsFault.BadWords → route_of (rows_of (found_of matches.now)) ≡ None }
-    ensures few { IfOk result HasFewGates }
+    ensures few { IfOk result IsAllowed }
 {
+    if clashes(matches) {
+        return Err(WordsFault::BadWords);
+    }
     let Some(device) = name_behind(alloc, matches, "device")? else {
         return Err(WordsFault::BadWords);
     };
@@ -183,6 +214,8 @@ fn route_of(alloc: Global, matches: &ArgMatches<'_>) -> Result<commands::Command
         device,
         trivial: is_given(matches, "trivial"),
         trace: is_given(matches, "trace"),
+        keep_barriers: is_given(matches, "keep-barriers"),
+        clean: is_given(matches, "clean"),
     })
 }
 
@@ -216,7 +249,7 @@ fn number_behind(matches: &ArgMatches<'_>, id: &str, least: u32, most: u32) -> O
 fn bench_of(alloc: Global, matches: &ArgMatches<'_>) -> Result<commands::Command, WordsFault>
     ensures ok { IfOk result (λ c. bench_of (rows_of (found_of matches.now)) ≡ Some c) }
     ensures bad { IsErrOf result WordsFault.BadWords → bench_of (rows_of (found_of matches.now)) ≡ None }
-    ensures few { IfOk result HasFewGates }
+    ensures few { IfOk result IsAllowed }
 {
     let Some(start) = number_behind(matches, "start", 0, 4_294_967_295) else {
         return Err(WordsFault::BadWords);
@@ -281,7 +314,7 @@ fn bits_behind(
 fn amplitude_of(alloc: Global, matches: &ArgMatches<'_>) -> Result<commands::Command, WordsFault>
     ensures ok { IfOk result (λ c. amplitude_of (rows_of (found_of matches.now)) ≡ Some c) }
     ensures bad { IsErrOf result WordsFault.BadWords → amplitude_of (rows_of (found_of matches.now)) ≡ None }
-    ensures few { IfOk result HasFewGates }
+    ensures few { IfOk result IsAllowed }
 {
     let Some(from) = bits_behind(alloc, matches, "from")? else {
         return Err(WordsFault::BadWords);
@@ -296,7 +329,7 @@ fn amplitude_of(alloc: Global, matches: &ArgMatches<'_>) -> Result<commands::Com
 fn verify_of(alloc: Global, matches: &ArgMatches<'_>) -> Result<commands::Command, WordsFault>
     ensures ok { IfOk result (λ c. verify_of (rows_of (found_of matches.now)) ≡ Some c) }
     ensures bad { IsErrOf result WordsFault.BadWords → verify_of (rows_of (found_of matches.now)) ≡ None }
-    ensures few { IfOk result HasFewGates }
+    ensures few { IfOk result IsAllowed }
 {
     let Some(source) = name_behind(alloc, matches, "source")? else {
         return Err(WordsFault::BadWords);
@@ -315,10 +348,10 @@ fn meaning_of(
 ) -> Result<commands::Command, WordsFault>
     ensures ok { IfOk result (λ c. meaning name.now (rows_of (found_of matches.now)) ≡ Some c) }
     ensures bad { IsErrOf result WordsFault.BadWords → meaning name.now (rows_of (found_of matches.now)) ≡ None }
-    ensures few { IfOk result HasFewGates }
+    ensures few { IfOk result IsAllowed }
 {
     if name == "opt" {
-        return Ok(commands::Command::Opt);
+        return Ok(opt_of(matches));
     }
     if name == "check" {
         return Ok(commands::Command::Check);
@@ -353,7 +386,7 @@ fn words_fault(error: &Error) -> WordsFault
 fn read<'a>(alloc: Global, words: &'a [&'a str]) -> Result<commands::Command, WordsFault>
     ensures ok { IfOk result (λ c. command_of (map (λ w. w.now) words.entry.now) ≡ Some c) }
     ensures bad { IsErrOf result WordsFault.BadWords → command_of (map (λ w. w.now) words.entry.now) ≡ None }
-    ensures few { IfOk result HasFewGates }
+    ensures few { IfOk result IsAllowed }
 {
     let matches = match qroute_command(alloc)?.try_get_matches_from(words) {
         Ok(matches) => matches,
@@ -369,7 +402,7 @@ fn read<'a>(alloc: Global, words: &'a [&'a str]) -> Result<commands::Command, Wo
 pub fn command(alloc: Global, words: &[&str]) -> Result<commands::Command, WordsFault>
     ensures ok { IfOk result (λ c. command_of (map (λ w. w.now) words.now) ≡ Some c) }
     ensures bad { IsErrOf result WordsFault.BadWords → command_of (map (λ w. w.now) words.now) ≡ None }
-    ensures few { IfOk result HasFewGates }
+    ensures few { IfOk result IsAllowed }
 {
     read(alloc, words)
 }

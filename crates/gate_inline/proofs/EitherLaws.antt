@@ -2,7 +2,7 @@
 --     first_too_many      where there is too much, there is a first step with which there is
 --     ok_or_unvalued      the steps have operations, or there is a first one with an angle that has no value
 --     inlined_or_refused  the same of a program
-use Rattle.std.proofs.Common.{◌≡◌, ◌⊎◌, inl, inr, ℕ, ◌+◌, List, [], ◌∷◌, ◌++◌, Bool, true, false, Ok, Err, append_assoc, append-nil, refl, sym, subst, ap, length}
+use Rattle.std.proofs.Common.{◌≡◌, ◌⊎◌, inl, inr, ℕ, ◌+◌, List, [], ◌∷◌, ◌++◌, Bool, true, false, Ok, Err, append_assoc, append-nil, refl, sym, subst, length}
 use Rattle.std.specs.Prelude.{IsOk}
 use Rattle.unitary_model.specs.declared.Op.{Op}
 use Rattle.qasm_check.specs.Bound.{Bound}

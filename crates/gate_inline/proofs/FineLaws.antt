@@ -23,6 +23,9 @@ use Rattle.gate_expand.specs.Expansion.{IsFineOp}
 use Rattle.gate_inline.specs.Inlined.{IsFirstUnvalued, IsInlineFault, IsInlineRefused, IsInlined, IsTooMany, operations}
 use Rattle.gate_inline.specs.Reads.{reads}
 use Rattle.gate_inline.specs.Sizes.{is_too_much, total}
+use Rattle.gate_inline.specs.Splits.{IsCutOf, IsSplit, cut_of, named_once}
+use Rattle.gate_inline.specs.declared.split.Split.{Split}
+use Rattle.program_parts.specs.Cuts.{Cut}
 use Rattle.gate_inline.specs.declared.refusal.Refusal.{Refusal}
 use Rattle.gate_inline.specs.declared.refusal.Refusal.TheVariants.{AngleForm, AngleZero, AngleRange, AngleStep, TooManyOps}
 use Rattle.gate_inline.specs.declared.refusal.InlineFault.{InlineFault}
@@ -277,6 +280,14 @@ inlined_same b c o g s w bits i = record {
   wires = i.wires ∙ w;
   list = moved b c (λ gates steps. operations gates steps ≡ Ok o.list) g s i.list;
   reads = i.reads ∙ (λ j. reads (bits j) (s j));
+}
+
+pub split_same : (b c : Bound) (s : Split) → b.gates ≡ c.gates → b.steps ≡ c.steps → b.wires ≡ c.wires → b.bits ≡ c.bits → IsSplit b s → IsSplit c s
+split_same b c s g steps w bits i = record {
+  small = moved b c (λ gates steps. is_too_much (total gates steps) ≡ false) g steps i.small;
+  wires = i.wires ∙ w;
+  cut = moved b c (λ gates steps. (d : Cut Op) × IsCutOf gates steps d × (cut_of s ≡ named_once d)) g steps i.cut;
+  reads = i.reads ∙ (λ j. reads (bits j) (steps j));
 }
 
 -- ---- wires and bits that are there

@@ -11,3 +11,5 @@ pub mod OnceLaws
 pub mod ReadWires
 pub mod KeptLaws
 pub mod BegunLaws
+pub mod BarLaws
+pub mod CutLaws

@@ -1,12 +1,13 @@
 -- Steps of a sound program: their wires and bits are there.
 --     and_left, or_left, ..     what tests say together
 --     step_placed               its wires and bits are there, at each index
+--     step_on, steps_on         the operands of a barrier are on its wires
 --     step_counted, step_apart  an application has as many operands as its gate has qubits, at no index one wire twice
 use Rattle.std.proofs.Common.{◌≡◌, ℕ, zero, suc, ◌+◌, ◌<◌, ◌≤◌, List, [], ◌∷◌, All, Bool, true, false, ◌&&◌, ◌||◌, Option, Some, None, refl, sym, subst, ◌∙◌, ap, arith, length, map, ◌⊎◌, inl, inr}
 use Rattle.std.specs.Prelude.{not, nat_eq, nat_le, nat_lt, unwrap_or, ◌==◌}
 use Rattle.std.specs.List.{list_all, list_any}
 use Rattle.std.proofs.lemmas.Bool.Decides.{nat_tests}
-use Rattle.std.proofs.lemmas.List.Elements.{All-cons, All-head, All-nil, All-tail}
+use Rattle.std.proofs.lemmas.List.Elements.{All-cons, All-head, All-nil, All-tail, All-weaker}
 use Rattle.std.proofs.lemmas.List.Folds.{list_any-append}
 use Rattle.gate_library.specs.Gates.{Formula, Gate, gate_at, gate_qubits}
 use Rattle.gate_library.specs.Names.{has_repeat}
@@ -14,6 +15,7 @@ use Rattle.gate_library.specs.Operands.{broadcast, differs_from, sizes_differ, t
 use Rattle.gate_library.specs.declared.operand.Operand.{Operand}
 use Rattle.qasm_check.specs.Sound.{is_below, is_operand, is_step}
 use Rattle.qasm_check.specs.Steps.{Step, applies, measures, bars, nothing}
+use Rattle.gate_inline.specs.Parting.{IsOn, IsOnWires}
 use Rattle.gate_inline.specs.Placed.{IsPlaced}
 
 -- ---- tests
@@ -138,3 +140,13 @@ module _ (gates : List Gate) (wires bits : ℕ) where
   pub steps_placed : (steps : List Step) → list_all (is_step gates wires bits) steps ≡ true → All (IsPlaced wires bits) steps
   steps_placed [] s = All-nil (IsPlaced wires bits)
   steps_placed (x ∷ xs) s = All-cons (IsPlaced wires bits) x xs (step_placed x (and_left _ _ s)) (steps_placed xs (and_right _ _ s))
+
+  pub step_on : (s : Step) → is_step gates wires bits s ≡ true → IsOnWires wires s
+  step_on (applies gate angles ps) s = tt
+  step_on (measures qubit bit) s = tt
+  step_on (bars ps) s = All-weaker (IsIn wires) (IsOn wires) (λ p h. λ j l. within p.index p.first p.size wires j h l) ps (are_inside wires ps s)
+  step_on nothing s = tt
+
+  pub steps_on : (steps : List Step) → list_all (is_step gates wires bits) steps ≡ true → All (IsOnWires wires) steps
+  steps_on [] s = All-nil (IsOnWires wires)
+  steps_on (x ∷ xs) s = All-cons (IsOnWires wires) x xs (step_on x (and_left _ _ s)) (steps_on xs (and_right _ _ s))

@@ -4,6 +4,7 @@ pub mod Meanings
 pub mod Sizes
 pub mod Reads
 pub mod Inlined
+pub mod Splits
 pub mod Registers
 pub mod Programs
 -- ---- working forms
@@ -12,3 +13,4 @@ pub mod Stops
 pub mod Placed
 pub mod Frames
 pub mod Remembered
+pub mod Parting

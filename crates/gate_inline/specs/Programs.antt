@@ -1,6 +1,7 @@
 -- What the text of a program means, and which texts are accepted.
---   Program          the number of wires, the operations, what each classical bit reads, the classical registers, and how many
---                    barriers stand outside bodies
+--   Program          the number of wires, the operations, these cut at barriers, what each classical bit reads, the classical
+--                    registers, and how many barriers stand outside bodies
+--   kept keep p      the same program, cut at barriers that name each wire once where barriers are kept, and else as one part
 --   Means b p        p is what a program with its names bound means, where each angle is exact
 --   IsTreeOf text t  all tokens of the text spell the tree t, of version 2, with no expression that is too deep
 --   IsSource text t  the same of a tree to which no refusal of a statement applies
@@ -8,7 +9,7 @@
 --   text_limit       the most bytes of an input
 --   IsWithinLimits b     writing its gates out makes no more operations and meets no more items than the limits
 --   IsAccepted text p    an accepted program: a written one within the limits
-use Rattle.std.specs.Prelude.{◌≡◌, ℕ, ◌≤◌, false, List, Option, Ok, length}
+use Rattle.std.specs.Prelude.{◌≡◌, ℕ, ◌≤◌, Bool, true, false, List, Option, Ok, length}
 use Rattle.qasm_lexer.specs.declared.Token.{Token}
 use Rattle.qasm_lexer.specs.Tokens.{AreTokens}
 use Rattle.qasm_parser.specs.Parsing.{IsProgram}
@@ -20,17 +21,25 @@ use Rattle.unitary_model.specs.declared.Op.{Op}
 use Rattle.gate_inline.specs.Inlined.{operations}
 use Rattle.gate_inline.specs.Reads.{reads}
 use Rattle.gate_inline.specs.Sizes.{is_too_much, total}
+use Rattle.gate_inline.specs.Splits.{IsCutOf, named_once}
+use Rattle.program_parts.specs.Cuts.{Cut, uncut}
 
 pub record Program : Type 0 where
   pub wires : ℕ
   pub ops : List Op
+  pub cut : Cut Op
   pub reads : List (Option ℕ)
   pub registers : List Bits
   pub barriers : ℕ
 
+abbrev pub kept : Bool → Program → Program
+kept true p = record p { cut = named_once p.cut }
+kept false p = record p { cut = uncut p.ops }
+
 pub record Means (b : Bound) (p : Program) : Type 0 where
   pub wires : p.wires ≡ b.wires
   pub ops : operations b.gates b.steps ≡ Ok p.ops
+  pub cut : IsCutOf b.gates b.steps p.cut
   pub reads : p.reads ≡ reads b.bits b.steps
   pub registers : p.registers ≡ b.registers
   pub barriers : p.barriers ≡ barriers b

@@ -7,9 +7,13 @@ ghost use Rattle.gate_expand.specs.Expansion.{IsFineOp};
 ghost use Rattle.gate_inline.specs.Inlined.{IsInlineFault, IsInlined};
 ghost use Rattle.gate_inline.specs.Registers.{IsRead};
 ghost use Rattle.gate_inline.specs.Sizes.{operation_limit};
+ghost use Rattle.gate_inline.specs.Splits.{IsBar, IsSplit, cut_of};
+ghost use Rattle.program_parts.specs.Cuts.{IsCut, whole};
 
 use crate::program::written_out;
 use crate::refusal::InlineFault;
+use crate::split::Split;
+use crate::splitting::split_out;
 use gate_expand::Ops;
 use qasm_check::Checked;
 use std::alloc::Global;
@@ -26,6 +30,28 @@ pub fn inline(alloc: Global, checked: &Checked) -> Result<Ops, InlineFault>
     ensures err { IfErr result (IsInlineFault (program checked.now)) }
 {
     written_out(
+        alloc,
+        checked.gates(),
+        checked.steps(),
+        checked.wires(),
+        checked.bits(),
+    )
+}
+
+/// The operations and reads of a checked program, cut at its barriers outside bodies; else the first statement that is
+/// refused, and why.
+pub fn inline_parts(alloc: Global, checked: &Checked) -> Result<Split, InlineFault>
+    ensures ok { IfOk result (IsSplit (program checked.now)) }
+    ensures cut { IfOk result (λ s. IsCut (cut_of s)) }
+    ensures short { IfOk result (λ s. length (whole (cut_of s).parts) ≤ operation_limit) }
+    ensures few { IfOk result (λ s. s.wires ≤ most_wires) }
+    ensures fine { IfOk result (λ s. All (All (IsFineOp s.wires)) (cut_of s).parts) }
+    ensures bars { IfOk result (λ s. All (IsBar s.wires) (cut_of s).bars) }
+    ensures bits { IfOk result (λ s. length s.reads.items ≡ (program checked.now).bits) }
+    ensures reads { IfOk result (λ s. All (IsRead s.wires) s.reads.items) }
+    ensures err { IfErr result (IsInlineFault (program checked.now)) }
+{
+    split_out(
         alloc,
         checked.gates(),
         checked.steps(),

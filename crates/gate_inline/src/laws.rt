@@ -1,12 +1,18 @@
 //! What holds of every program with its names bound, as functions whose contracts are the laws.
 
-ghost use Rattle.std.specs.Prelude.{◌≡◌, ◌⊎◌};
+ghost use Rattle.std.specs.Prelude.{◌≡◌, ◌⊎◌, List, Ok};
 ghost use Rattle.qasm_check.specs.Bound.{Bound};
 ghost use Rattle.gate_expand.specs.declared.source.Ops.{Ops as Source};
-ghost use Rattle.gate_inline.specs.Inlined.{IsInlineFault, IsInlineRefused, IsInlined};
+ghost use Rattle.gate_inline.specs.Inlined.{IsInlineFault, IsInlineRefused, IsInlined, operations};
+ghost use Rattle.gate_inline.specs.Splits.{IsCutOf, IsSplit, cut_of};
 ghost use Rattle.gate_inline.specs.declared.refusal.InlineFault.{InlineFault as Fault};
 ghost use Rattle.gate_inline.specs.declared.refusal.InlineFault.TheVariants.{NoMemory};
 ghost use Rattle.gate_inline.specs.declared.refusal.Refused.{Refused as Told};
+ghost use Rattle.gate_inline.specs.declared.split.Split.{Split as InParts};
+ghost use Rattle.gate_library.specs.Gates.{Gate as BoundGate};
+ghost use Rattle.program_parts.specs.Cuts.{Cut, IsCut, whole};
+ghost use Rattle.qasm_check.specs.Steps.{Step as BoundStep};
+ghost use Rattle.unitary_model.specs.declared.Op.{Op};
 
 /// A program with its names bound has one refusal at most: its statement and its code.
 pub fn refused_once()
@@ -21,4 +27,20 @@ pub fn inlined_has_no_fault()
 /// A program with its names bound has operations and reads, or a first refusal.
 pub fn inlined_or_refused()
     ensures { (b : Bound) → ((o : Source) × IsInlined b o) ⊎ ((r : Told) × IsInlineRefused b r.refusal r.statement) }
+{}
+
+/// The parts of a split program, one after the other, are its operations.
+pub fn split_is_inlined()
+    ensures { (b : Bound) (s : InParts) (o : Source) → IsSplit b s → o.wires ≡ s.wires → o.list ≡ whole (cut_of s).parts → o.reads ≡ s.reads.items → IsInlined b o }
+{}
+
+/// The operations of steps can be cut at the barriers, with one barrier fewer than parts.
+pub fn operations_are_cut()
+    ensures { (gates : List BoundGate) (steps : List BoundStep) (us : List Op) → operations gates steps ≡ Ok us →
+        (c : Cut Op) × IsCutOf gates steps c × (whole c.parts ≡ us) × IsCut c }
+{}
+
+/// Steps have one cut at most.
+pub fn cut_once()
+    ensures { (gates : List BoundGate) (steps : List BoundStep) (c d : Cut Op) → IsCutOf gates steps c → IsCutOf gates steps d → c ≡ d }
 {}

@@ -1,27 +1,34 @@
 //! From a checked program to its operations and reads, and what a program's text means as a whole.
 //!
 //! `inline` gives the operations and reads of a checked program: gates' bodies are written out under their angles and wires,
-//! registers index by index. Else the contract says why there are none: with which statement there is too much, before
-//! anything is written out; else which is the first with an angle that isn't exact. Bodies are kept in a list on the heap, so
-//! a long chain of gates needs no deep stack. Each operation is such as `gate_expand::expand` asks for. Time is linear in the
-//! operations and items, and in the expressions of the angles of each; a gate that was applied to the same values of its
-//! parameters before, and to the same wires if it has an operation, is copied and not worked out again. So many calls are
-//! remembered as 32 MiB of values have.
+//! registers index by index. `inline_parts` gives the same, cut at the barriers that stand outside bodies. Else the contract
+//! says why there are none: with which statement there is too much, before anything is written out; else which is the first
+//! with an angle that isn't exact. Bodies are kept in a list on the heap, so a long chain of gates needs no deep stack. Each
+//! operation is such as `gate_expand::expand` asks for. Time is linear in the operations and items, and in the expressions of
+//! the angles of each; a gate that was applied to the same values of its parameters before, and to the same wires if it has an
+//! operation, is copied and not worked out again. So many calls are remembered as 32 MiB of values have.
 #![tactic(auto)]
 
 mod body;
 mod inlining;
 mod laws;
 mod memo;
+mod parts;
 mod program;
 mod refusal;
 mod size;
+mod split;
+mod splitting;
 mod stop;
 mod value;
 
-pub use inlining::inline;
-pub use laws::{inlined_has_no_fault, inlined_or_refused, refused_once};
+pub use inlining::{inline, inline_parts};
+pub use laws::{
+    cut_once, inlined_has_no_fault, inlined_or_refused, operations_are_cut, refused_once,
+    split_is_inlined,
+};
 pub use refusal::{InlineFault, Refusal, Refused};
+pub use split::Split;
 
 /// The most operations that a program has.
 pub const OPERATION_LIMIT: u64 = 65_536;

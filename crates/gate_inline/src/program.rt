@@ -1,6 +1,6 @@
 //! A program's operations and reads.
 
-ghost use Rattle.std.specs.Prelude.{◌≡◌, ℕ, ◌+◌, ◌<◌, ◌^◌, [], Ok, IfOk, IfErr, OnOk, All, None, map, length, slice_index_or};
+ghost use Rattle.std.specs.Prelude.{◌≡◌, ℕ, ◌+◌, ◌<◌, ◌^◌, [], Ok, IfOk, IfErr, OnOk, All, None, false, map, length, slice_index_or};
 ghost use Rattle.std.specs.Option.{option_or};
 ghost use Rattle.qasm_check.specs.Steps.{measures};
 ghost use Rattle.gate_library.specs.Operands.{broadcast as broadcast_of, times, wire_at as wire_there};
@@ -11,7 +11,7 @@ ghost use Rattle.gate_inline.specs.Meanings.{broadcast_answer, followed, meaning
 ghost use Rattle.gate_inline.specs.Capped.{capped};
 ghost use Rattle.gate_inline.specs.Placed.{IsPlaced};
 ghost use Rattle.gate_inline.specs.Remembered.{AreKept};
-ghost use Rattle.gate_inline.specs.Sizes.{sizes as sizes_of};
+ghost use Rattle.gate_inline.specs.Sizes.{is_too_much, sizes as sizes_of, total};
 ghost use Rattle.gate_inline.specs.Reads.{reads as reads_of, step_read};
 ghost use Rattle.gate_inline.specs.Stops.{IsStop};
 
@@ -79,7 +79,7 @@ fn write_broadcast(
 }
 
 /// Puts the operations of a step behind the others.
-fn write_step(
+pub fn write_step(
     alloc: Global,
     gates: &[Gate],
     sizes: &[Size],
@@ -137,7 +137,7 @@ fn read_step(list: &mut [Option<u32>], step: &Step)
 }
 
 /// For each bit the wire that is measured into it last.
-fn reads(alloc: Global, bits: u32, steps: &[Step]) -> Result<Vec<Option<u32>>, AllocError>
+pub fn reads(alloc: Global, bits: u32, steps: &[Step]) -> Result<Vec<Option<u32>>, AllocError>
     requires { All (IsPlaced (2 ^ 32) bits) (map step_view steps.now) }
     ensures { IfOk result (λ v. v.items ≡ reads_of bits (map step_view steps.now)) }
 {
@@ -150,13 +150,24 @@ fn reads(alloc: Global, bits: u32, steps: &[Step]) -> Result<Vec<Option<u32>>, A
 
 /// The first step with an angle that isn't exact, counted from 1, or no memory.
 #[derive(Clone, Copy, Debug)]
-enum Unwritten {
+pub enum Unwritten {
     Unvalued(Unvalued, u32),
     NoMemory,
 }
 
+impl From<AllocError> for Unwritten {
+    ghost use Rattle.std.specs.Prelude.{◌≡◌};
+    ghost use Rattle.gate_inline.specs.declared.program.Unwritten.TheVariants.{NoMemory};
+
+    ghost from_gives = { λ _ u. u ≡ NoMemory };
+
+    fn from(_error: AllocError) -> Unwritten {
+        Unwritten::NoMemory
+    }
+}
+
 /// The number of a statement.
-fn number(index: usize) -> u32
+pub fn number(index: usize) -> u32
     requires { index + 1 < 2 ^ 32 }
     ensures { result ≡ index + 1 }
 {
@@ -164,7 +175,7 @@ fn number(index: usize) -> u32
 }
 
 /// Why a statement has no operations, with its number.
-fn at_statement(stop: Stop, statement: u32) -> Unwritten
+pub fn at_statement(stop: Stop, statement: u32) -> Unwritten
     ensures { result ≡ stopped_at stop statement }
 {
     match stop {
@@ -210,7 +221,7 @@ fn refusal_of(unvalued: Unvalued) -> Refusal
 }
 
 /// What is told of a program with such a step.
-fn unwritten_fault(unwritten: Unwritten) -> InlineFault
+pub fn unwritten_fault(unwritten: Unwritten) -> InlineFault
     ensures { result ≡ unwritten_fault unwritten }
 {
     match unwritten {
@@ -219,6 +230,27 @@ fn unwritten_fault(unwritten: Unwritten) -> InlineFault
             refusal: refusal_of(unvalued),
             statement,
         }),
+    }
+}
+
+/// The sizes of gates, where the steps aren't too much; else the first step with which there is too much.
+pub fn fitting_sizes(
+    alloc: Global,
+    gates: &[Gate],
+    steps: &[Step],
+) -> Result<Vec<Size>, InlineFault>
+    requires few { length steps.now < 2 ^ 32 }
+    ensures sized { IfOk result (λ v. v.items ≡ map capped (sizes_of (map gate_view gates.now))) }
+    ensures small { IfOk result (λ v. is_too_much (total (map gate_view gates.now) (map step_view steps.now)) ≡ false) }
+    ensures err { IfErr result (λ f. (wires bits : ℕ) → IsInlineFault (record { gates = map gate_view gates.now; steps = map step_view steps.now; wires = wires; bits = bits; registers = [] }) f) }
+{
+    let sizes = sizes(alloc, gates)?;
+    match too_much(&sizes, steps) {
+        None => Ok(sizes),
+        Some(index) => Err(InlineFault::Refused(Refused {
+            refusal: Refusal::TooManyOps,
+            statement: number(index),
+        })),
     }
 }
 
@@ -235,13 +267,7 @@ pub fn written_out(
     ensures ok { IfOk result (IsInlined (record { gates = map gate_view gates.now; steps = map step_view steps.now; wires = wires; bits = bits; registers = [] })) }
     ensures err { IfErr result (IsInlineFault (record { gates = map gate_view gates.now; steps = map step_view steps.now; wires = wires; bits = bits; registers = [] })) }
 {
-    let sizes = sizes(alloc, gates)?;
-    if let Some(index) = too_much(&sizes, steps) {
-        return Err(InlineFault::Refused(Refused {
-            refusal: Refusal::TooManyOps,
-            statement: number(index),
-        }));
-    }
+    let sizes = fitting_sizes(alloc, gates, steps)?;
     let list = match operations(alloc, gates, &sizes, steps) {
         Ok(list) => list,
         Err(unwritten) => return Err(unwritten_fault(unwritten)),

@@ -3,3 +3,4 @@ pub mod OnceLaws
 pub mod RegisterLaws
 pub mod WholeLaws
 pub mod LimitLaws
+pub mod HeldLaws

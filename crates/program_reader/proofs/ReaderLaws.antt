@@ -1,15 +1,16 @@
 -- What a text of any length means, and its refusals.
 --   LexedOnce, NoLexFault, SpeltOnce, NoParseFault, NoCheckFault, NoInlineFault, Laws     laws of the stages, as they are handed in
---   FewTokens, FewStatements, DeclaresNames     more of them
+--   FewTokens, FewStatements, DeclaresNames, CutOnce, AreCut, SplitIsInlined     more of them
 --   few_of, names_of     how many statements a tree has, and what names it declares
 --   in_ok, in_err        from one promise of an answer to another
 --   tree-once            a text spells one tree at most
 --   means-once           and means one program at most
+--   whole-means, parts-means   what is read as one part, or in parts, is what the text means
 --   unparsed, unlexed    a text that spells a tree has no fault in its tokens or its grammar
 --   accepted-no_refusal  an accepted text has no refusal
 --   IsTextFault-lexed, -parsed, -checked, -written     from the stages' faults to the text's
 --   IsAcceptedText-read      and from their answers to the text's program
-use Rattle.std.proofs.Common.{◌≡◌, ℕ, ◌<◌, ◌≤◌, List, All, Result, Ok, Err, IfOk, IfErr, sym, subst, ◌∙◌, arith, length}
+use Rattle.std.proofs.Common.{◌≡◌, ℕ, ◌<◌, ◌≤◌, Bool, false, true, List, All, Result, Ok, Err, IfOk, IfErr, refl, sym, subst, ◌∙◌, arith, length}
 use Rattle.qasm_lexer.specs.Tokens.{AreTokens, IsLexFault, IsTokenOf}
 use Rattle.qasm_lexer.specs.declared.LexFault.{LexFault}
 use Rattle.qasm_lexer.specs.declared.LexFault.TheVariants as lexing
@@ -21,22 +22,29 @@ use Rattle.qasm_parser.specs.Spelling.{Seen}
 use Rattle.qasm_parser.specs.Tree.{Tree}
 use Rattle.qasm_parser.specs.declared.ParseFault.{ParseFault}
 use Rattle.qasm_parser.specs.declared.ParseFault.TheVariants as parsing
-use Rattle.qasm_check.specs.Bound.{Bound}
+use Rattle.qasm_check.specs.Bound.{Bound, barriers}
 use Rattle.qasm_check.specs.Checking.{IsCheckFault, IsFineTree, bound}
+use Rattle.qasm_check.specs.Steps.{Step}
+use Rattle.qasm_check.specs.declared.bits.Bits.{Bits}
 use Rattle.qasm_check.specs.declared.refusal.CheckFault.{CheckFault}
 use Rattle.qasm_check.specs.declared.refusal.CheckFault.TheVariants as checking
+use Rattle.gate_library.specs.Gates.{Gate}
 use Rattle.gate_expand.specs.declared.source.Ops.{Ops}
 use Rattle.gate_inline.specs.Inlined.{IsInlineFault, IsInlined, operations}
-use Rattle.gate_inline.specs.Programs.{IsTreeOf, IsWithinLimits, IsWritten, Means, Program}
+use Rattle.gate_inline.specs.Programs.{IsTreeOf, IsWithinLimits, IsWritten, Means, Program, kept}
+use Rattle.gate_inline.specs.Splits.{IsCutOf, IsSplit, cut_of}
+use Rattle.gate_inline.specs.declared.split.Split.{Split}
 use Rattle.gate_inline.specs.declared.refusal.InlineFault.{InlineFault}
 use Rattle.gate_inline.specs.declared.refusal.InlineFault.TheVariants as inlining
+use Rattle.program_parts.specs.Cuts.{Cut, IsCut, uncut, whole}
 use Rattle.program_reader.specs.Refusals.{lex_fault, parse_fault}
-use Rattle.program_reader.specs.Stages.{IsUnchecked, IsUnwritten}
+use Rattle.program_reader.specs.Stages.{IsReadAs, IsUnchecked, IsUnwritten}
 use Rattle.program_reader.specs.Texts.{IsAcceptedText, IsTextFault, IsTextRefusal, IsUnparsed}
 use Rattle.program_reader.specs.declared.refusal.Refusal.{Refusal}
 use Rattle.program_reader.specs.declared.refusal.Refusal.TheVariants.{TooLong, BadByte, Number, Syntax, Version, Depth, Check, Inline}
 use Rattle.program_reader.specs.declared.refusal.ReadFault.{ReadFault}
 use Rattle.program_reader.specs.declared.refusal.ReadFault.TheVariants.{Refused, NoMemory}
+use Rattle.unitary_model.specs.declared.Op.{Op}
 
 abbrev pub SpeltOnce : Type 0
 SpeltOnce = (text : List ℕ) (tokens : List Token) (a b : Tree) (f g : List Seen) → Spells text tokens a f → Spells text tokens b g
@@ -72,21 +80,25 @@ tree-once lexes once text a b (xs, lx, (f, sa, va, da)) (ys, ly, (g, sb, vb, db)
     (once text ys a b f g (subst (λ (ts : List Token). Spells text ts a f) same sa) sb).0
 
 -- ---- one program
-same_program : (p q : Program) → p.wires ≡ q.wires → p.ops ≡ q.ops → p.reads ≡ q.reads → p.registers ≡ q.registers → p.barriers ≡ q.barriers → p ≡ q
-same_program p q w o r g b = λ i. record { wires = w i; ops = o i; reads = r i; registers = g i; barriers = b i }
+abbrev pub CutOnce : Type 0
+CutOnce = (gates : List Gate) (steps : List Step) (c d : Cut Op) → IsCutOf gates steps c → IsCutOf gates steps d → c ≡ d
 
-means_same : (b : Bound) (p q : Program) → Means b p → Means b q → p ≡ q
-means_same b p q m n =
+same_program : (p q : Program) → p.wires ≡ q.wires → p.ops ≡ q.ops → p.cut ≡ q.cut → p.reads ≡ q.reads → p.registers ≡ q.registers → p.barriers ≡ q.barriers → p ≡ q
+same_program p q w o c r g b = λ i. record { wires = w i; ops = o i; cut = c i; reads = r i; registers = g i; barriers = b i }
+
+means_same : CutOnce → (b : Bound) (p q : Program) → Means b p → Means b q → p ≡ q
+means_same law b p q m n =
     let list : p.ops ≡ q.ops = ok_same (operations b.gates b.steps) p.ops q.ops m.ops n.ops in
-    same_program p q (m.wires ∙ sym n.wires) list (m.reads ∙ sym n.reads) (m.registers ∙ sym n.registers) (m.barriers ∙ sym n.barriers)
+    let cut : p.cut ≡ q.cut = law b.gates b.steps p.cut q.cut m.cut n.cut in
+    same_program p q (m.wires ∙ sym n.wires) list cut (m.reads ∙ sym n.reads) (m.registers ∙ sym n.registers) (m.barriers ∙ sym n.barriers)
   where
     ok_same : {A E : Type 0} (r : Result A E) (x y : A) → r ≡ Ok x → r ≡ Ok y → x ≡ y
     ok_same r x y e f = cc
 
-pub means-once : LexedOnce → SpeltOnce → (text : List ℕ) (p q : Program) → IsWritten text p → IsWritten text q → p ≡ q
-means-once lexes once text p q (t, (is, fine), m) (u, (too, also), n) =
+pub means-once : LexedOnce → SpeltOnce → CutOnce → (text : List ℕ) (p q : Program) → IsWritten text p → IsWritten text q → p ≡ q
+means-once lexes once cuts text p q (t, (is, fine), m) (u, (too, also), n) =
     let same = tree-once lexes once text t u is too in
-    means_same (bound u) p q (subst (λ (x : Tree). Means (bound x) p) same m) n
+    means_same cuts (bound u) p q (subst (λ (x : Tree). Means (bound x) p) same m) n
 
 -- ---- no refusal
 pub unparsed : Laws → (text : List ℕ) (t : Tree) (fault : ParseFault) → IsTreeOf text t → IsUnparsed text fault → fault ≡ parsing.NoMemory
@@ -174,14 +186,50 @@ IsTextFault-written text t b (Refused (Version place)) is fine same u = absurd u
 IsTextFault-written text t b (Refused (Depth place)) is fine same u = absurd u
 IsTextFault-written text t b (Refused (Check r)) is fine same u = absurd u
 
-pub IsAcceptedText-read : (text : List ℕ) (t : Tree) (b : Bound) (p : Program) → IsTreeOf text t → IsFineTree t → b ≡ bound t
-    → IsWithinLimits b × Means b p → IsAcceptedText text p
-IsAcceptedText-read text t b p is fine same h = record {
-  tree = t;
-  source = (is, fine);
-  few = subst (λ (x : Bound). IsWithinLimits x) same h.0;
-  means = subst (λ (x : Bound). Means x p) same h.1;
-}
+pub IsAcceptedText-read : (text : List ℕ) (t : Tree) (b : Bound) (keep : Bool) (s : Program) → IsTreeOf text t → IsFineTree t → b ≡ bound t
+    → IsReadAs b keep s → (p : Program) × IsAcceptedText text p × (s ≡ kept keep p)
+IsAcceptedText-read text t b keep s is fine same h = (
+  h.1.0,
+  record {
+    tree = t;
+    source = (is, fine);
+    few = subst (λ (x : Bound). IsWithinLimits x) same h.0;
+    means = subst (λ (x : Bound). Means x h.1.0) same h.1.1;
+  },
+  h.1.2,
+)
+
+-- ---- as one part, and in parts
+abbrev pub AreCut : Type 0
+AreCut = (gates : List Gate) (steps : List Step) (us : List Op) → operations gates steps ≡ Ok us
+    → (c : Cut Op) × IsCutOf gates steps c × (whole c.parts ≡ us) × IsCut c
+
+abbrev pub SplitIsInlined : Type 0
+SplitIsInlined = (b : Bound) (s : Split) (o : Ops) → IsSplit b s → o.wires ≡ s.wires → o.list ≡ whole (cut_of s).parts → o.reads ≡ s.reads.items → IsInlined b o
+
+pub whole-means : AreCut → (b : Bound) (o : Ops) (rs : List Bits) (n : ℕ) (s : Program) → IsInlined b o → rs ≡ b.registers → n ≡ barriers b
+    → s ≡ (record { wires = o.wires; ops = o.list; cut = uncut o.list; reads = o.reads; registers = rs; barriers = n }) → IsReadAs b false s
+whole-means law b o rs n s h registers barriers e =
+    let c = law b.gates b.steps o.list h.list in (
+      h.small,
+      (
+        record { wires = o.wires; ops = o.list; cut = c.0; reads = o.reads; registers = rs; barriers = n },
+        record { wires = h.wires; ops = h.list; cut = c.1; reads = h.reads; registers = registers; barriers = barriers },
+        e,
+      ),
+    )
+
+pub parts-means : SplitIsInlined → (b : Bound) (x : Split) (rs : List Bits) (n : ℕ) (s : Program) → IsSplit b x → rs ≡ b.registers → n ≡ barriers b
+    → s ≡ (record { wires = x.wires; ops = whole (cut_of x).parts; cut = cut_of x; reads = x.reads.items; registers = rs; barriers = n }) → IsReadAs b true s
+parts-means law b x rs n s h registers barriers e =
+    let o = law b x (record { wires = x.wires; list = whole (cut_of x).parts; reads = x.reads.items }) h refl refl refl in (
+      h.small,
+      (
+        record { wires = x.wires; ops = whole (cut_of x).parts; cut = h.cut.0; reads = x.reads.items; registers = rs; barriers = n },
+        record { wires = h.wires; ops = o.list; cut = h.cut.1; reads = h.reads; registers = registers; barriers = barriers },
+        e ∙ (λ i. record { wires = x.wires; ops = whole (cut_of x).parts; cut = h.cut.2 i; reads = x.reads.items; registers = rs; barriers = n }),
+      ),
+    )
 
 pub in_ok : {A E : Type 0} (P Q : A → Type 0) (r : Result A E) → ((x : A) → P x → Q x) → IfOk r P → IfOk r Q
 in_ok P Q (Ok x) f h = f x h

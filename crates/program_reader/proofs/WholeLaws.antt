@@ -20,6 +20,7 @@ use Rattle.gate_inline.specs.declared.refusal.Refused.{Refused as Inlined}
 use Rattle.program_reader.specs.Texts.{IsAcceptedText, IsTextRefusal}
 use Rattle.program_reader.specs.declared.refusal.Refusal.{Refusal}
 use Rattle.program_reader.specs.declared.refusal.Refusal.TheVariants.{BadByte, Number, Syntax, Version, Depth, Check, Inline}
+use Rattle.program_reader.proofs.ReaderLaws.{AreCut}
 
 abbrev pub LexedOrRefused : Type 0
 LexedOrRefused = (text : List ℕ) → ((tokens : List Token) × AreTokens text tokens) ⊎ ((fault : LexFault) × (fault ≢ lexing.NoMemory) × IsLexFault text fault)
@@ -39,24 +40,27 @@ pub record WholeLaws : Type 0 where
   pub parsed : ParsedOrRefused
   pub checked : CheckedOrRefused
   pub inlined : InlinedOrRefused
+  pub cut : AreCut
 
 abbrev Whole : List ℕ → Type 0
 Whole text = ((p : Program) × IsAcceptedText text p) ⊎ ((r : Refusal) × IsTextRefusal text r)
 
-written : (text : List ℕ) (t : Tree) (o : Ops) → IsSource text t → IsInlined (bound t) o → Whole text
-written text t o source h = inl (
-  record { wires = o.wires; ops = o.list; reads = o.reads; registers = (bound t).registers; barriers = barriers (bound t) },
-  record {
-    tree = t;
-    source = source;
-    few = h.small;
-    means = record { wires = h.wires; ops = h.list; reads = h.reads; registers = refl; barriers = refl };
-  },
-)
+written : AreCut → (text : List ℕ) (t : Tree) (o : Ops) → IsSource text t → IsInlined (bound t) o → Whole text
+written law text t o source h =
+    let c = law (bound t).gates (bound t).steps o.list h.list in
+    inl (
+      record { wires = o.wires; ops = o.list; cut = c.0; reads = o.reads; registers = (bound t).registers; barriers = barriers (bound t) },
+      record {
+        tree = t;
+        source = source;
+        few = h.small;
+        means = record { wires = h.wires; ops = h.list; cut = c.1; reads = h.reads; registers = refl; barriers = refl };
+      },
+    )
 
 inlined : WholeLaws → (text : List ℕ) (t : Tree) → IsSource text t → Whole text
 inlined laws text t source = elim (laws.inlined (bound t)) [
-  | inl h ↦ written text t h.0 source h.1
+  | inl h ↦ written laws.cut text t h.0 source h.1
   | inr r ↦ inr (Inline r.0, (t, source, r.1))
 ]
 

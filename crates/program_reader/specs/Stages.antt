@@ -1,10 +1,14 @@
 -- Working form. What each stage may tell of its own input.
 --   IsUnchecked t e      of a tree: its refusal by the checks, or want of memory
+--   IsReadAs b keep s    of a program with its names bound: it is within the limits, and s is what it means, as one part unless
+--                        barriers are kept
 --   IsUnwritten b e      of a program with its names bound: its refusal where gates are written out, or want of memory
+use Rattle.std.specs.Prelude.{◌≡◌, Bool}
 use Rattle.qasm_check.specs.Bound.{Bound}
 use Rattle.qasm_check.specs.Checking.{IsCheckRefused}
 use Rattle.qasm_parser.specs.Tree.{Tree}
 use Rattle.gate_inline.specs.Inlined.{IsInlineRefused}
+use Rattle.gate_inline.specs.Programs.{IsWithinLimits, Means, Program, kept}
 use Rattle.program_reader.specs.declared.refusal.Refusal.TheVariants.{Check, Inline}
 use Rattle.program_reader.specs.declared.refusal.ReadFault.{ReadFault}
 use Rattle.program_reader.specs.declared.refusal.ReadFault.TheVariants.{Refused, NoMemory}
@@ -13,6 +17,9 @@ abbrev pub IsUnchecked : Tree → ReadFault → Type 0
 IsUnchecked t NoMemory = Unit {0}
 IsUnchecked t (Refused (Check r)) = IsCheckRefused t r
 IsUnchecked t (Refused _) = ⊥
+
+abbrev pub IsReadAs : Bound → Bool → Program → Type 0
+IsReadAs b keep s = IsWithinLimits b × ((p : Program) × Means b p × (s ≡ kept keep p))
 
 abbrev pub IsUnwritten : Bound → ReadFault → Type 0
 IsUnwritten b NoMemory = Unit {0}

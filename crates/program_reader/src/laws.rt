@@ -12,6 +12,7 @@ pub fn means_once()
 {
     qasm_lexer::lexed_once();
     qasm_parser::spelt_once();
+    gate_inline::cut_once();
 }
 
 /// A text of any length that is accepted has no refusal.
@@ -34,6 +35,7 @@ pub fn text_accepted_or_refused()
     qasm_parser::parsed_or_refused();
     qasm_check::checked_or_refused();
     gate_inline::inlined_or_refused();
+    gate_inline::operations_are_cut();
 }
 
 /// A text of any length has one refusal at most.

@@ -1,10 +1,12 @@
 //! The stages of the reader, one behind the other.
 
-ghost use Rattle.std.specs.Prelude.{◌≡◌, ◌<◌, All, IfOk, IfErr, length, ◌^◌};
-ghost use Rattle.gate_inline.specs.Programs.{IsAccepted, IsTreeOf, IsWithinLimits, Means};
+ghost use Rattle.std.specs.Prelude.{◌≡◌, ◌<◌, All, IfOk, IfErr, false, true, length, ◌^◌};
+ghost use Rattle.gate_inline.specs.Inlined.{IsInlineFault};
+ghost use Rattle.gate_inline.specs.Programs.{IsAccepted, IsTreeOf, Program as Meant, kept};
 ghost use Rattle.program_reader.specs.Refusals.{IsReadFault};
-ghost use Rattle.program_reader.specs.Stages.{IsUnchecked, IsUnwritten};
+ghost use Rattle.program_reader.specs.Stages.{IsReadAs, IsUnchecked, IsUnwritten};
 ghost use Rattle.program_reader.specs.Texts.{IsAcceptedText, IsTextFault};
+ghost use Rattle.qasm_check.specs.Bound.{Bound};
 ghost use Rattle.qasm_check.specs.Checking.{IsFineTree, bound};
 ghost use Rattle.qasm_check.specs.CheckedView.{program as bound_program};
 ghost use Rattle.qasm_lexer.specs.Names.{IsName};
@@ -13,7 +15,7 @@ ghost use Rattle.qasm_parser.specs.Tree.{program as tree_of};
 
 use crate::refusal::{ReadFault, Refusal};
 use crate::source::SourceProgram;
-use gate_inline::{InlineFault, inline};
+use gate_inline::{InlineFault, inline, inline_parts, operations_are_cut, split_is_inlined};
 use qasm_check::{Bits, CheckFault, Checked, check};
 use qasm_lexer::{lex, tokens_are_lexemes};
 use qasm_parser::{Name, Program, declares_names, few_statements, parse};
@@ -66,43 +68,80 @@ fn registers_of(alloc: Global, checked: &Checked) -> Result<Vec<Bits>, AllocErro
     Ok(registers)
 }
 
-/// The operations, reads and registers of a program with its names bound.
-fn write_out(alloc: Global, checked: &Checked) -> Result<SourceProgram, ReadFault>
-    requires { All (λ r. IsName r.name) (bound_program checked.now).registers }
-    ensures ok { IfOk result (λ s. IsWithinLimits (bound_program checked.now) × Means (bound_program checked.now) s) }
-    ensures err { IfErr result (IsUnwritten (bound_program checked.now)) }
+/// What is told of a program that isn't written out.
+fn inline_fault(fault: InlineFault) -> ReadFault
+    ensures { (b : Bound) → IsInlineFault b fault → IsUnwritten b result }
 {
-    let ops = match inline(alloc, checked) {
-        Ok(ops) => ops,
-        Err(InlineFault::Refused(refused)) => {
-            return Err(ReadFault::Refused(Refusal::Inline(refused)));
-        }
-        Err(InlineFault::NoMemory) => return Err(ReadFault::NoMemory),
-    };
-    let registers = registers_of(alloc, checked)?;
-    Ok(SourceProgram::new(ops, registers, checked.barriers()))
+    match fault {
+        InlineFault::Refused(refused) => ReadFault::Refused(Refusal::Inline(refused)),
+        InlineFault::NoMemory => ReadFault::NoMemory,
+    }
 }
 
-/// The program that a text of any length below 2^31 spells: its operations, reads and registers. Else the text's first refusal
-/// but for its length.
+/// The operations, reads and registers of a program with its names bound, as one part.
+fn write_whole(alloc: Global, checked: &Checked) -> Result<SourceProgram, ReadFault>
+    requires { All (λ r. IsName r.name) (bound_program checked.now).registers }
+    ensures ok { IfOk result (IsReadAs (bound_program checked.now) false) }
+    ensures err { IfErr result (IsUnwritten (bound_program checked.now)) }
+{
+    operations_are_cut();
+    let ops = match inline(alloc, checked) {
+        Ok(ops) => ops,
+        Err(fault) => return Err(inline_fault(fault)),
+    };
+    let registers = registers_of(alloc, checked)?;
+    Ok(SourceProgram::new(alloc, ops, registers, checked.barriers())?)
+}
+
+/// The same in parts.
+fn write_parts(alloc: Global, checked: &Checked) -> Result<SourceProgram, ReadFault>
+    requires { All (λ r. IsName r.name) (bound_program checked.now).registers }
+    ensures ok { IfOk result (IsReadAs (bound_program checked.now) true) }
+    ensures err { IfErr result (IsUnwritten (bound_program checked.now)) }
+{
+    split_is_inlined();
+    let split = match inline_parts(alloc, checked) {
+        Ok(split) => split,
+        Err(fault) => return Err(inline_fault(fault)),
+    };
+    let registers = registers_of(alloc, checked)?;
+    Ok(SourceProgram::in_parts(alloc, split, registers, checked.barriers())?)
+}
+
+/// The operations, reads and registers of a program with its names bound; in parts where barriers are kept.
+fn write_out(alloc: Global, checked: &Checked, keep: bool) -> Result<SourceProgram, ReadFault>
+    requires { All (λ r. IsName r.name) (bound_program checked.now).registers }
+    ensures ok { IfOk result (IsReadAs (bound_program checked.now) keep) }
+    ensures err { IfErr result (IsUnwritten (bound_program checked.now)) }
+{
+    if keep {
+        write_parts(alloc, checked)
+    } else {
+        write_whole(alloc, checked)
+    }
+}
+
+/// The program that a text of any length below 2^31 spells: its operations, reads and registers; in parts where barriers are
+/// kept. Else the text's first refusal but for its length.
 #[tactic(auto, using(crate::proofs::ReaderLaws::reader))]
-pub fn read_text(alloc: Global, text: &[u8]) -> Result<SourceProgram, ReadFault>
+pub fn read_text(alloc: Global, text: &[u8], keep: bool) -> Result<SourceProgram, ReadFault>
     requires { length text.now < 2 ^ 31 }
-    ensures ok { IfOk result (IsAcceptedText text.now) }
+    ensures ok { IfOk result (λ s. (p : Meant) × IsAcceptedText text.now p × (s ≡ kept keep p)) }
     ensures err { IfErr result (IsTextFault text.now) }
 {
     let program = read_tree(alloc, text)?;
     let checked = read_checked(alloc, program)?;
-    write_out(alloc, &checked)
+    write_out(alloc, &checked, keep)
 }
 
-/// The program that a text spells: its operations, reads and registers. Else the text's first refusal.
-pub fn read_program(alloc: Global, text: &[u8]) -> Result<SourceProgram, ReadFault>
-    ensures ok { IfOk result (IsAccepted text.now) }
+/// The program that a text spells: its operations, reads and registers; in parts where barriers are kept. Else the text's first
+/// refusal.
+pub fn read_program(alloc: Global, text: &[u8], keep: bool) -> Result<SourceProgram, ReadFault>
+    ensures ok { IfOk result (λ s. (p : Meant) × IsAccepted text.now p × (s ≡ kept keep p)) }
     ensures err { IfErr result (IsReadFault text.now) }
 {
     if text.len() > TEXT_LIMIT {
         return Err(ReadFault::Refused(Refusal::TooLong));
     }
-    read_text(alloc, text)
+    read_text(alloc, text, keep)
 }

@@ -8,7 +8,7 @@ use thiserror::Error;
 /// The first refusal of a text. A place is an offset in bytes, a statement is counted from 1.
 #[derive(Clone, Copy, Debug, PartialEq, Eq)]
 pub enum Refusal {
-    /// The text has more than 4,194,304 bytes.
+    /// The text has more than 4,194,304 bytes; only where that is a limit, as for `read_program`.
     TooLong,
     /// At this place no token, white space or comment begins.
     BadByte { place: u32 },

@@ -12,6 +12,8 @@ mod literature_tests;
 #[cfg(test)]
 mod opt_tests;
 #[cfg(test)]
+mod parts_tests;
+#[cfg(test)]
 mod read_tests;
 #[cfg(test)]
 mod route_tests;

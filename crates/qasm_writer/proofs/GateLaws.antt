@@ -2,21 +2,25 @@
 --   IsWritable n u       a plain operation on wires below n, no control its target
 --   IsWritable-ops       the gates of a circuit are such operations
 --   op_run, ops_run      what the statement of an operation means, and those of several; nothing more is known behind them
-use Rattle.std.proofs.Common.{◌≡◌, ◌≢◌, ℕ, zero, suc, ◌<◌, ◌≤◌, inl, inr, List, [], ◌∷◌, None, refl, sym, subst, ◌∙◌, ap, arith, map, fold}
+--   parts_run            what the statements of parts mean, with others behind them
+--   parts-known          nothing more is known behind them
+use Rattle.std.proofs.Common.{◌≡◌, ◌≢◌, ℕ, zero, suc, ◌<◌, ◌≤◌, inl, inr, List, [], ◌∷◌, ◌++◌, Option, None, append_assoc, append-nil, refl, sym, subst, ◌∙◌, ap, arith, length, map, fold}
 use Rattle.std.specs.Prelude.{codes}
 use Rattle.std.specs.List.{AllByRecursion}
+use Rattle.std.proofs.lemmas.List.Sums.{fold-append}
 use Rattle.unitary_model.specs.declared.Op.{Op}
 use Rattle.unitary_model.specs.declared.Op.TheVariants.{U, Cx}
 use Rattle.unitary_model.specs.Operations.{IsPlain}
 use Rattle.circuit_list.specs.Gates.{IsFine, op_of, ops}
 use Rattle.circuit_list.specs.declared.Gate.{Gate}
 use Rattle.circuit_list.specs.declared.Gate.TheVariants.{H, X, P, Cx as GateCx}
+use Rattle.qasm_parser.specs.Tree.{Statement}
 use Rattle.gate_library.specs.Known.{Known}
 use Rattle.qasm_check.specs.Steps.{after}
-use Rattle.qasm_writer.specs.Trees.{eighths_angle, op_statement}
+use Rattle.qasm_writer.specs.Trees.{at, barrier_statement, eighths_angle, op_statement, part_statements}
 use Rattle.qasm_writer.proofs.RowLaws.{three_eighths, five_eighths, row_h, row_x, row_cx, row_t, row_s, row_three, row_z, row_five, row_sdg, row_tdg, means_h, means_x, means_cx, means_t, means_s, means_three, means_z, means_five, means_sdg, means_tdg}
-use Rattle.qasm_writer.proofs.RunLaws.{Run, Run-append, Run-nil}
-use Rattle.qasm_writer.proofs.StatementLaws.{IsReady, one_run, two_run}
+use Rattle.qasm_writer.proofs.RunLaws.{Parted, Parted-bar, Parted-front, Parted-run, Run, Run-append, Run-nil}
+use Rattle.qasm_writer.proofs.StatementLaws.{IsNamed, IsReady, barrier_fine, barrier_named, one_run, two_run}
 
 abbrev pub IsWritable : ℕ → Op → Type 0
 IsWritable n (U a b c i) = IsPlain (U a b c i) × (i < n)
@@ -65,6 +69,43 @@ ops_run k q n (u ∷ us) h w =
           (subst (λ (l : Known). Run l (map (op_statement q) us) us [] (λ bit. None)) (sym here.1) later.0),
       ap (λ (l : Known). fold after l (map (op_statement q) us)) here.1 ∙ later.1,
     )
+
+-- ---- parts
+pub parts-known : (k : Known) (q : List ℕ) (n : ℕ) (us : List Op) (parts : List (List Op)) (bs : List (List ℕ)) → IsReady k q n
+    → AllByRecursion (AllByRecursion (IsWritable n)) (us ∷ parts) → fold after k (part_statements q (us ∷ parts) bs) ≡ k
+parts-known k q n us [] bs h w = (ops_run k q n us h w.0).1
+parts-known k q n us (vs ∷ parts) [] h w =
+    fold-append after k (map (op_statement q) us) (part_statements q (vs ∷ parts) [])
+    ∙ ap (λ (l : Known). fold after l (part_statements q (vs ∷ parts) [])) (ops_run k q n us h w.0).1
+    ∙ parts-known k q n vs parts [] h w.1
+parts-known k q n us (vs ∷ parts) (is ∷ bs) h w =
+    fold-append after k (map (op_statement q) us) (barrier_statement q is ∷ part_statements q (vs ∷ parts) bs)
+    ∙ ap (λ (l : Known). fold after l (part_statements q (vs ∷ parts) bs)) (ops_run k q n us h w.0).1
+    ∙ parts-known k q n vs parts bs h w.1
+
+-- a part before others
+part_run : (k : Known) (q : List ℕ) (n : ℕ) (us : List Op) (parts : List (List Op)) (bs : List (List ℕ)) (ys : List Statement) (f : ℕ → Option ℕ)
+    → IsReady k q n → AllByRecursion (IsWritable n) us → Parted k ys [] parts bs [] f → Parted k (map (op_statement q) us ++ ys) us parts bs [] f
+part_run k q n us parts bs ys f h w later =
+    let here = ops_run k q n us h w in
+    subst (λ (vs : List Op). Parted k (map (op_statement q) us ++ ys) vs parts bs [] f) (append-nil us)
+    (Parted-front k (map (op_statement q) us) ys us [] parts bs [] [] f here.0
+    (subst (λ (l : Known). Parted l ys [] parts bs [] f) (sym here.1) later))
+
+pub parts_run : (k : Known) (q : List ℕ) (n : ℕ) (us : List Op) (parts : List (List Op)) (bs : List (List ℕ)) (ys : List Statement) (f : ℕ → Option ℕ)
+    → IsReady k q n → AllByRecursion (AllByRecursion (IsWritable n)) (us ∷ parts) → AllByRecursion (IsNamed n) bs → length parts ≡ length bs
+    → Run k ys [] [] f → Parted k (part_statements q (us ∷ parts) bs ++ ys) us parts bs [] f
+parts_run k q n us [] [] ys f h w l e r = part_run k q n us [] [] ys f h w.0 (Parted-run k ys [] [] f r)
+parts_run k q n us [] (is ∷ bs) ys f h w l e r = absurd (omega arith)
+parts_run k q n us (vs ∷ parts) [] ys f h w l e r = absurd (omega arith)
+parts_run k q n us (vs ∷ parts) (is ∷ bs) ys f h w l e r =
+    let later = parts_run k q n vs parts bs ys f h w.1 l.1 (omega arith) r in
+    let rest : List Statement = part_statements q (vs ∷ parts) bs in
+    subst (λ (ss : List Statement). Parted k ss us (vs ∷ parts) (is ∷ bs) [] f)
+    (sym (append_assoc (map (op_statement q) us) (barrier_statement q is ∷ rest) ys))
+    (part_run k q n us (vs ∷ parts) (is ∷ bs) (barrier_statement q is ∷ (rest ++ ys)) f h w.0
+    (Parted-bar k (map (at q) is) is (rest ++ ys) vs parts bs [] f
+    (barrier_fine k q n is h l.0.1) (barrier_named k q n is h l.0) later))
 
 -- ---- a circuit's gates
 gate_writable : (n : ℕ) (g : Gate) → IsFine n g → IsWritable n (op_of g)

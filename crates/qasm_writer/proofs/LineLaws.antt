@@ -1,5 +1,10 @@
 -- What is left of the lines in a loop: the next line, and the others.
---   gates-next         the line of one gate, and those of the others
+--   next_text q i      a comma and a qubit
+--   listed-joined, listed-split   qubits are the first one, and the others behind commas
+--   others-next        one behind a comma, and the others
+--   gates-next, gates-none   the line of one gate, and those of the others; no gate
+--   parts-next, parts-last   the lines of one part and of the barrier behind it, and those of the others; the last part
+--   parts_within       a part ends in the body
 --   registers-next     that of one register
 --   reads-next         that of one measurement into a register
 --   register_reads-next, register_reads-split    those into one register
@@ -7,24 +12,121 @@
 --   reads_enough       the reads behind those of one register are enough for the others
 --   underscores-next   one underscore
 --   phase_line         the line of a phase, by its name
-use Rattle.std.proofs.Common.{◌≡◌, ℕ, suc, ◌+◌, ◌-◌, ◌<◌, ◌≤◌, List, ◌∷◌, ◌++◌, Option, Some, ap, ◌∙◌, length, drop, map, take, get_or, replicate, slice_get, sum_by, length-drop, refl, arith, codes}
-use Rattle.std.proofs.lemmas.List.{drop_more}
+use Rattle.std.proofs.Common.{◌≡◌, ℕ, suc, ◌+◌, ◌-◌, ◌<◌, ◌≤◌, List, [], ◌∷◌, ◌++◌, Option, Some, append_assoc, append-nil, ap, ◌∙◌, length, drop, map, take, get_or, replicate, slice_get, sum_by, length-drop, refl, sym, arith, codes}
+use Rattle.std.specs.Prelude.{Vec}
+use Rattle.std.specs.declared.alloc.Global.{Global}
+use Rattle.std.proofs.lemmas.Grind.{common_steps}
+use Rattle.std.proofs.lemmas.List.{drop_more, take-map}
 use Rattle.std.proofs.lemmas.List.Sums.{sum_by-cons}
 use Rattle.std.proofs.lemmas.Option.{get_or_from_slice_get, slice_get_within}
-use Rattle.std.specs.List.{flat_map}
+use Rattle.std.specs.List.{drop-map, flat_map}
 use Rattle.circuit_list.specs.declared.Gate.{Gate}
 use Rattle.circuit_list.specs.declared.Gate.TheVariants.{P}
 use Rattle.circuit_list.specs.Gates.{op_of, ops}
+use Rattle.program_parts.specs.Cuts.{chopped}
+use Rattle.unitary_model.specs.declared.Op.{Op}
 use Rattle.qasm_writer.specs.Outputs.{bits_of}
-use Rattle.qasm_writer.specs.Texts.{bits_line, index_text, op_line, phase_text, read_line, read_lines, register_lines}
+use Rattle.qasm_writer.specs.Texts.{barrier_line, bits_line, index_text, listed, op_line, part_lines, phase_text, read_line, read_lines, register_lines}
 use Rattle.qasm_writer.specs.declared.output.Register.{Register}
 
-pub gates-next : (q : List ℕ) (gs : List Gate) (i : ℕ) (g : Gate) → slice_get gs i ≡ Some g
-    → flat_map (op_line q) (ops (drop i gs)) ≡ op_line q (op_of g) ++ flat_map (op_line q) (ops (drop (i + 1) gs))
-gates-next q gs i g there =
-    ap (λ z. flat_map (op_line q) (ops z)) (drop_more gs i g (slice_get_within gs i g there))
-    ∙ ap (λ z. op_line q (op_of z) ++ flat_map (op_line q) (ops (drop (i + 1) gs))) (get_or_from_slice_get gs i g g there)
+-- ---- barriers
+abbrev pub next_text : List ℕ → ℕ → List ℕ
+next_text q i = codes "," ++ index_text q i
 
+pub listed-joined : (q : List ℕ) (i : ℕ) (is : List ℕ) → listed q (i ∷ is) ≡ index_text q i ++ flat_map (next_text q) is
+listed-joined q i [] = sym (append-nil (index_text q i))
+listed-joined q i (j ∷ is) = ap (λ z. index_text q i ++ (codes "," ++ z)) (listed-joined q j is)
+
+pub listed-split : (q ws : List ℕ) (i : ℕ) (is : List ℕ) → ws ≡ i ∷ is → index_text q i ++ flat_map (next_text q) is ≡ listed q ws
+listed-split q ws i is e = sym (listed-joined q i is) ∙ ap (listed q) (sym e)
+
+pub others-next : (q is : List ℕ) (i d : ℕ) → i < length is
+    → flat_map (next_text q) (drop i is) ≡ next_text q (get_or is i d) ++ flat_map (next_text q) (drop (i + 1) is)
+others-next q is i d h = ap (λ z. flat_map (next_text q) z) (drop_more is i d h)
+
+-- ---- gates
+pub gates-next : (q : List ℕ) (gs : List Gate) (i to : ℕ) (g : Gate) → i < to → slice_get gs i ≡ Some g
+    → flat_map (op_line q) (ops (take (to - i) (drop i gs))) ≡ op_line q (op_of g) ++ flat_map (op_line q) (ops (take (to - (i + 1)) (drop (i + 1) gs)))
+gates-next q gs i to g less there =
+    let long : to - i ≡ suc (to - (i + 1)) = omega arith in
+    ap (λ k. flat_map (op_line q) (ops (take k (drop i gs)))) long
+    ∙ ap (λ z. flat_map (op_line q) (ops (take (suc (to - (i + 1))) z))) (drop_more gs i g (slice_get_within gs i g there))
+    ∙ ap (λ z. op_line q (op_of z) ++ flat_map (op_line q) (ops (take (to - (i + 1)) (drop (i + 1) gs)))) (get_or_from_slice_get gs i g g there)
+
+pub gates-none : (q : List ℕ) (gs : List Gate) (i to : ℕ) → to ≤ i → flat_map (op_line q) (ops (take (to - i) (drop i gs))) ≡ []
+gates-none q gs i to h =
+    let none : to - i ≡ 0 = omega arith in
+    ap (λ k. flat_map (op_line q) (ops (take k (drop i gs)))) none
+
+-- ---- parts
+drop-behind : {A : Type 0} (n m : ℕ) (xs : List A) → drop m (drop n xs) ≡ drop (n + m) xs
+drop-behind n m xs = grind (arith, common_steps)
+
+-- the gates of parts of these lengths, from one place on
+abbrev pub parts_left : List ℕ → List Gate → ℕ → List (List Op)
+parts_left ns gs from = chopped ns (ops (drop from gs))
+
+part-more : (n : ℕ) (ns : List ℕ) (gs : List Gate) (from to : ℕ) → to ≡ from + n
+    → parts_left (n ∷ ns) gs from ≡ ops (take (to - from) (drop from gs)) ∷ parts_left ns gs to
+part-more n ns gs from to e =
+    let long : n ≡ to - from = omega (arith, e) in
+    let front : take n (ops (drop from gs)) ≡ ops (take (to - from) (drop from gs)) =
+    take-map op_of n (drop from gs) ∙ ap (λ k. ops (take k (drop from gs))) long in
+    let back : drop n (ops (drop from gs)) ≡ ops (drop to gs) =
+    drop-map op_of n (drop from gs) ∙ ap (λ z. ops z) (drop-behind from n gs ∙ ap (λ k. drop k gs) (sym e)) in
+    λ j. front j ∷ chopped ns (back j)
+
+two-parts : (q : List ℕ) (us : List Op) (n : ℕ) (ns : List ℕ) (xs : List Op) (is : List ℕ) (bs : List (List ℕ))
+    → part_lines q (us ∷ chopped (n ∷ ns) xs) (is ∷ bs) ≡ (flat_map (op_line q) us ++ barrier_line q is) ++ part_lines q (chopped (n ∷ ns) xs) bs
+two-parts q us n ns xs is bs = sym (append_assoc (flat_map (op_line q) us) (barrier_line q is) (part_lines q (chopped (n ∷ ns) xs) bs))
+
+some-left : (ns : List ℕ) → 0 < length ns → (n : ℕ) × (others : List ℕ) × (ns ≡ n ∷ others)
+some-left [] h = absurd (omega arith)
+some-left (n ∷ ns) h = (n, ns, refl)
+
+abbrev pub wires_of_each : List (Vec ℕ Global) → List (List ℕ)
+wires_of_each bs = map (λ v. v.items) bs
+
+pub parts-next : (q ns : List ℕ) (bs : List (Vec ℕ Global)) (gs : List Gate) (k from to d : ℕ) (b : Vec ℕ Global) (is : List ℕ) → k < length bs
+    → length ns ≡ length bs + 1 → to ≡ from + get_or ns k d → is ≡ (get_or bs k b).items
+    → part_lines q (parts_left (drop k ns) gs from) (wires_of_each (drop k bs))
+    ≡ (flat_map (op_line q) (ops (take (to - from) (drop from gs))) ++ barrier_line q is)
+    ++ part_lines q (parts_left (drop (k + 1) ns) gs to) (wires_of_each (drop (k + 1) bs))
+parts-next q ns bs gs k from to d b is less cut e these =
+    let there : k < length ns = omega (arith, cut) in
+    let more = some-left (drop (k + 1) ns) (omega (arith, cut, length-drop (k + 1) ns)) in
+    let us : List Op = ops (take (to - from) (drop from gs)) in
+    let bars : List (List ℕ) = wires_of_each (drop (k + 1) bs) in
+    let first : parts_left (drop k ns) gs from ≡ us ∷ parts_left (drop (k + 1) ns) gs to =
+    ap (λ z. parts_left z gs from) (drop_more ns k d there) ∙ part-more (get_or ns k d) (drop (k + 1) ns) gs from to e in
+    let named : wires_of_each (drop k bs) ≡ is ∷ bars = ap (λ z. wires_of_each z) (drop_more bs k b less) ∙ ap (λ (z : List ℕ). z ∷ bars) (sym these) in
+    (λ j. part_lines q (first j) (named j))
+    ∙ ap (λ z. part_lines q (us ∷ parts_left z gs to) (is ∷ bars)) more.2
+    ∙ two-parts q us more.0 more.1 (ops (drop to gs)) is bars
+    ∙ ap (λ z. (flat_map (op_line q) us ++ barrier_line q is) ++ part_lines q (parts_left z gs to) bars) (sym more.2)
+
+pub parts-last : (q ns : List ℕ) (bs : List (Vec ℕ Global)) (gs : List Gate) (k from to : ℕ) → length bs ≤ k → k ≤ length bs → length ns ≡ length bs + 1
+    → from + sum_by (λ n. n) (drop k ns) ≡ length gs → to ≡ length gs
+    → part_lines q (parts_left (drop k ns) gs from) (wires_of_each (drop k bs)) ≡ flat_map (op_line q) (ops (take (to - from) (drop from gs)))
+parts-last q ns bs gs k from to low high cut all end = go (drop k ns) (wires_of_each (drop k bs)) (omega (arith, low, high, cut, length-drop k ns)) all
+  where
+    one : (n : ℕ) → from + sum_by (λ n. n) (n ∷ []) ≡ length gs → to ≡ from + n
+    one n e = omega (arith, e, end, sum_by-cons (λ (n : ℕ). n) n [])
+
+    go : (left : List ℕ) (bars : List (List ℕ)) → length left ≡ 1 → from + sum_by (λ n. n) left ≡ length gs
+        → part_lines q (parts_left left gs from) bars ≡ flat_map (op_line q) (ops (take (to - from) (drop from gs)))
+    go [] bars one_left e = absurd (omega (arith, one_left))
+    go (n ∷ m ∷ left) bars one_left e = absurd (omega (arith, one_left))
+    go (n ∷ []) bars one_left e = ap (λ z. part_lines q z bars) (part-more n [] gs from to (one n e))
+
+pub parts_within : (ns : List ℕ) (k from d size : ℕ) → k < length ns → from + sum_by (λ n. n) (drop k ns) ≡ size
+    → (from + get_or ns k d) + sum_by (λ n. n) (drop (k + 1) ns) ≡ size
+parts_within ns k from d size h e =
+    let more : sum_by (λ n. n) (drop k ns) ≡ get_or ns k d + sum_by (λ n. n) (drop (k + 1) ns) =
+    ap (λ z. sum_by (λ n. n) z) (drop_more ns k d h) ∙ sum_by-cons (λ (n : ℕ). n) (get_or ns k d) (drop (k + 1) ns) in
+    omega (arith, e, more)
+
+-- ---- registers
 pub registers-next : (rs : List Register) (i : ℕ) (d : Register) → i < length rs
     → flat_map bits_line (map bits_of (drop i rs)) ≡ bits_line (bits_of (get_or rs i d)) ++ flat_map bits_line (map bits_of (drop (i + 1) rs))
 registers-next rs i d h = ap (λ z. flat_map bits_line (map bits_of z)) (drop_more rs i d h)
@@ -68,4 +170,4 @@ pub phase_line : (q name : List ℕ) (k wire : ℕ) (gate : Gate) → name ≡ p
     → name ++ (codes " " ++ (index_text q wire ++ codes ";\n")) ≡ op_line q (op_of gate)
 phase_line q name k wire gate e is = rw (is, e) refl
 
-pub ruleset lines = (gates-next, registers-next, reads-next, register_reads-next)
+pub ruleset lines = (others-next, gates-next, registers-next, reads-next, register_reads-next)

@@ -4,6 +4,7 @@
 --   AreDeclared d b rs   by the naming d these registers stand side by side, from the bit b on
 --   read_from b os bit   what is read into a bit, where these are the reads of the bits from b on
 --   reads_listed         the reads of all bits, one by one
+--   all_take, all_drop   what holds of all of a list holds of its front and of what is behind that
 --   reads_run            what the measurements mean
 use Rattle.std.proofs.Common.{◌≡◌, ℕ, zero, suc, ◌+◌, ◌<◌, ◌≤◌, List, [], ◌∷◌, ◌++◌, Bool, true, false, if◌then◌else◌, Option, Some, None, refl, sym, subst, ◌∙◌, ap, arith, add-one, length, map, fold, take, drop, get_or}
 use Rattle.std.specs.Prelude.{nat_eq}
@@ -143,12 +144,12 @@ register_run k q n name first size i b (o ∷ os) dq dn l r e =
       same_append k (read_statement q name i o) (register_statements q name (i + 1) os) here.1 later.1,
     )
 
-all_take : {A : Type 0} (P : A → Type 0) (n : ℕ) (xs : List A) → AllByRecursion P xs → AllByRecursion P (take n xs)
+pub all_take : {A : Type 0} (P : A → Type 0) (n : ℕ) (xs : List A) → AllByRecursion P xs → AllByRecursion P (take n xs)
 all_take P zero xs a = tt
 all_take P (suc n) [] a = tt
 all_take P (suc n) (x ∷ xs) a = (a.0, all_take P n xs a.1)
 
-all_drop : {A : Type 0} (P : A → Type 0) (n : ℕ) (xs : List A) → AllByRecursion P xs → AllByRecursion P (drop n xs)
+pub all_drop : {A : Type 0} (P : A → Type 0) (n : ℕ) (xs : List A) → AllByRecursion P xs → AllByRecursion P (drop n xs)
 all_drop P zero xs a = a
 all_drop P (suc n) [] a = tt
 all_drop P (suc n) (x ∷ xs) a = all_drop P n xs a.1

@@ -7,6 +7,7 @@
 --   Sends-none, Sends-then   no bytes; some bytes, and then more
 --   fault-now, fault-then    the sink failed in the first of some bytes, or in what came after some
 --   on_err, on_err-same, on_ok-map, on_err-map, then-ok, then-err    the same for what a call answers
+--   last-ok, last-err    what a call answers that puts the last of some lines behind a loop
 --   fault-whole, Sends-whole, Sends-rest, rest-fault    a whole text by an empty room
 use Rattle.std.proofs.Common.{◌≡◌, ℕ, ◌+◌, List, [], ◌++◌, Option, Some, None, Result, Ok, Err, OnErr, OnOk, refl, sym, subst, ap, ◌∙◌, arith, append_assoc, append-nil, length, length-append, take}
 use Rattle.std.proofs.Math.Seq.{take-append-add}
@@ -119,6 +120,16 @@ pub then-err : {T E : Type 0} (x : Result T E) (a b c : Option (List ℕ)) (r s 
     → OnErr x (GainsPrefix b c (s ++ ys)) → OnErr x (GainsPrefix a c (r ++ (xs ++ ys)))
 then-err (Ok v) a b c r s xs ys h k = tt
 then-err (Err e) a b c r s xs ys h k = fault-then a b c r s xs ys h k
+
+pub last-ok : {T E : Type 0} (x : Result T E) (a b c : Option (List ℕ)) (r s t all rest line : List ℕ) → Leads a r b s all rest → rest ≡ line
+    → OnOk x (Sends b s c t line) → OnOk x (Sends a r c t all)
+last-ok (Ok v) a b c r s t all rest line h e k = Leads-more a b c r s t all rest line [] h (e ∙ sym (append-nil line)) k
+last-ok (Err f) a b c r s t all rest line h e k = tt
+
+pub last-err : {T E : Type 0} (x : Result T E) (a b c : Option (List ℕ)) (r s all rest line : List ℕ) → Leads a r b s all rest → rest ≡ line
+    → OnErr x (GainsPrefix b c (s ++ line)) → OnErr x (GainsPrefix a c (r ++ all))
+last-err (Ok v) a b c r s all rest line h e failed = tt
+last-err (Err f) a b c r s all rest line h e failed = Leads-stop a b c r s all rest line [] h (e ∙ sym (append-nil line)) failed
 
 pub on_err-same : {T E : Type 0} (x : Result T E) (a b : Option (List ℕ)) (r xs ys : List ℕ) → xs ≡ ys
     → OnErr x (GainsPrefix a b (r ++ xs)) → OnErr x (GainsPrefix a b (r ++ ys))

@@ -2,27 +2,37 @@
 --   standard_meanings    what `U`, `CX` and the gates of the tables do
 --   Run k ss us rs f     behind what is known in k, no refusal applies to these statements, and they have these operations, these
 --                        classical registers, the read f bit for each bit, and no barrier
+--   Parted k ss us parts bs rs f   the same of statements with barriers: the operations of the first part, those of the other
+--                        parts, and the wires of each barrier
 --   Run-nil, Run-append  no statements; some and then others
 --   Run-one, Run-quiet   one statement; one that does nothing
 --   Run-reads            the same reads, told in another way
-use Rattle.std.proofs.Common.{◌≡◌, ℕ, ◌+◌, List, [], ◌∷◌, ◌++◌, Bool, false, cond, Option, Some, None, Ok, Err, append_assoc, append-nil, refl, sym, ◌∙◌, ap, arith, map, fold}
-use Rattle.std.specs.List.{cons_option, count_by, filter_map}
+--   Parted-run           statements without a barrier are one part
+--   Parted-front, Parted-bar     statements without a barrier before others; a barrier before others
+--   AreOperations-answers    parts have these operations, by what the gates do
+use Rattle.std.proofs.Common.{◌≡◌, ℕ, suc, ◌+◌, List, [], ◌∷◌, ◌++◌, Bool, false, cond, Option, Some, None, Ok, Err, append_assoc, append-nil, one-add, refl, sym, subst, ◌∙◌, ap, arith, length, map, fold}
+use Rattle.std.specs.List.{AllByRecursion, cons_option, count_by, filter_map}
 use Rattle.std.specs.Option.{option_or}
 use Rattle.std.proofs.lemmas.List.{map-append}
 use Rattle.std.proofs.lemmas.List.Elements.{filter_map-append}
-use Rattle.std.proofs.lemmas.List.Sums.{sum_by-append}
+use Rattle.std.proofs.lemmas.List.Sums.{sum_by-cons}
 use Rattle.unitary_model.specs.declared.Op.{Op}
-use Rattle.qasm_parser.specs.Tree.{Statement}
+use Rattle.program_parts.specs.Cuts.{Cut, cut_at, cut_by, whole}
+use Rattle.qasm_parser.specs.Tree.{Statement, act, barrier}
+use Rattle.qasm_parser.specs.declared.tree.Arg.{Arg}
+use Rattle.qasm_check.specs.Arguments.{operands}
 use Rattle.qasm_check.specs.Checking.{AllFine, bits_of, steps}
 use Rattle.qasm_check.specs.Bound.{is_barrier}
-use Rattle.gate_library.specs.Gates.{u, cx}
+use Rattle.gate_library.specs.Gates.{Gate, u, cx}
 use Rattle.gate_library.specs.Known.{Known}
 use Rattle.gate_library.specs.Library.{library}
+use Rattle.gate_library.specs.declared.operand.Operand.{Operand}
 use Rattle.qasm_check.specs.Refusals.{IsFine}
-use Rattle.qasm_check.specs.Steps.{Step, nothing, after, step}
+use Rattle.qasm_check.specs.Steps.{Step, applies, measures, bars, nothing, after, step}
 use Rattle.qasm_check.specs.declared.bits.Bits.{Bits}
 use Rattle.gate_inline.specs.Meanings.{Answer, Meaning, followed, joined, meanings, step_answer}
 use Rattle.gate_inline.specs.Reads.{last_read, step_read}
+use Rattle.gate_inline.specs.Splits.{AreOperations, bar_of}
 
 unfoldable pub standard_meanings : List Meaning
 standard_meanings = meanings (u ∷ cx ∷ library)
@@ -32,7 +42,7 @@ pub record Run (k : Known) (ss : List Statement) (us : List Op) (rs : List Bits)
   pub ops : ◌≡◌ {A = Answer} (joined (map (step_answer standard_meanings) (steps k ss))) (Ok us)
   pub registers : filter_map bits_of ss ≡ rs
   pub reads : (bit : ℕ) → last_read (steps k ss) bit ≡ f bit
-  pub barriers : count_by is_barrier (steps k ss) ≡ 0
+  pub quiet : AllByRecursion (λ s. is_barrier s ≡ false) (steps k ss)
 
 pub Run-nil : (k : Known) → Run k [] [] [] (λ bit. None)
 Run-nil k = record {
@@ -40,10 +50,14 @@ Run-nil k = record {
   ops = refl;
   registers = refl;
   reads = λ bit. refl;
-  barriers = refl;
+  quiet = tt;
 }
 
 -- ---- one list and then the other
+each-append : {A : Type 0} (P : A → Type 0) (xs ys : List A) → AllByRecursion P xs → AllByRecursion P ys → AllByRecursion P (xs ++ ys)
+each-append P [] ys h k = k
+each-append P (x ∷ xs) ys h k = (h.0, each-append P xs ys h.1 k)
+
 all_fine-append : (k : Known) (xs ys : List Statement) → AllFine k xs → AllFine (fold after k xs) ys → AllFine k (xs ++ ys)
 all_fine-append k [] ys f g = g
 all_fine-append k (x ∷ xs) ys f g = (f.0, all_fine-append (after k x) xs ys f.1 g)
@@ -79,9 +93,6 @@ joined_both (x ∷ xs) ys us vs e f = go x (joined xs) (λ zs same. joined_both 
         let all : ws ++ zs ≡ us = cc in
         ap (followed (Ok ws)) (later zs refl) ∙ ap (λ (ts : List Op). Ok ts) (sym (append_assoc ws zs vs)) ∙ ap (λ (ts : List Op). Ok (ts ++ vs)) all
 
-none_counted : (p : Step → Bool) (xs ys : List Step) → count_by p xs ≡ 0 → count_by p ys ≡ 0 → count_by p (xs ++ ys) ≡ 0
-none_counted p xs ys e f = omega (arith, sum_by-append (λ x. cond (p x) 1 0) xs ys)
-
 pub Run-append : (k : Known) (xs ys : List Statement) (us vs : List Op) (rs ts : List Bits) (f g : ℕ → Option ℕ)
     → Run k xs us rs f → Run (fold after k xs) ys vs ts g → Run k (xs ++ ys) (us ++ vs) (rs ++ ts) (λ bit. option_or (g bit) (f bit))
 Run-append k xs ys us vs rs ts f g r s = record {
@@ -93,7 +104,8 @@ Run-append k xs ys us vs rs ts f g r s = record {
   reads = λ bit. ap (λ (ss : List Step). last_read ss bit) (steps-append k xs ys)
       ∙ last_read-append (steps k xs) (steps (fold after k xs) ys) bit
       ∙ (λ i. option_or (s.reads bit i) (r.reads bit i));
-  barriers = ap (count_by is_barrier) (steps-append k xs ys) ∙ none_counted is_barrier (steps k xs) (steps (fold after k xs) ys) r.barriers s.barriers;
+  quiet = subst (AllByRecursion (λ (x : Step). is_barrier x ≡ false)) (sym (steps-append k xs ys))
+      (each-append (λ (x : Step). is_barrier x ≡ false) (steps k xs) (steps (fold after k xs) ys) r.quiet s.quiet);
 }
 
 pub Run-reads : (k : Known) (ss : List Statement) (us : List Op) (rs : List Bits) (f g : ℕ → Option ℕ)
@@ -103,7 +115,7 @@ Run-reads k ss us rs f g e r = record {
   ops = r.ops;
   registers = r.registers;
   reads = λ bit. r.reads bit ∙ e bit;
-  barriers = r.barriers;
+  quiet = r.quiet;
 }
 
 -- ---- one statement
@@ -116,8 +128,121 @@ Run-one k s x us o f fine does e b reads p = record {
       ∙ ap (λ (vs : List Op). Ok vs) (append-nil us);
   registers = ap (λ (c : Option Bits). cons_option c []) b;
   reads = λ bit. ap (λ (y : Step). step_read y bit) does ∙ reads bit;
-  barriers = ap (λ (y : Step). count_by is_barrier (y ∷ [])) does ∙ ap (λ (c : Bool). 0 + cond c 1 0) p;
+  quiet = (ap is_barrier does ∙ p, tt);
 }
 
 pub Run-quiet : (k : Known) (s : Statement) (o : Option Bits) → IsFine k s → step k s ≡ nothing → bits_of s ≡ o → Run k (s ∷ []) [] (cons_option o []) (λ bit. None)
 Run-quiet k s o fine does b = Run-one k s nothing [] o (λ bit. None) fine does refl b (λ bit. refl) refl
+
+-- ---- parts
+abbrev pub answer_of : List Step → Answer
+answer_of ss = joined (map (step_answer standard_meanings) ss)
+
+abbrev pub AreAnswers : List (List Step) → List (List Op) → Type 0
+AreAnswers [] [] = Unit {0}
+AreAnswers (ss ∷ parts) (us ∷ lists) = (◌≡◌ {A = Answer} (answer_of ss) (Ok us)) × AreAnswers parts lists
+AreAnswers _ _ = ⊥
+
+abbrev pub cut_in : List Step → List (List Step) → List (List ℕ) → Cut Step
+cut_in here later bs = record { parts = here ∷ later; bars = bs }
+
+pub record Parted (k : Known) (ss : List Statement) (us : List Op) (parts : List (List Op)) (bs : List (List ℕ)) (rs : List Bits) (f : ℕ → Option ℕ) : Type 0 where
+  pub fine : AllFine k ss
+  pub here : List Step
+  pub later : List (List Step)
+  pub cut : cut_at bar_of (steps k ss) ≡ cut_in here later bs
+  pub first : ◌≡◌ {A = Answer} (answer_of here) (Ok us)
+  pub others : AreAnswers later parts
+  pub ops : ◌≡◌ {A = Answer} (answer_of (steps k ss)) (Ok (us ++ whole parts))
+  pub registers : filter_map bits_of ss ≡ rs
+  pub reads : (bit : ℕ) → last_read (steps k ss) bit ≡ f bit
+  pub barriers : count_by is_barrier (steps k ss) ≡ length bs
+
+no_bar : (s : Step) → is_barrier s ≡ false → bar_of s ≡ None
+no_bar (applies gate angles operands) e = refl
+no_bar (measures qubit bit) e = refl
+no_bar (bars operands) e = absurd (cc)
+no_bar nothing e = refl
+
+cut-front : (xs ys here : List Step) (later : List (List Step)) (bs : List (List ℕ)) → AllByRecursion (λ s. is_barrier s ≡ false) xs
+    → cut_at bar_of ys ≡ cut_in here later bs → cut_at bar_of (xs ++ ys) ≡ cut_in (xs ++ here) later bs
+cut-front [] ys here later bs q e = e
+cut-front (x ∷ xs) ys here later bs q e = λ j. cut_by (no_bar x q.0 j) x (cut-front xs ys here later bs q.1 e j)
+
+nought-add : (n : ℕ) → 0 + n ≡ n
+nought-add n = omega arith
+
+count-front : (xs ys : List Step) → AllByRecursion (λ s. is_barrier s ≡ false) xs → count_by is_barrier (xs ++ ys) ≡ count_by is_barrier ys
+count-front [] ys q = refl
+count-front (x ∷ xs) ys q =
+    sum_by-cons (λ s. cond (is_barrier s) 1 0) x (xs ++ ys)
+    ∙ ap (λ (b : Bool). cond b 1 0 + count_by is_barrier (xs ++ ys)) q.0 ∙ nought-add (count_by is_barrier (xs ++ ys)) ∙ count-front xs ys q.1
+
+count-bar : (ps : List Operand) (ys : List Step) → count_by is_barrier (bars ps ∷ ys) ≡ suc (count_by is_barrier ys)
+count-bar ps ys = sum_by-cons (λ s. cond (is_barrier s) 1 0) (bars ps) ys ∙ one-add (count_by is_barrier ys)
+
+pub Parted-run : (k : Known) (ss : List Statement) (us : List Op) (rs : List Bits) (f : ℕ → Option ℕ) → Run k ss us rs f → Parted k ss us [] [] rs f
+Parted-run k ss us rs f r =
+    let all : steps k ss ++ [] ≡ steps k ss = append-nil (steps k ss) in record {
+      fine = r.fine;
+      here = steps k ss;
+      later = [];
+      cut = subst (λ (z : List Step). cut_at bar_of z ≡ cut_in z [] []) all (cut-front (steps k ss) [] [] [] [] r.quiet refl);
+      first = r.ops;
+      others = tt;
+      ops = r.ops ∙ ap (λ (vs : List Op). Ok vs) (sym (append-nil us));
+      registers = r.registers;
+      reads = r.reads;
+      barriers = ap (count_by is_barrier) (sym all) ∙ count-front (steps k ss) [] r.quiet;
+    }
+
+answer-append : (xs ys : List Step) (us vs : List Op) → ◌≡◌ {A = Answer} (answer_of xs) (Ok us) → ◌≡◌ {A = Answer} (answer_of ys) (Ok vs)
+    → ◌≡◌ {A = Answer} (answer_of (xs ++ ys)) (Ok (us ++ vs))
+answer-append xs ys us vs e f =
+    ap joined (map-append (step_answer standard_meanings) xs ys)
+    ∙ joined_both (map (step_answer standard_meanings) xs) (map (step_answer standard_meanings) ys) us vs e f
+
+pub Parted-front : (k : Known) (xs ys : List Statement) (vs us : List Op) (parts : List (List Op)) (bs : List (List ℕ)) (rs ts : List Bits) (f : ℕ → Option ℕ)
+    → Run k xs vs rs (λ bit. None) → Parted (fold after k xs) ys us parts bs ts f → Parted k (xs ++ ys) (vs ++ us) parts bs (rs ++ ts) f
+Parted-front k xs ys vs us parts bs rs ts f r s =
+    let here = steps k xs in
+    let later = steps (fold after k xs) ys in
+    let all : steps k (xs ++ ys) ≡ here ++ later = steps-append k xs ys in record {
+      fine = all_fine-append k xs ys r.fine s.fine;
+      here = here ++ s.here;
+      later = s.later;
+      cut = ap (cut_at bar_of) all ∙ cut-front here later s.here s.later bs r.quiet s.cut;
+      first = answer-append here s.here vs us r.ops s.first;
+      others = s.others;
+      ops = ap answer_of all ∙ answer-append here later vs (us ++ whole parts) r.ops s.ops
+          ∙ ap (λ (ws : List Op). Ok ws) (sym (append_assoc vs us (whole parts)));
+      registers = filter_map-append bits_of xs ys ∙ (λ i. r.registers i ++ s.registers i);
+      reads = λ bit. ap (λ (ss : List Step). last_read ss bit) all ∙ last_read-append here later bit
+          ∙ (λ i. option_or (s.reads bit i) (r.reads bit i)) ∙ none_or (f bit);
+      barriers = ap (count_by is_barrier) all ∙ count-front here later r.quiet ∙ s.barriers;
+    }
+
+pub Parted-bar : (k : Known) (args : List Arg) (ws : List ℕ) (ys : List Statement) (us : List Op) (parts : List (List Op)) (bs : List (List ℕ)) (ts : List Bits)
+    (f : ℕ → Option ℕ) → IsFine k (act (barrier args)) → bar_of (bars (operands k args)) ≡ Some ws → Parted k ys us parts bs ts f
+    → Parted k (act (barrier args) ∷ ys) [] (us ∷ parts) (ws ∷ bs) ts f
+Parted-bar k args ws ys us parts bs ts f fine named s = record {
+  fine = (fine, s.fine);
+  here = [];
+  later = s.here ∷ s.later;
+  cut = λ j. cut_by (named j) (bars (operands k args)) (s.cut j);
+  first = refl;
+  others = (s.first, s.others);
+  ops = ap (followed (Ok [])) s.ops;
+  registers = s.registers;
+  reads = λ bit. none_or (last_read (steps k ys) bit) ∙ s.reads bit;
+  barriers = count-bar (operands k args) (steps k ys) ∙ ap (λ n. suc n) s.barriers;
+}
+
+-- ---- what the gates do
+pub AreOperations-answers : (gates : List Gate) (parts : List (List Step)) (lists : List (List Op)) → meanings gates ≡ standard_meanings
+    → AreAnswers parts lists → AreOperations gates parts lists
+AreOperations-answers gates [] [] e h = tt
+AreOperations-answers gates [] (us ∷ lists) e h = h
+AreOperations-answers gates (ss ∷ parts) [] e h = h
+AreOperations-answers gates (ss ∷ parts) (us ∷ lists) e h =
+    (ap (λ (ms : List Meaning). joined (map (step_answer ms) ss)) e ∙ h.0, AreOperations-answers gates parts lists e h.1)

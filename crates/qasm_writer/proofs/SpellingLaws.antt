@@ -24,22 +24,26 @@ use Rattle.qasm_parser.specs.Expressions.{SpellsSum}
 use Rattle.qasm_writer.specs.Words.{IsFreeWord}
 use Rattle.qasm_writer.proofs.WordLaws.{IsFreeWord-name}
 use Rattle.qasm_parser.specs.Parsing.{two}
-use Rattle.qasm_parser.specs.Spelling.{Seen, Form, SpellsEach, SpellsForm, SpellsStatement, alone, first_deep, index_symbols, listed, seen, whole_symbol}
+use Rattle.qasm_parser.specs.Spelling.{BehindComma, Seen, Form, SpellsArg, SpellsEach, SpellsForm, SpellsStatement, alone, first_deep, index_symbols, listed, seen, whole_symbol}
 use Rattle.qasm_parser.specs.Symbols.{Symbol, mark, mark_symbol, name, quoted, real, sign, symbol_by, unquoted, word, word_symbol}
 use Rattle.qasm_parser.specs.Tree.{Expression, Statement, act, include, measure, register}
-use Rattle.qasm_parser.specs.declared.symbols.Keyword.TheVariants.{OpenQasm, Include, Qreg, Creg, Measure, Pi}
+use Rattle.qasm_parser.specs.declared.symbols.Keyword.TheVariants.{OpenQasm, Include, Qreg, Creg, Measure, Barrier, Pi}
 use Rattle.qasm_parser.specs.declared.symbols.Mark.TheVariants.{Semicolon, Comma, Open, Close, OpenBracket, CloseBracket, Arrow}
 use Rattle.qasm_check.specs.declared.bits.Bits.{Bits}
+use Rattle.program_parts.specs.Cuts.{Cut}
 use Rattle.gate_inline.specs.Registers.{AreRegisters, IsFree, IsRead}
 use Rattle.gate_inline.specs.Programs.{IsTreeOf}
 use Rattle.unitary_model.specs.Operations.{IsPlain, WiresBelow}
 use Rattle.unitary_model.specs.declared.Op.{Op}
 use Rattle.unitary_model.specs.declared.Op.TheVariants.{U, Cx}
-use Rattle.qasm_writer.specs.Texts.{IsQubitsName, bits_line, index_text, op_line, phase_text, read_line, read_lines, register_lines, wires_line, with_underscores, written_text}
-use Rattle.qasm_writer.specs.Trees.{applied, at, bits_statement, eighths_angle, op_statement, phase_statement, read_statements, register_statements, wires_statements, written_tree}
+use Rattle.qasm_writer.specs.Texts.{IsQubitsName, barrier_line, bits_line, index_text, op_line, part_lines, phase_text, read_line, read_lines, register_lines, wires_line, with_underscores, written_text}
+use Rattle.qasm_writer.specs.Trees.{applied, at, barrier_statement, bits_statement, eighths_angle, op_statement, part_statements, phase_statement, read_statements, register_statements, wires_statements, written_tree}
 use Rattle.trace_text.specs.Texts.{commented, ended, lines_of, trace_of}
 use Rattle.qasm_writer.proofs.SymbolLaws.{Gives, Gives-line, Gives-name, Gives-number, Gives-space, Gives-token}
-use Rattle.qasm_writer.proofs.CommentLaws.{AreUnbroken, Ends-end, Ends-index, Ends-then, Gives-commented, IsHeld, Silent, Silent-line, Silent-nil, Silent-then, is_opening, opening-word, trace-behind}
+use Rattle.qasm_writer.proofs.CommentLaws.{AreUnbroken, Ends, Ends-end, Ends-index, Ends-then, Gives-commented, IsHeld, Silent, Silent-line, Silent-nil, Silent-then, is_opening, opening-word, trace-behind}
+use Rattle.qasm_writer.proofs.GateLaws.{IsWritable}
+use Rattle.qasm_writer.proofs.LineLaws.{listed-joined, next_text}
+use Rattle.qasm_writer.proofs.StatementLaws.{IsNamed}
 
 -- ---- texts, one behind another
 pub record SpeltBefore (xs : List Statement) (text tail : Bytes) (rest : List Symbol) : Type 0 where
@@ -370,15 +374,83 @@ op_spelt q (U a b c i) n h few (inr (inl e)) there =
 op_spelt q (U a b c i) n h few (inr (inr e)) there =
     rw e.0 (phase_spelt q i c h (omega (arith, there.0)) (phase_cases c e.2 e.3))
 
-ops_spelt : (q : Bytes) (us : List Op) (n : ℕ) → IsFreeWord q → n ≤ most_part → AllByRecursion IsPlain us → WiresBelow n us
+ops_spelt : (q : Bytes) (us : List Op) (n : ℕ) → IsFreeWord q → n ≤ most_part → AllByRecursion (IsWritable n) us
     → Spelt (map (op_statement q) us) (flat_map (op_line q) us)
-ops_spelt q [] n h few plain there = Spelt-nil
-ops_spelt q (U a b c i ∷ us) n h few plain there =
+ops_spelt q [] n h few able = Spelt-nil
+ops_spelt q (U a b c i ∷ us) n h few able =
     Spelt-then (op_statement q (U a b c i) ∷ []) (map (op_statement q) us) (op_line q (U a b c i)) (flat_map (op_line q) us)
-    (op_spelt q (U a b c i) n h few plain.0 (there.0, tt)) (ops_spelt q us n h few plain.1 there.1)
-ops_spelt q (Cx c t ∷ us) n h few plain there =
+    (op_spelt q (U a b c i) n h few able.0.0 (able.0.1, tt)) (ops_spelt q us n h few able.1)
+ops_spelt q (Cx c t ∷ us) n h few able =
     Spelt-then (op_statement q (Cx c t) ∷ []) (map (op_statement q) us) (op_line q (Cx c t)) (flat_map (op_line q) us)
-    (op_spelt q (Cx c t) n h few plain.0 (there.0, (there.1.0, tt))) (ops_spelt q us n h few plain.1 there.1.1)
+    (op_spelt q (Cx c t) n h few tt (able.0.0, (able.0.1.0, tt))) (ops_spelt q us n h few able.1)
+
+-- ---- barriers
+gives-barrier : (t : Bytes) (ss : List Symbol) → Gives t ss → Gives (codes "barrier " ++ t) (word Barrier ∷ ss)
+unfolding lexeme_len form_len symbol_by word_symbol
+gives-barrier t ss g = Gives-token (codes "barrier") (32 ∷ t) ss refl (lit< tt) refl refl (Gives-space t ss g)
+
+abbrev others_symbols : Bytes → List ℕ → List Symbol → List Symbol
+others_symbols q [] rest = rest
+others_symbols q (i ∷ is) rest = mark Comma ∷ name q ∷ index_symbols (Some i) (others_symbols q is rest)
+
+gives-others : (q : Bytes) (is : List ℕ) (n : ℕ) (t : Bytes) (ss : List Symbol) → IsFreeWord q → n ≤ most_part → AllByRecursion (λ w. w < n) is → Gives t ss
+    → Gives (flat_map (next_text q) is ++ t) (others_symbols q is ss)
+gives-others q [] n t ss h few l g = g
+gives-others q (i ∷ is) n t ss h few l g =
+    let last = flat_map (next_text q) is ++ t in
+    let shown : flat_map (next_text q) (i ∷ is) ++ t ≡ codes "," ++ (index_text q i ++ last) = simp append_assoc in
+    rw shown (gives-comma (index_text q i ++ last) _ (gives-index q i last _ h (omega (arith, l.0)) (gives-others q is n t ss h few l.1 g)))
+
+others_spelt : (q : Bytes) (is : List ℕ) (rest : List Symbol)
+    → SpellsEach (BehindComma (SpellsArg false)) (map (at q) is) (others_symbols q is rest) rest []
+others_spelt q [] rest = (refl, refl)
+others_spelt q (i ∷ is) rest =
+    (others_symbols q is rest, [], [], (name q ∷ index_symbols (Some i) (others_symbols q is rest), refl, (refl, tt, refl)), others_spelt q is rest, refl)
+
+Ends-others : (q : Bytes) (is : List ℕ) (n : ℕ) (more : Bytes) → IsFreeWord q → n ≤ most_part → AllByRecursion (λ w. w < n) is → Ends more
+    → Ends (flat_map (next_text q) is ++ more)
+Ends-others q [] n more h few l e = e
+Ends-others q (i ∷ is) n more h few l e =
+    let last = flat_map (next_text q) is ++ more in
+    let shown : flat_map (next_text q) (i ∷ is) ++ more ≡ codes "," ++ (index_text q i ++ last) = simp append_assoc in
+    rw shown (Ends-then (codes ",") (index_text q i ++ last) refl (Ends-index q i last h (omega (arith, l.0)) (Ends-others q is n more h few l.1 e)))
+
+bar_spelt : (q : Bytes) (is : List ℕ) (n : ℕ) → IsFreeWord q → n ≤ most_part → IsNamed n is → Spelt (barrier_statement q is ∷ []) (barrier_line q is)
+bar_spelt q [] n h few l = absurd (l.0 refl)
+bar_spelt q (i ∷ is) n h few l =
+    let others = flat_map (next_text q) is in
+    let text : barrier_line q (i ∷ is) ≡ codes "barrier " ++ (index_text q i ++ (others ++ codes ";\n")) =
+    ap (λ z. codes "barrier " ++ (z ++ codes ";\n")) (listed-joined q i is) ∙ ap (λ z. codes "barrier " ++ z) (append_assoc (index_text q i) others (codes ";\n")) in
+    subst (λ (z : Bytes). Spelt (barrier_statement q (i ∷ is) ∷ []) z) (sym text)
+    (Spelt-line (barrier_statement q (i ∷ is)) (codes "barrier " ++ (index_text q i ++ (others ++ codes ";\n")))
+    (λ rest. word Barrier ∷ name q ∷ index_symbols (Some i) (others_symbols q is (mark Semicolon ∷ rest))) (λ rest. [])
+    (λ tail rest g.
+    let last = others ++ (codes ";\n" ++ tail) in
+    let shown : (codes "barrier " ++ (index_text q i ++ (others ++ codes ";\n"))) ++ tail ≡ codes "barrier " ++ (index_text q i ++ last) = simp append_assoc in
+    rw shown (gives-barrier (index_text q i ++ last) _
+    (gives-index q i last _ h (omega (arith, l.1.0)) (gives-others q is n (codes ";\n" ++ tail) _ h few l.1.1 (gives-end tail rest g)))))
+    (λ rest. (
+      name q ∷ index_symbols (Some i) (others_symbols q is (mark Semicolon ∷ rest)),
+      refl,
+      (others_symbols q is (mark Semicolon ∷ rest), [], [], (refl, tt, refl), others_spelt q is (mark Semicolon ∷ rest), refl),
+      refl,
+    ))
+    (λ rest. refl)
+    (Silent-line (codes "barrier ") (index_text q i ++ (others ++ codes ";\n")) refl
+    (Ends-index q i (others ++ codes ";\n") h (omega (arith, l.1.0)) (Ends-others q is n (codes ";\n") h few l.1.1 Ends-end))))
+
+parts_spelt : (q : Bytes) (parts : List (List Op)) (bs : List (List ℕ)) (n : ℕ) → IsFreeWord q → n ≤ most_part → AllByRecursion (AllByRecursion (IsWritable n)) parts
+    → AllByRecursion (IsNamed n) bs → Spelt (part_statements q parts bs) (part_lines q parts bs)
+parts_spelt q [] bs n h few able named = Spelt-nil
+parts_spelt q (us ∷ []) bs n h few able named = ops_spelt q us n h few able.0
+parts_spelt q (us ∷ vs ∷ parts) [] n h few able named =
+    Spelt-then (map (op_statement q) us) (part_statements q (vs ∷ parts) []) (flat_map (op_line q) us) (part_lines q (vs ∷ parts) [])
+    (ops_spelt q us n h few able.0) (parts_spelt q (vs ∷ parts) [] n h few able.1 named)
+parts_spelt q (us ∷ vs ∷ parts) (is ∷ bs) n h few able named =
+    Spelt-then (map (op_statement q) us) (barrier_statement q is ∷ part_statements q (vs ∷ parts) bs)
+    (flat_map (op_line q) us) (barrier_line q is ++ part_lines q (vs ∷ parts) bs) (ops_spelt q us n h few able.0)
+    (Spelt-then (barrier_statement q is ∷ []) (part_statements q (vs ∷ parts) bs) (barrier_line q is) (part_lines q (vs ∷ parts) bs)
+    (bar_spelt q is n h few named.0) (parts_spelt q (vs ∷ parts) bs n h few able.1 named.1))
 
 -- ---- the heading
 gives-version : (t : Bytes) (ss : List Symbol) → Gives t ss → Gives (codes "OPENQASM 2.0;\n" ++ t) (word OpenQasm ∷ real two ∷ mark Semicolon ∷ ss)
@@ -423,21 +495,22 @@ tree_by : HasTokens → (text : Bytes) (xs : List Statement) (ts : List Symbol) 
 tree_by law text xs ts found g each shallow =
     let it = g.behind [] in (it.tokens, law text it.tokens it.lexed, (found, (ts, it.spelt, each), refl, shallow))
 
-pub written_tree-spelt : HasTokens → AreUnbroken → IsHeld → (q : List ℕ) (n bits : ℕ) (us : List Op) (rs : List Bits) (reads : List (Option ℕ)) (trace : Bytes)
-    → n ≤ most_part → IsQubitsName rs q → AreRegisters rs bits → All IsPlain us → WiresBelow n us → All (IsRead n) reads
-    → IsTreeOf (written_text q n us rs reads ++ commented trace) (written_tree q n us rs reads)
-    × (trace_of (written_text q n us rs reads ++ commented trace) ≡ ended (lines_of trace))
-written_tree-spelt law unbroken held q n bits us rs reads trace few spare registers plain there asked =
+pub written_tree-spelt : HasTokens → AreUnbroken → IsHeld → (q : List ℕ) (n bits : ℕ) (c : Cut Op) (rs : List Bits) (reads : List (Option ℕ)) (trace : Bytes)
+    → n ≤ most_part → IsQubitsName rs q → AreRegisters rs bits → AllByRecursion (AllByRecursion (IsWritable n)) c.parts → AllByRecursion (IsNamed n) c.bars
+    → All (IsRead n) reads
+    → IsTreeOf (written_text q n c rs reads ++ commented trace) (written_tree q n c rs reads)
+    × (trace_of (written_text q n c rs reads ++ commented trace) ≡ ended (lines_of trace))
+written_tree-spelt law unbroken held q n bits c rs reads trace few spare registers able bars asked =
     let h : IsFreeWord q = subst IsFreeWord (sym spare.spelt) (IsFreeWord-underscores spare.underscores) in
     let named = size-le-sum rs (recursion_from_All IsFree rs registers.each) (omega (arith, registers.all, registers.few)) in
     let reads' = recursion_from_All (IsRead n) reads asked in
     let all = Spelt-then (include (codes "qelib1.inc") ∷ []) _ (codes "include \"qelib1.inc\";\n") _ include_spelt
     (Spelt-then (wires_statements q n) _ (wires_line q n) _ (wires_spelt q n h few)
     (Spelt-then (map bits_statement rs) _ (flat_map bits_line rs) _ (registers_spelt rs named)
-    (Spelt-then (map (op_statement q) us) (read_statements q rs reads) (flat_map (op_line q) us) (read_lines q rs reads)
-    (ops_spelt q us n h few (recursion_from_All IsPlain us plain) there) (all_reads_spelt q n rs reads h few named reads')))) in
+    (Spelt-then (part_statements q c.parts c.bars) (read_statements q rs reads) (part_lines q c.parts c.bars) (read_lines q rs reads)
+    (parts_spelt q c.parts c.bars n h few able bars) (all_reads_spelt q n rs reads h few named reads')))) in
     let b = all.before (commented trace) [] (Gives-commented unbroken trace) in
     let version : Silent (codes "OPENQASM 2.0;\n") = record { before = λ rest. refl } in (
-      tree_by law (written_text q n us rs reads ++ commented trace) (written_tree q n us rs reads).list b.ts b.found (gives-version _ b.ts b.gives) b.spells b.shallow,
-      trace-behind held (written_text q n us rs reads) trace (Silent-then (codes "OPENQASM 2.0;\n") _ version all.silent),
+      tree_by law (written_text q n c rs reads ++ commented trace) (written_tree q n c rs reads).list b.ts b.found (gives-version _ b.ts b.gives) b.spells b.shallow,
+      trace-behind held (written_text q n c rs reads) trace (Silent-then (codes "OPENQASM 2.0;\n") _ version all.silent),
     )

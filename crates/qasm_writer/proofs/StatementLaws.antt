@@ -8,9 +8,11 @@
 --   include_run, wires_run, bits_run   the header
 --   one_run, two_run     a gate of the tables on one wire, on two
 --   measure_run          a measurement of one wire
+--   IsNamed n is         what a barrier names: one of n wires at least
+--   barrier_fine, barrier_named  a barrier: no refusal applies, and it names its wires
 use Rattle.std.proofs.Common.{◌≡◌, ◌≢◌, ℕ, ◌+◌, ◌<◌, ◌≤◌, List, [], ◌∷◌, ◌++◌, Bool, true, false, cond, ◌||◌, if◌then◌else◌, Option, Some, None, Ok, refl, ◌∙◌, ap, arith, length, map}
 use Rattle.std.specs.Prelude.{codes, is_none, is_some, not, nat_eq, nat_le, nat_lt, option_map, ◌==◌}
-use Rattle.std.specs.List.{cons_option, list_any}
+use Rattle.std.specs.List.{AllByRecursion, cons_option, flat_map, list_any}
 use Rattle.std.specs.Option.{option_or}
 use Rattle.std.proofs.lemmas.Bool.Decides.{nat_tests}
 use Rattle.unitary_model.specs.Limits.{most_qubits}
@@ -23,9 +25,9 @@ use Rattle.gate_library.specs.Library.{library, standard_names, table_names}
 use Rattle.gate_library.specs.Names.{is_one_of}
 use Rattle.gate_library.specs.Operands.{broadcast, operand_in, upto, wires_of, differs_from, measure_differs, repeats}
 use Rattle.qasm_check.specs.Arguments.{operand, operands}
-use Rattle.qasm_check.specs.Refusals.{IsFine, of_gate}
+use Rattle.qasm_check.specs.Refusals.{IsFine, is_beyond as is_past, is_unknown, is_wrong, of_gate}
 use Rattle.gate_library.specs.Meanings.{is_beyond, is_other, is_register}
-use Rattle.qasm_check.specs.Steps.{applies, measures, formula, measure_step, step}
+use Rattle.qasm_check.specs.Steps.{applies, measures, bars, formula, measure_step, step}
 use Rattle.qasm_check.specs.declared.bits.Bits.{Bits}
 use Rattle.gate_library.specs.declared.meaning.Meaning.{Meaning}
 use Rattle.gate_library.specs.declared.meaning.Meaning.TheVariants.{Gate as Numbered, Register}
@@ -34,8 +36,9 @@ use Rattle.qasm_check.specs.declared.refusal.Refusal.TheVariants.{NameTaken, Unk
 use Rattle.angle_fraction.specs.declared.Angle.{Angle}
 use Rattle.gate_inline.specs.Meanings.{Answer, broadcast_answer, followed, meaning_at, step_answer, unvalued}
 use Rattle.gate_inline.specs.Reads.{read_within}
+use Rattle.gate_inline.specs.Splits.{bar_of, if_some}
 use Rattle.gate_inline.specs.Values.{and_next, values}
-use Rattle.qasm_writer.specs.Trees.{at, applied, bits_statement}
+use Rattle.qasm_writer.specs.Trees.{at, applied, barrier_statement, bits_statement}
 use Rattle.qasm_writer.proofs.RowLaws.{Row}
 use Rattle.qasm_writer.proofs.RunLaws.{Run, Run-one, Run-quiet, standard_meanings}
 
@@ -282,3 +285,41 @@ measure_run k q n w name first size i dq dn lw li =
     (measure_fine k q n w name first size i dq dn lw li)
     (λ j. measure_step (placed k q true 0 n w dq lw j) (placed k name false first size i dn li j))
     refl refl (measured_read n w first size i) refl
+
+-- ---- barriers
+abbrev pub IsNamed : ℕ → List ℕ → Type 0
+IsNamed n is = (is ≡ [] → ⊥) × AllByRecursion (λ w. w < n) is
+
+none_passes : (test : Arg → Bool) (q : List ℕ) (n : ℕ) (is : List ℕ) → ((w : ℕ) → w < n → test (at q w) ≡ false) → AllByRecursion (λ w. w < n) is
+    → list_any test (map (at q) is) ≡ false
+none_passes test q n [] each l = refl
+none_passes test q n (w ∷ is) each l = λ j. each w l.0 j || none_passes test q n is each l.1 j
+
+pub barrier_fine : (k : Known) (q : List ℕ) (n : ℕ) (is : List ℕ) → IsReady k q n → AllByRecursion (λ w. w < n) is → IsFine k (barrier_statement q is)
+barrier_fine k q n is h l = go
+  where
+    go : IsFine k (barrier_statement q is)
+    go UnknownName = none_passes (is_unknown k) q n is (λ w m. ap is_none (wire_known k q n w h m)) l
+    go WrongKind = none_passes (is_wrong k true) q n is (λ w m. ap (is_other true) (wire_known k q n w h m)) l
+    go IndexRange = none_passes (is_past k) q n is
+        (λ w m. ap (λ (o : Option Meaning). is_beyond o (Some w)) (wire_known k q n w h m) ∙ not_over w n m) l
+    go _ = refl
+
+bar_operands : (k : Known) (q : List ℕ) (n : ℕ) (is : List ℕ) → IsReady k q n → AllByRecursion (λ w. w < n) is
+    → operands k (map (at q) is) ≡ map (spot 0 n) is
+bar_operands k q n [] h l = refl
+bar_operands k q n (w ∷ is) h l = λ j. cons_option (wire_placed k q n w h l.0 j) (bar_operands k q n is h l.1 j)
+
+bar_wires : (n : ℕ) (is : List ℕ) → flat_map wires_of (map (spot 0 n) is) ≡ is
+unfolding upto
+bar_wires n [] = refl
+bar_wires n (w ∷ is) = λ j. from_nought w j ∷ bar_wires n is j
+
+some_wires : (is : List ℕ) → (is ≡ [] → ⊥) → if_some is ≡ Some is
+some_wires [] some = absurd (some refl)
+some_wires (w ∷ is) some = refl
+
+pub barrier_named : (k : Known) (q : List ℕ) (n : ℕ) (is : List ℕ) → IsReady k q n → IsNamed n is
+    → bar_of (bars (operands k (map (at q) is))) ≡ Some is
+barrier_named k q n is h l =
+    ap (λ (ps : List Operand). if_some (flat_map wires_of ps)) (bar_operands k q n is h l.1) ∙ ap if_some (bar_wires n is) ∙ some_wires is l.0

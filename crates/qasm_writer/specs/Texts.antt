@@ -1,11 +1,14 @@
--- The text that is written for a circuit's operations and reads: a header, the registers, one gate a line, then the
--- measurements in order of the bits. Each line ends with a line break.
+-- The text that is written for a circuit's operations and reads: a header, the registers, one gate a line, with a barrier's line
+-- between two parts, then the measurements in order of the bits. Each line ends with a line break.
 --   with_underscores k   `q` and so many underscores
 --   IsQubitsName rs q    q is the first of these names that no classical register has
 --   phase_text k         the name of the phase k pi/4 as it is written, for k from 1 to 7
 --   gate_text a c        that of U(a,0,c), for the plain ones
 --   index_text name i    name[i]
 --   op_line q u          the line of an operation on the register q
+--   listed q is          these qubits, joined by commas
+--   barrier_line q is    the line of a barrier on these qubits
+--   part_lines q parts bars  the lines of all parts, a barrier between two of them; of one part those of its operations
 --   wires_line q n       the line of the quantum register; nothing for no wires
 --   bits_line r          the line of a classical register
 --   read_line            the line of a measurement into a bit; nothing for a bit that reads nothing
@@ -18,6 +21,7 @@ use Rattle.std.specs.Fmt.{decimal}
 use Rattle.gate_library.specs.Names.{is_one_of}
 use Rattle.qasm_check.specs.declared.bits.Bits.{Bits}
 use Rattle.gate_inline.specs.Registers.{names_of}
+use Rattle.program_parts.specs.Cuts.{Cut}
 use Rattle.unitary_model.specs.declared.Op.{Op}
 use Rattle.unitary_model.specs.declared.Op.TheVariants.{U, Cx}
 
@@ -49,6 +53,20 @@ abbrev pub op_line : List ℕ → Op → List ℕ
 op_line q (U a b c i) = gate_text a c ++ (codes " " ++ (index_text q i ++ codes ";\n"))
 op_line q (Cx c t) = codes "cx " ++ (index_text q c ++ (codes "," ++ (index_text q t ++ codes ";\n")))
 
+abbrev pub listed : List ℕ → List ℕ → List ℕ
+listed q [] = []
+listed q (i ∷ []) = index_text q i
+listed q (i ∷ j ∷ is) = index_text q i ++ (codes "," ++ listed q (j ∷ is))
+
+abbrev pub barrier_line : List ℕ → List ℕ → List ℕ
+barrier_line q is = codes "barrier " ++ (listed q is ++ codes ";\n")
+
+abbrev pub part_lines : List ℕ → List (List Op) → List (List ℕ) → List ℕ
+part_lines q [] bars = []
+part_lines q (us ∷ []) bars = flat_map (op_line q) us
+part_lines q (us ∷ vs ∷ parts) [] = flat_map (op_line q) us ++ part_lines q (vs ∷ parts) []
+part_lines q (us ∷ vs ∷ parts) (is ∷ bars) = flat_map (op_line q) us ++ (barrier_line q is ++ part_lines q (vs ∷ parts) bars)
+
 abbrev pub wires_line : List ℕ → ℕ → List ℕ
 wires_line q wires = if wires == 0 then [] else codes "qreg " ++ (index_text q wires ++ codes ";\n")
 
@@ -72,6 +90,6 @@ read_lines q (r ∷ rs) reads = register_lines q r.name 0 (take r.size reads) ++
 abbrev pub heading_text : List ℕ
 heading_text = codes "OPENQASM 2.0;\ninclude \"qelib1.inc\";\n"
 
-abbrev pub written_text : List ℕ → ℕ → List Op → List Bits → List (Option ℕ) → List ℕ
-written_text q wires us rs reads = heading_text
-    ++ (wires_line q wires ++ (flat_map bits_line rs ++ (flat_map (op_line q) us ++ read_lines q rs reads)))
+abbrev pub written_text : List ℕ → ℕ → Cut Op → List Bits → List (Option ℕ) → List ℕ
+written_text q wires cut rs reads = heading_text
+    ++ (wires_line q wires ++ (flat_map bits_line rs ++ (part_lines q cut.parts cut.bars ++ read_lines q rs reads)))

@@ -3,6 +3,8 @@
 --   applied name es as   the application of the gate of this name
 --   eighths_angle k      k*pi/4
 --   phase_statement, u_statement, op_statement   the statement of a phase, of U(a,0,c), of an operation on the register q
+--   barrier_statement    that of a barrier on these qubits
+--   part_statements      those of all parts, a barrier between two of them
 --   wires_statements     that of the quantum register; none for no wires
 --   bits_statement       that of a classical register
 --   read_statement       the measurement into a bit; none for a bit that reads nothing
@@ -12,9 +14,10 @@ use Rattle.std.specs.Prelude.{ℕ, ◌+◌, ◌==◌, true, false, List, [], ◌
 use Rattle.angle_fraction.specs.Fraction.{fraction}
 use Rattle.angle_fraction.specs.declared.signs.Binary.TheVariants.{Mul, Div}
 use Rattle.qasm_parser.specs.Parsing.{two}
-use Rattle.qasm_parser.specs.Tree.{Expression, number, pi, binary, Statement, include, register, act, apply, measure, Tree}
+use Rattle.qasm_parser.specs.Tree.{Expression, number, pi, binary, Statement, include, register, act, apply, barrier, measure, Tree}
 use Rattle.qasm_parser.specs.declared.tree.Arg.{Arg}
 use Rattle.qasm_check.specs.declared.bits.Bits.{Bits}
+use Rattle.program_parts.specs.Cuts.{Cut}
 use Rattle.unitary_model.specs.declared.Op.{Op}
 use Rattle.unitary_model.specs.declared.Op.TheVariants.{U, Cx}
 
@@ -46,6 +49,15 @@ abbrev pub op_statement : List ℕ → Op → Statement
 op_statement q (U a b c i) = u_statement a c (at q i)
 op_statement q (Cx c t) = applied (codes "cx") [] (at q c ∷ at q t ∷ [])
 
+abbrev pub barrier_statement : List ℕ → List ℕ → Statement
+barrier_statement q is = act (barrier (map (at q) is))
+
+abbrev pub part_statements : List ℕ → List (List Op) → List (List ℕ) → List Statement
+part_statements q [] bars = []
+part_statements q (us ∷ []) bars = map (op_statement q) us
+part_statements q (us ∷ vs ∷ parts) [] = map (op_statement q) us ++ part_statements q (vs ∷ parts) []
+part_statements q (us ∷ vs ∷ parts) (is ∷ bars) = map (op_statement q) us ++ barrier_statement q is ∷ part_statements q (vs ∷ parts) bars
+
 abbrev pub wires_statements : List ℕ → ℕ → List Statement
 wires_statements q wires = if wires == 0 then [] else register true q wires ∷ []
 
@@ -64,9 +76,9 @@ abbrev pub read_statements : List ℕ → List Bits → List (Option ℕ) → Li
 read_statements q [] reads = []
 read_statements q (r ∷ rs) reads = register_statements q r.name 0 (take r.size reads) ++ read_statements q rs (drop r.size reads)
 
-abbrev pub written_tree : List ℕ → ℕ → List Op → List Bits → List (Option ℕ) → Tree
-written_tree q wires us rs reads = record {
+abbrev pub written_tree : List ℕ → ℕ → Cut Op → List Bits → List (Option ℕ) → Tree
+written_tree q wires cut rs reads = record {
   version = two;
   list = include (codes "qelib1.inc")
-      ∷ (wires_statements q wires ++ (map bits_statement rs ++ (map (op_statement q) us ++ read_statements q rs reads)));
+      ∷ (wires_statements q wires ++ (map bits_statement rs ++ (part_statements q cut.parts cut.bars ++ read_statements q rs reads)));
 }

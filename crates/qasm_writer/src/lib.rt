@@ -1,11 +1,12 @@
 //! The text of a program: a circuit, classical registers, reads and a trace go in, OpenQASM 2.0 comes out, as a text
 //! ([`program_text`]) or piece by piece to a sink ([`write_program`]).
 //!
-//! The text has a header, the registers, one gate a line, then the measurements in the order of the bits, and the lines of the
-//! trace as comments. The contract gives its bytes exactly, and says what they are worth: the text is that of a program whose
-//! operations are the circuit's, whose classical registers are the given ones and whose reads are the given ones, and it holds the
-//! trace, whatever bytes that has. A caller hands over registers as a program may declare them, and a read for each of their bits;
-//! the only error is want of memory for a text, and a fault of the sink.
+//! The text has a header, the registers, one gate a line, with a barrier between two parts, then the measurements in the order
+//! of the bits, and the lines of the trace as comments. The contract gives its bytes exactly, and says what they are worth: the
+//! text is that of a program whose operations are the circuit's, cut at barriers in the given parts, whose classical registers
+//! are the given ones and whose reads are the given ones, and it holds the trace, whatever bytes that has. A caller hands over
+//! registers as a program may declare them, a read for each of their bits, and parts that are the whole circuit, with a barrier
+//! between two of them; the only error is want of memory for a text, and a fault of the sink.
 #![tactic(auto)]
 
 ghost use Rattle.std.specs.List.{list_all, list_any};
@@ -19,7 +20,6 @@ ghost use Rattle.qasm_writer.specs.Outputs.{HasText, IsOutput, IsText, bits_of, 
 ghost use Rattle.qasm_writer.specs.Pieces.{HasRoom};
 ghost use Rattle.qasm_writer.specs.Texts.{IsQubitsName, with_underscores};
 
-use circuit_list::laws::{fine_below, fine_plain};
 use growing::Growing;
 use lines::put_lines;
 use output::{Output, Register};
@@ -143,8 +143,6 @@ fn write_lines<S: Sink>(output: &Output, room: &mut Vec<u8>, sink: &mut S) -> Re
     ensures capacity { 4096 ≤ vec_capacity room.new }
 {
     qasm_lexer::lexed_exactly();
-    fine_plain();
-    fine_below();
     lines_of_text();
     commented_trace();
     let wires = output.body.wires();

@@ -1,14 +1,14 @@
 //! The lines of a program, put one after the other. A number `q` is the number of underscores in the quantum register's name.
 
-ghost use Rattle.std.specs.Prelude.{◌≡◌, ◌≤◌, ◌++◌, [], OnErr, OnOk, Some, codes, length, map, replicate, sum_by};
+ghost use Rattle.std.specs.Prelude.{◌≡◌, ◌+◌, ◌-◌, ◌≤◌, ◌++◌, [], OnErr, OnOk, Some, codes, drop, length, map, replicate, sum_by, take};
 ghost use Rattle.std.specs.List.{flat_map};
 ghost use Rattle.circuit_list.specs.Gates.{op_of, ops};
 ghost use Rattle.outside_io.specs.Bytes.{GainsPrefix};
 ghost use Rattle.outside_io.specs.Causes.{HasCause};
 ghost use Rattle.trace_text.specs.Texts.{commented};
-ghost use Rattle.qasm_writer.specs.Outputs.{bits_of};
+ghost use Rattle.qasm_writer.specs.Outputs.{bits_of, cut_of};
 ghost use Rattle.qasm_writer.specs.Pieces.{HasRoom, Sends};
-ghost use Rattle.qasm_writer.specs.Texts.{bits_line, index_text, op_line, phase_text, read_line, read_lines, register_lines, wires_line, with_underscores, written_text};
+ghost use Rattle.qasm_writer.specs.Texts.{barrier_line, bits_line, index_text, listed, op_line, part_lines, phase_text, read_line, read_lines, register_lines, wires_line, with_underscores, written_text};
 
 use crate::output::{Output, Register};
 use crate::pieces::{put, put_bytes, put_number};
@@ -258,24 +258,163 @@ fn put_registers<S: Sink>(
     Ok(())
 }
 
-/// Puts the lines of the gates.
+/// Puts a comma and a qubit.
+fn put_next<S: Sink>(room: &mut Vec<u8>, sink: &mut S, q: usize, wire: u32) -> Result<(), Failed>
+    requires { HasRoom room.old }
+    ensures ok { OnOk result (Sends (S.held sink.old) room.old.items (S.held sink.new) room.new.items (codes "," ++ index_text (with_underscores q) wire)) }
+    ensures err { OnErr result (GainsPrefix (S.held sink.old) (S.held sink.new) (room.old.items ++ (codes "," ++ index_text (with_underscores q) wire))) }
+    ensures cause { HasCause (S.faults sink.old) (S.faults sink.new) result }
+    ensures room { HasRoom room.new }
+{
+    put(room, sink, ",")?;
+    put_qubit(room, sink, q, wire)
+}
+
+/// Puts qubits, a comma before each.
+#[tactic(auto, using(crate::proofs::PieceLaws::loops, crate::proofs::LineLaws::lines))]
+fn put_others<S: Sink>(
+    room: &mut Vec<u8>,
+    sink: &mut S,
+    q: usize,
+    wires: &[u32],
+) -> Result<(), Failed>
+    requires { HasRoom room.old }
+    ensures ok { OnOk result (Sends (S.held sink.old) room.old.items (S.held sink.new) room.new.items (flat_map (λ i. codes "," ++ index_text (with_underscores q) i) wires.now)) }
+    ensures err { OnErr result (GainsPrefix (S.held sink.old) (S.held sink.new) (room.old.items ++ (flat_map (λ i. codes "," ++ index_text (with_underscores q) i) wires.now))) }
+    ensures cause { HasCause (S.faults sink.old) (S.faults sink.new) result }
+    ensures room { HasRoom room.new }
+{
+    'wires: for i in 0..wires.len() {
+        put_next(room, sink, q, wires[i])?;
+    }
+    Ok(())
+}
+
+/// Puts a qubit, and others behind commas.
+fn put_joined<S: Sink>(
+    room: &mut Vec<u8>,
+    sink: &mut S,
+    q: usize,
+    first: u32,
+    others: &[u32],
+) -> Result<(), Failed>
+    requires { HasRoom room.old }
+    ensures ok { OnOk result (Sends (S.held sink.old) room.old.items (S.held sink.new) room.new.items (index_text (with_underscores q) first ++ flat_map (λ i. codes "," ++ index_text (with_underscores q) i) others.now)) }
+    ensures err { OnErr result (GainsPrefix (S.held sink.old) (S.held sink.new) (room.old.items ++ (index_text (with_underscores q) first ++ flat_map (λ i. codes "," ++ index_text (with_underscores q) i) others.now))) }
+    ensures cause { HasCause (S.faults sink.old) (S.faults sink.new) result }
+    ensures room { HasRoom room.new }
+{
+    put_qubit(room, sink, q, first)?;
+    put_others(room, sink, q, others)
+}
+
+/// Puts qubits, joined by commas.
+fn put_listed<S: Sink>(
+    room: &mut Vec<u8>,
+    sink: &mut S,
+    q: usize,
+    wires: &[u32],
+) -> Result<(), Failed>
+    requires { HasRoom room.old }
+    ensures ok { OnOk result (Sends (S.held sink.old) room.old.items (S.held sink.new) room.new.items (listed (with_underscores q) wires.now)) }
+    ensures err { OnErr result (GainsPrefix (S.held sink.old) (S.held sink.new) (room.old.items ++ listed (with_underscores q) wires.now)) }
+    ensures cause { HasCause (S.faults sink.old) (S.faults sink.new) result }
+    ensures room { HasRoom room.new }
+{
+    match wires.split_first() {
+        None => Ok(()),
+        Some((first, others)) => put_joined(room, sink, q, *first, others),
+    }
+}
+
+/// Puts the line of a barrier.
+fn put_barrier<S: Sink>(
+    room: &mut Vec<u8>,
+    sink: &mut S,
+    q: usize,
+    wires: &[u32],
+) -> Result<(), Failed>
+    requires { HasRoom room.old }
+    ensures ok { OnOk result (Sends (S.held sink.old) room.old.items (S.held sink.new) room.new.items (barrier_line (with_underscores q) wires.now)) }
+    ensures err { OnErr result (GainsPrefix (S.held sink.old) (S.held sink.new) (room.old.items ++ barrier_line (with_underscores q) wires.now)) }
+    ensures cause { HasCause (S.faults sink.old) (S.faults sink.new) result }
+    ensures room { HasRoom room.new }
+{
+    put(room, sink, "barrier ")?;
+    put_listed(room, sink, q, wires)?;
+    put(room, sink, ";\n")
+}
+
+/// Puts the lines of the gates from one place to another.
 #[tactic(auto, using(crate::proofs::PieceLaws::loops, crate::proofs::LineLaws::lines))]
 fn put_gates<S: Sink>(
     room: &mut Vec<u8>,
     sink: &mut S,
     q: usize,
     body: &Circuit,
+    from: usize,
+    to: usize,
 ) -> Result<(), Failed>
-    requires { HasRoom room.old }
-    ensures ok { OnOk result (Sends (S.held sink.old) room.old.items (S.held sink.new) room.new.items (flat_map (op_line (with_underscores q)) (ops body.now.gates))) }
-    ensures err { OnErr result (GainsPrefix (S.held sink.old) (S.held sink.new) (room.old.items ++ flat_map (op_line (with_underscores q)) (ops body.now.gates))) }
+    requires room { HasRoom room.old }
+    requires order { from ≤ to }
+    requires there { to ≤ length body.now.gates }
+    ensures ok { OnOk result (Sends (S.held sink.old) room.old.items (S.held sink.new) room.new.items (flat_map (op_line (with_underscores q)) (ops (take (to - from) (drop from body.now.gates))))) }
+    ensures err { OnErr result (GainsPrefix (S.held sink.old) (S.held sink.new) (room.old.items ++ flat_map (op_line (with_underscores q)) (ops (take (to - from) (drop from body.now.gates))))) }
     ensures cause { HasCause (S.faults sink.old) (S.faults sink.new) result }
     ensures room { HasRoom room.new }
 {
-    'gates: for i in 0..body.len() {
+    'gates: for i in from..to {
         put_gate(room, sink, q, body.gate(i))?;
     }
     Ok(())
+}
+
+/// Puts the lines of these gates, and that of the barrier behind them.
+fn put_part<S: Sink>(
+    room: &mut Vec<u8>,
+    sink: &mut S,
+    q: usize,
+    body: &Circuit,
+    from: usize,
+    to: usize,
+    wires: &[u32],
+) -> Result<(), Failed>
+    requires room { HasRoom room.old }
+    requires order { from ≤ to }
+    requires there { to ≤ length body.now.gates }
+    ensures ok { OnOk result (Sends (S.held sink.old) room.old.items (S.held sink.new) room.new.items (flat_map (op_line (with_underscores q)) (ops (take (to - from) (drop from body.now.gates))) ++ barrier_line (with_underscores q) wires.now)) }
+    ensures err { OnErr result (GainsPrefix (S.held sink.old) (S.held sink.new) (room.old.items ++ (flat_map (op_line (with_underscores q)) (ops (take (to - from) (drop from body.now.gates))) ++ barrier_line (with_underscores q) wires.now))) }
+    ensures cause { HasCause (S.faults sink.old) (S.faults sink.new) result }
+    ensures room { HasRoom room.new }
+{
+    put_gates(room, sink, q, body, from, to)?;
+    put_barrier(room, sink, q, wires)
+}
+
+/// Puts the lines of all parts, a barrier between two of them.
+#[tactic(auto, using(crate::proofs::PieceLaws::loops, crate::proofs::LineLaws::lines))]
+fn put_parts<S: Sink>(
+    room: &mut Vec<u8>,
+    sink: &mut S,
+    q: usize,
+    output: &Output,
+) -> Result<(), Failed>
+    requires room { HasRoom room.old }
+    requires lengths { sum_by (λ n. n) output.now.lengths.now ≡ length output.now.body.now.gates }
+    requires cut { length output.now.lengths.now ≡ length output.now.barriers.now + 1 }
+    ensures ok { OnOk result (Sends (S.held sink.old) room.old.items (S.held sink.new) room.new.items (part_lines (with_underscores q) (cut_of output.now).parts (cut_of output.now).bars)) }
+    ensures err { OnErr result (GainsPrefix (S.held sink.old) (S.held sink.new) (room.old.items ++ part_lines (with_underscores q) (cut_of output.now).parts (cut_of output.now).bars)) }
+    ensures cause { HasCause (S.faults sink.old) (S.faults sink.new) result }
+    ensures room { HasRoom room.new }
+{
+    let end = output.body.len();
+    let mut from = 0;
+    'barriers: for k in 0..output.barriers.len() {
+        let to = from + output.lengths[k];
+        put_part(room, sink, q, output.body, from, to, &output.barriers[k])?;
+        from = to;
+    }
+    put_gates(room, sink, q, output.body, from, end)
 }
 
 /// Puts the lines of the measurements into one register.
@@ -333,16 +472,18 @@ fn put_program<S: Sink>(
     sink: &mut S,
 ) -> Result<(), Failed>
     requires room { HasRoom room.old }
+    requires lengths { sum_by (λ n. n) output.now.lengths.now ≡ length output.now.body.now.gates }
+    requires cut { length output.now.lengths.now ≡ length output.now.barriers.now + 1 }
     requires reads { sum_by (λ r. r.size) (map bits_of output.now.registers.now) ≤ length output.now.reads.now }
-    ensures ok { OnOk result (Sends (S.held sink.old) room.old.items (S.held sink.new) room.new.items (written_text (with_underscores q) wires (ops output.now.body.now.gates) (map bits_of output.now.registers.now) output.now.reads.now)) }
-    ensures err { OnErr result (GainsPrefix (S.held sink.old) (S.held sink.new) (room.old.items ++ written_text (with_underscores q) wires (ops output.now.body.now.gates) (map bits_of output.now.registers.now) output.now.reads.now)) }
+    ensures ok { OnOk result (Sends (S.held sink.old) room.old.items (S.held sink.new) room.new.items (written_text (with_underscores q) wires (cut_of output.now) (map bits_of output.now.registers.now) output.now.reads.now)) }
+    ensures err { OnErr result (GainsPrefix (S.held sink.old) (S.held sink.new) (room.old.items ++ written_text (with_underscores q) wires (cut_of output.now) (map bits_of output.now.registers.now) output.now.reads.now)) }
     ensures cause { HasCause (S.faults sink.old) (S.faults sink.new) result }
     ensures room { HasRoom room.new }
 {
     put(room, sink, "OPENQASM 2.0;\ninclude \"qelib1.inc\";\n")?;
     put_wires(room, sink, q, wires)?;
     put_registers(room, sink, output.registers)?;
-    put_gates(room, sink, q, output.body)?;
+    put_parts(room, sink, q, output)?;
     put_reads(room, sink, q, output.registers, output.reads)
 }
 
@@ -385,9 +526,11 @@ pub fn put_lines<S: Sink>(
     sink: &mut S,
 ) -> Result<(), Failed>
     requires room { HasRoom room.old }
+    requires lengths { sum_by (λ n. n) output.now.lengths.now ≡ length output.now.body.now.gates }
+    requires cut { length output.now.lengths.now ≡ length output.now.barriers.now + 1 }
     requires reads { sum_by (λ r. r.size) (map bits_of output.now.registers.now) ≤ length output.now.reads.now }
-    ensures ok { OnOk result (Sends (S.held sink.old) room.old.items (S.held sink.new) room.new.items (written_text (with_underscores q) wires (ops output.now.body.now.gates) (map bits_of output.now.registers.now) output.now.reads.now ++ commented output.now.trace.now)) }
-    ensures err { OnErr result (GainsPrefix (S.held sink.old) (S.held sink.new) (room.old.items ++ (written_text (with_underscores q) wires (ops output.now.body.now.gates) (map bits_of output.now.registers.now) output.now.reads.now ++ commented output.now.trace.now))) }
+    ensures ok { OnOk result (Sends (S.held sink.old) room.old.items (S.held sink.new) room.new.items (written_text (with_underscores q) wires (cut_of output.now) (map bits_of output.now.registers.now) output.now.reads.now ++ commented output.now.trace.now)) }
+    ensures err { OnErr result (GainsPrefix (S.held sink.old) (S.held sink.new) (room.old.items ++ (written_text (with_underscores q) wires (cut_of output.now) (map bits_of output.now.registers.now) output.now.reads.now ++ commented output.now.trace.now))) }
     ensures cause { HasCause (S.faults sink.old) (S.faults sink.new) result }
     ensures room { HasRoom room.new }
 {

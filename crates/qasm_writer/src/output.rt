@@ -19,6 +19,10 @@ pub struct Output<'a> {
     pub registers: &'a [Register<'a>],
     /// For each bit the qubit that is measured into it, or none.
     pub reads: &'a [Option<u32>],
+    /// The number of gates of each part. The parts stand one after the other in the body, with a barrier between two of them.
+    pub lengths: &'a [usize],
+    /// The qubits that each barrier names, one at least.
+    pub barriers: &'a [Vec<u32>],
     /// The lines of a trace, each of which is written behind `//!` after the last line of the program; empty where there is none.
     pub trace: &'a [u8],
 }

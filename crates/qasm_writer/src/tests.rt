@@ -70,6 +70,8 @@ fn writes_registers_side_by_side(rt: HostRuntime) -> Result<(), Fail> {
             },
         ],
         reads: &[Some(1), None, Some(0), None, Some(1)],
+        lengths: &[body.len()],
+        barriers: &[],
         trace: b"",
     };
     let text = program_text(alloc, &output)?;
@@ -88,6 +90,8 @@ fn leaves_out_a_register_without_wires(rt: HostRuntime) -> Result<(), Fail> {
         body: &body,
         registers: &[Register { name: "q", size: 2 }],
         reads: &[None, None],
+        lengths: &[body.len()],
+        barriers: &[],
         trace: b"",
     };
     let text = program_text(alloc, &output)?;
@@ -108,6 +112,8 @@ fn writes_whole_pieces_and_the_rest(rt: HostRuntime) -> Result<(), Fail> {
         body: &body,
         registers: &[],
         reads: &[],
+        lengths: &[body.len()],
+        barriers: &[],
         trace: b"",
     };
     let text = program_text(alloc, &output)?;
@@ -154,6 +160,8 @@ fn writes_a_trace_behind_the_program(rt: HostRuntime) -> Result<(), Fail> {
             body: &body,
             registers: &[],
             reads: &[],
+            lengths: &[body.len()],
+            barriers: &[],
             trace,
         };
         let text = program_text(alloc, &output)?;
@@ -162,5 +170,88 @@ fn writes_a_trace_behind_the_program(rt: HostRuntime) -> Result<(), Fail> {
         wanted.push_str(comments)?;
         assert_eq!(rt; text.as_slice(), wanted.as_bytes());
     }
+    Ok(())
+}
+
+#[test]
+fn writes_a_barrier_between_two_parts(rt: HostRuntime) -> Result<(), Fail> {
+    let alloc = rt.alloc();
+    let mut body = Circuit::empty(alloc, 4)?;
+    body.push(Gate::H { q: 1 })?;
+    body.push(Gate::Cx { c: 1, t: 0 })?;
+    body.push(Gate::X { q: 2 })?;
+    let barriers = [Vec::from_slice(alloc, &[3, 0])?];
+    let last = body.len().min(1);
+    let output = Output {
+        body: &body,
+        registers: &[],
+        reads: &[],
+        lengths: &[body.len() - last, last],
+        barriers: &barriers,
+        trace: b"",
+    };
+    let text = program_text(alloc, &output)?;
+    let mut wanted = String::from_str(alloc, HEAD)?;
+    wanted.push_str("qreg q[4];\nh q[1];\ncx q[1],q[0];\nbarrier q[3],q[0];\nx q[2];\n")?;
+    assert_eq!(rt; text.as_slice(), wanted.as_bytes());
+    Ok(())
+}
+
+#[test]
+fn writes_parts_without_gates(rt: HostRuntime) -> Result<(), Fail> {
+    let alloc = rt.alloc();
+    let mut body = Circuit::empty(alloc, 2)?;
+    body.push(Gate::X { q: 0 })?;
+    let barriers = [
+        Vec::from_slice(alloc, &[0])?,
+        Vec::from_slice(alloc, &[1, 0, 1])?,
+        Vec::from_slice(alloc, &[1])?,
+    ];
+    let output = Output {
+        body: &body,
+        registers: &[],
+        reads: &[],
+        lengths: &[0, body.len(), 0, 0],
+        barriers: &barriers,
+        trace: b"",
+    };
+    let text = program_text(alloc, &output)?;
+    let mut wanted = String::from_str(alloc, HEAD)?;
+    wanted.push_str(
+        "qreg q[2];\nbarrier q[0];\nx q[0];\nbarrier q[1],q[0],q[1];\nbarrier q[1];\n",
+    )?;
+    assert_eq!(rt; text.as_slice(), wanted.as_bytes());
+    Ok(())
+}
+
+#[test]
+fn writes_a_barrier_in_a_later_piece(rt: HostRuntime) -> Result<(), Fail> {
+    let alloc = rt.alloc();
+    let mut body = Circuit::empty(alloc, 12)?;
+    'gates: for _ in 0..1_030 {
+        body.push(Gate::P { k: 3, q: 11 })?;
+    }
+    let barriers = [Vec::from_slice(alloc, &[11, 0])?];
+    let last = body.len().min(30);
+    let output = Output {
+        body: &body,
+        registers: &[Register { name: "q", size: 1 }],
+        reads: &[Some(11)],
+        lengths: &[body.len() - last, last],
+        barriers: &barriers,
+        trace: b"",
+    };
+    let text = program_text(alloc, &output)?;
+    let mut wanted = String::from_str(alloc, HEAD)?;
+    wanted.push_str("qreg q_[12];\ncreg q[1];\n")?;
+    'before: for _ in 0..1_000 {
+        wanted.push_str("u1(3*pi/4) q_[11];\n")?;
+    }
+    wanted.push_str("barrier q_[11],q_[0];\n")?;
+    'behind: for _ in 0..30 {
+        wanted.push_str("u1(3*pi/4) q_[11];\n")?;
+    }
+    wanted.push_str("measure q_[11] -> q[0];\n")?;
+    assert_eq!(rt; text.as_slice(), wanted.as_bytes());
     Ok(())
 }

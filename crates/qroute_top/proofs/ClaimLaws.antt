@@ -7,18 +7,19 @@
 --   ending-unrefused         .. with 0 or 1 where both are there and neither is refused
 --   yes-proved, yes-own      a trace that proves the claim gets a yes
 --   ended-claim, ended-verified   from the cause of a stop, and from what is verified, to the way in which it ends
-use Rattle.std.proofs.Common.{◌≡◌, ◌⊎◌, None, inl, inr, ℕ, ◌<◌, ◌≤◌, List, Option, Some, Result, Ok, Err, refl, sym, ap, ◌∙◌, arith, subst, length}
+use Rattle.std.proofs.Common.{◌≡◌, ◌⊎◌, None, inl, inr, ℕ, ◌<◌, ◌≤◌, List, Option, Some, Result, Ok, Err, refl, sym, ap, ◌∙◌, arith, subst, length, false}
 use Rattle.outside_io.specs.Causes.{Rose}
 use Rattle.outside_io.specs.Shelf.{HasNoText, IsTextCause, TellsText}
 use Rattle.outside_io.specs.declared.TextFault.{TextFault}
 use Rattle.outside_io.specs.declared.TextFault.TheVariants as text_fault
-use Rattle.gate_inline.specs.Programs.{IsWritten, Program}
+use Rattle.gate_inline.specs.Programs.{IsWritten, Program, kept}
+use Rattle.program_parts.specs.Cuts.{uncut}
 use Rattle.program_reader.specs.Texts.{IsAcceptedText, IsTextRefusal}
 use Rattle.program_reader.specs.declared.refusal.Refusal.{Refusal}
 use Rattle.route_report.specs.declared.faults.Side.{Side}
 use Rattle.route_report.specs.declared.faults.Side.TheVariants as side
 use Rattle.trace_check.specs.Proves.{Claim, Proves, StopsAt}
-use Rattle.trace_check.specs.Verdicts.{IsVerdict, claim_of}
+use Rattle.trace_check.specs.Verdicts.{IsReadAs, IsVerdict, claim_of}
 use Rattle.trace_check.specs.declared.verdict.Verdict.{Verdict}
 use Rattle.trace_check.specs.declared.verdict.Verdict.TheVariants as verdict
 use Rattle.std.proofs.lemmas.Grind.{common_steps}
@@ -150,6 +151,16 @@ trace-short t short =
     let lines = lines-length t in
     let less = traced-length (lines_of t) in
     omega (arith, short, lines, less)
+
+-- ---- programs that are one part
+pub claim-kept : (x y p q : Program) → x ≡ kept false p → y ≡ kept false q → claim_of x y ≡ claim_of p q
+claim-kept x y p q e f = λ i. claim_of (e i) (f i)
+
+pub IsTraceStop-same : (e f : Claim) (trace : List ℕ) (s : Stop) → e ≡ f → IsTraceStop e trace s → IsTraceStop f trace s
+IsTraceStop-same e f trace s same h = subst (λ x. IsTraceStop x trace s) same h
+
+pub one-part : (text : List ℕ) (x : Program) → IsReadAs text x → x.cut ≡ uncut x.ops
+one-part text x (p, ok, e) = subst (λ (y : Program). y.cut ≡ uncut y.ops) (sym e) refl
 
 -- ---- one ending
 pub record Readable : Type 0 where

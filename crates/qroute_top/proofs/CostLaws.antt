@@ -4,7 +4,6 @@
 --   cost-next, count-next      the costs and the CNOTs from a place on are those of the gate there and of those behind it
 --   one-limited                what a CNOT costs at most
 --   told-listed, told-unlisted   what is told, by the format
---   listed-few                 on a device that lists costs few CNOTs are written
 use Rattle.std.proofs.Common.{◌≡◌, ℕ, zero, suc, ◌+◌, ◌*◌, ◌≤◌, List, [], ◌∷◌, Option, Some, None, refl, ap, ◌∙◌, arith, length, slice_get, IsTrue, true, drop}
 use Rattle.std.specs.Prelude.{◌||◌}
 use Rattle.std.specs.List.{AllByRecursion}
@@ -68,18 +67,6 @@ told-listed (Some cs) k e = refl
 pub told-unlisted : (o : Option (List ℕ)) (k : ℕ) → (format_of o ≡ 2 → ⊥) → None ≡ told_by o k
 told-unlisted None k e = refl
 told-unlisted (Some cs) k e = absurd (e refl)
-
--- ---- how many CNOTs there are where costs are listed
-listed-bound : (o : Option (List ℕ)) (n k : ℕ) → format_of o ≡ 2 → bound_by o n k ≡ 2 * n
-listed-bound None n k e = absurd (omega (arith, e))
-listed-bound (Some cs) n k e = refl
-
-pub listed-few : (d : Coupling) (S : List Op) (g s u k : ℕ) → format_of d.costs ≡ 2 → d.size ≤ 256 → g ≤ cx_count S → length S ≤ 65536
-    → s ≤ g * bound d k → u ≡ g + 3 * s → u ≤ 4294967296
-listed-few d S g s u k listed size fewer short few more =
-    let fit = few_cx S in
-    let m : g * bound d k ≤ 65536 * 512 = mul-le g (bound d k) 65536 512 (omega (arith, fewer, fit, short)) (omega (arith, size, listed-bound d.costs d.size k listed)) in
-    omega (arith, fewer, fit, short, few, more, m)
 
 pub ruleset gates = (edge-near)
 

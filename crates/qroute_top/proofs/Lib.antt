@@ -3,6 +3,10 @@ pub mod SourceLaws
 pub mod DeviceLaws
 pub mod TargetLaws
 pub mod CostLaws
+pub mod PartLaws
 pub mod PlanLaws
+pub mod StandLaws
+pub mod FitLaws
+pub mod MadeLaws
 pub mod ClaimLaws
 pub mod RunLaws

@@ -14,11 +14,11 @@ use Rattle.outside_io.specs.Bytes.{TakesAll, Tells}
 use Rattle.outside_io.specs.Causes.{Rose}
 use Rattle.outside_io.specs.Shelf.{HasNoText, TellsText}
 use Rattle.coupling_map.specs.Coupling.{Coupling}
-use Rattle.gate_inline.specs.Programs.{IsAccepted, IsWritten, Program}
+use Rattle.gate_inline.specs.Programs.{IsAccepted, IsWritten, Program, kept}
 use Rattle.program_reader.specs.Refusals.{IsRefusal}
 use Rattle.program_reader.specs.declared.refusal.Refusal.{Refusal}
 use Rattle.command_words.specs.Commands.{command_of}
-use Rattle.command_words.specs.Demands.{asked_entry, asked_texts, device_name, reads_input, writes_out, writes_report}
+use Rattle.command_words.specs.Demands.{asked_entry, asked_texts, device_name, keeps_barriers, reads_input, writes_out, writes_report}
 use Rattle.command_words.specs.declared.commands.Command.{Command}
 use Rattle.command_words.specs.declared.commands.Command.TheVariants.{Opt, Route, Check, Stages, Bench, Amplitude, Verify}
 use Rattle.route_report.specs.Lines.{check_line}
@@ -36,6 +36,7 @@ use Rattle.qroute_top.specs.declared.stops.DeviceRefusal.{DeviceRefusal}
 use Rattle.qroute_top.specs.declared.stops.DeviceStop.{DeviceStop}
 use Rattle.qroute_top.specs.declared.stops.DeviceStop.TheVariants as device_stop
 use Rattle.qroute_top.specs.declared.stops.QuestionRefusal.{QuestionRefusal}
+use Rattle.qroute_top.specs.declared.stops.QuestionRefusal.TheVariants as question
 use Rattle.qroute_top.specs.declared.stops.QuestionStop.{QuestionStop}
 use Rattle.qroute_top.specs.declared.stops.QuestionStop.TheVariants as question_stop
 use Rattle.qroute_top.specs.declared.stops.SourceStop.{SourceStop}
@@ -93,22 +94,49 @@ IsCause-source h c source_stop.Failed asked reads r = (reads_of h c asked reads,
 IsCause-source h c (source_stop.Refused x) asked reads r = (reads_of h c asked reads, r)
 
 -- what was read of the input
-abbrev pub HasRead : Option (List ℕ) → Option (List ℕ) → Program → Type 0
-HasRead old new p = (t : List ℕ) × TakesAll old new t × IsAccepted t p
+abbrev pub HasRead : Bool → Option (List ℕ) → Option (List ℕ) → Program → Type 0
+HasRead keep old new p = IsHad true keep old new p
+
+-- keeping barriers or not changes neither wires nor questions
+kept_wires : (keep : Bool) (p : Program) → (kept keep p).wires ≡ p.wires
+kept_wires true p = refl
+kept_wires false p = refl
+
+kept_question : (keep : Bool) (bits : Option (List Bool × List Bool)) (p : Program) (r : QuestionRefusal) → IsQuestionRefusal bits p r
+    → IsQuestionRefusal bits (kept keep p) r
+kept_question true None p r u = u
+kept_question true (Some x) p (question.WideProgram n) u = u
+kept_question true (Some x) p (question.ManyBranches n) u = u
+kept_question true (Some x) p (question.BitsLength n) u = u
+kept_question false None p r u = u
+kept_question false (Some x) p (question.WideProgram n) u = u
+kept_question false (Some x) p (question.ManyBranches n) u = u
+kept_question false (Some x) p (question.BitsLength n) u = u
+
+asked_of_kept : (keep : Bool) (bits : Option (List Bool × List Bool)) (p : Program) (r : QuestionRefusal) → IsQuestionRefusal bits (kept keep p) r
+    → IsQuestionRefusal bits p r
+asked_of_kept true None p r u = u
+asked_of_kept true (Some x) p (question.WideProgram n) u = u
+asked_of_kept true (Some x) p (question.ManyBranches n) u = u
+asked_of_kept true (Some x) p (question.BitsLength n) u = u
+asked_of_kept false None p r u = u
+asked_of_kept false (Some x) p (question.WideProgram n) u = u
+asked_of_kept false (Some x) p (question.ManyBranches n) u = u
+asked_of_kept false (Some x) p (question.BitsLength n) u = u
 
 -- the device of this name is reached, for a program with n wires
 abbrev pub ReachesFor : Handed → List ℕ → ℕ → Type 0
 ReachesFor h name n = (route : Reaches h name) × (n ≡ route.wires)
 
-pub Reaches-read : (h : Handed) (c : Command) (name : List ℕ) (trivial traced : Bool) (new : Option (List ℕ)) (p : Program) → command_of h.words ≡ Some c
-    → c ≡ Route name trivial traced → HasRead h.input new p → ReachesFor h name p.wires
-Reaches-read h c name trivial traced new p asked is read = (
+pub Reaches-read : (h : Handed) (c : Command) (name : List ℕ) (trivial traced keep clean : Bool) (new : Option (List ℕ)) (p : Program)
+    → command_of h.words ≡ Some c → c ≡ Route name trivial traced keep clean → HasRead keep h.input new p → ReachesFor h name p.wires
+Reaches-read h c name trivial traced keep clean new p asked is (t, q, taken, ok, same) = (
   record {
-    command = Route name trivial traced;
+    command = Route name trivial traced keep clean;
     asked = asked ∙ ap (λ x. Some x) is;
     wants = refl;
     wires = p.wires;
-    source = (read.0, p, Tells-taken h.input new read.0 read.1, read.2, refl);
+    source = (t, q, Tells-taken h.input new t taken, ok, ap (λ (x : Program). x.wires) same ∙ kept_wires keep q);
   },
   refl,
 )
@@ -137,19 +165,20 @@ IsCause-device h name n (device_stop.Refused x) route r calm =
 
 -- a question is reached with a program that was read
 pub IsCause-question : (h : Handed) (c : Command) (from to : List Bool) (new : Option (List ℕ)) (p : Program) (e : QuestionStop) → command_of h.words ≡ Some c
-    → c ≡ Amplitude from to → HasRead h.input new p → IsUnanswered (from, to) p e → IsCause h (question_stopped e)
+    → c ≡ Amplitude from to → HasRead false h.input new p → IsUnanswered (from, to) p e → IsCause h (question_stopped e)
 IsCause-question h c from to new p question_stop.NoMemory asked is read u = tt
-IsCause-question h c from to new p (question_stop.Refused r) asked is read u = (
-  record { command = Amplitude from to; asked = asked ∙ ap (λ x. Some x) is; reads = refl },
-  (read.0, p, Tells-taken h.input new read.0 read.1, read.2, u),
-)
+IsCause-question h c from to new p (question_stop.Refused r) asked is (t, q, taken, ok, same) u =
+    let here : IsQuestionRefusal (Some (from, to)) (kept false q) r = subst (λ (x : Program). IsQuestionRefusal (Some (from, to)) x r) same u in (
+      record { command = Amplitude from to; asked = asked ∙ ap (λ x. Some x) is; reads = refl },
+      (t, q, Tells-taken h.input new t taken, ok, asked_of_kept false (Some (from, to)) q r here),
+    )
 
 -- no refusal of a question on the program applies
 abbrev pub Answered : Command → Program → Type 0
 Answered c p = (r : QuestionRefusal) → IsQuestionRefusal (asked_entry c) p r → ⊥
 
 delivers : (words : List (List ℕ)) (content : Content) (c : Command) (old new : Option (List ℕ)) (p : Program) (text line : List ℕ)
-    → command_of words ≡ Some c → IsHad (reads_input c) old new p → Answered c p → IsAnswer content c p text line → Delivers words content old new text line
+    → command_of words ≡ Some c → IsHad (reads_input c) (keeps_barriers c) old new p → Answered c p → IsAnswer content c p text line → Delivers words content old new text line
 delivers words content c old new p text line asked had answered answer = record {
   command = c;
   asked = asked;
@@ -159,37 +188,39 @@ delivers words content c old new p text line asked had answered answer = record 
   answer = answer;
 }
 
-pub Delivers-opt : (words : List (List ℕ)) (content : Content) (c : Command) (old new : Option (List ℕ)) (p : Program) (text line : List ℕ)
-    → command_of words ≡ Some c → c ≡ Opt → HasRead old new p → Rewrites p false (IsInPlace p) text line → Delivers words content old new text line
-Delivers-opt words content c old new p text line asked is read made =
-    delivers words content Opt old new p text line (asked ∙ ap (λ x. Some x) is) read (λ r u. u) made
+pub Delivers-opt : (words : List (List ℕ)) (content : Content) (c : Command) (keep : Bool) (old new : Option (List ℕ)) (p : Program) (text line : List ℕ)
+    → command_of words ≡ Some c → c ≡ Opt keep → HasRead keep old new p → Rewrites p keep false (IsInPlace p) text line → Delivers words content old new text line
+Delivers-opt words content c keep old new p text line asked is read made =
+    delivers words content (Opt keep) old new p text line (asked ∙ ap (λ x. Some x) is) read (λ r u. u) made
 
 pub Delivers-check : (words : List (List ℕ)) (content : Content) (c : Command) (old new : Option (List ℕ)) (p : Program) (text line : List ℕ)
-    → command_of words ≡ Some c → c ≡ Check → HasRead old new p → text ≡ [] → line ≡ check_line (counts_of p) → Delivers words content old new text line
+    → command_of words ≡ Some c → c ≡ Check → HasRead false old new p → text ≡ [] → line ≡ check_line (counts_of p) → Delivers words content old new text line
 Delivers-check words content c old new p text line asked is read none told =
     delivers words content Check old new p text line (asked ∙ ap (λ x. Some x) is) read (λ r u. u) (none, told)
 
 pub Delivers-stages : (words : List (List ℕ)) (content : Content) (c : Command) (old new : Option (List ℕ)) (p : Program) (text line : List ℕ)
-    → command_of words ≡ Some c → c ≡ Stages → HasRead old new p → IsStages p text → line ≡ [] → Delivers words content old new text line
+    → command_of words ≡ Some c → c ≡ Stages → HasRead false old new p → IsStages p text → line ≡ [] → Delivers words content old new text line
 Delivers-stages words content c old new p text line asked is read told none =
     delivers words content Stages old new p text line (asked ∙ ap (λ x. Some x) is) read (λ r u. u) (told, none)
 
 pub Delivers-entry : (words : List (List ℕ)) (content : Content) (c : Command) (from to : List Bool) (old new : Option (List ℕ)) (p : Program) (text line : List ℕ)
-    → command_of words ≡ Some c → c ≡ Amplitude from to → HasRead old new p → ((r : QuestionRefusal) → IsQuestionRefusal (Some (from, to)) p r → ⊥)
+    → command_of words ≡ Some c → c ≡ Amplitude from to → HasRead false old new p → ((r : QuestionRefusal) → IsQuestionRefusal (Some (from, to)) p r → ⊥)
     → IsEntryText p.ops from to text × (line ≡ []) → Delivers words content old new text line
 Delivers-entry words content c from to old new p text line asked is read answered told =
     delivers words content (Amplitude from to) old new p text line (asked ∙ ap (λ x. Some x) is) read answered told
 
-pub Delivers-routed : (words : List (List ℕ)) (content : Content) (c : Command) (name : List ℕ) (trivial traced : Bool) (old new : Option (List ℕ)) (p : Program)
+pub Delivers-routed : (words : List (List ℕ)) (content : Content) (c : Command) (name : List ℕ) (trivial traced keep clean : Bool) (old new : Option (List ℕ)) (p : Program)
     (d : Coupling) (n : ℕ) (text line : List ℕ)
-    → command_of words ≡ Some c → c ≡ Route name trivial traced → HasRead old new p
+    → command_of words ≡ Some c → c ≡ Route name trivial traced keep clean → HasRead keep old new p
     → (t : List ℕ) × TellsText (content name) t × IsDevice t d × (n ≤ d.size)
-    → Rewrites p traced (IsOnQubits d trivial p) text line → Delivers words content old new text line
-Delivers-routed words content c name trivial traced old new p d n text line asked is read loaded made =
-    delivers words content (Route name trivial traced) old new p text line (asked ∙ ap (λ x. Some x) is) read (λ r u. u) (record {
+    → Rewrites p keep traced (IsOnQubits d trivial clean p) text line → Delivers words content old new text line
+Delivers-routed words content c name trivial traced keep clean old new p d n text line asked is read loaded made =
+    delivers words content (Route name trivial traced keep clean) old new p text line (asked ∙ ap (λ x. Some x) is) read (λ r u. u) (record {
       target = made.target;
+      parts = made.parts;
       told = made.told;
       made = made.made;
+      tells = made.tells;
       trace = made.trace;
       placed = record {
         device_text = loaded.0;
@@ -204,12 +235,14 @@ pub Delivers-drawn : (words : List (List ℕ)) (content : Content) (c : Command)
     (d : Coupling) (n : ℕ) (text line : List ℕ)
     → command_of words ≡ Some c → c ≡ Bench start gates name
     → (t : List ℕ) × TellsText (content name) t × IsDevice t d × (n ≤ d.size)
-    → p ≡ drawn_program start gates d.size → Rewrites p false (IsOnQubits d false p) text line → Delivers words content old new text line
+    → p ≡ drawn_program start gates d.size → Rewrites p false false (IsOnQubits d false false p) text line → Delivers words content old new text line
 Delivers-drawn words content c start gates name old new p d n text line asked is loaded drawn made =
     delivers words content (Bench start gates name) old new p text line (asked ∙ ap (λ x. Some x) is) tt (λ r u. u) (record {
       target = made.target;
+      parts = made.parts;
       told = made.told;
       made = made.made;
+      tells = made.tells;
       trace = made.trace;
       placed = (
         record {
@@ -243,8 +276,8 @@ IsCause-claim h c a b (stop.Claim y) asked is x = (a, b, record { command = Veri
 
 -- `verify` reads no input and loads no device
 apart : (c : Command) (a b : List ℕ) → asked_texts c ≡ Some (a, b) → (reads_input c ≡ false) × (device_name c ≡ None)
-apart Opt a b e = cc
-apart (Route name trivial traced) a b e = cc
+apart (Opt keep) a b e = cc
+apart (Route name trivial traced keep clean) a b e = cc
 apart Check a b e = cc
 apart Stages a b e = cc
 apart (Bench start gates name) a b e = cc
@@ -258,8 +291,8 @@ compares_reads : (h : Handed) (c : Command) (a b : List ℕ) → Compares h.word
 compares_reads h c a b x asked reads = let no = (apart c a b (compares_texts h c a b x asked)).0 in cc
 
 pub device_alone : (c : Command) (name : List ℕ) → device_name c ≡ Some name → asked_texts c ≡ None
-device_alone Opt name e = cc
-device_alone (Route other trivial traced) name e = refl
+device_alone (Opt keep) name e = cc
+device_alone (Route other trivial traced keep clean) name e = refl
 device_alone Check name e = cc
 device_alone Stages name e = cc
 device_alone (Bench start gates other) name e = refl
@@ -381,14 +414,14 @@ reached_needs once h name c n route asked needs =
     same_needs once h.input (reads_input route.command) route.wires n route.source here
 
 -- a program that was had has a wire for each qubit that is needed
-had_needs : MeansOnce → (old new : Option (List ℕ)) (b : Bool) (n : ℕ) (p : Program) → HasSource b (λ t. old ≡ Some t) n → IsHad b old new p → n ≤ p.wires
-had_needs once old new true n p (u, q, told, good, size) (t, taken, ok) =
+had_needs : MeansOnce → (old new : Option (List ℕ)) (b keep : Bool) (n : ℕ) (p : Program) → HasSource b (λ t. old ≡ Some t) n → IsHad b keep old new p → n ≤ p.wires
+had_needs once old new true keep n p (u, q, told, good, size) (t, x, taken, ok, is) =
     let same = told_text old u t told (Tells-taken old new t taken) in
-    let here : IsAccepted u p = rw same at ok in
-    let one = once u p q (written_of u p here) (written_of u q good) in
-    let wires = ap (λ (x : Program). x.wires) one in
+    let here : IsAccepted u x = rw same at ok in
+    let one = once u x q (written_of u x here) (written_of u q good) in
+    let wires : p.wires ≡ q.wires = ap (λ (y : Program). y.wires) is ∙ kept_wires keep x ∙ ap (λ (y : Program). y.wires) one in
     omega (arith, size, wires)
-had_needs once old new false n p none had = omega (arith, none)
+had_needs once old new false keep n p none had = omega (arith, none)
 
 absent_or_told : (o : Option (Option (List ℕ))) (t : List ℕ) → o ≡ Some (Some t) → HasNoText o → ⊥
 absent_or_told None t e h = cc
@@ -407,8 +440,8 @@ same_device name other o e f = cc
 
 -- a command that loads a device asks no question
 unasked : (c : Command) (name : List ℕ) (p : Program) (r : QuestionRefusal) → device_name c ≡ Some name → IsQuestionRefusal (asked_entry c) p r → ⊥
-unasked Opt name p r wants u = u
-unasked (Route other trivial traced) name p r wants u = u
+unasked (Opt keep) name p r wants u = u
+unasked (Route other trivial traced keep clean) name p r wants u = u
 unasked Check name p r wants u = u
 unasked Stages name p r wants u = u
 unasked (Bench start gates other) name p r wants u = u
@@ -417,8 +450,8 @@ unasked (Verify a b) name p r wants u = u
 
 -- a command that asks a question reads a program
 asking_reads : (c : Command) (p : Program) (r : QuestionRefusal) → IsQuestionRefusal (asked_entry c) p r → reads_input c ≡ true
-asking_reads Opt p r u = absurd u
-asking_reads (Route other trivial traced) p r u = absurd u
+asking_reads (Opt keep) p r u = absurd u
+asking_reads (Route other trivial traced keep clean) p r u = absurd u
 asking_reads Check p r u = absurd u
 asking_reads Stages p r u = absurd u
 asking_reads (Bench start gates other) p r u = absurd u
@@ -608,20 +641,20 @@ came w n (inr (inr (inr eight))) done failed told = inr (told eight)
 abbrev pub DeliversWork : List (List ℕ) → Content → Option (List ℕ) → Option (List ℕ) → Work → Type 0
 DeliversWork words content old new w = (text line : List ℕ) → IsWork w text line → Delivers words content old new text line
 
-refused_or_had : NoRefusal → (old new : Option (List ℕ)) (b : Bool) (p : Program) (text : List ℕ) (r : Refusal) → b ≡ true → IsHad b old new p
+refused_or_had : NoRefusal → (old new : Option (List ℕ)) (b keep : Bool) (p : Program) (text : List ℕ) (r : Refusal) → b ≡ true → IsHad b keep old new p
     → old ≡ Some text → IsRefusal text r → ⊥
-refused_or_had law old new true p text r reads (t, taken, accepted) told refusal =
+refused_or_had law old new true keep p text r reads (t, q, taken, accepted, is) told refusal =
     let same = told_text old text t told (Tells-taken old new t taken) in
-    let ok : IsAccepted text p = rw same at accepted in
-    law text p r ok refusal
-refused_or_had law old new false p text r reads had told refusal = cc
+    let ok : IsAccepted text q = rw same at accepted in
+    law text q r ok refusal
+refused_or_had law old new false keep p text r reads had told refusal = cc
 
 refused_or_delivered : NoRefusal → (words : List (List ℕ)) (content : Content) (old new : Option (List ℕ)) (x l text : List ℕ) (r : Refusal) (c : Command)
     → Delivers words content old new x l → command_of words ≡ Some c → reads_input c ≡ true → old ≡ Some text → IsRefusal text r → ⊥
 refused_or_delivered law words content old new x l text r c d asked reads told refusal =
     let same = same_command words c d.command asked d.asked in
     let read : reads_input d.command ≡ true = subst (λ y. reads_input y ≡ true) same reads in
-    refused_or_had law old new (reads_input d.command) d.source text r read d.had told refusal
+    refused_or_had law old new (reads_input d.command) (keeps_barriers d.command) d.source text r read d.had told refusal
 
 pub planned-refuses : NoRefusal → (words : List (List ℕ)) (content : Content) (old new : Option (List ℕ)) (w : Work) (n : ℕ) (text : List ℕ) (r : Refusal) (c : Command)
     → DeliversWork words content old new w → Came w n → command_of words ≡ Some c → reads_input c ≡ true → old ≡ Some text → IsRefusal text r
@@ -631,13 +664,13 @@ planned-refuses law words content old new w n text r c delivers (inr (x, l, is))
     absurd (refused_or_delivered law words content old new x l text r c (delivers x l is) asked reads told refusal)
 
 -- what is delivered isn't for a question that is refused
-answered_had : MeansOnce → (old new : Option (List ℕ)) (b : Bool) (p q : Program) (text : List ℕ) → b ≡ true → IsHad b old new q → old ≡ Some text
-    → IsAccepted text p → q ≡ p
-answered_had once old new true p q text reads (t, taken, ok) told good =
+answered_had : MeansOnce → (old new : Option (List ℕ)) (b keep : Bool) (p q : Program) (text : List ℕ) → b ≡ true → IsHad b keep old new q
+    → old ≡ Some text → IsAccepted text p → q ≡ kept keep p
+answered_had once old new true keep p q text reads (t, x, taken, ok, is) told good =
     let same = told_text old text t told (Tells-taken old new t taken) in
-    let here : IsAccepted text q = rw same at ok in
-    once text q p (written_of text q here) (written_of text p good)
-answered_had once old new false p q text reads had told good = cc
+    let here : IsAccepted text x = rw same at ok in
+    is ∙ ap (λ (y : Program). kept keep y) (once text x p (written_of text x here) (written_of text p good))
+answered_had once old new false keep p q text reads had told good = cc
 
 pub planned-refuses_question : MeansOnce → (words : List (List ℕ)) (content : Content) (old new : Option (List ℕ)) (w : Work) (n : ℕ) (text : List ℕ) (p : Program)
     (r : QuestionRefusal) (c : Command) → DeliversWork words content old new w → Came w n → command_of words ≡ Some c
@@ -647,35 +680,53 @@ planned-refuses_question once words content old new w n text p r c delivers (inr
     let d = delivers x l is in
     let same = same_command words c d.command asked d.asked in
     let read : reads_input d.command ≡ true = subst (λ y. reads_input y ≡ true) same (asking_reads c p r refused) in
-    let one : d.source ≡ p = answered_had once old new (reads_input d.command) p d.source text read d.had told ok in
+    let one = answered_had once old new (reads_input d.command) (keeps_barriers d.command) p d.source text read d.had told ok in
     let there : IsQuestionRefusal (asked_entry d.command) p r = subst (λ y. IsQuestionRefusal (asked_entry y) p r) same refused in
-    absurd (d.answered r (subst (λ (y : Program). IsQuestionRefusal (asked_entry d.command) y r) (sym one) there))
+    absurd (d.answered r (subst (λ (y : Program). IsQuestionRefusal (asked_entry d.command) y r) (sym one)
+    (kept_question (keeps_barriers d.command) (asked_entry d.command) p r there)))
 
 -- what is delivered for a command that loads a device comes of the text of its device
+record IsFromDevice (content : Content) (name : List ℕ) (source : Program) (x l : List ℕ) : Type 0 where
+  trivial : Bool
+  traced : Bool
+  keep : Bool
+  clean : Bool
+  answer : Rewrites source keep traced (IsOnDevice content name trivial clean source) x l
+
 answer_on : (content : Content) (name : List ℕ) (c : Command) (source : Program) (x l : List ℕ) → device_name c ≡ Some name → IsAnswer content c source x l
-    → (trivial : Bool) × (traced : Bool) × Rewrites source traced (IsOnDevice content name trivial source) x l
-answer_on content name Opt source x l wants answer = cc
-answer_on content name (Route other trivial traced) source x l wants answer =
-    let same : other ≡ name = cc in (trivial, traced, subst (λ y. Rewrites source traced (IsOnDevice content y trivial source) x l) same answer)
+    → IsFromDevice content name source x l
+answer_on content name (Opt keep) source x l wants answer = cc
+answer_on content name (Route other trivial traced keep clean) source x l wants answer =
+    let same : other ≡ name = cc in record {
+      trivial = trivial;
+      traced = traced;
+      keep = keep;
+      clean = clean;
+      answer = subst (λ y. Rewrites source keep traced (IsOnDevice content y trivial clean source) x l) same answer;
+    }
 answer_on content name Check source x l wants answer = cc
 answer_on content name Stages source x l wants answer = cc
 answer_on content name (Amplitude from to) source x l wants answer = cc
 answer_on content name (Verify a b) source x l wants answer = cc
 answer_on content name (Bench start gates other) source x l wants answer =
-    let same : other ≡ name = cc in (
-      false,
-      false,
-      record {
+    let same : other ≡ name = cc in record {
+      trivial = false;
+      traced = false;
+      keep = false;
+      clean = false;
+      answer = record {
         target = answer.target;
+        parts = answer.parts;
         told = answer.told;
         made = answer.made;
+        tells = answer.tells;
         trace = answer.trace;
-        placed = subst (λ y. IsOnDevice content y false source answer.target answer.told) same answer.placed.0;
-      },
-    )
+        placed = subst (λ y. IsOnDevice content y false false source answer.target answer.parts answer.told) same answer.placed.0;
+      };
+    }
 
 planned_on : (words : List (List ℕ)) (content : Content) (old new : Option (List ℕ)) (x l name : List ℕ) (c : Command) (d : Delivers words content old new x l)
-    → command_of words ≡ Some c → device_name c ≡ Some name → (trivial : Bool) × (traced : Bool) × Rewrites d.source traced (IsOnDevice content name trivial d.source) x l
+    → command_of words ≡ Some c → device_name c ≡ Some name → IsFromDevice content name d.source x l
 planned_on words content old new x l name c d asked wants =
     let same = same_command words c d.command asked d.asked in
     answer_on content name d.command d.source x l (subst (λ y. device_name y ≡ Some name) same wants) d.answer
@@ -686,19 +737,19 @@ pub planned-absent : (words : List (List ℕ)) (content : Content) (old new : Op
 planned-absent words content old new w n name c delivers (inl seven) asked wants none = inr seven
 planned-absent words content old new w n name c delivers (inr (x, l, is)) asked wants none =
     let on = planned_on words content old new x l name c (delivers x l is) asked wants in
-    absurd (absent_text (content name) on.2.placed.device_text none on.2.placed.loaded)
+    absurd (absent_text (content name) on.answer.placed.device_text none on.answer.placed.loaded)
 
 refused_or_routed : MeansOnce → (words : List (List ℕ)) (content : Content) (old new : Option (List ℕ)) (x l name : List ℕ) (c : Command) (t : List ℕ)
     (q : ℕ) (r : DeviceRefusal) → Delivers words content old new x l → command_of words ≡ Some c → device_name c ≡ Some name
     → HasSource (reads_input c) (λ u. old ≡ Some u) q → content name ≡ Some (Some t) → IsDeviceRefusal t q r → ⊥
 refused_or_routed once words content old new x l name c t q r d asked wants needs here refusal =
     let on = planned_on words content old new x l name c d asked wants in
-    let placed = on.2.placed in
+    let placed = on.answer.placed in
     let same = device_text (content name) t placed.device_text here placed.loaded in
     let described : IsDevice t placed.device = rw same at placed.described in
     let there = subst (λ y. HasSource (reads_input y) (λ u. old ≡ Some u) q) (same_command words c d.command asked d.asked) needs in
-    let wires = had_needs once old new (reads_input d.command) q d.source there d.had in
-    let fits : d.source.wires ≤ placed.device.size = rw (← placed.routed.qubits) on.2.made.stands.unitary.fits in
+    let wires = had_needs once old new (reads_input d.command) (keeps_barriers d.command) q d.source there d.had in
+    let fits : d.source.wires ≤ placed.device.size = rw (← placed.routed.qubits) on.answer.made.stands.unitary.fits in
     IsDevice-refused t placed.device q r described (omega (arith, wires, fits)) refusal
 
 pub planned-refuses_device : MeansOnce → (words : List (List ℕ)) (content : Content) (old new : Option (List ℕ)) (w : Work) (n : ℕ) (name : List ℕ) (c : Command)
@@ -801,8 +852,8 @@ stopped-verdict law traces h (stop.Claim y) n c a b x w e asked texts told is ca
 -- what is delivered where the command is `verify`
 verified_of : (content : Content) (c : Command) (a b : List ℕ) (p : Program) (x l : List ℕ) → asked_texts c ≡ Some (a, b) → IsAnswer content c p x l
     → IsVerified content a b x
-verified_of content Opt a b p x l e answer = cc
-verified_of content (Route name trivial traced) a b p x l e answer = cc
+verified_of content (Opt keep) a b p x l e answer = cc
+verified_of content (Route name trivial traced keep clean) a b p x l e answer = cc
 verified_of content Check a b p x l e answer = cc
 verified_of content Stages a b p x l e answer = cc
 verified_of content (Bench start gates name) a b p x l e answer = cc
@@ -812,8 +863,8 @@ verified_of content (Verify c d) a b p x l e answer =
     subst (λ v. IsVerified content a v x) both.1 (subst (λ v. IsVerified content v d x) both.0 answer.0)
 
 verify_writes : (c : Command) (a b : List ℕ) → asked_texts c ≡ Some (a, b) → (writes_out c ≡ true) × (writes_report c ≡ false)
-verify_writes Opt a b e = cc
-verify_writes (Route name trivial traced) a b e = cc
+verify_writes (Opt keep) a b e = cc
+verify_writes (Route name trivial traced keep clean) a b e = cc
 verify_writes Check a b e = cc
 verify_writes Stages a b e = cc
 verify_writes (Bench start gates name) a b e = cc

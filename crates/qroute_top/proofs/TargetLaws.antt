@@ -3,9 +3,6 @@
 --   IsOptimised-rewritten  expanded, and then rewritten to a settled circuit
 --   HasSteps-summed        .. with the steps that led there
 --   IsOwnTrace-run         the trace of the run proves what the target claims
---   Realises-in_place      wire for wire
---   Realises-routed        on the qubits of a device
---   IsMachineRun-routed, HasFewSwaps-routed   what is written is the machine's run, with few swaps
 use Rattle.std.proofs.Common.{◌≡◌, ℕ, ◌+◌, ◌*◌, ◌%◌, ◌<◌, ◌≤◌, Bool, false, List, [], Option, None, Some, All, length, refl, sym, ◌∙◌, ap, subst, arith, is_some}
 use Rattle.std.specs.Prelude.{IfSome}
 use Rattle.std.proofs.lemmas.Nat.{mul-le}
@@ -34,8 +31,8 @@ use Rattle.coupling_map.specs.Walks.{IsDiameter}
 use Rattle.sabre_route.specs.Measures.{bound}
 use Rattle.sabre_route.specs.Routing.{IsLayout, IsRouted, turned}
 use Rattle.sabre_route.specs.declared.router.Routed.{Routed}
-use Rattle.qroute_top.specs.Runs.{HasFewSwaps, IsMachineRun}
-use Rattle.qroute_top.specs.Settled.{IsSettled}
+use Rattle.routed_parts.specs.Runs.{HasFewSwaps, IsMachineRun}
+use Rattle.routed_parts.specs.Settled.{IsSettled}
 use Rattle.qroute_top.specs.Delivered.{IsOwnTrace}
 use Rattle.qroute_top.specs.Targets.{HasSteps, IsOptimised, IsRunTrace}
 
@@ -46,9 +43,9 @@ IsSettled-left n gs (windows, pairs, t_gates) = record { gates = gs; plain = ref
 pub IsOptimised-rewritten : (n : ℕ) (S : List Op) (e r : Passed) (t : ℕ) → e.body.wires ≡ n → e.turn < 8 → SameUpTo e.turn n S (ops e.body.gates)
     → odd_paths n (ops e.body.gates) ≡ odd_paths n S → cx_count (ops e.body.gates) ≡ cx_count S
     → r.body.wires ≡ e.body.wires → IsRewriting e.body.wires e.body.gates r.body.gates r.turn
-    → IsSettled e.body.wires (ops r.body.gates) → t ≡ (e.turn + r.turn) % 8
+    → IsSettled e.body.wires (ops r.body.gates) → t ≡ (e.turn + r.turn) % 8 → All (IsFine r.body.wires) r.body.gates
     → IsOptimised n S (record { body = r.body; turn = t })
-IsOptimised-rewritten n S e r t wires below same odd cx r_wires law left turn =
+IsOptimised-rewritten n S e r t wires below same odd cx r_wires law left turn fine =
     let E = ops e.body.gates in
     let R = ops r.body.gates in
     let both = SameUpTo_trans e.turn r.turn n S E R below law.below same (rw wires at law.same) in
@@ -56,6 +53,7 @@ IsOptimised-rewritten n S e r t wires below same odd cx r_wires law left turn =
     let fewer : odd_paths n R ≤ odd_paths n E = rw wires at law.odd_paths in
     record {
       wires = r_wires ∙ wires;
+      fine = subst (λ (m : ℕ). All (IsFine m) r.body.gates) (r_wires ∙ wires) fine;
       below = omega (arith, turn);
       same = rw turn both;
       t_gates = omega (arith, settled.t_gates, fewer, odd);
@@ -86,59 +84,3 @@ IsOwnTrace-run d n S c (Some ss) given r s t told j trace steps run none wires f
   where
     whole : (a b k m j : ℕ) → a ≡ (m + b) % 8 → j ≡ (a + k) % 8 → j ≡ (m + (b + k)) % 8
     whole a b k m j e f = omega (arith, e, f)
-
-pub Realises-in_place : (n : ℕ) (S : List Op) (c : Passed) (first last : List ℕ) (turn : ℕ) → IsOptimised n S c → first ≡ identity n → last ≡ identity n
-    → turn ≡ c.turn → Realises S n (ops c.body.gates) c.body.wires first last turn
-Realises-in_place n S c first last turn is begins ends same =
-    rw (is.wires, begins, ends, same) (Realises_same S (ops c.body.gates) n c.turn is.below is.same)
-
-pub Realises-routed : (n m : ℕ) (S us : List Op) (c : Passed) (wires : ℕ) (first last begins ends : List ℕ) (j turn : ℕ) → IsOptimised n S c
-    → wires ≡ m → Realises (ops c.body.gates) c.body.wires us m first last j → begins ≡ first → ends ≡ last → turn ≡ (c.turn + j) % 8
-    → Realises S n us wires begins ends turn
-Realises-routed n m S us c wires first last begins ends j turn is size realises b e sum =
-    let same = Realises_same S (ops c.body.gates) n c.turn is.below is.same in
-    let chain = Realises_chain S (ops c.body.gates) us n m first last c.turn j same (rw is.wires at realises) in
-    rw (size, b, e, sum) chain
-
-pub IsMachineRun-routed : (d : Coupling) (trivial : Bool) (n : ℕ) (S : List Op) (c : Passed) (r : Routed) (given : List ℕ) (phase : ℕ) → IsOptimised n S c
-    → All (IsFine c.body.wires) c.body.gates → IsRouted d c.body.gates given r → phase ≡ (c.turn + r.turn) % 8 → (trivial ≡ false → IsLayout d c.body.gates given)
-    → IsMachineRun d trivial n S (ops r.body.gates) given r.last r.swaps phase
-IsMachineRun-routed d trivial n S c r given phase is fine run sum laid_out = record {
-  gates = c.body.gates;
-  turn = c.turn;
-  fine = subst (λ (m : ℕ). All (IsFine m) c.body.gates) is.wires fine;
-  settled = is.settled;
-  stands = Realises_same S (ops c.body.gates) n c.turn is.below is.same;
-  events = run.events;
-  end = run.final;
-  run = run.run;
-  writes = ap ops run.body;
-  ends = run.last;
-  counts = run.swaps;
-  turns = whole c.turn (turned d.edges given run.events) r.turn phase run.turn sum;
-  laid_out = laid_out;
-}
-  where
-    whole : (a b j t : ℕ) → j ≡ b % 8 → t ≡ (a + j) % 8 → t ≡ (a + b) % 8
-    whole a b j t e f = omega (arith, e, f)
-
-pub HasFewSwaps-routed : (d : Coupling) (S gates us : List Op) (swaps k : ℕ) → IsDiameter d.size d.edges (cost d) k → cx_count gates ≤ cx_count S
-    → ((m : ℕ) → IsDiameter d.size d.edges (cost d) m → swaps ≤ cx_count gates * bound d m) → cx_count us ≡ cx_count gates + 3 * swaps
-    → HasFewSwaps d S us swaps
-HasFewSwaps-routed d S gates us swaps k is fewer few more =
-    let below : swaps ≤ cx_count S * bound d k = above (cx_count S) (cx_count gates) (bound d k) swaps fewer (few k is) in
-    record {
-      diameter = k;
-      is_diameter = is;
-      few = below;
-      cx_gates = spread (cx_count S) (cx_count gates) (cx_count us) swaps (bound d k) fewer below more;
-    }
-  where
-    above : (a b m s : ℕ) → b ≤ a → s ≤ b * m → s ≤ a * m
-    above a b m s l g = let more = mul-le b m a m l (omega arith) in omega (arith, g, more)
-
-    mul-three : (a m : ℕ) → a * (1 + 3 * m) ≡ a + 3 * (a * m)
-    mul-three a m = grind arith
-
-    spread : (a b t s m : ℕ) → b ≤ a → s ≤ a * m → t ≡ b + 3 * s → t ≤ a * (1 + 3 * m)
-    spread a b t s m l g e = omega (arith, l, g, e, mul-three a m)

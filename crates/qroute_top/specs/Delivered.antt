@@ -2,51 +2,56 @@
 --   Content                     what a shelf tells of each name: nothing, no text, or a text
 --   Reports source target r     the report's numbers are those of both programs
 --   placed_read p r             the qubit at which the wire of a read stands by p
---   StandsFor source target r   the target is the source, up to the reported power of w and the reported placements
---   Makes source target r ..    the text and the report line are right for a source: they are those of a target that stands for it
+--   StandsFor source target parts r   the target is the source, up to the reported power of w and the reported placements, as a whole
+--                               and part by part
+--   Makes source target parts r ..    the text and the report line are right for a source: they are those of a target that stands for it
 --   IsOwnTrace traced source target told trace   where a trace is asked for, it proves that the target realises the source, from and
 --                               to the reported placements and up to the reported power; else it is empty
---   Rewrites source traced P .. there is such a target, with its trace, and of its qubits, placements and edges P holds
+--   Rewrites source keep traced P ..  there is such a target, with its trace; the line tells of its parts where barriers are kept;
+--                               and of its parts, qubits, placements and edges P holds
 --   IsInPlace, IsOnDevice       this P for `opt` and `route`, and part of it for `bench`;  IsOnQubits: for a device that is known
 --   counts_of source            what `check` tells of a program
 --   IsStages source text        what `stages` writes of it: the lines of the layers of its gates
 --   IsAnswer content c source ..   the text and the line are what the command asks for
 --   drawn_program start gates n   the program of `bench`: so many gates on n wires, drawn from a start; no bit, and no barrier
---   IsHad reads input after source   where the input is read, it was taken whole, and its text is accepted as this program;
---                               a program that is drawn is told by the answer
+--   IsHad reads keep input after source   where the input is read, it was taken whole, and its text is accepted as this program, which
+--                               is one part unless barriers are kept; a program that is drawn is told by the answer
 --   Delivers words content ..   the words mean a command, and the text and the line are its answer for such a program
 --   Delivered ..                some text and line are so, and this was done with them
-use Rattle.std.specs.Prelude.{◌≡◌, ℕ, ◌+◌, ◌*◌, ◌≤◌, Bool, true, false, List, [], Option, None, Some, All, length, map, option_map, slice_index}
+use Rattle.std.specs.Prelude.{◌≡◌, ℕ, ◌+◌, ◌*◌, ◌%◌, ◌≤◌, Bool, true, false, List, [], Option, None, Some, All, length, map, option_map, slice_index, sum_by}
+use Rattle.std.specs.List.{AllByRecursion}
 use Rattle.outside_io.specs.Bytes.{TakesAll}
 use Rattle.outside_io.specs.Shelf.{TellsText}
 use Rattle.coupling_map.specs.Coupling.{Coupling}
 use Rattle.route_report.specs.declared.lines.Counts.{Counts}
 use Rattle.route_report.specs.declared.lines.Report.{Report}
 use Rattle.route_report.specs.Lines.{check_line, report_line}
-use Rattle.unitary_model.specs.OddPaths.{odd_paths}
 use Rattle.unitary_model.specs.Operations.{IsPlain, cx_count, t_count}
 use Rattle.unitary_model.specs.Placement.{identity}
 use Rattle.unitary_model.specs.Realises.{Realises}
 use Rattle.coupling_map.specs.Edges.{FollowsEdges}
 use Rattle.bench_program.specs.Program.{drawn}
 use Rattle.gate_expand.specs.Expansion.{expanded}
-use Rattle.gate_inline.specs.Programs.{IsAccepted, IsWritten, Program}
+use Rattle.gate_inline.specs.Programs.{IsAccepted, IsWritten, Program, kept}
 use Rattle.layer_stages.specs.Stages.{IsStageText}
 use Rattle.phase_poly.specs.Layers.{layers_of}
+use Rattle.program_parts.specs.Cuts.{uncut}
+use Rattle.program_parts.specs.Parts.{Part, ends, powers}
 use Rattle.trace_check.specs.Proves.{Proves}
 use Rattle.trace_check.specs.Verdicts.{claim_of}
 use Rattle.trace_text.specs.Texts.{trace_of}
 use Rattle.command_words.specs.declared.commands.Command.{Command}
 use Rattle.command_words.specs.declared.commands.Command.TheVariants.{Opt, Route, Check, Stages, Bench, Amplitude, Verify}
 use Rattle.command_words.specs.Commands.{command_of}
-use Rattle.command_words.specs.Demands.{asked_entry, reads_input}
+use Rattle.command_words.specs.Demands.{asked_entry, keeps_barriers, reads_input}
 use Rattle.qroute_top.specs.Claims.{IsVerified}
 use Rattle.qroute_top.specs.Costs.{told_cost}
 use Rattle.qroute_top.specs.Devices.{IsDevice}
 use Rattle.qroute_top.specs.Questions.{IsEntryText, IsQuestionRefusal}
 use Rattle.qroute_top.specs.declared.stops.QuestionRefusal.{QuestionRefusal}
-use Rattle.qroute_top.specs.Runs.{HasFewSwaps, IsMachineRun}
-use Rattle.qroute_top.specs.Settled.{IsSettled}
+use Rattle.qroute_top.specs.InParts.{AreMade, HasFewTs, told_parts}
+use Rattle.routed_parts.specs.Runs.{AreMachineRuns, HasFewSwaps}
+use Rattle.routed_parts.specs.Settled.{IsSettled}
 
 abbrev pub Content : Type 0
 Content = List ℕ → Option (Option (List ℕ))
@@ -63,7 +68,7 @@ pub record Reports (source target : Program) (r : Report) : Type 0 where
 abbrev pub placed_read : List ℕ → Option ℕ → Option ℕ
 placed_read p r = option_map (slice_index p) r
 
-pub record StandsFor (source target : Program) (told : Report) : Type 0 where
+pub record StandsFor (source target : Program) (parts : List Part) (told : Report) : Type 0 where
   -- it has the same classical registers and plain operations
   pub registers : target.registers ≡ source.registers
   pub plain : All IsPlain target.ops
@@ -71,56 +76,64 @@ pub record StandsFor (source target : Program) (told : Report) : Type 0 where
   pub unitary : Realises source.ops source.wires target.ops target.wires told.initial told.last told.phase
   -- each bit reads its wire of the source, where it ends
   pub reads : target.reads ≡ map (placed_read told.last) source.reads
-  -- no more T gates than the source has odd path parities, and no more CNOTs but three a swap
-  pub t_gates : t_count target.ops ≤ odd_paths source.wires source.ops
+  -- no more CNOTs but three a swap
   pub cx_gates : cx_count target.ops ≤ cx_count source.ops + 3 * told.swaps
+  -- so it is part by part, with powers that add up, and no part has more T gates than its source has odd path parities
+  pub made : AreMade source target told.initial parts
+  pub last : told.last ≡ ends told.initial parts
+  pub phase : told.phase ≡ powers parts % 8
+  pub t_gates : AllByRecursion (HasFewTs source.wires) parts
 
-pub record Makes (source target : Program) (told : Report) (text line : List ℕ) : Type 0 where
+pub record Makes (source target : Program) (parts : List Part) (told : Report) (text line : List ℕ) : Type 0 where
   -- the text is the target's
   pub written : IsWritten text target
   -- the line tells a report, whose numbers are those of both programs
   pub report : line ≡ report_line told
   pub numbers : Reports source target told
   -- and the target stands for the source
-  pub stands : StandsFor source target told
+  pub stands : StandsFor source target parts told
 
 abbrev pub IsOwnTrace : Bool → Program → Program → Report → List ℕ → Type 0
 IsOwnTrace true source target told trace = Proves (claim_of source target) trace told.initial told.last told.phase
 IsOwnTrace false source target told trace = trace ≡ []
 
-pub record Rewrites (source : Program) (traced : Bool) (IsPlaced : Program → Report → Type 0) (text line : List ℕ) : Type 0 where
+pub record Rewrites (source : Program) (keep traced : Bool) (IsPlaced : Program → List Part → Report → Type 0) (text line : List ℕ) : Type 0 where
   pub target : Program
+  pub parts : List Part
   pub told : Report
-  pub made : Makes source target told text line
+  pub made : Makes source target parts told text line
+  pub tells : told.parts ≡ told_parts keep parts
   pub trace : IsOwnTrace traced source target told (trace_of text)
-  pub placed : IsPlaced target told
+  pub placed : IsPlaced target parts told
 
--- no wire moves, there is no spare one, and the program is settled
-pub record IsInPlace (source target : Program) (told : Report) : Type 0 where
+-- no wire moves, there is no spare one, and each part is settled
+pub record IsInPlace (source target : Program) (parts : List Part) (told : Report) : Type 0 where
   pub wires : target.wires ≡ source.wires
   pub swaps : told.swaps ≡ 0
   pub initial : told.initial ≡ identity source.wires
   pub last : told.last ≡ identity source.wires
   pub cost : told.cost ≡ None
-  pub settled : IsSettled source.wires target.ops
+  pub stay : AllByRecursion (λ p. p.last ≡ identity source.wires) parts
+  pub settled : AllByRecursion (λ p. IsSettled source.wires p.target) parts
 
--- the qubits are a device's, each CNOT follows an edge, what is written is the routing machine's run, with few swaps, and where
--- the device lists costs of edges, the line tells what the CNOTs cost
-pub record IsOnQubits (device : Coupling) (trivial : Bool) (source target : Program) (told : Report) : Type 0 where
+-- the qubits are a device's, each CNOT follows an edge, what is written for each part is the routing machine's run, cleaned where
+-- `clean` says so, with few swaps, and where the device lists costs of edges, the line tells what the CNOTs cost
+pub record IsOnQubits (device : Coupling) (trivial clean : Bool) (source target : Program) (parts : List Part) (told : Report) : Type 0 where
   pub qubits : target.wires ≡ device.size
   pub edges : FollowsEdges device.edges target.ops
   pub placed : trivial ≡ true → told.initial ≡ identity target.wires
-  pub run : IsMachineRun device trivial source.wires source.ops target.ops told.initial told.last told.swaps told.phase
+  pub runs : AreMachineRuns device trivial clean source.wires told.initial parts
+  pub sum : told.swaps ≡ sum_by (λ p. p.swaps) parts
   pub swaps : HasFewSwaps device source.ops target.ops told.swaps
   pub cost : told.cost ≡ told_cost device target.ops
 
 -- the device is the one that the shelf's text of this name describes
-pub record IsOnDevice (content : Content) (name : List ℕ) (trivial : Bool) (source target : Program) (told : Report) : Type 0 where
+pub record IsOnDevice (content : Content) (name : List ℕ) (trivial clean : Bool) (source target : Program) (parts : List Part) (told : Report) : Type 0 where
   pub device_text : List ℕ
   pub loaded : TellsText (content name) device_text
   pub device : Coupling
   pub described : IsDevice device_text device
-  pub routed : IsOnQubits device trivial source target told
+  pub routed : IsOnQubits device trivial clean source target parts told
 
 abbrev pub counts_of : Program → Counts
 counts_of source = record {
@@ -139,30 +152,32 @@ abbrev pub drawn_program : ℕ → ℕ → ℕ → Program
 drawn_program start gates n = record {
   wires = n;
   ops = drawn start gates n;
+  cut = uncut (drawn start gates n);
   reads = [];
   registers = [];
   barriers = 0;
 }
 
 abbrev pub IsAnswer : Content → Command → Program → List ℕ → List ℕ → Type 0
-IsAnswer content Opt source text line = Rewrites source false (IsInPlace source) text line
-IsAnswer content (Route name trivial traced) source text line = Rewrites source traced (IsOnDevice content name trivial source) text line
+IsAnswer content (Opt keep) source text line = Rewrites source keep false (IsInPlace source) text line
+IsAnswer content (Route name trivial traced keep clean) source text line =
+    Rewrites source keep traced (IsOnDevice content name trivial clean source) text line
 IsAnswer content Check source text line = (text ≡ []) × (line ≡ check_line (counts_of source))
 IsAnswer content Stages source text line = IsStages source text × (line ≡ [])
 IsAnswer content (Amplitude from to) source text line = IsEntryText source.ops from to text × (line ≡ [])
 IsAnswer content (Verify a b) source text line = IsVerified content a b text × (line ≡ [])
-IsAnswer content (Bench start gates name) source text line = Rewrites source false
-    (λ target told. IsOnDevice content name false source target told × (source ≡ drawn_program start gates target.wires)) text line
+IsAnswer content (Bench start gates name) source text line = Rewrites source false false
+    (λ target parts told. IsOnDevice content name false false source target parts told × (source ≡ drawn_program start gates target.wires)) text line
 
-abbrev pub IsHad : Bool → Option (List ℕ) → Option (List ℕ) → Program → Type 0
-IsHad true input after source = (text : List ℕ) × TakesAll input after text × IsAccepted text source
-IsHad false input after source = Unit {0}
+abbrev pub IsHad : Bool → Bool → Option (List ℕ) → Option (List ℕ) → Program → Type 0
+IsHad true keep input after source = (text : List ℕ) × (p : Program) × TakesAll input after text × IsAccepted text p × (source ≡ kept keep p)
+IsHad false keep input after source = Unit {0}
 
 pub record Delivers (words : List (List ℕ)) (content : Content) (input after : Option (List ℕ)) (text line : List ℕ) : Type 0 where
   pub command : Command
   pub asked : command_of words ≡ Some command
   pub source : Program
-  pub had : IsHad (reads_input command) input after source
+  pub had : IsHad (reads_input command) (keeps_barriers command) input after source
   -- no refusal of a question applies, where the command asks one
   pub answered : (r : QuestionRefusal) → IsQuestionRefusal (asked_entry command) source r → ⊥
   pub answer : IsAnswer content command source text line

@@ -1,8 +1,7 @@
 -- ---- definitions that public clauses reach
 pub mod Devices
 pub mod Questions
-pub mod Settled
-pub mod Runs
+pub mod InParts
 pub mod Costs
 pub mod Claims
 pub mod Delivered

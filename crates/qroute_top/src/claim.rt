@@ -3,9 +3,9 @@
 ghost use Rattle.std.specs.Prelude.{◌≡◌, ◌≤◌, ℕ, List, [], IfErr, IfOk, Err, false, length, true};
 ghost use Rattle.outside_io.specs.Causes.{Rose};
 ghost use Rattle.outside_io.specs.Shelf.{TellsText};
-ghost use Rattle.program_reader.specs.Texts.{IsAcceptedText};
+ghost use Rattle.program_parts.specs.Cuts.{uncut};
 ghost use Rattle.trace_check.specs.Proves.{Proves};
-ghost use Rattle.trace_check.specs.Verdicts.{claim_of};
+ghost use Rattle.trace_check.specs.Verdicts.{IsReadAs, claim_of};
 ghost use Rattle.trace_text.specs.Texts.{trace_of};
 ghost use Rattle.qroute_top.specs.Claims.{IsVerified, limit_of};
 ghost use Rattle.qroute_top.specs.Plans.{IsFitWork, IsWork, has_line, has_text};
@@ -57,10 +57,10 @@ struct Loaded {
 /// The program of a text that isn't too long.
 fn program_of(alloc: Global, side: Side, text: &[u8]) -> Result<SourceProgram, Stop>
     requires { length text.now ≤ limit_of side }
-    ensures ok { IfOk result (IsAcceptedText text.now) }
+    ensures ok { IfOk result (IsReadAs text.now) }
     ensures err { IfErr result (IsUnreadText side text.now) }
 {
-    match read_text(alloc, text) {
+    match read_text(alloc, text, false) {
         Ok(program) => Ok(program),
         Err(ReadFault::Refused(refusal)) => Err(Stop::Claim(ClaimStop::Refused { side, refusal })),
         Err(ReadFault::NoMemory) => Err(Stop::NoMemory),
@@ -77,7 +77,7 @@ fn load_program<F: Shelf>(
 ) -> Result<Loaded, Stop>
     ensures told { IfOk result (λ l. TellsText (F.content shelf.old name.now) l.text.items) }
     ensures short { IfOk result (λ l. length l.text.items ≤ limit_of side) }
-    ensures accepted { IfOk result (λ l. IsAcceptedText l.text.items l.program) }
+    ensures accepted { IfOk result (λ l. IsReadAs l.text.items l.program) }
     ensures err { IfErr result (IsTextStop side (F.content shelf.old name.now) (F.faults shelf.old) (F.faults shelf.new)) }
     ensures keeps { (other : List ℕ) → F.content shelf.new other ≡ F.content shelf.old other }
     ensures later { F.faults shelf.old ≤ F.faults shelf.new }
@@ -94,7 +94,9 @@ fn load_program<F: Shelf>(
 
 /// The power up to which the target's program realises the source's, by the trace in its text.
 fn power_of(alloc: Global, source: &SourceProgram, target: &Loaded) -> Result<u8, Stop>
-    requires { length target.now.text.items ≤ limit_of Side.Target }
+    requires short { length target.now.text.items ≤ limit_of Side.Target }
+    requires source { source.now.cut ≡ uncut source.now.ops }
+    requires target { target.now.program.cut ≡ uncut target.now.program.ops }
     ensures ok { IfOk result (λ j. (first : List ℕ) × (last : List ℕ)
         × Proves (claim_of source.now target.now.program) (trace_of target.now.text.items) first last j) }
     ensures err { IfErr result (IsTraceStop (claim_of source.now target.now.program) (trace_of target.now.text.items)) }

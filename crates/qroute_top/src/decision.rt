@@ -1,7 +1,7 @@
 //! All that happens before a sink is touched.
 
 ghost use Rattle.std.specs.Prelude.{◌≡◌, ℕ, List, Some, None, Err, false, map, IfOk, IfErr};
-ghost use Rattle.command_words.specs.Commands.{HasFewGates, command_of};
+ghost use Rattle.command_words.specs.Commands.{IsAllowed, command_of};
 ghost use Rattle.command_words.specs.Demands.{asked_texts, device_name, reads_input, writes_out, writes_report};
 ghost use Rattle.command_words.specs.declared.commands.Command.{Command as Asked};
 ghost use Rattle.qroute_top.specs.Causes.{IsCause};
@@ -11,7 +11,7 @@ ghost use Rattle.qroute_top.specs.Stops.{IsUnasked};
 
 use crate::claim::claim_work;
 use crate::device::load_device;
-use crate::pipeline::{optimise, route_on};
+use crate::pipeline::{Wishes, optimise, route_on};
 use crate::plan::{Work, check_work, stage_work};
 use crate::question::entry_work;
 use crate::source::{drawn_source, read_source};
@@ -24,7 +24,7 @@ use std::alloc::Global;
 /// The command of the words.
 fn asked(alloc: Global, words: &[&str]) -> Result<Command, Stop>
     ensures ok { IfOk result (λ c. command_of (map (λ w. w.now) words.now) ≡ Some c) }
-    ensures few { IfOk result HasFewGates }
+    ensures few { IfOk result IsAllowed }
     ensures err { IfErr result (IsUnasked (map (λ w. w.now) words.now)) }
 {
     match command(alloc, words) {
@@ -65,30 +65,38 @@ pub fn decide<I: Input, F: Shelf>(
 {
     let command = asked(alloc, words)?;
     match command {
-        Command::Opt => {
-            let source = read_source(alloc, input)?;
-            Ok(optimise(alloc, source)?)
+        Command::Opt { keep_barriers } => {
+            let source = read_source(alloc, input, keep_barriers)?;
+            Ok(optimise(alloc, source, keep_barriers)?)
         }
         Command::Check => {
-            let source = read_source(alloc, input)?;
+            let source = read_source(alloc, input, false)?;
             Ok(check_work(alloc, &source)?)
         }
         Command::Stages => {
-            let source = read_source(alloc, input)?;
+            let source = read_source(alloc, input, false)?;
             Ok(stage_work(alloc, &source)?)
         }
         Command::Amplitude { from, to } => {
-            let source = read_source(alloc, input)?;
+            let source = read_source(alloc, input, false)?;
             Ok(entry_work(alloc, &source, &from, &to)?)
         }
         Command::Route {
             device: name,
             trivial,
             trace,
+            keep_barriers,
+            clean,
         } => {
-            let source = read_source(alloc, input)?;
-            let device = load_device(alloc, shelf, &name, source.ops().wires)?;
-            Ok(route_on(alloc, source, &device, trivial, trace)?)
+            let source = read_source(alloc, input, keep_barriers)?;
+            let device = load_device(alloc, shelf, &name, source.wires())?;
+            let wishes = Wishes {
+                trivial,
+                trace,
+                keep: keep_barriers,
+                clean,
+            };
+            Ok(route_on(alloc, source, &device, wishes)?)
         }
         Command::Bench {
             start,
@@ -98,7 +106,13 @@ pub fn decide<I: Input, F: Shelf>(
             // The program is made for the device, so any device has enough qubits.
             let device = load_device(alloc, shelf, &name, 0)?;
             let source = drawn_source(alloc, start, gates, device.size())?;
-            Ok(route_on(alloc, source, &device, false, false)?)
+            let wishes = Wishes {
+                trivial: false,
+                trace: false,
+                keep: false,
+                clean: false,
+            };
+            Ok(route_on(alloc, source, &device, wishes)?)
         }
         Command::Verify { source, target } => claim_work(alloc, shelf, &source, &target),
     }

@@ -303,6 +303,8 @@ fn emit_target<O: Sink, R: Sink>(
                 body: &target.body,
                 registers: &registers,
                 reads: &reads,
+                lengths: &target.lengths,
+                barriers: &target.barriers,
                 trace: &target.trace,
             };
             emit_program(&output, &mut room, &line, &fault, out, report)

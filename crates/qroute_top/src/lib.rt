@@ -54,6 +54,7 @@ mod decision;
 mod device;
 mod emission;
 pub mod laws;
+mod parts;
 mod passes;
 mod pipeline;
 mod plan;

@@ -4,7 +4,7 @@ ghost use Rattle.std.specs.Prelude.{◌≡◌, IfOk, IfSome, is_some};
 ghost use Rattle.circuit_list.specs.Gates.{ops};
 ghost use Rattle.rewrite_pass.specs.Law.{IsRewriting};
 ghost use Rattle.rewrite_pass.specs.Traces.{AreSteps};
-ghost use Rattle.qroute_top.specs.Settled.{IsSettled};
+ghost use Rattle.routed_parts.specs.Settled.{IsSettled};
 
 use circuit_list::{Circuit, Passed};
 use gate_cancel::CancelPass;

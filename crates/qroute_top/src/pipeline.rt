@@ -1,44 +1,68 @@
 //! From a source to what a command has to write.
 
 ghost use Rattle.std.specs.Prelude.{◌≡◌, ◌≤◌, ℕ, List, IfOk, false, true};
+ghost use Rattle.program_parts.specs.Cuts.{uncut};
 ghost use Rattle.qroute_top.specs.Delivered.{IsInPlace, IsOnQubits, Rewrites};
 ghost use Rattle.qroute_top.specs.Plans.{IsFitWork, IsWork, has_line, has_text};
 
 use crate::plan::{Work, work_of};
-use crate::target::{in_place, on_device, optimised};
+use crate::target::{in_place, on_device, optimised_parts};
 use coupling_map::Device;
 use program_reader::SourceProgram;
 use std::alloc::{AllocError, Global};
 
-/// Makes what is to be written for a source on its own wires.
+/// Makes what is to be written for a source on its own wires. The report tells of its parts where `keep` says that its barriers
+/// are kept.
 #[tactic(auto, using(crate::proofs::PlanLaws::plans))]
-pub fn optimise(alloc: Global, source: SourceProgram) -> Result<Work, AllocError>
-    ensures made { IfOk result (λ w. (text line : List ℕ) → IsWork w text line → Rewrites source false (IsInPlace source) text line) }
+pub fn optimise(alloc: Global, source: SourceProgram, keep: bool) -> Result<Work, AllocError>
+    ensures made { IfOk result (λ w. (text line : List ℕ) → IsWork w text line → Rewrites source keep false (IsInPlace source) text line) }
     ensures writes { IfOk result (λ w. has_text w ≡ true) }
     ensures tells { IfOk result (λ w. has_line w ≡ true) }
     ensures fit { IfOk result IsFitWork }
 {
-    let rewritten = optimised(alloc, &source, false)?;
-    let target = in_place(alloc, &source, rewritten.passed)?;
+    let target = in_place(alloc, &source, keep)?;
     Ok(work_of(source, target))
 }
 
-/// Makes what is to be written for a source on the qubits of a device, with its trace where `traced` asks for one.
+/// What is asked of a program that is written on a device.
+#[derive(Clone, Copy, Debug)]
+pub struct Wishes {
+    /// The wires begin on the qubits of their own numbers.
+    pub trivial: bool,
+    /// The trace that shows it is written behind it.
+    pub trace: bool,
+    /// The report tells of its parts, as its barriers are kept.
+    pub keep: bool,
+    /// What was routed is cleaned.
+    pub clean: bool,
+}
+
+/// Makes what is to be written for a source on the qubits of a device.
 #[tactic(auto, using(crate::proofs::PlanLaws::plans))]
 pub fn route_on(
     alloc: Global,
     source: SourceProgram,
     device: &Device,
-    trivial: bool,
-    traced: bool,
+    wishes: Wishes,
 ) -> Result<Work, AllocError>
     requires fits { source.wires ≤ device.now.size }
-    ensures made { IfOk result (λ w. (text line : List ℕ) → IsWork w text line → Rewrites source traced (IsOnQubits device.now trivial source) text line) }
+    requires traced { wishes.trace ≡ true → (source.cut ≡ uncut source.ops) × (wishes.clean ≡ false) }
+    ensures made { IfOk result (λ w. (text line : List ℕ) → IsWork w text line →
+        Rewrites source wishes.keep wishes.trace (IsOnQubits device.now wishes.trivial wishes.clean source) text line) }
     ensures writes { IfOk result (λ w. has_text w ≡ true) }
     ensures tells { IfOk result (λ w. has_line w ≡ true) }
     ensures fit { IfOk result IsFitWork }
 {
-    let rewritten = optimised(alloc, &source, traced)?;
-    let target = on_device(alloc, &source, &rewritten, device, trivial)?;
+    source.facts();
+    let rewritten = optimised_parts(alloc, &source, wishes.trace)?;
+    let target = on_device(
+        alloc,
+        &source,
+        &rewritten,
+        device,
+        wishes.trivial,
+        wishes.keep,
+        wishes.clean,
+    )?;
     Ok(work_of(source, target))
 }

@@ -2,6 +2,7 @@
 
 ghost use Rattle.std.specs.Prelude.{◌≡◌, ◌≤◌, ℕ, List, [], All, IfOk, length, map, false, true, vec_capacity};
 ghost use Rattle.gate_inline.specs.Registers.{IsFree, IsRead};
+ghost use Rattle.program_parts.specs.Cuts.{uncut};
 ghost use Rattle.qasm_writer.specs.Outputs.{bits_of};
 ghost use Rattle.route_report.specs.Lines.{check_line};
 ghost use Rattle.qroute_top.specs.Causes.{output_fault_line};
@@ -17,7 +18,7 @@ use qasm_check::Bits;
 use qasm_lexer::names_are_ascii;
 use qasm_writer::empty_room;
 use qasm_writer::output::Register;
-use route_report::{Counts, Fault, Report, Wires, check_line, fault_line, report_line};
+use route_report::{Counts, Fault, Parts, Report, Wires, check_line, fault_line, report_line};
 use std::alloc::{AllocError, Global};
 use unitary_plain::counts::{cx_count_of, t_count_of};
 
@@ -58,15 +59,21 @@ fn counts_of(source: &SourceProgram) -> Counts
     ensures { result ≡ counts_of source.now }
 {
     source.facts();
-    let ops = source.ops();
-    let list = ops.list.as_slice();
+    let parts = source.parts();
+    let (mut cx, mut operations, mut t) = (0, 0, 0);
+    'parts: for part in parts {
+        let list = part.list.as_slice();
+        cx += cx_count_of(list);
+        operations += list.len() as u64;
+        t += t_count_of(list);
+    }
     Counts {
         barriers: source.barriers(),
-        bits: ops.reads.as_slice().len() as u32,
-        cx: cx_count_of(list),
-        operations: list.len() as u64,
-        qubits: ops.wires,
-        t: t_count_of(list),
+        bits: source.reads().len() as u32,
+        cx,
+        operations,
+        qubits: source.wires(),
+        t,
     }
 }
 
@@ -117,6 +124,28 @@ fn registers_of<'a>(alloc: Global, bits: &'a [Bits]) -> Result<Vec<Register<'a>>
     Ok(registers)
 }
 
+/// What is told of some parts once more.
+fn parts_again(alloc: Global, parts: &Parts) -> Result<Parts, AllocError>
+    ensures { IfOk result (λ p. p ≡ parts.now) }
+{
+    let mut between = Vec::with_capacity(alloc, parts.between.len())?;
+    'barriers: for placement in parts.between.iter() {
+        between.push(Wires::new(Vec::from_slice(alloc, placement.as_slice())?))?;
+    }
+    let powers = Vec::from_slice(alloc, &parts.powers)?;
+    Ok(Parts { between, powers })
+}
+
+/// The same, where something is told.
+fn copied(alloc: Global, parts: &Option<Parts>) -> Result<Option<Parts>, AllocError>
+    ensures { IfOk result (λ p. p ≡ parts.now) }
+{
+    match parts {
+        None => Ok(None),
+        Some(parts) => Ok(Some(parts_again(alloc, parts)?)),
+    }
+}
+
 /// The report of a target that stands for a source.
 fn report_of(alloc: Global, source: &SourceProgram, target: &Target) -> Result<Report, AllocError>
     ensures { IfOk result (IsReport source.now target.now) }
@@ -132,6 +161,7 @@ fn report_of(alloc: Global, source: &SourceProgram, target: &Target) -> Result<R
         device: target.body.wires(),
         last,
         initial,
+        parts: copied(alloc, &target.parts)?,
         phase: target.turn,
         qubits: counts.qubits,
         swaps: target.swaps,
@@ -168,7 +198,7 @@ pub fn prepare<'a>(
 {
     source.facts();
     let registers = registers_of(alloc, source.registers())?;
-    let reads = placed_reads(alloc, source.ops().reads.as_slice(), &target.last)?;
+    let reads = placed_reads(alloc, source.reads(), &target.last)?;
     let report = report_of(alloc, source, target)?;
     let line = report_line(alloc, &report)?;
     let fault = fault_line(alloc, &Fault::Output)?;
@@ -195,6 +225,7 @@ pub fn check_work(alloc: Global, source: &SourceProgram) -> Result<Work, AllocEr
 
 /// The lines of the layers of a program's gates; nothing goes to the report.
 pub fn stage_work(alloc: Global, source: &SourceProgram) -> Result<Work, AllocError>
+    requires { source.now.cut ≡ uncut source.now.ops }
     ensures made { IfOk result (λ w. (text line : List ℕ) → IsWork w text line → IsStages source.now text × (line ≡ [])) }
     ensures fit { IfOk result IsFitWork }
     ensures writes { IfOk result (λ w. has_text w ≡ true) }

@@ -3,6 +3,7 @@
 ghost use Rattle.std.specs.Prelude.{◌≡◌, ◌≤◌, ℕ, List, [], length, None, Some, IfOk, IfErr, IfSome, false, true};
 ghost use Rattle.amplitude_exact.specs.Entries.{branches, most_branches, most_wires};
 ghost use Rattle.qroute_top.specs.Plans.{IsFitWork, IsWork, has_line, has_text};
+ghost use Rattle.program_parts.specs.Cuts.{uncut};
 ghost use Rattle.qroute_top.specs.Questions.{IsEntryText, IsQuestionRefusal};
 ghost use Rattle.qroute_top.specs.Stops.{IsUnanswered};
 ghost use Rattle.qroute_top.specs.declared.stops.QuestionRefusal.{QuestionRefusal as RefusedQuestion};
@@ -23,6 +24,7 @@ const BRANCH_LIMIT: usize = 60;
 
 /// Why the entry of a program between two lists of bits isn't told.
 fn refusal_of(source: &SourceProgram, from: &[bool], to: &[bool]) -> Option<QuestionRefusal>
+    requires { source.now.cut ≡ uncut source.now.ops }
     ensures refused { IfSome result (IsQuestionRefusal (Some (from.now, to.now)) source.now) }
     ensures answered { result ≡ None → (r : RefusedQuestion) → IsQuestionRefusal (Some (from.now, to.now)) source.now r → ⊥ }
     ensures few_wires { result ≡ None → source.now.wires ≤ most_wires }
@@ -74,6 +76,7 @@ pub fn entry_work(
     from: &BitList,
     to: &BitList,
 ) -> Result<Work, QuestionStop>
+    requires { source.now.cut ≡ uncut source.now.ops }
     ensures made { IfOk result (λ w. (text line : List ℕ) → IsWork w text line → IsEntryText source.now.ops from.now to.now text × (line ≡ [])) }
     ensures answered { IfOk result (λ w. (r : RefusedQuestion) → IsQuestionRefusal (Some (from.now, to.now)) source.now r → ⊥) }
     ensures fit { IfOk result IsFitWork }

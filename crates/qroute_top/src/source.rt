@@ -1,12 +1,10 @@
 //! The source: the program that the input spells, or one that is drawn.
 
-ghost use Rattle.std.specs.Prelude.{◌≡◌, ◌<◌, ◌≤◌, ℕ, List, All, IfOk, IfErr, Err, length};
-ghost use Rattle.outside_io.specs.Bytes.{TakesAll};
+ghost use Rattle.std.specs.Prelude.{◌≡◌, ◌<◌, ◌≤◌, IfOk, IfErr, Err, true};
 ghost use Rattle.bench_program.specs.Program.{most_gates};
-ghost use Rattle.gate_inline.specs.Programs.{IsAccepted};
 ghost use Rattle.unitary_model.specs.Limits.{most_qubits};
 ghost use Rattle.qroute_top.specs.Causes.{IsSourceCause};
-ghost use Rattle.qroute_top.specs.Delivered.{drawn_program};
+ghost use Rattle.qroute_top.specs.Delivered.{IsHad, drawn_program};
 
 use crate::stops::SourceStop;
 use bench_program::made;
@@ -14,10 +12,15 @@ use outside_io::{ReadFault, Source, read_all};
 use program_reader::{Refusal, SourceProgram, TEXT_LIMIT, read_program};
 use std::alloc::{AllocError, Global};
 
-/// Reads the input to its end, or to one byte past the limit, and the program that it spells.
+/// Reads the input to its end, or to one byte past the limit, and the program that it spells, in parts where `keep` says that its
+/// barriers are kept.
 #[tactic(auto, using(crate::proofs::SourceLaws::read))]
-pub fn read_source<I: Source>(alloc: Global, input: &mut I) -> Result<SourceProgram, SourceStop>
-    ensures ok { IfOk result (λ s. (text : List ℕ) × TakesAll (I.left input.old) (I.left input.new) text × IsAccepted text s) }
+pub fn read_source<I: Source>(
+    alloc: Global,
+    input: &mut I,
+    keep: bool,
+) -> Result<SourceProgram, SourceStop>
+    ensures ok { IfOk result (IsHad true keep (I.left input.old) (I.left input.new)) }
     ensures err { IfErr result (IsSourceCause (I.left input.old) (I.faults input.old) (I.faults input.new)) }
     ensures later { I.faults input.old ≤ I.faults input.new }
     ensures calm { (result ≡ Err SourceStop.Failed → ⊥) → I.faults input.new ≡ I.faults input.old }
@@ -26,7 +29,7 @@ pub fn read_source<I: Source>(alloc: Global, input: &mut I) -> Result<SourceProg
         Err(ReadFault::Failed) => Err(SourceStop::Failed),
         Err(ReadFault::TooLong) => Err(SourceStop::Refused(Refusal::TooLong)),
         Err(ReadFault::NoMemory) => Err(SourceStop::NoMemory),
-        Ok(text) => Ok(read_program(alloc, &text)?),
+        Ok(text) => Ok(read_program(alloc, &text, keep)?),
     }
 }
 
@@ -43,5 +46,5 @@ pub fn drawn_source(
     ensures drawn { IfOk result (λ s. s ≡ drawn_program start gates qubits) }
 {
     let ops = made(alloc, start, gates, qubits)?;
-    Ok(SourceProgram::new(ops, Vec::new(alloc), 0))
+    SourceProgram::new(alloc, ops, Vec::new(alloc), 0)
 }

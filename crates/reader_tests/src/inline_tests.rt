@@ -3,16 +3,16 @@
 ghost use Rattle.std.specs.Prelude.{◌<◌, ◌^◌};
 
 use gate_expand::Ops;
-use gate_inline::{InlineFault, inline};
-use qasm_check::check;
+use gate_inline::{InlineFault, Split, inline, inline_parts};
+use qasm_check::{Checked, check};
 use qasm_lexer::lex;
 use qasm_parser::parse;
 use std::alloc::{AllocError, Global};
 use std::test::Fail;
 use unitary_model::Op;
 
-/// What a text's program is inlined to; none where the text has no checked program.
-pub fn inlined(alloc: Global, text: &[u8]) -> Option<Result<Ops, InlineFault>> {
+/// What a text's program is with its names bound; none where the text has no checked program.
+fn checked(alloc: Global, text: &[u8]) -> Option<Checked> {
     if text.len() > 10_000_000 {
         return None;
     }
@@ -28,8 +28,16 @@ pub fn inlined(alloc: Global, text: &[u8]) -> Option<Result<Ops, InlineFault>> {
         return None;
     }
     match check(alloc, program) {
-        Ok(checked) => Some(inline(alloc, &checked)),
+        Ok(checked) => Some(checked),
         Err(_) => None,
+    }
+}
+
+/// What a text's program is inlined to; none where the text has no checked program.
+pub fn inlined(alloc: Global, text: &[u8]) -> Option<Result<Ops, InlineFault>> {
+    match checked(alloc, text) {
+        Some(checked) => Some(inline(alloc, &checked)),
+        None => None,
     }
 }
 
@@ -41,18 +49,23 @@ pub fn behind_head(alloc: Global, body: &[u8]) -> Result<Vec<u8>, AllocError> {
     Ok(text)
 }
 
-/// The operations and reads, as `104.0 cx01 | 1 -`.
-fn told_ops(alloc: Global, ops: &Ops) -> Result<String, AllocError> {
+/// Operations, as `104.0 cx01 `.
+fn told_list(alloc: Global, list: &[Op]) -> Result<String, AllocError> {
     let mut text = String::new(alloc);
-    for op in ops.list.as_slice() {
+    for op in list {
         let word = match op {
             Op::U { a, b, c, q } => format!(in alloc; "{a}{b}{c}.{q} ")?,
             Op::Cx { c, t } => format!(in alloc; "cx{c}{t} ")?,
         };
         text.push_str(word.as_str())?;
     }
-    text.push_str("|")?;
-    for read in ops.reads.as_slice() {
+    Ok(text)
+}
+
+/// Reads, as `| 1 -`.
+fn told_reads(alloc: Global, reads: &[Option<u32>]) -> Result<String, AllocError> {
+    let mut text = String::from_str(alloc, "|")?;
+    for read in reads {
         let word = match read {
             Some(wire) => format!(in alloc; " {wire}")?,
             None => format!(in alloc; " -")?,
@@ -62,17 +75,64 @@ fn told_ops(alloc: Global, ops: &Ops) -> Result<String, AllocError> {
     Ok(text)
 }
 
-/// The same, or the refusal's code and statement.
-fn told(alloc: Global, text: &[u8]) -> Result<String, AllocError> {
-    match inlined(alloc, text) {
-        None => format!(in alloc; "no program"),
-        Some(Ok(ops)) => told_ops(alloc, &ops),
-        Some(Err(InlineFault::NoMemory)) => format!(in alloc; "no memory"),
-        Some(Err(InlineFault::Refused(refused))) => {
+/// The operations and reads, as `104.0 cx01 | 1 -`.
+fn told_ops(alloc: Global, ops: &Ops) -> Result<String, AllocError> {
+    let mut text = told_list(alloc, ops.list.as_slice())?;
+    let reads = told_reads(alloc, ops.reads.as_slice())?;
+    text.push_str(reads.as_str())?;
+    Ok(text)
+}
+
+/// The same in parts, with the wires of the barriers between them, as `104.0 <0 1> cx01 | 1 -`.
+fn told_split(alloc: Global, split: &Split) -> Result<String, AllocError> {
+    let mut text = String::new(alloc);
+    for (i, part) in split.parts.iter().enumerate() {
+        let list = told_list(alloc, part)?;
+        text.push_str(list.as_str())?;
+        if let Some(wires) = split.barriers.get(i) {
+            text.push_str("<")?;
+            for (j, wire) in wires.iter().enumerate() {
+                let between = if j == 0 { "" } else { " " };
+                let word = format!(in alloc; "{between}{wire}")?;
+                text.push_str(word.as_str())?;
+            }
+            text.push_str("> ")?;
+        }
+    }
+    let reads = told_reads(alloc, &split.reads)?;
+    text.push_str(reads.as_str())?;
+    Ok(text)
+}
+
+/// Why there are no operations: the refusal's code and statement.
+fn told_fault(alloc: Global, fault: InlineFault) -> Result<String, AllocError> {
+    match fault {
+        InlineFault::NoMemory => format!(in alloc; "no memory"),
+        InlineFault::Refused(refused) => {
             let code = refused.refusal.code();
             let statement = refused.statement;
             format!(in alloc; "code {code} at {statement}")
         }
+    }
+}
+
+/// What a text is inlined to.
+fn told(alloc: Global, text: &[u8]) -> Result<String, AllocError> {
+    match inlined(alloc, text) {
+        None => format!(in alloc; "no program"),
+        Some(Ok(ops)) => told_ops(alloc, &ops),
+        Some(Err(fault)) => told_fault(alloc, fault),
+    }
+}
+
+/// What a text is inlined to in parts.
+fn told_parts(alloc: Global, text: &[u8]) -> Result<String, AllocError> {
+    let Some(checked) = checked(alloc, text) else {
+        return format!(in alloc; "no program");
+    };
+    match inline_parts(alloc, &checked) {
+        Ok(split) => told_split(alloc, &split),
+        Err(fault) => told_fault(alloc, fault),
     }
 }
 
@@ -141,6 +201,77 @@ fn operations_by_hand(rt: HostRuntime) -> Result<(), Fail> {
     Ok(())
 }
 
+#[test]
+fn parts_by_hand(rt: HostRuntime) -> Result<(), Fail> {
+    let alloc = rt.alloc();
+    let rows: [(&[u8], &str); 17] = [
+        // no barrier
+        (b"", "|"),
+        (b"qreg q[1]; h q;", "204.0 |"),
+        // before the first operation, behind the last, side by side
+        (b"qreg q[2]; barrier q; h q[0];", "<0 1> 204.0 |"),
+        (b"qreg q[2]; h q[0]; barrier q[1];", "204.0 <1> |"),
+        (b"qreg q[2]; barrier q[1];", "<1> |"),
+        (
+            b"qreg q[2]; h q[0]; barrier q[0]; barrier q[1]; h q[1];",
+            "204.0 <0> <1> 204.1 |",
+        ),
+        // in order of first naming, each once
+        (
+            b"qreg q[3]; h q[0]; barrier q[1],q[0],q; h q[2];",
+            "204.0 <1 0 2> 204.2 |",
+        ),
+        (
+            b"qreg q[2]; qreg r[2]; barrier r,q[1],r[0],q; h r[1];",
+            "<2 3 1 0> 204.3 |",
+        ),
+        (
+            b"qreg q[2]; barrier q[1]; barrier q[1],q[0]; barrier q;",
+            "<1> <1 0> <0 1> |",
+        ),
+        // barriers in bodies don't cut
+        (
+            b"gate g a,b { h a; barrier a,b; h b; } qreg q[2]; g q[0],q[1];",
+            "204.0 204.1 |",
+        ),
+        // calls that are remembered from an earlier part
+        (
+            b"gate g a { h a; t a; } qreg q[1]; g q[0]; barrier q; g q[0]; barrier q; g q[0];",
+            "204.0 001.0 <0> 204.0 001.0 <0> 204.0 001.0 |",
+        ),
+        // registers, index by index, stay in one part
+        (
+            b"qreg q[2]; qreg r[2]; cx q,r; barrier q; cx r,q;",
+            "cx02 cx13 <0 1> cx20 cx31 |",
+        ),
+        // measures
+        (
+            b"qreg q[2]; creg c[2]; h q[0]; measure q[0]->c[1]; barrier q; h q[1];",
+            "204.0 <0 1> 204.1 | - 0",
+        ),
+        (
+            b"qreg q[2]; creg c[2]; barrier q; measure q -> c; barrier q[0]; measure q[1] -> c[0];",
+            "<0 1> <0> | 1 1",
+        ),
+        // refusals
+        (b"qreg q[1]; barrier q; u1(1/0) q[0];", "code 41 at 4"),
+        (
+            b"qreg q[1]; u1(1.) q[0]; barrier q; u1(1/0) q[0];",
+            "code 43 at 3",
+        ),
+        (
+            b"gate g a { barrier a; u1(pi*pi) a; } qreg q[1]; barrier q; h q; g q[0]; barrier q;",
+            "code 40 at 6",
+        ),
+    ];
+    for (body, wanted) in rows {
+        let text = behind_head(alloc, body)?;
+        let found = told_parts(alloc, &text)?;
+        assert_eq!(rt; found.as_str(), wanted);
+    }
+    Ok(())
+}
+
 /// Gates `g0`, `g1` and so on, each of which applies the one before it so often, and an application of the last.
 fn chain(alloc: Global, first: &str, each: u32, times: u32) -> Result<String, AllocError> {
     let mut text = String::new(alloc);
@@ -172,6 +303,8 @@ fn chains(rt: HostRuntime) -> Result<(), Fail> {
     assert_eq!(rt; found.as_str(), "code 44 at 63");
     let text = chain(alloc, "gate g0 a { }\n", 60, 2)?;
     let found = told(alloc, text.as_bytes())?;
+    assert_eq!(rt; found.as_str(), "code 44 at 63");
+    let found = told_parts(alloc, text.as_bytes())?;
     assert_eq!(rt; found.as_str(), "code 44 at 63");
     // long, and no operation
     let text = chain(alloc, "gate g0 a { }\n", 100_000, 1)?;

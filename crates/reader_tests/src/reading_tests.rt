@@ -11,9 +11,9 @@ fn headed(alloc: Global, text: &str) -> Result<Vec<u8>, AllocError> {
     Ok(headed.into_bytes())
 }
 
-/// Wires, operations, bits, registers and barriers of a text; else its refusal's code with the place or statement.
-fn told(alloc: Global, text: &[u8]) -> Result<String, AllocError> {
-    match read_program(alloc, text) {
+/// Wires, operations of each part, bits, barriers and registers of a text; else its refusal's code with the place or statement.
+fn told(alloc: Global, text: &[u8], keep: bool) -> Result<String, AllocError> {
+    match read_program(alloc, text, keep) {
         Ok(source) => told_source(alloc, &source),
         Err(ReadFault::Refused(refusal)) => told_refusal(alloc, refusal),
         Err(ReadFault::NoMemory) => Ok(String::new(alloc)),
@@ -21,10 +21,19 @@ fn told(alloc: Global, text: &[u8]) -> Result<String, AllocError> {
 }
 
 fn told_source(alloc: Global, source: &SourceProgram) -> Result<String, AllocError> {
-    let ops = source.ops();
-    let operations = ops.list.as_slice().len();
-    let bits = ops.reads.as_slice().len();
-    let mut text = format!(in alloc; "{} {operations} {bits} {}", ops.wires, source.barriers())?;
+    let mut text = format!(in alloc; "{}", source.wires())?;
+    for (i, part) in source.parts().iter().enumerate() {
+        let between = if i == 0 { " " } else { "/" };
+        write!(text, "{between}{}", part.list.as_slice().len())?;
+    }
+    for bar in source.bars() {
+        text.push_str(" <")?;
+        for wire in bar {
+            write!(text, "{wire}")?;
+        }
+        text.push_str(">")?;
+    }
+    write!(text, " {} {}", source.reads().len(), source.barriers())?;
     for register in source.registers() {
         let name = str::from_utf8(register.name.as_bytes()).unwrap_or("?");
         write!(text, " {name}[{}]", register.size)?;
@@ -66,7 +75,38 @@ fn reads_programs(rt: HostRuntime) -> Result<(), Fail> {
     ];
     for (text, want) in rows {
         let text = headed(alloc, text)?;
-        let got = told(alloc, &text)?;
+        let got = told(alloc, &text, false)?;
+        assert_eq!(rt; got.as_str(), want);
+    }
+    Ok(())
+}
+
+/// The same programs where barriers are kept.
+#[test]
+fn reads_parts(rt: HostRuntime) -> Result<(), Fail> {
+    let alloc = rt.alloc();
+    let rows = [
+        ("", "0 0 0 0"),
+        ("qreg q[2]; cx q[0],q[1]; x q;", "2 3 0 0"),
+        (
+            "qreg q[2]; creg c[1]; creg d[3]; h q; barrier q; measure q[0] -> d[2];",
+            "2 2/0 <01> 4 1 c[1] d[3]",
+        ),
+        (
+            "qreg q[3]; barrier q[1],q[0],q; h q; barrier q[2]; barrier q; x q[0];",
+            "3 0/3/0/1 <102> <2> <012> 0 3",
+        ),
+        // only barriers outside bodies cut
+        (
+            "gate g a,b { h a; barrier a,b; h b; } qreg q[2]; g q[0],q[1]; barrier q[1]; g q[1],q[0];",
+            "2 2/2 <1> 0 1",
+        ),
+        ("qreg q[1]; h q[0]; barrier q; u1(1/0) q[0];", "inline 41 5"),
+        ("qreg q[1]; barrier r; u1(1/0) q[0];", "check 22 3"),
+    ];
+    for (text, want) in rows {
+        let text = headed(alloc, text)?;
+        let got = told(alloc, &text, true)?;
         assert_eq!(rt; got.as_str(), want);
     }
     Ok(())
@@ -99,8 +139,10 @@ fn counts_operations_to_the_limit(rt: HostRuntime) -> Result<(), Fail> {
     ] {
         let text = format!(in alloc; "{gates}qreg q[1]; {applied}")?;
         let text = headed(alloc, text.as_str())?;
-        let got = told(alloc, &text)?;
-        assert_eq!(rt; got.as_str(), want);
+        for keep in [false, true] {
+            let got = told(alloc, &text, keep)?;
+            assert_eq!(rt; got.as_str(), want);
+        }
     }
     Ok(())
 }
@@ -116,8 +158,10 @@ fn counts_items_to_the_limit(rt: HostRuntime) -> Result<(), Fail> {
     ] {
         let text = format!(in alloc; "{gates}qreg q[1]; e19 q[0]; {more}")?;
         let text = headed(alloc, text.as_str())?;
-        let got = told(alloc, &text)?;
-        assert_eq!(rt; got.as_str(), want);
+        for keep in [false, true] {
+            let got = told(alloc, &text, keep)?;
+            assert_eq!(rt; got.as_str(), want);
+        }
     }
     Ok(())
 }

@@ -1,7 +1,8 @@
 -- The lines as plain bytes, piece by piece.
 --   in_quotes             a text between quotation marks
 --   listed                whole numbers in brackets, with commas between
---   cost_pieces, format_piece     those of the costs, where they are told, and of the format
+--   listed_lists          such lists in brackets, with commas between
+--   between_pieces, cost_pieces, powers_pieces, format_piece   those of what isn't always told, and of the format
 --   pieces_with, report_pieces    the pieces of the report line
 --   report_line-pieces    it is these
 --   compact_text-name_of  a refusal's name stands as it is: none has a character that JSON escapes
@@ -10,13 +11,13 @@
 --   text_pieces           those that tell which text it is
 --   fault_pieces          the pieces of the line of each fault
 --   fault_line-pieces     it is these
-use Rattle.std.proofs.Common.{◌≡◌, ℕ, List, [], ◌∷◌, ◌++◌, ◌==◌, ap, append_assoc, codes, cond, map, refl}
+use Rattle.std.proofs.Common.{◌≡◌, ℕ, List, [], ◌∷◌, ◌++◌, ◌==◌, ◌∙◌, ap, append_assoc, codes, cond, map, refl}
 use Rattle.std.specs.Prelude.{Option, None, Some, decimal, false, find, true}
 use Rattle.std.specs.Fmt.{digits}
 use Rattle.std.specs.List.{concat, join_with_byte}
 use Rattle.std.specs.Option.{option_map_or}
 use Rattle.serde_json.proofs.OnLiterals.{serde_json_on_literals}
-use Rattle.serde_json.specs.Data.{string}
+use Rattle.serde_json.specs.Data.{Data, string}
 use Rattle.serde_json.specs.View.{items_of}
 use Rattle.serde_json.specs.Written.{compact_text, items_text}
 use Rattle.route_report.specs.declared.faults.Fault.{Fault}
@@ -24,9 +25,10 @@ use Rattle.route_report.specs.declared.faults.Fault.TheVariants as fault
 use Rattle.route_report.specs.declared.faults.Side.{Side}
 use Rattle.route_report.specs.declared.faults.Side.TheVariants.{Source, Target}
 use Rattle.route_report.specs.declared.lines.Report.{Report}
-use Rattle.route_report.specs.Compact.{whole}
+use Rattle.route_report.specs.Compact.{whole, wholes}
 use Rattle.route_report.specs.Faults.{fault_line}
 use Rattle.route_report.specs.Lines.{report_line}
+use Rattle.route_report.specs.Parts.{ToldParts}
 use Rattle.route_report.specs.Refusals.{name_of, refusals, stops_with}
 
 abbrev pub in_quotes : List ℕ → List ℕ
@@ -34,6 +36,9 @@ in_quotes text = 34 ∷ (text ++ 34 ∷ [])
 
 abbrev pub listed : List ℕ → List ℕ
 listed ns = 91 ∷ (join_with_byte 44 (map decimal ns) ++ 93 ∷ [])
+
+abbrev pub listed_lists : List (List ℕ) → List ℕ
+listed_lists nss = 91 ∷ (join_with_byte 44 (map listed nss) ++ 93 ∷ [])
 
 -- what two functions give alike at each name of a table they give alike at the name that is found
 found-alike : (f g : List ℕ → List ℕ) (none : List ℕ) (code : ℕ) → f none ≡ g none →
@@ -51,52 +56,82 @@ pub compact_text-name_of : (code : ℕ) → compact_text (string (name_of code))
 unfolding serde_json_on_literals
 compact_text-name_of code = found-alike (λ s. compact_text (string s)) in_quotes (codes "Unknown") code refl refusals refl
 
-items_text-later : (n : ℕ) (ns : List ℕ) →
-    decimal n ++ items_text true (items_of (map whole ns)) ≡ join_with_byte 44 (map decimal (n ∷ ns)) ++ 93 ∷ []
-items_text-later n [] = refl
-items_text-later n (m ∷ ns) =
-    rw (append_assoc (decimal n) (44 ∷ join_with_byte 44 (map decimal (m ∷ ns))) (93 ∷ []), items_text-later m ns) refl
+-- texts joined by commas are those of the items of an array
+items_text-later : {A : Type 0} (data_of : A → Data) (text_of : A → List ℕ) → ((x : A) → compact_text (data_of x) ≡ text_of x)
+    → (x : A) (xs : List A)
+    → text_of x ++ items_text true (items_of (map data_of xs)) ≡ join_with_byte 44 (map text_of (x ∷ xs)) ++ 93 ∷ []
+items_text-later data_of text_of told x [] = refl
+items_text-later data_of text_of told x (y ∷ ys) =
+    rw (
+      append_assoc (text_of x) (44 ∷ join_with_byte 44 (map text_of (y ∷ ys))) (93 ∷ []),
+      told y,
+      items_text-later data_of text_of told y ys,
+    ) refl
 
-items_text-wholes : (ns : List ℕ) →
-    items_text false (items_of (map whole ns)) ≡ join_with_byte 44 (map decimal ns) ++ 93 ∷ []
-items_text-wholes [] = refl
-items_text-wholes (n ∷ ns) = items_text-later n ns
+items_text-joined : {A : Type 0} (data_of : A → Data) (text_of : A → List ℕ) → ((x : A) → compact_text (data_of x) ≡ text_of x)
+    → (xs : List A) → items_text false (items_of (map data_of xs)) ≡ join_with_byte 44 (map text_of xs) ++ 93 ∷ []
+items_text-joined data_of text_of told [] = refl
+items_text-joined data_of text_of told (x ∷ xs) =
+    ap (λ t. t ++ items_text true (items_of (map data_of xs))) (told x) ∙ items_text-later data_of text_of told x xs
 
--- the pieces of the costs, where they are told
+items_text-wholes : (ns : List ℕ) → items_text false (items_of (map whole ns)) ≡ join_with_byte 44 (map decimal ns) ++ 93 ∷ []
+items_text-wholes = items_text-joined whole decimal (λ n. refl)
+
+items_text-lists : (nss : List (List ℕ))
+    → items_text false (items_of (map wholes nss)) ≡ join_with_byte 44 (map listed nss) ++ 93 ∷ []
+items_text-lists = items_text-joined wholes listed (λ ns. ap (λ t. 91 ∷ t) (items_text-wholes ns))
+
+-- the pieces of what isn't always told
+abbrev pub between_pieces : Option ToldParts → List (List ℕ)
+between_pieces None = []
+between_pieces (Some parts) = codes ",\"between\":" ∷ listed_lists parts.between ∷ []
+
 abbrev pub cost_pieces : Option ℕ → List (List ℕ)
 cost_pieces None = []
 cost_pieces (Some cost) = codes ",\"cost\":" ∷ decimal cost ∷ []
 
-abbrev pub format_piece : Option ℕ → List ℕ
-format_piece None = codes ",\"format\":1,\"initial\":"
-format_piece (Some cost) = codes ",\"format\":2,\"initial\":"
+abbrev pub powers_pieces : Option ToldParts → List (List ℕ)
+powers_pieces None = []
+powers_pieces (Some parts) = codes ",\"parts\":" ∷ listed parts.powers ∷ []
 
-abbrev pub pieces_with : Report → Option ℕ → List (List ℕ)
-pieces_with r cost =
+abbrev pub format_piece : Option ToldParts → Option ℕ → List ℕ
+format_piece None None = codes ",\"format\":1,\"initial\":"
+format_piece None (Some cost) = codes ",\"format\":2,\"initial\":"
+format_piece (Some parts) cost = codes ",\"format\":3,\"initial\":"
+
+abbrev pub pieces_with : Report → Option ToldParts → Option ℕ → List (List ℕ)
+pieces_with r parts cost =
     codes "{\"barriers\":" ∷ decimal r.barriers
-    ∷ (cost_pieces cost
+    ∷ (between_pieces parts
+    ++ cost_pieces cost
     ++ codes ",\"cx_after\":" ∷ decimal r.cx_after
     ∷ codes ",\"cx_before\":" ∷ decimal r.cx_before
     ∷ codes ",\"device\":" ∷ decimal r.device
     ∷ codes ",\"final\":" ∷ listed r.last
-    ∷ format_piece cost ∷ listed r.initial
-    ∷ codes ",\"phase\":" ∷ decimal r.phase
+    ∷ format_piece parts cost ∷ listed r.initial
+    ∷ (powers_pieces parts
+    ++ codes ",\"phase\":" ∷ decimal r.phase
     ∷ codes ",\"qubits\":" ∷ decimal r.qubits
     ∷ codes ",\"swaps\":" ∷ decimal r.swaps
     ∷ codes ",\"t_after\":" ∷ decimal r.t_after
     ∷ codes ",\"t_before\":" ∷ decimal r.t_before
-    ∷ codes "}" ∷ [])
+    ∷ codes "}" ∷ []))
 
 abbrev pub report_pieces : Report → List (List ℕ)
-report_pieces r = pieces_with r r.cost
+report_pieces r = pieces_with r r.parts r.cost
 
 pub report_line-pieces : (r : Report) → report_line r ≡ concat (report_pieces r) ++ 10 ∷ []
 unfolding serde_json_on_literals digits
-report_line-pieces r = go r.cost
+report_line-pieces r = go r.parts r.cost
   where
-    go : (o : Option ℕ) → report_line (record r { cost = o }) ≡ concat (pieces_with r o) ++ 10 ∷ []
-    go None = rw (items_text-wholes r.last, items_text-wholes r.initial) refl
-    go (Some cost) = rw (items_text-wholes r.last, items_text-wholes r.initial) refl
+    go : (p : Option ToldParts) (c : Option ℕ)
+        → report_line (record r { parts = p; cost = c }) ≡ concat (pieces_with r p c) ++ 10 ∷ []
+    go None None = rw (items_text-wholes r.last, items_text-wholes r.initial) refl
+    go None (Some cost) = rw (items_text-wholes r.last, items_text-wholes r.initial) refl
+    go (Some p) None =
+        rw (items_text-lists p.between, items_text-wholes r.last, items_text-wholes r.initial, items_text-wholes p.powers) refl
+    go (Some p) (Some cost) =
+        rw (items_text-lists p.between, items_text-wholes r.last, items_text-wholes r.initial, items_text-wholes p.powers) refl
 
 abbrev pub outside_pieces : List ℕ → ℕ → List (List ℕ)
 outside_pieces name status =

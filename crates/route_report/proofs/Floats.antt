@@ -1,5 +1,6 @@
 -- No line has a float, so its text is exact.
 --   items_have_float-wholes  an array of whole numbers has none
+--   items_have_float-lists   nor has an array of such arrays
 --   has_float-report         nor has a report
 --   has_float-check          nor have the numbers of a check
 --   has_float-fault          nor has a fault
@@ -12,20 +13,40 @@ use Rattle.route_report.specs.declared.lines.Counts.{Counts}
 use Rattle.route_report.specs.declared.lines.Report.{Report}
 use Rattle.route_report.specs.declared.faults.Fault.{Fault}
 use Rattle.route_report.specs.declared.faults.Fault.TheVariants as fault
-use Rattle.route_report.specs.Compact.{whole}
+use Rattle.route_report.specs.Compact.{whole, wholes}
 use Rattle.route_report.specs.Faults.{fault_data}
-use Rattle.route_report.specs.Lines.{check_data, later_members, report_data, with_cost}
+use Rattle.route_report.specs.Lines.{check_data, last_members, middle_members, report_data, with_between, with_cost, with_powers}
+use Rattle.route_report.specs.Parts.{ToldParts}
 
 items_have_float-wholes : (ns : List ℕ) → items_have_float (items_of (map whole ns)) ≡ false
 items_have_float-wholes [] = refl
 items_have_float-wholes (n ∷ ns) = items_have_float-wholes ns
 
+items_have_float-lists : (nss : List (List ℕ)) → items_have_float (items_of (map wholes nss)) ≡ false
+items_have_float-lists [] = refl
+items_have_float-lists (ns ∷ nss) = rw (items_have_float-wholes ns) (items_have_float-lists nss)
+
 pub has_float-report : (r : Report) → has_float (report_data r) ≡ false
-has_float-report r = go r.cost
+has_float-report r = go r.parts r.cost
   where
-    go : (o : Option ℕ) → has_float (object (member (codes "barriers") (whole r.barriers) (with_cost o (later_members r)))) ≡ false
-    go None = rw (items_have_float-wholes r.last, items_have_float-wholes r.initial) refl
-    go (Some cost) = rw (items_have_float-wholes r.last, items_have_float-wholes r.initial) refl
+    go : (o : Option ToldParts) (c : Option ℕ) → has_float (object (member (codes "barriers") (whole r.barriers)
+        (with_between o (with_cost c (middle_members r (with_powers o (last_members r))))))) ≡ false
+    go None None = rw (items_have_float-wholes r.last, items_have_float-wholes r.initial) refl
+    go None (Some cost) = rw (items_have_float-wholes r.last, items_have_float-wholes r.initial) refl
+    go (Some p) None =
+        rw (
+          items_have_float-lists p.between,
+          items_have_float-wholes r.last,
+          items_have_float-wholes r.initial,
+          items_have_float-wholes p.powers,
+        ) refl
+    go (Some p) (Some cost) =
+        rw (
+          items_have_float-lists p.between,
+          items_have_float-wholes r.last,
+          items_have_float-wholes r.initial,
+          items_have_float-wholes p.powers,
+        ) refl
 
 pub has_float-check : (c : Counts) → has_float (check_data c) ≡ false
 has_float-check c = refl

@@ -2,6 +2,6 @@ pub mod Floats
 pub mod Bytes
 pub mod Rows
 pub mod Statuses
-mod CostLaws
+mod PutLaws
 mod EntryLaws
 mod SideLaws

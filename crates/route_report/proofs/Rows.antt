@@ -17,6 +17,7 @@ pub one_wire : report_line (record {
   device = 1;
   last = 0 ∷ [];
   initial = 0 ∷ [];
+  parts = None;
   phase = 0;
   qubits = 1;
   swaps = 0;
@@ -34,6 +35,7 @@ pub three_wires : report_line (record {
   device = 3;
   last = 2 ∷ 1 ∷ 0 ∷ [];
   initial = 0 ∷ 1 ∷ 2 ∷ [];
+  parts = None;
   phase = 7;
   qubits = 2;
   swaps = 5;
@@ -51,6 +53,7 @@ pub no_wire : report_line (record {
   device = 0;
   last = [];
   initial = [];
+  parts = None;
   phase = 0;
   qubits = 0;
   swaps = 0;
@@ -68,6 +71,7 @@ pub costs : report_line (record {
   device = 4;
   last = 2 ∷ 1 ∷ 0 ∷ 3 ∷ [];
   initial = 0 ∷ 1 ∷ 2 ∷ 3 ∷ [];
+  parts = None;
   phase = 4;
   qubits = 4;
   swaps = 1;
@@ -76,6 +80,78 @@ pub costs : report_line (record {
 }) ≡ codes "{\"barriers\":0,\"cost\":4,\"cx_after\":4,\"cx_before\":1,\"device\":4,\"final\":[2,1,0,3],\"format\":2,\"initial\":[0,1,2,3],\"phase\":4,\"qubits\":4,\"swaps\":1,\"t_after\":0,\"t_before\":0}\n"
 unfolding serde_json_on_literals digits
 costs = refl
+
+pub one_barrier : report_line (record {
+  barriers = 1;
+  cost = None;
+  cx_after = 0;
+  cx_before = 0;
+  device = 1;
+  last = 0 ∷ [];
+  initial = 0 ∷ [];
+  parts = Some (record { between = (0 ∷ []) ∷ []; powers = 0 ∷ 0 ∷ [] });
+  phase = 0;
+  qubits = 1;
+  swaps = 0;
+  t_after = 2;
+  t_before = 2;
+}) ≡ codes "{\"barriers\":1,\"between\":[[0]],\"cx_after\":0,\"cx_before\":0,\"device\":1,\"final\":[0],\"format\":3,\"initial\":[0],\"parts\":[0,0],\"phase\":0,\"qubits\":1,\"swaps\":0,\"t_after\":2,\"t_before\":2}\n"
+unfolding serde_json_on_literals digits
+one_barrier = refl
+
+pub no_barrier : report_line (record {
+  barriers = 0;
+  cost = None;
+  cx_after = 1;
+  cx_before = 1;
+  device = 2;
+  last = 0 ∷ 1 ∷ [];
+  initial = 0 ∷ 1 ∷ [];
+  parts = Some (record { between = []; powers = 0 ∷ [] });
+  phase = 0;
+  qubits = 2;
+  swaps = 0;
+  t_after = 0;
+  t_before = 0;
+}) ≡ codes "{\"barriers\":0,\"between\":[],\"cx_after\":1,\"cx_before\":1,\"device\":2,\"final\":[0,1],\"format\":3,\"initial\":[0,1],\"parts\":[0],\"phase\":0,\"qubits\":2,\"swaps\":0,\"t_after\":0,\"t_before\":0}\n"
+unfolding serde_json_on_literals digits
+no_barrier = refl
+
+pub two_barriers : report_line (record {
+  barriers = 2;
+  cost = None;
+  cx_after = 5;
+  cx_before = 2;
+  device = 2;
+  last = 1 ∷ 0 ∷ [];
+  initial = 0 ∷ 1 ∷ [];
+  parts = Some (record { between = (0 ∷ 1 ∷ []) ∷ (1 ∷ 0 ∷ []) ∷ []; powers = 0 ∷ 7 ∷ 3 ∷ [] });
+  phase = 2;
+  qubits = 2;
+  swaps = 1;
+  t_after = 0;
+  t_before = 0;
+}) ≡ codes "{\"barriers\":2,\"between\":[[0,1],[1,0]],\"cx_after\":5,\"cx_before\":2,\"device\":2,\"final\":[1,0],\"format\":3,\"initial\":[0,1],\"parts\":[0,7,3],\"phase\":2,\"qubits\":2,\"swaps\":1,\"t_after\":0,\"t_before\":0}\n"
+unfolding serde_json_on_literals digits
+two_barriers = refl
+
+pub costed_parts : report_line (record {
+  barriers = 1;
+  cost = Some 8;
+  cx_after = 4;
+  cx_before = 1;
+  device = 2;
+  last = 1 ∷ 0 ∷ [];
+  initial = 0 ∷ 1 ∷ [];
+  parts = Some (record { between = (1 ∷ 0 ∷ []) ∷ []; powers = 4 ∷ 5 ∷ [] });
+  phase = 1;
+  qubits = 2;
+  swaps = 1;
+  t_after = 0;
+  t_before = 0;
+}) ≡ codes "{\"barriers\":1,\"between\":[[1,0]],\"cost\":8,\"cx_after\":4,\"cx_before\":1,\"device\":2,\"final\":[1,0],\"format\":3,\"initial\":[0,1],\"parts\":[4,5],\"phase\":1,\"qubits\":2,\"swaps\":1,\"t_after\":0,\"t_before\":0}\n"
+unfolding serde_json_on_literals digits
+costed_parts = refl
 
 pub words : fault_line fault.Words ≡ codes "{\"fault\":\"Words\",\"status\":2}\n"
 unfolding serde_json_on_literals digits

@@ -1,6 +1,7 @@
 -- A line of JSON.
 --   whole   a whole number
 --   wholes  an array of whole numbers
+--   lists   an array of such arrays
 --   line    the text without a space, and a line break
 use Rattle.std.specs.Prelude.{ℕ, List, [], ◌∷◌, ◌++◌, map}
 use Rattle.serde_json.specs.Data.{Data, array, number, unsigned}
@@ -12,6 +13,9 @@ whole n = number (unsigned n)
 
 abbrev pub wholes : List ℕ → Data
 wholes ns = array (items_of (map whole ns))
+
+abbrev pub lists : List (List ℕ) → Data
+lists nss = array (items_of (map wholes nss))
 
 abbrev pub line : Data → List ℕ
 line d = compact_text d ++ 10 ∷ []

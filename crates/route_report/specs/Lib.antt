@@ -1,6 +1,7 @@
 -- ---- definitions that public clauses reach
 pub mod Compact
 pub mod Refusals
+pub mod Parts
 pub mod Lines
 pub mod Faults
 pub mod Entries

@@ -1,41 +1,59 @@
 -- The report line and the check line: one JSON object each, its keys in the order of their bytes.
---   format_of                the number of the report's format
---   with_cost, later_members the keys behind `barriers`: the costs where there are some, and those behind them
---   report_data, check_data  the object
---   report_line, check_line  its line
+--   format_of                    the number of the report's format
+--   with_between, with_cost, with_powers   other keys, and in front of them one that isn't always told
+--   middle_members, last_members the keys from `cx_after` to `initial`, with others behind, and those from `phase` on
+--   report_data, check_data      the object
+--   report_line, check_line      its line
 use Rattle.std.specs.Prelude.{ℕ, List, Option, None, Some, codes}
 use Rattle.serde_json.specs.Data.{Data, Members, member, no_members, object}
 use Rattle.route_report.specs.declared.lines.Counts.{Counts}
 use Rattle.route_report.specs.declared.lines.Report.{Report}
-use Rattle.route_report.specs.Compact.{line, whole, wholes}
+use Rattle.route_report.specs.Compact.{line, lists, whole, wholes}
+use Rattle.route_report.specs.Parts.{ToldParts}
 
--- 2 where costs of edges are told
-abbrev pub format_of : Option ℕ → ℕ
-format_of None = 1
-format_of (Some cost) = 2
+-- 3 where parts are told, else 2 where costs of edges are
+abbrev pub format_of : Option ToldParts → Option ℕ → ℕ
+format_of (Some parts) cost = 3
+format_of None (Some cost) = 2
+format_of None None = 1
 
--- the costs stand in front of the other keys, where they are told
+-- the placements between parts stand in front of the other keys, where they are told
+abbrev pub with_between : Option ToldParts → Members → Members
+with_between None others = others
+with_between (Some parts) others = member (codes "between") (lists parts.between) others
+
+-- .. so do the costs
 abbrev pub with_cost : Option ℕ → Members → Members
 with_cost None others = others
 with_cost (Some cost) others = member (codes "cost") (whole cost) others
 
-abbrev pub later_members : Report → Members
-later_members r =
+-- .. and the powers of the parts
+abbrev pub with_powers : Option ToldParts → Members → Members
+with_powers None others = others
+with_powers (Some parts) others = member (codes "parts") (wholes parts.powers) others
+
+abbrev pub middle_members : Report → Members → Members
+middle_members r others =
     member (codes "cx_after") (whole r.cx_after)
     (member (codes "cx_before") (whole r.cx_before)
     (member (codes "device") (whole r.device)
     (member (codes "final") (wholes r.last)
-    (member (codes "format") (whole (format_of r.cost))
+    (member (codes "format") (whole (format_of r.parts r.cost))
     (member (codes "initial") (wholes r.initial)
-    (member (codes "phase") (whole r.phase)
+    others)))))
+
+abbrev pub last_members : Report → Members
+last_members r =
+    member (codes "phase") (whole r.phase)
     (member (codes "qubits") (whole r.qubits)
     (member (codes "swaps") (whole r.swaps)
     (member (codes "t_after") (whole r.t_after)
     (member (codes "t_before") (whole r.t_before)
-    no_members))))))))))
+    no_members))))
 
 abbrev pub report_data : Report → Data
-report_data r = object (member (codes "barriers") (whole r.barriers) (with_cost r.cost (later_members r)))
+report_data r = object (member (codes "barriers") (whole r.barriers) (with_between r.parts (with_cost r.cost
+    (middle_members r (with_powers r.parts (last_members r))))))
 
 abbrev pub report_line : Report → List ℕ
 report_line r = line (report_data r)

@@ -4,8 +4,9 @@ ghost use Rattle.std.specs.Prelude.{◌≡◌, IfOk, false};
 ghost use Rattle.serde_json.specs.Data.{Members, object, put};
 ghost use Rattle.serde_json.specs.View.{view};
 ghost use Rattle.serde_json.specs.Written.{has_float};
-ghost use Rattle.route_report.specs.Compact.{line, wholes};
+ghost use Rattle.route_report.specs.Compact.{line, lists, wholes};
 
+use crate::wires::Wires;
 use serde_json::Value;
 use std::alloc::{AllocError, Global};
 
@@ -16,6 +17,28 @@ pub(crate) fn number_array(alloc: Global, numbers: &[u32]) -> Result<Value, Allo
     let mut list = Vec::with_capacity(alloc, numbers.len())?;
     'numbers: for number in numbers {
         list.push(Value::from(*number))?;
+    }
+    Ok(Value::Array(list))
+}
+
+/// An array of powers of w.
+pub(crate) fn power_array(alloc: Global, powers: &[u8]) -> Result<Value, AllocError>
+    ensures { IfOk result (λ v. view v ≡ wholes powers.now) }
+{
+    let mut list = Vec::with_capacity(alloc, powers.len())?;
+    'powers: for power in powers {
+        list.push(Value::from(*power))?;
+    }
+    Ok(Value::Array(list))
+}
+
+/// An array of placements, each an array of whole numbers.
+pub(crate) fn placement_array(alloc: Global, placements: &[Wires]) -> Result<Value, AllocError>
+    ensures { IfOk result (λ v. view v ≡ lists placements.now) }
+{
+    let mut list = Vec::with_capacity(alloc, placements.len())?;
+    'placements: for placement in placements {
+        list.push(number_array(alloc, placement.as_slice())?)?;
     }
     Ok(Value::Array(list))
 }

@@ -23,7 +23,7 @@ pub mod wires;
 
 pub use entries::{Entry, entry_line};
 pub use faults::{Fault, Side, status};
-pub use lines::{Counts, Report};
+pub use lines::{Counts, Parts, Report};
 pub use verdicts::verdict_line;
 pub use wires::Wires;
 

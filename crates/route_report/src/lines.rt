@@ -2,14 +2,15 @@
 
 ghost use Rattle.std.specs.Prelude.{◌≡◌, IfOk, codes};
 ghost use Rattle.serde_json.specs.View.{view};
-ghost use Rattle.serde_json.specs.Data.{member, object};
-ghost use Rattle.route_report.specs.Compact.{whole};
-ghost use Rattle.route_report.specs.Lines.{check_data, format_of, later_members, report_data};
+ghost use Rattle.serde_json.specs.Data.{Members, member, object, put};
+ghost use Rattle.route_report.specs.Compact.{lists, whole, wholes};
+ghost use Rattle.route_report.specs.Lines.{check_data, format_of, last_members, middle_members, report_data, with_cost};
 
-use crate::compact::{number_array, with_member};
+use crate::compact::{number_array, placement_array, power_array, with_member};
 use crate::wires::Wires;
 use serde_json::{Value, json};
 use std::alloc::{AllocError, Global};
+use std::marker::Model;
 
 /// The numbers of one run, as the report line writes them.
 ///
@@ -30,6 +31,8 @@ pub struct Report {
     pub last: Wires,
     /// The placement at the beginning.
     pub initial: Wires,
+    /// What is told of the parts, where barriers are kept.
+    pub parts: Option<Parts>,
     /// The global phase of the written program against the source, in units of pi/4, below 8.
     pub phase: u8,
     /// Qubits of the source.
@@ -40,6 +43,23 @@ pub struct Report {
     pub t_after: u64,
     /// T gates of the source's operations.
     pub t_before: u64,
+}
+
+/// What a report tells of a program that is written in parts, with its barriers kept.
+#[derive(Drop)]
+pub struct Parts {
+    /// The placement at each barrier, in order.
+    pub between: Vec<Wires>,
+    /// The power of w of each part, one more than barriers, each below 8.
+    pub powers: Vec<u8>,
+}
+
+impl Model for Parts {
+    ghost use Rattle.route_report.specs.Parts.{ToldParts};
+
+    ghost Value = { ToldParts };
+
+    ghost view = { λ a. record { between = a.between.items; powers = a.powers.items } };
 }
 
 /// The numbers of a program that was only checked, as the check line writes them.
@@ -59,23 +79,25 @@ pub struct Counts {
     pub t: u64,
 }
 
-/// The format of a report: 2 where costs are told, else 1.
-fn format_number(cost: Option<u64>) -> u8
-    ensures { result ≡ format_of cost }
+/// The format of a report: 3 where parts are told, else 2 where costs are, else 1.
+fn format_number(report: &Report) -> u8
+    ensures { result ≡ format_of report.now.parts report.now.cost }
 {
-    match cost {
-        None => 1,
-        Some(_cost) => 2,
+    match (&report.parts, report.cost) {
+        (Some(_parts), _cost) => 3,
+        (None, Some(_cost)) => 2,
+        (None, None) => 1,
     }
 }
 
-/// The JSON object of a report but for its costs.
+/// The JSON object of a report but for its costs and parts.
 fn costless_value(alloc: Global, report: &Report) -> Result<Value, AllocError>
-    ensures { IfOk result (λ v. view v ≡ object (member (codes "barriers") (whole report.now.barriers) (later_members report.now))) }
+    ensures { IfOk result (λ v. view v ≡ object (member (codes "barriers") (whole report.now.barriers)
+        (middle_members report.now (last_members report.now)))) }
 {
     let last = number_array(alloc, report.last.as_slice())?;
     let initial = number_array(alloc, report.initial.as_slice())?;
-    let format = format_number(report.cost);
+    let format = format_number(report);
     json!(in alloc; {
         "barriers": report.barriers,
         "cx_after": report.cx_after,
@@ -92,14 +114,37 @@ fn costless_value(alloc: Global, report: &Report) -> Result<Value, AllocError>
     })
 }
 
-/// The JSON object of a report.
-pub(crate) fn report_value(alloc: Global, report: &Report) -> Result<Value, AllocError>
-    ensures { IfOk result (λ v. view v ≡ report_data report.now) }
+/// The JSON object of a report but for its parts.
+fn partless_value(alloc: Global, report: &Report) -> Result<Value, AllocError>
+    ensures { IfOk result (λ v. view v ≡ object (member (codes "barriers") (whole report.now.barriers)
+        (with_cost report.now.cost (middle_members report.now (last_members report.now))))) }
 {
     let value = costless_value(alloc, report)?;
     match report.cost {
         None => Ok(value),
         Some(cost) => Ok(with_member(alloc, value, "cost", Value::from(cost))?),
+    }
+}
+
+/// An object with the placements between parts and the powers of the parts.
+fn with_parts(alloc: Global, value: Value, parts: &Parts) -> Result<Value, AllocError>
+    ensures { IfOk result (λ v. (ms : Members) → view value ≡ object ms
+        → view v ≡ object (put (codes "parts") (wholes parts.now.powers) (put (codes "between") (lists parts.now.between) ms))) }
+{
+    let between = placement_array(alloc, parts.between.as_slice())?;
+    let powers = power_array(alloc, parts.powers.as_slice())?;
+    let placed = with_member(alloc, value, "between", between)?;
+    with_member(alloc, placed, "parts", powers)
+}
+
+/// The JSON object of a report.
+pub(crate) fn report_value(alloc: Global, report: &Report) -> Result<Value, AllocError>
+    ensures { IfOk result (λ v. view v ≡ report_data report.now) }
+{
+    let value = partless_value(alloc, report)?;
+    match &report.parts {
+        None => Ok(value),
+        Some(parts) => Ok(with_parts(alloc, value, parts)?),
     }
 }
 

@@ -1,6 +1,6 @@
 use crate::{
-    Counts, Entry, Fault, Report, Side, Wires, check_line, entry_line, fault_line, report_line,
-    status, verdict_line,
+    Counts, Entry, Fault, Parts, Report, Side, Wires, check_line, entry_line, fault_line,
+    report_line, status, verdict_line,
 };
 use std::test::Fail;
 
@@ -14,6 +14,7 @@ fn writes_the_worked_lines(rt: HostRuntime) -> Result<(), Fail> {
         device: 1,
         last: Wires::new(vec![in rt.alloc(); 0]?),
         initial: Wires::new(vec![in rt.alloc(); 0]?),
+        parts: None,
         phase: 0,
         qubits: 1,
         swaps: 0,
@@ -28,6 +29,7 @@ fn writes_the_worked_lines(rt: HostRuntime) -> Result<(), Fail> {
         device: 3,
         last: Wires::new(vec![in rt.alloc(); 2, 1, 0]?),
         initial: Wires::new(vec![in rt.alloc(); 0, 1, 2]?),
+        parts: None,
         phase: 7,
         qubits: 2,
         swaps: 5,
@@ -42,6 +44,7 @@ fn writes_the_worked_lines(rt: HostRuntime) -> Result<(), Fail> {
         device: 0,
         last: Wires::new(Vec::new(rt.alloc())),
         initial: Wires::new(Vec::new(rt.alloc())),
+        parts: None,
         phase: 0,
         qubits: 0,
         swaps: 0,
@@ -56,6 +59,7 @@ fn writes_the_worked_lines(rt: HostRuntime) -> Result<(), Fail> {
         device: 4,
         last: Wires::new(vec![in rt.alloc(); 2, 1, 0, 3]?),
         initial: Wires::new(vec![in rt.alloc(); 0, 1, 2, 3]?),
+        parts: None,
         phase: 4,
         qubits: 4,
         swaps: 1,
@@ -194,6 +198,107 @@ fn writes_the_worked_lines(rt: HostRuntime) -> Result<(), Fail> {
             want.as_bytes(),
             "{want}"
         );
+    }
+    Ok(())
+}
+
+#[test]
+fn writes_the_lines_of_parts(rt: HostRuntime) -> Result<(), Fail> {
+    let one_barrier = Report {
+        barriers: 1,
+        cost: None,
+        cx_after: 0,
+        cx_before: 0,
+        device: 1,
+        last: Wires::new(vec![in rt.alloc(); 0]?),
+        initial: Wires::new(vec![in rt.alloc(); 0]?),
+        parts: Some(Parts {
+            between: vec![in rt.alloc(); Wires::new(vec![in rt.alloc(); 0]?)]?,
+            powers: vec![in rt.alloc(); 0, 0]?,
+        }),
+        phase: 0,
+        qubits: 1,
+        swaps: 0,
+        t_after: 2,
+        t_before: 2,
+    };
+    let no_barrier = Report {
+        barriers: 0,
+        cost: None,
+        cx_after: 1,
+        cx_before: 1,
+        device: 2,
+        last: Wires::new(vec![in rt.alloc(); 0, 1]?),
+        initial: Wires::new(vec![in rt.alloc(); 0, 1]?),
+        parts: Some(Parts {
+            between: Vec::new(rt.alloc()),
+            powers: vec![in rt.alloc(); 0]?,
+        }),
+        phase: 0,
+        qubits: 2,
+        swaps: 0,
+        t_after: 0,
+        t_before: 0,
+    };
+    let two_barriers = Report {
+        barriers: 2,
+        cost: None,
+        cx_after: 5,
+        cx_before: 2,
+        device: 2,
+        last: Wires::new(vec![in rt.alloc(); 1, 0]?),
+        initial: Wires::new(vec![in rt.alloc(); 0, 1]?),
+        parts: Some(Parts {
+            between: vec![in rt.alloc();
+                Wires::new(vec![in rt.alloc(); 0, 1]?),
+                Wires::new(vec![in rt.alloc(); 1, 0]?),
+            ]?,
+            powers: vec![in rt.alloc(); 0, 7, 3]?,
+        }),
+        phase: 2,
+        qubits: 2,
+        swaps: 1,
+        t_after: 0,
+        t_before: 0,
+    };
+    let costed_parts = Report {
+        barriers: 1,
+        cost: Some(8),
+        cx_after: 4,
+        cx_before: 1,
+        device: 2,
+        last: Wires::new(vec![in rt.alloc(); 1, 0]?),
+        initial: Wires::new(vec![in rt.alloc(); 0, 1]?),
+        parts: Some(Parts {
+            between: vec![in rt.alloc(); Wires::new(vec![in rt.alloc(); 1, 0]?)]?,
+            powers: vec![in rt.alloc(); 4, 5]?,
+        }),
+        phase: 1,
+        qubits: 2,
+        swaps: 1,
+        t_after: 0,
+        t_before: 0,
+    };
+    for (report, want) in [
+        (
+            &one_barrier,
+            "{\"barriers\":1,\"between\":[[0]],\"cx_after\":0,\"cx_before\":0,\"device\":1,\"final\":[0],\"format\":3,\"initial\":[0],\"parts\":[0,0],\"phase\":0,\"qubits\":1,\"swaps\":0,\"t_after\":2,\"t_before\":2}\n",
+        ),
+        (
+            &no_barrier,
+            "{\"barriers\":0,\"between\":[],\"cx_after\":1,\"cx_before\":1,\"device\":2,\"final\":[0,1],\"format\":3,\"initial\":[0,1],\"parts\":[0],\"phase\":0,\"qubits\":2,\"swaps\":0,\"t_after\":0,\"t_before\":0}\n",
+        ),
+        (
+            &two_barriers,
+            "{\"barriers\":2,\"between\":[[0,1],[1,0]],\"cx_after\":5,\"cx_before\":2,\"device\":2,\"final\":[1,0],\"format\":3,\"initial\":[0,1],\"parts\":[0,7,3],\"phase\":2,\"qubits\":2,\"swaps\":1,\"t_after\":0,\"t_before\":0}\n",
+        ),
+        (
+            &costed_parts,
+            "{\"barriers\":1,\"between\":[[1,0]],\"cost\":8,\"cx_after\":4,\"cx_before\":1,\"device\":2,\"final\":[1,0],\"format\":3,\"initial\":[0,1],\"parts\":[4,5],\"phase\":1,\"qubits\":2,\"swaps\":1,\"t_after\":0,\"t_before\":0}\n",
+        ),
+    ] {
+        let line = report_line(rt.alloc(), report)?;
+        assert_eq!(rt; line.as_slice(), want.as_bytes(), "{want}");
     }
     Ok(())
 }

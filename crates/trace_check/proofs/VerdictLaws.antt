@@ -4,9 +4,9 @@
 --     ok-of               what is known of an answer that is there
 --     MeansOnce, TracesSound, TextLaws        laws of texts and traces, as they are handed in
 --     verdicts_once       two verdicts are one
-use Rattle.std.proofs.Common.{◌≡◌, ℕ, List, All, Result, Ok, MatchResult, sym, subst, ◌∙◌, ap}
+use Rattle.std.proofs.Common.{◌≡◌, ℕ, List, All, Result, Ok, MatchResult, sym, subst, ◌∙◌, ap, false}
 use Rattle.gate_expand.specs.Expansion.{IsFineOp}
-use Rattle.gate_inline.specs.Programs.{IsWritten, Program}
+use Rattle.gate_inline.specs.Programs.{IsWritten, Program, kept}
 use Rattle.program_reader.specs.Refusals.{at_of, code_of}
 use Rattle.program_reader.specs.Texts.{IsAcceptedText, IsTextRefusal}
 use Rattle.program_reader.specs.declared.refusal.Refusal.{Refusal as First}
@@ -14,7 +14,7 @@ use Rattle.unitary_model.specs.Realises.{Realises}
 use Rattle.trace_check.specs.Outcomes.{IsOutcome}
 use Rattle.trace_check.specs.Proves.{Claim, Proves, StopsAt}
 use Rattle.trace_check.specs.Told.{verdict_of}
-use Rattle.trace_check.specs.Verdicts.{BothSay, IsReadable, IsRealised, IsRefused, IsSameVerdict, IsVerdict, claim_of}
+use Rattle.trace_check.specs.Verdicts.{BothSay, IsReadAs, IsReadable, IsRealised, IsRefused, IsSameVerdict, IsVerdict, claim_of}
 use Rattle.trace_check.specs.declared.checker.Outcome.{Outcome}
 use Rattle.trace_check.specs.declared.checker.Outcome.TheVariants.{Proved, Stopped}
 use Rattle.trace_check.specs.declared.verdict.Refusal.{Refusal}
@@ -44,6 +44,23 @@ IsRealised-outcome once sound s t trace p q (Proved initial last phase) a b f g 
     subst (λ u. P u y) (program_once once s p x a c)
     (subst (λ v. P p v) (program_once once t q y b d) (sound (claim_of p q) trace initial.items last.items phase f g h))
 IsRealised-outcome once sound s t trace p q (Stopped line) a b f g h = tt
+
+-- ---- of programs that are one part
+pub IsVerdict-read : (s t trace : List ℕ) (x y : Program) (o : Outcome) → IsReadAs s x → IsReadAs t y → IsOutcome (claim_of x y) trace o
+    → IsVerdict s t trace (verdict_of o)
+IsVerdict-read s t trace x y o (p, a, e) (q, b, f) h =
+    let here : IsOutcome (claim_of p q) trace o = subst (λ u. IsOutcome (claim_of u (kept false q)) trace o) e (subst (λ v. IsOutcome (claim_of x v) trace o) f h) in
+    IsVerdict-outcome s t trace p q o a b here
+
+pub IsRealised-read : MeansOnce → TracesSound → (s t trace : List ℕ) (x y : Program) (o : Outcome) → IsReadAs s x → IsReadAs t y
+    → All (IsFineOp x.wires) x.ops → All (IsFineOp y.wires) y.ops → IsOutcome (claim_of x y) trace o → IsRealised s t (verdict_of o)
+IsRealised-read once sound s t trace x y o (p, a, e) (q, b, f) fine good h =
+    let here : IsOutcome (claim_of p q) trace o = subst (λ u. IsOutcome (claim_of u (kept false q)) trace o) e (subst (λ v. IsOutcome (claim_of x v) trace o) f h) in
+    IsRealised-outcome once sound s t trace p q o a b (subst (λ (u : Program). All (IsFineOp u.wires) u.ops) e fine)
+    (subst (λ (v : Program). All (IsFineOp v.wires) v.ops) f good) here
+
+pub IsVerdict-told : (s t trace : List ℕ) (o : Outcome) (v : Verdict) → v ≡ verdict_of o → IsVerdict s t trace (verdict_of o) → IsVerdict s t trace v
+IsVerdict-told s t trace o v told h = subst (λ w. IsVerdict s t trace w) (sym told) h
 
 pub IsRealised-told : (s t : List ℕ) (o : Outcome) (v : Verdict) → v ≡ verdict_of o → IsRealised s t (verdict_of o) → IsRealised s t v
 IsRealised-told s t o v told h = subst (λ w. IsRealised s t w) (sym told) h

@@ -1,6 +1,7 @@
 -- What a trace says of two texts, of whatever length.
 --     claim_of p q        the claim that the operations of the program q realise those of the program p
 --     IsReadable text     the text is accepted as a program
+--     IsReadAs text s     .. and s is that program, as one part
 --     IsRefused text r    the text has a first refusal, of this code and at this place or statement
 --     BothSay s t P       the texts s and t are accepted as programs, and P says so of their claim
 --     IsVerdict s t trace v       what is told of the source s, the target t and the trace is so: the trace proves their claim, or
@@ -8,8 +9,8 @@
 --     IsRealised s t v    where the verdict v is Yes: the program of the target realises the program of the source, between these
 --                         placements, up to this power of w
 --     IsSameVerdict v w   two verdicts are of one kind, and have the same numbers
-use Rattle.std.specs.Prelude.{◌≡◌, ℕ, List}
-use Rattle.gate_inline.specs.Programs.{Program}
+use Rattle.std.specs.Prelude.{◌≡◌, ℕ, false, List}
+use Rattle.gate_inline.specs.Programs.{Program, kept}
 use Rattle.program_reader.specs.Refusals.{at_of, code_of}
 use Rattle.program_reader.specs.Texts.{IsAcceptedText, IsTextRefusal}
 use Rattle.program_reader.specs.declared.refusal.Refusal.{Refusal as First}
@@ -24,6 +25,9 @@ claim_of p q = record { source = p.ops; wires = p.wires; target = q.ops; qubits 
 
 abbrev pub IsReadable : List ℕ → Type 0
 IsReadable text = (p : Program) × IsAcceptedText text p
+
+abbrev pub IsReadAs : List ℕ → Program → Type 0
+IsReadAs text s = (p : Program) × IsAcceptedText text p × (s ≡ kept false p)
 
 abbrev pub IsRefused : List ℕ → Refusal → Type 0
 IsRefused text r = (f : First) × IsTextRefusal text f × (r.code ≡ code_of f) × (r.at ≡ at_of f)

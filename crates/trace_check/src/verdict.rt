@@ -1,9 +1,8 @@
 //! What a trace says of the texts of two programs.
 
 ghost use Rattle.std.specs.Prelude.{◌≡◌, ◌^◌, ◌<◌, IfOk, MatchResult, length};
-ghost use Rattle.program_reader.specs.Texts.{IsAcceptedText};
 ghost use Rattle.trace_check.specs.Told.{verdict_of};
-ghost use Rattle.trace_check.specs.Verdicts.{IsRealised, IsRefused, IsVerdict};
+ghost use Rattle.trace_check.specs.Verdicts.{IsReadAs, IsRealised, IsRefused, IsVerdict};
 
 use crate::checker::{Outcome, check};
 use crate::laws::traces_are_sound;
@@ -71,9 +70,9 @@ pub fn check_trace(
 /// The program that a text spells, or its first refusal.
 fn read(alloc: Global, text: &[u8]) -> Result<Result<SourceProgram, Refusal>, AllocError>
     requires { length text.now < 2 ^ 31 }
-    ensures { IfOk result (λ r. MatchResult r (IsAcceptedText text.now) (IsRefused text.now)) }
+    ensures { IfOk result (λ r. MatchResult r (IsReadAs text.now) (IsRefused text.now)) }
 {
-    match read_text(alloc, text) {
+    match read_text(alloc, text, false) {
         Ok(program) => Ok(Ok(program)),
         Err(ReadFault::Refused(first)) => Ok(Err(Refusal {
             code: first.code(),

@@ -1,20 +1,21 @@
 use Rattle.std.proofs.Common.{◌++◌, map}
 use Rattle.outside_io.specs.Bytes.{Gains, GainsPrefix}
-use Rattle.circuit_list.specs.Gates.{ops}
 use Rattle.trace_text.specs.Texts.{commented}
-use Rattle.qasm_writer.specs.Outputs.{bits_of}
+use Rattle.qasm_writer.specs.Outputs.{bits_of, cut_of}
 use Rattle.qasm_writer.specs.Texts.{with_underscores, written_text}
 use Rattle.qasm_writer.proofs.OutputLaws.{AreLaws, HasText-written}
+use Rattle.qasm_writer.proofs.PartLaws.{IsCut-lengths}
 use Rattle.qasm_writer.proofs.PieceLaws.{Sends-rest, fault-whole, on_err, on_err-map, on_ok-map, rest-fault}
 use Rattle.qasm_writer.proofs.write_lines.Goals as goal
+
+pub put_lines-requires-clause-cut : goal.put_lines-requires-clause-cut
+put_lines-requires-clause-cut g c = IsCut-lengths c.args.output.now c.requires.output.cut
 
 pub returns-in_err-put_lines-clause-err : goal.returns-in_err-put_lines-clause-err
 returns-in_err-put_lines-clause-err g c =
     let o = c.args.output.now in
     let laws : AreLaws = record {
       tokens = c.lexed_exactly.ensures.has_tokens;
-      plain = c.fine_plain.ensures.plain;
-      below = c.fine_below.ensures.below;
       unbroken = c.lines_of_text.ensures.unbroken;
       held = c.commented_trace.ensures.held;
     } in
@@ -22,7 +23,7 @@ returns-in_err-put_lines-clause-err g c =
     (λ text. GainsPrefix (g.S.Sink.held c.args.sink.now) (g.S.Sink.held c.put_lines.new.sink) text) c.requires.output c.underscores-q.ensures
     c.wires-wires.ensures.wires c.wires-wires.ensures.few c.wires-wires.ensures.fine
     (fault-whole _ _ c.args.room.now.items
-    (written_text (with_underscores c.underscores-q.result) c.wires-wires.result (ops o.body.now.gates) (map bits_of o.registers.now) o.reads.now ++ commented o.trace.now)
+    (written_text (with_underscores c.underscores-q.result) c.wires-wires.result (cut_of o) (map bits_of o.registers.now) o.reads.now ++ commented o.trace.now)
     c.requires.empty c.in_err-put_lines.ensures.err))
 
 pub returns-clause-ok : goal.returns-clause-ok
@@ -30,8 +31,6 @@ returns-clause-ok g c =
     let o = c.args.output.now in
     let laws : AreLaws = record {
       tokens = c.lexed_exactly.ensures.has_tokens;
-      plain = c.fine_plain.ensures.plain;
-      below = c.fine_below.ensures.below;
       unbroken = c.lines_of_text.ensures.unbroken;
       held = c.commented_trace.ensures.held;
     } in
@@ -46,8 +45,6 @@ returns-clause-err g c =
     let o = c.args.output.now in
     let laws : AreLaws = record {
       tokens = c.lexed_exactly.ensures.has_tokens;
-      plain = c.fine_plain.ensures.plain;
-      below = c.fine_below.ensures.below;
       unbroken = c.lines_of_text.ensures.unbroken;
       held = c.commented_trace.ensures.held;
     } in

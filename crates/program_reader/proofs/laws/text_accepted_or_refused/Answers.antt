@@ -7,4 +7,5 @@ returns c = accepted_or_refused (record {
   parsed = c.parsed_or_refused.ensures;
   checked = c.checked_or_refused.ensures;
   inlined = c.inlined_or_refused.ensures;
+  cut = c.operations_are_cut.ensures;
 })

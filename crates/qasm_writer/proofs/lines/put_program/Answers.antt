@@ -1,8 +1,7 @@
 use Rattle.std.proofs.Common.{map}
 use Rattle.std.specs.List.{flat_map}
-use Rattle.circuit_list.specs.Gates.{ops}
-use Rattle.qasm_writer.specs.Outputs.{bits_of}
-use Rattle.qasm_writer.specs.Texts.{bits_line, heading_text, op_line, wires_line, with_underscores}
+use Rattle.qasm_writer.specs.Outputs.{bits_of, cut_of}
+use Rattle.qasm_writer.specs.Texts.{bits_line, heading_text, part_lines, wires_line, with_underscores}
 use Rattle.qasm_writer.proofs.PieceLaws.{fault-now, fault-then, on_err, then-err, then-ok}
 use Rattle.qasm_writer.proofs.lines.put_program.Goals as goal
 
@@ -18,12 +17,12 @@ pub returns-in_err-put_registers-clause-err : goal.returns-in_err-put_registers-
 returns-in_err-put_registers-clause-err g c =
     on_err _ _ (fault-then _ _ _ _ _ _ _ c.in_ok-put.ensures.ok (fault-then _ _ _ _ _ _ _ c.in_ok-put_wires.ensures.ok (fault-now _ _ c.put_wires.new.room.items (flat_map bits_line (map bits_of c.args.output.now.registers.now)) _ c.in_err-put_registers.ensures.err)))
 
-pub returns-in_err-put_gates-clause-err : goal.returns-in_err-put_gates-clause-err
-returns-in_err-put_gates-clause-err g c =
-    on_err _ _ (fault-then _ _ _ _ _ _ _ c.in_ok-put.ensures.ok (fault-then _ _ _ _ _ _ _ c.in_ok-put_wires.ensures.ok (fault-then _ _ _ _ _ _ _ c.in_ok-put_registers.ensures.ok (fault-now _ _ c.put_registers.new.room.items (flat_map (op_line (with_underscores c.args.q)) (ops c.args.output.now.body.now.gates)) _ c.in_err-put_gates.ensures.err))))
+pub returns-in_err-put_parts-clause-err : goal.returns-in_err-put_parts-clause-err
+returns-in_err-put_parts-clause-err g c =
+    on_err _ _ (fault-then _ _ _ _ _ _ _ c.in_ok-put.ensures.ok (fault-then _ _ _ _ _ _ _ c.in_ok-put_wires.ensures.ok (fault-then _ _ _ _ _ _ _ c.in_ok-put_registers.ensures.ok (fault-now _ _ c.put_registers.new.room.items (part_lines (with_underscores c.args.q) (cut_of c.args.output.now).parts (cut_of c.args.output.now).bars) _ c.in_err-put_parts.ensures.err))))
 
 pub returns-clause-ok : goal.returns-clause-ok
-returns-clause-ok g c = then-ok _ _ _ _ _ _ _ _ _ c.in_ok-put.ensures.ok (then-ok _ _ _ _ _ _ _ _ _ c.in_ok-put_wires.ensures.ok (then-ok _ _ _ _ _ _ _ _ _ c.in_ok-put_registers.ensures.ok (then-ok _ _ _ _ _ _ _ _ _ c.in_ok-put_gates.ensures.ok c.put_reads.ensures.ok)))
+returns-clause-ok g c = then-ok _ _ _ _ _ _ _ _ _ c.in_ok-put.ensures.ok (then-ok _ _ _ _ _ _ _ _ _ c.in_ok-put_wires.ensures.ok (then-ok _ _ _ _ _ _ _ _ _ c.in_ok-put_registers.ensures.ok (then-ok _ _ _ _ _ _ _ _ _ c.in_ok-put_parts.ensures.ok c.put_reads.ensures.ok)))
 
 pub returns-clause-err : goal.returns-clause-err
-returns-clause-err g c = then-err _ _ _ _ _ _ _ _ c.in_ok-put.ensures.ok (then-err _ _ _ _ _ _ _ _ c.in_ok-put_wires.ensures.ok (then-err _ _ _ _ _ _ _ _ c.in_ok-put_registers.ensures.ok (then-err _ _ _ _ _ _ _ _ c.in_ok-put_gates.ensures.ok c.put_reads.ensures.err)))
+returns-clause-err g c = then-err _ _ _ _ _ _ _ _ c.in_ok-put.ensures.ok (then-err _ _ _ _ _ _ _ _ c.in_ok-put_wires.ensures.ok (then-err _ _ _ _ _ _ _ _ c.in_ok-put_registers.ensures.ok (then-err _ _ _ _ _ _ _ _ c.in_ok-put_parts.ensures.ok c.put_reads.ensures.err)))

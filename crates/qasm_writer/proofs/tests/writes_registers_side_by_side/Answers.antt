@@ -20,4 +20,8 @@ program_text-requires g c = record {
     few = lit≤ tt;
   };
   reads = search rules;
+  lengths = search rules;
+  cut = refl;
+  some = search rules;
+  there = search rules;
 }

@@ -1,4 +1,4 @@
-use Rattle.std.proofs.Common.{[], All, refl, lit≤, rules}
+use Rattle.std.proofs.Common.{[], refl, lit≤, rules}
 use Rattle.std.proofs.lemmas.List.Elements.{All-from_recursion}
 use Rattle.gate_inline.specs.Registers.{IsFree}
 use Rattle.qasm_writer.proofs.tests.writes_whole_pieces_and_the_rest.Goals as goal
@@ -12,4 +12,8 @@ program_text-requires g c = record {
     few = lit≤ tt;
   };
   reads = search rules;
+  lengths = search rules;
+  cut = refl;
+  some = search rules;
+  there = search rules;
 }

@@ -1,7 +1,6 @@
 -- Why the device isn't had, and what is delivered on one that is.
 use Rattle.std.proofs.Common.{refl, map, ap, ◌∙◌}
 use Rattle.std.proofs.lemmas.Result.{err_from_is_err_and}
-use Rattle.gate_expand.specs.declared.source.Ops.{Ops}
 use Rattle.qroute_top.specs.Causes.{Handed}
 use Rattle.qroute_top.specs.Delivered.{drawn_program}
 use Rattle.qroute_top.proofs.RunLaws.{Delivers-drawn, Delivers-entry, Delivers-routed, IsCause-device, IsCause-question, Reaches-drawn, Reaches-read, device_failed, handed}
@@ -13,9 +12,9 @@ returns-in_err-device-in-Route-clause-stop g c =
     let h : Handed = handed (map (λ w. w.now) c.args.words.now) (g.I.Source.left c.args.input.now) (g.I.Source.faults c.args.input.now)
     (g.I.Source.faults c.read_source-in-Route.new.input) (g.F.Shelf.content c.args.shelf.now) (g.F.Shelf.faults c.args.shelf.now)
     (g.F.Shelf.faults c.load_device.new.shelf) in
-    let reached = Reaches-read h c.in_ok-command.command c.in-Route.name c.in-Route.trivial c.in-Route.trace _ _ c.in_ok-command.ensures.ok c.in-Route.is
+    let reached = Reaches-read h c.in_ok-command.command c.in-Route.name c.in-Route.trivial c.in-Route.trace c.in-Route.keep_barriers c.in-Route.clean _ _ c.in_ok-command.ensures.ok c.in-Route.is
     c.in_ok-source-in-Route.ensures.ok in
-    let it = IsCause-device h c.in-Route.name c.ops.result.now.wires _ (reached.0, ap (λ (o : Ops). o.wires) c.ops.ensures ∙ reached.1) c.in_err-device-in-Route.ensures.err
+    let it = IsCause-device h c.in-Route.name c.wires.result _ (reached.0, c.wires.ensures ∙ reached.1) c.in_err-device-in-Route.ensures.err
     (λ f. c.in_err-device-in-Route.ensures.calm (λ e. f (device_failed _ _ _ refl e))) in
     rw (p.1, p.2) it
 
@@ -33,8 +32,8 @@ returns-in_err-device-in-Bench-clause-stop g c =
 pub returns-in_ok-route_on-in-Route-clause-made : goal.returns-in_ok-route_on-in-Route-clause-made
 returns-in_ok-route_on-in-Route-clause-made g c =
     λ text line is. Delivers-routed (map (λ w. w.now) c.args.words.now) (g.F.Shelf.content c.args.shelf.now) c.in_ok-command.command c.in-Route.name
-    c.in-Route.trivial c.in-Route.trace (g.I.Source.left c.args.input.now) (g.I.Source.left c.read_source-in-Route.new.input) c.in_ok-source-in-Route.source
-    c.in_ok-device-in-Route.device c.ops.result.now.wires text line c.in_ok-command.ensures.ok c.in-Route.is
+    c.in-Route.trivial c.in-Route.trace c.in-Route.keep_barriers c.in-Route.clean (g.I.Source.left c.args.input.now) (g.I.Source.left c.read_source-in-Route.new.input) c.in_ok-source-in-Route.source
+    c.in_ok-device-in-Route.device c.wires.result text line c.in_ok-command.ensures.ok c.in-Route.is
     c.in_ok-source-in-Route.ensures.ok c.in_ok-device-in-Route.ensures.ok (c.in_ok-route_on-in-Route.ensures.made text line is)
 
 pub returns-in_ok-route_on-in-Bench-clause-made : goal.returns-in_ok-route_on-in-Bench-clause-made

@@ -3,6 +3,5 @@ use Rattle.qroute_top.proofs.PlanLaws.{Rewrites-planned}
 use Rattle.qroute_top.proofs.pipeline.optimise.Goals as goal
 
 pub returns-clause-made : goal.returns-clause-made
-returns-clause-made c =
-    let t = c.in_ok-target.ensures in
-    λ text line is. Rewrites-planned c.args.source c.in_ok-target.target _ _ text line t.stands t.placed (λ told is. t.trace) (c.work_of.ensures.planned text line is)
+returns-clause-made c = λ text line is. Rewrites-planned c.args.source c.in_ok-target.target _ _ _ text line c.in_ok-target.ensures.stands
+    (c.work_of.ensures.planned text line is)

@@ -1,13 +1,14 @@
 -- The target is what is asked for.
-use Rattle.std.proofs.Common.{subst}
-use Rattle.qroute_top.specs.Delivered.{IsOwnTrace}
-use Rattle.qroute_top.specs.Plans.{target_program}
-use Rattle.qroute_top.proofs.PlanLaws.{Rewrites-planned}
+use Rattle.qroute_top.proofs.MadeLaws.{Rewrites-routed, silent-or}
 use Rattle.qroute_top.proofs.pipeline.route_on.Goals as goal
+
+pub on_device-requires-clause-silent : goal.on_device-requires-clause-silent
+on_device-requires-clause-silent c =
+    silent-or c.args.wishes.trace c.in_ok-rewritten.rewritten.items c.deref.result.now _ c.deref.ensures.value c.requires.traced c.in_ok-rewritten.ensures.asked
 
 pub returns-clause-made : goal.returns-clause-made
 returns-clause-made c =
-    let t = c.in_ok-target.ensures in
-    λ text line is. Rewrites-planned c.args.source c.in_ok-target.target _ _ text line t.stands t.placed
-    (λ told is. subst (λ b. IsOwnTrace b c.args.source (target_program c.args.source c.in_ok-target.target) told c.in_ok-target.target.trace.items)
-    c.in_ok-rewritten.ensures.asked (t.trace told is)) (c.work_of.ensures.planned text line is)
+    let r = c.in_ok-rewritten.ensures in
+    λ text line is. Rewrites-routed c.args.device.now c.args.source c.in_ok-target.target c.in_ok-rewritten.rewritten.items c.deref.result.now
+    c.args.wishes.keep c.args.wishes.trivial c.args.wishes.clean c.args.wishes.trace text line c.deref.ensures.value c.facts.ensures.cut r.optimised r.asked
+    c.in_ok-target.ensures.stands (c.work_of.ensures.planned text line is)

@@ -1,60 +1,192 @@
--- From the circuit's unitary to the source's, and the machine's run.
-use Rattle.std.proofs.Common.{refl, sym, subst, ◌∙◌, ap, arith, map}
-use Rattle.circuit_list.specs.Gates.{ops}
-use Rattle.unitary_model.specs.Placement.{identity}
-use Rattle.sabre_route.specs.Telling.{IsRoutedBy}
-use Rattle.qroute_top.specs.Delivered.{placed_read}
-use Rattle.qroute_top.proofs.CostLaws.{listed-few}
-use Rattle.qroute_top.proofs.PlanLaws.{plain_of}
-use Rattle.qroute_top.proofs.TargetLaws.{HasFewSwaps-routed, IsOwnTrace-run, IsMachineRun-routed, Realises-routed}
+-- What the machine writes for each part, from where the one before it ended.
+use Rattle.std.proofs.Common.{◌≡◌, ◌≤◌, ◌<◌, ◌%◌, ◌∙◌, All, ap, length, map, subst, sym}
+use Rattle.std.specs.Prelude.{sum_by}
+use Rattle.program_parts.specs.Cuts.{whole}
+use Rattle.sabre_route.specs.Routing.{IsLayout}
+use Rattle.qroute_top.specs.InParts.{placed_bars, told_parts}
+use Rattle.qroute_top.specs.Targets.{AreRoutedParts, AreTraced, IsOnSize, gates_of, last_of, parts_of, turns_of}
+use Rattle.qroute_top.specs.declared.target.Target.{Target}
+use Rattle.qroute_top.proofs.MadeLaws.{IsFit-routed, Stands-routed, as-many, cost-few, edges-followed, optimised-fits, optimised-turns, optimised-wires, sizes-routed, swaps-few, turns-routed, wide-routed}
 use Rattle.qroute_top.proofs.target.on_device.Goals as goal
 
-pub returns-clause-stands : goal.returns-clause-stands
-returns-clause-stands c =
-    let is = c.requires.optimised in
-    let r = c.in_ok-run.ensures.run in
-    λ told t. record {
-      registers = refl;
-      plain = plain_of _ _ c.wires-qubits.ensures.fine;
-      unitary = Realises-routed _ _ _ _ c.args.rewritten.now.passed _ _ _ _ _ _ _ is r.wires r.realises (t.initial ∙ c.in_ok-initial.ensures) t.last
-          (t.phase ∙ c.turn_sum-turn.ensures.sum);
-      reads = ap (λ p. map (placed_read p) c.args.source.now.reads) (sym t.last);
-      t_gates = let few = is.t_gates in let same = r.t_gates in omega (arith, few, same);
-      cx_gates = let few = is.cx_gates in let more = r.cx_gates in let swaps = t.swaps in omega (arith, few, more, swaps);
-    }
+pub first_placement-requires-clause-each : goal.first_placement-requires-clause-each
+first_placement-requires-clause-each c =
+    let s = c.args.source.now in
+    subst (λ n. All (λ r. r.passed.body.wires ≡ n) c.args.rewritten.now) (sym c.wires.ensures)
+    (optimised-wires s.wires s.cut.parts c.args.rewritten.now c.requires.optimised)
 
-pub returns-clause-placed : goal.returns-clause-placed
-returns-clause-placed c =
-    let is = c.requires.optimised in
-    let r = c.in_ok-run.ensures.run in
-    λ told t. record {
-      qubits = r.wires;
-      edges = r.edges;
-      placed = λ e. t.initial ∙ c.in_ok-initial.ensures ∙ c.in_ok-given.ensures.trivial e ∙ sym (ap identity r.wires);
-      run = rw (t.initial, t.last, t.swaps, t.phase, c.in_ok-initial.ensures)
-          (IsMachineRun-routed _ _ _ _ c.args.rewritten.now.passed _ _ _ is c.wires-wires.ensures.fine r.run c.turn_sum-turn.ensures.sum c.in_ok-given.ensures.laid_out);
-      swaps = rw t.swaps
-          (HasFewSwaps-routed _ _ (ops c.args.rewritten.now.passed.body.gates) _ _ _ c.diameter-diameter.ensures.diameter is.cx_gates r.few_swaps r.cx_gates);
-      cost = t.cost ∙ c.cost_of-cost.ensures;
-    }
+pub routed_parts-requires-clause-turns : goal.routed_parts-requires-clause-turns
+routed_parts-requires-clause-turns c = let s = c.args.source.now in optimised-turns s.wires s.cut.parts c.args.rewritten.now c.requires.optimised
+
+pub routed_parts-requires-clause-fits : goal.routed_parts-requires-clause-fits
+routed_parts-requires-clause-fits c =
+    let s = c.args.source.now in
+    optimised-fits s.wires c.args.device.now.size s.cut.parts c.args.rewritten.now c.requires.fits c.requires.optimised
+
+pub placed_bars-requires-clause-many : goal.placed_bars-requires-clause-many
+placed_bars-requires-clause-many c =
+    let s = c.args.source.now in
+    let d = c.args.device.now in
+    let rs = c.args.rewritten.now in
+    let ms = c.in_ok-made.field-0.made.items in
+    let given = c.in_ok-given.given in
+    let e = c.in_ok-made.ensures in
+    let o = c.requires.optimised in
+    ap length c.deref-2.ensures.value ∙ sym (as-many d c.args.clean s given rs ms o e.routed)
+
+pub placed_bars-requires-clause-placed : goal.placed_bars-requires-clause-placed
+placed_bars-requires-clause-placed c =
+    let s = c.args.source.now in
+    let d = c.args.device.now in
+    let rs = c.args.rewritten.now in
+    let ms = c.in_ok-made.field-0.made.items in
+    let given = c.in_ok-given.given in
+    let e = c.in_ok-made.ensures in
+    let o = c.requires.optimised in
+    subst (All (λ m. s.wires ≤ length m.last)) (sym c.deref-2.ensures.value) (wide-routed d c.args.clean s.wires given rs ms c.requires.fits e.routed)
+
+pub swaps_of-swaps-requires : goal.swaps_of-swaps-requires
+swaps_of-swaps-requires c =
+    let s = c.args.source.now in
+    let d = c.args.device.now in
+    let rs = c.args.rewritten.now in
+    let ms = c.in_ok-made.field-0.made.items in
+    let given = c.in_ok-given.given in
+    let e = c.in_ok-made.ensures in
+    let o = c.requires.optimised in
+    let f = c.facts.ensures in
+    let k = c.diameter-diameter.ensures in
+    subst (λ ns. sum_by (λ m. m.swaps) ns < 18446744073709551616) (sym c.deref-3.ensures.value)
+    (swaps-few c.args.clean d s given rs ms c.diameter-diameter.result f.parts o e.routed c.requires.fits k.diameter k.few
+    c.size-size.ensures.coupling.graph.limited f.operations_limit)
+
+pub turn_of-turn-requires : goal.turn_of-turn-requires
+turn_of-turn-requires c =
+    let s = c.args.source.now in
+    let d = c.args.device.now in
+    let rs = c.args.rewritten.now in
+    let ms = c.in_ok-made.field-0.made.items in
+    let given = c.in_ok-given.given in
+    let e = c.in_ok-made.ensures in
+    let o = c.requires.optimised in
+    subst (All (λ m. m.turn < 8)) (sym c.deref-4.ensures.value) (turns-routed d c.args.clean given rs ms e.routed)
+
+pub told_parts-requires : goal.told_parts-requires
+told_parts-requires c =
+    let s = c.args.source.now in
+    let d = c.args.device.now in
+    let rs = c.args.rewritten.now in
+    let ms = c.in_ok-made.field-0.made.items in
+    let given = c.in_ok-given.given in
+    let e = c.in_ok-made.ensures in
+    let o = c.requires.optimised in
+    record { many = ap length c.deref-5.ensures.value ∙ sym (as-many d c.args.clean s given rs ms o e.routed) }
+
+pub body_of-requires-clause-each : goal.body_of-requires-clause-each
+body_of-requires-clause-each c =
+    let s = c.args.source.now in
+    let d = c.args.device.now in
+    let rs = c.args.rewritten.now in
+    let ms = c.in_ok-made.field-0.made.items in
+    let given = c.in_ok-given.given in
+    let e = c.in_ok-made.ensures in
+    let o = c.requires.optimised in
+    subst (λ n. All (IsOnSize n) ms) (sym c.size-size.ensures.size) (sizes-routed d c.args.clean given rs ms e.routed)
+
+pub cost_of-cost-requires-clause-edges : goal.cost_of-cost-requires-clause-edges
+cost_of-cost-requires-clause-edges c =
+    let s = c.args.source.now in
+    let d = c.args.device.now in
+    let rs = c.args.rewritten.now in
+    let ms = c.in_ok-made.field-0.made.items in
+    let given = c.in_ok-given.given in
+    let e = c.in_ok-made.ensures in
+    let o = c.requires.optimised in
+    edges-followed c.args.clean d s given rs ms c.in_ok-body.body.gates o e.routed c.requires.fits c.in_ok-body.ensures.gates
 
 pub cost_of-cost-requires-clause-few : goal.cost_of-cost-requires-clause-few
 cost_of-cost-requires-clause-few c =
-    let r = c.in_ok-run.ensures.run in
-    let size = c.size-size.ensures in
-    λ listed. listed-few c.args.device.now c.args.source.now.ops _ _ _ c.diameter-diameter.result listed size.coupling.graph.limited
-    c.requires.optimised.cx_gates c.facts.ensures.operations_limit (r.few_swaps _ c.diameter-diameter.ensures.diameter) r.cx_gates
-
-pub trace_of_run-requires-clause-events : goal.trace_of_run-requires-clause-events
-trace_of_run-requires-clause-events c = λ asked.
-    subst (λ p. IsRoutedBy c.args.device.now c.args.rewritten.now.passed.body.gates p c.in_ok-run.run'.routed c.in_ok-run.run'.events.items)
-    (sym (c.as_slice.ensures ∙ c.in_ok-initial.ensures)) (c.in_ok-run.ensures.events (c.is_some-traced.ensures ∙ asked))
-
-pub returns-clause-trace : goal.returns-clause-trace
-returns-clause-trace c =
-    let is = c.requires.optimised in
-    let r = c.in_ok-run.ensures.run in
+    let s = c.args.source.now in
+    let d = c.args.device.now in
+    let rs = c.args.rewritten.now in
+    let ms = c.in_ok-made.field-0.made.items in
+    let given = c.in_ok-given.given in
+    let e = c.in_ok-made.ensures in
+    let o = c.requires.optimised in
     let f = c.facts.ensures in
-    λ told t. IsOwnTrace-run c.args.device.now c.args.source.now.wires c.args.source.now.ops c.args.rewritten.now.passed c.args.rewritten.now.steps
-    c.as_slice.result.now c.in_ok-run.run'.routed c.args.source.now _ told _ _ c.requires.steps c.in_ok-trace.ensures.told c.in_ok-trace.ensures.silent is.wires
-    f.operations_limit f.fine refl refl refl r.wires c.turn_sum-turn.ensures.sum (t.initial ∙ sym c.as_slice.ensures) t.last t.phase
+    let k = c.diameter-diameter.ensures in
+    λ listed. cost-few c.args.clean d s given rs ms c.in_ok-body.body.gates c.diameter-diameter.result f.parts o e.routed c.requires.fits k.diameter k.few
+    c.size-size.ensures.coupling.graph.limited f.operations_limit c.in_ok-body.ensures.gates
+
+pub returns-clause-stands : goal.returns-clause-stands
+returns-clause-stands c =
+    let s = c.args.source.now in
+    let d = c.args.device.now in
+    let rs = c.args.rewritten.now in
+    let ms = c.in_ok-made.field-0.made.items in
+    let given = c.in_ok-given.given in
+    let e = c.in_ok-made.ensures in
+    let o = c.requires.optimised in
+    let f = c.facts.ensures in
+    let begins = c.in_ok-initial.ensures in
+    let t : Target = record {
+      body = c.in_ok-body.body;
+      lengths = c.in_ok-lengths.lengths;
+      barriers = c.in_ok-barriers.barriers;
+      initial = c.in_ok-initial.initial;
+      last = c.in_ok-made.field-0.last;
+      swaps = c.swaps_of-swaps.result;
+      turn = c.turn_of-turn.result;
+      cost = c.cost_of-cost.result;
+      parts = c.in_ok-parts.parts;
+      trace = c.in_ok-made.field-0.trace;
+    } in
+    Stands-routed c.args.keep c.args.trivial c.args.clean d s rs ms t f.cut f.parts f.bars
+    (record {
+      gates = c.in_ok-body.ensures.gates;
+      lengths = c.in_ok-lengths.ensures ∙ ap (map (λ m. length m.body.gates)) c.deref.ensures.value;
+      bars = c.in_ok-barriers.ensures ∙ ap (λ ns. placed_bars (parts_of s.cut.parts ns) s.cut.bars) c.deref-2.ensures.value;
+      turn = c.turn_of-turn.ensures.sum ∙ ap (λ ns. turns_of ns % 8) c.deref-4.ensures.value;
+      tells = c.in_ok-parts.ensures ∙ ap (λ ns. told_parts c.args.keep (parts_of s.cut.parts ns)) c.deref-5.ensures.value;
+    })
+    o c.requires.steps c.requires.silent (subst (λ p. AreRoutedParts d c.args.clean p rs ms) (sym begins) e.routed) c.requires.fits
+    (c.in_ok-body.ensures.wires ∙ c.size-size.ensures.size) (e.last ∙ ap (λ p. last_of p ms) (sym begins))
+    (c.swaps_of-swaps.ensures ∙ ap (sum_by (λ m. m.swaps)) c.deref-3.ensures.value) (λ x. begins ∙ c.in_ok-given.ensures.trivial x)
+    (λ x. subst (IsLayout d (whole (gates_of rs))) (sym begins) (c.in_ok-given.ensures.laid_out x)) c.diameter-diameter.result
+    c.diameter-diameter.ensures.diameter c.cost_of-cost.ensures (λ x. subst (λ p. AreTraced d p rs ms c.in_ok-made.field-0.trace.items) (sym begins) (e.told x))
+    e.silent f.operations_limit f.fine
+
+pub returns-clause-fit : goal.returns-clause-fit
+returns-clause-fit c =
+    let s = c.args.source.now in
+    let d = c.args.device.now in
+    let rs = c.args.rewritten.now in
+    let ms = c.in_ok-made.field-0.made.items in
+    let given = c.in_ok-given.given in
+    let e = c.in_ok-made.ensures in
+    let o = c.requires.optimised in
+    let f = c.facts.ensures in
+    let begins = c.in_ok-initial.ensures in
+    let t : Target = record {
+      body = c.in_ok-body.body;
+      lengths = c.in_ok-lengths.lengths;
+      barriers = c.in_ok-barriers.barriers;
+      initial = c.in_ok-initial.initial;
+      last = c.in_ok-made.field-0.last;
+      swaps = c.swaps_of-swaps.result;
+      turn = c.turn_of-turn.result;
+      cost = c.cost_of-cost.result;
+      parts = c.in_ok-parts.parts;
+      trace = c.in_ok-made.field-0.trace;
+    } in
+    IsFit-routed c.args.keep c.args.clean d s rs ms t f.cut f.parts f.bars
+    (record {
+      gates = c.in_ok-body.ensures.gates;
+      lengths = c.in_ok-lengths.ensures ∙ ap (map (λ m. length m.body.gates)) c.deref.ensures.value;
+      bars = c.in_ok-barriers.ensures ∙ ap (λ ns. placed_bars (parts_of s.cut.parts ns) s.cut.bars) c.deref-2.ensures.value;
+      turn = c.turn_of-turn.ensures.sum ∙ ap (λ ns. turns_of ns % 8) c.deref-4.ensures.value;
+      tells = c.in_ok-parts.ensures ∙ ap (λ ns. told_parts c.args.keep (parts_of s.cut.parts ns)) c.deref-5.ensures.value;
+    })
+    o (subst (λ p. AreRoutedParts d c.args.clean p rs ms) (sym begins) e.routed) c.requires.fits
+    (c.in_ok-body.ensures.wires ∙ c.size-size.ensures.size) (e.last ∙ ap (λ p. last_of p ms) (sym begins))
+    (c.swaps_of-swaps.ensures ∙ ap (sum_by (λ m. m.swaps)) c.deref-3.ensures.value) (ap length begins ∙ c.in_ok-given.ensures.placed) e.lines

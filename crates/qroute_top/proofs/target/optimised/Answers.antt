@@ -1,7 +1,3 @@
-use Rattle.std.proofs.Common.{subst}
-use Rattle.std.specs.Option.{IfSome}
-use Rattle.gate_expand.specs.declared.source.Ops.{Ops}
-use Rattle.qroute_top.specs.Targets.{HasSteps, IsOptimised}
 use Rattle.qroute_top.proofs.TargetLaws.{HasSteps-summed, IsOptimised-rewritten}
 use Rattle.qroute_top.proofs.target.optimised.Goals as goal
 
@@ -9,15 +5,12 @@ pub returns-clause-optimised : goal.returns-clause-optimised
 returns-clause-optimised c =
     let e = c.in_ok-expanded.ensures in
     let r = c.in_ok-passed.ensures in
-    let it = IsOptimised-rewritten _ _ c.in_ok-expanded.expanded c.in_ok-passed.field-0.passed _ e.wires e.below e.same (e.odd_paths _) e.cx_count r.wires
-    r.law r.settled c.turn_sum-turn.ensures.sum in
-    subst (λ (o : Ops). IsOptimised o.wires o.list (record { body = c.in_ok-passed.field-0.passed.body; turn = c.turn_sum-turn.result })) c.ops.ensures it
+    IsOptimised-rewritten _ _ c.in_ok-expanded.expanded c.in_ok-passed.field-0.passed _ e.wires e.below e.same (e.odd_paths _) e.cx_count r.wires
+    r.law r.settled c.turn_sum-turn.ensures.sum c.wires-wires.ensures.fine
 
 pub returns-clause-steps : goal.returns-clause-steps
 returns-clause-steps c =
     let e = c.in_ok-expanded.ensures in
     let r = c.in_ok-passed.ensures in
-    let it = HasSteps-summed _ _ c.in_ok-expanded.expanded c.in_ok-passed.field-0.passed _ c.in_ok-passed.field-0.steps e.wires e.gates e.turn
-    c.turn_sum-turn.ensures.sum r.steps in
-    subst (λ (o : Ops). IfSome c.in_ok-passed.field-0.steps (HasSteps o.wires o.list (record { body = c.in_ok-passed.field-0.passed.body; turn = c.turn_sum-turn.result })))
-    c.ops.ensures it
+    HasSteps-summed _ _ c.in_ok-expanded.expanded c.in_ok-passed.field-0.passed _ c.in_ok-passed.field-0.steps e.wires e.gates e.turn
+    c.turn_sum-turn.ensures.sum r.steps

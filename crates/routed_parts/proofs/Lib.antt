@@ -1,0 +1,3 @@
+pub mod StillLaws
+pub mod LegLaws
+pub mod RunLaws

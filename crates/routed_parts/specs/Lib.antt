@@ -1,0 +1,4 @@
+-- ---- definitions that public clauses reach
+pub mod Settled
+pub mod Runs
+pub mod Legs
