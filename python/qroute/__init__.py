@@ -58,7 +58,7 @@ HERE = pathlib.Path(__file__).resolve().parent
 
 # What each fault means, by its name in the fault line; braces hold keys of that line.
 SAYS = {
-    "Words": "the words mean no command; the manual, `man docs/qroute.1`, has them all",
+    "Words": "the words mean no command, or `--trace` stands beside `--keep-barriers` or `--clean`; the manual, `man docs/qroute.1`, has them all",
     "Input": "the input failed, before its end was read",
     "Output": "the output failed: it holds some first part of the program",
     "Shelf": "a file that was named could not be read",
@@ -301,6 +301,10 @@ class Result:
 
     Entry i of `initial` and `final` is the qubit on which wire i begins and ends; wires from `qubits` on are the spare ones
     of the device. The written unitary is exp(i pi/4) to the power `phase` times the source's, between the two.
+
+    Where barriers are kept, entry j of `between` is the placement at barrier j, and entry j of `parts` the power of the part
+    before it, the last entry that of the part behind all barriers: each part is so its own source's, from the placement where
+    the one before ends. Both are None where barriers are left out.
     """
 
     text: str
@@ -316,6 +320,8 @@ class Result:
     t_before: int
     t_after: int
     cost: int | None = None
+    between: tuple[tuple[int, ...], ...] | None = None
+    parts: tuple[int, ...] | None = None
     report: dict[str, typing.Any] = dataclasses.field(default_factory=dict, repr=False, compare=False)
 
     @property
@@ -404,24 +410,51 @@ def as_bytes(text: str | bytes) -> bytes:
     return text.encode() if isinstance(text, str) else text
 
 
+def as_tuples(told: typing.Any) -> typing.Any:
+    """A value of a report, its lists as tuples."""
+    return tuple(map(as_tuples, told)) if isinstance(told, list) else told
+
+
 def result(written: str, told: dict[str, typing.Any]) -> Result:
-    names = [it.name for it in dataclasses.fields(Result) if it.name in told]
-    values = {it: tuple(told[it]) if isinstance(told[it], list) else told[it] for it in names}
+    values = {it.name: as_tuples(told[it.name]) for it in dataclasses.fields(Result) if it.name in told}
     return Result(text=written, report=told, **values)
 
 
-def opt(text: str | bytes, *, timeout: float | None = None) -> Result:
-    """The program on its own qubits, with fewer gates where some are found."""
-    return result(*run(["opt"], as_bytes(text), timeout))
+def flags(**given: bool) -> list[str]:
+    """The flags of a command line that are given, by the names of parameters."""
+    return [f"--{name.replace('_', '-')}" for name, is_given in given.items() if is_given]
 
 
-def route(text: str | bytes, device: Device, trivial: bool = False, *, trace: bool = False, timeout: float | None = None) -> Result:
-    """The program on the qubits of a device; with `trivial` wire i begins on qubit i, with `trace` its text has its trace behind it."""
+def opt(text: str | bytes, *, keep_barriers: bool = False, timeout: float | None = None) -> Result:
+    """The program on its own qubits, with fewer gates where some are found.
+
+    With `keep_barriers` its barriers outside of gates' bodies are written too, and what stands between two is rewritten by itself.
+    """
+    return result(*run(["opt", *flags(keep_barriers=keep_barriers)], as_bytes(text), timeout))
+
+
+def route(
+    text: str | bytes,
+    device: Device,
+    trivial: bool = False,
+    *,
+    trace: bool = False,
+    keep_barriers: bool = False,
+    clean: bool = False,
+    timeout: float | None = None,
+) -> Result:
+    """The program on the qubits of a device; with `trivial` wire i begins on qubit i.
+
+    With `trace` its text has its trace behind it. With `keep_barriers` its barriers are kept, as by `opt`, and with `clean` gates
+    that cancel once they are routed are taken out; a trace can be asked for with neither of the two (ValueError).
+    """
+    if trace and (keep_barriers or clean):
+        raise ValueError("there are no traces of programs whose barriers are kept, or that are cleaned")
     with tempfile.TemporaryDirectory() as room:
         path = os.path.join(room, "device.toml")
         with open(path, "w", encoding="utf-8") as file:
             file.write(device.text)
-        words = ["route", "--device", path, *(["--trivial"] if trivial else []), *(["--trace"] if trace else [])]
+        words = ["route", "--device", path, *flags(trivial=trivial, trace=trace, keep_barriers=keep_barriers, clean=clean)]
         return result(*run(words, as_bytes(text), timeout))
 
 

@@ -13,7 +13,13 @@ _qroute() {
         return
     fi
     case "${COMP_WORDS[1]}" in
-        route) options="--device --trivial --trace" ;;
+        opt) options=--keep-barriers ;;
+        route)
+            options="--device --trivial"
+            # a trace stands with neither of the other two
+            [[ " ${COMP_WORDS[*]:2} " == *" --keep-barriers "* || " ${COMP_WORDS[*]:2} " == *" --clean "* ]] || options+=" --trace"
+            [[ " ${COMP_WORDS[*]:2} " == *" --trace "* ]] || options+=" --keep-barriers --clean"
+            ;;
         verify) options="--source --target" ;;
         amplitude) options="--from --to" ;;
         bench) options="--start --gates --device" ;;

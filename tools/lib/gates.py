@@ -72,6 +72,18 @@ def cancelled(one, other):
     return "both", {"H": 6, "X": 4, "C": 0}[one[0]]
 
 
+def pair_left(gates):
+    """The places of two gates that cancel or merge past those between them; None where no two do."""
+    listed = Gates(gates)
+    for place, gate in enumerate(gates):
+        for other in listed.behind_it(place):
+            if cancelled(gate, gates[other]):
+                return place, other
+            if not commute(gate, gates[other]):
+                break
+    return None
+
+
 class Places:
     """Numbers from 0 on of which some go: which is at a place among those that are left, and the place of each.
 
@@ -142,6 +154,14 @@ class Gates:
             while slot is not None and slot < last:
                 yield slot
                 slot = self.behind.get((slot, wire))
+
+    def behind_it(self, slot):
+        """The slots behind one that are on a wire of its gate, in order."""
+        near = {wire: self.behind.get((slot, wire)) for wire in wires_of(self.gates[slot])}
+        while left := [it for it in near.values() if it is not None]:
+            first = min(left)
+            yield first
+            near = {wire: self.behind.get((first, wire)) if it == first else it for wire, it in near.items()}
 
     def put(self, slot, gate):
         """Another gate on the same wires in the place of one."""

@@ -115,6 +115,11 @@ def mixed(wires, kinds, operations=MOST_OPERATIONS):
     return "\n".join(lines)
 
 
+def barred(wires=16, operations=8_000):
+    """CNOTs drawn as in `mixed`, each with a barrier behind it."""
+    return mixed(wires, ["cx"], operations).replace(";\ncx", ";\nbarrier q;\ncx")
+
+
 def there_and_back(wires=64):
     """CNOTs that all cancel, far apart."""
     half = MOST_OPERATIONS // 2
@@ -197,7 +202,7 @@ def traced(lines, part, begins="", wires=1):
     return filled(f"{HEAD}qreg q[{wires}];\n{commented(lines)}{begins}", part, most=MOST_TARGET)
 
 
-CHECK, OPT, STAGES = ("check",), ("opt",), ("stages",)
+CHECK, OPT, KEPT, STAGES = ("check",), ("opt",), ("opt", "--keep-barriers"), ("stages",)
 ROUTE = ("route", "--device", "DEVICE")
 VERIFY = ("verify", "--source", "SOURCE", "--target", "TARGET")
 KINDS = [
@@ -210,6 +215,9 @@ KINDS = [
     Kind("a list of angles", CHECK, 3, lambda: filled(ONE + "u1(0", ",0", ") q[0];")),
     Kind("a list of qubits", CHECK, 0, lambda: filled(ONE + "barrier q[0]", ",q[0]", ";")),
     Kind("barriers", OPT, 0, lambda: filled(ONE, "barrier q;\n")),
+    Kind("barriers that are kept", KEPT, 0, lambda: filled(ONE, "barrier q;\n")),
+    Kind("barriers that are kept, a gate behind each", KEPT, 0, lambda: filled(ONE, "barrier q;t q;", most=MOST_OPERATIONS * 14)),
+    Kind("CNOTs on a line of 16, a barrier behind each", (*ROUTE, "--keep-barriers"), 0, barred, lambda: line(16)),
     Kind("a comment", OPT, 0, lambda: filled(ONE + "t q[0]; //", "/")),
     Kind("digits", CHECK, 0, lambda: filled(ONE + "u1(0.", "0", ") q[0];")),
     Kind("a long name", CHECK, 0, lambda: f"{HEAD}qreg {'a' * 2_000_000}[1]; h {'a' * 2_000_000};"),

@@ -615,16 +615,23 @@ def turns(angles):
 
 def operations(program):
     """The operations of a program's gates, in order."""
-    found = []
+    return [it for part in parts(program) for it in part]
+
+
+def parts(program):
+    """The same, those before the first barrier, between two barriers and behind the last one by themselves."""
+    found = [[]]
     known = {}  # those of a gate with some angles, on its own wires from 0 on
     for step in program.steps:
+        if step.kind == "barrier":
+            found.append([])
         if step.kind != "gate":
             continue
         key = (id(step.gate), *step.angles)
         if key not in known:
             known[key] = list(written(step.gate, step.angles, range(len(step.wires))))
         on = step.wires
-        found += [(it[0], on[it[1]], on[it[2]]) if it[0] == "CX" else (*it[:4], on[it[4]]) for it in known[key]]
+        found[-1] += [(it[0], on[it[1]], on[it[2]]) if it[0] == "CX" else (*it[:4], on[it[4]]) for it in known[key]]
     return found
 
 

@@ -27,7 +27,7 @@ ALL = "all"
 CLAIMS = [
     Claim(
         "language",
-        "what the text of a program means: which are accepted, and their operations, reads and registers",
+        "what the text of a program means: which are accepted, and their operations, parts, reads and registers",
         {"gate_inline.specs.Programs": "IsAccepted IsWritten"},
     ),
     Claim(
@@ -39,8 +39,12 @@ CLAIMS = [
             "unitary_model.specs.OddPaths": "odd_paths",
         },
     ),
-    Claim("headline", "the headline alone: both of these, the reads and the report line", {"qroute_top.specs.Delivered": "Makes"}),
-    Claim("settled", "that what `opt` writes is settled", {"qroute_top.specs.Settled": "IsSettled"}),
+    Claim(
+        "headline",
+        "the headline alone: both of these, the reads, parts and the report line",
+        {"qroute_top.specs.Delivered": "Makes", "qroute_top.specs.InParts": "told_parts"},
+    ),
+    Claim("settled", "that what `opt` writes is settled", {"routed_parts.specs.Settled": "IsSettled"}),
     Claim(
         "edges",
         "that each CNOT follows an edge of the device",
@@ -49,7 +53,7 @@ CLAIMS = [
     Claim(
         "machine",
         "that what `route` writes is the routing machine's run, with few swaps",
-        {"qroute_top.specs.Runs": "IsMachineRun HasFewSwaps"},
+        {"routed_parts.specs.Runs": "AreMachineRuns HasFewSwaps"},
     ),
     Claim("stages", "what `stages` writes", {"qroute_top.specs.Delivered": "IsStages"}),
     Claim("verified", "what a yes of `verify` says", {"qroute_top.specs.Claims": "IsVerified"}),

@@ -30,8 +30,13 @@ def is_placement(value, size):
     return isinstance(value, list) and len(value) == size and all(map(is_count, value)) and sorted(value) == list(range(size))
 
 
+def format_of(told):
+    """The number of a report's format, by its keys."""
+    return 3 if "parts" in told else 2 if "cost" in told else 1
+
+
 def flaws(told):
-    """What of a report's wires can't be."""
+    """What of a report's wires and parts can't be."""
     qubits, device = told.get("qubits"), told.get("device")
     if not is_count(qubits) or not is_count(device) or qubits > device:
         yield f"the report says qubits {qubits!r} and device {device!r}"
@@ -39,3 +44,17 @@ def flaws(told):
     for key in ("initial", "final"):
         if not is_placement(told.get(key), device):
             yield f"{key} is no placement of {device} wires"
+    if "between" in told or "parts" in told:
+        yield from flaws_of_parts(told.get("between"), told.get("parts"), told)
+
+
+def flaws_of_parts(between, powers, told):
+    """What can't be of the placements at barriers and the powers of the parts."""
+    if not isinstance(powers, list) or not powers or not all(is_count(it) and it < 8 for it in powers):
+        yield "parts is no list of powers from 0 to 7"
+    elif is_count(told.get("phase")) and sum(powers) % 8 != told["phase"]:
+        yield f"the powers of the parts add up to {sum(powers) % 8}, and the phase is {told['phase']}"
+    elif not isinstance(between, list) or not all(is_placement(it, told["device"]) for it in between):
+        yield f"between is no list of placements of {told['device']} wires"
+    elif len(powers) != len(between) + 1:
+        yield f"the report tells of {len(powers)} parts, and of {len(between)} placements between them"

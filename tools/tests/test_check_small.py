@@ -10,6 +10,14 @@ TURNED = (
     "measure q[0] -> c[0];\nmeasure q[1] -> c[1];\n"
 )
 DEVICE = "qubits = 2\nedges = [[1, 0]]\n"
+# wire 0 moves from qubit 0 to qubit 1 of a line of three in the first part, and stands there at the barrier
+IN_PARTS = HEAD + "qreg a[1];\nqreg b[2];\ncx a[0],b[1];\nbarrier b[1],a,b[1];\ncx a[0],b[0];\nt b;\n"
+SWAP_01 = "cx q[0],q[1];\ncx q[1],q[0];\ncx q[0],q[1];\n"
+OUT_PARTS = HEAD + "qreg q[3];\n" + SWAP_01 + "cx q[1],q[2];\nbarrier q[2],q[1];\ncx q[1],q[0];\nt q[0];\nt q[2];\n"
+TOLD_PARTS = {
+    "barriers": 1, "between": [[1, 0, 2]], "cx_after": 5, "cx_before": 2, "device": 3, "final": [1, 0, 2], "format": 3,
+    "initial": [0, 1, 2], "parts": [0, 0], "phase": 0, "qubits": 3, "swaps": 1, "t_after": 2, "t_before": 2,
+}  # fmt: skip
 
 
 def report(**told):
@@ -69,7 +77,7 @@ class CheckSmall(ToolTest):
         status, out, _ = self.checked(source, HEAD + "qreg q[2];\nt q[1];\nt q[1];\n", report(**told, t_after=2))
         self.assertEqual((status, out), (1, "differs: 2 T gates, and the source has 0 odd path parities\n"))
         status, out, _ = self.checked(source, HEAD + "qreg q[2];\nbarrier q[1];\ns q[1];\n", report(**told, t_after=0))
-        self.assertEqual((status, out), (1, "differs: the output has 1 barriers\n"))
+        self.assertEqual((status, out), (1, "differs: the output has 1 barriers in place of 0\n"))
 
     def test_the_whole_language(self):
         # u2(0,pi) is h by definition, and p(pi/4) is t; the gate's body swaps by three CNOTs
@@ -152,6 +160,90 @@ class CheckSmall(ToolTest):
         told = report(phase=0, format=2, cost=0, cx_after=0, cx_before=0, device=1, qubits=1, initial=[0], final=[0])
         device = self.file("d", "format = 2\nqubits = 1\nedges = []\n")
         self.assertEqual(self.checked(source, source, told, "--device", device)[0], 0)
+
+    def test_parts(self):
+        status, out, err = self.checked(IN_PARTS, OUT_PARTS, report(**TOLD_PARTS))
+        self.assertEqual((status, err), (0, ""))
+        self.assertEqual(out, "agrees in 2 parts, on each of 8 basis states: 3 wires, 3 qubits, phase 0\n")
+        priced = self.file("d", "format = 2\nqubits = 3\nedges = [[0, 1, 5], [1, 0, 5], [1, 2, 7]]\n")
+        for cost, status in (({"cost": 27}, 0), ({}, 1)):
+            self.assertEqual(self.checked(IN_PARTS, OUT_PARTS, report(**TOLD_PARTS, **cost), "--device", priced)[0], status)
+        # T across a barrier is as a whole what it was
+        halves = HEAD + "qreg q[1];\nt q[0];\nbarrier q[0];\nt q[0];\n"
+        told = {"between": [[0]], "final": [0], "initial": [0], "device": 1, "qubits": 1, "cx_before": 0, "cx_after": 0, "t_before": 2}
+        told = TOLD_PARTS | told | {"swaps": 0}
+        self.assertEqual(self.checked(halves, halves, report(**told))[0], 0)
+        moved = HEAD + "qreg q[1];\nbarrier q[0];\ns q[0];\n"
+        status, out, _ = self.checked(halves, moved, report(**told | {"t_after": 0}))
+        self.assertEqual((status, out.count("\n")), (1, 2))
+        for number in (1, 2):
+            self.assertIn(f"differs: part {number}: from |1> (wire 0 first) the amplitude of |1> is ", out)
+
+    def test_barriers_and_parts_that_are_written_otherwise(self):
+        for old, new, said in (
+            ("barrier q[2],q[1];\n", "", "the output has 0 barriers in place of 1"),
+            ("barrier q[2],q[1]", "barrier q[1],q[2]", "barrier 1 names the qubits [1, 2] in place of [2, 1]"),
+            ("barrier q[2],q[1]", "barrier q[2],q[0]", "barrier 1 names the qubits [2, 0] in place of [2, 1]"),
+            ("cx q[1],q[2];\nbarrier q[2],q[1];\n", "barrier q[2],q[1];\ncx q[1],q[2];\n", "part 1: from |"),
+            ("cx q[1],q[0];\nt", "cx q[1],q[0];\ntdg", "part 2: from |"),
+        ):
+            status, out, _ = self.checked(IN_PARTS, OUT_PARTS.replace(old, new), report(**TOLD_PARTS))
+            self.assertEqual(status, 1)
+            self.assertTrue(out.startswith(f"differs: {said}"), out)
+        # two T that could have been one S
+        source = HEAD + "qreg q[1];\nbarrier q;\nt q[0];\nt q[0];\n"
+        told = TOLD_PARTS | {"between": [[0]], "final": [0], "initial": [0], "device": 1, "qubits": 1, "cx_before": 0, "cx_after": 0}
+        status, out, _ = self.checked(source, source, report(**told | {"swaps": 0}))
+        self.assertEqual((status, out), (1, "differs: part 2: 2 T gates, and the source has 0 odd path parities\n"))
+
+    def test_reports_of_parts_that_cannot_be(self):
+        for told, said in (
+            ({"format": 1}, "the report says format 1, and has the keys of format 3"),
+            ({"parts": [0]}, "the report tells of 1 parts, and of 1 placements between them"),
+            ({"parts": [4, 3]}, "the powers of the parts add up to 7, and the phase is 0"),
+            ({"parts": [4, 4]}, "part 1: from |"),
+            ({"parts": [8, 0]}, "parts is no list of powers from 0 to 7"),
+            ({"parts": None}, "parts is no list of powers from 0 to 7"),
+            ({"between": [[0, 1, 2]]}, "barrier 1 names the qubits [2, 1] in place of [2, 0]"),
+            ({"between": [[1, 1, 2]]}, "between is no list of placements of 3 wires"),
+            ({"between": [0]}, "between is no list of placements of 3 wires"),
+            ({"between": None}, "between is no list of placements of 3 wires"),
+            ({"barriers": 2}, "the report says barriers 2, the programs say 1"),
+            ({"between": [[1, 0, 2]] * 2, "parts": [0, 0, 0]}, "the report tells of 2 barriers, and the source has 1"),
+        ):
+            status, out, err = self.checked(IN_PARTS, OUT_PARTS, report(**TOLD_PARTS | told))
+            self.assertEqual((status, err), (1, ""), told)
+            self.assertTrue(out.startswith(f"differs: {said}"), out)
+        for key in ("parts", "between"):
+            told = {name: it for name, it in TOLD_PARTS.items() if name != key}
+            self.assertEqual(self.checked(IN_PARTS, OUT_PARTS, json.dumps(told))[0], 1)
+
+    def test_what_is_left_to_cancel(self):
+        source = HEAD + "qreg q[3];\ncx q[1],q[0];\ncx q[2],q[0];\n"
+        turned = HEAD + "qreg q[3];\nh q[1];\nh q[0];\ncx q[0],q[1];\nh q[1];\n%sh q[2];\ncx q[0],q[2];\nh q[2];\nh q[0];\n"
+        told = {"device": 3, "qubits": 3, "initial": [0, 1, 2], "final": [0, 1, 2], "cx_before": 2, "cx_after": 2}
+        on = ("--device", self.file("d", "qubits = 3\nedges = [[0, 1], [0, 2]]\n"), "--clean")
+        # two Hadamards are w^2 times nothing
+        self.assertEqual(self.checked(source, turned % "", report(**told, phase=6), *on)[0], 0)
+        plain = turned % "h q[0];\nh q[0];\n"
+        self.assertEqual(self.checked(source, plain, report(**told, phase=0), *on[:2])[0], 0)
+        status, out, _ = self.checked(source, plain, report(**told, phase=0), *on)
+        self.assertEqual((status, out), (1, "differs: H 0 at place 4 and H 0 at place 5 cancel or merge\n"))
+        # past a gate that commutes; not past one that doesn't, nor past a barrier
+        for body, between, found in (
+            ("t q[0];\ncx q[0],q[1];\ns q[0];\n", None, "P 1 0 at place 0 and P 2 0 at place 2"),
+            ("cx q[0],q[1];\nx q[1];\nh q[2];\ncx q[0],q[1];\n", None, "C 0 1 at place 0 and C 0 1 at place 3"),
+            ("t q[1];\ncx q[0],q[1];\ns q[1];\n", None, ""),
+            ("t q[0];\nbarrier q[2];\ns q[0];\n", [[0, 1, 2]], ""),
+        ):
+            text = f"{HEAD}qreg q[3];\n{body}"
+            odd = sum(it[0] == "t" for it in body.splitlines())
+            count = body.count("cx")
+            told |= {"cx_before": count, "cx_after": count, "t_before": odd, "t_after": odd, "phase": 0}
+            told |= {"format": 3, "between": between, "parts": [0, 0], "barriers": 1} if between else {}
+            status, out, _ = self.checked(text, text, report(**told), "--clean")
+            self.assertEqual((status, out.startswith("differs: ")), (int(bool(found)), bool(found)), out)
+            self.assertIn(found, out)
 
     def test_many_wires(self):
         half = "".join(f"ccx q[{i}],q[{i + 1}],q[{i + 2}];\n" for i in range(0, 38, 2))

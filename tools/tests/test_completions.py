@@ -27,6 +27,8 @@ class Completions(unittest.TestCase):
         asked qroute bench --start 1 --device devices/line
         asked qroute route --device = devices/line; asked qroute route --device = devices/line_5.toml --
         asked qroute bench --gates = ''; asked qroute amplitude --; asked qroute amplitude --from 01 --
+        asked qroute opt --; asked qroute opt --keep-barriers --; asked qroute route --device d.toml --clean --
+        asked qroute route --keep-barriers --device d.toml --
         cd devices; asked qroute route --device =
         """
         *found, devices = said("bash", "-c", script).splitlines()
@@ -34,10 +36,12 @@ class Completions(unittest.TestCase):
         self.assertEqual(
             found,
             [
-                *("opt route verify check stages amplitude bench", "route", "--device --trivial --trace", "--device --trace", ""),
+                *("opt route verify check stages amplitude bench", "route", "--device --trivial --trace --keep-barriers --clean"),
+                *("--device --trace --keep-barriers --clean", "--keep-barriers"),
                 *("devices/line_5.toml", "--trivial", "--source --target", "--target", "examples/bell.qasm", "", "examples/ghz.qasm"),
                 *("--start --gates --device", "--start --device", "", "devices/line_5.toml"),
-                *("devices/line_5.toml", "--trivial --trace", "", "--from --to", "--to"),
+                *("devices/line_5.toml", "--trivial --trace --keep-barriers --clean", "", "--from --to", "--to"),
+                *("--keep-barriers", "", "--trivial --keep-barriers", "--trivial --clean"),
             ],
         )
 
@@ -48,7 +52,10 @@ class Completions(unittest.TestCase):
             return [it.split("\t")[0] for it in out.splitlines()]
 
         self.assertEqual(sorted(asked("qroute ")), ["amplitude", "bench", "check", "opt", "route", "stages", "verify"])
-        self.assertEqual(sorted(asked("qroute route --")), ["--device", "--trace", "--trivial"])
+        self.assertEqual(sorted(asked("qroute route --")), ["--clean", "--device", "--keep-barriers", "--trace", "--trivial"])
+        self.assertEqual(sorted(asked("qroute route --device d.toml --trace --")), ["--device", "--trivial"])
+        self.assertEqual(sorted(asked("qroute route --device d.toml --clean --")), ["--device", "--keep-barriers", "--trivial"])
+        self.assertEqual(asked("qroute opt --"), ["--keep-barriers"])
         self.assertEqual(asked("qroute route --device devices/line"), ["devices/line_5.toml"])
         self.assertEqual(sorted(asked("qroute verify --")), ["--source", "--target"])
         self.assertEqual(asked("qroute verify --source examples/bel"), ["examples/bell.qasm"])

@@ -81,6 +81,37 @@ class Draw(ToolTest):
         # where a line goes on its name stands again
         self.assertEqual(texts.count("Q1 "), 1)
 
+    def dashed(self, picture):
+        return [it for it in picture.iter(f"{SVG}line") if it.get("stroke-dasharray")]
+
+    def test_barriers(self):
+        text = 'OPENQASM 2.0;\ninclude "qelib1.inc";\nqreg q[3];\nh q[0];\nbarrier q[2],q[0];\nh q[0];\nh q[1];\n'
+        picture = self.drawn(self.file("p.qasm", text))
+        # a dash on each wire that is named, all in one column, and no gate of a wire between them beside it
+        lines = self.dashed(picture)
+        self.assertEqual((len(lines), len({it.get("x1") for it in lines})), (2, 1))
+        boxes = sorted(float(it.get("x")) for it in picture.iter(f"{SVG}rect") if it.get("x"))
+        self.assertEqual([it > float(lines[0].get("x1")) for it in boxes], [False, True, True])
+
+    def test_barriers_of_a_device(self):
+        told = {"between": [[1, 0, 2]], "device": 3, "final": [1, 0, 2], "initial": [0, 1, 2], "parts": [0, 4], "qubits": 2}
+        source = self.file("s.qasm", 'OPENQASM 2.0;\ninclude "qelib1.inc";\nqreg here[1];\nqreg there[1];\nbarrier here;\n')
+        gates = "cx q[0],q[1];\ncx q[1],q[0];\ncx q[0],q[1];\nbarrier q[1];\nh q[0];\n"
+        target = self.file("t.qasm", f'OPENQASM 2.0;\ninclude "qelib1.inc";\nqreg q[3];\n{gates}')
+        report = self.file("r", json.dumps(told) + "\n")
+        picture = self.drawn(source, target, "--report", report)
+        # the source's says nothing
+        self.assertEqual(len(self.dashed(picture)), 2)
+        self.assertEqual([it for it in self.texts(picture) if it == "here[0]"], ["here[0]"] * 2)
+        label = next(it for it in picture.iter(f"{SVG}text") if "".join(it.itertext()) == "here[0]" and it.get("font-size") == "9")
+        self.assertEqual(float(label.get("x")), float(self.dashed(picture)[1].get("x1")) + 3)
+        report = self.file("r", json.dumps(told | {"between": [[1, 0, 2]] * 2, "parts": [0, 4, 4]}) + "\n")
+        says = f"draw: {target} has 1 barriers, and the report tells of 2\n"
+        self.assertEqual(self.run_tool("draw", source, target, "--report", report), (1, "", says))
+        report = self.file("r", json.dumps(told | {"parts": [0]}) + "\n")
+        says = f"draw: {report}: the report tells of 1 parts, and of 1 placements between them\n"
+        self.assertEqual(self.run_tool("draw", source, target, "--report", report), (1, "", says))
+
     def test_labels_beside_bits_and_edges(self):
         text = "OPENQASM 2.0;\nqreg q[1];\ncreg a_long_register[1];\nmeasure q[0] -> a_long_register[0];\n"
         picture = self.drawn(self.file("p.qasm", text))

@@ -47,7 +47,7 @@ class Explain(ToolTest):
     def test_other_lines_are_passed_over(self):
         status, out, _ = self.explained('qroute: built in 3 seconds\n{"fault":"Words","status":2}')
         self.assertEqual(status, 0)
-        self.assertEqual(out, "Words: the words mean no command; the manual, `man docs/qroute.1`, has them all\n")
+        self.assertEqual(out, "Words: the words mean no command, or `--trace` stands beside `--keep-barriers` or `--clean`; the manual, `man docs/qroute.1`, has them all\n")
         status, out, err = self.explained('{"format":1,"phase":0}')
         self.assertEqual((status, out), (1, ""))
         self.assertIn("no fault line", err)

@@ -72,6 +72,23 @@ class Module(ToolTest):
         self.assertEqual(qroute.opt(SOURCE.encode()).cost, 9)
         self.assertEqual(self.given("words"), "opt\n")
 
+    def test_parts(self):
+        told = {"format": 3, "barriers": 2, "between": [[0, 1, 2], [1, 0, 2]], "parts": [4, 0, 7]}
+        self.answers(0, "written\n", REPORT | told)
+        found = qroute.opt(SOURCE, keep_barriers=True)
+        self.assertEqual((found.between, found.parts, found.barriers), (((0, 1, 2), (1, 0, 2)), (4, 0, 7), 2))
+        self.assertEqual(self.given("words"), "opt\n--keep-barriers\n")
+        device = qroute.Device.of([(0, 1)])
+        qroute.route(SOURCE, device, True, keep_barriers=True, clean=True)
+        self.assertEqual(self.given("words").split()[3:], ["--trivial", "--keep-barriers", "--clean"])
+        self.answers(0, "written\n", REPORT)
+        found = qroute.route(SOURCE, device, clean=True)
+        self.assertEqual((found.between, found.parts), (None, None))
+        self.assertEqual(self.given("words").split()[3:], ["--clean"])
+        for more in ({"keep_barriers": True}, {"clean": True}):
+            with self.assertRaises(ValueError):
+                qroute.route(SOURCE, device, trace=True, **more)
+
     def test_lines(self):
         told = {"barriers": 0, "bits": 1, "cx": 2, "format": 1, "operations": 3, "qubits": 4, "t": 5}
         self.answers(0, "", told)
@@ -206,6 +223,18 @@ class Built(ToolTest):
         self.assertEqual(qroute.check(text).t, 7)
         # the seven parities of a Toffoli gate, on three wires
         self.assertEqual([(it.parities, it.blocks, it.rank) for it in qroute.stages(text)], [(7, 3, 3)])
+
+    def test_kept_barriers(self):
+        with open(os.path.join(TOP, "examples/echo.qasm"), encoding="utf-8") as file:
+            text = file.read()
+        device = os.path.join(TOP, "devices/ibm_qx4.toml")
+        for clean in (False, True):
+            found = qroute.route(text, qroute.Device.load(device), keep_barriers=True, clean=clean)
+            self.assertEqual((len(found.between), len(found.parts)), (found.barriers, found.barriers + 1))
+            files = [self.file(name, it) for name, it in (("s", text), ("w", found.text), ("r", json.dumps(found.report) + "\n"))]
+            status, out, err = self.run_tool("check-small", *files, "--device", device, *["--clean"] * clean)
+            self.assertEqual(status, 0, out + err)
+        self.assertEqual(qroute.opt(text, keep_barriers=True).text.count("barrier"), text.count("\nbarrier"))
 
     def test_a_trace(self):
         with open(os.path.join(TOP, "examples/toffoli.qasm"), encoding="utf-8") as file:

@@ -19,6 +19,7 @@ REPORT = {
     "t_after": 7,
     "t_before": 7,
 }
+PARTS = REPORT | {"format": 3, "barriers": 1, "between": [[2, 1, 0, 3, 4]], "parts": [5, 3]}
 CHECK = {"barriers": 0, "bits": 4, "cx": 49, "format": 1, "operations": 107, "qubits": 8, "t": 42}
 FAULTS = [
     {"fault": "Words", "status": 2},
@@ -38,6 +39,9 @@ BUILT = os.environ.get("QROUTE", os.path.join(TOP, "out/qroute"))
 
 def flaws(value, schema, whole):
     """What of a value isn't as a schema says, for the words of JSON Schema that docs/report.schema.json has."""
+    if schema is False:
+        yield f"{value} may not stand there"
+        return
     if "$ref" in schema:
         yield from flaws(value, whole["$defs"][schema["$ref"].removeprefix("#/$defs/")], whole)
     if "oneOf" in schema and sum(not list(flaws(value, it, whole)) for it in schema["oneOf"]) != 1:
@@ -50,8 +54,10 @@ def flaws(value, schema, whole):
     if type(value) is int and not schema.get("minimum", value) <= value <= schema.get("maximum", value):
         yield f"{value} is out of range"
     if type(value) is list:
-        if len(value) > schema.get("maxItems", len(value)) or schema.get("uniqueItems") and len(set(value)) < len(value):
-            yield f"{value} is too long, or has something twice"
+        if not schema.get("minItems", 0) <= len(value) <= schema.get("maxItems", len(value)):
+            yield f"{value} is too short or too long"
+        if schema.get("uniqueItems") and len(set(value)) < len(value):
+            yield f"{value} has something twice"
         for it in value:
             yield from flaws(it, schema.get("items", {}), whole)
     if type(value) is dict:
@@ -78,7 +84,7 @@ class Schema(ToolTest):
         return list(flaws(value, self.schema, self.schema))
 
     def test_lines(self):
-        for line in (REPORT, REPORT | {"format": 2, "cost": 31}, CHECK, *FAULTS):
+        for line in (REPORT, REPORT | {"format": 2, "cost": 31}, PARTS, PARTS | {"cost": 31}, CHECK, *FAULTS):
             self.assertEqual(self.flaws(line), [], line)
 
     def test_what_is_no_line(self):
@@ -90,6 +96,16 @@ class Schema(ToolTest):
             REPORT | {"phase": 8},
             REPORT | {"initial": [0, 0, 1, 3, 4]},
             REPORT | {"swaps": "1"},
+            REPORT | {"format": 2},
+            REPORT | {"cost": 31},
+            REPORT | {"format": 3},
+            PARTS | {"format": 1},
+            PARTS | {"format": 2, "cost": 31},
+            PARTS | {"parts": []},
+            PARTS | {"parts": [5, 8]},
+            PARTS | {"between": [2, 1, 0, 3, 4]},
+            PARTS | {"between": [[2, 2, 0, 3, 4]]},
+            {key: it for key, it in PARTS.items() if key != "between"},
             CHECK | {"operations": 65537},
             CHECK | {"t": True},
             FAULTS[0] | {"status": 0},
@@ -113,7 +129,8 @@ class Schema(ToolTest):
             self.skipTest("there is no built program")
         device = os.path.join(TOP, "devices/ibm_tokyo.toml")
         for path in sorted(glob.glob(os.path.join(TOP, "examples/*.qasm"))):
-            for words in (["opt"], ["check"], ["route", "--device", device], ["none"]):
+            keep = "--keep-barriers"
+            for words in (["opt"], ["opt", keep], ["check"], ["route", "--device", device], ["route", "--device", device, keep], ["none"]):
                 with open(path, "rb") as source:
                     ran = subprocess.run([BUILT, *words], stdin=source, capture_output=True)
                 self.assertEqual(self.flaws(json.loads(ran.stderr)), [], path)
