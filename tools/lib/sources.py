@@ -246,7 +246,7 @@ class EditRow:
 
     @property
     def is_line(self):
-        return self.role == "says" and " = " in self.part
+        return self.role == "says" and (" = " in self.part or " : " in self.part)
 
     @property
     def said(self):
