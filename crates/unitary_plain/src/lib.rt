@@ -9,5 +9,3 @@
 pub mod counts;
 pub mod entries;
 pub mod paths;
-#[cfg(test)]
-mod tests;

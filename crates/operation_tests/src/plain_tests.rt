@@ -4,11 +4,11 @@ ghost use Rattle.std.specs.Prelude.{◌^◌, ◌<◌, ◌≤◌};
 ghost use Rattle.unitary_model.specs.Operations.{weight, t_count, cx_count, WiresBelow};
 ghost use Rattle.unitary_model.specs.OddPaths.{walked_all, first_walk};
 
-use crate::counts::{cx_count_of, t_count_of};
-use crate::entries::amplitude_of;
-use crate::paths::odd_paths_of;
 use std::alloc::{AllocError, Global};
 use unitary_model::Op;
+use unitary_plain::counts::{cx_count_of, t_count_of};
+use unitary_plain::entries::amplitude_of;
+use unitary_plain::paths::odd_paths_of;
 
 const H: Op = Op::U {
     a: 2,
