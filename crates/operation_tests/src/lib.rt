@@ -5,4 +5,6 @@
 #![tactic(auto)]
 
 #[cfg(test)]
+mod expand_tests;
+#[cfg(test)]
 mod plain_tests;

@@ -2,9 +2,9 @@
 
 ghost use Rattle.gate_expand.specs.Expansion.{IsFineOp};
 
-use crate::{OpList, Ops, ReadList, expand};
 use circuit_list::Passed;
 use circuit_samples::{are_turned, gates_of, gates_of_text, operations};
+use gate_expand::{OpList, Ops, ReadList, expand};
 use std::alloc::{AllocError, Global};
 use std::test::Fail;
 use unitary_model::Op;
