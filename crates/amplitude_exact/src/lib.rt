@@ -13,8 +13,6 @@
 mod bits;
 mod columns;
 mod halving;
-#[cfg(test)]
-mod tests;
 mod values;
 mod walk;
 

@@ -5,6 +5,8 @@
 #![tactic(auto)]
 
 #[cfg(test)]
+mod amplitude_tests;
+#[cfg(test)]
 mod expand_tests;
 #[cfg(test)]
 mod plain_tests;

@@ -3,7 +3,7 @@
 ghost use Rattle.std.specs.Prelude.{◌≡◌, ◌≤◌, length, IfOk};
 ghost use Rattle.amplitude_exact.specs.Entries.{branches};
 
-use crate::amplitude;
+use amplitude_exact::amplitude;
 use gate_expand::{OpList, Ops, ReadList};
 use std::alloc::{AllocError, Global};
 use unitary_model::Op;
