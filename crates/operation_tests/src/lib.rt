@@ -7,6 +7,8 @@
 #[cfg(test)]
 mod amplitude_tests;
 #[cfg(test)]
+mod drawn_tests;
+#[cfg(test)]
 mod expand_tests;
 #[cfg(test)]
 mod plain_tests;
