@@ -13,8 +13,6 @@
 mod comparison;
 mod gates;
 mod random;
-#[cfg(test)]
-mod tests;
 mod values;
 
 pub use comparison::{are_turned, is_turned, operations};

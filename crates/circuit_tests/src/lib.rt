@@ -1,7 +1,9 @@
-//! Tests of `circuit_list`: worked circuits, and random edits against a plain list.
+//! Tests of `circuit_list` and `circuit_samples`: worked circuits, and random edits against a plain list.
 //!
-//! Each test function is proved too, so they stand in a crate of their own: `circuit_list` is proved once.
+//! Each test function is proved too, so they stand in a crate of their own: the two crates are proved once.
 #![tactic(auto)]
 
 #[cfg(test)]
 mod list_tests;
+#[cfg(test)]
+mod samples_tests;

@@ -1,7 +1,7 @@
 //! Texts and their gates, and circuits that are told apart.
 
-use crate::{Kind, Random, circuit_of_text, gates_of, gates_of_text, is_turned};
 use circuit_list::Gate;
+use circuit_samples::{Kind, Random, circuit_of_text, gates_of, gates_of_text, is_turned};
 use std::test::Fail;
 
 #[test]
