@@ -84,6 +84,3 @@ pub fn odd_paths(alloc: Global, circuit: &Circuit) -> Result<u64, AllocError>
     }
     Ok(odd.len() as u64)
 }
-
-#[cfg(test)]
-mod tests;

@@ -1,13 +1,12 @@
 //! Rows by hand, and a slow program beside.
 
-ghost use Rattle.std.specs.Prelude.{◌≤◌};
+ghost use Rattle.std.specs.Prelude.{◌≡◌, ◌≤◌, IfOk};
 ghost use Rattle.path_parity.specs.Sets.{IsPacked};
 ghost use Rattle.unitary_model.specs.OddPaths.{first_walk, walked_all};
 ghost use Rattle.unitary_model.specs.Operations.{WiresBelow};
 
-use crate::packed::{write_difference, write_single};
-use crate::{Labels, labels_of, odd_paths};
 use circuit_list::{Circuit, Gate};
+use path_parity::{Label, Labels, labels_of, odd_paths};
 use std::alloc::{AllocError, Global};
 use std::process::Abort;
 use std::test::Fail;
@@ -89,11 +88,19 @@ fn labels_by_hand(rt: HostRuntime) -> Result<(), Fail> {
     Ok(())
 }
 
+/// The label of a row.
+fn label_of_row(alloc: Global, row: &[u64]) -> Result<Label, AllocError>
+    ensures { IfOk result (λ l. l.set.items ≡ row.now) }
+{
+    let set = Vec::from_slice(alloc, row)?;
+    Ok(Label { set, bit: false })
+}
+
 /// Whether a variable alone has this row, written where another row was.
 fn is_single(alloc: Global, variable: u64, row: &[u64]) -> Result<bool, AllocError> {
-    let mut written = Vec::from_slice(alloc, &[9, 8, 7])?;
-    write_single(&mut written, variable)?;
-    Ok(written.as_slice() == row)
+    let mut written = label_of_row(alloc, &[9, 8, 7])?;
+    written.write_fresh(variable)?;
+    Ok(written.set.as_slice() == row)
 }
 
 // Variable 63 is the last of the word at place 0, and 64 the first of that at place 1.
@@ -112,9 +119,11 @@ fn is_sum(alloc: Global, xs: &[u64], ys: &[u64], sum: &[u64]) -> Result<bool, Al
     requires left { IsPacked xs.now }
     requires right { IsPacked ys.now }
 {
-    let mut written = Vec::from_slice(alloc, &[9, 8, 7])?;
-    write_difference(&mut written, xs, ys)?;
-    Ok(written.as_slice() == sum)
+    let left = label_of_row(alloc, xs)?;
+    let right = label_of_row(alloc, ys)?;
+    let mut written = label_of_row(alloc, &[9, 8, 7])?;
+    written.write_sum(&left, &right)?;
+    Ok(written.set.as_slice() == sum)
 }
 
 /// Whether two rows add up to a third, whichever stands first, and the third and either to the other.

@@ -1,0 +1,8 @@
+//! Tests of `path_parity`, `commute_rules`, `rewrite_pass` and the passes: rows by hand, and random circuits against plain walks
+//! and entries of matrices.
+//!
+//! Each test function is proved too, so they stand in a crate of their own: these crates are proved once.
+#![tactic(auto)]
+
+#[cfg(test)]
+mod parity_tests;
