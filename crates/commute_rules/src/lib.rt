@@ -92,6 +92,3 @@ fn phase(j: u8, k: u8) -> Cancel
         Cancel::Merge { k: sum }
     }
 }
-
-#[cfg(test)]
-mod tests;

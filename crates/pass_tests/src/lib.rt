@@ -5,4 +5,6 @@
 #![tactic(auto)]
 
 #[cfg(test)]
+mod commute_tests;
+#[cfg(test)]
 mod parity_tests;

@@ -1,7 +1,7 @@
 //! Rows worked by hand.
 
-use crate::{Cancel, cancels, commute};
 use circuit_list::Gate;
+use commute_rules::{Cancel, cancels, commute};
 
 const H_0: Gate = Gate::H { q: 0 };
 
