@@ -7,4 +7,8 @@
 #[cfg(test)]
 mod commute_tests;
 #[cfg(test)]
+mod edits;
+#[cfg(test)]
 mod parity_tests;
+#[cfg(test)]
+mod rewrite_tests;

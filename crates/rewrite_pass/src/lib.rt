@@ -29,6 +29,3 @@ pub use rule::{Change, Edit, NumberedRule, Rule};
 pub use sweep::Sweep;
 pub use trace::{Trace, TraceStep};
 pub use traced::Traced;
-
-#[cfg(test)]
-mod tests;

@@ -1,10 +1,10 @@
 use Rattle.std.proofs.Common.{◌≡◌, ◌<◌, Some, subst, sym}
 use Rattle.circuit_list.specs.Gates.{h_count}
 use Rattle.rewrite_pass.specs.Edits.{changed}
-use Rattle.rewrite_pass.specs.tests.Flips.{flipped}
+use Rattle.pass_tests.specs.rewrite_tests.Flips.{flipped}
 use Rattle.rewrite_pass.specs.Law.{IsRewriting}
-use Rattle.rewrite_pass.proofs.tests.FlipLaws.{flip_law, three_edits}
-use Rattle.rewrite_pass.proofs.tests.FlipsRule.at.Goals as goal
+use Rattle.pass_tests.proofs.rewrite_tests.FlipLaws.{flip_law, three_edits}
+use Rattle.pass_tests.proofs.rewrite_tests.FlipsRule.at.Goals as goal
 
 pub returns-clause-law : goal.returns-clause-law
 returns-clause-law c =

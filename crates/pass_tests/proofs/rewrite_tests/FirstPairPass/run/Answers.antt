@@ -1,6 +1,6 @@
 use Rattle.std.proofs.Common.{arith}
-use Rattle.rewrite_pass.proofs.tests.FlipLaws.{front_pair, pair_law, pair_shrinks, pair_keeps}
-use Rattle.rewrite_pass.proofs.tests.FirstPairPass.run.Goals as goal
+use Rattle.pass_tests.proofs.rewrite_tests.FlipLaws.{front_pair, pair_law, pair_shrinks, pair_keeps}
+use Rattle.pass_tests.proofs.rewrite_tests.FirstPairPass.run.Goals as goal
 
 pub returns-clause-law : goal.returns-clause-law
 returns-clause-law c =

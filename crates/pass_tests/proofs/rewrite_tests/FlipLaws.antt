@@ -22,7 +22,7 @@ use Rattle.unitary_model.proofs.Windows.{Agree, in_place}
 use Rattle.rewrite_pass.specs.declared.rule.Change.{Change}
 use Rattle.rewrite_pass.specs.Edits.{put_at, changed, changed_from, IsChange}
 use Rattle.rewrite_pass.specs.Law.{IsRewriting, IsSmallerOrSame, KeepsCnots}
-use Rattle.rewrite_pass.specs.tests.Flips.{IsFlip, between, flipped, turn_of}
+use Rattle.pass_tests.specs.rewrite_tests.Flips.{IsFlip, between, flipped, turn_of}
 use Rattle.rewrite_pass.proofs.EditLaws.{by_edits, changed_fine, edited, passed, untouched}
 use Rattle.rewrite_pass.proofs.RewritingLaws.{Step-IsRewriting, ops_joined}
 
