@@ -9,8 +9,6 @@
 //! in the gates, but for the logarithm that putting one in takes.
 #![tactic(auto)]
 
-#[cfg(test)]
-mod tests;
 mod walk;
 
 ghost use Rattle.std.specs.Prelude.{◌≡◌, IfOk};

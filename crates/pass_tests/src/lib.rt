@@ -9,6 +9,8 @@ mod commute_tests;
 #[cfg(test)]
 mod edits;
 #[cfg(test)]
+mod not_tests;
+#[cfg(test)]
 mod parity_tests;
 #[cfg(test)]
 mod rewrite_tests;

@@ -1,7 +1,7 @@
 //! Rows by hand, and random lists against the plain amplitude program.
 
-use crate::NotPass;
 use circuit_samples::{Kind, Random, circuit_of_text, gates_of, gates_of_text, is_turned};
+use not_propagate::NotPass;
 use rewrite_pass::{Pass, Trace, Traced};
 use std::test::Fail;
 
