@@ -92,6 +92,3 @@ impl Traced for HadamardPass {
         Sweep(HadamardRules).run_traced(alloc, body, trace)
     }
 }
-
-#[cfg(test)]
-mod tests;

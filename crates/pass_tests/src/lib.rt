@@ -9,6 +9,8 @@ mod commute_tests;
 #[cfg(test)]
 mod edits;
 #[cfg(test)]
+mod hadamard_tests;
+#[cfg(test)]
 mod not_tests;
 #[cfg(test)]
 mod parity_tests;

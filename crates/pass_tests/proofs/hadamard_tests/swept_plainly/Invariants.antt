@@ -1,5 +1,5 @@
 use Rattle.std.proofs.Common.{◌≡◌, ◌<◌}
-use Rattle.hadamard_reduce.proofs.tests.swept_plainly.Given as goal
+use Rattle.pass_tests.proofs.hadamard_tests.swept_plainly.Given as goal
 
 abbrev pub invariant-walks : goal.invariant-walks
 invariant-walks g l = record { wires : l.body.wires ≡ 3; low : l.turn < 8 }

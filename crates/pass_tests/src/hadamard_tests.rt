@@ -2,31 +2,13 @@
 
 ghost use Rattle.std.specs.Prelude.{◌≡◌};
 
-use crate::{HadamardPass, HadamardRules};
+use crate::edits::make;
 use circuit_list::Circuit;
-use circuit_samples::{Kind, Random, circuit_of_text, gates_of, gates_of_text, is_fine, is_turned};
-use rewrite_pass::{Change, Pass, Rule, Trace, Traced};
+use circuit_samples::{Kind, Random, circuit_of_text, gates_of, gates_of_text, is_turned};
+use hadamard_reduce::{HadamardPass, HadamardRules};
+use rewrite_pass::{Pass, Rule, Trace, Traced};
 use std::process::Abort;
 use std::test::Fail;
-
-/// Makes the edits, which ascend, from the last to the first.
-fn make(rt: &impl Abort, body: &mut Circuit, change: &Change)
-    requires { body.old.wires ≡ 3 }
-    ensures { body.new.wires ≡ 3 }
-{
-    assert!(rt; change.count <= 5);
-    'edits: for i in (0..change.count).rev() {
-        let edit = change.edits[i];
-        assert!(rt; edit.place < body.len());
-        match edit.put {
-            Some(gate) => {
-                assert!(rt; is_fine(3, gate));
-                body.replace(edit.place, gate);
-            }
-            None => body.remove(edit.place),
-        }
-    }
-}
 
 #[test]
 fn each_row_of_the_table(rt: HostRuntime) -> Result<(), Fail> {
@@ -62,7 +44,7 @@ fn each_row_of_the_table(rt: HostRuntime) -> Result<(), Fail> {
         assert!(rt; place < body.len());
         let change = HadamardRules.at(&body, place).expect(&rt, text);
         let before = body.copy()?;
-        make(&rt, &mut body, &change);
+        make(&rt, 3, &mut body, &change);
         assert_eq!(rt;
             gates_of(alloc, &body)?,
             gates_of_text(alloc, want)?,
@@ -161,7 +143,7 @@ fn swept_plainly(rt: &impl Abort, body: &mut Circuit) -> u8
             }
             match HadamardRules.at(body, place) {
                 Some(change) => {
-                    make(rt, body, &change);
+                    make(rt, 3, body, &change);
                     assert!(rt; change.turn < 8);
                     turn = (turn + change.turn) % 8;
                     changed = true;
