@@ -91,6 +91,3 @@ impl KeepsPairs for CancelPass {
 impl Shrinks for CancelPass {
     ghost shrinks = { λ n old new k. k.1 };
 }
-
-#[cfg(test)]
-mod tests;

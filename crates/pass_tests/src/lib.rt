@@ -5,6 +5,8 @@
 #![tactic(auto)]
 
 #[cfg(test)]
+mod cancel_tests;
+#[cfg(test)]
 mod commute_tests;
 #[cfg(test)]
 mod edits;

@@ -2,10 +2,10 @@
 
 ghost use Rattle.std.specs.Prelude.{◌<◌};
 
-use crate::CancelPass;
 use circuit_list::Gate;
 use circuit_samples::{Kind, Random, circuit_of, gates_of, gates_of_text};
 use commute_rules::{Cancel, cancels, commute};
+use gate_cancel::CancelPass;
 use rewrite_pass::{Pass, Then, Trace, Traced, WhileSmaller};
 use std::alloc::Global;
 use std::process::Abort;

@@ -1,5 +1,5 @@
 use Rattle.std.proofs.Common.{◌<◌}
-use Rattle.gate_cancel.proofs.tests.plain_walks.Given as goal
+use Rattle.pass_tests.proofs.cancel_tests.plain_walks.Given as goal
 
 abbrev pub invariant-walks : goal.invariant-walks
 invariant-walks g l = l.turn < 8
