@@ -13,6 +13,8 @@ mod edits;
 #[cfg(test)]
 mod hadamard_tests;
 #[cfg(test)]
+mod merge_tests;
+#[cfg(test)]
 mod not_tests;
 #[cfg(test)]
 mod parity_tests;

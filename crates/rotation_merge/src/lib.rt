@@ -10,8 +10,6 @@
 //! wires, the set of each label that has a phase, once, and a note of some bytes for each phase.
 #![tactic(auto)]
 
-#[cfg(test)]
-mod tests;
 mod totals;
 
 ghost use Rattle.std.specs.Prelude.{◌≡◌, ◌%◌, All, IfOk};

@@ -1,9 +1,9 @@
 //! Rows by hand, and random lists against the plain amplitude program and the odd path parities.
 
-use crate::MergePass;
 use circuit_samples::{Kind, Random, circuit_of_text, gates_of, gates_of_text, is_turned};
 use path_parity::odd_paths;
 use rewrite_pass::{Pass, Trace, Traced};
+use rotation_merge::MergePass;
 use std::test::Fail;
 
 #[test]
