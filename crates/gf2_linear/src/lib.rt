@@ -24,6 +24,3 @@ pub use matrices::Matrix;
 pub use rows::{Row, WIRE_LIMIT};
 pub use sums::{basis_of, complete, express, is_independent, places_in, rank};
 pub use wide::{complete_wide, widened};
-
-#[cfg(test)]
-mod tests;

@@ -1,9 +1,14 @@
-//! Tests of `phase_poly`: worked lists of gates, and resynthesis against its written walk.
+//! Tests of `gf2_linear`, `cnot_synth`, `matroid_partition`, `phase_poly` and `layer_stages`: worked rows and lists of gates, and
+//! drawn ones against plain programs.
 //!
-//! Each test function is proved too, so they stand in a crate of their own: `phase_poly` is proved once.
+//! Each test function is proved too, so they stand in a crate of their own: these crates are proved once.
 #![tactic(auto)]
 
+#[cfg(test)]
+mod gf2_tests;
 #[cfg(test)]
 mod plain;
 #[cfg(test)]
 mod resynthesis_tests;
+#[cfg(test)]
+mod rows;

@@ -1,6 +1,6 @@
 use Rattle.std.proofs.Common.{◌<◌, ◌^◌}
 use Rattle.std.specs.Prelude.{All}
-use Rattle.gf2_linear.proofs.tests.rows_of.Given as goal
+use Rattle.linear_tests.proofs.rows.rows_of.Given as goal
 
 abbrev pub invariant-masks : goal.invariant-masks
 invariant-masks l = All (λ r. r < 2 ^ 3) l.rows.items

@@ -1,7 +1,7 @@
 use Rattle.std.proofs.Common.{◌<◌, ◌^◌, subst, sym, ◌∙◌}
 use Rattle.std.proofs.lemmas.Nat.{xor_lt, pow_below}
-use Rattle.gf2_linear.proofs.tests.row_of.Goals.{then-mask-wire-eq1, else-mask-wire-eq1}
-use Rattle.gf2_linear.proofs.tests.row_of.Goals as goal
+use Rattle.linear_tests.proofs.rows.row_of.Goals.{then-mask-wire-eq1, else-mask-wire-eq1}
+use Rattle.linear_tests.proofs.rows.row_of.Goals as goal
 
 pub wires-preserved : goal.wires-preserved
 wires-preserved c = elim c.if-mask-wire-eq1.branch [
