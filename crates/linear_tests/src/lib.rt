@@ -12,3 +12,5 @@ mod plain;
 mod resynthesis_tests;
 #[cfg(test)]
 mod rows;
+#[cfg(test)]
+mod synth_tests;

@@ -1,5 +1,0 @@
-use Rattle.std.proofs.Common.{◌<◌, ◌^◌}
-use Rattle.cnot_synth.proofs.tests.row_of.Given as goal
-
-abbrev pub invariant-wires : goal.invariant-wires
-invariant-wires l = l.row < 2 ^ 3

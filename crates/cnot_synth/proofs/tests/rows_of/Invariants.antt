@@ -1,6 +1,0 @@
-use Rattle.std.proofs.Common.{◌<◌, ◌^◌}
-use Rattle.std.specs.Prelude.{All}
-use Rattle.cnot_synth.proofs.tests.rows_of.Given as goal
-
-abbrev pub invariant-masks : goal.invariant-masks
-invariant-masks l = All (λ r. r < 2 ^ 3) l.rows.items
