@@ -7,6 +7,8 @@
 #[cfg(test)]
 mod gf2_tests;
 #[cfg(test)]
+mod partition_tests;
+#[cfg(test)]
 mod plain;
 #[cfg(test)]
 mod resynthesis_tests;

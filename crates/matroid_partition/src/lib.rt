@@ -29,6 +29,3 @@ mod taken;
 
 pub use parts::{Parts, partition};
 pub use spares::partition_spares;
-
-#[cfg(test)]
-mod tests;
