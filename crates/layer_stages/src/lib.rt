@@ -10,6 +10,3 @@ mod lines;
 mod stage;
 
 pub use lines::stage_lines;
-
-#[cfg(test)]
-mod tests;

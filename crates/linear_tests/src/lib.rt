@@ -15,4 +15,6 @@ mod resynthesis_tests;
 #[cfg(test)]
 mod rows;
 #[cfg(test)]
+mod stage_tests;
+#[cfg(test)]
 mod synth_tests;

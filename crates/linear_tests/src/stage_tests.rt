@@ -1,5 +1,7 @@
-use crate::stage_lines;
+//! Lines of layers, worked by hand.
+
 use circuit_list::{Circuit, Gate};
+use layer_stages::stage_lines;
 use std::alloc::AllocError;
 use std::test::Fail;
 
