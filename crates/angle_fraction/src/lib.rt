@@ -13,8 +13,6 @@ mod frac;
 mod laws;
 mod operations;
 mod signs;
-#[cfg(test)]
-mod tests;
 
 pub use frac::{Frac, lowest};
 pub use laws::lowest_terms;

@@ -1,8 +1,11 @@
-//! Tests of the reader, stage by stage: `qasm_parser`, `qasm_check`, `gate_inline` and `program_reader`.
+//! Tests of the reader, stage by stage: `angle_fraction`, `qasm_lexer`, `gate_library`, `qasm_parser`, `qasm_check`, `gate_inline`
+//! and `program_reader`.
 //!
 //! Each test function is proved too, so they stand in a crate of their own: these crates are proved once.
 #![tactic(auto)]
 
+#[cfg(test)]
+mod angle_tests;
 #[cfg(test)]
 mod check_tests;
 #[cfg(test)]

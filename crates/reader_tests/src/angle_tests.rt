@@ -1,6 +1,6 @@
 //! Small cases of each rule, worked by hand.
 
-use crate::{Angle, AngleFault, add, div, eighths, lowest, mul, neg, pow, sub};
+use angle_fraction::{Angle, AngleFault, add, div, eighths, lowest, mul, neg, pow, sub};
 use std::process::Abort;
 
 const BIG: i128 = 1 << 62;
