@@ -14,8 +14,6 @@ mod lexeme;
 mod number;
 mod reading;
 mod step;
-#[cfg(test)]
-mod tests;
 
 pub use laws::{
     accepted_has_no_fault, lexed_by_lexemes, lexed_exactly, lexed_once, lexed_or_refused,

@@ -11,6 +11,8 @@ mod check_tests;
 #[cfg(test)]
 mod inline_tests;
 #[cfg(test)]
+mod lexer_tests;
+#[cfg(test)]
 mod matrix_tests;
 #[cfg(test)]
 mod parser_tests;

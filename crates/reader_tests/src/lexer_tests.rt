@@ -3,8 +3,8 @@
 ghost use Rattle.std.specs.Prelude.{◌<◌, ◌^◌, length};
 ghost use Rattle.qasm_lexer.specs.Tokens.{IsTokenOf};
 
-use crate::{Kind, LexFault, Token, lex, value};
 use angle_fraction::{Frac, lowest};
+use qasm_lexer::{Kind, LexFault, Token, lex, value};
 use std::alloc::Global;
 use std::test::Fail;
 
