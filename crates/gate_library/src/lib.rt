@@ -16,8 +16,6 @@ mod meaning;
 mod operand;
 mod repeats;
 mod table;
-#[cfg(test)]
-mod tests;
 
 pub use formula::Formula;
 pub use gate::{Gate, Item};

@@ -13,6 +13,8 @@ mod inline_tests;
 #[cfg(test)]
 mod lexer_tests;
 #[cfg(test)]
+mod library_tests;
+#[cfg(test)]
 mod matrix_tests;
 #[cfg(test)]
 mod parser_tests;

@@ -1,7 +1,9 @@
 //! The gate tables against the listing, and names at their borders.
 
-use crate::table::{LINES, Line, NAMES, SHAPES, TableAngle};
-use crate::{Indices, Known, Meaning, is_in_table, is_standard, names_repeat};
+use angle_fraction::Binary;
+use gate_library::{
+    Formula, Gate, Indices, Item, Known, Meaning, is_in_table, is_standard, names_repeat,
+};
 use std::alloc::{AllocError, Global};
 use std::test::Fail;
 
@@ -13,53 +15,90 @@ fn letter(names: &[u8], index: usize) -> u8 {
     }
 }
 
-fn write_angle(text: &mut Vec<u8>, params: &[u8], angle: TableAngle) -> Result<(), AllocError> {
-    match angle {
-        TableAngle::Zero => text.extend_from_slice(b"0"),
-        TableAngle::Pi => text.extend_from_slice(b"pi"),
-        TableAngle::HalfPi => text.extend_from_slice(b"pi/2"),
-        TableAngle::MinusHalfPi => text.extend_from_slice(b"-pi/2"),
-        TableAngle::QuarterPi => text.extend_from_slice(b"pi/4"),
-        TableAngle::MinusQuarterPi => text.extend_from_slice(b"-pi/4"),
-        TableAngle::Param(index) => text.extend_from_slice(&[letter(params, index)]),
-        TableAngle::Half(index) => text.extend_from_slice(&[letter(params, index), b'/', b'2']),
-        TableAngle::MinusHalf(index) => {
-            text.extend_from_slice(&[b'-', letter(params, index), b'/', b'2'])
-        }
+/// A number, pi or a parameter.
+fn write_part(text: &mut Vec<u8>, params: &[u8], part: &Formula) -> Result<(), AllocError> {
+    match part {
+        Formula::Number(number) => match (number.num(), number.den()) {
+            (0, 1) => text.extend_from_slice(b"0"),
+            (2, 1) => text.extend_from_slice(b"2"),
+            (4, 1) => text.extend_from_slice(b"4"),
+            _ => text.extend_from_slice(b"?"),
+        },
+        Formula::Pi => text.extend_from_slice(b"pi"),
+        Formula::Param(index) => text.extend_from_slice(&[letter(params, *index)]),
+        _ => text.extend_from_slice(b"?"),
     }
 }
 
-fn gate_name(number: usize) -> &'static [u8] {
+/// A part, or one with a minus.
+fn write_signed(text: &mut Vec<u8>, params: &[u8], formula: &Formula) -> Result<(), AllocError> {
+    match formula {
+        Formula::Neg(part) => {
+            text.push(b'-')?;
+            write_part(text, params, part)
+        }
+        _ => write_part(text, params, formula),
+    }
+}
+
+/// Such a one, or one divided by a part.
+fn write_angle(text: &mut Vec<u8>, params: &[u8], angle: &Formula) -> Result<(), AllocError> {
+    match angle {
+        Formula::Binary {
+            sign: Binary::Div,
+            left,
+            right,
+        } => {
+            write_signed(text, params, left)?;
+            text.push(b'/')?;
+            write_part(text, params, right)
+        }
+        _ => write_signed(text, params, angle),
+    }
+}
+
+/// The name that stands for a gate of this number behind an include, among those of the rows.
+fn gate_name(names: &[&'static [u8]], number: usize) -> &'static [u8] {
     if number == 0 {
         return b"U";
     }
     if number == 1 {
         return b"CX";
     }
-    match NAMES.get(number - 2) {
+    match names.get(number - 2) {
         Some(name) => name,
         None => b"?",
     }
 }
 
-fn write_line(
+/// A line of a body, with these names.
+fn write_item(
     text: &mut Vec<u8>,
-    line: &Line,
+    names: &[&'static [u8]],
+    item: &Item,
     params: &[u8],
     qubits: &[u8],
 ) -> Result<(), AllocError> {
-    text.extend_from_slice(gate_name(line.1))?;
+    let Item::Call {
+        gate,
+        angles,
+        qubits: indices,
+    } = item
+    else {
+        return text.extend_from_slice(b"barrier");
+    };
+    text.extend_from_slice(gate_name(names, *gate))?;
     let mut before = b'(';
-    for angle in line.2 {
+    for angle in angles.as_slice() {
         text.push(before)?;
-        write_angle(text, params, *angle)?;
+        write_angle(text, params, angle)?;
         before = b',';
     }
     if before == b',' {
         text.push(b')')?;
     }
     let mut before = b' ';
-    for index in line.3 {
+    for index in indices.as_slice() {
         text.push(before)?;
         text.push(letter(qubits, *index))?;
         before = b',';
@@ -68,21 +107,20 @@ fn write_line(
     Ok(())
 }
 
-/// The body of the gate of this number, with these names.
+/// A gate's body, with these names.
 fn spelt(
     alloc: Global,
-    number: usize,
+    names: &[&'static [u8]],
+    body: &[Item],
     params: &[u8],
     qubits: &[u8],
 ) -> Result<Vec<u8>, AllocError> {
     let mut text = Vec::new(alloc);
-    for line in &LINES {
-        if line.0 == number {
-            if !text.is_empty() {
-                text.push(b' ')?;
-            }
-            write_line(&mut text, line, params, qubits)?;
+    for item in body {
+        if !text.is_empty() {
+            text.push(b' ')?;
         }
+        write_item(&mut text, names, item, params, qubits)?;
     }
     Ok(text)
 }
@@ -90,7 +128,7 @@ fn spelt(
 /// Each gate of the tables, spelt as a listing has it.
 #[test]
 fn tables(rt: HostRuntime) -> Result<(), Fail> {
-    let rows: [(&[u8], &[u8], &[u8], &[u8]); 29] = [
+    let rows: [(&'static [u8], &[u8], &[u8], &[u8]); 29] = [
         (b"u3", b"t,p,l", b"q", b"U(t,p,l) q;"),
         (b"u2", b"p,l", b"q", b"U(pi/2,p,l) q;"),
         (b"u1", b"l", b"q", b"U(0,0,l) q;"),
@@ -147,11 +185,32 @@ fn tables(rt: HostRuntime) -> Result<(), Fail> {
         (b"sxdg", b"", b"a", b"s a; h a; s a;"),
     ];
     let alloc = rt.alloc();
-    for (i, (name, params, qubits, body)) in rows.iter().enumerate() {
-        assert!(rt; *name == NAMES[i], "row {i}");
+    let mut known = Known::new(alloc)?;
+    known.include();
+    let mut names = Vec::new(alloc);
+    for (i, (name, _, _, _)) in rows.iter().enumerate() {
+        assert!(rt;
+            known.meaning(name) == Some(Meaning::Gate(i + 2)),
+            "row {i}"
+        );
+        names.push(*name)?;
+    }
+    let gates = known.into_gates();
+    assert_eq!(rt; gates.len(), 31);
+    for (i, (_, params, qubits, body)) in rows.iter().enumerate() {
         let shape = (params.len().div_ceil(2), qubits.len().div_ceil(2));
-        assert_eq!(rt; SHAPES[i], shape, "row {i}");
-        let text = spelt(alloc, i + 2, params, qubits)?;
+        let Some(
+            Gate::Composed {
+                params: many,
+                qubits: wide,
+                body: items,
+            },
+        ) = gates.get(i + 2)
+        else {
+            panic!(rt; "row {i}");
+        };
+        assert_eq!(rt; (*many, *wide), shape, "row {i}");
+        let text = spelt(alloc, &names, items, params, qubits)?;
         assert!(rt; text.as_slice() == *body, "row {i}");
     }
     Ok(())
