@@ -1,12 +1,14 @@
-//! Tests of `sabre_route` and `coupling_map`: worked circuits and devices, and the router against the plain machine.
+//! Tests of `placement`, `coupling_map` and `sabre_route`: worked circuits and devices, and the router against the plain machine.
 //!
-//! Each test function is proved too, so they stand in a crate of their own: the two crates are proved once.
+//! Each test function is proved too, so they stand in a crate of their own: these crates are proved once.
 #![tactic(auto)]
 
 #[cfg(test)]
 mod device_tests;
 #[cfg(test)]
 mod event_tests;
+#[cfg(test)]
+mod placement_tests;
 #[cfg(test)]
 mod plain;
 #[cfg(test)]
