@@ -103,6 +103,3 @@ pub fn route_trace(
     }
     Ok(bytes)
 }
-
-#[cfg(test)]
-mod tests;

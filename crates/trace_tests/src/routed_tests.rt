@@ -3,11 +3,11 @@
 ghost use Rattle.std.specs.Prelude.{◌≡◌, ◌≤◌, true, IfOk};
 ghost use Rattle.circuit_list.specs.Gates.{IsFine, most_wires};
 
-use crate::route_trace;
 use circuit_list::{Circuit, Gate};
 use coupling_map::{DeviceError, read_device};
 use placement::Placement;
 use rewrite_pass::{Trace, TraceStep};
+use route_trace::route_trace;
 use sabre_route::route_traced;
 use std::alloc::{AllocError, Global};
 use std::test::Fail;
