@@ -23,8 +23,6 @@ use thiserror::Error;
 pub mod calm;
 pub mod memory;
 pub mod system;
-#[cfg(test)]
-mod tests;
 
 pub use calm::{CalmShelf, CalmSink, CalmSource};
 pub use memory::{MemShelf, MemSink, MemSource, NamedText};

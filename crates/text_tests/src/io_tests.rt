@@ -1,4 +1,6 @@
-use crate::{
+//! Ends in memory and those of the system, call by call.
+
+use outside_io::{
     CalmShelf, CalmSink, CalmSource, DirShelf, Failed, LoadFault, MemShelf, MemSink, MemSource,
     NamedText, ReadFault, Shelf, Sink, Source, StdSink, StdSource, TextFault, load_text, read_all,
     send,

@@ -1,0 +1,7 @@
+//! Tests of `outside_io`, `trace_text`, `qasm_writer` and `route_report`: what is read, kept and written, byte by byte.
+//!
+//! Each test function is proved too, so they stand in a crate of their own: the crates below aren't proved again with them.
+#![tactic(auto)]
+
+#[cfg(test)]
+mod io_tests;
