@@ -4,4 +4,6 @@
 #![tactic(auto)]
 
 #[cfg(test)]
+mod comment_tests;
+#[cfg(test)]
 mod io_tests;

@@ -11,6 +11,3 @@ mod trace;
 
 pub use lines::first_line;
 pub use trace::trace_of;
-
-#[cfg(test)]
-mod tests;

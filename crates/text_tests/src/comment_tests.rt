@@ -1,5 +1,7 @@
-use crate::{first_line, trace_of};
+//! Traces in comments, and the lines of a text.
+
 use std::test::Fail;
+use trace_text::{first_line, trace_of};
 
 #[test]
 fn gives_the_trace(rt: HostRuntime) -> Result<(), Fail> {
