@@ -53,6 +53,3 @@ pub fn fault_line(alloc: Global, fault: &Fault) -> Result<Vec<u8>, AllocError>
     let value = faults::fault_value(alloc, fault)?;
     compact::value_line(alloc, &value)
 }
-
-#[cfg(test)]
-mod tests;

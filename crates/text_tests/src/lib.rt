@@ -7,3 +7,5 @@
 mod comment_tests;
 #[cfg(test)]
 mod io_tests;
+#[cfg(test)]
+mod report_tests;

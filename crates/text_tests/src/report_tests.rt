@@ -1,4 +1,6 @@
-use crate::{
+//! Lines of reports, faults and answers, worked by hand.
+
+use route_report::{
     Counts, Entry, Fault, Parts, Report, Side, Wires, check_line, entry_line, fault_line,
     report_line, status, verdict_line,
 };
