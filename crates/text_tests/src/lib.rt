@@ -9,3 +9,5 @@ mod comment_tests;
 mod io_tests;
 #[cfg(test)]
 mod report_tests;
+#[cfg(test)]
+mod writer_tests;

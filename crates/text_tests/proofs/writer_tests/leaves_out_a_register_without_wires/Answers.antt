@@ -4,7 +4,7 @@ use Rattle.gate_inline.specs.Registers.{IsFree}
 use Rattle.qasm_check.specs.declared.bits.Bits.{Bits}
 use Rattle.qasm_writer.proofs.RowLaws.{no_table_name}
 use Rattle.qasm_writer.proofs.WordLaws.{IsName-underscores}
-use Rattle.qasm_writer.proofs.tests.writes_a_barrier_in_a_later_piece.Goals as goal
+use Rattle.text_tests.proofs.writer_tests.leaves_out_a_register_without_wires.Goals as goal
 
 one_free : (r : Bits) → IsFree r → All IsFree (r ∷ [])
 one_free r h = All-from_recursion IsFree (r ∷ []) (h, tt)
@@ -12,7 +12,7 @@ one_free r h = All-from_recursion IsFree (r ∷ []) (h, tt)
 pub program_text-requires : goal.program_text-requires
 program_text-requires g c = record {
   registers = record {
-    each = one_free (record { name = codes "q"; size = 1 }) (record { name = IsName-underscores 0; free = no_table_name 0; some = lit< tt });
+    each = one_free (record { name = codes "q"; size = 2 }) (record { name = IsName-underscores 0; free = no_table_name 0; some = lit< tt });
     different = refl;
     all = refl;
     few = lit≤ tt;

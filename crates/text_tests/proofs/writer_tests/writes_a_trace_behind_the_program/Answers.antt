@@ -1,7 +1,7 @@
 use Rattle.std.proofs.Common.{[], refl, lit≤, rules}
 use Rattle.std.proofs.lemmas.List.Elements.{All-from_recursion}
 use Rattle.gate_inline.specs.Registers.{IsFree}
-use Rattle.qasm_writer.proofs.tests.writes_whole_pieces_and_the_rest.Goals as goal
+use Rattle.text_tests.proofs.writer_tests.writes_a_trace_behind_the_program.Goals as goal
 
 pub program_text-requires : goal.program_text-requires
 program_text-requires g c = record {
