@@ -1,8 +1,10 @@
 -- Command lines and what they mean, computed by the definitions. The first word, the program's name, is free.
 --   of_opt, of_opt_dashes            `opt`, and `opt` with `--` behind it
 --   of_opt_kept, ..                  `opt` with `--keep-barriers`
+--   of_opt_spares, ..                `opt` with `--spares`
 --   of_check, of_check_dashes        `check`, and `check` with `--` behind it
 --   of_stages, of_stages_dashes      `stages`, and `stages` with `--` behind it
+--   of_stages_spares                 `stages` with `--spares`
 --   of_route, of_route_..            `route` with its device
 --   of_route_trivial, of_trivial_..  `route` with its device and `--trivial`
 --   of_route_trace, of_trace_..      `route` with its device and `--trace`
@@ -15,7 +17,7 @@ use Rattle.std.proofs.Common.{◌≡◌, ℕ, List, [], ◌∷◌, Some, None, r
 use Rattle.std.specs.Fmt.{digits}
 use Rattle.clap.proofs.OnLiterals.{clap_on_literals}
 use Rattle.command_words.specs.Commands.{command_of}
-use Rattle.command_words.specs.declared.commands.Command.TheVariants.{Opt, Route, Check, Stages, Bench, Amplitude, Verify}
+use Rattle.command_words.specs.declared.commands.Command.TheVariants.{Opt, OptWithSpares, Route, Check, Stages, Bench, Amplitude, Verify}
 
 pub of_opt : (name : List ℕ) → command_of (name ∷ codes "opt" ∷ []) ≡ Some (Opt false)
 unfolding clap_on_literals
@@ -45,11 +47,11 @@ pub of_check_opt : (name : List ℕ) → command_of (name ∷ codes "check" ∷ 
 unfolding clap_on_literals
 of_check_opt name = refl
 
-pub of_stages : (name : List ℕ) → command_of (name ∷ codes "stages" ∷ []) ≡ Some Stages
+pub of_stages : (name : List ℕ) → command_of (name ∷ codes "stages" ∷ []) ≡ Some (Stages None)
 unfolding clap_on_literals
 of_stages name = refl
 
-pub of_stages_dashes : (name : List ℕ) → command_of (name ∷ codes "stages" ∷ codes "--" ∷ []) ≡ Some Stages
+pub of_stages_dashes : (name : List ℕ) → command_of (name ∷ codes "stages" ∷ codes "--" ∷ []) ≡ Some (Stages None)
 unfolding clap_on_literals
 of_stages_dashes name = refl
 
@@ -616,3 +618,67 @@ no_keep_of_amplitude name = refl
 pub no_clean_of_verify : (name : List ℕ) → command_of (name ∷ codes "verify" ∷ codes "--source" ∷ codes "a" ∷ codes "--target" ∷ codes "b" ∷ codes "--clean" ∷ []) ≡ None
 unfolding clap_on_literals
 no_clean_of_verify name = refl
+
+pub of_opt_spares : (name : List ℕ) → command_of (name ∷ codes "opt" ∷ codes "--spares" ∷ codes "4" ∷ []) ≡ Some (OptWithSpares 4)
+unfolding clap_on_literals digits
+of_opt_spares name = refl
+
+pub of_opt_spares_equals : (name : List ℕ) → command_of (name ∷ codes "opt" ∷ codes "--spares=4" ∷ []) ≡ Some (OptWithSpares 4)
+unfolding clap_on_literals digits
+of_opt_spares_equals name = refl
+
+pub of_opt_one_spare : (name : List ℕ) → command_of (name ∷ codes "opt" ∷ codes "--spares" ∷ codes "1" ∷ []) ≡ Some (OptWithSpares 1)
+unfolding clap_on_literals digits
+of_opt_one_spare name = refl
+
+pub of_opt_most_spares : (name : List ℕ) → command_of (name ∷ codes "opt" ∷ codes "--spares" ∷ codes "255" ∷ []) ≡ Some (OptWithSpares 255)
+unfolding clap_on_literals digits
+of_opt_most_spares name = refl
+
+pub no_zero_spares : (name : List ℕ) → command_of (name ∷ codes "opt" ∷ codes "--spares" ∷ codes "0" ∷ []) ≡ None
+unfolding clap_on_literals digits
+no_zero_spares name = refl
+
+pub no_spare_past_the_last : (name : List ℕ) → command_of (name ∷ codes "opt" ∷ codes "--spares" ∷ codes "256" ∷ []) ≡ None
+unfolding clap_on_literals digits
+no_spare_past_the_last name = refl
+
+pub no_leading_zero_of_spares : (name : List ℕ) → command_of (name ∷ codes "opt" ∷ codes "--spares" ∷ codes "01" ∷ []) ≡ None
+unfolding clap_on_literals digits
+no_leading_zero_of_spares name = refl
+
+pub no_letter_as_spares : (name : List ℕ) → command_of (name ∷ codes "opt" ∷ codes "--spares" ∷ codes "x" ∷ []) ≡ None
+unfolding clap_on_literals digits
+no_letter_as_spares name = refl
+
+pub no_number_of_spares : (name : List ℕ) → command_of (name ∷ codes "opt" ∷ codes "--spares" ∷ []) ≡ None
+unfolding clap_on_literals digits
+no_number_of_spares name = refl
+
+pub no_second_spares : (name : List ℕ) → command_of (name ∷ codes "opt" ∷ codes "--spares" ∷ codes "4" ∷ codes "--spares" ∷ codes "4" ∷ []) ≡ None
+unfolding clap_on_literals digits
+no_second_spares name = refl
+
+pub no_spares_beside_kept : (name : List ℕ) → command_of (name ∷ codes "opt" ∷ codes "--spares" ∷ codes "4" ∷ codes "--keep-barriers" ∷ []) ≡ None
+unfolding clap_on_literals digits
+no_spares_beside_kept name = refl
+
+pub no_kept_beside_spares : (name : List ℕ) → command_of (name ∷ codes "opt" ∷ codes "--keep-barriers" ∷ codes "--spares" ∷ codes "4" ∷ []) ≡ None
+unfolding clap_on_literals digits
+no_kept_beside_spares name = refl
+
+pub of_stages_spares : (name : List ℕ) → command_of (name ∷ codes "stages" ∷ codes "--spares" ∷ codes "3" ∷ []) ≡ Some (Stages (Some 3))
+unfolding clap_on_literals digits
+of_stages_spares name = refl
+
+pub no_zero_spares_of_stages : (name : List ℕ) → command_of (name ∷ codes "stages" ∷ codes "--spares" ∷ codes "0" ∷ []) ≡ None
+unfolding clap_on_literals digits
+no_zero_spares_of_stages name = refl
+
+pub no_spares_of_route : (name : List ℕ) → command_of (name ∷ codes "route" ∷ codes "--device" ∷ codes "d" ∷ codes "--spares" ∷ codes "4" ∷ []) ≡ None
+unfolding clap_on_literals digits
+no_spares_of_route name = refl
+
+pub no_spares_of_check : (name : List ℕ) → command_of (name ∷ codes "check" ∷ codes "--spares" ∷ codes "4" ∷ []) ≡ None
+unfolding clap_on_literals digits
+no_spares_of_check name = refl

@@ -1,16 +1,17 @@
 -- The command of the words, by `clap`'s own definitions of what a command line may be and of what it matches.
 --   root_command        the program: its name, no help, and a subcommand that has to be there
---   opt_command         the subcommand `opt`, which takes `--keep-barriers`
 --   needed_option id    `--ID VALUE`, which has to be there, once
+--   optional id         `--ID VALUE`, at most once
 --   flag id             `--ID`, at most once
+--   opt_command         the subcommand `opt`, which takes `--keep-barriers` and `--spares`
 --   check_command       the subcommand `check`, which takes no argument
---   stages_command      the subcommand `stages`, which takes none either
+--   stages_command      the subcommand `stages`, which takes `--spares`
 --   traced_command      the subcommand `route` with `--device`, `--trivial` and `--trace`
 --   route_command       .. and with `--keep-barriers` and `--clean`, so with all that it takes
 --   bench_command       the subcommand `bench`, which takes `--start`, `--gates` and `--device`
 --   amplitude_command   the subcommand `amplitude`, which takes `--from` and `--to`
 --   verify_command      the subcommand `verify`, which takes `--source` and `--target`
---   plain_commands      the program with the subcommands that take no value
+--   plain_commands      the program with the subcommands that need no value
 --   device_commands     .. and with those that take a device
 --   entry_commands      .. and with `amplitude`
 --   qroute_command      the program with all of its subcommands
@@ -20,12 +21,15 @@
 --   is_traced rows      whether `--trace` was matched
 --   is_kept rows        whether `--keep-barriers` was matched
 --   is_cleaned rows     whether `--clean` was matched
---   opt_of rows         what `opt` asks for, with what was matched
 --   clashes rows        `--trace` was matched, and one of the two flags that have no trace
 --   route_of rows       what `route` asks for, with what was matched
 --   number_of a b text  the number from a to b whose decimal digits the text is, none where there is none
 --   start_of rows       the number behind `--start`, 0 to 4294967295
 --   gates_of rows       the number behind `--gates`, 1 to 20000
+--   has_spares rows     whether a text was matched behind `--spares`
+--   spares_of rows      the number behind `--spares`, 1 to 255
+--   opt_of rows         what `opt` asks for, with what was matched
+--   stages_of rows      what `stages` asks for, with what was matched
 --   bench_of rows       what `bench` asks for, with what was matched
 --   is_bit c            the character is 0 or 1
 --   bits_of text        the bits whose digits the text is, none where there is another character
@@ -35,8 +39,9 @@
 --   verify_of rows      what `verify` asks for, with what was matched
 --   meaning name rows   what the subcommand of this name asks for, with what it matched
 --   command_of words    the command that the words mean, the program's name first; none where they mean none
---   IsAllowed c         `bench` has 1 to 20000 gates, and `route` no trace beside kept barriers or cleaning
-use Rattle.std.specs.Prelude.{◌≡◌, ℕ, List, ◌==◌, ◌≤◌, ◌&&◌, ◌||◌, Bool, true, false, Option, Some, None, if◌then◌else◌, codes, decimal, length, map, nat_le, option_map, option_and_then}
+--   IsAllowed c         `bench` has 1 to 20000 gates, `route` no trace beside kept barriers or cleaning, and there are 1 to 255 spare
+--                       wires where there are any
+use Rattle.std.specs.Prelude.{◌≡◌, ℕ, List, ◌==◌, ◌≤◌, ◌&&◌, ◌||◌, Bool, true, false, Option, Some, None, IfSome, if◌then◌else◌, codes, decimal, is_some, length, map, nat_le, option_map, option_and_then}
 use Rattle.std.specs.Option.{option_map_or}
 use Rattle.std.specs.List.{list_all}
 use Rattle.std.specs.Str.{bytes_eq}
@@ -45,7 +50,7 @@ use Rattle.clap.specs.Simple.{on_top}
 use Rattle.clap.specs.Words.{App, Row, Rule, Text, fault_of, first_of, new_app, new_rule, subcommand_of, with_rule, with_subcommand}
 use Rattle.clap.specs.declared.builder.action.ArgAction.TheVariants.{Set, SetTrue}
 use Rattle.command_words.specs.declared.commands.Command.{Command}
-use Rattle.command_words.specs.declared.commands.Command.TheVariants.{Opt, Route, Check, Stages, Bench, Amplitude, Verify}
+use Rattle.command_words.specs.declared.commands.Command.TheVariants.{Opt, OptWithSpares, Route, Check, Stages, Bench, Amplitude, Verify}
 
 abbrev pub root_command : App
 root_command = on_top (λ s. record s {
@@ -56,9 +61,6 @@ root_command = on_top (λ s. record s {
 
 abbrev pub check_command : App
 check_command = new_app (codes "check")
-
-abbrev pub stages_command : App
-stages_command = new_app (codes "stages")
 
 abbrev pub needed_option : Text → Rule
 needed_option id = record (new_rule id) {
@@ -73,8 +75,17 @@ flag id = record (new_rule id) {
   action = Some SetTrue;
 }
 
+abbrev pub optional : Text → Rule
+optional id = record (new_rule id) {
+  long = Some id;
+  action = Some Set;
+}
+
 abbrev pub opt_command : App
-opt_command = with_rule (new_app (codes "opt")) (flag (codes "keep-barriers"))
+opt_command = with_rule (with_rule (new_app (codes "opt")) (flag (codes "keep-barriers"))) (optional (codes "spares"))
+
+abbrev pub stages_command : App
+stages_command = with_rule (new_app (codes "stages")) (optional (codes "spares"))
 
 abbrev pub traced_command : App
 traced_command = with_rule (with_rule (with_rule (new_app (codes "route")) (needed_option (codes "device"))) (flag (codes "trivial")))
@@ -124,9 +135,6 @@ is_kept rows = is_given (codes "keep-barriers") rows
 abbrev pub is_cleaned : List Row → Bool
 is_cleaned rows = is_given (codes "clean") rows
 
-abbrev pub opt_of : List Row → Option Command
-opt_of rows = Some (Opt (is_kept rows))
-
 -- a trace is of the whole program, as the router leaves it
 abbrev pub clashes : List Row → Bool
 clashes rows = is_traced rows && (is_kept rows || is_cleaned rows)
@@ -145,6 +153,20 @@ start_of rows = option_and_then (number_of 0 4294967295) (first_of (codes "start
 
 abbrev pub gates_of : List Row → Option ℕ
 gates_of rows = option_and_then (number_of 1 20000) (first_of (codes "gates") rows)
+
+abbrev pub has_spares : List Row → Bool
+has_spares rows = is_some (first_of (codes "spares") rows)
+
+abbrev pub spares_of : List Row → Option ℕ
+spares_of rows = option_and_then (number_of 1 255) (first_of (codes "spares") rows)
+
+-- a program's barriers aren't kept beside spare wires
+abbrev pub opt_of : List Row → Option Command
+opt_of rows = if has_spares rows then (if is_kept rows then None else option_map OptWithSpares (spares_of rows))
+    else Some (Opt (is_kept rows))
+
+abbrev pub stages_of : List Row → Option Command
+stages_of rows = if has_spares rows then option_map (λ m. Stages (Some m)) (spares_of rows) else Some (Stages None)
 
 abbrev pub bench_of : List Row → Option Command
 bench_of rows = option_and_then (λ start. option_and_then (λ gates. option_map (λ device. Bench start gates device)
@@ -178,7 +200,7 @@ verify_of rows = option_and_then (λ source. option_map (λ target. Verify sourc
 abbrev pub meaning : Text → List Row → Option Command
 meaning name rows = if bytes_eq name (codes "opt") then opt_of rows
     else (if bytes_eq name (codes "check") then Some Check
-    else (if bytes_eq name (codes "stages") then Some Stages
+    else (if bytes_eq name (codes "stages") then stages_of rows
     else (if bytes_eq name (codes "bench") then bench_of rows
     else (if bytes_eq name (codes "amplitude") then amplitude_of rows
     else (if bytes_eq name (codes "verify") then verify_of rows
@@ -191,9 +213,10 @@ command_of words = if length (fault_of qroute_command words) == 0
 
 abbrev pub IsAllowed : Command → Type 0
 IsAllowed (Opt kept) = Unit {0}
+IsAllowed (OptWithSpares m) = (1 ≤ m) × (m ≤ 255)
 IsAllowed (Route device trivial trace kept clean) = trace ≡ true → (kept ≡ false) × (clean ≡ false)
 IsAllowed Check = Unit {0}
-IsAllowed Stages = Unit {0}
+IsAllowed (Stages o) = IfSome o (λ m. (1 ≤ m) × (m ≤ 255))
 IsAllowed (Amplitude from to) = Unit {0}
 IsAllowed (Verify source target) = Unit {0}
 IsAllowed (Bench start gates device) = (1 ≤ gates) × (gates ≤ 20000)

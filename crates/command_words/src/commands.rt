@@ -13,6 +13,11 @@ pub enum Command {
         /// Whether the program's barriers are kept.
         keep_barriers: bool,
     },
+    /// Reads a program and writes an equivalent one on its wires and spare ones behind them, which start and end at zero.
+    OptWithSpares {
+        /// The number of spare wires, 1 to 255.
+        spares: u32,
+    },
     /// The same on the qubits of a device.
     Route {
         /// The name of the device text.
@@ -29,7 +34,10 @@ pub enum Command {
     /// Reads a program and reports on it.
     Check,
     /// Reads a program and writes a line for each layer of its gates.
-    Stages,
+    Stages {
+        /// The number of spare wires that may stand beside a layer's sums, 1 to 255, where one is given.
+        spares: Option<u32>,
+    },
     /// Draws a program, and writes an equivalent one on the qubits of a device, as `route` does.
     Bench {
         /// The start from which the program is drawn.

@@ -3,14 +3,15 @@
 //! The words of a command line go in, the program's name first; the command that they mean comes out. `clap` reads them: one
 //! level of subcommands, of which one has to be there, and no help. A number is its decimal digits alone, without a sign or a
 //! leading zero, and in the range of its option; bits are the digits 0 and 1, as many as there are. A trace is asked for
-//! neither beside kept barriers nor beside cleaning. The contract of `command` says that the answer is the command of the
-//! words by `clap`'s own definitions, and that words are refused exactly where they mean none.
+//! neither beside kept barriers nor beside cleaning, and spare wires of `opt` not beside kept barriers. The contract of
+//! `command` says that the answer is the command of the words by `clap`'s own definitions, and that words are refused
+//! exactly where they mean none.
 
 ghost use Rattle.std.specs.Prelude.{◌≡◌, ◌==◌, IfOk, IsErrOf, Some, None, map, false, option_and_then};
 ghost use Rattle.std.specs.List.{list_all};
 ghost use Rattle.clap.specs.Words.{app_of, first_of, found_of, kind_of, rows_of, rule_of};
 ghost use Rattle.clap.specs.declared.builder.Command.TheViews.{out-Command as fields_of};
-ghost use Rattle.command_words.specs.Commands.{IsAllowed, amplitude_command, amplitude_of, bench_command, bench_of, bits_of, check_command, clashes, command_of, device_commands, entry_commands, flag, is_bit, is_given, meaning, needed_option, number_of, opt_command, opt_of, plain_commands, qroute_command, root_command, route_command, route_of, stages_command, traced_command, verify_command, verify_of};
+ghost use Rattle.command_words.specs.Commands.{IsAllowed, amplitude_command, amplitude_of, bench_command, bench_of, bits_of, check_command, clashes, command_of, device_commands, entry_commands, flag, has_spares, is_bit, is_given, meaning, needed_option, number_of, opt_command, opt_of, optional, plain_commands, qroute_command, root_command, route_command, route_of, stages_command, stages_of, traced_command, verify_command, verify_of};
 
 use crate::bits::BitList;
 use crate::commands::{self, WordsFault};
@@ -37,14 +38,6 @@ fn check_command<'a>(alloc: Global) -> Command<'a>
     Command::new(alloc, "check")
 }
 
-/// `stages`, as little.
-fn stages_command<'a>(alloc: Global) -> Command<'a>
-    ensures command { app_of result ≡ stages_command }
-    ensures local { (fields_of result).has_globals ≡ false }
-{
-    Command::new(alloc, "stages")
-}
-
 /// `--ID VALUE`, which has to be there, once.
 fn needed_option<'a>(alloc: Global, id: &'a str) -> Arg<'a>
     ensures rule { rule_of result ≡ needed_option id.now }
@@ -64,12 +57,30 @@ fn flag<'a>(alloc: Global, id: &'a str) -> Arg<'a>
     Arg::new(alloc, id).long(id).action(ArgAction::SetTrue)
 }
 
-/// `opt`, which takes a flag.
+/// `--ID VALUE`, at most once.
+fn optional<'a>(alloc: Global, id: &'a str) -> Arg<'a>
+    ensures rule { rule_of result ≡ optional id.now }
+    ensures local { result.global ≡ false }
+{
+    Arg::new(alloc, id).long(id).action(ArgAction::Set)
+}
+
+/// `stages`, which takes a number where one is given.
+fn stages_command<'a>(alloc: Global) -> Result<Command<'a>, AllocError>
+    ensures command { IfOk result (λ c. app_of c ≡ stages_command) }
+    ensures local { IfOk result (λ c. (fields_of c).has_globals ≡ false) }
+{
+    Command::new(alloc, "stages").arg(optional(alloc, "spares"))
+}
+
+/// `opt`, which takes a flag, and a number where one is given.
 fn opt_command<'a>(alloc: Global) -> Result<Command<'a>, AllocError>
     ensures command { IfOk result (λ c. app_of c ≡ opt_command) }
     ensures local { IfOk result (λ c. (fields_of c).has_globals ≡ false) }
 {
-    Command::new(alloc, "opt").arg(flag(alloc, "keep-barriers"))
+    Command::new(alloc, "opt")
+        .arg(flag(alloc, "keep-barriers"))?
+        .arg(optional(alloc, "spares"))
 }
 
 /// `route` with a device and two flags.
@@ -124,14 +135,14 @@ fn verify_command<'a>(alloc: Global) -> Result<Command<'a>, AllocError>
         .arg(needed_option(alloc, "target"))
 }
 
-/// The program with the subcommands that take no value.
+/// The program with the subcommands that need no value.
 fn plain_commands<'a>(alloc: Global) -> Result<Command<'a>, AllocError>
     ensures { IfOk result (λ c. app_of c ≡ plain_commands) }
 {
     root_command(alloc)
         .subcommand(opt_command(alloc)?)?
         .subcommand(check_command(alloc))?
-        .subcommand(stages_command(alloc))
+        .subcommand(stages_command(alloc)?)
 }
 
 /// The program with the subcommands that take a device, too.
@@ -178,16 +189,6 @@ fn is_given(matches: &ArgMatches<'_>, id: &str) -> bool
     match matches.get_str(id) {
         Some(text) => text == "true",
         None => false,
-    }
-}
-
-/// What `opt` with its matches asks for.
-fn opt_of(matches: &ArgMatches<'_>) -> commands::Command
-    ensures ok { opt_of (rows_of (found_of matches.now)) ≡ Some result }
-    ensures few { IsAllowed result }
-{
-    commands::Command::Opt {
-        keep_barriers: is_given(matches, "keep-barriers"),
     }
 }
 
@@ -243,6 +244,49 @@ fn number_behind(matches: &ArgMatches<'_>, id: &str, least: u32, most: u32) -> O
     ensures { result ≡ option_and_then (number_of least most) (first_of id.now (rows_of (found_of matches.now))) }
 {
     number(matches.get_str(id)?, least, most)
+}
+
+/// Whether spare wires are asked for.
+fn has_spares(matches: &ArgMatches<'_>) -> bool
+    ensures { result ≡ has_spares (rows_of (found_of matches.now)) }
+{
+    matches.get_str("spares").is_some()
+}
+
+/// What `opt` with its matches asks for.
+fn opt_of(matches: &ArgMatches<'_>) -> Result<commands::Command, WordsFault>
+    ensures ok { IfOk result (λ c. opt_of (rows_of (found_of matches.now)) ≡ Some c) }
+    ensures bad { IsErrOf result WordsFault.BadWords → opt_of (rows_of (found_of matches.now)) ≡ None }
+    ensures few { IfOk result IsAllowed }
+{
+    let kept = is_given(matches, "keep-barriers");
+    if !has_spares(matches) {
+        return Ok(commands::Command::Opt {
+            keep_barriers: kept,
+        });
+    }
+    if kept {
+        return Err(WordsFault::BadWords);
+    }
+    let Some(spares) = number_behind(matches, "spares", 1, 255) else {
+        return Err(WordsFault::BadWords);
+    };
+    Ok(commands::Command::OptWithSpares { spares })
+}
+
+/// What `stages` with its matches asks for.
+fn stages_of(matches: &ArgMatches<'_>) -> Result<commands::Command, WordsFault>
+    ensures ok { IfOk result (λ c. stages_of (rows_of (found_of matches.now)) ≡ Some c) }
+    ensures bad { IsErrOf result WordsFault.BadWords → stages_of (rows_of (found_of matches.now)) ≡ None }
+    ensures few { IfOk result IsAllowed }
+{
+    if !has_spares(matches) {
+        return Ok(commands::Command::Stages { spares: None });
+    }
+    match number_behind(matches, "spares", 1, 255) {
+        None => Err(WordsFault::BadWords),
+        spares => Ok(commands::Command::Stages { spares }),
+    }
 }
 
 /// What `bench` with its matches asks for.
@@ -351,13 +395,13 @@ fn meaning_of(
     ensures few { IfOk result IsAllowed }
 {
     if name == "opt" {
-        return Ok(opt_of(matches));
+        return opt_of(matches);
     }
     if name == "check" {
         return Ok(commands::Command::Check);
     }
     if name == "stages" {
-        return Ok(commands::Command::Stages);
+        return stages_of(matches);
     }
     if name == "bench" {
         return bench_of(alloc, matches);

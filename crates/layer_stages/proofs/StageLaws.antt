@@ -2,9 +2,10 @@
 --   odd_rows-more       one term further
 --   odd_rows-nonzero    no odd sum of a polynomial is empty
 --   chosen-more         the rows at places, one further
+--   line-joined         the line, written in two parts
 --   so_far_none, so_far_line   a layer without gates has no line; one with gates has the next
 --   so_far_start, so_far_next, so_far_all   before the layers, one further, and behind them
-use Rattle.std.proofs.Common.{◌≡◌, ◌≢◌, ℕ, zero, suc, ◌+◌, ◌%◌, ◌<◌, Bool, true, false, cond, not, List, [], ◌∷◌, ◌++◌, length, take, refl, sym, subst, ◌∙◌, ap, arith, append_assoc, append-nil, get_or, length-append, nat_eq, filter, ◌==◌}
+use Rattle.std.proofs.Common.{◌≡◌, ◌≢◌, ℕ, zero, suc, ◌+◌, ◌%◌, ◌<◌, Bool, true, false, cond, not, List, [], ◌∷◌, ◌++◌, Option, length, take, refl, sym, subst, ◌∙◌, ap, arith, append_assoc, append-nil, get_or, length-append, nat_eq, filter, ◌==◌}
 use Rattle.std.proofs.lemmas.Bool.Decides.{nat_tests}
 use Rattle.std.proofs.lemmas.List.{take_more}
 use Rattle.std.proofs.lemmas.List.Elements.{filter-append}
@@ -14,7 +15,7 @@ use Rattle.phase_poly.specs.Layers.{LayerBody}
 use Rattle.phase_poly.specs.Polys.{AreDihedral, Term, poly_of}
 use Rattle.phase_poly.specs.Resynthesis.{rows_of}
 use Rattle.layer_stages.specs.declared.stage.Stage.{Stage}
-use Rattle.layer_stages.specs.Stages.{odd_rows, IsStage, numbered, AreStages, stage_line, stage_text, IsSoFar, IsStageText}
+use Rattle.layer_stages.specs.Stages.{odd_rows, IsStage, spares_of, numbered, AreStages, stage_numbers, line_end, stage_line, stage_text, IsSoFar, IsStageText}
 
 -- ---- odd sums
 rows_of-append : (ts us : List Term) → rows_of (ts ++ us) ≡ rows_of ts ++ rows_of us
@@ -63,27 +64,31 @@ chosen-more rows ps i chosen next l h n =
     n ∙ (λ j. h j ++ rows_at-one rows (get_or ps i 0) j) ∙ sym (rows_at-append rows (take i ps) (get_or ps i 0 ∷ [])) ∙ ap (rows_at rows) (sym (take_more ps i 0 l))
 
 -- ---- lines
-stages-append : (n : ℕ) (ls : List LayerBody) (l : LayerBody) (ss : List Stage) (s : Stage) → AreStages n ls ss → IsStage n l.gates s → AreStages n (ls ++ l ∷ []) (ss ++ s ∷ [])
-stages-append n [] l [] s h g = (g, tt)
-stages-append n [] l (t ∷ ss) s h g = absurd h
-stages-append n (k ∷ ls) l [] s h g = absurd h
-stages-append n (k ∷ ls) l (t ∷ ss) s h g = (h.0, stages-append n ls l ss s h.1 g)
+stages-append : (n m : ℕ) (ls : List LayerBody) (l : LayerBody) (ss : List Stage) (s : Stage) → AreStages n m ls ss → IsStage n m l.gates s → AreStages n m (ls ++ l ∷ []) (ss ++ s ∷ [])
+stages-append n m [] l [] s h g = (g, tt)
+stages-append n m [] l (t ∷ ss) s h g = absurd h
+stages-append n m (k ∷ ls) l [] s h g = absurd h
+stages-append n m (k ∷ ls) l (t ∷ ss) s h g = (h.0, stages-append n m ls l ss s h.1 g)
 
-text-append : (i : ℕ) (ss : List Stage) (s : Stage) → stage_text i ss ++ stage_line (i + length ss) s ≡ stage_text i (ss ++ s ∷ [])
-text-append i [] s = ap (λ k. stage_line k s) (none i) ∙ sym (append-nil (stage_line i s))
+text-append : (o : Option ℕ) (i : ℕ) (ss : List Stage) (s : Stage) → stage_text o i ss ++ stage_line o (i + length ss) s ≡ stage_text o i (ss ++ s ∷ [])
+text-append o i [] s = ap (λ k. stage_line o k s) (none i) ∙ sym (append-nil (stage_line o i s))
   where
     none : (i : ℕ) → i + 0 ≡ i
     none i = omega arith
-text-append i (t ∷ ss) s = append_assoc (stage_line i t) (stage_text (i + 1) ss) (stage_line (i + suc (length ss)) s)
-    ∙ ap (λ z. stage_line i t ++ z) (ap (λ k. stage_text (i + 1) ss ++ stage_line k s) (next i (length ss)) ∙ text-append (i + 1) ss s)
+text-append o i (t ∷ ss) s = append_assoc (stage_line o i t) (stage_text o (i + 1) ss) (stage_line o (i + suc (length ss)) s)
+    ∙ ap (λ z. stage_line o i t ++ z) (ap (λ k. stage_text o (i + 1) ss ++ stage_line o k s) (next i (length ss)) ∙ text-append o (i + 1) ss s)
   where
     next : (i k : ℕ) → i + suc k ≡ i + 1 + k
     next i k = omega arith
 
-pub so_far_none : (n : ℕ) (ls : List LayerBody) (l : LayerBody) (text last : List ℕ) (next : ℕ) → length l.gates ≡ 0 → last ≡ text → IsSoFar n ls text next → IsSoFar n (ls ++ l ∷ []) last next
-so_far_none n ls l text last next e t h = record {
+-- a line is its numbers and its end
+pub line-joined : (o : Option ℕ) (i : ℕ) (s : Stage) (text mid last : List ℕ) → mid ≡ text ++ stage_numbers i s → last ≡ mid ++ line_end o → last ≡ text ++ stage_line o i s
+line-joined o i s text mid last e f = f ∙ ap (λ z. z ++ line_end o) e ∙ append_assoc text (stage_numbers i s) (line_end o)
+
+pub so_far_none : (n : ℕ) (o : Option ℕ) (ls : List LayerBody) (l : LayerBody) (text last : List ℕ) (next : ℕ) → length l.gates ≡ 0 → last ≡ text → IsSoFar n o ls text next → IsSoFar n o (ls ++ l ∷ []) last next
+so_far_none n o ls l text last next e t h = record {
   stages = h.stages;
-  each = subst (λ (z : List LayerBody). AreStages n z h.stages) (sym same) h.each;
+  each = subst (λ (z : List LayerBody). AreStages n (spares_of o) z h.stages) (sym same) h.each;
   spelt = t ∙ h.spelt;
   count = h.count;
 }
@@ -94,12 +99,12 @@ so_far_none n ls l text last next e t h = record {
     same : numbered (ls ++ l ∷ []) ≡ numbered ls
     same = filter-append (λ (l : LayerBody). not (length l.gates == 0)) ls (l ∷ []) ∙ (λ j. numbered ls ++ cond (not (empty j)) (l ∷ []) []) ∙ append-nil (numbered ls)
 
-pub so_far_line : (n : ℕ) (ls : List LayerBody) (l : LayerBody) (s : Stage) (text last : List ℕ) (next : ℕ) → length l.gates ≢ 0 → IsStage n l.gates s → last ≡ text ++ stage_line next s →
-    IsSoFar n ls text next → IsSoFar n (ls ++ l ∷ []) last (next + 1)
-so_far_line n ls l s text last next e g t h = record {
+pub so_far_line : (n : ℕ) (o : Option ℕ) (ls : List LayerBody) (l : LayerBody) (s : Stage) (text last : List ℕ) (next : ℕ) → length l.gates ≢ 0 → IsStage n (spares_of o) l.gates s → last ≡ text ++ stage_line o next s →
+    IsSoFar n o ls text next → IsSoFar n o (ls ++ l ∷ []) last (next + 1)
+so_far_line n o ls l s text last next e g t h = record {
   stages = h.stages ++ s ∷ [];
-  each = subst (λ (z : List LayerBody). AreStages n z (h.stages ++ s ∷ [])) (sym more) (stages-append n (numbered ls) l h.stages s h.each g);
-  spelt = t ∙ ap (λ z. z ++ stage_line next s) h.spelt ∙ ap (λ k. stage_text 1 h.stages ++ stage_line k s) h.count ∙ text-append 1 h.stages s;
+  each = subst (λ (z : List LayerBody). AreStages n (spares_of o) z (h.stages ++ s ∷ [])) (sym more) (stages-append n (spares_of o) (numbered ls) l h.stages s h.each g);
+  spelt = t ∙ ap (λ z. z ++ stage_line o next s) h.spelt ∙ ap (λ k. stage_text o 1 h.stages ++ stage_line o k s) h.count ∙ text-append o 1 h.stages s;
   count = let c = h.count in let d = length-append h.stages (s ∷ []) in omega (arith, c, d);
 }
   where
@@ -109,11 +114,11 @@ so_far_line n ls l s text last next e g t h = record {
     more : numbered (ls ++ l ∷ []) ≡ numbered ls ++ l ∷ []
     more = filter-append (λ (l : LayerBody). not (length l.gates == 0)) ls (l ∷ []) ∙ (λ j. numbered ls ++ cond (not (there j)) (l ∷ []) [])
 
-pub so_far_start : (n : ℕ) (text : List ℕ) (next : ℕ) → text ≡ [] → next ≡ 1 → IsSoFar n [] text next
-so_far_start n text next e f = record { stages = []; each = tt; spelt = e; count = f }
+pub so_far_start : (n : ℕ) (o : Option ℕ) (text : List ℕ) (next : ℕ) → text ≡ [] → next ≡ 1 → IsSoFar n o [] text next
+so_far_start n o text next e f = record { stages = []; each = tt; spelt = e; count = f }
 
-pub so_far_next : (n : ℕ) (layers : List LayerBody) (i : ℕ) (d : LayerBody) (text : List ℕ) (next : ℕ) → i < length layers → IsSoFar n (take i layers ++ get_or layers i d ∷ []) text next → IsSoFar n (take (i + 1) layers) text next
-so_far_next n layers i d text next l h = subst (λ (z : List LayerBody). IsSoFar n z text next) (sym (take_more layers i d l)) h
+pub so_far_next : (n : ℕ) (o : Option ℕ) (layers : List LayerBody) (i : ℕ) (d : LayerBody) (text : List ℕ) (next : ℕ) → i < length layers → IsSoFar n o (take i layers ++ get_or layers i d ∷ []) text next → IsSoFar n o (take (i + 1) layers) text next
+so_far_next n o layers i d text next l h = subst (λ (z : List LayerBody). IsSoFar n o z text next) (sym (take_more layers i d l)) h
 
-pub so_far_all : (n : ℕ) (ls all : List LayerBody) (text last : List ℕ) (next : ℕ) → ls ≡ all → last ≡ text → IsSoFar n ls text next → IsStageText n all last
-so_far_all n ls all text last next e t h = subst (λ (z : List LayerBody). IsStageText n z last) e (record { stages = h.stages; each = h.each; spelt = t ∙ h.spelt })
+pub so_far_all : (n : ℕ) (o : Option ℕ) (ls all : List LayerBody) (text last : List ℕ) (next : ℕ) → ls ≡ all → last ≡ text → IsSoFar n o ls text next → IsStageText n o all last
+so_far_all n o ls all text last next e t h = subst (λ (z : List LayerBody). IsStageText n o z last) e (record { stages = h.stages; each = h.each; spelt = t ∙ h.spelt })

@@ -1,19 +1,22 @@
--- The lines that tell of a circuit's layers.
+-- The lines that tell of a circuit's layers, which may have spare wires beside them.
 --   odd_rows ts         the sums with an odd coefficient
---   IsStage n gs s      the numbers of a layer with the gates gs on n wires: its gates, its odd sums, the least number of
---                       independent blocks of these, and the size and the rank of a choice that shows that no fewer can be;
---                       with one block the choice is all odd sums
+--   spares_of o         how many spare wires there are; none where no number is given
+--   IsStage n m gs s    the numbers of a layer with the gates gs on n wires and m spare ones: its gates, its odd sums, the least
+--                       number of blocks of these, each with at most m sums more than its rank (without spares: independent),
+--                       and the size and the rank of a choice that shows that no fewer can be; with one block the choice is
+--                       all odd sums
 --   numbered ls         the layers that have a gate other than H
---   AreStages n ls ss   the numbers of each layer
---   stage_line i s, stage_text i ss   the line of layer i; those of all, the first being layer i
---   IsStageText n ls text       the lines of the layers
---   IsSoFar n ls text next      the same, where the next line has the number `next`
-use Rattle.std.specs.Prelude.{◌≡◌, ℕ, ◌+◌, ◌%◌, ◌≤◌, ◌==◌, not, List, [], ◌∷◌, ◌++◌, codes, filter, length}
+--   AreStages n m ls ss   the numbers of each layer
+--   stage_numbers i s, line_end o   the line of layer i up to its end; its end, with the number of spare wires where one is given
+--   stage_line o i s, stage_text o i ss   the line of layer i; those of all, the first being layer i
+--   IsStageText n o ls text       the lines of the layers
+--   IsSoFar n o ls text next      the same, where the next line has the number `next`
+use Rattle.std.specs.Prelude.{◌≡◌, ℕ, ◌+◌, ◌%◌, ◌≤◌, ◌==◌, not, List, [], ◌∷◌, ◌++◌, Option, None, Some, codes, filter, length}
 use Rattle.std.specs.Fmt.{decimal}
 use Rattle.std.specs.List.{range_with_len}
 use Rattle.circuit_list.specs.declared.Gate.{Gate}
 use Rattle.gf2_linear.specs.Rows.{rank as row_rank, rows_at}
-use Rattle.matroid_partition.specs.Partitions.{IsPartition, IsWitness}
+use Rattle.matroid_partition.specs.Spares.{IsSparePartition, IsSpareWitness}
 use Rattle.phase_poly.specs.Layers.{LayerBody}
 use Rattle.phase_poly.specs.Polys.{Term, poly_of}
 use Rattle.phase_poly.specs.Resynthesis.{rows_of}
@@ -22,12 +25,16 @@ use Rattle.layer_stages.specs.declared.stage.Stage.{Stage}
 abbrev pub odd_rows : List Term → List ℕ
 odd_rows ts = rows_of (filter (λ e. e.1 % 2 == 1) ts)
 
-pub record IsStage (n : ℕ) (gs : List Gate) (s : Stage) : Type 0 where
+abbrev pub spares_of : Option ℕ → ℕ
+spares_of None = 0
+spares_of (Some m) = m
+
+pub record IsStage (n m : ℕ) (gs : List Gate) (s : Stage) : Type 0 where
   pub parts : List (List ℕ)
   pub choice : List ℕ
-  pub partition : IsPartition (odd_rows (poly_of n gs).terms) parts
-  pub least : (other : List (List ℕ)) → IsPartition (odd_rows (poly_of n gs).terms) other → length parts ≤ length other
-  pub shown : IsWitness (odd_rows (poly_of n gs).terms) parts choice
+  pub partition : IsSparePartition (odd_rows (poly_of n gs).terms) m parts
+  pub least : (other : List (List ℕ)) → IsSparePartition (odd_rows (poly_of n gs).terms) m other → length parts ≤ length other
+  pub shown : IsSpareWitness (odd_rows (poly_of n gs).terms) m parts choice
   pub whole : length parts ≡ 1 → choice ≡ range_with_len 0 (length (odd_rows (poly_of n gs).terms))
   pub gates : s.gates ≡ length gs
   pub parities : s.parities ≡ length (odd_rows (poly_of n gs).terms)
@@ -38,26 +45,34 @@ pub record IsStage (n : ℕ) (gs : List Gate) (s : Stage) : Type 0 where
 abbrev pub numbered : List LayerBody → List LayerBody
 numbered ls = filter (λ l. not (length l.gates == 0)) ls
 
-abbrev pub AreStages : ℕ → List LayerBody → List Stage → Type 0
-AreStages n [] [] = Unit {0}
-AreStages n (l ∷ ls) (s ∷ ss) = IsStage n l.gates s × AreStages n ls ss
-AreStages n _ _ = ⊥
+abbrev pub AreStages : ℕ → ℕ → List LayerBody → List Stage → Type 0
+AreStages n m [] [] = Unit {0}
+AreStages n m (l ∷ ls) (s ∷ ss) = IsStage n m l.gates s × AreStages n m ls ss
+AreStages n m _ _ = ⊥
 
-abbrev pub stage_line : ℕ → Stage → List ℕ
-stage_line i s = codes "layer " ++ (decimal i ++ (codes " gates " ++ (decimal s.gates ++ (codes " parities " ++ (decimal s.parities
-    ++ (codes " blocks " ++ (decimal s.blocks ++ (codes " witness " ++ (decimal s.witness ++ (codes " rank " ++ (decimal s.rank ++ codes "\n")))))))))))
+abbrev pub stage_numbers : ℕ → Stage → List ℕ
+stage_numbers i s = codes "layer " ++ (decimal i ++ (codes " gates " ++ (decimal s.gates ++ (codes " parities "
+    ++ (decimal s.parities ++ (codes " blocks " ++ (decimal s.blocks ++ (codes " witness " ++ (decimal s.witness
+    ++ (codes " rank " ++ decimal s.rank))))))))))
 
-abbrev pub stage_text : ℕ → List Stage → List ℕ
-stage_text i [] = []
-stage_text i (s ∷ ss) = stage_line i s ++ stage_text (i + 1) ss
+abbrev pub line_end : Option ℕ → List ℕ
+line_end None = codes "\n"
+line_end (Some m) = codes " spares " ++ (decimal m ++ codes "\n")
 
-pub record IsStageText (n : ℕ) (ls : List LayerBody) (text : List ℕ) : Type 0 where
+abbrev pub stage_line : Option ℕ → ℕ → Stage → List ℕ
+stage_line o i s = stage_numbers i s ++ line_end o
+
+abbrev pub stage_text : Option ℕ → ℕ → List Stage → List ℕ
+stage_text o i [] = []
+stage_text o i (s ∷ ss) = stage_line o i s ++ stage_text o (i + 1) ss
+
+pub record IsStageText (n : ℕ) (o : Option ℕ) (ls : List LayerBody) (text : List ℕ) : Type 0 where
   pub stages : List Stage
-  pub each : AreStages n (numbered ls) stages
-  pub spelt : text ≡ stage_text 1 stages
+  pub each : AreStages n (spares_of o) (numbered ls) stages
+  pub spelt : text ≡ stage_text o 1 stages
 
-pub record IsSoFar (n : ℕ) (ls : List LayerBody) (text : List ℕ) (next : ℕ) : Type 0 where
+pub record IsSoFar (n : ℕ) (o : Option ℕ) (ls : List LayerBody) (text : List ℕ) (next : ℕ) : Type 0 where
   pub stages : List Stage
-  pub each : AreStages n (numbered ls) stages
-  pub spelt : text ≡ stage_text 1 stages
+  pub each : AreStages n (spares_of o) (numbered ls) stages
+  pub spelt : text ≡ stage_text o 1 stages
   pub count : next ≡ 1 + length stages

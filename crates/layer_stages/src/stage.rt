@@ -1,14 +1,17 @@
 //! The numbers of one layer.
 
-ghost use Rattle.std.specs.Prelude.{◌≡◌, ◌≤◌, ◌<◌, ◌++◌, ◌∷◌, [], All, IfOk, OnOk, length};
+ghost use Rattle.std.specs.Prelude.{◌≡◌, ℕ, ◌≤◌, ◌<◌, ◌++◌, ◌∷◌, [], List, All, IfOk, OnOk, length, vec_len};
+ghost use Rattle.std.specs.List.{range_with_len};
 ghost use Rattle.circuit_list.specs.Gates.{most_wires};
 ghost use Rattle.gf2_linear.specs.Rows.{rows_at};
+ghost use Rattle.matroid_partition.specs.Partitions.{blocks_of};
+ghost use Rattle.matroid_partition.specs.Spares.{IsSparePartition, IsSpareWitness};
 ghost use Rattle.phase_poly.specs.Polys.{AreDihedral};
-ghost use Rattle.layer_stages.specs.Stages.{IsStage, odd_rows};
+ghost use Rattle.layer_stages.specs.Stages.{IsStage, odd_rows, spares_of};
 
 use circuit_list::Gate;
 use gf2_linear::{Row, rank};
-use matroid_partition::partition;
+use matroid_partition::{Parts, partition, partition_spares};
 use phase_poly::laws::filled_terms;
 use phase_poly::poly;
 use std::alloc::{AllocError, Global};
@@ -24,15 +27,20 @@ pub(crate) struct Stage {
 }
 
 /// The numbers of a layer with these gates.
-pub(crate) fn stage_of(alloc: Global, wires: u32, gates: &[Gate]) -> Result<Stage, AllocError>
+pub(crate) fn stage_of(
+    alloc: Global,
+    wires: u32,
+    spares: Option<u32>,
+    gates: &[Gate],
+) -> Result<Stage, AllocError>
     requires few { wires ≤ most_wires }
     requires dihedral { AreDihedral wires gates.now }
-    ensures { IfOk result (λ s. IsStage wires gates.now s) }
+    ensures { IfOk result (λ s. IsStage wires (spares_of spares) gates.now s) }
 {
     filled_terms();
     let sum = poly(alloc, wires, gates)?;
     let rows = odd_rows(alloc, sum.terms())?;
-    let parts = partition(alloc, &rows)?;
+    let parts = least_parts(alloc, spares, &rows)?;
     let choice = rows_at(alloc, &rows, &parts.witness)?;
     let rank = rank(alloc, &choice)?;
     Ok(Stage {
@@ -42,6 +50,33 @@ pub(crate) fn stage_of(alloc: Global, wires: u32, gates: &[Gate]) -> Result<Stag
         witness: parts.witness.len(),
         rank,
     })
+}
+
+/// As few blocks as there can be of rows that aren't empty, with so many spares, and a witness.
+fn least_parts(alloc: Global, spares: Option<u32>, rows: &[Row]) -> Result<Parts, AllocError>
+    requires nonzero { All (λ r. r ≡ 0 → ⊥) rows.now }
+    ensures partition { IfOk result (λ p. IsSparePartition rows.now (spares_of spares) (blocks_of p)) }
+    ensures witness { IfOk result (λ p. IsSpareWitness rows.now (spares_of spares) (blocks_of p) p.witness.items) }
+    ensures least { IfOk result (λ p. (other : List (List ℕ)) → IsSparePartition rows.now (spares_of spares) other →
+        vec_len p.blocks ≤ length other) }
+    ensures one { IfOk result (λ p. vec_len p.blocks ≡ 1 → p.witness.items ≡ range_with_len 0 (length rows.now)) }
+{
+    match spares {
+        None => plain_parts(alloc, rows),
+        Some(spares) => partition_spares(alloc, rows, spares),
+    }
+}
+
+/// The same without spares: the blocks are independent.
+fn plain_parts(alloc: Global, rows: &[Row]) -> Result<Parts, AllocError>
+    requires nonzero { All (λ r. r ≡ 0 → ⊥) rows.now }
+    ensures partition { IfOk result (λ p. IsSparePartition rows.now 0 (blocks_of p)) }
+    ensures witness { IfOk result (λ p. IsSpareWitness rows.now 0 (blocks_of p) p.witness.items) }
+    ensures least { IfOk result (λ p. (other : List (List ℕ)) → IsSparePartition rows.now 0 other → vec_len p.blocks ≤ length other) }
+    ensures one { IfOk result (λ p. vec_len p.blocks ≡ 1 → p.witness.items ≡ range_with_len 0 (length rows.now)) }
+{
+    let parts = partition(alloc, rows)?;
+    Ok(parts)
 }
 
 /// The sums with an odd coefficient, in order.

@@ -2,7 +2,7 @@
 --   in_quotes             a text between quotation marks
 --   listed                whole numbers in brackets, with commas between
 --   listed_lists          such lists in brackets, with commas between
---   between_pieces, cost_pieces, powers_pieces, format_piece   those of what isn't always told, and of the format
+--   between_pieces, cost_pieces, powers_pieces, spares_pieces, format_piece   those of what isn't always told, and of the format
 --   pieces_with, report_pieces    the pieces of the report line
 --   report_line-pieces    it is these
 --   compact_text-name_of  a refusal's name stands as it is: none has a character that JSON escapes
@@ -94,13 +94,18 @@ abbrev pub powers_pieces : Option ToldParts → List (List ℕ)
 powers_pieces None = []
 powers_pieces (Some parts) = codes ",\"parts\":" ∷ listed parts.powers ∷ []
 
-abbrev pub format_piece : Option ToldParts → Option ℕ → List ℕ
-format_piece None None = codes ",\"format\":1,\"initial\":"
-format_piece None (Some cost) = codes ",\"format\":2,\"initial\":"
-format_piece (Some parts) cost = codes ",\"format\":3,\"initial\":"
+abbrev pub spares_pieces : Option ℕ → List (List ℕ)
+spares_pieces None = []
+spares_pieces (Some spares) = codes ",\"spares\":" ∷ decimal spares ∷ []
 
-abbrev pub pieces_with : Report → Option ToldParts → Option ℕ → List (List ℕ)
-pieces_with r parts cost =
+abbrev pub format_piece : Option ToldParts → Option ℕ → Option ℕ → List ℕ
+format_piece None None None = codes ",\"format\":1,\"initial\":"
+format_piece None (Some cost) None = codes ",\"format\":2,\"initial\":"
+format_piece (Some parts) cost None = codes ",\"format\":3,\"initial\":"
+format_piece parts cost (Some spares) = codes ",\"format\":4,\"initial\":"
+
+abbrev pub pieces_with : Report → Option ToldParts → Option ℕ → Option ℕ → List (List ℕ)
+pieces_with r parts cost spares =
     codes "{\"barriers\":" ∷ decimal r.barriers
     ∷ (between_pieces parts
     ++ cost_pieces cost
@@ -108,29 +113,36 @@ pieces_with r parts cost =
     ∷ codes ",\"cx_before\":" ∷ decimal r.cx_before
     ∷ codes ",\"device\":" ∷ decimal r.device
     ∷ codes ",\"final\":" ∷ listed r.last
-    ∷ format_piece parts cost ∷ listed r.initial
+    ∷ format_piece parts cost spares ∷ listed r.initial
     ∷ (powers_pieces parts
     ++ codes ",\"phase\":" ∷ decimal r.phase
     ∷ codes ",\"qubits\":" ∷ decimal r.qubits
-    ∷ codes ",\"swaps\":" ∷ decimal r.swaps
+    ∷ (spares_pieces spares
+    ++ codes ",\"swaps\":" ∷ decimal r.swaps
     ∷ codes ",\"t_after\":" ∷ decimal r.t_after
     ∷ codes ",\"t_before\":" ∷ decimal r.t_before
-    ∷ codes "}" ∷ []))
+    ∷ codes "}" ∷ [])))
 
 abbrev pub report_pieces : Report → List (List ℕ)
-report_pieces r = pieces_with r r.parts r.cost
+report_pieces r = pieces_with r r.parts r.cost r.spares
 
 pub report_line-pieces : (r : Report) → report_line r ≡ concat (report_pieces r) ++ 10 ∷ []
 unfolding serde_json_on_literals digits
-report_line-pieces r = go r.parts r.cost
+report_line-pieces r = go r.parts r.cost r.spares
   where
-    go : (p : Option ToldParts) (c : Option ℕ)
-        → report_line (record r { parts = p; cost = c }) ≡ concat (pieces_with r p c) ++ 10 ∷ []
-    go None None = rw (items_text-wholes r.last, items_text-wholes r.initial) refl
-    go None (Some cost) = rw (items_text-wholes r.last, items_text-wholes r.initial) refl
-    go (Some p) None =
+    go : (p : Option ToldParts) (c s : Option ℕ)
+        → report_line (record r { parts = p; cost = c; spares = s }) ≡ concat (pieces_with r p c s) ++ 10 ∷ []
+    go None None None = rw (items_text-wholes r.last, items_text-wholes r.initial) refl
+    go None None (Some spares) = rw (items_text-wholes r.last, items_text-wholes r.initial) refl
+    go None (Some cost) None = rw (items_text-wholes r.last, items_text-wholes r.initial) refl
+    go None (Some cost) (Some spares) = rw (items_text-wholes r.last, items_text-wholes r.initial) refl
+    go (Some p) None None =
         rw (items_text-lists p.between, items_text-wholes r.last, items_text-wholes r.initial, items_text-wholes p.powers) refl
-    go (Some p) (Some cost) =
+    go (Some p) None (Some spares) =
+        rw (items_text-lists p.between, items_text-wholes r.last, items_text-wholes r.initial, items_text-wholes p.powers) refl
+    go (Some p) (Some cost) None =
+        rw (items_text-lists p.between, items_text-wholes r.last, items_text-wholes r.initial, items_text-wholes p.powers) refl
+    go (Some p) (Some cost) (Some spares) =
         rw (items_text-lists p.between, items_text-wholes r.last, items_text-wholes r.initial, items_text-wholes p.powers) refl
 
 abbrev pub outside_pieces : List ℕ → ℕ → List (List ℕ)
@@ -180,6 +192,10 @@ fault_pieces (fault.ManyBranches branches) =
 fault_pieces (fault.BitsLength qubits) =
     codes "{\"code\":72,\"fault\":\"BitsLength\",\"qubits\":" ∷ decimal qubits
     ∷ codes ",\"status\":3}" ∷ []
+fault_pieces (fault.TooManySpares qubits spares) =
+    codes "{\"code\":73,\"fault\":\"TooManySpares\",\"qubits\":" ∷ decimal qubits
+    ∷ codes ",\"spares\":" ∷ decimal spares
+    ∷ codes ",\"status\":3}" ∷ []
 fault_pieces (fault.TextPlain code side) = refusal_pieces code (in_quotes (name_of code)) [] (text_pieces side)
 fault_pieces (fault.TextPlace code place side) =
     refusal_pieces code (in_quotes (name_of code)) (codes ",\"place\":" ∷ decimal place ∷ []) (text_pieces side)
@@ -213,6 +229,7 @@ fault_line-pieces (fault.EdgeCost from to) = refl
 fault_line-pieces (fault.WideProgram qubits) = refl
 fault_line-pieces (fault.ManyBranches branches) = refl
 fault_line-pieces (fault.BitsLength qubits) = refl
+fault_line-pieces (fault.TooManySpares qubits spares) = refl
 fault_line-pieces (fault.TextPlain code Source) = refusal-alike code [] (text_pieces Source)
 fault_line-pieces (fault.TextPlain code Target) = refusal-alike code [] (text_pieces Target)
 fault_line-pieces (fault.TextPlace code place Source) =

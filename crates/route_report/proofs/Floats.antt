@@ -15,7 +15,7 @@ use Rattle.route_report.specs.declared.faults.Fault.{Fault}
 use Rattle.route_report.specs.declared.faults.Fault.TheVariants as fault
 use Rattle.route_report.specs.Compact.{whole, wholes}
 use Rattle.route_report.specs.Faults.{fault_data}
-use Rattle.route_report.specs.Lines.{check_data, last_members, middle_members, report_data, with_between, with_cost, with_powers}
+use Rattle.route_report.specs.Lines.{check_data, count_members, middle_members, report_data, with_between, with_cost, with_powers, with_spares}
 use Rattle.route_report.specs.Parts.{ToldParts}
 
 items_have_float-wholes : (ns : List ℕ) → items_have_float (items_of (map whole ns)) ≡ false
@@ -27,20 +27,37 @@ items_have_float-lists [] = refl
 items_have_float-lists (ns ∷ nss) = rw (items_have_float-wholes ns) (items_have_float-lists nss)
 
 pub has_float-report : (r : Report) → has_float (report_data r) ≡ false
-has_float-report r = go r.parts r.cost
+has_float-report r = go r.parts r.cost r.spares
   where
-    go : (o : Option ToldParts) (c : Option ℕ) → has_float (object (member (codes "barriers") (whole r.barriers)
-        (with_between o (with_cost c (middle_members r (with_powers o (last_members r))))))) ≡ false
-    go None None = rw (items_have_float-wholes r.last, items_have_float-wholes r.initial) refl
-    go None (Some cost) = rw (items_have_float-wholes r.last, items_have_float-wholes r.initial) refl
-    go (Some p) None =
+    go : (o : Option ToldParts) (c s : Option ℕ) → has_float (object (member (codes "barriers") (whole r.barriers)
+        (with_between o (with_cost c (middle_members r (with_powers o (member (codes "phase") (whole r.phase)
+        (member (codes "qubits") (whole r.qubits) (with_spares s (count_members r)))))))))) ≡ false
+    go None None None = rw (items_have_float-wholes r.last, items_have_float-wholes r.initial) refl
+    go None None (Some spares) = rw (items_have_float-wholes r.last, items_have_float-wholes r.initial) refl
+    go None (Some cost) None = rw (items_have_float-wholes r.last, items_have_float-wholes r.initial) refl
+    go None (Some cost) (Some spares) = rw (items_have_float-wholes r.last, items_have_float-wholes r.initial) refl
+    go (Some p) None None =
         rw (
           items_have_float-lists p.between,
           items_have_float-wholes r.last,
           items_have_float-wholes r.initial,
           items_have_float-wholes p.powers,
         ) refl
-    go (Some p) (Some cost) =
+    go (Some p) None (Some spares) =
+        rw (
+          items_have_float-lists p.between,
+          items_have_float-wholes r.last,
+          items_have_float-wholes r.initial,
+          items_have_float-wholes p.powers,
+        ) refl
+    go (Some p) (Some cost) None =
+        rw (
+          items_have_float-lists p.between,
+          items_have_float-wholes r.last,
+          items_have_float-wholes r.initial,
+          items_have_float-wholes p.powers,
+        ) refl
+    go (Some p) (Some cost) (Some spares) =
         rw (
           items_have_float-lists p.between,
           items_have_float-wholes r.last,
@@ -67,6 +84,7 @@ has_float-fault (fault.EdgeCost from to) = refl
 has_float-fault (fault.WideProgram qubits) = refl
 has_float-fault (fault.ManyBranches branches) = refl
 has_float-fault (fault.BitsLength qubits) = refl
+has_float-fault (fault.TooManySpares qubits spares) = refl
 has_float-fault (fault.TextPlain code side) = refl
 has_float-fault (fault.TextPlace code place side) = refl
 has_float-fault (fault.TextStatement code statement side) = refl

@@ -20,6 +20,7 @@ pub one_wire : report_line (record {
   parts = None;
   phase = 0;
   qubits = 1;
+  spares = None;
   swaps = 0;
   t_after = 1;
   t_before = 1;
@@ -38,6 +39,7 @@ pub three_wires : report_line (record {
   parts = None;
   phase = 7;
   qubits = 2;
+  spares = None;
   swaps = 5;
   t_after = 6;
   t_before = 18446744073709551615;
@@ -56,6 +58,7 @@ pub no_wire : report_line (record {
   parts = None;
   phase = 0;
   qubits = 0;
+  spares = None;
   swaps = 0;
   t_after = 0;
   t_before = 0;
@@ -74,6 +77,7 @@ pub costs : report_line (record {
   parts = None;
   phase = 4;
   qubits = 4;
+  spares = None;
   swaps = 1;
   t_after = 0;
   t_before = 0;
@@ -92,6 +96,7 @@ pub one_barrier : report_line (record {
   parts = Some (record { between = (0 ∷ []) ∷ []; powers = 0 ∷ 0 ∷ [] });
   phase = 0;
   qubits = 1;
+  spares = None;
   swaps = 0;
   t_after = 2;
   t_before = 2;
@@ -110,6 +115,7 @@ pub no_barrier : report_line (record {
   parts = Some (record { between = []; powers = 0 ∷ [] });
   phase = 0;
   qubits = 2;
+  spares = None;
   swaps = 0;
   t_after = 0;
   t_before = 0;
@@ -128,6 +134,7 @@ pub two_barriers : report_line (record {
   parts = Some (record { between = (0 ∷ 1 ∷ []) ∷ (1 ∷ 0 ∷ []) ∷ []; powers = 0 ∷ 7 ∷ 3 ∷ [] });
   phase = 2;
   qubits = 2;
+  spares = None;
   swaps = 1;
   t_after = 0;
   t_before = 0;
@@ -146,12 +153,51 @@ pub costed_parts : report_line (record {
   parts = Some (record { between = (1 ∷ 0 ∷ []) ∷ []; powers = 4 ∷ 5 ∷ [] });
   phase = 1;
   qubits = 2;
+  spares = None;
   swaps = 1;
   t_after = 0;
   t_before = 0;
 }) ≡ codes "{\"barriers\":1,\"between\":[[1,0]],\"cost\":8,\"cx_after\":4,\"cx_before\":1,\"device\":2,\"final\":[1,0],\"format\":3,\"initial\":[0,1],\"parts\":[4,5],\"phase\":1,\"qubits\":2,\"swaps\":1,\"t_after\":0,\"t_before\":0}\n"
 unfolding serde_json_on_literals digits
 costed_parts = refl
+
+pub spares : report_line (record {
+  barriers = 0;
+  cost = None;
+  cx_after = 12;
+  cx_before = 9;
+  device = 7;
+  last = 0 ∷ 1 ∷ 2 ∷ 3 ∷ 4 ∷ 5 ∷ 6 ∷ [];
+  initial = 0 ∷ 1 ∷ 2 ∷ 3 ∷ 4 ∷ 5 ∷ 6 ∷ [];
+  parts = None;
+  phase = 0;
+  qubits = 3;
+  spares = Some 4;
+  swaps = 0;
+  t_after = 7;
+  t_before = 7;
+}) ≡ codes "{\"barriers\":0,\"cx_after\":12,\"cx_before\":9,\"device\":7,\"final\":[0,1,2,3,4,5,6],\"format\":4,\"initial\":[0,1,2,3,4,5,6],\"phase\":0,\"qubits\":3,\"spares\":4,\"swaps\":0,\"t_after\":7,\"t_before\":7}\n"
+unfolding serde_json_on_literals digits
+spares = refl
+
+pub costed_spares : report_line (record {
+  barriers = 0;
+  cost = Some 20;
+  cx_after = 12;
+  cx_before = 9;
+  device = 7;
+  last = 0 ∷ 1 ∷ 2 ∷ 3 ∷ 4 ∷ 5 ∷ 6 ∷ [];
+  initial = 0 ∷ 1 ∷ 2 ∷ 3 ∷ 4 ∷ 5 ∷ 6 ∷ [];
+  parts = None;
+  phase = 0;
+  qubits = 3;
+  spares = Some 4;
+  swaps = 0;
+  t_after = 7;
+  t_before = 7;
+}) ≡ codes "{\"barriers\":0,\"cost\":20,\"cx_after\":12,\"cx_before\":9,\"device\":7,\"final\":[0,1,2,3,4,5,6],\"format\":4,\"initial\":[0,1,2,3,4,5,6],\"phase\":0,\"qubits\":3,\"spares\":4,\"swaps\":0,\"t_after\":7,\"t_before\":7}\n"
+unfolding serde_json_on_literals digits
+costed_spares = refl
 
 pub words : fault_line fault.Words ≡ codes "{\"fault\":\"Words\",\"status\":2}\n"
 unfolding serde_json_on_literals digits
@@ -216,6 +262,10 @@ many_branches = refl
 pub bits_length : fault_line (fault.BitsLength 1) ≡ codes "{\"code\":72,\"fault\":\"BitsLength\",\"qubits\":1,\"status\":3}\n"
 unfolding serde_json_on_literals digits
 bits_length = refl
+
+pub too_many_spares : fault_line (fault.TooManySpares 2 255) ≡ codes "{\"code\":73,\"fault\":\"TooManySpares\",\"qubits\":2,\"spares\":255,\"status\":3}\n"
+unfolding serde_json_on_literals digits
+too_many_spares = refl
 
 pub text_too_long_of_source : fault_line (fault.TextPlain 60 Source) ≡ codes "{\"code\":60,\"fault\":\"TextTooLong\",\"status\":3,\"text\":\"source\"}\n"
 unfolding serde_json_on_literals digits

@@ -14,7 +14,7 @@ use Rattle.route_report.specs.declared.faults.Fault.TheVariants as fault
 use Rattle.route_report.specs.declared.faults.Side.{Side}
 use Rattle.route_report.specs.declared.faults.Side.TheVariants.{Source, Target}
 use Rattle.route_report.specs.Compact.{line, whole}
-use Rattle.route_report.specs.Refusals.{bits_length, edge_cost, many_branches, name_of, not_connected, self_edge, stops_with, too_few_qubits, wide_program}
+use Rattle.route_report.specs.Refusals.{bits_length, edge_cost, many_branches, name_of, not_connected, self_edge, stops_with, too_few_qubits, too_many_spares, wide_program}
 
 abbrev pub status_of : Fault → ℕ
 status_of fault.Words = 2
@@ -32,6 +32,7 @@ status_of (fault.EdgeCost from to) = stops_with edge_cost
 status_of (fault.WideProgram qubits) = stops_with wide_program
 status_of (fault.ManyBranches branches) = stops_with many_branches
 status_of (fault.BitsLength qubits) = stops_with bits_length
+status_of (fault.TooManySpares qubits spares) = stops_with too_many_spares
 status_of (fault.TextPlain code side) = stops_with code
 status_of (fault.TextPlace code place side) = stops_with code
 status_of (fault.TextStatement code statement side) = stops_with code
@@ -116,6 +117,12 @@ fault_data (fault.BitsLength qubits) = object
     (member (codes "fault") (string (name_of bits_length))
     (member (codes "qubits") (whole qubits)
     (member (codes "status") (whole (stops_with bits_length)) no_members))))
+fault_data (fault.TooManySpares qubits spares) = object
+    (member (codes "code") (whole too_many_spares)
+    (member (codes "fault") (string (name_of too_many_spares))
+    (member (codes "qubits") (whole qubits)
+    (member (codes "spares") (whole spares)
+    (member (codes "status") (whole (stops_with too_many_spares)) no_members)))))
 fault_data (fault.TextPlain code side) = plain_data code (text_member side)
 fault_data (fault.TextPlace code place side) = place_data code place (text_member side)
 fault_data (fault.TextStatement code statement side) = statement_data code statement (text_member side)

@@ -1,7 +1,8 @@
 -- The report line and the check line: one JSON object each, its keys in the order of their bytes.
 --   format_of                    the number of the report's format
---   with_between, with_cost, with_powers   other keys, and in front of them one that isn't always told
---   middle_members, last_members the keys from `cx_after` to `initial`, with others behind, and those from `phase` on
+--   with_between, with_cost, with_powers, with_spares   other keys, and in front of them one that isn't always told
+--   middle_members, count_members, last_members   the keys from `cx_after` to `initial`, with others behind, those from `swaps`
+--                                on, and those from `phase` on
 --   report_data, check_data      the object
 --   report_line, check_line      its line
 use Rattle.std.specs.Prelude.{ℕ, List, Option, None, Some, codes}
@@ -11,11 +12,12 @@ use Rattle.route_report.specs.declared.lines.Report.{Report}
 use Rattle.route_report.specs.Compact.{line, lists, whole, wholes}
 use Rattle.route_report.specs.Parts.{ToldParts}
 
--- 3 where parts are told, else 2 where costs of edges are
-abbrev pub format_of : Option ToldParts → Option ℕ → ℕ
-format_of (Some parts) cost = 3
-format_of None (Some cost) = 2
-format_of None None = 1
+-- 4 where spare wires are told, else 3 where parts are, else 2 where costs of edges are
+abbrev pub format_of : Option ToldParts → Option ℕ → Option ℕ → ℕ
+format_of parts cost (Some spares) = 4
+format_of (Some parts) cost None = 3
+format_of None (Some cost) None = 2
+format_of None None None = 1
 
 -- the placements between parts stand in front of the other keys, where they are told
 abbrev pub with_between : Option ToldParts → Members → Members
@@ -32,24 +34,33 @@ abbrev pub with_powers : Option ToldParts → Members → Members
 with_powers None others = others
 with_powers (Some parts) others = member (codes "parts") (wholes parts.powers) others
 
+-- .. and the spare wires
+abbrev pub with_spares : Option ℕ → Members → Members
+with_spares None others = others
+with_spares (Some spares) others = member (codes "spares") (whole spares) others
+
 abbrev pub middle_members : Report → Members → Members
 middle_members r others =
     member (codes "cx_after") (whole r.cx_after)
     (member (codes "cx_before") (whole r.cx_before)
     (member (codes "device") (whole r.device)
     (member (codes "final") (wholes r.last)
-    (member (codes "format") (whole (format_of r.parts r.cost))
+    (member (codes "format") (whole (format_of r.parts r.cost r.spares))
     (member (codes "initial") (wholes r.initial)
     others)))))
+
+abbrev pub count_members : Report → Members
+count_members r =
+    member (codes "swaps") (whole r.swaps)
+    (member (codes "t_after") (whole r.t_after)
+    (member (codes "t_before") (whole r.t_before)
+    no_members))
 
 abbrev pub last_members : Report → Members
 last_members r =
     member (codes "phase") (whole r.phase)
     (member (codes "qubits") (whole r.qubits)
-    (member (codes "swaps") (whole r.swaps)
-    (member (codes "t_after") (whole r.t_after)
-    (member (codes "t_before") (whole r.t_before)
-    no_members))))
+    (with_spares r.spares (count_members r)))
 
 abbrev pub report_data : Report → Data
 report_data r = object (member (codes "barriers") (whole r.barriers) (with_between r.parts (with_cost r.cost

@@ -1,5 +1,5 @@
 -- The refusals of a program's text, of a device's text and of a question on a program, by their codes.
---   self_edge, not_connected, too_few_qubits, edge_cost, wide_program, many_branches, bits_length
+--   self_edge, not_connected, too_few_qubits, edge_cost, wide_program, many_branches, bits_length, too_many_spares
 --               the codes of the refusals that tell more than their code
 --   refusals    the table: code and name
 --   name_of     the name of a code ("Unknown" where the table has none)
@@ -27,6 +27,9 @@ many_branches = 71
 
 abbrev pub bits_length : ℕ
 bits_length = 72
+
+abbrev pub too_many_spares : ℕ
+too_many_spares = 73
 
 abbrev pub refusals : List (ℕ × List ℕ)
 refusals =
@@ -68,6 +71,7 @@ refusals =
     (wide_program, codes "WideProgram") ∷
     (many_branches, codes "ManyBranches") ∷
     (bits_length, codes "BitsLength") ∷
+    (too_many_spares, codes "TooManySpares") ∷
     []
 
 abbrev pub name_of : ℕ → List ℕ

@@ -7,8 +7,8 @@ ghost use Rattle.route_report.specs.Faults.{fault_data, outside_data, side_word,
 
 use crate::compact::with_member;
 use crate::refusals::{
-    BITS_LENGTH, EDGE_COST, MANY_BRANCHES, NOT_CONNECTED, SELF_EDGE, TOO_FEW_QUBITS, WIDE_PROGRAM,
-    refusal_name, refusal_status,
+    BITS_LENGTH, EDGE_COST, MANY_BRANCHES, NOT_CONNECTED, SELF_EDGE, TOO_FEW_QUBITS,
+    TOO_MANY_SPARES, WIDE_PROGRAM, refusal_name, refusal_status,
 };
 use serde_json::{Value, json};
 use std::alloc::{AllocError, Global};
@@ -80,6 +80,11 @@ pub enum Fault {
     BitsLength {
         qubits: u32,
     },
+    /// There is no room for so many spare wires behind the program's.
+    TooManySpares {
+        qubits: u32,
+        spares: u32,
+    },
     /// A refusal of one of the two texts, which tells nothing but its code and which text it is.
     TextPlain {
         code: u8,
@@ -135,6 +140,7 @@ pub fn status(fault: &Fault) -> u8
         Fault::WideProgram { .. } => refusal_status(WIDE_PROGRAM),
         Fault::ManyBranches { .. } => refusal_status(MANY_BRANCHES),
         Fault::BitsLength { .. } => refusal_status(BITS_LENGTH),
+        Fault::TooManySpares { .. } => refusal_status(TOO_MANY_SPARES),
         Fault::Trace { .. } => 1,
     }
 }
@@ -160,6 +166,7 @@ pub(crate) fn fault_value(alloc: Global, fault: &Fault) -> Result<Value, AllocEr
         Fault::WideProgram { qubits } => wide_value(alloc, qubits),
         Fault::ManyBranches { branches } => many_value(alloc, branches),
         Fault::BitsLength { qubits } => length_value(alloc, qubits),
+        Fault::TooManySpares { qubits, spares } => spares_value(alloc, qubits, spares),
         Fault::TextPlain { code, side } => with_side(alloc, plain_value(alloc, code)?, side),
         Fault::TextPlace { code, place, side } => {
             with_side(alloc, place_value(alloc, code, place)?, side)
@@ -253,6 +260,22 @@ fn length_value(alloc: Global, qubits: u32) -> Result<Value, AllocError>
 {
     let (name, status) = (refusal_name(BITS_LENGTH), refusal_status(BITS_LENGTH));
     json!(in alloc; {"code": BITS_LENGTH, "fault": name, "qubits": qubits, "status": status})
+}
+
+fn spares_value(alloc: Global, qubits: u32, spares: u32) -> Result<Value, AllocError>
+    ensures { IfOk result (λ v. view v ≡ fault_data (Fault.TooManySpares qubits spares)) }
+{
+    let (name, status) = (
+        refusal_name(TOO_MANY_SPARES),
+        refusal_status(TOO_MANY_SPARES),
+    );
+    json!(in alloc; {
+        "code": TOO_MANY_SPARES,
+        "fault": name,
+        "qubits": qubits,
+        "spares": spares,
+        "status": status
+    })
 }
 
 /// An object with the side's word behind its other members.

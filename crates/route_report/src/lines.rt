@@ -4,7 +4,7 @@ ghost use Rattle.std.specs.Prelude.{◌≡◌, IfOk, codes};
 ghost use Rattle.serde_json.specs.View.{view};
 ghost use Rattle.serde_json.specs.Data.{Members, member, object, put};
 ghost use Rattle.route_report.specs.Compact.{lists, whole, wholes};
-ghost use Rattle.route_report.specs.Lines.{check_data, format_of, last_members, middle_members, report_data, with_cost};
+ghost use Rattle.route_report.specs.Lines.{check_data, count_members, format_of, last_members, middle_members, report_data, with_cost};
 
 use crate::compact::{number_array, placement_array, power_array, with_member};
 use crate::wires::Wires;
@@ -37,6 +37,8 @@ pub struct Report {
     pub phase: u8,
     /// Qubits of the source.
     pub qubits: u32,
+    /// Spare wires of the written program, where it was asked for some.
+    pub spares: Option<u32>,
     /// Swaps that the router put in.
     pub swaps: u64,
     /// T gates of the written program.
@@ -79,21 +81,23 @@ pub struct Counts {
     pub t: u64,
 }
 
-/// The format of a report: 3 where parts are told, else 2 where costs are, else 1.
+/// The format of a report: 4 where spare wires are told, else 3 where parts are, else 2 where costs are, else 1.
 fn format_number(report: &Report) -> u8
-    ensures { result ≡ format_of report.now.parts report.now.cost }
+    ensures { result ≡ format_of report.now.parts report.now.cost report.now.spares }
 {
-    match (&report.parts, report.cost) {
-        (Some(_parts), _cost) => 3,
-        (None, Some(_cost)) => 2,
-        (None, None) => 1,
+    match (&report.parts, report.cost, report.spares) {
+        (_parts, _cost, Some(_spares)) => 4,
+        (Some(_parts), _cost, None) => 3,
+        (None, Some(_cost), None) => 2,
+        (None, None, None) => 1,
     }
 }
 
-/// The JSON object of a report but for its costs and parts.
-fn costless_value(alloc: Global, report: &Report) -> Result<Value, AllocError>
+/// The JSON object of a report but for its spare wires, costs and parts.
+fn spareless_value(alloc: Global, report: &Report) -> Result<Value, AllocError>
     ensures { IfOk result (λ v. view v ≡ object (member (codes "barriers") (whole report.now.barriers)
-        (middle_members report.now (last_members report.now)))) }
+        (middle_members report.now (member (codes "phase") (whole report.now.phase)
+        (member (codes "qubits") (whole report.now.qubits) (count_members report.now)))))) }
 {
     let last = number_array(alloc, report.last.as_slice())?;
     let initial = number_array(alloc, report.initial.as_slice())?;
@@ -112,6 +116,18 @@ fn costless_value(alloc: Global, report: &Report) -> Result<Value, AllocError>
         "t_after": report.t_after,
         "t_before": report.t_before
     })
+}
+
+/// The JSON object of a report but for its costs and parts.
+fn costless_value(alloc: Global, report: &Report) -> Result<Value, AllocError>
+    ensures { IfOk result (λ v. view v ≡ object (member (codes "barriers") (whole report.now.barriers)
+        (middle_members report.now (last_members report.now)))) }
+{
+    let value = spareless_value(alloc, report)?;
+    match report.spares {
+        None => Ok(value),
+        Some(spares) => Ok(with_member(alloc, value, "spares", Value::from(spares))?),
+    }
 }
 
 /// The JSON object of a report but for its parts.

@@ -17,6 +17,8 @@ pub(crate) const MANY_BRANCHES: u8 = 71;
 
 pub(crate) const BITS_LENGTH: u8 = 72;
 
+pub(crate) const TOO_MANY_SPARES: u8 = 73;
+
 /// The name of a refusal.
 pub(crate) fn refusal_name(code: u8) -> &'static str
     ensures { result.now ≡ name_of code }
@@ -60,6 +62,7 @@ pub(crate) fn refusal_name(code: u8) -> &'static str
         WIDE_PROGRAM => "WideProgram",
         MANY_BRANCHES => "ManyBranches",
         BITS_LENGTH => "BitsLength",
+        TOO_MANY_SPARES => "TooManySpares",
         _ => "Unknown",
     }
 }

@@ -5,6 +5,6 @@ use Rattle.layer_stages.proofs.lines.stage_lines.Given as goal
 
 abbrev pub invariant-layers : goal.invariant-layers
 invariant-layers l = record {
-  lines : IsSoFar l.body.wires (take l.layer-index l.layer-items) (string_bytes l.text) l.next;
+  lines : IsSoFar l.body.wires l.spares (take l.layer-index l.layer-items) (string_bytes l.text) l.next;
   few : l.next ≤ l.layer-index + 1;
 }
