@@ -18,6 +18,8 @@ mod read_tests;
 #[cfg(test)]
 mod route_tests;
 #[cfg(test)]
+mod spares_tests;
+#[cfg(test)]
 mod stop_tests;
 #[cfg(test)]
 mod traced_tests;

@@ -5,6 +5,7 @@ pub mod TargetLaws
 pub mod CostLaws
 pub mod PartLaws
 pub mod PlanLaws
+pub mod SparedLaws
 pub mod StandLaws
 pub mod FitLaws
 pub mod MadeLaws

@@ -133,10 +133,10 @@ still-together keep s ms t cut all bars a placed wires initial last =
 
 pub Stands-placed : (keep : Bool) (s : Program) (ms : List PartTarget) (t : Target) → IsCut s.cut → whole s.cut.parts ≡ s.ops → All (IsBar s.wires) s.cut.bars
     → IsAssembled keep s ms t → AllZip (IsPlacedPart s.wires) s.cut.parts ms → t.body.wires ≡ s.wires → t.swaps ≡ 0 → t.initial ≡ identity s.wires
-    → t.last ≡ identity s.wires → t.cost ≡ None → t.trace.items ≡ [] → Stands s keep false (IsInPlace s) t
-Stands-placed keep s ms t cut all bars a placed wires swaps initial last cost trace =
+    → t.last ≡ identity s.wires → t.cost ≡ None → t.trace.items ≡ [] → t.spares ≡ None → Stands s keep false (IsInPlace s) t
+Stands-placed keep s ms t cut all bars a placed wires swaps initial last cost trace alone =
     Stands-still keep s ms t (still-together keep s ms t cut all bars a placed wires initial last) (AreStill-placed s.wires s.cut.parts ms placed) wires swaps
-    initial last cost trace
+    initial last cost trace alone
 
 pub IsFit-placed : (keep : Bool) (s : Program) (ms : List PartTarget) (t : Target) → IsCut s.cut → whole s.cut.parts ≡ s.ops → All (IsBar s.wires) s.cut.bars
     → IsAssembled keep s ms t → AllZip (IsPlacedPart s.wires) s.cut.parts ms → t.body.wires ≡ s.wires → t.initial ≡ identity s.wires
@@ -229,11 +229,12 @@ pub Stands-routed : (keep trivial clean : Bool) (d : Coupling) (s : Program) (rs
     → (trivial ≡ true → t.initial ≡ identity d.size) → (trivial ≡ false → IsLayout d (whole (gates_of rs)) t.initial)
     → (k : ℕ) → IsDiameter d.size d.edges (cost d) k → t.cost ≡ told_cost d (ops t.body.gates)
     → (clean ≡ false → AreTraced d t.initial rs ms t.trace.items) → (All (λ r. r.steps ≡ None) rs → t.trace.items ≡ [])
-    → length s.ops ≤ operation_limit → All (IsFineOp s.wires) s.ops → Stands s keep (are_told rs) (IsOnQubits d trivial clean s) t
-Stands-routed keep trivial clean d s rs ms t cut all bars a o steps which routed fits wires last swaps begins laid_out k diameter cost traced silent few fine =
+    → length s.ops ≤ operation_limit → All (IsFineOp s.wires) s.ops → t.spares ≡ None
+    → Stands s keep (are_told rs) (IsOnQubits d trivial clean s) t
+Stands-routed keep trivial clean d s rs ms t cut all bars a o steps which routed fits wires last swaps begins laid_out k diameter cost traced silent few fine alone =
     Stands-legs keep (are_told rs) trivial clean d s ms (gates_of rs) t (legs-together keep clean d s rs ms t cut all bars a o routed fits wires last swaps)
     (AreLegs-routed d clean s.wires t.initial s.cut.parts rs ms fits o routed) wires swaps begins laid_out k diameter cost
-    (λ told r. IsOwnTrace-parts d clean s rs ms t told o steps which routed traced silent few fine a.gates wires last a.turn r)
+    (λ told r. IsOwnTrace-parts d clean s rs ms t told o steps which routed traced silent few fine a.gates wires last a.turn r) alone
 
 pub IsFit-routed : (keep clean : Bool) (d : Coupling) (s : Program) (rs : List Rewritten) (ms : List PartTarget) (t : Target) → IsCut s.cut
     → whole s.cut.parts ≡ s.ops → All (IsBar s.wires) s.cut.bars → IsAssembled keep s ms t → AllZip (λ us r. IsOptimised s.wires us r.passed) s.cut.parts rs

@@ -5,6 +5,7 @@
 --   counted-next         the counts of some parts, and of the next one
 --   few_cx, few_t, few_cx_counts, few_t_counts   the counts of few operations fit
 --   Rewrites-planned     what is planned for a target that stands for the source
+--   WritesWithSpares-planned   .. and for one that stands for it with spare wires
 --   HasPlanned-written   what came of a program came of its target
 use Rattle.std.proofs.Common.{◌≡◌, ℕ, zero, suc, ◌+◌, ◌++◌, drop, ◌*◌, ◌%◌, ◌<◌, ◌≤◌, Bool, true, false, List, [], ◌∷◌, Option, Some, None, Result, Ok, Err, All, refl, sym, subst, arith, inl, inr, length, map, get_or, ◌∙◌, Vec, ap}
 use Rattle.std.proofs.lemmas.List.Elements.{recursion_from_All, All-from_recursion}
@@ -28,8 +29,8 @@ use Rattle.trace_text.specs.Texts.{trace_of}
 use Rattle.std.specs.declared.alloc.Global.{Global}
 use Rattle.program_parts.specs.Cuts.{Cut, chopped, whole}
 use Rattle.program_parts.specs.Parts.{Part}
-use Rattle.qroute_top.specs.Delivered.{IsOwnTrace, Rewrites, placed_read}
-use Rattle.qroute_top.specs.Plans.{HasPlanned, IsPlanned, Stands, TellsReport, target_program}
+use Rattle.qroute_top.specs.Delivered.{IsOwnTrace, Rewrites, WritesWithSpares, placed_read}
+use Rattle.qroute_top.specs.Plans.{HasPlanned, IsPlanned, IsSparedTarget, Stands, TellsReport, target_program}
 use Rattle.qroute_top.specs.Targets.{IsTold}
 use Rattle.qroute_top.specs.declared.target.Target.{Target}
 
@@ -67,9 +68,24 @@ Rewrites-planned s t keep traced IsPlaced text line is plan =
       told = plan.told;
       made = record { written = plan.written; report = plan.report; numbers = plan.numbers.numbers; stands = is.stands plan.told told };
       tells = told.parts ∙ is.tells;
+      alone = told.spares ∙ is.alone;
       trace = subst (λ v. IsOwnTrace traced s (target_program s t) plan.told v) (sym plan.trace) (is.trace plan.told told);
       placed = is.placed plan.told told;
     }
+
+-- .. and with spare wires
+pub WritesWithSpares-planned : (s : Program) (m : ℕ) (t : Target) (text line : List ℕ) → IsSparedTarget s m t → IsPlanned s t text line
+    → WritesWithSpares s m text line
+WritesWithSpares-planned s m t text line is plan = record {
+  target = target_program s t;
+  told = plan.told;
+  written = plan.written;
+  trace = plan.trace ∙ is.trace;
+  report = plan.report;
+  numbers = plan.numbers.numbers;
+  tells = is.tells plan.told plan.numbers.told;
+  stands = is.stands plan.told plan.numbers.told;
+}
 
 -- the parts that are handed to the writer are the target's
 pub cut-same : (t : Target) (ns : List ℕ) (bars : List (Vec ℕ Global)) → ns ≡ t.lengths.items → bars ≡ t.barriers.items
@@ -119,7 +135,7 @@ few_cx_counts us few = let more = few_cx us in omega (arith, few, more)
 pub few_t_counts : (us : List Op) → length us ≤ 65536 → t_count us < 18446744073709551616
 few_t_counts us few = let more = few_t us in omega (arith, few, more)
 
-pub ruleset plans = (Rewrites-planned, reads_wider)
+pub ruleset plans = (Rewrites-planned, WritesWithSpares-planned, reads_wider)
 
 pub ruleset counts = (few_cx_counts, few_t_counts)
 

@@ -5,12 +5,12 @@
 --   IsCause-source, IsCause-device, IsCause-words, IsCause-question   from the parts of `decide` to the cause of a stop
 --   Reaches-read, Reaches-drawn   a device is reached with a program that was read, or for one that is drawn
 --   Answered, AnsweredInput   no refusal of a question applies
---   Delivers-opt, Delivers-check, Delivers-stages, Delivers-entry, Delivers-routed, Delivers-drawn   from the parts of `decide` to what is delivered
+--   Delivers-opt, Delivers-spared, Delivers-check, Delivers-stages, Delivers-entry, Delivers-routed, Delivers-drawn   from the parts of `decide` to what is delivered
 --   Delivers-verified, IsCause-claim   the same where `verify` is asked
 --   stopped-..               what follows of a status after a stop
 --   planned-..               what follows where a work was decided on
 use Rattle.std.proofs.Common.{◌≡◌, ◌⊎◌, inl, inr, ℕ, ◌≤◌, Bool, true, false, List, [], Option, Some, None, Result, Err, refl, sym, ap, ◌∙◌, arith, subst, is_some}
-use Rattle.outside_io.specs.Bytes.{TakesAll, Tells}
+use Rattle.outside_io.specs.Bytes.{Tells}
 use Rattle.outside_io.specs.Causes.{Rose}
 use Rattle.outside_io.specs.Shelf.{HasNoText, TellsText}
 use Rattle.coupling_map.specs.Coupling.{Coupling}
@@ -18,13 +18,13 @@ use Rattle.gate_inline.specs.Programs.{IsAccepted, IsWritten, Program, kept}
 use Rattle.program_reader.specs.Refusals.{IsRefusal}
 use Rattle.program_reader.specs.declared.refusal.Refusal.{Refusal}
 use Rattle.command_words.specs.Commands.{command_of}
-use Rattle.command_words.specs.Demands.{asked_entry, asked_texts, device_name, keeps_barriers, reads_input, writes_out, writes_report}
+use Rattle.command_words.specs.Demands.{Entry, Question, Spares, asked_texts, device_name, keeps_barriers, question_of, reads_input, writes_out, writes_report}
 use Rattle.command_words.specs.declared.commands.Command.{Command}
-use Rattle.command_words.specs.declared.commands.Command.TheVariants.{Opt, Route, Check, Stages, Bench, Amplitude, Verify}
+use Rattle.command_words.specs.declared.commands.Command.TheVariants.{Opt, OptWithSpares, Route, Check, Stages, Bench, Amplitude, Verify}
 use Rattle.route_report.specs.Lines.{check_line}
 use Rattle.qroute_top.specs.Claims.{AreTold, Compares, Ending, IsEnding, IsVerified, Proved, ending_status}
 use Rattle.qroute_top.specs.Causes.{Handed, claim_status, IsCause, IsDeviceCause, IsRefusedDevice, IsRefusedQuestion, IsRefusedSource, IsSourceCause, Reaches, Reads}
-use Rattle.qroute_top.specs.Delivered.{Content, Delivered, Delivers, IsAnswer, IsHad, IsInPlace, IsOnDevice, IsOnQubits, IsStages, Rewrites, counts_of, drawn_program}
+use Rattle.qroute_top.specs.Delivered.{Content, Delivered, Delivers, IsAnswer, IsHad, IsInPlace, IsOnDevice, IsOnQubits, IsStages, Rewrites, WritesWithSpares, counts_of, drawn_program}
 use Rattle.qroute_top.specs.Devices.{HasDevice, IsDevice, IsDeviceRefusal, HasSource}
 use Rattle.qroute_top.specs.Plans.{HasWork, IsWork}
 use Rattle.qroute_top.specs.Questions.{IsEntryText, IsQuestionRefusal}
@@ -102,27 +102,45 @@ kept_wires : (keep : Bool) (p : Program) → (kept keep p).wires ≡ p.wires
 kept_wires true p = refl
 kept_wires false p = refl
 
-kept_question : (keep : Bool) (bits : Option (List Bool × List Bool)) (p : Program) (r : QuestionRefusal) → IsQuestionRefusal bits p r
-    → IsQuestionRefusal bits (kept keep p) r
+kept_question : (keep : Bool) (q : Option Question) (p : Program) (r : QuestionRefusal) → IsQuestionRefusal q p r → IsQuestionRefusal q (kept keep p) r
 kept_question true None p r u = u
-kept_question true (Some x) p (question.WideProgram n) u = u
-kept_question true (Some x) p (question.ManyBranches n) u = u
-kept_question true (Some x) p (question.BitsLength n) u = u
+kept_question true (Some (Entry from to)) p (question.WideProgram n) u = u
+kept_question true (Some (Entry from to)) p (question.ManyBranches n) u = u
+kept_question true (Some (Entry from to)) p (question.BitsLength n) u = u
+kept_question true (Some (Entry from to)) p (question.TooManySpares n m) u = u
+kept_question true (Some (Spares k)) p (question.WideProgram n) u = u
+kept_question true (Some (Spares k)) p (question.ManyBranches n) u = u
+kept_question true (Some (Spares k)) p (question.BitsLength n) u = u
+kept_question true (Some (Spares k)) p (question.TooManySpares n m) u = u
 kept_question false None p r u = u
-kept_question false (Some x) p (question.WideProgram n) u = u
-kept_question false (Some x) p (question.ManyBranches n) u = u
-kept_question false (Some x) p (question.BitsLength n) u = u
+kept_question false (Some (Entry from to)) p (question.WideProgram n) u = u
+kept_question false (Some (Entry from to)) p (question.ManyBranches n) u = u
+kept_question false (Some (Entry from to)) p (question.BitsLength n) u = u
+kept_question false (Some (Entry from to)) p (question.TooManySpares n m) u = u
+kept_question false (Some (Spares k)) p (question.WideProgram n) u = u
+kept_question false (Some (Spares k)) p (question.ManyBranches n) u = u
+kept_question false (Some (Spares k)) p (question.BitsLength n) u = u
+kept_question false (Some (Spares k)) p (question.TooManySpares n m) u = u
 
-asked_of_kept : (keep : Bool) (bits : Option (List Bool × List Bool)) (p : Program) (r : QuestionRefusal) → IsQuestionRefusal bits (kept keep p) r
-    → IsQuestionRefusal bits p r
+asked_of_kept : (keep : Bool) (q : Option Question) (p : Program) (r : QuestionRefusal) → IsQuestionRefusal q (kept keep p) r → IsQuestionRefusal q p r
 asked_of_kept true None p r u = u
-asked_of_kept true (Some x) p (question.WideProgram n) u = u
-asked_of_kept true (Some x) p (question.ManyBranches n) u = u
-asked_of_kept true (Some x) p (question.BitsLength n) u = u
+asked_of_kept true (Some (Entry from to)) p (question.WideProgram n) u = u
+asked_of_kept true (Some (Entry from to)) p (question.ManyBranches n) u = u
+asked_of_kept true (Some (Entry from to)) p (question.BitsLength n) u = u
+asked_of_kept true (Some (Entry from to)) p (question.TooManySpares n m) u = u
+asked_of_kept true (Some (Spares k)) p (question.WideProgram n) u = u
+asked_of_kept true (Some (Spares k)) p (question.ManyBranches n) u = u
+asked_of_kept true (Some (Spares k)) p (question.BitsLength n) u = u
+asked_of_kept true (Some (Spares k)) p (question.TooManySpares n m) u = u
 asked_of_kept false None p r u = u
-asked_of_kept false (Some x) p (question.WideProgram n) u = u
-asked_of_kept false (Some x) p (question.ManyBranches n) u = u
-asked_of_kept false (Some x) p (question.BitsLength n) u = u
+asked_of_kept false (Some (Entry from to)) p (question.WideProgram n) u = u
+asked_of_kept false (Some (Entry from to)) p (question.ManyBranches n) u = u
+asked_of_kept false (Some (Entry from to)) p (question.BitsLength n) u = u
+asked_of_kept false (Some (Entry from to)) p (question.TooManySpares n m) u = u
+asked_of_kept false (Some (Spares k)) p (question.WideProgram n) u = u
+asked_of_kept false (Some (Spares k)) p (question.ManyBranches n) u = u
+asked_of_kept false (Some (Spares k)) p (question.BitsLength n) u = u
+asked_of_kept false (Some (Spares k)) p (question.TooManySpares n m) u = u
 
 -- the device of this name is reached, for a program with n wires
 abbrev pub ReachesFor : Handed → List ℕ → ℕ → Type 0
@@ -164,18 +182,24 @@ IsCause-device h name n (device_stop.Refused x) route r calm =
     (name, route.0, subst (λ (m : ℕ). IsRefusedDevice (h.content name) m x) route.1 r, calm (λ f. cc))
 
 -- a question is reached with a program that was read
-pub IsCause-question : (h : Handed) (c : Command) (from to : List Bool) (new : Option (List ℕ)) (p : Program) (e : QuestionStop) → command_of h.words ≡ Some c
-    → c ≡ Amplitude from to → HasRead false h.input new p → IsUnanswered (from, to) p e → IsCause h (question_stopped e)
-IsCause-question h c from to new p question_stop.NoMemory asked is read u = tt
-IsCause-question h c from to new p (question_stop.Refused r) asked is (t, q, taken, ok, same) u =
-    let here : IsQuestionRefusal (Some (from, to)) (kept false q) r = subst (λ (x : Program). IsQuestionRefusal (Some (from, to)) x r) same u in (
-      record { command = Amplitude from to; asked = asked ∙ ap (λ x. Some x) is; reads = refl },
-      (t, q, Tells-taken h.input new t taken, ok, asked_of_kept false (Some (from, to)) q r here),
+pub IsCause-question : (h : Handed) (c d : Command) (q : Question) (new : Option (List ℕ)) (p : Program) (e : QuestionStop) → command_of h.words ≡ Some c
+    → c ≡ d → reads_input d ≡ true → question_of d ≡ Some q → HasRead false h.input new p → IsUnanswered q p e → IsCause h (question_stopped e)
+IsCause-question h c d q new p question_stop.NoMemory asked is reads asks read u = tt
+IsCause-question h c d q new p (question_stop.Refused r) asked is reads asks (t, x, taken, ok, same) u =
+    let here : IsQuestionRefusal (Some q) (kept false x) r = subst (λ (y : Program). IsQuestionRefusal (Some q) y r) same u in (
+      record { command = d; asked = asked ∙ ap (λ y. Some y) is; reads = reads },
+      (
+        t,
+        x,
+        Tells-taken h.input new t taken,
+        ok,
+        subst (λ o. IsQuestionRefusal o x r) (sym asks) (asked_of_kept false (Some q) x r here),
+      ),
     )
 
 -- no refusal of a question on the program applies
 abbrev pub Answered : Command → Program → Type 0
-Answered c p = (r : QuestionRefusal) → IsQuestionRefusal (asked_entry c) p r → ⊥
+Answered c p = (r : QuestionRefusal) → IsQuestionRefusal (question_of c) p r → ⊥
 
 delivers : (words : List (List ℕ)) (content : Content) (c : Command) (old new : Option (List ℕ)) (p : Program) (text line : List ℕ)
     → command_of words ≡ Some c → IsHad (reads_input c) (keeps_barriers c) old new p → Answered c p → IsAnswer content c p text line → Delivers words content old new text line
@@ -198,13 +222,20 @@ pub Delivers-check : (words : List (List ℕ)) (content : Content) (c : Command)
 Delivers-check words content c old new p text line asked is read none told =
     delivers words content Check old new p text line (asked ∙ ap (λ x. Some x) is) read (λ r u. u) (none, told)
 
-pub Delivers-stages : (words : List (List ℕ)) (content : Content) (c : Command) (old new : Option (List ℕ)) (p : Program) (text line : List ℕ)
-    → command_of words ≡ Some c → c ≡ Stages → HasRead false old new p → IsStages p text → line ≡ [] → Delivers words content old new text line
-Delivers-stages words content c old new p text line asked is read told none =
-    delivers words content Stages old new p text line (asked ∙ ap (λ x. Some x) is) read (λ r u. u) (told, none)
+pub Delivers-spared : (words : List (List ℕ)) (content : Content) (c : Command) (m : ℕ) (old new : Option (List ℕ)) (p : Program) (text line : List ℕ)
+    → command_of words ≡ Some c → c ≡ OptWithSpares m → HasRead false old new p → ((r : QuestionRefusal) → IsQuestionRefusal (Some (Spares m)) p r → ⊥)
+    → WritesWithSpares p m text line → Delivers words content old new text line
+Delivers-spared words content c m old new p text line asked is read answered made =
+    delivers words content (OptWithSpares m) old new p text line (asked ∙ ap (λ x. Some x) is) read answered made
+
+pub Delivers-stages : (words : List (List ℕ)) (content : Content) (c : Command) (spares : Option ℕ) (old new : Option (List ℕ)) (p : Program) (text line : List ℕ)
+    → command_of words ≡ Some c → c ≡ Stages spares → HasRead false old new p → IsStages p spares text → line ≡ []
+    → Delivers words content old new text line
+Delivers-stages words content c spares old new p text line asked is read told none =
+    delivers words content (Stages spares) old new p text line (asked ∙ ap (λ x. Some x) is) read (λ r u. u) (told, none)
 
 pub Delivers-entry : (words : List (List ℕ)) (content : Content) (c : Command) (from to : List Bool) (old new : Option (List ℕ)) (p : Program) (text line : List ℕ)
-    → command_of words ≡ Some c → c ≡ Amplitude from to → HasRead false old new p → ((r : QuestionRefusal) → IsQuestionRefusal (Some (from, to)) p r → ⊥)
+    → command_of words ≡ Some c → c ≡ Amplitude from to → HasRead false old new p → ((r : QuestionRefusal) → IsQuestionRefusal (Some (Entry from to)) p r → ⊥)
     → IsEntryText p.ops from to text × (line ≡ []) → Delivers words content old new text line
 Delivers-entry words content c from to old new p text line asked is read answered told =
     delivers words content (Amplitude from to) old new p text line (asked ∙ ap (λ x. Some x) is) read answered told
@@ -221,6 +252,7 @@ Delivers-routed words content c name trivial traced keep clean old new p d n tex
       told = made.told;
       made = made.made;
       tells = made.tells;
+      alone = made.alone;
       trace = made.trace;
       placed = record {
         device_text = loaded.0;
@@ -243,6 +275,7 @@ Delivers-drawn words content c start gates name old new p d n text line asked is
       told = made.told;
       made = made.made;
       tells = made.tells;
+      alone = made.alone;
       trace = made.trace;
       placed = (
         record {
@@ -277,9 +310,10 @@ IsCause-claim h c a b (stop.Claim y) asked is x = (a, b, record { command = Veri
 -- `verify` reads no input and loads no device
 apart : (c : Command) (a b : List ℕ) → asked_texts c ≡ Some (a, b) → (reads_input c ≡ false) × (device_name c ≡ None)
 apart (Opt keep) a b e = cc
+apart (OptWithSpares m) a b e = cc
 apart (Route name trivial traced keep clean) a b e = cc
 apart Check a b e = cc
-apart Stages a b e = cc
+apart (Stages spares) a b e = cc
 apart (Bench start gates name) a b e = cc
 apart (Amplitude from to) a b e = cc
 apart (Verify x y) a b e = (refl, refl)
@@ -292,9 +326,10 @@ compares_reads h c a b x asked reads = let no = (apart c a b (compares_texts h c
 
 pub device_alone : (c : Command) (name : List ℕ) → device_name c ≡ Some name → asked_texts c ≡ None
 device_alone (Opt keep) name e = cc
+device_alone (OptWithSpares m) name e = cc
 device_alone (Route other trivial traced keep clean) name e = refl
 device_alone Check name e = cc
-device_alone Stages name e = cc
+device_alone (Stages spares) name e = cc
 device_alone (Bench start gates other) name e = refl
 device_alone (Amplitude from to) name e = cc
 device_alone (Verify x y) name e = cc
@@ -369,7 +404,7 @@ reached_or_refused law h a name t r route asked reads told refusal =
     needed_or_refused law h.input (reads_input route.command) route.wires t r read route.source told refusal
 
 -- nor is one on which a question is asked
-questioned_or_refused : NoRefusal → (input : Option (List ℕ)) (bits : Option (List Bool × List Bool)) (x : QuestionRefusal) (t : List ℕ) (r : Refusal)
+questioned_or_refused : NoRefusal → (input : Option (List ℕ)) (bits : Option Question) (x : QuestionRefusal) (t : List ℕ) (r : Refusal)
     → IsRefusedQuestion input bits x → input ≡ Some t → IsRefusal t r → ⊥
 questioned_or_refused law input bits x t r (text, p, tells, ok, refused) told refusal =
     let same = told_text input t text told tells in
@@ -386,7 +421,7 @@ stopped-refuses law h stop.Shelf n a t r c e asked reads told is calm = absurd (
 stopped-refuses law h stop.Absent n a t r c e asked reads told is calm = absurd (reached_or_refused law h a c.0 t r c.1 asked reads told is)
 stopped-refuses law h (stop.Device x) n a t r c e asked reads told is calm = absurd (reached_or_refused law h a c.0 t r c.1 asked reads told is)
 stopped-refuses law h (stop.Question x) n a t r c e asked reads told is calm =
-    absurd (questioned_or_refused law h.input (asked_entry c.0.command) x t r c.1 told is)
+    absurd (questioned_or_refused law h.input (question_of c.0.command) x t r c.1 told is)
 stopped-refuses law h (stop.Claim x) n a t r c e asked reads told is calm = absurd (compares_reads h a c.0 c.1 c.2 asked reads)
 
 -- ---- the device that is asked for
@@ -439,33 +474,35 @@ same_device : (name other : List ℕ) (o : Option (List ℕ)) → o ≡ Some nam
 same_device name other o e f = cc
 
 -- a command that loads a device asks no question
-unasked : (c : Command) (name : List ℕ) (p : Program) (r : QuestionRefusal) → device_name c ≡ Some name → IsQuestionRefusal (asked_entry c) p r → ⊥
+unasked : (c : Command) (name : List ℕ) (p : Program) (r : QuestionRefusal) → device_name c ≡ Some name → IsQuestionRefusal (question_of c) p r → ⊥
 unasked (Opt keep) name p r wants u = u
+unasked (OptWithSpares m) name p r wants u = cc
 unasked (Route other trivial traced keep clean) name p r wants u = u
 unasked Check name p r wants u = u
-unasked Stages name p r wants u = u
+unasked (Stages spares) name p r wants u = u
 unasked (Bench start gates other) name p r wants u = u
 unasked (Amplitude from to) name p r wants u = cc
 unasked (Verify a b) name p r wants u = u
 
 -- a command that asks a question reads a program
-asking_reads : (c : Command) (p : Program) (r : QuestionRefusal) → IsQuestionRefusal (asked_entry c) p r → reads_input c ≡ true
+asking_reads : (c : Command) (p : Program) (r : QuestionRefusal) → IsQuestionRefusal (question_of c) p r → reads_input c ≡ true
 asking_reads (Opt keep) p r u = absurd u
+asking_reads (OptWithSpares m) p r u = refl
 asking_reads (Route other trivial traced keep clean) p r u = absurd u
 asking_reads Check p r u = absurd u
-asking_reads Stages p r u = absurd u
+asking_reads (Stages spares) p r u = absurd u
 asking_reads (Bench start gates other) p r u = absurd u
 asking_reads (Amplitude from to) p r u = cc
 asking_reads (Verify a b) p r u = absurd u
 
 -- no refusal of a question applies to the program of the input
 abbrev pub AnsweredInput : Option (List ℕ) → Command → Type 0
-AnsweredInput input c = (t : List ℕ) (p : Program) (r : QuestionRefusal) → input ≡ Some t → IsAccepted t p → IsQuestionRefusal (asked_entry c) p r → ⊥
+AnsweredInput input c = (t : List ℕ) (p : Program) (r : QuestionRefusal) → input ≡ Some t → IsAccepted t p → IsQuestionRefusal (question_of c) p r → ⊥
 
 pub answered_on : (input : Option (List ℕ)) (c : Command) (name : List ℕ) → device_name c ≡ Some name → AnsweredInput input c
 answered_on input c name wants = λ t p r told ok u. unasked c name p r wants u
 
-questioned_or_answered : (input : Option (List ℕ)) (b : Bool) (q : ℕ) (bits : Option (List Bool × List Bool)) (r : QuestionRefusal) → b ≡ true
+questioned_or_answered : (input : Option (List ℕ)) (b : Bool) (q : ℕ) (bits : Option Question) (r : QuestionRefusal) → b ≡ true
     → HasSource b (λ t. input ≡ Some t) q → IsRefusedQuestion input bits r
     → ((t : List ℕ) (p : Program) (x : QuestionRefusal) → input ≡ Some t → IsAccepted t p → IsQuestionRefusal bits p x → ⊥) → ⊥
 questioned_or_answered input true q bits r reads (t, u, told, good, wires) (text, p, tells, ok, refused) none =
@@ -505,8 +542,8 @@ stopped_early law h stop.Absent n c q w e a absent refused = absurd (absent refl
 stopped_early law h (stop.Device r) n c q w e a absent refused = absurd (refused r refl)
 stopped_early law h (stop.Question r) n c q w e a absent refused =
     let same = same_command h.words w.0.command c w.0.asked a.asked in
-    let here : IsRefusedQuestion h.input (asked_entry c) r = subst (λ x. IsRefusedQuestion h.input (asked_entry x) r) same w.1 in
-    absurd (questioned_or_answered h.input (reads_input c) q (asked_entry c) r (reads_same h c w.0 a.asked) a.needs here a.answered)
+    let here : IsRefusedQuestion h.input (question_of c) r = subst (λ x. IsRefusedQuestion h.input (question_of x) r) same w.1 in
+    absurd (questioned_or_answered h.input (reads_input c) q (question_of c) r (reads_same h c w.0 a.asked) a.needs here a.answered)
 stopped_early law h (stop.Claim x) n c q w e a absent refused =
     let texts = compares_texts h c w.0 w.1 w.2 a.asked in
     let alone = a.alone in
@@ -514,7 +551,7 @@ stopped_early law h (stop.Claim x) n c q w e a absent refused =
 
 -- a command whose question is refused
 pub stopped-refuses_question : (h : Handed) (s : Stop) (n : ℕ) (a : Command) (t : List ℕ) (p : Program) (r : QuestionRefusal) → IsCause h s → Ends s n
-    → command_of h.words ≡ Some a → h.input ≡ Some t → IsAccepted t p → IsQuestionRefusal (asked_entry a) p r
+    → command_of h.words ≡ Some a → h.input ≡ Some t → IsAccepted t p → IsQuestionRefusal (question_of a) p r
     → (Rose h.faults_before h.faults_after → ⊥) → (n ≡ 3) ⊎ (n ≡ 7)
 stopped-refuses_question h stop.NoMemory n a t p r c e asked told ok is calm = inr (grind arith)
 stopped-refuses_question h stop.Words n a t p r c e asked told ok is calm = cc
@@ -674,16 +711,16 @@ answered_had once old new false keep p q text reads had told good = cc
 
 pub planned-refuses_question : MeansOnce → (words : List (List ℕ)) (content : Content) (old new : Option (List ℕ)) (w : Work) (n : ℕ) (text : List ℕ) (p : Program)
     (r : QuestionRefusal) (c : Command) → DeliversWork words content old new w → Came w n → command_of words ≡ Some c
-    → old ≡ Some text → IsAccepted text p → IsQuestionRefusal (asked_entry c) p r → (n ≡ 3) ⊎ (n ≡ 7)
+    → old ≡ Some text → IsAccepted text p → IsQuestionRefusal (question_of c) p r → (n ≡ 3) ⊎ (n ≡ 7)
 planned-refuses_question once words content old new w n text p r c delivers (inl seven) asked told ok refused = inr seven
 planned-refuses_question once words content old new w n text p r c delivers (inr (x, l, is)) asked told ok refused =
     let d = delivers x l is in
     let same = same_command words c d.command asked d.asked in
     let read : reads_input d.command ≡ true = subst (λ y. reads_input y ≡ true) same (asking_reads c p r refused) in
     let one = answered_had once old new (reads_input d.command) (keeps_barriers d.command) p d.source text read d.had told ok in
-    let there : IsQuestionRefusal (asked_entry d.command) p r = subst (λ y. IsQuestionRefusal (asked_entry y) p r) same refused in
-    absurd (d.answered r (subst (λ (y : Program). IsQuestionRefusal (asked_entry d.command) y r) (sym one)
-    (kept_question (keeps_barriers d.command) (asked_entry d.command) p r there)))
+    let there : IsQuestionRefusal (question_of d.command) p r = subst (λ y. IsQuestionRefusal (question_of y) p r) same refused in
+    absurd (d.answered r (subst (λ (y : Program). IsQuestionRefusal (question_of d.command) y r) (sym one)
+    (kept_question (keeps_barriers d.command) (question_of d.command) p r there)))
 
 -- what is delivered for a command that loads a device comes of the text of its device
 record IsFromDevice (content : Content) (name : List ℕ) (source : Program) (x l : List ℕ) : Type 0 where
@@ -696,6 +733,7 @@ record IsFromDevice (content : Content) (name : List ℕ) (source : Program) (x 
 answer_on : (content : Content) (name : List ℕ) (c : Command) (source : Program) (x l : List ℕ) → device_name c ≡ Some name → IsAnswer content c source x l
     → IsFromDevice content name source x l
 answer_on content name (Opt keep) source x l wants answer = cc
+answer_on content name (OptWithSpares m) source x l wants answer = cc
 answer_on content name (Route other trivial traced keep clean) source x l wants answer =
     let same : other ≡ name = cc in record {
       trivial = trivial;
@@ -705,7 +743,7 @@ answer_on content name (Route other trivial traced keep clean) source x l wants 
       answer = subst (λ y. Rewrites source keep traced (IsOnDevice content y trivial clean source) x l) same answer;
     }
 answer_on content name Check source x l wants answer = cc
-answer_on content name Stages source x l wants answer = cc
+answer_on content name (Stages spares) source x l wants answer = cc
 answer_on content name (Amplitude from to) source x l wants answer = cc
 answer_on content name (Verify a b) source x l wants answer = cc
 answer_on content name (Bench start gates other) source x l wants answer =
@@ -720,6 +758,7 @@ answer_on content name (Bench start gates other) source x l wants answer =
         told = answer.told;
         made = answer.made;
         tells = answer.tells;
+        alone = answer.alone;
         trace = answer.trace;
         placed = subst (λ y. IsOnDevice content y false false source answer.target answer.parts answer.told) same answer.placed.0;
       };
@@ -853,9 +892,10 @@ stopped-verdict law traces h (stop.Claim y) n c a b x w e asked texts told is ca
 verified_of : (content : Content) (c : Command) (a b : List ℕ) (p : Program) (x l : List ℕ) → asked_texts c ≡ Some (a, b) → IsAnswer content c p x l
     → IsVerified content a b x
 verified_of content (Opt keep) a b p x l e answer = cc
+verified_of content (OptWithSpares m) a b p x l e answer = cc
 verified_of content (Route name trivial traced keep clean) a b p x l e answer = cc
 verified_of content Check a b p x l e answer = cc
-verified_of content Stages a b p x l e answer = cc
+verified_of content (Stages spares) a b p x l e answer = cc
 verified_of content (Bench start gates name) a b p x l e answer = cc
 verified_of content (Amplitude from to) a b p x l e answer = cc
 verified_of content (Verify c d) a b p x l e answer =
@@ -864,9 +904,10 @@ verified_of content (Verify c d) a b p x l e answer =
 
 verify_writes : (c : Command) (a b : List ℕ) → asked_texts c ≡ Some (a, b) → (writes_out c ≡ true) × (writes_report c ≡ false)
 verify_writes (Opt keep) a b e = cc
+verify_writes (OptWithSpares m) a b e = cc
 verify_writes (Route name trivial traced keep clean) a b e = cc
 verify_writes Check a b e = cc
-verify_writes Stages a b e = cc
+verify_writes (Stages spares) a b e = cc
 verify_writes (Bench start gates name) a b e = cc
 verify_writes (Amplitude from to) a b e = cc
 verify_writes (Verify c d) a b e = (refl, refl)

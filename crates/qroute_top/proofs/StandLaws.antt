@@ -154,8 +154,8 @@ StandsFor-put_together keep s ms t told is r =
 
 pub Stands-still : (keep : Bool) (s : Program) (ms : List PartTarget) (t : Target) → IsPutTogether keep s ms t → AllByRecursion (IsStill s.wires) (parts_of s.cut.parts ms)
     → t.body.wires ≡ s.wires → t.swaps ≡ 0 → t.initial ≡ identity s.wires → t.last ≡ identity s.wires → t.cost ≡ None → t.trace.items ≡ []
-    → Stands s keep false (IsInPlace s) t
-Stands-still keep s ms t is still wires swaps initial last cost trace = record {
+    → t.spares ≡ None → Stands s keep false (IsInPlace s) t
+Stands-still keep s ms t is still wires swaps initial last cost trace alone = record {
   parts = parts_of s.cut.parts ms;
   stands = λ told r. StandsFor-put_together keep s ms t told is r;
   placed = λ told r. record {
@@ -168,6 +168,7 @@ Stands-still keep s ms t is still wires swaps initial last cost trace = record {
     settled = each (parts_of s.cut.parts ms) (λ p h. h.settled) still;
   };
   tells = is.assembled.tells;
+  alone = alone;
   trace = λ told r. trace;
 }
   where
@@ -180,8 +181,8 @@ pub Stands-legs : (keep traced trivial clean : Bool) (d : Coupling) (s : Program
     → t.body.wires ≡ d.size → t.swaps ≡ sum_by (λ (m : PartTarget). m.swaps) ms → (trivial ≡ true → t.initial ≡ identity d.size)
     → (trivial ≡ false → IsLayout d (whole lists) t.initial) → (k : ℕ) → IsDiameter d.size d.edges (cost d) k → t.cost ≡ told_cost d (ops t.body.gates)
     → ((told : Report) → IsTold t told → IsOwnTrace traced s (target_program s t) told t.trace.items)
-    → Stands s keep traced (IsOnQubits d trivial clean s) t
-Stands-legs keep traced trivial clean d s ms lists t is legs wires swaps placed laid_out k diameter cost trace =
+    → t.spares ≡ None → Stands s keep traced (IsOnQubits d trivial clean s) t
+Stands-legs keep traced trivial clean d s ms lists t is legs wires swaps placed laid_out k diameter cost trace alone =
     let parts = parts_of s.cut.parts ms in
     let sum : t.swaps ≡ sum_by (λ (p : Part). p.swaps) parts = swaps ∙ sym (parts-swaps s.cut.parts ms is.many) in
     let targets_are = targets-target s ms t is.many is.assembled.gates in
@@ -203,5 +204,6 @@ Stands-legs keep traced trivial clean d s ms lists t is legs wires swaps placed 
         cost = r.cost ∙ cost;
       };
       tells = is.assembled.tells;
+      alone = alone;
       trace = trace;
     }

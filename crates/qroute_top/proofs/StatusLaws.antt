@@ -117,6 +117,7 @@ question_status : (r : QuestionRefusal) → status_of (question_fault r) ≡ 3
 question_status (question.WideProgram qubits) = refl
 question_status (question.ManyBranches branches) = refl
 question_status (question.BitsLength qubits) = refl
+question_status (question.TooManySpares qubits spares) = refl
 
 pub status-stop : (s : Stop) (f : Fault) (n : ℕ) → fault_of s ≡ Some f → n ≡ status_of f → n ≡ stop_status s
 status-stop stop.NoMemory f n e is = cc

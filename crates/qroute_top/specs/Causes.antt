@@ -5,7 +5,7 @@
 --                         program with so many wires
 --   IsRefusedSource input r   the input has a text, the told one where one is told, and r is its first refusal
 --   IsRefusedDevice ..    the same of the text of a device, for a program on n wires
---   IsRefusedQuestion ..  the input has an accepted text, and r is the first refusal of the question for this entry by its program
+--   IsRefusedQuestion ..  the input has an accepted text, and r is the first refusal of the question by its program
 --   IsClaimCause content a b before after x   why a claim on the texts of these names isn't proved
 --   IsCause h s           the stop s has its cause; want of memory is free
 --   IsSourceCause, IsDeviceCause   why the program isn't read, and why the device isn't had
@@ -33,7 +33,7 @@ use Rattle.program_reader.specs.declared.refusal.Refusal.{Refusal}
 use Rattle.program_reader.specs.declared.refusal.Refusal.TheVariants as refusal
 use Rattle.command_words.specs.declared.commands.Command.{Command}
 use Rattle.command_words.specs.Commands.{command_of}
-use Rattle.command_words.specs.Demands.{asked_entry, device_name, reads_input}
+use Rattle.command_words.specs.Demands.{Question, device_name, question_of, reads_input}
 use Rattle.qroute_top.specs.declared.stops.DeviceRefusal.{DeviceRefusal}
 use Rattle.qroute_top.specs.declared.stops.DeviceRefusal.TheVariants as device
 use Rattle.qroute_top.specs.declared.stops.DeviceStop.{DeviceStop}
@@ -79,8 +79,8 @@ IsRefusedSource input r = (text : List ℕ) × Tells input text × IsRefusal tex
 abbrev pub IsRefusedDevice : Option (Option (List ℕ)) → ℕ → DeviceRefusal → Type 0
 IsRefusedDevice content n r = (text : List ℕ) × TellsText content text × IsDeviceRefusal text n r
 
-abbrev pub IsRefusedQuestion : Option (List ℕ) → Option (List Bool × List Bool) → QuestionRefusal → Type 0
-IsRefusedQuestion input bits r = (text : List ℕ) × (p : Program) × Tells input text × IsAccepted text p × IsQuestionRefusal bits p r
+abbrev pub IsRefusedQuestion : Option (List ℕ) → Option Question → QuestionRefusal → Type 0
+IsRefusedQuestion input q r = (text : List ℕ) × (p : Program) × Tells input text × IsAccepted text p × IsQuestionRefusal q p r
 
 abbrev pub IsClaimCause : Content → List ℕ → List ℕ → ℕ → ℕ → ClaimStop → Type 0
 IsClaimCause content a b before after claim.Failed = Rose before after
@@ -98,7 +98,7 @@ IsCause h stop.Absent = (name : List ℕ) × Reaches h name × HasNoText (h.cont
 IsCause h (stop.Device r) = (name : List ℕ) × (asked : Reaches h name) × IsRefusedDevice (h.content name) asked.wires r
     × (h.shelf_after ≡ h.shelf_before)
 IsCause h (stop.Claim x) = (a : List ℕ) × (b : List ℕ) × Compares h.words a b × IsClaimCause h.content a b h.shelf_before h.shelf_after x
-IsCause h (stop.Question r) = (asked : Reads h) × IsRefusedQuestion h.input (asked_entry asked.command) r
+IsCause h (stop.Question r) = (asked : Reads h) × IsRefusedQuestion h.input (question_of asked.command) r
 
 -- why reading the program stops
 abbrev pub IsSourceCause : Option (List ℕ) → ℕ → ℕ → SourceStop → Type 0
@@ -137,6 +137,7 @@ abbrev pub question_fault : QuestionRefusal → Fault
 question_fault (question.WideProgram qubits) = fault.WideProgram qubits
 question_fault (question.ManyBranches branches) = fault.ManyBranches branches
 question_fault (question.BitsLength qubits) = fault.BitsLength qubits
+question_fault (question.TooManySpares qubits spares) = fault.TooManySpares qubits spares
 
 abbrev pub text_fault : Side → Refusal → Fault
 text_fault s refusal.TooLong = fault.TextPlain 60 s

@@ -10,8 +10,10 @@
 --   Rewrites source keep traced P ..  there is such a target, with its trace; the line tells of its parts where barriers are kept;
 --                               and of its parts, qubits, placements and edges P holds
 --   IsInPlace, IsOnDevice       this P for `opt` and `route`, and part of it for `bench`;  IsOnQubits: for a device that is known
+--   WritesWithSpares source m ..  the text and the report line are right for a source with m spare wires: they are those of a target that
+--                               stands for it where the spares start at zero
 --   counts_of source            what `check` tells of a program
---   IsStages source text        what `stages` writes of it: the lines of the layers of its gates
+--   IsStages source spares text   what `stages` writes of it: the lines of the layers of its gates, with spare wires where a number is given
 --   IsAnswer content c source ..   the text and the line are what the command asks for
 --   drawn_program start gates n   the program of `bench`: so many gates on n wires, drawn from a start; no bit, and no barrier
 --   IsHad reads keep input after source   where the input is read, it was taken whole, and its text is accepted as this program, which
@@ -41,15 +43,16 @@ use Rattle.trace_check.specs.Proves.{Proves}
 use Rattle.trace_check.specs.Verdicts.{claim_of}
 use Rattle.trace_text.specs.Texts.{trace_of}
 use Rattle.command_words.specs.declared.commands.Command.{Command}
-use Rattle.command_words.specs.declared.commands.Command.TheVariants.{Opt, Route, Check, Stages, Bench, Amplitude, Verify}
+use Rattle.command_words.specs.declared.commands.Command.TheVariants.{Opt, OptWithSpares, Route, Check, Stages, Bench, Amplitude, Verify}
 use Rattle.command_words.specs.Commands.{command_of}
-use Rattle.command_words.specs.Demands.{asked_entry, keeps_barriers, reads_input}
+use Rattle.command_words.specs.Demands.{keeps_barriers, question_of, reads_input}
 use Rattle.qroute_top.specs.Claims.{IsVerified}
 use Rattle.qroute_top.specs.Costs.{told_cost}
 use Rattle.qroute_top.specs.Devices.{IsDevice}
 use Rattle.qroute_top.specs.Questions.{IsEntryText, IsQuestionRefusal}
 use Rattle.qroute_top.specs.declared.stops.QuestionRefusal.{QuestionRefusal}
 use Rattle.qroute_top.specs.InParts.{AreMade, HasFewTs, told_parts}
+use Rattle.qroute_top.specs.WithSpares.{StandsWithSpares, ToldWithSpares}
 use Rattle.routed_parts.specs.Runs.{AreMachineRuns, HasFewSwaps}
 use Rattle.routed_parts.specs.Settled.{IsSettled}
 
@@ -103,6 +106,7 @@ pub record Rewrites (source : Program) (keep traced : Bool) (IsPlaced : Program 
   pub told : Report
   pub made : Makes source target parts told text line
   pub tells : told.parts ≡ told_parts keep parts
+  pub alone : told.spares ≡ None
   pub trace : IsOwnTrace traced source target told (trace_of text)
   pub placed : IsPlaced target parts told
 
@@ -135,6 +139,19 @@ pub record IsOnDevice (content : Content) (name : List ℕ) (trivial clean : Boo
   pub described : IsDevice device_text device
   pub routed : IsOnQubits device trivial clean source target parts told
 
+pub record WritesWithSpares (source : Program) (m : ℕ) (text line : List ℕ) : Type 0 where
+  pub target : Program
+  pub told : Report
+  -- the text is the target's, and has no trace
+  pub written : IsWritten text target
+  pub trace : trace_of text ≡ []
+  -- the line tells a report of the spares, whose numbers are those of both programs
+  pub report : line ≡ report_line told
+  pub numbers : Reports source target told
+  pub tells : ToldWithSpares target m told
+  -- and the target stands for the source
+  pub stands : StandsWithSpares source target m told
+
 abbrev pub counts_of : Program → Counts
 counts_of source = record {
   barriers = source.barriers;
@@ -145,8 +162,8 @@ counts_of source = record {
   t = t_count source.ops;
 }
 
-abbrev pub IsStages : Program → List ℕ → Type 0
-IsStages source text = IsStageText source.wires (layers_of (expanded source.ops)) text
+abbrev pub IsStages : Program → Option ℕ → List ℕ → Type 0
+IsStages source spares text = IsStageText source.wires spares (layers_of (expanded source.ops)) text
 
 abbrev pub drawn_program : ℕ → ℕ → ℕ → Program
 drawn_program start gates n = record {
@@ -160,10 +177,11 @@ drawn_program start gates n = record {
 
 abbrev pub IsAnswer : Content → Command → Program → List ℕ → List ℕ → Type 0
 IsAnswer content (Opt keep) source text line = Rewrites source keep false (IsInPlace source) text line
+IsAnswer content (OptWithSpares m) source text line = WritesWithSpares source m text line
 IsAnswer content (Route name trivial traced keep clean) source text line =
     Rewrites source keep traced (IsOnDevice content name trivial clean source) text line
 IsAnswer content Check source text line = (text ≡ []) × (line ≡ check_line (counts_of source))
-IsAnswer content Stages source text line = IsStages source text × (line ≡ [])
+IsAnswer content (Stages spares) source text line = IsStages source spares text × (line ≡ [])
 IsAnswer content (Amplitude from to) source text line = IsEntryText source.ops from to text × (line ≡ [])
 IsAnswer content (Verify a b) source text line = IsVerified content a b text × (line ≡ [])
 IsAnswer content (Bench start gates name) source text line = Rewrites source false false
@@ -179,7 +197,7 @@ pub record Delivers (words : List (List ℕ)) (content : Content) (input after :
   pub source : Program
   pub had : IsHad (reads_input command) (keeps_barriers command) input after source
   -- no refusal of a question applies, where the command asks one
-  pub answered : (r : QuestionRefusal) → IsQuestionRefusal (asked_entry command) source r → ⊥
+  pub answered : (r : QuestionRefusal) → IsQuestionRefusal (question_of command) source r → ⊥
   pub answer : IsAnswer content command source text line
 
 abbrev pub Delivered : List (List ℕ) → Content → Option (List ℕ) → Option (List ℕ) → (List ℕ → List ℕ → Type 0) → Type 0

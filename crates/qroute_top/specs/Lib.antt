@@ -3,6 +3,7 @@ pub mod Devices
 pub mod Questions
 pub mod InParts
 pub mod Costs
+pub mod WithSpares
 pub mod Claims
 pub mod Delivered
 pub mod Causes

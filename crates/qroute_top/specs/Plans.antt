@@ -3,6 +3,7 @@
 --   IsFit s t            what is asked of a target before it is written
 --   Stands s keep traced P t   the target stands for its source, its parts are told where barriers are kept, its trace is what is
 --                        asked for, and of its parts, qubits, placements and edges P holds
+--   IsSparedTarget s m t   the target stands for the source with m spare wires
 --   IsReport s t r       the report of the target
 --   TellsReport s t line   the line is that of the report of the target
 --   IsPlanned s t ..     the text of the target, and the line of its report
@@ -11,7 +12,7 @@
 --   IsFitWork w          what is asked of a work before it is done
 --   IsWork w ..          the text and the line that are right for a work
 --   HasWork w Done       some text and line are right for the work, and this was done with them
-use Rattle.std.specs.Prelude.{◌≡◌, ℕ, suc, ◌<◌, ◌≤◌, Bool, true, false, List, [], All, length, map, sum_by}
+use Rattle.std.specs.Prelude.{◌≡◌, ℕ, suc, ◌<◌, ◌≤◌, Bool, true, false, List, [], None, All, length, map, sum_by}
 use Rattle.circuit_list.specs.Gates.{ops}
 use Rattle.gate_inline.specs.Programs.{IsWritten, Program}
 use Rattle.program_parts.specs.Cuts.{chopped}
@@ -26,6 +27,7 @@ use Rattle.qroute_top.specs.declared.target.Target.{Target}
 use Rattle.qroute_top.specs.Delivered.{IsOwnTrace, Reports, StandsFor, placed_read}
 use Rattle.qroute_top.specs.InParts.{told_parts}
 use Rattle.qroute_top.specs.Targets.{IsTold}
+use Rattle.qroute_top.specs.WithSpares.{StandsWithSpares, ToldWithSpares}
 
 abbrev pub target_program : Program → Target → Program
 target_program s t = record {
@@ -51,7 +53,13 @@ pub record Stands (s : Program) (keep traced : Bool) (IsPlaced : Program → Lis
   pub stands : (told : Report) → IsTold t told → StandsFor s (target_program s t) parts told
   pub placed : (told : Report) → IsTold t told → IsPlaced (target_program s t) parts told
   pub tells : t.parts ≡ told_parts keep parts
+  pub alone : t.spares ≡ None
   pub trace : (told : Report) → IsTold t told → IsOwnTrace traced s (target_program s t) told t.trace.items
+
+pub record IsSparedTarget (s : Program) (m : ℕ) (t : Target) : Type 0 where
+  pub stands : (told : Report) → IsTold t told → StandsWithSpares s (target_program s t) m told
+  pub tells : (told : Report) → IsTold t told → ToldWithSpares (target_program s t) m told
+  pub trace : t.trace.items ≡ []
 
 pub record IsReport (s : Program) (t : Target) (r : Report) : Type 0 where
   pub numbers : Reports s (target_program s t) r

@@ -4,14 +4,15 @@
 --   IsUndescribed text n e   why a text that isn't too long gives no device for a program on n wires
 --   IsUnasked words s    why words give no command
 --   source_stopped e, device_stopped e, question_stopped e   a stop of reading, of the device, or of a question, as one of the run
---   IsUnanswered bits p e   why an entry of the program p between these bits isn't told
+--   IsUnanswered q p e   why the question q on the program p isn't answered
 --   unloaded_text side f     why a text of the shelf isn't had, as a stop of the run
 --   IsUnreadText side text s   why a text that isn't too long isn't accepted
 --   IsTextStop ..        why a text of `verify` isn't had as a program
 --   IsTraceStop e trace s    why a trace proves no claim
 --   IsClaimStop ..       why a claim on two texts isn't proved
-use Rattle.std.specs.Prelude.{◌≡◌, ℕ, Bool, List, Option, None, Some, ⊤}
+use Rattle.std.specs.Prelude.{◌≡◌, ℕ, List, Option, None, Some, ⊤}
 use Rattle.command_words.specs.Commands.{command_of}
+use Rattle.command_words.specs.Demands.{Question}
 use Rattle.outside_io.specs.declared.TextFault.{TextFault}
 use Rattle.outside_io.specs.declared.TextFault.TheVariants as text_fault
 use Rattle.program_reader.specs.declared.refusal.ReadFault.{ReadFault}
@@ -56,9 +57,9 @@ abbrev pub question_stopped : QuestionStop → Stop
 question_stopped question_stop.NoMemory = stop.NoMemory
 question_stopped (question_stop.Refused r) = stop.Question r
 
-abbrev pub IsUnanswered : (List Bool × List Bool) → Program → QuestionStop → Type 0
-IsUnanswered bits p question_stop.NoMemory = ⊤
-IsUnanswered bits p (question_stop.Refused r) = IsQuestionRefusal (Some bits) p r
+abbrev pub IsUnanswered : Question → Program → QuestionStop → Type 0
+IsUnanswered q p question_stop.NoMemory = ⊤
+IsUnanswered q p (question_stop.Refused r) = IsQuestionRefusal (Some q) p r
 
 abbrev pub unloaded : TextFault → DeviceStop
 unloaded text_fault.Failed = device_stop.Failed

@@ -18,7 +18,7 @@
 --   lasts_but_one ms     where the wires stand at the end of each part but the last
 --   IsOnSize size m      the gates of a part are on so many qubits
 --   IsAssembled keep s ms t   the target is put together of what is written for the parts
---   IsTold t r           the report r has the placements, the swaps, the turn, the cost and the parts of the target t
+--   IsTold t r           the report r has the placements, the swaps, the turn, the cost, the parts and the spares of the target t
 use Rattle.std.specs.Prelude.{◌≡◌, ℕ, ◌+◌, ◌*◌, ◌%◌, ◌<◌, ◌≤◌, Bool, true, false, List, [], ◌∷◌, Option, Some, None, All, IfSome, is_some, length, map, sum_by}
 use Rattle.circuit_list.specs.declared.Gate.{Gate}
 use Rattle.circuit_list.specs.Gates.{IsFine, ops}
@@ -152,3 +152,4 @@ pub record IsTold (t : Target) (r : Report) : Type 0 where
   pub phase : r.phase ≡ t.turn
   pub cost : r.cost ≡ t.cost
   pub parts : r.parts ≡ t.parts
+  pub spares : r.spares ≡ t.spares

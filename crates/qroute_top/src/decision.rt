@@ -11,7 +11,7 @@ ghost use Rattle.qroute_top.specs.Stops.{IsUnasked};
 
 use crate::claim::claim_work;
 use crate::device::load_device;
-use crate::pipeline::{Wishes, optimise, route_on};
+use crate::pipeline::{Wishes, optimise, optimise_with_spares, route_on};
 use crate::plan::{Work, check_work, stage_work};
 use crate::question::entry_work;
 use crate::source::{drawn_source, read_source};
@@ -69,13 +69,17 @@ pub fn decide<I: Input, F: Shelf>(
             let source = read_source(alloc, input, keep_barriers)?;
             Ok(optimise(alloc, source, keep_barriers)?)
         }
+        Command::OptWithSpares { spares } => {
+            let source = read_source(alloc, input, false)?;
+            Ok(optimise_with_spares(alloc, source, spares)?)
+        }
         Command::Check => {
             let source = read_source(alloc, input, false)?;
             Ok(check_work(alloc, &source)?)
         }
-        Command::Stages => {
+        Command::Stages { spares } => {
             let source = read_source(alloc, input, false)?;
-            Ok(stage_work(alloc, &source)?)
+            Ok(stage_work(alloc, &source, spares)?)
         }
         Command::Amplitude { from, to } => {
             let source = read_source(alloc, input, false)?;

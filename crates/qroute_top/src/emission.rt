@@ -80,6 +80,9 @@ fn fault_of_question(refusal: QuestionRefusal) -> Fault
         QuestionRefusal::WideProgram { qubits } => Fault::WideProgram { qubits },
         QuestionRefusal::ManyBranches { branches } => Fault::ManyBranches { branches },
         QuestionRefusal::BitsLength { qubits } => Fault::BitsLength { qubits },
+        QuestionRefusal::TooManySpares { qubits, spares } => {
+            Fault::TooManySpares { qubits, spares }
+        }
     }
 }
 

@@ -4,8 +4,9 @@
 //! of a fault, on `report`, and the status comes out. The contract of `run` is the promise of the whole program: the text
 //! that is written spells a program that does what the source does, up to a power of w and between placements that the line
 //! tells; it has no more T gates than the source has odd path parities, and no more CNOTs but three for each swap; each
-//! classical bit reads the wire that it read before. On a device each CNOT follows an edge, and what is written is the routing
-//! machine's run, whose swaps are few; on its own wires the program is settled. Each status comes exactly where its cause is.
+//! classical bit reads the wire that it read before. With `--spares` it has spare wires more, and all this but the bound on CNOTs
+//! holds where these start at zero, which they then end at; its layers take as few blocks as the spares allow. On a device each CNOT follows an edge, and what is written is the routing
+//! machine's run, whose swaps are few; on its own wires, without spares, the program is settled. Each status comes exactly where its cause is.
 //! A text that is refused is told with its place or statement, a device with its reason, and nothing is written then. `check`
 //! tells of a program without writing one, `stages` writes a line for each layer of its gates, and `amplitude` writes one entry of
 //! its unitary. `bench` reads none: it routes one that it draws for the device, gate by gate. With `--trace` the program that is
@@ -13,7 +14,7 @@
 //! that it is another, whoever wrote them.
 //!
 //! `source` reads the input, over all of the readers, or draws a program; `device` loads the device of a name; `target` makes the
-//! circuit that is to be written and its trace, `question` the entry that is asked for, `claim` the verdict on two texts, and `plan`
+//! circuit that is to be written and its trace, `question` the entry that is asked for and whether spares have room, `claim` the verdict on two texts, and `plan`
 //! all that takes memory, before `emission` writes the first byte. A program goes out in pieces, so its text never stands whole in
 //! memory. What a command asks of its surroundings is told by `command_words`, so that each clause is said once for all commands.
 #![tactic(auto)]
@@ -26,7 +27,7 @@ ghost use Rattle.route_report.specs.declared.faults.Side.TheVariants as Side;
 ghost use Rattle.program_reader.specs.Refusals.{IsRefusal};
 ghost use Rattle.program_reader.specs.declared.refusal.Refusal.{Refusal as Refused};
 ghost use Rattle.command_words.specs.Commands.{command_of};
-ghost use Rattle.command_words.specs.Demands.{asked_entry, asked_texts, device_name, reads_input, writes_out, writes_report};
+ghost use Rattle.command_words.specs.Demands.{asked_texts, device_name, question_of, reads_input, writes_out, writes_report};
 ghost use Rattle.command_words.specs.declared.commands.Command.{Command as Asked};
 ghost use Rattle.qroute_top.specs.declared.stops.DeviceRefusal.{DeviceRefusal as RefusedDevice};
 ghost use Rattle.gate_inline.specs.Programs.{IsAccepted, Program};
@@ -112,7 +113,7 @@ pub fn run<I: Source, F: Shelf, O: Sink, R: Sink>(
 
     // .. or where the program is accepted and the question that the command asks on it is refused.
     ensures refuses_question { (c : Asked) (text : List ℕ) (p : Program) (r : RefusedQuestion) → command_of (map (λ w. w.now) words.now) ≡ Some c
-        → I.left input.old ≡ Some text → IsAccepted text p → IsQuestionRefusal (asked_entry c) p r
+        → I.left input.old ≡ Some text → IsAccepted text p → IsQuestionRefusal (question_of c) p r
         → (Rose (I.faults input.old) (I.faults input.new) → ⊥) → (result ≡ 3) ⊎ (result ≡ 7) }
 
     // 9 exactly where the shelf has no text of the device's name, unless it failed.
@@ -133,7 +134,7 @@ pub fn run<I: Source, F: Shelf, O: Sink, R: Sink>(
     ensures complete { (c : Asked) (n : ℕ) → command_of (map (λ w. w.now) words.now) ≡ Some c → asked_texts c ≡ None
         → HasSource (reads_input c) (λ text. I.left input.old ≡ Some text) n → HasDevice (F.content shelf.old) (device_name c) n
         → ((text : List ℕ) (p : Program) (r : RefusedQuestion) → I.left input.old ≡ Some text → IsAccepted text p
-        → IsQuestionRefusal (asked_entry c) p r → ⊥)
+        → IsQuestionRefusal (question_of c) p r → ⊥)
         → (reads_input c ≡ true → Rose (I.faults input.old) (I.faults input.new) → ⊥)
         → (is_some (device_name c) ≡ true → Rose (F.faults shelf.old) (F.faults shelf.new) → ⊥)
         → (writes_out c ≡ true → Rose (O.faults out.old) (O.faults out.new) → ⊥)

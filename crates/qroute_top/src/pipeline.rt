@@ -1,12 +1,18 @@
 //! From a source to what a command has to write.
 
-ghost use Rattle.std.specs.Prelude.{◌≡◌, ◌≤◌, ℕ, List, IfOk, false, true};
+ghost use Rattle.std.specs.Prelude.{◌≡◌, ◌≤◌, ℕ, List, Some, IfOk, IfErr, false, true};
+ghost use Rattle.command_words.specs.Demands.{Spares};
 ghost use Rattle.program_parts.specs.Cuts.{uncut};
-ghost use Rattle.qroute_top.specs.Delivered.{IsInPlace, IsOnQubits, Rewrites};
+ghost use Rattle.qroute_top.specs.Delivered.{IsInPlace, IsOnQubits, Rewrites, WritesWithSpares};
 ghost use Rattle.qroute_top.specs.Plans.{IsFitWork, IsWork, has_line, has_text};
+ghost use Rattle.qroute_top.specs.Questions.{IsQuestionRefusal};
+ghost use Rattle.qroute_top.specs.Stops.{IsUnanswered};
+ghost use Rattle.qroute_top.specs.declared.stops.QuestionRefusal.{QuestionRefusal as RefusedQuestion};
 
 use crate::plan::{Work, work_of};
-use crate::target::{in_place, on_device, optimised_parts};
+use crate::question::spares_refusal;
+use crate::stops::QuestionStop;
+use crate::target::{in_place, on_device, on_spares, optimised_parts};
 use coupling_map::Device;
 use program_reader::SourceProgram;
 use std::alloc::{AllocError, Global};
@@ -21,6 +27,29 @@ pub fn optimise(alloc: Global, source: SourceProgram, keep: bool) -> Result<Work
     ensures fit { IfOk result IsFitWork }
 {
     let target = in_place(alloc, &source, keep)?;
+    Ok(work_of(source, target))
+}
+
+/// Makes what is to be written for a source with so many spare wires behind its own.
+#[tactic(auto, using(crate::proofs::PlanLaws::plans))]
+pub fn optimise_with_spares(
+    alloc: Global,
+    source: SourceProgram,
+    spares: u32,
+) -> Result<Work, QuestionStop>
+    requires one { source.cut ≡ uncut source.ops }
+    requires few { spares ≤ 255 }
+    ensures made { IfOk result (λ w. (text line : List ℕ) → IsWork w text line → WritesWithSpares source spares text line) }
+    ensures answered { IfOk result (λ _. (r : RefusedQuestion) → IsQuestionRefusal (Some (Spares spares)) source r → ⊥) }
+    ensures writes { IfOk result (λ w. has_text w ≡ true) }
+    ensures tells { IfOk result (λ w. has_line w ≡ true) }
+    ensures fit { IfOk result IsFitWork }
+    ensures err { IfErr result (IsUnanswered (Spares spares) source) }
+{
+    if let Some(refusal) = spares_refusal(&source, spares) {
+        return Err(QuestionStop::Refused(refusal));
+    }
+    let target = on_spares(alloc, &source, spares)?;
     Ok(work_of(source, target))
 }
 

@@ -164,6 +164,7 @@ fn report_of(alloc: Global, source: &SourceProgram, target: &Target) -> Result<R
         parts: copied(alloc, &target.parts)?,
         phase: target.turn,
         qubits: counts.qubits,
+        spares: target.spares,
         swaps: target.swaps,
         t_after: target.body.count_t() as u64,
         t_before: counts.t,
@@ -223,16 +224,20 @@ pub fn check_work(alloc: Global, source: &SourceProgram) -> Result<Work, AllocEr
     Ok(Work::Line { line })
 }
 
-/// The lines of the layers of a program's gates; nothing goes to the report.
-pub fn stage_work(alloc: Global, source: &SourceProgram) -> Result<Work, AllocError>
+/// The lines of the layers of a program's gates, with spare wires where a number is given; nothing goes to the report.
+pub fn stage_work(
+    alloc: Global,
+    source: &SourceProgram,
+    spares: Option<u32>,
+) -> Result<Work, AllocError>
     requires { source.now.cut ≡ uncut source.now.ops }
-    ensures made { IfOk result (λ w. (text line : List ℕ) → IsWork w text line → IsStages source.now text × (line ≡ [])) }
+    ensures made { IfOk result (λ w. (text line : List ℕ) → IsWork w text line → IsStages source.now spares text × (line ≡ [])) }
     ensures fit { IfOk result IsFitWork }
     ensures writes { IfOk result (λ w. has_text w ≡ true) }
     ensures tells { IfOk result (λ w. has_line w ≡ false) }
 {
     source.facts();
     let gates = expand(alloc, source.ops())?;
-    let text = stage_lines(alloc, &gates.body)?;
+    let text = stage_lines(alloc, &gates.body, spares)?;
     Ok(Work::Text { text })
 }

@@ -1,16 +1,18 @@
-//! The entry of a program's unitary that is asked for.
+//! Questions on a program: the entry of its unitary that is asked for, and whether there is room for spare wires.
 
-ghost use Rattle.std.specs.Prelude.{◌≡◌, ◌≤◌, ℕ, List, [], length, None, Some, IfOk, IfErr, IfSome, false, true};
+ghost use Rattle.std.specs.Prelude.{◌≡◌, ◌+◌, ◌≤◌, ℕ, List, [], length, None, Some, IfOk, IfErr, IfSome, false, true};
 ghost use Rattle.amplitude_exact.specs.Entries.{branches, most_branches, most_wires};
 ghost use Rattle.qroute_top.specs.Plans.{IsFitWork, IsWork, has_line, has_text};
+ghost use Rattle.command_words.specs.Demands.{Entry as EntryOf, Spares};
 ghost use Rattle.program_parts.specs.Cuts.{uncut};
-ghost use Rattle.qroute_top.specs.Questions.{IsEntryText, IsQuestionRefusal};
+ghost use Rattle.qroute_top.specs.Questions.{IsEntryText, IsQuestionRefusal, most_wires_in_all};
 ghost use Rattle.qroute_top.specs.Stops.{IsUnanswered};
 ghost use Rattle.qroute_top.specs.declared.stops.QuestionRefusal.{QuestionRefusal as RefusedQuestion};
 
 use crate::plan::Work;
 use crate::stops::{QuestionRefusal, QuestionStop};
 use amplitude_exact::{Amp, amplitude, branches_of};
+use circuit_list::MOST_WIRES;
 use command_words::bits::BitList;
 use program_reader::SourceProgram;
 use route_report::{Entry, entry_line};
@@ -25,8 +27,8 @@ const BRANCH_LIMIT: usize = 60;
 /// Why the entry of a program between two lists of bits isn't told.
 fn refusal_of(source: &SourceProgram, from: &[bool], to: &[bool]) -> Option<QuestionRefusal>
     requires { source.now.cut ≡ uncut source.now.ops }
-    ensures refused { IfSome result (IsQuestionRefusal (Some (from.now, to.now)) source.now) }
-    ensures answered { result ≡ None → (r : RefusedQuestion) → IsQuestionRefusal (Some (from.now, to.now)) source.now r → ⊥ }
+    ensures refused { IfSome result (IsQuestionRefusal (Some (EntryOf from.now to.now)) source.now) }
+    ensures answered { result ≡ None → (r : RefusedQuestion) → IsQuestionRefusal (Some (EntryOf from.now to.now)) source.now r → ⊥ }
     ensures few_wires { result ≡ None → source.now.wires ≤ most_wires }
     ensures few_branches { result ≡ None → branches source.now.ops ≤ most_branches }
     ensures from_length { result ≡ None → length from.now ≡ source.now.wires }
@@ -48,6 +50,21 @@ fn refusal_of(source: &SourceProgram, from: &[bool], to: &[bool]) -> Option<Ques
     }
     if to.len() != wires as usize {
         return Some(QuestionRefusal::BitsLength { qubits: wires });
+    }
+    None
+}
+
+/// Why so many spare wires can't stand behind a program's.
+pub fn spares_refusal(source: &SourceProgram, spares: u32) -> Option<QuestionRefusal>
+    requires { spares ≤ 255 }
+    ensures refused { IfSome result (IsQuestionRefusal (Some (Spares spares)) source.now) }
+    ensures answered { result ≡ None → (r : RefusedQuestion) → IsQuestionRefusal (Some (Spares spares)) source.now r → ⊥ }
+    ensures room { result ≡ None → source.now.wires + spares ≤ most_wires_in_all }
+{
+    source.facts();
+    let qubits = source.wires();
+    if qubits + spares > MOST_WIRES {
+        return Some(QuestionRefusal::TooManySpares { qubits, spares });
     }
     None
 }
@@ -78,11 +95,11 @@ pub fn entry_work(
 ) -> Result<Work, QuestionStop>
     requires { source.now.cut ≡ uncut source.now.ops }
     ensures made { IfOk result (λ w. (text line : List ℕ) → IsWork w text line → IsEntryText source.now.ops from.now to.now text × (line ≡ [])) }
-    ensures answered { IfOk result (λ w. (r : RefusedQuestion) → IsQuestionRefusal (Some (from.now, to.now)) source.now r → ⊥) }
+    ensures answered { IfOk result (λ w. (r : RefusedQuestion) → IsQuestionRefusal (Some (EntryOf from.now to.now)) source.now r → ⊥) }
     ensures fit { IfOk result IsFitWork }
     ensures writes { IfOk result (λ w. has_text w ≡ true) }
     ensures tells { IfOk result (λ w. has_line w ≡ false) }
-    ensures err { IfErr result (IsUnanswered (from.now, to.now) source.now) }
+    ensures err { IfErr result (IsUnanswered (EntryOf from.now to.now) source.now) }
 {
     let from = from.as_slice();
     let to = to.as_slice();

@@ -16,7 +16,7 @@ pub enum DeviceRefusal {
     TooFewQubits { device: u32, qubits: u32 },
 }
 
-/// Why a question on a program, that for an entry of its unitary, is refused.
+/// Why a question on a program is refused: that for an entry of its unitary, or whether there is room for spare wires.
 #[derive(Clone, Copy, Debug, PartialEq, Eq)]
 pub enum QuestionRefusal {
     /// The program has more than 12 wires.
@@ -25,6 +25,8 @@ pub enum QuestionRefusal {
     ManyBranches { branches: u64 },
     /// There aren't as many bits as the program has wires.
     BitsLength { qubits: u32 },
+    /// The program's wires and the spare ones are more than 256.
+    TooManySpares { qubits: u32, spares: u32 },
 }
 
 /// Why the program isn't read.

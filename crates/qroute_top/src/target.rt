@@ -1,6 +1,6 @@
 //! The circuit that is to be written for a source, and where its wires begin and end.
 
-ghost use Rattle.std.specs.Prelude.{◌≡◌, ◌⊎◌, ◌≤◌, ◌<◌, [], All, IfOk, IfSome, None, false, is_some, length, true};
+ghost use Rattle.std.specs.Prelude.{◌≡◌, ◌⊎◌, ◌+◌, ◌≤◌, ◌<◌, [], All, IfOk, IfSome, None, false, is_some, length, true};
 ghost use Rattle.std.specs.List.{AllZip};
 ghost use Rattle.circuit_list.specs.Gates.{most_wires};
 ghost use Rattle.gate_expand.specs.Expansion.{IsFineOp};
@@ -12,7 +12,7 @@ ghost use Rattle.routed_parts.specs.Legs.{IsCleaned};
 ghost use Rattle.sabre_route.specs.Routing.{IsLayout};
 ghost use Rattle.sabre_route.specs.Telling.{IsRoutedBy};
 ghost use Rattle.qroute_top.specs.Delivered.{IsInPlace, IsOnQubits};
-ghost use Rattle.qroute_top.specs.Plans.{IsFit, Stands};
+ghost use Rattle.qroute_top.specs.Plans.{IsFit, IsSparedTarget, Stands};
 ghost use Rattle.qroute_top.specs.Targets.{AreRoutedParts, AreTraced, HasSteps, IsOptimised, IsPlacedPart, IsRoutedPart, IsRunOf, IsRunTrace, IsTraceOf, are_told, gates_of, last_of};
 
 use crate::cost::cost_of;
@@ -30,6 +30,8 @@ use rewrite_pass::Pass;
 use route_report::{Parts, Wires};
 use route_trace::route_trace;
 use sabre_route::{Event, Routed, layout, route, route_traced};
+use spare_layers::laws::{spared_chain, spared_circuit};
+use spare_layers::with_spares;
 use std::alloc::{AllocError, Global};
 use unitary_model::turn_sum;
 
@@ -48,12 +50,15 @@ pub struct Target {
     pub last: Placement,
     /// The number of swaps.
     pub swaps: u64,
-    /// The turn `j`, below 8: the body's unitary is `w^j` times the source's, between the placements.
+    /// The turn `j`, below 8: the body's unitary is `w^j` times the source's, between the placements; with spares where they start
+    /// at zero.
     pub turn: u8,
     /// What its CNOTs cost on the device's edges, where the device lists costs.
     pub cost: Option<u64>,
     /// What is told of the parts, where barriers are kept.
     pub parts: Option<Parts>,
+    /// The number of spare wires behind the source's, where some are asked for.
+    pub spares: Option<u32>,
     /// The lines of its trace; empty where none is asked for.
     pub trace: Vec<u8>,
 }
@@ -157,8 +162,40 @@ pub fn in_place(alloc: Global, source: &SourceProgram, keep: bool) -> Result<Tar
         turn: turn_of(&made),
         cost: None,
         parts: told_parts(alloc, source, &made, keep)?,
+        spares: None,
         trace: Vec::new(alloc),
         body: body_of(alloc, wires, made)?,
+    })
+}
+
+/// The circuit on its own wires and so many spare ones behind them: the layers that take fewer blocks there are written anew.
+pub fn on_spares(alloc: Global, source: &SourceProgram, spares: u32) -> Result<Target, AllocError>
+    requires one { source.now.cut ≡ uncut source.now.ops }
+    requires few { source.now.wires + spares ≤ most_wires }
+    ensures stands { IfOk result (IsSparedTarget source.now spares) }
+    ensures fit { IfOk result (IsFit source.now) }
+{
+    source.facts();
+    spared_chain();
+    spared_circuit();
+    let Rewritten { passed, .. } = optimised(alloc, source.ops(), false)?;
+    let made = with_spares(alloc, spares, &passed.body)?;
+    let own = Placement::identity(alloc, made.body.wires())?;
+    let initial = qubits_of(alloc, &own)?;
+    // There is no device, and there are no parts, to tell of.
+    let (cost, parts) = (None, None);
+    Ok(Target {
+        lengths: vec![in alloc; made.body.len()]?,
+        barriers: Vec::new(alloc),
+        initial,
+        last: own,
+        swaps: 0,
+        turn: turn_sum(passed.turn, made.turn),
+        cost,
+        parts,
+        spares: Some(spares),
+        trace: Vec::new(alloc),
+        body: made.body,
     })
 }
 
@@ -440,6 +477,7 @@ pub fn on_device(
         turn,
         cost,
         parts,
+        spares: None,
         trace,
     })
 }

@@ -1,9 +1,11 @@
 -- Why the device isn't had, and what is delivered on one that is.
 use Rattle.std.proofs.Common.{refl, map, ap, ◌∙◌}
 use Rattle.std.proofs.lemmas.Result.{err_from_is_err_and}
+use Rattle.command_words.specs.Demands.{Entry, Spares}
+use Rattle.command_words.specs.declared.commands.Command.TheVariants.{Amplitude, OptWithSpares}
 use Rattle.qroute_top.specs.Causes.{Handed}
 use Rattle.qroute_top.specs.Delivered.{drawn_program}
-use Rattle.qroute_top.proofs.RunLaws.{Delivers-drawn, Delivers-entry, Delivers-routed, IsCause-device, IsCause-question, Reaches-drawn, Reaches-read, device_failed, handed}
+use Rattle.qroute_top.proofs.RunLaws.{Delivers-drawn, Delivers-entry, Delivers-routed, Delivers-spared, IsCause-device, IsCause-question, Reaches-drawn, Reaches-read, device_failed, handed}
 use Rattle.qroute_top.proofs.decision.decide.Goals as goal
 
 pub returns-in_err-device-in-Route-clause-stop : goal.returns-in_err-device-in-Route-clause-stop
@@ -50,9 +52,9 @@ returns-in_err-entry_work-in-Amplitude-clause-stop g c =
     let h : Handed = handed (map (λ w. w.now) c.args.words.now) (g.I.Source.left c.args.input.now) (g.I.Source.faults c.args.input.now)
     (g.I.Source.faults c.read_source-in-Amplitude.new.input) (g.F.Shelf.content c.args.shelf.now) (g.F.Shelf.faults c.args.shelf.now)
     (g.F.Shelf.faults c.args.shelf.now) in
-    let it = IsCause-question h c.in_ok-command.command c.in-Amplitude.from c.in-Amplitude.to (g.I.Source.left c.read_source-in-Amplitude.new.input)
-    c.in_ok-source-in-Amplitude.source _ c.in_ok-command.ensures.ok c.in-Amplitude.is c.in_ok-source-in-Amplitude.ensures.ok
-    c.in_err-entry_work-in-Amplitude.ensures.err in
+    let it = IsCause-question h c.in_ok-command.command (Amplitude c.in-Amplitude.from c.in-Amplitude.to) (Entry c.in-Amplitude.from c.in-Amplitude.to)
+    (g.I.Source.left c.read_source-in-Amplitude.new.input) c.in_ok-source-in-Amplitude.source _ c.in_ok-command.ensures.ok c.in-Amplitude.is refl refl
+    c.in_ok-source-in-Amplitude.ensures.ok c.in_err-entry_work-in-Amplitude.ensures.err in
     rw (p.1, p.2) it
 
 pub returns-in_ok-entry_work-in-Amplitude-clause-made : goal.returns-in_ok-entry_work-in-Amplitude-clause-made
@@ -61,3 +63,22 @@ returns-in_ok-entry_work-in-Amplitude-clause-made g c =
     c.in-Amplitude.to (g.I.Source.left c.args.input.now) (g.I.Source.left c.read_source-in-Amplitude.new.input) c.in_ok-source-in-Amplitude.source
     text line c.in_ok-command.ensures.ok c.in-Amplitude.is c.in_ok-source-in-Amplitude.ensures.ok c.in_ok-entry_work-in-Amplitude.ensures.answered
     (c.in_ok-entry_work-in-Amplitude.ensures.made text line is)
+
+pub returns-in_err-optimise_with_spares-in-OptWithSpares-clause-stop : goal.returns-in_err-optimise_with_spares-in-OptWithSpares-clause-stop
+returns-in_err-optimise_with_spares-in-OptWithSpares-clause-stop g c =
+    let p = err_from_is_err_and c.from_residual-in_err-optimise_with_spares-in-OptWithSpares.result
+    c.from_residual-in_err-optimise_with_spares-in-OptWithSpares.ensures.1 in
+    let h : Handed = handed (map (λ w. w.now) c.args.words.now) (g.I.Source.left c.args.input.now) (g.I.Source.faults c.args.input.now)
+    (g.I.Source.faults c.read_source-in-OptWithSpares.new.input) (g.F.Shelf.content c.args.shelf.now) (g.F.Shelf.faults c.args.shelf.now)
+    (g.F.Shelf.faults c.args.shelf.now) in
+    let it = IsCause-question h c.in_ok-command.command (OptWithSpares c.in-OptWithSpares.spares) (Spares c.in-OptWithSpares.spares)
+    (g.I.Source.left c.read_source-in-OptWithSpares.new.input) c.in_ok-source-in-OptWithSpares.source _ c.in_ok-command.ensures.ok c.in-OptWithSpares.is refl refl
+    c.in_ok-source-in-OptWithSpares.ensures.ok c.in_err-optimise_with_spares-in-OptWithSpares.ensures.err in
+    rw (p.1, p.2) it
+
+pub returns-in_ok-optimise_with_spares-in-OptWithSpares-clause-made : goal.returns-in_ok-optimise_with_spares-in-OptWithSpares-clause-made
+returns-in_ok-optimise_with_spares-in-OptWithSpares-clause-made g c =
+    λ text line is. Delivers-spared (map (λ w. w.now) c.args.words.now) (g.F.Shelf.content c.args.shelf.now) c.in_ok-command.command
+    c.in-OptWithSpares.spares (g.I.Source.left c.args.input.now) (g.I.Source.left c.read_source-in-OptWithSpares.new.input)
+    c.in_ok-source-in-OptWithSpares.source text line c.in_ok-command.ensures.ok c.in-OptWithSpares.is c.in_ok-source-in-OptWithSpares.ensures.ok
+    c.in_ok-optimise_with_spares-in-OptWithSpares.ensures.answered (c.in_ok-optimise_with_spares-in-OptWithSpares.ensures.made text line is)

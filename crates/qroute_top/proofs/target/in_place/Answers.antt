@@ -51,6 +51,7 @@ returns-clause-stands c =
       turn = c.turn_of.result;
       cost = None;
       parts = c.in_ok-told_parts.field-0;
+      spares = None;
       trace = c.new.result;
     } in
     Stands-placed c.args.keep s c.in_ok-made.made.items t f.cut f.parts f.bars
@@ -61,7 +62,7 @@ returns-clause-stands c =
       turn = c.turn_of.ensures.sum ∙ ap (λ ns. turns_of ns % 8) c.deref-3.ensures.value;
       tells = c.in_ok-told_parts.ensures ∙ ap (λ ns. told_parts c.args.keep (parts_of s.cut.parts ns)) c.deref-4.ensures.value;
     })
-    c.in_ok-made.ensures (c.in_ok-body_of.ensures.wires ∙ c.wires-wires.ensures) refl initial last refl c.new.ensures.items
+    c.in_ok-made.ensures (c.in_ok-body_of.ensures.wires ∙ c.wires-wires.ensures) refl initial last refl c.new.ensures.items refl
 
 pub returns-clause-fit : goal.returns-clause-fit
 returns-clause-fit c =
@@ -80,6 +81,7 @@ returns-clause-fit c =
       turn = c.turn_of.result;
       cost = None;
       parts = c.in_ok-told_parts.field-0;
+      spares = None;
       trace = c.new.result;
     } in
     IsFit-placed c.args.keep s c.in_ok-made.made.items t f.cut f.parts f.bars

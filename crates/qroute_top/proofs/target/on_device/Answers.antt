@@ -1,5 +1,5 @@
 -- What the machine writes for each part, from where the one before it ended.
-use Rattle.std.proofs.Common.{◌≡◌, ◌≤◌, ◌<◌, ◌%◌, ◌∙◌, All, ap, length, map, subst, sym}
+use Rattle.std.proofs.Common.{◌≡◌, ◌≤◌, ◌<◌, ◌%◌, ◌∙◌, All, None, ap, length, map, refl, subst, sym}
 use Rattle.std.specs.Prelude.{sum_by}
 use Rattle.program_parts.specs.Cuts.{whole}
 use Rattle.sabre_route.specs.Routing.{IsLayout}
@@ -139,6 +139,7 @@ returns-clause-stands c =
       turn = c.turn_of-turn.result;
       cost = c.cost_of-cost.result;
       parts = c.in_ok-parts.parts;
+      spares = None;
       trace = c.in_ok-made.field-0.trace;
     } in
     Stands-routed c.args.keep c.args.trivial c.args.clean d s rs ms t f.cut f.parts f.bars
@@ -154,7 +155,7 @@ returns-clause-stands c =
     (c.swaps_of-swaps.ensures ∙ ap (sum_by (λ m. m.swaps)) c.deref-3.ensures.value) (λ x. begins ∙ c.in_ok-given.ensures.trivial x)
     (λ x. subst (IsLayout d (whole (gates_of rs))) (sym begins) (c.in_ok-given.ensures.laid_out x)) c.diameter-diameter.result
     c.diameter-diameter.ensures.diameter c.cost_of-cost.ensures (λ x. subst (λ p. AreTraced d p rs ms c.in_ok-made.field-0.trace.items) (sym begins) (e.told x))
-    e.silent f.operations_limit f.fine
+    e.silent f.operations_limit f.fine refl
 
 pub returns-clause-fit : goal.returns-clause-fit
 returns-clause-fit c =
@@ -177,6 +178,7 @@ returns-clause-fit c =
       turn = c.turn_of-turn.result;
       cost = c.cost_of-cost.result;
       parts = c.in_ok-parts.parts;
+      spares = None;
       trace = c.in_ok-made.field-0.trace;
     } in
     IsFit-routed c.args.keep c.args.clean d s rs ms t f.cut f.parts f.bars
