@@ -58,7 +58,7 @@ HERE = pathlib.Path(__file__).resolve().parent
 
 # What each fault means, by its name in the fault line; braces hold keys of that line.
 SAYS = {
-    "Words": "the words mean no command, or `--trace` stands beside `--keep-barriers` or `--clean`; the manual, `man docs/qroute.1`, has them all",
+    "Words": "the words mean no command, or `--trace` stands beside `--keep-barriers` or `--clean`, or `--spares` beside `--keep-barriers`; the manual, `man docs/qroute.1`, has them all",
     "Input": "the input failed, before its end was read",
     "Output": "the output failed: it holds some first part of the program",
     "Shelf": "a file that was named could not be read",
@@ -101,6 +101,7 @@ SAYS = {
     "WideProgram": "amplitudes are those of at most 12 qubits, and the program has {qubits}",
     "ManyBranches": "amplitudes are those of at most 60 gates that branch, and the program has {branches}",
     "BitsLength": "a basis state has a 0 or 1 for each of the program's {qubits} qubits",
+    "TooManySpares": "with {spares} spare wires behind the program's {qubits} there are more than 256 qubits",
     "Trace": "line {line} of the trace doesn't apply, or is missing",
 }
 # The most bytes that a program has, and those of the target of `verify`.
@@ -302,6 +303,10 @@ class Result:
     Entry i of `initial` and `final` is the qubit on which wire i begins and ends; wires from `qubits` on are the spare ones
     of the device. The written unitary is exp(i pi/4) to the power `phase` times the source's, between the two.
 
+    Where `spares` is given, so many wires stand behind the source's, they start at zero and end
+    at zero. The written unitary is the source's then where they start at zero, and nothing is said of where they don't. It is
+    None where none were asked for.
+
     Where barriers are kept, entry j of `between` is the placement at barrier j, and entry j of `parts` the power of the part
     before it, the last entry that of the part behind all barriers: each part is so its own source's, from the placement where
     the one before ends. Both are None where barriers are left out.
@@ -322,6 +327,7 @@ class Result:
     cost: int | None = None
     between: tuple[tuple[int, ...], ...] | None = None
     parts: tuple[int, ...] | None = None
+    spares: int | None = None
     report: dict[str, typing.Any] = dataclasses.field(default_factory=dict, repr=False, compare=False)
 
     @property
@@ -346,7 +352,8 @@ class Checked:
 class Stage:
     """A layer of gates between H: its gates, its parities with an odd coefficient, and into how few independent blocks they fall.
 
-    `witness` of the parities have the rank `rank`, which is why fewer blocks don't do.
+    `witness` of the parities have the rank `rank`, which is why fewer blocks don't do. With `spares` wires beside the program's
+    a block may have so many parities more than its rank; it is None where none were asked for.
     """
 
     layer: int
@@ -355,6 +362,7 @@ class Stage:
     blocks: int
     witness: int
     rank: int
+    spares: int | None = None
 
 
 def installed() -> list[pathlib.Path]:
@@ -425,12 +433,23 @@ def flags(**given: bool) -> list[str]:
     return [f"--{name.replace('_', '-')}" for name, is_given in given.items() if is_given]
 
 
-def opt(text: str | bytes, *, keep_barriers: bool = False, timeout: float | None = None) -> Result:
+def spare_words(spares: int | None) -> list[str]:
+    """The words of a command line that ask for so many spare wires."""
+    return [] if spares is None else ["--spares", str(spares)]
+
+
+def opt(
+    text: str | bytes, *, keep_barriers: bool = False, spares: int | None = None, timeout: float | None = None
+) -> Result:
     """The program on its own qubits, with fewer gates where some are found.
 
     With `keep_barriers` its barriers outside of gates' bodies are written too, and what stands between two is rewritten by itself.
+    With `spares`, from 1 to 255, so many wires stand behind its own, which start and end at zero, and T gates stand in fewer
+    blocks side by side where that makes some; barriers can't be kept then (ValueError).
     """
-    return result(*run(["opt", *flags(keep_barriers=keep_barriers)], as_bytes(text), timeout))
+    if keep_barriers and spares is not None:
+        raise ValueError("with spare wires no barriers are kept")
+    return result(*run(["opt", *flags(keep_barriers=keep_barriers), *spare_words(spares)], as_bytes(text), timeout))
 
 
 def route(
@@ -480,9 +499,9 @@ def check(text: str | bytes, *, timeout: float | None = None) -> Checked:
     return Checked(**{it.name: told[it.name] for it in dataclasses.fields(Checked)})
 
 
-def stages(text: str | bytes, *, timeout: float | None = None) -> list[Stage]:
-    """The layers of a program's gates between H, as they are before anything is rewritten."""
-    written, _ = run(["stages"], as_bytes(text), timeout)
+def stages(text: str | bytes, *, spares: int | None = None, timeout: float | None = None) -> list[Stage]:
+    """The layers of a program's gates between H, as they are before anything is rewritten; with `spares` wires beside its own."""
+    written, _ = run(["stages", *spare_words(spares)], as_bytes(text), timeout)
     rows = [line.split() for line in written.splitlines()]
     return [Stage(**{name: int(value) for name, value in zip(row[::2], row[1::2], strict=True)}) for row in rows]
 

@@ -13,7 +13,12 @@ _qroute() {
         return
     fi
     case "${COMP_WORDS[1]}" in
-        opt) options=--keep-barriers ;;
+        opt)
+            # barriers aren't kept beside spare wires
+            [[ " ${COMP_WORDS[*]:2} " == *" --spares "* ]] || options+=" --keep-barriers"
+            [[ " ${COMP_WORDS[*]:2} " == *" --keep-barriers "* ]] || options+=" --spares"
+            ;;
+        stages) options=--spares ;;
         route)
             options="--device --trivial"
             # a trace stands with neither of the other two
@@ -25,7 +30,7 @@ _qroute() {
         bench) options="--start --gates --device" ;;
     esac
     case "$before" in
-        --start | --gates | --from | --to) return ;;
+        --start | --gates | --from | --to | --spares) return ;;
         --device) ending=toml ;;
         --source | --target) ending=qasm ;;
     esac

@@ -5,6 +5,8 @@ bit i of the index is wire i, and a number of halvings: the state is the list di
 sparse state has the values that aren't 0 alone, by their indices, on any number of wires.
 """
 
+import random
+
 ZERO = (0, 0, 0, 0)
 
 
@@ -168,8 +170,9 @@ def basis(wires, index):
     return State(values)
 
 
-def mixed(wires):
-    """A superposition of all basis states with whole weights that look random, the same at each call."""
+def mixed(wires, spares=0):
+    """A superposition of all basis states with whole weights that look random, the same at each call; spare wires behind the
+    others are at zero."""
     x = 1
     values = []
     for _ in range(2**wires):
@@ -178,7 +181,7 @@ def mixed(wires):
             x = (x * 6364136223846793005 + 1442695040888963407) % 2**64
             parts.append((x >> 33) % 2_000_003 - 1_000_001)
         values.append(tuple(parts))
-    return State(values)
+    return State(values + [ZERO] * (2 ** (wires + spares) - 2**wires))
 
 
 def scattered(size):
@@ -190,6 +193,13 @@ def scattered(size):
             x = (x * 6364136223846793005 + 1442695040888963407) % 2**64
             found = found << 31 | x >> 33
         yield found % 2**size
+
+
+def each_scattered(size):
+    """All numbers of so many bits, each once, in an order that looks random, the same at each call."""
+    found = list(range(2**size))
+    random.Random(size).shuffle(found)
+    return found
 
 
 def first_difference(left, right, turn):

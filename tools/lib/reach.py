@@ -55,6 +55,7 @@ CLAIMS = [
         "that what `route` writes is the routing machine's run, with few swaps",
         {"routed_parts.specs.Runs": "AreMachineRuns HasFewSwaps"},
     ),
+    Claim("spares", "what `opt` writes with spare wires", {"qroute_top.specs.Delivered": "WritesWithSpares"}),
     Claim("stages", "what `stages` writes", {"qroute_top.specs.Delivered": "IsStages"}),
     Claim("verified", "what a yes of `verify` says", {"qroute_top.specs.Claims": "IsVerified"}),
     Claim("faults", "that each fault has its cause, and its line tells it", {"qroute_top.specs.Causes": "EndsWithFault"}),

@@ -32,7 +32,7 @@ def is_placement(value, size):
 
 def format_of(told):
     """The number of a report's format, by its keys."""
-    return 3 if "parts" in told else 2 if "cost" in told else 1
+    return 4 if "spares" in told else 3 if "parts" in told else 2 if "cost" in told else 1
 
 
 def flaws(told):
@@ -46,6 +46,22 @@ def flaws(told):
             yield f"{key} is no placement of {device} wires"
     if "between" in told or "parts" in told:
         yield from flaws_of_parts(told.get("between"), told.get("parts"), told)
+    if "spares" in told:
+        yield from flaws_of_spares(told["spares"], told)
+
+
+def flaws_of_spares(spares, told):
+    """What can't be of spare wires, which stand behind the source's, and of what stands beside them."""
+    if not is_count(spares) or spares != told["device"] - told["qubits"] or not 0 < spares < 256:
+        yield f"the report says spares {spares!r}, qubits {told['qubits']} and device {told['device']}"
+    for key in ("initial", "final"):
+        if told.get(key) != list(range(told["device"])):
+            yield f"with spare wires {key} isn't the identity"
+    for key in ("between", "cost", "parts"):
+        if key in told:
+            yield f"the report tells of {key} and of spares"
+    if told.get("swaps", 0) != 0:
+        yield f"the report tells of spares, and says swaps {told['swaps']!r}"
 
 
 def flaws_of_parts(between, powers, told):

@@ -42,6 +42,7 @@ class Bench(ToolTest):
         self.assertIn("wrong: verify, 65536 gates: it says b''b'' in place of b'yes None\\n'\n", out)
         self.assertIn("wrong: 20000 CNOTs on devices/grid_8x8_directed.toml: placements\n", out)
         self.assertIn("wrong: examples/bell.qasm, opt: ", out)
+        self.assertIn("wrong: examples/bell.qasm, opt --spares 4: ", out)
         self.assertIn("wrong: bench --start 1 --gates 300 --device devices/line_5.toml: ", out)
         self.assertNotIn("aim of", out)
         with open(path, encoding="utf-8") as file:

@@ -18,6 +18,16 @@ TOLD_PARTS = {
     "barriers": 1, "between": [[1, 0, 2]], "cx_after": 5, "cx_before": 2, "device": 3, "final": [1, 0, 2], "format": 3,
     "initial": [0, 1, 2], "parts": [0, 0], "phase": 0, "qubits": 3, "swaps": 1, "t_after": 2, "t_before": 2,
 }  # fmt: skip
+# the sums of a CNOT side by side: wires 0 and 1, and both together on a spare one
+THREE_SUMS = HEAD + "qreg q[2];\ncreg c[1];\nt q[0];\nt q[1];\ncx q[0],q[1];\nt q[1];\ncx q[0],q[1];\nmeasure q[1] -> c[0];\n"
+ON_A_SPARE = (
+    HEAD + "qreg q[3];\ncreg c[1];\ncx q[0],q[2];\ncx q[1],q[2];\nt q[0];\nt q[1];\nt q[2];\ncx q[0],q[2];\ncx q[1],q[2];\n"
+    "measure q[1] -> c[0];\n"
+)
+TOLD_SPARES = {
+    "barriers": 0, "cx_after": 4, "cx_before": 2, "device": 3, "final": [0, 1, 2], "format": 4, "initial": [0, 1, 2],
+    "phase": 0, "qubits": 2, "spares": 1, "swaps": 0, "t_after": 3, "t_before": 3,
+}  # fmt: skip
 
 
 def report(**told):
@@ -244,6 +254,76 @@ class CheckSmall(ToolTest):
             status, out, _ = self.checked(text, text, report(**told), "--clean")
             self.assertEqual((status, out.startswith("differs: ")), (int(bool(found)), bool(found)), out)
             self.assertIn(found, out)
+
+    def test_spares(self):
+        status, out, err = self.checked(THREE_SUMS, ON_A_SPARE, report(**TOLD_SPARES))
+        self.assertEqual((status, err), (0, ""))
+        self.assertEqual(out, "agrees on each of 4 basis states, with spare wires at zero: 2 wires, 3 qubits, phase 0\n")
+        # what is done where the spare is at one isn't looked at
+        for more in ("cx q[2],q[0];\n", "z q[2];\n", "x q[2];\nx q[2];\n"):
+            text = ON_A_SPARE.replace("creg c[1];\n", f"creg c[1];\n{more}")
+            told = TOLD_SPARES | {"cx_after": text.count("cx"), "phase": 4 * more.count("x q[2];\nx")}
+            self.assertEqual(self.checked(THREE_SUMS, text, report(**told))[0], 0, more)
+        # so many spares that one state after the other is run
+        idle = "".join(f"x q[{i}];\nx q[{i}];\n" for i in range(3, 20))
+        text = ON_A_SPARE.replace("qreg q[3];\n", f"qreg q[20];\n{idle}")
+        wires = list(range(20))
+        told = TOLD_SPARES | {"device": 20, "spares": 18, "initial": wires, "final": wires, "phase": 4 * 17 % 8}
+        status, out, _ = self.checked(THREE_SUMS, text, report(**told))
+        self.assertEqual((status, out[:34]), (0, "agrees on each of 4 basis states, "))
+        status, out, _ = self.checked(THREE_SUMS, text.replace("x q[19];\n", "", 1), report(**told))
+        self.assertEqual((status, out.startswith("differs: from |")), (1, True))
+
+    def test_spares_that_are_written_otherwise(self):
+        last = "cx q[0],q[2];\ncx q[1],q[2];\nmeasure"
+        for old, new, told, said in (
+            # a spare is left at a sum, at one, in both states
+            (last, "cx q[0],q[2];\nmeasure", {"cx_after": 3}, "from |010> (wire 0 first) the amplitude of |010> is 0.0"),
+            (last, f"x q[2];\n{last}", {}, "from |000> (wire 0 first) the amplitude of |000> is 0.0"),
+            (last, f"h q[2];\n{last}", {}, "from |000> (wire 0 first) the amplitude of |000> is 0.5"),
+            # a phase is off, as told and by a gate
+            ("", "", {"phase": 1}, "from |000> (wire 0 first) the amplitude of |000> is 1.0"),
+            ("t q[2]", "tdg q[2]", {}, "from |100> (wire 0 first) the amplitude of |100> is 1.0"),
+            # a gate is left out
+            ("t q[2];\n", "", {"t_after": 2}, "from |100> (wire 0 first) the amplitude of |100> is "),
+            ("cx q[1],q[2];\nt q[0]", "t q[0]", {"cx_after": 3}, "from |"),
+            # more T gates than there are sums
+            ("t q[2];\n", "t q[2];\nt q[1];\ntdg q[1];\n", {"t_after": 5}, "5 T gates, and the source has 3 odd path parities"),
+            # a spare is read
+            ("measure q[1]", "measure q[2]", {}, "c[0] reads qubit 2 in place of 1"),
+            ("measure", "barrier q[0];\nmeasure", {}, "the output has 1 barriers in place of 0"),
+        ):
+            self.assertIn(old, ON_A_SPARE)
+            status, out, err = self.checked(THREE_SUMS, ON_A_SPARE.replace(old, new, 1), report(**TOLD_SPARES | told))
+            self.assertEqual((status, err), (1, ""))
+            self.assertTrue(out.startswith(f"differs: {said}"), out)
+
+    def test_reports_of_spares_that_cannot_be(self):
+        for told, said in (
+            ({"format": 1}, "the report says format 1, and has the keys of format 4"),
+            ({"spares": 0}, "the report says spares 0, qubits 2 and device 3"),
+            ({"spares": 2}, "the report says spares 2, qubits 2 and device 3"),
+            ({"spares": True}, "the report says spares True, qubits 2 and device 3"),
+            ({"spares": None}, "the report says spares None, qubits 2 and device 3"),
+            ({"qubits": 1, "spares": 2}, "the report says qubits 1, the programs say 2"),
+            ({"final": [1, 0, 2]}, "with spare wires final isn't the identity"),
+            ({"initial": [0, 2, 1], "final": [0, 2, 1]}, "with spare wires initial isn't the identity"),
+            ({"swaps": 1}, "the report tells of spares, and says swaps 1"),
+            ({"cost": 3}, "the report tells of cost and of spares"),
+            ({"between": [], "parts": [0]}, "the report tells of between and of spares"),
+            ({"cx_after": 2}, "the report says cx_after 2, the programs say 4"),
+        ):
+            status, out, err = self.checked(THREE_SUMS, ON_A_SPARE, report(**TOLD_SPARES | told))
+            self.assertEqual((status, err), (1, ""), told)
+            self.assertTrue(out.startswith(f"differs: {said}"), out)
+        # without spares there are at most so many CNOTs, and the third wire may start at one
+        told = {name: it for name, it in TOLD_SPARES.items() if name != "spares"} | {"format": 1}
+        status, out, _ = self.checked(THREE_SUMS, ON_A_SPARE, report(**told))
+        self.assertEqual((status, out), (1, "differs: more CNOTs than before and three for each swap\n"))
+        text = THREE_SUMS.replace("qreg q[2];\n", "qreg q[3];\nz q[2];\n")
+        status, out, _ = self.checked(THREE_SUMS, text, report(**told | {"cx_after": 2}))
+        self.assertEqual((status, out.startswith("differs: from |001> (wire 0 first) ")), (1, True), out)
+        self.assertEqual(self.checked(THREE_SUMS, text, report(**TOLD_SPARES | {"cx_after": 2}))[0], 0)
 
     def test_many_wires(self):
         half = "".join(f"ccx q[{i}],q[{i + 1}],q[{i + 2}];\n" for i in range(0, 38, 2))

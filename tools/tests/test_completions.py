@@ -29,6 +29,7 @@ class Completions(unittest.TestCase):
         asked qroute bench --gates = ''; asked qroute amplitude --; asked qroute amplitude --from 01 --
         asked qroute opt --; asked qroute opt --keep-barriers --; asked qroute route --device d.toml --clean --
         asked qroute route --keep-barriers --device d.toml --
+        asked qroute opt --spares 4 --; asked qroute opt --spares ''; asked qroute stages --; asked qroute stages --spares 4 --
         cd devices; asked qroute route --device =
         """
         *found, devices = said("bash", "-c", script).splitlines()
@@ -37,11 +38,12 @@ class Completions(unittest.TestCase):
             found,
             [
                 *("opt route verify check stages amplitude bench", "route", "--device --trivial --trace --keep-barriers --clean"),
-                *("--device --trace --keep-barriers --clean", "--keep-barriers"),
+                *("--device --trace --keep-barriers --clean", "--keep-barriers --spares"),
                 *("devices/line_5.toml", "--trivial", "--source --target", "--target", "examples/bell.qasm", "", "examples/ghz.qasm"),
                 *("--start --gates --device", "--start --device", "", "devices/line_5.toml"),
                 *("devices/line_5.toml", "--trivial --trace --keep-barriers --clean", "", "--from --to", "--to"),
-                *("--keep-barriers", "", "--trivial --keep-barriers", "--trivial --clean"),
+                *("--keep-barriers --spares", "", "--trivial --keep-barriers", "--trivial --clean"),
+                *("", "", "--spares", ""),
             ],
         )
 
@@ -55,7 +57,10 @@ class Completions(unittest.TestCase):
         self.assertEqual(sorted(asked("qroute route --")), ["--clean", "--device", "--keep-barriers", "--trace", "--trivial"])
         self.assertEqual(sorted(asked("qroute route --device d.toml --trace --")), ["--device", "--trivial"])
         self.assertEqual(sorted(asked("qroute route --device d.toml --clean --")), ["--device", "--keep-barriers", "--trivial"])
-        self.assertEqual(asked("qroute opt --"), ["--keep-barriers"])
+        self.assertEqual(sorted(asked("qroute opt --")), ["--keep-barriers", "--spares"])
+        self.assertEqual(asked("qroute opt --spares 4 --"), [])
+        self.assertEqual(asked("qroute opt --keep-barriers --"), [])
+        self.assertEqual(asked("qroute stages --"), ["--spares"])
         self.assertEqual(asked("qroute route --device devices/line"), ["devices/line_5.toml"])
         self.assertEqual(sorted(asked("qroute verify --")), ["--source", "--target"])
         self.assertEqual(asked("qroute verify --source examples/bel"), ["examples/bell.qasm"])

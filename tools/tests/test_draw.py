@@ -112,6 +112,30 @@ class Draw(ToolTest):
         says = f"draw: {report}: the report tells of 1 parts, and of 1 placements between them\n"
         self.assertEqual(self.run_tool("draw", source, target, "--report", report), (1, "", says))
 
+    def test_spares(self):
+        wires = [0, 1, 2, 3, 4]
+        told = {"device": 5, "final": wires, "initial": wires, "qubits": 2, "spares": 3, "swaps": 0}
+        source = self.file("s.qasm", 'OPENQASM 2.0;\ninclude "qelib1.inc";\nqreg a[1];\nqreg b[1];\ncx a[0],b[0];\n')
+        gates = "cx q[0],q[2];\nt q[2];\ncx q[0],q[2];\nx q[4];\nx q[4];\n"
+        target = self.file("t.qasm", f'OPENQASM 2.0;\ninclude "qelib1.inc";\nqreg q[5];\n{gates}')
+        report = self.file("r", json.dumps(told) + "\n")
+        texts = self.texts(self.drawn(source, target, "--report", report, "--columns", "2"))
+        # a spare wire without a gate is left out
+        self.assertIn("t.qasm (1 idle qubits left out)", texts)
+        for begins, ends in (("a[0] at Q0 ", "a[0]"), ("b[0] at Q1 ", "b[0]"), ("|0⟩ at Q2 ", "|0⟩"), ("|0⟩ at Q4 ", "|0⟩")):
+            self.assertIn(begins, texts)
+            self.assertIn(ends, texts)
+        self.assertEqual((texts.count("|0⟩"), texts.count("·"), texts.count("Q4 ")), (2, 0, 1))
+        # the source apart, its wires have numbers
+        self.assertIn("q1 at Q1 ", self.texts(self.drawn(target, "--report", report)))
+        for more, said in (
+            ({"spares": 2}, "the report says spares 2, qubits 2 and device 5"),
+            ({"spares": "3"}, "the report says spares '3', qubits 2 and device 5"),
+            ({"final": [0, 1, 2, 4, 3]}, "with spare wires final isn't the identity"),
+        ):
+            report = self.file("r", json.dumps(told | more) + "\n")
+            self.assertEqual(self.run_tool("draw", source, target, "--report", report), (1, "", f"draw: {report}: {said}\n"))
+
     def test_labels_beside_bits_and_edges(self):
         text = "OPENQASM 2.0;\nqreg q[1];\ncreg a_long_register[1];\nmeasure q[0] -> a_long_register[0];\n"
         picture = self.drawn(self.file("p.qasm", text))
@@ -130,6 +154,7 @@ class Draw(ToolTest):
         middle, label = places["Q0"], places["q0 → q0"]
         for other in ("Q1", "Q2", "Q3"):
             self.assertGreater(abs(angle(middle, places[other]) - angle(middle, label)), 0.3)
+
     def test_costs_stand_on_the_map(self):
         text = "format = 2\nqubits = 3\nedges = [[0, 1, 70], [1, 0, 40], [2, 1, 900]]\n"
         texts = self.texts(self.drawn(self.file("p.qasm", PROGRAM), "--device", self.file("d.toml", text)))

@@ -47,7 +47,7 @@ class Explain(ToolTest):
     def test_other_lines_are_passed_over(self):
         status, out, _ = self.explained('qroute: built in 3 seconds\n{"fault":"Words","status":2}')
         self.assertEqual(status, 0)
-        self.assertEqual(out, "Words: the words mean no command, or `--trace` stands beside `--keep-barriers` or `--clean`; the manual, `man docs/qroute.1`, has them all\n")
+        self.assertEqual(out, "Words: the words mean no command, or `--trace` stands beside `--keep-barriers` or `--clean`, or `--spares` beside `--keep-barriers`; the manual, `man docs/qroute.1`, has them all\n")
         status, out, err = self.explained('{"format":1,"phase":0}')
         self.assertEqual((status, out), (1, ""))
         self.assertIn("no fault line", err)
@@ -100,6 +100,14 @@ class Explain(ToolTest):
         device = self.file("d.toml", "format = 2\nqubits = 2\nedges = [[0, 1, 5], [1, 0, 0]]\n")
         _, out, _ = self.explained('{"code":57,"fault":"EdgeCost","from":1,"status":4,"to":0}', "--device", device)
         self.assertTrue(out.startswith(f"{device}:3:21: EdgeCost: the cost of the edge from qubit 1 to qubit 0 isn't from 1"), out)
+
+    def test_spares(self):
+        path = self.file("p.qasm", HEAD + "qreg q[2];\n")
+        line = '{"code":73,"fault":"TooManySpares","qubits":2,"spares":255,"status":3}'
+        says = "with 255 spare wires behind the program's 2 there are more than 256 qubits"
+        self.assertEqual(self.explained(line, path), (0, f"{path}: TooManySpares: {says}\n", ""))
+        told = {"code": 73, "fault": "TooManySpares", "file": path, "says": says, "status": 3}
+        self.assertEqual(json.loads(self.explained(line, "--json", path)[1]), told)
 
     def test_traces(self):
         source = self.file("s.qasm", HEAD + "qreg q[1];\nt q[0];\nt q[0];\n")

@@ -89,6 +89,29 @@ class Module(ToolTest):
             with self.assertRaises(ValueError):
                 qroute.route(SOURCE, device, trace=True, **more)
 
+    def test_spares(self):
+        told = {"format": 4, "device": 4, "qubits": 2, "spares": 2, "swaps": 0, "initial": [0, 1, 2, 3], "final": [0, 1, 2, 3]}
+        self.answers(0, "written\n", REPORT | told)
+        found = qroute.opt(SOURCE, spares=2)
+        self.assertEqual((found.spares, found.device, found.qubits, found.parts), (2, 4, 2, None))
+        self.assertEqual(self.given("words"), "opt\n--spares\n2\n")
+        self.answers(0, "layer 1 gates 2 parities 3 blocks 1 witness 3 rank 2 spares 4\n")
+        self.assertEqual(qroute.stages(SOURCE, spares=4), [qroute.Stage(1, 2, 3, 1, 3, 2, 4)])
+        self.assertEqual(self.given("words"), "stages\n--spares\n4\n")
+        self.answers(0, "written\n", REPORT)
+        self.assertEqual(qroute.opt(SOURCE).spares, None)
+        with self.assertRaises(ValueError):
+            qroute.opt(SOURCE, keep_barriers=True, spares=1)
+        # 0 is none that the program takes
+        with mock.patch.object(qroute, "run", side_effect=qroute.NoCommand({"fault": "Words", "status": 2}, 2)) as ran:
+            with self.assertRaises(qroute.NoCommand):
+                qroute.opt(SOURCE, spares=0)
+        self.assertEqual(ran.call_args.args[0], ["opt", "--spares", "0"])
+        told = {"code": 73, "fault": "TooManySpares", "qubits": 2, "spares": 255, "status": 3}
+        fault = self.fault(qroute.Refused, 3, told, lambda: qroute.opt(SOURCE, spares=255))
+        self.assertEqual((fault.code, fault.line, fault.which), (73, None, None))
+        self.assertEqual(str(fault), "TooManySpares: with 255 spare wires behind the program's 2 there are more than 256 qubits")
+
     def test_lines(self):
         told = {"barriers": 0, "bits": 1, "cx": 2, "format": 1, "operations": 3, "qubits": 4, "t": 5}
         self.answers(0, "", told)
@@ -235,6 +258,21 @@ class Built(ToolTest):
             status, out, err = self.run_tool("check-small", *files, "--device", device, *["--clean"] * clean)
             self.assertEqual(status, 0, out + err)
         self.assertEqual(qroute.opt(text, keep_barriers=True).text.count("barrier"), text.count("\nbarrier"))
+
+    def test_spares(self):
+        with open(os.path.join(TOP, "examples/toffoli.qasm"), encoding="utf-8") as file:
+            text = file.read()
+        found = qroute.opt(text, spares=4)
+        self.assertEqual((found.qubits, found.device, found.spares, found.t_after), (3, 7, 4, 7))
+        files = [self.file(name, it) for name, it in (("s", text), ("w", found.text), ("r", json.dumps(found.report) + "\n"))]
+        status, out, err = self.run_tool("check-small", *files)
+        self.assertEqual(status, 0, out + err)
+        # seven sums on three wires stand in one block where four more do
+        for spares, blocks in ((None, 3), (3, 2), (4, 1)):
+            self.assertEqual([(it.blocks, it.spares) for it in qroute.stages(text, spares=spares)], [(blocks, spares)])
+        with self.assertRaises(qroute.Refused) as caught:
+            qroute.opt(text, spares=254)
+        self.assertEqual((caught.exception.name, caught.exception.code), ("TooManySpares", 73))
 
     def test_a_trace(self):
         with open(os.path.join(TOP, "examples/toffoli.qasm"), encoding="utf-8") as file:

@@ -20,6 +20,7 @@ REPORT = {
     "t_before": 7,
 }
 PARTS = REPORT | {"format": 3, "barriers": 1, "between": [[2, 1, 0, 3, 4]], "parts": [5, 3]}
+SPARES = REPORT | {"format": 4, "final": [0, 1, 2, 3, 4], "initial": [0, 1, 2, 3, 4], "spares": 2, "swaps": 0}
 CHECK = {"barriers": 0, "bits": 4, "cx": 49, "format": 1, "operations": 107, "qubits": 8, "t": 42}
 FAULTS = [
     {"fault": "Words", "status": 2},
@@ -32,6 +33,7 @@ FAULTS = [
     {"fault": "Trace", "line": 5, "status": 1},
     {"code": 12, "fault": "Syntax", "place": 32, "status": 3, "text": "source"},
     {"code": 60, "fault": "TextTooLong", "status": 3, "text": "target"},
+    {"code": 73, "fault": "TooManySpares", "qubits": 2, "spares": 255, "status": 3},
 ]
 KINDS = {"integer": int, "string": str, "array": list, "object": dict}
 BUILT = os.environ.get("QROUTE", os.path.join(TOP, "out/qroute"))
@@ -84,7 +86,7 @@ class Schema(ToolTest):
         return list(flaws(value, self.schema, self.schema))
 
     def test_lines(self):
-        for line in (REPORT, REPORT | {"format": 2, "cost": 31}, PARTS, PARTS | {"cost": 31}, CHECK, *FAULTS):
+        for line in (REPORT, REPORT | {"format": 2, "cost": 31}, PARTS, PARTS | {"cost": 31}, SPARES, CHECK, *FAULTS):
             self.assertEqual(self.flaws(line), [], line)
 
     def test_what_is_no_line(self):
@@ -106,6 +108,14 @@ class Schema(ToolTest):
             PARTS | {"between": [2, 1, 0, 3, 4]},
             PARTS | {"between": [[2, 2, 0, 3, 4]]},
             {key: it for key, it in PARTS.items() if key != "between"},
+            SPARES | {"format": 1},
+            SPARES | {"spares": 0},
+            SPARES | {"spares": 256},
+            SPARES | {"cost": 31},
+            SPARES | {"between": [], "parts": [0]},
+            REPORT | {"format": 4},
+            REPORT | {"spares": 2},
+            PARTS | {"spares": 2},
             CHECK | {"operations": 65537},
             CHECK | {"t": True},
             FAULTS[0] | {"status": 0},
@@ -130,7 +140,7 @@ class Schema(ToolTest):
         device = os.path.join(TOP, "devices/ibm_tokyo.toml")
         for path in sorted(glob.glob(os.path.join(TOP, "examples/*.qasm"))):
             keep = "--keep-barriers"
-            for words in (["opt"], ["opt", keep], ["check"], ["route", "--device", device], ["route", "--device", device, keep], ["none"]):
+            for words in (["opt"], ["opt", keep], ["opt", "--spares", "4"], ["check"], ["route", "--device", device], ["route", "--device", device, keep], ["none"]):
                 with open(path, "rb") as source:
                     ran = subprocess.run([BUILT, *words], stdin=source, capture_output=True)
                 self.assertEqual(self.flaws(json.loads(ran.stderr)), [], path)
