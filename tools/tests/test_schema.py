@@ -127,9 +127,10 @@ class Schema(ToolTest):
 
     def test_codes(self):
         """Each key that the page of the manual gives a fault is known."""
-        with open(os.path.join(TOP, "crates/route_report/src/tests.rt"), encoding="utf-8") as file:
-            lines = [it.split('\\n"')[0] for it in file.read().replace('\\"', '"').split('"{')[1:]]
-        told = [json.loads("{" + it) for it in lines if it.endswith("}")]
+        told = []
+        for path in sorted(glob.glob(os.path.join(TOP, "crates/program_tests/src/*_tests.rt"))):
+            with open(path, encoding="utf-8") as file:
+                told += [json.loads(it) for it in file.read().split("\n") if it.startswith('{"') and it.endswith("}")]
         self.assertGreater(len(told), 5)
         for line in told:
             self.assertEqual(self.flaws(line), [], line)
