@@ -6,7 +6,7 @@ ghost use Rattle.amplitude_exact.specs.Columns.{bits};
 
 /// The number of some bits.
 pub(crate) fn number_of(list: &[bool]) -> usize
-    requires few { length list.now ≤ 12 }
+    requires wires_limit { length list.now ≤ 12 }
     ensures below { result < 2 ^ length list.now }
     ensures bits { bits (length list.now) result ≡ list.now }
 {
@@ -21,7 +21,7 @@ pub(crate) fn number_of(list: &[bool]) -> usize
 
 /// The bit at a wire, 0 at one that isn't there.
 pub(crate) fn bit_at(number: usize, wires: u32, q: u32) -> bool
-    requires few { wires ≤ 12 }
+    requires wires_limit { wires ≤ 12 }
     ensures bit { result ≡ bit_of (bits wires number) q }
 {
     q < wires && (number >> q) % 2 == 1
@@ -29,7 +29,7 @@ pub(crate) fn bit_at(number: usize, wires: u32, q: u32) -> bool
 
 /// The number with a bit at a wire, the same number at one that isn't there.
 pub(crate) fn with_bit(number: usize, wires: u32, q: u32, bit: bool) -> usize
-    requires few { wires ≤ 12 }
+    requires wires_limit { wires ≤ 12 }
     requires below { number < 2 ^ wires }
     ensures below { result < 2 ^ wires }
     ensures bits { bits wires result ≡ with_bit (bits wires number) q bit }
@@ -48,15 +48,15 @@ pub(crate) fn with_bit(number: usize, wires: u32, q: u32, bit: bool) -> usize
 
 /// 2^q
 pub(crate) fn power_of_two(q: u32) -> usize
-    requires { q ≤ 12 }
-    ensures { result ≡ 2 ^ q }
+    requires small { q ≤ 12 }
+    ensures value { result ≡ 2 ^ q }
 {
     1 << q
 }
 
 /// The number behind a CNOT: the target's bit is changed where the control's is 1.
 pub(crate) fn flipped(number: usize, wires: u32, c: u32, t: u32) -> usize
-    requires few { wires ≤ 12 }
+    requires wires_limit { wires ≤ 12 }
     requires below { number < 2 ^ wires }
     ensures below { result < 2 ^ wires }
     ensures bits { let x = bits wires number in bits wires result ≡ cond (bit_of x c) (with_bit x t (not (bit_of x t))) x }

@@ -34,8 +34,8 @@ fn noughts(alloc: Global, size: usize) -> Result<Vec<Value>, AllocError>
 
 /// The column of no operations: 1 at the bits `to`, else 0.
 pub(crate) fn first_column(alloc: Global, to: &[bool]) -> Result<Vec<Value>, AllocError>
-    requires few { length to.now ≤ 12 }
-    ensures { IfOk result (λ v. IsColumn (length to.now) [] to.now v.items) }
+    requires wires_limit { length to.now ≤ 12 }
+    ensures ok { IfOk result (λ v. IsColumn (length to.now) [] to.now v.items) }
 {
     let mut column = noughts(alloc, power_of_two(to.len() as u32))?;
     column[number_of(to)] = UNIT;
@@ -44,7 +44,7 @@ pub(crate) fn first_column(alloc: Global, to: &[bool]) -> Result<Vec<Value>, All
 
 /// One value of the column with an operation more in front.
 fn value_at(op: Op, number: usize, wires: u32, column: &[Value]) -> Value
-    requires few { wires ≤ 12 }
+    requires wires_limit { wires ≤ 12 }
     requires below { number < 2 ^ wires }
     requires long { length column.now ≡ 2 ^ wires }
     requires small { IsSmall column.now }
@@ -69,11 +69,11 @@ fn value_at(op: Op, number: usize, wires: u32, column: &[Value]) -> Value
 
 /// Writes the column with an operation more in front.
 pub(crate) fn write_column(op: Op, wires: u32, column: &[Value], next: &mut [Value])
-    requires few { wires ≤ 12 }
+    requires wires_limit { wires ≤ 12 }
     requires long { length column.now ≡ 2 ^ wires }
     requires next_long { length next.old ≡ 2 ^ wires }
     requires small { IsSmall column.now }
-    ensures { (us : List Operation) (to : List Bool) → IsColumn wires us to column.now → IsColumn wires (op ∷ us) to next.new }
+    ensures new { (us : List Operation) (to : List Bool) → IsColumn wires us to column.now → IsColumn wires (op ∷ us) to next.new }
 {
     'numbers: for number in 0..next.len() {
         next[number] = value_at(op, number, wires, column);

@@ -61,7 +61,7 @@ fn divided(v: Value, e: u32) -> Amp
 
 /// The value divided by 2 as long as it can be, with the power that is left.
 pub(crate) fn reduced(value: Value, power: u32) -> Amp
-    ensures { (us : List Op) (x y : List Bool) → IsEntry us x y (ring_of value) power → IsExact us x y (amp_ring result) result.e }
+    ensures exact { (us : List Op) (x y : List Bool) → IsEntry us x y (ring_of value) power → IsExact us x y (amp_ring result) result.e }
 {
     let mut v = value;
     let mut e = power;

@@ -1,7 +1,7 @@
 //! The entry of some operations.
 
 ghost use Rattle.std.specs.Prelude.{◌≡◌, ◌≤◌, [], ◌∷◌, length, IfOk};
-ghost use Rattle.amplitude_exact.specs.Entries.{IsExact, branches, most_wires, most_branches};
+ghost use Rattle.amplitude_exact.specs.Entries.{IsExact, branches, most_entry_wires, most_branches};
 ghost use Rattle.amplitude_exact.specs.Values.{amp_ring};
 
 use crate::bits::number_of;
@@ -26,7 +26,7 @@ pub fn branches_of(ops: &[Op]) -> usize
 /// The branches of one operation, 1 or 0.
 fn branches_at(op: Op) -> usize
     ensures count { result ≡ branches (op ∷ []) }
-    ensures few { result ≤ 1 }
+    ensures branches_limit { result ≤ 1 }
 {
     match op {
         Op::Cx { c: _, t: _ } => 0,
@@ -43,8 +43,8 @@ fn branches_at(op: Op) -> usize
 /// power of 2. There are at most 12 wires, and as many bits in each list; of the operations at most 60 are branches. Fails
 /// for want of memory alone.
 pub fn amplitude(alloc: Global, source: &Ops, from: &[bool], to: &[bool]) -> Result<Amp, AllocError>
-    requires few_wires { source.now.wires ≤ most_wires }
-    requires few_branches { branches source.now.list ≤ most_branches }
+    requires wires_limit { source.now.wires ≤ most_entry_wires }
+    requires branches_limit { branches source.now.list ≤ most_branches }
     requires from_length { length from.now ≡ source.now.wires }
     requires to_length { length to.now ≡ source.now.wires }
     ensures exact { IfOk result (λ v. IsExact source.now.list from.now to.now (amp_ring v) v.e) }
@@ -60,8 +60,8 @@ fn entry(
     from: &[bool],
     to: &[bool],
 ) -> Result<Amp, AllocError>
-    requires few_wires { wires ≤ most_wires }
-    requires few_branches { branches ops.now ≤ most_branches }
+    requires wires_limit { wires ≤ most_entry_wires }
+    requires branches_limit { branches ops.now ≤ most_branches }
     requires from_length { length from.now ≡ wires }
     requires to_length { length to.now ≡ wires }
     ensures exact { IfOk result (λ v. IsExact ops.now from.now to.now (amp_ring v) v.e) }

@@ -14,7 +14,7 @@ use Rattle.std.specs.Int.RustNames.{int_div}
 use Rattle.std.proofs.lemmas.Int.{ints}
 use Rattle.std.proofs.lemmas.Nat.Gcd.{IsGcd-swap}
 use Rattle.std.proofs.Math.Nat.{zero-lt-suc, mul-pos, lt_of_le_of_lt, pos_of_dvd_of_pos, le_of_dvd, div-mul_cancel, dvd-mul_right}
-use Rattle.angle_fraction.specs.Fraction.{Fraction, IsKept, IsLowest, IsReduced, common_factor, fraction, inverse_of, is_small, lowest, most_part}
+use Rattle.angle_fraction.specs.Fraction.{Fraction, IsSmallFraction, IsLowest, IsReduced, common_factor, fraction, inverse_of, is_small, lowest, most_part}
 use Rattle.angle_fraction.specs.Angles.{fitted}
 use Rattle.angle_fraction.specs.declared.AngleFault.TheVariants.{Range}
 use Rattle.angle_fraction.proofs.FactorLaws.{coprime-parts, greatest_common_is, has_gcd, same_lowest}
@@ -64,7 +64,7 @@ lowest_lowest x some =
 -- ---- what the code keeps
 pub kept_by : (num den : ℤ) (g : ℕ) → pos 0 <ℤ den → IsGcd (unsigned_abs num) (unsigned_abs den) g
     → unsigned_abs (int_div num (pos g)) ≤ most_part → unsigned_abs (int_div den (pos g)) ≤ most_part
-    → IsKept (int_div num (pos g)) (int_div den (pos g))
+    → IsSmallFraction (int_div num (pos g)) (int_div den (pos g))
 kept_by num (negsuc d) g h k small low = absurd (omega (arith, ints, h))
 kept_by num (pos d) g h k small low =
     let some : 0 < d = omega (arith, ints, h) in
@@ -107,7 +107,7 @@ too_large num (pos d) g h k big =
 
 -- ---- the same, for parts as the code has them
 pub kept : (num den g n d : ℤ) → pos 0 <ℤ den → pos 0 <ℤ g → IsGcd (unsigned_abs num) (unsigned_abs den) (unsigned_abs g)
-    → n ≡ int_div num g → d ≡ int_div den g → unsigned_abs n ≤ most_part → unsigned_abs d ≤ most_part → IsKept n d
+    → n ≡ int_div num g → d ≡ int_div den g → unsigned_abs n ≤ most_part → unsigned_abs d ≤ most_part → IsSmallFraction n d
 kept num den (negsuc g) n d h k is e f small low = absurd (omega (arith, ints, k))
 kept num den (pos g) n d h k is e f small low =
     rw (e, f) (kept_by num den g h is (subst (λ z. unsigned_abs z ≤ most_part) e small) (subst (λ z. unsigned_abs z ≤ most_part) f low))
@@ -147,7 +147,7 @@ above_zero zero e = absurd (cc)
 above_zero (suc n) e = zero-lt-suc n
 
 pub kept_over : (num : ℤ) (den : ℕ) → IsLowest (fraction num den) → unsigned_abs num ≤ most_part → den ≤ most_part
-    → (unsigned_abs num == 0) ≡ false → pos 0 ≤ℤ num → IsKept (pos den) num
+    → (unsigned_abs num == 0) ≡ false → pos 0 ≤ℤ num → IsSmallFraction (pos den) num
 kept_over (negsuc n) den h small low some up = absurd (omega (arith, ints, up))
 kept_over (pos n) den h small low some up =
     let above : 0 < n = above_zero n some in record {
@@ -162,7 +162,7 @@ size-neg zero = refl
 size-neg (suc d) = refl
 
 pub kept_over_less : (num : ℤ) (den : ℕ) → IsLowest (fraction num den) → unsigned_abs num ≤ most_part → den ≤ most_part
-    → num <ℤ pos 0 → IsKept (neg_ℤ (pos den)) (neg_ℤ num)
+    → num <ℤ pos 0 → IsSmallFraction (neg_ℤ (pos den)) (neg_ℤ num)
 kept_over_less (pos n) den h small low down = absurd (omega (arith, ints, down))
 kept_over_less (negsuc n) den h small low down = record {
   positive = omega (arith, ints);
@@ -186,14 +186,14 @@ inverse-below (negsuc n) den down = refl
 
 -- ---- the same, for parts as the code has them
 pub over : (x : Fraction) (num n d : ℤ) → IsLowest x → num ≡ x.num → unsigned_abs num ≤ most_part → x.den ≤ most_part
-    → (unsigned_abs x.num == 0) ≡ false → pos 0 ≤ℤ num → n ≡ pos x.den → d ≡ num → IsKept n d
+    → (unsigned_abs x.num == 0) ≡ false → pos 0 ≤ℤ num → n ≡ pos x.den → d ≡ num → IsSmallFraction n d
 over x num n d h e small low some up f g =
     let size = subst (λ z. unsigned_abs z ≤ most_part) e small in
     let sign = subst (λ z. pos 0 ≤ℤ z) e up in
     rw (f, g ∙ e) (kept_over x.num x.den h size low some sign)
 
 pub over_less : (x : Fraction) (num n d : ℤ) → IsLowest x → num ≡ x.num → unsigned_abs num ≤ most_part → x.den ≤ most_part
-    → num <ℤ pos 0 → n ≡ neg_ℤ (pos x.den) → d ≡ neg_ℤ num → IsKept n d
+    → num <ℤ pos 0 → n ≡ neg_ℤ (pos x.den) → d ≡ neg_ℤ num → IsSmallFraction n d
 over_less x num n d h e small low down f g =
     let size = subst (λ z. unsigned_abs z ≤ most_part) e small in
     let sign = subst (λ z. z <ℤ pos 0) e down in

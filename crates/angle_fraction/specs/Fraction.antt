@@ -13,7 +13,7 @@
 --   IsReduced x y     y is x with both parts divided by a common divisor
 --   most_part         the greatest size of a part that is kept, 2^62
 --   is_small          both parts are at most so large
---   IsKept            what two parts that are kept have: a denominator above 0, lowest terms, and their size
+--   IsSmallFraction            what two parts that are kept have: a denominator above 0, lowest terms, and their size
 --   den_back          of two parts that are kept, the denominator is its own size
 use Rattle.std.specs.Prelude.{◌≡◌, ℕ, zero, suc, ◌*◌, ◌/◌, ◌%◌, ◌<◌, ◌^◌, ◌==◌, ◌&&◌, Bool, ℤ, pos, negsuc, neg_ℤ, ◌+ℤ◌, ◌-ℤ◌, ◌*ℤ◌, if◌then◌else◌, nat_le, ◌≤◌, ◌<ℤ◌, refl}
 use Rattle.std.specs.Int.{int_pow, ◌∣◌}
@@ -95,13 +95,13 @@ most_part = 4611686018427387904
 unfoldable pub is_small : Fraction → Bool
 is_small x = nat_le (unsigned_abs x.num) most_part && nat_le x.den most_part
 
-pub record IsKept (num den : ℤ) : Type 0 where
+pub record IsSmallFraction (num den : ℤ) : Type 0 where
   pub positive : pos 0 <ℤ den
   pub lowest : IsLowest (fraction num (unsigned_abs den))
   pub num_size : unsigned_abs num ≤ most_part
   pub den_size : unsigned_abs den ≤ most_part
 
 -- a denominator is its own size
-pub den_back : (num den : ℤ) → IsKept num den → pos (unsigned_abs den) ≡ den
+pub den_back : (num den : ℤ) → IsSmallFraction num den → pos (unsigned_abs den) ≡ den
 den_back num (pos n) h = refl
 den_back num (negsuc n) h = absurd h.positive.lt

@@ -3,7 +3,7 @@
 ghost use Rattle.std.specs.Prelude.{false, ◌≡◌, ◌+◌, ◌*◌, ◌<◌, ◌≤◌, ◌^◌, ◌↔◌, ℤ, pos, ◌<ℤ◌, ◌*ℤ◌, neg_ℤ, IsTrue, unsigned_abs};
 ghost use Rattle.std.specs.Int.{IsGcd};
 ghost use Rattle.std.specs.Int.RustNames.{int_div};
-ghost use Rattle.angle_fraction.specs.Fraction.{IsKept, IsLowest, IsSign, difference, fraction, inverse_of, most_part, nought, opposite, power, product, quotient, raised, sum, unit};
+ghost use Rattle.angle_fraction.specs.Fraction.{IsSmallFraction, IsLowest, IsSign, difference, fraction, inverse_of, most_part, nought, opposite, power, product, quotient, raised, sum, unit};
 ghost use Rattle.angle_fraction.specs.Angles.{fitted, is_nought};
 
 use crate::AngleFault;
@@ -27,13 +27,13 @@ pub struct Frac {
 
 impl Model for Frac {
     ghost use Rattle.std.specs.Prelude.{ℤ, pos, unsigned_abs};
-    ghost use Rattle.angle_fraction.specs.Fraction.{Fraction, IsKept, den_back, fraction};
+    ghost use Rattle.angle_fraction.specs.Fraction.{Fraction, IsSmallFraction, den_back, fraction};
 
     ghost Value = { Fraction };
 
     ghost view = { λ f. fraction f.num (unsigned_abs f.den) };
 
-    ghost invariant = { λ f. IsKept f.num f.den };
+    ghost invariant = { λ f. IsSmallFraction f.num f.den };
 
     ghost inverse = { λ v. record { num = v.num; den = pos v.den } };
 
@@ -43,14 +43,14 @@ impl Model for Frac {
 impl Frac {
     /// 0.
     pub fn nought() -> Frac
-        ensures { result ≡ nought }
+        ensures value { result ≡ nought }
     {
         Frac { num: 0, den: 1 }
     }
 
     /// 1.
     pub fn unit() -> Frac
-        ensures { result ≡ unit }
+        ensures value { result ≡ unit }
     {
         Frac { num: 1, den: 1 }
     }
@@ -74,7 +74,7 @@ impl Frac {
 
     /// Whether the value is 0.
     pub fn is_nought(&self) -> bool
-        ensures { result ≡ is_nought self.now }
+        ensures value { result ≡ is_nought self.now }
     {
         self.num() == 0
     }
@@ -156,7 +156,7 @@ fn narrow(part: i128) -> i64
 
 /// The fraction of two parts.
 fn keep(num: i128, den: i128) -> Frac
-    requires { IsKept num den }
+    requires { IsSmallFraction num den }
     ensures { result ≡ fraction num (unsigned_abs den) }
 {
     Frac {
@@ -167,8 +167,8 @@ fn keep(num: i128, den: i128) -> Frac
 
 /// The value of two parts in lowest terms; Range where a part is above 2^62.
 pub fn lowest(num: i128, den: i128) -> Result<Frac, AngleFault>
-    requires { pos 0 <ℤ den }
-    ensures { result ≡ fitted (fraction num (unsigned_abs den)) }
+    requires positive { pos 0 <ℤ den }
+    ensures value { result ≡ fitted (fraction num (unsigned_abs den)) }
 {
     let factor = common_factor(num, den);
     let num = divided(num, factor);
@@ -207,28 +207,28 @@ fn common_den(a: &Frac, b: &Frac) -> i128
 
 /// The sum; Range where a part is too large.
 pub fn sum(a: &Frac, b: &Frac) -> Result<Frac, AngleFault>
-    ensures { result ≡ fitted (sum a.now b.now) }
+    ensures value { result ≡ fitted (sum a.now b.now) }
 {
     lowest(spread(a, b) + spread(b, a), common_den(a, b))
 }
 
 /// The first less the second; Range where a part is too large.
 pub fn difference(a: &Frac, b: &Frac) -> Result<Frac, AngleFault>
-    ensures { result ≡ fitted (difference a.now b.now) }
+    ensures value { result ≡ fitted (difference a.now b.now) }
 {
     lowest(spread(a, b) - spread(b, a), common_den(a, b))
 }
 
 /// The fraction with the other sign.
 pub fn opposite(a: &Frac) -> Result<Frac, AngleFault>
-    ensures { result ≡ fitted (opposite a.now) }
+    ensures value { result ≡ fitted (opposite a.now) }
 {
     lowest(negated(a.num()), a.den())
 }
 
 /// The product; Range where a part is too large.
 pub fn product(a: &Frac, b: &Frac) -> Result<Frac, AngleFault>
-    ensures { result ≡ fitted (product a.now b.now) }
+    ensures value { result ≡ fitted (product a.now b.now) }
 {
     lowest(times(a.num(), b.num()), common_den(a, b))
 }
@@ -243,8 +243,8 @@ fn negated(part: i128) -> i128
 
 /// 1 over a fraction that isn't 0.
 pub fn inverse(a: &Frac) -> Frac
-    requires { is_nought a.now ≡ false }
-    ensures { result ≡ inverse_of a.now }
+    requires nonzero { is_nought a.now ≡ false }
+    ensures value { result ≡ inverse_of a.now }
 {
     let (num, den) = (a.num(), a.den());
     if num < 0 {
@@ -256,8 +256,8 @@ pub fn inverse(a: &Frac) -> Frac
 
 /// The quotient by a fraction that isn't 0.
 pub fn quotient(a: &Frac, b: &Frac) -> Result<Frac, AngleFault>
-    requires { is_nought b.now ≡ false }
-    ensures { result ≡ fitted (quotient a.now b.now) }
+    requires nonzero { is_nought b.now ≡ false }
+    ensures value { result ≡ fitted (quotient a.now b.now) }
 {
     product(a, &inverse(b))
 }
@@ -285,8 +285,8 @@ fn multiplied_out(a: &Frac, exponent: u64) -> Result<Frac, AngleFault>
 /// A power with an exponent above 0. What isn't 0, 1 or -1 has a part that at least doubles at each multiplication, so
 /// there are few.
 pub fn raised(a: &Frac, exponent: u64) -> Result<Frac, AngleFault>
-    requires { 0 < exponent }
-    ensures { result ≡ fitted (raised a.now exponent) }
+    requires positive { 0 < exponent }
+    ensures value { result ≡ fitted (raised a.now exponent) }
 {
     if is_sign(a) {
         multiplied_out(a, 2 - exponent % 2)

@@ -10,7 +10,7 @@ use crate::{Angle, AngleFault};
 /// The sum of two angles. Range where a part of it is too large.
 #[tactic(auto, unfolding(crate::specs::Angles::sum_of))]
 pub fn add(a: &Angle, b: &Angle) -> Result<Angle, AngleFault>
-    ensures { result ≡ sum_of a.now b.now }
+    ensures value { result ≡ sum_of a.now b.now }
 {
     let plain = sum(&a.plain, &b.plain)?;
     let pis = sum(&a.pis, &b.pis)?;
@@ -20,7 +20,7 @@ pub fn add(a: &Angle, b: &Angle) -> Result<Angle, AngleFault>
 /// The first angle less the second. Range where a part of it is too large.
 #[tactic(auto, unfolding(crate::specs::Angles::difference_of))]
 pub fn sub(a: &Angle, b: &Angle) -> Result<Angle, AngleFault>
-    ensures { result ≡ difference_of a.now b.now }
+    ensures value { result ≡ difference_of a.now b.now }
 {
     let plain = difference(&a.plain, &b.plain)?;
     let pis = difference(&a.pis, &b.pis)?;
@@ -30,7 +30,7 @@ pub fn sub(a: &Angle, b: &Angle) -> Result<Angle, AngleFault>
 /// The angle with the other sign.
 #[tactic(auto, unfolding(crate::specs::Angles::opposite_of))]
 pub fn neg(a: &Angle) -> Result<Angle, AngleFault>
-    ensures { result ≡ opposite_of a.now }
+    ensures value { result ≡ opposite_of a.now }
 {
     let plain = opposite(&a.plain)?;
     let pis = opposite(&a.pis)?;
@@ -67,7 +67,7 @@ fn plainly(plain: Result<Frac, AngleFault>) -> Result<Angle, AngleFault>
 /// The product. Form where both have a part with pi, Range where a part of it is too large.
 #[tactic(auto, unfolding(crate::specs::Angles::product_of))]
 pub fn mul(a: &Angle, b: &Angle) -> Result<Angle, AngleFault>
-    ensures { result ≡ product_of a.now b.now }
+    ensures value { result ≡ product_of a.now b.now }
 {
     if is_plain(b) {
         let plain = product(&a.plain, &b.plain)?;
@@ -86,7 +86,7 @@ pub fn mul(a: &Angle, b: &Angle) -> Result<Angle, AngleFault>
 /// part of it is too large.
 #[tactic(auto, unfolding(crate::specs::Angles::quotient_of))]
 pub fn div(a: &Angle, b: &Angle) -> Result<Angle, AngleFault>
-    ensures { result ≡ quotient_of a.now b.now }
+    ensures value { result ≡ quotient_of a.now b.now }
 {
     if is_plain(b) {
         if b.plain.is_nought() {
@@ -133,7 +133,7 @@ fn power_by(a: &Angle, exponent: i128) -> Result<Angle, AngleFault>
 /// Form where the angle has a part with pi; ZeroDivisor for 0 with a negative exponent; Range where a part is too large.
 #[tactic(auto, unfolding(crate::specs::Angles::power_of))]
 pub fn pow(a: &Angle, b: &Angle) -> Result<Angle, AngleFault>
-    ensures { result ≡ power_of a.now b.now }
+    ensures value { result ≡ power_of a.now b.now }
 {
     if is_whole(b) {
         power_by(a, b.plain.num())

@@ -12,7 +12,7 @@ pub struct Draws {
 impl Draws {
     /// The draws from a start.
     pub fn from_start(start: u32) -> Draws
-        ensures { result.state ≡ start }
+        ensures value { result.state ≡ start }
     {
         Draws {
             state: start as u64,

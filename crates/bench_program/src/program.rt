@@ -14,7 +14,7 @@ use unitary_model::Op;
 /// The operations of the program of `gates` gates on `size` wires that is drawn from `start` on; no bit reads a wire.
 /// Fails for want of memory alone.
 pub fn made(alloc: Global, start: u32, gates: u32, size: u32) -> Result<Ops, AllocError>
-    requires few { gates ≤ most_gates }
+    requires gates_limit { gates ≤ most_gates }
     requires some { 0 < size }
     requires limit { size ≤ most_qubits }
 

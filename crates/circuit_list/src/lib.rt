@@ -70,13 +70,13 @@ impl Gate {
 /// A slot whose gate was taken out stays, empty, and takes room and time until [`Circuit::compact`], behind which slots of
 /// before mean nothing: counting and copying go through all slots, and so does `compact` itself, in linear time.
 ///
-/// A circuit begins as a plain list of slots, 12 bytes each. The number of gates and the gate in a slot are at hand, and where no
+/// A circuit begins as a plain list of slots, 16 bytes each. The number of gates and the gate in a slot are at hand, and where no
 /// slot is empty so are [`Circuit::place`], [`Circuit::slot`], [`Circuit::gate`], [`Circuit::after`], [`Circuit::before`] and
 /// [`Circuit::slot_from`]. Else `place`, `slot` and `gate` look along the slots before the one, and `after`, `before` and
 /// `slot_from` along the empty ones up to the answer. [`Circuit::next_on`] and [`Circuit::prev_on`] look along all slots up to the
 /// answer.
 ///
-/// [`Circuit::link`] makes links, a tree over the slots and marks of the wires: 24 bytes more a slot, 36 in all. With them `place`,
+/// [`Circuit::link`] makes links, a tree over the slots and marks of the wires: 24 bytes more a slot, 40 in all. With them `place`,
 /// `slot` and `gate` take as many steps as the logarithm of the number of slots, and the others as many as the logarithm of
 /// the number of slots between the given one and the answer. `next_on` and `prev_on` find an answer up to 192 slots away in at
 /// most four words of bits, of which there are eight bytes a slot. In return an edit takes as many steps as the logarithm, and
@@ -103,7 +103,7 @@ impl Model for Circuit {
 impl Circuit {
     /// A circuit without gates.
     pub fn empty(alloc: Global, wires: u32) -> Result<Circuit, AllocError>
-        requires { wires ≤ most_wires }
+        requires wires_limit { wires ≤ most_wires }
         ensures wires { IfOk result (λ c. c.wires ≡ wires) }
         ensures gates { IfOk result (λ c. c.gates ≡ []) }
         ensures slots { IfOk result (λ c. c.slots ≡ []) }
@@ -114,7 +114,7 @@ impl Circuit {
 
     /// A circuit without gates, with room for so many: until then a push takes no memory, but where the circuit is linked.
     pub fn with_room(alloc: Global, wires: u32, gates: usize) -> Result<Circuit, AllocError>
-        requires { wires ≤ most_wires }
+        requires wires_limit { wires ≤ most_wires }
         ensures wires { IfOk result (λ c. c.wires ≡ wires) }
         ensures gates { IfOk result (λ c. c.gates ≡ []) }
         ensures slots { IfOk result (λ c. c.slots ≡ []) }
@@ -125,7 +125,7 @@ impl Circuit {
 
     /// Puts a gate behind the others, in a new slot. After want of memory the circuit is as it was.
     pub fn push(&mut self, g: Gate) -> Result<(), AllocError>
-        requires { IsFine self.old.wires g }
+        requires fine { IsFine self.old.wires g }
         ensures wires { self.new.wires ≡ self.old.wires }
         ensures gates { OnOk result (self.new.gates ≡ self.old.gates ++ g ∷ []) }
         ensures slots { OnOk result ((s : ℕ) × (self.new.slots ≡ self.old.slots ++ s ∷ [])) }
@@ -137,7 +137,7 @@ impl Circuit {
 
     /// Takes the gate at a place away.
     pub fn remove(&mut self, i: usize)
-        requires { i < length self.old.gates }
+        requires within { i < length self.old.gates }
         ensures wires { self.new.wires ≡ self.old.wires }
         ensures gates { self.new.gates ≡ remove self.old.gates i }
         ensures slots { self.new.slots ≡ remove self.old.slots i }
@@ -162,25 +162,31 @@ impl Circuit {
 
     /// The number of gates.
     pub fn len(&self) -> usize
-        ensures { result ≡ length self.now.gates }
+        ensures value { result ≡ length self.now.gates }
     {
         self.tree.count()
+    }
+
+    /// Does nothing. Its contract says what holds of each circuit.
+    pub fn facts(&self)
+        ensures wires_limit { self.now.wires ≤ most_wires }
+        ensures fine { All (IsFine self.now.wires) self.now.gates }
+        ensures slots { length self.now.slots ≡ length self.now.gates }
+        ensures ascend { Ascend self.now.slots }
+    {
+        let _tree = &self.tree;
     }
 
     /// The number of wires, at most [`MOST_WIRES`].
     pub fn wires(&self) -> u32
         ensures wires { result ≡ self.now.wires }
-        ensures few { self.now.wires ≤ most_wires }
-        ensures fine { All (IsFine self.now.wires) self.now.gates }
-        ensures slots { length self.now.slots ≡ length self.now.gates }
-        ensures ascend { Ascend self.now.slots }
     {
         self.wires
     }
 
     /// The gate at a place.
     pub fn gate(&self, i: usize) -> Gate
-        requires { i < length self.now.gates }
+        requires within { i < length self.now.gates }
         ensures there { slice_get self.now.gates i ≡ Some result }
         ensures fine { IsFine self.now.wires result }
     {
@@ -189,7 +195,7 @@ impl Circuit {
 
     /// The slot of the gate at a place.
     pub fn slot(&self, i: usize) -> Slot
-        requires { i < length self.now.gates }
+        requires within { i < length self.now.gates }
         ensures there { slice_get self.now.slots i ≡ Some result }
         ensures place { place_of result self.now.slots ≡ i }
     {
@@ -198,15 +204,15 @@ impl Circuit {
 
     /// The place of the gate in a slot.
     pub fn place(&self, s: Slot) -> usize
-        requires { IsLive self.now s }
-        ensures { result ≡ place_of s self.now.slots }
+        requires live { IsLive self.now s }
+        ensures value { result ≡ place_of s self.now.slots }
     {
         self.tree.rank(s.index())
     }
 
     /// The slot of the first gate.
     pub fn first(&self) -> Option<Slot>
-        ensures { MatchOption result (length self.now.gates ≡ 0) (λ t. IsLive self.now t × (place_of t self.now.slots ≡ 0)) }
+        ensures found { MatchOption result (length self.now.gates ≡ 0) (λ t. IsLive self.now t × (place_of t self.now.slots ≡ 0)) }
     {
         if self.len() > 0 {
             Some(self.slot(0))
@@ -217,8 +223,8 @@ impl Circuit {
 
     /// The slot of the gate behind the one in a slot.
     pub fn after(&self, s: Slot) -> Option<Slot>
-        requires { IsLive self.now s }
-        ensures { MatchOption result (place_of s self.now.slots + 1 ≡ length self.now.gates)
+        requires live { IsLive self.now s }
+        ensures found { MatchOption result (place_of s self.now.slots + 1 ≡ length self.now.gates)
             (λ t. IsLive self.now t × (place_of t self.now.slots ≡ place_of s self.now.slots + 1)) }
     {
         let slot = self.tree.next(s.index())?;
@@ -227,8 +233,8 @@ impl Circuit {
 
     /// The slot of the gate before the one in a slot.
     pub fn before(&self, s: Slot) -> Option<Slot>
-        requires { IsLive self.now s }
-        ensures { MatchOption result (place_of s self.now.slots ≡ 0)
+        requires live { IsLive self.now s }
+        ensures found { MatchOption result (place_of s self.now.slots ≡ 0)
             (λ t. IsLive self.now t × (place_of t self.now.slots + 1 ≡ place_of s self.now.slots)) }
     {
         let slot = self.tree.prev(s.index())?;
@@ -237,7 +243,7 @@ impl Circuit {
 
     /// The first slot of a gate that isn't before a slot, whether this one has a gate, had one or never was.
     pub fn slot_from(&self, s: Slot) -> Option<Slot>
-        ensures { MatchOption result (NoneFrom self.now s) (IsFirstFrom self.now s) }
+        ensures found { MatchOption result (NoneFrom self.now s) (IsFirstFrom self.now s) }
     {
         let slot = self.tree.from(s.index())?;
         Some(Slot::new(slot))
@@ -245,7 +251,7 @@ impl Circuit {
 
     /// The gate in a slot.
     pub fn gate_at(&self, s: Slot) -> Gate
-        requires { IsLive self.now s }
+        requires live { IsLive self.now s }
         ensures there { slice_get self.now.gates (place_of s self.now.slots) ≡ Some result }
         ensures fine { IsFine self.now.wires result }
     {
@@ -256,7 +262,7 @@ impl Circuit {
     pub fn next_on(&self, s: Slot, wire: u32) -> Option<Slot>
         requires live { IsLive self.now s }
         requires on { is_on_at wire self.now.gates (place_of s self.now.slots) ≡ true }
-        ensures { MatchOption result (NoneBehind wire self.now.gates (place_of s self.now.slots))
+        ensures found { MatchOption result (NoneBehind wire self.now.gates (place_of s self.now.slots))
             (λ t. IsLive self.now t × IsNextOn wire self.now.gates (place_of s self.now.slots) (place_of t self.now.slots)) }
     {
         let slot = self.tree.next_on(s.index(), wire)?;
@@ -267,7 +273,7 @@ impl Circuit {
     pub fn prev_on(&self, s: Slot, wire: u32) -> Option<Slot>
         requires live { IsLive self.now s }
         requires on { is_on_at wire self.now.gates (place_of s self.now.slots) ≡ true }
-        ensures { MatchOption result (NoneBefore wire self.now.gates (place_of s self.now.slots))
+        ensures found { MatchOption result (NoneBefore wire self.now.gates (place_of s self.now.slots))
             (λ t. IsLive self.now t × IsPrevOn wire self.now.gates (place_of s self.now.slots) (place_of t self.now.slots)) }
     {
         let slot = self.tree.prev_on(s.index(), wire)?;
@@ -276,7 +282,7 @@ impl Circuit {
 
     /// Takes the gate in a slot away. The other slots stay those of their gates.
     pub fn remove_at(&mut self, s: Slot)
-        requires { IsLive self.old s }
+        requires live { IsLive self.old s }
         ensures wires { self.new.wires ≡ self.old.wires }
         ensures gates { self.new.gates ≡ remove self.old.gates (place_of s self.old.slots) }
         ensures slots { self.new.slots ≡ remove self.old.slots (place_of s self.old.slots) }
@@ -318,7 +324,7 @@ impl Circuit {
     /// The number of T gates: phases with an odd `k`.
     #[tactic(auto, using(crate::proofs::CircuitLaws::counts))]
     pub fn count_t(&self) -> usize
-        ensures { result ≡ t_count (ops self.now.gates) }
+        ensures value { result ≡ t_count (ops self.now.gates) }
     {
         self.tree
             .entries()
@@ -330,7 +336,7 @@ impl Circuit {
     /// The number of CNOTs.
     #[tactic(auto, using(crate::proofs::CircuitLaws::counts))]
     pub fn count_cx(&self) -> usize
-        ensures { result ≡ cx_count (ops self.now.gates) }
+        ensures value { result ≡ cx_count (ops self.now.gates) }
     {
         self.tree
             .entries()
@@ -342,7 +348,7 @@ impl Circuit {
     /// The number of H.
     #[tactic(auto, using(crate::proofs::CircuitLaws::counts))]
     pub fn count_h(&self) -> usize
-        ensures { result ≡ h_count self.now.gates }
+        ensures value { result ≡ h_count self.now.gates }
     {
         self.tree
             .entries()
@@ -351,9 +357,9 @@ impl Circuit {
             .count()
     }
 
-    /// The same circuit again, with the same slots.
+    /// The same circuit again, with the same slots, and not linked.
     pub fn copy(&self) -> Result<Circuit, AllocError>
-        ensures { IfOk result (λ c. c ≡ self.now) }
+        ensures ok { IfOk result (λ c. c ≡ self.now) }
     {
         let tree = self.tree.copy()?;
         Ok(Circuit {

@@ -27,19 +27,6 @@ pub(crate) struct Links {
 }
 
 impl Links {
-    /// The same links again.
-    fn copy(&self) -> Result<Links, AllocError>
-        ensures { IfOk result (λ l. (es : List (Option Gate)) → IsLinks es self.now → IsLinks es l) }
-    {
-        let nodes = self.nodes.clone()?;
-        let marks = self.marks.clone()?;
-        Ok(Links {
-            nodes,
-            marks,
-            height: self.height,
-        })
-    }
-
     /// Sees to it that there is room for one slot more.
     fn make_room(&mut self, gates: &[Option<Gate>]) -> Result<(), AllocError>
         requires { IsLinks gates.now self.old }
@@ -80,7 +67,7 @@ impl Links {
 
 /// The links of some slots, with no more nodes than these need.
 pub(crate) fn planted(alloc: Global, gates: &[Option<Gate>]) -> Result<Links, AllocError>
-    ensures { IfOk result (IsLinks gates.now) }
+    ensures ok { IfOk result (IsLinks gates.now) }
 {
     let mut nodes = Vec::new(alloc);
     nodes.push(Node { count: 0, wires: 0 })?;
@@ -104,7 +91,7 @@ pub(crate) fn planted_if(
     alloc: Global,
     gates: &[Option<Gate>],
 ) -> Result<Option<Links>, AllocError>
-    ensures { IfOk result (λ l. IfSome l (IsLinks gates.now)) }
+    ensures ok { IfOk result (λ l. IfSome l (IsLinks gates.now)) }
 {
     if wanted {
         let links = planted(alloc, gates)?;
@@ -114,22 +101,9 @@ pub(crate) fn planted_if(
     }
 }
 
-/// The same links again, if there are some.
-pub(crate) fn copied(links: &Option<Links>) -> Result<Option<Links>, AllocError>
-    ensures { IfOk result (λ l. (es : List (Option Gate)) → IfSome links.now (IsLinks es) → IfSome l (IsLinks es)) }
-{
-    match links {
-        Some(links) => {
-            let copy = links.copy()?;
-            Ok(Some(copy))
-        }
-        None => Ok(None),
-    }
-}
-
 /// Sees to it that there is room for one slot more.
 pub(crate) fn make_room(links: &mut Option<Links>, gates: &[Option<Gate>]) -> Result<(), AllocError>
-    requires { IfSome links.old (IsLinks gates.now) }
+    requires linked { IfSome links.old (IsLinks gates.now) }
     ensures links { IfSome links.new (IsLinks gates.now) }
     ensures ready { OnOk result (IfSome links.new (IsReady gates.now)) }
 {
@@ -141,8 +115,8 @@ pub(crate) fn make_room(links: &mut Option<Links>, gates: &[Option<Gate>]) -> Re
 
 /// Links the last slot, which came behind the others with a gate.
 pub(crate) fn link_last(links: &mut Option<Links>, gates: &[Option<Gate>], gate: Gate)
-    requires { (es : List (Option Gate)) × (IfSome links.old (IsReady es) × (gates.now ≡ es ++ Some gate ∷ [])) }
-    ensures { IfSome links.new (IsLinks gates.now) }
+    requires ready { (es : List (Option Gate)) × (IfSome links.old (IsReady es) × (gates.now ≡ es ++ Some gate ∷ [])) }
+    ensures linked { IfSome links.new (IsLinks gates.now) }
 {
     match links {
         Some(links) => links.push(gates, gate),
@@ -160,7 +134,7 @@ pub(crate) fn link_anew(
 )
     requires within { slot < length gates.now }
     requires changed { (es : List (Option Gate)) × (IfSome links.old (IsLinks es) × ((entry es slot ≡ before) × (gates.now ≡ slice_set es slot after))) }
-    ensures { IfSome links.new (IsLinks gates.now) }
+    ensures linked { IfSome links.new (IsLinks gates.now) }
 {
     match links {
         Some(links) => links.set(gates, slot, before, after),

@@ -21,7 +21,7 @@ pub(crate) struct Node {
 /// The bit of a wire.
 #[tactic(auto, unfolding(crate::specs::Tree::wire_bit))]
 pub(crate) fn wire_bit(wire: u32) -> u64
-    ensures { result ≡ wire_bit wire }
+    ensures value { result ≡ wire_bit wire }
 {
     1 << (wire % 64)
 }
@@ -39,14 +39,14 @@ fn wires_of(gate: Gate) -> u64
 /// Whether a set of wires has one of some.
 #[tactic(auto, unfolding(crate::specs::Tree::has_any))]
 pub(crate) fn has_any(wires: u64, some: u64) -> bool
-    ensures { result ≡ has_any some wires }
+    ensures value { result ≡ has_any some wires }
 {
     wires & some > 0
 }
 
 /// Whether a gate is on a wire.
 pub(crate) fn is_on(gate: Gate, wire: u32) -> bool
-    ensures { result ≡ is_on wire gate }
+    ensures value { result ≡ is_on wire gate }
 {
     match gate {
         Gate::H { q } | Gate::X { q } | Gate::P { k: _, q } => wire == q,
@@ -55,7 +55,7 @@ pub(crate) fn is_on(gate: Gate, wire: u32) -> bool
 }
 
 pub(crate) fn leaf(entry: Option<Gate>) -> Node
-    ensures { result ≡ leaf entry }
+    ensures value { result ≡ leaf entry }
 {
     match entry {
         Some(gate) => Node {
@@ -68,14 +68,14 @@ pub(crate) fn leaf(entry: Option<Gate>) -> Node
 
 /// Whether a slot's gate is on one of some wires.
 pub(crate) fn meets(entry: Option<Gate>, wires: u64) -> bool
-    ensures { result ≡ meets wires entry }
+    ensures value { result ≡ meets wires entry }
 {
     has_any(leaf(entry).wires, wires)
 }
 
 /// The gate in a slot, and none behind the last slot.
 pub(crate) fn entry(gates: &[Option<Gate>], slot: usize) -> Option<Gate>
-    ensures { result ≡ entry gates.now slot }
+    ensures value { result ≡ entry gates.now slot }
 {
     if slot < gates.len() {
         gates[slot]
@@ -86,7 +86,7 @@ pub(crate) fn entry(gates: &[Option<Gate>], slot: usize) -> Option<Gate>
 
 /// A node; from the number of nodes on, a slot.
 pub(crate) fn node_at(gates: &[Option<Gate>], nodes: &[Node], node: usize) -> Node
-    ensures { result ≡ node_at gates.now nodes.now node }
+    ensures value { result ≡ node_at gates.now nodes.now node }
 {
     if node < nodes.len() {
         nodes[node]
@@ -119,7 +119,7 @@ fn joined(gates: &[Option<Gate>], nodes: &[Node], node: usize) -> Node
 pub(crate) fn refresh(gates: &[Option<Gate>], nodes: &mut [Node], slot: usize)
     requires within { slot < length nodes.old }
     requires others { (j : ℕ) → 0 < j → j < length nodes.old → j ≢ (length nodes.old + slot) / 2 → IsJoined gates.now nodes.old j }
-    ensures { (j : ℕ) → 0 < j → j < length nodes.old → IsJoined gates.now nodes.new j }
+    ensures new { (j : ℕ) → 0 < j → j < length nodes.old → IsJoined gates.now nodes.new j }
 {
     let mut node = nodes.len() + slot;
     'up: while node > 1 {
@@ -133,7 +133,7 @@ pub(crate) fn add(gates: &[Option<Gate>], nodes: &mut [Node], slot: usize, gate:
     requires within { slot < length nodes.old }
     requires others { (j : ℕ) → 0 < j → j < length nodes.old → j ≢ (length nodes.old + slot) / 2 → IsJoined gates.now nodes.old j }
     requires lacks { 0 < (length nodes.old + slot) / 2 → Lacks (Some gate) gates.now nodes.old ((length nodes.old + slot) / 2) }
-    ensures { (j : ℕ) → 0 < j → j < length nodes.old → IsJoined gates.now nodes.new j }
+    ensures new { (j : ℕ) → 0 < j → j < length nodes.old → IsJoined gates.now nodes.new j }
 {
     let more = leaf(Some(gate));
     let mut node = (nodes.len() + slot) / 2;

@@ -9,8 +9,8 @@ use crate::nodes::{leaf, meets};
 
 /// The number of gates in the slots before one.
 pub(crate) fn count_before(gates: &[Option<Gate>], slot: usize) -> usize
-    requires { slot < length gates.now }
-    ensures { result ≡ rank gates.now slot }
+    requires within { slot < length gates.now }
+    ensures value { result ≡ rank gates.now slot }
 {
     let _gates = gates.len();
     let mut count = 0;
@@ -22,7 +22,7 @@ pub(crate) fn count_before(gates: &[Option<Gate>], slot: usize) -> usize
 
 /// The slot with a gate, with so many gates in the slots before it.
 pub(crate) fn scan_to(gates: &[Option<Gate>], place: usize) -> usize
-    requires { place < rank gates.now (length gates.now) }
+    requires within { place < rank gates.now (length gates.now) }
     ensures live { is_live (entry gates.now result) ≡ true }
     ensures rank { rank gates.now result ≡ place }
 {
@@ -40,8 +40,8 @@ pub(crate) fn scan_to(gates: &[Option<Gate>], place: usize) -> usize
 
 /// The first slot behind one with a gate on some wires.
 pub(crate) fn scan_behind(gates: &[Option<Gate>], slot: usize, wires: u64) -> Option<usize>
-    requires { slot < length gates.now }
-    ensures { MatchOption result (NoneOn wires gates.now (slot + 1) (length gates.now)) (IsFirstOn wires gates.now (slot + 1)) }
+    requires within { slot < length gates.now }
+    ensures found { MatchOption result (NoneOn wires gates.now (slot + 1) (length gates.now)) (IsFirstOn wires gates.now (slot + 1)) }
 {
     'slots: for next in slot + 1..gates.len() {
         if meets(gates[next], wires) {
@@ -53,8 +53,8 @@ pub(crate) fn scan_behind(gates: &[Option<Gate>], slot: usize, wires: u64) -> Op
 
 /// The last slot before one with a gate on some wires.
 pub(crate) fn scan_before(gates: &[Option<Gate>], slot: usize, wires: u64) -> Option<usize>
-    requires { slot < length gates.now }
-    ensures { MatchOption result (NoneOn wires gates.now 0 slot) (IsLastOn wires gates.now slot) }
+    requires within { slot < length gates.now }
+    ensures found { MatchOption result (NoneOn wires gates.now 0 slot) (IsLastOn wires gates.now slot) }
 {
     let mut last = slot;
     'slots: while last > 0 {

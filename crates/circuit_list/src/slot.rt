@@ -24,13 +24,13 @@ impl Model for Slot {
 
 impl Slot {
     pub(crate) fn new(index: usize) -> Slot
-        ensures { result ≡ index }
+        ensures value { result ≡ index }
     {
         Slot { index }
     }
 
     pub(crate) fn index(self) -> usize
-        ensures { result ≡ self }
+        ensures value { result ≡ self }
     {
         self.index
     }

@@ -8,7 +8,7 @@ ghost use Rattle.circuit_list.specs.OnWire.{IsFirstGateOn, IsLastGateOn, NoGateO
 ghost use Rattle.circuit_list.specs.Tree.{IsFirstOn, IsLastOn, NoneOn, any_wire, leaf, wire_bit};
 
 use crate::Gate;
-use crate::links::{Links, copied, link_anew, link_last, make_room, planted, planted_if};
+use crate::links::{Links, link_anew, link_last, make_room, planted, planted_if};
 use crate::marks::{near_before, near_behind};
 use crate::nodes::{entry, is_on, wire_bit};
 use crate::scans::{count_before, scan_before, scan_behind, scan_to};
@@ -43,7 +43,7 @@ impl Model for Tree {
 impl Tree {
     /// No slots.
     pub(crate) fn new(alloc: Global) -> Tree
-        ensures { result ≡ [] }
+        ensures value { result ≡ [] }
     {
         Tree {
             gates: Vec::new(alloc),
@@ -54,7 +54,7 @@ impl Tree {
 
     /// No slots, and room for so many.
     pub(crate) fn with_room(alloc: Global, slots: usize) -> Result<Tree, AllocError>
-        ensures { IfOk result (λ t. t ≡ []) }
+        ensures ok { IfOk result (λ t. t ≡ []) }
     {
         let gates = Vec::with_capacity(alloc, slots)?;
         Ok(Tree {
@@ -66,7 +66,7 @@ impl Tree {
 
     /// Makes the links, where there are none.
     pub(crate) fn link(&mut self) -> Result<(), AllocError>
-        ensures { self.new ≡ self.old }
+        ensures new { self.new ≡ self.old }
     {
         if self.links.is_none() {
             let links = planted(*self.gates.allocator(), &self.gates)?;
@@ -77,22 +77,22 @@ impl Tree {
 
     /// The slots in order.
     pub(crate) fn entries(&self) -> &[Option<Gate>]
-        ensures { result.now ≡ self.now }
+        ensures value { result.now ≡ self.now }
     {
         &self.gates
     }
 
     /// The number of gates.
     pub(crate) fn count(&self) -> usize
-        ensures { result ≡ rank self.now (length self.now) }
+        ensures value { result ≡ rank self.now (length self.now) }
     {
         self.count
     }
 
     /// The gate in a slot that has one.
     pub(crate) fn gate(&self, slot: usize) -> Gate
-        requires { is_live (entry self.now slot) ≡ true }
-        ensures { entry self.now slot ≡ Some result }
+        requires live { is_live (entry self.now slot) ≡ true }
+        ensures value { entry self.now slot ≡ Some result }
     {
         match entry(&self.gates, slot) {
             Some(gate) => gate,
@@ -116,8 +116,8 @@ impl Tree {
 
     /// Puts a gate or none into a slot.
     pub(crate) fn set(&mut self, slot: usize, entry: Option<Gate>)
-        requires { slot < length self.old }
-        ensures { self.new ≡ slice_set self.old slot entry }
+        requires within { slot < length self.old }
+        ensures new { self.new ≡ slice_set self.old slot entry }
     {
         let _slots = self.gates.len();
         let before = self.gates[slot];
@@ -128,8 +128,8 @@ impl Tree {
 
     /// The number of gates in the slots before one, which is the slot itself where none is empty.
     pub(crate) fn rank(&self, slot: usize) -> usize
-        requires { slot < length self.now }
-        ensures { result ≡ rank self.now slot }
+        requires within { slot < length self.now }
+        ensures value { result ≡ rank self.now slot }
     {
         if self.count() == self.entries().len() {
             return slot;
@@ -142,7 +142,7 @@ impl Tree {
 
     /// The slot with a gate, with so many gates in the slots before it.
     pub(crate) fn select(&self, place: usize) -> usize
-        requires { place < rank self.now (length self.now) }
+        requires within { place < rank self.now (length self.now) }
         ensures live { is_live (entry self.now result) ≡ true }
         ensures rank { rank self.now result ≡ place }
     {
@@ -157,8 +157,8 @@ impl Tree {
 
     /// The next slot with a gate behind a slot.
     pub(crate) fn next(&self, slot: usize) -> Option<usize>
-        requires { slot < length self.now }
-        ensures { MatchOption result (NoneOn any_wire self.now (slot + 1) (length self.now)) (IsFirstOn any_wire self.now (slot + 1)) }
+        requires within { slot < length self.now }
+        ensures found { MatchOption result (NoneOn any_wire self.now (slot + 1) (length self.now)) (IsFirstOn any_wire self.now (slot + 1)) }
     {
         let _slots = self.gates.len();
         self.from(slot + 1)
@@ -166,8 +166,8 @@ impl Tree {
 
     /// The last slot with a gate before a slot.
     pub(crate) fn prev(&self, slot: usize) -> Option<usize>
-        requires { slot < length self.now }
-        ensures { MatchOption result (NoneOn any_wire self.now 0 slot) (IsLastOn any_wire self.now slot) }
+        requires within { slot < length self.now }
+        ensures found { MatchOption result (NoneOn any_wire self.now 0 slot) (IsLastOn any_wire self.now slot) }
     {
         if slot > 0 && entry(&self.gates, slot - 1).is_some() {
             return Some(slot - 1);
@@ -177,7 +177,7 @@ impl Tree {
 
     /// The first slot with a gate that isn't before a slot.
     pub(crate) fn from(&self, slot: usize) -> Option<usize>
-        ensures { MatchOption result (NoneOn any_wire self.now slot (length self.now)) (IsFirstOn any_wire self.now slot) }
+        ensures found { MatchOption result (NoneOn any_wire self.now slot (length self.now)) (IsFirstOn any_wire self.now slot) }
     {
         if slot >= self.gates.len() {
             return None;
@@ -191,8 +191,8 @@ impl Tree {
     /// The next slot behind one whose gate is on the wire. Wires that differ by a multiple of 64 have one bit, so the
     /// gate is looked at.
     pub(crate) fn next_on(&self, slot: usize, wire: u32) -> Option<usize>
-        requires { slot < length self.now }
-        ensures { MatchOption result (NoGateOn wire self.now (slot + 1) (length self.now)) (IsFirstGateOn wire self.now (slot + 1)) }
+        requires within { slot < length self.now }
+        ensures found { MatchOption result (NoGateOn wire self.now (slot + 1) (length self.now)) (IsFirstGateOn wire self.now (slot + 1)) }
     {
         let mut last = slot;
         'marked: while let Some(next) = self.next_marked(last, wire) {
@@ -206,8 +206,8 @@ impl Tree {
 
     /// The last slot before one whose gate is on the wire.
     pub(crate) fn prev_on(&self, slot: usize, wire: u32) -> Option<usize>
-        requires { slot < length self.now }
-        ensures { MatchOption result (NoGateOn wire self.now 0 slot) (IsLastGateOn wire self.now slot) }
+        requires within { slot < length self.now }
+        ensures found { MatchOption result (NoGateOn wire self.now 0 slot) (IsLastGateOn wire self.now slot) }
     {
         let mut first = slot;
         'marked: while let Some(prev) = self.prev_marked(first, wire) {
@@ -285,16 +285,15 @@ impl Tree {
         Ok(())
     }
 
-    /// The same slots again.
+    /// The same slots again, without links.
     pub(crate) fn copy(&self) -> Result<Tree, AllocError>
-        ensures { IfOk result (λ t. t ≡ self.now) }
+        ensures ok { IfOk result (λ t. t ≡ self.now) }
     {
         let gates = self.gates.clone()?;
-        let links = copied(&self.links)?;
         Ok(Tree {
             gates,
             count: self.count,
-            links,
+            links: None,
         })
     }
 }
@@ -302,7 +301,7 @@ impl Tree {
 /// The number of gates behind a change in one slot.
 fn recounted(count: usize, before: Option<Gate>, after: Option<Gate>) -> usize
     requires there { (leaf before).count ≤ count }
-    requires few { count + (leaf after).count < (leaf before).count + 2 ^ 64 }
+    requires count_limit { count + (leaf after).count < (leaf before).count + 2 ^ 64 }
     ensures { result + (leaf before).count ≡ count + (leaf after).count }
 {
     match (before, after) {

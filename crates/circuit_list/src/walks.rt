@@ -14,7 +14,7 @@ use crate::nodes::{Node, has_any, node_at};
 pub(crate) fn rank_of(gates: &[Option<Gate>], nodes: &[Node], slot: usize) -> usize
     requires tree { (h : ℕ) × IsTree h gates.now nodes.now }
     requires within { slot < length nodes.now }
-    ensures { result ≡ rank gates.now slot }
+    ensures value { result ≡ rank gates.now slot }
 {
     let _gates = gates.len();
     let mut count = 0;
@@ -93,7 +93,7 @@ pub(crate) fn first_behind(
 ) -> Option<usize>
     requires tree { (h : ℕ) × IsTree h gates.now nodes.now }
     requires within { slot < length nodes.now }
-    ensures { MatchOption result (NoneOn wires gates.now (slot + 1) (length nodes.now)) (IsFirstOn wires gates.now (slot + 1)) }
+    ensures found { MatchOption result (NoneOn wires gates.now (slot + 1) (length nodes.now)) (IsFirstOn wires gates.now (slot + 1)) }
 {
     let mut node = nodes.len() + slot;
     'up: while node > 1 {
@@ -114,7 +114,7 @@ pub(crate) fn last_before(
 ) -> Option<usize>
     requires tree { (h : ℕ) × IsTree h gates.now nodes.now }
     requires within { slot < length nodes.now }
-    ensures { MatchOption result (NoneOn wires gates.now 0 slot) (IsLastOn wires gates.now slot) }
+    ensures found { MatchOption result (NoneOn wires gates.now 0 slot) (IsLastOn wires gates.now slot) }
 {
     let mut node = nodes.len() + slot;
     'up: while node > 1 {

@@ -4,10 +4,10 @@ ghost use Rattle.circuit_list.specs.Gates.{IsFine, is_on};
 ghost use Rattle.circuit_list.specs.Slots.{IsLive, IsNextOn, NoneBehind, is_on_at, place_of};
 
 use circuit_list::{Circuit, Gate, Slot};
-use circuit_samples::circuit_of;
 use std::alloc::Global;
 use std::process::Abort;
 use std::test::Fail;
+use test_circuits::circuit_of;
 
 /// The circuit of some gates that may stand on its wires.
 fn made(rt: &impl Abort, alloc: Global, wires: u32, gates: &[Gate]) -> Result<Circuit, Fail>

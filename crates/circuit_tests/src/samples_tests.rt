@@ -1,8 +1,8 @@
 //! Texts and their gates, and circuits that are told apart.
 
 use circuit_list::Gate;
-use circuit_samples::{Kind, Random, circuit_of_text, gates_of, gates_of_text, is_turned};
 use std::test::Fail;
+use test_circuits::{Kind, Random, circuit_of_text, gates_of, gates_of_text, is_turned};
 
 #[test]
 fn gates_by_their_texts(rt: HostRuntime) -> Result<(), Fail> {

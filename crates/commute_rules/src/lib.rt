@@ -30,7 +30,7 @@ pub enum Cancel {
 
 /// Whether two gates may be exchanged (Nam et al. 2018, section 4.2).
 pub fn commute(a: Gate, b: Gate) -> bool
-    ensures { result ≡ commutes a b }
+    ensures value { result ≡ commutes a b }
 {
     match a {
         Gate::H { q } => match b {
@@ -59,7 +59,7 @@ pub fn commute(a: Gate, b: Gate) -> bool
 /// What two neighbours are together: nothing for H and H, X and X, or one CNOT twice, and one phase or nothing for two
 /// phases of a wire.
 pub fn cancels(a: Gate, b: Gate) -> Cancel
-    ensures { result ≡ cancel_of a b }
+    ensures value { result ≡ cancel_of a b }
 {
     match a {
         Gate::H { q } => match b {

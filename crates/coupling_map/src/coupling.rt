@@ -15,7 +15,8 @@ use crate::text::{Listed, edges_of_table, read_table};
 use std::alloc::Global;
 use std::marker::Model;
 
-/// A connected device: its qubits 0 to N - 1, its edges, and the distances of all pairs.
+/// A connected device: its qubits 0 to N - 1, its edges, and the distances of all pairs. What holds of each,
+/// [`Device::facts`] says.
 #[derive(Drop)]
 pub struct Device {
     graph: Graph,
@@ -30,21 +31,27 @@ pub struct Device {
 impl Model for Device {
     ghost use Rattle.std.specs.Prelude.{map};
     ghost use Rattle.coupling_map.specs.Coupling.{Coupling};
-    ghost use Rattle.coupling_map.specs.Tables.{IsKept, listed_costs};
+    ghost use Rattle.coupling_map.specs.Tables.{AreTables, listed_costs};
 
     ghost Value = { Coupling };
 
     ghost view = { λ a. record { size = a.graph.size; edges = a.graph.edges; costs = listed_costs a.costs } };
 
-    ghost invariant = { λ a. IsKept (record { size = a.graph.size; edges = a.graph.edges; costs = listed_costs a.costs }) a.costs
+    ghost invariant = { λ a. AreTables (record { size = a.graph.size; edges = a.graph.edges; costs = listed_costs a.costs }) a.costs
         (map (λ v. v.items) a.neighbours.items) a.distances.items a.diameter };
 }
 
 impl Device {
-    /// The number of qubits, from 1 to `QUBIT_LIMIT`.
+    /// Does nothing. Its contract says what holds of each device.
+    pub fn facts(&self)
+        ensures coupling { IsCoupling self.now }
+    {
+        let _graph = &self.graph;
+    }
+
+    /// The number of qubits, from 1 to `MOST_QUBITS`.
     pub fn size(&self) -> u32
         ensures size { result ≡ self.now.size }
-        ensures coupling { IsCoupling self.now }
     {
         self.graph.size()
     }
@@ -53,7 +60,7 @@ impl Device {
     pub fn edge(&self, a: u32, b: u32) -> bool
         requires first { a < self.now.size }
         requires second { b < self.now.size }
-        ensures { result ≡ is_edge self.now.edges a b }
+        ensures value { result ≡ is_edge self.now.edges a b }
     {
         self.graph.edge(a, b)
     }
@@ -62,15 +69,15 @@ impl Device {
     pub fn near(&self, a: u32, b: u32) -> bool
         requires first { a < self.now.size }
         requires second { b < self.now.size }
-        ensures { result ≡ is_near self.now.edges a b }
+        ensures value { result ≡ is_near self.now.edges a b }
     {
         self.graph.near(a, b)
     }
 
     /// The qubits near `a`, ascending.
     pub fn neighbours(&self, a: u32) -> &[u32]
-        requires { a < self.now.size }
-        ensures { IsNeighbours self.now.size self.now.edges a result.now }
+        requires within { a < self.now.size }
+        ensures neighbours { IsNeighbours self.now.size self.now.edges a result.now }
     {
         self.neighbours[a as usize].as_slice()
     }
@@ -87,7 +94,7 @@ impl Device {
 
     /// The format of the device's text: 1 where no costs are listed, else 2.
     pub fn format(&self) -> u32
-        ensures { result ≡ format_of self.now.costs }
+        ensures value { result ≡ format_of self.now.costs }
     {
         match &self.costs {
             EdgeCosts::Unit(_) => 1,
@@ -103,7 +110,7 @@ impl Device {
         ensures symmetric { IsDistance self.now.edges (cost self.now) b a result }
         ensures short { result + most_cost ≤ self.now.size * most_cost }
         ensures zero { (result ≡ 0) ↔ (a ≡ b) }
-        ensures few { self.now.costs ≡ None → result < self.now.size }
+        ensures below_size { self.now.costs ≡ None → result < self.now.size }
         ensures one { self.now.costs ≡ None → (result ≡ 1) ↔ IsTrue (is_near self.now.edges a b) }
     {
         u64::from(self.distances[place(self.graph.size(), b, a)])
@@ -117,8 +124,8 @@ impl Device {
         ensures toward { IsToward self.now.edges (cost self.now) a b result }
         ensures below { result < self.now.size }
     {
-        // The size's contract says that the device is connected.
-        let _size = self.size();
+        // Its contract says that the device is connected.
+        self.facts();
         let distance = self.dist(a, b);
         'near: for qubit in self.neighbours(a) {
             if self.cost(a, *qubit) + self.dist(*qubit, b) == distance {
@@ -131,7 +138,7 @@ impl Device {
     /// The greatest distance of two qubits.
     pub fn diameter(&self) -> u64
         ensures diameter { IsDiameter self.now.size self.now.edges (cost self.now) result }
-        ensures few { self.now.costs ≡ None → result < self.now.size }
+        ensures below_size { self.now.costs ≡ None → result < self.now.size }
     {
         u64::from(self.diameter)
     }

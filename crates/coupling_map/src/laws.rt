@@ -39,15 +39,15 @@ pub fn distances_without_costs()
 
 /// A text has one refusal at most, with its qubits.
 pub fn refused_once()
-    ensures { (text : List ℕ) (a b : Fault) → IsDeviceFault text a → IsDeviceFault text b → a ≡ b }
+    ensures once { (text : List ℕ) (a b : Fault) → IsDeviceFault text a → IsDeviceFault text b → a ≡ b }
 {}
 
 /// A text that describes a device has no refusal.
 pub fn accepted_has_no_refusal()
-    ensures { (text : List ℕ) (d : Coupling) (fault : Fault) → Says text (graph d.size d.edges d.costs) → IsCoupling d → IsDeviceFault text fault → ⊥ }
+    ensures no_refusal { (text : List ℕ) (d : Coupling) (fault : Fault) → Says text (graph d.size d.edges d.costs) → IsCoupling d → IsDeviceFault text fault → ⊥ }
 {}
 
 /// A text describes a device or has a refusal.
 pub fn described_or_refused()
-    ensures { (text : List ℕ) → ((d : Coupling) × Says text (graph d.size d.edges d.costs) × IsCoupling d) ⊎ ((fault : Fault) × IsDeviceFault text fault) }
+    ensures either { (text : List ℕ) → ((d : Coupling) × Says text (graph d.size d.edges d.costs) × IsCoupling d) ⊎ ((fault : Fault) × IsDeviceFault text fault) }
 {}

@@ -28,7 +28,7 @@ pub use edge_costs::{Cost, ListedCost, UnitCost};
 pub use faults::{DeviceError, DeviceFault};
 
 /// The greatest number of qubits of a device.
-pub const QUBIT_LIMIT: u32 = 256;
+pub const MOST_QUBITS: u32 = 256;
 
 /// The greatest cost of an edge.
-pub const COST_LIMIT: u32 = 1_000_000;
+pub const MOST_COST: u32 = 1_000_000;

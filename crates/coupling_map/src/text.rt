@@ -10,7 +10,7 @@ ghost use Rattle.coupling_map.specs.Refusals.{IsCostCause, IsDeviceTextCause, Is
 ghost use Rattle.coupling_map.specs.Text.{IsTable, bad_cost, below, cost_in, costs_of, edge_below, ends, entries_of, entry_in, entry_of, graph, is_self_edge, outcome_of, priced_by, priced_of, size_of, three};
 
 use crate::faults::{DeviceError, DeviceFault};
-use crate::{COST_LIMIT, QUBIT_LIMIT};
+use crate::{MOST_COST, MOST_QUBITS};
 use std::alloc::Global;
 use toml::{Table, Value};
 
@@ -177,7 +177,7 @@ fn entries_at(
 fn size(x: i64) -> Option<u32>
     ensures { result ≡ size_of x }
 {
-    if x < 1 || x > i64::from(QUBIT_LIMIT) {
+    if x < 1 || x > i64::from(MOST_QUBITS) {
         return None;
     }
     Some(x as u32)
@@ -235,7 +235,7 @@ fn first_self_edge(edges: &[(u32, u32, i64)]) -> Option<(u32, u32, i64)>
 fn cost(edge: (u32, u32, i64)) -> Option<u32>
     ensures { result ≡ cost_in edge.2 }
 {
-    if edge.2 < 1 || edge.2 > i64::from(COST_LIMIT) {
+    if edge.2 < 1 || edge.2 > i64::from(MOST_COST) {
         return None;
     }
     Some(edge.2 as u32)

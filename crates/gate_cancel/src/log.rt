@@ -38,7 +38,7 @@ impl Log {
     ) -> Result<(), AllocError>
         requires first { IsLive body.now first }
         requires second { IsLive body.now second }
-        ensures { OnOk result (IsPushed (Step.Both (place_of first body.now.slots) (place_of second body.now.slots)) self.old self.new) }
+        ensures ok { OnOk result (IsPushed (Step.Both (place_of first body.now.slots) (place_of second body.now.slots)) self.old self.new) }
     {
         if !self.told {
             return Ok(());
@@ -58,7 +58,7 @@ impl Log {
     ) -> Result<(), AllocError>
         requires first { IsLive body.now first }
         requires second { IsLive body.now second }
-        ensures { OnOk result (IsPushed (Step.Join (place_of first body.now.slots) (place_of second body.now.slots)) self.old self.new) }
+        ensures ok { OnOk result (IsPushed (Step.Join (place_of first body.now.slots) (place_of second body.now.slots)) self.old self.new) }
     {
         if !self.told {
             return Ok(());

@@ -6,13 +6,13 @@ ghost use Rattle.commute_rules.specs.Cancels.{with_phase};
 ghost use Rattle.commute_rules.specs.Reducible.{IsReducible};
 ghost use Rattle.rewrite_pass.specs.Traces.{Step};
 ghost use Rattle.gate_cancel.specs.declared.log.Log.{Log};
-ghost use Rattle.gate_cancel.specs.declared.search.Reach.{Reach};
+ghost use Rattle.gate_cancel.specs.declared.search.WireSlots.{WireSlots};
 ghost use Rattle.gate_cancel.specs.Reaches.{IsReach};
 ghost use Rattle.gate_cancel.specs.Reductions.{IsOutcome, IsPushed, IsReduced, IsReduction, IsStanding};
 
 use crate::log::Log;
 use crate::queue::Queue;
-use crate::search::{Reach, search};
+use crate::search::{WireSlots, search};
 use circuit_list::{Circuit, Gate, Slot};
 use commute_rules::{Cancel, cancels};
 use std::alloc::AllocError;
@@ -49,7 +49,7 @@ fn take_out(body: &mut Circuit, first: Slot, second: Slot, turn: u8)
         IsReduced body.old.wires body.old.gates body.new.gates turn x y }
 {
     // it says that the gates are fine
-    let _wires = body.wires();
+    body.facts();
     body.remove_at(second);
     body.remove_at(first);
 }
@@ -62,12 +62,12 @@ fn merge(body: &mut Circuit, first: Slot, second: Slot, k: u8)
     requires told { IsOutcome body.old.gates (place_of first body.old.slots) (place_of second body.old.slots) (Cancel.Merge k) }
     ensures wires { body.new.wires ≡ body.old.wires }
     ensures live { IsLive body.new first }
-    ensures reach { (r : Reach) → IsReach body.old first r → IsReach body.new first r }
+    ensures reach { (r : WireSlots) → IsReach body.old first r → IsReach body.new first r }
     ensures reduced { (x y : Log) → IsPushed (Step.Join (place_of first body.old.slots) (place_of second body.old.slots)) x y →
         IsReduced body.old.wires body.old.gates body.new.gates 0 x y }
 {
     // it says that the gates are fine
-    let _wires = body.wires();
+    body.facts();
     let gate = with_phase(body.gate_at(first), k);
     body.replace_at(first, gate);
     body.remove_at(second);
@@ -80,12 +80,12 @@ pub(crate) fn reduce(
     queue: &mut Queue,
     log: &mut Log,
 ) -> Result<Reduction, AllocError>
-    requires { IsLive body.old slot }
+    requires live { IsLive body.old slot }
     ensures wires { IfOk result (λ s. body.new.wires ≡ body.old.wires) }
     ensures reduction { IfOk result (IsReduction body.old.wires body.old.gates body.new.gates (place_of slot body.old.slots) log.old log.new) }
     ensures live { IfOk result (λ s. IsStanding s body.old body.new slot) }
 {
-    let mut reach = Reach {
+    let mut reach = WireSlots {
         first: slot,
         second: slot,
     };

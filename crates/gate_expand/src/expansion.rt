@@ -15,7 +15,7 @@ use unitary_model::{Op, turn_sum};
 /// The circuit of a source's operations, and its turn: the circuit's unitary is `w^turn` times the
 /// source's. Fails for want of memory alone.
 pub fn expand(alloc: Global, source: &Ops) -> Result<Passed, AllocError>
-    requires few { source.now.wires ≤ most_wires }
+    requires wires_limit { source.now.wires ≤ most_wires }
     requires fine { All (IsFineOp source.now.wires) source.now.list }
 
     // the circuit is that of the table

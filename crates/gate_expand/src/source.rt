@@ -23,14 +23,14 @@ impl OpList {
 
     /// The operations of a `Vec`; takes no memory.
     pub fn new(list: Vec<Op>) -> OpList
-        ensures { result ≡ list.items }
+        ensures value { result ≡ list.items }
     {
         OpList { list }
     }
 
     /// The operations in order.
     pub fn as_slice(&self) -> &[Op]
-        ensures { result.now ≡ self.now }
+        ensures value { result.now ≡ self.now }
     {
         self.list.as_slice()
     }
@@ -55,14 +55,14 @@ impl ReadList {
 
     /// The reads of a `Vec`; takes no memory.
     pub fn new(list: Vec<Option<u32>>) -> ReadList
-        ensures { result ≡ list.items }
+        ensures value { result ≡ list.items }
     {
         ReadList { list }
     }
 
     /// The reads in order of the bits.
     pub fn as_slice(&self) -> &[Option<u32>]
-        ensures { result.now ≡ self.now }
+        ensures value { result.now ≡ self.now }
     {
         self.list.as_slice()
     }

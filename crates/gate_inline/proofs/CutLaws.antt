@@ -15,14 +15,14 @@ use Rattle.std.proofs.lemmas.List.{drop-append-le, map-append}
 use Rattle.std.proofs.lemmas.List.Elements.{All-cons, All-head, All-nil, All-tail}
 use Rattle.gate_expand.specs.declared.source.Ops.{Ops}
 use Rattle.gate_inline.specs.Inlined.{IsInlined, operations}
-use Rattle.gate_inline.specs.Meanings.{Answer, followed, joined, meanings, step_answer}
+use Rattle.gate_inline.specs.Meanings.{Evaluation, followed, joined, meanings, step_answer}
 use Rattle.gate_inline.specs.Parting.{ended, named_of, so_far}
 use Rattle.gate_inline.specs.Splits.{AreOperations, IsCutBy, IsCutOf, IsSplit, bar_of, cut_of, named_once, once}
 use Rattle.gate_inline.specs.declared.parts.Parts.{Parts}
 use Rattle.gate_inline.specs.declared.split.Split.{Split}
 use Rattle.gate_inline.proofs.SizeLaws.{next_views}
 use Rattle.gate_inline.proofs.StepLaws.{joined-push}
-use Rattle.gate_library.specs.Gates.{Gate}
+use Rattle.gate_library.specs.Gates.{BoundGate}
 use Rattle.program_parts.specs.Cuts.{Cut, IsCut, before, cut_at, cut_by, uncut, whole}
 use Rattle.qasm_check.specs.Bound.{Bound}
 use Rattle.qasm_check.specs.Steps.{Step, applies, measures, bars, nothing}
@@ -75,19 +75,19 @@ is_cut {A = A} bar (x ∷ xs) = go (bar x) (cut_at bar xs).parts (cut_at bar xs)
     go (Some ws) parts named e = ap suc e
 
 -- a barrier has no operations
-pub silent : (gates : List Gate) (s : Step) (ws : List ℕ) → bar_of s ≡ Some ws → step_answer (meanings gates) s ≡ Ok []
+pub silent : (gates : List BoundGate) (s : Step) (ws : List ℕ) → bar_of s ≡ Some ws → step_answer (meanings gates) s ≡ Ok []
 silent gates (applies gate angles places) ws e = absurd (cc)
 silent gates (measures qubit bit) ws e = absurd (cc)
 silent gates (bars places) ws e = refl
 silent gates nothing ws e = absurd (cc)
 
-pub silent-named : (gates : List Gate) (s : Step) (ws : List ℕ) → named_of s ≡ Some ws → step_answer (meanings gates) s ≡ Ok []
+pub silent-named : (gates : List BoundGate) (s : Step) (ws : List ℕ) → named_of s ≡ Some ws → step_answer (meanings gates) s ≡ Ok []
 silent-named gates (applies gate angles places) ws e = absurd (cc)
 silent-named gates (measures qubit bit) ws e = absurd (cc)
 silent-named gates (bars places) ws e = refl
 silent-named gates nothing ws e = absurd (cc)
 
-module _ (gates : List Gate) (bar : Step → Option (List ℕ)) (silent : (s : Step) (ws : List ℕ) → bar s ≡ Some ws → step_answer (meanings gates) s ≡ Ok []) where
+module _ (gates : List BoundGate) (bar : Step → Option (List ℕ)) (silent : (s : Step) (ws : List ℕ) → bar s ≡ Some ws → step_answer (meanings gates) s ≡ Ok []) where
   operations-more : (steps : List Step) (s : Step) (us vs : List Op) → operations gates steps ≡ Ok us → step_answer (meanings gates) s ≡ Ok vs
       → operations gates (steps ++ s ∷ []) ≡ Ok (us ++ vs)
   operations-more steps s us vs e f =
@@ -112,7 +112,7 @@ module _ (gates : List Gate) (bar : Step → Option (List ℕ)) (silent : (s : S
   next-operations (p ∷ parts) [] h = absurd h
   next-operations (p ∷ parts) (l ∷ lists) h = (h.0, next-operations parts lists h.1)
 
-  same_Ok : (us vs : List Op) → ◌≡◌ {A = Answer} (Ok us) (Ok vs) → us ≡ vs
+  same_Ok : (us vs : List Op) → ◌≡◌ {A = Evaluation} (Ok us) (Ok vs) → us ≡ vs
   same_Ok us vs e = cc
 
   -- one step more
@@ -139,14 +139,14 @@ module _ (gates : List Gate) (bar : Step → Option (List ℕ)) (silent : (s : S
           }
 
   -- ---- the whole
-  record IsFollowed (a b : Answer) (us : List Op) : Type 0 where
+  record IsFollowed (a b : Evaluation) (us : List Op) : Type 0 where
     first : List Op
     second : List Op
     one : a ≡ Ok first
     other : b ≡ Ok second
     both : first ++ second ≡ us
 
-  taken_apart : (a b : Answer) (us : List Op) → followed a b ≡ Ok us → IsFollowed a b us
+  taken_apart : (a b : Evaluation) (us : List Op) → followed a b ≡ Ok us → IsFollowed a b us
   taken_apart (Ok f) (Ok s) us e = record { first = f; second = s; one = refl; other = refl; both = same_Ok (f ++ s) us e }
   taken_apart (Ok f) (Err r) us e = absurd (cc)
   taken_apart (Err r) b us e = absurd (cc)
@@ -255,7 +255,7 @@ module _ (gates : List Gate) (bar : Step → Option (List ℕ)) (silent : (s : S
           )
 
 -- ---- what is split so far
-pub cut-none : (gates : List Gate) (p : Parts) (us : List Op) → p.done.items ≡ [] → p.bars.items ≡ [] → p.start ≡ 0 → us ≡ [] → IsCutBy named_of gates [] (so_far p us)
+pub cut-none : (gates : List BoundGate) (p : Parts) (us : List Op) → p.done.items ≡ [] → p.bars.items ≡ [] → p.start ≡ 0 → us ≡ [] → IsCutBy named_of gates [] (so_far p us)
 cut-none gates p us d b z u =
     let nothing : [] ≡ drop p.start us = λ i. drop (sym z i) (sym u i) in
     record {
@@ -264,12 +264,12 @@ cut-none gates p us d b z u =
       bars = λ i. map (λ w. w.items) (b i);
     }
 
-next_ops : (a : Answer) (us ws : List Op) → ◌≡◌ {A = Answer} (Ok ws) (followed (Ok us) a) → (vs : List Op) × (a ≡ Ok vs) × (ws ≡ us ++ vs)
+next_ops : (a : Evaluation) (us ws : List Op) → ◌≡◌ {A = Evaluation} (Ok ws) (followed (Ok us) a) → (vs : List Op) × (a ≡ Ok vs) × (ws ≡ us ++ vs)
 next_ops (Ok vs) us ws e = (vs, refl, cc)
 next_ops (Err r) us ws e = absurd (cc)
 
-pub cut-next : {X : Type 0} (v : X → Step) (gates : List Gate) (xs : List X) (i : ℕ) (x : X) (p q : Parts) (us ws : List Op) → i < length xs → x ≡ get_or xs i x
-    → p.start ≤ length us → ◌≡◌ {A = Answer} (Ok ws) (followed (Ok us) (step_answer (meanings gates) (v x)))
+pub cut-next : {X : Type 0} (v : X → Step) (gates : List BoundGate) (xs : List X) (i : ℕ) (x : X) (p q : Parts) (us ws : List Op) → i < length xs → x ≡ get_or xs i x
+    → p.start ≤ length us → ◌≡◌ {A = Evaluation} (Ok ws) (followed (Ok us) (step_answer (meanings gates) (v x)))
     → so_far q ws ≡ ended (named_of (v x)) (so_far p ws)
     → IsCutBy named_of gates (map v (take i xs)) (so_far p us) → IsCutBy named_of gates (map v (take (i + 1) xs)) (so_far q ws)
 cut-next v gates xs i x p q us ws l here start more made h =
@@ -291,7 +291,7 @@ named-cut (s ∷ steps) = ap (cut_by (named_of s) s) (named-cut steps) ∙ go (b
     go None c = refl
     go (Some ws) c = refl
 
-pub cut-named : (gates : List Gate) (steps : List Step) (c : Cut Op) → IsCutBy named_of gates steps c
+pub cut-named : (gates : List BoundGate) (steps : List Step) (c : Cut Op) → IsCutBy named_of gates steps c
     → (d : Cut Op) × IsCutOf gates steps d × (c ≡ named_once d)
 cut-named gates steps c h =
     let same = named-cut steps in (
@@ -300,7 +300,7 @@ cut-named gates steps c h =
       λ i. record { parts = c.parts; bars = (h.bars ∙ ap (λ (d : Cut Step). d.bars) same) i },
     )
 
-pub bars-named : (gates : List Gate) (steps : List Step) (c d : Cut Op) → IsCutOf gates steps d → c ≡ named_once d → c.bars ≡ (cut_at named_of steps).bars
+pub bars-named : (gates : List BoundGate) (steps : List Step) (c d : Cut Op) → IsCutOf gates steps d → c ≡ named_once d → c.bars ≡ (cut_at named_of steps).bars
 bars-named gates steps c d is e =
     ap (λ (x : Cut Op). x.bars) e ∙ ap (map (once [])) is.bars ∙ sym (ap (λ (x : Cut Step). x.bars) (named-cut steps))
 

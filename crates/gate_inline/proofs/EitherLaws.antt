@@ -6,27 +6,27 @@ use Rattle.std.proofs.Common.{◌≡◌, ◌⊎◌, inl, inr, ℕ, ◌+◌, List
 use Rattle.std.specs.Prelude.{IsOk}
 use Rattle.unitary_model.specs.declared.Op.{Op}
 use Rattle.qasm_check.specs.Bound.{Bound}
-use Rattle.gate_library.specs.Gates.{Gate}
+use Rattle.gate_library.specs.Gates.{BoundGate}
 use Rattle.qasm_check.specs.Steps.{Step}
 use Rattle.gate_expand.specs.declared.source.Ops.{Ops}
 use Rattle.gate_inline.specs.Inlined.{IsFirstUnvalued, IsInlineRefused, IsInlined, IsTooMany, operations}
-use Rattle.gate_inline.specs.Meanings.{Answer, followed, meanings, step_answer}
+use Rattle.gate_inline.specs.Meanings.{Evaluation, followed, meanings, step_answer}
 use Rattle.gate_inline.specs.Reads.{reads}
 use Rattle.gate_inline.specs.Sizes.{is_too_much, total}
-use Rattle.gate_inline.specs.declared.refusal.Refusal.TheVariants.{AngleForm, AngleZero, AngleRange, AngleStep, TooManyOps}
-use Rattle.gate_inline.specs.declared.refusal.Refused.{Refused}
-use Rattle.gate_inline.specs.declared.stop.Unvalued.{Unvalued}
-use Rattle.gate_inline.specs.declared.stop.Unvalued.TheVariants.{NoForm, ByZero, TooLarge, NoStep}
+use Rattle.gate_inline.specs.declared.refusal.InlineRefusal.TheVariants.{AngleForm, AngleZero, AngleRange, AngleStep, TooManyOps}
+use Rattle.gate_inline.specs.declared.refusal.InlineRefused.{InlineRefused}
+use Rattle.gate_inline.specs.declared.stop.AngleRefusal.{AngleRefusal}
+use Rattle.gate_inline.specs.declared.stop.AngleRefusal.TheVariants.{NoForm, ByZero, TooLarge, NoStep}
 use Rattle.gate_inline.proofs.OnceLaws.{operations-append, over_or_fine}
 
 -- ---- too much
-abbrev Over : List Gate → List Step → Type 0
+abbrev Over : List BoundGate → List Step → Type 0
 Over gates steps = is_too_much (total gates steps) ≡ true
 
-abbrev Small : List Gate → List Step → Type 0
+abbrev Small : List BoundGate → List Step → Type 0
 Small gates steps = is_too_much (total gates steps) ≡ false
 
-by_total : (gates : List Gate) (before : List Step) (s : Step) (rest : List Step) (b : Bool) → is_too_much (total gates (before ++ s ∷ [])) ≡ b
+by_total : (gates : List BoundGate) (before : List Step) (s : Step) (rest : List Step) (b : Bool) → is_too_much (total gates (before ++ s ∷ [])) ≡ b
     → Small gates before → (Small gates (before ++ s ∷ []) → (n : ℕ) × IsTooMany gates ((before ++ s ∷ []) ++ rest) n)
     → (n : ℕ) × IsTooMany gates (before ++ s ∷ rest) n
 by_total gates before s rest true over small later = (length before + 1, (before, s, rest, refl, refl, small, over))
@@ -34,7 +34,7 @@ by_total gates before s rest false fine small later =
     let found = later fine in
     (found.0, subst (λ xs. IsTooMany gates xs found.0) (append_assoc before (s ∷ []) rest) found.1)
 
-first_too_many : (gates : List Gate) (before rest : List Step) → Small gates before → Over gates (before ++ rest)
+first_too_many : (gates : List BoundGate) (before rest : List Step) → Small gates before → Over gates (before ++ rest)
     → (n : ℕ) × IsTooMany gates (before ++ rest) n
 first_too_many gates before [] small over = absurd (over_or_fine gates before (subst (Over gates) (append-nil before) over) small)
 first_too_many gates before (s ∷ rest) small over =
@@ -42,52 +42,52 @@ first_too_many gates before (s ∷ rest) small over =
     (λ fine. first_too_many gates (before ++ s ∷ []) rest fine (subst (Over gates) (sym (append_assoc before (s ∷ []) rest)) over))
 
 -- ---- angles
-ok_followed : (a b : Answer) → IsOk a → IsOk b → IsOk (followed a b)
+ok_followed : (a b : Evaluation) → IsOk a → IsOk b → IsOk (followed a b)
 ok_followed (Ok us) (Ok vs) f g = refl
 ok_followed (Ok us) (Err e) f g = g
 ok_followed (Err e) b f g = f
 
-ok_alone : (a : Answer) (us : List Op) → a ≡ Ok us → IsOk (followed a (Ok []))
+ok_alone : (a : Evaluation) (us : List Op) → a ≡ Ok us → IsOk (followed a (Ok []))
 ok_alone (Ok vs) us is = refl
 ok_alone (Err e) us is = cc
 
-ok_more : (gates : List Gate) (before : List Step) (s : Step) (us : List Op) → IsOk (operations gates before) → step_answer (meanings gates) s ≡ Ok us
+ok_more : (gates : List BoundGate) (before : List Step) (s : Step) (us : List Op) → IsOk (operations gates before) → step_answer (meanings gates) s ≡ Ok us
     → IsOk (operations gates (before ++ s ∷ []))
 ok_more gates before s us ok is =
     subst IsOk (sym (operations-append gates before (s ∷ [])))
     (ok_followed (operations gates before) (operations gates (s ∷ [])) ok (ok_alone (step_answer (meanings gates) s) us is))
 
-abbrev Valued : List Gate → List Step → Type 0
-Valued gates steps = IsOk (operations gates steps) ⊎ ((e : Unvalued) × (n : ℕ) × IsFirstUnvalued gates steps e n)
+abbrev Valued : List BoundGate → List Step → Type 0
+Valued gates steps = IsOk (operations gates steps) ⊎ ((e : AngleRefusal) × (n : ℕ) × IsFirstUnvalued gates steps e n)
 
-by_answer : (gates : List Gate) (before : List Step) (s : Step) (rest : List Step) (a : Answer) → step_answer (meanings gates) s ≡ a
+by_answer : (gates : List BoundGate) (before : List Step) (s : Step) (rest : List Step) (a : Evaluation) → step_answer (meanings gates) s ≡ a
     → IsOk (operations gates before) → (IsOk (operations gates (before ++ s ∷ [])) → Valued gates ((before ++ s ∷ []) ++ rest))
     → Valued gates (before ++ s ∷ rest)
 by_answer gates before s rest (Err e) is ok later = inr (e, length before + 1, (before, s, rest, refl, refl, ok, is))
 by_answer gates before s rest (Ok us) is ok later =
     subst (Valued gates) (append_assoc before (s ∷ []) rest) (later (ok_more gates before s us ok is))
 
-ok_or_unvalued : (gates : List Gate) (before rest : List Step) → IsOk (operations gates before) → Valued gates (before ++ rest)
+ok_or_unvalued : (gates : List BoundGate) (before rest : List Step) → IsOk (operations gates before) → Valued gates (before ++ rest)
 ok_or_unvalued gates before [] ok = inl (subst (λ xs. IsOk (operations gates xs)) (sym (append-nil before)) ok)
 ok_or_unvalued gates before (s ∷ rest) ok =
     by_answer gates before s rest (step_answer (meanings gates) s) refl ok (ok_or_unvalued gates (before ++ s ∷ []) rest)
 
 -- ---- programs
 abbrev Told : Bound → Type 0
-Told b = ((o : Ops) × IsInlined b o) ⊎ ((r : Refused) × IsInlineRefused b r.refusal r.statement)
+Told b = ((o : Ops) × IsInlined b o) ⊎ ((r : InlineRefused) × IsInlineRefused b r.refusal r.statement)
 
-told_unvalued : (b : Bound) (e : Unvalued) (n : ℕ) → Small b.gates b.steps → IsFirstUnvalued b.gates b.steps e n → Told b
+told_unvalued : (b : Bound) (e : AngleRefusal) (n : ℕ) → Small b.gates b.steps → IsFirstUnvalued b.gates b.steps e n → Told b
 told_unvalued b NoForm n small f = inr (record { refusal = AngleForm; statement = n }, (small, f))
 told_unvalued b ByZero n small f = inr (record { refusal = AngleZero; statement = n }, (small, f))
 told_unvalued b TooLarge n small f = inr (record { refusal = AngleRange; statement = n }, (small, f))
 told_unvalued b NoStep n small f = inr (record { refusal = AngleStep; statement = n }, (small, f))
 
-told_valued : (b : Bound) (a : Answer) → operations b.gates b.steps ≡ a → IsOk a → Small b.gates b.steps → Told b
+told_valued : (b : Bound) (a : Evaluation) → operations b.gates b.steps ≡ a → IsOk a → Small b.gates b.steps → Told b
 told_valued b (Err e) is ok small = absurd (cc)
 told_valued b (Ok us) is ok small =
     inl (record { wires = b.wires; list = us; reads = reads b.bits b.steps }, record { small = small; wires = refl; list = is; reads = refl })
 
-pub inlined_or_refused : (b : Bound) → ((o : Ops) × IsInlined b o) ⊎ ((r : Refused) × IsInlineRefused b r.refusal r.statement)
+pub inlined_or_refused : (b : Bound) → ((o : Ops) × IsInlined b o) ⊎ ((r : InlineRefused) × IsInlineRefused b r.refusal r.statement)
 inlined_or_refused b = by_size (is_too_much (total b.gates b.steps)) refl
   where
     by_values : Small b.gates b.steps → Valued b.gates b.steps → Told b

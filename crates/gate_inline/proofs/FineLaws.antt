@@ -1,6 +1,7 @@
 -- The operations of a sound program are fine.
 --     operations-fine     those of all steps
 --     steps_wide          their wires are below a number that is no less than theirs
+--     placed_within       the steps of a sound program are placed within 32 bits
 use Rattle.std.proofs.Common.{◌≡◌, ℕ, zero, suc, ◌+◌, ◌<◌, ◌≤◌, List, [], ◌∷◌, ◌++◌, All, Bool, true, false, ◌||◌, if◌then◌else◌, Option, Some, None, Result, Ok, Err, append_assoc, append-nil, refl, sym, subst, ◌∙◌, ap, arith, add-one, length, map, fold, ◌⊎◌, inl, inr}
 use Rattle.std.specs.Prelude.{◌≢◌, nat_eq, nat_lt, ◌==◌}
 use Rattle.std.specs.List.{list_all, list_any}
@@ -12,8 +13,9 @@ use Rattle.angle_fraction.specs.Angles.{eighths_of, first_where, is_turn}
 use Rattle.angle_fraction.specs.declared.Angle.{Angle}
 use Rattle.unitary_model.specs.declared.Op.{Op}
 use Rattle.unitary_model.specs.declared.Op.TheVariants.{U, Cx}
+use Rattle.unitary_model.specs.Limits.{most_qubits}
 use Rattle.qasm_check.specs.Bound.{Bound}
-use Rattle.gate_library.specs.Gates.{Item, call, barrier, Gate, u, cx, opaque, composed, gate_at, gate_qubits}
+use Rattle.gate_library.specs.Gates.{Item, call, barrier, BoundGate, u, cx, opaque, composed, gate_at, gate_qubits}
 use Rattle.gate_library.specs.Names.{has_repeat}
 use Rattle.gate_library.specs.Operands.{broadcast, upto, wire_at}
 use Rattle.gate_library.specs.declared.operand.Operand.{Operand}
@@ -26,16 +28,16 @@ use Rattle.gate_inline.specs.Sizes.{is_too_much, total}
 use Rattle.gate_inline.specs.Splits.{IsCutOf, IsSplit, cut_of, named_once}
 use Rattle.gate_inline.specs.declared.split.Split.{Split}
 use Rattle.program_parts.specs.Cuts.{Cut}
-use Rattle.gate_inline.specs.declared.refusal.Refusal.{Refusal}
-use Rattle.gate_inline.specs.declared.refusal.Refusal.TheVariants.{AngleForm, AngleZero, AngleRange, AngleStep, TooManyOps}
+use Rattle.gate_inline.specs.declared.refusal.InlineRefusal.{InlineRefusal}
+use Rattle.gate_inline.specs.declared.refusal.InlineRefusal.TheVariants.{AngleForm, AngleZero, AngleRange, AngleStep, TooManyOps}
 use Rattle.gate_inline.specs.declared.refusal.InlineFault.{InlineFault}
 use Rattle.gate_inline.specs.declared.refusal.InlineFault.TheVariants.{Refused as Refuses, NoMemory}
-use Rattle.gate_inline.specs.declared.stop.Unvalued.TheVariants.{NoForm, ByZero, TooLarge, NoStep}
+use Rattle.gate_inline.specs.declared.stop.AngleRefusal.TheVariants.{NoForm, ByZero, TooLarge, NoStep}
 use Rattle.gate_expand.specs.declared.source.Ops.{Ops}
-use Rattle.gate_inline.specs.Meanings.{Answer, Meaning, controlled, eighth, followed, gate_meaning, item_answer, joined, meaning_at, meanings, rotation, step_answer, step_of, unvalued, wire_of}
+use Rattle.gate_inline.specs.Meanings.{Evaluation, Meaning, controlled, eighth, followed, gate_meaning, item_answer, joined, meaning_at, meanings, rotation, step_answer, step_of, unvalued, wire_of}
 use Rattle.gate_inline.specs.Placed.{IsPlaced}
 use Rattle.gate_inline.specs.Values.{and_next, values}
-use Rattle.gate_inline.specs.declared.stop.Unvalued.{Unvalued}
+use Rattle.gate_inline.specs.declared.stop.AngleRefusal.{AngleRefusal}
 use Rattle.gate_inline.proofs.PlacedLaws.{and_left, and_right, below_of, both_false, equal_of, not_true, or_left, or_right, step_apart, step_counted, step_placed, steps_placed}
 use Rattle.gate_inline.proofs.StepLaws.{upto-more, upto_none}
 
@@ -95,20 +97,20 @@ below_wires n ws (p ∷ ps) h a =
 
 -- ---- answers
 module _ (n : ℕ) where
-  fine_nil : (us : List Op) → ◌≡◌ {A = Answer} (Ok []) (Ok us) → All (IsFineOp n) us
+  fine_nil : (us : List Op) → ◌≡◌ {A = Evaluation} (Ok []) (Ok us) → All (IsFineOp n) us
   fine_nil us e = let same : us ≡ [] = cc in All-same (IsFineOp n) us [] same (All-nil (IsFineOp n))
 
-  fine_one : (op : Op) (us : List Op) → IsFineOp n op → ◌≡◌ {A = Answer} (Ok (op ∷ [])) (Ok us) → All (IsFineOp n) us
+  fine_one : (op : Op) (us : List Op) → IsFineOp n op → ◌≡◌ {A = Evaluation} (Ok (op ∷ [])) (Ok us) → All (IsFineOp n) us
   fine_one op us h e = let same : us ≡ op ∷ [] = cc in All-same (IsFineOp n) us (op ∷ []) same (All-cons (IsFineOp n) op [] h (All-nil (IsFineOp n)))
 
-  fine_followed : (a b : Answer) (us : List Op) → ((vs : List Op) → a ≡ Ok vs → All (IsFineOp n) vs) → ((vs : List Op) → b ≡ Ok vs → All (IsFineOp n) vs)
+  fine_followed : (a b : Evaluation) (us : List Op) → ((vs : List Op) → a ≡ Ok vs → All (IsFineOp n) vs) → ((vs : List Op) → b ≡ Ok vs → All (IsFineOp n) vs)
       → followed a b ≡ Ok us → All (IsFineOp n) us
   fine_followed (Ok vs) (Ok ws) us f g e =
       let same : us ≡ vs ++ ws = cc in All-same (IsFineOp n) us (vs ++ ws) same (All-append (IsFineOp n) vs ws (f vs refl) (g ws refl))
   fine_followed (Ok vs) (Err x) us f g e = absurd (cc)
   fine_followed (Err x) b us f g e = absurd (cc)
 
-  fine_next : {A : Type 0} (r : Result A Unvalued) (f : A → Answer) (us : List Op) → ((a : A) (vs : List Op) → f a ≡ Ok vs → All (IsFineOp n) vs)
+  fine_next : {A : Type 0} (r : Result A AngleRefusal) (f : A → Evaluation) (us : List Op) → ((a : A) (vs : List Op) → f a ≡ Ok vs → All (IsFineOp n) vs)
       → and_next r f ≡ Ok us → All (IsFineOp n) us
   fine_next (Ok a) f us h e = h a us e
   fine_next (Err x) f us h e = absurd (cc)
@@ -140,8 +142,8 @@ fine_rotation n (t ∷ p ∷ l ∷ []) [] us b e = fine_nil n us e
 fine_rotation n (t ∷ p ∷ l ∷ []) (q ∷ r ∷ ws) us b e = fine_nil n us e
 fine_rotation n (t ∷ p ∷ l ∷ []) (q ∷ []) us there e = go (eighth t) (eighth p) (eighth l) (eighth_small t) (eighth_small p) (eighth_small l) e
   where
-    go : (x y z : Result ℕ Unvalued) → ((k : ℕ) → x ≡ Ok k → k < 8) → ((k : ℕ) → y ≡ Ok k → k < 8) → ((k : ℕ) → z ≡ Ok k → k < 8)
-        → ◌≡◌ {A = Answer} (and_next x (λ a. and_next y (λ b. and_next z (λ c. Ok (U a b c q ∷ []))))) (Ok us) → All (IsFineOp n) us
+    go : (x y z : Result ℕ AngleRefusal) → ((k : ℕ) → x ≡ Ok k → k < 8) → ((k : ℕ) → y ≡ Ok k → k < 8) → ((k : ℕ) → z ≡ Ok k → k < 8)
+        → ◌≡◌ {A = Evaluation} (and_next x (λ a. and_next y (λ b. and_next z (λ c. Ok (U a b c q ∷ []))))) (Ok us) → All (IsFineOp n) us
     go (Ok a) (Ok b) (Ok c) f g h e = fine_one n (U a b c q) us ((f a refl, (g b refl, h c refl)), All-head (λ w. w < n) q [] there) e
     go (Ok a) (Ok b) (Err x) f g h e = absurd (cc)
     go (Ok a) (Err x) z f g h e = absurd (cc)
@@ -161,30 +163,30 @@ fine_controlled n (c ∷ t ∷ []) us b d e =
     other = let h : nat_eq c t ≡ false = no in grind (arith, nat_tests)
 
 -- ---- gates by those before them
-abbrev IsFineMeaning : ℕ → Gate → Meaning → Type 0
+abbrev IsFineMeaning : ℕ → BoundGate → Meaning → Type 0
 IsFineMeaning n g m = (angles : List Angle) (wires : List ℕ) (us : List Op) → length wires ≡ gate_qubits g → All (λ w. w < n) wires → has_repeat nat_eq wires ≡ false
     → m angles wires ≡ Ok us → All (IsFineOp n) us
 
-abbrev AreFine : ℕ → List Gate → List Meaning → Type 0
+abbrev AreFine : ℕ → List BoundGate → List Meaning → Type 0
 AreFine n [] [] = Unit {0}
 AreFine n [] (m ∷ ms) = ⊥
 AreFine n (g ∷ gs) [] = ⊥
 AreFine n (g ∷ gs) (m ∷ ms) = IsFineMeaning n g m × AreFine n gs ms
 
-fine_push : (n : ℕ) (gs : List Gate) (ms : List Meaning) (g : Gate) (m : Meaning) → AreFine n gs ms → IsFineMeaning n g m → AreFine n (gs ++ g ∷ []) (ms ++ m ∷ [])
+fine_push : (n : ℕ) (gs : List BoundGate) (ms : List Meaning) (g : BoundGate) (m : Meaning) → AreFine n gs ms → IsFineMeaning n g m → AreFine n (gs ++ g ∷ []) (ms ++ m ∷ [])
 fine_push n [] [] g m h k = (k, tt)
 fine_push n [] (x ∷ ms) g m h k = absurd h
 fine_push n (x ∷ gs) [] g m h k = absurd h
 fine_push n (x ∷ gs) (y ∷ ms) g m h k = (h.0, fine_push n gs ms g m h.1 k)
 
-fine_at : (n : ℕ) (gs : List Gate) (ms : List Meaning) (i : ℕ) → AreFine n gs ms → IsFineMeaning n (gate_at gs i) (meaning_at ms i)
+fine_at : (n : ℕ) (gs : List BoundGate) (ms : List Meaning) (i : ℕ) → AreFine n gs ms → IsFineMeaning n (gate_at gs i) (meaning_at ms i)
 fine_at n [] [] i h = λ angles wires us l b d e. fine_nil n us e
 fine_at n [] (m ∷ ms) i h = absurd h
 fine_at n (g ∷ gs) [] i h = absurd h
 fine_at n (g ∷ gs) (m ∷ ms) zero h = h.0
 fine_at n (g ∷ gs) (m ∷ ms) (suc i) h = fine_at n gs ms i h.1
 
-fine_item : (n : ℕ) (before : List Gate) (ms : List Meaning) (count qubits : ℕ) (params : List Angle) (wires : List ℕ) (x : Item) (us : List Op) → AreFine n before ms
+fine_item : (n : ℕ) (before : List BoundGate) (ms : List Meaning) (count qubits : ℕ) (params : List Angle) (wires : List ℕ) (x : Item) (us : List Op) → AreFine n before ms
     → length wires ≡ qubits → All (λ w. w < n) wires → has_repeat nat_eq wires ≡ false → is_item before count qubits x ≡ true
     → item_answer ms params wires x ≡ Ok us → All (IsFineOp n) us
 fine_item n before ms count qubits params wires barrier us h l b d s e = fine_nil n us e
@@ -199,7 +201,7 @@ fine_item n before ms count qubits params wires (call gate angles indices) us h 
     (distinct_wires wires indices d inside (not_true (has_repeat nat_eq indices) (and_right _ _ s)))
     f) e
 
-fine_items : (n : ℕ) (before : List Gate) (ms : List Meaning) (count qubits : ℕ) (params : List Angle) (wires : List ℕ) (xs : List Item) (us : List Op) → AreFine n before ms
+fine_items : (n : ℕ) (before : List BoundGate) (ms : List Meaning) (count qubits : ℕ) (params : List Angle) (wires : List ℕ) (xs : List Item) (us : List Op) → AreFine n before ms
     → length wires ≡ qubits → All (λ w. w < n) wires → has_repeat nat_eq wires ≡ false → list_all (is_item before count qubits) xs ≡ true
     → joined (map (item_answer ms params wires) xs) ≡ Ok us → All (IsFineOp n) us
 fine_items n before ms count qubits params wires [] us h l b d s e = fine_nil n us e
@@ -208,22 +210,22 @@ fine_items n before ms count qubits params wires (x ∷ xs) us h l b d s e =
     (λ vs f. fine_item n before ms count qubits params wires x vs h l b d (and_left _ _ s) f)
     (λ vs f. fine_items n before ms count qubits params wires xs vs h l b d (and_right (is_item before count qubits x) _ s) f) e
 
-fine_gate : (n : ℕ) (before : List Gate) (ms : List Meaning) (g : Gate) → AreFine n before ms → is_gate before g ≡ true → IsFineMeaning n g (gate_meaning ms g)
+fine_gate : (n : ℕ) (before : List BoundGate) (ms : List Meaning) (g : BoundGate) → AreFine n before ms → is_gate before g ≡ true → IsFineMeaning n g (gate_meaning ms g)
 fine_gate n before ms u h s = λ angles wires us l b d e. fine_rotation n angles wires us b e
 fine_gate n before ms cx h s = λ angles wires us l b d e. fine_controlled n wires us b d e
 fine_gate n before ms (opaque params qubits) h s = λ angles wires us l b d e. fine_nil n us e
 fine_gate n before ms (composed params qubits body) h s = λ angles wires us l b d e. fine_items n before ms params qubits angles wires body us h l b d s e
 
-fine_gates : (n : ℕ) (before gates : List Gate) (ms : List Meaning) → are_gates before gates ≡ true → AreFine n before ms
+fine_gates : (n : ℕ) (before gates : List BoundGate) (ms : List Meaning) → are_gates before gates ≡ true → AreFine n before ms
     → AreFine n (before ++ gates) (fold (λ b g. b ++ gate_meaning b g ∷ []) ms gates)
-fine_gates n before [] ms s h = subst (λ (gs : List Gate). AreFine n gs ms) (sym (append-nil before)) h
+fine_gates n before [] ms s h = subst (λ (gs : List BoundGate). AreFine n gs ms) (sym (append-nil before)) h
 fine_gates n before (g ∷ gates) ms s h =
-    subst (λ (gs : List Gate). AreFine n gs (fold (λ b x. b ++ gate_meaning b x ∷ []) (ms ++ gate_meaning ms g ∷ []) gates)) (append_assoc before (g ∷ []) gates)
+    subst (λ (gs : List BoundGate). AreFine n gs (fold (λ b x. b ++ gate_meaning b x ∷ []) (ms ++ gate_meaning ms g ∷ []) gates)) (append_assoc before (g ∷ []) gates)
     (fine_gates n (before ++ g ∷ []) gates (ms ++ gate_meaning ms g ∷ []) (and_right (is_gate before g) _ s)
     (fine_push n before ms g (gate_meaning ms g) h (fine_gate n before ms g h (and_left _ _ s))))
 
 -- ---- steps
-fine_upto : (n : ℕ) (m : ℕ → Answer) (count : ℕ) (us : List Op) → ((j : ℕ) (vs : List Op) → j < count → m j ≡ Ok vs → All (IsFineOp n) vs)
+fine_upto : (n : ℕ) (m : ℕ → Evaluation) (count : ℕ) (us : List Op) → ((j : ℕ) (vs : List Op) → j < count → m j ≡ Ok vs → All (IsFineOp n) vs)
     → joined (map m (upto count)) ≡ Ok us → All (IsFineOp n) us
 fine_upto n m zero us h e = fine_nil n us (sym (upto_none m) ∙ e)
 fine_upto n m (suc k) us h e =
@@ -235,7 +237,7 @@ fine_upto n m (suc k) us h e =
 wires_below : (n j : ℕ) (operands : List Operand) → All (λ p. wire_at j p < n) operands → All (λ w. w < n) (map (wire_at j) operands)
 wires_below n j operands h = All-map (λ w. w < n) (wire_at j) operands h
 
-fine_step : (gates : List Gate) (wires bits : ℕ) (s : Step) (us : List Op) → AreFine wires gates (meanings gates) → is_step gates wires bits s ≡ true
+fine_step : (gates : List BoundGate) (wires bits : ℕ) (s : Step) (us : List Op) → AreFine wires gates (meanings gates) → is_step gates wires bits s ≡ true
     → step_answer (meanings gates) s ≡ Ok us → All (IsFineOp wires) us
 fine_step gates wires bits (measures qubit bit) us h s e = fine_nil wires us e
 fine_step gates wires bits (bars operands) us h s e = fine_nil wires us e
@@ -248,7 +250,7 @@ fine_step gates wires bits (applies gate angles operands) us h s e =
     (wires_below wires j operands (step_placed gates wires bits (applies gate angles operands) s j l))
     (step_apart gates wires bits gate angles operands s j l) g) f) e
 
-fine_steps : (gates : List Gate) (wires bits : ℕ) (steps : List Step) (us : List Op) → AreFine wires gates (meanings gates) → list_all (is_step gates wires bits) steps ≡ true
+fine_steps : (gates : List BoundGate) (wires bits : ℕ) (steps : List Step) (us : List Op) → AreFine wires gates (meanings gates) → list_all (is_step gates wires bits) steps ≡ true
     → joined (map (step_answer (meanings gates)) steps) ≡ Ok us → All (IsFineOp wires) us
 fine_steps gates wires bits [] us h s e = fine_nil wires us e
 fine_steps gates wires bits (x ∷ xs) us h s e =
@@ -260,10 +262,10 @@ pub operations-fine : (b : Bound) (us : List Op) → IsSound b → operations b.
 operations-fine b us s e = fine_steps b.gates b.wires b.bits b.steps us (fine_gates b.wires [] b.gates [] s.gates tt) s.steps e
 
 -- ---- what is told of one program is told of another with the same gates and steps
-moved : (b c : Bound) (P : List Gate → List Step → Type 0) → b.gates ≡ c.gates → b.steps ≡ c.steps → P b.gates b.steps → P c.gates c.steps
-moved b c P g s h = subst (λ (gates : List Gate). P gates c.steps) g (subst (λ (steps : List Step). P b.gates steps) s h)
+moved : (b c : Bound) (P : List BoundGate → List Step → Type 0) → b.gates ≡ c.gates → b.steps ≡ c.steps → P b.gates b.steps → P c.gates c.steps
+moved b c P g s h = subst (λ (gates : List BoundGate). P gates c.steps) g (subst (λ (steps : List Step). P b.gates steps) s h)
 
-refused_same : (b c : Bound) (r : Refusal) (n : ℕ) → b.gates ≡ c.gates → b.steps ≡ c.steps → IsInlineRefused b r n → IsInlineRefused c r n
+refused_same : (b c : Bound) (r : InlineRefusal) (n : ℕ) → b.gates ≡ c.gates → b.steps ≡ c.steps → IsInlineRefused b r n → IsInlineRefused c r n
 refused_same b c TooManyOps n g s h = moved b c (λ gates steps. IsTooMany gates steps n) g s h
 refused_same b c AngleForm n g s h = moved b c (λ gates steps. (is_too_much (total gates steps) ≡ false) × IsFirstUnvalued gates steps NoForm n) g s h
 refused_same b c AngleZero n g s h = moved b c (λ gates steps. (is_too_much (total gates steps) ≡ false) × IsFirstUnvalued gates steps ByZero n) g s h
@@ -302,6 +304,12 @@ placed_wide wires bits more nothing l s = tt
 pub steps_wide : (b : Bound) (more : ℕ) → IsSound b → b.wires ≤ more → All (IsPlaced more b.bits) b.steps
 steps_wide b more s l = All-weaker (IsPlaced b.wires b.bits) (IsPlaced more b.bits) (λ x h. placed_wide b.wires b.bits more x l h) b.steps
     (steps_placed b.gates b.wires b.bits b.steps s.steps)
+
+pub placed_within : (b : Bound) (steps : List Step) (bits : ℕ) → IsSound b → steps ≡ b.steps → bits ≡ b.bits → All (IsPlaced 4294967296 bits) steps
+placed_within b steps bits sound same number =
+    let few : b.wires ≤ 4294967296 = (let w : b.wires ≤ most_qubits = sound.wires in omega arith) in
+    subst (λ (xs : List Step). All (IsPlaced 4294967296 bits) xs) (sym same)
+    (subst (λ n. All (IsPlaced 4294967296 n) b.steps) (sym number) (steps_wide b 4294967296 sound few))
 
 pub fine_ops : (b : Bound) (o : Ops) → IsSound b → IsInlined b o → All (IsFineOp o.wires) o.list
 fine_ops b o s i = subst (λ n. All (IsFineOp n) o.list) (sym i.wires) (operations-fine b o.list s i.list)

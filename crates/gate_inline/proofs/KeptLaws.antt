@@ -7,9 +7,9 @@ use Rattle.std.proofs.Common.{◌≡◌, ℕ, zero, suc, ◌+◌, ◌-◌, ◌<�
 use Rattle.std.specs.Option.{option_map}
 use Rattle.angle_fraction.specs.declared.Angle.{Angle}
 use Rattle.unitary_model.specs.declared.Op.{Op}
-use Rattle.gate_library.specs.Gates.{Gate, Item, call, barrier, u, cx, opaque, composed}
+use Rattle.gate_library.specs.Gates.{BoundGate, Item, call, barrier, u, cx, opaque, composed}
 use Rattle.gate_inline.specs.Capped.{capped, most}
-use Rattle.gate_inline.specs.Meanings.{Answer, Meaning, body_answer, followed, gate_meaning, item_answer, meaning_at, meanings, no_meaning, unvalued, wire_of}
+use Rattle.gate_inline.specs.Meanings.{Evaluation, Meaning, body_answer, followed, gate_meaning, item_answer, meaning_at, meanings, no_meaning, unvalued, wire_of}
 use Rattle.gate_inline.specs.Remembered.{AreKept, IsKeptPlace, IsPart, part}
 use Rattle.gate_inline.specs.Sizes.{gate_size, item_size, size, size_all, size_at, sizes}
 use Rattle.gate_inline.specs.Values.{and_next, values}
@@ -25,14 +25,14 @@ get-take [] (suc n) i h = refl
 get-take (x ∷ xs) (suc n) zero h = refl
 get-take (x ∷ xs) (suc n) (suc i) h = get-take xs n i (omega arith)
 
-pub meaning_at-first : (gates : List Gate) (below i : ℕ) → i < below → meaning_at (meanings (take below gates)) i ≡ meaning_at (meanings gates) i
+pub meaning_at-first : (gates : List BoundGate) (below i : ℕ) → i < below → meaning_at (meanings (take below gates)) i ≡ meaning_at (meanings gates) i
 meaning_at-first gates below i h =
     ap (λ o. unwrap_or o no_meaning) (in_order-get gate_meaning (take below gates) i
     ∙ ap (λ xs. option_map (gate_meaning (meanings xs)) (slice_get (take below gates) i)) (take-take_less i below gates h)
     ∙ ap (option_map (gate_meaning (meanings (take i gates)))) (get-take gates below i h)
     ∙ sym (in_order-get gate_meaning gates i))
 
-pub meaning_at-called : (gates : List Gate) (below i : ℕ) (g : Gate) → slice_get (take below gates) i ≡ Some g →
+pub meaning_at-called : (gates : List BoundGate) (below i : ℕ) (g : BoundGate) → slice_get (take below gates) i ≡ Some g →
     meaning_at (meanings gates) i ≡ meaning_at (meanings (take below gates)) i
 meaning_at-called gates below i g s = sym (meaning_at-first gates below i (get_take-within gates below i g s))
 
@@ -75,14 +75,14 @@ part-more us ops start end o w =
     ap (take (end - start)) (drop-more us ops start (omega (arith, o, w)))
     ∙ take-more (drop start us) ops (end - start) (omega (arith, o, w, e))
 
-IsPart-more : (a : Answer) (us ops : List Op) (start end : ℕ) → IsPart a us start end → IsPart a (us ++ ops) start end
+IsPart-more : (a : Evaluation) (us ops : List Op) (start end : ℕ) → IsPart a us start end → IsPart a (us ++ ops) start end
 IsPart-more a us ops start end p = record {
   order = p.order;
   within = length_more us ops end p.within;
   same = p.same ∙ ap (λ xs. Ok xs) (sym (part-more us ops start end p.order p.within));
 }
 
-pub IsKeptPlace-more : (gates : List Gate) (us ops : List Op) (o : Option Kept) → IsKeptPlace gates us o → IsKeptPlace gates (us ++ ops) o
+pub IsKeptPlace-more : (gates : List BoundGate) (us ops : List Op) (o : Option Kept) → IsKeptPlace gates us o → IsKeptPlace gates (us ++ ops) o
 IsKeptPlace-more gates us ops None h = tt
 IsKeptPlace-more gates us ops (Some k) h = IsPart-more (meaning_at (meanings gates) k.gate k.angles.items k.wires.items) us ops k.start k.end h
 
@@ -110,7 +110,7 @@ quiet_lines ms ss f (x ∷ xs) params ws vs e = λ i.
 
 quiet_gate : (ms : List Meaning) (ss : List Size) →
     ((i : ℕ) (angles : List Angle) (ws vs : List ℕ) → (size_at ss i).operations ≡ 0 → meaning_at ms i angles ws ≡ meaning_at ms i angles vs) →
-    (g : Gate) (angles : List Angle) (ws vs : List ℕ) → (gate_size ss g).operations ≡ 0 → gate_meaning ms g angles ws ≡ gate_meaning ms g angles vs
+    (g : BoundGate) (angles : List Angle) (ws vs : List ℕ) → (gate_size ss g).operations ≡ 0 → gate_meaning ms g angles ws ≡ gate_meaning ms g angles vs
 quiet_gate ms ss f u angles ws vs e = absurd (omega arith)
 quiet_gate ms ss f cx angles ws vs e = absurd (omega arith)
 quiet_gate ms ss f (opaque params qubits) angles ws vs e = refl
@@ -127,14 +127,14 @@ shorter (y ∷ xs) (suc i) zero x h e = go xs i (omega arith) e
     go (y ∷ xs) i h e = absurd (omega arith)
 shorter (y ∷ xs) (suc i) (suc n) x h e = let l : length (take i xs) ≤ n = shorter xs i n x (omega arith) e in omega (arith, l)
 
-quiet_none : (gates : List Gate) (i : ℕ) (angles : List Angle) (ws vs : List ℕ) → slice_get gates i ≡ None →
+quiet_none : (gates : List BoundGate) (i : ℕ) (angles : List Angle) (ws vs : List ℕ) → slice_get gates i ≡ None →
     meaning_at (meanings gates) i angles ws ≡ meaning_at (meanings gates) i angles vs
 quiet_none gates i angles ws vs s =
     let p : meaning_at (meanings gates) i ≡ no_meaning =
     ap (λ o. unwrap_or o no_meaning) (in_order-get gate_meaning gates i ∙ ap (option_map (gate_meaning (meanings (take i gates)))) s) in
     ap (λ (m : Meaning). m angles ws) p ∙ sym (ap (λ (m : Meaning). m angles vs) p)
 
-quiet_some : (gates : List Gate) (i : ℕ) (angles : List Angle) (ws vs : List ℕ) (g : Gate) → slice_get gates i ≡ Some g →
+quiet_some : (gates : List BoundGate) (i : ℕ) (angles : List Angle) (ws vs : List ℕ) (g : BoundGate) → slice_get gates i ≡ Some g →
     ((j : ℕ) (bs : List Angle) (xs ys : List ℕ) → (size_at (sizes (take i gates)) j).operations ≡ 0 → meaning_at (meanings (take i gates)) j bs xs ≡ meaning_at (meanings (take i gates)) j bs ys) →
     (size_at (sizes gates) i).operations ≡ 0 → meaning_at (meanings gates) i angles ws ≡ meaning_at (meanings gates) i angles vs
 quiet_some gates i angles ws vs g s f e =
@@ -146,13 +146,13 @@ quiet_some gates i angles ws vs g s f e =
     ∙ quiet_gate (meanings (take i gates)) (sizes (take i gates)) f g angles ws vs (sym (ap (λ (z : Size). z.operations) q) ∙ e)
     ∙ sym (ap (λ (m : Meaning). m angles vs) p)
 
-quiet_within : (n : ℕ) (gates : List Gate) → length gates ≤ n → (i : ℕ) (angles : List Angle) (ws vs : List ℕ) → (size_at (sizes gates) i).operations ≡ 0 →
+quiet_within : (n : ℕ) (gates : List BoundGate) → length gates ≤ n → (i : ℕ) (angles : List Angle) (ws vs : List ℕ) → (size_at (sizes gates) i).operations ≡ 0 →
     meaning_at (meanings gates) i angles ws ≡ meaning_at (meanings gates) i angles vs
 quiet_within zero [] h i angles ws vs e = quiet_none [] i angles ws vs refl
 quiet_within zero (g ∷ gates) h i angles ws vs e = absurd (omega arith)
 quiet_within (suc n) gates h i angles ws vs e = go (slice_get gates i) refl (λ l. quiet_within n (take i gates) l)
   where
-    go : (o : Option Gate) → slice_get gates i ≡ o →
+    go : (o : Option BoundGate) → slice_get gates i ≡ o →
         (length (take i gates) ≤ n → (j : ℕ) (bs : List Angle) (xs ys : List ℕ) → (size_at (sizes (take i gates)) j).operations ≡ 0 →
         meaning_at (meanings (take i gates)) j bs xs ≡ meaning_at (meanings (take i gates)) j bs ys) →
         meaning_at (meanings gates) i angles ws ≡ meaning_at (meanings gates) i angles vs
@@ -162,7 +162,7 @@ quiet_within (suc n) gates h i angles ws vs e = go (slice_get gates i) refl (λ 
 capped_nought : (n most : ℕ) → 0 < most → min n most ≡ 0 → n ≡ 0
 capped_nought n most h e = grind arith
 
-pub quiet : (gates : List Gate) (ss : List Size) (i : ℕ) (angles : List Angle) (ws vs : List ℕ) → ss ≡ map capped (sizes gates) → (size_at ss i).operations ≡ 0 →
+pub quiet : (gates : List BoundGate) (ss : List Size) (i : ℕ) (angles : List Angle) (ws vs : List ℕ) → ss ≡ map capped (sizes gates) → (size_at ss i).operations ≡ 0 →
     meaning_at (meanings gates) i angles ws ≡ meaning_at (meanings gates) i angles vs
 quiet gates ss i angles ws vs same e =
     quiet_within (length gates) gates (omega arith) i angles ws vs
@@ -170,21 +170,21 @@ quiet gates ss i angles ws vs same e =
     (sym (ap (λ (z : Size). z.operations) (ap (λ zs. size_at zs i) same ∙ size_at-capped (sizes gates) i)) ∙ e))
 
 -- ---- two calls of one gate with the same values
-pub same_quiet : (gates : List Gate) (ss : List Size) (i j : ℕ) (angles bs : List Angle) (ws vs : List ℕ) → (i ≡ j) × (angles ≡ bs) → (size_at ss j).operations ≡ 0 → ss ≡ map capped (sizes gates) →
+pub same_quiet : (gates : List BoundGate) (ss : List Size) (i j : ℕ) (angles bs : List Angle) (ws vs : List ℕ) → (i ≡ j) × (angles ≡ bs) → (size_at ss j).operations ≡ 0 → ss ≡ map capped (sizes gates) →
     meaning_at (meanings gates) i angles ws ≡ meaning_at (meanings gates) j bs vs
 same_quiet gates ss i j angles bs ws vs h e same =
     (λ k. meaning_at (meanings gates) (h.0 k) (h.1 k) ws) ∙ quiet gates ss j bs ws vs same e
 
-pub same_wires : (gates : List Gate) (i j : ℕ) (angles bs : List Angle) (ws vs : List ℕ) → (i ≡ j) × (angles ≡ bs) → ws ≡ vs →
+pub same_wires : (gates : List BoundGate) (i j : ℕ) (angles bs : List Angle) (ws vs : List ℕ) → (i ≡ j) × (angles ≡ bs) → ws ≡ vs →
     meaning_at (meanings gates) i angles ws ≡ meaning_at (meanings gates) j bs vs
 same_wires gates i j angles bs ws vs h e = λ k. meaning_at (meanings gates) (h.0 k) (h.1 k) (e k)
 
-pub AreKept_more : (gates : List Gate) (us ops vs : List Op) (places : List (Option Kept)) → vs ≡ us ++ ops → AreKept gates us places → AreKept gates vs places
+pub AreKept_more : (gates : List BoundGate) (us ops vs : List Op) (places : List (Option Kept)) → vs ≡ us ++ ops → AreKept gates us places → AreKept gates vs places
 AreKept_more gates us ops vs places e h =
     subst (λ (xs : List Op). AreKept gates xs places) (sym e) (λ k d l. IsKeptPlace-more gates us ops _ (h k d l))
 
-pub recalled_first : (gates : List Gate) (us : List Op) (below i : ℕ) (angles bs : List Angle) (ws vs : List ℕ) (start end : ℕ) → i < below → angles ≡ bs → ws ≡ vs →
+pub recalled_first : (gates : List BoundGate) (us : List Op) (below i : ℕ) (angles bs : List Angle) (ws vs : List ℕ) (start end : ℕ) → i < below → angles ≡ bs → ws ≡ vs →
     IsPart (meaning_at (meanings gates) i angles ws) us start end → IsPart (meaning_at (meanings (take below gates)) i bs vs) us start end
 recalled_first gates us below i angles bs ws vs start end h e f p =
-    subst (λ (a : Answer). IsPart a us start end)
+    subst (λ (a : Evaluation). IsPart a us start end)
     ((λ k. meaning_at (meanings gates) i (e k) (f k)) ∙ sym (ap (λ (m : Meaning). m bs vs) (meaning_at-first gates below i h))) p

@@ -11,20 +11,20 @@ use Rattle.angle_fraction.specs.declared.Angle.{Angle}
 use Rattle.unitary_model.specs.declared.Op.{Op}
 use Rattle.unitary_model.specs.declared.Op.TheVariants.{U, Cx}
 use Rattle.qasm_check.specs.Bound.{Bound}
-use Rattle.gate_library.specs.Gates.{Item, call, barrier, Gate, u, cx, opaque, composed}
+use Rattle.gate_library.specs.Gates.{Item, call, barrier, BoundGate, u, cx, opaque, composed}
 use Rattle.gate_library.specs.Operands.{broadcast, upto, wire_at}
 use Rattle.qasm_check.specs.Steps.{Step, applies, measures, bars, nothing}
 use Rattle.gate_expand.specs.declared.source.Ops.{Ops}
 use Rattle.gate_inline.specs.Inlined.{IsInlined, operations}
-use Rattle.gate_inline.specs.Meanings.{Answer, Meaning, body_answer, controlled, eighth, followed, gate_meaning, item_answer, joined, meaning_at, meanings, no_meaning, rotation, step_answer, unvalued, wire_of}
-use Rattle.gate_inline.specs.Sizes.{gate_size, item_size, operation_limit, size, size_all, size_at, sizes, step_size, steps_size, total}
+use Rattle.gate_inline.specs.Meanings.{Evaluation, Meaning, body_answer, controlled, eighth, followed, gate_meaning, item_answer, joined, meaning_at, meanings, no_meaning, rotation, step_answer, unvalued, wire_of}
+use Rattle.gate_inline.specs.Sizes.{gate_size, item_size, most_operations, size, size_all, size_at, sizes, step_size, steps_size, total}
 use Rattle.gate_inline.specs.Values.{and_next, values}
 use Rattle.gate_inline.specs.declared.size.Size.{Size}
-use Rattle.gate_inline.specs.declared.stop.Unvalued.{Unvalued}
+use Rattle.gate_inline.specs.declared.stop.AngleRefusal.{AngleRefusal}
 use Rattle.gate_inline.proofs.OrderLaws.{in_order-get}
 use Rattle.gate_inline.proofs.StepLaws.{upto-more, upto_none}
 
-abbrev AtMost : Answer → ℕ → Type 0
+abbrev AtMost : Evaluation → ℕ → Type 0
 AtMost a n = (us : List Op) → a ≡ Ok us → length us ≤ n
 
 none_at : (n : ℕ) → AtMost (Ok []) n
@@ -33,7 +33,7 @@ none_at n us e = let same : us ≡ [] = cc in let none : length us ≡ 0 = ap le
 one_at : (op : Op) → AtMost (Ok (op ∷ [])) 1
 one_at op us e = let same : us ≡ op ∷ [] = cc in let one : length us ≡ 1 = ap length same in omega (arith, one)
 
-followed_at : (a b : Answer) (n m : ℕ) → AtMost a n → AtMost b m → AtMost (followed a b) (n + m)
+followed_at : (a b : Evaluation) (n m : ℕ) → AtMost a n → AtMost b m → AtMost (followed a b) (n + m)
 followed_at (Ok vs) (Ok ws) n m f g us e =
     let same : us ≡ vs ++ ws = cc in
     let long : length us ≡ length vs + length ws = ap length same ∙ length-append vs ws in
@@ -43,7 +43,7 @@ followed_at (Ok vs) (Ok ws) n m f g us e =
 followed_at (Ok vs) (Err x) n m f g us e = absurd (cc)
 followed_at (Err x) b n m f g us e = absurd (cc)
 
-next_at : {A : Type 0} (r : Result A Unvalued) (f : A → Answer) (n : ℕ) → ((a : A) → AtMost (f a) n) → AtMost (and_next r f) n
+next_at : {A : Type 0} (r : Result A AngleRefusal) (f : A → Evaluation) (n : ℕ) → ((a : A) → AtMost (f a) n) → AtMost (and_next r f) n
 next_at (Ok a) f n h us e = h a us e
 next_at (Err x) f n h us e = absurd (cc)
 
@@ -80,7 +80,7 @@ body_at ms ss params wires (it ∷ body) h =
     followed_at (item_answer ms params wires it) (joined (map (item_answer ms params wires) body)) (item_size ss it).operations
     (size_all (map (item_size ss) body)).operations (item_at ms ss params wires it h) (body_at ms ss params wires body h)
 
-gate_at_most : (ms : List Meaning) (ss : List Size) (g : Gate) → AreAtMost ms ss → (angles : List Angle) (wires : List ℕ)
+gate_at_most : (ms : List Meaning) (ss : List Size) (g : BoundGate) → AreAtMost ms ss → (angles : List Angle) (wires : List ℕ)
     → AtMost (gate_meaning ms g angles wires) (gate_size ss g).operations
 gate_at_most ms ss u h angles wires = rotation_at angles wires
 gate_at_most ms ss cx h angles wires = controlled_at wires
@@ -97,14 +97,14 @@ within [] i x e = absurd (cc)
 within (y ∷ xs) zero x e = omega arith
 within (y ∷ xs) (suc i) x e = let rest = within xs i x e in omega (arith, rest)
 
-absent_at : (gates : List Gate) (i : ℕ) (angles : List Angle) (wires : List ℕ) → slice_get gates i ≡ None
+absent_at : (gates : List BoundGate) (i : ℕ) (angles : List Angle) (wires : List ℕ) → slice_get gates i ≡ None
     → AtMost (meaning_at (meanings gates) i angles wires) (size_at (sizes gates) i).operations
 absent_at gates i angles wires e =
     let none : meaning_at (meanings gates) i ≡ no_meaning =
     ap (λ x. unwrap_or x no_meaning) (in_order-get gate_meaning gates i ∙ ap (option_map (gate_meaning (meanings (take i gates)))) e) in
     subst (λ (f : Meaning). AtMost (f angles wires) (size_at (sizes gates) i).operations) (sym none) (none_at _)
 
-there_at : (gates : List Gate) (i : ℕ) (g : Gate) (angles : List Angle) (wires : List ℕ) → slice_get gates i ≡ Some g
+there_at : (gates : List BoundGate) (i : ℕ) (g : BoundGate) (angles : List Angle) (wires : List ℕ) → slice_get gates i ≡ Some g
     → AreAtMost (meanings (take i gates)) (sizes (take i gates)) → AtMost (meaning_at (meanings gates) i angles wires) (size_at (sizes gates) i).operations
 there_at gates i g angles wires e h =
     let means : meaning_at (meanings gates) i ≡ gate_meaning (meanings (take i gates)) g =
@@ -115,13 +115,13 @@ there_at gates i g angles wires e h =
     (subst (λ (f : Meaning). AtMost (f angles wires) (gate_size (sizes (take i gates)) g).operations) (sym means)
     (gate_at_most (meanings (take i gates)) (sizes (take i gates)) g h angles wires))
 
-choose_at : (gates : List Gate) (i : ℕ) (angles : List Angle) (wires : List ℕ) (o : Option Gate) → slice_get gates i ≡ o
-    → ((g : Gate) → slice_get gates i ≡ Some g → AtMost (meaning_at (meanings gates) i angles wires) (size_at (sizes gates) i).operations)
+choose_at : (gates : List BoundGate) (i : ℕ) (angles : List Angle) (wires : List ℕ) (o : Option BoundGate) → slice_get gates i ≡ o
+    → ((g : BoundGate) → slice_get gates i ≡ Some g → AtMost (meaning_at (meanings gates) i angles wires) (size_at (sizes gates) i).operations)
     → AtMost (meaning_at (meanings gates) i angles wires) (size_at (sizes gates) i).operations
 choose_at gates i angles wires None e f = absent_at gates i angles wires e
 choose_at gates i angles wires (Some g) e f = f g e
 
-gates_at : (n : ℕ) (gates : List Gate) → length gates ≤ n → AreAtMost (meanings gates) (sizes gates)
+gates_at : (n : ℕ) (gates : List BoundGate) → length gates ≤ n → AreAtMost (meanings gates) (sizes gates)
 gates_at zero gates long i angles wires =
     choose_at gates i angles wires (slice_get gates i) refl (λ g e. let there = within gates i g e in absurd (omega (arith, long, there)))
 gates_at (suc n) gates long i angles wires =
@@ -131,7 +131,7 @@ gates_at (suc n) gates long i angles wires =
     there_at gates i g angles wires e (gates_at n (take i gates) (omega (arith, long, there, front))))
 
 -- ---- steps
-upto_at : (m : ℕ → Answer) (k n : ℕ) → ((j : ℕ) → AtMost (m j) k) → AtMost (joined (map m (upto n))) (n * k)
+upto_at : (m : ℕ → Evaluation) (k n : ℕ) → ((j : ℕ) → AtMost (m j) k) → AtMost (joined (map m (upto n))) (n * k)
 upto_at m k zero h = subst (λ a. AtMost a (zero * k)) (sym (upto_none m)) (none_at (zero * k))
 upto_at m k (suc n) h =
     let more : joined (map m (upto (suc n))) ≡ followed (joined (map m (upto n))) (m n) =
@@ -140,7 +140,7 @@ upto_at m k (suc n) h =
     let sum : n * k + k ≡ suc n * k = omega arith in
     subst (λ x. AtMost (joined (map m (upto (suc n)))) x) sum (subst (λ a. AtMost a (n * k + k)) (sym more) both)
 
-step_at : (gates : List Gate) (s : Step) → AtMost (step_answer (meanings gates) s) (step_size (sizes gates) s).operations
+step_at : (gates : List BoundGate) (s : Step) → AtMost (step_answer (meanings gates) s) (step_size (sizes gates) s).operations
 step_at gates (applies gate angles operands) =
     next_at (unvalued (values [] angles)) _ (broadcast operands * (size_at (sizes gates) gate).operations)
     (λ given. upto_at (λ j. meaning_at (meanings gates) gate given (map (wire_at j) operands)) (size_at (sizes gates) gate).operations (broadcast operands)
@@ -149,7 +149,7 @@ step_at gates (measures qubit bit) = none_at 0
 step_at gates (bars operands) = none_at 0
 step_at gates nothing = none_at 0
 
-pub operations-at_most : (gates : List Gate) (steps : List Step) → AtMost (operations gates steps) (total gates steps).operations
+pub operations-at_most : (gates : List BoundGate) (steps : List Step) → AtMost (operations gates steps) (total gates steps).operations
 operations-at_most gates [] = none_at 0
 operations-at_most gates (s ∷ steps) =
     followed_at (step_answer (meanings gates) s) (joined (map (step_answer (meanings gates)) steps)) (step_size (sizes gates) s).operations
@@ -162,7 +162,7 @@ few_of n b e = go (nat_lt 65536 n) refl e
     go true t f = cc
     go false t f = grind (arith, nat_tests)
 
-pub inlined_short : (b : Bound) (o : Ops) → IsInlined b o → length o.list ≤ operation_limit
+pub inlined_short : (b : Bound) (o : Ops) → IsInlined b o → length o.list ≤ most_operations
 inlined_short b o h =
     let most = operations-at_most b.gates b.steps o.list h.list in
     let few = few_of (total b.gates b.steps).operations _ h.small in

@@ -11,5 +11,6 @@ pub mod OnceLaws
 pub mod ReadWires
 pub mod KeptLaws
 pub mod BegunLaws
+pub mod ProgressLaws
 pub mod BarLaws
 pub mod CutLaws

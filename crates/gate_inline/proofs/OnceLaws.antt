@@ -6,25 +6,25 @@ use Rattle.std.specs.Prelude.{IsOk, nat_lt}
 use Rattle.std.proofs.lemmas.Bool.Decides.{nat_tests}
 use Rattle.std.proofs.lemmas.List.{map-append}
 use Rattle.qasm_check.specs.Bound.{Bound}
-use Rattle.gate_library.specs.Gates.{Gate}
+use Rattle.gate_library.specs.Gates.{BoundGate}
 use Rattle.qasm_check.specs.Steps.{Step}
 use Rattle.gate_expand.specs.declared.source.Ops.{Ops}
 use Rattle.gate_inline.specs.Inlined.{IsFirstUnvalued, IsInlineFault, IsInlineRefused, IsInlined, IsTooMany, operations, refusal_of}
-use Rattle.gate_inline.specs.Meanings.{Answer, followed, joined, meanings, step_answer}
+use Rattle.gate_inline.specs.Meanings.{Evaluation, followed, joined, meanings, step_answer}
 use Rattle.gate_inline.specs.Sizes.{is_too_much, size_plus, sizes, step_size, total}
 use Rattle.gate_inline.specs.declared.refusal.InlineFault.{InlineFault}
 use Rattle.gate_inline.specs.declared.refusal.InlineFault.TheVariants.{Refused as Refuses, NoMemory}
-use Rattle.gate_inline.specs.declared.refusal.Refusal.{Refusal}
-use Rattle.gate_inline.specs.declared.refusal.Refusal.TheVariants.{AngleForm, AngleZero, AngleRange, AngleStep, TooManyOps}
-use Rattle.gate_inline.specs.declared.refusal.Refused.{Refused}
+use Rattle.gate_inline.specs.declared.refusal.InlineRefusal.{InlineRefusal}
+use Rattle.gate_inline.specs.declared.refusal.InlineRefusal.TheVariants.{AngleForm, AngleZero, AngleRange, AngleStep, TooManyOps}
+use Rattle.gate_inline.specs.declared.refusal.InlineRefused.{InlineRefused}
 use Rattle.gate_inline.specs.declared.size.Size.{Size}
-use Rattle.gate_inline.specs.declared.stop.Unvalued.{Unvalued}
-use Rattle.gate_inline.specs.declared.stop.Unvalued.TheVariants.{NoForm, ByZero, TooLarge, NoStep}
+use Rattle.gate_inline.specs.declared.stop.AngleRefusal.{AngleRefusal}
+use Rattle.gate_inline.specs.declared.stop.AngleRefusal.TheVariants.{NoForm, ByZero, TooLarge, NoStep}
 use Rattle.gate_inline.proofs.SizeLaws.{size_all-append}
 use Rattle.gate_inline.proofs.StepLaws.{joined-append}
 
 -- ---- sizes
-total-append : (gates : List Gate) (xs ys : List Step) → total gates (xs ++ ys) ≡ size_plus (total gates xs) (total gates ys)
+total-append : (gates : List BoundGate) (xs ys : List Step) → total gates (xs ++ ys) ≡ size_plus (total gates xs) (total gates ys)
 total-append gates xs ys =
     let parts = map-append (step_size (sizes gates)) xs ys in
     let sum = size_all-append (map (step_size (sizes gates)) xs) (map (step_size (sizes gates)) ys) in
@@ -42,47 +42,47 @@ fewer s t e = both (nat_lt 65536 (s.operations + t.operations)) (nat_lt 1048576 
         rw (left, right) refl
 
 -- what goes on from a part is no less than the part
-fine_part : (gates : List Gate) (xs ys : List Step) → is_too_much (total gates (xs ++ ys)) ≡ false → is_too_much (total gates xs) ≡ false
+fine_part : (gates : List BoundGate) (xs ys : List Step) → is_too_much (total gates (xs ++ ys)) ≡ false → is_too_much (total gates xs) ≡ false
 fine_part gates xs ys e = fewer (total gates xs) (total gates ys) (rw (total-append gates xs ys) at e)
 
-pub over_or_fine : (gates : List Gate) (xs : List Step) → is_too_much (total gates xs) ≡ true → is_too_much (total gates xs) ≡ false → ⊥
+pub over_or_fine : (gates : List BoundGate) (xs : List Step) → is_too_much (total gates xs) ≡ true → is_too_much (total gates xs) ≡ false → ⊥
 over_or_fine gates xs e f = let h : true ≡ false = sym e ∙ f in cc
 
-none_too_many : (gates : List Gate) (steps : List Step) (n : ℕ) → is_too_much (total gates steps) ≡ false → IsTooMany gates steps n → ⊥
+none_too_many : (gates : List BoundGate) (steps : List Step) (n : ℕ) → is_too_much (total gates steps) ≡ false → IsTooMany gates steps n → ⊥
 none_too_many gates steps n small (before, s, rest, split, at, fine, over) =
     let whole : steps ≡ (before ++ s ∷ []) ++ rest = split ∙ sym (append_assoc before (s ∷ []) rest) in
     over_or_fine gates (before ++ s ∷ []) over (fine_part gates (before ++ s ∷ []) rest (rw whole at small))
 
 -- ---- answers
-pub operations-append : (gates : List Gate) (xs ys : List Step) → operations gates (xs ++ ys) ≡ followed (operations gates xs) (operations gates ys)
+pub operations-append : (gates : List BoundGate) (xs ys : List Step) → operations gates (xs ++ ys) ≡ followed (operations gates xs) (operations gates ys)
 operations-append gates xs ys =
     ap joined (map-append (step_answer (meanings gates)) xs ys)
     ∙ joined-append (map (step_answer (meanings gates)) xs) (map (step_answer (meanings gates)) ys)
 
-refused_part : (a b : Answer) (e : Unvalued) → IsOk a → b ≡ Err e → IsOk (followed a b) → ⊥
+refused_part : (a b : Evaluation) (e : AngleRefusal) → IsOk a → b ≡ Err e → IsOk (followed a b) → ⊥
 refused_part (Ok us) (Ok vs) e ok is all = cc
 refused_part (Ok us) (Err x) e ok is all = cc
 refused_part (Err x) b e ok is all = cc
 
-first_part : (a b : Answer) → IsOk (followed a b) → IsOk a
+first_part : (a b : Evaluation) → IsOk (followed a b) → IsOk a
 first_part (Ok us) b h = refl
 first_part (Err x) b h = h
 
 -- with a step that has no answer there is none
-unvalued_part : (gates : List Gate) (before : List Step) (s : Step) (e : Unvalued) → IsOk (operations gates before) → step_answer (meanings gates) s ≡ Err e
+unvalued_part : (gates : List BoundGate) (before : List Step) (s : Step) (e : AngleRefusal) → IsOk (operations gates before) → step_answer (meanings gates) s ≡ Err e
     → IsOk (operations gates (before ++ s ∷ [])) → ⊥
 unvalued_part gates before s e ok is all =
     let alone : operations gates (s ∷ []) ≡ Err e = by_step (step_answer (meanings gates) s) is in
     refused_part (operations gates before) (operations gates (s ∷ [])) e ok alone (subst IsOk (operations-append gates before (s ∷ [])) all)
   where
-    by_step : (a : Answer) → a ≡ Err e → followed a (Ok []) ≡ Err e
+    by_step : (a : Evaluation) → a ≡ Err e → followed a (Ok []) ≡ Err e
     by_step (Ok us) is = cc
     by_step (Err x) is = is
 
-ok_part : (gates : List Gate) (xs ys : List Step) → IsOk (operations gates (xs ++ ys)) → IsOk (operations gates xs)
+ok_part : (gates : List BoundGate) (xs ys : List Step) → IsOk (operations gates (xs ++ ys)) → IsOk (operations gates xs)
 ok_part gates xs ys h = first_part (operations gates xs) (operations gates ys) (subst IsOk (operations-append gates xs ys) h)
 
-none_unvalued : (gates : List Gate) (steps : List Step) (e : Unvalued) (n : ℕ) → IsOk (operations gates steps) → IsFirstUnvalued gates steps e n → ⊥
+none_unvalued : (gates : List BoundGate) (steps : List Step) (e : AngleRefusal) (n : ℕ) → IsOk (operations gates steps) → IsFirstUnvalued gates steps e n → ⊥
 none_unvalued gates steps e n ok (before, s, rest, split, at, fine, is) =
     let whole : steps ≡ (before ++ s ∷ []) ++ rest = split ∙ sym (append_assoc before (s ∷ []) rest) in
     unvalued_part gates before s e fine is (ok_part gates (before ++ s ∷ []) rest (subst (λ xs. IsOk (operations gates xs)) whole ok))
@@ -95,7 +95,7 @@ pub inlined-no_fault : (b : Bound) (o : Ops) (f : InlineFault) → IsInlined b o
 inlined-no_fault b o NoMemory h f = refl
 inlined-no_fault b o (Refuses r) h f = absurd (by_refusal r.refusal f)
   where
-    by_refusal : (q : Refusal) → IsInlineRefused b q r.statement → ⊥
+    by_refusal : (q : InlineRefusal) → IsInlineRefused b q r.statement → ⊥
     by_refusal TooManyOps f = none_too_many b.gates b.steps r.statement h.small f
     by_refusal AngleForm f = none_unvalued b.gates b.steps NoForm r.statement (is_ok _ o.list h.list) f.1
     by_refusal AngleZero f = none_unvalued b.gates b.steps ByZero r.statement (is_ok _ o.list h.list) f.1
@@ -120,7 +120,7 @@ splits (x ∷ b) (y ∷ c) s t rest others e =
     more h (inr (inl e)) = inr (inl (e.0, (λ i. sym h i ∷ e.1 i)))
     more h (inr (inr e)) = inr (inr (e.0, (λ i. h i ∷ e.1 i)))
 
-many_once : (gates : List Gate) (steps : List Step) (n m : ℕ) → IsTooMany gates steps n → IsTooMany gates steps m → n ≡ m
+many_once : (gates : List BoundGate) (steps : List Step) (n m : ℕ) → IsTooMany gates steps n → IsTooMany gates steps m → n ≡ m
 many_once gates steps n m (b, s, rest, split, at, fine, over) (c, t, others, split', at', fine', over') =
     go (splits b c s t rest others (sym split ∙ split'))
   where
@@ -129,12 +129,12 @@ many_once gates steps n m (b, s, rest, split, at, fine, over) (c, t, others, spl
     go (inr (inl e)) = absurd (over_or_fine gates (b ++ s ∷ []) over (fine_part gates (b ++ s ∷ []) e.0 (rw e.1 at fine')))
     go (inr (inr e)) = absurd (over_or_fine gates (c ++ t ∷ []) over' (fine_part gates (c ++ t ∷ []) e.0 (rw e.1 at fine)))
 
-unvalued_once : (gates : List Gate) (steps : List Step) (d e : Unvalued) (n m : ℕ) → IsFirstUnvalued gates steps d n → IsFirstUnvalued gates steps e m
+unvalued_once : (gates : List BoundGate) (steps : List Step) (d e : AngleRefusal) (n m : ℕ) → IsFirstUnvalued gates steps d n → IsFirstUnvalued gates steps e m
     → (d ≡ e) × (n ≡ m)
 unvalued_once gates steps d e n m (b, s, rest, split, at, ok, is) (c, t, others, split', at', ok', is') =
     go (splits b c s t rest others (sym split ∙ split'))
   where
-    same_err : (x : Answer) → x ≡ Err d → x ≡ Err e → d ≡ e
+    same_err : (x : Evaluation) → x ≡ Err d → x ≡ Err e → d ≡ e
     same_err x f g = cc
 
     go : Splits b s c t → (d ≡ e) × (n ≡ m)
@@ -148,21 +148,21 @@ unvalued_once gates steps d e n m (b, s, rest, split, at, ok, is) (c, t, others,
         absurd (unvalued_part gates c t e ok' is' (ok_part gates (c ++ t ∷ []) w.0 (subst (λ xs. IsOk (operations gates xs)) w.1 ok)))
 
 -- the refusal that an angle without a value is told as, by the angle's own fault
-abbrev IsRefusedAs : Bound → Refusal → ℕ → Type 0
+abbrev IsRefusedAs : Bound → InlineRefusal → ℕ → Type 0
 IsRefusedAs b r n = ((r ≡ TooManyOps) × IsTooMany b.gates b.steps n)
-    ⊎ ((is_too_much (total b.gates b.steps) ≡ false) × ((e : Unvalued) × (refusal_of e ≡ r) × IsFirstUnvalued b.gates b.steps e n))
+    ⊎ ((is_too_much (total b.gates b.steps) ≡ false) × ((e : AngleRefusal) × (refusal_of e ≡ r) × IsFirstUnvalued b.gates b.steps e n))
 
-told_as : (b : Bound) (r : Refusal) (n : ℕ) → IsInlineRefused b r n → IsRefusedAs b r n
+told_as : (b : Bound) (r : InlineRefusal) (n : ℕ) → IsInlineRefused b r n → IsRefusedAs b r n
 told_as b TooManyOps n f = inl (refl, f)
 told_as b AngleForm n f = inr (f.0, (NoForm, refl, f.1))
 told_as b AngleZero n f = inr (f.0, (ByZero, refl, f.1))
 told_as b AngleRange n f = inr (f.0, (TooLarge, refl, f.1))
 told_as b AngleStep n f = inr (f.0, (NoStep, refl, f.1))
 
-pub refused_once : (b : Bound) (q r : Refused) → IsInlineRefused b q.refusal q.statement → IsInlineRefused b r.refusal r.statement → q ≡ r
+pub refused_once : (b : Bound) (q r : InlineRefused) → IsInlineRefused b q.refusal q.statement → IsInlineRefused b r.refusal r.statement → q ≡ r
 refused_once b q r f g = both (told_as b q.refusal q.statement f) (told_as b r.refusal r.statement g)
   where
-    same : (x y : Refused) → x.refusal ≡ y.refusal → x.statement ≡ y.statement → x ≡ y
+    same : (x y : InlineRefused) → x.refusal ≡ y.refusal → x.statement ≡ y.statement → x ≡ y
     same x y d e = λ i. record { refusal = d i; statement = e i }
 
     both : IsRefusedAs b q.refusal q.statement → IsRefusedAs b r.refusal r.statement → q ≡ r

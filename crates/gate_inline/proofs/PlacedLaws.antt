@@ -9,7 +9,7 @@ use Rattle.std.specs.List.{list_all, list_any}
 use Rattle.std.proofs.lemmas.Bool.Decides.{nat_tests}
 use Rattle.std.proofs.lemmas.List.Elements.{All-cons, All-head, All-nil, All-tail, All-weaker}
 use Rattle.std.proofs.lemmas.List.Folds.{list_any-append}
-use Rattle.gate_library.specs.Gates.{Formula, Gate, gate_at, gate_qubits}
+use Rattle.gate_library.specs.Gates.{Formula, BoundGate, gate_at, gate_qubits}
 use Rattle.gate_library.specs.Names.{has_repeat}
 use Rattle.gate_library.specs.Operands.{broadcast, differs_from, sizes_differ, times, upto, wire_at}
 use Rattle.gate_library.specs.declared.operand.Operand.{Operand}
@@ -112,7 +112,7 @@ within None first size n j h l = omega arith
 within (Some i) first size n j h l = h
 
 -- ---- steps
-module _ (gates : List Gate) (wires bits : ℕ) where
+module _ (gates : List BoundGate) (wires bits : ℕ) where
   pub step_counted : (gate : ℕ) (angles : List Formula) (ps : List Operand) → is_step gates wires bits (applies gate angles ps) ≡ true
       → length ps ≡ gate_qubits (gate_at gates gate)
   step_counted gate angles ps s = sym (equal_of _ _ (and_right _ _ (and_right _ _ (and_left _ _ (and_left _ _ (and_left _ _ (and_left _ _ s)))))))

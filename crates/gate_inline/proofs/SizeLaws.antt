@@ -11,7 +11,7 @@ use Rattle.std.proofs.lemmas.Bool.Decides.{nat_tests}
 use Rattle.std.proofs.lemmas.List.{map-append, take_more}
 use Rattle.std.proofs.lemmas.List.Sums.{fold-append}
 use Rattle.std.proofs.lemmas.Option.{slice_get-map}
-use Rattle.gate_library.specs.Gates.{Item, call, barrier, Gate, u, cx, opaque, composed}
+use Rattle.gate_library.specs.Gates.{Item, call, barrier, BoundGate, u, cx, opaque, composed}
 use Rattle.gate_library.specs.Operands.{broadcast}
 use Rattle.qasm_check.specs.Steps.{Step, applies, measures, bars, nothing}
 use Rattle.gate_inline.specs.Capped.{most, capped}
@@ -99,7 +99,7 @@ body-capped ss (it ∷ body) =
     ∙ capped-plus (capped (item_size ss it)) (size_all (map (item_size ss) body))
     ∙ capped-left (item_size ss it) (size_all (map (item_size ss) body))
 
-pub gate_size-capped : (ss : List Size) (g : Gate) → capped (gate_size (map capped ss) g) ≡ capped (gate_size ss g)
+pub gate_size-capped : (ss : List Size) (g : BoundGate) → capped (gate_size (map capped ss) g) ≡ capped (gate_size ss g)
 gate_size-capped ss u = refl
 gate_size-capped ss cx = refl
 gate_size-capped ss (opaque params qubits) = refl
@@ -127,10 +127,10 @@ too_much-capped ss steps =
     sym (is_too_much-capped (steps_size (map capped ss) steps)) ∙ ap is_too_much (steps-capped ss steps) ∙ is_too_much-capped (steps_size ss steps)
 
 -- ---- one more gate
-pub sizes-push : (gates : List Gate) (g : Gate) → sizes (gates ++ g ∷ []) ≡ sizes gates ++ gate_size (sizes gates) g ∷ []
+pub sizes-push : (gates : List BoundGate) (g : BoundGate) → sizes (gates ++ g ∷ []) ≡ sizes gates ++ gate_size (sizes gates) g ∷ []
 sizes-push gates g = fold-append (λ before x. before ++ gate_size before x ∷ []) [] gates (g ∷ [])
 
-pub next_sizes : {X : Type 0} (v : X → Gate) (xs : List X) (i : ℕ) (x : X) → i < length xs → x ≡ get_or xs i x →
+pub next_sizes : {X : Type 0} (v : X → BoundGate) (xs : List X) (i : ℕ) (x : X) → i < length xs → x ≡ get_or xs i x →
     map capped (sizes (map v (take i xs))) ++ capped (gate_size (map capped (sizes (map v (take i xs)))) (v x)) ∷ [] ≡ map capped (sizes (map v (take (i + 1) xs)))
 next_sizes v xs i x h e =
     ap (λ s. map capped (sizes (map v (take i xs))) ++ s ∷ []) (gate_size-capped (sizes (map v (take i xs))) (v x))

@@ -10,28 +10,28 @@
 --     stopped_at s n, unwritten_fault u   a stop at step n, and what is told of it
 --     IsInlineFault b e   what may be told of the program;  IsUnwritten gates steps e: where there isn't too much
 use Rattle.std.specs.Prelude.{◌≡◌, ℕ, ◌+◌, List, [], ◌∷◌, ◌++◌, Ok, Err, true, false, length, map, IsOk}
-use Rattle.gate_library.specs.Gates.{Gate}
+use Rattle.gate_library.specs.Gates.{BoundGate}
 use Rattle.qasm_check.specs.Bound.{Bound}
 use Rattle.qasm_check.specs.Steps.{Step}
-use Rattle.gate_inline.specs.Meanings.{Answer, joined, meanings, step_answer}
+use Rattle.gate_inline.specs.Meanings.{Evaluation, joined, meanings, step_answer}
 use Rattle.gate_inline.specs.Reads.{reads}
 use Rattle.gate_inline.specs.Sizes.{is_too_much, total}
-use Rattle.gate_inline.specs.declared.refusal.Refusal.{Refusal}
-use Rattle.gate_inline.specs.declared.refusal.Refusal.TheVariants.{AngleForm, AngleZero, AngleRange, AngleStep, TooManyOps}
+use Rattle.gate_inline.specs.declared.refusal.InlineRefusal.{InlineRefusal}
+use Rattle.gate_inline.specs.declared.refusal.InlineRefusal.TheVariants.{AngleForm, AngleZero, AngleRange, AngleStep, TooManyOps}
 use Rattle.gate_inline.specs.declared.refusal.InlineFault.{InlineFault}
 use Rattle.gate_inline.specs.declared.refusal.InlineFault.TheVariants.{Refused as Refuses, NoMemory}
 use Rattle.gate_inline.specs.declared.program.Unwritten.{Unwritten}
-use Rattle.gate_inline.specs.declared.program.Unwritten.TheVariants.{Unvalued as Unvalues, NoMemory as Short}
+use Rattle.gate_inline.specs.declared.program.Unwritten.TheVariants.{Refused as AngleRefused, NoMemory as Short}
 use Rattle.gate_expand.specs.declared.source.Ops.{Ops}
-use Rattle.gate_inline.specs.declared.stop.Stop.{Stop}
-use Rattle.gate_inline.specs.declared.stop.Stop.TheVariants.{NoMemory as Empty, Angle}
-use Rattle.gate_inline.specs.declared.stop.Unvalued.{Unvalued}
-use Rattle.gate_inline.specs.declared.stop.Unvalued.TheVariants.{NoForm, ByZero, TooLarge, NoStep}
+use Rattle.gate_inline.specs.declared.stop.InlineStop.{InlineStop}
+use Rattle.gate_inline.specs.declared.stop.InlineStop.TheVariants.{NoMemory as Empty, Angle}
+use Rattle.gate_inline.specs.declared.stop.AngleRefusal.{AngleRefusal}
+use Rattle.gate_inline.specs.declared.stop.AngleRefusal.TheVariants.{NoForm, ByZero, TooLarge, NoStep}
 
-abbrev pub answers : List Gate → List Step → List Answer
+abbrev pub answers : List BoundGate → List Step → List Evaluation
 answers gates steps = map (step_answer (meanings gates)) steps
 
-abbrev pub operations : List Gate → List Step → Answer
+abbrev pub operations : List BoundGate → List Step → Evaluation
 operations gates steps = joined (answers gates steps)
 
 pub record IsInlined (b : Bound) (o : Ops) : Type 0 where
@@ -40,32 +40,32 @@ pub record IsInlined (b : Bound) (o : Ops) : Type 0 where
   pub list : operations b.gates b.steps ≡ Ok o.list
   pub reads : o.reads ≡ reads b.bits b.steps
 
-abbrev pub IsTooMany : List Gate → List Step → ℕ → Type 0
+abbrev pub IsTooMany : List BoundGate → List Step → ℕ → Type 0
 IsTooMany gates steps n =
     (before : List Step) × (s : Step) × (rest : List Step)
     × (steps ≡ before ++ s ∷ rest) × (n ≡ length before + 1)
     × (is_too_much (total gates before) ≡ false) × (is_too_much (total gates (before ++ s ∷ [])) ≡ true)
 
-abbrev pub IsFirstUnvalued : List Gate → List Step → Unvalued → ℕ → Type 0
+abbrev pub IsFirstUnvalued : List BoundGate → List Step → AngleRefusal → ℕ → Type 0
 IsFirstUnvalued gates steps e n =
     (before : List Step) × (s : Step) × (rest : List Step)
     × (steps ≡ before ++ s ∷ rest) × (n ≡ length before + 1)
     × IsOk (operations gates before) × (step_answer (meanings gates) s ≡ Err e)
 
-abbrev pub code : Refusal → ℕ
+abbrev pub code : InlineRefusal → ℕ
 code AngleForm = 40
 code AngleZero = 41
 code AngleRange = 42
 code AngleStep = 43
 code TooManyOps = 44
 
-abbrev pub refusal_of : Unvalued → Refusal
+abbrev pub refusal_of : AngleRefusal → InlineRefusal
 refusal_of NoForm = AngleForm
 refusal_of ByZero = AngleZero
 refusal_of TooLarge = AngleRange
 refusal_of NoStep = AngleStep
 
-abbrev pub IsInlineRefused : Bound → Refusal → ℕ → Type 0
+abbrev pub IsInlineRefused : Bound → InlineRefusal → ℕ → Type 0
 IsInlineRefused b TooManyOps n = IsTooMany b.gates b.steps n
 IsInlineRefused b AngleForm n = (is_too_much (total b.gates b.steps) ≡ false) × IsFirstUnvalued b.gates b.steps NoForm n
 IsInlineRefused b AngleZero n = (is_too_much (total b.gates b.steps) ≡ false) × IsFirstUnvalued b.gates b.steps ByZero n
@@ -76,15 +76,15 @@ abbrev pub IsInlineFault : Bound → InlineFault → Type 0
 IsInlineFault b (Refuses r) = IsInlineRefused b r.refusal r.statement
 IsInlineFault b NoMemory = Unit {0}
 
-abbrev pub stopped_at : Stop → ℕ → Unwritten
+abbrev pub stopped_at : InlineStop → ℕ → Unwritten
 stopped_at Empty n = Short
-stopped_at (Angle e) n = Unvalues e n
+stopped_at (Angle e) n = AngleRefused e n
 
 abbrev pub unwritten_fault : Unwritten → InlineFault
 unwritten_fault Short = NoMemory
-unwritten_fault (Unvalues e n) = Refuses (record { refusal = refusal_of e; statement = n })
+unwritten_fault (AngleRefused e n) = Refuses (record { refusal = refusal_of e; statement = n })
 
 -- where there isn't too much
-abbrev pub IsUnwritten : List Gate → List Step → Unwritten → Type 0
-IsUnwritten gates steps (Unvalues e n) = IsFirstUnvalued gates steps e n
+abbrev pub IsUnwritten : List BoundGate → List Step → Unwritten → Type 0
+IsUnwritten gates steps (AngleRefused e n) = IsFirstUnvalued gates steps e n
 IsUnwritten gates steps Short = Unit {0}

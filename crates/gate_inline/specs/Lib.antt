@@ -13,4 +13,5 @@ pub mod Stops
 pub mod Placed
 pub mod Frames
 pub mod Remembered
+pub mod Progress
 pub mod Parting

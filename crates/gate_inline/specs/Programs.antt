@@ -6,7 +6,7 @@
 --   IsTreeOf text t  all tokens of the text spell the tree t, of version 2, with no expression that is too deep
 --   IsSource text t  the same of a tree to which no refusal of a statement applies
 --   IsWritten text p     a written program: the text spells a program that means p; of any length, with any number of operations
---   text_limit       the most bytes of an input
+--   most_text_bytes       the most bytes of an input
 --   IsWithinLimits b     writing its gates out makes no more operations and meets no more items than the limits
 --   IsAccepted text p    an accepted program: a written one within the limits
 use Rattle.std.specs.Prelude.{◌≡◌, ℕ, ◌≤◌, Bool, true, false, List, Option, Ok, length}
@@ -14,7 +14,7 @@ use Rattle.qasm_lexer.specs.declared.Token.{Token}
 use Rattle.qasm_lexer.specs.Tokens.{AreTokens}
 use Rattle.qasm_parser.specs.Parsing.{IsProgram}
 use Rattle.qasm_parser.specs.Tree.{Tree}
-use Rattle.qasm_check.specs.declared.bits.Bits.{Bits}
+use Rattle.qasm_check.specs.declared.register.ClassicalRegister.{ClassicalRegister}
 use Rattle.qasm_check.specs.Bound.{Bound, barriers}
 use Rattle.qasm_check.specs.Checking.{IsFineTree, bound}
 use Rattle.unitary_model.specs.declared.Op.{Op}
@@ -29,7 +29,7 @@ pub record Program : Type 0 where
   pub ops : List Op
   pub cut : Cut Op
   pub reads : List (Option ℕ)
-  pub registers : List Bits
+  pub registers : List ClassicalRegister
   pub barriers : ℕ
 
 abbrev pub kept : Bool → Program → Program
@@ -53,14 +53,14 @@ IsSource text t = IsTreeOf text t × IsFineTree t
 abbrev pub IsWritten : List ℕ → Program → Type 0
 IsWritten text p = (t : Tree) × IsSource text t × Means (bound t) p
 
-abbrev pub text_limit : ℕ
-text_limit = 4194304
+abbrev pub most_text_bytes : ℕ
+most_text_bytes = 4194304
 
 abbrev pub IsWithinLimits : Bound → Type 0
 IsWithinLimits b = is_too_much (total b.gates b.steps) ≡ false
 
 pub record IsAccepted (text : List ℕ) (p : Program) : Type 0 where
-  pub short : length text ≤ text_limit
+  pub short : length text ≤ most_text_bytes
   pub tree : Tree
   pub source : IsSource text tree
   pub few : IsWithinLimits (bound tree)

@@ -8,18 +8,18 @@ use Rattle.std.specs.Str.{bytes_eq}
 use Rattle.gate_library.specs.Library.{table_names}
 use Rattle.gate_library.specs.Limits.{most_bits}
 use Rattle.gate_library.specs.Names.{has_repeat, is_one_of}
-use Rattle.qasm_check.specs.declared.bits.Bits.{Bits}
+use Rattle.qasm_check.specs.declared.register.ClassicalRegister.{ClassicalRegister}
 use Rattle.qasm_lexer.specs.Names.{IsName}
 
-abbrev pub names_of : List Bits → List (List ℕ)
+abbrev pub names_of : List ClassicalRegister → List (List ℕ)
 names_of rs = map (λ r. r.name) rs
 
-pub record IsFree (r : Bits) : Type 0 where
+pub record IsFree (r : ClassicalRegister) : Type 0 where
   pub name : IsName r.name
   pub free : is_one_of table_names r.name ≡ false
   pub some : 0 < r.size
 
-pub record AreRegisters (rs : List Bits) (bits : ℕ) : Type 0 where
+pub record AreRegisters (rs : List ClassicalRegister) (bits : ℕ) : Type 0 where
   pub each : All IsFree rs
   pub different : has_repeat bytes_eq (names_of rs) ≡ false
   pub all : sum_by (λ r. r.size) rs ≡ bits

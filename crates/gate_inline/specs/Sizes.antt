@@ -8,10 +8,10 @@
 --     sizes gates         those of each gate
 --     step_size ss s      a step: its gate's, so often as it is applied
 --     steps_size ss steps     the sum over steps;  total gates steps: with the sizes of these gates
---     operation_limit, item_limit     the most operations and items of a program
+--     most_operations, most_items     the most operations and items of a program
 --     is_too_much s       more operations or more items than the limits
 use Rattle.std.specs.Prelude.{ℕ, ◌+◌, ◌*◌, List, [], ◌∷◌, map, nat_lt, slice_get, unwrap_or, ◌||◌, Bool}
-use Rattle.gate_library.specs.Gates.{Item, call, barrier, Gate, u, cx, opaque, composed}
+use Rattle.gate_library.specs.Gates.{Item, call, barrier, BoundGate, u, cx, opaque, composed}
 use Rattle.gate_library.specs.Operands.{broadcast}
 use Rattle.qasm_check.specs.Steps.{Step, applies, measures, bars, nothing}
 use Rattle.gate_inline.specs.Meanings.{in_order}
@@ -37,13 +37,13 @@ abbrev pub item_size : List Size → Item → Size
 item_size ss (call gate angles qubits) = size_at ss gate
 item_size ss barrier = size 0 1
 
-abbrev pub gate_size : List Size → Gate → Size
+abbrev pub gate_size : List Size → BoundGate → Size
 gate_size ss u = size 1 1
 gate_size ss cx = size 1 1
 gate_size ss (opaque params qubits) = size 0 1
 gate_size ss (composed params qubits body) = size_plus (size 0 1) (size_all (map (item_size ss) body))
 
-abbrev pub sizes : List Gate → List Size
+abbrev pub sizes : List BoundGate → List Size
 sizes gates = in_order gate_size gates
 
 abbrev pub step_size : List Size → Step → Size
@@ -55,14 +55,14 @@ step_size ss nothing = size 0 0
 abbrev pub steps_size : List Size → List Step → Size
 steps_size ss steps = size_all (map (step_size ss) steps)
 
-abbrev pub total : List Gate → List Step → Size
+abbrev pub total : List BoundGate → List Step → Size
 total gates steps = steps_size (sizes gates) steps
 
-abbrev pub operation_limit : ℕ
-operation_limit = 65536
+abbrev pub most_operations : ℕ
+most_operations = 65536
 
-abbrev pub item_limit : ℕ
-item_limit = 1048576
+abbrev pub most_items : ℕ
+most_items = 1048576
 
 abbrev pub is_too_much : Size → Bool
-is_too_much s = nat_lt operation_limit s.operations || nat_lt item_limit s.items
+is_too_much s = nat_lt most_operations s.operations || nat_lt most_items s.items

@@ -11,7 +11,7 @@
 --     IsSplit b s         s is split from a program without a refusal
 use Rattle.std.specs.Prelude.{◌≡◌, ℕ, ◌<◌, false, List, [], ◌∷◌, All, Option, None, Some, Ok, if◌then◌else◌, map, nat_eq}
 use Rattle.std.specs.List.{flat_map, list_any}
-use Rattle.gate_library.specs.Gates.{Gate}
+use Rattle.gate_library.specs.Gates.{BoundGate}
 use Rattle.gate_library.specs.Names.{has_repeat}
 use Rattle.gate_library.specs.Operands.{wires_of}
 use Rattle.gate_inline.specs.Inlined.{operations}
@@ -41,16 +41,16 @@ bar_of nothing = None
 abbrev pub named_once : {A : Type 0} → Cut A → Cut A
 named_once c = record { parts = c.parts; bars = map (once []) c.bars }
 
-abbrev pub AreOperations : List Gate → List (List Step) → List (List Op) → Type 0
+abbrev pub AreOperations : List BoundGate → List (List Step) → List (List Op) → Type 0
 AreOperations gates [] [] = Unit {0}
 AreOperations gates (steps ∷ parts) (us ∷ lists) = (operations gates steps ≡ Ok us) × AreOperations gates parts lists
 AreOperations gates _ _ = ⊥
 
-pub record IsCutBy (bar : Step → Option (List ℕ)) (gates : List Gate) (steps : List Step) (c : Cut Op) : Type 0 where
+pub record IsCutBy (bar : Step → Option (List ℕ)) (gates : List BoundGate) (steps : List Step) (c : Cut Op) : Type 0 where
   pub parts : AreOperations gates (cut_at bar steps).parts c.parts
   pub bars : c.bars ≡ (cut_at bar steps).bars
 
-abbrev pub IsCutOf : List Gate → List Step → Cut Op → Type 0
+abbrev pub IsCutOf : List BoundGate → List Step → Cut Op → Type 0
 IsCutOf gates steps c = IsCutBy bar_of gates steps c
 
 pub record IsBar (n : ℕ) (ws : List ℕ) : Type 0 where

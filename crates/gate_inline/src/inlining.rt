@@ -6,7 +6,7 @@ ghost use Rattle.qasm_check.specs.CheckedView.{program};
 ghost use Rattle.gate_expand.specs.Expansion.{IsFineOp};
 ghost use Rattle.gate_inline.specs.Inlined.{IsInlineFault, IsInlined};
 ghost use Rattle.gate_inline.specs.Registers.{IsRead};
-ghost use Rattle.gate_inline.specs.Sizes.{operation_limit};
+ghost use Rattle.gate_inline.specs.Sizes.{most_operations};
 ghost use Rattle.gate_inline.specs.Splits.{IsBar, IsSplit, cut_of};
 ghost use Rattle.program_parts.specs.Cuts.{IsCut, whole};
 
@@ -22,8 +22,8 @@ use std::alloc::Global;
 /// refused, and why.
 pub fn inline(alloc: Global, checked: &Checked) -> Result<Ops, InlineFault>
     ensures ok { IfOk result (IsInlined (program checked.now)) }
-    ensures short { IfOk result (λ o. length o.list ≤ operation_limit) }
-    ensures few { IfOk result (λ o. o.wires ≤ most_wires) }
+    ensures operations_limit { IfOk result (λ o. length o.list ≤ most_operations) }
+    ensures wires_limit { IfOk result (λ o. o.wires ≤ most_wires) }
     ensures fine { IfOk result (λ o. All (IsFineOp o.wires) o.list) }
     ensures bits { IfOk result (λ o. length o.reads ≡ (program checked.now).bits) }
     ensures reads { IfOk result (λ o. All (IsRead o.wires) o.reads) }
@@ -43,8 +43,8 @@ pub fn inline(alloc: Global, checked: &Checked) -> Result<Ops, InlineFault>
 pub fn inline_parts(alloc: Global, checked: &Checked) -> Result<Split, InlineFault>
     ensures ok { IfOk result (IsSplit (program checked.now)) }
     ensures cut { IfOk result (λ s. IsCut (cut_of s)) }
-    ensures short { IfOk result (λ s. length (whole (cut_of s).parts) ≤ operation_limit) }
-    ensures few { IfOk result (λ s. s.wires ≤ most_wires) }
+    ensures operations_limit { IfOk result (λ s. length (whole (cut_of s).parts) ≤ most_operations) }
+    ensures wires_limit { IfOk result (λ s. s.wires ≤ most_wires) }
     ensures fine { IfOk result (λ s. All (All (IsFineOp s.wires)) (cut_of s).parts) }
     ensures bars { IfOk result (λ s. All (IsBar s.wires) (cut_of s).bars) }
     ensures bits { IfOk result (λ s. length s.reads.items ≡ (program checked.now).bits) }

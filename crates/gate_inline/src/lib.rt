@@ -10,6 +10,7 @@
 #![tactic(auto)]
 
 mod body;
+mod inliner;
 mod inlining;
 mod laws;
 mod memo;
@@ -27,11 +28,11 @@ pub use laws::{
     cut_once, inlined_has_no_fault, inlined_or_refused, operations_are_cut, refused_once,
     split_is_inlined,
 };
-pub use refusal::{InlineFault, Refusal, Refused};
+pub use refusal::{InlineFault, InlineRefusal, InlineRefused};
 pub use split::Split;
 
 /// The most operations that a program has.
-pub const OPERATION_LIMIT: u64 = 65_536;
+pub const MOST_OPERATIONS: u64 = 65_536;
 
 /// The most items of gates' bodies that are met while a program's bodies are written out.
-pub const ITEM_LIMIT: u64 = 1_048_576;
+pub const MOST_ITEMS: u64 = 1_048_576;

@@ -1,8 +1,8 @@
 //! Calls of gates whose operations are written already.
 
-ghost use Rattle.std.specs.Prelude.{◌≡◌, List, true, IfOk, IfSome, OnOk, map};
+ghost use Rattle.std.specs.Prelude.{◌≡◌, List, true, IfOk, IfSome, map};
 ghost use Rattle.unitary_model.specs.declared.Op.{Op};
-ghost use Rattle.gate_library.specs.Gates.{Gate as BoundGate};
+ghost use Rattle.gate_library.specs.Gates.{BoundGate};
 ghost use Rattle.gate_inline.specs.Capped.{capped};
 ghost use Rattle.gate_inline.specs.Meanings.{meaning_at, meanings};
 ghost use Rattle.gate_inline.specs.Remembered.{AreKept, IsKept, IsPart};
@@ -160,7 +160,7 @@ fn put(places: &mut Vec<Option<Kept>>, kept: Kept)
 impl Memo {
     /// No call.
     pub fn new(alloc: Global) -> Memo
-        ensures { (gates : List BoundGate) (us : List Op) → AreKept gates us result.places.items }
+        ensures kept { (gates : List BoundGate) (us : List Op) → AreKept gates us result.places.items }
     {
         Memo {
             places: Vec::new(alloc),
@@ -177,7 +177,7 @@ impl Memo {
         angles: &[Angle],
         wires: &[u32],
     ) -> Option<(usize, usize)>
-        ensures { IfSome result (λ p. (gates : List BoundGate) (us : List Op) → sizes.now ≡ map capped (sizes_of gates) → AreKept gates us self.now.places.items →
+        ensures some { IfSome result (λ p. (gates : List BoundGate) (us : List Op) → sizes.now ≡ map capped (sizes_of gates) → AreKept gates us self.now.places.items →
             IsPart (meaning_at (meanings gates) gate angles.now wires.now) us p.0 p.1) }
     {
         match self.places.get(place_of(self.places.len(), gate, angles)) {
@@ -195,7 +195,7 @@ impl Memo {
 
     /// Forgets all calls, and has more places.
     fn forget(&mut self, alloc: Global) -> Result<(), AllocError>
-        ensures { OnOk result ((gates : List BoundGate) (us : List Op) → AreKept gates us self.old.places.items → AreKept gates us self.new.places.items) }
+        ensures { (gates : List BoundGate) (us : List Op) → AreKept gates us self.old.places.items → AreKept gates us self.new.places.items }
     {
         self.places = empty(alloc, more_places(self.places.len()))?;
         self.calls = self.places.len();
@@ -205,7 +205,7 @@ impl Memo {
 
     /// Makes room for one more call with so many values.
     fn make_room(&mut self, alloc: Global, values: usize) -> Result<(), AllocError>
-        ensures { OnOk result ((gates : List BoundGate) (us : List Op) → AreKept gates us self.old.places.items → AreKept gates us self.new.places.items) }
+        ensures { (gates : List BoundGate) (us : List Op) → AreKept gates us self.old.places.items → AreKept gates us self.new.places.items }
     {
         if self.calls == 0 || values > self.values {
             return self.forget(alloc);
@@ -217,7 +217,7 @@ impl Memo {
 
     /// Remembers a call, if it hasn't too many values.
     pub fn keep(&mut self, alloc: Global, kept: Kept) -> Result<(), AllocError>
-        ensures { OnOk result ((gates : List BoundGate) (us : List Op) → AreKept gates us self.old.places.items → IsKept gates us kept → AreKept gates us self.new.places.items) }
+        ensures kept { (gates : List BoundGate) (us : List Op) → AreKept gates us self.old.places.items → IsKept gates us kept → AreKept gates us self.new.places.items }
     {
         let values = kept.angles.len().saturating_add(kept.wires.len());
         if values > MOST_VALUES {

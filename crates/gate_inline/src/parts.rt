@@ -37,7 +37,7 @@ fn note_wire(wire: u32, list: &mut Vec<u32>, marks: &mut [bool]) -> Result<(), A
 /// Puts the wires of an operand behind the others, but for those among them.
 fn note_wires(operand: &Operand, list: &mut Vec<u32>, marks: &mut [bool]) -> Result<(), AllocError>
     requires placed { IsOn (length marks.old) operand.now }
-    requires few { length marks.old ≤ 2 ^ 32 }
+    requires marks_limit { length marks.old ≤ 2 ^ 32 }
     requires marked { AreMarked marks.old list.old.items }
     ensures list { OnOk result (list.new.items ≡ fold with_wire list.old.items (wires_of operand.now)) }
     ensures marked { OnOk result (AreMarked marks.new list.new.items) }
@@ -65,7 +65,7 @@ fn named_wires(
     marks: &mut [bool],
 ) -> Result<Vec<u32>, AllocError>
     requires placed { All (IsOn (length marks.old)) operands.now }
-    requires few { length marks.old ≤ 2 ^ 32 }
+    requires marks_limit { length marks.old ≤ 2 ^ 32 }
     requires clear { AreMarked marks.old [] }
     ensures list { IfOk result (λ v. v.items ≡ once [] (flat_map wires_of operands.now)) }
     ensures clear { OnOk result (AreMarked marks.new []) }
@@ -116,7 +116,7 @@ pub fn end_part(
     parts: &mut Parts,
 ) -> Result<(), AllocError>
     requires placed { IsOnWires (length marks.old) (step_view step.now) }
-    requires few { length marks.old ≤ 2 ^ 32 }
+    requires marks_limit { length marks.old ≤ 2 ^ 32 }
     requires clear { AreMarked marks.old [] }
     requires start { parts.old.start ≤ length list.now }
     ensures parts { OnOk result (so_far parts.new list.now ≡ ended (named_of (step_view step.now)) (so_far parts.old list.now)) }
@@ -140,8 +140,8 @@ pub fn end_part(
 
 /// All parts and barriers: what stands behind the last barrier is the last part.
 pub fn end_all(alloc: Global, list: &[Op], mut parts: Parts) -> Result<Parts, AllocError>
-    requires { parts.start ≤ length list.now }
-    ensures { IfOk result (λ p. cut_in p ≡ so_far parts list.now) }
+    requires within { parts.start ≤ length list.now }
+    ensures ok { IfOk result (λ p. cut_in p ≡ so_far parts list.now) }
 {
     let part = copied_from(alloc, list, parts.start)?;
     parts.done.push(part)?;

@@ -1,115 +1,25 @@
 //! A program's operations and reads.
 
-ghost use Rattle.std.specs.Prelude.{◌≡◌, ℕ, ◌+◌, ◌<◌, ◌^◌, [], Ok, IfOk, IfErr, OnOk, All, None, false, map, length, slice_index_or};
+ghost use Rattle.std.specs.Prelude.{◌≡◌, ℕ, ◌+◌, ◌<◌, ◌^◌, [], Ok, IfOk, IfErr, All, None, false, map, length, slice_index_or};
 ghost use Rattle.std.specs.Option.{option_or};
 ghost use Rattle.qasm_check.specs.Steps.{measures};
-ghost use Rattle.gate_library.specs.Operands.{broadcast as broadcast_of, times, wire_at as wire_there};
+ghost use Rattle.gate_library.specs.Operands.{times, wire_at as wire_there};
 ghost use Rattle.qasm_check.specs.StepViews.{step as step_view};
 ghost use Rattle.gate_library.specs.Views.{gate as gate_view};
 ghost use Rattle.gate_inline.specs.Inlined.{IsInlineFault, IsInlined, IsUnwritten, operations as operations_of, refusal_of as refusal_there, stopped_at, unwritten_fault};
-ghost use Rattle.gate_inline.specs.Meanings.{broadcast_answer, followed, meanings, step_answer};
-ghost use Rattle.gate_inline.specs.Capped.{capped};
 ghost use Rattle.gate_inline.specs.Placed.{IsPlaced};
-ghost use Rattle.gate_inline.specs.Remembered.{AreKept};
-ghost use Rattle.gate_inline.specs.Sizes.{is_too_much, sizes as sizes_of, total};
+ghost use Rattle.gate_inline.specs.Progress.{at_start, gates_of};
+ghost use Rattle.gate_inline.specs.Sizes.{is_too_much, total};
 ghost use Rattle.gate_inline.specs.Reads.{reads as reads_of, step_read};
-ghost use Rattle.gate_inline.specs.Stops.{IsStop};
 
-use crate::body::{Call, write_out};
-use crate::memo::Memo;
-use crate::refusal::{InlineFault, Refusal, Refused};
-use crate::size::{Size, sizes, too_much};
-use crate::stop::{Stop, Unvalued};
-use crate::value::values;
-use angle_fraction::Angle;
+use crate::inliner::Inliner;
+use crate::refusal::{InlineFault, InlineRefusal, InlineRefused};
+use crate::size::{sizes, too_much};
+use crate::stop::{AngleRefusal, InlineStop};
 use gate_expand::{OpList, Ops, ReadList};
-use gate_library::broadcast;
-use qasm_check::{Gate, Operand, Step};
+use qasm_check::{BoundGate, Operand, Step};
 use std::alloc::{AllocError, Global};
 use unitary_model::Op;
-
-/// The wires at an index of a broadcast.
-fn wires_at(alloc: Global, places: &[Operand], j: u32) -> Result<Vec<u32>, AllocError>
-    requires { All (λ p. wire_there j p < 2 ^ 32) places.now }
-    ensures { IfOk result (λ v. v.items ≡ map (wire_there j) places.now) }
-{
-    let mut list = Vec::with_capacity(alloc, places.len())?;
-    'places: for place in places {
-        list.push(place.wire_at(j) as u32)?;
-    }
-    Ok(list)
-}
-
-fn copied(alloc: Global, angles: &[Angle]) -> Result<Vec<Angle>, AllocError>
-    ensures { IfOk result (λ v. v.items ≡ angles.now) }
-{
-    angles.iter().copied().collect(alloc)
-}
-
-/// Puts the operations of a gate behind the others, for each index of the broadcast.
-fn write_broadcast(
-    alloc: Global,
-    gates: &[Gate],
-    sizes: &[Size],
-    gate: usize,
-    angles: &[Angle],
-    places: &[Operand],
-    memo: &mut Memo,
-    list: &mut Vec<Op>,
-) -> Result<(), Stop>
-    requires placed { (j : ℕ) → j < broadcast_of places.now → All (λ p. wire_there j p < 2 ^ 32) places.now }
-    requires sized { sizes.now ≡ map capped (sizes_of (map gate_view gates.now)) }
-    requires kept { AreKept (map gate_view gates.now) list.old.items memo.old.places.items }
-    ensures ok { OnOk result (Ok list.new.items ≡ followed (Ok list.old.items) (broadcast_answer (meanings (map gate_view gates.now)) gate angles.now places.now (broadcast_of places.now))) }
-    ensures err { IfErr result (IsStop (broadcast_answer (meanings (map gate_view gates.now)) gate angles.now places.now (broadcast_of places.now))) }
-    ensures kept { OnOk result (AreKept (map gate_view gates.now) list.new.items memo.new.places.items) }
-{
-    'indices: for j in 0..broadcast(places) {
-        let call = Call {
-            gate,
-            angles: copied(alloc, angles)?,
-            wires: wires_at(alloc, places, j)?,
-        };
-        match write_out(alloc, gates, sizes, call, memo, list) {
-            Ok(()) => {}
-            Err(stop) => return Err(stop),
-        }
-    }
-    Ok(())
-}
-
-/// Puts the operations of a step behind the others.
-pub fn write_step(
-    alloc: Global,
-    gates: &[Gate],
-    sizes: &[Size],
-    step: &Step,
-    memo: &mut Memo,
-    list: &mut Vec<Op>,
-) -> Result<(), Stop>
-    requires placed { IsPlaced (2 ^ 32) (2 ^ 32) (step_view step.now) }
-    requires sized { sizes.now ≡ map capped (sizes_of (map gate_view gates.now)) }
-    requires kept { AreKept (map gate_view gates.now) list.old.items memo.old.places.items }
-    ensures ok { OnOk result (Ok list.new.items ≡ followed (Ok list.old.items) (step_answer (meanings (map gate_view gates.now)) (step_view step.now))) }
-    ensures err { IfErr result (IsStop (step_answer (meanings (map gate_view gates.now)) (step_view step.now))) }
-    ensures kept { OnOk result (AreKept (map gate_view gates.now) list.new.items memo.new.places.items) }
-{
-    match step {
-        Step::Apply {
-            gate,
-            angles,
-            operands,
-        } => match values(alloc, &[], angles) {
-            Ok(angles) => write_broadcast(
-                alloc, gates, sizes, *gate, &angles, operands, memo, list,
-            ),
-            Err(stop) => Err(stop),
-        },
-        Step::Measure { qubit: _, bit: _ } | Step::Barrier { operands: _ } | Step::Nothing => Ok(
-            (),
-        ),
-    }
-}
 
 /// Measures a wire into a bit, or wire by wire a register into one of bits.
 fn measure(list: &mut [Option<u32>], qubit: &Operand, bit: &Operand)
@@ -138,8 +48,8 @@ fn read_step(list: &mut [Option<u32>], step: &Step)
 
 /// For each bit the wire that is measured into it last.
 pub fn reads(alloc: Global, bits: u32, steps: &[Step]) -> Result<Vec<Option<u32>>, AllocError>
-    requires { All (IsPlaced (2 ^ 32) bits) (map step_view steps.now) }
-    ensures { IfOk result (λ v. v.items ≡ reads_of bits (map step_view steps.now)) }
+    requires placed { All (IsPlaced (2 ^ 32) bits) (map step_view steps.now) }
+    ensures ok { IfOk result (λ v. v.items ≡ reads_of bits (map step_view steps.now)) }
 {
     let mut list = vec![in alloc; None; bits as usize]?;
     'steps: for step in steps {
@@ -151,7 +61,7 @@ pub fn reads(alloc: Global, bits: u32, steps: &[Step]) -> Result<Vec<Option<u32>
 /// The first step with an angle that isn't exact, counted from 1, or no memory.
 #[derive(Clone, Copy, Debug)]
 pub enum Unwritten {
-    Unvalued(Unvalued, u32),
+    Refused(AngleRefusal, u32),
     NoMemory,
 }
 
@@ -168,87 +78,84 @@ impl From<AllocError> for Unwritten {
 
 /// The number of a statement.
 pub fn number(index: usize) -> u32
-    requires { index + 1 < 2 ^ 32 }
-    ensures { result ≡ index + 1 }
+    requires limit { index + 1 < 2 ^ 32 }
+    ensures value { result ≡ index + 1 }
 {
     index as u32 + 1
 }
 
 /// Why a statement has no operations, with its number.
-pub fn at_statement(stop: Stop, statement: u32) -> Unwritten
-    ensures { result ≡ stopped_at stop statement }
+pub fn at_statement(stop: InlineStop, statement: u32) -> Unwritten
+    ensures value { result ≡ stopped_at stop statement }
 {
     match stop {
-        Stop::NoMemory => Unwritten::NoMemory,
-        Stop::Angle(unvalued) => Unwritten::Unvalued(unvalued, statement),
+        InlineStop::NoMemory => Unwritten::NoMemory,
+        InlineStop::Angle(refusal) => Unwritten::Refused(refusal, statement),
     }
 }
 
 /// The operations of all steps.
-fn operations(
+fn operations<'a>(
     alloc: Global,
-    gates: &[Gate],
-    sizes: &[Size],
+    mut inliner: Inliner<'a>,
     steps: &[Step],
 ) -> Result<Vec<Op>, Unwritten>
-    requires few { length steps.now < 2 ^ 32 }
+    requires steps_limit { length steps.now < 2 ^ 32 }
     requires placed { All (IsPlaced (2 ^ 32) (2 ^ 32)) (map step_view steps.now) }
-    requires sized { sizes.now ≡ map capped (sizes_of (map gate_view gates.now)) }
-    ensures ok { IfOk result (λ v. operations_of (map gate_view gates.now) (map step_view steps.now) ≡ Ok v.items) }
-    ensures err { IfErr result (IsUnwritten (map gate_view gates.now) (map step_view steps.now)) }
+    requires nothing { inliner.list ≡ [] }
+    ensures ok { IfOk result (λ v. operations_of (gates_of inliner.entry) (map step_view steps.now) ≡ Ok v.items) }
+    ensures err { IfErr result (IsUnwritten (gates_of inliner.entry) (map step_view steps.now)) }
 {
-    let mut memo = Memo::new(alloc);
-    let mut list = Vec::new(alloc);
     'steps: for (i, step) in steps.iter().enumerate() {
-        match write_step(alloc, gates, sizes, step, &mut memo, &mut list) {
+        match inliner.write_step(alloc, step) {
             Ok(()) => {}
             Err(stop) => return Err(at_statement(stop, number(i))),
         }
     }
-    Ok(list)
+    Ok(inliner.into_operations())
 }
 
 /// The refusal of a step with an angle that isn't exact.
-fn refusal_of(unvalued: Unvalued) -> Refusal
-    ensures { result ≡ refusal_there unvalued }
+fn refusal_of(refusal: AngleRefusal) -> InlineRefusal
+    ensures { result ≡ refusal_there refusal }
 {
-    match unvalued {
-        Unvalued::NoForm => Refusal::AngleForm,
-        Unvalued::ByZero => Refusal::AngleZero,
-        Unvalued::TooLarge => Refusal::AngleRange,
-        Unvalued::NoStep => Refusal::AngleStep,
+    match refusal {
+        AngleRefusal::NoForm => InlineRefusal::AngleForm,
+        AngleRefusal::ByZero => InlineRefusal::AngleZero,
+        AngleRefusal::TooLarge => InlineRefusal::AngleRange,
+        AngleRefusal::NoStep => InlineRefusal::AngleStep,
     }
 }
 
 /// What is told of a program with such a step.
 pub fn unwritten_fault(unwritten: Unwritten) -> InlineFault
-    ensures { result ≡ unwritten_fault unwritten }
+    ensures value { result ≡ unwritten_fault unwritten }
 {
     match unwritten {
         Unwritten::NoMemory => InlineFault::NoMemory,
-        Unwritten::Unvalued(unvalued, statement) => InlineFault::Refused(Refused {
-            refusal: refusal_of(unvalued),
+        Unwritten::Refused(refusal, statement) => InlineFault::Refused(InlineRefused {
+            refusal: refusal_of(refusal),
             statement,
         }),
     }
 }
 
-/// The sizes of gates, where the steps aren't too much; else the first step with which there is too much.
-pub fn fitting_sizes(
+/// What writes the steps, where they aren't too much; else the first step with which there is too much.
+pub fn fitting_inliner<'a>(
     alloc: Global,
-    gates: &[Gate],
+    gates: &'a [BoundGate],
     steps: &[Step],
-) -> Result<Vec<Size>, InlineFault>
-    requires few { length steps.now < 2 ^ 32 }
-    ensures sized { IfOk result (λ v. v.items ≡ map capped (sizes_of (map gate_view gates.now))) }
-    ensures small { IfOk result (λ v. is_too_much (total (map gate_view gates.now) (map step_view steps.now)) ≡ false) }
+) -> Result<Inliner<'a>, InlineFault>
+    requires steps_limit { length steps.now < 2 ^ 32 }
+    ensures start { IfOk result (λ s. s ≡ at_start gates.now) }
+    ensures small { IfOk result (λ _. is_too_much (total (map gate_view gates.now) (map step_view steps.now)) ≡ false) }
     ensures err { IfErr result (λ f. (wires bits : ℕ) → IsInlineFault (record { gates = map gate_view gates.now; steps = map step_view steps.now; wires = wires; bits = bits; registers = [] }) f) }
 {
     let sizes = sizes(alloc, gates)?;
     match too_much(&sizes, steps) {
-        None => Ok(sizes),
-        Some(index) => Err(InlineFault::Refused(Refused {
-            refusal: Refusal::TooManyOps,
+        None => Ok(Inliner::new(alloc, gates, sizes)),
+        Some(index) => Err(InlineFault::Refused(InlineRefused {
+            refusal: InlineRefusal::TooManyOps,
             statement: number(index),
         })),
     }
@@ -257,18 +164,18 @@ pub fn fitting_sizes(
 /// The operations and reads of steps over gates.
 pub fn written_out(
     alloc: Global,
-    gates: &[Gate],
+    gates: &[BoundGate],
     steps: &[Step],
     wires: u32,
     bits: u32,
 ) -> Result<Ops, InlineFault>
-    requires few { length steps.now < 2 ^ 32 }
+    requires steps_limit { length steps.now < 2 ^ 32 }
     requires placed { All (IsPlaced (2 ^ 32) bits) (map step_view steps.now) }
     ensures ok { IfOk result (IsInlined (record { gates = map gate_view gates.now; steps = map step_view steps.now; wires = wires; bits = bits; registers = [] })) }
     ensures err { IfErr result (IsInlineFault (record { gates = map gate_view gates.now; steps = map step_view steps.now; wires = wires; bits = bits; registers = [] })) }
 {
-    let sizes = fitting_sizes(alloc, gates, steps)?;
-    let list = match operations(alloc, gates, &sizes, steps) {
+    let inliner = fitting_inliner(alloc, gates, steps)?;
+    let list = match operations(alloc, inliner, steps) {
         Ok(list) => list,
         Err(unwritten) => return Err(unwritten_fault(unwritten)),
     };

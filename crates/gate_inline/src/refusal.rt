@@ -5,7 +5,7 @@ use thiserror::Error;
 
 /// What is wrong with a statement.
 #[derive(Clone, Copy, Debug, PartialEq, Eq)]
-pub enum Refusal {
+pub enum InlineRefusal {
     /// An angle has no exact value: a product of two parts with pi, a function, and the like.
     AngleForm,
     /// An angle has a divisor 0.
@@ -18,20 +18,20 @@ pub enum Refusal {
     TooManyOps,
 }
 
-impl Refusal {
+impl InlineRefusal {
     ghost use Rattle.std.specs.Prelude.{◌≡◌};
     ghost use Rattle.gate_inline.specs.Inlined.{code as code_of};
 
     /// The number under which the refusal is told.
     pub fn code(self) -> u8
-        ensures { result ≡ code_of self }
+        ensures value { result ≡ code_of self }
     {
         match self {
-            Refusal::AngleForm => 40,
-            Refusal::AngleZero => 41,
-            Refusal::AngleRange => 42,
-            Refusal::AngleStep => 43,
-            Refusal::TooManyOps => 44,
+            InlineRefusal::AngleForm => 40,
+            InlineRefusal::AngleZero => 41,
+            InlineRefusal::AngleRange => 42,
+            InlineRefusal::AngleStep => 43,
+            InlineRefusal::TooManyOps => 44,
         }
     }
 }
@@ -39,8 +39,8 @@ impl Refusal {
 /// A refusal and its statement, counted from 1. A statement of too many operations comes first; else it is the first statement
 /// with a refusal, and its first by order of evaluation.
 #[derive(Clone, Copy, Debug, PartialEq, Eq)]
-pub struct Refused {
-    pub refusal: Refusal,
+pub struct InlineRefused {
+    pub refusal: InlineRefusal,
     pub statement: u32,
 }
 
@@ -49,7 +49,7 @@ pub struct Refused {
 pub enum InlineFault {
     /// A statement is refused.
     #[error("statement {} is refused: {:?}", .0.statement, .0.refusal)]
-    Refused(Refused),
+    Refused(InlineRefused),
     /// There is no memory for the operations.
     #[error("out of memory")]
     NoMemory,

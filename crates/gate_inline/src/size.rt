@@ -6,9 +6,9 @@ ghost use Rattle.gate_library.specs.Views.{gate as gate_view, item as item_view}
 ghost use Rattle.gate_inline.specs.Capped.{capped};
 ghost use Rattle.gate_inline.specs.Sizes.{gate_size as size_of_gate, is_too_much, size as size_from, item_size as size_of_item, size_all, size_at as size_there, size_plus, size_times, sizes as sizes_of, step_size as size_of_step, steps_size};
 
-use crate::{ITEM_LIMIT, OPERATION_LIMIT};
+use crate::{MOST_ITEMS, MOST_OPERATIONS};
 use gate_library::broadcast;
-use qasm_check::{Gate, Item, Step};
+use qasm_check::{BoundGate, Item, Step};
 use std::alloc::{AllocError, Global};
 
 /// So many operations, and so many items of bodies; at most 2^64 - 1 of each.
@@ -82,19 +82,19 @@ fn body_size(sizes: &[Size], body: &[Item]) -> Size
     sum
 }
 
-fn gate_size(sizes: &[Size], gate: &Gate) -> Size
+fn gate_size(sizes: &[Size], gate: &BoundGate) -> Size
     ensures { result ≡ capped (size_of_gate sizes.now (gate_view gate.now)) }
 {
     match gate {
-        Gate::U | Gate::Cx => Size {
+        BoundGate::U | BoundGate::Cx => Size {
             operations: 1,
             items: 1,
         },
-        Gate::Opaque {
+        BoundGate::Opaque {
             params: _,
             qubits: _,
         } => one_item(),
-        Gate::Composed {
+        BoundGate::Composed {
             params: _,
             qubits: _,
             body,
@@ -103,8 +103,8 @@ fn gate_size(sizes: &[Size], gate: &Gate) -> Size
 }
 
 /// The sizes of gates, each by those before it.
-pub fn sizes(alloc: Global, gates: &[Gate]) -> Result<Vec<Size>, AllocError>
-    ensures { IfOk result (λ v. v.items ≡ map capped (sizes_of (map gate_view gates.now))) }
+pub fn sizes(alloc: Global, gates: &[BoundGate]) -> Result<Vec<Size>, AllocError>
+    ensures ok { IfOk result (λ v. v.items ≡ map capped (sizes_of (map gate_view gates.now))) }
 {
     let mut list = Vec::with_capacity(alloc, gates.len())?;
     'gates: for gate in gates {
@@ -133,7 +133,7 @@ fn step_size(sizes: &[Size], step: &Step) -> Size
 fn is_too_much(size: Size) -> bool
     ensures { result ≡ is_too_much size }
 {
-    size.operations > OPERATION_LIMIT || size.items > ITEM_LIMIT
+    size.operations > MOST_OPERATIONS || size.items > MOST_ITEMS
 }
 
 /// The index of the first step with which there is too much.

@@ -6,7 +6,7 @@ ghost use Rattle.gate_inline.specs.Meanings.{eighth as eighth_of, unvalued};
 ghost use Rattle.gate_inline.specs.Stops.{IsStop};
 ghost use Rattle.gate_inline.specs.Values.{no_angle, operation as operation_of, value as value_of, values as values_of};
 
-use crate::stop::{Stop, Unvalued};
+use crate::stop::{AngleRefusal, InlineStop};
 use angle_fraction::{Angle, AngleFault, Frac, add, div, eighths, mul, neg, pow, sub};
 use qasm_check::Formula;
 use qasm_parser::Binary;
@@ -39,7 +39,7 @@ fn operation(sign: Binary, left: &Angle, right: &Angle) -> Result<Angle, AngleFa
 
 /// The value of an expression under values of the parameters, or its first fault. An expression is at most 64 deep.
 pub fn value(params: &[Angle], formula: &Formula) -> Result<Angle, AngleFault>
-    ensures { result ≡ value_of params.now (formula_view formula.now) }
+    ensures value { result ≡ value_of params.now (formula_view formula.now) }
 {
     match formula {
         Formula::Number(number) => Ok(Angle {
@@ -68,7 +68,11 @@ pub fn value(params: &[Angle], formula: &Formula) -> Result<Angle, AngleFault>
 }
 
 /// The values of expressions, from left to right.
-pub fn values(alloc: Global, params: &[Angle], formulas: &[Formula]) -> Result<Vec<Angle>, Stop>
+pub fn values(
+    alloc: Global,
+    params: &[Angle],
+    formulas: &[Formula],
+) -> Result<Vec<Angle>, InlineStop>
     ensures ok { IfOk result (λ v. unvalued (values_of params.now (map formula_view formulas.now)) ≡ Ok v.items) }
     ensures err { IfErr result (IsStop (unvalued (values_of params.now (map formula_view formulas.now)))) }
 {
@@ -81,13 +85,13 @@ pub fn values(alloc: Global, params: &[Angle], formulas: &[Formula]) -> Result<V
 }
 
 /// An angle in units of pi/4, below 8.
-pub fn eighth(angle: &Angle) -> Result<u8, Stop>
+pub fn eighth(angle: &Angle) -> Result<u8, InlineStop>
     ensures ok { IfOk result (λ k. eighth_of angle.now ≡ Ok k) }
     ensures below { IfOk result (λ k. k < 8) }
     ensures err { IfErr result (IsStop (eighth_of angle.now)) }
 {
     match eighths(angle) {
         Some(k) => Ok(k),
-        None => Err(Stop::Angle(Unvalued::NoStep)),
+        None => Err(InlineStop::Angle(AngleRefusal::NoStep)),
     }
 }

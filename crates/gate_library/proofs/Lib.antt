@@ -1,5 +1,4 @@
-mod ListLaws
-mod OperandLaws
-mod RepeatLaws
-mod StateLaws
+pub mod ListLaws
+pub mod OperandLaws
+pub mod RepeatLaws
 mod TableLaws

@@ -5,7 +5,7 @@
 --   Item         a line of a gate's body: a gate by its number, its angles, and its qubits by their indices among those of
 --                the gate whose body it is; or a barrier
 --   call, barrier   such a gate; a barrier
---   Gate         `U`, `CX`, a gate without a body, or one with a body
+--   BoundGate         `U`, `CX`, a gate without a body, or one with a body
 --   u, cx, opaque, composed   these four, in this order
 --   gate_params, gate_qubits   how many parameters and qubits a gate has
 --   gate_at      the gate of this number
@@ -27,28 +27,28 @@ pub data Item : Type 0 where
   call : (gate : ℕ) (angles : List Formula) (qubits : List ℕ) → Item
   barrier : Item
 
-pub data Gate : Type 0 where
-  u : Gate
-  cx : Gate
-  opaque : (params qubits : ℕ) → Gate
-  composed : (params qubits : ℕ) (body : List Item) → Gate
+pub data BoundGate : Type 0 where
+  u : BoundGate
+  cx : BoundGate
+  opaque : (params qubits : ℕ) → BoundGate
+  composed : (params qubits : ℕ) (body : List Item) → BoundGate
 
-abbrev pub gate_params : Gate → ℕ
+abbrev pub gate_params : BoundGate → ℕ
 gate_params u = 3
 gate_params cx = 0
 gate_params (opaque params qubits) = params
 gate_params (composed params qubits body) = params
 
-abbrev pub gate_qubits : Gate → ℕ
+abbrev pub gate_qubits : BoundGate → ℕ
 gate_qubits u = 1
 gate_qubits cx = 2
 gate_qubits (opaque params qubits) = qubits
 gate_qubits (composed params qubits body) = qubits
 
-abbrev pub is_opaque : Gate → Bool
+abbrev pub is_opaque : BoundGate → Bool
 is_opaque (opaque params qubits) = true
 is_opaque _ = false
 
 -- every number that a name stands for is that of a gate
-abbrev pub gate_at : List Gate → ℕ → Gate
+abbrev pub gate_at : List BoundGate → ℕ → BoundGate
 gate_at gates i = unwrap_or (slice_get gates i) u

@@ -3,16 +3,17 @@
 --   table_names    those of both, in order
 --   table_index    where the tables have a name
 --   is_standard    the name is in the first table
+--   own_number     the number of a gate that needs no declaration: `U`, `CX`, and where they are included those of the tables
 --   number_of      the number of the gate of a name: 0 is `U`, 1 is `CX`, then come the tables' gates in order
 --   whole, over    a whole number; a formula divided by one
 --   formula_of, item_of, gate_of   an angle, a line, a gate of the tables with its names bound
 --   library        the gates of both tables, by their numbers from 2 on
-use Rattle.std.specs.Prelude.{ℕ, List, ◌∷◌, ◌++◌, Option, Bool, pos, codes, length, map}
+use Rattle.std.specs.Prelude.{ℕ, ◌+◌, List, ◌∷◌, ◌++◌, Option, Some, None, Bool, if◌then◌else◌, pos, codes, length, map, option_map}
 use Rattle.std.specs.List.{position}
 use Rattle.std.specs.Str.{bytes_eq}
 use Rattle.angle_fraction.specs.Fraction.{Fraction, fraction}
 use Rattle.angle_fraction.specs.declared.signs.Binary.TheVariants.{Div}
-use Rattle.gate_library.specs.Gates.{Formula, number, pi, param, negated, binary, Item, call, Gate, composed}
+use Rattle.gate_library.specs.Gates.{Formula, number, pi, param, negated, binary, Item, call, BoundGate, composed}
 use Rattle.gate_library.specs.Listing.{Angle, nought, pi as angle_pi, param as angle_param, minus, over as angle_over, Line, Entry, standard, added}
 use Rattle.gate_library.specs.Names.{index_of, is_one_of}
 
@@ -28,6 +29,12 @@ table_index name = position (λ y. bytes_eq name y) table_names
 
 unfoldable pub is_standard : List ℕ → Bool
 is_standard name = is_one_of standard_names name
+
+abbrev pub own_number : Bool → List ℕ → Option ℕ
+own_number included name =
+    if bytes_eq name (codes "U") then Some 0
+    else (if bytes_eq name (codes "CX") then Some 1
+    else (if included then option_map (λ i. i + 2) (table_index name) else None))
 
 abbrev pub number_of : List ℕ → ℕ
 number_of name = index_of (codes "U" ∷ codes "CX" ∷ table_names) name
@@ -49,8 +56,8 @@ formula_of params (angle_over part by) = over (formula_of params part) by
 abbrev pub item_of : List (List ℕ) → List (List ℕ) → Line → Item
 item_of params qubits l = call (number_of l.gate) (map (formula_of params) l.angles) (map (index_of qubits) l.qubits)
 
-abbrev pub gate_of : Entry → Gate
+abbrev pub gate_of : Entry → BoundGate
 gate_of e = composed (length e.params) (length e.qubits) (map (item_of e.params e.qubits) e.body)
 
-unfoldable pub library : List Gate
+unfoldable pub library : List BoundGate
 library = map gate_of (standard ++ added)

@@ -1,6 +1,5 @@
--- What arguments name, and what a broadcast over them is.
+-- Operands, and what a broadcast over them is.
 --   Operand      a register of wires or bits, its first and its size, or one of them by its index
---   operand_in   what an argument names; nothing where it names no register or an index is too great
 --   wire_at      its wire at a broadcast index: a single one is repeated
 --   times        how many wires it has
 --   broadcast_by the size of an operand that is a whole register; for a single one, what the others ask for
@@ -10,19 +9,10 @@
 --   differs_from a whole register of another size
 --   sizes_differ, measure_differs   of two: one is whole and the other single, or both are whole and the sizes differ
 --   repeats      at some index of the broadcast one wire stands twice
-use Rattle.std.specs.Prelude.{ℕ, zero, suc, ◌+◌, List, [], ◌∷◌, ◌++◌, Option, Some, None, Bool, true, false, not, ◌==◌, if◌then◌else◌, map, nat_eq, nat_lt, unwrap_or}
+use Rattle.std.specs.Prelude.{ℕ, zero, suc, ◌+◌, List, [], ◌∷◌, ◌++◌, Option, Some, None, Bool, true, false, not, ◌==◌, map, nat_eq, unwrap_or}
 use Rattle.std.specs.List.{list_any}
 use Rattle.gate_library.specs.Names.{has_repeat}
-use Rattle.gate_library.specs.declared.meaning.Meaning.{Meaning}
-use Rattle.gate_library.specs.declared.meaning.Meaning.TheVariants.{Gate, Register}
 use Rattle.gate_library.specs.declared.operand.Operand.{Operand}
-
-abbrev pub operand_in : Option Meaning → Option ℕ → Option Operand
-operand_in (Some (Register r)) None = Some (record { first = r.first; size = r.size; index = None })
-operand_in (Some (Register r)) (Some i) =
-    if nat_lt i r.size then Some (record { first = r.first; size = r.size; index = Some i }) else None
-operand_in (Some (Gate n)) index = None
-operand_in None index = None
 
 abbrev pub wire_at : ℕ → Operand → ℕ
 wire_at j p = p.first + unwrap_or p.index j

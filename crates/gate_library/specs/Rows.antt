@@ -9,7 +9,7 @@ use denote.Ref.{Bor}
 use Rattle.std.specs.Prelude.{ℕ, ◌+◌, List, [], ◌∷◌, map, nat_eq}
 use Rattle.std.specs.List.{filter}
 use Rattle.angle_fraction.specs.Fraction.{nought}
-use Rattle.gate_library.specs.Gates.{Formula, number, pi, param, negated, Item, call, Gate, composed}
+use Rattle.gate_library.specs.Gates.{Formula, number, pi, param, negated, Item, call, BoundGate, composed}
 use Rattle.gate_library.specs.Library.{over}
 use Rattle.gate_library.specs.declared.table.TableAngle.{TableAngle}
 use Rattle.gate_library.specs.declared.table.TableAngle.TheVariants.{Zero, Pi, HalfPi, MinusHalfPi, QuarterPi, MinusQuarterPi, Param, Half, MinusHalf}
@@ -37,9 +37,9 @@ row_item r = call r.1 (map row_formula r.2) r.3
 abbrev pub lines_of : ℕ → List Row → List Item
 lines_of i rows = map row_item (filter (λ r. nat_eq r.0 i) rows)
 
-abbrev pub row_gate : List Row → ℕ → ℕ × ℕ → Gate
+abbrev pub row_gate : List Row → ℕ → ℕ × ℕ → BoundGate
 row_gate rows i shape = composed shape.0 shape.1 (lines_of i rows)
 
-abbrev pub row_gates : List Row → ℕ → List (ℕ × ℕ) → List Gate
+abbrev pub row_gates : List Row → ℕ → List (ℕ × ℕ) → List BoundGate
 row_gates rows i [] = []
 row_gates rows i (shape ∷ shapes) = row_gate rows i shape ∷ row_gates rows (i + 1) shapes

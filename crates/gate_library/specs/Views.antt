@@ -1,8 +1,7 @@
 -- What values of the code stand for.
 --   formula, item, gate   a formula, a line of a body, a gate, apart from where their parts lie in memory
---   found, is_in          what a map of names has for a name; whether a set of names has it
-use Rattle.std.specs.Prelude.{ℕ, List, Bool, Option, map}
-use Rattle.std.specs.BTreeMap.{BTreeMap, get_by}
+--   is_in                 whether a set of names has a name
+use Rattle.std.specs.Prelude.{ℕ, List, Bool, map}
 use Rattle.std.specs.BTreeSet.{BTreeSet, contains_by}
 use Rattle.std.specs.Cmp.Lexicographic.{slice_cmp}
 use Rattle.std.specs.Ordering.{nat_cmp}
@@ -11,8 +10,8 @@ use Rattle.gate_library.specs.Gates as spec
 use Rattle.gate_library.specs.declared.formula.Formula.{Formula, Number, Pi, Param, Neg', Call', Binary'}
 use Rattle.gate_library.specs.declared.gate.Item.{Item}
 use Rattle.gate_library.specs.declared.gate.Item.TheVariants.{Call, Barrier}
-use Rattle.gate_library.specs.declared.gate.Gate.{Gate}
-use Rattle.gate_library.specs.declared.gate.Gate.TheVariants.{U, Cx, Opaque, Composed}
+use Rattle.gate_library.specs.declared.gate.BoundGate.{BoundGate}
+use Rattle.gate_library.specs.declared.gate.BoundGate.TheVariants.{U, Cx, Opaque, Composed}
 
 abbrev pub formula : Formula → spec.Formula
 formula (Number value) = spec.number value
@@ -26,14 +25,11 @@ abbrev pub item : Item → spec.Item
 item (Call gate angles qubits) = spec.call gate (map formula angles.items) qubits.items
 item Barrier = spec.barrier
 
-abbrev pub gate : Gate → spec.Gate
+abbrev pub gate : BoundGate → spec.BoundGate
 gate U = spec.u
 gate Cx = spec.cx
 gate (Opaque params qubits) = spec.opaque params qubits
 gate (Composed params qubits body) = spec.composed params qubits (map item body.items)
-
-abbrev pub found : {A : Type 0} → BTreeMap (Bor (List ℕ)) A → List ℕ → Option A
-found names name = get_by (λ k. slice_cmp nat_cmp name k.now) names
 
 abbrev pub is_in : BTreeSet (Bor (List ℕ)) → List ℕ → Bool
 is_in names name = contains_by (λ k. slice_cmp nat_cmp name k.now) names

@@ -21,7 +21,7 @@ pub enum Item {
 
 /// A gate. `U` has three parameters and one qubit, `CX` none and two.
 #[derive(Drop)]
-pub enum Gate {
+pub enum BoundGate {
     U,
     Cx,
     /// A gate that has no body.
@@ -36,16 +36,16 @@ pub enum Gate {
     },
 }
 
-impl Gate {
+impl BoundGate {
     /// How many parameters it has.
     pub fn params(&self) -> usize
-        ensures { result ≡ gate_params (gate self.now) }
+        ensures value { result ≡ gate_params (gate self.now) }
     {
         match self {
-            Gate::U => 3,
-            Gate::Cx => 0,
-            Gate::Opaque { params, qubits: _ } => *params,
-            Gate::Composed {
+            BoundGate::U => 3,
+            BoundGate::Cx => 0,
+            BoundGate::Opaque { params, qubits: _ } => *params,
+            BoundGate::Composed {
                 params,
                 qubits: _,
                 body: _,
@@ -55,13 +55,13 @@ impl Gate {
 
     /// How many qubits it has.
     pub fn qubits(&self) -> usize
-        ensures { result ≡ gate_qubits (gate self.now) }
+        ensures value { result ≡ gate_qubits (gate self.now) }
     {
         match self {
-            Gate::U => 1,
-            Gate::Cx => 2,
-            Gate::Opaque { params: _, qubits } => *qubits,
-            Gate::Composed {
+            BoundGate::U => 1,
+            BoundGate::Cx => 2,
+            BoundGate::Opaque { params: _, qubits } => *qubits,
+            BoundGate::Composed {
                 params: _,
                 qubits,
                 body: _,
@@ -71,10 +71,10 @@ impl Gate {
 
     /// Whether it has no body and isn't `U` or `CX`.
     pub fn is_opaque(&self) -> bool
-        ensures { result ≡ is_opaque (gate self.now) }
+        ensures value { result ≡ is_opaque (gate self.now) }
     {
         match self {
-            Gate::Opaque {
+            BoundGate::Opaque {
                 params: _,
                 qubits: _,
             } => true,

@@ -5,14 +5,13 @@ ghost use Rattle.std.specs.List.{position};
 ghost use Rattle.std.specs.Str.{bytes_eq};
 ghost use Rattle.angle_fraction.specs.declared.signs.Binary.TheVariants.{Div};
 ghost use Rattle.gate_library.specs.Gates.{binary, cx, negated as minus, number, u};
-ghost use Rattle.gate_library.specs.Known.{own_number};
-ghost use Rattle.gate_library.specs.Library.{is_standard, library, table_index, table_names, whole};
+ghost use Rattle.gate_library.specs.Library.{is_standard, library, own_number, standard_names, table_index, table_names, whole};
 ghost use Rattle.gate_library.specs.Names.{is_one_of};
 ghost use Rattle.gate_library.specs.Rows.{lines_of, row, row_formula, row_gate, row_gates, row_item};
 ghost use Rattle.gate_library.specs.Views.{gate as gate_view, formula as formula_view, item as item_view};
 
 use crate::formula::Formula;
-use crate::gate::{Gate, Item};
+use crate::gate::{BoundGate, Item};
 use crate::table::{LINES, Line, NAMES, PRIMITIVES, SHAPES, STANDARD, TableAngle};
 use angle_fraction::{Binary, Frac, lowest};
 use std::alloc::{AllocError, Global};
@@ -61,7 +60,7 @@ fn table_index(name: &[u8]) -> Option<usize>
 /// Whether one of the tables has this name.
 #[tactic(auto, using(crate::proofs::TableLaws::table_names_read))]
 pub fn is_in_table(name: &[u8]) -> bool
-    ensures { result ≡ is_one_of table_names name.now }
+    ensures value { result ≡ is_one_of table_names name.now }
 {
     table_index(name).is_some()
 }
@@ -69,7 +68,7 @@ pub fn is_in_table(name: &[u8]) -> bool
 /// Whether the library's listing has this name.
 #[tactic(auto, using(crate::proofs::TableLaws::standards))]
 pub fn is_standard(name: &[u8]) -> bool
-    ensures { result ≡ is_standard name.now }
+    ensures value { result ≡ is_standard name.now }
 {
     match table_index(name) {
         Some(index) => index < STANDARD,
@@ -77,9 +76,16 @@ pub fn is_standard(name: &[u8]) -> bool
     }
 }
 
+/// The names of the library's listing, in the order of their numbers.
+pub fn standard_names() -> &'static [&'static [u8]]
+    ensures value { map (λ n. n.now) result.now ≡ standard_names }
+{
+    &NAMES[..STANDARD]
+}
+
 /// The number of a gate that needs no declaration.
 pub fn own_number(included: bool, name: &[u8]) -> Option<usize>
-    ensures { result ≡ own_number included name.now }
+    ensures value { result ≡ own_number included name.now }
 {
     if is_same(name, b"U".as_slice()) {
         return Some(0);
@@ -214,10 +220,10 @@ fn entry(
     number: usize,
     shape: (usize, usize),
     lines: &[Line],
-) -> Result<Gate, AllocError>
+) -> Result<BoundGate, AllocError>
     ensures { IfOk result (λ g. gate_view g ≡ row_gate (map row lines.now) number shape) }
 {
-    Ok(Gate::Composed {
+    Ok(BoundGate::Composed {
         params: shape.0,
         qubits: shape.1,
         body: body(alloc, number, lines)?,
@@ -230,12 +236,12 @@ fn gates_with(
     alloc: Global,
     shapes: &[(usize, usize)],
     lines: &[Line],
-) -> Result<Vec<Gate>, AllocError>
+) -> Result<Vec<BoundGate>, AllocError>
     ensures { IfOk result (λ v. map gate_view v.items ≡ u ∷ cx ∷ row_gates (map row lines.now) 2 shapes.now) }
 {
     let mut list = Vec::new(alloc);
-    list.push(Gate::U)?;
-    list.push(Gate::Cx)?;
+    list.push(BoundGate::U)?;
+    list.push(BoundGate::Cx)?;
     'shapes: for shape in shapes {
         let number = list.len();
         list.push(entry(alloc, number, *shape, lines)?)?;
@@ -244,8 +250,8 @@ fn gates_with(
 }
 
 /// `U`, `CX` and the gates of the tables, each at its number.
-pub fn gates(alloc: Global) -> Result<Vec<Gate>, AllocError>
-    ensures { IfOk result (λ v. map gate_view v.items ≡ u ∷ cx ∷ library) }
+pub fn gates(alloc: Global) -> Result<Vec<BoundGate>, AllocError>
+    ensures ok { IfOk result (λ v. map gate_view v.items ≡ u ∷ cx ∷ library) }
 {
     gates_with(alloc, &SHAPES, &LINES)
 }

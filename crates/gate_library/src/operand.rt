@@ -1,11 +1,10 @@
-//! What arguments name, and what a broadcast over them is.
+//! Operands, and what a broadcast over them is.
 
 ghost use Rattle.std.specs.Prelude.{◌≡◌, IfOk, map, nat_eq};
 ghost use Rattle.std.specs.List.{list_any};
 ghost use Rattle.gate_library.specs.Names.{has_repeat};
-ghost use Rattle.gate_library.specs.Operands.{broadcast, differs_from, measure_differs, operand_in, repeats, times, wire_at};
+ghost use Rattle.gate_library.specs.Operands.{broadcast, differs_from, measure_differs, repeats, times, wire_at};
 
-use crate::meaning::Meaning;
 use crate::repeats::wires_repeat;
 use std::alloc::{AllocError, Global};
 
@@ -17,33 +16,10 @@ pub struct Operand {
     pub index: Option<u32>,
 }
 
-/// What an argument names, where it names a register and its index is below the size.
-pub fn operand_in(meaning: Option<Meaning>, index: Option<u64>) -> Option<Operand>
-    ensures { result ≡ operand_in meaning index }
-{
-    let Some(Meaning::Register(register)) = meaning else {
-        return None;
-    };
-    let index = match index {
-        None => None,
-        Some(index) => {
-            if index >= u64::from(register.size) {
-                return None;
-            }
-            Some(index as u32)
-        }
-    };
-    Some(Operand {
-        first: register.first,
-        size: register.size,
-        index,
-    })
-}
-
 impl Operand {
     /// How many wires it has.
     pub fn count(&self) -> u32
-        ensures { result ≡ times self.now }
+        ensures value { result ≡ times self.now }
     {
         match self.index {
             None => self.size,
@@ -53,7 +29,7 @@ impl Operand {
 
     /// Its wire at an index of a broadcast: a single one is repeated.
     pub fn wire_at(&self, j: u32) -> u64
-        ensures { result ≡ wire_at j self.now }
+        ensures value { result ≡ wire_at j self.now }
     {
         u64::from(self.first) + u64::from(self.index.unwrap_or(j))
     }
@@ -62,7 +38,7 @@ impl Operand {
 /// How often a gate is applied to these.
 #[tactic(auto, using(crate::proofs::OperandLaws::broadcasts))]
 pub fn broadcast(operands: &[Operand]) -> u32
-    ensures { result ≡ broadcast operands.now }
+    ensures value { result ≡ broadcast operands.now }
 {
     'operands: for operand in operands {
         if operand.index.is_none() {
@@ -74,7 +50,7 @@ pub fn broadcast(operands: &[Operand]) -> u32
 
 /// Whether two whole registers have different sizes.
 pub fn sizes_differ(operands: &[Operand]) -> bool
-    ensures { result ≡ list_any (differs_from (broadcast operands.now)) operands.now }
+    ensures value { result ≡ list_any (differs_from (broadcast operands.now)) operands.now }
 {
     let times = broadcast(operands);
     operands
@@ -84,7 +60,7 @@ pub fn sizes_differ(operands: &[Operand]) -> bool
 
 /// Whether a measure is from a register into one bit, or the other way round, or of registers of different sizes.
 pub fn measure_differs(qubit: Option<Operand>, bit: Option<Operand>) -> bool
-    ensures { result ≡ measure_differs qubit bit }
+    ensures value { result ≡ measure_differs qubit bit }
 {
     let Some(qubit) = qubit else {
         return false;
@@ -128,7 +104,7 @@ fn repeats_at(alloc: Global, operands: &[Operand], j: u32) -> Result<bool, Alloc
 /// Whether at some index of the broadcast one wire stands twice.
 #[tactic(auto, using(crate::proofs::OperandLaws::uptos))]
 pub fn repeats_wire(alloc: Global, operands: &[Operand]) -> Result<bool, AllocError>
-    ensures { IfOk result (λ b. b ≡ repeats operands.now) }
+    ensures ok { IfOk result (λ b. b ≡ repeats operands.now) }
 {
     'indices: for j in 0..broadcast(operands) {
         if repeats_at(alloc, operands, j)? {

@@ -10,7 +10,7 @@ use std::collections::BTreeSet;
 /// Whether one name stands twice.
 #[tactic(auto, using(crate::proofs::RepeatLaws::names_repeating))]
 pub fn names_repeat(alloc: Global, names: &[&[u8]]) -> Result<bool, AllocError>
-    ensures { IfOk result (λ b. b ≡ has_repeat bytes_eq (map (λ n. n.now) names.now)) }
+    ensures ok { IfOk result (λ b. b ≡ has_repeat bytes_eq (map (λ n. n.now) names.now)) }
 {
     let mut seen = BTreeSet::new(alloc);
     'names: for name in names {
@@ -23,7 +23,7 @@ pub fn names_repeat(alloc: Global, names: &[&[u8]]) -> Result<bool, AllocError>
 
 /// Whether one wire stands twice.
 pub fn wires_repeat(alloc: Global, wires: &[u64]) -> Result<bool, AllocError>
-    ensures { IfOk result (λ b. b ≡ has_repeat nat_eq wires.now) }
+    ensures ok { IfOk result (λ b. b ≡ has_repeat nat_eq wires.now) }
 {
     let mut seen = BTreeSet::new(alloc);
     'wires: for wire in wires {

@@ -4,7 +4,7 @@
 --   IsNoted old new before after i most    the additions noted since, at most so many, all of rows from i on, lead to the new rows
 --   IsFirstFrom rows i k       k is the first row from i on that has the wire i
 --   unit_bit k j, HasUnitColumn rows i    row i alone has the wire i
---   IsKept, IsAdded            one row is left as it is, or gets the row of the column
+--   IsPassedOver, IsAdded            one row is left as it is, or gets the row of the column
 --   IsRowStep                  one row after the step that takes a wire out of it
 use Rattle.std.specs.Prelude.{◌≡◌, ◌⊎◌, ℕ, ◌<◌, ◌≤◌, cond, List, [], ◌∷◌, ◌++◌, length, nat_eq, slice_index}
 use Rattle.std.specs.Int.{bit_at}
@@ -38,7 +38,7 @@ unit_bit k j = cond (nat_eq k j) 1 0
 pub record HasUnitColumn (rows : List ℕ) (i : ℕ) : Type 0 where
   pub unit : (k : ℕ) → k < length rows → bit_at (slice_index rows k) i ≡ unit_bit k i
 
-pub record IsKept (old new : List ℕ) (before after : List (ℕ × ℕ)) (i row : ℕ) : Type 0 where
+pub record IsPassedOver (old new : List ℕ) (before after : List (ℕ × ℕ)) (i row : ℕ) : Type 0 where
   pub cause : (row ≡ i) ⊎ (bit_at (slice_index old row) i ≡ 0)
   pub log : after ≡ before
   pub rows : new ≡ old
@@ -50,4 +50,4 @@ pub record IsAdded (old new : List ℕ) (before after : List (ℕ × ℕ)) (i ro
   pub rows : new ≡ added old (i, row)
 
 abbrev pub IsRowStep : List ℕ → List ℕ → List (ℕ × ℕ) → List (ℕ × ℕ) → ℕ → ℕ → Type 0
-IsRowStep old new before after i row = IsKept old new before after i row ⊎ IsAdded old new before after i row
+IsRowStep old new before after i row = IsPassedOver old new before after i row ⊎ IsAdded old new before after i row

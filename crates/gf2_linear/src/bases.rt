@@ -66,7 +66,7 @@ fn reduce(entries: &[Entry], v: &Row) -> Remainder
 impl Basis {
     /// A basis without rows.
     pub fn new(alloc: Global) -> Basis
-        ensures { result ≡ [] }
+        ensures value { result ≡ [] }
     {
         Basis {
             rows: Vec::new(alloc),
@@ -74,11 +74,17 @@ impl Basis {
         }
     }
 
+    /// Does nothing. Its contract says what holds of each basis.
+    pub fn facts(&self)
+        ensures wires_limit { length self.now ≤ 256 }
+        ensures independent { IsTrue (is_independent self.now) }
+    {
+        let _rows = &self.rows;
+    }
+
     /// The number of rows, which is their rank.
     pub fn len(&self) -> usize
         ensures count { result ≡ length self.now }
-        ensures few { length self.now ≤ 256 }
-        ensures independent { IsTrue (is_independent self.now) }
     {
         self.rows.len()
     }
@@ -86,7 +92,7 @@ impl Basis {
     /// The pivot of a row: the least wire left when the pivots of the rows before it are taken out of it. A sum of
     /// rows that has none of the pivots has no wire.
     pub fn pivot(&self, place: usize) -> u32
-        requires { place < length self.now }
+        requires within { place < length self.now }
         ensures below { result < 256 }
         ensures pivot { IsPivotOf self.now place result }
     {
@@ -95,7 +101,7 @@ impl Basis {
 
     /// Whether a row is a sum of rows of the basis.
     pub fn spans(&self, v: &Row) -> bool
-        ensures { result ≡ is_sum self.now v.now }
+        ensures value { result ≡ is_sum self.now v.now }
     {
         reduce(&self.entries, v).left.is_empty()
     }
@@ -120,6 +126,7 @@ impl Basis {
         ensures ok { IfOk result (λ b. MatchBool b (self.new ≡ self.old ++ v.now ∷ []) (self.new ≡ self.old)) }
         ensures err { OnErr result (self.new ≡ self.old) }
     {
+        self.facts();
         let slot = self.len() as u32;
         let remainder = reduce(&self.entries, v);
         match remainder.left.least() {
@@ -143,7 +150,7 @@ impl Basis {
     /// A square matrix that has every row of the basis: each on its pivot, which is the least wire left when the
     /// pivots of the rows before it are taken out of it. Every other wire has its own row alone.
     pub fn complete(&self, alloc: Global, wires: u32) -> Result<Matrix, AllocError>
-        requires few { wires ≤ 256 }
+        requires wires_limit { wires ≤ 256 }
         requires below { All (λ r. r < 2 ^ wires) self.now }
         ensures wires { IfOk result (λ m. length m ≡ wires) }
         ensures independent { IfOk result (λ m. is_independent m ≡ true) }

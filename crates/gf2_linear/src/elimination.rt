@@ -19,7 +19,7 @@ pub fn additions(alloc: Global, matrix: &Matrix) -> Result<Option<Vec<(u32, u32)
     ensures back { IfOk result (λ o. IfSome o (λ l. run (identity_rows (length matrix.now)) (reverse l.items) ≡ matrix.now)) }
     ensures times { IfOk result (λ o. IfSome o (λ l. (b : List ℕ) → length b ≡ length matrix.now → run b (reverse l.items) ≡ product matrix.now b)) }
     ensures pairs { IfOk result (λ o. IfSome o (λ l. All (IsPair (length matrix.now)) l.items)) }
-    ensures few { IfOk result (λ o. IfSome o (λ l. length l.items ≤ length matrix.now * length matrix.now)) }
+    ensures gates_limit { IfOk result (λ o. IfSome o (λ l. length l.items ≤ length matrix.now * length matrix.now)) }
     ensures independent { IfOk result (λ o. IfSome o (λ _. is_independent matrix.now ≡ true)) }
     ensures none { IfOk result (λ o. IfNone o (is_independent matrix.now ≡ false)) }
 {
@@ -34,7 +34,7 @@ pub fn additions(alloc: Global, matrix: &Matrix) -> Result<Option<Vec<(u32, u32)
             }
         }
     }
-    let _wires = rest.wires();
+    rest.facts();
     Ok(Some(log))
 }
 
@@ -45,6 +45,7 @@ fn pivot_of(matrix: &Matrix, column: u32) -> Option<u32>
     ensures none { IfNone result ((k : ℕ) → column ≤ k → k < length matrix.now → bit_at (slice_index matrix.now k) column ≡ 0) }
     ensures below { (k : ℕ) → slice_index matrix.now k < 2 ^ length matrix.now }
 {
+    matrix.facts();
     'rows: for row in column..matrix.wires() {
         if matrix.row(row).has(column) {
             return Some(row);
@@ -116,7 +117,7 @@ fn clear_row(
     requires row { row < length matrix.old }
     ensures { IfOk result (λ _. IsRowStep matrix.old matrix.new log.old.items log.new.items column row) }
 {
-    let _wires = matrix.wires();
+    matrix.facts();
     if row == column {
         return Ok(());
     }
@@ -133,6 +134,7 @@ pub fn invert(alloc: Global, matrix: &Matrix) -> Result<Option<Matrix>, AllocErr
     ensures independent { IfOk result (λ o. IfSome o (λ _. is_independent matrix.now ≡ true)) }
     ensures none { IfOk result (λ o. IfNone o (is_independent matrix.now ≡ false)) }
 {
+    matrix.facts();
     match additions(alloc, matrix)? {
         None => Ok(None),
         Some(log) => {
@@ -151,7 +153,7 @@ pub fn quotient(alloc: Global, to: &Matrix, from: &Matrix) -> Result<Matrix, All
     ensures product { IfOk result (λ q. product q from.now ≡ to.now) }
     ensures independent { IfOk result (λ q. is_independent q ≡ true) }
 {
-    let _wires = to.wires();
+    to.facts();
     let inverse = invert(alloc, from)?.unwrap();
     let quotient = to.product(alloc, &inverse)?;
     Ok(quotient)

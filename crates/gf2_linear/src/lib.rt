@@ -21,6 +21,6 @@ mod wide;
 pub use bases::Basis;
 pub use elimination::{additions, invert, quotient};
 pub use matrices::Matrix;
-pub use rows::{Row, WIRE_LIMIT};
+pub use rows::{MOST_WIRES, Row};
 pub use sums::{basis_of, complete, express, is_independent, places_in, rank};
 pub use wide::{complete_wide, widened};

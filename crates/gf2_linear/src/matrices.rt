@@ -28,8 +28,8 @@ impl Model for Matrix {
 impl Matrix {
     /// The matrix that has row i on wire i alone.
     pub fn identity(alloc: Global, wires: u32) -> Result<Matrix, AllocError>
-        requires { wires ≤ 256 }
-        ensures { IfOk result (λ m. m ≡ identity_rows wires) }
+        requires wires_limit { wires ≤ 256 }
+        ensures ok { IfOk result (λ m. m ≡ identity_rows wires) }
     {
         let mut rows = Vec::new(alloc);
         'rows: for wire in 0..wires {
@@ -38,41 +38,47 @@ impl Matrix {
         Ok(Matrix { rows })
     }
 
+    /// Does nothing. Its contract says what holds of each matrix.
+    pub fn facts(&self)
+        ensures wires_limit { length self.now ≤ 256 }
+        ensures below { (k : ℕ) → slice_index self.now k < 2 ^ length self.now }
+    {
+        let _rows = &self.rows;
+    }
+
     /// The number of wires.
     pub fn wires(&self) -> u32
         ensures wires { result ≡ length self.now }
-        ensures few { length self.now ≤ 256 }
-        ensures below { (k : ℕ) → slice_index self.now k < 2 ^ length self.now }
     {
         self.rows.len() as u32
     }
 
     /// The row on a wire.
     pub fn row(&self, wire: u32) -> &Row
-        requires { wire < length self.now }
-        ensures { slice_get self.now wire ≡ Some result.now }
+        requires within { wire < length self.now }
+        ensures value { slice_get self.now wire ≡ Some result.now }
     {
         &self.rows[wire as usize]
     }
 
     /// All rows, in order.
     pub fn rows(&self) -> &[Row]
-        ensures { result.now ≡ self.now }
+        ensures value { result.now ≡ self.now }
     {
         self.rows.as_slice()
     }
 
     /// All rows, given away.
     pub fn into_rows(self) -> Vec<Row>
-        ensures { result.items ≡ self }
+        ensures value { result.items ≡ self }
     {
         self.rows
     }
 
     /// The matrix that has these rows, as many as it has wires.
     pub fn from_rows(rows: Vec<Row>) -> Matrix
-        requires { IsMatrix rows.items }
-        ensures { result ≡ rows.items }
+        requires matrix { IsMatrix rows.items }
+        ensures value { result ≡ rows.items }
     {
         Matrix { rows }
     }
@@ -94,7 +100,7 @@ impl Matrix {
     pub fn replace(&mut self, wire: u32, row: &Row)
         requires there { wire < length self.old }
         requires below { row.now < 2 ^ length self.old }
-        ensures { self.new ≡ slice_set self.old wire row.now }
+        ensures new { self.new ≡ slice_set self.old wire row.now }
     {
         self.rows[wire as usize] = row.copy();
     }
@@ -103,7 +109,7 @@ impl Matrix {
     pub fn add(&mut self, from: u32, to: u32)
         requires from { from < length self.old }
         requires to { to < length self.old }
-        ensures { self.new ≡ added self.old (from, to) }
+        ensures new { self.new ≡ added self.old (from, to) }
     {
         let row = self.rows[from as usize].copy();
         self.rows[to as usize].add(&row);
@@ -111,7 +117,7 @@ impl Matrix {
 
     /// The same matrix again.
     pub fn copy(&self, alloc: Global) -> Result<Matrix, AllocError>
-        ensures { IfOk result (λ m. m ≡ self.now) }
+        ensures ok { IfOk result (λ m. m ≡ self.now) }
     {
         let mut rows = Vec::new(alloc);
         'rows: for row in &self.rows {
@@ -122,8 +128,8 @@ impl Matrix {
 
     /// The product: row i is the sum of the rows of `other` that row i of this matrix names.
     pub fn product(&self, alloc: Global, other: &Matrix) -> Result<Matrix, AllocError>
-        requires { length other.now ≡ length self.now }
-        ensures { IfOk result (λ m. m ≡ product self.now other.now) }
+        requires size { length other.now ≡ length self.now }
+        ensures ok { IfOk result (λ m. m ≡ product self.now other.now) }
     {
         let mut rows = Vec::new(alloc);
         'rows: for row in &self.rows {

@@ -12,11 +12,11 @@ ghost use Rattle.gf2_linear.specs.Words.{words_of};
 use std::hash::{Hash, Hasher};
 use std::marker::Model;
 
-/// The number of words of a row, which has room for `WIRE_LIMIT` wires.
+/// The number of words of a row, which has room for `MOST_WIRES` wires.
 const WORDS: usize = 4;
 
 /// Wires are below this number, and a basis has at most so many rows.
-pub const WIRE_LIMIT: u32 = 256;
+pub const MOST_WIRES: u32 = 256;
 
 /// A set of wires. Contracts see the number whose bit w is set for each wire w of the set.
 #[derive(Debug, Drop)]
@@ -62,15 +62,15 @@ impl Hash for Row {
 impl Row {
     /// The row without wires.
     pub fn empty() -> Row
-        ensures { result ≡ 0 }
+        ensures value { result ≡ 0 }
     {
         Row { words: [0; WORDS] }
     }
 
     /// The row of one wire.
     pub fn unit(wire: u32) -> Row
-        requires { wire < 256 }
-        ensures { result ≡ 2 ^ wire }
+        requires wires_limit { wire < 256 }
+        ensures value { result ≡ 2 ^ wire }
     {
         let mut row = Row::empty();
         row.flip(wire);
@@ -81,21 +81,21 @@ impl Row {
     pub fn copy(&self) -> Row
         ensures same { result ≡ self.now }
         ensures below { self.now < 2 ^ 256 }
-        ensures limit { WIRE_LIMIT ≡ 256 }
+        ensures limit { MOST_WIRES ≡ 256 }
     {
         Row { words: self.words }
     }
 
     /// Whether the set has no wire.
     pub fn is_empty(&self) -> bool
-        ensures { IsTrue result ↔ (self.now ≡ 0) }
+        ensures value { IsTrue result ↔ (self.now ≡ 0) }
     {
         self.least().is_none()
     }
 
     /// Whether two rows have the same wires.
     pub fn equals(&self, other: &Row) -> bool
-        ensures { IsTrue result ↔ (self.now ≡ other.now) }
+        ensures value { IsTrue result ↔ (self.now ≡ other.now) }
     {
         let mut sum = self.copy();
         sum.add(other);
@@ -104,15 +104,15 @@ impl Row {
 
     /// Whether a wire is in the set.
     pub fn has(&self, wire: u32) -> bool
-        requires { wire < 256 }
-        ensures { IsTrue result ↔ (bit_at self.now wire ≡ 1) }
+        requires wires_limit { wire < 256 }
+        ensures value { IsTrue result ↔ (bit_at self.now wire ≡ 1) }
     {
         self.words[(wire / 64) as usize] >> (wire % 64) & 1 == 1
     }
 
     /// Whether the wires that two rows have in common are odd in number.
     pub fn is_odd_on(&self, other: &Row) -> bool
-        ensures { IsTrue result ↔ (count_ones (bit_and self.now other.now) % 2 ≡ 1) }
+        ensures value { IsTrue result ↔ (count_ones (bit_and self.now other.now) % 2 ≡ 1) }
     {
         let mut common = 0u64;
         for k in 0..WORDS {
@@ -123,7 +123,7 @@ impl Row {
 
     /// Adds another row modulo 2.
     pub fn add(&mut self, other: &Row)
-        ensures { self.new ≡ bit_xor self.old other.now }
+        ensures new { self.new ≡ bit_xor self.old other.now }
     {
         for k in 0..WORDS {
             self.words[k] ^= other.words[k];
@@ -132,8 +132,8 @@ impl Row {
 
     /// Puts a wire in where it is not there, and takes it out where it is.
     pub fn flip(&mut self, wire: u32)
-        requires { wire < 256 }
-        ensures { self.new ≡ bit_xor self.old (2 ^ wire) }
+        requires wires_limit { wire < 256 }
+        ensures new { self.new ≡ bit_xor self.old (2 ^ wire) }
     {
         self.words[(wire / 64) as usize] ^= 1 << (wire % 64);
     }

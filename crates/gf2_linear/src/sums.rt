@@ -11,18 +11,19 @@ use std::alloc::{AllocError, Global};
 
 /// The rank of the rows: how many rows an independent choice of them has at most.
 pub fn rank(alloc: Global, rows: &[Row]) -> Result<usize, AllocError>
-    ensures { IfOk result (λ k. k ≡ rank rows.now) }
+    ensures ok { IfOk result (λ k. k ≡ rank rows.now) }
 {
     let mut basis = Basis::new(alloc);
     'rows: for row in rows {
         let _is_new = basis.insert(row)?;
     }
+    basis.facts();
     Ok(basis.len())
 }
 
 /// Whether no nonempty choice of the rows sums to the row without wires.
 pub fn is_independent(alloc: Global, rows: &[Row]) -> Result<bool, AllocError>
-    ensures { IfOk result (λ b. b ≡ is_independent rows.now) }
+    ensures ok { IfOk result (λ b. b ≡ is_independent rows.now) }
 {
     let mut basis = Basis::new(alloc);
     'rows: for row in rows {
@@ -30,14 +31,14 @@ pub fn is_independent(alloc: Global, rows: &[Row]) -> Result<bool, AllocError>
             return Ok(false);
         }
     }
-    let _rank = basis.len();
+    basis.facts();
     Ok(true)
 }
 
 /// A basis of independent rows.
 pub fn basis_of(alloc: Global, rows: &[Row]) -> Result<Basis, AllocError>
-    requires { IsTrue (is_independent rows.now) }
-    ensures { IfOk result (λ b. b ≡ rows.now) }
+    requires independent { IsTrue (is_independent rows.now) }
+    ensures ok { IfOk result (λ b. b ≡ rows.now) }
 {
     let mut basis = Basis::new(alloc);
     'rows: for row in rows {
@@ -48,7 +49,7 @@ pub fn basis_of(alloc: Global, rows: &[Row]) -> Result<Basis, AllocError>
 
 /// The increasing places of the independent rows that sum to `v`; None exactly where no rows do.
 pub fn express(alloc: Global, rows: &[Row], v: &Row) -> Result<Option<Vec<usize>>, AllocError>
-    requires { IsTrue (is_independent rows.now) }
+    requires independent { IsTrue (is_independent rows.now) }
     ensures some { IfOk result (λ o. IfSome o (λ p. IsSumAt rows.now v.now p.items)) }
     ensures none { IfOk result (λ o. IfNone o (is_sum rows.now v.now ≡ false)) }
 {
@@ -56,6 +57,7 @@ pub fn express(alloc: Global, rows: &[Row], v: &Row) -> Result<Option<Vec<usize>
     match basis.express(v) {
         None => Ok(None),
         Some(set) => {
+            basis.facts();
             let count = basis.len();
             let places = places_in(alloc, &set, count as u32)?;
             Ok(Some(places))
@@ -65,8 +67,8 @@ pub fn express(alloc: Global, rows: &[Row], v: &Row) -> Result<Option<Vec<usize>
 
 /// The numbers below `count` that are in a set, ascending.
 pub fn places_in(alloc: Global, set: &Row, count: u32) -> Result<Vec<usize>, AllocError>
-    requires { count ≤ 256 }
-    ensures { IfOk result (λ p. p.items ≡ places_in count set.now) }
+    requires limit { count ≤ 256 }
+    ensures ok { IfOk result (λ p. p.items ≡ places_in count set.now) }
 {
     let mut places = Vec::new(alloc);
     'places: for place in 0..count {
@@ -79,7 +81,7 @@ pub fn places_in(alloc: Global, set: &Row, count: u32) -> Result<Vec<usize>, All
 
 /// A square matrix over `wires` wires that has each of the independent rows, as `Basis::complete` places them.
 pub fn complete(alloc: Global, rows: &[Row], wires: u32) -> Result<Matrix, AllocError>
-    requires few { wires ≤ 256 }
+    requires wires_limit { wires ≤ 256 }
     requires below { All (λ r. r < 2 ^ wires) rows.now }
     requires independent { IsTrue (is_independent rows.now) }
     ensures wires { IfOk result (λ m. length m ≡ wires) }

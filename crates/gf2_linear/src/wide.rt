@@ -29,7 +29,7 @@ fn sift(alloc: Global, rows: &[Row]) -> Result<Sifted, AllocError>
             left.push(row.copy())?;
         }
     }
-    let _rank = basis.len();
+    basis.facts();
     Ok(Sifted { basis, left })
 }
 
@@ -42,7 +42,7 @@ pub fn complete_wide(
     wires: u32,
     spares: u32,
 ) -> Result<Vec<Row>, AllocError>
-    requires few { wires ≤ 256 }
+    requires wires_limit { wires ≤ 256 }
     requires below { All (λ r. r < 2 ^ wires) rows.now }
     requires room { length rows.now ≤ rank rows.now + spares }
     ensures length { IfOk result (λ w. length w.items ≡ wires + spares) }
@@ -52,7 +52,7 @@ pub fn complete_wide(
 {
     let Sifted { basis, mut left } = sift(alloc, rows)?;
     let matrix = basis.complete(alloc, wires)?;
-    let _wires = matrix.wires();
+    matrix.facts();
     let mut most = matrix.into_rows();
     most.append(&mut left)?;
     let count = wires as usize + spares as usize;
@@ -75,7 +75,7 @@ fn padded(rows: Vec<Row>, count: usize) -> Result<Vec<Row>, AllocError>
 /// A matrix that has the rows on its first wires, and one wire more for each row that is a sum of those before it. So
 /// additions that bring it to another such matrix bring the rows to those of the other.
 pub fn widened(alloc: Global, rows: &[Row], wires: u32) -> Result<Matrix, AllocError>
-    requires few { length rows.now ≤ 256 }
+    requires wires_limit { length rows.now ≤ 256 }
     requires below { All (λ r. r < 2 ^ wires) rows.now }
     requires rank { rank rows.now ≡ wires }
     ensures length { IfOk result (λ m. length m ≡ length rows.now) }
@@ -93,6 +93,6 @@ pub fn widened(alloc: Global, rows: &[Row], wires: u32) -> Result<Matrix, AllocE
         }
         wide.push(more)?;
     }
-    let _rank = basis.len();
+    basis.facts();
     Ok(Matrix::from_rows(wide))
 }

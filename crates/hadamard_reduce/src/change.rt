@@ -60,7 +60,7 @@ fn change_of_three(middle: Middle, q: u32, first: usize, second: usize, third: u
 
 /// The number of a window's rule in the table of traces.
 pub(crate) fn number_of(window: Window) -> u8
-    ensures { result ≡ number_of window }
+    ensures value { result ≡ number_of window }
 {
     match window {
         Window::Turned {
@@ -94,8 +94,8 @@ pub(crate) fn number_of(window: Window) -> u8
 
 /// The change for a window that begins at a place.
 pub(crate) fn change_of(place: usize, window: Window) -> Change
-    requires { HasFinePhase window }
-    ensures { result ≡ change_of place window }
+    requires fine { HasFinePhase window }
+    ensures value { result ≡ change_of place window }
 {
     match window {
         Window::Turned {

@@ -50,7 +50,7 @@ impl Rule for HadamardRules {
 
     fn at(&self, body: &Circuit, place: usize) -> Option<Change> {
         // it says that the gates are fine, and the slots in order
-        let _wires = body.wires();
+        body.facts();
         let window = window_at(body, place)?;
         Some(change_of(place, window))
     }
@@ -59,7 +59,7 @@ impl Rule for HadamardRules {
 impl NumberedRule for HadamardRules {
     fn number(&self, body: &Circuit, place: usize) -> u8 {
         // it says that the gates are fine, and the slots in order
-        let _wires = body.wires();
+        body.facts();
         let window = window_at(body, place).unwrap();
         number_of(window)
     }

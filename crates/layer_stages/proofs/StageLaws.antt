@@ -11,7 +11,7 @@ use Rattle.std.proofs.lemmas.List.{take_more}
 use Rattle.std.proofs.lemmas.List.Elements.{filter-append}
 use Rattle.circuit_list.specs.declared.Gate.{Gate}
 use Rattle.gf2_linear.specs.Rows.{rows_at}
-use Rattle.phase_poly.specs.Layers.{LayerBody}
+use Rattle.circuit_layers.specs.Layers.{LayerBody}
 use Rattle.phase_poly.specs.Polys.{AreDihedral, Term, poly_of}
 use Rattle.phase_poly.specs.Resynthesis.{rows_of}
 use Rattle.layer_stages.specs.declared.stage.Stage.{Stage}

@@ -17,7 +17,7 @@ use Rattle.std.specs.List.{range_with_len}
 use Rattle.circuit_list.specs.declared.Gate.{Gate}
 use Rattle.gf2_linear.specs.Rows.{rank as row_rank, rows_at}
 use Rattle.matroid_partition.specs.Spares.{IsSparePartition, IsSpareWitness}
-use Rattle.phase_poly.specs.Layers.{LayerBody}
+use Rattle.circuit_layers.specs.Layers.{LayerBody}
 use Rattle.phase_poly.specs.Polys.{Term, poly_of}
 use Rattle.phase_poly.specs.Resynthesis.{rows_of}
 use Rattle.layer_stages.specs.declared.stage.Stage.{Stage}

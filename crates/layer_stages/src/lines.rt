@@ -2,7 +2,7 @@
 
 ghost use Rattle.std.specs.Prelude.{◌≡◌, ◌+◌, ◌≤◌, ◌<◌, ◌++◌, ◌∷◌, ◌^◌, [], List, IfOk, OnOk, string_bytes};
 ghost use Rattle.circuit_list.specs.Gates.{most_wires};
-ghost use Rattle.phase_poly.specs.Layers.{LayerBody, layers_of};
+ghost use Rattle.circuit_layers.specs.Layers.{LayerBody, layers_of};
 ghost use Rattle.phase_poly.specs.Polys.{AreDihedral};
 ghost use Rattle.layer_stages.specs.Stages.{IsSoFar, IsStageText, line_end, stage_line, stage_numbers};
 
@@ -21,9 +21,10 @@ pub fn stage_lines(
     body: &Circuit,
     spares: Option<u32>,
 ) -> Result<Vec<u8>, AllocError>
-    ensures { IfOk result (λ t. IsStageText body.now.wires spares (layers_of body.now.gates) t.items) }
+    ensures ok { IfOk result (λ t. IsStageText body.now.wires spares (layers_of body.now.gates) t.items) }
 {
     dihedral_layers();
+    body.facts();
     let layers = layers(alloc, body)?;
     let mut text = String::new(alloc);
     let mut next = 1;
@@ -42,7 +43,7 @@ fn push_layer(
     layer: &Layer,
     number: usize,
 ) -> Result<usize, AllocError>
-    requires few { wires ≤ most_wires }
+    requires wires_limit { wires ≤ most_wires }
     requires dihedral { AreDihedral wires layer.now.gates }
     requires room { number < 2 ^ 63 }
     ensures lines { IfOk result (λ next. (ls : List LayerBody) → IsSoFar wires spares ls (string_bytes text.old) number →

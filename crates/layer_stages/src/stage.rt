@@ -33,9 +33,9 @@ pub(crate) fn stage_of(
     spares: Option<u32>,
     gates: &[Gate],
 ) -> Result<Stage, AllocError>
-    requires few { wires ≤ most_wires }
+    requires wires_limit { wires ≤ most_wires }
     requires dihedral { AreDihedral wires gates.now }
-    ensures { IfOk result (λ s. IsStage wires (spares_of spares) gates.now s) }
+    ensures ok { IfOk result (λ s. IsStage wires (spares_of spares) gates.now s) }
 {
     filled_terms();
     let sum = poly(alloc, wires, gates)?;

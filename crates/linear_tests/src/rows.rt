@@ -7,7 +7,7 @@ use std::alloc::{AllocError, Global};
 
 /// The row of three wires whose bits a number spells.
 pub fn row_of(mask: u32) -> Row
-    ensures { result < 2 ^ 3 }
+    ensures small { result < 2 ^ 3 }
 {
     let mut row = Row::empty();
     'wires: for wire in 0u32..3 {
@@ -20,7 +20,7 @@ pub fn row_of(mask: u32) -> Row
 
 /// The rows of three wires whose bits some numbers spell.
 pub fn rows_of(alloc: Global, masks: &[u32]) -> Result<Vec<Row>, AllocError>
-    ensures { IfOk result (λ v. All (λ r. r < 2 ^ 3) v.items) }
+    ensures ok { IfOk result (λ v. All (λ r. r < 2 ^ 3) v.items) }
 {
     let mut rows = Vec::new(alloc);
     'masks: for mask in masks {

@@ -2,7 +2,7 @@
 
 use crate::rows::{drawn, rows_of};
 use cnot_synth::{synth, synth_between, synth_wide};
-use gf2_linear::{Matrix, Row, WIRE_LIMIT, additions, rank};
+use gf2_linear::{MOST_WIRES, Matrix, Row, additions, rank};
 use std::test::Fail;
 
 /// Circuits that the elimination of what they make gives back, worked out by another program. The first makes the
@@ -31,7 +31,7 @@ fn the_same_pairs(rt: HostRuntime) -> Result<(), Fail> {
         ),
     ];
     for (wires, circuit) in circuits.as_slice() {
-        assert!(rt; *wires <= WIRE_LIMIT);
+        assert!(rt; *wires <= MOST_WIRES);
         let mut matrix = Matrix::identity(alloc, *wires)?;
         for pair in *circuit {
             if pair.0 < matrix.wires() && pair.1 < matrix.wires() {

@@ -1,11 +1,13 @@
 -- Blocks as loops make them.
+--   length-values, values-push, value-at    the rows behind some references
+--   within-one                      one place
 --   range-more                      one number more below a bound
 --   taken_out-kept, taken_out-gone  one place more, in a list without one
 --   block-none, -insert, -done      the basis of a block, row by row
 --   within-.., independent-..       a block after a place came in or went out
 --   room-absent                     a block with room for a row doesn't have it
 --   basis-append                    the basis with a row behind
-use Rattle.std.proofs.Common.{◌≡◌, ℕ, suc, ◌+◌, ◌<◌, Bool, true, false, cond, List, [], ◌∷◌, ◌++◌, length, map, take, get_or, refl, sym, ap, subst, ◌∙◌, arith, inl, inr, zero-add}
+use Rattle.std.proofs.Common.{◌≡◌, ℕ, zero, suc, ◌+◌, ◌<◌, Bool, true, false, cond, List, [], ◌∷◌, ◌++◌, length, map, take, get_or, refl, sym, ap, subst, ◌∙◌, arith, inl, inr, zero-add}
 use Rattle.std.specs.Prelude.{nat_eq, All}
 use Rattle.std.specs.List.{range_with_len, AllByRecursion}
 use Rattle.std.proofs.lemmas.List.Elements.{All-from_recursion, recursion_from_All}
@@ -18,6 +20,8 @@ use Rattle.std.proofs.lemmas.List.FromFn.{map-range_with_len_more}
 use Rattle.std.proofs.Math.Seq.{take-suc, take-length}
 use Rattle.gf2_linear.specs.Rows.{is_sum, is_independent, rows_at}
 use Rattle.gf2_linear.proofs.SumLaws.{taken-insert, item}
+use Rattle.std.specs.Borrow.{Bor}
+use Rattle.matroid_partition.specs.Blocks.{values}
 use Rattle.matroid_partition.specs.Places.{Has, put_in, taken_out}
 use Rattle.matroid_partition.proofs.PlaceLaws.{Has-at, Has-put_in, at-Has}
 use Rattle.matroid_partition.proofs.Exchanges.{Has-span, Free-put_in}
@@ -27,6 +31,22 @@ use Rattle.std.proofs.lemmas.Bool.{both_ways}
 append_nil : (xs : List ℕ) → xs ++ [] ≡ xs
 append_nil [] = refl
 append_nil (x ∷ xs) = ap (λ k. x ∷ k) (append_nil xs)
+
+pub length-values : (rs : List (Bor ℕ)) → length (values rs) ≡ length rs
+length-values rs = length-map rs (λ (r : Bor ℕ). r.now)
+
+pub values-push : (old new : List (Bor ℕ)) (r : Bor ℕ) → new ≡ old ++ r ∷ [] → values new ≡ values old ++ r.now ∷ []
+values-push old new r e = ap values e ∙ map-append (λ (x : Bor ℕ). x.now) old (r ∷ [])
+
+pub within-one : (ps : List ℕ) (i n : ℕ) → ps ≡ i ∷ [] → i < n → All (λ j. j < n) ps
+within-one ps i n e l = subst (All (λ j. j < n)) (sym e) one
+  where
+    one : All (λ j. j < n) (i ∷ [])
+    one zero d h = l
+    one (suc k) d h = absurd (omega arith)
+
+pub value-at : (rs : List (Bor ℕ)) (i : ℕ) (d : Bor ℕ) (e : ℕ) → i < length rs → (get_or rs i d).now ≡ get_or (values rs) i e
+value-at rs i d e l = sym (get_or-map (λ (r : Bor ℕ). r.now) rs i d e l)
 
 pub range-more : (n : ℕ) → range_with_len 0 (n + 1) ≡ range_with_len 0 n ++ n ∷ []
 range-more n =

@@ -1,7 +1,6 @@
 -- Rows that are dealt out.
---   state-rows            a state depends on the rows that have a home
---   held-state, held-spans   one row more behind the held ones
---   told-more             its name
+--   dealing-none          no rows
+--   held-named, held-told, held-more    the held rows by their names; one more
 --   count-named, times-named   how often a name stands in a block, and in all
 --   held-same             where nothing changed
 --   closed-union          what one search more reached, by names
@@ -16,71 +15,51 @@ use Rattle.std.specs.List.{range_with_len}
 use Rattle.std.proofs.Math.Nat.{suc-mul}
 use Rattle.std.proofs.lemmas.Bool.Decides.{nat_tests}
 use Rattle.std.proofs.lemmas.Bool.{both_ways, cases_lt, cases_eq, eq-eqb, ne_eqb}
-use Rattle.std.proofs.lemmas.List.{length-append, get_or_append_left, get_or_past, get_or_push, get_or-set_same, get_or-set_other}
+use Rattle.std.proofs.lemmas.List.{length-append, length-map, map-append, get_or-map, get_or_append_left, get_or_past, get_or_push, get_or-set_same, get_or-set_other}
 use Rattle.matroid_partition.specs.declared.blocks.Block.{Block}
 use Rattle.gf2_linear.specs.Wide.{count_of}
 use Rattle.matroid_partition.specs.Partitions.{times}
 use Rattle.matroid_partition.specs.Places.{Has, IsAscending}
-use Rattle.matroid_partition.specs.Blocks.{IsBlock, IsOpen, IsState, SpansFirst, places_at}
-use Rattle.matroid_partition.specs.Closed.{IsClosed, seen_among}
+use Rattle.matroid_partition.specs.Blocks.{IsState, SpansFirst, places_at}
+use Rattle.matroid_partition.specs.Arrangements.{Arrangement, IsArranged, IsWidened, rows_with}
+use Rattle.matroid_partition.specs.Closed.{IsClosed, places_seen, seen_among}
 use Rattle.matroid_partition.specs.Dealings.{AreMarked, AreRows, IsBack, IsDealing, IsHeld, IsMarked, IsOpened, IsShownWide, IsStuckAll, IsUnchanged}
 use Rattle.matroid_partition.specs.Searches.{IsSeen}
 use Rattle.matroid_partition.specs.declared.dealing.Dealing.{Dealing}
-use Rattle.gf2_linear.specs.Rows.{is_independent, is_sum, rank, rows_at}
+use Rattle.gf2_linear.specs.Rows.{is_sum, rank, rows_at}
 use Rattle.gf2_linear.proofs.Spans.{Span, Span-same, Span-within}
 use Rattle.gf2_linear.proofs.Ranks.{is_sum-spanned, Span-is_sum}
 use Rattle.matroid_partition.proofs.Exchanges.{Has-span}
 use Rattle.matroid_partition.proofs.PlaceLaws.{Has-at, at-Has, IsStrictlyIncreasing-ascending}
-use Rattle.matroid_partition.proofs.StateLaws.{places_at-is}
 use Rattle.matroid_partition.proofs.Witnesses.{is_in, is_in-has, kept, All_close}
 use Rattle.matroid_partition.proofs.OpenLaws.{Has-range}
 use Rattle.matroid_partition.proofs.PartLaws.{all_span-from, at_most-from, distinct-ascending, filter-ascending, filter-from, has-is_in, range-ascending, state-once}
-use Rattle.matroid_partition.proofs.ClosedLaws.{seen-has}
+use Rattle.matroid_partition.proofs.ClosedLaws.{kept-seen, seen-from, seen-has}
 use Rattle.matroid_partition.proofs.SpareLaws.{spare-witness-more}
 
-rows-agree : (xs ys ps : List ℕ) → ((i : ℕ) → Has ps i → get_or xs i 0 ≡ get_or ys i 0) → map (λ i. get_or xs i 0) ps ≡ map (λ i. get_or ys i 0) ps
-rows-agree xs ys [] h = refl
-rows-agree xs ys (p ∷ ps) h = λ i. h p (inl refl) i ∷ rows-agree xs ys ps (λ j t. h j (inr t)) i
-
-pub state-rows : (xs ys homes : List ℕ) (blocks : List Block) → length homes ≤ length ys → ((i : ℕ) → i < length homes → get_or xs i 0 ≡ get_or ys i 0)
-    → IsState xs homes blocks → IsState ys homes blocks
+-- ---- the held rows by their names
+pub dealing-none : (rows : List ℕ) (m : ℕ) (d : Dealing) → d.held.rows ≡ [] → d.names.items ≡ [] → d.over.items ≡ [] → IsDealing rows 0 m 0 d
 unfolding rows_at
-state-rows xs ys homes blocks few h st = record {
-  few = few;
-  block = λ k d l.
-      let b : IsBlock xs (get_or blocks k d) = st.block k d l in
-      let old : (i : ℕ) → Has (get_or blocks k d).places.items i → i < length homes = λ i t. (st.only k i (subst (λ (q : List ℕ). Has q i) (sym (places_at-is blocks k d l)) t)).0 in
-      let same : map (λ i. get_or xs i 0) (get_or blocks k d).places.items ≡ map (λ i. get_or ys i 0) (get_or blocks k d).places.items =
-      rows-agree xs ys (get_or blocks k d).places.items (λ i t. h i (old i t)) in
-      record {
-        basis = b.basis ∙ same;
-        within = λ j e m. let s : get_or (get_or blocks k d).places.items j e < length homes = old (get_or (get_or blocks k d).places.items j e) (at-Has (get_or blocks k d).places.items j e m) in omega arith;
-        ascending = b.ascending;
-        independent = ap is_independent (sym same) ∙ b.independent;
-      };
-  home = st.home;
-  only = st.only;
+dealing-none rows m d h n v = record {
+  held = h ∙ ap (map (λ i. get_or rows i 0)) (sym n);
+  once = λ y. (λ i. count_of y (n i) + count_of y (v i)) ∙ (let f : nat_lt y 0 ≡ false = grind (arith, nat_tests) in sym (ap (λ b. cond b 1 0) f));
+  within = omega arith;
+  sums = λ i l. absurd (omega arith);
+  few = let z : length d.over.items ≡ 0 = ap length v in omega (arith, z);
 }
 
-pub held-state : (held homes : List ℕ) (blocks : List Block) (x : ℕ) → length homes ≡ length held → IsState held homes blocks → IsState (held ++ x ∷ []) homes blocks
-held-state held homes blocks x e st = state-rows held (held ++ x ∷ []) homes blocks (omega (arith, e, length-append held (x ∷ [])))
-    (λ i l. sym (get_or_append_left held (x ∷ []) 0 i (omega (arith, e)))) st
+pub held-named : (rows : List ℕ) (d : Dealing) → IsHeld rows d → length d.names.items ≡ length d.held.rows
+unfolding rows_at
+held-named rows d h = sym (ap length h ∙ length-map d.names.items (λ i. get_or rows i 0))
 
-pub held-spans : (held all : List ℕ) (x : ℕ) → SpansFirst (length held) held all → is_sum all x ≡ true → SpansFirst (length held + 1) (held ++ x ∷ []) all
-held-spans held all x s h i l = go (cases_lt i (length held))
-  where
-    go : (i < length held) ⊎ (length held ≤ i) → is_sum all (get_or (held ++ x ∷ []) i 0) ≡ true
-    go (inl m) = ap (is_sum all) (get_or_append_left held (x ∷ []) 0 i m) ∙ s i m
-    go (inr m) = let e : length held ≡ i = omega arith in ap (is_sum all) (get_or_push held x 0 i e) ∙ h
+pub held-told : (rows : List ℕ) (d : Dealing) (p : ℕ) → IsHeld rows d → p < length d.names.items → get_or d.held.rows p 0 ≡ get_or rows (get_or d.names.items p 0) 0
+unfolding rows_at
+held-told rows d p h l = ap (λ (q : List ℕ). get_or q p 0) h ∙ get_or-map (λ i. get_or rows i 0) d.names.items p 0 0 l
 
-pub told-more : (rows held names : List ℕ) (x place : ℕ) → length names ≡ length held → x ≡ get_or rows place 0 → ((p : ℕ) → p < length held → get_or held p 0 ≡ get_or rows (get_or names p 0) 0)
-    → (p : ℕ) → p < length (held ++ x ∷ []) → get_or (held ++ x ∷ []) p 0 ≡ get_or rows (get_or (names ++ place ∷ []) p 0) 0
-told-more rows held names x place e is h p l = go (cases_lt p (length held))
-  where
-    go : (p < length held) ⊎ (length held ≤ p) → get_or (held ++ x ∷ []) p 0 ≡ get_or rows (get_or (names ++ place ∷ []) p 0) 0
-    go (inl m) = get_or_append_left held (x ∷ []) 0 p m ∙ h p m ∙ ap (λ q. get_or rows q 0) (sym (get_or_append_left names (place ∷ []) 0 p (omega (arith, e))))
-    go (inr m) = let q : length held ≡ p = omega (arith, l, length-append held (x ∷ [])) in
-        get_or_push held x 0 p q ∙ is ∙ ap (λ k. get_or rows k 0) (sym (get_or_push names place 0 p (e ∙ q)))
+pub held-more : (rows : List ℕ) (o d : Dealing) (place : ℕ) → IsHeld rows o → d.held.rows ≡ rows_with o.held (get_or rows place 0) → d.names.items ≡ o.names.items ++ place ∷ [] → IsHeld rows d
+unfolding rows_at
+held-more rows o d place h e n =
+    e ∙ ap (λ (q : List ℕ). q ++ get_or rows place 0 ∷ []) h ∙ sym (map-append (λ i. get_or rows i 0) o.names.items (place ∷ [])) ∙ ap (map (λ i. get_or rows i 0)) (sym n)
 
 -- ---- places by their names
 -- where a number stands once at most, it stands in one place
@@ -185,23 +164,8 @@ witness-by_names r m held homes names over S blocks st n once a o c g =
 
 -- ---- marks
 pub held-same : (rows : List ℕ) (o d : Dealing) → IsUnchanged o d → IsHeld rows o → IsHeld rows d
-held-same rows o d u h = record {
-  count = ap length u.homes ∙ h.count ∙ ap length (sym u.held);
-  named = ap length u.names ∙ h.named ∙ ap length (sym u.held);
-  told = λ p l. ap (λ (q : List ℕ). get_or q p 0) u.held ∙ h.told p (subst (λ (q : List ℕ). p < length q) u.held l)
-      ∙ ap (λ (q : List ℕ). get_or rows (get_or q p 0) 0) (sym u.names);
-  state = subst (λ (q : List ℕ). IsState q d.homes.items d.blocks.items) (sym u.held)
-      (subst (λ (q : List ℕ). IsState o.held.items q d.blocks.items) (sym u.homes)
-      (subst (λ (q : List Block). IsState o.held.items o.homes.items q) (sym u.blocks) h.state));
-  rooms = subst (λ (q : List ℕ). IsOpen (length q) d.blocks.items d.unfilled.items) (sym u.all)
-      (subst (λ (q : List Block). IsOpen (length o.all) q d.unfilled.items) (sym u.blocks)
-      (subst (λ (q : List ℕ). IsOpen (length o.all) o.blocks.items q) (sym u.unfilled) h.rooms));
-  spans = λ i l. ap (λ (q : List ℕ). is_sum q (get_or d.held.items i 0)) u.all
-      ∙ ap (λ (q : List ℕ). is_sum o.all (get_or q i 0)) u.held ∙ h.spans i (subst (λ (q : List ℕ). i < length q) u.held l);
-}
-
-seen-from : (marks : List Bool) (ps : List ℕ) (y : ℕ) → Has (seen_among marks ps) y → Has ps y × IsSeen marks y
-seen-from marks ps y h = filter-from (λ p. get_or marks p false) ps y h
+unfolding rows_at
+held-same rows o d u h = ap (λ (a : Arrangement). a.rows) u.held ∙ h ∙ ap (map (λ i. get_or rows i 0)) (sym u.names)
 
 pub Has-map : (f : ℕ → ℕ) (ps : List ℕ) (q : ℕ) → Has ps q → Has (map f ps) (f q)
 Has-map f [] q h = absurd h
@@ -215,21 +179,22 @@ spans-marked r old new ps v k s = Span-within (map r (seen_among new ps)) (map r
     Has-span r y (seen_among new ps) (seen-has new ps y f.0 (k y f.1)))) s
 
 -- what one search reached, by names
-pub closed-union : (rows : List ℕ) (o : Dealing) (place : ℕ) (seen old mid new : List Bool) → IsHeld rows o → IsClosed (o.held.items ++ get_or rows place 0 ∷ []) o.homes.items o.blocks.items seen
+pub closed-union : (rows : List ℕ) (o : Dealing) (place : ℕ) (seen old mid new : List Bool) → IsArranged o.held → IsHeld rows o
+    → IsClosed (rows_with o.held (get_or rows place 0)) o.held.homes o.held.blocks seen
     → AreMarked rows o old → IsMarked old mid o.names.items seen → ((y : ℕ) → IsSeen mid y → IsSeen new y) → ((y : ℕ) → IsSeen new y → IsSeen mid y ⊎ (place ≡ y)) → AreMarked rows o new
 unfolding rows_at
-closed-union rows o place seen old mid new h c a m keep only k y l s =
+closed-union rows o place seen old mid new w h c a m keep only k y l s =
     Span-is_sum (map r (seen_among new (names k))) (r y) (elim (only y s) [
       | inl t ↦ elim (m.only y t) [
-        | inl u ↦ spans-marked r old new (names k) (r y) (λ z w. keep z (m.kept z w)) (is_sum-spanned (map r (seen_among old (names k))) (r y) (a k y l u))
+        | inl u ↦ spans-marked r old new (names k) (r y) (λ z t. keep z (m.kept z t)) (is_sum-spanned (map r (seen_among old (names k))) (r y) (a k y l u))
         | inr u ↦ let pl : u.0 < length o.names.items = u.1.0 in
-            Span-same (map r (seen_among new (names k))) (get_or o.held.items u.0 0) (r y) (h.told u.0 (omega (arith, h.named)) ∙ ap r u.1.1.1)
-            (Span-same (map r (seen_among new (names k))) (get_or (o.held.items ++ x ∷ []) u.0 0) (get_or o.held.items u.0 0) (get_or_append_left o.held.items (x ∷ []) 0 u.0 (omega (arith, h.named)))
+            Span-same (map r (seen_among new (names k))) (get_or o.held.rows u.0 0) (r y) (held-told rows o u.0 h pl ∙ ap r u.1.1.1)
+            (Span-same (map r (seen_among new (names k))) (get_or (o.held.rows ++ x ∷ []) u.0 0) (get_or o.held.rows u.0 0) (get_or_append_left o.held.rows (x ∷ []) 0 u.0 (omega (arith, held-named rows o h)))
             (reach u.0 u.1.1.0))
       ]
       | inr e ↦ Span-same (map r (seen_among new (names k))) x (r y) (ap r e)
-          (Span-same (map r (seen_among new (names k))) (get_or (o.held.items ++ x ∷ []) (length o.homes.items) 0) x (get_or_push o.held.items x 0 (length o.homes.items) (sym h.count))
-          (reach (length o.homes.items) c.new))
+          (Span-same (map r (seen_among new (names k))) (get_or (o.held.rows ++ x ∷ []) (length o.held.homes) 0) x (get_or_push o.held.rows x 0 (length o.held.homes) (sym w.count))
+          (reach (length o.held.homes) c.new))
     ])
   where
     r : ℕ → ℕ
@@ -239,37 +204,26 @@ closed-union rows o place seen old mid new h c a m keep only k y l s =
     x = get_or rows place 0
 
     names : ℕ → List ℕ
-    names j = map (λ q. get_or o.names.items q 0) (places_at o.blocks.items j)
+    names j = map (λ q. get_or o.names.items q 0) (places_at o.held.blocks j)
 
-    reach : (p : ℕ) → IsSeen seen p → Span (map r (seen_among new (names k))) (get_or (o.held.items ++ x ∷ []) p 0)
-    reach p w = Span-within (map r (seen_among new (names k))) (map (λ i. get_or (o.held.items ++ x ∷ []) i 0) (seen_among seen (places_at o.blocks.items k))) (get_or (o.held.items ++ x ∷ []) p 0)
-        (all_span-from (map r (seen_among new (names k))) (λ i. get_or (o.held.items ++ x ∷ []) i 0) (seen_among seen (places_at o.blocks.items k)) (λ q t.
-        let f : Has (places_at o.blocks.items k) q × IsSeen seen q = seen-from seen (places_at o.blocks.items k) q t in
-        let ql : q < length o.homes.items = (h.state.only k q f.0).0 in
-        Span-same (map r (seen_among new (names k))) (r (get_or o.names.items q 0)) (get_or (o.held.items ++ x ∷ []) q 0)
-        (sym (get_or_append_left o.held.items (x ∷ []) 0 q (omega (arith, h.count)) ∙ h.told q (omega (arith, h.count))))
+    reach : (p : ℕ) → IsSeen seen p → Span (map r (seen_among new (names k))) (get_or (o.held.rows ++ x ∷ []) p 0)
+    reach p t' = Span-within (map r (seen_among new (names k))) (map (λ i. get_or (o.held.rows ++ x ∷ []) i 0) (seen_among seen (places_at o.held.blocks k))) (get_or (o.held.rows ++ x ∷ []) p 0)
+        (all_span-from (map r (seen_among new (names k))) (λ i. get_or (o.held.rows ++ x ∷ []) i 0) (seen_among seen (places_at o.held.blocks k)) (λ q t.
+        let f : Has (places_at o.held.blocks k) q × IsSeen seen q = seen-from seen (places_at o.held.blocks k) q t in
+        let ql : q < length o.held.homes = (w.state.only k q f.0).0 in
+        Span-same (map r (seen_among new (names k))) (r (get_or o.names.items q 0)) (get_or (o.held.rows ++ x ∷ []) q 0)
+        (sym (get_or_append_left o.held.rows (x ∷ []) 0 q (omega (arith, w.count)) ∙ held-told rows o q h (omega (arith, w.count, held-named rows o h))))
         (Has-span r (get_or o.names.items q 0) (seen_among new (names k))
-        (seen-has new (names k) (get_or o.names.items q 0) (Has-map (λ j. get_or o.names.items j 0) (places_at o.blocks.items k) q f.0)
-        (keep (get_or o.names.items q 0) (m.marked q (omega (arith, h.count, h.named)) f.1))))))
-        (is_sum-spanned (map (λ i. get_or (o.held.items ++ x ∷ []) i 0) (seen_among seen (places_at o.blocks.items k))) (get_or (o.held.items ++ x ∷ []) p 0) (c.spanned k p l w))
+        (seen-has new (names k) (get_or o.names.items q 0) (Has-map (λ j. get_or o.names.items j 0) (places_at o.held.blocks k) q f.0)
+        (keep (get_or o.names.items q 0) (m.marked q (omega (arith, w.count, held-named rows o h)) f.1))))))
+        (is_sum-spanned (map (λ i. get_or (o.held.rows ++ x ∷ []) i 0) (seen_among seen (places_at o.held.blocks k))) (get_or (o.held.rows ++ x ∷ []) p 0) (c.spanned k p l t'))
 
 pub unchanged-twice : (o d e : Dealing) → IsUnchanged o d → IsUnchanged d e → IsUnchanged o e
-unchanged-twice o d e u v = record {
-  held = v.held ∙ u.held;
-  names = v.names ∙ u.names;
-  over = v.over ∙ u.over;
-  blocks = v.blocks ∙ u.blocks;
-  homes = v.homes ∙ u.homes;
-  unfilled = v.unfilled ∙ u.unfilled;
-  all = v.all ∙ u.all;
-}
+unchanged-twice o d e u v = record { held = v.held ∙ u.held; names = v.names ∙ u.names; over = v.over ∙ u.over }
 
-pub closed-same : (rows : List ℕ) (o d : Dealing) (place : ℕ) (seen : List Bool) → IsUnchanged o d → IsClosed (d.held.items ++ get_or rows place 0 ∷ []) d.homes.items d.blocks.items seen
-    → IsClosed (o.held.items ++ get_or rows place 0 ∷ []) o.homes.items o.blocks.items seen
-closed-same rows o d place seen u c =
-    subst (λ (q : List ℕ). IsClosed (q ++ get_or rows place 0 ∷ []) o.homes.items o.blocks.items seen) u.held
-    (subst (λ (q : List ℕ). IsClosed (d.held.items ++ get_or rows place 0 ∷ []) q o.blocks.items seen) u.homes
-    (subst (λ (q : List Block). IsClosed (d.held.items ++ get_or rows place 0 ∷ []) d.homes.items q seen) u.blocks c))
+pub closed-same : (rows : List ℕ) (o d : Dealing) (place : ℕ) (seen : List Bool) → IsUnchanged o d → IsClosed (rows_with d.held (get_or rows place 0)) d.held.homes d.held.blocks seen
+    → IsClosed (rows_with o.held (get_or rows place 0)) o.held.homes o.held.blocks seen
+closed-same rows o d place seen u c = subst (λ (a : Arrangement). IsClosed (rows_with a (get_or rows place 0)) a.homes a.blocks seen) u.held c
 
 -- one place more is marked
 pub marks-there : (marks : List Bool) (place : ℕ) → place < length marks → IsSeen (set marks place true) place
@@ -314,7 +268,7 @@ dealing-back rows o d n m b g = record {
   sums = λ i l. ap (λ (q : List ℕ). is_sum q (get_or rows i 0)) b.all ∙ g.sums i l;
   few =
       let l : length d.over.items + 1 ≡ length o.over.items = ap (λ (q : List ℕ). length q + 1) b.over ∙ length-remove o.over.items b.index b.there in
-      let f : length o.over.items ≤ length o.blocks.items * m + 1 = g.few in
+      let f : length o.over.items ≤ length o.held.blocks * m + 1 = g.few in
       subst (λ k. length d.over.items ≤ k * m + 0) (sym b.blocks) (omega (arith, l, f));
 }
   where
@@ -332,39 +286,27 @@ dealing-opened rows o d n m b g = record {
   sums = λ i l. ap (λ (q : List ℕ). is_sum q (get_or rows i 0)) b.all ∙ g.sums i l;
   few =
       let l : length o.over.items ≡ length d.over.items + 1 = ap length b.over ∙ length-append d.over.items (b.place ∷ []) in
-      let f : length o.over.items ≤ length o.blocks.items * m + 1 = g.few in
-      let k : (length o.blocks.items + 1) * m ≡ length o.blocks.items * m + m = (let q : length o.blocks.items + 1 ≡ suc (length o.blocks.items) = omega arith in ap (λ z. z * m) q ∙ suc-mul (length o.blocks.items) m) in
+      let f : length o.over.items ≤ length o.held.blocks * m + 1 = g.few in
+      let k : (length o.held.blocks + 1) * m ≡ length o.held.blocks * m + m = (let q : length o.held.blocks + 1 ≡ suc (length o.held.blocks) = omega arith in ap (λ z. z * m) q ∙ suc-mul (length o.held.blocks) m) in
       subst (λ z. length d.over.items ≤ z * m + 0) (sym b.blocks) (omega (arith, l, f, k));
 }
   where
     same : (a b c e k : ℕ) → a ≡ k + c → e ≡ k + b → a + b ≡ c + e
     same a b c e k p q = omega (arith, p, q)
 
--- what is marked is seen, and the other way round
-kept-seen : (marks : List Bool) (S ps : List ℕ) → ((y : ℕ) → Has ps y → IsSeen marks y → Has S y) → ((y : ℕ) → Has S y → IsSeen marks y) → kept S ps ≡ seen_among marks ps
-kept-seen marks S [] a b = refl
-kept-seen marks S (p ∷ ps) a b = go (is_in S p) (get_or marks p false) refl refl (kept-seen marks S ps (λ y t. a y (inr t)) b)
-  where
-    go : (t u : Bool) → is_in S p ≡ t → get_or marks p false ≡ u → kept S ps ≡ seen_among marks ps
-        → cond t (p ∷ kept S ps) (kept S ps) ≡ cond u (p ∷ seen_among marks ps) (seen_among marks ps)
-    go true true e f k = ap (λ (q : List ℕ). p ∷ q) k
-    go false false e f k = k
-    go true false e f k = absurd (both_ways (get_or marks p false) f (b p (is_in-has S p e)))
-    go false true e f k = absurd (both_ways (is_in S p) e (has-is_in S p (a p (inl refl) f)))
-
-pub shown-marked : (rows : List ℕ) (o d : Dealing) (n m : ℕ) (marks : List Bool) (S : List ℕ) → IsStuckAll rows o d marks → IsDealing rows n m 1 o
-    → length o.blocks.items * m < length o.over.items → S ≡ filter (λ p. get_or marks p false) (range_with_len 0 (length marks)) → IsShownWide rows (length o.blocks.items) m S
+pub shown-marked : (rows : List ℕ) (o d : Dealing) (n m : ℕ) (marks : List Bool) (S : List ℕ) → IsArranged o.held → IsStuckAll rows o d marks → IsDealing rows n m 1 o
+    → length o.held.blocks * m < length o.over.items → S ≡ places_seen marks → IsShownWide rows (length o.held.blocks) m S
 unfolding rows_at
-shown-marked rows o d n m marks S u g f e = subst (IsShownWide rows (length o.blocks.items) m) (sym e) (record {
+shown-marked rows o d n m marks S w u g f e = subst (IsShownWide rows (length o.held.blocks) m) (sym e) (record {
   within = λ k z l. low (get_or W k z) (seen-from marks (range_with_len 0 (length marks)) (get_or W k z) (at-Has W k z l)).1;
   ascending = IsStrictlyIncreasing-ascending W up;
-  more = witness-by_names (λ i. get_or rows i 0) m o.held.items o.homes.items o.names.items o.over.items W o.blocks.items g.held.state (g.held.count ∙ sym g.held.named)
+  more = witness-by_names (λ i. get_or rows i 0) m o.held.rows o.held.homes o.names.items o.over.items W o.held.blocks w.state (w.count ∙ sym (held-named rows o g.held))
       (λ y. let c : count_of y o.names.items + count_of y o.over.items ≡ cond (nat_lt y n) 1 0 = g.once y in few y c (nat_lt y n) refl) up
       (λ y h. there y (u.over y h))
       (λ k l y h.
       subst (λ (q : List ℕ). Span (map (λ i. get_or rows i 0) q) (get_or rows y 0))
-      (sym (kept-seen marks W (map (λ q. get_or o.names.items q 0) (places_at o.blocks.items k)) (λ z t s. there z s) (λ z t. (seen-from marks (range_with_len 0 (length marks)) z t).1)))
-      (is_sum-spanned (map (λ i. get_or rows i 0) (seen_among marks (map (λ q. get_or o.names.items q 0) (places_at o.blocks.items k)))) (get_or rows y 0)
+      (sym (kept-seen marks W (map (λ q. get_or o.names.items q 0) (places_at o.held.blocks k)) (λ z t s. there z s) (λ z t. (seen-from marks (range_with_len 0 (length marks)) z t).1)))
+      (is_sum-spanned (map (λ i. get_or rows i 0) (seen_among marks (map (λ q. get_or o.names.items q 0) (places_at o.held.blocks k)))) (get_or rows y 0)
       (u.closed k y l (seen-from marks (range_with_len 0 (length marks)) y h).1))) f;
 })
   where
@@ -395,8 +337,8 @@ dealing-same rows o d n m c u g = record {
   held = held-same rows o d u g.held;
   once = λ y. (λ i. count_of y (u.names i) + count_of y (u.over i)) ∙ g.once y;
   within = g.within;
-  sums = λ i l. ap (λ (q : List ℕ). is_sum q (get_or rows i 0)) u.all ∙ g.sums i l;
-  few = subst (λ (q : List ℕ). length q ≤ length d.blocks.items * m + c) (sym u.over) (subst (λ (q : List Block). length o.over.items ≤ length q * m + c) (sym u.blocks) g.few);
+  sums = λ i l. ap (λ (a : Arrangement). is_sum a.all (get_or rows i 0)) u.held ∙ g.sums i l;
+  few = subst (λ (q : List ℕ). length q ≤ length d.held.blocks * m + c) (sym u.over) (subst (λ (a : Arrangement). length o.over.items ≤ length a.blocks * m + c) (sym u.held) g.few);
 }
 
 -- ---- the next row
@@ -416,22 +358,22 @@ below-next : (y n : ℕ) → cond (nat_eq n y) 1 0 + cond (nat_lt y n) 1 0 ≡ c
 below-next y n = grind (arith, nat_tests)
 
 pub dealing-taken : (rows : List ℕ) (o d : Dealing) (place m c : ℕ) → IsDealing rows place m 0 o → place < length rows → IsHeld rows d → d.names.items ≡ o.names.items ++ place ∷ []
-    → d.over.items ≡ o.over.items → SpansFirst (place + 1) rows d.all → length d.blocks.items ≡ length o.blocks.items → IsDealing rows (place + 1) m c d
+    → d.over.items ≡ o.over.items → SpansFirst (place + 1) rows d.held.all → length d.held.blocks ≡ length o.held.blocks → IsDealing rows (place + 1) m c d
 dealing-taken rows o d place m c g l h n v s b = record {
   held = h;
   once = λ y. (λ i. count_of y (n i) + count_of y (v i)) ∙ (let e : count_of y (o.names.items ++ place ∷ []) ≡ cond (nat_eq place y) 1 0 + count_of y o.names.items = count-behind y o.names.items place in
       sums (count_of y (o.names.items ++ place ∷ [])) (count_of y o.over.items) (cond (nat_eq place y) 1 0) (count_of y o.names.items) (cond (nat_lt y place) 1 0) e (g.once y)) ∙ below-next y place;
   within = omega arith;
   sums = s;
-  few = let f : length o.over.items ≤ length o.blocks.items * m + 0 = g.few in
-      subst (λ (q : List ℕ). length q ≤ length d.blocks.items * m + c) (sym v) (subst (λ k. length o.over.items ≤ k * m + c) (sym b) (omega arith));
+  few = let f : length o.over.items ≤ length o.held.blocks * m + 0 = g.few in
+      subst (λ (q : List ℕ). length q ≤ length d.held.blocks * m + c) (sym v) (subst (λ k. length o.over.items ≤ k * m + c) (sym b) (omega arith));
 }
   where
     sums : (a c e k t : ℕ) → a ≡ e + k → k + c ≡ t → a + c ≡ e + t
     sums a c e k t p q = omega (arith, p, q)
 
 pub dealing-put_by : (rows : List ℕ) (o d : Dealing) (place m c : ℕ) → IsDealing rows place m 0 o → place < length rows → IsHeld rows d → d.names.items ≡ o.names.items
-    → d.over.items ≡ o.over.items ++ place ∷ [] → SpansFirst (place + 1) rows d.all → length d.over.items ≤ length d.blocks.items * m + c → IsDealing rows (place + 1) m c d
+    → d.over.items ≡ o.over.items ++ place ∷ [] → SpansFirst (place + 1) rows d.held.all → length d.over.items ≤ length d.held.blocks * m + c → IsDealing rows (place + 1) m c d
 dealing-put_by rows o d place m c g l h n v s few = record {
   held = h;
   once = λ y. (λ i. count_of y (n i) + count_of y (v i)) ∙ (let e : count_of y (o.over.items ++ place ∷ []) ≡ cond (nat_eq place y) 1 0 + count_of y o.over.items = count-behind y o.over.items place in
@@ -444,17 +386,9 @@ dealing-put_by rows o d place m c g l h n v s few = record {
     sums : (a c e k t : ℕ) → a ≡ e + k → c + k ≡ t → c + a ≡ e + t
     sums a c e k t p q = omega (arith, p, q)
 
-pub held-widened : (rows : List ℕ) (o d : Dealing) → d.held.items ≡ o.held.items → d.names.items ≡ o.names.items → d.blocks.items ≡ o.blocks.items → d.homes.items ≡ o.homes.items
-    → IsOpen (length d.all) d.blocks.items d.unfilled.items → ((v : ℕ) → is_sum o.all v ≡ true → is_sum d.all v ≡ true) → IsHeld rows o → IsHeld rows d
-held-widened rows o d e n b s r k h = record {
-  count = ap length s ∙ h.count ∙ ap length (sym e);
-  named = ap length n ∙ h.named ∙ ap length (sym e);
-  told = λ p l. ap (λ (q : List ℕ). get_or q p 0) e ∙ h.told p (subst (λ (q : List ℕ). p < length q) e l) ∙ ap (λ (q : List ℕ). get_or rows (get_or q p 0) 0) (sym n);
-  state = subst (λ (q : List ℕ). IsState q d.homes.items d.blocks.items) (sym e)
-      (subst (λ (q : List ℕ). IsState o.held.items q d.blocks.items) (sym s) (subst (λ (q : List Block). IsState o.held.items o.homes.items q) (sym b) h.state));
-  rooms = r;
-  spans = λ i l. k (get_or d.held.items i 0) (ap (λ (q : List ℕ). is_sum o.all (get_or q i 0)) e ∙ h.spans i (subst (λ (q : List ℕ). i < length q) e l));
-}
+pub held-widened : (rows : List ℕ) (v : ℕ) (o d : Dealing) → IsWidened v o.held d.held → d.names.items ≡ o.names.items → IsHeld rows o → IsHeld rows d
+unfolding rows_at
+held-widened rows v o d w n h = w.rows ∙ h ∙ ap (map (λ i. get_or rows i 0)) (sym n)
 
 pub Has-count : (y : ℕ) (xs : List ℕ) → Has xs y → 1 ≤ count_of y xs
 Has-count y xs h = let r : (j : ℕ) × (j < length xs) × (get_or xs j 0 ≡ y) = Has-at xs y h in count-first y xs r.0 r.1 r.2
@@ -482,7 +416,7 @@ dealing-rows rows n m c d g = record {
         counted-below i n (count_of i d.names.items + count_of i d.over.items) (omega arith) (g.once i)
 
 -- no more were put by than the blocks take
-pub dealing-few : (rows : List ℕ) (n m c : ℕ) (d : Dealing) → IsDealing rows n m c d → length d.over.items ≤ length d.blocks.items * m → IsDealing rows n m 0 d
+pub dealing-few : (rows : List ℕ) (n m c : ℕ) (d : Dealing) → IsDealing rows n m c d → length d.over.items ≤ length d.held.blocks * m → IsDealing rows n m 0 d
 dealing-few rows n m c d g f = record { held = g.held; once = g.once; within = g.within; sums = g.sums; few = omega arith }
 
 pub none_is : {A : Type 0} (o : Option A) (b : Bool) → is_some o ≡ not b → b ≡ true → is_none o ≡ true

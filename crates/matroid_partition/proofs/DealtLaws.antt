@@ -25,6 +25,7 @@ use Rattle.gf2_linear.specs.Wide.{count_of}
 use Rattle.matroid_partition.specs.Partitions.{times}
 use Rattle.matroid_partition.specs.Spares.{IsSparePartition, IsSpareWitness}
 use Rattle.matroid_partition.specs.Places.{Has, IsAscending}
+use Rattle.matroid_partition.specs.Arrangements.{IsArranged}
 use Rattle.matroid_partition.specs.Blocks.{places_at}
 use Rattle.matroid_partition.specs.Dealings.{IsDealing, IsHoused, IsShownWide, IsWritten, at_home, names_at}
 use Rattle.gf2_linear.specs.Rows.{rank, rows_at}
@@ -36,7 +37,7 @@ use Rattle.matroid_partition.proofs.StateLaws.{block-free}
 use Rattle.matroid_partition.proofs.OpenLaws.{Has-range, range-below}
 use Rattle.matroid_partition.proofs.PartLaws.{distinct-ascending, distinct-increasing, filter-ascending, filter-from, filter-has, range-ascending, range-to, within-from}
 use Rattle.matroid_partition.proofs.SpareLaws.{All_wide, least-by_spare_witness, others-length, wide-dealt}
-use Rattle.matroid_partition.proofs.DealingLaws.{Has-count, Has-map, count-first, count-found, count-unique, dealing-rows}
+use Rattle.matroid_partition.proofs.DealingLaws.{Has-count, Has-map, count-first, count-found, count-unique, dealing-rows, held-named, held-told}
 
 -- ---- numbers at different places
 pub written-more : (old now places numbers : List ℕ) (n : ℕ) → IsWritten old now places numbers n → n < length places → ((y : ℕ) → count_of y places ≤ 1)
@@ -78,7 +79,7 @@ over-below rows n m c d g = within-from (length rows) d.over.items (dealing-rows
 
 -- written for those held first, then for those put by
 pub homes-housed : (rows : List ℕ) (m : ℕ) (d : Dealing) (first homes given last : List ℕ) → IsDealing rows (length rows) m 0 d → length first ≡ length rows
-    → IsWritten first homes d.names.items d.homes.items (length d.names.items) → ((j : ℕ) → j < length d.over.items → get_or given j 0 ≡ j / m)
+    → IsWritten first homes d.names.items d.held.homes (length d.names.items) → ((j : ℕ) → j < length d.over.items → get_or given j 0 ≡ j / m)
     → IsWritten homes last d.over.items given (length d.over.items) → IsHoused (length rows) m d last
 homes-housed rows m d first homes given last g a w s v = record {
   long = v.long ∙ w.long ∙ a;
@@ -104,18 +105,18 @@ home-cases rows m y d g l = go (cases_lt 0 (count_of y d.names.items))
     go (inr h) = inr (count-found y d.over.items (omega (arith, one)))
 
 -- the home of a held row is the block where it stands
-held-there : (rows : List ℕ) (n m c p : ℕ) (d : Dealing) → IsDealing rows n m c d → p < length d.names.items
-    → (get_or d.homes.items p 0 < length d.blocks.items) × Has (places_at d.blocks.items (get_or d.homes.items p 0)) p
-held-there rows n m c p d g l = g.held.state.home p (omega (arith, g.held.count, g.held.named))
+held-there : (rows : List ℕ) (n m c p : ℕ) (d : Dealing) → IsArranged d.held → IsDealing rows n m c d → p < length d.names.items
+    → (get_or d.held.homes p 0 < length d.held.blocks) × Has (places_at d.held.blocks (get_or d.held.homes p 0)) p
+held-there rows n m c p d w g l = w.state.home p (omega (arith, w.count, held-named rows d g.held))
 
-home-below : (rows : List ℕ) (m y : ℕ) (d : Dealing) (homes : List ℕ) → IsDealing rows (length rows) m 0 d → IsHoused (length rows) m d homes → y < length rows
-    → get_or homes y 0 < length d.blocks.items
-home-below rows m y d homes g h l = elim (home-cases rows m y d g l) [
-  | inl r ↦ subst (λ k. k < length d.blocks.items) (sym (h.held r.0 r.1) ∙ ap (λ k. get_or homes k 0) r.2) (held-there rows (length rows) m 0 r.0 d g r.1).0
+home-below : (rows : List ℕ) (m y : ℕ) (d : Dealing) (homes : List ℕ) → IsArranged d.held → IsDealing rows (length rows) m 0 d → IsHoused (length rows) m d homes → y < length rows
+    → get_or homes y 0 < length d.held.blocks
+home-below rows m y d homes w g h l = elim (home-cases rows m y d g l) [
+  | inl r ↦ subst (λ k. k < length d.held.blocks) (sym (h.held r.0 r.1) ∙ ap (λ k. get_or homes k 0) r.2) (held-there rows (length rows) m 0 r.0 d w g r.1).0
   | inr r ↦ let low : r.0 < length d.over.items = r.1 in
-      let f : length d.over.items ≤ length d.blocks.items * m + 0 = g.few in
-      subst (λ k. k < length d.blocks.items) (sym (h.over r.0 r.1) ∙ ap (λ k. get_or homes k 0) r.2)
-      (div_below r.0 m (length d.blocks.items) (shares-apart (length d.blocks.items) m (length d.over.items) f (omega arith)) (omega arith))
+      let f : length d.over.items ≤ length d.held.blocks * m + 0 = g.few in
+      subst (λ k. k < length d.held.blocks) (sym (h.over r.0 r.1) ∙ ap (λ k. get_or homes k 0) r.2)
+      (div_below r.0 m (length d.held.blocks) (shares-apart (length d.held.blocks) m (length d.over.items) f (omega arith)) (omega arith))
 ]
 
 -- ---- how often a place stands in the lists
@@ -181,23 +182,23 @@ rows-named : (rows held names ps : List ℕ) → ((q : ℕ) → Has ps q → get
 rows-named rows held names [] h = refl
 rows-named rows held names (p ∷ ps) h = λ i. h p (inl refl) i ∷ rows-named rows held names ps (λ q t. h q (inr t)) i
 
-wide-home : (rows : List ℕ) (m k : ℕ) (d : Dealing) (homes : List ℕ) → IsDealing rows (length rows) m 0 d → IsHoused (length rows) m d homes
+wide-home : (rows : List ℕ) (m k : ℕ) (d : Dealing) (homes : List ℕ) → IsArranged d.held → IsDealing rows (length rows) m 0 d → IsHoused (length rows) m d homes
     → length (at_home homes k) ≤ rank (rows_at rows (at_home homes k)) + m
 unfolding rows_at
-wide-home rows m k d homes g h = wide-dealt (λ i. get_or rows i 0) m (names_at d k) (at_home homes k) free there few
+wide-home rows m k d homes w g h = wide-dealt (λ i. get_or rows i 0) m (names_at d k) (at_home homes k) free there few
   where
-    homed : (q : ℕ) → Has (places_at d.blocks.items k) q → (q < length d.names.items) × (get_or d.homes.items q 0 ≡ k)
-    homed q t = let o : (q < length d.homes.items) × (get_or d.homes.items q 0 ≡ k) = g.held.state.only k q t in
-        let l : q < length d.homes.items = o.0 in (omega (arith, g.held.count, g.held.named), o.1)
+    homed : (q : ℕ) → Has (places_at d.held.blocks k) q → (q < length d.names.items) × (get_or d.held.homes q 0 ≡ k)
+    homed q t = let o : (q < length d.held.homes) × (get_or d.held.homes q 0 ≡ k) = w.state.only k q t in
+        let l : q < length d.held.homes = o.0 in (omega (arith, w.count, held-named rows d g.held), o.1)
 
     free : Free (map (λ i. get_or rows i 0) (names_at d k))
-    free = subst Free (rows-named rows d.held.items d.names.items (places_at d.blocks.items k) (λ q t. let l : q < length d.names.items = (homed q t).0 in g.held.told q (omega (arith, g.held.named))))
-        (block-free d.held.items d.homes.items d.blocks.items g.held.state k)
+    free = subst Free (rows-named rows d.held.rows d.names.items (places_at d.held.blocks k) (λ q t. held-told rows d q g.held (homed q t).0))
+        (block-free d.held.rows d.held.homes d.held.blocks w.state k)
 
     there : (y : ℕ) → Has (names_at d k) y → Has (at_home homes k) y
     there y t =
-        let r : (q : ℕ) × Has (places_at d.blocks.items k) q × (get_or d.names.items q 0 ≡ y) = Has-mapped (λ q. get_or d.names.items q 0) (places_at d.blocks.items k) y t in
-        let o : (r.0 < length d.names.items) × (get_or d.homes.items r.0 0 ≡ k) = homed r.0 r.1 in
+        let r : (q : ℕ) × Has (places_at d.held.blocks k) q × (get_or d.names.items q 0 ≡ y) = Has-mapped (λ q. get_or d.names.items q 0) (places_at d.held.blocks k) y t in
+        let o : (r.0 < length d.names.items) × (get_or d.held.homes r.0 0 ≡ k) = homed r.0 r.1 in
         let low : get_or d.names.items r.0 0 < length rows = (dealing-rows rows (length rows) m 0 d g).named r.0 o.0 in
         home-has homes k y (subst (λ z. z < length homes) r.2 (omega (arith, h.long))) (ap (λ z. get_or homes z 0) (sym r.2) ∙ h.held r.0 o.0 ∙ o.1)
 
@@ -206,12 +207,12 @@ wide-home rows m k d homes g h = wide-dealt (λ i. get_or rows i 0) m (names_at 
         let f : (y < length homes) × (get_or homes y 0 ≡ k) = home-from homes k y t in
         elim (home-cases rows m y d g (subst (λ z. y < z) h.long f.0)) [
           | inl r ↦
-              let e : get_or d.homes.items r.0 0 ≡ k = sym (h.held r.0 r.1) ∙ ap (λ z. get_or homes z 0) r.2 ∙ f.1 in
-              inl (subst (Has (names_at d k)) r.2 (Has-map (λ q. get_or d.names.items q 0) (places_at d.blocks.items k) r.0
-              (subst (λ z. Has (places_at d.blocks.items z) r.0) e (held-there rows (length rows) m 0 r.0 d g r.1).1)))
+              let e : get_or d.held.homes r.0 0 ≡ k = sym (h.held r.0 r.1) ∙ ap (λ z. get_or homes z 0) r.2 ∙ f.1 in
+              inl (subst (Has (names_at d k)) r.2 (Has-map (λ q. get_or d.names.items q 0) (places_at d.held.blocks k) r.0
+              (subst (λ z. Has (places_at d.held.blocks z) r.0) e (held-there rows (length rows) m 0 r.0 d w g r.1).1)))
           | inr r ↦
               let low : r.0 < length d.over.items = r.1 in
-              let p : 0 < m = shares-apart (length d.blocks.items) m (length d.over.items) g.few (omega arith) in
+              let p : 0 < m = shares-apart (length d.held.blocks) m (length d.over.items) g.few (omega arith) in
               inr (subst (Has (share_at d m k)) r.2 (share-has d m k r.0 p (sym (h.over r.0 r.1) ∙ ap (λ z. get_or homes z 0) r.2 ∙ f.1)))
         ]
 
@@ -226,17 +227,17 @@ pub lists-more : {A : Type 0} (f : A → List ℕ) (h : ℕ → List ℕ) (old n
 lists-more f h old new x n e g s = ap (map f) s ∙ map-append f old (x ∷ []) ∙ (λ i. e i ++ g i ∷ [])
     ∙ sym (ap (map h) (range-more n) ∙ map-append h (range_with_len 0 n) (n ∷ []))
 
-pub housed-partition : (rows : List ℕ) (m : ℕ) (d : Dealing) (homes : List ℕ) (lists : List (List ℕ)) → IsDealing rows (length rows) m 0 d → IsHoused (length rows) m d homes
-    → lists ≡ map (at_home homes) (range_with_len 0 (length d.blocks.items)) → IsSparePartition rows m lists
-housed-partition rows m d homes lists g h e = subst (IsSparePartition rows m) (sym e) (record {
-  once = λ y l. times-homes homes y (range_with_len 0 (length d.blocks.items)) (subst (λ z. y < z) (sym h.long) l)
-      ∙ count_of-one (get_or homes y 0) (range_with_len 0 (length d.blocks.items)) (range-ascending 0 (length d.blocks.items))
-      (Has-range (length d.blocks.items) (get_or homes y 0) (home-below rows m y d homes g h l));
-  within = All-map (λ b. All (λ i. i < length rows) b) (at_home homes) (range_with_len 0 (length d.blocks.items))
-      (λ k x l. within-from (length rows) (at_home homes (get_or (range_with_len 0 (length d.blocks.items)) k x))
-      (λ y t. subst (λ z. y < z) h.long (home-from homes (get_or (range_with_len 0 (length d.blocks.items)) k x) y t).0));
-  wide = All-map (λ b. length b ≤ rank (rows_at rows b) + m) (at_home homes) (range_with_len 0 (length d.blocks.items))
-      (λ k x l. wide-home rows m (get_or (range_with_len 0 (length d.blocks.items)) k x) d homes g h);
+pub housed-partition : (rows : List ℕ) (m : ℕ) (d : Dealing) (homes : List ℕ) (lists : List (List ℕ)) → IsArranged d.held → IsDealing rows (length rows) m 0 d → IsHoused (length rows) m d homes
+    → lists ≡ map (at_home homes) (range_with_len 0 (length d.held.blocks)) → IsSparePartition rows m lists
+housed-partition rows m d homes lists w g h e = subst (IsSparePartition rows m) (sym e) (record {
+  once = λ y l. times-homes homes y (range_with_len 0 (length d.held.blocks)) (subst (λ z. y < z) (sym h.long) l)
+      ∙ count_of-one (get_or homes y 0) (range_with_len 0 (length d.held.blocks)) (range-ascending 0 (length d.held.blocks))
+      (Has-range (length d.held.blocks) (get_or homes y 0) (home-below rows m y d homes w g h l));
+  within = All-map (λ b. All (λ i. i < length rows) b) (at_home homes) (range_with_len 0 (length d.held.blocks))
+      (λ k x l. within-from (length rows) (at_home homes (get_or (range_with_len 0 (length d.held.blocks)) k x))
+      (λ y t. subst (λ z. y < z) h.long (home-from homes (get_or (range_with_len 0 (length d.held.blocks)) k x) y t).0));
+  wide = All-map (λ b. length b ≤ rank (rows_at rows b) + m) (at_home homes) (range_with_len 0 (length d.held.blocks))
+      (λ k x l. wide-home rows m (get_or (range_with_len 0 (length d.held.blocks)) k x) d homes w g h);
 })
 
 pub housed-ascending : (homes ks : List ℕ) (lists : List (List ℕ)) → lists ≡ map (at_home homes) ks → All IsStrictlyIncreasing lists
@@ -246,12 +247,12 @@ housed-ascending homes ks lists e = subst (All IsStrictlyIncreasing) (sym e)
 -- ---- row after row
 pub record UnderwayWide (rows : List ℕ) (n m : ℕ) (d : Dealing) (witness : List ℕ) : Type 0 where
   pub dealing : IsDealing rows n m 0 d
-  pub shown : 0 < length d.blocks.items → IsShownWide rows (length d.blocks.items - 1) m witness
-  pub none : length d.blocks.items ≡ 0 → witness ≡ []
+  pub shown : 0 < length d.held.blocks → IsShownWide rows (length d.held.blocks - 1) m witness
+  pub none : length d.held.blocks ≡ 0 → witness ≡ []
 
 -- ---- the end
 pub IsSpareWitness-shown : (rows : List ℕ) (m count : ℕ) (d : Dealing) (witness shown : List ℕ) (lists : List (List ℕ)) → UnderwayWide rows (length rows) m d witness
-    → IsSparePartition rows m lists → count ≡ length d.blocks.items → length lists ≡ count
+    → IsSparePartition rows m lists → count ≡ length d.held.blocks → length lists ≡ count
     → (count ≡ 1 → shown ≡ range_with_len 0 (length rows)) → ((count ≡ 1 → ⊥) → shown ≡ witness) → IsSpareWitness rows m lists shown
 IsSpareWitness-shown rows m count d witness shown lists u p c l one other = elim (cases_eq count 1) [
   | inl q ↦ subst (IsSpareWitness rows m lists) (sym (one q)) (record {
@@ -268,7 +269,7 @@ IsSpareWitness-shown rows m count d witness shown lists u p c l one other = elim
           ascending = λ k h. absurd (omega arith);
           more = λ h. absurd (nowhere lists (l ∙ z) (p.once 0 h));
         })
-    | inr k ↦ let s : IsShownWide rows (length d.blocks.items - 1) m witness = u.shown (omega arith) in record {
+    | inr k ↦ let s : IsShownWide rows (length d.held.blocks - 1) m witness = u.shown (omega arith) in record {
       within = s.within;
       ascending = s.ascending;
       more = λ h. subst (λ j. (j - 1) * (rank (rows_at rows witness) + m) < length witness) (sym (l ∙ c)) s.more;
@@ -293,14 +294,14 @@ all_wide-from rows m [] h = tt
 all_wide-from rows m (b ∷ other) h = (h 0 b (omega arith), all_wide-from rows m other (λ k x l. h (suc k) x (omega arith)))
 
 pub least-wide : (rows : List ℕ) (m : ℕ) (d : Dealing) (witness : List ℕ) → UnderwayWide rows (length rows) m d witness
-    → (other : List (List ℕ)) → IsSparePartition rows m other → length d.blocks.items ≤ length other
+    → (other : List (List ℕ)) → IsSparePartition rows m other → length d.held.blocks ≤ length other
 unfolding rows_at
-least-wide rows m d witness u other p = elim (cases_eq (length d.blocks.items) 0) [
+least-wide rows m d witness u other p = elim (cases_eq (length d.held.blocks) 0) [
   | inl z ↦ omega arith
   | inr n ↦
-      let s : IsShownWide rows (length d.blocks.items - 1) m witness = u.shown (omega arith) in
-      let l : length d.blocks.items - 1 < length other =
-      least-by_spare_witness (λ i. get_or rows i 0) m witness (length d.blocks.items - 1) other (distinct-increasing witness s.ascending)
+      let s : IsShownWide rows (length d.held.blocks - 1) m witness = u.shown (omega arith) in
+      let l : length d.held.blocks - 1 < length other =
+      least-by_spare_witness (λ i. get_or rows i 0) m witness (length d.held.blocks - 1) other (distinct-increasing witness s.ascending)
       (at_least-spare rows m other p witness (λ y h. inside y h s.within)) (all_wide-from rows m other p.wide) s.more in
       omega arith
 ]

@@ -6,10 +6,12 @@ pub mod WorkedParts
 pub mod BlockLaws
 pub mod StateLaws
 pub mod OpenLaws
+pub mod ArrangementLaws
 pub mod SearchLaws
 pub mod ShiftLaws
 pub mod PartLaws
 pub mod SpareLaws
 pub mod ClosedLaws
+pub mod PartitioningLaws
 pub mod DealingLaws
 pub mod DealtLaws

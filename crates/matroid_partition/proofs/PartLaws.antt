@@ -4,18 +4,17 @@
 --   chain-listed                a chain ends in a block that is not full
 --   times-none, times-one       how often a place stands in the blocks
 --   witness-shown               closed places are more than the blocks times their rank
---   all-shown                   all places, where each block is full
---   seen-shown                  the places that a search has reached
 --   open-none                   no block is open
 --   Underway, spans-more, underway-opened, -entered    the rows that have come in so far, one more
 --   IsPartition-state, ascending-state, IsWitness-shown, least-shown    all rows
-use Rattle.std.proofs.Common.{◌≡◌, ℕ, zero, suc, ◌+◌, ◌-◌, ◌*◌, ◌<◌, ◌≤◌, Bool, true, false, cond, List, [], ◌∷◌, length, map, get_or, refl, sym, ap, subst, ◌∙◌, arith, ◌⊎◌, inl, inr}
+use Rattle.std.proofs.Common.{◌≡◌, ℕ, zero, suc, ◌+◌, ◌-◌, ◌*◌, ◌<◌, ◌≤◌, Bool, true, false, cond, List, [], ◌∷◌, ◌++◌, length, map, take, get_or, refl, sym, ap, subst, ◌∙◌, arith, ◌⊎◌, inl, inr}
 use Rattle.std.specs.Prelude.{nat_eq, All, IsTrue, filter}
 use Rattle.std.specs.List.{range_with_len}
 use Rattle.std.specs.List.Sorted.{IsStrictlyIncreasing}
 use Rattle.std.proofs.lemmas.Bool.{both_ways, eq-eqb, ne_eqb, cases_eq, cases_lt, cases_Bool}
-use Rattle.std.proofs.lemmas.List.{length-map, get_or_past}
-use Rattle.std.proofs.lemmas.List.Elements.{All-map, All-weaker}
+use Rattle.std.proofs.lemmas.List.{length-map}
+use Rattle.std.proofs.lemmas.List.Elements.{All-map}
+use Rattle.std.proofs.Math.Seq.{take-length}
 use Rattle.std.proofs.lemmas.List.FromFn.{length-range_with_len}
 use Rattle.matroid_partition.specs.declared.blocks.Block.{Block}
 use Rattle.matroid_partition.specs.declared.search.Node.{Node}
@@ -23,7 +22,8 @@ use Rattle.gf2_linear.specs.Wide.{count_of}
 use Rattle.matroid_partition.specs.Partitions.{times, IsPartition, IsWitness}
 use Rattle.matroid_partition.specs.Places.{Has, IsAscending}
 use Rattle.matroid_partition.specs.Blocks.{IsOpen, IsShown, IsState, OthersSpan, SpansFirst, places_at}
-use Rattle.matroid_partition.specs.Searches.{parts, node_at, row_of, IsChain, IsFront, IsSeen, IsSpread}
+use Rattle.matroid_partition.specs.Arrangements.{Arrangement}
+use Rattle.matroid_partition.specs.Searches.{node_at, row_of, IsChain}
 use Rattle.gf2_linear.specs.Rows.{is_independent, is_sum, rank, row_sum, rows_at}
 use Rattle.gf2_linear.proofs.Spans.{Span, All_span, Free, Span-zero, Span-same, Span-add, steinitz}
 use Rattle.gf2_linear.proofs.Ranks.{is_sum-spanned, Span-is_sum, independent-Free}
@@ -32,7 +32,8 @@ use Rattle.matroid_partition.proofs.Exchanges.{Has-span}
 use Rattle.matroid_partition.proofs.Witnesses.{is_in, kept, Distinct, At_most_once, At_least_once, All_close, All_free, witness-more, least-by_witness}
 use Rattle.matroid_partition.proofs.StateLaws.{any-block, listed, places_at-is}
 use Rattle.matroid_partition.proofs.OpenLaws.{Has-range, range-below}
-use Rattle.matroid_partition.proofs.SearchLaws.{Has-parts, parts-sum}
+use Rattle.matroid_partition.proofs.ArrangementLaws.{shown-with}
+use Rattle.matroid_partition.proofs.BlockLaws.{take-next}
 
 abbrev r_of : List ℕ → ℕ → ℕ
 r_of rows i = get_or rows i 0
@@ -42,10 +43,10 @@ pub all_span-from : (all : List ℕ) (r : ℕ → ℕ) (ps : List ℕ) → ((y :
 all_span-from all r [] h = tt
 all_span-from all r (p ∷ ps) h = (h p (inl refl), all_span-from all r ps (λ y t. h y (inr t)))
 
-pub full-spans : (rows homes : List ℕ) (blocks : List Block) (all : List ℕ) (k : ℕ) (d : Block) (i : ℕ) → IsState rows homes blocks → SpansFirst (length homes + 1) rows all → k < length blocks
-    → length (get_or blocks k d).basis ≡ length all → i ≤ length homes → is_sum (get_or blocks k d).basis (get_or rows i 0) ≡ true
+pub full-spans : (rows homes : List ℕ) (blocks : List Block) (all : List ℕ) (k : ℕ) (d : Block) (x : ℕ) → IsState rows homes blocks → SpansFirst (length homes) rows all → k < length blocks
+    → length (get_or blocks k d).basis ≡ length all → is_sum all x ≡ true → is_sum (get_or blocks k d).basis x ≡ true
 unfolding rows_at
-full-spans rows homes blocks all k d i st sp l f il = elim (cases_Bool (is_sum (get_or blocks k d).basis (get_or rows i 0))) [
+full-spans rows homes blocks all k d x st sp l f h = elim (cases_Bool (is_sum (get_or blocks k d).basis x)) [
   | inl t ↦ t
   | inr n ↦
       let b : (get_or blocks k d).basis ≡ map (r_of rows) (get_or blocks k d).places.items = (st.block k d l).basis in
@@ -53,17 +54,16 @@ full-spans rows homes blocks all k d i st sp l f il = elim (cases_Bool (is_sum (
       subst Free (sym b) (independent-Free (map (r_of rows) (get_or blocks k d).places.items) (st.block k d l).independent) in
       let spans : All_span all (get_or blocks k d).basis =
       subst (All_span all) (sym b) (all_span-from all (r_of rows) (get_or blocks k d).places.items
-      (λ y h. is_sum-spanned all (get_or rows y 0) (sp y
-      (let s : y < length homes = (st.only k y (subst (λ (q : List ℕ). Has q y) (sym (places_at-is blocks k d l)) h)).0 in omega arith)))) in
-      let s : length (get_or rows i 0 ∷ (get_or blocks k d).basis) ≤ length all =
-      steinitz all (get_or rows i 0 ∷ (get_or blocks k d).basis) (is_sum-spanned all (get_or rows i 0) (sp i (omega arith)), spans)
-      ((λ w. both_ways (is_sum (get_or blocks k d).basis (get_or rows i 0)) n (Span-is_sum (get_or blocks k d).basis (get_or rows i 0) w)), free) in
+      (λ y h. is_sum-spanned all (get_or rows y 0) (sp y (st.only k y (subst (λ (q : List ℕ). Has q y) (sym (places_at-is blocks k d l)) h)).0))) in
+      let s : length (x ∷ (get_or blocks k d).basis) ≤ length all =
+      steinitz all (x ∷ (get_or blocks k d).basis) (is_sum-spanned all x h, spans)
+      ((λ w. both_ways (is_sum (get_or blocks k d).basis x) n (Span-is_sum (get_or blocks k d).basis x w)), free) in
       absurd (omega (arith, f, s))
 ]
 
-pub others-span : (rows homes : List ℕ) (blocks : List Block) (all unfilled : List ℕ) (i : ℕ) → IsState rows homes blocks → SpansFirst (length homes + 1) rows all
-    → IsOpen (length all) blocks unfilled → i ≤ length homes → OthersSpan blocks unfilled (get_or rows i 0)
-others-span rows homes blocks all unfilled i st sp o il k d l n = full-spans rows homes blocks all k d i st sp l (o.others k d l n) il
+pub others-span : (rows homes : List ℕ) (blocks : List Block) (all unfilled : List ℕ) (x : ℕ) → IsState rows homes blocks → SpansFirst (length homes) rows all
+    → IsOpen (length all) blocks unfilled → is_sum all x ≡ true → OthersSpan blocks unfilled x
+others-span rows homes blocks all unfilled x st sp o h k d l n = full-spans rows homes blocks all k d x st sp l (o.others k d l n) h
 
 pub basis-length : (rows homes : List ℕ) (blocks : List Block) (k : ℕ) (d : Block) → IsState rows homes blocks → k < length blocks
     → length (get_or blocks k d).basis ≡ length (places_at blocks k)
@@ -88,7 +88,8 @@ pub chain-listed : (rows homes : List ℕ) (blocks : List Block) (all unfilled :
     → SpansFirst (length homes + 1) rows all → IsOpen (length all) blocks unfilled → IsChain rows homes blocks nodes last into → Has unfilled into
 chain-listed rows homes blocks all unfilled nodes last into st sp o c =
     listed blocks unfilled (row_of rows (node_at nodes last)) into (any-block blocks into c.room.there)
-    (others-span rows homes blocks all unfilled (node_at nodes last).place st sp o (most last c.there)) c.room
+    (others-span rows homes blocks all unfilled (row_of rows (node_at nodes last)) st (λ i l. sp i (omega arith)) o
+    (sp (node_at nodes last).place (let m : (node_at nodes last).place ≤ length homes = most last c.there in omega arith))) c.room
   where
     most : (k : ℕ) → k < length nodes → (node_at nodes k).place ≤ length homes
     most zero l = let e : (node_at nodes 0).place ≡ length homes = c.tree.root in omega arith
@@ -179,11 +180,11 @@ close-from r S (b ∷ blocks) h = (
 pub within-from : (n : ℕ) (S : List ℕ) → ((y : ℕ) → Has S y → y < n) → All (λ i. i < n) S
 within-from n S h k d l = h (get_or S k d) (at-Has S k d l)
 
-pub witness-shown : (rows homes : List ℕ) (blocks : List Block) (S : List ℕ) → IsState rows homes blocks → IsAscending S → ((y : ℕ) → Has S y → y < length homes + 1) → Has S (length homes)
-    → ((k : ℕ) → k < length blocks → (y : ℕ) → Has S y → Span (map (r_of rows) (kept S (places_at blocks k))) (r_of rows y)) → IsShown rows (length homes + 1) (length blocks) S
+pub witness-shown : (rows homes : List ℕ) (blocks : List Block) (S : List ℕ) → IsState rows homes blocks → length rows ≡ length homes + 1 → IsAscending S → ((y : ℕ) → Has S y → y < length rows)
+    → Has S (length homes) → ((k : ℕ) → k < length blocks → (y : ℕ) → Has S y → Span (map (r_of rows) (kept S (places_at blocks k))) (r_of rows y)) → IsShown rows (length blocks) S
 unfolding rows_at
-witness-shown rows homes blocks S st a w e c = record {
-  within = within-from (length homes + 1) S w;
+witness-shown rows homes blocks S st n a w e c = record {
+  within = within-from (length rows) S w;
   ascending = IsStrictlyIncreasing-ascending S a;
   more = subst (λ k. k * rank (map (r_of rows) S) < length S) (length-map blocks (λ b. b.places.items))
       (witness-more (r_of rows) S (lists_of blocks) (length homes) (distinct-ascending S a) (at_most-from S (lists_of blocks) most) e
@@ -236,65 +237,10 @@ pub range-to : (n y : ℕ) → Has (range_with_len 0 n) y → y < n
 range-to n y h = let r : (j : ℕ) × (j < length (range_with_len 0 n)) × (get_or (range_with_len 0 n) j 0 ≡ y) = Has-at (range_with_len 0 n) y h in
     subst (λ m. m < n) r.2 (range-below n r.0 0 r.1)
 
--- ---- the two witnesses
-pub all-shown : (rows homes : List ℕ) (blocks : List Block) (all S : List ℕ) → IsState rows homes blocks → SpansFirst (length homes + 1) rows all → IsOpen (length all) blocks []
-    → S ≡ range_with_len 0 (length homes + 1) → IsShown rows (length homes + 1) (length blocks) S
-unfolding rows_at
-all-shown rows homes blocks all S st sp o e =
-    subst (λ (q : List ℕ). IsShown rows (length homes + 1) (length blocks) q) (sym e)
-    (witness-shown rows homes blocks (range_with_len 0 (length homes + 1)) st (range-ascending 0 (length homes + 1)) (range-to (length homes + 1))
-    (Has-range (length homes + 1) (length homes) (omega arith))
-    (λ k l y h.
-    let d : Block = any-block blocks k l in
-    let yl : y < length homes + 1 = range-to (length homes + 1) y h in
-    subst (λ (q : List ℕ). Span (map (r_of rows) q) (r_of rows y))
-    (sym (kept-all (range_with_len 0 (length homes + 1)) (places_at blocks k)
-    (λ z t. Has-range (length homes + 1) z (let s : z < length homes = (st.only k z t).0 in omega arith))))
-    (subst (λ (q : List ℕ). Span (map (r_of rows) q) (r_of rows y)) (sym (places_at-is blocks k d l))
-    (is_sum-spanned (map (r_of rows) (get_or blocks k d).places.items) (r_of rows y)
-    (subst (λ (q : List ℕ). is_sum q (r_of rows y) ≡ true) (st.block k d l).basis (full-spans rows homes blocks all k d y st sp l (o.others k d l (λ z. z)) (omega arith)))))))
-
 pub all_in-span : (r : ℕ → ℕ) (ps es : List ℕ) → ((y : ℕ) → Has es y → Has ps y) → Span (map r ps) (row_sum (map r es))
 unfolding row_sum
 all_in-span r ps [] h = Span-zero (map r ps)
 all_in-span r ps (e ∷ es) h = Span-add (map r ps) (r e) (row_sum (map r es)) (Has-span r e ps (h e (inl refl))) (all_in-span r ps es (λ y t. h y (inr t)))
-
-pub seen-shown : (rows homes : List ℕ) (blocks : List Block) (nodes : List Node) (seen : List Bool) (node number : ℕ) (S : List ℕ) → IsState rows homes blocks
-    → IsFront rows homes blocks nodes seen node number → length nodes ≤ node → S ≡ filter (λ p. get_or seen p false) (range_with_len 0 (length seen))
-    → IsShown rows (length homes + 1) (length blocks) S
-unfolding rows_at
-seen-shown rows homes blocks nodes seen node number S st fr g e =
-    subst (λ (q : List ℕ). IsShown rows (length homes + 1) (length blocks) q) (sym e)
-    (witness-shown rows homes blocks (filter (λ p. get_or seen p false) (range_with_len 0 (length seen))) st
-    (filter-ascending (λ p. get_or seen p false) (range_with_len 0 (length seen)) (range-ascending 0 (length seen)))
-    (λ y h. subst (λ n. y < n) fr.long (range-to (length seen) y (filter-from (λ p. get_or seen p false) (range_with_len 0 (length seen)) y h).0))
-    (in-seen (length homes) (subst (IsSeen seen) fr.tree.root (fr.marked 0 fr.tree.some)))
-    (λ k l y h.
-    let s : IsSeen seen y = (filter-from (λ p. get_or seen p false) (range_with_len 0 (length seen)) y h).1 in
-    let r : (j : ℕ) × (j < length nodes) × ((node_at nodes j).place ≡ y) = fr.known y s in
-    let b : r.0 < length nodes = r.1 in
-    subst (λ (q : ℕ). Span (map (r_of rows) (kept (filter (λ p. get_or seen p false) (range_with_len 0 (length seen))) (places_at blocks k))) (r_of rows q)) r.2
-    (elim (fr.before r.0 k (omega arith) l) [
-      | inl o ↦ Has-span (r_of rows) (node_at nodes r.0).place (kept (filter (λ p. get_or seen p false) (range_with_len 0 (length seen))) (places_at blocks k))
-          (kept-has (filter (λ p. get_or seen p false) (range_with_len 0 (length seen))) (places_at blocks k) (node_at nodes r.0).place
-          (subst (λ (q : ℕ). Has (places_at blocks q) (node_at nodes r.0).place) o.1 (st.home (node_at nodes r.0).place o.0).1)
-          (in-seen (node_at nodes r.0).place (fr.marked r.0 b)))
-      | inr t ↦ spread k (row_of rows (node_at nodes r.0)) t
-    ])))
-  where
-    in-seen : (y : ℕ) → IsSeen seen y → Has (filter (λ p. get_or seen p false) (range_with_len 0 (length seen))) y
-    in-seen y s = filter-has (λ p. get_or seen p false) (range_with_len 0 (length seen)) y
-        (elim (cases_lt y (length seen)) [
-          | inl l ↦ Has-range (length seen) y l
-          | inr g ↦ absurd (both_ways (get_or seen y false) (get_or_past seen y false g) s)
-        ]) s
-
-    spread : (k v : ℕ) → IsSpread rows blocks seen v k → Span (map (r_of rows) (kept (filter (λ p. get_or seen p false) (range_with_len 0 (length seen))) (places_at blocks k))) v
-    spread k v t =
-        Span-same (map (r_of rows) (kept (filter (λ p. get_or seen p false) (range_with_len 0 (length seen))) (places_at blocks k)))
-        (row_sum (map (r_of rows) (parts rows (places_at blocks k) v))) v (parts-sum rows (places_at blocks k) v (is_sum-spanned (map (r_of rows) (places_at blocks k)) v t.spanned))
-        (all_in-span (r_of rows) (kept (filter (λ p. get_or seen p false) (range_with_len 0 (length seen))) (places_at blocks k)) (parts rows (places_at blocks k) v)
-        (λ y h. kept-has (filter (λ p. get_or seen p false) (range_with_len 0 (length seen))) (places_at blocks k) y (Has-parts rows (places_at blocks k) v y h) (in-seen y (t.reached y h))))
 
 none-left : (xs : List ℕ) → length xs ≡ 0 → xs ≡ []
 none-left [] e = refl
@@ -304,13 +250,10 @@ pub open-none : (full : ℕ) (blocks : List Block) (unfilled : List ℕ) → len
 open-none full blocks unfilled e o = subst (λ (q : List ℕ). IsOpen full blocks q) (none-left unfilled e) o
 
 -- ---- row after row
-pub record Underway (rows : List ℕ) (n : ℕ) (homes : List ℕ) (blocks : List Block) (unfilled all witness : List ℕ) : Type 0 where
-  pub count : length homes ≡ n
-  pub state : IsState rows homes blocks
-  pub rooms : IsOpen (length all) blocks unfilled
-  pub spans : SpansFirst n rows all
-  pub shown : 0 < length blocks → IsShown rows n (length blocks - 1) witness
-  pub none : length blocks ≡ 0 → witness ≡ []
+pub record Underway (rows : List ℕ) (n : ℕ) (a : Arrangement) (witness : List ℕ) : Type 0 where
+  pub so_far : a.rows ≡ take n rows
+  pub shown : 0 < length a.blocks → IsShown a.rows (length a.blocks - 1) witness
+  pub none : length a.blocks ≡ 0 → witness ≡ []
 
 -- one row more is spanned
 pub spans-more : (rows : List ℕ) (n x : ℕ) (old new : List ℕ) → x ≡ get_or rows n 0 → SpansFirst n rows old → ((v : ℕ) → is_sum old v ≡ true → is_sum new v ≡ true) → is_sum new x ≡ true
@@ -320,36 +263,24 @@ spans-more rows n x old new e s k h i l = elim (cases_eq i n) [
   | inr m ↦ k (get_or rows i 0) (s i (omega arith))
 ]
 
-pub underway-opened : (rows : List ℕ) (n : ℕ) (homes homes' : List ℕ) (blocks blocks' : List Block) (unfilled' all witness : List ℕ) → length homes ≡ n → length homes' ≡ length homes + 1
-    → IsState rows homes' blocks' → IsOpen (length all) blocks' unfilled' → SpansFirst (n + 1) rows all → length blocks' ≡ length blocks + 1
-    → IsShown rows (length homes') (length blocks) witness → Underway rows (n + 1) homes' blocks' unfilled' all witness
-underway-opened rows n homes homes' blocks blocks' unfilled' all witness c h st o sp b w =
-    let m : length homes' ≡ n + 1 = h ∙ ap (λ k. k + 1) c in record {
-      count = m;
-      state = st;
-      rooms = o;
-      spans = sp;
-      shown = λ l. let e : length blocks ≡ length blocks' - 1 = omega arith in
-          subst (λ k. IsShown rows k (length blocks' - 1) witness) m (subst (λ k. IsShown rows (length homes') k witness) e w);
-      none = λ e. absurd (omega arith);
-    }
+rows-next : (rows : List ℕ) (n x : ℕ) (old new : List ℕ) → n < length rows → x ≡ get_or rows n 0 → old ≡ take n rows → new ≡ old ++ x ∷ [] → new ≡ take (n + 1) rows
+rows-next rows n x old new l e o h = h ∙ (λ i. o i ++ e i ∷ []) ∙ sym (take-next rows n 0 l)
 
-pub underway-entered : (rows : List ℕ) (n : ℕ) (homes homes' : List ℕ) (blocks blocks' : List Block) (unfilled unfilled' old all witness : List ℕ)
-    → Underway rows n homes blocks unfilled old witness → length homes' ≡ length homes + 1
-    → IsState rows homes' blocks' → IsOpen (length all) blocks' unfilled' → SpansFirst (n + 1) rows all → length blocks' ≡ length blocks
-    → Underway rows (n + 1) homes' blocks' unfilled' all witness
-underway-entered rows n homes homes' blocks blocks' unfilled unfilled' old all witness u h st o sp b = record {
-  count = h ∙ ap (λ k. k + 1) u.count;
-  state = st;
-  rooms = o;
-  spans = sp;
-  shown = λ l. let s : IsShown rows n (length blocks - 1) witness = u.shown (subst (λ k. 0 < k) b l) in
-      subst (λ k. IsShown rows (n + 1) (k - 1) witness) (sym b) (record {
-        within = All-weaker (λ i. i < n) (λ i. i < n + 1) (λ i a. omega arith) witness s.within;
-        ascending = s.ascending;
-        more = s.more;
-      });
-  none = λ e. u.none (sym b ∙ e);
+pub underway-opened : (rows : List ℕ) (n x : ℕ) (o a : Arrangement) (old witness : List ℕ) → Underway rows n o old → n < length rows → x ≡ get_or rows n 0 → a.rows ≡ o.rows ++ x ∷ []
+    → length a.blocks ≡ length o.blocks + 1 → IsShown a.rows (length o.blocks) witness → Underway rows (n + 1) a witness
+underway-opened rows n x o a old witness u l e r b w = record {
+  so_far = rows-next rows n x o.rows a.rows l e u.so_far r;
+  shown = λ h. let e : length o.blocks ≡ length a.blocks - 1 = omega arith in subst (λ k. IsShown a.rows k witness) e w;
+  none = λ h. absurd (omega arith);
+}
+
+pub underway-entered : (rows : List ℕ) (n x : ℕ) (o a : Arrangement) (witness : List ℕ) → Underway rows n o witness → n < length rows → x ≡ get_or rows n 0 → a.rows ≡ o.rows ++ x ∷ []
+    → length a.blocks ≡ length o.blocks → Underway rows (n + 1) a witness
+underway-entered rows n x o a witness u l e r b = record {
+  so_far = rows-next rows n x o.rows a.rows l e u.so_far r;
+  shown = λ h. subst (λ (q : List ℕ). IsShown q (length a.blocks - 1) witness) (sym r)
+      (subst (λ k. IsShown (o.rows ++ x ∷ []) (k - 1) witness) (sym b) (shown-with o.rows (length o.blocks - 1) x witness (u.shown (subst (λ k. 0 < k) b h))));
+  none = λ h. u.none (sym b ∙ h);
 }
 
 -- ---- the end
@@ -367,38 +298,37 @@ ascending-state rows homes blocks lists st e =
     subst (All IsStrictlyIncreasing) (sym e)
     (All-map IsStrictlyIncreasing (λ (b : Block). b.places.items) blocks (λ k d l. IsStrictlyIncreasing-ascending (get_or blocks k d).places.items (st.block k d l).ascending))
 
-pub IsWitness-shown : (rows : List ℕ) (n : ℕ) (homes : List ℕ) (blocks : List Block) (unfilled all witness shown : List ℕ) (count : ℕ) (lists : List (List ℕ))
-    → Underway rows n homes blocks unfilled all witness → n ≡ length rows → count ≡ length blocks → length lists ≡ count
-    → (count ≡ 1 → shown ≡ range_with_len 0 (length rows)) → ((count ≡ 1 → ⊥) → shown ≡ witness) → IsWitness rows lists shown
-IsWitness-shown rows n homes blocks unfilled all witness shown count lists u e c l one other = elim (cases_eq count 1) [
-  | inl q ↦ let p : 0 < length blocks = omega arith in
-      subst (IsWitness rows lists) (sym (one q)) (record {
-        within = range-below (length rows);
-        ascending = IsStrictlyIncreasing-ascending (range_with_len 0 (length rows)) (range-ascending 0 (length rows));
-        more = λ h. let m : length (range_with_len 0 (length rows)) ≡ length rows = length-range_with_len 0 (length rows) in
-            let z : length lists - 1 ≡ 0 = omega arith in
-            subst (λ k. k * rank (rows_at rows (range_with_len 0 (length rows))) < length (range_with_len 0 (length rows))) (sym z) (omega arith);
-      })
+underway-shown : (rows : List ℕ) (a : Arrangement) (witness : List ℕ) → Underway rows (length rows) a witness → 0 < length a.blocks → IsShown rows (length a.blocks - 1) witness
+underway-shown rows a witness u l = subst (λ (q : List ℕ). IsShown q (length a.blocks - 1) witness) (u.so_far ∙ take-length rows) (u.shown l)
+
+pub IsWitness-shown : (rows : List ℕ) (a : Arrangement) (witness shown : List ℕ) (count : ℕ) (lists : List (List ℕ)) → Underway rows (length rows) a witness → IsPartition rows lists
+    → count ≡ length a.blocks → length lists ≡ count → (count ≡ 1 → shown ≡ range_with_len 0 (length rows)) → ((count ≡ 1 → ⊥) → shown ≡ witness) → IsWitness rows lists shown
+IsWitness-shown rows a witness shown count lists u p c l one other = elim (cases_eq count 1) [
+  | inl q ↦ subst (IsWitness rows lists) (sym (one q)) (record {
+    within = range-below (length rows);
+    ascending = IsStrictlyIncreasing-ascending (range_with_len 0 (length rows)) (range-ascending 0 (length rows));
+    more = λ h. let m : length (range_with_len 0 (length rows)) ≡ length rows = length-range_with_len 0 (length rows) in
+        let z : length lists - 1 ≡ 0 = omega arith in
+        subst (λ k. k * rank (rows_at rows (range_with_len 0 (length rows))) < length (range_with_len 0 (length rows))) (sym z) (omega arith);
+  })
   | inr m ↦ subst (IsWitness rows lists) (sym (other m)) (elim (cases_eq count 0) [
     | inl z ↦ let w : witness ≡ [] = u.none (sym c ∙ z) in
         subst (IsWitness rows lists) (sym w) (record {
           within = λ k d h. absurd (omega arith);
           ascending = λ k h. absurd (omega arith);
-          more = λ h. let t : times 0 (lists_of blocks) ≡ 1 = state-once rows homes blocks u.state 0 (omega (arith, u.count, e)) in
-              absurd (nowhere blocks 0 (sym c ∙ z) t);
+          more = λ h. absurd (nowhere lists (l ∙ z) (p.once 0 h));
         })
-    | inr k ↦ let p : 0 < length blocks = omega arith in
-        let s : IsShown rows n (length blocks - 1) witness = u.shown p in record {
-          within = subst (λ j. All (λ i. i < j) witness) e s.within;
-          ascending = s.ascending;
-          more = λ h. subst (λ j. (j - 1) * rank (rows_at rows witness) < length witness) (sym (l ∙ c)) s.more;
-        }
+    | inr k ↦ let s : IsShown rows (length a.blocks - 1) witness = underway-shown rows a witness u (omega arith) in record {
+      within = s.within;
+      ascending = s.ascending;
+      more = λ h. subst (λ j. (j - 1) * rank (rows_at rows witness) < length witness) (sym (l ∙ c)) s.more;
+    }
   ])
 ]
   where
-    nowhere : (bs : List Block) (i : ℕ) → length bs ≡ 0 → times i (lists_of bs) ≡ 1 → ⊥
-    nowhere [] i z t = absurd (omega (arith, t))
-    nowhere (b ∷ bs) i z t = absurd (omega (arith, z))
+    nowhere : (bs : List (List ℕ)) → length bs ≡ 0 → times 0 bs ≡ 1 → ⊥
+    nowhere [] z t = absurd (omega (arith, t))
+    nowhere (b ∷ bs) z t = absurd (omega (arith, z))
 
 ascending-increasing : (xs : List ℕ) → IsStrictlyIncreasing xs → IsAscending xs
 ascending-increasing [] a = tt
@@ -440,19 +370,18 @@ all_free-from rows (b ∷ other) h = (
   all_free-from rows other (λ k d l. h (suc k) d (omega arith)),
 )
 
-pub least-shown : (rows : List ℕ) (n : ℕ) (homes : List ℕ) (blocks : List Block) (unfilled all witness : List ℕ) → Underway rows n homes blocks unfilled all witness → n ≡ length rows
-    → (other : List (List ℕ)) → IsPartition rows other → length blocks ≤ length other
+pub least-shown : (rows : List ℕ) (a : Arrangement) (witness : List ℕ) → Underway rows (length rows) a witness → (other : List (List ℕ)) → IsPartition rows other
+    → length a.blocks ≤ length other
 unfolding rows_at
-least-shown rows n homes blocks unfilled all witness u e other p = elim (cases_eq (length blocks) 0) [
+least-shown rows a witness u other p = elim (cases_eq (length a.blocks) 0) [
   | inl z ↦ omega arith
   | inr m ↦
-      let s : IsShown rows n (length blocks - 1) witness = u.shown (omega arith) in
-      let l : length blocks - 1 < length other =
-      least-by_witness (r_of rows) witness (length blocks - 1) other (distinct-increasing witness s.ascending)
+      let s : IsShown rows (length a.blocks - 1) witness = underway-shown rows a witness u (omega arith) in
+      let l : length a.blocks - 1 < length other =
+      least-by_witness (r_of rows) witness (length a.blocks - 1) other (distinct-increasing witness s.ascending)
       (at_least-from rows other p witness (λ y h. inside witness y h s.within)) (all_free-from rows other p.independent) s.more in
       omega arith
 ]
   where
-    inside : (w : List ℕ) (y : ℕ) → Has w y → All (λ i. i < n) w → y < length rows
-    inside w y h a = let r : (j : ℕ) × (j < length w) × (get_or w j 0 ≡ y) = Has-at w y h in
-        let l : get_or w r.0 0 < n = a r.0 0 r.1 in subst (λ k. k < length rows) r.2 (omega arith)
+    inside : (w : List ℕ) (y : ℕ) → Has w y → All (λ i. i < length rows) w → y < length rows
+    inside w y h a = let r : (j : ℕ) × (j < length w) × (get_or w j 0 ≡ y) = Has-at w y h in subst (λ k. k < length rows) r.2 (a r.0 0 r.1)

@@ -10,15 +10,17 @@
 --   moved B c x h               the blocks B with x put into the c-th and taken out of the h-th
 --   SpansFirst n rows all       the first n rows are sums of `all`
 --   shown_by w                  the places of a witness
---   IsShown rows n k w          of the first n rows, a choice with more than k times its rank
-use Rattle.std.specs.Prelude.{◌≡◌, ℕ, zero, suc, ◌*◌, ◌<◌, ◌≤◌, ◌==◌, cond, List, [], ◌∷◌, All, true, false, length, slice_index, slice_index_or}
+--   IsShown rows k w            a choice of the rows with more than k times its rank
+--   values rs                   the rows behind some references
+use Rattle.std.specs.Prelude.{◌≡◌, ℕ, zero, suc, ◌*◌, ◌<◌, ◌≤◌, ◌==◌, cond, List, [], ◌∷◌, All, true, false, length, map, slice_index, slice_index_or}
+use Rattle.std.specs.Borrow.{Bor}
 use Rattle.std.specs.List.{range_with_len}
 use Rattle.std.specs.List.Sorted.{IsStrictlyIncreasing}
 use Rattle.matroid_partition.specs.Places.{Has, IsAscending, put_in, taken_out}
 use Rattle.gf2_linear.specs.Rows.{is_independent, is_sum, rank, rows_at}
 use Rattle.matroid_partition.specs.declared.blocks.Block.{Block}
-use Rattle.matroid_partition.specs.declared.entry.Witness.{Witness}
-use Rattle.matroid_partition.specs.declared.entry.Witness.TheVariants.{First, Reached}
+use Rattle.matroid_partition.specs.declared.witness.Witness.{Witness}
+use Rattle.matroid_partition.specs.declared.witness.Witness.TheVariants.{First, Reached}
 
 pub record IsBlock (rows : List ℕ) (b : Block) : Type 0 where
   pub basis : b.basis ≡ rows_at rows b.places.items
@@ -64,7 +66,10 @@ abbrev pub shown_by : Witness → List ℕ
 shown_by (First n) = range_with_len 0 n
 shown_by (Reached places) = places.items
 
-pub record IsShown (rows : List ℕ) (n k : ℕ) (witness : List ℕ) : Type 0 where
-  pub within : All (λ i. i < n) witness
+pub record IsShown (rows : List ℕ) (k : ℕ) (witness : List ℕ) : Type 0 where
+  pub within : All (λ i. i < length rows) witness
   pub ascending : IsStrictlyIncreasing witness
   pub more : k * rank (rows_at rows witness) < length witness
+
+abbrev pub values : List (Bor ℕ) → List ℕ
+values rs = map (λ r. r.now) rs

@@ -1,5 +1,5 @@
 -- Working form. Rows that are dealt out among blocks whose number is held.
---   IsHeld rows d             the rows that have a place in a block: the held ones, each with its place among all rows
+--   IsHeld rows d             the rows that have a place in a block are those at their names
 --   IsTakenIn rows place o d  one row more is held, and no block
 --   IsStuck rows place d seen what was reached from a row that found no place
 --   IsUnchanged o d           nothing has changed
@@ -21,42 +21,34 @@ use Rattle.std.specs.List.{range_with_len}
 use Rattle.std.specs.List.Sorted.{IsStrictlyIncreasing}
 use Rattle.gf2_linear.specs.Rows.{is_sum, rank, rows_at}
 use Rattle.gf2_linear.specs.Wide.{count_of}
-use Rattle.matroid_partition.specs.Blocks.{IsOpen, IsState, SpansFirst, places_at}
+use Rattle.matroid_partition.specs.Arrangements.{rows_with}
+use Rattle.matroid_partition.specs.Blocks.{SpansFirst, places_at}
 use Rattle.matroid_partition.specs.Closed.{IsClosed, seen_among}
 use Rattle.matroid_partition.specs.Places.{Has}
 use Rattle.matroid_partition.specs.Searches.{IsSeen}
 use Rattle.matroid_partition.specs.declared.dealing.Dealing.{Dealing}
 
-pub record IsHeld (rows : List ℕ) (d : Dealing) : Type 0 where
-  pub count : length d.homes.items ≡ length d.held.items
-  pub named : length d.names.items ≡ length d.held.items
-  pub told : (p : ℕ) → p < length d.held.items → slice_index d.held.items p ≡ slice_index rows (slice_index d.names.items p)
-  pub state : IsState d.held.items d.homes.items d.blocks.items
-  pub rooms : IsOpen (length d.all) d.blocks.items d.unfilled.items
-  pub spans : SpansFirst (length d.held.items) d.held.items d.all
+abbrev pub IsHeld : List ℕ → Dealing → Type 0
+IsHeld rows d = d.held.rows ≡ rows_at rows d.names.items
 
 pub record IsTakenIn (rows : List ℕ) (place : ℕ) (o d : Dealing) : Type 0 where
   pub held : IsHeld rows d
   pub names : d.names.items ≡ o.names.items ++ place ∷ []
   pub over : d.over.items ≡ o.over.items
-  pub all : d.all ≡ o.all
-  pub blocks : length d.blocks.items ≡ length o.blocks.items
+  pub all : d.held.all ≡ o.held.all
+  pub blocks : length d.held.blocks ≡ length o.held.blocks
 
 pub record IsUnchanged (o d : Dealing) : Type 0 where
-  pub held : d.held.items ≡ o.held.items
+  pub held : d.held ≡ o.held
   pub names : d.names.items ≡ o.names.items
   pub over : d.over.items ≡ o.over.items
-  pub blocks : d.blocks.items ≡ o.blocks.items
-  pub homes : d.homes.items ≡ o.homes.items
-  pub unfilled : d.unfilled.items ≡ o.unfilled.items
-  pub all : d.all ≡ o.all
 
 pub record IsStuck (rows : List ℕ) (place : ℕ) (o d : Dealing) (seen : List Bool) : Type 0 where
   pub same : IsUnchanged o d
-  pub closed : IsClosed (o.held.items ++ slice_index rows place ∷ []) o.homes.items o.blocks.items seen
+  pub closed : IsClosed (rows_with o.held (slice_index rows place)) o.held.homes o.held.blocks seen
 
 abbrev pub names_at : Dealing → ℕ → List ℕ
-names_at d k = map (slice_index d.names.items) (places_at d.blocks.items k)
+names_at d k = map (slice_index d.names.items) (places_at d.held.blocks k)
 
 pub record IsMarked (old new : List Bool) (names : List ℕ) (seen : List Bool) : Type 0 where
   pub long : length new ≡ length old
@@ -65,11 +57,11 @@ pub record IsMarked (old new : List Bool) (names : List ℕ) (seen : List Bool) 
   pub only : (y : ℕ) → IsSeen new y → IsSeen old y ⊎ ((p : ℕ) × ((p < length names) × (IsSeen seen p × (slice_index names p ≡ y))))
 
 abbrev pub AreMarked : List ℕ → Dealing → List Bool → Type 0
-AreMarked rows d marks = (k y : ℕ) → k < length d.blocks.items → IsSeen marks y → is_sum (rows_at rows (seen_among marks (names_at d k))) (slice_index rows y) ≡ true
+AreMarked rows d marks = (k y : ℕ) → k < length d.held.blocks → IsSeen marks y → is_sum (rows_at rows (seen_among marks (names_at d k))) (slice_index rows y) ≡ true
 
 pub record AreRows (rows : List ℕ) (d : Dealing) : Type 0 where
   pub below : (i : ℕ) → Has d.over.items i → i < length rows
-  pub sums : (i : ℕ) → Has d.over.items i → is_sum d.all (slice_index rows i) ≡ true
+  pub sums : (i : ℕ) → Has d.over.items i → is_sum d.held.all (slice_index rows i) ≡ true
   pub named : (p : ℕ) → p < length d.names.items → slice_index d.names.items p < length rows
 
 pub record IsBack (rows : List ℕ) (o d : Dealing) : Type 0 where
@@ -80,8 +72,8 @@ pub record IsBack (rows : List ℕ) (o d : Dealing) : Type 0 where
   pub held : IsHeld rows d
   pub names : d.names.items ≡ o.names.items ++ place ∷ []
   pub over : d.over.items ≡ remove o.over.items index
-  pub all : d.all ≡ o.all
-  pub blocks : length d.blocks.items ≡ length o.blocks.items
+  pub all : d.held.all ≡ o.held.all
+  pub blocks : length d.held.blocks ≡ length o.held.blocks
 
 pub record IsStuckAll (rows : List ℕ) (o d : Dealing) (marks : List Bool) : Type 0 where
   pub same : IsUnchanged o d
@@ -93,23 +85,23 @@ pub record IsBegun (rows : List ℕ) (place : ℕ) (o d : Dealing) : Type 0 wher
   pub held : IsHeld rows d
   pub names : d.names.items ≡ o.names.items ++ place ∷ []
   pub over : d.over.items ≡ o.over.items
-  pub all : d.all ≡ o.all
-  pub blocks : length d.blocks.items ≡ length o.blocks.items + 1
+  pub all : d.held.all ≡ o.held.all
+  pub blocks : length d.held.blocks ≡ length o.held.blocks + 1
 
 pub record IsOpened (rows : List ℕ) (o d : Dealing) : Type 0 where
   pub place : ℕ
   pub held : IsHeld rows d
   pub names : d.names.items ≡ o.names.items ++ place ∷ []
   pub over : o.over.items ≡ d.over.items ++ place ∷ []
-  pub all : d.all ≡ o.all
-  pub blocks : length d.blocks.items ≡ length o.blocks.items + 1
+  pub all : d.held.all ≡ o.held.all
+  pub blocks : length d.held.blocks ≡ length o.held.blocks + 1
 
 pub record IsDealing (rows : List ℕ) (n m c : ℕ) (d : Dealing) : Type 0 where
   pub held : IsHeld rows d
   pub once : (y : ℕ) → count_of y d.names.items + count_of y d.over.items ≡ cond (nat_lt y n) 1 0
   pub within : n ≤ length rows
-  pub sums : SpansFirst n rows d.all
-  pub few : length d.over.items ≤ length d.blocks.items * m + c
+  pub sums : SpansFirst n rows d.held.all
+  pub few : length d.over.items ≤ length d.held.blocks * m + c
 
 pub record IsShownWide (rows : List ℕ) (k m : ℕ) (witness : List ℕ) : Type 0 where
   pub within : All (λ i. i < length rows) witness
@@ -126,5 +118,5 @@ at_home homes k = filter (λ p. nat_eq (slice_index homes p) k) (range_with_len 
 
 pub record IsHoused (n m : ℕ) (d : Dealing) (homes : List ℕ) : Type 0 where
   pub long : length homes ≡ n
-  pub held : (p : ℕ) → p < length d.names.items → slice_index homes (slice_index d.names.items p) ≡ slice_index d.homes.items p
+  pub held : (p : ℕ) → p < length d.names.items → slice_index homes (slice_index d.names.items p) ≡ slice_index d.held.homes p
   pub over : (j : ℕ) → j < length d.over.items → slice_index homes (slice_index d.over.items j) ≡ j / m

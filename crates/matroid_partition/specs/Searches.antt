@@ -14,20 +14,19 @@
 --   IsGrown                   more nodes behind those that were there, more of the rows seen
 --   IsRoot new nodes          the new row alone
 --   IsStart new nodes seen    the same, and it alone is seen
---   IsGround                  the rows with a home; the blocks that are not listed span them and the new one
 --   IsMember place            one of the rows of another block that sum to the node's row
 --   IsSet set                 the members of another block that sum to the node's row
---   IsStill g, IsFrontOf g f, IsChainOf g f c    IsGround, IsFront and IsChain of what the code passes on
---   IsNear g place into       a row that the new one's sum takes in has room in another block
 --   IsChain last into         the row of the last node has room in another block
+--   IsFrontOf a v, IsChainOf a v    IsFront and IsChain of rows that have come in, and a new one v behind them
+--   IsNear a v place into     a row that the new one's sum takes in has room in another block
 use Rattle.std.specs.Prelude.{◌≡◌, ◌⊎◌, ℕ, ◌+◌, ◌<◌, ◌≤◌, Bool, true, false, cond, List, [], ◌∷◌, ◌++◌, All, length, map, replicate, slice_index, slice_index_or, bit_xor}
 use Rattle.matroid_partition.specs.Places.{Has}
-use Rattle.matroid_partition.specs.Blocks.{HasRoomAt, IsState, OthersSpan, places_at}
+use Rattle.matroid_partition.specs.Arrangements.{Arrangement, rows_with}
+use Rattle.matroid_partition.specs.Blocks.{HasRoomAt, places_at}
 use Rattle.gf2_linear.specs.Rows.{combined, is_sum, row_sum, rows_at}
 use Rattle.matroid_partition.specs.declared.blocks.Block.{Block}
 use Rattle.matroid_partition.specs.declared.search.Chain.{Chain}
 use Rattle.matroid_partition.specs.declared.search.Front.{Front}
-use Rattle.matroid_partition.specs.declared.search.Ground.{Ground}
 use Rattle.matroid_partition.specs.declared.search.Node.{Node}
 
 abbrev pub parts : List ℕ → List ℕ → ℕ → List ℕ
@@ -102,12 +101,6 @@ pub record IsStart (new : ℕ) (nodes : List Node) (seen : List Bool) : Type 0 w
   pub first : nodes ≡ record { place = new; parent = 0 } ∷ []
   pub only : seen ≡ replicate new false ++ true ∷ []
 
-pub record IsGround (rows homes : List ℕ) (blocks : List Block) (unfilled : List ℕ) : Type 0 where
-  pub state : IsState rows homes blocks
-  pub next : length homes < length rows
-  pub within : All (λ k. k < length blocks) unfilled
-  pub others : (i : ℕ) → i ≤ length homes → OthersSpan blocks unfilled (slice_index rows i)
-
 pub record IsMember (rows homes : List ℕ) (blocks : List Block) (n : Node) (number place : ℕ) : Type 0 where
   pub stands : Has (parts rows (places_at blocks number) (row_of rows n)) place
   pub told : row_sum (map (slice_index rows) (parts rows (places_at blocks number) (row_of rows n))) ≡ row_of rows n
@@ -123,16 +116,13 @@ pub record IsChain (rows homes : List ℕ) (blocks : List Block) (nodes : List N
   pub apart : IsOwn homes (node_at nodes last) into → ⊥
   pub room : HasRoomAt (row_of rows (node_at nodes last)) blocks into
 
--- the same, of what the code passes on
-abbrev pub IsStill : Ground → Type 0
-IsStill g = IsGround g.rows.now g.homes.now g.blocks.now g.unfilled.now
+-- the same of rows that have come in, and a new one behind them
+abbrev pub IsFrontOf : Arrangement → ℕ → Front → ℕ → ℕ → Type 0
+IsFrontOf a v f node number = IsFront (rows_with a v) a.homes a.blocks f.nodes.items f.seen.items node number
 
-abbrev pub IsFrontOf : Ground → Front → ℕ → ℕ → Type 0
-IsFrontOf g f node number = IsFront g.rows.now g.homes.now g.blocks.now f.nodes.items f.seen.items node number
+pub record IsNear (a : Arrangement) (v place into : ℕ) : Type 0 where
+  pub member : IsMember (rows_with a v) a.homes a.blocks (record { place = length a.homes; parent = 0 }) (slice_index a.homes place) place
+  pub room : HasRoomAt (slice_index (rows_with a v) place) a.blocks into
 
-pub record IsNear (g : Ground) (place into : ℕ) : Type 0 where
-  pub member : IsMember g.rows.now g.homes.now g.blocks.now (record { place = length g.homes.now; parent = 0 }) (slice_index g.homes.now place) place
-  pub room : HasRoomAt (slice_index g.rows.now place) g.blocks.now into
-
-abbrev pub IsChainOf : Ground → Front → Chain → Type 0
-IsChainOf g f c = IsChain g.rows.now g.homes.now g.blocks.now f.nodes.items c.last c.into
+abbrev pub IsChainOf : Arrangement → ℕ → List Node → Chain → Type 0
+IsChainOf a v nodes c = IsChain (rows_with a v) a.homes a.blocks nodes c.last c.into

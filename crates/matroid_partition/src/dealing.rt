@@ -4,94 +4,72 @@ ghost use Rattle.std.specs.Prelude.{◌≡◌, ℕ, ◌+◌, ◌*◌, ◌<◌, �
 ghost use Rattle.gf2_linear.specs.Rows.{is_sum};
 ghost use Rattle.matroid_partition.specs.Dealings.{AreRows, IsBack, IsBegun, IsDealing, IsHeld, IsMarked, IsOpened, IsShownWide, IsStuck, IsStuckAll, IsTakenIn};
 
-use crate::blocks::Block;
-use crate::entry::{begin, seen_places};
-use crate::parts::widen;
-use crate::settle::settle;
-use gf2_linear::{Basis, Row};
+use crate::partitioning::Partitioning;
+use crate::witness::seen_places;
+use gf2_linear::Row;
 use std::alloc::{AllocError, Global};
 
 /// The rows that have a place in a block, in the order in which they came, and those that are put by.
 #[derive(Drop)]
-pub struct Dealing {
+pub struct Dealing<'a> {
     /// The rows in blocks.
-    pub held: Vec<Row>,
+    pub held: Partitioning<'a>,
     /// For each of them its place among all rows.
     pub names: Vec<usize>,
     /// The places of the rows that are put by.
     pub over: Vec<usize>,
-    /// The blocks, of places of held rows.
-    pub blocks: Vec<Block>,
-    /// The block of each held row.
-    pub homes: Vec<usize>,
-    /// The blocks that may have room.
-    pub unfilled: Vec<usize>,
-    /// A basis of all rows so far.
-    pub all: Basis,
 }
 
 /// No rows yet.
-pub fn undealt(alloc: Global) -> Dealing
+pub fn undealt<'a>(alloc: Global) -> Dealing<'a>
     ensures dealing { (rows : List ℕ) (m : ℕ) → IsDealing rows 0 m 0 result }
-    ensures blocks { length result.blocks.items ≡ 0 }
+    ensures blocks { length result.held.blocks ≡ 0 }
 {
     Dealing {
-        held: Vec::new(alloc),
+        held: Partitioning::none(alloc),
         names: Vec::new(alloc),
         over: Vec::new(alloc),
-        blocks: Vec::new(alloc),
-        homes: Vec::new(alloc),
-        unfilled: Vec::new(alloc),
-        all: Basis::new(alloc),
     }
 }
 
 /// Tries to bring a row into the blocks as they are. Where there is no place, it marks the held rows that were reached, and
 /// the row itself behind them.
-pub fn offer(
+pub fn offer<'a>(
     alloc: Global,
-    rows: &[Row],
-    dealing: &mut Dealing,
+    rows: &'a [Row],
+    dealing: &mut Dealing<'a>,
     place: usize,
 ) -> Result<Option<Vec<bool>>, AllocError>
     requires held { IsHeld rows.now dealing.old }
     requires there { place < length rows.now }
-    requires sum { is_sum dealing.old.all (slice_index rows.now place) ≡ true }
+    requires sum { is_sum dealing.old.held.all (slice_index rows.now place) ≡ true }
     ensures none { IfOk result (λ o. IfNone o (IsTakenIn rows.now place dealing.old dealing.new)) }
     ensures some { IfOk result (λ o. IfSome o (λ s. IsStuck rows.now place dealing.old dealing.new s.items)) }
 {
-    dealing.held.push(rows[place].copy())?;
-    let stuck = settle(
-        alloc,
-        &dealing.held,
-        &dealing.all,
-        &mut dealing.blocks,
-        &mut dealing.homes,
-        &mut dealing.unfilled,
-    )?;
-    match stuck {
+    match dealing.held.settle(alloc, &rows[place])? {
         None => {
             dealing.names.push(place)?;
             Ok(None)
         }
-        Some(seen) => {
-            let _last = dealing.held.pop();
+        Some(reach) => {
+            let seen = dealing.held.seen(alloc, reach)?;
             Ok(Some(seen))
         }
     }
 }
 
 /// Tries each row that was put by. Where none finds a place, it marks, among all rows, those that were reached.
-pub fn retry(
+pub fn retry<'a>(
     alloc: Global,
-    rows: &[Row],
-    dealing: &mut Dealing,
+    rows: &'a [Row],
+    dealing: &mut Dealing<'a>,
 ) -> Result<Option<Vec<bool>>, AllocError>
     requires held { IsHeld rows.now dealing.old }
     requires rows { AreRows rows.now dealing.old }
     ensures none { IfOk result (λ o. IfNone o (IsBack rows.now dealing.old dealing.new)) }
     ensures some { IfOk result (λ o. IfSome o (λ m. IsStuckAll rows.now dealing.old dealing.new m.items)) }
 {
+    dealing.held.facts();
     let mut marks = vec![in alloc; false; rows.len()]?;
     'over: for index in 0..dealing.over.len() {
         let place = dealing.over[index];
@@ -123,7 +101,11 @@ fn mark(marks: &mut Vec<bool>, names: &[usize], seen: &[bool])
 }
 
 /// Opens a block with the last of the rows that were put by.
-fn open_last(alloc: Global, rows: &[Row], dealing: &mut Dealing) -> Result<(), AllocError>
+fn open_last<'a>(
+    alloc: Global,
+    rows: &'a [Row],
+    dealing: &mut Dealing<'a>,
+) -> Result<(), AllocError>
     requires held { IsHeld rows.now dealing.old }
     requires rows { AreRows rows.now dealing.old }
     requires some { 0 < length dealing.old.over.items }
@@ -136,35 +118,28 @@ fn open_last(alloc: Global, rows: &[Row], dealing: &mut Dealing) -> Result<(), A
 }
 
 /// Opens a block with a row.
-fn open_with(
+fn open_with<'a>(
     alloc: Global,
-    rows: &[Row],
-    dealing: &mut Dealing,
+    rows: &'a [Row],
+    dealing: &mut Dealing<'a>,
     place: usize,
 ) -> Result<(), AllocError>
     requires held { IsHeld rows.now dealing.old }
     requires there { place < length rows.now }
-    requires sum { is_sum dealing.old.all (slice_index rows.now place) ≡ true }
+    requires sum { is_sum dealing.old.held.all (slice_index rows.now place) ≡ true }
     requires nonzero { slice_index rows.now place ≡ 0 → ⊥ }
     ensures { IfOk result (λ _. IsBegun rows.now place dealing.old dealing.new) }
 {
-    dealing.held.push(rows[place].copy())?;
-    begin(
-        alloc,
-        &dealing.held,
-        &mut dealing.blocks,
-        &mut dealing.homes,
-        &mut dealing.unfilled,
-    )?;
+    dealing.held.begin(alloc, &rows[place])?;
     dealing.names.push(place)?;
     Ok(())
 }
 
 /// Makes room where one row too many was put by. Where a block has to be opened for that, it gives the rows that show why.
-fn make_room(
+fn make_room<'a>(
     alloc: Global,
-    rows: &[Row],
-    dealing: &mut Dealing,
+    rows: &'a [Row],
+    dealing: &mut Dealing<'a>,
 ) -> Result<Option<Vec<usize>>, AllocError>
     requires held { IsHeld rows.now dealing.old }
     requires rows { AreRows rows.now dealing.old }
@@ -172,10 +147,11 @@ fn make_room(
     requires nonzero { All (λ r. r ≡ 0 → ⊥) rows.now }
     ensures dealing { IfOk result (λ _. (n m : ℕ) → IsDealing rows.now n m 1 dealing.old → IsDealing rows.now n m 0 dealing.new) }
     ensures some { IfOk result (λ o. IfSome o (λ w. (n m : ℕ) → IsDealing rows.now n m 1 dealing.old →
-        length dealing.old.blocks.items * m < length dealing.old.over.items → IsShownWide rows.now (length dealing.old.blocks.items) m w.items)) }
-    ensures opened { IfOk result (λ o. IfSome o (λ _. length dealing.new.blocks.items ≡ length dealing.old.blocks.items + 1)) }
-    ensures none { IfOk result (λ o. IfNone o (length dealing.new.blocks.items ≡ length dealing.old.blocks.items)) }
+        length dealing.old.held.blocks * m < length dealing.old.over.items → IsShownWide rows.now (length dealing.old.held.blocks) m w.items)) }
+    ensures opened { IfOk result (λ o. IfSome o (λ _. length dealing.new.held.blocks ≡ length dealing.old.held.blocks + 1)) }
+    ensures none { IfOk result (λ o. IfNone o (length dealing.new.held.blocks ≡ length dealing.old.held.blocks)) }
 {
+    dealing.held.facts();
     match retry(alloc, rows, dealing)? {
         None => Ok(None),
         Some(marks) => {
@@ -187,19 +163,18 @@ fn make_room(
 }
 
 /// Brings the next row into the blocks as they are, or puts it by.
-fn admit(alloc: Global, rows: &[Row], dealing: &mut Dealing, place: usize) -> Result<(), AllocError>
+fn admit<'a>(
+    alloc: Global,
+    rows: &'a [Row],
+    dealing: &mut Dealing<'a>,
+    place: usize,
+) -> Result<(), AllocError>
     requires held { IsHeld rows.now dealing.old }
     requires next { place < length rows.now }
     ensures dealing { IfOk result (λ _. (m : ℕ) → IsDealing rows.now place m 0 dealing.old → IsDealing rows.now (place + 1) m 1 dealing.new) }
-    ensures blocks { IfOk result (λ _. length dealing.new.blocks.items ≡ length dealing.old.blocks.items) }
+    ensures blocks { IfOk result (λ _. length dealing.new.held.blocks ≡ length dealing.old.held.blocks) }
 {
-    widen(
-        alloc,
-        &rows[place],
-        &mut dealing.all,
-        &dealing.blocks,
-        &mut dealing.unfilled,
-    )?;
+    dealing.held.widen(alloc, &rows[place])?;
     if offer(alloc, rows, dealing, place)?.is_none() {
         return Ok(());
     }
@@ -208,10 +183,10 @@ fn admit(alloc: Global, rows: &[Row], dealing: &mut Dealing, place: usize) -> Re
 }
 
 /// Takes the next row in. Where it opens a block, it gives the rows that show why.
-pub fn take_in(
+pub fn take_in<'a>(
     alloc: Global,
-    rows: &[Row],
-    dealing: &mut Dealing,
+    rows: &'a [Row],
+    dealing: &mut Dealing<'a>,
     place: usize,
     spares: usize,
 ) -> Result<Option<Vec<usize>>, AllocError>
@@ -219,12 +194,12 @@ pub fn take_in(
     requires next { place < length rows.now }
     requires nonzero { All (λ r. r ≡ 0 → ⊥) rows.now }
     ensures dealing { IfOk result (λ _. IsDealing rows.now (place + 1) spares 0 dealing.new) }
-    ensures some { IfOk result (λ o. IfSome o (λ w. IsShownWide rows.now (length dealing.old.blocks.items) spares w.items)) }
-    ensures opened { IfOk result (λ o. IfSome o (λ _. length dealing.new.blocks.items ≡ length dealing.old.blocks.items + 1)) }
-    ensures none { IfOk result (λ o. IfNone o (length dealing.new.blocks.items ≡ length dealing.old.blocks.items)) }
+    ensures some { IfOk result (λ o. IfSome o (λ w. IsShownWide rows.now (length dealing.old.held.blocks) spares w.items)) }
+    ensures opened { IfOk result (λ o. IfSome o (λ _. length dealing.new.held.blocks ≡ length dealing.old.held.blocks + 1)) }
+    ensures none { IfOk result (λ o. IfNone o (length dealing.new.held.blocks ≡ length dealing.old.held.blocks)) }
 {
     admit(alloc, rows, dealing, place)?;
-    if dealing.over.len() <= dealing.blocks.len().saturating_mul(spares) {
+    if dealing.over.len() <= dealing.held.count().saturating_mul(spares) {
         return Ok(None);
     }
     let room = make_room(alloc, rows, dealing)?;

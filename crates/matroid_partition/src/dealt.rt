@@ -21,10 +21,11 @@ pub fn dealt(
     requires dealing { IsDealing rows.now (length rows.now) spares 0 dealing.now }
     ensures partition { IfOk result (λ v. IsSparePartition rows.now spares (map (λ b. b.items) v.items)) }
     ensures ascending { IfOk result (λ v. All IsStrictlyIncreasing (map (λ b. b.items) v.items)) }
-    ensures count { IfOk result (λ v. length v.items ≡ length dealing.now.blocks.items) }
+    ensures count { IfOk result (λ v. length v.items ≡ length dealing.now.held.blocks) }
 {
+    dealing.held.facts();
     let homes = homes_of(alloc, rows, dealing, spares)?;
-    let lists = lists_of(alloc, &homes, dealing.blocks.len())?;
+    let lists = lists_of(alloc, &homes, dealing.held.count())?;
     Ok(lists)
 }
 
@@ -38,9 +39,10 @@ fn homes_of(
     requires dealing { IsDealing rows.now (length rows.now) spares 0 dealing.now }
     ensures { IfOk result (λ v. IsHoused (length rows.now) spares dealing.now v.items) }
 {
+    dealing.held.facts();
     let mut homes = vec![in alloc; 0; rows.len()]?;
     let given = shares(alloc, dealing.over.len(), spares)?;
-    write_at(&mut homes, &dealing.names, &dealing.homes);
+    write_at(&mut homes, &dealing.names, dealing.held.homes());
     write_at(&mut homes, &dealing.over, &given);
     Ok(homes)
 }

@@ -1,10 +1,11 @@
-//! Exchanges along a chain.
+//! Exchanges along a chain. While they go on, a block may have one row fewer than it should, so these functions take the parts
+//! of a partitioning one by one.
 
 ghost use Rattle.std.specs.Prelude.{◌≡◌, ◌==◌, ℕ, ◌+◌, ◌<◌, cond, IfOk, length, slice_index};
-ghost use Rattle.matroid_partition.specs.Blocks.{HasRoomAt, IsState, moved, places_at};
+ghost use Rattle.matroid_partition.specs.Blocks.{HasRoomAt, IsState, moved, places_at, values};
 ghost use Rattle.matroid_partition.specs.Searches.{IsChain};
 
-use crate::blocks::{Block, put, take};
+use crate::blocks::{Block, append, put, take};
 use crate::search::{Chain, Node};
 use gf2_linear::Row;
 use std::alloc::{AllocError, Global};
@@ -12,16 +13,16 @@ use std::alloc::{AllocError, Global};
 /// Moves the rows along a chain, from its end back to the new row, which comes in.
 pub fn shift(
     alloc: Global,
-    rows: &[Row],
+    rows: &[&Row],
     nodes: &[Node],
     chain: Chain,
     blocks: &mut Vec<Block>,
     homes: &mut Vec<usize>,
 ) -> Result<(), AllocError>
-    requires state { IsState rows.now homes.old.items blocks.old.items }
-    requires next { length homes.old.items < length rows.now }
-    requires chain { IsChain rows.now homes.old.items blocks.old.items nodes.now chain.last chain.into }
-    ensures state { IfOk result (λ _. IsState rows.now homes.new.items blocks.new.items) }
+    requires state { IsState (values rows.now) homes.old.items blocks.old.items }
+    requires next { length homes.old.items < length (values rows.now) }
+    requires chain { IsChain (values rows.now) homes.old.items blocks.old.items nodes.now chain.last chain.into }
+    ensures state { IfOk result (λ _. IsState (values rows.now) homes.new.items blocks.new.items) }
     ensures homes { IfOk result (λ _. length homes.new.items ≡ length homes.old.items + 1) }
     ensures count { IfOk result (λ _. length blocks.new.items ≡ length blocks.old.items) }
     ensures sizes { IfOk result (λ _. (k : ℕ) → length (places_at blocks.new.items k) ≡ length (places_at blocks.old.items k) + cond (k == chain.into) 1 0) }
@@ -33,7 +34,7 @@ pub fn shift(
         node = nodes[node].parent;
     }
     let new = homes.len();
-    put(alloc, rows, &mut blocks[into], new)?;
+    append(rows, &mut blocks[into], new)?;
     homes.push(into)?;
     Ok(())
 }
@@ -41,17 +42,17 @@ pub fn shift(
 /// Moves a row from its block into another, and tells from which.
 fn exchange(
     alloc: Global,
-    rows: &[Row],
+    rows: &[&Row],
     place: usize,
     into: usize,
     blocks: &mut Vec<Block>,
     homes: &mut Vec<usize>,
 ) -> Result<usize, AllocError>
-    requires state { IsState rows.now homes.old.items blocks.old.items }
+    requires state { IsState (values rows.now) homes.old.items blocks.old.items }
     requires old { place < length homes.old.items }
-    requires room { HasRoomAt (slice_index rows.now place) blocks.old.items into }
+    requires room { HasRoomAt (slice_index (values rows.now) place) blocks.old.items into }
     ensures home { IfOk result (λ h. h ≡ slice_index homes.old.items place) }
-    ensures state { IfOk result (λ _. IsState rows.now homes.new.items blocks.new.items) }
+    ensures state { IfOk result (λ _. IsState (values rows.now) homes.new.items blocks.new.items) }
     ensures homes { IfOk result (λ _. length homes.new.items ≡ length homes.old.items) }
     ensures count { IfOk result (λ _. length blocks.new.items ≡ length blocks.old.items) }
     ensures moved { IfOk result (λ h. (k : ℕ) → places_at blocks.new.items k ≡ moved (places_at blocks.old.items) into place h k) }

@@ -19,13 +19,13 @@
 mod blocks;
 mod dealing;
 mod dealt;
-mod entry;
 mod exchange;
+mod partitioning;
 mod parts;
 mod search;
-mod settle;
 mod spares;
 mod taken;
+mod witness;
 
 pub use parts::{Parts, partition};
 pub use spares::partition_spares;

@@ -1,15 +1,14 @@
 //! The partition.
 
-ghost use Rattle.std.specs.Prelude.{◌≡◌, ℕ, ◌<◌, ◌≤◌, IfOk, List, [], length, map, All, true, vec_len};
+ghost use Rattle.std.specs.Prelude.{◌≡◌, ℕ, ◌≤◌, IfOk, List, [], length, All, vec_len};
 ghost use Rattle.std.specs.List.{range_with_len};
 ghost use Rattle.std.specs.List.Sorted.{IsStrictlyIncreasing};
-ghost use Rattle.gf2_linear.specs.Rows.{is_sum};
-ghost use Rattle.matroid_partition.specs.Blocks.{IsOpen, shown_by};
+ghost use Rattle.matroid_partition.specs.Blocks.{shown_by};
 ghost use Rattle.matroid_partition.specs.Partitions.{IsPartition, IsWitness, blocks_of};
 
-use crate::blocks::Block;
-use crate::entry::{Witness, bring, places_below};
-use gf2_linear::{Basis, Row};
+use crate::partitioning::Partitioning;
+use crate::witness::{Witness, listed, places_below};
+use gf2_linear::Row;
 use std::alloc::{AllocError, Global};
 
 /// The blocks, each the ascending places of its rows, and a choice of rows that no fewer blocks could take.
@@ -30,41 +29,16 @@ pub fn partition(alloc: Global, rows: &[Row]) -> Result<Parts, AllocError>
     ensures one { IfOk result (λ p. vec_len p.blocks ≡ 1 → p.witness.items ≡ range_with_len 0 (length rows.now)) }
     ensures none { IfOk result (λ p. vec_len p.blocks ≡ 0 → p.witness.items ≡ []) }
 {
-    let mut blocks = Vec::new(alloc);
-    let mut homes = Vec::new(alloc);
-    let mut unfilled = Vec::new(alloc);
+    let mut underway = Partitioning::none(alloc);
     let mut witness = Witness::First(0);
-    let mut all = Basis::new(alloc);
     'rows: for row in rows {
-        widen(alloc, row, &mut all, &blocks, &mut unfilled)?;
-        if let Some(reached) = bring(alloc, rows, &all, &mut blocks, &mut homes, &mut unfilled)? {
+        if let Some(reached) = underway.bring(alloc, row)? {
             witness = reached;
         }
     }
-    let count = blocks.len();
-    Ok(Parts {
-        blocks: places_of(alloc, blocks)?,
-        witness: shown(alloc, count, rows.len(), witness)?,
-    })
-}
-
-/// Brings a row into the basis of all rows. Where it is no sum of those before it, no block is known to be full.
-pub fn widen(
-    alloc: Global,
-    row: &Row,
-    all: &mut Basis,
-    blocks: &[Block],
-    unfilled: &mut Vec<usize>,
-) -> Result<(), AllocError>
-    requires { IsOpen (length all.old) blocks.now unfilled.old.items }
-    ensures unfilled { IfOk result (λ _. IsOpen (length all.new) blocks.now unfilled.new.items) }
-    ensures row { IfOk result (λ _. is_sum all.new row.now ≡ true) }
-    ensures kept { IfOk result (λ _. (v : ℕ) → is_sum all.old v ≡ true → is_sum all.new v ≡ true) }
-{
-    if all.insert(row)? {
-        *unfilled = places_below(alloc, blocks.len())?;
-    }
-    Ok(())
+    let blocks = underway.into_places(alloc)?;
+    let witness = shown(alloc, blocks.len(), rows.len(), witness)?;
+    Ok(Parts { blocks, witness })
 }
 
 /// The witness for so many blocks: all rows where there is one.
@@ -82,25 +56,4 @@ pub fn shown(
     }
     let all = places_below(alloc, rows)?;
     Ok(all)
-}
-
-/// The places of a witness.
-fn listed(alloc: Global, witness: Witness) -> Result<Vec<usize>, AllocError>
-    ensures { IfOk result (λ v. v.items ≡ shown_by witness) }
-{
-    match witness {
-        Witness::First(count) => places_below(alloc, count),
-        Witness::Reached(places) => Ok(places),
-    }
-}
-
-/// The places of all blocks.
-fn places_of(alloc: Global, blocks: Vec<Block>) -> Result<Vec<Vec<usize>>, AllocError>
-    ensures { IfOk result (λ v. map (λ b. b.items) v.items ≡ map (λ b. b.places.items) blocks.items) }
-{
-    let mut lists = Vec::new(alloc);
-    'lists: for block in blocks {
-        lists.push(block.places)?;
-    }
-    Ok(lists)
 }

@@ -13,8 +13,8 @@ ghost use Rattle.matroid_partition.specs.Spares.{IsSparePartition, IsSpareWitnes
 
 use crate::dealing::{take_in, undealt};
 use crate::dealt::dealt;
-use crate::entry::Witness;
 use crate::parts::{Parts, shown};
+use crate::witness::Witness;
 use gf2_linear::Row;
 use std::alloc::{AllocError, Global};
 
@@ -38,7 +38,7 @@ pub fn partition_spares(alloc: Global, rows: &[Row], spares: u32) -> Result<Part
             witness = Witness::Reached(reached);
         }
     }
-    let count = dealing.blocks.len();
+    let count = dealing.held.count();
     Ok(Parts {
         blocks: dealt(alloc, rows, &dealing, room)?,
         witness: shown(alloc, count, rows.len(), witness)?,

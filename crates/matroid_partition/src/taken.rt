@@ -10,20 +10,20 @@ use std::alloc::{AllocError, Global};
 /// The sums of some rows that no block has room for, as sets of wires: each of these has an even number of wires in
 /// common with every such sum, and an odd number, for one of them, with any other sum of the rows that there are.
 #[derive(Drop)]
-pub struct Taken {
+pub struct ParityChecks {
     masks: Vec<Row>,
 }
 
 /// No rows so far, out of the sums of `all`, which their pivots tell apart.
-pub fn none_taken(alloc: Global, all: &Basis) -> Result<Taken, AllocError> {
+pub fn none_taken(alloc: Global, all: &Basis) -> Result<ParityChecks, AllocError> {
     let mut masks = Vec::new(alloc);
     for place in 0..all.len() {
         masks.push(Row::unit(all.pivot(place)))?;
     }
-    Ok(Taken { masks })
+    Ok(ParityChecks { masks })
 }
 
-impl Taken {
+impl ParityChecks {
     /// Whether a row is a sum of those that came in.
     pub fn has(&self, row: &Row) -> bool {
         self.first_odd(row).is_none()

@@ -56,6 +56,7 @@ fn propagated(alloc: Global, body: &Circuit) -> Result<Passed, AllocError>
     ensures shape { IfOk result (λ p. XLast p.body.gates) }
     ensures sums { IfOk result (λ p. IsSumsStep body.now.wires p.body.gates body.now.gates p.body.gates p.turn) }
 {
+    body.facts();
     let mut walk = Walk::start(alloc, body.wires(), body.len())?;
     'gates: for i in 0..body.len() {
         walk.step(body.gate(i))?;

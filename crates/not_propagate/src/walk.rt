@@ -23,7 +23,7 @@ pub(crate) struct Walk {
 impl Walk {
     /// No gates yet, and room for so many.
     pub(crate) fn start(alloc: Global, wires: u32, gates: usize) -> Result<Walk, AllocError>
-        requires { wires ≤ most_wires }
+        requires wires_limit { wires ≤ most_wires }
         ensures wires { IfOk result (λ w. w.written.wires ≡ wires) }
         ensures gates { IfOk result (λ w. w.written.gates ≡ []) }
         ensures flags { IfOk result (λ w. w.flags.items ≡ replicate wires false) }
@@ -40,7 +40,7 @@ impl Walk {
     pub(crate) fn step(&mut self, gate: Gate) -> Result<(), AllocError>
         requires fits { IsFitting self.old }
         requires fine { IsFine self.old.written.wires gate }
-        ensures { OnOk result (HasWalked (gates_at gate self.old.flags.items) (flags_at gate self.old.flags.items)
+        ensures ok { OnOk result (HasWalked (gates_at gate self.old.flags.items) (flags_at gate self.old.flags.items)
             (turn_at gate self.old.flags.items) self.old self.new) }
     {
         match gate {
@@ -118,8 +118,8 @@ impl Walk {
 
     /// Writes the X that are still to be written, wires ascending.
     pub(crate) fn finish(self) -> Result<Passed, AllocError>
-        requires { IsFitting self }
-        ensures { IfOk result (HasFinished self) }
+        requires fitting { IsFitting self }
+        ensures ok { IfOk result (HasFinished self) }
     {
         let Walk {
             mut written,
@@ -131,7 +131,7 @@ impl Walk {
                 written.push(Gate::X { q })?;
             }
         }
-        let _wires = written.wires();
+        written.facts();
         Ok(Passed {
             body: written,
             turn,

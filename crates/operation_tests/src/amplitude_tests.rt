@@ -64,7 +64,7 @@ fn entry(
     from: &[bool],
     to: &[bool],
 ) -> Result<(i128, i128, i128, i128, u32), AllocError>
-    requires few { branches ops.now ≤ 60 }
+    requires branches_limit { branches ops.now ≤ 60 }
     requires wires { length from.now ≤ 12 }
     requires same { length to.now ≡ length from.now }
 {

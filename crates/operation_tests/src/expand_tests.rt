@@ -3,10 +3,10 @@
 ghost use Rattle.gate_expand.specs.Expansion.{IsFineOp};
 
 use circuit_list::Passed;
-use circuit_samples::{are_turned, gates_of, gates_of_text, operations};
 use gate_expand::{OpList, Ops, ReadList, expand};
 use std::alloc::{AllocError, Global};
 use std::test::Fail;
+use test_circuits::{are_turned, gates_of, gates_of_text, operations};
 use unitary_model::Op;
 
 /// The circuit of one operation on three wires.

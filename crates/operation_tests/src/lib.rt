@@ -1,4 +1,4 @@
-//! Tests of `unitary_plain`, `gate_expand`, `amplitude_exact` and `bench_program`: entries and counts by hand, the table of gates, and
+//! Tests of `unitary_reference`, `gate_expand`, `amplitude_exact` and `bench_program`: entries and counts by hand, the table of gates, and
 //! drawn programs.
 //!
 //! Each test function is proved too, so they stand in a crate of their own: the crates below aren't proved again with them.

@@ -4,11 +4,11 @@ ghost use Rattle.std.specs.Prelude.{◌^◌, ◌<◌, ◌≤◌};
 ghost use Rattle.unitary_model.specs.Operations.{weight, t_count, cx_count, WiresBelow};
 ghost use Rattle.unitary_model.specs.OddPaths.{walked_all, first_walk};
 
+use gate_expand::{cx_count_of, t_count_of};
 use std::alloc::{AllocError, Global};
 use unitary_model::Op;
-use unitary_plain::counts::{cx_count_of, t_count_of};
-use unitary_plain::entries::amplitude_of;
-use unitary_plain::paths::odd_paths_of;
+use unitary_reference::entries::amplitude_of;
+use unitary_reference::paths::odd_paths_of;
 
 const H: Op = Op::U {
     a: 2,
@@ -48,7 +48,7 @@ const BELOW: Op = Op::U {
 };
 
 fn entry(ops: &[Op], from: [bool; 2], to: [bool; 2]) -> (i64, i64, i64, i64)
-    requires few { weight ops.now ≤ 20 }
+    requires operations_limit { weight ops.now ≤ 20 }
 {
     let mut bits = from;
     let value = amplitude_of(ops, &mut bits, &to);

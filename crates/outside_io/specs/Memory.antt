@@ -47,20 +47,20 @@ taken s n = record { left = drop n s.left; most = s.most; calls = passed s.calls
 -- the bytes that came, the most bytes that there is room for, and the most that one call moves
 pub record SinkState : Type 0 where
   pub held : List ℕ
-  pub room : ℕ
+  pub capacity : ℕ
   pub most : ℕ
   pub flushed : Bool
   pub calls : CallLog
 
 -- the next write of so many bytes is to fail, or goes past the room
 abbrev pub RefusesWrite : SinkState → ℕ → Type 0
-RefusesWrite s n = IsToFail s.calls ⊎ (s.room < length s.held + min n s.most)
+RefusesWrite s n = IsToFail s.calls ⊎ (s.capacity < length s.held + min n s.most)
 
 -- after these bytes came
 abbrev pub written : SinkState → List ℕ → SinkState
 written s bytes = record {
   held = s.held ++ bytes;
-  room = s.room;
+  capacity = s.capacity;
   most = s.most;
   flushed = s.flushed && (length bytes == 0);
   calls = passed s.calls;
@@ -82,18 +82,18 @@ text_of texts name = option_map (λ t. t.1) (find (λ t. bytes_eq t.0 name) text
 -- a sink that never fails: what it holds, while it has lost nothing, and its room
 pub record RoomState : Type 0 where
   pub held : Option (List ℕ)
-  pub room : ℕ
+  pub capacity : ℕ
   pub flushed : Bool
 
 -- what is told after these bytes: they came whole, or there was no room and nothing is told from then on
 abbrev pub lasting : Option (List ℕ) → ℕ → List ℕ → Option (List ℕ)
-lasting None room bytes = None
-lasting (Some held) room bytes = if nat_le (length held + length bytes) room then Some (held ++ bytes) else None
+lasting None capacity bytes = None
+lasting (Some held) capacity bytes = if nat_le (length held + length bytes) capacity then Some (held ++ bytes) else None
 
 -- after these bytes came
 abbrev pub appended : RoomState → List ℕ → RoomState
 appended s bytes = record {
-  held = lasting s.held s.room bytes;
-  room = s.room;
+  held = lasting s.held s.capacity bytes;
+  capacity = s.capacity;
   flushed = s.flushed && (length bytes == 0);
 }

@@ -28,14 +28,14 @@ impl Model for CalmSource {
 impl CalmSource {
     /// A source of these bytes.
     pub fn new(bytes: Vec<u8>) -> Self
-        ensures { result ≡ bytes.items }
+        ensures value { result ≡ bytes.items }
     {
         CalmSource { bytes, at: 0 }
     }
 
     /// The bytes that are left.
     pub fn rest(&self) -> &[u8]
-        ensures { result.now ≡ self.now }
+        ensures value { result.now ≡ self.now }
     {
         &self.bytes[self.at..]
     }
@@ -59,7 +59,7 @@ impl Source for CalmSource {
 #[derive(Drop)]
 pub struct CalmSink {
     bytes: Vec<u8>,
-    room: usize,
+    capacity: usize,
     has_lost: bool,
     flushed: bool,
 }
@@ -67,20 +67,20 @@ pub struct CalmSink {
 impl Model for CalmSink {
     ghost Value = { RoomState };
 
-    ghost view = { λ s. record { held = if s.has_lost then None else Some s.bytes.items; room = s.room; flushed = s.flushed } };
+    ghost view = { λ s. record { held = if s.has_lost then None else Some s.bytes.items; capacity = s.capacity; flushed = s.flushed } };
 
-    ghost invariant = { λ s. (vec_len s.bytes ≤ s.room) × (s.room ≤ vec_capacity s.bytes) };
+    ghost invariant = { λ s. (vec_len s.bytes ≤ s.capacity) × (s.capacity ≤ vec_capacity s.bytes) };
 }
 
 impl CalmSink {
-    /// An empty sink with room for `room` bytes.
-    pub fn new(alloc: Global, room: usize) -> Result<Self, AllocError>
-        ensures { IfOk result (λ s. s ≡ record { held = Some []; room = room; flushed = false }) }
+    /// An empty sink with room for `capacity` bytes.
+    pub fn new(alloc: Global, capacity: usize) -> Result<Self, AllocError>
+        ensures ok { IfOk result (λ s. s ≡ record { held = Some []; capacity = capacity; flushed = false }) }
     {
-        let bytes = Vec::with_capacity(alloc, room)?;
+        let bytes = Vec::with_capacity(alloc, capacity)?;
         Ok(CalmSink {
             bytes,
-            room,
+            capacity,
             has_lost: false,
             flushed: false,
         })
@@ -88,7 +88,7 @@ impl CalmSink {
 
     /// The bytes that came, if none was lost.
     pub fn told(&self) -> Option<&[u8]>
-        ensures { option_map (λ b. b.now) result ≡ self.now.held }
+        ensures value { option_map (λ b. b.now) result ≡ self.now.held }
     {
         if self.has_lost {
             return None;
@@ -98,7 +98,7 @@ impl CalmSink {
 
     /// Whether a flush came after the last byte.
     pub fn is_flushed(&self) -> bool
-        ensures { result ≡ self.now.flushed }
+        ensures value { result ≡ self.now.flushed }
     {
         self.flushed
     }
@@ -121,7 +121,7 @@ impl Sink for CalmSink {
         ensures takes { result ≡ Ok (length piece.now) }
         ensures lasts { self.new ≡ appended self.old piece.now }
     {
-        if self.room - self.bytes.len() < piece.len() {
+        if self.capacity - self.bytes.len() < piece.len() {
             self.has_lost = true;
         } else {
             self.bytes.extend_from_slice(piece).unwrap();
@@ -156,14 +156,14 @@ impl Model for CalmShelf {
 impl CalmShelf {
     /// A shelf with this text under every name.
     pub fn new(text: Vec<u8>) -> Self
-        ensures { result ≡ Some text.items }
+        ensures value { result ≡ Some text.items }
     {
         CalmShelf { text: Some(text) }
     }
 
     /// A shelf on which no name has a text.
     pub fn empty() -> Self
-        ensures { result ≡ None }
+        ensures value { result ≡ None }
     {
         CalmShelf { text: None }
     }

@@ -97,7 +97,7 @@ pub trait Shelf {
     /// Loads the text of this name, or its first `max + 1` bytes if it is longer than `max`. `into` is overwritten, and
     /// empty after any error.
     fn load(&mut self, name: &str, max: usize, into: &mut Vec<u8>) -> Result<(), LoadFault>
-        requires { max < 2 ^ 32 }
+        requires limit { max < 2 ^ 32 }
         ensures text { OnOk result (LoadsText (content self.old name.now) max into.new.items) }
         ensures bound { length into.new.items ≤ max + 1 }
         ensures absent { IsErrOf result LoadFault.Absent → HasNoText (content self.old name.now) }
@@ -110,7 +110,7 @@ pub trait Shelf {
 
 /// Why an input was not read to its end.
 #[derive(Clone, Copy, Debug, PartialEq, Eq, Error)]
-pub enum ReadFault {
+pub enum InputFault {
     /// A read failed, and the source's count of faults rose.
     #[error("the input failed")]
     Failed,
@@ -128,15 +128,15 @@ const PIECE: usize = 65_536;
 /// Reads to the end, or to one byte past the limit.
 ///
 /// Takes time in proportion to the bytes and the calls, and memory for at most about twice the bytes.
-pub fn read_all<S: Source>(alloc: Global, source: &mut S, max: usize) -> Result<Vec<u8>, ReadFault>
-    requires { max < 2 ^ 32 }
+pub fn read_all<S: Source>(alloc: Global, source: &mut S, max: usize) -> Result<Vec<u8>, InputFault>
+    requires limit { max < 2 ^ 32 }
     ensures all { IfOk result (λ v. TakesAll (S.left source.old) (S.left source.new) v.items) }
     ensures fits { IfOk result (λ v. vec_len v ≤ max) }
-    ensures too_long { IsErrOf result ReadFault.TooLong → IsLongerThan (S.left source.old) max }
-    ensures one_more { IsErrOf result ReadFault.TooLong → TakesOneMore (S.left source.old) (S.left source.new) max }
+    ensures too_long { IsErrOf result InputFault.TooLong → IsLongerThan (S.left source.old) max }
+    ensures one_more { IsErrOf result InputFault.TooLong → TakesOneMore (S.left source.old) (S.left source.new) max }
     ensures later { S.faults source.old ≤ S.faults source.new }
-    ensures failed { IsErrOf result ReadFault.Failed → Rose (S.faults source.old) (S.faults source.new) }
-    ensures calm { (result ≡ Err ReadFault.Failed → ⊥) → S.faults source.new ≡ S.faults source.old }
+    ensures failed { IsErrOf result InputFault.Failed → Rose (S.faults source.old) (S.faults source.new) }
+    ensures calm { (result ≡ Err InputFault.Failed → ⊥) → S.faults source.new ≡ S.faults source.old }
 {
     let mut bytes = Vec::new(alloc);
     match read_into(source, max, &mut bytes) {
@@ -146,33 +146,33 @@ pub fn read_all<S: Source>(alloc: Global, source: &mut S, max: usize) -> Result<
 }
 
 // Reads into an empty Vec; after TooLong it has one byte past the limit.
-fn read_into<S: Source>(source: &mut S, max: usize, into: &mut Vec<u8>) -> Result<(), ReadFault>
+fn read_into<S: Source>(source: &mut S, max: usize, into: &mut Vec<u8>) -> Result<(), InputFault>
     requires small { max < 2 ^ 32 }
     requires empty { into.old.items ≡ [] }
     ensures all { OnOk result (TakesAll (S.left source.old) (S.left source.new) into.new.items) }
     ensures fits { OnOk result (vec_len into.new ≤ max) }
     ensures bound { vec_len into.new ≤ max + 1 }
-    ensures too_long { IsErrOf result ReadFault.TooLong → IsLongerThan (S.left source.old) max }
-    ensures one_more { IsErrOf result ReadFault.TooLong → TakesOneMore (S.left source.old) (S.left source.new) max }
+    ensures too_long { IsErrOf result InputFault.TooLong → IsLongerThan (S.left source.old) max }
+    ensures one_more { IsErrOf result InputFault.TooLong → TakesOneMore (S.left source.old) (S.left source.new) max }
     ensures later { S.faults source.old ≤ S.faults source.new }
-    ensures failed { IsErrOf result ReadFault.Failed → Rose (S.faults source.old) (S.faults source.new) }
-    ensures calm { (result ≡ Err ReadFault.Failed → ⊥) → S.faults source.new ≡ S.faults source.old }
+    ensures failed { IsErrOf result InputFault.Failed → Rose (S.faults source.old) (S.faults source.new) }
+    ensures calm { (result ≡ Err InputFault.Failed → ⊥) → S.faults source.new ≡ S.faults source.old }
 {
     let mut piece = [0; PIECE];
     'turns: while into.len() <= max {
         let room = PIECE.min(max + 1 - into.len());
         let count = match source.read(&mut piece[..room]) {
             Ok(count) => count,
-            Err(Failed) => return Err(ReadFault::Failed),
+            Err(Failed) => return Err(InputFault::Failed),
         };
         if count == 0 {
             return Ok(());
         }
         if into.extend_from_slice(&piece[..count]).is_err() {
-            return Err(ReadFault::NoMemory);
+            return Err(InputFault::NoMemory);
         }
     }
-    Err(ReadFault::TooLong)
+    Err(InputFault::TooLong)
 }
 
 /// Writes all the bytes; after `Failed` a prefix of them was written.
@@ -226,7 +226,7 @@ pub fn load_text<F: Shelf>(
     name: &str,
     max: usize,
 ) -> Result<Vec<u8>, TextFault>
-    requires { max < 2 ^ 32 }
+    requires limit { max < 2 ^ 32 }
     ensures ok { IfOk result (λ t. TellsText (F.content shelf.old name.now) t.items) }
     ensures fits { IfOk result (λ t. vec_len t ≤ max) }
     ensures err { IfErr result (IsTextCause (F.content shelf.old name.now) max (F.faults shelf.old) (F.faults shelf.new)) }
@@ -259,7 +259,7 @@ pub(crate) fn fail(faults: &mut u64) -> Failed
 
 // Copies as many first bytes as there are, fit, and may move at once.
 pub(crate) fn copy_some(from: &[u8], into: &mut [u8], most: usize) -> usize
-    requires { 0 < most }
+    requires positive { 0 < most }
     ensures count { result ≡ min (min (length into.old) (length from.now)) most }
     ensures there { result ≤ length from.now }
     ensures fits { result ≤ length into.new }

@@ -87,8 +87,8 @@ impl Model for MemSource {
 impl MemSource {
     /// A source of these bytes, of which one call moves at most `most`. The calls of `failing`, counted from 1, fail.
     pub fn new(bytes: Vec<u8>, most: usize, failing: Vec<u64>) -> Self
-        requires { 0 < most }
-        ensures { result ≡ record { left = bytes.items; most = most; calls = no_calls failing.items } }
+        requires positive { 0 < most }
+        ensures value { result ≡ record { left = bytes.items; most = most; calls = no_calls failing.items } }
     {
         MemSource {
             bytes,
@@ -100,14 +100,14 @@ impl MemSource {
 
     /// The bytes that are left.
     pub fn rest(&self) -> &[u8]
-        ensures { result.now ≡ self.now.left }
+        ensures value { result.now ≡ self.now.left }
     {
         &self.bytes[self.at..]
     }
 
     /// How many calls of `read` were made.
     pub fn calls(&self) -> u64
-        ensures { result ≡ self.now.calls.made }
+        ensures value { result ≡ self.now.calls.made }
     {
         self.calls.made()
     }
@@ -139,7 +139,7 @@ impl Source for MemSource {
 #[derive(Drop)]
 pub struct MemSink {
     bytes: Vec<u8>,
-    room: usize,
+    capacity: usize,
     most: usize,
     flushed: bool,
     calls: Calls,
@@ -148,27 +148,27 @@ pub struct MemSink {
 impl Model for MemSink {
     ghost Value = { SinkState };
 
-    ghost view = { λ s. record { held = s.bytes.items; room = s.room; most = s.most; flushed = s.flushed; calls = s.calls } };
+    ghost view = { λ s. record { held = s.bytes.items; capacity = s.capacity; most = s.most; flushed = s.flushed; calls = s.calls } };
 
-    ghost invariant = { λ s. (vec_len s.bytes ≤ s.room) × (s.room ≤ vec_capacity s.bytes) × (0 < s.most) };
+    ghost invariant = { λ s. (vec_len s.bytes ≤ s.capacity) × (s.capacity ≤ vec_capacity s.bytes) × (0 < s.most) };
 }
 
 impl MemSink {
-    /// An empty sink with room for `room` bytes, of which one call moves at most `most`. The calls of `failing`, counted
+    /// An empty sink with room for `capacity` bytes, of which one call moves at most `most`. The calls of `failing`, counted
     /// from 1 over writes and flushes, fail, and so does a write past the room.
     pub fn new(
         alloc: Global,
-        room: usize,
+        capacity: usize,
         most: usize,
         failing: Vec<u64>,
     ) -> Result<Self, AllocError>
-        requires { 0 < most }
-        ensures { IfOk result (λ s. s ≡ record { held = []; room = room; most = most; flushed = false; calls = no_calls failing.items }) }
+        requires positive { 0 < most }
+        ensures ok { IfOk result (λ s. s ≡ record { held = []; capacity = capacity; most = most; flushed = false; calls = no_calls failing.items }) }
     {
-        let bytes = Vec::with_capacity(alloc, room)?;
+        let bytes = Vec::with_capacity(alloc, capacity)?;
         Ok(MemSink {
             bytes,
-            room,
+            capacity,
             most,
             flushed: false,
             calls: Calls::new(failing),
@@ -177,21 +177,21 @@ impl MemSink {
 
     /// The bytes that came.
     pub fn as_slice(&self) -> &[u8]
-        ensures { result.now ≡ self.now.held }
+        ensures value { result.now ≡ self.now.held }
     {
         self.bytes.as_slice()
     }
 
     /// Whether a flush came after the last byte.
     pub fn is_flushed(&self) -> bool
-        ensures { result ≡ self.now.flushed }
+        ensures value { result ≡ self.now.flushed }
     {
         self.flushed
     }
 
     /// How many calls of `write` and `flush` were made.
     pub fn calls(&self) -> u64
-        ensures { result ≡ self.now.calls.made }
+        ensures value { result ≡ self.now.calls.made }
     {
         self.calls.made()
     }
@@ -218,7 +218,7 @@ impl Sink for MemSink {
     {
         self.calls.begin()?;
         let count = piece.len().min(self.most);
-        if self.room - self.bytes.len() < count {
+        if self.capacity - self.bytes.len() < count {
             return Err(self.calls.fail());
         }
         self.bytes.extend_from_slice(&piece[..count]).unwrap();
@@ -256,7 +256,7 @@ impl Model for NamedText {
 impl NamedText {
     /// This text under this name.
     pub fn new(alloc: Global, name: &str, text: &[u8]) -> Result<Self, AllocError>
-        ensures { IfOk result (λ t. t ≡ (name.now, text.now)) }
+        ensures ok { IfOk result (λ t. t ≡ (name.now, text.now)) }
     {
         Ok(NamedText {
             name: String::from_str(alloc, name)?,
@@ -293,7 +293,7 @@ impl Model for MemShelf {
 impl MemShelf {
     /// A shelf with these texts. The calls of `failing`, counted from 1, fail.
     pub fn new(texts: Vec<NamedText>, failing: Vec<u64>) -> Self
-        ensures { result ≡ record { texts = texts.items; calls = no_calls failing.items } }
+        ensures value { result ≡ record { texts = texts.items; calls = no_calls failing.items } }
     {
         MemShelf {
             texts,
@@ -303,7 +303,7 @@ impl MemShelf {
 
     /// How many calls of `load` were made.
     pub fn calls(&self) -> u64
-        ensures { result ≡ self.now.calls.made }
+        ensures value { result ≡ self.now.calls.made }
     {
         self.calls.made()
     }

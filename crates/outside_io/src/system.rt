@@ -2,7 +2,7 @@
 
 ghost use Rattle.std.specs.Prelude.{◌≡◌, ◌+◌, ◌-◌, ◌^◌, ◌<◌, ◌≤◌, [], true, false, None, length};
 
-use crate::{Failed, LoadFault, ReadFault, Shelf, Sink, Source, fail, read_into};
+use crate::{Failed, InputFault, LoadFault, Shelf, Sink, Source, fail, read_into};
 use std::io::{ErrorKind, Read, Write};
 use std::rt::Files;
 use std::{fs, io};
@@ -17,7 +17,7 @@ pub struct StdSource<R> {
 impl<R: Read> StdSource<R> {
     /// This reader, with no fault so far.
     pub fn new(reader: R) -> Self
-        ensures { ⟦<StdSource<R> as Source>⟧.faults result ≡ 0 }
+        ensures value { ⟦<StdSource<R> as Source>⟧.faults result ≡ 0 }
     {
         StdSource { reader, faults: 0 }
     }
@@ -47,7 +47,7 @@ pub struct StdSink<W> {
 impl<W: Write> StdSink<W> {
     /// This writer, with no fault so far.
     pub fn new(writer: W) -> Self
-        ensures { ⟦<StdSink<W> as Sink>⟧.faults result ≡ 0 }
+        ensures value { ⟦<StdSink<W> as Sink>⟧.faults result ≡ 0 }
     {
         StdSink {
             writer,
@@ -95,7 +95,7 @@ pub struct DirShelf<'a, R> {
 impl<'a, R: Files> DirShelf<'a, R> {
     /// The files of this runtime, with no fault so far.
     pub fn new(files: &'a R) -> Self
-        ensures { ⟦<DirShelf<'a, R> as Shelf>⟧.faults result ≡ 0 }
+        ensures value { ⟦<DirShelf<'a, R> as Shelf>⟧.faults result ≡ 0 }
     {
         DirShelf { files, faults: 0 }
     }
@@ -138,9 +138,9 @@ fn read_file<R: Files>(
     };
     let mut source = StdSource::new(file);
     match read_into(&mut source, max, into) {
-        Ok(()) | Err(ReadFault::TooLong) => Ok(()),
-        Err(ReadFault::Failed) => Err(LoadFault::Failed),
-        Err(ReadFault::NoMemory) => Err(LoadFault::NoMemory),
+        Ok(()) | Err(InputFault::TooLong) => Ok(()),
+        Err(InputFault::Failed) => Err(LoadFault::Failed),
+        Err(InputFault::NoMemory) => Err(LoadFault::NoMemory),
     }
 }
 

@@ -3,13 +3,13 @@
 ghost use Rattle.std.specs.Prelude.{◌<◌};
 
 use circuit_list::Gate;
-use circuit_samples::{Kind, Random, circuit_of, gates_of, gates_of_text};
 use commute_rules::{Cancel, cancels, commute};
 use gate_cancel::CancelPass;
 use rewrite_pass::{Pass, Then, Trace, Traced, WhileSmaller};
 use std::alloc::Global;
 use std::process::Abort;
 use std::test::Fail;
+use test_circuits::{Kind, Random, circuit_of, gates_of, gates_of_text};
 use unitary_model::turn_sum;
 
 /// Whether the pass makes these gates, with this turn, of others.

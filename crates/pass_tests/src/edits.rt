@@ -3,14 +3,14 @@
 ghost use Rattle.std.specs.Prelude.{◌≡◌};
 
 use circuit_list::Circuit;
-use circuit_samples::is_fine;
 use rewrite_pass::Change;
 use std::process::Abort;
+use test_circuits::is_fine;
 
 /// Makes the edits, which ascend, from the last to the first.
 pub fn make(rt: &impl Abort, wires: u32, body: &mut Circuit, change: &Change)
-    requires { body.old.wires ≡ wires }
-    ensures { body.new.wires ≡ wires }
+    requires wires { body.old.wires ≡ wires }
+    ensures wires { body.new.wires ≡ wires }
 {
     assert!(rt; change.count <= 5);
     'edits: for i in (0..change.count).rev() {

@@ -4,11 +4,11 @@ ghost use Rattle.std.specs.Prelude.{◌≡◌};
 
 use crate::edits::make;
 use circuit_list::Circuit;
-use circuit_samples::{Kind, Random, circuit_of_text, gates_of, gates_of_text, is_turned};
 use hadamard_reduce::{HadamardPass, HadamardRules};
 use rewrite_pass::{Pass, Rule, Trace, Traced};
 use std::process::Abort;
 use std::test::Fail;
+use test_circuits::{Kind, Random, circuit_of_text, gates_of, gates_of_text, is_turned};
 
 #[test]
 fn each_row_of_the_table(rt: HostRuntime) -> Result<(), Fail> {

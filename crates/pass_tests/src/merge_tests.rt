@@ -1,10 +1,10 @@
 //! Rows by hand, and random lists against the plain amplitude program and the odd path parities.
 
-use circuit_samples::{Kind, Random, circuit_of_text, gates_of, gates_of_text, is_turned};
 use path_parity::odd_paths;
 use rewrite_pass::{Pass, Trace, Traced};
 use rotation_merge::MergePass;
 use std::test::Fail;
+use test_circuits::{Kind, Random, circuit_of_text, gates_of, gates_of_text, is_turned};
 
 #[test]
 fn rows_by_hand(rt: HostRuntime) -> Result<(), Fail> {

@@ -1,9 +1,9 @@
 //! Rows by hand, and random lists against the plain amplitude program.
 
-use circuit_samples::{Kind, Random, circuit_of_text, gates_of, gates_of_text, is_turned};
 use not_propagate::NotPass;
 use rewrite_pass::{Pass, Trace, Traced};
 use std::test::Fail;
+use test_circuits::{Kind, Random, circuit_of_text, gates_of, gates_of_text, is_turned};
 
 #[test]
 fn rows_by_hand(rt: HostRuntime) -> Result<(), Fail> {

@@ -11,7 +11,7 @@ use std::alloc::{AllocError, Global};
 use std::process::Abort;
 use std::test::Fail;
 use unitary_model::Op;
-use unitary_plain::paths::odd_paths_of;
+use unitary_reference::paths::odd_paths_of;
 
 const T: Gate = Gate::P { k: 1, q: 0 };
 

@@ -81,7 +81,7 @@ impl Walk {
 
     /// The label of a wire, its set packed.
     pub fn label(&self, q: u32) -> &Label
-        requires { q < length self.now.labels }
+        requires within { q < length self.now.labels }
         ensures label { label_of result.now ≡ labels_at self.now q }
         ensures packed { IsLabel result.now }
     {

@@ -9,7 +9,7 @@ use Rattle.circuit_list.specs.declared.Gate.{Gate}
 use Rattle.gf2_linear.specs.Rows.{is_independent, rows_at}
 use Rattle.gf2_linear.proofs.Ranks.{Free-independent}
 use Rattle.matroid_partition.specs.Partitions.{times, IsPartition}
-use Rattle.phase_poly.specs.Layers.{LayerBody}
+use Rattle.circuit_layers.specs.Layers.{LayerBody}
 use Rattle.phase_poly.specs.Polys.{AreDihedral, poly_of}
 use Rattle.phase_poly.specs.Resynthesis.{rows_of}
 use Rattle.phase_poly.specs.Replaced.{DihedralLayers, HasBlocks, AreBlocks}

@@ -9,7 +9,7 @@ use Rattle.unitary_model.specs.Operations.{cx_count}
 use Rattle.circuit_list.specs.declared.Gate.{Gate}
 use Rattle.circuit_list.specs.declared.Gate.TheVariants.{H, X, P, Cx}
 use Rattle.circuit_list.specs.Gates.{ops, IsFine}
-use Rattle.phase_poly.specs.Layers.{LayerBody, level_of, inserted, with_gate, no_gates, at_layer, Walk, first_walk, walked, walked_all, layers_of, hadamards, line, linked}
+use Rattle.circuit_layers.specs.Layers.{LayerBody, level_of, inserted, with_gate, no_gates, at_layer, Walk, first_walk, walked, walked_all, layers_of, hadamards, line, linked}
 use Rattle.phase_poly.specs.Polys.{AreDihedral}
 use Rattle.phase_poly.specs.Resynthesis.{AllBelow}
 use Rattle.phase_poly.specs.Replaced.{IsTaken, IsReplaced, AreFine, DihedralLayers, IsRelinked, KeepsBound, lesser}

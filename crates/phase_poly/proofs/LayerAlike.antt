@@ -23,7 +23,7 @@ use Rattle.path_parity.proofs.MergeSums as merge
 use Rattle.gf2_linear.proofs.MatrixLaws.{length-identity}
 use Rattle.gf2_linear.proofs.RunLaws.{get-identity}
 use Rattle.phase_poly.specs.Rows.{has}
-use Rattle.phase_poly.specs.Layers.{LayerBody, hadamards, linked}
+use Rattle.circuit_layers.specs.Layers.{LayerBody, hadamards, linked}
 use Rattle.phase_poly.specs.Polys.{AreDihedral, coefficient, first_poly, walked_poly, SamePoly}
 use Rattle.phase_poly.specs.Replaced.{IsTaken, IsReplaced, DihedralLayers}
 use Rattle.phase_poly.proofs.PolyLaws.{Agrees, agrees_all, flip_turn, same_walk, walked_coefficient, walked_constant}

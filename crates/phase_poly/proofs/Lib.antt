@@ -3,7 +3,6 @@ pub mod BuildLaws
 pub mod BuildingLaws
 pub mod FineLaws
 pub mod LayerAlike
-pub mod LayerExamples
 pub mod LayerLaws
 pub mod LayerSums
 pub mod ListSums
@@ -16,7 +15,6 @@ pub mod PolyLaws
 pub mod RelinkedLaws
 pub mod ResynthLaws
 pub mod TermLaws
-pub mod WalkLaws
 pub mod NamedLaws
 pub mod NamingLaws
 pub mod SumLaws

@@ -10,7 +10,7 @@ use Rattle.unitary_model.specs.Operations.{cx_count}
 use Rattle.circuit_list.specs.declared.Gate.{Gate}
 use Rattle.circuit_list.specs.declared.Gate.TheVariants.{H}
 use Rattle.circuit_list.specs.Gates.{ops}
-use Rattle.phase_poly.specs.Layers.{LayerBody, hadamards, line, linked}
+use Rattle.circuit_layers.specs.Layers.{LayerBody, hadamards, line, linked}
 use Rattle.phase_poly.specs.Polys.{AreDihedral, poly_of}
 use Rattle.phase_poly.specs.Replaced.{IsTaken, IsReplaced, AreFew, DihedralLayers, HasBlocks, AreBlocks, IsRelinked}
 use Rattle.matroid_partition.specs.Partitions.{IsPartition}

@@ -6,7 +6,7 @@ use Rattle.circuit_list.specs.declared.Gate.{Gate}
 use Rattle.circuit_list.specs.Gates.{IsFine}
 use Rattle.path_parity.specs.NamedSums.{constant_of}
 use Rattle.rewrite_pass.specs.Traces.{IsSumsStep}
-use Rattle.phase_poly.specs.Layers.{LayerBody, layers_of, linked}
+use Rattle.circuit_layers.specs.Layers.{LayerBody, layers_of, linked}
 use Rattle.phase_poly.specs.Replaced.{AreFine, IsReplaced, IsRelinked}
 use Rattle.phase_poly.proofs.ListSums.{Alike, alike_trans, alike_same, alike-sums, alike-constants}
 use Rattle.phase_poly.proofs.LayerAlike.{replaced_alike}

@@ -13,7 +13,7 @@ use Rattle.unitary_model.specs.Operations.{cx_count}
 use Rattle.circuit_list.specs.declared.Gate.{Gate}
 use Rattle.circuit_list.specs.Gates.{ops, IsFine}
 use Rattle.matroid_partition.specs.Partitions.{IsPartition}
-use Rattle.phase_poly.specs.Layers.{LayerBody, layers_of, linked}
+use Rattle.circuit_layers.specs.Layers.{LayerBody, layers_of, linked}
 use Rattle.phase_poly.specs.Polys.{AreDihedral, poly_of}
 use Rattle.phase_poly.specs.Resynthesis.{cx_bound, rows_of, IsResynthesis}
 

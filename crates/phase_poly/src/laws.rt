@@ -10,7 +10,7 @@ ghost use Rattle.unitary_model.specs.Operations.{weight, t_count, cx_count};
 ghost use Rattle.unitary_model.specs.OddPaths.{odd_paths};
 ghost use Rattle.gf2_linear.specs.Rows.{is_independent};
 ghost use Rattle.matroid_partition.specs.Partitions.{times, IsPartition};
-ghost use Rattle.phase_poly.specs.Layers.{LayerBody, layers_of, linked};
+ghost use Rattle.circuit_layers.specs.Layers.{LayerBody, layers_of, linked};
 ghost use Rattle.phase_poly.specs.Polys.{AreDihedral, SamePoly, Term, poly_of};
 ghost use Rattle.gf2_linear.specs.Matrices.{identity_rows, run};
 ghost use Rattle.phase_poly.specs.Meaning.{exponent_of, image, values};
@@ -78,7 +78,7 @@ pub fn replaced_layers()
         IsReplaced n (layers_of gs) ms t → t_count (ops (linked ms)) ≤ t_count (ops gs) }
     ensures cx_gates { (n t : ℕ) (gs : List Gate) (ms : List LayerBody) → AreFine n gs →
         IsReplaced n (layers_of gs) ms t → cx_count (ops (linked ms)) ≤ cx_count (ops gs) }
-    ensures few { (n : ℕ) (gs : List Gate) (ms : List LayerBody) (bs : List ℕ) →
+    ensures layers_limit { (n : ℕ) (gs : List Gate) (ms : List LayerBody) (bs : List ℕ) →
         AreFew n (layers_of gs) ms bs → cx_count (ops (linked ms)) ≤ lesser n (layers_of gs) bs }
 {}
 

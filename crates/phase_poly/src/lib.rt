@@ -1,8 +1,7 @@
-//! Layers of a circuit, the phase polynomials of their gates, and the resynthesis of layers from these.
+//! The phase polynomials of a circuit's layers, and the resynthesis of layers from these.
 //!
-//! In goes a circuit; [`layers`] takes it apart into gates other than H and, behind them, an H on each of some wires.
-//! Gates without H are a linear map of the wires, an added 1 on some of them, and a phase for each of some sums of
-//! wires: [`poly`] tells these. [`resynth`] builds other gates of them, block by block of independent sums, and
+//! In goes a circuit, which [`layers`] takes apart into gates without H between those with H. Gates without H are a
+//! linear map of the wires, an added 1 on some of them, and a phase for each of some sums of wires: [`poly`] tells these. [`resynth`] builds other gates of them, block by block of independent sums, and
 //! [`ResynthPass`] puts them in a layer's place where they have fewer CNOTs. The contracts say that what comes out is
 //! the same up to the turn, with no more T gates and odd path parities, and bound the CNOTs by the least number of
 //! blocks; what they rest on stands in [`laws`]. A list with an H, or with gates that aren't on the wires, is what
@@ -11,7 +10,6 @@
 
 mod building;
 pub mod laws;
-mod levels;
 mod naming;
 mod pass;
 mod polynomial;
@@ -20,7 +18,7 @@ mod resynthesis;
 mod walk;
 
 pub use building::Resynth;
-pub use levels::{Layer, layers};
+pub use circuit_layers::{Layer, layers};
 pub use pass::ResynthPass;
 pub use polynomial::Poly;
 pub use resynthesis::resynth;

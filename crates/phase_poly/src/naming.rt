@@ -12,9 +12,9 @@ use std::alloc::{AllocError, Global};
 
 /// The wires of the gates.
 pub(crate) fn wires_of(gates: &[Gate], wires: u32) -> Row
-    requires few { wires ≤ most_wires }
+    requires wires_limit { wires ≤ most_wires }
     requires dihedral { AreDihedral wires gates.now }
-    ensures { AreMarked result gates.now }
+    ensures marked { AreMarked result gates.now }
 {
     let mut set = Row::empty();
     'marked: for g in gates {
@@ -57,7 +57,7 @@ pub(crate) fn numbered(
     names: &[usize],
     gates: &[Gate],
 ) -> Result<Vec<Gate>, AllocError>
-    requires few { length names.now ≤ 256 }
+    requires names_limit { length names.now ≤ 256 }
     requires known { AreKnown names.now gates.now }
     ensures gates { IfOk result (λ v. named_all names.now v.items ≡ gates.now) }
     ensures dihedral { IfOk result (λ v. (n : ℕ) → AreDihedral n gates.now → AreDihedral (length names.now) v.items) }
@@ -71,7 +71,7 @@ pub(crate) fn numbered(
 
 /// A gate with each wire's place among the names in its place.
 fn number(names: &[usize], g: Gate) -> Gate
-    requires few { length names.now ≤ 256 }
+    requires names_limit { length names.now ≤ 256 }
     requires known { Knows names.now g }
     ensures gate { named names.now result ≡ g }
     ensures dihedral { (n : ℕ) → IsDihedral n g → IsDihedral (length names.now) result }
@@ -96,7 +96,7 @@ fn number(names: &[usize], g: Gate) -> Gate
 
 /// The place of a wire among the names.
 fn place_of(names: &[usize], q: u32) -> u32
-    requires few { length names.now ≤ 256 }
+    requires names_limit { length names.now ≤ 256 }
     requires known { Contains names.now q }
     ensures within { result < length names.now }
     ensures there { slice_index names.now result ≡ q }
@@ -126,7 +126,7 @@ pub(crate) fn renamed(
 ) -> Result<Vec<Gate>, AllocError>
     requires below { All (λ w. w < 256) names.now }
     requires dihedral { AreDihedral (length names.now) gates.now }
-    ensures { IfOk result (λ v. v.items ≡ named_all names.now gates.now) }
+    ensures ok { IfOk result (λ v. v.items ≡ named_all names.now gates.now) }
 {
     let mut list = Vec::with_capacity(alloc, gates.len())?;
     'renamed: for g in gates {

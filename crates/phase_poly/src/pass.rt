@@ -6,8 +6,8 @@ ghost use Rattle.rewrite_pass.specs.Law.{IsRewriting};
 ghost use Rattle.rewrite_pass.specs.Traces.{IsSumsStep};
 ghost use Rattle.phase_poly.specs.Replaced.{KeepsBound};
 
-use crate::levels::layers;
 use crate::relinking::{cx_number, relinked};
+use circuit_layers::layers;
 use circuit_list::{Circuit, Gate, Passed};
 use rewrite_pass::{Pass, Trace, Traced};
 use std::alloc::{AllocError, Global};
@@ -58,6 +58,7 @@ fn remade(alloc: Global, body: &Circuit) -> Result<Option<Passed>, AllocError>
         (λ p. KeepsBound body.now.wires body.now.gates p.body.gates)) }
     ensures sums { IfOk result (λ o. IfSome o (λ p. IsSumsStep body.now.wires p.body.gates body.now.gates p.body.gates p.turn)) }
 {
+    body.facts();
     let layers = layers(alloc, body)?;
     let other = relinked(alloc, body.wires(), &layers)?;
     if cx_number(&other.list) < body.count_cx() {
@@ -72,7 +73,7 @@ fn remade(alloc: Global, body: &Circuit) -> Result<Option<Passed>, AllocError>
 
 /// A circuit of these gates.
 fn circuit_of(alloc: Global, wires: u32, list: &[Gate]) -> Result<Circuit, AllocError>
-    requires few { wires ≤ most_wires }
+    requires wires_limit { wires ≤ most_wires }
     requires fine { All (IsFine wires) list.now }
     ensures wires { IfOk result (λ c. c.wires ≡ wires) }
     ensures gates { IfOk result (λ c. c.gates ≡ list.now) }

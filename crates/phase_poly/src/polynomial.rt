@@ -29,7 +29,7 @@ impl Poly {
     pub(crate) fn new(map: Matrix, flips: Row, constant: u8, terms: Vec<(Row, u8)>) -> Poly
         requires constant { constant < 8 }
         requires terms { All (λ e. e.1 < 8) terms.items }
-        ensures { result ≡ record { map = map; flips = flips; constant = constant; terms = terms.items } }
+        ensures value { result ≡ record { map = map; flips = flips; constant = constant; terms = terms.items } }
     {
         Poly {
             map,
@@ -41,14 +41,14 @@ impl Poly {
 
     /// Row i is the set of the wires whose sum stands on wire i at the end.
     pub fn map(&self) -> &Matrix
-        ensures { result.now ≡ self.now.map }
+        ensures value { result.now ≡ self.now.map }
     {
         &self.map
     }
 
     /// The wires with an added 1 at the end.
     pub fn flips(&self) -> &Row
-        ensures { result.now ≡ self.now.flips }
+        ensures value { result.now ≡ self.now.flips }
     {
         &self.flips
     }

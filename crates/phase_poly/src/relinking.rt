@@ -3,21 +3,21 @@
 ghost use Rattle.std.specs.Prelude.{◌≡◌, ℕ, ◌≤◌, ◌<◌, ◌++◌, ◌∷◌, [], IfOk, OnOk, min};
 ghost use Rattle.circuit_list.specs.Gates.{most_wires, ops};
 ghost use Rattle.unitary_model.specs.Operations.{cx_count};
-ghost use Rattle.phase_poly.specs.Layers.{hadamards};
+ghost use Rattle.circuit_layers.specs.Layers.{hadamards};
 ghost use Rattle.phase_poly.specs.Polys.{AreDihedral};
 ghost use Rattle.phase_poly.specs.Resynthesis.{cx_bound};
 ghost use Rattle.phase_poly.specs.Replaced.{HasBlocks, IsRelinked, IsTaken, DihedralLayers};
 
 use crate::building::Resynth;
-use crate::levels::Layer;
 use crate::resynthesis::resynth;
+use circuit_layers::Layer;
 use circuit_list::Gate;
 use std::alloc::{AllocError, Global};
 
 /// The circuit of these layers, where the H of a layer stand behind its other gates; a layer whose resynthesis has fewer
 /// CNOTs is written as this.
 pub(crate) fn relinked(alloc: Global, wires: u32, layers: &[Layer]) -> Result<Resynth, AllocError>
-    requires few { wires ≤ most_wires }
+    requires wires_limit { wires ≤ most_wires }
     requires dihedral { DihedralLayers wires layers.now }
     ensures below { IfOk result (λ r. r.turn < 8) }
     ensures relinked { IfOk result (λ r. IsRelinked wires layers.now r.list.items r.turn) }
@@ -35,11 +35,11 @@ pub(crate) fn relinked(alloc: Global, wires: u32, layers: &[Layer]) -> Result<Re
 
 /// The resynthesis of a layer's gates where that has fewer CNOTs, else the gates. Nothing has fewer than none.
 fn taken(alloc: Global, wires: u32, gates: &[Gate]) -> Result<Resynth, AllocError>
-    requires few { wires ≤ most_wires }
+    requires wires_limit { wires ≤ most_wires }
     requires dihedral { AreDihedral wires gates.now }
     ensures below { IfOk result (λ r. r.turn < 8) }
     ensures taken { IfOk result (λ r. IsTaken wires gates.now r.list.items r.turn) }
-    ensures few { IfOk result (λ r. (b : ℕ) → HasBlocks wires gates.now b →
+    ensures gates_limit { IfOk result (λ r. (b : ℕ) → HasBlocks wires gates.now b →
         cx_count (ops r.list.items) ≤ min (cx_count (ops gates.now)) (cx_bound wires b)) }
 {
     if cx_number(gates) == 0 {
@@ -66,7 +66,7 @@ fn unchanged(alloc: Global, gates: &[Gate]) -> Result<Resynth, AllocError>
 
 /// The number of CNOTs.
 pub(crate) fn cx_number(gates: &[Gate]) -> usize
-    ensures { result ≡ cx_count (ops gates.now) }
+    ensures value { result ≡ cx_count (ops gates.now) }
 {
     let mut number = 0;
     'counted: for g in gates {
@@ -77,7 +77,7 @@ pub(crate) fn cx_number(gates: &[Gate]) -> usize
 
 fn cx_one(g: Gate) -> usize
     ensures same { result ≡ cx_count (ops (g ∷ [])) }
-    ensures few { result ≤ 1 }
+    ensures gates_limit { result ≤ 1 }
 {
     match g {
         Gate::Cx { c: _, t: _ } => 1,

@@ -21,11 +21,11 @@ use std::alloc::{AllocError, Global};
 /// (cf. Amy, Maslov and Mosca 2014, section 4). All this is on the wires that the gates are on: the others keep their own
 /// row, so the gates are the same, and the time doesn't grow with the other wires.
 pub fn resynth(alloc: Global, wires: u32, list: &[Gate]) -> Result<Resynth, AllocError>
-    requires few { wires ≤ most_wires }
+    requires wires_limit { wires ≤ most_wires }
     requires dihedral { AreDihedral wires list.now }
     ensures below { IfOk result (λ r. r.turn < 8) }
     ensures resynthesis { IfOk result (λ r. IsResynthesis wires list.now r.list.items r.turn) }
-    ensures few { IfOk result (λ r. (blocks : List (List ℕ)) → IsPartition (rows_of (poly_of wires list.now).terms) blocks →
+    ensures gates_limit { IfOk result (λ r. (blocks : List (List ℕ)) → IsPartition (rows_of (poly_of wires list.now).terms) blocks →
         cx_count (ops r.list.items) ≤ cx_bound wires (length blocks)) }
 {
     let names = places_in(alloc, &wires_of(list, wires), wires)?;
@@ -40,11 +40,11 @@ pub fn resynth(alloc: Global, wires: u32, list: &[Gate]) -> Result<Resynth, Allo
 
 /// The same on all wires.
 fn rebuilt(alloc: Global, wires: u32, list: &[Gate]) -> Result<Resynth, AllocError>
-    requires few { wires ≤ most_wires }
+    requires wires_limit { wires ≤ most_wires }
     requires dihedral { AreDihedral wires list.now }
     ensures below { IfOk result (λ r. r.turn < 8) }
     ensures resynthesis { IfOk result (λ r. IsResynthesis wires list.now r.list.items r.turn) }
-    ensures few { IfOk result (λ r. (blocks : List (List ℕ)) → IsPartition (rows_of (poly_of wires list.now).terms) blocks →
+    ensures gates_limit { IfOk result (λ r. (blocks : List (List ℕ)) → IsPartition (rows_of (poly_of wires list.now).terms) blocks →
         cx_count (ops r.list.items) ≤ cx_bound wires (length blocks)) }
 {
     let sum = poly(alloc, wires, list)?;
@@ -78,7 +78,7 @@ fn push_flips(gates: &mut Vec<Gate>, wires: u32, flips: &Row) -> Result<u32, All
     requires { wires ≤ most_wires }
     ensures ok { OnOk result (gates.new.items ≡ gates.old.items ++ flip_gates wires flips.now) }
     ensures number { IfOk result (λ k. k ≡ length (flip_gates wires flips.now)) }
-    ensures few { IfOk result (λ k. k ≤ most_wires) }
+    ensures wires_limit { IfOk result (λ k. k ≤ most_wires) }
 {
     let mut number = 0u32;
     'wires: for q in 0..wires {

@@ -14,9 +14,9 @@ use std::marker::Model;
 /// The polynomial of a list of CNOT, X and P on so many wires: its linear map, its flips, its constant and the sums
 /// whose coefficient isn't 0, in order of first appearance (cf. Amy, Maslov and Mosca 2014, section 3).
 pub fn poly(alloc: Global, wires: u32, list: &[Gate]) -> Result<Poly, AllocError>
-    requires few { wires ≤ most_wires }
+    requires wires_limit { wires ≤ most_wires }
     requires dihedral { AreDihedral wires list.now }
-    ensures { IfOk result (λ p. p ≡ poly_of wires list.now) }
+    ensures ok { IfOk result (λ p. p ≡ poly_of wires list.now) }
 {
     let mut walk = Walk::new(alloc, wires)?;
     'gates: for g in list {
@@ -61,11 +61,11 @@ impl Walk {
 
     /// Puts a gate behind the list.
     fn pass(&mut self, g: Gate) -> Result<(), AllocError>
-        requires few { length self.old.map ≤ most_wires }
+        requires wires_limit { length self.old.map ≤ most_wires }
         requires dihedral { IsDihedral (length self.old.map) g }
         ensures { OnOk result (self.new ≡ polyed g self.old) }
     {
-        let _wires = self.map.wires();
+        self.map.facts();
         match g {
             Gate::H { q: _ } => {}
             Gate::X { q } => {

@@ -99,7 +99,7 @@ impl Placement {
     /// The placement that a list is, if each number below its length stands in it once.
     #[tactic(auto, using(crate::proofs::PlacementLaws::laws))]
     pub fn of(alloc: Global, list: &[u32]) -> Result<Option<Placement>, AllocError>
-        requires { length list.now < 2 ^ 32 }
+        requires limit { length list.now < 2 ^ 32 }
         ensures some { IfOk result (λ o. IfSome o (λ p. p ≡ list.now)) }
         ensures placement { IfOk result (λ o. IfSome o (λ p. IsPlacement (length list.now) list.now)) }
         ensures none { IfOk result (λ o. IfNone o (IsPlacement (length list.now) list.now → ⊥)) }
@@ -123,25 +123,31 @@ impl Placement {
         Ok(Placement { qubits, wires })
     }
 
-    /// The number of wires, which is the number of qubits.
+    /// Does nothing. Its contract says what holds of each placement.
     #[tactic(auto, using(crate::proofs::PlacementLaws::laws))]
+    pub fn facts(&self)
+        ensures placement { IsPlacement (length self.now) self.now }
+    {
+        let _qubits = &self.qubits;
+    }
+
+    /// The number of wires, which is the number of qubits.
     pub fn size(&self) -> u32
         ensures size { result ≡ length self.now }
-        ensures placement { IsPlacement (length self.now) self.now }
     {
         self.qubits.len() as u32
     }
 
     /// The device qubit of each wire, in the order of the wires.
     pub fn qubits(&self) -> &[u32]
-        ensures { result.now ≡ self.now }
+        ensures value { result.now ≡ self.now }
     {
         self.qubits.as_slice()
     }
 
     /// The device qubit on which a wire stands.
     pub fn phys(&self, wire: u32) -> u32
-        requires { wire < length self.now }
+        requires within { wire < length self.now }
         ensures place { result ≡ slice_index self.now wire }
         ensures below { result < length self.now }
     {
@@ -151,7 +157,7 @@ impl Placement {
     /// The wire that stands on a device qubit.
     #[tactic(auto, using(crate::proofs::PlacementLaws::laws))]
     pub fn logical(&self, qubit: u32) -> u32
-        requires { qubit < length self.now }
+        requires within { qubit < length self.now }
         ensures position { result ≡ position_of qubit self.now }
         ensures below { result < length self.now }
         ensures inverse { slice_index self.now result ≡ qubit }
@@ -177,7 +183,7 @@ impl Placement {
 
     /// A second placement of the same wires.
     pub fn copy(&self) -> Result<Placement, AllocError>
-        ensures { IfOk result (λ p. p ≡ self.now) }
+        ensures ok { IfOk result (λ p. p ≡ self.now) }
     {
         let qubits = self.qubits.clone()?;
         let wires = self.wires.clone()?;

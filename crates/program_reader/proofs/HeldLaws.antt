@@ -6,12 +6,12 @@ use Rattle.std.proofs.lemmas.List.Elements.{All-append, All-head, All-nil, All-t
 use Rattle.gate_expand.specs.Expansion.{IsFineOp}
 use Rattle.gate_expand.specs.declared.source.Ops.{Ops}
 use Rattle.gate_inline.specs.Registers.{AreRegisters, IsRead}
-use Rattle.gate_inline.specs.Sizes.{operation_limit}
+use Rattle.gate_inline.specs.Sizes.{most_operations}
 use Rattle.gate_inline.specs.Splits.{IsBar, cut_of}
 use Rattle.gate_inline.specs.declared.split.Split.{Split}
 use Rattle.program_parts.specs.Cuts.{IsCut, whole}
 use Rattle.program_reader.specs.Sources.{IsHeld, held, lists_of}
-use Rattle.qasm_check.specs.declared.bits.Bits.{Bits}
+use Rattle.qasm_check.specs.declared.register.ClassicalRegister.{ClassicalRegister}
 use Rattle.unitary_model.specs.Limits.{most_qubits}
 use Rattle.unitary_model.specs.declared.Op.{Op}
 
@@ -19,14 +19,14 @@ All-whole : {A : Type 0} (P : A → Type 0) (parts : List (List A)) → All (All
 All-whole P [] h = All-nil P
 All-whole P (xs ∷ parts) h = All-append P xs (whole parts) (All-head (All P) xs parts h) (All-whole P parts (All-tail (All P) xs parts h))
 
-pub IsHeld-split : (s : Split) (parts : List Ops) (reads : List (Option ℕ)) (rs : List Bits) (n : ℕ) → lists_of parts ≡ (cut_of s).parts
-    → All (λ o. o.wires ≡ s.wires) parts → reads ≡ s.reads.items → s.wires ≤ most_qubits → length (whole (cut_of s).parts) ≤ operation_limit
+pub IsHeld-split : (s : Split) (parts : List Ops) (reads : List (Option ℕ)) (rs : List ClassicalRegister) (n : ℕ) → lists_of parts ≡ (cut_of s).parts
+    → All (λ o. o.wires ≡ s.wires) parts → reads ≡ s.reads.items → s.wires ≤ most_qubits → length (whole (cut_of s).parts) ≤ most_operations
     → IsCut (cut_of s) → All (All (IsFineOp s.wires)) (cut_of s).parts → All (IsBar s.wires) (cut_of s).bars
     → AreRegisters rs (length s.reads.items) → All (IsRead s.wires) s.reads.items → IsHeld s.wires parts (held s.wires parts (cut_of s).bars reads rs n)
 IsHeld-split s parts reads rs n lists on same wires few cut fine bars registers read = record {
   program = record {
     wires_limit = wires;
-    operations_limit = subst (λ (ls : List (List Op)). length (whole ls) ≤ operation_limit) (sym lists) few;
+    operations_limit = subst (λ (ls : List (List Op)). length (whole ls) ≤ most_operations) (sym lists) few;
     cut = subst (λ (ls : List (List Op)). length ls ≡ suc (length (cut_of s).bars)) (sym lists) cut;
     parts = refl;
     fine = subst (λ (ls : List (List Op)). All (IsFineOp s.wires) (whole ls)) (sym lists) (All-whole (IsFineOp s.wires) (cut_of s).parts fine);

@@ -1,17 +1,17 @@
 -- What the limit of length adds to the laws of texts.
 --   IsAccepted-within    a text that is accepted but for its length, and is within it, is accepted
---   IsRefusal-within     and so for its refusals;  IsReadFault-within: and for what may be told of it
+--   IsRefusal-within     and so for its refusals;  IsProgramFault-within: and for what may be told of it
 --   limited              a refusal is the length, or one of a text of any length
 --   accepted-no_refusal, accepted_or_refused, refused_once     the laws of texts, with the limit
 use Rattle.std.proofs.Common.{◌≡◌, ℕ, ◌<◌, List, length, ◌⊎◌, inl, inr, refl, sym, ◌∙◌, arith}
 use Rattle.std.proofs.lemmas.Bool.{cases_lt}
-use Rattle.gate_inline.specs.Programs.{IsAccepted, Program, text_limit}
-use Rattle.program_reader.specs.Refusals.{IsReadFault, IsRefusal, IsWithin}
+use Rattle.gate_inline.specs.Programs.{IsAccepted, Program, most_text_bytes}
+use Rattle.program_reader.specs.Refusals.{IsProgramFault, IsRefusal, IsWithin}
 use Rattle.program_reader.specs.Texts.{IsAcceptedText, IsTextFault, IsTextRefusal}
-use Rattle.program_reader.specs.declared.refusal.Refusal.{Refusal}
-use Rattle.program_reader.specs.declared.refusal.Refusal.TheVariants.{TooLong, BadByte, Number, Syntax, Version, Depth, Check, Inline}
-use Rattle.program_reader.specs.declared.refusal.ReadFault.{ReadFault}
-use Rattle.program_reader.specs.declared.refusal.ReadFault.TheVariants.{Refused, NoMemory}
+use Rattle.program_reader.specs.declared.refusal.ProgramRefusal.{ProgramRefusal}
+use Rattle.program_reader.specs.declared.refusal.ProgramRefusal.TheVariants.{TooLong, BadByte, Number, Syntax, Version, Depth, Check, Inline}
+use Rattle.program_reader.specs.declared.refusal.ProgramFault.{ProgramFault}
+use Rattle.program_reader.specs.declared.refusal.ProgramFault.TheVariants.{Refused, NoMemory}
 
 pub IsAccepted-within : (text : List ℕ) (p : Program) → IsWithin text → IsAcceptedText text p → IsAccepted text p
 IsAccepted-within text p short a = record { short = short; tree = a.tree; source = a.source; few = a.few; means = a.means }
@@ -19,7 +19,7 @@ IsAccepted-within text p short a = record { short = short; tree = a.tree; source
 text_of : (text : List ℕ) (p : Program) → IsAccepted text p → IsAcceptedText text p
 text_of text p a = record { tree = a.tree; source = a.source; few = a.few; means = a.means }
 
-IsRefusal-within : (text : List ℕ) (r : Refusal) → IsWithin text → IsTextRefusal text r → IsRefusal text r
+IsRefusal-within : (text : List ℕ) (r : ProgramRefusal) → IsWithin text → IsTextRefusal text r → IsRefusal text r
 IsRefusal-within text TooLong short f = absurd f
 IsRefusal-within text (BadByte place) short f = (short, f)
 IsRefusal-within text (Number place) short f = (short, f)
@@ -29,14 +29,14 @@ IsRefusal-within text (Depth place) short f = (short, f)
 IsRefusal-within text (Check r) short f = (short, f)
 IsRefusal-within text (Inline r) short f = (short, f)
 
-pub IsReadFault-within : (text : List ℕ) (e : ReadFault) → IsWithin text → IsTextFault text e → IsReadFault text e
-IsReadFault-within text (Refused r) short f = IsRefusal-within text r short f
-IsReadFault-within text NoMemory short f = tt
+pub IsProgramFault-within : (text : List ℕ) (e : ProgramFault) → IsWithin text → IsTextFault text e → IsProgramFault text e
+IsProgramFault-within text (Refused r) short f = IsRefusal-within text r short f
+IsProgramFault-within text NoMemory short f = tt
 
-abbrev IsLong : List ℕ → Refusal → Type 0
-IsLong text r = (text_limit < length text) × (r ≡ TooLong)
+abbrev IsLong : List ℕ → ProgramRefusal → Type 0
+IsLong text r = (most_text_bytes < length text) × (r ≡ TooLong)
 
-limited : (text : List ℕ) (r : Refusal) → IsRefusal text r → IsLong text r ⊎ (IsWithin text × IsTextRefusal text r)
+limited : (text : List ℕ) (r : ProgramRefusal) → IsRefusal text r → IsLong text r ⊎ (IsWithin text × IsTextRefusal text r)
 limited text TooLong f = inl (f, refl)
 limited text (BadByte place) f = inr f
 limited text (Number place) f = inr f
@@ -46,19 +46,19 @@ limited text (Depth place) f = inr f
 limited text (Check r) f = inr f
 limited text (Inline r) f = inr f
 
-long_within : (text : List ℕ) → text_limit < length text → IsWithin text → ⊥
+long_within : (text : List ℕ) → most_text_bytes < length text → IsWithin text → ⊥
 long_within text long short = omega (arith, long, short)
 
-pub accepted-no_refusal : ((text : List ℕ) (p : Program) (r : Refusal) → IsAcceptedText text p → IsTextRefusal text r → ⊥)
-    → (text : List ℕ) (p : Program) (r : Refusal) → IsAccepted text p → IsRefusal text r → ⊥
+pub accepted-no_refusal : ((text : List ℕ) (p : Program) (r : ProgramRefusal) → IsAcceptedText text p → IsTextRefusal text r → ⊥)
+    → (text : List ℕ) (p : Program) (r : ProgramRefusal) → IsAccepted text p → IsRefusal text r → ⊥
 accepted-no_refusal law text p r a f = elim (limited text r f) [
   | inl long ↦ long_within text long.0 a.short
   | inr g ↦ law text p r (text_of text p a) g.1
 ]
 
-pub accepted_or_refused : ((text : List ℕ) → ((p : Program) × IsAcceptedText text p) ⊎ ((r : Refusal) × IsTextRefusal text r))
-    → (text : List ℕ) → ((p : Program) × IsAccepted text p) ⊎ ((r : Refusal) × IsRefusal text r)
-accepted_or_refused law text = elim (cases_lt text_limit (length text)) [
+pub accepted_or_refused : ((text : List ℕ) → ((p : Program) × IsAcceptedText text p) ⊎ ((r : ProgramRefusal) × IsTextRefusal text r))
+    → (text : List ℕ) → ((p : Program) × IsAccepted text p) ⊎ ((r : ProgramRefusal) × IsRefusal text r)
+accepted_or_refused law text = elim (cases_lt most_text_bytes (length text)) [
   | inl long ↦ inr (TooLong, long)
   | inr short ↦ elim (law text) [
     | inl a ↦ inl (a.0, IsAccepted-within text a.0 short a.1)
@@ -66,8 +66,8 @@ accepted_or_refused law text = elim (cases_lt text_limit (length text)) [
   ]
 ]
 
-pub refused_once : ((text : List ℕ) (r s : Refusal) → IsTextRefusal text r → IsTextRefusal text s → r ≡ s)
-    → (text : List ℕ) (r s : Refusal) → IsRefusal text r → IsRefusal text s → r ≡ s
+pub refused_once : ((text : List ℕ) (r s : ProgramRefusal) → IsTextRefusal text r → IsTextRefusal text s → r ≡ s)
+    → (text : List ℕ) (r s : ProgramRefusal) → IsRefusal text r → IsRefusal text s → r ≡ s
 refused_once law text r s f g = elim (limited text r f) [
   | inl long ↦ elim (limited text s g) [
     | inl too ↦ long.1 ∙ sym too.1

@@ -16,15 +16,15 @@ use Rattle.qasm_parser.specs.declared.ParseFault.TheVariants as parsing
 use Rattle.qasm_check.specs.Bound.{Bound}
 use Rattle.qasm_check.specs.Checking.{IsCheckRefused, IsFineTree, bound}
 use Rattle.qasm_check.specs.declared.refusal.CheckFault.TheVariants as checking
-use Rattle.qasm_check.specs.declared.refusal.Refused.{Refused as Checked}
+use Rattle.qasm_check.specs.declared.refusal.CheckRefused.{CheckRefused as Checked}
 use Rattle.gate_inline.specs.Inlined.{IsInlineRefused}
 use Rattle.gate_inline.specs.Programs.{IsSource, IsTreeOf}
-use Rattle.gate_inline.specs.declared.refusal.Refused.{Refused as Inlined}
+use Rattle.gate_inline.specs.declared.refusal.InlineRefused.{InlineRefused as Inlined}
 use Rattle.program_reader.specs.Refusals.{lex_fault, parse_fault}
 use Rattle.program_reader.specs.Texts.{IsTextRefusal, IsUnparsed}
-use Rattle.program_reader.specs.declared.refusal.Refusal.{Refusal}
-use Rattle.program_reader.specs.declared.refusal.Refusal.TheVariants.{TooLong, BadByte, Number, Syntax, Version, Depth, Check, Inline}
-use Rattle.program_reader.specs.declared.refusal.ReadFault.TheVariants.{Refused, NoMemory}
+use Rattle.program_reader.specs.declared.refusal.ProgramRefusal.{ProgramRefusal}
+use Rattle.program_reader.specs.declared.refusal.ProgramRefusal.TheVariants.{TooLong, BadByte, Number, Syntax, Version, Depth, Check, Inline}
+use Rattle.program_reader.specs.declared.refusal.ProgramFault.TheVariants.{Refused, NoMemory}
 use Rattle.program_reader.proofs.ReaderLaws.{Laws, tree-once, unlexed, unparsed}
 
 abbrev pub LexRefusedOnce : Type 0
@@ -49,13 +49,13 @@ pub record OnceLaws : Type 0 where
   pub inline_refused_once : InlineRefusedOnce
 
 -- ---- by the stage that tells it
-data Told (text : List ℕ) (r : Refusal) : Type 0 where
+data Told (text : List ℕ) (r : ProgramRefusal) : Type 0 where
   by_lexer : (e : LexFault) → IsLexFault text e → Refused r ≡ lex_fault e → Told text r
   by_parser : (e : ParseFault) → IsUnparsed text e → Refused r ≡ parse_fault e → Told text r
   by_checks : (t : Tree) (e : Checked) → IsTreeOf text t → IsCheckRefused t e → r ≡ Check e → Told text r
   by_inlining : (t : Tree) (e : Inlined) → IsSource text t → IsInlineRefused (bound t) e.refusal e.statement → r ≡ Inline e → Told text r
 
-told : (text : List ℕ) (r : Refusal) → IsTextRefusal text r → Told text r
+told : (text : List ℕ) (r : ProgramRefusal) → IsTextRefusal text r → Told text r
 told text TooLong f = absurd f
 told text (BadByte place) f = by_lexer (lexing.BadByte place) f refl
 told text (Number place) f = by_lexer (lexing.Number place) f refl
@@ -65,31 +65,31 @@ told text (Depth place) f = by_parser (parsing.Depth place) f refl
 told text (Check e) (t, is, f) = by_checks t e is f refl
 told text (Inline e) (t, is, f) = by_inlining t e is f refl
 
-refused_same : (r s : Refusal) → Refused r ≡ Refused s → r ≡ s
+refused_same : (r s : ProgramRefusal) → Refused r ≡ Refused s → r ≡ s
 refused_same r s e = cc
 
 -- ---- what is told is no want of memory
-lexed_some : (r : Refusal) (e : LexFault) → Refused r ≡ lex_fault e → e ≢ lexing.NoMemory
+lexed_some : (r : ProgramRefusal) (e : LexFault) → Refused r ≡ lex_fault e → e ≢ lexing.NoMemory
 lexed_some r e is none = let no : Refused r ≡ NoMemory = is ∙ ap lex_fault none in cc
 
-parsed_some : (r : Refusal) (e : ParseFault) → Refused r ≡ parse_fault e → e ≢ parsing.NoMemory
+parsed_some : (r : ProgramRefusal) (e : ParseFault) → Refused r ≡ parse_fault e → e ≢ parsing.NoMemory
 parsed_some r e is none = let no : Refused r ≡ NoMemory = is ∙ ap parse_fault none in cc
 
 -- ---- one stage, twice
-lexed_same : (r s : Refusal) (e f : LexFault) → e ≡ f → Refused r ≡ lex_fault e → Refused s ≡ lex_fault f → r ≡ s
+lexed_same : (r s : ProgramRefusal) (e f : LexFault) → e ≡ f → Refused r ≡ lex_fault e → Refused s ≡ lex_fault f → r ≡ s
 lexed_same r s e f same h k = refused_same r s (h ∙ ap lex_fault same ∙ sym k)
 
-parsed_same : (r s : Refusal) (e f : ParseFault) → e ≡ f → Refused r ≡ parse_fault e → Refused s ≡ parse_fault f → r ≡ s
+parsed_same : (r s : ProgramRefusal) (e f : ParseFault) → e ≡ f → Refused r ≡ parse_fault e → Refused s ≡ parse_fault f → r ≡ s
 parsed_same r s e f same h k = refused_same r s (h ∙ ap parse_fault same ∙ sym k)
 
 -- ---- two stages
-lexed_unparsed : Laws → (text : List ℕ) (r : Refusal) (e : LexFault) (f : ParseFault) → Refused r ≡ lex_fault e → IsLexFault text e → IsUnparsed text f → ⊥
+lexed_unparsed : Laws → (text : List ℕ) (r : ProgramRefusal) (e : LexFault) (f : ParseFault) → Refused r ≡ lex_fault e → IsLexFault text e → IsUnparsed text f → ⊥
 lexed_unparsed laws text r e f is h (tokens, lx, k) = lexed_some r e is (laws.no_lex_fault text tokens e lx h)
 
-lexed_tree : Laws → (text : List ℕ) (r : Refusal) (e : LexFault) (t : Tree) → Refused r ≡ lex_fault e → IsLexFault text e → IsTreeOf text t → ⊥
+lexed_tree : Laws → (text : List ℕ) (r : ProgramRefusal) (e : LexFault) (t : Tree) → Refused r ≡ lex_fault e → IsLexFault text e → IsTreeOf text t → ⊥
 lexed_tree laws text r e t is h tree = lexed_some r e is (unlexed laws text t e tree h)
 
-parsed_tree : Laws → (text : List ℕ) (r : Refusal) (e : ParseFault) (t : Tree) → Refused r ≡ parse_fault e → IsUnparsed text e → IsTreeOf text t → ⊥
+parsed_tree : Laws → (text : List ℕ) (r : ProgramRefusal) (e : ParseFault) (t : Tree) → Refused r ≡ parse_fault e → IsUnparsed text e → IsTreeOf text t → ⊥
 parsed_tree laws text r e t is h tree = parsed_some r e is (unparsed laws text t e tree h)
 
 checked_source : Laws → (text : List ℕ) (t u : Tree) (e : Checked) → IsTreeOf text t → IsCheckRefused t e → IsSource text u → ⊥
@@ -99,7 +99,7 @@ checked_source laws text t u e is h (also, fine) =
     cc
 
 -- ---- one refusal
-told_once : OnceLaws → (text : List ℕ) (r s : Refusal) → Told text r → Told text s → r ≡ s
+told_once : OnceLaws → (text : List ℕ) (r s : ProgramRefusal) → Told text r → Told text s → r ≡ s
 told_once all text r s (by_lexer e h is) (by_lexer f k also) =
     lexed_same r s e f (all.lex_refused_once text e f h k (lexed_some r e is) (lexed_some s f also)) is also
 told_once all text r s (by_lexer e h is) (by_parser f k also) = absurd (lexed_unparsed all.laws text r e f is h k)
@@ -127,5 +127,5 @@ told_once all text r s (by_inlining t e tree h is) (by_inlining u f too k also) 
     let one = all.inline_refused_once (bound t) e f h (subst (λ (x : Tree). IsInlineRefused (bound x) f.refusal f.statement) same k) in
     is ∙ ap Inline one ∙ sym also
 
-pub refused_once : OnceLaws → (text : List ℕ) (r s : Refusal) → IsTextRefusal text r → IsTextRefusal text s → r ≡ s
+pub refused_once : OnceLaws → (text : List ℕ) (r s : ProgramRefusal) → IsTextRefusal text r → IsTextRefusal text s → r ≡ s
 refused_once all text r s f g = told_once all text r s (told text r f) (told text s g)

@@ -2,7 +2,6 @@
 --   LexedOnce, NoLexFault, SpeltOnce, NoParseFault, NoCheckFault, NoInlineFault, Laws     laws of the stages, as they are handed in
 --   FewTokens, FewStatements, DeclaresNames, CutOnce, AreCut, SplitIsInlined     more of them
 --   few_of, names_of     how many statements a tree has, and what names it declares
---   in_ok, in_err        from one promise of an answer to another
 --   tree-once            a text spells one tree at most
 --   means-once           and means one program at most
 --   whole-means, parts-means   what is read as one part, or in parts, is what the text means
@@ -10,7 +9,7 @@
 --   accepted-no_refusal  an accepted text has no refusal
 --   IsTextFault-lexed, -parsed, -checked, -written     from the stages' faults to the text's
 --   IsAcceptedText-read      and from their answers to the text's program
-use Rattle.std.proofs.Common.{◌≡◌, ℕ, ◌<◌, ◌≤◌, Bool, false, true, List, All, Result, Ok, Err, IfOk, IfErr, refl, sym, subst, ◌∙◌, arith, length}
+use Rattle.std.proofs.Common.{◌≡◌, ℕ, ◌<◌, ◌≤◌, Bool, false, true, List, All, Result, Ok, refl, sym, subst, ◌∙◌, arith, length}
 use Rattle.qasm_lexer.specs.Tokens.{AreTokens, IsLexFault, IsTokenOf}
 use Rattle.qasm_lexer.specs.declared.LexFault.{LexFault}
 use Rattle.qasm_lexer.specs.declared.LexFault.TheVariants as lexing
@@ -25,10 +24,10 @@ use Rattle.qasm_parser.specs.declared.ParseFault.TheVariants as parsing
 use Rattle.qasm_check.specs.Bound.{Bound, barriers}
 use Rattle.qasm_check.specs.Checking.{IsCheckFault, IsFineTree, bound}
 use Rattle.qasm_check.specs.Steps.{Step}
-use Rattle.qasm_check.specs.declared.bits.Bits.{Bits}
+use Rattle.qasm_check.specs.declared.register.ClassicalRegister.{ClassicalRegister}
 use Rattle.qasm_check.specs.declared.refusal.CheckFault.{CheckFault}
 use Rattle.qasm_check.specs.declared.refusal.CheckFault.TheVariants as checking
-use Rattle.gate_library.specs.Gates.{Gate}
+use Rattle.gate_library.specs.Gates.{BoundGate}
 use Rattle.gate_expand.specs.declared.source.Ops.{Ops}
 use Rattle.gate_inline.specs.Inlined.{IsInlineFault, IsInlined, operations}
 use Rattle.gate_inline.specs.Programs.{IsTreeOf, IsWithinLimits, IsWritten, Means, Program, kept}
@@ -40,10 +39,10 @@ use Rattle.program_parts.specs.Cuts.{Cut, IsCut, uncut, whole}
 use Rattle.program_reader.specs.Refusals.{lex_fault, parse_fault}
 use Rattle.program_reader.specs.Stages.{IsReadAs, IsUnchecked, IsUnwritten}
 use Rattle.program_reader.specs.Texts.{IsAcceptedText, IsTextFault, IsTextRefusal, IsUnparsed}
-use Rattle.program_reader.specs.declared.refusal.Refusal.{Refusal}
-use Rattle.program_reader.specs.declared.refusal.Refusal.TheVariants.{TooLong, BadByte, Number, Syntax, Version, Depth, Check, Inline}
-use Rattle.program_reader.specs.declared.refusal.ReadFault.{ReadFault}
-use Rattle.program_reader.specs.declared.refusal.ReadFault.TheVariants.{Refused, NoMemory}
+use Rattle.program_reader.specs.declared.refusal.ProgramRefusal.{ProgramRefusal}
+use Rattle.program_reader.specs.declared.refusal.ProgramRefusal.TheVariants.{TooLong, BadByte, Number, Syntax, Version, Depth, Check, Inline}
+use Rattle.program_reader.specs.declared.refusal.ProgramFault.{ProgramFault}
+use Rattle.program_reader.specs.declared.refusal.ProgramFault.TheVariants.{Refused, NoMemory}
 use Rattle.unitary_model.specs.declared.Op.{Op}
 
 abbrev pub SpeltOnce : Type 0
@@ -81,7 +80,7 @@ tree-once lexes once text a b (xs, lx, (f, sa, va, da)) (ys, ly, (g, sb, vb, db)
 
 -- ---- one program
 abbrev pub CutOnce : Type 0
-CutOnce = (gates : List Gate) (steps : List Step) (c d : Cut Op) → IsCutOf gates steps c → IsCutOf gates steps d → c ≡ d
+CutOnce = (gates : List BoundGate) (steps : List Step) (c d : Cut Op) → IsCutOf gates steps c → IsCutOf gates steps d → c ≡ d
 
 same_program : (p q : Program) → p.wires ≡ q.wires → p.ops ≡ q.ops → p.cut ≡ q.cut → p.reads ≡ q.reads → p.registers ≡ q.registers → p.barriers ≡ q.barriers → p ≡ q
 same_program p q w o c r g b = λ i. record { wires = w i; ops = o i; cut = c i; reads = r i; registers = g i; barriers = b i }
@@ -112,7 +111,7 @@ unlexed laws text t fault (xs, lx, is) f = laws.no_lex_fault text xs fault lx f
 inlined_of : (b : Bound) (p : Program) → IsWithinLimits b → Means b p → IsInlined b (record { wires = p.wires; list = p.ops; reads = p.reads })
 inlined_of b p small m = record { small = small; wires = m.wires; list = m.ops; reads = m.reads }
 
-pub accepted-no_refusal : Laws → (text : List ℕ) (p : Program) (r : Refusal) → IsAcceptedText text p → IsTextRefusal text r → ⊥
+pub accepted-no_refusal : Laws → (text : List ℕ) (p : Program) (r : ProgramRefusal) → IsAcceptedText text p → IsTextRefusal text r → ⊥
 accepted-no_refusal laws text p TooLong a r = r
 accepted-no_refusal laws text p (BadByte place) a r = let e = unlexed laws text a.tree (lexing.BadByte place) a.source.0 r in cc
 accepted-no_refusal laws text p (Number place) a r = let e = unlexed laws text a.tree (lexing.Number place) a.source.0 r in cc
@@ -151,19 +150,19 @@ pub names_of : DeclaresNames → (text : List ℕ) (tokens : List Token) (t : Tr
 names_of law text tokens t each (found, spells, version, shallow) = law text tokens t found each spells
 
 -- ---- from the stages
-pub IsTextFault-lexed : (text : List ℕ) (e : LexFault) (f : ReadFault) → IsLexFault text e → f ≡ lex_fault e → IsTextFault text f
+pub IsTextFault-lexed : (text : List ℕ) (e : LexFault) (f : ProgramFault) → IsLexFault text e → f ≡ lex_fault e → IsTextFault text f
 IsTextFault-lexed text (lexing.BadByte place) f is e = rw e is
 IsTextFault-lexed text (lexing.Number place) f is e = rw e is
 IsTextFault-lexed text lexing.NoMemory f is e = rw e tt
 
-pub IsTextFault-parsed : (text : List ℕ) (tokens : List Token) (e : ParseFault) (f : ReadFault) → AreTokens text tokens
+pub IsTextFault-parsed : (text : List ℕ) (tokens : List Token) (e : ParseFault) (f : ProgramFault) → AreTokens text tokens
     → IsParseFault text tokens e → f ≡ parse_fault e → IsTextFault text f
 IsTextFault-parsed text tokens (parsing.Syntax place) f lx is e = rw e (tokens, lx, is)
 IsTextFault-parsed text tokens (parsing.Version place) f lx is e = rw e (tokens, lx, is)
 IsTextFault-parsed text tokens (parsing.Depth place) f lx is e = rw e (tokens, lx, is)
 IsTextFault-parsed text tokens parsing.NoMemory f lx is e = rw e tt
 
-pub IsTextFault-checked : (text : List ℕ) (t : Tree) (e : ReadFault) → IsTreeOf text t → IsUnchecked t e → IsTextFault text e
+pub IsTextFault-checked : (text : List ℕ) (t : Tree) (e : ProgramFault) → IsTreeOf text t → IsUnchecked t e → IsTextFault text e
 IsTextFault-checked text t NoMemory is u = tt
 IsTextFault-checked text t (Refused (Check r)) is u = (t, is, u)
 IsTextFault-checked text t (Refused TooLong) is u = absurd u
@@ -174,7 +173,7 @@ IsTextFault-checked text t (Refused (Version place)) is u = absurd u
 IsTextFault-checked text t (Refused (Depth place)) is u = absurd u
 IsTextFault-checked text t (Refused (Inline r)) is u = absurd u
 
-pub IsTextFault-written : (text : List ℕ) (t : Tree) (b : Bound) (e : ReadFault) → IsTreeOf text t → IsFineTree t → b ≡ bound t → IsUnwritten b e → IsTextFault text e
+pub IsTextFault-written : (text : List ℕ) (t : Tree) (b : Bound) (e : ProgramFault) → IsTreeOf text t → IsFineTree t → b ≡ bound t → IsUnwritten b e → IsTextFault text e
 IsTextFault-written text t b NoMemory is fine same u = tt
 IsTextFault-written text t b (Refused (Inline r)) is fine same u =
     (t, (is, fine), subst (λ (x : Bound). IsUnwritten x (Refused (Inline r))) same u)
@@ -201,13 +200,13 @@ IsAcceptedText-read text t b keep s is fine same h = (
 
 -- ---- as one part, and in parts
 abbrev pub AreCut : Type 0
-AreCut = (gates : List Gate) (steps : List Step) (us : List Op) → operations gates steps ≡ Ok us
+AreCut = (gates : List BoundGate) (steps : List Step) (us : List Op) → operations gates steps ≡ Ok us
     → (c : Cut Op) × IsCutOf gates steps c × (whole c.parts ≡ us) × IsCut c
 
 abbrev pub SplitIsInlined : Type 0
 SplitIsInlined = (b : Bound) (s : Split) (o : Ops) → IsSplit b s → o.wires ≡ s.wires → o.list ≡ whole (cut_of s).parts → o.reads ≡ s.reads.items → IsInlined b o
 
-pub whole-means : AreCut → (b : Bound) (o : Ops) (rs : List Bits) (n : ℕ) (s : Program) → IsInlined b o → rs ≡ b.registers → n ≡ barriers b
+pub whole-means : AreCut → (b : Bound) (o : Ops) (rs : List ClassicalRegister) (n : ℕ) (s : Program) → IsInlined b o → rs ≡ b.registers → n ≡ barriers b
     → s ≡ (record { wires = o.wires; ops = o.list; cut = uncut o.list; reads = o.reads; registers = rs; barriers = n }) → IsReadAs b false s
 whole-means law b o rs n s h registers barriers e =
     let c = law b.gates b.steps o.list h.list in (
@@ -219,7 +218,7 @@ whole-means law b o rs n s h registers barriers e =
       ),
     )
 
-pub parts-means : SplitIsInlined → (b : Bound) (x : Split) (rs : List Bits) (n : ℕ) (s : Program) → IsSplit b x → rs ≡ b.registers → n ≡ barriers b
+pub parts-means : SplitIsInlined → (b : Bound) (x : Split) (rs : List ClassicalRegister) (n : ℕ) (s : Program) → IsSplit b x → rs ≡ b.registers → n ≡ barriers b
     → s ≡ (record { wires = x.wires; ops = whole (cut_of x).parts; cut = cut_of x; reads = x.reads.items; registers = rs; barriers = n }) → IsReadAs b true s
 parts-means law b x rs n s h registers barriers e =
     let o = law b x (record { wires = x.wires; list = whole (cut_of x).parts; reads = x.reads.items }) h refl refl refl in (
@@ -230,13 +229,5 @@ parts-means law b x rs n s h registers barriers e =
         e ∙ (λ i. record { wires = x.wires; ops = whole (cut_of x).parts; cut = h.cut.2 i; reads = x.reads.items; registers = rs; barriers = n }),
       ),
     )
-
-pub in_ok : {A E : Type 0} (P Q : A → Type 0) (r : Result A E) → ((x : A) → P x → Q x) → IfOk r P → IfOk r Q
-in_ok P Q (Ok x) f h = f x h
-in_ok P Q (Err e) f h = tt
-
-pub in_err : {A E : Type 0} (P Q : E → Type 0) (r : Result A E) → ((x : E) → P x → Q x) → IfErr r P → IfErr r Q
-in_err P Q (Ok x) f h = tt
-in_err P Q (Err e) f h = f e h
 
 pub ruleset reader = (IsTextFault-lexed, IsTextFault-parsed, IsTextFault-checked, IsTextFault-written, IsAcceptedText-read)

@@ -1,9 +1,7 @@
--- The registers of a program, one by one.
---   registers-more      the first ones and the next one
---   registers-all       all of them
+-- What is known of the registers of a program.
 --   named_registers     what a tree's names are, its registers' names are
 --   AreRegisters-sound  registers of a sound program, with names of the language
-use Rattle.std.proofs.Common.{◌≡◌, ℕ, zero, suc, ◌+◌, ◌<◌, ◌≤◌, ◌&&◌, ◌||◌, Bool, true, false, List, [], ◌∷◌, ◌++◌, Some, All, slice_get, take, length, refl, sym, ap, subst, ◌∙◌, arith, add-one}
+use Rattle.std.proofs.Common.{◌≡◌, ℕ, ◌<◌, ◌&&◌, ◌||◌, Bool, true, false, List, [], ◌∷◌, All, refl, sym, subst, arith}
 use Rattle.std.specs.Prelude.{nat_lt}
 use Rattle.std.specs.List.{AllByRecursion, filter_map, list_all, list_any}
 use Rattle.std.proofs.lemmas.Bool.Decides.{nat_tests}
@@ -17,24 +15,8 @@ use Rattle.qasm_check.specs.Sound.{IsSound}
 use Rattle.qasm_lexer.specs.Names.{IsName}
 use Rattle.qasm_parser.specs.DeclaredNames.{HasNames}
 use Rattle.qasm_parser.specs.Tree.{Statement, include, register, gate, opaque, conditional, act, Tree}
-use Rattle.std.proofs.lemmas.List.{take_all}
-use Rattle.qasm_check.specs.declared.bits.Bits.{Bits}
+use Rattle.qasm_check.specs.declared.register.ClassicalRegister.{ClassicalRegister}
 
-take_next : (rs : List Bits) (k : ℕ) (b : Bits) → slice_get rs k ≡ Some b → take k rs ++ b ∷ [] ≡ take (suc k) rs
-take_next [] k b e = absurd (cc)
-take_next (r ∷ rs) zero b e = let same : r ≡ b = cc in ap (λ x. x ∷ []) (sym same)
-take_next (r ∷ rs) (suc k) b e = ap (λ xs. r ∷ xs) (take_next rs k b e)
-
-pub registers-more : (rs : List Bits) (k : ℕ) (xs new : List Bits) (name other : List ℕ) (size : ℕ)
-    → slice_get rs k ≡ Some (record { name = other; size = size }) → name ≡ other → xs ≡ take k rs
-    → new ≡ xs ++ (record { name = name; size = size }) ∷ [] → new ≡ take (k + 1) rs
-registers-more rs k xs new name other size e same so push =
-    push ∙ (λ i. so i ++ (record { name = same i; size = size }) ∷ []) ∙ take_next rs k _ e ∙ ap (λ n. take n rs) (sym (add-one k))
-
-pub registers-all : (rs : List Bits) (k : ℕ) (xs : List Bits) → xs ≡ take k rs → length rs ≤ k → xs ≡ rs
-registers-all rs k xs so done = so ∙ take_all k rs done
-
--- ---- what is known of them
 named_by : (list : List Statement) → AllByRecursion (HasNames IsName) list → AllByRecursion (λ r. IsName r.name) (filter_map bits_of list)
 named_by [] h = tt
 named_by (register true name size ∷ rest) h = named_by rest h.1
@@ -70,7 +52,7 @@ or_right false b e = e
 some_bits : (n : ℕ) → nat_lt 0 n ≡ true → 0 < n
 some_bits n e = grind (arith, nat_tests)
 
-each_free : (rs : List Bits) → AllByRecursion (λ r. IsName r.name) rs → list_all (λ r. nat_lt 0 r.size) rs ≡ true
+each_free : (rs : List ClassicalRegister) → AllByRecursion (λ r. IsName r.name) rs → list_all (λ r. nat_lt 0 r.size) rs ≡ true
     → list_any (λ r. is_one_of table_names r.name) rs ≡ false → All IsFree rs
 each_free [] h sizes free = All-nil IsFree
 each_free (r ∷ rs) h sizes free =
@@ -78,7 +60,7 @@ each_free (r ∷ rs) h sizes free =
     (record { name = h.0; free = or_left (is_one_of table_names r.name) _ free; some = some_bits r.size (left (nat_lt 0 r.size) _ sizes) })
     (each_free rs h.1 (right (nat_lt 0 r.size) _ sizes) (or_right (is_one_of table_names r.name) _ free))
 
-pub AreRegisters-sound : (b : Bound) (rs : List Bits) (n : ℕ) → IsSound b → All (λ r. IsName r.name) b.registers → rs ≡ b.registers → n ≡ b.bits
+pub AreRegisters-sound : (b : Bound) (rs : List ClassicalRegister) (n : ℕ) → IsSound b → All (λ r. IsName r.name) b.registers → rs ≡ b.registers → n ≡ b.bits
     → AreRegisters rs n
 AreRegisters-sound b rs n sound named same bits =
     let few = sound.bits in
@@ -88,5 +70,3 @@ AreRegisters-sound b rs n sound named same bits =
       all = sound.sum;
       few = few;
     })
-
-pub ruleset registers = (registers-more, registers-all)

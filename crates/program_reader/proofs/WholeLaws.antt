@@ -12,14 +12,14 @@ use Rattle.qasm_parser.specs.declared.ParseFault.{ParseFault}
 use Rattle.qasm_parser.specs.declared.ParseFault.TheVariants as parsing
 use Rattle.qasm_check.specs.Bound.{Bound, barriers}
 use Rattle.qasm_check.specs.Checking.{IsCheckRefused, IsFineTree, bound}
-use Rattle.qasm_check.specs.declared.refusal.Refused.{Refused as Checked}
+use Rattle.qasm_check.specs.declared.refusal.CheckRefused.{CheckRefused as Checked}
 use Rattle.gate_expand.specs.declared.source.Ops.{Ops}
 use Rattle.gate_inline.specs.Inlined.{IsInlineRefused, IsInlined}
 use Rattle.gate_inline.specs.Programs.{IsSource, IsTreeOf, Program}
-use Rattle.gate_inline.specs.declared.refusal.Refused.{Refused as Inlined}
+use Rattle.gate_inline.specs.declared.refusal.InlineRefused.{InlineRefused as Inlined}
 use Rattle.program_reader.specs.Texts.{IsAcceptedText, IsTextRefusal}
-use Rattle.program_reader.specs.declared.refusal.Refusal.{Refusal}
-use Rattle.program_reader.specs.declared.refusal.Refusal.TheVariants.{BadByte, Number, Syntax, Version, Depth, Check, Inline}
+use Rattle.program_reader.specs.declared.refusal.ProgramRefusal.{ProgramRefusal}
+use Rattle.program_reader.specs.declared.refusal.ProgramRefusal.TheVariants.{BadByte, Number, Syntax, Version, Depth, Check, Inline}
 use Rattle.program_reader.proofs.ReaderLaws.{AreCut}
 
 abbrev pub LexedOrRefused : Type 0
@@ -43,7 +43,7 @@ pub record WholeLaws : Type 0 where
   pub cut : AreCut
 
 abbrev Whole : List ℕ → Type 0
-Whole text = ((p : Program) × IsAcceptedText text p) ⊎ ((r : Refusal) × IsTextRefusal text r)
+Whole text = ((p : Program) × IsAcceptedText text p) ⊎ ((r : ProgramRefusal) × IsTextRefusal text r)
 
 written : AreCut → (text : List ℕ) (t : Tree) (o : Ops) → IsSource text t → IsInlined (bound t) o → Whole text
 written law text t o source h =
@@ -87,7 +87,7 @@ unlexed text (lexing.BadByte place) some h = inr (BadByte place, h)
 unlexed text (lexing.Number place) some h = inr (Number place, h)
 unlexed text lexing.NoMemory some h = absurd (some refl)
 
-pub accepted_or_refused : WholeLaws → (text : List ℕ) → ((p : Program) × IsAcceptedText text p) ⊎ ((r : Refusal) × IsTextRefusal text r)
+pub accepted_or_refused : WholeLaws → (text : List ℕ) → ((p : Program) × IsAcceptedText text p) ⊎ ((r : ProgramRefusal) × IsTextRefusal text r)
 accepted_or_refused laws text = elim (laws.lexed text) [
   | inl ts ↦ parsed laws text ts.0 ts.1
   | inr f ↦ unlexed text f.0 f.1 f.2

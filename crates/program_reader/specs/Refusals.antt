@@ -1,7 +1,7 @@
 -- The first refusal of a text.
 --   IsWithin text        the text isn't too long
 --   IsRefusal text r     r is the text's first refusal: its length; else the first one that a text of any length may have
---   IsReadFault text e   what may be told of a text: its first refusal, or want of memory
+--   IsProgramFault text e   what may be told of a text: its first refusal, or want of memory
 --   lex_fault, parse_fault   a fault of the tokens or of the grammar, as it is told
 --   code_of r            the number under which a refusal is told
 --   at_of r              its place in the text, or its statement, counted from 1; 0 of a text that is too long
@@ -12,19 +12,19 @@ use Rattle.qasm_parser.specs.declared.ParseFault.{ParseFault}
 use Rattle.qasm_parser.specs.declared.ParseFault.TheVariants as parsing
 use Rattle.qasm_check.specs.Refusals.{code as check_code}
 use Rattle.gate_inline.specs.Inlined.{code as inline_code}
-use Rattle.gate_inline.specs.Programs.{text_limit}
+use Rattle.gate_inline.specs.Programs.{most_text_bytes}
 use Rattle.program_reader.specs.Texts.{IsTextRefusal}
-use Rattle.program_reader.specs.declared.refusal.Refusal.{Refusal}
-use Rattle.program_reader.specs.declared.refusal.Refusal.TheVariants.{TooLong, BadByte, Number, Syntax, Version, Depth, Check, Inline}
-use Rattle.program_reader.specs.declared.refusal.ReadFault.{ReadFault}
-use Rattle.program_reader.specs.declared.refusal.ReadFault.TheVariants.{Refused, NoMemory}
+use Rattle.program_reader.specs.declared.refusal.ProgramRefusal.{ProgramRefusal}
+use Rattle.program_reader.specs.declared.refusal.ProgramRefusal.TheVariants.{TooLong, BadByte, Number, Syntax, Version, Depth, Check, Inline}
+use Rattle.program_reader.specs.declared.refusal.ProgramFault.{ProgramFault}
+use Rattle.program_reader.specs.declared.refusal.ProgramFault.TheVariants.{Refused, NoMemory}
 
 -- of a text that isn't too long
 abbrev pub IsWithin : List ℕ → Type 0
-IsWithin text = length text ≤ text_limit
+IsWithin text = length text ≤ most_text_bytes
 
-abbrev pub IsRefusal : List ℕ → Refusal → Type 0
-IsRefusal text TooLong = text_limit < length text
+abbrev pub IsRefusal : List ℕ → ProgramRefusal → Type 0
+IsRefusal text TooLong = most_text_bytes < length text
 IsRefusal text (BadByte place) = IsWithin text × IsTextRefusal text (BadByte place)
 IsRefusal text (Number place) = IsWithin text × IsTextRefusal text (Number place)
 IsRefusal text (Syntax place) = IsWithin text × IsTextRefusal text (Syntax place)
@@ -33,23 +33,23 @@ IsRefusal text (Depth place) = IsWithin text × IsTextRefusal text (Depth place)
 IsRefusal text (Check r) = IsWithin text × IsTextRefusal text (Check r)
 IsRefusal text (Inline r) = IsWithin text × IsTextRefusal text (Inline r)
 
-abbrev pub IsReadFault : List ℕ → ReadFault → Type 0
-IsReadFault text (Refused r) = IsRefusal text r
-IsReadFault text NoMemory = Unit {0}
+abbrev pub IsProgramFault : List ℕ → ProgramFault → Type 0
+IsProgramFault text (Refused r) = IsRefusal text r
+IsProgramFault text NoMemory = Unit {0}
 
-abbrev pub lex_fault : LexFault → ReadFault
+abbrev pub lex_fault : LexFault → ProgramFault
 lex_fault (lexing.BadByte place) = Refused (BadByte place)
 lex_fault (lexing.Number place) = Refused (Number place)
 lex_fault lexing.NoMemory = NoMemory
 
-abbrev pub parse_fault : ParseFault → ReadFault
+abbrev pub parse_fault : ParseFault → ProgramFault
 parse_fault (parsing.Syntax place) = Refused (Syntax place)
 parse_fault (parsing.Version place) = Refused (Version place)
 parse_fault (parsing.Depth place) = Refused (Depth place)
 parse_fault parsing.NoMemory = NoMemory
 
 -- ---- as numbers
-abbrev pub code_of : Refusal → ℕ
+abbrev pub code_of : ProgramRefusal → ℕ
 code_of TooLong = 60
 code_of (BadByte place) = 10
 code_of (Number place) = 11
@@ -59,7 +59,7 @@ code_of (Depth place) = 14
 code_of (Check r) = check_code r.refusal
 code_of (Inline r) = inline_code r.refusal
 
-abbrev pub at_of : Refusal → ℕ
+abbrev pub at_of : ProgramRefusal → ℕ
 at_of TooLong = 0
 at_of (BadByte place) = place
 at_of (Number place) = place

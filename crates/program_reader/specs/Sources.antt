@@ -8,16 +8,16 @@ use Rattle.gate_expand.specs.Expansion.{IsFineOp}
 use Rattle.gate_expand.specs.declared.source.Ops.{Ops}
 use Rattle.gate_inline.specs.Programs.{Program}
 use Rattle.gate_inline.specs.Registers.{AreRegisters, IsRead}
-use Rattle.gate_inline.specs.Sizes.{operation_limit}
+use Rattle.gate_inline.specs.Sizes.{most_operations}
 use Rattle.gate_inline.specs.Splits.{IsBar}
 use Rattle.program_parts.specs.Cuts.{IsCut, whole}
-use Rattle.qasm_check.specs.declared.bits.Bits.{Bits}
+use Rattle.qasm_check.specs.declared.register.ClassicalRegister.{ClassicalRegister}
 use Rattle.unitary_model.specs.Limits.{most_qubits}
 use Rattle.unitary_model.specs.declared.Op.{Op}
 
 pub record IsSourceProgram (p : Program) : Type 0 where
   pub wires_limit : p.wires ≤ most_qubits
-  pub operations_limit : length p.ops ≤ operation_limit
+  pub operations_limit : length p.ops ≤ most_operations
   pub cut : IsCut p.cut
   pub parts : whole p.cut.parts ≡ p.ops
   pub fine : All (IsFineOp p.wires) p.ops
@@ -28,7 +28,7 @@ pub record IsSourceProgram (p : Program) : Type 0 where
 abbrev pub lists_of : List Ops → List (List Op)
 lists_of parts = map (λ o. o.list) parts
 
-abbrev pub held : ℕ → List Ops → List (List ℕ) → List (Option ℕ) → List Bits → ℕ → Program
+abbrev pub held : ℕ → List Ops → List (List ℕ) → List (Option ℕ) → List ClassicalRegister → ℕ → Program
 held wires parts bars reads registers barriers = record {
   wires = wires;
   ops = whole (lists_of parts);

@@ -9,11 +9,11 @@ use Rattle.qasm_check.specs.Checking.{IsCheckRefused}
 use Rattle.qasm_parser.specs.Tree.{Tree}
 use Rattle.gate_inline.specs.Inlined.{IsInlineRefused}
 use Rattle.gate_inline.specs.Programs.{IsWithinLimits, Means, Program, kept}
-use Rattle.program_reader.specs.declared.refusal.Refusal.TheVariants.{Check, Inline}
-use Rattle.program_reader.specs.declared.refusal.ReadFault.{ReadFault}
-use Rattle.program_reader.specs.declared.refusal.ReadFault.TheVariants.{Refused, NoMemory}
+use Rattle.program_reader.specs.declared.refusal.ProgramRefusal.TheVariants.{Check, Inline}
+use Rattle.program_reader.specs.declared.refusal.ProgramFault.{ProgramFault}
+use Rattle.program_reader.specs.declared.refusal.ProgramFault.TheVariants.{Refused, NoMemory}
 
-abbrev pub IsUnchecked : Tree → ReadFault → Type 0
+abbrev pub IsUnchecked : Tree → ProgramFault → Type 0
 IsUnchecked t NoMemory = Unit {0}
 IsUnchecked t (Refused (Check r)) = IsCheckRefused t r
 IsUnchecked t (Refused _) = ⊥
@@ -21,7 +21,7 @@ IsUnchecked t (Refused _) = ⊥
 abbrev pub IsReadAs : Bound → Bool → Program → Type 0
 IsReadAs b keep s = IsWithinLimits b × ((p : Program) × Means b p × (s ≡ kept keep p))
 
-abbrev pub IsUnwritten : Bound → ReadFault → Type 0
+abbrev pub IsUnwritten : Bound → ProgramFault → Type 0
 IsUnwritten b NoMemory = Unit {0}
 IsUnwritten b (Refused (Inline r)) = IsInlineRefused b r.refusal r.statement
 IsUnwritten b (Refused _) = ⊥

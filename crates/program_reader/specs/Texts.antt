@@ -17,10 +17,10 @@ use Rattle.qasm_parser.specs.declared.ParseFault.TheVariants as parsing
 use Rattle.qasm_check.specs.Checking.{IsCheckRefused, bound}
 use Rattle.gate_inline.specs.Inlined.{IsInlineRefused}
 use Rattle.gate_inline.specs.Programs.{IsSource, IsTreeOf, IsWithinLimits, Means, Program}
-use Rattle.program_reader.specs.declared.refusal.Refusal.{Refusal}
-use Rattle.program_reader.specs.declared.refusal.Refusal.TheVariants.{TooLong, BadByte, Number, Syntax, Version, Depth, Check, Inline}
-use Rattle.program_reader.specs.declared.refusal.ReadFault.{ReadFault}
-use Rattle.program_reader.specs.declared.refusal.ReadFault.TheVariants.{Refused, NoMemory}
+use Rattle.program_reader.specs.declared.refusal.ProgramRefusal.{ProgramRefusal}
+use Rattle.program_reader.specs.declared.refusal.ProgramRefusal.TheVariants.{TooLong, BadByte, Number, Syntax, Version, Depth, Check, Inline}
+use Rattle.program_reader.specs.declared.refusal.ProgramFault.{ProgramFault}
+use Rattle.program_reader.specs.declared.refusal.ProgramFault.TheVariants.{Refused, NoMemory}
 
 pub record IsAcceptedText (text : List ℕ) (p : Program) : Type 0 where
   pub tree : Tree
@@ -31,7 +31,7 @@ pub record IsAcceptedText (text : List ℕ) (p : Program) : Type 0 where
 abbrev pub IsUnparsed : List ℕ → ParseFault → Type 0
 IsUnparsed text fault = (tokens : List Token) × AreTokens text tokens × IsParseFault text tokens fault
 
-abbrev pub IsTextRefusal : List ℕ → Refusal → Type 0
+abbrev pub IsTextRefusal : List ℕ → ProgramRefusal → Type 0
 IsTextRefusal text TooLong = ⊥
 IsTextRefusal text (BadByte place) = IsLexFault text (lexing.BadByte place)
 IsTextRefusal text (Number place) = IsLexFault text (lexing.Number place)
@@ -41,6 +41,6 @@ IsTextRefusal text (Depth place) = IsUnparsed text (parsing.Depth place)
 IsTextRefusal text (Check r) = (t : Tree) × IsTreeOf text t × IsCheckRefused t r
 IsTextRefusal text (Inline r) = (t : Tree) × IsSource text t × IsInlineRefused (bound t) r.refusal r.statement
 
-abbrev pub IsTextFault : List ℕ → ReadFault → Type 0
+abbrev pub IsTextFault : List ℕ → ProgramFault → Type 0
 IsTextFault text (Refused r) = IsTextRefusal text r
 IsTextFault text NoMemory = Unit {0}

@@ -17,6 +17,6 @@ pub use laws::{
     accepted_has_no_refusal, accepted_or_refused, accepted_text_has_no_refusal, means_once,
     refused_once, text_accepted_or_refused, text_refused_once,
 };
-pub use reading::{TEXT_LIMIT, read_program, read_text};
-pub use refusal::{ReadFault, Refusal};
+pub use reading::{MOST_TEXT_BYTES, read_program, read_text};
+pub use refusal::{ProgramFault, ProgramRefusal};
 pub use source::SourceProgram;

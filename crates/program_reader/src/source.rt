@@ -5,7 +5,7 @@ ghost use Rattle.program_reader.specs.Sources.{lists_of};
 
 use gate_expand::{OpList, Ops, ReadList};
 use gate_inline::Split;
-use qasm_check::Bits;
+use qasm_check::ClassicalRegister;
 use std::alloc::{AllocError, Global};
 use std::marker::Model;
 use unitary_model::Op;
@@ -20,7 +20,7 @@ pub struct SourceProgram {
     parts: Vec<Ops>,
     bars: Vec<Vec<u32>>,
     reads: ReadList,
-    registers: Vec<Bits>,
+    registers: Vec<ClassicalRegister>,
     barriers: u64,
 }
 
@@ -64,7 +64,7 @@ impl SourceProgram {
     ghost use Rattle.std.specs.Prelude.{◌≡◌, ◌≤◌, All, IfOk, length, map};
     ghost use Rattle.gate_expand.specs.Expansion.{IsFineOp};
     ghost use Rattle.gate_inline.specs.Registers.{AreRegisters, IsRead};
-    ghost use Rattle.gate_inline.specs.Sizes.{operation_limit};
+    ghost use Rattle.gate_inline.specs.Sizes.{most_operations};
     ghost use Rattle.gate_inline.specs.Splits.{IsBar, cut_of};
     ghost use Rattle.program_parts.specs.Cuts.{IsCut, uncut, whole};
     ghost use Rattle.program_reader.specs.Sources.{lists_of};
@@ -74,15 +74,15 @@ impl SourceProgram {
     pub fn new(
         alloc: Global,
         ops: Ops,
-        registers: Vec<Bits>,
+        registers: Vec<ClassicalRegister>,
         barriers: u64,
     ) -> Result<SourceProgram, AllocError>
         requires wires_limit { ops.wires ≤ most_qubits }
-        requires operations_limit { length ops.list ≤ operation_limit }
+        requires operations_limit { length ops.list ≤ most_operations }
         requires fine { All (IsFineOp ops.wires) ops.list }
         requires registers { AreRegisters registers.items (length ops.reads) }
         requires reads { All (IsRead ops.wires) ops.reads }
-        ensures { IfOk result (λ p. p ≡ record { wires = ops.wires; ops = ops.list; cut = uncut ops.list; reads = ops.reads; registers = registers.items; barriers = barriers }) }
+        ensures ok { IfOk result (λ p. p ≡ record { wires = ops.wires; ops = ops.list; cut = uncut ops.list; reads = ops.reads; registers = registers.items; barriers = barriers }) }
     {
         let Ops { wires, list, reads } = ops;
         let mut parts = Vec::with_capacity(alloc, 1)?;
@@ -101,17 +101,17 @@ impl SourceProgram {
     pub fn in_parts(
         alloc: Global,
         split: Split,
-        registers: Vec<Bits>,
+        registers: Vec<ClassicalRegister>,
         barriers: u64,
     ) -> Result<SourceProgram, AllocError>
         requires wires_limit { split.wires ≤ most_qubits }
-        requires operations_limit { length (whole (cut_of split).parts) ≤ operation_limit }
+        requires operations_limit { length (whole (cut_of split).parts) ≤ most_operations }
         requires cut { IsCut (cut_of split) }
         requires fine { All (All (IsFineOp split.wires)) (cut_of split).parts }
         requires bars { All (IsBar split.wires) (cut_of split).bars }
         requires registers { AreRegisters registers.items (length split.reads.items) }
         requires reads { All (IsRead split.wires) split.reads.items }
-        ensures { IfOk result (λ p. p ≡ record { wires = split.wires; ops = whole (cut_of split).parts; cut = cut_of split; reads = split.reads.items; registers = registers.items; barriers = barriers }) }
+        ensures ok { IfOk result (λ p. p ≡ record { wires = split.wires; ops = whole (cut_of split).parts; cut = cut_of split; reads = split.reads.items; registers = registers.items; barriers = barriers }) }
     {
         let Split {
             wires,
@@ -133,7 +133,7 @@ impl SourceProgram {
     /// Does nothing. Its contract says what holds of each program that was read.
     pub fn facts(&self)
         ensures wires_limit { self.now.wires ≤ most_qubits }
-        ensures operations_limit { length self.now.ops ≤ operation_limit }
+        ensures operations_limit { length self.now.ops ≤ most_operations }
         ensures cut { IsCut self.now.cut }
         ensures parts { whole self.now.cut.parts ≡ self.now.ops }
         ensures fine { All (IsFineOp self.now.wires) self.now.ops }
@@ -146,7 +146,7 @@ impl SourceProgram {
 
     /// The number of wires.
     pub fn wires(&self) -> u32
-        ensures { result ≡ self.now.wires }
+        ensures value { result ≡ self.now.wires }
     {
         self.wires
     }
@@ -161,7 +161,7 @@ impl SourceProgram {
 
     /// The wires that the barrier behind each part but the last names.
     pub fn bars(&self) -> &[Vec<u32>]
-        ensures { map (λ v. v.items) result.now ≡ self.now.cut.bars }
+        ensures value { map (λ v. v.items) result.now ≡ self.now.cut.bars }
     {
         &self.bars
     }
@@ -177,21 +177,21 @@ impl SourceProgram {
 
     /// What each classical bit reads at the end.
     pub fn reads(&self) -> &[Option<u32>]
-        ensures { result.now ≡ self.now.reads }
+        ensures value { result.now ≡ self.now.reads }
     {
         self.reads.as_slice()
     }
 
     /// The classical registers in order of declaration.
-    pub fn registers(&self) -> &[Bits]
-        ensures { result.now ≡ self.now.registers }
+    pub fn registers(&self) -> &[ClassicalRegister]
+        ensures value { result.now ≡ self.now.registers }
     {
         &self.registers
     }
 
     /// How many barriers stand outside bodies.
     pub fn barriers(&self) -> u64
-        ensures { result ≡ self.now.barriers }
+        ensures value { result ≡ self.now.barriers }
     {
         self.barriers
     }

@@ -99,7 +99,7 @@ fn circuit_text(alloc: Global, circuit: &Circuit) -> Result<String, AllocError> 
 fn drawn_ops(alloc: Global, start: u32, wires: u32) -> Result<Ops, AllocError>
     requires some { 0 < wires }
     requires limit { wires ≤ most_qubits }
-    ensures few { IfOk result (λ p. p.wires ≤ most_qubits) }
+    ensures wires_limit { IfOk result (λ p. p.wires ≤ most_qubits) }
     ensures fine { IfOk result (λ p. All (IsFineOp p.wires) p.list) }
 {
     let ops = made(alloc, start, 70, wires)?;

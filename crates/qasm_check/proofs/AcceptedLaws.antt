@@ -17,23 +17,23 @@ use Rattle.std.proofs.lemmas.List.Quantifiers.{position-Some}
 use Rattle.qasm_parser.specs.declared.tree.Arg.{Arg}
 use Rattle.qasm_parser.specs.Tree.{Application, apply, measure, reset as resets, barrier, Statement, include, register, gate, opaque, conditional, act}
 use Rattle.qasm_check.specs.Checking.{AllFine, bits_of, bound_of, steps}
-use Rattle.gate_library.specs.Gates.{Gate, opaque as g-opaque, gate_at}
-use Rattle.gate_library.specs.Known.{Known, fresh, gate_number, meaning, own_number, with_measured}
-use Rattle.gate_library.specs.Library.{library, table_names, table_index}
+use Rattle.gate_library.specs.Gates.{BoundGate, opaque as g-opaque, gate_at}
+use Rattle.gate_library.specs.Library.{library, own_number, table_names, table_index}
 use Rattle.gate_library.specs.Listing.{added, standard}
 use Rattle.gate_library.specs.Names.{with}
-use Rattle.gate_library.specs.Operands.{operand_in, measure_differs, sizes_differ}
+use Rattle.gate_library.specs.Operands.{measure_differs, sizes_differ}
 use Rattle.qasm_check.specs.Arguments.{operand, operands}
-use Rattle.gate_library.specs.Meanings.{is_beyond as is_beyond_in, is_other}
+use Rattle.qasm_check.specs.Known.{Known, fresh, gate_number, meaning, with_measured}
+use Rattle.qasm_check.specs.Meanings.{is_past_end, is_other, operand_in}
 use Rattle.qasm_check.specs.Refusals.{IsFine, is_beyond, is_unknown, is_wrong}
 use Rattle.qasm_check.specs.Sound.{IsSound, are_gates, fits, is_gate, is_operand, is_step}
 use Rattle.qasm_check.specs.Steps.{Step, applies, measures, bars, nothing, act_step, after, measure_step, bound_gate, formula, step}
-use Rattle.gate_library.specs.declared.meaning.Meaning.{Meaning}
-use Rattle.gate_library.specs.declared.meaning.Meaning.TheVariants.{Gate as Numbered, Register}
-use Rattle.gate_library.specs.declared.meaning.Register.{Register as Reg}
 use Rattle.gate_library.specs.declared.operand.Operand.{Operand}
-use Rattle.qasm_check.specs.declared.refusal.Refusal.TheVariants.{UnknownName, WrongKind, IndexRange, ParamCount, QubitCount, SizeDiffers, RepeatedQubit, OpaqueApplied, TooManyQubits, TooManyBits}
-use Rattle.qasm_check.specs.declared.bits.Bits.{Bits}
+use Rattle.qasm_check.specs.declared.meaning.Meaning.{Meaning}
+use Rattle.qasm_check.specs.declared.meaning.Meaning.TheVariants.{Gate as Numbered, Register}
+use Rattle.qasm_check.specs.declared.meaning.Register.{Register as Reg}
+use Rattle.qasm_check.specs.declared.refusal.CheckRefusal.TheVariants.{UnknownName, WrongKind, IndexRange, ParamCount, QubitCount, SizeDiffers, RepeatedQubit, OpaqueApplied, TooManyQubits, TooManyBits}
+use Rattle.qasm_check.specs.declared.register.ClassicalRegister.{ClassicalRegister}
 use Rattle.qasm_check.proofs.RegisterLaws.{registers_apart, registers_free, registers_sizes, registers_sum}
 use Rattle.qasm_check.proofs.SoundLaws.{HasGates, are_gates-push, both, callee, each-uses, first, fits-callee, gate_at-front, gate_sound, le_test, lt_test, neither_first, neither_second, not_false, not_not, second, test_le, test_lt}
 use Rattle.unitary_model.specs.Limits.{most_qubits}
@@ -89,7 +89,7 @@ of_kind quantum (Some (Numbered c)) e f = absurd (cc)
 of_kind true (Some (Register r)) e f = (r, refl, not_not _ f)
 of_kind false (Some (Register r)) e f = (r, refl, f)
 
-placed : (r : Reg) (index : Option ℕ) (n : ℕ) → r.first + r.size ≤ n → is_beyond_in (Some (Register r)) index ≡ false
+placed : (r : Reg) (index : Option ℕ) (n : ℕ) → r.first + r.size ≤ n → is_past_end (Some (Register r)) index ≡ false
     → (p : Operand) × (operand_in (Some (Register r)) index ≡ Some p) × (is_operand n p ≡ true)
 placed r None n le e = (record { first = r.first; size = r.size; index = None }, refl, both _ _ (le_test _ _ le) refl)
 placed r (Some i) n le e =
@@ -104,7 +104,7 @@ arg_place k sound quantum x u w b =
     let m : meaning k x.name ≡ Some (Register r) = found.1 in
     let declared : k.declared x.name ≡ Some (Register r) = register_of (k.declared x.name) (own_number k.included x.name) r m in
     let le : r.first + r.size ≤ kind_size quantum k.wires k.bits = subst (λ q. r.first + r.size ≤ kind_size q k.wires k.bits) found.2 (sound.registers x.name r declared) in
-    let at = placed r x.index (kind_size quantum k.wires k.bits) le (ap (λ o. is_beyond_in o x.index) (sym m) ∙ b) in
+    let at = placed r x.index (kind_size quantum k.wires k.bits) le (ap (λ o. is_past_end o x.index) (sym m) ∙ b) in
     (at.0, ap (λ o. operand_in o x.index) m ∙ at.1, at.2)
 
 some_places : (k : Known) (x : Arg) (args : List Arg) (p : Operand) → operand k x ≡ Some p → operands k (x ∷ args) ≡ p ∷ operands k args
@@ -166,7 +166,7 @@ sound-bits k sound name size fine =
       few_bits = few;
     }
 
-sound-gate : (k : Known) → IsSoundKnown k → (name : List ℕ) (g : Gate) → is_gate k.gates g ≡ true
+sound-gate : (k : Known) → IsSoundKnown k → (name : List ℕ) (g : BoundGate) → is_gate k.gates g ≡ true
     → IsSoundKnown (record k { declared = with name (Numbered (length k.gates)) k.declared; gates = k.gates ++ g ∷ [] })
 sound-gate k sound name g good =
     let longer : length (k.gates ++ g ∷ []) ≡ length k.gates + 1 = length-append k.gates (g ∷ []) in
@@ -263,7 +263,7 @@ step_sound k sound (opaque d) fine = refl
 step_sound k sound (conditional name value inner) fine = refl
 step_sound k sound (act (apply a)) fine = apply_sound k sound a fine
 step_sound k sound (act (measure qubit bit)) fine =
-    ap (λ (gs : List Gate). is_step gs (with_measured k (operand k qubit)).wires (with_measured k (operand k qubit)).bits (act_step k (measure qubit bit))) (measured-gates k (operand k qubit))
+    ap (λ (gs : List BoundGate). is_step gs (with_measured k (operand k qubit)).wires (with_measured k (operand k qubit)).bits (act_step k (measure qubit bit))) (measured-gates k (operand k qubit))
     ∙ ap (λ (n : ℕ). is_step k.gates n (with_measured k (operand k qubit)).bits (act_step k (measure qubit bit))) (measured-wires k (operand k qubit))
     ∙ ap (λ (n : ℕ). is_step k.gates k.wires n (act_step k (measure qubit bit))) (measured-bits k (operand k qubit))
     ∙ measure_sound k sound qubit bit fine
@@ -272,7 +272,7 @@ step_sound k sound (act (barrier args)) fine = (arg_places k sound args (fine Un
 
 -- ---- more gates, wires and bits
 pub record Grows (k l : Known) : Type 0 where
-  pub more : List Gate
+  pub more : List BoundGate
   pub gates : l.gates ≡ k.gates ++ more
   pub wires : k.wires ≤ l.wires
   pub bits : k.bits ≤ l.bits
@@ -284,12 +284,12 @@ places-grow : (n m : ℕ) (ps : List Operand) → n ≤ m → list_all (is_opera
 places-grow n m [] le e = refl
 places-grow n m (p ∷ ps) le e = both _ _ (place-grow n m p le (first _ _ e)) (places-grow n m ps le (second _ _ e))
 
-step-grow : (gates more : List Gate) (w v b c : ℕ) (s : Step) → w ≤ v → b ≤ c → is_step gates w b s ≡ true → is_step (gates ++ more) v c s ≡ true
+step-grow : (gates more : List BoundGate) (w v b c : ℕ) (s : Step) → w ≤ v → b ≤ c → is_step gates w b s ≡ true → is_step (gates ++ more) v c s ≡ true
 step-grow gates more w v b c (applies number angles ps) le lf e =
     let lesser : number < length gates = test_lt _ _ (first _ _ (first _ _ (first _ _ (first _ _ (first _ _ e))))) in
     let longer : length (gates ++ more) ≡ length gates + length more = length-append gates more in
     let fit : fits (gate_at (gates ++ more) number) (length angles) (length ps) ≡ true =
-    ap (λ (g : Gate). fits g (length angles) (length ps)) (gate_at-front gates more number lesser) ∙ second _ _ (first _ _ (first _ _ (first _ _ (first _ _ e)))) in
+    ap (λ (g : BoundGate). fits g (length angles) (length ps)) (gate_at-front gates more number lesser) ∙ second _ _ (first _ _ (first _ _ (first _ _ (first _ _ e)))) in
     both _ _ (both _ _ (both _ _ (both _ _ (both _ _ (lt_test number (length (gates ++ more)) (omega arith)) fit) (second _ _ (first _ _ (first _ _ (first _ _ e)))))
     (places-grow w v ps le (second _ _ (first _ _ (first _ _ e))))) (second _ _ (first _ _ e))) (second _ _ e)
 step-grow gates more w v b c (measures qubit bit) le lf e =
@@ -298,7 +298,7 @@ step-grow gates more w v b c (bars ps) le lf e = places-grow w v ps le e
 step-grow gates more w v b c nothing le lf e = refl
 
 grows-step : (k l : Known) (s : Step) → Grows k l → is_step k.gates k.wires k.bits s ≡ true → is_step l.gates l.wires l.bits s ≡ true
-grows-step k l s g e = ap (λ (gs : List Gate). is_step gs l.wires l.bits s) g.gates ∙ step-grow k.gates g.more k.wires l.wires k.bits l.bits s g.wires g.bits e
+grows-step k l s g e = ap (λ (gs : List BoundGate). is_step gs l.wires l.bits s) g.gates ∙ step-grow k.gates g.more k.wires l.wires k.bits l.bits s g.wires g.bits e
 
 grows-none : (k : Known) → Grows k k
 grows-none k = record { more = []; gates = sym (append-nil k.gates); wires = (le_refl _); bits = (le_refl _) }
@@ -306,7 +306,7 @@ grows-none k = record { more = []; gates = sym (append-nil k.gates); wires = (le
 grows-then : (k l m : Known) → Grows k l → Grows l m → Grows k m
 grows-then k l m g h = record {
   more = g.more ++ h.more;
-  gates = h.gates ∙ ap (λ (gs : List Gate). gs ++ h.more) g.gates ∙ append_assoc k.gates g.more h.more;
+  gates = h.gates ∙ ap (λ (gs : List BoundGate). gs ++ h.more) g.gates ∙ append_assoc k.gates g.more h.more;
   wires = let a = g.wires in let b = h.wires in omega arith;
   bits = let a = g.bits in let b = h.bits in omega arith;
 }
@@ -357,7 +357,7 @@ fresh_sound = record {
 pub accepted_sound : (xs : List Statement) → AllFine fresh xs → IsSound (bound_of xs)
 accepted_sound xs fine =
     let end = fold_sound fresh fresh_sound xs fine in
-    let all : (fold after fresh xs).bits ≡ 0 + sum_by (λ (r : Bits). r.size) (filter_map bits_of xs) = registers_sum fresh xs in record {
+    let all : (fold after fresh xs).bits ≡ 0 + sum_by (λ (r : ClassicalRegister). r.size) (filter_map bits_of xs) = registers_sum fresh xs in record {
       gates = end.gates;
       steps = steps_sound fresh fresh_sound xs fine;
       wires = end.few_wires;

@@ -1,10 +1,12 @@
 mod AcceptedLaws
 mod EitherLaws
+mod IndexLaws
 mod ListingLaws
 mod LoopLaws
 mod OnceLaws
 mod ProgramLaws
 mod RegisterLaws
 mod SoundLaws
+mod StateLaws
 mod StatementLaws
 mod VerdictLaws

@@ -14,14 +14,14 @@ use Rattle.std.proofs.lemmas.List.Sums.{sum_by-cons}
 use Rattle.std.proofs.lemmas.Slice.Eq.{bytes_eq-Decides}
 use Rattle.qasm_parser.specs.Tree.{apply, measure, reset as resets, barrier, Statement, include, register, gate, opaque, conditional, act}
 use Rattle.qasm_check.specs.Checking.{AllFine, bits_of}
-use Rattle.gate_library.specs.Known.{Known, with_measured}
 use Rattle.gate_library.specs.Library.{table_names}
 use Rattle.gate_library.specs.Names.{has_repeat, is_one_of, with}
 use Rattle.qasm_check.specs.Arguments.{operand}
+use Rattle.qasm_check.specs.Known.{Known, with_measured}
 use Rattle.qasm_check.specs.Steps.{after}
-use Rattle.qasm_check.specs.declared.bits.Bits.{Bits}
+use Rattle.qasm_check.specs.declared.register.ClassicalRegister.{ClassicalRegister}
 use Rattle.gate_library.specs.declared.operand.Operand.{Operand}
-use Rattle.qasm_check.specs.declared.refusal.Refusal.TheVariants.{NameTaken, EmptyRegister}
+use Rattle.qasm_check.specs.declared.refusal.CheckRefusal.TheVariants.{NameTaken, EmptyRegister}
 use Rattle.qasm_check.proofs.SoundLaws.{both, neither_first, neither_second}
 
 pub registers_sizes : (k : Known) (xs : List Statement) → AllFine k xs → list_all (λ r. nat_lt 0 r.size) (filter_map bits_of xs) ≡ true
@@ -111,15 +111,15 @@ registers_sum k [] = omega arith
 registers_sum k (include file ∷ xs) = registers_sum (after k (include file)) xs
 registers_sum k (register true name size ∷ xs) = registers_sum (after k (register true name size)) xs
 registers_sum k (register false name size ∷ xs) =
-    let made : Bits = record { name = name; size = size } in
+    let made : ClassicalRegister = record { name = name; size = size } in
     let later : (fold after k (register false name size ∷ xs)).bits ≡ k.bits + size + sum_by (λ r. r.size) (filter_map bits_of xs) = registers_sum (after k (register false name size)) xs in
-    let sums : sum_by (λ r. r.size) (filter_map bits_of (register false name size ∷ xs)) ≡ size + sum_by (λ r. r.size) (filter_map bits_of xs) = sum_by-cons (λ (r : Bits). r.size) made (filter_map bits_of xs) in
+    let sums : sum_by (λ r. r.size) (filter_map bits_of (register false name size ∷ xs)) ≡ size + sum_by (λ r. r.size) (filter_map bits_of xs) = sum_by-cons (λ (r : ClassicalRegister). r.size) made (filter_map bits_of xs) in
     omega arith
 registers_sum k (gate d ∷ xs) = registers_sum (after k (gate d)) xs
 registers_sum k (opaque d ∷ xs) = registers_sum (after k (opaque d)) xs
 registers_sum k (conditional name value inner ∷ xs) = registers_sum (after k (conditional name value inner)) xs
 registers_sum k (act (apply a) ∷ xs) = registers_sum k xs
 registers_sum k (act (measure qubit bit) ∷ xs) = registers_sum (with_measured k (operand k qubit)) xs
-    ∙ ap (λ n. n + sum_by (λ (r : Bits). r.size) (filter_map bits_of xs)) (measured-bits k (operand k qubit))
+    ∙ ap (λ n. n + sum_by (λ (r : ClassicalRegister). r.size) (filter_map bits_of xs)) (measured-bits k (operand k qubit))
 registers_sum k (act (resets arg) ∷ xs) = registers_sum k xs
 registers_sum k (act (barrier args) ∷ xs) = registers_sum k xs

@@ -19,17 +19,17 @@ use Rattle.std.proofs.lemmas.List.{append-nil, append_assoc, length-map}
 use Rattle.std.proofs.lemmas.Slice.Eq.{bytes_eq-Decides}
 use Rattle.qasm_parser.specs.Tree.{Expression, number, pi, param, negated, paren, call, binary, Action, Application, Definition, apply, measure, reset as resets, barrier, gate as declares}
 use Rattle.qasm_parser.specs.declared.tree.Arg.{Arg}
-use Rattle.gate_library.specs.Gates.{Gate, u, call as i-call, gate_at, gate_params, gate_qubits, is_opaque}
-use Rattle.gate_library.specs.Known.{Known, gate_number, meaning}
-use Rattle.gate_library.specs.Meanings.{is_register}
+use Rattle.gate_library.specs.Gates.{BoundGate, u, call as i-call, gate_at, gate_params, gate_qubits, is_opaque}
 use Rattle.qasm_check.specs.Refusals.{IsFine, applies_opaque, in_body, of_gate, params_differ, qubits_differ, repeats_name, unknown_in_body}
-use Rattle.gate_library.specs.declared.meaning.Meaning.{Meaning}
-use Rattle.gate_library.specs.declared.meaning.Meaning.TheVariants.{Gate as Numbered, Register}
-use Rattle.qasm_check.specs.declared.refusal.Refusal.TheVariants.{UnknownName, WrongKind, ParamCount, QubitCount, RepeatedQubit, OpaqueApplied}
+use Rattle.qasm_check.specs.declared.meaning.Meaning.TheVariants.{Gate as Numbered, Register}
+use Rattle.qasm_check.specs.declared.refusal.CheckRefusal.TheVariants.{UnknownName, WrongKind, ParamCount, QubitCount, RepeatedQubit, OpaqueApplied}
 use Rattle.gate_library.specs.Names.{has_repeat, is_one_of, index_of}
 use Rattle.qasm_check.specs.Arguments.{knows}
+use Rattle.qasm_check.specs.Meanings.{names_register}
+use Rattle.qasm_check.specs.Known.{Known, gate_number, meaning}
 use Rattle.qasm_check.specs.Sound.{are_gates, fits, is_gate, is_item, uses_below}
 use Rattle.qasm_check.specs.Steps.{bound_gate, formula, item}
+use Rattle.qasm_check.specs.declared.meaning.Meaning.{Meaning}
 
 -- ---- tests
 pub both : (a b : Bool) → a ≡ true → b ≡ true → (a && b) ≡ true
@@ -71,18 +71,18 @@ pub test_le : (i n : ℕ) → nat_le i n ≡ true → i ≤ n
 test_le i n e = grind (arith, nat_tests)
 
 -- ---- one more gate
-pub are_gates-push : (before gs : List Gate) (g : Gate) → are_gates before gs ≡ true → is_gate (before ++ gs) g ≡ true → are_gates before (gs ++ g ∷ []) ≡ true
-are_gates-push before [] g e f = both _ true (subst (λ (xs : List Gate). is_gate xs g ≡ true) (append-nil before) f) refl
+pub are_gates-push : (before gs : List BoundGate) (g : BoundGate) → are_gates before gs ≡ true → is_gate (before ++ gs) g ≡ true → are_gates before (gs ++ g ∷ []) ≡ true
+are_gates-push before [] g e f = both _ true (subst (λ (xs : List BoundGate). is_gate xs g ≡ true) (append-nil before) f) refl
 are_gates-push before (x ∷ gs) g e f =
     both _ _ (first _ _ e)
-    (are_gates-push (before ++ x ∷ []) gs g (second _ _ e) (subst (λ (xs : List Gate). is_gate xs g ≡ true) (sym (append_assoc before (x ∷ []) gs)) f))
+    (are_gates-push (before ++ x ∷ []) gs g (second _ _ e) (subst (λ (xs : List BoundGate). is_gate xs g ≡ true) (sym (append_assoc before (x ∷ []) gs)) f))
 
 slice_get-front : {A : Type 0} (xs ys : List A) (i : ℕ) → i < length xs → slice_get (xs ++ ys) i ≡ slice_get xs i
 slice_get-front [] ys i lt = absurd (omega arith)
 slice_get-front (x ∷ xs) ys zero lt = refl
 slice_get-front (x ∷ xs) ys (suc i) lt = slice_get-front xs ys i (omega arith)
 
-pub gate_at-front : (gates more : List Gate) (i : ℕ) → i < length gates → gate_at (gates ++ more) i ≡ gate_at gates i
+pub gate_at-front : (gates more : List BoundGate) (i : ℕ) → i < length gates → gate_at (gates ++ more) i ≡ gate_at gates i
 gate_at-front gates more i lt = ap (λ o. unwrap_or o u) (slice_get-front gates more i lt)
 
 -- ---- names of a gate's own
@@ -157,7 +157,7 @@ each-uses params [] e = refl
 each-uses params (x ∷ es) e = both _ _ (knows-uses params x (not_not _ (neither_first _ _ e))) (each-uses params es (neither_second _ _ e))
 
 -- ---- what a gate's name stands for
-pub callee : (o : Option Meaning) → is_none o ≡ false → is_register o ≡ false → (c : ℕ) × (o ≡ Some (Numbered c))
+pub callee : (o : Option Meaning) → is_none o ≡ false → names_register o ≡ false → (c : ℕ) × (o ≡ Some (Numbered c))
 callee None e f = absurd (cc)
 callee (Some (Numbered c)) e f = (c, refl)
 callee (Some (Register r)) e f = absurd (cc)
@@ -176,7 +176,7 @@ abbrev pub HasGates : Known → Type 0
 HasGates k = (name : List ℕ) (c : ℕ) → meaning k name ≡ Some (Numbered c) → c < length k.gates
 
 item_sound : (k : Known) → HasGates k → (params qubits : List (List ℕ)) (it : Action) → unknown_in_body k params qubits it ≡ false
-    → in_body (λ a. is_register (meaning k a.gate)) it ≡ false → in_body (params_differ k) it ≡ false → in_body (qubits_differ k) it ≡ false
+    → in_body (λ a. names_register (meaning k a.gate)) it ≡ false → in_body (params_differ k) it ≡ false → in_body (qubits_differ k) it ≡ false
     → in_body repeats_name it ≡ false → in_body (applies_opaque k) it ≡ false
     → is_item k.gates (length params) (length qubits) (item k params qubits it) ≡ true
 item_sound k has params qubits (apply a) unknown register eparams equbits repeated closed =
@@ -202,7 +202,7 @@ item_sound k has params qubits (resets arg) unknown register eparams equbits rep
 item_sound k has params qubits (barrier args) unknown register eparams equbits repeated closed = refl
 
 body_sound : (k : Known) → HasGates k → (params qubits : List (List ℕ)) (body : List Action) → list_any (unknown_in_body k params qubits) body ≡ false
-    → list_any (in_body (λ a. is_register (meaning k a.gate))) body ≡ false → list_any (in_body (params_differ k)) body ≡ false
+    → list_any (in_body (λ a. names_register (meaning k a.gate))) body ≡ false → list_any (in_body (params_differ k)) body ≡ false
     → list_any (in_body (qubits_differ k)) body ≡ false → list_any (in_body repeats_name) body ≡ false → list_any (in_body (applies_opaque k)) body ≡ false
     → list_all (is_item k.gates (length params) (length qubits)) (map (item k params qubits) body) ≡ true
 body_sound k has params qubits [] un r p q d o = refl

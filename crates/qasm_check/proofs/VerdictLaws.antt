@@ -4,39 +4,39 @@
 use Rattle.std.proofs.Common.{◌≡◌, ℕ, ◌+◌, ◌<◌, ◌≤◌, List, [], ◌∷◌, Option, Some, None, Bool, true, false, refl, sym, ap, subst, ◌∙◌, ◌⊎◌, inl, inr, ⊎_elim, arith, lit≤}
 use Rattle.std.proofs.lemmas.Bool.{cases_Bool}
 use Rattle.qasm_parser.specs.Tree.{Statement}
-use Rattle.gate_library.specs.Known.{Known}
+use Rattle.qasm_check.specs.Known.{Known}
 use Rattle.qasm_check.specs.Refusals.{IsFine, IsLeast, applies, code}
 use Rattle.qasm_check.specs.Verdicts.{either, verdict}
-use Rattle.qasm_check.specs.declared.refusal.Refusal.{Refusal}
-use Rattle.qasm_check.specs.declared.refusal.Refusal.TheVariants.{Include, NameTaken, UnknownName, WrongKind, IndexRange, EmptyRegister, ParamCount, QubitCount, SizeDiffers, RepeatedQubit, Conditional, Reset, OpaqueApplied, AfterMeasure, TooManyQubits, TooManyBits}
+use Rattle.qasm_check.specs.declared.refusal.CheckRefusal.{CheckRefusal}
+use Rattle.qasm_check.specs.declared.refusal.CheckRefusal.TheVariants.{Include, NameTaken, UnknownName, WrongKind, IndexRange, EmptyRegister, ParamCount, QubitCount, SizeDiffers, RepeatedQubit, Conditional, Reset, OpaqueApplied, AfterMeasure, TooManyQubits, TooManyBits}
 
 -- ---- the first refusal of a list that is met
-abbrev first_of : (Refusal → Bool) → List Refusal → Option Refusal
+abbrev first_of : (CheckRefusal → Bool) → List CheckRefusal → Option CheckRefusal
 first_of test [] = None
 first_of test (r ∷ rs) = either (test r) r (first_of test rs)
 
-abbrev Member : Refusal → List Refusal → Type 0
+abbrev Member : CheckRefusal → List CheckRefusal → Type 0
 Member q [] = ⊥
 Member q (r ∷ rs) = (q ≡ r) ⊎ Member q rs
 
 -- codes ascend, from this one on
-abbrev Ascends : ℕ → List Refusal → Type 0
+abbrev Ascends : ℕ → List CheckRefusal → Type 0
 Ascends n [] = Unit {0}
 Ascends n (r ∷ rs) = (n ≤ code r) × Ascends (code r + 1) rs
 
-member-above : (q : Refusal) (n : ℕ) (rs : List Refusal) → Ascends n rs → Member q rs → n ≤ code q
+member-above : (q : CheckRefusal) (n : ℕ) (rs : List CheckRefusal) → Ascends n rs → Member q rs → n ≤ code q
 member-above q n [] up m = absurd m
 member-above q n (r ∷ rs) up m =
-    ⊎_elim (λ e. subst (λ (x : Refusal). n ≤ code x) (sym e) up.0)
+    ⊎_elim (λ e. subst (λ (x : CheckRefusal). n ≤ code x) (sym e) up.0)
     (λ later. let h : code r + 1 ≤ code q = member-above q (code r + 1) rs up.1 later in let k : n ≤ code r = up.0 in omega arith) m
 
-either-false : (b : Bool) (r : Refusal) (o : Option Refusal) → b ≡ false → either b r o ≡ o
+either-false : (b : Bool) (r : CheckRefusal) (o : Option CheckRefusal) → b ≡ false → either b r o ≡ o
 either-false b r o e = rw e refl
 
-either-true : (b : Bool) (r : Refusal) (o : Option Refusal) → b ≡ true → either b r o ≡ Some r
+either-true : (b : Bool) (r : CheckRefusal) (o : Option CheckRefusal) → b ≡ true → either b r o ≡ Some r
 either-true b r o e = rw e refl
 
-none-met : (test : Refusal → Bool) (q : Refusal) (rs : List Refusal) → first_of test rs ≡ None → Member q rs → test q ≡ false
+none-met : (test : CheckRefusal → Bool) (q : CheckRefusal) (rs : List CheckRefusal) → first_of test rs ≡ None → Member q rs → test q ≡ false
 none-met test q [] e m = absurd m
 none-met test q (r ∷ rs) e m =
     ⊎_elim
@@ -44,7 +44,7 @@ none-met test q (r ∷ rs) e m =
     (λ n. ⊎_elim (λ same. ap test same ∙ n) (none-met test q rs (sym (either-false (test r) r (first_of test rs) n) ∙ e)) m)
     (cases_Bool (test r))
 
-met : (test : Refusal → Bool) (q : Refusal) (rs : List Refusal) → first_of test rs ≡ Some q → test q ≡ true
+met : (test : CheckRefusal → Bool) (q : CheckRefusal) (rs : List CheckRefusal) → first_of test rs ≡ Some q → test q ≡ true
 met test q [] e = absurd (cc)
 met test q (r ∷ rs) e =
     ⊎_elim
@@ -52,7 +52,7 @@ met test q (r ∷ rs) e =
     (λ n. met test q rs (sym (either-false (test r) r (first_of test rs) n) ∙ e))
     (cases_Bool (test r))
 
-lesser-not_met : (test : Refusal → Bool) (q r0 : Refusal) (n : ℕ) (rs : List Refusal) → first_of test rs ≡ Some r0 → Ascends n rs
+lesser-not_met : (test : CheckRefusal → Bool) (q r0 : CheckRefusal) (n : ℕ) (rs : List CheckRefusal) → first_of test rs ≡ Some r0 → Ascends n rs
     → Member q rs → code q < code r0 → test q ≡ false
 lesser-not_met test q r0 n [] e up m lt = absurd m
 lesser-not_met test q r0 n (r ∷ rs) e up m lt =
@@ -69,10 +69,10 @@ lesser-not_met test q r0 n (r ∷ rs) e up m lt =
     (cases_Bool (test r))
 
 -- ---- all of them
-order : List Refusal
+order : List CheckRefusal
 order = Include ∷ NameTaken ∷ UnknownName ∷ WrongKind ∷ IndexRange ∷ EmptyRegister ∷ ParamCount ∷ QubitCount ∷ SizeDiffers ∷ RepeatedQubit ∷ Conditional ∷ Reset ∷ OpaqueApplied ∷ AfterMeasure ∷ TooManyQubits ∷ TooManyBits ∷ []
 
-every : (q : Refusal) → Member q order
+every : (q : CheckRefusal) → Member q order
 unfolding order
 every Include = inl refl
 every NameTaken = inr (inl refl)
@@ -102,7 +102,7 @@ verdict-first k s = refl
 pub fine-verdict : (k : Known) (s : Statement) → verdict k s ≡ None → IsFine k s
 fine-verdict k s e q = none-met (λ r. applies r k s) q order (sym (verdict-first k s) ∙ e) (every q)
 
-pub least-verdict : (k : Known) (s : Statement) (r : Refusal) → verdict k s ≡ Some r → IsLeast k s r
+pub least-verdict : (k : Known) (s : Statement) (r : CheckRefusal) → verdict k s ≡ Some r → IsLeast k s r
 least-verdict k s r e =
     let first : first_of (λ q. applies q k s) order ≡ Some r = sym (verdict-first k s) ∙ e in record {
       applied = met (λ q. applies q k s) r order first;

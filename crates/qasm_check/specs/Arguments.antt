@@ -6,10 +6,10 @@ use Rattle.std.specs.Prelude.{ℕ, List, Option, Bool, true, ◌&&◌}
 use Rattle.std.specs.List.{filter_map}
 use Rattle.qasm_parser.specs.Tree.{Expression, number, pi, param, negated, paren, call, binary}
 use Rattle.qasm_parser.specs.declared.tree.Arg.{Arg}
-use Rattle.gate_library.specs.Known.{Known, meaning}
 use Rattle.gate_library.specs.Names.{is_one_of}
-use Rattle.gate_library.specs.Operands.{operand_in}
 use Rattle.gate_library.specs.declared.operand.Operand.{Operand}
+use Rattle.qasm_check.specs.Known.{Known, meaning}
+use Rattle.qasm_check.specs.Meanings.{operand_in}
 
 abbrev pub operand : Known → Arg → Option Operand
 operand k arg = operand_in (meaning k arg.name) arg.index

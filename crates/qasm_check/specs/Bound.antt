@@ -5,16 +5,16 @@
 --   barriers       how many barriers stand outside bodies
 use Rattle.std.specs.Prelude.{ℕ, List, Bool, true, false}
 use Rattle.std.specs.List.{count_by}
-use Rattle.gate_library.specs.Gates.{Gate}
+use Rattle.gate_library.specs.Gates.{BoundGate}
 use Rattle.qasm_check.specs.Steps.{Step, applies, measures, bars, nothing}
-use Rattle.qasm_check.specs.declared.bits.Bits.{Bits}
+use Rattle.qasm_check.specs.declared.register.ClassicalRegister.{ClassicalRegister}
 
 pub record Bound : Type 0 where
-  pub gates : List Gate
+  pub gates : List BoundGate
   pub steps : List Step
   pub wires : ℕ
   pub bits : ℕ
-  pub registers : List Bits
+  pub registers : List ClassicalRegister
 
 abbrev pub is_barrier : Step → Bool
 is_barrier (applies number angles operands) = false

@@ -9,12 +9,12 @@
 use Rattle.std.specs.Prelude.{◌≡◌, ◌+◌, List, [], ◌∷◌, ◌++◌, Option, Some, None, true, false, length}
 use Rattle.std.specs.List.{filter_map}
 use Rattle.qasm_parser.specs.Tree.{Statement, include, register, gate, opaque, conditional, act, Tree}
-use Rattle.gate_library.specs.Known.{Known, fresh}
 use Rattle.qasm_check.specs.Bound.{Bound}
+use Rattle.qasm_check.specs.Known.{Known, fresh}
 use Rattle.qasm_check.specs.Steps.{Step, after, known, step}
-use Rattle.qasm_check.specs.declared.bits.Bits.{Bits}
+use Rattle.qasm_check.specs.declared.register.ClassicalRegister.{ClassicalRegister}
 use Rattle.qasm_check.specs.Refusals.{IsFine, IsLeast}
-use Rattle.qasm_check.specs.declared.refusal.Refused.{Refused}
+use Rattle.qasm_check.specs.declared.refusal.CheckRefused.{CheckRefused}
 use Rattle.qasm_check.specs.declared.refusal.CheckFault.{CheckFault}
 use Rattle.qasm_check.specs.declared.refusal.CheckFault.TheVariants.{Refused as Refuses, NoMemory}
 
@@ -25,13 +25,13 @@ AllFine k (s ∷ rest) = IsFine k s × AllFine (after k s) rest
 abbrev pub IsFineTree : Tree → Type 0
 IsFineTree t = AllFine fresh t.list
 
-abbrev pub IsRefusedIn : List Statement → Refused → Type 0
+abbrev pub IsRefusedIn : List Statement → CheckRefused → Type 0
 IsRefusedIn list r =
     (before : List Statement) × (s : Statement) × (rest : List Statement)
     × (list ≡ before ++ s ∷ rest) × (r.statement ≡ length before + 1)
     × AllFine fresh before × IsLeast (known before) s r.refusal
 
-abbrev pub IsCheckRefused : Tree → Refused → Type 0
+abbrev pub IsCheckRefused : Tree → CheckRefused → Type 0
 IsCheckRefused t r = IsRefusedIn t.list r
 
 abbrev pub IsFaultIn : List Statement → CheckFault → Type 0
@@ -42,7 +42,7 @@ abbrev pub IsCheckFault : Tree → CheckFault → Type 0
 IsCheckFault t fault = IsFaultIn t.list fault
 
 -- ---- names bound
-abbrev pub bits_of : Statement → Option Bits
+abbrev pub bits_of : Statement → Option ClassicalRegister
 bits_of (register true name size) = None
 bits_of (register false name size) = Some (record { name = name; size = size })
 bits_of (include file) = None

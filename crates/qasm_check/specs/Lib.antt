@@ -3,8 +3,11 @@ pub mod Arguments
 pub mod Bound
 pub mod CheckedView
 pub mod Checking
+pub mod Known
+pub mod Meanings
 pub mod Refusals
 pub mod Sound
+pub mod State
 pub mod StepViews
 pub mod Steps
 pub mod Texts

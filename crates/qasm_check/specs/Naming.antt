@@ -3,8 +3,8 @@
 use Rattle.std.specs.Prelude.{◌≡◌, true, List}
 use Rattle.std.specs.List.{list_any}
 use Rattle.qasm_parser.specs.declared.tree.Arg.{Arg}
-use Rattle.gate_library.specs.Known.{Known}
 use Rattle.qasm_check.specs.Arguments.{operands}
+use Rattle.qasm_check.specs.Known.{Known}
 use Rattle.qasm_check.specs.Refusals.{is_beyond, is_unknown, is_wrong}
 use Rattle.qasm_check.specs.declared.arguments.NamedArgs.{NamedArgs}
 

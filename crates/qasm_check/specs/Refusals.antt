@@ -21,19 +21,19 @@ use Rattle.std.specs.List.{list_any}
 use Rattle.std.specs.Str.{bytes_eq}
 use Rattle.qasm_parser.specs.Tree.{Action, Application, apply, measure, reset as resets, barrier, Definition, Statement, include as includes, register as registers, gate as declares, opaque as leaves_opaque, conditional as tests, act}
 use Rattle.qasm_parser.specs.declared.tree.Arg.{Arg}
-use Rattle.gate_library.specs.Gates.{Gate, gate_at, gate_params, gate_qubits, is_opaque}
-use Rattle.gate_library.specs.Known.{Known, meaning}
+use Rattle.gate_library.specs.Gates.{BoundGate, gate_at, gate_params, gate_qubits, is_opaque}
 use Rattle.gate_library.specs.Library.{standard_names, table_names, is_standard}
 use Rattle.gate_library.specs.Limits.{most_bits}
 use Rattle.unitary_model.specs.Limits.{most_qubits}
-use Rattle.gate_library.specs.Meanings.{is_beyond as goes_beyond, is_gate, is_other, is_register}
 use Rattle.gate_library.specs.Names.{has_repeat, is_one_of}
 use Rattle.gate_library.specs.Operands.{broadcast, differs_from, measure_differs, repeats, wires_of}
-use Rattle.gate_library.specs.declared.meaning.Meaning.{Meaning}
-use Rattle.gate_library.specs.declared.meaning.Meaning.TheVariants.{Gate as Numbered, Register}
 use Rattle.qasm_check.specs.Arguments.{knows, operand, operands}
-use Rattle.qasm_check.specs.declared.refusal.Refusal.{Refusal}
-use Rattle.qasm_check.specs.declared.refusal.Refusal.TheVariants.{Include, NameTaken, UnknownName, WrongKind, IndexRange, EmptyRegister, ParamCount, QubitCount, SizeDiffers, RepeatedQubit, Conditional, Reset, OpaqueApplied, AfterMeasure, TooManyQubits, TooManyBits}
+use Rattle.qasm_check.specs.Known.{Known, meaning}
+use Rattle.qasm_check.specs.Meanings.{is_past_end, names_gate, is_other, names_register}
+use Rattle.qasm_check.specs.declared.meaning.Meaning.{Meaning}
+use Rattle.qasm_check.specs.declared.meaning.Meaning.TheVariants.{Gate as Numbered, Register}
+use Rattle.qasm_check.specs.declared.refusal.CheckRefusal.{CheckRefusal}
+use Rattle.qasm_check.specs.declared.refusal.CheckRefusal.TheVariants.{Include, NameTaken, UnknownName, WrongKind, IndexRange, EmptyRegister, ParamCount, QubitCount, SizeDiffers, RepeatedQubit, Conditional, Reset, OpaqueApplied, AfterMeasure, TooManyQubits, TooManyBits}
 
 -- a test of the applications in a gate's body
 abbrev pub in_body : (Application → Bool) → Action → Bool
@@ -57,7 +57,7 @@ abbrev pub gate_taken : Known → Definition → Bool
 gate_taken k d = name_taken_by k d.name || has_repeat bytes_eq (d.params ++ d.qubits)
 
 abbrev pub name_taken : Known → Statement → Bool
-name_taken k (includes file) = list_any (λ name. is_gate (k.declared name)) standard_names
+name_taken k (includes file) = list_any (λ name. names_gate (k.declared name)) standard_names
 name_taken k (registers quantum name size) = is_some (k.declared name) || is_one_of table_names name
 name_taken k (declares d) = gate_taken k d
 name_taken k (leaves_opaque d) = gate_taken k d
@@ -92,19 +92,19 @@ abbrev pub is_wrong : Known → Bool → Arg → Bool
 is_wrong k quantum arg = is_other quantum (meaning k arg.name)
 
 abbrev pub wrong_in_act : Known → Action → Bool
-wrong_in_act k (apply a) = is_register (meaning k a.gate) || list_any (is_wrong k true) a.args
+wrong_in_act k (apply a) = names_register (meaning k a.gate) || list_any (is_wrong k true) a.args
 wrong_in_act k (measure qubit bit) = is_wrong k true qubit || is_wrong k false bit
 wrong_in_act k (resets arg) = false
 wrong_in_act k (barrier args) = list_any (is_wrong k true) args
 
 abbrev pub wrong_kind : Known → Statement → Bool
-wrong_kind k (declares d) = list_any (in_body (λ a. is_register (meaning k a.gate))) d.body
+wrong_kind k (declares d) = list_any (in_body (λ a. names_register (meaning k a.gate))) d.body
 wrong_kind k (act it) = wrong_in_act k it
 wrong_kind k _ = false
 
 -- ---- 24: an index that isn't below its register's size
 abbrev pub is_beyond : Known → Arg → Bool
-is_beyond k arg = goes_beyond (meaning k arg.name) arg.index
+is_beyond k arg = is_past_end (meaning k arg.name) arg.index
 
 abbrev pub beyond_in_act : Known → Action → Bool
 beyond_in_act k (apply a) = list_any (is_beyond k) a.args
@@ -122,7 +122,7 @@ empty_register k (registers quantum name size) = size == 0
 empty_register k _ = false
 
 -- ---- 26, 27, 32: another number of angles or qubits than the gate has, or a gate without a body
-abbrev pub of_gate : Known → (Gate → Bool) → Option Meaning → Bool
+abbrev pub of_gate : Known → (BoundGate → Bool) → Option Meaning → Bool
 of_gate k test (Some (Numbered i)) = test (gate_at k.gates i)
 of_gate k test (Some (Register r)) = false
 of_gate k test None = false
@@ -190,7 +190,7 @@ too_many_bits k (registers quantum name size) = not quantum && nat_lt most_bits 
 too_many_bits k _ = false
 
 -- ---- all of them
-abbrev pub applies : Refusal → Known → Statement → Bool
+abbrev pub applies : CheckRefusal → Known → Statement → Bool
 applies Include = include
 applies NameTaken = name_taken
 applies UnknownName = unknown_name
@@ -208,7 +208,7 @@ applies AfterMeasure = after_measure
 applies TooManyQubits = too_many_qubits
 applies TooManyBits = too_many_bits
 
-abbrev pub code : Refusal → ℕ
+abbrev pub code : CheckRefusal → ℕ
 code Include = 20
 code NameTaken = 21
 code UnknownName = 22
@@ -226,9 +226,9 @@ code AfterMeasure = 33
 code TooManyQubits = 34
 code TooManyBits = 35
 
-pub record IsLeast (k : Known) (s : Statement) (r : Refusal) : Type 0 where
+pub record IsLeast (k : Known) (s : Statement) (r : CheckRefusal) : Type 0 where
   pub applied : IsTrue (applies r k s)
-  pub least : (q : Refusal) → code q < code r → applies q k s ≡ false
+  pub least : (q : CheckRefusal) → code q < code r → applies q k s ≡ false
 
 abbrev pub IsFine : Known → Statement → Type 0
-IsFine k s = (q : Refusal) → applies q k s ≡ false
+IsFine k s = (q : CheckRefusal) → applies q k s ≡ false

@@ -15,7 +15,7 @@
 use Rattle.std.specs.Prelude.{◌≡◌, ℕ, ◌+◌, ◌≤◌, List, [], ◌∷◌, ◌++◌, Option, Some, None, Bool, true, false, not, ◌&&◌, ◌==◌, length, nat_eq, nat_le, nat_lt, map}
 use Rattle.std.specs.List.{list_all, list_any, sum_by}
 use Rattle.std.specs.Str.{bytes_eq}
-use Rattle.gate_library.specs.Gates.{Formula, number, pi, param, negated, called, binary, Item, call, barrier, Gate, u, cx, opaque, composed, gate_at, gate_params, gate_qubits, is_opaque}
+use Rattle.gate_library.specs.Gates.{Formula, number, pi, param, negated, called, binary, Item, call, barrier, BoundGate, u, cx, opaque, composed, gate_at, gate_params, gate_qubits, is_opaque}
 use Rattle.gate_library.specs.Library.{table_names}
 use Rattle.gate_library.specs.Limits.{most_bits}
 use Rattle.unitary_model.specs.Limits.{most_qubits}
@@ -33,26 +33,26 @@ uses_below n (negated part) = uses_below n part
 uses_below n (called function part) = uses_below n part
 uses_below n (binary sign left right) = uses_below n left && uses_below n right
 
-abbrev pub fits : Gate → ℕ → ℕ → Bool
+abbrev pub fits : BoundGate → ℕ → ℕ → Bool
 fits g angles qubits = not (is_opaque g) && (gate_params g == angles) && (gate_qubits g == qubits)
 
 abbrev pub is_distinct : List ℕ → Bool
 is_distinct wires = not (has_repeat nat_eq wires)
 
 -- ---- gates
-abbrev pub is_item : List Gate → ℕ → ℕ → Item → Bool
+abbrev pub is_item : List BoundGate → ℕ → ℕ → Item → Bool
 is_item before params qubits (call gate angles indices) =
     nat_lt gate (length before) && fits (gate_at before gate) (length angles) (length indices)
     && list_all (uses_below params) angles && list_all (λ q. nat_lt q qubits) indices && is_distinct indices
 is_item before params qubits barrier = true
 
-abbrev pub is_gate : List Gate → Gate → Bool
+abbrev pub is_gate : List BoundGate → BoundGate → Bool
 is_gate before u = true
 is_gate before cx = true
 is_gate before (opaque params qubits) = true
 is_gate before (composed params qubits body) = list_all (is_item before params qubits) body
 
-abbrev pub are_gates : List Gate → List Gate → Bool
+abbrev pub are_gates : List BoundGate → List BoundGate → Bool
 are_gates before [] = true
 are_gates before (g ∷ gates) = is_gate before g && are_gates (before ++ g ∷ []) gates
 
@@ -64,7 +64,7 @@ is_below size (Some i) = nat_lt i size
 abbrev pub is_operand : ℕ → Operand → Bool
 is_operand n p = nat_le (p.first + p.size) n && is_below p.size p.index
 
-abbrev pub is_step : List Gate → ℕ → ℕ → Step → Bool
+abbrev pub is_step : List BoundGate → ℕ → ℕ → Step → Bool
 is_step gates wires bits (applies gate angles operands) =
     nat_lt gate (length gates) && fits (gate_at gates gate) (length angles) (length operands)
     && list_all (uses_below 0) angles && list_all (is_operand wires) operands

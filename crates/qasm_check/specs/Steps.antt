@@ -11,11 +11,11 @@
 --   known        what is known behind some statements
 use Rattle.std.specs.Prelude.{ℕ, List, [], Option, Some, None, true, fold, length, map}
 use Rattle.qasm_parser.specs.Tree.{Expression, number, pi, param, negated, paren, call, binary, Action, apply, measure, reset, barrier, Definition, Statement, include, register, gate, opaque, conditional, act}
-use Rattle.gate_library.specs.Gates.{Formula, number as f-number, pi as f-pi, param as f-param, negated as f-negated, called as f-called, binary as f-binary, Item, call as i-call, barrier as i-barrier, Gate, opaque as g-opaque, composed}
-use Rattle.gate_library.specs.Known.{Known, fresh, meaning, gate_number, with_gate, with_measured, with_register}
+use Rattle.gate_library.specs.Gates.{Formula, number as f-number, pi as f-pi, param as f-param, negated as f-negated, called as f-called, binary as f-binary, Item, call as i-call, barrier as i-barrier, BoundGate, opaque as g-opaque, composed}
 use Rattle.gate_library.specs.Names.{index_of}
 use Rattle.gate_library.specs.declared.operand.Operand.{Operand}
 use Rattle.qasm_check.specs.Arguments.{operand, operands}
+use Rattle.qasm_check.specs.Known.{Known, fresh, meaning, gate_number, with_gate, with_measured, with_register}
 
 abbrev pub formula : List (List ℕ) → Expression → Formula
 formula params (number value) = f-number value
@@ -34,7 +34,7 @@ item k params qubits (measure qubit bit) = i-barrier
 item k params qubits (reset arg) = i-barrier
 item k params qubits (barrier args) = i-barrier
 
-abbrev pub bound_gate : Known → Definition → Gate
+abbrev pub bound_gate : Known → Definition → BoundGate
 bound_gate k d = composed (length d.params) (length d.qubits) (map (item k d.params d.qubits) d.body)
 
 pub data Step : Type 0 where

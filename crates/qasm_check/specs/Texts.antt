@@ -9,9 +9,9 @@ use Rattle.qasm_lexer.specs.declared.Token.{Token}
 use Rattle.qasm_parser.specs.Spelling.{Seen, SpellsStatement}
 use Rattle.qasm_parser.specs.Symbols.{symbols}
 use Rattle.qasm_parser.specs.Tree.{Definition, gate, include}
-use Rattle.gate_library.specs.Known.{Known, fresh}
 use Rattle.gate_library.specs.Library.{gate_of}
 use Rattle.gate_library.specs.Listing.{Entry}
+use Rattle.qasm_check.specs.Known.{Known, fresh}
 use Rattle.qasm_check.specs.Steps.{after, bound_gate}
 
 unfoldable pub texts : List (List ℕ)

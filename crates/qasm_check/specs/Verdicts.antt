@@ -5,19 +5,19 @@
 --   check_fault  what is told then
 use Rattle.std.specs.Prelude.{◌≡◌, ℕ, Option, Some, None, Bool, if◌then◌else◌}
 use Rattle.qasm_parser.specs.Tree.{Statement}
-use Rattle.gate_library.specs.Known.{Known}
+use Rattle.qasm_check.specs.Known.{Known}
 use Rattle.qasm_check.specs.Refusals.{include, name_taken, unknown_name, wrong_kind, index_range, empty_register, param_count, qubit_count, size_differs, repeated_qubit, conditional, reset, opaque_applied, after_measure, too_many_qubits, too_many_bits}
-use Rattle.qasm_check.specs.declared.refusal.Refusal.{Refusal}
-use Rattle.qasm_check.specs.declared.refusal.Refusal.TheVariants.{Include, NameTaken, UnknownName, WrongKind, IndexRange, EmptyRegister, ParamCount, QubitCount, SizeDiffers, RepeatedQubit, Conditional, Reset, OpaqueApplied, AfterMeasure, TooManyQubits, TooManyBits}
+use Rattle.qasm_check.specs.declared.refusal.CheckRefusal.{CheckRefusal}
+use Rattle.qasm_check.specs.declared.refusal.CheckRefusal.TheVariants.{Include, NameTaken, UnknownName, WrongKind, IndexRange, EmptyRegister, ParamCount, QubitCount, SizeDiffers, RepeatedQubit, Conditional, Reset, OpaqueApplied, AfterMeasure, TooManyQubits, TooManyBits}
 use Rattle.qasm_check.specs.declared.refusal.CheckFault.{CheckFault}
 use Rattle.qasm_check.specs.declared.refusal.CheckFault.TheVariants.{Refused as Refuses, NoMemory as OutOfMemory}
-use Rattle.qasm_check.specs.declared.stop.Stop.{Stop}
-use Rattle.qasm_check.specs.declared.stop.Stop.TheVariants.{NoMemory, Refused}
+use Rattle.qasm_check.specs.declared.stop.CheckStop.{CheckStop}
+use Rattle.qasm_check.specs.declared.stop.CheckStop.TheVariants.{NoMemory, Refused}
 
-abbrev pub either : Bool → Refusal → Option Refusal → Option Refusal
+abbrev pub either : Bool → CheckRefusal → Option CheckRefusal → Option CheckRefusal
 either test r others = if test then Some r else others
 
-abbrev pub verdict : Known → Statement → Option Refusal
+abbrev pub verdict : Known → Statement → Option CheckRefusal
 verdict k s =
     either (include k s) Include (either (name_taken k s) NameTaken (either (unknown_name k s) UnknownName
     (either (wrong_kind k s) WrongKind (either (index_range k s) IndexRange (either (empty_register k s) EmptyRegister
@@ -26,10 +26,10 @@ verdict k s =
     (either (opaque_applied k s) OpaqueApplied (either (after_measure k s) AfterMeasure
     (either (too_many_qubits k s) TooManyQubits (either (too_many_bits k s) TooManyBits None)))))))))))))))
 
-abbrev pub IsStop : Option Refusal → Stop → Type 0
+abbrev pub IsStop : Option CheckRefusal → CheckStop → Type 0
 IsStop o NoMemory = Unit {0}
 IsStop o (Refused r) = o ≡ Some r
 
-abbrev pub check_fault : Stop → ℕ → CheckFault
+abbrev pub check_fault : CheckStop → ℕ → CheckFault
 check_fault NoMemory statement = OutOfMemory
 check_fault (Refused r) statement = Refuses (record { refusal = r; statement = statement })

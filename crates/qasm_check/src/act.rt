@@ -2,29 +2,30 @@
 
 ghost use Rattle.std.specs.Prelude.{◌≡◌, None, IfOk, IfErr, []};
 ghost use Rattle.qasm_parser.specs.Tree.{act, apply as applied, application as application_tree, barrier as barred, measure as measured};
-ghost use Rattle.gate_library.specs.Known.{Known as Names, gate_number, meaning};
-ghost use Rattle.gate_library.specs.State.{state};
 ghost use Rattle.qasm_check.specs.Arguments.{operands};
+ghost use Rattle.qasm_check.specs.Known.{Known as Names, gate_number, meaning};
 ghost use Rattle.qasm_check.specs.Naming.{AreNamed};
 ghost use Rattle.qasm_check.specs.Refusals.{applies_opaque, params_differ, qubits_differ, unknown_in_act, wrong_in_act};
+ghost use Rattle.qasm_check.specs.State.{state};
 ghost use Rattle.qasm_check.specs.Steps.{act_step};
 ghost use Rattle.qasm_check.specs.Verdicts.{IsStop, verdict};
 ghost use Rattle.qasm_check.specs.StepViews.{step};
 
 use crate::arguments::{NamedArgs, is_beyond, is_unknown, is_wrong, named, operand};
 use crate::expression::{any_foreign, formulas};
-use crate::refusal::Refusal;
+use crate::indices::Indices;
+use crate::known::Known;
+use crate::meaning::{Meaning, names_register};
+use crate::refusal::CheckRefusal;
 use crate::statement::Step;
-use crate::stop::Stop;
-use gate_library::{
-    Indices, Known, Meaning, Operand, is_register, measure_differs, repeats_wire, sizes_differ,
-};
+use crate::stop::CheckStop;
+use gate_library::{Operand, measure_differs, repeats_wire, sizes_differ};
 use qasm_parser::{Apply, Arg};
 use std::alloc::Global;
 
 /// The number of the gate that a name stands for.
 pub fn number_of(found: Option<Meaning>) -> usize
-    ensures { result ≡ gate_number found }
+    ensures value { result ≡ gate_number found }
 {
     match found {
         Some(Meaning::Gate(number)) => number,
@@ -34,8 +35,8 @@ pub fn number_of(found: Option<Meaning>) -> usize
 
 /// Whether the gate, as which its name was found, has another number of parameters than there are angles.
 pub fn params_differ<'a>(known: &Known<'a>, found: Option<Meaning>, apply: &'a Apply) -> bool
-    requires { found ≡ meaning (state known.now) apply.now.gate }
-    ensures { result ≡ params_differ (state known.now) (application_tree apply.now) }
+    requires found { found ≡ meaning (state known.now) apply.now.gate }
+    ensures value { result ≡ params_differ (state known.now) (application_tree apply.now) }
 {
     match found {
         Some(Meaning::Gate(number)) => known.params(number) != apply.angles.len(),
@@ -45,8 +46,8 @@ pub fn params_differ<'a>(known: &Known<'a>, found: Option<Meaning>, apply: &'a A
 
 /// Whether the gate, as which its name was found, has another number of qubits than there are arguments.
 pub fn qubits_differ<'a>(known: &Known<'a>, found: Option<Meaning>, apply: &'a Apply) -> bool
-    requires { found ≡ meaning (state known.now) apply.now.gate }
-    ensures { result ≡ qubits_differ (state known.now) (application_tree apply.now) }
+    requires found { found ≡ meaning (state known.now) apply.now.gate }
+    ensures value { result ≡ qubits_differ (state known.now) (application_tree apply.now) }
 {
     match found {
         Some(Meaning::Gate(number)) => known.qubits(number) != apply.args.len(),
@@ -56,8 +57,8 @@ pub fn qubits_differ<'a>(known: &Known<'a>, found: Option<Meaning>, apply: &'a A
 
 /// Whether the gate, as which its name was found, has no body.
 pub fn applies_opaque<'a>(known: &Known<'a>, found: Option<Meaning>, apply: &'a Apply) -> bool
-    requires { found ≡ meaning (state known.now) apply.now.gate }
-    ensures { result ≡ applies_opaque (state known.now) (application_tree apply.now) }
+    requires found { found ≡ meaning (state known.now) apply.now.gate }
+    ensures value { result ≡ applies_opaque (state known.now) (application_tree apply.now) }
 {
     match found {
         Some(Meaning::Gate(number)) => known.is_opaque(number),
@@ -84,7 +85,7 @@ fn is_wrong_in<'a>(found: Option<Meaning>, named: &NamedArgs, apply: &'a Apply) 
     ensures { (k : Names) → found ≡ meaning k apply.now.gate → AreNamed k apply.now.args.items named.now
         → result ≡ wrong_in_act k (applied (application_tree apply.now)) }
 {
-    is_register(found) || named.wrong
+    names_register(found) || named.wrong
 }
 
 /// What the arguments of an application name, where it isn't refused; its gate's name was found as this.
@@ -94,7 +95,7 @@ fn tested<'a>(
     found: Option<Meaning>,
     none: &Indices<'a>,
     apply: &'a Apply,
-) -> Result<Vec<Operand>, Stop>
+) -> Result<Vec<Operand>, CheckStop>
     requires none { none.now ≡ [] }
     requires found { found ≡ meaning (state known.now) apply.now.gate }
     ensures ok { IfOk result (λ v. (verdict (state known.now) (act (applied (application_tree apply.now))) ≡ None) × (v.items ≡ operands (state known.now) apply.now.args.items)) }
@@ -102,38 +103,42 @@ fn tested<'a>(
 {
     let named = named(alloc, known, &apply.args)?;
     if is_unknown_in(found, &named, none, apply) {
-        return Err(Stop::Refused(Refusal::UnknownName));
+        return Err(CheckStop::Refused(CheckRefusal::UnknownName));
     }
     if is_wrong_in(found, &named, apply) {
-        return Err(Stop::Refused(Refusal::WrongKind));
+        return Err(CheckStop::Refused(CheckRefusal::WrongKind));
     }
     if named.beyond {
-        return Err(Stop::Refused(Refusal::IndexRange));
+        return Err(CheckStop::Refused(CheckRefusal::IndexRange));
     }
     if params_differ(known, found, apply) {
-        return Err(Stop::Refused(Refusal::ParamCount));
+        return Err(CheckStop::Refused(CheckRefusal::ParamCount));
     }
     if qubits_differ(known, found, apply) {
-        return Err(Stop::Refused(Refusal::QubitCount));
+        return Err(CheckStop::Refused(CheckRefusal::QubitCount));
     }
     let operands = named.operands;
     if sizes_differ(&operands) {
-        return Err(Stop::Refused(Refusal::SizeDiffers));
+        return Err(CheckStop::Refused(CheckRefusal::SizeDiffers));
     }
     if repeats_wire(alloc, &operands)? {
-        return Err(Stop::Refused(Refusal::RepeatedQubit));
+        return Err(CheckStop::Refused(CheckRefusal::RepeatedQubit));
     }
     if applies_opaque(known, found, apply) {
-        return Err(Stop::Refused(Refusal::OpaqueApplied));
+        return Err(CheckStop::Refused(CheckRefusal::OpaqueApplied));
     }
     if known.any_measured(&operands) {
-        return Err(Stop::Refused(Refusal::AfterMeasure));
+        return Err(CheckStop::Refused(CheckRefusal::AfterMeasure));
     }
     Ok(operands)
 }
 
 /// An application.
-pub fn application<'a>(alloc: Global, known: &Known<'a>, apply: &'a Apply) -> Result<Step, Stop>
+pub fn application<'a>(
+    alloc: Global,
+    known: &Known<'a>,
+    apply: &'a Apply,
+) -> Result<Step, CheckStop>
     ensures ok { IfOk result (λ s. (verdict (state known.now) (act (applied (application_tree apply.now))) ≡ None) × (step s ≡ act_step (state known.now) (applied (application_tree apply.now)))) }
     ensures err { IfErr result (IsStop (verdict (state known.now) (act (applied (application_tree apply.now))))) }
 {
@@ -149,23 +154,23 @@ pub fn application<'a>(alloc: Global, known: &Known<'a>, apply: &'a Apply) -> Re
 }
 
 /// A measure.
-pub fn measure<'a>(known: &Known<'a>, qubit: &'a Arg, bit: &'a Arg) -> Result<Step, Stop>
+pub fn measure<'a>(known: &Known<'a>, qubit: &'a Arg, bit: &'a Arg) -> Result<Step, CheckStop>
     ensures ok { IfOk result (λ s. (verdict (state known.now) (act (measured qubit.now bit.now)) ≡ None) × (step s ≡ act_step (state known.now) (measured qubit.now bit.now))) }
     ensures err { IfErr result (IsStop (verdict (state known.now) (act (measured qubit.now bit.now)))) }
 {
     if is_unknown(known, qubit) || is_unknown(known, bit) {
-        return Err(Stop::Refused(Refusal::UnknownName));
+        return Err(CheckStop::Refused(CheckRefusal::UnknownName));
     }
     if is_wrong(known, true, qubit) || is_wrong(known, false, bit) {
-        return Err(Stop::Refused(Refusal::WrongKind));
+        return Err(CheckStop::Refused(CheckRefusal::WrongKind));
     }
     if is_beyond(known, qubit) || is_beyond(known, bit) {
-        return Err(Stop::Refused(Refusal::IndexRange));
+        return Err(CheckStop::Refused(CheckRefusal::IndexRange));
     }
     let from = operand(known, qubit);
     let into = operand(known, bit);
     if measure_differs(from, into) {
-        return Err(Stop::Refused(Refusal::SizeDiffers));
+        return Err(CheckStop::Refused(CheckRefusal::SizeDiffers));
     }
     match (from, into) {
         (Some(qubit), Some(bit)) => Ok(Step::Measure { qubit, bit }),
@@ -174,19 +179,19 @@ pub fn measure<'a>(known: &Known<'a>, qubit: &'a Arg, bit: &'a Arg) -> Result<St
 }
 
 /// A barrier.
-pub fn barrier<'a>(alloc: Global, known: &Known<'a>, args: &'a [Arg]) -> Result<Step, Stop>
+pub fn barrier<'a>(alloc: Global, known: &Known<'a>, args: &'a [Arg]) -> Result<Step, CheckStop>
     ensures ok { IfOk result (λ s. (verdict (state known.now) (act (barred args.now)) ≡ None) × (step s ≡ act_step (state known.now) (barred args.now))) }
     ensures err { IfErr result (IsStop (verdict (state known.now) (act (barred args.now)))) }
 {
     let named = named(alloc, known, args)?;
     if named.unknown {
-        return Err(Stop::Refused(Refusal::UnknownName));
+        return Err(CheckStop::Refused(CheckRefusal::UnknownName));
     }
     if named.wrong {
-        return Err(Stop::Refused(Refusal::WrongKind));
+        return Err(CheckStop::Refused(CheckRefusal::WrongKind));
     }
     if named.beyond {
-        return Err(Stop::Refused(Refusal::IndexRange));
+        return Err(CheckStop::Refused(CheckRefusal::IndexRange));
     }
     Ok(Step::Barrier {
         operands: named.operands,

@@ -2,39 +2,41 @@
 
 ghost use Rattle.std.specs.Prelude.{◌≡◌, ◌++◌, IfOk, OnOk};
 ghost use Rattle.std.specs.Option.{option_to_list};
-ghost use Rattle.gate_library.specs.State.{state};
 ghost use Rattle.qasm_check.specs.Arguments.{operand};
 ghost use Rattle.qasm_check.specs.Naming.{AreNamed};
 ghost use Rattle.qasm_check.specs.Refusals.{is_beyond, is_unknown, is_wrong};
+ghost use Rattle.qasm_check.specs.State.{state};
 
-use gate_library::{Known, Operand, is_beyond as goes_beyond, is_other, operand_in};
+use crate::known::Known;
+use crate::meaning::{is_other, is_past_end, operand_in};
+use gate_library::Operand;
 use qasm_parser::Arg;
 use std::alloc::{AllocError, Global};
 
 /// Whether its name stands for nothing.
 pub fn is_unknown<'a>(known: &Known<'a>, arg: &'a Arg) -> bool
-    ensures { result ≡ is_unknown (state known.now) arg.now }
+    ensures value { result ≡ is_unknown (state known.now) arg.now }
 {
     known.meaning(arg.name.as_bytes()).is_none()
 }
 
 /// Whether its name stands for something, but for no register of the kind that is asked for.
 pub fn is_wrong<'a>(known: &Known<'a>, quantum: bool, arg: &'a Arg) -> bool
-    ensures { result ≡ is_wrong (state known.now) quantum arg.now }
+    ensures value { result ≡ is_wrong (state known.now) quantum arg.now }
 {
     is_other(quantum, known.meaning(arg.name.as_bytes()))
 }
 
 /// Whether its index isn't below its register's size.
 pub fn is_beyond<'a>(known: &Known<'a>, arg: &'a Arg) -> bool
-    ensures { result ≡ is_beyond (state known.now) arg.now }
+    ensures value { result ≡ is_beyond (state known.now) arg.now }
 {
-    goes_beyond(known.meaning(arg.name.as_bytes()), arg.index)
+    is_past_end(known.meaning(arg.name.as_bytes()), arg.index)
 }
 
 /// What it names.
 pub fn operand<'a>(known: &Known<'a>, arg: &'a Arg) -> Option<Operand>
-    ensures { result ≡ operand (state known.now) arg.now }
+    ensures value { result ≡ operand (state known.now) arg.now }
 {
     operand_in(known.meaning(arg.name.as_bytes()), arg.index)
 }
@@ -65,7 +67,7 @@ fn add(operands: &mut Vec<Operand>, operand: Option<Operand>) -> Result<(), Allo
 /// What the arguments name: each name is looked up once.
 #[tactic(auto, using(crate::proofs::LoopLaws::loops))]
 pub fn named<'a>(alloc: Global, known: &Known<'a>, args: &'a [Arg]) -> Result<NamedArgs, AllocError>
-    ensures { IfOk result (AreNamed (state known.now) args.now) }
+    ensures ok { IfOk result (AreNamed (state known.now) args.now) }
 {
     let mut unknown = false;
     let mut wrong = false;
@@ -75,7 +77,7 @@ pub fn named<'a>(alloc: Global, known: &Known<'a>, args: &'a [Arg]) -> Result<Na
         let found = known.meaning(arg.name.as_bytes());
         unknown |= found.is_none();
         wrong |= is_other(true, found);
-        beyond |= goes_beyond(found, arg.index);
+        beyond |= is_past_end(found, arg.index);
         add(&mut operands, operand_in(found, arg.index))?;
     }
     Ok(NamedArgs {

@@ -5,20 +5,23 @@ ghost use Rattle.std.specs.List.{list_any};
 ghost use Rattle.qasm_parser.specs.Tree.{action, application as application_tree, gate as declares, opaque as leaves_opaque};
 ghost use Rattle.qasm_check.specs.Bodies.{declaration, has_flaw};
 ghost use Rattle.gate_library.specs.Gates.{opaque as without_body};
-ghost use Rattle.gate_library.specs.Known.{meaning};
 ghost use Rattle.gate_library.specs.Names.{index_of, is_one_of};
-ghost use Rattle.gate_library.specs.Meanings.{is_register};
+ghost use Rattle.qasm_check.specs.Known.{meaning};
+ghost use Rattle.qasm_check.specs.Meanings.{names_register};
 ghost use Rattle.qasm_check.specs.Refusals.{applies_opaque, gate_taken, in_body, name_taken_by, params_differ, qubits_differ, repeats_name, unknown_in_body};
-ghost use Rattle.gate_library.specs.State.{state};
+ghost use Rattle.qasm_check.specs.State.{state};
 ghost use Rattle.qasm_check.specs.Steps.{bound_gate, item as bound_item};
 ghost use Rattle.qasm_check.specs.Verdicts.{IsStop, verdict};
 ghost use Rattle.gate_library.specs.Views.{gate as gate_view, item as item_view};
 
 use crate::act::{applies_opaque, number_of, params_differ, qubits_differ};
 use crate::expression::{any_foreign, formulas};
-use crate::refusal::Refusal;
-use crate::stop::Stop;
-use gate_library::{Gate, Indices, Item, Known, is_register, is_standard, names_repeat};
+use crate::indices::Indices;
+use crate::known::Known;
+use crate::meaning::names_register;
+use crate::refusal::CheckRefusal;
+use crate::stop::CheckStop;
+use gate_library::{BoundGate, Item, is_standard, names_repeat};
 use qasm_parser::{Apply, Arg, GateDef, Name, Stmt};
 use std::alloc::{AllocError, Global};
 
@@ -41,7 +44,7 @@ fn has_flaw<'a>(known: &Known<'a>, flaw: Flaw, apply: &'a Apply) -> bool
 {
     let found = known.meaning(apply.gate.as_bytes());
     match flaw {
-        Flaw::Register => is_register(found),
+        Flaw::Register => names_register(found),
         Flaw::Params => params_differ(known, found, apply),
         Flaw::Qubits => qubits_differ(known, found, apply),
         Flaw::Opaque => applies_opaque(known, found, apply),
@@ -72,7 +75,7 @@ fn any_flawed<'a>(known: &Known<'a>, flaw: Flaw, body: &'a [Stmt]) -> bool
 
 /// Whether a register stands for a gate in the body.
 fn any_register<'a>(known: &Known<'a>, body: &'a [Stmt]) -> bool
-    ensures { result ≡ list_any (in_body (λ a. is_register (meaning (state known.now) a.gate))) (map action body.now) }
+    ensures { result ≡ list_any (in_body (λ a. names_register (meaning (state known.now) a.gate))) (map action body.now) }
 {
     any_flawed(known, Flaw::Register, body)
 }
@@ -302,45 +305,49 @@ fn tested<'a>(
     params: &Indices<'a>,
     qubits: &Indices<'a>,
     definition: &'a GateDef,
-) -> Result<(), Stop>
+) -> Result<(), CheckStop>
     requires params { params.now ≡ definition.now.params.items }
     requires qubits { qubits.now ≡ definition.now.qubits.items }
     ensures ok { OnOk result (verdict (state known.now) (declares (declaration definition.now)) ≡ None) }
     ensures err { IfErr result (IsStop (verdict (state known.now) (declares (declaration definition.now)))) }
 {
     if is_taken(alloc, known, definition)? {
-        return Err(Stop::Refused(Refusal::NameTaken));
+        return Err(CheckStop::Refused(CheckRefusal::NameTaken));
     }
     if any_unknown(known, params, qubits, definition) {
-        return Err(Stop::Refused(Refusal::UnknownName));
+        return Err(CheckStop::Refused(CheckRefusal::UnknownName));
     }
     if any_register(known, &definition.body) {
-        return Err(Stop::Refused(Refusal::WrongKind));
+        return Err(CheckStop::Refused(CheckRefusal::WrongKind));
     }
     if any_params_differ(known, &definition.body) {
-        return Err(Stop::Refused(Refusal::ParamCount));
+        return Err(CheckStop::Refused(CheckRefusal::ParamCount));
     }
     if any_qubits_differ(known, &definition.body) {
-        return Err(Stop::Refused(Refusal::QubitCount));
+        return Err(CheckStop::Refused(CheckRefusal::QubitCount));
     }
     if any_repeating(alloc, &definition.body)? {
-        return Err(Stop::Refused(Refusal::RepeatedQubit));
+        return Err(CheckStop::Refused(CheckRefusal::RepeatedQubit));
     }
     if any_opaque(known, &definition.body) {
-        return Err(Stop::Refused(Refusal::OpaqueApplied));
+        return Err(CheckStop::Refused(CheckRefusal::OpaqueApplied));
     }
     Ok(())
 }
 
 /// A gate with a body.
-pub fn gate<'a>(alloc: Global, known: &Known<'a>, definition: &'a GateDef) -> Result<Gate, Stop>
+pub fn gate<'a>(
+    alloc: Global,
+    known: &Known<'a>,
+    definition: &'a GateDef,
+) -> Result<BoundGate, CheckStop>
     ensures ok { IfOk result (λ g. (verdict (state known.now) (declares (declaration definition.now)) ≡ None) × (gate_view g ≡ bound_gate (state known.now) (declaration definition.now))) }
     ensures err { IfErr result (IsStop (verdict (state known.now) (declares (declaration definition.now)))) }
 {
     let params = Indices::of(alloc, slices(alloc, &definition.params)?)?;
     let qubits = Indices::of(alloc, slices(alloc, &definition.qubits)?)?;
     tested(alloc, known, &params, &qubits, definition)?;
-    Ok(Gate::Composed {
+    Ok(BoundGate::Composed {
         params: definition.params.len(),
         qubits: definition.qubits.len(),
         body: items(alloc, known, &params, &qubits, &definition.body)?,
@@ -348,14 +355,18 @@ pub fn gate<'a>(alloc: Global, known: &Known<'a>, definition: &'a GateDef) -> Re
 }
 
 /// A gate without a body.
-pub fn opaque<'a>(alloc: Global, known: &Known<'a>, definition: &'a GateDef) -> Result<Gate, Stop>
+pub fn opaque<'a>(
+    alloc: Global,
+    known: &Known<'a>,
+    definition: &'a GateDef,
+) -> Result<BoundGate, CheckStop>
     ensures ok { IfOk result (λ g. (verdict (state known.now) (leaves_opaque (declaration definition.now)) ≡ None) × (gate_view g ≡ without_body (length definition.now.params.items) (length definition.now.qubits.items))) }
     ensures err { IfErr result (IsStop (verdict (state known.now) (leaves_opaque (declaration definition.now)))) }
 {
     if is_taken(alloc, known, definition)? {
-        return Err(Stop::Refused(Refusal::NameTaken));
+        return Err(CheckStop::Refused(CheckRefusal::NameTaken));
     }
-    Ok(Gate::Opaque {
+    Ok(BoundGate::Opaque {
         params: definition.params.len(),
         qubits: definition.qubits.len(),
     })

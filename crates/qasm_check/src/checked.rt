@@ -5,41 +5,41 @@ ghost use Rattle.gate_library.specs.Views.{gate};
 ghost use Rattle.qasm_check.specs.Sound.{IsSound};
 ghost use Rattle.qasm_check.specs.StepViews.{step};
 
-use crate::bits::Bits;
+use crate::register::ClassicalRegister;
 use crate::statement::Step;
-use gate_library::Gate;
+use gate_library::BoundGate;
 
 /// A program without a refusal, its names bound. Contracts see its gates by their numbers, what each statement does, how
 /// many wires and bits there are, and the classical registers in order. Each is sound: what it names is there.
 #[derive(Drop)]
 pub struct Checked {
-    gates: Vec<Gate>,
+    gates: Vec<BoundGate>,
     steps: Vec<Step>,
     wires: u32,
     bits: u32,
-    registers: Vec<Bits>,
+    registers: Vec<ClassicalRegister>,
     pub ghost sound: { IsSound (record { gates = map gate gates.items; steps = map step steps.items; wires = wires; bits = bits; registers = registers.items }) },
     pub ghost few_steps: { length steps.items < 2 ^ 32 },
     pub ghost few_registers: { length registers.items < 2 ^ 32 },
 }
 
 impl Checked {
-    ghost use Rattle.std.specs.Prelude.{IfOk, slice_get, Some};
+    ghost use Rattle.std.specs.Prelude.{slice_get, Some};
     ghost use Rattle.qasm_check.specs.Bound.{barriers};
     ghost use Rattle.qasm_check.specs.CheckedView.{program};
 
     /// A program of these parts.
     pub(crate) fn new(
-        gates: Vec<Gate>,
+        gates: Vec<BoundGate>,
         steps: Vec<Step>,
         wires: u32,
         bits: u32,
-        registers: Vec<Bits>,
+        registers: Vec<ClassicalRegister>,
     ) -> Checked
         requires sound { IsSound (record { gates = map gate gates.items; steps = map step steps.items; wires = wires; bits = bits; registers = registers.items }) }
         requires few_steps { length steps.items < 2 ^ 32 }
         requires few_registers { length registers.items < 2 ^ 32 }
-        ensures { program result ≡ record { gates = map gate gates.items; steps = map step steps.items; wires = wires; bits = bits; registers = registers.items } }
+        ensures value { program result ≡ record { gates = map gate gates.items; steps = map step steps.items; wires = wires; bits = bits; registers = registers.items } }
     {
         Checked {
             gates,
@@ -52,21 +52,21 @@ impl Checked {
 
     /// How many wires there are: the qubits of all registers in order of declaration, side by side.
     pub fn wires(&self) -> u32
-        ensures { result ≡ (program self.now).wires }
+        ensures value { result ≡ (program self.now).wires }
     {
         self.wires
     }
 
     /// How many classical bits there are.
     pub fn bits(&self) -> u32
-        ensures { result ≡ (program self.now).bits }
+        ensures value { result ≡ (program self.now).bits }
     {
         self.bits
     }
 
     /// How many barriers stand outside bodies.
     pub fn barriers(&self) -> u64
-        ensures { result ≡ barriers (program self.now) }
+        ensures value { result ≡ barriers (program self.now) }
     {
         let mut count = 0u64;
         'steps: for it in &self.steps {
@@ -79,15 +79,15 @@ impl Checked {
 
     /// How many classical registers there are.
     pub fn registers(&self) -> u32
-        ensures { result ≡ length (program self.now).registers }
+        ensures value { result ≡ length (program self.now).registers }
     {
         self.registers.len() as u32
     }
 
     /// The name and the size of the k-th classical register, from 0.
     pub fn register(&self, k: u32) -> (&[u8], u32)
-        requires { k < length (program self.now).registers }
-        ensures { slice_get (program self.now).registers k ≡ Some (record { name = result.0.now; size = result.1 }) }
+        requires within { k < length (program self.now).registers }
+        ensures register { slice_get (program self.now).registers k ≡ Some (record { name = result.0.now; size = result.1 }) }
     {
         let register = &self.registers[k as usize];
         (register.name.as_bytes(), register.size)
@@ -95,16 +95,23 @@ impl Checked {
 
     /// The gates by their numbers: `U`, `CX`, those of the tables, then those that the program declares, in order. A gate's
     /// body has only lesser numbers.
-    pub fn gates(&self) -> &[Gate]
-        ensures { map gate result.now ≡ (program self.now).gates }
+    pub fn gates(&self) -> &[BoundGate]
+        ensures value { map gate result.now ≡ (program self.now).gates }
     {
         &self.gates
     }
 
     /// What each statement does.
     pub fn steps(&self) -> &[Step]
-        ensures { map step result.now ≡ (program self.now).steps }
+        ensures value { map step result.now ≡ (program self.now).steps }
     {
         &self.steps
+    }
+
+    /// The classical registers in order of declaration.
+    pub fn into_registers(self) -> Vec<ClassicalRegister>
+        ensures value { result.items ≡ (program self).registers }
+    {
+        self.registers
     }
 }

@@ -7,13 +7,14 @@ ghost use Rattle.qasm_check.specs.Steps.{formula as bound_formula};
 ghost use Rattle.gate_library.specs.Views.{formula as formula_view};
 ghost use Rattle.qasm_check.specs.Arguments.{knows as knows_all};
 
-use gate_library::{Formula, Indices};
+use crate::indices::Indices;
+use gate_library::Formula;
 use qasm_parser::Expr;
 use std::alloc::{AllocError, Global};
 
 /// Whether each name in an expression is one of these.
 pub fn knows<'a>(params: &Indices<'a>, tree: &'a Expr) -> bool
-    ensures { result ≡ knows_all params.now (expression tree.now) }
+    ensures value { result ≡ knows_all params.now (expression tree.now) }
 {
     match tree {
         Expr::Number(_) | Expr::Pi => true,
@@ -28,7 +29,7 @@ pub fn knows<'a>(params: &Indices<'a>, tree: &'a Expr) -> bool
 
 /// An expression with each name bound to its index among these.
 pub fn bind<'a>(alloc: Global, params: &Indices<'a>, tree: &'a Expr) -> Result<Formula, AllocError>
-    ensures { IfOk result (λ f. formula_view f ≡ bound_formula params.now (expression tree.now)) }
+    ensures ok { IfOk result (λ f. formula_view f ≡ bound_formula params.now (expression tree.now)) }
 {
     match tree {
         Expr::Number(value) => Ok(Formula::Number(*value)),
@@ -68,7 +69,7 @@ pub fn formulas<'a>(
     params: &Indices<'a>,
     trees: &'a [Expr],
 ) -> Result<Vec<Formula>, AllocError>
-    ensures { IfOk result (λ v. map formula_view v.items ≡ map (λ e. bound_formula params.now (expression e)) trees.now) }
+    ensures ok { IfOk result (λ v. map formula_view v.items ≡ map (λ e. bound_formula params.now (expression e)) trees.now) }
 {
     let mut list = Vec::with_capacity(alloc, trees.len())?;
     'trees: for tree in trees {
@@ -80,7 +81,7 @@ pub fn formulas<'a>(
 /// Whether a name in an expression is none of these.
 #[tactic(auto, using(crate::proofs::LoopLaws::tests))]
 pub fn any_foreign<'a>(params: &Indices<'a>, trees: &'a [Expr]) -> bool
-    ensures { result ≡ list_any (λ e. not (knows_all params.now e)) (map expression trees.now) }
+    ensures value { result ≡ list_any (λ e. not (knows_all params.now e)) (map expression trees.now) }
 {
     'trees: for tree in trees {
         if !knows(params, tree) {

@@ -8,26 +8,26 @@ ghost use Rattle.qasm_check.specs.Sound.{IsSound};
 ghost use Rattle.qasm_check.specs.Texts.{AreSpelt, texts};
 ghost use Rattle.qasm_check.specs.declared.refusal.CheckFault.{CheckFault as Fault};
 ghost use Rattle.qasm_check.specs.declared.refusal.CheckFault.TheVariants.{NoMemory};
-ghost use Rattle.qasm_check.specs.declared.refusal.Refused.{Refused as Told};
+ghost use Rattle.qasm_check.specs.declared.refusal.CheckRefused.{CheckRefused as Told};
 
 /// A tree has one refusal at most: the statement and its code.
 pub fn refused_once()
-    ensures { (t : Tree) (a b : Told) → IsCheckRefused t a → IsCheckRefused t b → a ≡ b }
+    ensures once { (t : Tree) (a b : Told) → IsCheckRefused t a → IsCheckRefused t b → a ≡ b }
 {}
 
 /// A tree is accepted, or has a first refusal.
 pub fn checked_or_refused()
-    ensures { (t : Tree) → IsFineTree t ⊎ ((r : Told) × IsCheckRefused t r) }
+    ensures either { (t : Tree) → IsFineTree t ⊎ ((r : Told) × IsCheckRefused t r) }
 {}
 
 /// Each gate of the tables, written as a program would define it, spells a definition that is bound to the table's gate.
 pub fn listing_is_spelt()
-    ensures { AreSpelt texts (standard ++ added) }
+    ensures spelt { AreSpelt texts (standard ++ added) }
 {}
 
 /// An accepted tree has no fault, so only want of memory is told of it.
 pub fn accepted_has_no_fault()
-    ensures { (t : Tree) (fault : Fault) → IsFineTree t → IsCheckFault t fault → fault ≡ NoMemory }
+    ensures no_fault { (t : Tree) (fault : Fault) → IsFineTree t → IsCheckFault t fault → fault ≡ NoMemory }
 {}
 
 /// An accepted tree is sound with its names bound, and has a step for each statement: numbers, indices and wires are in

@@ -7,7 +7,7 @@ use thiserror::Error;
 
 /// What is wrong with a statement.
 #[derive(Clone, Copy, Debug, PartialEq, Eq)]
-pub enum Refusal {
+pub enum CheckRefusal {
     /// An include of another text than `qelib1.inc`, or a second one.
     Include,
     /// A name that is declared already, or that a gate table has; or one name for two of a gate's parameters and qubits.
@@ -42,38 +42,38 @@ pub enum Refusal {
     TooManyBits,
 }
 
-impl Refusal {
+impl CheckRefusal {
     ghost use Rattle.qasm_check.specs.Refusals.{code as code_of};
 
     /// The refusal's number, from 20 to 35.
     pub fn code(self) -> u8
-        ensures { result ≡ code_of self }
+        ensures value { result ≡ code_of self }
     {
         match self {
-            Refusal::Include => 20,
-            Refusal::NameTaken => 21,
-            Refusal::UnknownName => 22,
-            Refusal::WrongKind => 23,
-            Refusal::IndexRange => 24,
-            Refusal::EmptyRegister => 25,
-            Refusal::ParamCount => 26,
-            Refusal::QubitCount => 27,
-            Refusal::SizeDiffers => 28,
-            Refusal::RepeatedQubit => 29,
-            Refusal::Conditional => 30,
-            Refusal::Reset => 31,
-            Refusal::OpaqueApplied => 32,
-            Refusal::AfterMeasure => 33,
-            Refusal::TooManyQubits => 34,
-            Refusal::TooManyBits => 35,
+            CheckRefusal::Include => 20,
+            CheckRefusal::NameTaken => 21,
+            CheckRefusal::UnknownName => 22,
+            CheckRefusal::WrongKind => 23,
+            CheckRefusal::IndexRange => 24,
+            CheckRefusal::EmptyRegister => 25,
+            CheckRefusal::ParamCount => 26,
+            CheckRefusal::QubitCount => 27,
+            CheckRefusal::SizeDiffers => 28,
+            CheckRefusal::RepeatedQubit => 29,
+            CheckRefusal::Conditional => 30,
+            CheckRefusal::Reset => 31,
+            CheckRefusal::OpaqueApplied => 32,
+            CheckRefusal::AfterMeasure => 33,
+            CheckRefusal::TooManyQubits => 34,
+            CheckRefusal::TooManyBits => 35,
         }
     }
 }
 
 /// The first statement that has a refusal, counted from 1, and its refusal of the least code.
 #[derive(Clone, Copy, Debug, PartialEq, Eq)]
-pub struct Refused {
-    pub refusal: Refusal,
+pub struct CheckRefused {
+    pub refusal: CheckRefusal,
     pub statement: u32,
 }
 
@@ -93,7 +93,7 @@ impl From<AllocError> for CheckFault {
 pub enum CheckFault {
     /// A statement is refused.
     #[error("statement {} is refused: {:?}", .0.statement, .0.refusal)]
-    Refused(Refused),
+    Refused(CheckRefused),
     /// There is no memory for the checks.
     #[error("out of memory")]
     NoMemory,

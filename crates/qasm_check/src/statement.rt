@@ -4,9 +4,9 @@ ghost use Rattle.std.specs.Prelude.{◌≡◌, ◌+◌, ◌||◌, None, IfOk, If
 ghost use Rattle.std.specs.Str.{bytes_eq};
 ghost use Rattle.gate_library.specs.Library.{table_names};
 ghost use Rattle.gate_library.specs.Names.{is_one_of};
-ghost use Rattle.gate_library.specs.State.{state};
 ghost use Rattle.qasm_parser.specs.Tree.{act, gate as declares, include as includes, measure as measures, opaque as leaves_opaque, register as registers, statement as tree};
 ghost use Rattle.qasm_check.specs.Bodies.{declaration};
+ghost use Rattle.qasm_check.specs.State.{state};
 ghost use Rattle.qasm_check.specs.StepViews.{step};
 ghost use Rattle.qasm_check.specs.Steps.{act_step, after, nothing, step as step_of};
 ghost use Rattle.qasm_check.specs.Verdicts.{IsStop, verdict};
@@ -14,10 +14,11 @@ ghost use Rattle.qasm_check.specs.Verdicts.{IsStop, verdict};
 use crate::act::{application, barrier, measure};
 use crate::arguments::operand;
 use crate::body::{gate, opaque};
-use crate::refusal::Refusal;
-use crate::stop::Stop;
-use crate::{BIT_LIMIT, QUBIT_LIMIT};
-use gate_library::{Formula, Known, Operand, is_in_table};
+use crate::known::Known;
+use crate::refusal::CheckRefusal;
+use crate::stop::CheckStop;
+use crate::{MOST_BITS, MOST_QUBITS};
+use gate_library::{Formula, Operand, is_in_table};
 use qasm_parser::{Arg, GateDef, Name, Stmt};
 use std::alloc::Global;
 
@@ -49,7 +50,7 @@ impl Step {
 
     /// Whether it is a barrier.
     pub fn is_barrier(&self) -> bool
-        ensures { result ≡ is_barrier (step self.now) }
+        ensures value { result ≡ is_barrier (step self.now) }
     {
         match self {
             Step::Barrier { operands: _ } => true,
@@ -72,15 +73,15 @@ fn is_library(file: &[u8]) -> bool
 }
 
 /// An include.
-fn include(known: &mut Known<'_>, file: &Name) -> Result<Step, Stop>
+fn include(known: &mut Known<'_>, file: &Name) -> Result<Step, CheckStop>
     ensures ok { IfOk result (λ s. (verdict (state known.old) (includes file.now) ≡ None) × (step s ≡ nothing) × (state known.new ≡ after (state known.old) (includes file.now))) }
     ensures err { IfErr result (IsStop (verdict (state known.old) (includes file.now))) }
 {
     if !is_library(file.as_bytes()) || known.is_included() {
-        return Err(Stop::Refused(Refusal::Include));
+        return Err(CheckStop::Refused(CheckRefusal::Include));
     }
     if known.has_standard() {
-        return Err(Stop::Refused(Refusal::NameTaken));
+        return Err(CheckStop::Refused(CheckRefusal::NameTaken));
     }
     known.include();
     Ok(Step::Nothing)
@@ -106,29 +107,33 @@ fn register<'a>(
     quantum: bool,
     name: &'a Name,
     size: u64,
-) -> Result<Step, Stop>
+) -> Result<Step, CheckStop>
     ensures ok { IfOk result (λ s. (verdict (state known.old) (registers quantum name.now size) ≡ None) × (step s ≡ nothing) × (state known.new ≡ after (state known.old) (registers quantum name.now size))) }
     ensures err { IfErr result (IsStop (verdict (state known.old) (registers quantum name.now size))) }
 {
     let name = name.as_bytes();
     if is_register_taken(known, name) {
-        return Err(Stop::Refused(Refusal::NameTaken));
+        return Err(CheckStop::Refused(CheckRefusal::NameTaken));
     }
     if size == 0 {
-        return Err(Stop::Refused(Refusal::EmptyRegister));
+        return Err(CheckStop::Refused(CheckRefusal::EmptyRegister));
     }
-    if quantum && is_over(QUBIT_LIMIT, known.wires(), size) {
-        return Err(Stop::Refused(Refusal::TooManyQubits));
+    if quantum && is_over(MOST_QUBITS, known.wires(), size) {
+        return Err(CheckStop::Refused(CheckRefusal::TooManyQubits));
     }
-    if !quantum && is_over(BIT_LIMIT, known.bits(), size) {
-        return Err(Stop::Refused(Refusal::TooManyBits));
+    if !quantum && is_over(MOST_BITS, known.bits(), size) {
+        return Err(CheckStop::Refused(CheckRefusal::TooManyBits));
     }
     known.add_register(quantum, name, size as u32)?;
     Ok(Step::Nothing)
 }
 
 /// A gate with a body.
-fn declare<'a>(alloc: Global, known: &mut Known<'a>, definition: &'a GateDef) -> Result<Step, Stop>
+fn declare<'a>(
+    alloc: Global,
+    known: &mut Known<'a>,
+    definition: &'a GateDef,
+) -> Result<Step, CheckStop>
     ensures ok { IfOk result (λ s. (verdict (state known.old) (declares (declaration definition.now)) ≡ None) × (step s ≡ nothing) × (state known.new ≡ after (state known.old) (declares (declaration definition.now)))) }
     ensures err { IfErr result (IsStop (verdict (state known.old) (declares (declaration definition.now)))) }
 {
@@ -142,7 +147,7 @@ fn declare_opaque<'a>(
     alloc: Global,
     known: &mut Known<'a>,
     definition: &'a GateDef,
-) -> Result<Step, Stop>
+) -> Result<Step, CheckStop>
     ensures ok { IfOk result (λ s. (verdict (state known.old) (leaves_opaque (declaration definition.now)) ≡ None) × (step s ≡ nothing) × (state known.new ≡ after (state known.old) (leaves_opaque (declaration definition.now)))) }
     ensures err { IfErr result (IsStop (verdict (state known.old) (leaves_opaque (declaration definition.now)))) }
 {
@@ -152,7 +157,7 @@ fn declare_opaque<'a>(
 }
 
 /// A measure.
-fn measured<'a>(known: &mut Known<'a>, qubit: &'a Arg, bit: &'a Arg) -> Result<Step, Stop>
+fn measured<'a>(known: &mut Known<'a>, qubit: &'a Arg, bit: &'a Arg) -> Result<Step, CheckStop>
     ensures ok { IfOk result (λ s. (verdict (state known.old) (act (measures qubit.now bit.now)) ≡ None) × (step s ≡ act_step (state known.old) (measures qubit.now bit.now)) × (state known.new ≡ after (state known.old) (act (measures qubit.now bit.now)))) }
     ensures err { IfErr result (IsStop (verdict (state known.old) (act (measures qubit.now bit.now)))) }
 {
@@ -169,7 +174,7 @@ pub fn statement<'a>(
     alloc: Global,
     known: &mut Known<'a>,
     statement: &'a Stmt,
-) -> Result<Step, Stop>
+) -> Result<Step, CheckStop>
     ensures ok { IfOk result (λ s. (verdict (state known.old) (tree statement.now) ≡ None) × (step s ≡ step_of (state known.old) (tree statement.now)) × (state known.new ≡ after (state known.old) (tree statement.now))) }
     ensures err { IfErr result (IsStop (verdict (state known.old) (tree statement.now))) }
 {
@@ -184,12 +189,12 @@ pub fn statement<'a>(
         Stmt::Opaque(definition) => declare_opaque(alloc, known, definition),
         Stmt::Apply(apply) => application(alloc, known, apply),
         Stmt::Measure { qubit, bit } => measured(known, qubit, bit),
-        Stmt::Reset { arg: _ } => Err(Stop::Refused(Refusal::Reset)),
+        Stmt::Reset { arg: _ } => Err(CheckStop::Refused(CheckRefusal::Reset)),
         Stmt::If {
             name: _,
             value: _,
             inner: _,
-        } => Err(Stop::Refused(Refusal::Conditional)),
+        } => Err(CheckStop::Refused(CheckRefusal::Conditional)),
         Stmt::Barrier { args } => barrier(alloc, known, args),
     }
 }

@@ -1,33 +1,33 @@
 //! Why the check of a statement stops.
 
-use crate::refusal::Refusal;
+use crate::refusal::CheckRefusal;
 use std::alloc::{AllocError, AllocFailed};
 
 /// No memory, or the statement is refused.
 #[derive(Clone, Copy, Debug)]
-pub enum Stop {
+pub enum CheckStop {
     NoMemory,
-    Refused(Refusal),
+    Refused(CheckRefusal),
 }
 
-impl From<AllocError> for Stop {
+impl From<AllocError> for CheckStop {
     ghost use Rattle.std.specs.Prelude.{◌≡◌};
-    ghost use Rattle.qasm_check.specs.declared.stop.Stop.TheVariants.{NoMemory};
+    ghost use Rattle.qasm_check.specs.declared.stop.CheckStop.TheVariants.{NoMemory};
 
     ghost from_gives = { λ _ s. s ≡ NoMemory };
 
-    fn from(_error: AllocError) -> Stop {
-        Stop::NoMemory
+    fn from(_error: AllocError) -> CheckStop {
+        CheckStop::NoMemory
     }
 }
 
-impl<T: Drop> From<AllocFailed<T>> for Stop {
+impl<T: Drop> From<AllocFailed<T>> for CheckStop {
     ghost use Rattle.std.specs.Prelude.{◌≡◌};
-    ghost use Rattle.qasm_check.specs.declared.stop.Stop.TheVariants.{NoMemory};
+    ghost use Rattle.qasm_check.specs.declared.stop.CheckStop.TheVariants.{NoMemory};
 
     ghost from_gives = { λ _ s. s ≡ NoMemory };
 
-    fn from(_error: AllocFailed<T>) -> Stop {
-        Stop::NoMemory
+    fn from(_error: AllocFailed<T>) -> CheckStop {
+        CheckStop::NoMemory
     }
 }

@@ -16,7 +16,7 @@ use Rattle.std.proofs.Math.Seq.{drop-append_seam, drop-length}
 use Rattle.qasm_lexer.specs.Forms.{Bytes, Each, IsAllowed, IsBlank, IsLexeme, IsNumber, IsOfKind, OneOf, capitals, is_space, signs}
 use Rattle.qasm_lexer.specs.Numbers.{has_point, has_value}
 use Rattle.qasm_lexer.specs.Lexemes.{begins_number, is_blank, is_capital_word, is_number, is_out_of_range, is_stray, kind_of}
-use Rattle.qasm_lexer.specs.Tokens.{IsKept}
+use Rattle.qasm_lexer.specs.Tokens.{HasValue}
 use Rattle.qasm_lexer.specs.declared.Kind.{Kind}
 use Rattle.qasm_lexer.specs.declared.Kind.TheVariants.{Word, Whole, Real, Text, Sign}
 use Rattle.qasm_lexer.proofs.ClassLaws.{each-ends, each-stops, letter_not_space, number_not_letter, number_not_space}
@@ -136,7 +136,7 @@ number-from w (inr h) e = by_kind h.0 h.1
 out-by : (w : Bytes) (number value : Bool) → is_number w ≡ number → has_value w ≡ value → is_out_of_range w ≡ (number && not value)
 out-by w number value e f = rw (e, f) refl
 
-pub range-false : (w : Bytes) → IsLexeme w → IsKept w → is_out_of_range w ≡ false
+pub range-false : (w : Bytes) → IsLexeme w → HasValue w → is_out_of_range w ≡ false
 range-false w h kept = by_tests (is_number w) (has_value w) refl refl
   where
     by_tests : (number value : Bool) → is_number w ≡ number → has_value w ≡ value → is_out_of_range w ≡ false
@@ -148,7 +148,7 @@ range-false w h kept = by_tests (is_number w) (has_value w) refl refl
 pub range-true : (w : Bytes) → IsNumber w → has_value w ≡ false → is_out_of_range w ≡ true
 range-true w h e = out-by w true false (number-is w h).0 e
 
-pub kept-from : (w : Bytes) → is_out_of_range w ≡ false → IsKept w
+pub kept-from : (w : Bytes) → is_out_of_range w ≡ false → HasValue w
 kept-from w e h = by_value (has_value w) refl
   where
     by_value : (value : Bool) → has_value w ≡ value → has_value w ≡ true
@@ -164,7 +164,7 @@ number-out w h e = by_tests (is_number w) (has_value w) refl refl
     by_tests false true f g = absurd (let k = out-by w false true f g in cc)
     by_tests false false f g = absurd (let k = out-by w false false f g in cc)
 
-pub blank-kept : (w : Bytes) → IsBlank w → IsKept w
+pub blank-kept : (w : Bytes) → IsBlank w → HasValue w
 blank-kept w h k = absurd (let e = (blank-tests w h).1 in let f = (number-is w k).0 in cc)
 
 -- ---- words that begin with a capital

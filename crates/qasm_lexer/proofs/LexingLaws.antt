@@ -16,7 +16,7 @@ use Rattle.qasm_lexer.specs.Forms.{Bytes, IsAllowed, IsBlank, IsLexeme, IsNumber
 use Rattle.qasm_lexer.specs.Numbers.{has_value}
 use Rattle.qasm_lexer.specs.Lexemes.{is_blank, is_out_of_range, kind_of}
 use Rattle.qasm_lexer.specs.Lexed.{lexed, lexed_from, then_more, token_at, with_lexeme}
-use Rattle.qasm_lexer.specs.Tokens.{AreLexemes, AreTokens, AreTokensAt, IsBadByte, IsBadNumber, IsKept, IsLexFault, IsLongest, IsNumberToken, IsStuck, IsTokenOf, Leads, bytes_of, token}
+use Rattle.qasm_lexer.specs.Tokens.{AreLexemes, AreTokens, AreTokensAt, IsBadByte, IsBadNumber, HasValue, IsLexFault, IsLongest, IsNumberToken, IsStuck, IsTokenOf, Leads, bytes_of, token}
 use Rattle.qasm_lexer.specs.declared.Kind.{Kind}
 use Rattle.qasm_lexer.specs.declared.Kind.TheVariants.{Whole, Real}
 use Rattle.qasm_lexer.specs.declared.Token.{Token}
@@ -54,7 +54,7 @@ same-token kind w place e = ap (λ (k : Kind). token k place w) e
 -- a lead to a place of a text that begins at a place
 record LeadsFrom (start : ℕ) (ws : List Bytes) (t : Bytes) (place : ℕ) (rest : Bytes) : Type 0 where
   lexemes : AreLexemes ws t rest
-  kept : AllByRecursion IsKept ws
+  kept : AllByRecursion HasValue ws
   reached : place + length rest ≡ start + length t
 
 abbrev Told : ℕ → Bytes → Result (List Token) LexFault → Type 0
@@ -64,14 +64,14 @@ Told start t (Err (Number place)) = (ws : List Bytes) × (w : Bytes) × (rest : 
     × LeadsFrom start ws t place rest × IsLongest w rest end × IsNumber w × (has_value w ≡ false)
 Told start t (Err NoMemory) = ⊥
 
-leads-more : (start : ℕ) (w t mid : Bytes) (ws : List Bytes) (place : ℕ) (rest : Bytes) → IsLongest w t mid → IsAllowed w → IsKept w
+leads-more : (start : ℕ) (w t mid : Bytes) (ws : List Bytes) (place : ℕ) (rest : Bytes) → IsLongest w t mid → IsAllowed w → HasValue w
     → LeadsFrom (start + length w) ws mid place rest → LeadsFrom start (w ∷ ws) t place rest
 leads-more start w t mid ws place rest h allowed kept l =
     let size = after w t mid h in
     let reached = l.reached in
     record { lexemes = (mid, h, allowed, l.lexemes); kept = (kept, l.kept); reached = omega arith }
 
-fault-more : (start : ℕ) (w t mid : Bytes) (e : LexFault) → IsLongest w t mid → IsAllowed w → IsKept w → Told (start + length w) mid (Err e) → Told start t (Err e)
+fault-more : (start : ℕ) (w t mid : Bytes) (e : LexFault) → IsLongest w t mid → IsAllowed w → HasValue w → Told (start + length w) mid (Err e) → Told start t (Err e)
 fault-more start w t mid (BadByte place) h allowed kept (ws, rest, l, some, stuck) =
     (w ∷ ws, rest, leads-more start w t mid ws place rest h allowed kept l, some, stuck)
 fault-more start w t mid (Number place) h allowed kept (ws, v, rest, end, l, longest, number, none) =
@@ -82,7 +82,7 @@ blank-more : (start : ℕ) (w t mid : Bytes) (r : Result (List Token) LexFault) 
 blank-more start w t mid (Ok ks) h allowed blank (ws, lexemes, tokens) = (w ∷ ws, (mid, h, allowed, lexemes), inl (blank, tokens))
 blank-more start w t mid (Err e) h allowed blank told = fault-more start w t mid e h allowed (blank-kept w blank) told
 
-token-more : (start : ℕ) (kind : Kind) (w t mid : Bytes) (r : Result (List Token) LexFault) → IsLongest w t mid → IsAllowed w → IsOfKind kind w → IsKept w
+token-more : (start : ℕ) (kind : Kind) (w t mid : Bytes) (r : Result (List Token) LexFault) → IsLongest w t mid → IsAllowed w → IsOfKind kind w → HasValue w
     → Told (start + length w) mid r → Told start t (then_more (token_at start w) r)
 token-more start kind w t mid (Ok ks) h allowed is kept (ws, lexemes, tokens) =
     (w ∷ ws, (mid, h, allowed, lexemes), inr (kind, ks, is, kept, ap (λ (k : Token). k ∷ ks) (same-token kind w start (kind-is kind w is).1), tokens))
@@ -159,7 +159,7 @@ kept-fault w place e h = by_blank (is_blank w) refl
     by_blank true f = rw f refl
     by_blank false f = with-token w place (Err e) f h
 
-fault-from : (ws : List Bytes) (start place : ℕ) (t rest : Bytes) (e : LexFault) → AreLexemes ws t rest → AllByRecursion IsKept ws
+fault-from : (ws : List Bytes) (start place : ℕ) (t rest : Bytes) (e : LexFault) → AreLexemes ws t rest → AllByRecursion HasValue ws
     → place + length rest ≡ start + length t → lexed_from place rest ≡ Err e → lexed_from start t ≡ Err e
 fault-from [] start place t rest e is kept reached f =
     let size : length t ≡ length rest = ap length is in
@@ -212,7 +212,7 @@ token-bytes t w mid place kind e =
     let gap : place + length w - place ≡ length w = omega arith in
     ap (λ n. take n (drop place t)) gap ∙ ap (λ (z : Bytes). take (length w) z) e ∙ take-append_seam w mid
 
-token-of : (t w mid : Bytes) (place : ℕ) (kind : Kind) → drop place t ≡ w ++ mid → 0 < length w → IsOfKind kind w → IsAllowed w → IsKept w
+token-of : (t w mid : Bytes) (place : ℕ) (kind : Kind) → drop place t ≡ w ++ mid → 0 < length w → IsOfKind kind w → IsAllowed w → HasValue w
     → IsTokenOf t (token kind place w)
 token-of t w mid place kind e some is allowed kept =
     let left = ap length e ∙ length-append w mid in
@@ -223,7 +223,7 @@ token-of t w mid place kind e some is allowed kept =
       within = omega arith;
       form = subst (λ (z : Bytes). IsOfKind kind z) same is;
       allowed = subst (λ (z : Bytes). IsAllowed z) same allowed;
-      kept = subst (λ (z : Bytes). IsKept z) same kept;
+      kept = subst (λ (z : Bytes). HasValue z) same kept;
     }
 
 each-from : (ws : List Bytes) (place : ℕ) (t rest : Bytes) (ks : List Token) → drop place t ≡ rest → AreLexemes ws rest [] → AreTokensAt place ws ks → All (IsTokenOf t) ks

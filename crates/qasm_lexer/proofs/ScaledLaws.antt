@@ -2,24 +2,25 @@
 --   all_digits         two runs of digits, read to their end
 --   with_zeros         the same with zeros behind them
 --   digits_short       their number is below a power of ten
+--   short_value        18 digits or fewer have a value
 --   scaled-nought      no digit but 0
 --   scaled-far         an exponent past any text's length has the answer of a lesser one
 --   decimal_by         the value of a text, by its parts
 --   decimal_few        the same of a text without an exponent
-use Rattle.std.proofs.Common.{◌≡◌, ◌⊎◌, inl, inr, ℕ, ◌+◌, ◌*◌, ◌^◌, ◌<◌, ◌≤◌, Bool, true, false, [], ◌++◌, Ok, Err, pos, drop, refl, sym, ap, ◌∙◌, subst, arith, length, length-append, length-take, min}
-use Rattle.std.proofs.Math.Nat.{zero-mul, mul-one, pow-zero, pos_of_ne-zero}
+use Rattle.std.proofs.Common.{◌≡◌, ◌⊎◌, inl, inr, ℕ, ◌+◌, ◌*◌, ◌^◌, ◌<◌, ◌≤◌, Bool, true, false, [], ◌++◌, Ok, Err, pos, drop, refl, sym, ap, ◌∙◌, subst, arith, length, length-append, length-take, lit<, min}
+use Rattle.std.proofs.Math.Nat.{zero-mul, mul-one, pow-zero, pow-le-pow_right, pos_of_ne-zero}
 use Rattle.std.proofs.lemmas.List.{drop_all}
 use Rattle.std.specs.List.{prefix_len}
 use Rattle.std.specs.Char.{is_ascii_digit}
 use Rattle.std.proofs.lemmas.Bool.{cases_lt, cases_eq}
-use Rattle.angle_fraction.specs.Fraction.{Fraction, fraction, nought}
+use Rattle.angle_fraction.specs.Fraction.{Fraction, fraction, is_small, lowest, nought}
 use Rattle.angle_fraction.specs.Angles.{fitted}
 use Rattle.angle_fraction.specs.declared.AngleFault.TheVariants.{Range}
 use Rattle.qasm_lexer.specs.Forms.{Bytes}
 use Rattle.qasm_lexer.specs.Numbers.{begins_with}
 use Rattle.qasm_lexer.specs.Numbers.{behind_point, decimal, exponent, exponent_size, front_digits, past_digits, front_number, number, part_digits, scaled}
 use Rattle.qasm_lexer.proofs.DigitLaws.{front_number-lt, front_number-more, number-front}
-use Rattle.qasm_lexer.proofs.ValueLaws.{LowestLaws, nought_value}
+use Rattle.qasm_lexer.proofs.ValueLaws.{LowestLaws, nought_value, small_kept}
 use Rattle.qasm_lexer.proofs.TailLaws.{far_down, far_up, ten_pow}
 
 pub all_digits : (w p : Bytes) → front_number (w ++ p) (length w + length p) ≡ number (w ++ p)
@@ -51,6 +52,14 @@ decimal_few t w b p e f g long =
 
 -- ---- by what lowest terms are
 module _ (laws : LowestLaws) where
+  pub short_value : (w p : Bytes) → length w + length p ≤ 18 → is_small (lowest (fraction (pos (number (w ++ p))) (10 ^ length p))) ≡ true
+  short_value w p few =
+      let less = digits_short w p in
+      let top : 10 ^ (length w + length p) ≤ 10 ^ 18 = pow-le-pow_right {n = 10} (lit< tt) few in
+      let shorter : length p ≤ 18 = omega arith in
+      let part : 10 ^ length p ≤ 10 ^ 18 = pow-le-pow_right {n = 10} (lit< tt) shorter in
+      small_kept laws (number (w ++ p)) (10 ^ length p) (ten_pow (length p)) (omega arith) (omega arith)
+
   pub scaled-nought : (d : Bytes) (places : ℕ) (down : Bool) (size : ℕ) → number d ≡ 0 → fitted (scaled d places down size) ≡ Ok nought
   unfolding scaled
   scaled-nought d places true size e = rw e (nought_value laws (10 ^ (places + size)) (ten_pow (places + size)))

@@ -4,7 +4,7 @@
 --   value_of           what a fraction that has a value gives
 --   none_or_value      a fraction has a value or not
 --   no_value           a fraction without a value is out of range
---   small_value        a fraction with small parts has a value
+--   small_kept, small_value   a fraction with small parts has a value
 --   same_value         equal fractions have one value
 --   nought_value       0 has a value
 --   range_only         the only fault of a value
@@ -113,14 +113,17 @@ module _ (laws : LowestLaws) where
       by_answer (inr e) = sym e
 
   -- small parts are smaller in lowest terms
-  pub small_value : (a b : ℕ) → 0 < b → a ≤ most_part → b ≤ most_part → (e : AngleFault) → fitted (fraction (pos a) b) ≡ Err e → ⊥
-  small_value a b some h k e f =
+  pub small_kept : (a b : ℕ) → 0 < b → a ≤ most_part → b ≤ most_part → is_small (lowest (fraction (pos a) b)) ≡ true
+  small_kept a b some h k =
       let law = laws.reduced (fraction (pos a) b) some in
       let g = law.factor in
       let small : is_small (fraction (pos (a / g)) (b / g)) ≡ true =
       small_from (fraction (pos (a / g)) (b / g)) (le_trans (div-le_self a g) h) (le_trans (div-le_self b g) k) in
-      let is : is_small (lowest (fraction (pos a) b)) ≡ true = ap is_small law.is ∙ small in
-      let other : Ok (lowest (fraction (pos a) b)) ≡ Err e = sym (by_small (fraction (pos a) b) true is) ∙ f in cc
+      ap is_small law.is ∙ small
+
+  pub small_value : (a b : ℕ) → 0 < b → a ≤ most_part → b ≤ most_part → (e : AngleFault) → fitted (fraction (pos a) b) ≡ Err e → ⊥
+  small_value a b some h k e f =
+      let other : Ok (lowest (fraction (pos a) b)) ≡ Err e = sym (by_small (fraction (pos a) b) true (small_kept a b some h k)) ∙ f in cc
 
   pub same_value : (a b c d : ℕ) → 0 < b → 0 < d → a * d ≡ c * b → fitted (fraction (pos a) b) ≡ fitted (fraction (pos c) d)
   unfolding fitted

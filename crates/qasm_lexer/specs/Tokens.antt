@@ -1,7 +1,7 @@
 -- A text, its lexemes, and its tokens or its fault.
 --   IsLongest w t rest   the text t is the lexeme w and then the rest, and it begins with no longer lexeme
 --   AreLexemes ws t rest   the text t is the lexemes ws one behind the other, each the longest at its place, and then the rest
---   IsKept            a number's value is kept
+--   HasValue            a number's value is kept
 --   token             a token of these bytes at a place
 --   AreTokensAt place ws ks   the tokens ks among lexemes that stand one behind the other from a place on
 --   AreTokens t ks    the tokens of a text
@@ -33,8 +33,8 @@ abbrev pub AreLexemes : List Bytes → Bytes → Bytes → Type 0
 AreLexemes [] t rest = t ≡ rest
 AreLexemes (w ∷ ws) t rest = (mid : Bytes) × IsLongest w t mid × IsAllowed w × AreLexemes ws mid rest
 
-abbrev pub IsKept : Bytes → Type 0
-IsKept w = IsNumber w → has_value w ≡ true
+abbrev pub HasValue : Bytes → Type 0
+HasValue w = IsNumber w → has_value w ≡ true
 
 -- ---- tokens
 abbrev pub token : Kind → ℕ → Bytes → Token
@@ -43,7 +43,7 @@ token kind place w = record { kind = kind; from = place; to = place + length w }
 abbrev pub AreTokensAt : ℕ → List Bytes → List Token → Type 0
 AreTokensAt place [] ks = ks ≡ []
 AreTokensAt place (w ∷ ws) ks = (IsBlank w × AreTokensAt (place + length w) ws ks)
-    ⊎ ((kind : Kind) × (more : List Token) × IsOfKind kind w × IsKept w × (ks ≡ token kind place w ∷ more) × AreTokensAt (place + length w) ws more)
+    ⊎ ((kind : Kind) × (more : List Token) × IsOfKind kind w × HasValue w × (ks ≡ token kind place w ∷ more) × AreTokensAt (place + length w) ws more)
 
 unfoldable pub AreTokens : Bytes → List Token → Type 0
 AreTokens t ks = (ws : List Bytes) × AreLexemes ws t [] × AreTokensAt 0 ws ks
@@ -51,7 +51,7 @@ AreTokens t ks = (ws : List Bytes) × AreLexemes ws t [] × AreTokensAt 0 ws ks
 -- ---- faults
 pub record Leads (ws : List Bytes) (t : Bytes) (place : ℕ) (rest : Bytes) : Type 0 where
   pub lexemes : AreLexemes ws t rest
-  pub kept : AllByRecursion IsKept ws
+  pub kept : AllByRecursion HasValue ws
   pub reached : place + length rest ≡ length t
 
 abbrev pub IsStuck : Bytes → Type 0
@@ -78,7 +78,7 @@ pub record IsTokenOf (t : Bytes) (k : Token) : Type 0 where
   pub within : k.to ≤ length t
   pub form : IsOfKind k.kind (bytes_of t k)
   pub allowed : IsAllowed (bytes_of t k)
-  pub kept : IsKept (bytes_of t k)
+  pub kept : HasValue (bytes_of t k)
 
 pub record IsNumberToken (t : Bytes) (k : Token) : Type 0 where
   pub ordered : k.from ≤ k.to

@@ -13,28 +13,28 @@ ghost use Rattle.qasm_lexer.specs.declared.LexFault.TheVariants.{NoMemory};
 
 /// A text has at most one list of tokens.
 pub fn lexed_once()
-    ensures { (text : Bytes) (a b : List LexToken) → AreTokens text a → AreTokens text b → a ≡ b }
+    ensures once { (text : Bytes) (a b : List LexToken) → AreTokens text a → AreTokens text b → a ≡ b }
 {}
 
 /// A text has one refusal at most.
 pub fn refused_once()
-    ensures { (text : Bytes) (a b : Fault) → IsLexFault text a → IsLexFault text b → a ≢ NoMemory → b ≢ NoMemory → a ≡ b }
+    ensures once { (text : Bytes) (a b : Fault) → IsLexFault text a → IsLexFault text b → a ≢ NoMemory → b ≢ NoMemory → a ≡ b }
 {}
 
 /// A text that has tokens has no fault, so only want of memory is told of it.
 pub fn accepted_has_no_fault()
-    ensures { (text : Bytes) (tokens : List LexToken) (fault : Fault) → AreTokens text tokens → IsLexFault text fault → fault ≡ NoMemory }
+    ensures no_fault { (text : Bytes) (tokens : List LexToken) (fault : Fault) → AreTokens text tokens → IsLexFault text fault → fault ≡ NoMemory }
 {}
 
 /// A text has tokens, or a fault.
 pub fn lexed_or_refused()
-    ensures { (text : Bytes) → ((tokens : List LexToken) × AreTokens text tokens) ⊎ ((fault : Fault) × (fault ≢ NoMemory) × IsLexFault text fault) }
+    ensures either { (text : Bytes) → ((tokens : List LexToken) × AreTokens text tokens) ⊎ ((fault : Fault) × (fault ≢ NoMemory) × IsLexFault text fault) }
 {}
 
 /// Each token is one whole lexeme of the text, and there are no more tokens than bytes.
 pub fn tokens_are_lexemes()
     ensures each { (text : Bytes) (tokens : List LexToken) → AreTokens text tokens → All (IsTokenOf text) tokens }
-    ensures few { (text : Bytes) (tokens : List LexToken) → AreTokens text tokens → length tokens ≤ length text }
+    ensures tokens_limit { (text : Bytes) (tokens : List LexToken) → AreTokens text tokens → length tokens ≤ length text }
 {}
 
 /// `lexed` gives the tokens of a text, or its fault, and both exactly.
@@ -54,5 +54,5 @@ pub fn lexed_by_lexemes()
 
 /// A name is ASCII.
 pub fn names_are_ascii()
-    ensures { (name : Bytes) → IsName name → IsAscii name }
+    ensures ascii { (name : Bytes) → IsName name → IsAscii name }
 {}

@@ -42,7 +42,7 @@ fn is_sign(byte: u8) -> bool
 }
 
 pub fn begins_with(text: &[u8], byte: u8) -> bool
-    ensures { result ≡ begins_with byte text.now }
+    ensures value { result ≡ begins_with byte text.now }
 {
     match text {
         [first, ..] => *first == byte,
@@ -72,16 +72,16 @@ fn is_capital_word(word: &[u8]) -> bool
 
 /// The text after so many bytes.
 pub fn after(text: &[u8], count: usize) -> &[u8]
-    requires { count ≤ length text.now }
-    ensures { result.now ≡ drop count text.now }
+    requires within { count ≤ length text.now }
+    ensures value { result.now ≡ drop count text.now }
 {
     &text[count..]
 }
 
 /// So many bytes from the front.
 pub fn front(text: &[u8], count: usize) -> &[u8]
-    requires { count ≤ length text.now }
-    ensures { result.now ≡ take count text.now }
+    requires within { count ≤ length text.now }
+    ensures value { result.now ≡ take count text.now }
 {
     &text[..count]
 }
@@ -203,7 +203,7 @@ fn is_stray(lexeme: &[u8]) -> bool
 /// whole, and then it must be one that there is.
 #[tactic(auto, unfolding(crate::specs::Lexemes::lexeme_len))]
 pub fn lexeme_len(text: &[u8]) -> usize
-    requires { length text.now < 2 ^ 32 }
+    requires short { length text.now < 2 ^ 32 }
     ensures value { result ≡ lexeme_len text.now }
     ensures bound { result ≤ length text.now }
 {
@@ -265,7 +265,7 @@ fn mark_len(first: u8, rest: &[u8]) -> usize
 
 /// White space or a comment.
 pub fn is_blank(lexeme: &[u8]) -> bool
-    ensures { result ≡ is_blank lexeme.now }
+    ensures value { result ≡ is_blank lexeme.now }
 {
     match lexeme {
         [] => true,
@@ -282,7 +282,7 @@ fn begins_number(byte: u8) -> bool
 
 /// Whether a lexeme is a number.
 pub fn is_number(lexeme: &[u8]) -> bool
-    ensures { result ≡ is_number lexeme.now }
+    ensures value { result ≡ is_number lexeme.now }
 {
     match lexeme {
         [] => false,
@@ -292,7 +292,7 @@ pub fn is_number(lexeme: &[u8]) -> bool
 
 /// The kind of a lexeme that is a token.
 pub fn kind_of(lexeme: &[u8]) -> Kind
-    ensures { result ≡ kind_of lexeme.now }
+    ensures value { result ≡ kind_of lexeme.now }
 {
     let [first, ..] = lexeme else {
         return Kind::Sign;

@@ -1,9 +1,9 @@
 //! The exact value of a number, in time linear in its text and without memory.
 
-ghost use Rattle.std.specs.Prelude.{◌≡◌, ◌+◌, ◌-◌, ◌*◌, ◌^◌, ◌≤◌, ◌<◌, ◌++◌, length, min, pos, ◌+ℤ◌, slice_index, Ok, Err};
+ghost use Rattle.std.specs.Prelude.{◌≡◌, ◌+◌, ◌-◌, ◌*◌, ◌^◌, ◌≤◌, ◌<◌, ◌++◌, length, min, pos, ◌+ℤ◌, slice_index, IfSome, Ok, Err};
 ghost use Rattle.angle_fraction.specs.Fraction.{fraction, most_part};
 ghost use Rattle.angle_fraction.specs.Angles.{fitted};
-ghost use Rattle.qasm_lexer.specs.Numbers.{begins_with, behind_point, decimal, digit, exponent, exponent_sign_len, exponent_size, front_digits, front_number, has_point, number, past_digits, scaled};
+ghost use Rattle.qasm_lexer.specs.Numbers.{begins_with, behind_point, decimal, digit, exponent, exponent_sign_len, exponent_size, front_digits, front_number, has_point, has_value, number, past_digits, scaled};
 
 use crate::lexeme::{after, begins_with, digits_len, exponent_sign_len, front};
 use angle_fraction::{AngleFault, Frac, lowest, lowest_terms};
@@ -185,7 +185,7 @@ fn past_digits(text: &[u8]) -> &[u8]
 
 /// Whether a point follows the digits at the front.
 pub fn has_point(text: &[u8]) -> bool
-    ensures { result ≡ has_point text.now }
+    ensures value { result ≡ has_point text.now }
 {
     begins_with(past_digits(text), b'.')
 }
@@ -226,7 +226,21 @@ fn long_number(text: &[u8]) -> Result<Frac, AngleFault>
     scaled(front_digits(text), part, begins_with(power, b'-'), size)
 }
 
-/// Two runs of digits with the point between them, no more than 18.
+/// The digits of a number without an exponent that has no more than 18: those before the point, and those behind it.
+fn short_digits(text: &[u8]) -> Option<(&[u8], &[u8])>
+    ensures short { IfSome result (λ d. length d.0.now + length d.1.now ≤ 18) }
+    ensures value { IfSome result (λ d. fraction (pos (number (d.0.now ++ d.1.now))) (10 ^ length d.1.now) ≡ decimal text.now) }
+{
+    let whole = front_digits(text);
+    let behind = behind_point(text);
+    let part = front_digits(behind);
+    if part.len() < behind.len() || whole.len() + part.len() > 18 {
+        return None;
+    }
+    Some((whole, part))
+}
+
+/// The value of two runs of digits with the point between them, no more than 18.
 fn few_digits(whole: &[u8], part: &[u8]) -> Result<Frac, AngleFault>
     requires { length whole.now + length part.now ≤ 18 }
     ensures { result ≡ fitted (fraction (pos (number (whole.now ++ part.now))) (10 ^ length part.now)) }
@@ -238,14 +252,23 @@ fn few_digits(whole: &[u8], part: &[u8]) -> Result<Frac, AngleFault>
 
 /// The exact value of a number.
 pub fn number(text: &[u8]) -> Result<Frac, AngleFault>
-    requires { length text.now < 2 ^ 32 }
-    ensures { result ≡ fitted (decimal text.now) }
+    requires short { length text.now < 2 ^ 32 }
+    ensures value { result ≡ fitted (decimal text.now) }
 {
-    let whole = front_digits(text);
-    let behind = behind_point(text);
-    let part = front_digits(behind);
-    if part.len() == behind.len() && whole.len() + part.len() <= 18 {
-        return few_digits(whole, part);
+    match short_digits(text) {
+        Some((whole, part)) => few_digits(whole, part),
+        None => long_number(text),
     }
-    long_number(text)
+}
+
+/// Whether the value of a number is kept. That of so few digits is, and isn't computed for that.
+pub fn has_value(text: &[u8]) -> bool
+    requires short { length text.now < 2 ^ 32 }
+    ensures value { result ≡ has_value text.now }
+{
+    lowest_terms();
+    match short_digits(text) {
+        Some(_) => true,
+        None => long_number(text).is_ok(),
+    }
 }

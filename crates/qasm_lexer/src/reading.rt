@@ -29,7 +29,7 @@ fn keep(tokens: &mut Vec<Token>, token: Option<Token>) -> Result<(), LexFault>
 /// The tokens of a text shorter than 2^32 bytes, in order. BadByte and Number tell the first place at fault.
 #[tactic(auto, using(crate::proofs::LexingLaws::fault_read))]
 pub fn lex(alloc: Global, text: &[u8]) -> Result<Vec<Token>, LexFault>
-    requires { length text.now < 2 ^ 32 }
+    requires short { length text.now < 2 ^ 32 }
     ensures lexemes { IfOk result (λ v. AreTokens text.now v.items) }
     ensures tokens { IfOk result (λ v. lexed text.now ≡ Ok v.items) }
     ensures each { IfOk result (λ v. All (IsTokenOf text.now) v.items) }
@@ -42,6 +42,7 @@ pub fn lex(alloc: Global, text: &[u8]) -> Result<Vec<Token>, LexFault>
         keep(&mut tokens, lexeme.token)?;
         place = lexeme.to;
     }
+    tokens.shrink_to_fit();
     Ok(tokens)
 }
 
@@ -49,7 +50,7 @@ pub fn lex(alloc: Global, text: &[u8]) -> Result<Vec<Token>, LexFault>
 pub fn value(text: &[u8], token: &Token) -> Frac
     requires short { length text.now < 2 ^ 32 }
     requires number { IsNumberToken text.now token.now }
-    ensures { result ≡ lowest (decimal (bytes_of text.now token.now)) }
+    ensures value { result ≡ lowest (decimal (bytes_of text.now token.now)) }
 {
     let bytes = &text[token.from as usize..token.to as usize];
     number(bytes).unwrap()

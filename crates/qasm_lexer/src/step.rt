@@ -2,11 +2,10 @@
 
 ghost use Rattle.std.specs.Prelude.{◌≡◌, ◌+◌, ◌<◌, ◌^◌, length};
 ghost use Rattle.qasm_lexer.specs.Steps.{IsLexemeAt};
-ghost use Rattle.qasm_lexer.specs.Numbers.{has_value};
 ghost use Rattle.qasm_lexer.specs.Lexemes.{is_out_of_range};
 
 use crate::lexeme::{after, front, is_blank, is_number, kind_of, lexeme_len};
-use crate::number::number;
+use crate::number::has_value;
 use crate::{LexFault, Token};
 
 /// A token, or nothing for white space and comments, and the place behind it.
@@ -14,14 +13,6 @@ use crate::{LexFault, Token};
 pub struct Lexeme {
     pub token: Option<Token>,
     pub to: usize,
-}
-
-/// Whether the value of a number is kept.
-fn has_value(lexeme: &[u8]) -> bool
-    requires { length lexeme.now < 2 ^ 32 }
-    ensures { result ≡ has_value lexeme.now }
-{
-    number(lexeme).is_ok()
 }
 
 /// Whether a lexeme is a number whose value is not kept.
@@ -36,7 +27,7 @@ fn is_out_of_range(lexeme: &[u8]) -> bool
 pub fn lexeme_at(text: &[u8], place: usize) -> Result<Lexeme, LexFault>
     requires within { place < length text.now }
     requires short { length text.now < 2 ^ 32 }
-    ensures { IsLexemeAt text.now place result }
+    ensures lexeme { IsLexemeAt text.now place result }
 {
     let from = place as u32;
     let rest = after(text, place);

@@ -5,7 +5,7 @@
 --   actions, statements, headers   what is read by the word that comes next
 use Rattle.std.proofs.Common.{◌≡◌, ℕ, ◌<◌, true, false, nat_eq, if◌then◌else◌, List, [], ◌∷◌, Some, None, refl, sym, ap, ◌∙◌, length, drop, arith}
 use Rattle.std.proofs.lemmas.Bool.Decides.{nat_tests}
-use Rattle.qasm_parser.specs.Tree.{depth_limit}
+use Rattle.qasm_parser.specs.Tree.{most_depth}
 use Rattle.qasm_parser.specs.declared.symbols.Mark.{Mark}
 use Rattle.qasm_parser.specs.Symbols.{Symbol}
 use Rattle.qasm_parser.specs.declared.symbols.Keyword.{Keyword}
@@ -63,26 +63,26 @@ word-first k (word w ∷ ts) h =
     ap (λ x. word x ∷ ts) (sym (word_by-code w) ∙ ap word_by (sym same) ∙ word_by-code k)
 word-first k (t ∷ ts) h = cc
 
-pub action-measure : (ts : List Symbol) → IsWord Measure ts → action_of depth_limit ts ≡ measure_of (drop 1 ts)
+pub action-measure : (ts : List Symbol) → IsWord Measure ts → action_of most_depth ts ≡ measure_of (drop 1 ts)
 unfolding action_of
-action-measure ts h = ap (λ x. action_of depth_limit x) (word-first Measure ts h)
+action-measure ts h = ap (λ x. action_of most_depth x) (word-first Measure ts h)
 
-pub action-reset : (ts : List Symbol) → IsWord Reset ts → action_of depth_limit ts ≡ reset_of (drop 1 ts)
+pub action-reset : (ts : List Symbol) → IsWord Reset ts → action_of most_depth ts ≡ reset_of (drop 1 ts)
 unfolding action_of
-action-reset ts h = ap (λ x. action_of depth_limit x) (word-first Reset ts h)
+action-reset ts h = ap (λ x. action_of most_depth x) (word-first Reset ts h)
 
-pub action-other : (ts : List Symbol) → NoWord Measure ts → NoWord Reset ts → action_of depth_limit ts ≡ with_apply (application_of depth_limit false ts)
+pub action-other : (ts : List Symbol) → NoWord Measure ts → NoWord Reset ts → action_of most_depth ts ≡ with_apply (application_of most_depth false ts)
 unfolding action_of application_of head_of
 action-other [] h0 h1 = refl
 action-other (word Measure ∷ ts) h0 h1 = cc
 action-other (word Reset ∷ ts) h0 h1 = cc
 action-other (t ∷ ts) h0 h1 = refl
 
-pub item-barrier : (ts : List Symbol) → IsWord Barrier ts → item_of depth_limit ts ≡ barrier_of true (drop 1 ts)
+pub item-barrier : (ts : List Symbol) → IsWord Barrier ts → item_of most_depth ts ≡ barrier_of true (drop 1 ts)
 unfolding item_of
-item-barrier ts h = ap (λ x. item_of depth_limit x) (word-first Barrier ts h)
+item-barrier ts h = ap (λ x. item_of most_depth x) (word-first Barrier ts h)
 
-pub item-other : (ts : List Symbol) → NoWord Barrier ts → item_of depth_limit ts ≡ with_apply (application_of depth_limit true ts)
+pub item-other : (ts : List Symbol) → NoWord Barrier ts → item_of most_depth ts ≡ with_apply (application_of most_depth true ts)
 unfolding item_of application_of head_of
 item-other [] h0 = refl
 item-other (word Barrier ∷ ts) h0 = cc
@@ -90,35 +90,35 @@ item-other (t ∷ ts) h0 = refl
 
 pub ruleset actions = (action-measure, action-reset, action-other, item-barrier, item-other)
 
-pub statement-include : (ts : List Symbol) → IsWord Include ts → statement_of depth_limit ts ≡ include_of (drop 1 ts)
+pub statement-include : (ts : List Symbol) → IsWord Include ts → statement_of most_depth ts ≡ include_of (drop 1 ts)
 unfolding statement_of
-statement-include ts h = ap (λ x. statement_of depth_limit x) (word-first Include ts h)
+statement-include ts h = ap (λ x. statement_of most_depth x) (word-first Include ts h)
 
-pub statement-qreg : (ts : List Symbol) → IsWord Qreg ts → statement_of depth_limit ts ≡ register_of true (drop 1 ts)
+pub statement-qreg : (ts : List Symbol) → IsWord Qreg ts → statement_of most_depth ts ≡ register_of true (drop 1 ts)
 unfolding statement_of
-statement-qreg ts h = ap (λ x. statement_of depth_limit x) (word-first Qreg ts h)
+statement-qreg ts h = ap (λ x. statement_of most_depth x) (word-first Qreg ts h)
 
-pub statement-creg : (ts : List Symbol) → IsWord Creg ts → statement_of depth_limit ts ≡ register_of false (drop 1 ts)
+pub statement-creg : (ts : List Symbol) → IsWord Creg ts → statement_of most_depth ts ≡ register_of false (drop 1 ts)
 unfolding statement_of
-statement-creg ts h = ap (λ x. statement_of depth_limit x) (word-first Creg ts h)
+statement-creg ts h = ap (λ x. statement_of most_depth x) (word-first Creg ts h)
 
-pub statement-gate : (ts : List Symbol) → IsWord Gate ts → statement_of depth_limit ts ≡ gate_of depth_limit (drop 1 ts)
+pub statement-gate : (ts : List Symbol) → IsWord Gate ts → statement_of most_depth ts ≡ gate_of most_depth (drop 1 ts)
 unfolding statement_of
-statement-gate ts h = ap (λ x. statement_of depth_limit x) (word-first Gate ts h)
+statement-gate ts h = ap (λ x. statement_of most_depth x) (word-first Gate ts h)
 
-pub statement-opaque : (ts : List Symbol) → IsWord Opaque ts → statement_of depth_limit ts ≡ opaque_of (drop 1 ts)
+pub statement-opaque : (ts : List Symbol) → IsWord Opaque ts → statement_of most_depth ts ≡ opaque_of (drop 1 ts)
 unfolding statement_of
-statement-opaque ts h = ap (λ x. statement_of depth_limit x) (word-first Opaque ts h)
+statement-opaque ts h = ap (λ x. statement_of most_depth x) (word-first Opaque ts h)
 
-pub statement-if : (ts : List Symbol) → IsWord If ts → statement_of depth_limit ts ≡ conditional_of depth_limit (drop 1 ts)
+pub statement-if : (ts : List Symbol) → IsWord If ts → statement_of most_depth ts ≡ conditional_of most_depth (drop 1 ts)
 unfolding statement_of
-statement-if ts h = ap (λ x. statement_of depth_limit x) (word-first If ts h)
+statement-if ts h = ap (λ x. statement_of most_depth x) (word-first If ts h)
 
-pub statement-barrier : (ts : List Symbol) → IsWord Barrier ts → statement_of depth_limit ts ≡ with_act (barrier_of false (drop 1 ts))
+pub statement-barrier : (ts : List Symbol) → IsWord Barrier ts → statement_of most_depth ts ≡ with_act (barrier_of false (drop 1 ts))
 unfolding statement_of
-statement-barrier ts h = ap (λ x. statement_of depth_limit x) (word-first Barrier ts h)
+statement-barrier ts h = ap (λ x. statement_of most_depth x) (word-first Barrier ts h)
 
-pub statement-other : (ts : List Symbol) → NoWord Include ts → NoWord Qreg ts → NoWord Creg ts → NoWord Gate ts → NoWord Opaque ts → NoWord If ts → NoWord Barrier ts → statement_of depth_limit ts ≡ with_act (action_of depth_limit ts)
+pub statement-other : (ts : List Symbol) → NoWord Include ts → NoWord Qreg ts → NoWord Creg ts → NoWord Gate ts → NoWord Opaque ts → NoWord If ts → NoWord Barrier ts → statement_of most_depth ts ≡ with_act (action_of most_depth ts)
 unfolding statement_of action_of application_of head_of
 statement-other [] h0 h1 h2 h3 h4 h5 h6 = refl
 statement-other (word Include ∷ ts) h0 h1 h2 h3 h4 h5 h6 = cc

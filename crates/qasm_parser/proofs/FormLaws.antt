@@ -14,7 +14,7 @@ use Rattle.qasm_parser.specs.declared.symbols.Keyword.TheVariants.{OpenQasm, Inc
 use Rattle.qasm_parser.specs.declared.symbols.Mark.{Mark}
 use Rattle.qasm_parser.specs.declared.symbols.Mark.TheVariants.{Semicolon, Comma, Open, Close, OpenBracket, CloseBracket, Arrow}
 use Rattle.qasm_parser.specs.Symbols.{Symbol, word, function, name, whole, real, quoted, mark, sign, other}
-use Rattle.qasm_parser.specs.Tree.{Expression, number, pi, param, negated, paren, call, binary, depth, Application, Action, apply, measure, reset, barrier, depth_limit}
+use Rattle.qasm_parser.specs.Tree.{Expression, number, pi, param, negated, paren, call, binary, depth, Application, Action, apply, measure, reset, barrier, most_depth}
 use Rattle.qasm_parser.specs.Expressions.{IsWritten}
 use Rattle.qasm_parser.specs.Machine.{capped, sum_of}
 use Rattle.qasm_parser.specs.Spelling.{Form, by_u, by_cx, alone, empty, listed, IsAllowed, Seen, seen, Grammar, SpellsAction, IsConditional, SpellsAngle, SpellsApplication, SpellsArg, SpellsArgs, SpellsBarrier, SpellsEach, SpellsForm, SpellsItem, SpellsList, SpellsName, BehindComma, index_symbols, whole_symbol, first_deep}
@@ -198,7 +198,7 @@ list-found R none (x ∷ xs) ts rest found s =
 
 pub names-sound : (ts : List Symbol) (r : Read (List (List ℕ))) → list_of name_of ts ≡ Some r → SpellsList SpellsName r.value ts r.rest []
 names-sound ts r e =
-    let s = list-sound depth_limit (λ n. n) SpellsName name_of (name-list depth_limit) ts r e in
+    let s = list-sound most_depth (λ n. n) SpellsName name_of (name-list most_depth) ts r e in
     subst (λ (ns : List (List ℕ)). SpellsList SpellsName ns ts r.rest []) (sym (s.value ∙ map-id s.it))
     (list-found SpellsName (λ x ts rest f h. h.1) s.it ts r.rest s.found s.spells)
 
@@ -209,7 +209,7 @@ more-end item m ts e = rw (e, more_of) refl
 pub names-complete : (ns : List (List ℕ)) (ts : List Symbol) (m : Mark) (rest : List Symbol) → is_mark Comma (mark m) ≡ false
     → SpellsList SpellsName ns ts (mark m ∷ rest) [] → list_of name_of ts ≡ Some (read ns None (mark m ∷ rest))
 names-complete ns ts m rest ended s =
-    list-complete depth_limit (λ n. n) SpellsName name_of (name-list depth_limit) Any (name-takes depth_limit) (λ ts. tt) (name-complete depth_limit) ns ts (mark m ∷ rest) [] s tt (more-end name_of m rest ended)
+    list-complete most_depth (λ n. n) SpellsName name_of (name-list most_depth) Any (name-takes most_depth) (λ ts. tt) (name-complete most_depth) ns ts (mark m ∷ rest) [] s tt (more-end name_of m rest ended)
     ∙ ap (λ xs. Some (read xs None (mark m ∷ rest))) (map-id ns)
 
 pub args-sound : (plain : Bool) (ts : List Symbol) (r : Read (List Arg)) → args_of plain ts ≡ Some r → SpellsArgs plain r.value ts r.rest × (r.deep ≡ None)
@@ -219,7 +219,7 @@ args-sound plain ts r e =
     (λ args listed more. both_of _ (skip Semicolon args.rest) r more
     (λ rest ended last.
     let same : read args.value None rest ≡ r = cc in
-    let s = list-sound depth_limit (λ a. a) (SpellsArg plain) (arg_of plain) (arg-sound depth_limit plain) ts args listed in
+    let s = list-sound most_depth (λ a. a) (SpellsArg plain) (arg_of plain) (arg-sound most_depth plain) ts args listed in
     let all = list-found (SpellsArg plain) (λ x ts rest f h. h.2) s.it ts args.rest s.found s.spells in
     subst (λ (x : Read (List Arg)). SpellsArgs plain x.value ts x.rest × (x.deep ≡ None)) same (
       subst (λ (xs : List Arg). SpellsArgs plain xs ts rest) (sym (s.value ∙ map-id s.it))
@@ -231,7 +231,7 @@ pub args-complete : (plain : Bool) (args : List Arg) (ts rest : List Symbol) →
 unfolding args_of
 args-complete plain args ts rest s =
     ap (option_and_then (λ args. option_and_then (λ rest. Some (read args.value None rest)) (skip Semicolon args.rest)))
-    (list-complete depth_limit (λ a. a) (SpellsArg plain) (arg_of plain) (arg-sound depth_limit plain) NoBracket (arg-takes depth_limit plain) (λ ts. refl) (arg-complete depth_limit plain)
+    (list-complete most_depth (λ a. a) (SpellsArg plain) (arg_of plain) (arg-sound most_depth plain) NoBracket (arg-takes most_depth plain) (λ ts. refl) (arg-complete most_depth plain)
     args ts (mark Semicolon ∷ rest) [] s refl refl
     ∙ ap (λ xs. Some (read xs None (mark Semicolon ∷ rest))) (map-id args))
 
@@ -704,18 +704,18 @@ list-long R takes (x ∷ xs) ts rest found s =
     omega arith
 
 pub names-long : (ns : List (List ℕ)) (ts rest : List Symbol) (found : List Seen) → SpellsList SpellsName ns ts rest found → length rest < length ts
-names-long ns ts rest found s = list-long SpellsName (name-takes depth_limit) ns ts rest found s
+names-long ns ts rest found s = list-long SpellsName (name-takes most_depth) ns ts rest found s
 
 args-long : (plain : Bool) (args : List Arg) (ts rest : List Symbol) → SpellsArgs plain args ts rest → length rest < length ts
 args-long plain args ts rest s =
-    let k = list-long (SpellsArg plain) (arg-takes depth_limit plain) args ts (mark Semicolon ∷ rest) [] s in
+    let k = list-long (SpellsArg plain) (arg-takes most_depth plain) args ts (mark Semicolon ∷ rest) [] s in
     let l : length (mark Semicolon ∷ rest) ≡ suc (length rest) = refl in
     omega arith
 
 form-long : (form : Form) (a : Application) (ts rest : List Symbol) (found : List Seen) → SpellsForm form a ts rest found → length rest < length ts
 form-long by_u a ts rest found s =
     let k : length ts ≡ suc (suc (length s.1)) = ap length s.2 in
-    let l = list-long SpellsAngle (angle-takes depth_limit (λ e. e)) a.angles s.1 (mark Close ∷ rest) found s.3 in
+    let l = list-long SpellsAngle (angle-takes most_depth (λ e. e)) a.angles s.1 (mark Close ∷ rest) found s.3 in
     let m : length (mark Close ∷ rest) ≡ suc (length rest) = refl in
     omega arith
 form-long by_cx a ts rest found s = let k : length ts ≡ suc (length rest) = ap length s.2 in omega arith
@@ -723,7 +723,7 @@ form-long alone a ts rest found s = let k : length ts ≡ suc (length rest) = ap
 form-long empty a ts rest found s = let k : length ts ≡ suc (suc (suc (length rest))) = ap length s.1 in omega arith
 form-long listed a ts rest found s =
     let k : length ts ≡ suc (suc (length s.0)) = ap length s.1 in
-    let l = list-long SpellsAngle (angle-takes depth_limit (λ e. e)) a.angles s.0 (mark Close ∷ rest) found s.2 in
+    let l = list-long SpellsAngle (angle-takes most_depth (λ e. e)) a.angles s.0 (mark Close ∷ rest) found s.2 in
     let m : length (mark Close ∷ rest) ≡ suc (length rest) = refl in
     omega arith
 
@@ -750,13 +750,13 @@ action-long (apply a) ts rest found s = application-long false a ts rest found s
 action-long (barrier args) ts rest found s = barrier-long false args ts rest found s
 action-long (measure q b) ts rest found s =
     let k : length ts ≡ suc (length s.0) = ap length s.2 in
-    let one = arg-takes depth_limit false q s.0 (mark Arrow ∷ s.1) [] s.3 in
-    let two = arg-takes depth_limit false b s.1 (mark Semicolon ∷ rest) [] s.4 in
+    let one = arg-takes most_depth false q s.0 (mark Arrow ∷ s.1) [] s.3 in
+    let two = arg-takes most_depth false b s.1 (mark Semicolon ∷ rest) [] s.4 in
     let m : length (mark Arrow ∷ s.1) ≡ suc (length s.1) = refl in
     let n : length (mark Semicolon ∷ rest) ≡ suc (length rest) = refl in
     omega arith
 action-long (reset a) ts rest found s =
     let k : length ts ≡ suc (length s.0) = ap length s.1 in
-    let one = arg-takes depth_limit false a s.0 (mark Semicolon ∷ rest) [] s.2 in
+    let one = arg-takes most_depth false a s.0 (mark Semicolon ∷ rest) [] s.2 in
     let n : length (mark Semicolon ∷ rest) ≡ suc (length rest) = refl in
     omega arith

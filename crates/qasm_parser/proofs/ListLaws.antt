@@ -7,7 +7,7 @@ use Rattle.qasm_parser.specs.declared.tree.Arg.{Arg}
 use Rattle.qasm_parser.specs.Symbols.{Symbol}
 use Rattle.std.proofs.lemmas.List.{map-append}
 use Rattle.qasm_parser.specs.declared.tree.Expr.{Expr}
-use Rattle.qasm_parser.specs.Tree.{Expression, expression, depth_limit}
+use Rattle.qasm_parser.specs.Tree.{Expression, expression, most_depth}
 use Rattle.qasm_parser.specs.Spelling.{SpellsAngle, SpellsArg, SpellsName}
 use Rattle.qasm_parser.specs.Reading.{Read, all, angle_of, arg_of, first_of, is_mark, list_of, more_of, name_of, onto, read, skip}
 use Rattle.qasm_parser.proofs.RepeatLaws.{Shrinks, all-end, all-more, more-shrinks, onto-onto, skip-sound}
@@ -45,7 +45,7 @@ module _ {A : Type 0} (item : List Symbol → Option (Read A)) where
 
 -- ---- names
 names-shrink : Shrinks (more_of name_of)
-names-shrink = more-shrinks depth_limit (λ n. n) SpellsName name_of (name-list depth_limit) Any (name-takes depth_limit) (λ ts. tt) (name-complete depth_limit)
+names-shrink = more-shrinks most_depth (λ n. n) SpellsName name_of (name-list most_depth) Any (name-takes most_depth) (λ ts. tt) (name-complete most_depth)
 
 pub names-first : (ts rest : List Symbol) (n : List ℕ) → name_of ts ≡ Some (read n None rest) → onto (n ∷ []) None (all (more_of name_of) rest) ≡ list_of name_of ts
 names-first ts rest n e = sym (list-first name_of ts _ e)
@@ -61,7 +61,7 @@ pub ruleset names = (names-first, names-step, names-last)
 
 -- ---- arguments
 args-shrink : (plain : Bool) → Shrinks (more_of (arg_of plain))
-args-shrink plain = more-shrinks depth_limit (λ a. a) (SpellsArg plain) (arg_of plain) (arg-sound depth_limit plain) NoBracket (arg-takes depth_limit plain) (λ ts. refl) (arg-complete depth_limit plain)
+args-shrink plain = more-shrinks most_depth (λ a. a) (SpellsArg plain) (arg_of plain) (arg-sound most_depth plain) NoBracket (arg-takes most_depth plain) (λ ts. refl) (arg-complete most_depth plain)
 
 pub args-first : (plain : Bool) (ts rest : List Symbol) (a : Arg) → arg_of plain ts ≡ Some (read a None rest)
     → onto (a ∷ []) None (all (more_of (arg_of plain)) rest) ≡ list_of (arg_of plain) ts
@@ -77,22 +77,22 @@ args-last plain front ts h = more-last (arg_of plain) front None ts h
 pub ruleset args = (args-first, args-step, args-last)
 
 -- ---- angles
-angles-shrink : Shrinks (more_of (angle_of depth_limit))
-angles-shrink = more-shrinks depth_limit (shown depth_limit (lit≤ tt)) SpellsAngle (angle_of depth_limit) (angle-sound depth_limit (lit≤ tt)) NoSign (angle-takes depth_limit (shown depth_limit (lit≤ tt))) (λ ts. tt) (angle-complete depth_limit (lit≤ tt))
+angles-shrink : Shrinks (more_of (angle_of most_depth))
+angles-shrink = more-shrinks most_depth (shown most_depth (lit≤ tt)) SpellsAngle (angle_of most_depth) (angle-sound most_depth (lit≤ tt)) NoSign (angle-takes most_depth (shown most_depth (lit≤ tt))) (λ ts. tt) (angle-complete most_depth (lit≤ tt))
 
-pub angles-first : (ts rest : List Symbol) (e : Expression) (d : Option ℕ) → angle_of depth_limit ts ≡ Some (read e d rest)
-    → onto (e ∷ []) d (all (more_of (angle_of depth_limit)) rest) ≡ list_of (angle_of depth_limit) ts
-angles-first ts rest e d h = sym (list-first (angle_of depth_limit) ts _ h)
+pub angles-first : (ts rest : List Symbol) (e : Expression) (d : Option ℕ) → angle_of most_depth ts ≡ Some (read e d rest)
+    → onto (e ∷ []) d (all (more_of (angle_of most_depth)) rest) ≡ list_of (angle_of most_depth) ts
+angles-first ts rest e d h = sym (list-first (angle_of most_depth) ts _ h)
 
 pub angles-step : (front : List Expr) (deep : Option ℕ) (ts us rest : List Symbol) (e : Expr) (d : Option ℕ) → skip Comma ts ≡ Some us
-    → angle_of depth_limit us ≡ Some (read (expression e) d rest)
-    → onto (map expression (front ++ e ∷ [])) (first_of deep d) (all (more_of (angle_of depth_limit)) rest) ≡ onto (map expression front) deep (all (more_of (angle_of depth_limit)) ts)
+    → angle_of most_depth us ≡ Some (read (expression e) d rest)
+    → onto (map expression (front ++ e ∷ [])) (first_of deep d) (all (more_of (angle_of most_depth)) rest) ≡ onto (map expression front) deep (all (more_of (angle_of most_depth)) ts)
 angles-step front deep ts us rest e d h k =
-    ap (λ xs. onto xs (first_of deep d) (all (more_of (angle_of depth_limit)) rest)) (map-append expression front (e ∷ []))
-    ∙ sym (more-step (angle_of depth_limit) angles-shrink (map expression front) deep ts us _ h k)
+    ap (λ xs. onto xs (first_of deep d) (all (more_of (angle_of most_depth)) rest)) (map-append expression front (e ∷ []))
+    ∙ sym (more-step (angle_of most_depth) angles-shrink (map expression front) deep ts us _ h k)
 
 pub angles-last : (front : List Expression) (deep : Option ℕ) (ts : List Symbol) → skip Comma ts ≡ None
-    → onto front deep (all (more_of (angle_of depth_limit)) ts) ≡ Some (read front deep ts)
-angles-last front deep ts h = more-last (angle_of depth_limit) front deep ts h
+    → onto front deep (all (more_of (angle_of most_depth)) ts) ≡ Some (read front deep ts)
+angles-last front deep ts h = more-last (angle_of most_depth) front deep ts h
 
 pub ruleset angles = (angles-first, angles-step, angles-last)

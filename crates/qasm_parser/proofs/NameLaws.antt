@@ -27,7 +27,7 @@ use Rattle.qasm_parser.specs.declared.symbols.Mark.{Mark}
 use Rattle.qasm_parser.specs.declared.symbols.Mark.TheVariants.{Comma, Semicolon, Close, OpenBrace, CloseBrace, Arrow}
 use Rattle.qasm_parser.specs.DeclaredNames.{HasGateNames, HasNames}
 use Rattle.qasm_parser.specs.Symbols.{Symbol, name, whole, real, mark, sign, function_of, function_or_name, keyword_of, mark_of, mark_symbol, sign_of, sign_or_other, symbol_by, symbol_of, symbols, word_symbol}
-use Rattle.qasm_parser.specs.Tree.{Expression, number, pi, param, negated, paren, call, binary, Application, Action, apply, measure, reset, barrier, Definition, Statement, include, register, gate, opaque, conditional, act, Tree, depth_limit}
+use Rattle.qasm_parser.specs.Tree.{Expression, number, pi, param, negated, paren, call, binary, Application, Action, apply, measure, reset, barrier, Definition, Statement, include, register, gate, opaque, conditional, act, Tree, most_depth}
 use Rattle.qasm_parser.specs.Expressions.{IsWritten}
 use Rattle.qasm_parser.specs.Spelling.{BehindComma, Form, by_u, by_cx, alone, empty, listed, Params, bare, vacant, given, Seen, Grammar, SpellsAction, SpellsAngle, SpellsApplication, SpellsArg, SpellsArgs, SpellsBarrier, SpellsEach, SpellsForm, SpellsItem, SpellsList, SpellsName, SpellsNames, SpellsParams, SpellsStatement, SpellsTree, index_symbols}
 use Rattle.qasm_parser.specs.Parsing.{Spells}
@@ -239,7 +239,7 @@ tree-names text tokens t found h s = tree-gives t (symbols text tokens) found s 
 each-few : (xs : List Statement) (ts rest : List Symbol) (found : List Seen) → SpellsEach SpellsStatement xs ts rest found → length xs + length rest ≤ length ts
 each-few [] ts rest found s = let k : length ts ≡ length rest = ap length s.0 in omega arith
 each-few (x ∷ xs) ts rest found s =
-    let one = statement-long depth_limit (lit≤ tt) x ts s.0 s.1 s.3 in
+    let one = statement-long most_depth (lit≤ tt) x ts s.0 s.1 s.3 in
     let more = each-few xs s.0 rest s.2 s.4 in
     omega arith
 

@@ -15,7 +15,7 @@ use Rattle.qasm_parser.specs.Symbols.{Symbol, mark, place_of, symbols}
 use Rattle.qasm_parser.specs.declared.ParseFault.{ParseFault}
 use Rattle.qasm_parser.specs.declared.ParseFault.TheVariants.{Syntax, Version, Depth, NoMemory}
 use Rattle.qasm_parser.specs.declared.symbols.Mark.TheVariants.{CloseBrace, Close}
-use Rattle.qasm_parser.specs.Tree.{depth, Application, apply, measure, reset, barrier, definition, include, register, gate, opaque, conditional, act, Tree, depth_limit}
+use Rattle.qasm_parser.specs.Tree.{depth, Application, apply, measure, reset, barrier, definition, include, register, gate, opaque, conditional, act, Tree, most_depth}
 use Rattle.qasm_parser.specs.Machine.{capped}
 use Rattle.qasm_parser.specs.Spelling.{BehindComma, Form, by_u, by_cx, alone, empty, listed, Seen, Grammar, SpellsAction, SpellsAngle, SpellsApplication, SpellsEach, SpellsForm, SpellsItem, SpellsList, SpellsStatement, SpellsTree, first_deep}
 use Rattle.qasm_parser.specs.Reading.{Read, first_of, kept, read, tree_of}
@@ -133,30 +133,30 @@ only_one ts a b f g s t =
     let one = tree-complete (max (high f) (high g)) positive a ts f s in
     let two = tree-complete (max (high f) (high g)) positive b ts g t in
     let same = same-read _ _ _ _ [] (sym one ∙ two) in
-    let at_limit = same-read _ _ _ _ [] (sym (tree-complete depth_limit (lit≤ tt) a ts f s) ∙ tree-complete depth_limit (lit≤ tt) b ts g t) in (
+    let at_limit = same-read _ _ _ _ [] (sym (tree-complete most_depth (lit≤ tt) a ts f s) ∙ tree-complete most_depth (lit≤ tt) b ts g t) in (
       sym (tree-shown (max (high f) (high g)) positive a ts f s (high-none _ f (omega arith)))
           ∙ same.0 ∙ tree-shown (max (high f) (high g)) positive b ts g t (high-none _ g (omega arith)),
       at_limit.1,
     )
 
 -- ---- what a reading says of a text
-pub accepted : (text : List ℕ) (tokens : List Token) (t : Tree) (rest : List Symbol) → tree_of depth_limit (symbols text tokens) ≡ Some (read t None rest) → t.version ≡ two
+pub accepted : (text : List ℕ) (tokens : List Token) (t : Tree) (rest : List Symbol) → tree_of most_depth (symbols text tokens) ≡ Some (read t None rest) → t.version ≡ two
     → IsProgram text tokens t
 accepted text tokens t rest e version =
-    let s = tree-sound depth_limit (lit≤ tt) (symbols text tokens) (read t None rest) e in
-    let same : t ≡ s.it = s.value ∙ tree-shown depth_limit (lit≤ tt) s.it (symbols text tokens) s.found s.spells (sym s.deep) in
+    let s = tree-sound most_depth (lit≤ tt) (symbols text tokens) (read t None rest) e in
+    let same : t ≡ s.it = s.value ∙ tree-shown most_depth (lit≤ tt) s.it (symbols text tokens) s.found s.spells (sym s.deep) in
     (s.found, subst (λ (x : Tree). Spells text tokens x s.found) (sym same) s.spells, version, sym s.deep)
 
-pub other_version : (text : List ℕ) (tokens : List Token) (t : Tree) (d : Option ℕ) (rest : List Symbol) → tree_of depth_limit (symbols text tokens) ≡ Some (read t d rest)
+pub other_version : (text : List ℕ) (tokens : List Token) (t : Tree) (d : Option ℕ) (rest : List Symbol) → tree_of most_depth (symbols text tokens) ≡ Some (read t d rest)
     → t.version ≢ two → IsParseFault text tokens (Version (real_place text tokens))
 other_version text tokens t d rest e version =
-    let s = tree-sound depth_limit (lit≤ tt) (symbols text tokens) (read t d rest) e in
+    let s = tree-sound most_depth (lit≤ tt) (symbols text tokens) (read t d rest) e in
     (s.it, s.found, s.spells, (λ is. version (ap (λ (x : Tree). x.version) s.value ∙ is)), refl)
 
-pub too_deep : (text : List ℕ) (tokens : List Token) (t : Tree) (left : ℕ) (rest : List Symbol) → tree_of depth_limit (symbols text tokens) ≡ Some (read t (Some left) rest)
+pub too_deep : (text : List ℕ) (tokens : List Token) (t : Tree) (left : ℕ) (rest : List Symbol) → tree_of most_depth (symbols text tokens) ≡ Some (read t (Some left) rest)
     → t.version ≡ two → IsParseFault text tokens (Depth (place_of text tokens left))
 too_deep text tokens t left rest e version =
-    let s = tree-sound depth_limit (lit≤ tt) (symbols text tokens) (read t (Some left) rest) e in
+    let s = tree-sound most_depth (lit≤ tt) (symbols text tokens) (read t (Some left) rest) e in
     (s.it, s.found, left, s.spells, sym (ap (λ (x : Tree). x.version) s.value) ∙ version, sym s.deep, refl)
 
 pub ruleset verdicts = (accepted, other_version, too_deep)
@@ -216,20 +216,20 @@ two_or v = elim (cases_eq v.den 1) [ inl d ↦ by_num v.num refl d | inr n ↦ i
 
 pub accepted_or_refused : (text : List ℕ) (tokens : List Token)
     → ((t : Tree) × IsProgram text tokens t) ⊎ ((fault : ParseFault) × (fault ≢ NoMemory) × IsParseFault text tokens fault)
-accepted_or_refused text tokens = by_reading (tree_of depth_limit (symbols text tokens)) refl
+accepted_or_refused text tokens = by_reading (tree_of most_depth (symbols text tokens)) refl
   where
-    misfit : tree_of depth_limit (symbols text tokens) ≡ None → (o : Outcome) → walk tree_shape (symbols text tokens) ≡ o
+    misfit : tree_of most_depth (symbols text tokens) ≡ None → (o : Outcome) → walk tree_shape (symbols text tokens) ≡ o
         → ((t : Tree) × IsProgram text tokens t) ⊎ ((fault : ParseFault) × (fault ≢ NoMemory) × IsParseFault text tokens fault)
     misfit none (past rest) is =
-        let no : Some rest ≡ None = ap went (sym is) ∙ tree-agrees depth_limit sums-agree (symbols text tokens) ∙ ap (λ (r : Option (Read Tree)). rests r) none in cc
+        let no : Some rest ≡ None = ap went (sym is) ∙ tree-agrees most_depth sums-agree (symbols text tokens) ∙ ap (λ (r : Option (Read Tree)). rests r) none in cc
     misfit none (stuck left) is = inr (Syntax (place_of text tokens left), (λ e. cc), (unspelt text tokens left is, place-there text tokens left is))
 
-    by_deep : (t : Tree) (rest : List Symbol) (d : Option ℕ) → tree_of depth_limit (symbols text tokens) ≡ Some (read t d rest) → t.version ≡ two
+    by_deep : (t : Tree) (rest : List Symbol) (d : Option ℕ) → tree_of most_depth (symbols text tokens) ≡ Some (read t d rest) → t.version ≡ two
         → ((t : Tree) × IsProgram text tokens t) ⊎ ((fault : ParseFault) × (fault ≢ NoMemory) × IsParseFault text tokens fault)
     by_deep t rest None is v = inl (t, accepted text tokens t rest is v)
     by_deep t rest (Some left) is v = inr (Depth (place_of text tokens left), (λ e. cc), too_deep text tokens t left rest is v)
 
-    by_reading : (o : Option (Read Tree)) → tree_of depth_limit (symbols text tokens) ≡ o
+    by_reading : (o : Option (Read Tree)) → tree_of most_depth (symbols text tokens) ≡ o
         → ((t : Tree) × IsProgram text tokens t) ⊎ ((fault : ParseFault) × (fault ≢ NoMemory) × IsParseFault text tokens fault)
     by_reading None is = misfit is (walk tree_shape (symbols text tokens)) refl
     by_reading (Some r) is = elim (two_or r.value.version) [

@@ -5,7 +5,7 @@ use Rattle.std.proofs.lemmas.List.{map-append}
 use Rattle.qasm_parser.specs.declared.symbols.Mark.TheVariants.{CloseBrace}
 use Rattle.qasm_parser.specs.declared.tree.Stmt.{Stmt}
 use Rattle.qasm_parser.specs.Symbols.{Symbol}
-use Rattle.qasm_parser.specs.Tree.{Action, Statement, action, statement, depth_limit}
+use Rattle.qasm_parser.specs.Tree.{Action, Statement, action, statement, most_depth}
 use Rattle.qasm_parser.specs.Reading.{Read, all, begins_with, first_of, item_of, more_items, more_statements, onto, read, statement_of}
 use Rattle.qasm_parser.proofs.RepeatLaws.{Shrinks, all-end, all-more, onto-nothing, onto-onto}
 use Rattle.qasm_parser.proofs.FormLaws.{item-long, item-sound}
@@ -27,21 +27,21 @@ module _ {A X : Type 0} (view : X → A) (step : List Symbol → Option (Option 
   last-step front deep ts h = ap (onto front deep) (all-end step ts h) ∙ rw (append-nil, first_of-none) refl
 
 -- ---- items
-more-item : (ts : List Symbol) → begins_with CloseBrace ts ≡ false → more_items depth_limit ts ≡ option_map Some (item_of depth_limit ts)
+more-item : (ts : List Symbol) → begins_with CloseBrace ts ≡ false → more_items most_depth ts ≡ option_map Some (item_of most_depth ts)
 more-item ts h = rw (h, more_items) refl
 
 pub items-step : (front : List Stmt) (deep : Option ℕ) (ts rest : List Symbol) (x : Stmt) (d : Option ℕ) → begins_with CloseBrace ts ≡ false
-    → item_of depth_limit ts ≡ Some (read (action x) d rest)
-    → onto (map action (front ++ x ∷ [])) (first_of deep d) (all (more_items depth_limit) rest) ≡ onto (map action front) deep (all (more_items depth_limit) ts)
+    → item_of most_depth ts ≡ Some (read (action x) d rest)
+    → onto (map action (front ++ x ∷ [])) (first_of deep d) (all (more_items most_depth) rest) ≡ onto (map action front) deep (all (more_items most_depth) ts)
 items-step front deep ts rest x d h k =
-    one-step action (more_items depth_limit) (items-shrink depth_limit (lit≤ tt)) front deep ts rest x d (more-item ts h ∙ ap (option_map Some) k)
+    one-step action (more_items most_depth) (items-shrink most_depth (lit≤ tt)) front deep ts rest x d (more-item ts h ∙ ap (option_map Some) k)
 
 pub items-last : (front : List Action) (deep : Option ℕ) (ts : List Symbol) → begins_with CloseBrace ts ≡ true
-    → onto front deep (all (more_items depth_limit) ts) ≡ Some (read front deep ts)
-items-last front deep ts h = last-step {X = Stmt} action (more_items depth_limit) front deep ts (rw (h, more_items) refl)
+    → onto front deep (all (more_items most_depth) ts) ≡ Some (read front deep ts)
+items-last front deep ts h = last-step {X = Stmt} action (more_items most_depth) front deep ts (rw (h, more_items) refl)
 
-pub item-shorter : (ts rest : List Symbol) (x : Action) (d : Option ℕ) → item_of depth_limit ts ≡ Some (read x d rest) → length rest < length ts
-item-shorter ts rest x d h = let s = item-sound depth_limit (lit≤ tt) ts _ h in item-long s.it ts rest s.found s.spells
+pub item-shorter : (ts rest : List Symbol) (x : Action) (d : Option ℕ) → item_of most_depth ts ≡ Some (read x d rest) → length rest < length ts
+item-shorter ts rest x d h = let s = item-sound most_depth (lit≤ tt) ts _ h in item-long s.it ts rest s.found s.spells
 
 pub items-begin : (r : Option (Read (List Action))) → onto [] None r ≡ r
 items-begin r = onto-nothing r
@@ -50,19 +50,19 @@ pub ruleset items = (items-step, items-last, item-shorter, items-begin)
 
 -- ---- statements
 pub statements-step : (front : List Stmt) (deep : Option ℕ) (ts rest : List Symbol) (x : Stmt) (d : Option ℕ) → 1 ≤ length ts
-    → statement_of depth_limit ts ≡ Some (read (statement x) d rest)
-    → onto (map statement (front ++ x ∷ [])) (first_of deep d) (all (more_statements depth_limit) rest) ≡ onto (map statement front) deep (all (more_statements depth_limit) ts)
+    → statement_of most_depth ts ≡ Some (read (statement x) d rest)
+    → onto (map statement (front ++ x ∷ [])) (first_of deep d) (all (more_statements most_depth) rest) ≡ onto (map statement front) deep (all (more_statements most_depth) ts)
 statements-step front deep [] rest x d h k = absurd (omega arith)
 statements-step front deep (t ∷ ts) rest x d h k =
-    one-step statement (more_statements depth_limit) (statements-shrink depth_limit (lit≤ tt)) front deep (t ∷ ts) rest x d (ap (option_map Some) k)
+    one-step statement (more_statements most_depth) (statements-shrink most_depth (lit≤ tt)) front deep (t ∷ ts) rest x d (ap (option_map Some) k)
 
 pub statements-last : (front : List Statement) (deep : Option ℕ) (ts : List Symbol) → length ts ≡ 0
-    → onto front deep (all (more_statements depth_limit) ts) ≡ Some (read front deep ts)
-statements-last front deep [] h = last-step {X = Stmt} statement (more_statements depth_limit) front deep [] refl
+    → onto front deep (all (more_statements most_depth) ts) ≡ Some (read front deep ts)
+statements-last front deep [] h = last-step {X = Stmt} statement (more_statements most_depth) front deep [] refl
 statements-last front deep (t ∷ ts) h = absurd (omega arith)
 
-pub statement-shorter : (ts rest : List Symbol) (x : Statement) (d : Option ℕ) → statement_of depth_limit ts ≡ Some (read x d rest) → length rest < length ts
-statement-shorter ts rest x d h = let s = statement-sound depth_limit (lit≤ tt) ts _ h in statement-long depth_limit (lit≤ tt) s.it ts rest s.found s.spells
+pub statement-shorter : (ts rest : List Symbol) (x : Statement) (d : Option ℕ) → statement_of most_depth ts ≡ Some (read x d rest) → length rest < length ts
+statement-shorter ts rest x d h = let s = statement-sound most_depth (lit≤ tt) ts _ h in statement-long most_depth (lit≤ tt) s.it ts rest s.found s.spells
 
 pub statements-begin : (r : Option (Read (List Statement))) → onto [] None r ≡ r
 statements-begin r = onto-nothing r

@@ -6,7 +6,7 @@ use Rattle.angle_fraction.specs.declared.signs.Function.{Function}
 use Rattle.angle_fraction.specs.declared.signs.Binary.{Binary}
 use Rattle.angle_fraction.specs.declared.signs.Binary.TheVariants.{Add, Sub, Mul, Div, Pow}
 use Rattle.qasm_parser.specs.Symbols.{Symbol}
-use Rattle.qasm_parser.specs.Tree.{Expression, depth_limit}
+use Rattle.qasm_parser.specs.Tree.{Expression, most_depth}
 use Rattle.qasm_parser.specs.Machine.{Frame, minus, opened, called, before, Mode, front, opens, behind, reduced, Role, atom, begins, ends, calls, joins, none, binding, closed, closes, finished, open_in, parenthesis, reduce, role, run, tightness_of}
 use Rattle.qasm_parser.specs.Ways.{Outcome, past, Stand, lacking, calling, holding, finish, way}
 use Rattle.qasm_parser.proofs.ExpressionLaws.{IsOutside, run-ends, run-joins, run-outside}
@@ -140,5 +140,5 @@ module _ (limit : ℕ) (positive : 1 ≤ limit) where
   runs-agree (t ∷ ts) fs (opens g) = opens-agrees t ts (runs-agree ts) g fs
   runs-agree (t ∷ ts) fs (behind p) = behind-agrees t ts (runs-agree ts) fs p
 
-pub sums-agree : SumsAgree depth_limit
-sums-agree ts = runs-agree depth_limit (lit≤ tt) ts [] front
+pub sums-agree : SumsAgree most_depth
+sums-agree ts = runs-agree most_depth (lit≤ tt) ts [] front

@@ -8,7 +8,7 @@ use Rattle.std.proofs.lemmas.Bool.{cases_lt, cases_eq}
 use Rattle.qasm_lexer.specs.declared.Token.{Token}
 use Rattle.qasm_parser.specs.Spelling.{Seen, SpellsTree}
 use Rattle.qasm_parser.specs.Symbols.{Symbol, place_of, symbols}
-use Rattle.qasm_parser.specs.Tree.{Tree, depth_limit}
+use Rattle.qasm_parser.specs.Tree.{Tree, most_depth}
 use Rattle.qasm_parser.specs.Places.{Begins, IsStuckAt, IsSyntaxPlace}
 use Rattle.qasm_parser.specs.Reading.{Read, tree_of}
 use Rattle.qasm_parser.specs.Ways.{Outcome, past, stuck, walk}
@@ -24,15 +24,15 @@ use Rattle.qasm_parser.proofs.LoopLaws.{ends-tree, fine-tree}
 
 -- ---- spelt and gone past
 pub walk-spelt : (ts : List Symbol) → walk tree_shape ts ≡ past [] → (t : Tree) × (found : List Seen) × SpellsTree t ts found
-walk-spelt ts e = by_reading (tree_of depth_limit ts) refl (ap went (sym e) ∙ tree-agrees depth_limit sums-agree ts)
+walk-spelt ts e = by_reading (tree_of most_depth ts) refl (ap went (sym e) ∙ tree-agrees most_depth sums-agree ts)
   where
-    by_reading : (o : Option (Read Tree)) → tree_of depth_limit ts ≡ o → Some [] ≡ rests o → (t : Tree) × (found : List Seen) × SpellsTree t ts found
+    by_reading : (o : Option (Read Tree)) → tree_of most_depth ts ≡ o → Some [] ≡ rests o → (t : Tree) × (found : List Seen) × SpellsTree t ts found
     by_reading None is h = absurd (cc)
-    by_reading (Some r) is h = let s = tree-sound depth_limit (lit≤ tt) ts r is in (s.it, s.found, s.spells)
+    by_reading (Some r) is h = let s = tree-sound most_depth (lit≤ tt) ts r is in (s.it, s.found, s.spells)
 
 pub spelt-walk : (ts : List Symbol) (t : Tree) (found : List Seen) → SpellsTree t ts found → walk tree_shape ts ≡ past []
 spelt-walk ts t found s =
-    by_outcome (walk tree_shape ts) (tree-agrees depth_limit sums-agree ts ∙ ap rests (tree-complete depth_limit (lit≤ tt) t ts found s))
+    by_outcome (walk tree_shape ts) (tree-agrees most_depth sums-agree ts ∙ ap rests (tree-complete most_depth (lit≤ tt) t ts found s))
   where
     by_outcome : (o : Outcome) → went o ≡ Some [] → o ≡ past []
     by_outcome (past rest) h = ap past (let same : rest ≡ [] = cc in same)

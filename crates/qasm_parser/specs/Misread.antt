@@ -1,10 +1,10 @@
 -- Working form. Why reading stops.
 --   IsMisread    the form is stuck there; or memory is wanting
 use Rattle.std.specs.Prelude.{◌≡◌, ⊤}
-use Rattle.qasm_parser.specs.declared.stop.Stop.{Stop}
-use Rattle.qasm_parser.specs.declared.stop.Stop.TheVariants.{NoMemory, Misfit}
+use Rattle.qasm_parser.specs.declared.stop.ParseStop.{ParseStop}
+use Rattle.qasm_parser.specs.declared.stop.ParseStop.TheVariants.{NoMemory, Misfit}
 use Rattle.qasm_parser.specs.Ways.{Outcome, stuck}
 
-abbrev pub IsMisread : Outcome → Stop → Type 0
+abbrev pub IsMisread : Outcome → ParseStop → Type 0
 IsMisread outcome NoMemory = ⊤
 IsMisread outcome (Misfit left) = outcome ≡ stuck left

@@ -7,13 +7,13 @@ use Rattle.qasm_parser.specs.declared.expression.Mode.{Mode}
 use Rattle.qasm_parser.specs.declared.expression.Mode.TheVariants.{Front, Behind, Done}
 use Rattle.qasm_parser.specs.Symbols.{Symbol}
 use Rattle.qasm_parser.specs.Parts.{part_of}
-use Rattle.qasm_parser.specs.Tree.{Expression, depth_limit}
+use Rattle.qasm_parser.specs.Tree.{Expression, most_depth}
 use Rattle.qasm_parser.specs.Ways.{Outcome, past, way, lacking, holding}
 use Rattle.qasm_parser.specs.Machine as spec
 
 abbrev pub go : List spec.Frame → Mode → List Symbol → Option (Option Expression × List Symbol)
-go fs Front ts = spec.run depth_limit fs spec.front ts
-go fs (Behind part) ts = spec.run depth_limit fs (spec.behind (part_of part)) ts
+go fs Front ts = spec.run most_depth fs spec.front ts
+go fs (Behind part) ts = spec.run most_depth fs (spec.behind (part_of part)) ts
 go fs (Done part) ts = Some (part_of part, ts)
 
 abbrev pub steps : Mode → ℕ → ℕ

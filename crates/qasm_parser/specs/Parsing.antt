@@ -9,7 +9,7 @@ use Rattle.std.specs.Prelude.{◌≡◌, ◌≢◌, ℕ, List, Option, Some, Non
 use Rattle.angle_fraction.specs.Fraction.{Fraction, fraction}
 use Rattle.qasm_lexer.specs.declared.Token.{Token}
 use Rattle.qasm_parser.specs.Symbols.{first_place, place_of, symbols}
-use Rattle.qasm_parser.specs.Tree.{Tree, depth_limit}
+use Rattle.qasm_parser.specs.Tree.{Tree, most_depth}
 use Rattle.qasm_parser.specs.Places.{IsSyntaxPlace}
 use Rattle.qasm_parser.specs.Spelling.{Seen, SpellsTree, first_deep}
 use Rattle.qasm_parser.specs.declared.ParseFault.{ParseFault}
@@ -22,7 +22,7 @@ abbrev pub two : Fraction
 two = fraction (pos 2) 1
 
 abbrev pub first_deep_of : List Seen → Option ℕ
-first_deep_of found = first_deep depth_limit found
+first_deep_of found = first_deep most_depth found
 
 abbrev pub real_place : List ℕ → List Token → ℕ
 real_place text tokens = first_place (length text) (drop 1 tokens)

@@ -3,7 +3,7 @@
 --   number, pi, param, negated, paren, call, binary   a number; pi; a name; minus a part; a part in parentheses; a function of
 --                  a part; two parts with a sign between
 --   depth          1 for a number, pi or a name; else 1 more than the deepest part
---   depth_limit    the depth of the deepest expression that is accepted
+--   most_depth    the depth of the deepest expression that is accepted
 --   Application    a gate with its angles and arguments; `U` and `CX` are names of gates
 --   Action         what may stand behind `if`; applications and barriers may stand in a gate's body
 --   apply, measure, reset, barrier   an application; a measure of a qubit into a bit; a reset; a barrier on arguments
@@ -42,8 +42,8 @@ depth (paren part) = depth part + 1
 depth (call function part) = depth part + 1
 depth (binary sign left right) = max (depth left) (depth right) + 1
 
-abbrev pub depth_limit : ℕ
-depth_limit = 64
+abbrev pub most_depth : ℕ
+most_depth = 64
 
 pub record Application : Type 0 where
   pub gate : List ℕ

@@ -5,22 +5,22 @@ ghost use Rattle.std.specs.Prelude.{◌≡◌, ◌≤◌, ◌<◌, Some, None, m
 ghost use Rattle.qasm_parser.specs.Misread.{IsMisread};
 ghost use Rattle.qasm_parser.specs.Ways.{past, sum as sum_shape, walk};
 ghost use Rattle.qasm_parser.specs.Shapes.{angles_shape, application_shape, head_shape, list_shape, optional_shape, u_shape};
-ghost use Rattle.qasm_parser.specs.Tree.{application, depth_limit, expression};
+ghost use Rattle.qasm_parser.specs.Tree.{application, most_depth, expression};
 ghost use Rattle.qasm_parser.specs.Reading.{angle_of, angles_of, angles_of_u, application_of, first_of, head_of, list_of, optional_of, read};
 ghost use Rattle.qasm_parser.specs.Heads.{head_view};
 
 use crate::cursor::Cursor;
 use crate::expression::sum;
 use crate::lists::{args, expect, take};
-use crate::stop::Stop;
+use crate::stop::ParseStop;
 use crate::symbols::{Keyword, Mark, Symbol};
 use crate::tree::{Apply, Expr, Name};
 use std::alloc::Global;
 
 /// An expression, and where it begins if it is too deep.
 #[tactic(auto, unfolding(crate::specs::Reading::angle_of))]
-fn angle(alloc: Global, cursor: &mut Cursor<'_>) -> Result<(Expr, Option<usize>), Stop>
-    ensures ok { IfOk result (λ r. angle_of depth_limit cursor.old ≡ Some (read (expression r.0) r.1 cursor.new)) }
+fn angle(alloc: Global, cursor: &mut Cursor<'_>) -> Result<(Expr, Option<usize>), ParseStop>
+    ensures ok { IfOk result (λ r. angle_of most_depth cursor.old ≡ Some (read (expression r.0) r.1 cursor.new)) }
     ensures walked { OnOk result (walk sum_shape cursor.old ≡ past cursor.new) }
     ensures err { IfErr result (IsMisread (walk sum_shape cursor.old)) }
     ensures rest { OnOk result (length cursor.new ≤ length cursor.old) }
@@ -34,7 +34,7 @@ fn angle(alloc: Global, cursor: &mut Cursor<'_>) -> Result<(Expr, Option<usize>)
 
 /// The first of two places, where there is one.
 pub fn earlier(a: Option<usize>, b: Option<usize>) -> Option<usize>
-    ensures { result ≡ first_of a b }
+    ensures value { result ≡ first_of a b }
 {
     match a {
         Some(place) => Some(place),
@@ -44,8 +44,11 @@ pub fn earlier(a: Option<usize>, b: Option<usize>) -> Option<usize>
 
 /// Expressions with commas between.
 #[tactic(auto, using(crate::proofs::ListLaws::angles, crate::proofs::LoopLaws::angles))]
-fn angle_list(alloc: Global, cursor: &mut Cursor<'_>) -> Result<(Vec<Expr>, Option<usize>), Stop>
-    ensures ok { IfOk result (λ r. list_of (angle_of depth_limit) cursor.old ≡ Some (read (map expression r.0.items) r.1 cursor.new)) }
+fn angle_list(
+    alloc: Global,
+    cursor: &mut Cursor<'_>,
+) -> Result<(Vec<Expr>, Option<usize>), ParseStop>
+    ensures ok { IfOk result (λ r. list_of (angle_of most_depth) cursor.old ≡ Some (read (map expression r.0.items) r.1 cursor.new)) }
     ensures walked { OnOk result (walk (list_shape sum_shape) cursor.old ≡ past cursor.new) }
     ensures err { IfErr result (IsMisread (walk (list_shape sum_shape) cursor.old)) }
     ensures rest { OnOk result (length cursor.new ≤ length cursor.old) }
@@ -71,8 +74,8 @@ pub struct Head {
 
 /// Angles up to the end of the parenthesis.
 #[tactic(auto, unfolding(crate::specs::Reading::angles_of, crate::specs::Shapes::angles_shape))]
-fn angles(alloc: Global, cursor: &mut Cursor<'_>) -> Result<(Vec<Expr>, Option<usize>), Stop>
-    ensures ok { IfOk result (λ r. angles_of depth_limit cursor.old ≡ Some (read (map expression r.0.items) r.1 cursor.new)) }
+fn angles(alloc: Global, cursor: &mut Cursor<'_>) -> Result<(Vec<Expr>, Option<usize>), ParseStop>
+    ensures ok { IfOk result (λ r. angles_of most_depth cursor.old ≡ Some (read (map expression r.0.items) r.1 cursor.new)) }
     ensures walked { OnOk result (walk angles_shape cursor.old ≡ past cursor.new) }
     ensures err { IfErr result (IsMisread (walk angles_shape cursor.old)) }
     ensures rest { OnOk result (length cursor.new ≤ length cursor.old) }
@@ -85,8 +88,8 @@ fn angles(alloc: Global, cursor: &mut Cursor<'_>) -> Result<(Vec<Expr>, Option<u
 
 /// The angles of a gate with a name: in parentheses, or none.
 #[tactic(auto, unfolding(crate::specs::Reading::optional_of, crate::specs::Shapes::optional_shape))]
-fn optional(alloc: Global, cursor: &mut Cursor<'_>) -> Result<(Vec<Expr>, Option<usize>), Stop>
-    ensures ok { IfOk result (λ r. optional_of depth_limit cursor.old ≡ Some (read (map expression r.0.items) r.1 cursor.new)) }
+fn optional(alloc: Global, cursor: &mut Cursor<'_>) -> Result<(Vec<Expr>, Option<usize>), ParseStop>
+    ensures ok { IfOk result (λ r. optional_of most_depth cursor.old ≡ Some (read (map expression r.0.items) r.1 cursor.new)) }
     ensures walked { OnOk result (walk optional_shape cursor.old ≡ past cursor.new) }
     ensures err { IfErr result (IsMisread (walk optional_shape cursor.old)) }
     ensures rest { OnOk result (length cursor.new ≤ length cursor.old) }
@@ -102,8 +105,11 @@ fn optional(alloc: Global, cursor: &mut Cursor<'_>) -> Result<(Vec<Expr>, Option
 
 /// The angles of `U`.
 #[tactic(auto, unfolding(crate::specs::Reading::angles_of_u, crate::specs::Shapes::u_shape))]
-fn angles_of_u(alloc: Global, cursor: &mut Cursor<'_>) -> Result<(Vec<Expr>, Option<usize>), Stop>
-    ensures ok { IfOk result (λ r. angles_of_u depth_limit cursor.old ≡ Some (read (map expression r.0.items) r.1 cursor.new)) }
+fn angles_of_u(
+    alloc: Global,
+    cursor: &mut Cursor<'_>,
+) -> Result<(Vec<Expr>, Option<usize>), ParseStop>
+    ensures ok { IfOk result (λ r. angles_of_u most_depth cursor.old ≡ Some (read (map expression r.0.items) r.1 cursor.new)) }
     ensures walked { OnOk result (walk u_shape cursor.old ≡ past cursor.new) }
     ensures err { IfErr result (IsMisread (walk u_shape cursor.old)) }
     ensures rest { OnOk result (length cursor.new ≤ length cursor.old) }
@@ -114,8 +120,8 @@ fn angles_of_u(alloc: Global, cursor: &mut Cursor<'_>) -> Result<(Vec<Expr>, Opt
 
 /// A gate's name and its angles.
 #[tactic(auto, unfolding(crate::specs::Reading::head_of, crate::specs::Shapes::head_shape))]
-fn gate_head(alloc: Global, cursor: &mut Cursor<'_>) -> Result<Head, Stop>
-    ensures ok { IfOk result (λ h. head_of depth_limit cursor.old ≡ Some (read (head_view h) h.deep cursor.new)) }
+fn gate_head(alloc: Global, cursor: &mut Cursor<'_>) -> Result<Head, ParseStop>
+    ensures ok { IfOk result (λ h. head_of most_depth cursor.old ≡ Some (read (head_view h) h.deep cursor.new)) }
     ensures walked { OnOk result (walk head_shape cursor.old ≡ past cursor.new) }
     ensures err { IfErr result (IsMisread (walk head_shape cursor.old)) }
     ensures rest { OnOk result (length cursor.new ≤ length cursor.old) }
@@ -143,7 +149,7 @@ fn gate_head(alloc: Global, cursor: &mut Cursor<'_>) -> Result<Head, Stop>
             let (angles, deep) = optional(alloc, cursor)?;
             Ok(Head { gate, angles, deep })
         }
-        _ => Err(Stop::Misfit { left }),
+        _ => Err(ParseStop::Misfit { left }),
     }
 }
 
@@ -153,8 +159,8 @@ pub fn application(
     alloc: Global,
     cursor: &mut Cursor<'_>,
     plain: bool,
-) -> Result<(Apply, Option<usize>), Stop>
-    ensures ok { IfOk result (λ r. application_of depth_limit plain cursor.old ≡ Some (read (application r.0) r.1 cursor.new)) }
+) -> Result<(Apply, Option<usize>), ParseStop>
+    ensures ok { IfOk result (λ r. application_of most_depth plain cursor.old ≡ Some (read (application r.0) r.1 cursor.new)) }
     ensures walked { OnOk result (walk (application_shape plain) cursor.old ≡ past cursor.new) }
     ensures err { IfErr result (IsMisread (walk (application_shape plain) cursor.old)) }
     ensures rest { OnOk result (length cursor.new ≤ length cursor.old) }

@@ -50,7 +50,7 @@ impl<'a> Cursor<'a> {
     pub fn new(text: &'a [u8], tokens: &'a [Token]) -> Cursor<'a>
         requires short { length text.now < 2 ^ 32 }
         requires tokens { All (IsTokenOf text.now) tokens.now }
-        ensures { result ≡ symbols text.now tokens.now }
+        ensures value { result ≡ symbols text.now tokens.now }
     {
         Cursor {
             text,
@@ -61,21 +61,21 @@ impl<'a> Cursor<'a> {
 
     /// How many symbols are still to come.
     pub fn left(&self) -> usize
-        ensures { result ≡ length self.now }
+        ensures value { result ≡ length self.now }
     {
         self.tokens.len()
     }
 
     /// The next symbol.
     pub fn peek(&self) -> Option<Symbol<'a>>
-        ensures { IsFirst result self.now }
+        ensures first { IsFirst result self.now }
     {
         self.next
     }
 
     /// The value of the next symbol, where it is a number; else 0.
     pub fn value(&self) -> Frac
-        ensures { result ≡ first_value self.now }
+        ensures value { result ≡ first_value self.now }
     {
         match self.tokens.first() {
             Some(token) => number_of(self.text, token),
@@ -85,7 +85,7 @@ impl<'a> Cursor<'a> {
 
     /// Goes past the next symbol.
     pub fn advance(&mut self)
-        ensures { self.new ≡ drop 1 self.old }
+        ensures new { self.new ≡ drop 1 self.old }
     {
         if !self.tokens.is_empty() {
             self.tokens = &self.tokens[1..];

@@ -5,18 +5,18 @@ ghost use Rattle.qasm_parser.specs.Machine.{behind, closes, finished, front, ope
 ghost use Rattle.qasm_parser.specs.Modes.{go, steps, way_go};
 ghost use Rattle.qasm_parser.specs.Frames.{stack};
 ghost use Rattle.qasm_parser.specs.Parts.{part_of};
-ghost use Rattle.qasm_parser.specs.Tree.{depth_limit, expression};
+ghost use Rattle.qasm_parser.specs.Tree.{most_depth, expression};
 ghost use Rattle.qasm_parser.specs.Misread.{IsMisread};
 ghost use Rattle.qasm_parser.specs.Ways.{calling, finish as finish_way, holding, lacking, past, shut, stuck, sum as sum_shape, walk, way};
 ghost use Rattle.qasm_parser.specs.Symbols.{Symbol as SpecSymbol, mark};
 ghost use Rattle.qasm_parser.specs.declared.symbols.Mark.TheVariants.{Open};
-ghost use Rattle.qasm_parser.specs.declared.stop.Stop.TheVariants.{Misfit};
+ghost use Rattle.qasm_parser.specs.declared.stop.ParseStop.TheVariants.{Misfit};
 
 use crate::cursor::Cursor;
 use crate::frames::{Frame, Frames, binding, reduce};
 use crate::growth::{applied, parenthesised};
 use crate::part::{Part, atom, number};
-use crate::stop::Stop;
+use crate::stop::ParseStop;
 use crate::symbols::{Keyword, Mark, Symbol};
 use crate::tree::{Expr, Name};
 use angle_fraction::Binary;
@@ -31,7 +31,7 @@ pub enum Mode {
 }
 
 /// The parenthesis that follows a function.
-fn open(cursor: &mut Cursor<'_>) -> Result<(), Stop>
+fn open(cursor: &mut Cursor<'_>) -> Result<(), ParseStop>
     ensures ok { OnOk result (cursor.old ≡ mark Open ∷ cursor.new) }
     ensures err { IfErr result (λ e. (e ≡ Misfit (length cursor.old)) × ((n : ℕ) → way n calling cursor.old ≡ stuck (length cursor.old))) }
 {
@@ -41,21 +41,21 @@ fn open(cursor: &mut Cursor<'_>) -> Result<(), Stop>
             cursor.advance();
             Ok(())
         }
-        _ => Err(Stop::Misfit { left }),
+        _ => Err(ParseStop::Misfit { left }),
     }
 }
 
 /// Where a part is to come: an atom, or what begins one.
 #[tactic(auto, using(crate::proofs::FrameLaws::stacks, crate::proofs::OpenLaws::opens))]
-fn begin(alloc: Global, cursor: &mut Cursor<'_>, frames: &mut Frames) -> Result<Mode, Stop>
-    ensures ok { IfOk result (λ m. run depth_limit (stack frames.old) front cursor.old ≡ go (stack frames.new) m cursor.new) }
+fn begin(alloc: Global, cursor: &mut Cursor<'_>, frames: &mut Frames) -> Result<Mode, ParseStop>
+    ensures ok { IfOk result (λ m. run most_depth (stack frames.old) front cursor.old ≡ go (stack frames.new) m cursor.new) }
     ensures walked { IfOk result (λ m. way (open_in (stack frames.old)) lacking cursor.old ≡ way_go (open_in (stack frames.new)) m cursor.new) }
     ensures err { IfErr result (IsMisread (way (open_in (stack frames.old)) lacking cursor.old)) }
     ensures shorter { OnOk result (length cursor.new < length cursor.old) }
 {
     let left = cursor.left();
     let Some(symbol) = cursor.peek() else {
-        return Err(Stop::Misfit { left });
+        return Err(ParseStop::Misfit { left });
     };
     match symbol {
         Symbol::Sign(Binary::Sub) => {
@@ -88,7 +88,7 @@ fn begin(alloc: Global, cursor: &mut Cursor<'_>, frames: &mut Frames) -> Result<
             Ok(Mode::Behind(Some(atom(Expr::Param(Name::copied(alloc, bytes)?)))))
         }
         Symbol::Sign(_) | Symbol::Mark(_) | Symbol::Word(_) | Symbol::Quoted(_) | Symbol::Other =>
-            Err(Stop::Misfit { left }),
+            Err(ParseStop::Misfit { left }),
     }
 }
 
@@ -99,10 +99,10 @@ fn close(
     cursor: &mut Cursor<'_>,
     frames: &mut Frames,
     part: Option<Part>,
-) -> Result<Mode, Stop>
+) -> Result<Mode, ParseStop>
     requires some { 0 < length cursor.old }
     requires waits { closes 1 (stack frames.old) ≡ false }
-    ensures ok { IfOk result (λ m. parenthesis depth_limit (stack frames.old) (part_of part) cursor.old ≡ go (stack frames.new) m cursor.new) }
+    ensures ok { IfOk result (λ m. parenthesis most_depth (stack frames.old) (part_of part) cursor.old ≡ go (stack frames.new) m cursor.new) }
     ensures walked { IfOk result (λ m. shut (open_in (stack frames.old)) cursor.old ≡ way_go (open_in (stack frames.new)) m cursor.new) }
     ensures err { IfErr result (IsMisread (shut (open_in (stack frames.old)) cursor.old)) }
     ensures shorter { IfOk result (λ m. steps m (length cursor.new) < 2 * length cursor.old + 1) }
@@ -120,14 +120,19 @@ fn close(
             cursor.advance();
             Ok(Mode::Behind(applied(alloc, function, part)?))
         }
-        Frame::Minus | Frame::Left(_) => Err(Stop::Misfit { left }),
+        Frame::Minus | Frame::Left(_) => Err(ParseStop::Misfit { left }),
     }
 }
 
 /// The end of the expression before what no longer belongs to it, so many symbols from the end: nothing may be open.
 #[tactic(auto, using(crate::proofs::FrameLaws::stacks, crate::proofs::OpenLaws::opens))]
-fn finish(alloc: Global, frames: &mut Frames, part: Option<Part>, left: usize) -> Result<Mode, Stop>
-    ensures ok { IfOk result (λ m. (ts : List SpecSymbol) → finished (reduced_by depth_limit 1 (stack frames.old) (part_of part)) ts ≡ go (stack frames.new) m ts) }
+fn finish(
+    alloc: Global,
+    frames: &mut Frames,
+    part: Option<Part>,
+    left: usize,
+) -> Result<Mode, ParseStop>
+    ensures ok { IfOk result (λ m. (ts : List SpecSymbol) → finished (reduced_by most_depth 1 (stack frames.old) (part_of part)) ts ≡ go (stack frames.new) m ts) }
     ensures walked { IfOk result (λ m. (ts : List SpecSymbol) → finish_way (open_in (stack frames.old)) ts ≡ way_go (open_in (stack frames.new)) m ts) }
     ensures err { IfErr result (λ e. (ts : List SpecSymbol) → left ≡ length ts → IsMisread (finish_way (open_in (stack frames.old)) ts) e) }
     ensures shorter { IfOk result (λ m. steps m left ≡ 2 * left) }
@@ -136,7 +141,7 @@ fn finish(alloc: Global, frames: &mut Frames, part: Option<Part>, left: usize) -
     if frames.is_empty() {
         Ok(Mode::Done(part))
     } else {
-        Err(Stop::Misfit { left })
+        Err(ParseStop::Misfit { left })
     }
 }
 
@@ -147,8 +152,8 @@ fn after(
     cursor: &mut Cursor<'_>,
     frames: &mut Frames,
     part: Option<Part>,
-) -> Result<Mode, Stop>
-    ensures ok { IfOk result (λ m. run depth_limit (stack frames.old) (behind (part_of part)) cursor.old ≡ go (stack frames.new) m cursor.new) }
+) -> Result<Mode, ParseStop>
+    ensures ok { IfOk result (λ m. run most_depth (stack frames.old) (behind (part_of part)) cursor.old ≡ go (stack frames.new) m cursor.new) }
     ensures walked { IfOk result (λ m. way (open_in (stack frames.old)) holding cursor.old ≡ way_go (open_in (stack frames.new)) m cursor.new) }
     ensures err { IfErr result (IsMisread (way (open_in (stack frames.old)) holding cursor.old)) }
     ensures shorter { IfOk result (λ m. steps m (length cursor.new) < 2 * length cursor.old + 1) }
@@ -170,8 +175,8 @@ fn after(
 }
 
 /// The expression that comes next, as far as it goes; none where it is deeper than 64.
-pub fn sum(alloc: Global, cursor: &mut Cursor<'_>) -> Result<Option<Part>, Stop>
-    ensures ok { IfOk result (λ p. sum_of depth_limit cursor.old ≡ Some (part_of p, cursor.new)) }
+pub fn sum(alloc: Global, cursor: &mut Cursor<'_>) -> Result<Option<Part>, ParseStop>
+    ensures ok { IfOk result (λ p. sum_of most_depth cursor.old ≡ Some (part_of p, cursor.new)) }
     ensures walked { OnOk result (walk sum_shape cursor.old ≡ past cursor.new) }
     ensures err { IfErr result (IsMisread (walk sum_shape cursor.old)) }
     ensures rest { OnOk result (length cursor.new ≤ length cursor.old) }

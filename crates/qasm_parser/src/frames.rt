@@ -1,15 +1,15 @@
 //! What was begun in an expression and waits for its right part, the last on top.
 
 ghost use Rattle.std.specs.Prelude.{◌≡◌, ◌≤◌, false, ◌↔◌, ◌++◌, ◌∷◌, [], IsTrue, drop, reverse, IfErr, IfOk, MatchOption, OnOk, Option};
-ghost use Rattle.qasm_parser.specs.Tree.{Expression as SpecExpression, depth_limit};
+ghost use Rattle.qasm_parser.specs.Tree.{Expression as SpecExpression, most_depth};
 ghost use Rattle.qasm_parser.specs.Machine.{before, binding, called, closed, closes, minus, open_in, opened, reduce, reduced, tightness};
 ghost use Rattle.qasm_parser.specs.Parts.{part_of};
 ghost use Rattle.qasm_parser.specs.Frames.{first_left, frame_with, stack};
-ghost use Rattle.qasm_parser.specs.declared.stop.Stop.TheVariants.{NoMemory};
+ghost use Rattle.qasm_parser.specs.declared.stop.ParseStop.TheVariants.{NoMemory};
 
 use crate::growth::{applied, joined, negated, parenthesised};
 use crate::part::Part;
-use crate::stop::Stop;
+use crate::stop::ParseStop;
 use angle_fraction::{Binary, Function};
 use std::alloc::{AllocError, Global};
 
@@ -31,7 +31,7 @@ pub struct Frames {
 
 /// How tightly a sign binds: 1 for `+` and `-`, 2 for `*` and `/`, 3 for `^`.
 pub fn binding(sign: Binary) -> u8
-    ensures { result ≡ binding sign }
+    ensures value { result ≡ binding sign }
 {
     match sign {
         Binary::Add | Binary::Sub => 1,
@@ -69,7 +69,7 @@ fn pop_left(lefts: &mut Vec<Option<Part>>) -> Option<Part>
 impl Frames {
     /// No frames.
     pub fn new(alloc: Global) -> Frames
-        ensures { stack result ≡ [] }
+        ensures value { stack result ≡ [] }
     {
         Frames {
             kinds: Vec::new(alloc),
@@ -79,7 +79,7 @@ impl Frames {
 
     /// Puts a frame without a left part on top.
     #[tactic(auto, using(crate::proofs::FrameLaws::stacks))]
-    fn push(&mut self, frame: Frame) -> Result<(), Stop>
+    fn push(&mut self, frame: Frame) -> Result<(), ParseStop>
         ensures ok { OnOk result (self.new.kinds.items ≡ self.old.kinds.items ++ frame ∷ []) }
         ensures lefts { self.new.lefts ≡ self.old.lefts }
         ensures err { IfErr result (λ e. e ≡ NoMemory) }
@@ -90,7 +90,7 @@ impl Frames {
 
     /// Puts a minus on top.
     #[tactic(auto, using(crate::proofs::FrameLaws::stacks))]
-    pub fn push_minus(&mut self) -> Result<(), Stop>
+    pub fn push_minus(&mut self) -> Result<(), ParseStop>
         ensures ok { OnOk result (stack self.new ≡ minus ∷ stack self.old) }
         ensures err { IfErr result (λ e. e ≡ NoMemory) }
     {
@@ -99,7 +99,7 @@ impl Frames {
 
     /// Puts a parenthesis on top.
     #[tactic(auto, using(crate::proofs::FrameLaws::stacks))]
-    pub fn push_paren(&mut self) -> Result<(), Stop>
+    pub fn push_paren(&mut self) -> Result<(), ParseStop>
         ensures ok { OnOk result (stack self.new ≡ opened ∷ stack self.old) }
         ensures err { IfErr result (λ e. e ≡ NoMemory) }
     {
@@ -108,7 +108,7 @@ impl Frames {
 
     /// Puts a function's parenthesis on top.
     #[tactic(auto, using(crate::proofs::FrameLaws::stacks))]
-    pub fn push_call(&mut self, function: Function) -> Result<(), Stop>
+    pub fn push_call(&mut self, function: Function) -> Result<(), ParseStop>
         ensures ok { OnOk result (stack self.new ≡ called function ∷ stack self.old) }
         ensures err { IfErr result (λ e. e ≡ NoMemory) }
     {
@@ -117,7 +117,7 @@ impl Frames {
 
     /// Puts a left part and its sign on top.
     #[tactic(auto, using(crate::proofs::FrameLaws::stacks))]
-    pub fn push_left(&mut self, sign: Binary, left: Option<Part>) -> Result<(), Stop>
+    pub fn push_left(&mut self, sign: Binary, left: Option<Part>) -> Result<(), ParseStop>
         ensures ok { OnOk result (stack self.new ≡ before sign (part_of left) ∷ stack self.old) }
         ensures err { IfErr result (λ e. e ≡ NoMemory) }
     {
@@ -129,7 +129,7 @@ impl Frames {
     /// Takes the frame on top, with its left part where it has one.
     #[tactic(auto, using(crate::proofs::FrameLaws::stacks))]
     pub fn pop(&mut self) -> Option<(Frame, Option<Part>)>
-        ensures { MatchOption result (stack self.old ≡ []) (λ f. stack self.old ≡ frame_with f.0 (part_of f.1) ∷ stack self.new) }
+        ensures found { MatchOption result (stack self.old ≡ []) (λ f. stack self.old ≡ frame_with f.0 (part_of f.1) ∷ stack self.new) }
     {
         let frame = self.kinds.pop()?;
         let left = match frame {
@@ -142,7 +142,7 @@ impl Frames {
     /// Whether there is none.
     #[tactic(auto, using(crate::proofs::FrameLaws::stacks))]
     pub fn is_empty(&self) -> bool
-        ensures { IsTrue result ↔ (stack self.now ≡ []) }
+        ensures empty { IsTrue result ↔ (stack self.now ≡ []) }
     {
         self.kinds.is_empty()
     }
@@ -166,7 +166,7 @@ fn closed(
     left: Option<Part>,
     part: Option<Part>,
 ) -> Result<Option<Part>, AllocError>
-    ensures { IfOk result (λ p. part_of p ≡ closed depth_limit (frame_with frame (part_of left)) (part_of part)) }
+    ensures { IfOk result (λ p. part_of p ≡ closed most_depth (frame_with frame (part_of left)) (part_of part)) }
 {
     match frame {
         Frame::Minus => negated(alloc, part),
@@ -184,7 +184,7 @@ pub fn reduce(
     part: Option<Part>,
     binding: u8,
 ) -> Result<Option<Part>, AllocError>
-    ensures ok { IfOk result (λ p. reduce depth_limit binding (stack frames.old) (part_of part) ≡ reduced (stack frames.new) (part_of p)) }
+    ensures ok { IfOk result (λ p. reduce most_depth binding (stack frames.old) (part_of part) ≡ reduced (stack frames.new) (part_of p)) }
     ensures open_still { OnOk result (1 ≤ binding → open_in (stack frames.new) ≡ open_in (stack frames.old)) }
     ensures waits { OnOk result (closes binding (stack frames.new) ≡ false) }
 {

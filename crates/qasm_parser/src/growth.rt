@@ -1,11 +1,11 @@
 //! Parts of an expression put into greater ones; one that gets deeper than the limit is let go.
 
 ghost use Rattle.std.specs.Prelude.{◌≡◌, IfOk};
-ghost use Rattle.qasm_parser.specs.Tree.{depth_limit};
+ghost use Rattle.qasm_parser.specs.Tree.{most_depth};
 ghost use Rattle.qasm_parser.specs.Machine.{called, closed, joined, minus, opened};
 ghost use Rattle.qasm_parser.specs.Parts.{part_of};
 
-use crate::part::{DEPTH_LIMIT, Part};
+use crate::part::{MOST_DEPTH, Part};
 use crate::tree::{Expr, Sides};
 use angle_fraction::{Binary, Function};
 use std::alloc::{AllocError, Global};
@@ -13,12 +13,12 @@ use std::alloc::{AllocError, Global};
 /// Unary minus.
 #[tactic(auto, unfolding(crate::specs::Machine::capped))]
 pub fn negated(alloc: Global, part: Option<Part>) -> Result<Option<Part>, AllocError>
-    ensures { IfOk result (λ p. part_of p ≡ closed depth_limit minus (part_of part)) }
+    ensures ok { IfOk result (λ p. part_of p ≡ closed most_depth minus (part_of part)) }
 {
     let Some(part) = part else {
         return Ok(None);
     };
-    if part.depth >= DEPTH_LIMIT {
+    if part.depth >= MOST_DEPTH {
         return Ok(None);
     }
     let depth = part.depth + 1;
@@ -29,12 +29,12 @@ pub fn negated(alloc: Global, part: Option<Part>) -> Result<Option<Part>, AllocE
 /// A pair of parentheses.
 #[tactic(auto, unfolding(crate::specs::Machine::capped))]
 pub fn parenthesised(alloc: Global, part: Option<Part>) -> Result<Option<Part>, AllocError>
-    ensures { IfOk result (λ p. part_of p ≡ closed depth_limit opened (part_of part)) }
+    ensures ok { IfOk result (λ p. part_of p ≡ closed most_depth opened (part_of part)) }
 {
     let Some(part) = part else {
         return Ok(None);
     };
-    if part.depth >= DEPTH_LIMIT {
+    if part.depth >= MOST_DEPTH {
         return Ok(None);
     }
     let depth = part.depth + 1;
@@ -49,12 +49,12 @@ pub fn applied(
     function: Function,
     part: Option<Part>,
 ) -> Result<Option<Part>, AllocError>
-    ensures { IfOk result (λ p. part_of p ≡ closed depth_limit (called function) (part_of part)) }
+    ensures ok { IfOk result (λ p. part_of p ≡ closed most_depth (called function) (part_of part)) }
 {
     let Some(part) = part else {
         return Ok(None);
     };
-    if part.depth >= DEPTH_LIMIT {
+    if part.depth >= MOST_DEPTH {
         return Ok(None);
     }
     let depth = part.depth + 1;
@@ -73,7 +73,7 @@ pub fn joined(
     left: Option<Part>,
     right: Option<Part>,
 ) -> Result<Option<Part>, AllocError>
-    ensures { IfOk result (λ p. part_of p ≡ joined depth_limit sign (part_of left) (part_of right)) }
+    ensures ok { IfOk result (λ p. part_of p ≡ joined most_depth sign (part_of left) (part_of right)) }
 {
     let Some(left) = left else {
         return Ok(None);
@@ -82,7 +82,7 @@ pub fn joined(
         return Ok(None);
     };
     let deepest = left.depth.max(right.depth);
-    if deepest >= DEPTH_LIMIT {
+    if deepest >= MOST_DEPTH {
         return Ok(None);
     }
     let sides = Sides {

@@ -8,7 +8,7 @@ ghost use Rattle.qasm_parser.specs.Symbols.{Symbol as SpecSymbol};
 ghost use Rattle.qasm_parser.specs.Reading.{args_of, arg_of, begins_with, begins_word, bracketed_of, first_word, index_of, list_of, mark_code, name_of, read, skip, whole_number, whole_of, word_code};
 
 use crate::cursor::Cursor;
-use crate::stop::Stop;
+use crate::stop::ParseStop;
 use crate::symbols::{Keyword, Mark, Symbol};
 use crate::tree::{Arg, Name};
 use angle_fraction::Frac;
@@ -33,7 +33,7 @@ fn code(mark: Mark) -> u8
 
 /// Whether this sign comes next.
 pub fn is_next(cursor: &Cursor<'_>, mark: Mark) -> bool
-    ensures { result ≡ begins_with mark cursor.now }
+    ensures value { result ≡ begins_with mark cursor.now }
 {
     let Some(symbol) = cursor.peek() else {
         return false;
@@ -65,7 +65,7 @@ pub fn take(cursor: &mut Cursor<'_>, mark: Mark) -> bool
 
 /// Goes past this sign.
 #[tactic(auto, using(crate::proofs::CodeLaws::signs))]
-pub fn expect(cursor: &mut Cursor<'_>, mark: Mark) -> Result<(), Stop>
+pub fn expect(cursor: &mut Cursor<'_>, mark: Mark) -> Result<(), ParseStop>
     ensures ok { OnOk result (skip mark cursor.old ≡ Some cursor.new) }
     ensures walked { OnOk result (walk (one (this_mark mark)) cursor.old ≡ past cursor.new) }
     ensures err { IfErr result (IsMisread (walk (one (this_mark mark)) cursor.old)) }
@@ -76,7 +76,7 @@ pub fn expect(cursor: &mut Cursor<'_>, mark: Mark) -> Result<(), Stop>
         cursor.advance();
         return Ok(());
     }
-    Err(Stop::Misfit { left })
+    Err(ParseStop::Misfit { left })
 }
 
 fn word_code(keyword: Keyword) -> u8
@@ -101,7 +101,7 @@ fn word_code(keyword: Keyword) -> u8
 
 /// The reserved word that comes next.
 pub fn next_word(cursor: &Cursor<'_>) -> Option<Keyword>
-    ensures { result ≡ first_word cursor.now }
+    ensures value { result ≡ first_word cursor.now }
 {
     let symbol = cursor.peek()?;
     match symbol {
@@ -114,7 +114,7 @@ pub fn next_word(cursor: &Cursor<'_>) -> Option<Keyword>
 
 /// Whether the word that comes next is this one.
 pub fn is_word(word: Option<Keyword>, keyword: Keyword) -> bool
-    ensures { (ts : List SpecSymbol) → word ≡ first_word ts → result ≡ begins_word keyword ts }
+    ensures value { (ts : List SpecSymbol) → word ≡ first_word ts → result ≡ begins_word keyword ts }
 {
     match word {
         Some(found) => word_code(keyword) == word_code(found),
@@ -139,7 +139,7 @@ pub fn take_word(cursor: &mut Cursor<'_>, keyword: Keyword) -> bool
 
 /// A name.
 #[tactic(auto, unfolding(crate::specs::Reading::name_of))]
-pub fn name(alloc: Global, cursor: &mut Cursor<'_>) -> Result<Name, Stop>
+pub fn name(alloc: Global, cursor: &mut Cursor<'_>) -> Result<Name, ParseStop>
     ensures ok { IfOk result (λ n. name_of cursor.old ≡ Some (read n None cursor.new)) }
     ensures walked { OnOk result (walk (one a_name) cursor.old ≡ past cursor.new) }
     ensures err { IfErr result (IsMisread (walk (one a_name) cursor.old)) }
@@ -151,7 +151,7 @@ pub fn name(alloc: Global, cursor: &mut Cursor<'_>) -> Result<Name, Stop>
             cursor.advance();
             Ok(Name::copied(alloc, bytes)?)
         }
-        _ => Err(Stop::Misfit { left }),
+        _ => Err(ParseStop::Misfit { left }),
     }
 }
 
@@ -171,7 +171,7 @@ fn whole_number(value: Frac) -> Option<u64>
 
 /// A whole number.
 #[tactic(auto, unfolding(crate::specs::Reading::whole_of))]
-pub fn whole(cursor: &mut Cursor<'_>) -> Result<u64, Stop>
+pub fn whole(cursor: &mut Cursor<'_>) -> Result<u64, ParseStop>
     ensures ok { IfOk result (λ n. whole_of cursor.old ≡ Some (read n None cursor.new)) }
     ensures walked { OnOk result (walk (one a_whole) cursor.old ≡ past cursor.new) }
     ensures err { IfErr result (IsMisread (walk (one a_whole) cursor.old)) }
@@ -184,15 +184,15 @@ pub fn whole(cursor: &mut Cursor<'_>) -> Result<u64, Stop>
                 cursor.advance();
                 Ok(number)
             }
-            None => Err(Stop::Misfit { left }),
+            None => Err(ParseStop::Misfit { left }),
         },
-        _ => Err(Stop::Misfit { left }),
+        _ => Err(ParseStop::Misfit { left }),
     }
 }
 
 /// A whole number and the end of its bracket.
 #[tactic(auto, unfolding(crate::specs::Reading::bracketed_of, crate::specs::Shapes::bracketed_shape))]
-pub fn bracketed(cursor: &mut Cursor<'_>) -> Result<u64, Stop>
+pub fn bracketed(cursor: &mut Cursor<'_>) -> Result<u64, ParseStop>
     ensures ok { IfOk result (λ n. bracketed_of cursor.old ≡ Some (read n None cursor.new)) }
     ensures walked { OnOk result (walk bracketed_shape cursor.old ≡ past cursor.new) }
     ensures err { IfErr result (IsMisread (walk bracketed_shape cursor.old)) }
@@ -204,7 +204,7 @@ pub fn bracketed(cursor: &mut Cursor<'_>) -> Result<u64, Stop>
 }
 
 /// The index in brackets, where one is there; none in a gate's body.
-fn index(cursor: &mut Cursor<'_>, plain: bool) -> Result<Option<u64>, Stop>
+fn index(cursor: &mut Cursor<'_>, plain: bool) -> Result<Option<u64>, ParseStop>
     ensures ok { IfOk result (λ i. index_of plain cursor.old ≡ Some (read i None cursor.new)) }
     ensures walked { OnOk result (walk (index_shape plain) cursor.old ≡ past cursor.new) }
     ensures err { IfErr result (IsMisread (walk (index_shape plain) cursor.old)) }
@@ -222,7 +222,7 @@ fn index(cursor: &mut Cursor<'_>, plain: bool) -> Result<Option<u64>, Stop>
 
 /// An argument; in a gate's body it is a plain name.
 #[tactic(auto, unfolding(crate::specs::Reading::arg_of, crate::specs::Shapes::arg_shape))]
-pub fn arg(alloc: Global, cursor: &mut Cursor<'_>, plain: bool) -> Result<Arg, Stop>
+pub fn arg(alloc: Global, cursor: &mut Cursor<'_>, plain: bool) -> Result<Arg, ParseStop>
     ensures ok { IfOk result (λ a. arg_of plain cursor.old ≡ Some (read a None cursor.new)) }
     ensures walked { OnOk result (walk (arg_shape plain) cursor.old ≡ past cursor.new) }
     ensures err { IfErr result (IsMisread (walk (arg_shape plain) cursor.old)) }
@@ -235,7 +235,7 @@ pub fn arg(alloc: Global, cursor: &mut Cursor<'_>, plain: bool) -> Result<Arg, S
 
 /// Names with commas between.
 #[tactic(auto, using(crate::proofs::ListLaws::names, crate::proofs::LoopLaws::names))]
-pub fn names(alloc: Global, cursor: &mut Cursor<'_>) -> Result<Vec<Name>, Stop>
+pub fn names(alloc: Global, cursor: &mut Cursor<'_>) -> Result<Vec<Name>, ParseStop>
     ensures ok { IfOk result (λ v. list_of name_of cursor.old ≡ Some (read v.items None cursor.new)) }
     ensures walked { OnOk result (walk (list_shape (one a_name)) cursor.old ≡ past cursor.new) }
     ensures err { IfErr result (IsMisread (walk (list_shape (one a_name)) cursor.old)) }
@@ -250,16 +250,22 @@ pub fn names(alloc: Global, cursor: &mut Cursor<'_>) -> Result<Vec<Name>, Stop>
     Ok(list)
 }
 
+/// For how many arguments there is room at first, once the first is read: most applications have one or two.
+fn room_behind(cursor: &Cursor<'_>) -> usize {
+    if is_next(cursor, Mark::Comma) { 2 } else { 1 }
+}
+
 /// Arguments with commas between.
 #[tactic(auto, using(crate::proofs::ListLaws::args, crate::proofs::LoopLaws::args))]
-fn arg_list(alloc: Global, cursor: &mut Cursor<'_>, plain: bool) -> Result<Vec<Arg>, Stop>
+fn arg_list(alloc: Global, cursor: &mut Cursor<'_>, plain: bool) -> Result<Vec<Arg>, ParseStop>
     ensures ok { IfOk result (λ v. list_of (arg_of plain) cursor.old ≡ Some (read v.items None cursor.new)) }
     ensures walked { OnOk result (walk (list_shape (arg_shape plain)) cursor.old ≡ past cursor.new) }
     ensures err { IfErr result (IsMisread (walk (list_shape (arg_shape plain)) cursor.old)) }
     ensures rest { OnOk result (length cursor.new ≤ length cursor.old) }
 {
-    let mut list = Vec::with_capacity(alloc, 2)?;
-    list.push(arg(alloc, cursor, plain)?)?;
+    let first = arg(alloc, cursor, plain)?;
+    let mut list = Vec::with_capacity(alloc, room_behind(cursor))?;
+    list.push(first)?;
     'members: while take(cursor, Mark::Comma) {
         list.push(arg(alloc, cursor, plain)?)?;
     }
@@ -268,7 +274,7 @@ fn arg_list(alloc: Global, cursor: &mut Cursor<'_>, plain: bool) -> Result<Vec<A
 
 /// Arguments up to the semicolon.
 #[tactic(auto, unfolding(crate::specs::Reading::args_of, crate::specs::Shapes::args_shape))]
-pub fn args(alloc: Global, cursor: &mut Cursor<'_>, plain: bool) -> Result<Vec<Arg>, Stop>
+pub fn args(alloc: Global, cursor: &mut Cursor<'_>, plain: bool) -> Result<Vec<Arg>, ParseStop>
     ensures ok { IfOk result (λ v. args_of plain cursor.old ≡ Some (read v.items None cursor.new)) }
     ensures walked { OnOk result (walk (args_shape plain) cursor.old ≡ past cursor.new) }
     ensures err { IfErr result (IsMisread (walk (args_shape plain) cursor.old)) }

@@ -4,7 +4,7 @@ ghost use Rattle.std.specs.Prelude.{◌≡◌, ◌≤◌, ◌<◌, ◌↔◌, �
 ghost use Rattle.qasm_parser.specs.Misread.{IsMisread};
 ghost use Rattle.qasm_parser.specs.Ways.{the_end, until, past, walk};
 ghost use Rattle.qasm_parser.specs.Shapes.{header_shape, statement_shape, tree_shape, version_shape};
-ghost use Rattle.qasm_parser.specs.Tree.{depth_limit, program, statement};
+ghost use Rattle.qasm_parser.specs.Tree.{most_depth, program, statement};
 ghost use Rattle.qasm_parser.specs.Symbols.{place_of};
 ghost use Rattle.qasm_lexer.specs.Tokens.{IsTokenOf};
 ghost use Rattle.qasm_parser.specs.Parsing.{IsParseFault, IsProgram, real_place, two};
@@ -15,7 +15,7 @@ use crate::apply::earlier;
 use crate::cursor::Cursor;
 use crate::lists::{expect, take_word};
 use crate::statement::statement;
-use crate::stop::Stop;
+use crate::stop::ParseStop;
 use crate::symbols::{Keyword, Mark, Symbol};
 use crate::tree::{Program, Stmt};
 use angle_fraction::Frac;
@@ -24,7 +24,7 @@ use std::alloc::Global;
 
 /// The version and its semicolon.
 #[tactic(auto, unfolding(crate::specs::Reading::version_of, crate::specs::Shapes::version_shape))]
-fn version(cursor: &mut Cursor<'_>) -> Result<Frac, Stop>
+fn version(cursor: &mut Cursor<'_>) -> Result<Frac, ParseStop>
     ensures ok { IfOk result (λ v. version_of cursor.old ≡ Some (read v None cursor.new)) }
     ensures walked { OnOk result (walk version_shape cursor.old ≡ past cursor.new) }
     ensures err { IfErr result (IsMisread (walk version_shape cursor.old)) }
@@ -38,13 +38,13 @@ fn version(cursor: &mut Cursor<'_>) -> Result<Frac, Stop>
             expect(cursor, Mark::Semicolon)?;
             Ok(value)
         }
-        _ => Err(Stop::Misfit { left }),
+        _ => Err(ParseStop::Misfit { left }),
     }
 }
 
 /// The first line of a program.
 #[tactic(auto, using(crate::proofs::CodeLaws::headers, crate::proofs::LoopLaws::headers))]
-fn header(cursor: &mut Cursor<'_>) -> Result<Frac, Stop>
+fn header(cursor: &mut Cursor<'_>) -> Result<Frac, ParseStop>
     ensures ok { IfOk result (λ v. header_of cursor.old ≡ Some (read v None cursor.new)) }
     ensures walked { OnOk result (walk header_shape cursor.old ≡ past cursor.new) }
     ensures err { IfErr result (IsMisread (walk header_shape cursor.old)) }
@@ -54,13 +54,16 @@ fn header(cursor: &mut Cursor<'_>) -> Result<Frac, Stop>
     if take_word(cursor, Keyword::OpenQasm) {
         return version(cursor);
     }
-    Err(Stop::Misfit { left })
+    Err(ParseStop::Misfit { left })
 }
 
 /// Statements up to the end.
 #[tactic(auto, using(crate::proofs::StepLaws::statements, crate::proofs::LoopLaws::statements))]
-fn statements(alloc: Global, cursor: &mut Cursor<'_>) -> Result<(Vec<Stmt>, Option<usize>), Stop>
-    ensures ok { IfOk result (λ r. all (more_statements depth_limit) cursor.old ≡ Some (read (map statement r.0.items) r.1 cursor.new)) }
+fn statements(
+    alloc: Global,
+    cursor: &mut Cursor<'_>,
+) -> Result<(Vec<Stmt>, Option<usize>), ParseStop>
+    ensures ok { IfOk result (λ r. all (more_statements most_depth) cursor.old ≡ Some (read (map statement r.0.items) r.1 cursor.new)) }
     ensures walked { OnOk result (walk (until the_end statement_shape) cursor.old ≡ past cursor.new) }
     ensures err { IfErr result (IsMisread (walk (until the_end statement_shape) cursor.old)) }
 {
@@ -76,13 +79,14 @@ fn statements(alloc: Global, cursor: &mut Cursor<'_>) -> Result<(Vec<Stmt>, Opti
 
 /// A program, and where the first expression that is too deep begins.
 #[tactic(auto, unfolding(crate::specs::Reading::tree_of, crate::specs::Shapes::tree_shape))]
-fn tree(alloc: Global, cursor: &mut Cursor<'_>) -> Result<(Program, Option<usize>), Stop>
-    ensures ok { IfOk result (λ r. tree_of depth_limit cursor.old ≡ Some (read (program r.0) r.1 cursor.new)) }
+fn tree(alloc: Global, cursor: &mut Cursor<'_>) -> Result<(Program, Option<usize>), ParseStop>
+    ensures ok { IfOk result (λ r. tree_of most_depth cursor.old ≡ Some (read (program r.0) r.1 cursor.new)) }
     ensures walked { OnOk result (walk tree_shape cursor.old ≡ past cursor.new) }
     ensures err { IfErr result (IsMisread (walk tree_shape cursor.old)) }
 {
     let version = header(cursor)?;
-    let (list, deep) = statements(alloc, cursor)?;
+    let (mut list, deep) = statements(alloc, cursor)?;
+    list.shrink_to_fit();
     Ok((Program { version, list }, deep))
 }
 
@@ -130,8 +134,8 @@ pub fn parse(alloc: Global, text: &[u8], tokens: &[Token]) -> Result<Program, Pa
     let mut cursor = Cursor::new(text, tokens);
     let (program, deep) = match tree(alloc, &mut cursor) {
         Ok(read) => read,
-        Err(Stop::NoMemory) => return Err(ParseFault::NoMemory),
-        Err(Stop::Misfit { left }) => {
+        Err(ParseStop::NoMemory) => return Err(ParseFault::NoMemory),
+        Err(ParseStop::Misfit { left }) => {
             let place = place(text, tokens, left);
             return Err(ParseFault::Syntax { place });
         }

@@ -4,20 +4,20 @@ ghost use Rattle.std.specs.Prelude.{◌≡◌, ◌≤◌, ◌<◌, [], Some, Non
 ghost use Rattle.qasm_parser.specs.Misread.{IsMisread};
 ghost use Rattle.qasm_parser.specs.Ways.{a_text, one, past, walk};
 ghost use Rattle.qasm_parser.specs.Shapes.{conditional_shape, gate_shape, include_shape, listed_shape, names_shape, opaque_shape, params_shape, register_shape, statement_shape};
-ghost use Rattle.qasm_parser.specs.Tree.{action, definition, depth_limit, gate as gate_tree, opaque as opaque_tree, statement};
+ghost use Rattle.qasm_parser.specs.Tree.{action, definition, most_depth, gate as gate_tree, opaque as opaque_tree, statement};
 ghost use Rattle.qasm_parser.specs.Reading.{conditional_of, gate_of, include_of, listed_of, names_of, opaque_of, params_of, quoted_of, read, register_of, statement_of};
 
 use crate::action::{action, barrier, body};
 use crate::cursor::Cursor;
 use crate::lists::{bracketed, expect, is_word, name, names, next_word, take, whole};
-use crate::stop::Stop;
+use crate::stop::ParseStop;
 use crate::symbols::{Keyword, Mark, Symbol};
 use crate::tree::{GateDef, Name, Stmt};
 use std::alloc::Global;
 
 /// Names up to the end of the parenthesis.
 #[tactic(auto, unfolding(crate::specs::Reading::listed_of, crate::specs::Shapes::listed_shape))]
-fn listed(alloc: Global, cursor: &mut Cursor<'_>) -> Result<Vec<Name>, Stop>
+fn listed(alloc: Global, cursor: &mut Cursor<'_>) -> Result<Vec<Name>, ParseStop>
     ensures ok { IfOk result (λ v. listed_of cursor.old ≡ Some (read v.items None cursor.new)) }
     ensures walked { OnOk result (walk listed_shape cursor.old ≡ past cursor.new) }
     ensures err { IfErr result (IsMisread (walk listed_shape cursor.old)) }
@@ -30,7 +30,7 @@ fn listed(alloc: Global, cursor: &mut Cursor<'_>) -> Result<Vec<Name>, Stop>
 
 /// A gate's parameters: in parentheses, or none.
 #[tactic(auto, unfolding(crate::specs::Reading::params_of, crate::specs::Shapes::params_shape))]
-fn params(alloc: Global, cursor: &mut Cursor<'_>) -> Result<Vec<Name>, Stop>
+fn params(alloc: Global, cursor: &mut Cursor<'_>) -> Result<Vec<Name>, ParseStop>
     ensures ok { IfOk result (λ v. params_of cursor.old ≡ Some (read v.items None cursor.new)) }
     ensures walked { OnOk result (walk params_shape cursor.old ≡ past cursor.new) }
     ensures err { IfErr result (IsMisread (walk params_shape cursor.old)) }
@@ -55,7 +55,7 @@ struct Heading {
 
 /// A gate up to its body.
 #[tactic(auto, unfolding(crate::specs::Reading::names_of, crate::specs::Shapes::names_shape))]
-fn names_of_gate(alloc: Global, cursor: &mut Cursor<'_>) -> Result<Heading, Stop>
+fn names_of_gate(alloc: Global, cursor: &mut Cursor<'_>) -> Result<Heading, ParseStop>
     ensures ok { IfOk result (λ h. names_of cursor.old ≡ Some (read (definition h.name h.params.items h.qubits.items []) None cursor.new)) }
     ensures walked { OnOk result (walk names_shape cursor.old ≡ past cursor.new) }
     ensures err { IfErr result (IsMisread (walk names_shape cursor.old)) }
@@ -97,8 +97,8 @@ fn undefined(heading: Heading, body: Vec<Stmt>) -> Stmt
 
 /// A gate's declaration, from behind its word.
 #[tactic(auto, unfolding(crate::specs::Reading::gate_of, crate::specs::Shapes::gate_shape))]
-fn gate(alloc: Global, cursor: &mut Cursor<'_>) -> Result<(Stmt, Option<usize>), Stop>
-    ensures ok { IfOk result (λ r. gate_of depth_limit cursor.old ≡ Some (read (statement r.0) r.1 cursor.new)) }
+fn gate(alloc: Global, cursor: &mut Cursor<'_>) -> Result<(Stmt, Option<usize>), ParseStop>
+    ensures ok { IfOk result (λ r. gate_of most_depth cursor.old ≡ Some (read (statement r.0) r.1 cursor.new)) }
     ensures walked { OnOk result (walk gate_shape cursor.old ≡ past cursor.new) }
     ensures err { IfErr result (IsMisread (walk gate_shape cursor.old)) }
     ensures rest { OnOk result (length cursor.new ≤ length cursor.old) }
@@ -111,7 +111,7 @@ fn gate(alloc: Global, cursor: &mut Cursor<'_>) -> Result<(Stmt, Option<usize>),
 
 /// An opaque gate's declaration, from behind its word.
 #[tactic(auto, unfolding(crate::specs::Reading::opaque_of, crate::specs::Shapes::opaque_shape))]
-fn opaque(alloc: Global, cursor: &mut Cursor<'_>) -> Result<Stmt, Stop>
+fn opaque(alloc: Global, cursor: &mut Cursor<'_>) -> Result<Stmt, ParseStop>
     ensures ok { IfOk result (λ s. opaque_of cursor.old ≡ Some (read (statement s) None cursor.new)) }
     ensures walked { OnOk result (walk opaque_shape cursor.old ≡ past cursor.new) }
     ensures err { IfErr result (IsMisread (walk opaque_shape cursor.old)) }
@@ -124,7 +124,7 @@ fn opaque(alloc: Global, cursor: &mut Cursor<'_>) -> Result<Stmt, Stop>
 
 /// A text without its quotes.
 #[tactic(auto, unfolding(crate::specs::Reading::quoted_of))]
-fn quoted(alloc: Global, cursor: &mut Cursor<'_>) -> Result<Name, Stop>
+fn quoted(alloc: Global, cursor: &mut Cursor<'_>) -> Result<Name, ParseStop>
     ensures ok { IfOk result (λ n. quoted_of cursor.old ≡ Some (read n None cursor.new)) }
     ensures walked { OnOk result (walk (one a_text) cursor.old ≡ past cursor.new) }
     ensures err { IfErr result (IsMisread (walk (one a_text) cursor.old)) }
@@ -136,13 +136,13 @@ fn quoted(alloc: Global, cursor: &mut Cursor<'_>) -> Result<Name, Stop>
             cursor.advance();
             Ok(Name::copied(alloc, bytes)?)
         }
-        _ => Err(Stop::Misfit { left }),
+        _ => Err(ParseStop::Misfit { left }),
     }
 }
 
 /// An include, from behind its word.
 #[tactic(auto, unfolding(crate::specs::Reading::include_of, crate::specs::Shapes::include_shape))]
-fn include(alloc: Global, cursor: &mut Cursor<'_>) -> Result<Stmt, Stop>
+fn include(alloc: Global, cursor: &mut Cursor<'_>) -> Result<Stmt, ParseStop>
     ensures ok { IfOk result (λ s. include_of cursor.old ≡ Some (read (statement s) None cursor.new)) }
     ensures walked { OnOk result (walk include_shape cursor.old ≡ past cursor.new) }
     ensures err { IfErr result (IsMisread (walk include_shape cursor.old)) }
@@ -155,7 +155,7 @@ fn include(alloc: Global, cursor: &mut Cursor<'_>) -> Result<Stmt, Stop>
 
 /// A register, from behind its word.
 #[tactic(auto, unfolding(crate::specs::Reading::register_of, crate::specs::Shapes::register_shape))]
-fn register(alloc: Global, cursor: &mut Cursor<'_>, quantum: bool) -> Result<Stmt, Stop>
+fn register(alloc: Global, cursor: &mut Cursor<'_>, quantum: bool) -> Result<Stmt, ParseStop>
     ensures ok { IfOk result (λ s. register_of quantum cursor.old ≡ Some (read (statement s) None cursor.new)) }
     ensures walked { OnOk result (walk register_shape cursor.old ≡ past cursor.new) }
     ensures err { IfErr result (IsMisread (walk register_shape cursor.old)) }
@@ -174,8 +174,8 @@ fn register(alloc: Global, cursor: &mut Cursor<'_>, quantum: bool) -> Result<Stm
 
 /// A conditional statement, from behind its word.
 #[tactic(auto, unfolding(crate::specs::Reading::conditional_of, crate::specs::Shapes::conditional_shape))]
-fn conditional(alloc: Global, cursor: &mut Cursor<'_>) -> Result<(Stmt, Option<usize>), Stop>
-    ensures ok { IfOk result (λ r. conditional_of depth_limit cursor.old ≡ Some (read (statement r.0) r.1 cursor.new)) }
+fn conditional(alloc: Global, cursor: &mut Cursor<'_>) -> Result<(Stmt, Option<usize>), ParseStop>
+    ensures ok { IfOk result (λ r. conditional_of most_depth cursor.old ≡ Some (read (statement r.0) r.1 cursor.new)) }
     ensures walked { OnOk result (walk conditional_shape cursor.old ≡ past cursor.new) }
     ensures err { IfErr result (IsMisread (walk conditional_shape cursor.old)) }
     ensures rest { OnOk result (length cursor.new ≤ length cursor.old) }
@@ -192,8 +192,8 @@ fn conditional(alloc: Global, cursor: &mut Cursor<'_>) -> Result<(Stmt, Option<u
 
 /// A statement.
 #[tactic(auto, using(crate::proofs::CodeLaws::statements, crate::proofs::LoopLaws::beginnings))]
-pub fn statement(alloc: Global, cursor: &mut Cursor<'_>) -> Result<(Stmt, Option<usize>), Stop>
-    ensures ok { IfOk result (λ r. statement_of depth_limit cursor.old ≡ Some (read (statement r.0) r.1 cursor.new)) }
+pub fn statement(alloc: Global, cursor: &mut Cursor<'_>) -> Result<(Stmt, Option<usize>), ParseStop>
+    ensures ok { IfOk result (λ r. statement_of most_depth cursor.old ≡ Some (read (statement r.0) r.1 cursor.new)) }
     ensures walked { OnOk result (walk statement_shape cursor.old ≡ past cursor.new) }
     ensures err { IfErr result (IsMisread (walk statement_shape cursor.old)) }
     ensures rest { OnOk result (length cursor.new ≤ length cursor.old) }

@@ -249,7 +249,7 @@ fn unquoted(text: &[u8]) -> &[u8]
 pub fn symbol_of<'a>(text: &'a [u8], token: &Token) -> Symbol<'a>
     requires short { length text.now < 2 ^ 32 }
     requires token { IsTokenOf text.now token.now }
-    ensures { symbol result (value_of text.now token.now) ≡ symbol_of text.now token.now }
+    ensures value { symbol result (value_of text.now token.now) ≡ symbol_of text.now token.now }
 {
     let bytes = &text[token.from as usize..token.to as usize];
     match token.kind {
@@ -266,7 +266,7 @@ pub fn symbol_of<'a>(text: &'a [u8], token: &Token) -> Symbol<'a>
 pub fn number_of(text: &[u8], token: &Token) -> Frac
     requires short { length text.now < 2 ^ 32 }
     requires token { IsTokenOf text.now token.now }
-    ensures { (ts : List SpecSymbol) → result ≡ first_value (symbol_of text.now token.now ∷ ts) }
+    ensures value { (ts : List SpecSymbol) → result ≡ first_value (symbol_of text.now token.now ∷ ts) }
 {
     match token.kind {
         Kind::Whole | Kind::Real => value(text, token),

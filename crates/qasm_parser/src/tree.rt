@@ -24,7 +24,7 @@ impl Model for Name {
 impl Name {
     /// A name of these bytes.
     pub fn copied(alloc: Global, bytes: &[u8]) -> Result<Name, AllocError>
-        ensures { IfOk result (λ n. n ≡ bytes.now) }
+        ensures ok { IfOk result (λ n. n ≡ bytes.now) }
     {
         Ok(Name {
             bytes: SmallVec::from_slice(alloc, bytes)?,
@@ -33,7 +33,7 @@ impl Name {
 
     /// The bytes.
     pub fn as_bytes(&self) -> &[u8]
-        ensures { result.now ≡ self.now }
+        ensures value { result.now ≡ self.now }
     {
         self.bytes.as_slice()
     }

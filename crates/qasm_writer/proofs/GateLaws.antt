@@ -15,7 +15,7 @@ use Rattle.circuit_list.specs.Gates.{IsFine, op_of, ops}
 use Rattle.circuit_list.specs.declared.Gate.{Gate}
 use Rattle.circuit_list.specs.declared.Gate.TheVariants.{H, X, P, Cx as GateCx}
 use Rattle.qasm_parser.specs.Tree.{Statement}
-use Rattle.gate_library.specs.Known.{Known}
+use Rattle.qasm_check.specs.Known.{Known}
 use Rattle.qasm_check.specs.Steps.{after}
 use Rattle.qasm_writer.specs.Trees.{at, barrier_statement, eighths_angle, op_statement, part_statements}
 use Rattle.qasm_writer.proofs.RowLaws.{three_eighths, five_eighths, row_h, row_x, row_cx, row_t, row_s, row_three, row_z, row_five, row_sdg, row_tdg, means_h, means_x, means_cx, means_t, means_s, means_three, means_z, means_five, means_sdg, means_tdg}

@@ -14,12 +14,12 @@ use Rattle.std.proofs.lemmas.Bool.Decides.{nat_tests}
 use Rattle.std.proofs.lemmas.Slice.Eq.{bytes_eq-Decides}
 use Rattle.qasm_parser.specs.Tree.{Statement, include, register}
 use Rattle.gate_library.specs.Gates.{u, cx}
-use Rattle.gate_library.specs.Known.{Known, fresh}
 use Rattle.gate_library.specs.Library.{library, table_names}
 use Rattle.gate_library.specs.Names.{has_repeat, is_one_of, with}
+use Rattle.qasm_check.specs.Known.{Known, fresh}
 use Rattle.qasm_check.specs.Steps.{after}
-use Rattle.qasm_check.specs.declared.bits.Bits.{Bits}
-use Rattle.gate_library.specs.declared.meaning.Meaning.{Meaning}
+use Rattle.qasm_check.specs.declared.meaning.Meaning.{Meaning}
+use Rattle.qasm_check.specs.declared.register.ClassicalRegister.{ClassicalRegister}
 use Rattle.gate_inline.specs.Registers.{IsFree, names_of}
 use Rattle.qasm_writer.specs.Trees.{bits_statement, wires_statements}
 use Rattle.qasm_writer.proofs.MeasureLaws.{AreDeclared, sizes}
@@ -102,7 +102,7 @@ wires_checked q n t few = go (n == 0) refl
     go false e = let some : 0 < n = grind (arith, nat_tests) in (wires_run begun q n refl t some (omega arith), wired_some q n)
 
 -- ---- the classical registers
-pub record Registered (k l : Known) (rs : List Bits) : Type 0 where
+pub record Registered (k l : Known) (rs : List ClassicalRegister) : Type 0 where
   pub included : l.included ≡ k.included
   pub gates : l.gates ≡ k.gates
   pub wires : l.wires ≡ k.wires
@@ -114,7 +114,7 @@ pub record Registered (k l : Known) (rs : List Bits) : Type 0 where
 with_other : (name asked : List ℕ) (m : Meaning) (others : List ℕ → Option Meaning) → bytes_eq name asked ≡ false → with name m others asked ≡ others asked
 with_other name asked m others e = ap (λ (b : Bool). if b then Some m else others asked) e
 
-pub bits_registered : (k : Known) (rs : List Bits) → has_repeat bytes_eq (names_of rs) ≡ false → Registered k (fold after k (map bits_statement rs)) rs
+pub bits_registered : (k : Known) (rs : List ClassicalRegister) → has_repeat bytes_eq (names_of rs) ≡ false → Registered k (fold after k (map bits_statement rs)) rs
 unfolding sizes
 bits_registered k [] e = record {
   included = refl;
@@ -143,7 +143,7 @@ bits_registered k (r ∷ rs) e =
     }
 
 -- those that are left are still free
-still_free : (name : List ℕ) (m : Meaning) (d : List ℕ → Option Meaning) (rs : List Bits) → list_any (bytes_eq name) (names_of rs) ≡ false
+still_free : (name : List ℕ) (m : Meaning) (d : List ℕ → Option Meaning) (rs : List ClassicalRegister) → list_any (bytes_eq name) (names_of rs) ≡ false
     → AllByRecursion (λ r. d r.name ≡ None) rs → AllByRecursion (λ r. with name m d r.name ≡ None) rs
 still_free name m d [] e f = tt
 still_free name m d (r ∷ rs) e f = (
@@ -151,7 +151,7 @@ still_free name m d (r ∷ rs) e f = (
   still_free name m d rs (right_of (bytes_eq name r.name) _ e) f.1,
 )
 
-pub bits_checked : (k : Known) (rs : List Bits) → has_repeat bytes_eq (names_of rs) ≡ false → AllByRecursion IsFree rs
+pub bits_checked : (k : Known) (rs : List ClassicalRegister) → has_repeat bytes_eq (names_of rs) ≡ false → AllByRecursion IsFree rs
     → AllByRecursion (λ r. k.declared r.name ≡ None) rs → k.bits + sizes rs ≤ 1024 → Run k (map bits_statement rs) [] rs (λ bit. None)
 unfolding sizes
 bits_checked k [] e f d few = Run-nil k

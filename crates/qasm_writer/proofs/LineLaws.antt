@@ -1,7 +1,7 @@
 -- What is left of the lines in a loop: the next line, and the others.
---   next_text q i      a comma and a qubit
---   listed-joined, listed-split   qubits are the first one, and the others behind commas
---   others-next        one behind a comma, and the others
+--   listed_behind q comma is   qubits, with this before the first, and a comma before each of the others
+--   listed-listed_behind   with nothing before the first they are listed
+--   listed_behind-next, listed_behind-none   one qubit, and the others behind commas; no qubit
 --   gates-next, gates-none   the line of one gate, and those of the others; no gate
 --   parts-next, parts-last   the lines of one part and of the barrier behind it, and those of the others; the last part
 --   parts_within       a part ends in the body
@@ -10,13 +10,13 @@
 --   register_reads-next, register_reads-split    those into one register
 --   bits-next          the bits of one register, and those of the others
 --   reads_enough       the reads behind those of one register are enough for the others
---   underscores-next   one underscore
+--   underscores-next   as many underscores as go out at once, and the others
 --   phase_line         the line of a phase, by its name
 use Rattle.std.proofs.Common.{◌≡◌, ℕ, suc, ◌+◌, ◌-◌, ◌<◌, ◌≤◌, List, [], ◌∷◌, ◌++◌, Option, Some, append_assoc, append-nil, ap, ◌∙◌, length, drop, map, take, get_or, replicate, slice_get, sum_by, length-drop, refl, sym, arith, codes}
 use Rattle.std.specs.Prelude.{Vec}
 use Rattle.std.specs.declared.alloc.Global.{Global}
 use Rattle.std.proofs.lemmas.Grind.{common_steps}
-use Rattle.std.proofs.lemmas.List.{drop_more, take-map}
+use Rattle.std.proofs.lemmas.List.{drop_all, drop_more, replicate-append-replicate, take-map, take-replicate}
 use Rattle.std.proofs.lemmas.List.Sums.{sum_by-cons}
 use Rattle.std.proofs.lemmas.Option.{get_or_from_slice_get, slice_get_within}
 use Rattle.std.specs.List.{drop-map, flat_map}
@@ -30,19 +30,21 @@ use Rattle.qasm_writer.specs.Texts.{barrier_line, bits_line, index_text, listed,
 use Rattle.qasm_writer.specs.declared.output.Register.{Register}
 
 -- ---- barriers
-abbrev pub next_text : List ℕ → ℕ → List ℕ
-next_text q i = codes "," ++ index_text q i
+abbrev pub listed_behind : List ℕ → List ℕ → List ℕ → List ℕ
+listed_behind q comma [] = []
+listed_behind q comma (i ∷ is) = comma ++ (index_text q i ++ listed_behind q (codes ",") is)
 
-pub listed-joined : (q : List ℕ) (i : ℕ) (is : List ℕ) → listed q (i ∷ is) ≡ index_text q i ++ flat_map (next_text q) is
-listed-joined q i [] = sym (append-nil (index_text q i))
-listed-joined q i (j ∷ is) = ap (λ z. index_text q i ++ (codes "," ++ z)) (listed-joined q j is)
+pub listed-listed_behind : (q is : List ℕ) → listed q is ≡ listed_behind q [] is
+listed-listed_behind q [] = refl
+listed-listed_behind q (i ∷ []) = sym (append-nil (index_text q i))
+listed-listed_behind q (i ∷ j ∷ is) = ap (λ z. index_text q i ++ (codes "," ++ z)) (listed-listed_behind q (j ∷ is))
 
-pub listed-split : (q ws : List ℕ) (i : ℕ) (is : List ℕ) → ws ≡ i ∷ is → index_text q i ++ flat_map (next_text q) is ≡ listed q ws
-listed-split q ws i is e = sym (listed-joined q i is) ∙ ap (listed q) (sym e)
+pub listed_behind-next : (q comma is : List ℕ) (i d : ℕ) → i < length is
+    → listed_behind q comma (drop i is) ≡ comma ++ (index_text q (get_or is i d) ++ listed_behind q (codes ",") (drop (i + 1) is))
+listed_behind-next q comma is i d h = ap (λ z. listed_behind q comma z) (drop_more is i d h)
 
-pub others-next : (q is : List ℕ) (i d : ℕ) → i < length is
-    → flat_map (next_text q) (drop i is) ≡ next_text q (get_or is i d) ++ flat_map (next_text q) (drop (i + 1) is)
-others-next q is i d h = ap (λ z. flat_map (next_text q) z) (drop_more is i d h)
+pub listed_behind-none : (q comma is : List ℕ) (i : ℕ) → length is ≤ i → listed_behind q comma (drop i is) ≡ []
+listed_behind-none q comma is i h = ap (λ z. listed_behind q comma z) (drop_all i is h)
 
 -- ---- gates
 pub gates-next : (q : List ℕ) (gs : List Gate) (i to : ℕ) (g : Gate) → i < to → slice_get gs i ≡ Some g
@@ -161,13 +163,13 @@ reads_enough rs reads others i d h enough back =
     let left : length others ≡ length reads - (get_or rs i d).size = rw back (length-drop (get_or rs i d).size reads) in
     omega (arith, left, enough, bits-next rs i d h)
 
-pub underscores-next : (n i : ℕ) → i < n → replicate {A = ℕ} (n - i) 95 ≡ 95 ∷ replicate (n - (i + 1)) 95
-underscores-next n i h =
-    let one : n - i ≡ suc (n - (i + 1)) = omega arith in
-    rw one refl
+pub underscores-next : (n k : ℕ) → k ≤ n → k ≤ 256 → replicate {A = ℕ} n 95 ≡ take k (replicate 256 95) ++ replicate (n - k) 95
+underscores-next n k h few =
+    let all : k + (n - k) ≡ n = omega arith in
+    sym (ap (λ bytes. bytes ++ replicate (n - k) 95) (take-replicate k 256 95 few) ∙ replicate-append-replicate k (n - k) 95 ∙ ap (λ m. replicate m 95) all)
 
 pub phase_line : (q name : List ℕ) (k wire : ℕ) (gate : Gate) → name ≡ phase_text k → gate ≡ P k wire
     → name ++ (codes " " ++ (index_text q wire ++ codes ";\n")) ≡ op_line q (op_of gate)
 phase_line q name k wire gate e is = rw (is, e) refl
 
-pub ruleset lines = (others-next, gates-next, registers-next, reads-next, register_reads-next)
+pub ruleset lines = (listed_behind-none, gates-next, registers-next, reads-next, register_reads-next)

@@ -16,13 +16,13 @@ use Rattle.unitary_model.specs.Limits.{most_qubits}
 use Rattle.unitary_model.specs.declared.Op.{Op}
 use Rattle.qasm_parser.specs.Tree.{Statement, include}
 use Rattle.qasm_check.specs.Checking.{IsFineTree, bound, steps}
-use Rattle.gate_library.specs.Gates.{Gate, u, cx}
-use Rattle.gate_library.specs.Known.{Known, fresh}
+use Rattle.gate_library.specs.Gates.{BoundGate, u, cx}
 use Rattle.gate_library.specs.Library.{library, table_names}
 use Rattle.gate_library.specs.Names.{is_one_of}
 use Rattle.gate_library.specs.Operands.{upto}
+use Rattle.qasm_check.specs.Known.{Known, fresh}
 use Rattle.qasm_check.specs.Steps.{Step, after, known}
-use Rattle.qasm_check.specs.declared.bits.Bits.{Bits}
+use Rattle.qasm_check.specs.declared.register.ClassicalRegister.{ClassicalRegister}
 use Rattle.gate_inline.specs.Inlined.{operations}
 use Rattle.gate_inline.specs.Meanings.{meanings}
 use Rattle.gate_inline.specs.Programs.{Means}
@@ -37,7 +37,7 @@ use Rattle.qasm_writer.proofs.RowLaws.{no_table_name}
 use Rattle.qasm_writer.proofs.RunLaws.{AreOperations-answers, Parted, Parted-front, Run, standard_meanings}
 use Rattle.qasm_writer.proofs.StatementLaws.{IsNamed, IsReady, include_run}
 
-pub record AreParts (q : List ℕ) (n : ℕ) (parts : List (List Op)) (bs : List (List ℕ)) (rs : List Bits) (os : List (Option ℕ)) : Type 0 where
+pub record AreParts (q : List ℕ) (n : ℕ) (parts : List (List Op)) (bs : List (List ℕ)) (rs : List ClassicalRegister) (os : List (Option ℕ)) : Type 0 where
   pub name : IsQubitsName rs q
   pub few : n ≤ most_qubits
   pub ops : AllByRecursion (AllByRecursion (IsWritable n)) parts
@@ -53,37 +53,37 @@ in_parts parts bs = record { parts = parts; bars = bs }
 abbrev wired : List ℕ → ℕ → Known
 wired q n = fold after begun (wires_statements q n)
 
-abbrev registered : List ℕ → ℕ → List Bits → Known
+abbrev registered : List ℕ → ℕ → List ClassicalRegister → Known
 registered q n rs = fold after (wired q n) (map bits_statement rs)
 
-abbrev operated : List ℕ → ℕ → List (List Op) → List (List ℕ) → List Bits → Known
+abbrev operated : List ℕ → ℕ → List (List Op) → List (List ℕ) → List ClassicalRegister → Known
 operated q n parts bs rs = fold after (registered q n rs) (part_statements q parts bs)
 
-abbrev ended : List ℕ → ℕ → List (List Op) → List (List ℕ) → List Bits → List (Option ℕ) → Known
+abbrev ended : List ℕ → ℕ → List (List Op) → List (List ℕ) → List ClassicalRegister → List (Option ℕ) → Known
 ended q n parts bs rs reads = fold after (operated q n parts bs rs) (read_statements q rs reads)
 
-end_is : (q : List ℕ) (n : ℕ) (parts : List (List Op)) (bs : List (List ℕ)) (rs : List Bits) (reads : List (Option ℕ))
+end_is : (q : List ℕ) (n : ℕ) (parts : List (List Op)) (bs : List (List ℕ)) (rs : List ClassicalRegister) (reads : List (Option ℕ))
     → known (written_tree q n (in_parts parts bs) rs reads).list ≡ ended q n parts bs rs reads
 end_is q n parts bs rs reads =
     fold-append after begun (wires_statements q n) (map bits_statement rs ++ (part_statements q parts bs ++ read_statements q rs reads))
     ∙ fold-append after (wired q n) (map bits_statement rs) (part_statements q parts bs ++ read_statements q rs reads)
     ∙ fold-append after (registered q n rs) (part_statements q parts bs) (read_statements q rs reads)
 
-no_gate : (q : List ℕ) (rs : List Bits) → IsQubitsName rs q → is_one_of table_names q ≡ false
+no_gate : (q : List ℕ) (rs : List ClassicalRegister) → IsQubitsName rs q → is_one_of table_names q ≡ false
 no_gate q rs h = ap (is_one_of table_names) h.spelt ∙ no_table_name h.underscores
 
 -- the registers' names are none of the quantum register's, and none of a gate's
-all_free : (q : List ℕ) (n : ℕ) (l : Known) → Wired l q n → (rs : List Bits) → is_one_of (names_of rs) q ≡ false → AllByRecursion (λ r. l.declared r.name ≡ None) rs
+all_free : (q : List ℕ) (n : ℕ) (l : Known) → Wired l q n → (rs : List ClassicalRegister) → is_one_of (names_of rs) q ≡ false → AllByRecursion (λ r. l.declared r.name ≡ None) rs
 all_free q n l w [] e = tt
 all_free q n l w (r ∷ rs) e =
     (w.others r.name (left_of (bytes_eq q r.name) (is_one_of (names_of rs) q) e), all_free q n l w rs (right_of (bytes_eq q r.name) (is_one_of (names_of rs) q) e))
 
-no_register : (rs : List Bits) (name : List ℕ) → AllByRecursion IsFree rs → is_one_of table_names name ≡ true → is_one_of (names_of rs) name ≡ false
+no_register : (rs : List ClassicalRegister) (name : List ℕ) → AllByRecursion IsFree rs → is_one_of table_names name ≡ true → is_one_of (names_of rs) name ≡ false
 no_register [] name f e = refl
 no_register (r ∷ rs) name f e =
     λ j. other_way r.name name (kept_apart table_names name r.name e f.0.free) j || no_register rs name f.1 e j
 
-ready : (q : List ℕ) (n : ℕ) (rs : List Bits) (k l : Known) → Wired k q n → Registered k l rs → is_one_of table_names q ≡ false → is_one_of (names_of rs) q ≡ false
+ready : (q : List ℕ) (n : ℕ) (rs : List ClassicalRegister) (k l : Known) → Wired k q n → Registered k l rs → is_one_of table_names q ≡ false → is_one_of (names_of rs) q ≡ false
     → AllByRecursion IsFree rs → IsReady l q n
 ready q n rs k l w r t e f = record {
   included = r.included ∙ w.included;
@@ -94,19 +94,19 @@ ready q n rs k l w r t e f = record {
 }
 
 -- ---- the whole tree
-record Whole (q : List ℕ) (n : ℕ) (us : List Op) (parts : List (List Op)) (bs : List (List ℕ)) (rs : List Bits) (reads : List (Option ℕ)) : Type 0 where
+record Whole (q : List ℕ) (n : ℕ) (us : List Op) (parts : List (List Op)) (bs : List (List ℕ)) (rs : List ClassicalRegister) (reads : List (Option ℕ)) : Type 0 where
   run : Parted fresh (written_tree q n (in_parts (us ∷ parts) bs) rs reads).list us parts bs rs (read_from 0 reads)
   gates : (known (written_tree q n (in_parts (us ∷ parts) bs) rs reads).list).gates ≡ u ∷ cx ∷ library
   wires : (known (written_tree q n (in_parts (us ∷ parts) bs) rs reads).list).wires ≡ n
   bits : (known (written_tree q n (in_parts (us ∷ parts) bs) rs reads).list).bits ≡ length reads
 
 -- what stands before the parts declares registers alone
-header_run : (k : Known) (xs ys : List Statement) (us : List Op) (parts : List (List Op)) (bs : List (List ℕ)) (rs : List Bits) (f : ℕ → Option ℕ)
+header_run : (k : Known) (xs ys : List Statement) (us : List Op) (parts : List (List Op)) (bs : List (List ℕ)) (rs : List ClassicalRegister) (f : ℕ → Option ℕ)
     → Run k xs [] rs (λ bit. None) → Parted (fold after k xs) ys us parts bs [] f → Parted k (xs ++ ys) us parts bs rs f
 header_run k xs ys us parts bs rs f r s =
-    subst (λ (ts : List Bits). Parted k (xs ++ ys) us parts bs ts f) (append-nil rs) (Parted-front k xs ys [] us parts bs rs [] f r s)
+    subst (λ (ts : List ClassicalRegister). Parted k (xs ++ ys) us parts bs ts f) (append-nil rs) (Parted-front k xs ys [] us parts bs rs [] f r s)
 
-whole_tree : (q : List ℕ) (n : ℕ) (us : List Op) (parts : List (List Op)) (bs : List (List ℕ)) (rs : List Bits) (reads : List (Option ℕ))
+whole_tree : (q : List ℕ) (n : ℕ) (us : List Op) (parts : List (List Op)) (bs : List (List ℕ)) (rs : List ClassicalRegister) (reads : List (Option ℕ))
     → AreParts q n (us ∷ parts) bs rs reads → Whole q n us parts bs rs reads
 whole_tree q n us parts bs rs reads h =
     let free : AllByRecursion IsFree rs = recursion_from_All IsFree rs h.registers.each in
@@ -138,12 +138,12 @@ whole_tree q n us parts bs rs reads h =
 no_part : (bs : List (List ℕ)) → 0 ≡ suc (length bs) → ⊥
 no_part bs e = omega (arith, e)
 
-pub written_tree-fine : (q : List ℕ) (n : ℕ) (parts : List (List Op)) (bs : List (List ℕ)) (rs : List Bits) (reads : List (Option ℕ)) → AreParts q n parts bs rs reads
+pub written_tree-fine : (q : List ℕ) (n : ℕ) (parts : List (List Op)) (bs : List (List ℕ)) (rs : List ClassicalRegister) (reads : List (Option ℕ)) → AreParts q n parts bs rs reads
     → IsFineTree (written_tree q n (in_parts parts bs) rs reads)
 written_tree-fine q n [] bs rs reads h = absurd (no_part bs h.cut)
 written_tree-fine q n (us ∷ parts) bs rs reads h = (whole_tree q n us parts bs rs reads h).run.fine
 
-pub written_tree-means : (q : List ℕ) (n : ℕ) (parts : List (List Op)) (bs : List (List ℕ)) (rs : List Bits) (reads : List (Option ℕ)) → AreParts q n parts bs rs reads
+pub written_tree-means : (q : List ℕ) (n : ℕ) (parts : List (List Op)) (bs : List (List ℕ)) (rs : List ClassicalRegister) (reads : List (Option ℕ)) → AreParts q n parts bs rs reads
     → Means (bound (written_tree q n (in_parts parts bs) rs reads))
     (record { wires = n; ops = whole parts; cut = in_parts parts bs; reads = reads; registers = rs; barriers = length bs })
 unfolding standard_meanings
@@ -155,7 +155,7 @@ written_tree-means q n (us ∷ parts) bs rs reads h =
     AreOperations-answers (known list).gates (w.run.here ∷ w.run.later) (us ∷ parts) (ap meanings w.gates) (w.run.first, w.run.others) in
     record {
       wires = sym w.wires;
-      ops = ap (λ (gs : List Gate). operations gs (steps fresh list)) w.gates ∙ w.run.ops;
+      ops = ap (λ (gs : List BoundGate). operations gs (steps fresh list)) w.gates ∙ w.run.ops;
       cut = record {
         parts = subst (λ (c : Cut Step). AreOperations (known list).gates c.parts (us ∷ parts)) (sym w.run.cut) answers;
         bars = sym (ap (λ (c : Cut Step). c.bars) w.run.cut);

@@ -16,12 +16,12 @@ use Rattle.std.proofs.lemmas.Grind.{take_at_read}
 use Rattle.std.proofs.lemmas.List.{length-drop, length-take, map-append, take-append-drop}
 use Rattle.std.proofs.lemmas.List.Sums.{fold-append, sum_by-append}
 use Rattle.qasm_parser.specs.Tree.{Statement, act, measure}
-use Rattle.gate_library.specs.Known.{Known, with_measured}
 use Rattle.qasm_check.specs.Arguments.{operand}
 use Rattle.gate_library.specs.Operands.{upto}
+use Rattle.qasm_check.specs.Known.{Known, with_measured}
 use Rattle.qasm_check.specs.Steps.{after}
-use Rattle.qasm_check.specs.declared.bits.Bits.{Bits}
-use Rattle.gate_library.specs.declared.meaning.Meaning.{Meaning}
+use Rattle.qasm_check.specs.declared.meaning.Meaning.{Meaning}
+use Rattle.qasm_check.specs.declared.register.ClassicalRegister.{ClassicalRegister}
 use Rattle.gate_library.specs.declared.operand.Operand.{Operand}
 use Rattle.gate_inline.specs.Registers.{IsRead}
 use Rattle.qasm_writer.specs.Trees.{at, read_statement, register_statements, read_statements}
@@ -106,18 +106,18 @@ read_from-append (o ∷ xs) ys b c x e =
     ∙ or_or (read_from c ys x) (read_from (b + 1) xs x) (read_here b o x)
 
 -- ---- registers side by side
-abbrev pub AreDeclared : (List ℕ → Option Meaning) → ℕ → List Bits → Type 0
+abbrev pub AreDeclared : (List ℕ → Option Meaning) → ℕ → List ClassicalRegister → Type 0
 AreDeclared d b [] = Unit {0}
 AreDeclared d b (r ∷ rs) = (d r.name ≡ Some (bits_register b r.size)) × AreDeclared d (b + r.size) rs
 
-unfoldable pub sizes : List Bits → ℕ
+unfoldable pub sizes : List ClassicalRegister → ℕ
 sizes [] = 0
 sizes (r ∷ rs) = r.size + sizes rs
 
-pub sum-sizes : (rs : List Bits) → sum_by (λ r. r.size) rs ≡ sizes rs
+pub sum-sizes : (rs : List ClassicalRegister) → sum_by (λ r. r.size) rs ≡ sizes rs
 unfolding sizes
 sum-sizes [] = refl
-sum-sizes (r ∷ rs) = sum_by-append (λ (x : Bits). x.size) (r ∷ []) rs ∙ (let later : sum_by (λ r. r.size) rs ≡ sizes rs = sum-sizes rs in omega arith)
+sum-sizes (r ∷ rs) = sum_by-append (λ (x : ClassicalRegister). x.size) (r ∷ []) rs ∙ (let later : sum_by (λ r. r.size) rs ≡ sizes rs = sum-sizes rs in omega arith)
 
 -- ---- one read, one register, all
 read_run : (k : Known) (q : List ℕ) (n : ℕ) (name : List ℕ) (first size i b : ℕ) (o : Option ℕ) → (0 < n → k.declared q ≡ Some (wires_register n))
@@ -154,7 +154,7 @@ all_drop P zero xs a = a
 all_drop P (suc n) [] a = tt
 all_drop P (suc n) (x ∷ xs) a = all_drop P n xs a.1
 
-pub reads_run : (k : Known) (q : List ℕ) (n : ℕ) (rs : List Bits) (reads : List (Option ℕ)) (b : ℕ) → (0 < n → k.declared q ≡ Some (wires_register n))
+pub reads_run : (k : Known) (q : List ℕ) (n : ℕ) (rs : List ClassicalRegister) (reads : List (Option ℕ)) (b : ℕ) → (0 < n → k.declared q ≡ Some (wires_register n))
     → AreDeclared k.declared b rs → sizes rs ≡ length reads → AllByRecursion (IsRead n) reads
     → Run k (read_statements q rs reads) [] [] (read_from b reads) × Same k (fold after k (read_statements q rs reads))
 unfolding sizes

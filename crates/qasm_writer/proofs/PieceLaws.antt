@@ -1,14 +1,14 @@
 -- Bytes on their way to a sink.
 --   Gains-append         a sink that gained some bytes, and then more
---   Leads-start          nothing went out: the bytes are in the room or left
---   Leads-sent           a piece went out, and the room was filled again
+--   Leads-start          nothing went out: the bytes are in the buffer or left
+--   Leads-sent           a piece went out, and the buffer was filled again
 --   Leads-fault          the sink failed in a piece
 --   Leads-all, Leads-more, Leads-stop, Leads-end     a loop over lines: none so far, one more, a fault in one, all
 --   Sends-none, Sends-then   no bytes; some bytes, and then more
 --   fault-now, fault-then    the sink failed in the first of some bytes, or in what came after some
 --   on_err, on_err-same, on_ok-map, on_err-map, then-ok, then-err    the same for what a call answers
 --   last-ok, last-err    what a call answers that puts the last of some lines behind a loop
---   fault-whole, Sends-whole, Sends-rest, rest-fault    a whole text by an empty room
+--   fault-whole, Sends-whole, Sends-rest, rest-fault    a whole text by an empty buffer
 use Rattle.std.proofs.Common.{◌≡◌, ℕ, ◌+◌, List, [], ◌++◌, Option, Some, None, Result, Ok, Err, OnErr, OnOk, refl, sym, subst, ap, ◌∙◌, arith, append_assoc, append-nil, length, length-append, take}
 use Rattle.std.proofs.Math.Seq.{take-append-add}
 use Rattle.std.proofs.lemmas.List.{take-append-le}
@@ -25,7 +25,7 @@ Gains-none : (a : Option (List ℕ)) → Gains a a []
 Gains-none None = tt
 Gains-none (Some xs) = sym (append-nil xs)
 
--- the bytes in the room and those that are left are what was put in
+-- the bytes in the buffer and those that are left are what was put in
 pub Leads-start : (a : Option (List ℕ)) (r s bytes rest : List ℕ) → r ++ bytes ≡ s ++ rest → Leads a r a s bytes rest
 Leads-start a r s bytes rest e = record { sent = []; gained = Gains-none a; all = e }
 
@@ -143,7 +143,7 @@ pub on_err-map : {T E : Type 0} (x : Result T E) (P Q : Type 0) → (P → Q) �
 on_err-map (Ok v) P Q f p = tt
 on_err-map (Err e) P Q f p = f p
 
--- a text behind an empty room, and the rest of it that is sent in the end
+-- a text behind an empty buffer, and the rest of it that is sent in the end
 
 pub fault-whole : (a b : Option (List ℕ)) (r xs : List ℕ) → r ≡ [] → GainsPrefix a b (r ++ xs) → GainsPrefix a b xs
 fault-whole a b r xs e h = subst (λ (z : List ℕ). GainsPrefix a b (z ++ xs)) e h

@@ -11,14 +11,13 @@ use Rattle.angle_fraction.specs.Fraction.{common_factor, fraction, greatest_comm
 use Rattle.angle_fraction.specs.declared.Angle.{Angle}
 use Rattle.unitary_model.specs.declared.Op.TheVariants.{U, Cx}
 use Rattle.qasm_parser.specs.Tree.{Expression}
-use Rattle.gate_library.specs.Gates.{Gate, u, cx, gate_at, gate_params, gate_qubits, is_opaque}
-use Rattle.gate_library.specs.Known.{own_number}
-use Rattle.gate_library.specs.Library.{library, table_names, table_index}
+use Rattle.gate_library.specs.Gates.{BoundGate, u, cx, gate_at, gate_params, gate_qubits, is_opaque}
+use Rattle.gate_library.specs.Library.{library, own_number, table_names, table_index}
 use Rattle.gate_library.specs.Listing.{standard, added}
 use Rattle.gate_library.specs.Names.{is_one_of}
 use Rattle.qasm_check.specs.Arguments.{knows}
 use Rattle.qasm_check.specs.Steps.{formula}
-use Rattle.gate_inline.specs.Meanings.{Answer, meaning_at}
+use Rattle.gate_inline.specs.Meanings.{Evaluation, meaning_at}
 use Rattle.gate_inline.specs.Values.{values}
 use Rattle.qasm_writer.specs.Texts.{with_underscores}
 use Rattle.qasm_writer.specs.Trees.{eighths_angle}
@@ -26,7 +25,7 @@ use Rattle.qasm_writer.proofs.RunLaws.{standard_meanings}
 
 pub record Row (name : List ℕ) (es : List Expression) (qubits : ℕ) (given : List Angle) : Type 0 where
   pub number : ℕ
-  pub shape : Gate
+  pub shape : BoundGate
   pub own : own_number true name ≡ Some number
   pub there : gate_at (u ∷ cx ∷ library) number ≡ shape
   pub params : (gate_params shape == length es) ≡ true
@@ -83,43 +82,43 @@ unfolding library standard added table_names table_index product_of quotient_of 
 row_five = record { number = 4; shape = gate_at (u ∷ cx ∷ library) 4; own = refl; there = refl; params = refl; wires = refl; solid = refl; closed = refl; exact = refl; listed = refl }
 
 -- ---- what they do
-pub means_h : (w : ℕ) → ◌≡◌ {A = Answer} (meaning_at standard_meanings row_h.number [] (w ∷ [])) (Ok (U 2 0 4 w ∷ []))
+pub means_h : (w : ℕ) → ◌≡◌ {A = Evaluation} (meaning_at standard_meanings row_h.number [] (w ∷ [])) (Ok (U 2 0 4 w ∷ []))
 unfolding row_h standard_meanings library standard added eighths_of first_where opposite_of product_of quotient_of fitted lowest common_factor greatest_common is_small
 means_h w = refl
 
-pub means_x : (w : ℕ) → ◌≡◌ {A = Answer} (meaning_at standard_meanings row_x.number [] (w ∷ [])) (Ok (U 4 0 4 w ∷ []))
+pub means_x : (w : ℕ) → ◌≡◌ {A = Evaluation} (meaning_at standard_meanings row_x.number [] (w ∷ [])) (Ok (U 4 0 4 w ∷ []))
 unfolding row_x standard_meanings library standard added eighths_of first_where opposite_of product_of quotient_of fitted lowest common_factor greatest_common is_small
 means_x w = refl
 
-pub means_t : (w : ℕ) → ◌≡◌ {A = Answer} (meaning_at standard_meanings row_t.number [] (w ∷ [])) (Ok (U 0 0 1 w ∷ []))
+pub means_t : (w : ℕ) → ◌≡◌ {A = Evaluation} (meaning_at standard_meanings row_t.number [] (w ∷ [])) (Ok (U 0 0 1 w ∷ []))
 unfolding row_t standard_meanings library standard added eighths_of first_where opposite_of product_of quotient_of fitted lowest common_factor greatest_common is_small
 means_t w = refl
 
-pub means_s : (w : ℕ) → ◌≡◌ {A = Answer} (meaning_at standard_meanings row_s.number [] (w ∷ [])) (Ok (U 0 0 2 w ∷ []))
+pub means_s : (w : ℕ) → ◌≡◌ {A = Evaluation} (meaning_at standard_meanings row_s.number [] (w ∷ [])) (Ok (U 0 0 2 w ∷ []))
 unfolding row_s standard_meanings library standard added eighths_of first_where opposite_of product_of quotient_of fitted lowest common_factor greatest_common is_small
 means_s w = refl
 
-pub means_three : (w : ℕ) → ◌≡◌ {A = Answer} (meaning_at standard_meanings row_three.number (three_eighths ∷ []) (w ∷ [])) (Ok (U 0 0 3 w ∷ []))
+pub means_three : (w : ℕ) → ◌≡◌ {A = Evaluation} (meaning_at standard_meanings row_three.number (three_eighths ∷ []) (w ∷ [])) (Ok (U 0 0 3 w ∷ []))
 unfolding row_three standard_meanings library standard added eighths_of first_where opposite_of product_of quotient_of fitted lowest common_factor greatest_common is_small
 means_three w = refl
 
-pub means_z : (w : ℕ) → ◌≡◌ {A = Answer} (meaning_at standard_meanings row_z.number [] (w ∷ [])) (Ok (U 0 0 4 w ∷ []))
+pub means_z : (w : ℕ) → ◌≡◌ {A = Evaluation} (meaning_at standard_meanings row_z.number [] (w ∷ [])) (Ok (U 0 0 4 w ∷ []))
 unfolding row_z standard_meanings library standard added eighths_of first_where opposite_of product_of quotient_of fitted lowest common_factor greatest_common is_small
 means_z w = refl
 
-pub means_five : (w : ℕ) → ◌≡◌ {A = Answer} (meaning_at standard_meanings row_five.number (five_eighths ∷ []) (w ∷ [])) (Ok (U 0 0 5 w ∷ []))
+pub means_five : (w : ℕ) → ◌≡◌ {A = Evaluation} (meaning_at standard_meanings row_five.number (five_eighths ∷ []) (w ∷ [])) (Ok (U 0 0 5 w ∷ []))
 unfolding row_five standard_meanings library standard added eighths_of first_where opposite_of product_of quotient_of fitted lowest common_factor greatest_common is_small
 means_five w = refl
 
-pub means_sdg : (w : ℕ) → ◌≡◌ {A = Answer} (meaning_at standard_meanings row_sdg.number [] (w ∷ [])) (Ok (U 0 0 6 w ∷ []))
+pub means_sdg : (w : ℕ) → ◌≡◌ {A = Evaluation} (meaning_at standard_meanings row_sdg.number [] (w ∷ [])) (Ok (U 0 0 6 w ∷ []))
 unfolding row_sdg standard_meanings library standard added eighths_of first_where opposite_of product_of quotient_of fitted lowest common_factor greatest_common is_small
 means_sdg w = refl
 
-pub means_tdg : (w : ℕ) → ◌≡◌ {A = Answer} (meaning_at standard_meanings row_tdg.number [] (w ∷ [])) (Ok (U 0 0 7 w ∷ []))
+pub means_tdg : (w : ℕ) → ◌≡◌ {A = Evaluation} (meaning_at standard_meanings row_tdg.number [] (w ∷ [])) (Ok (U 0 0 7 w ∷ []))
 unfolding row_tdg standard_meanings library standard added eighths_of first_where opposite_of product_of quotient_of fitted lowest common_factor greatest_common is_small
 means_tdg w = refl
 
-pub means_cx : (c t : ℕ) → ◌≡◌ {A = Answer} (meaning_at standard_meanings row_cx.number [] (c ∷ t ∷ [])) (Ok (Cx c t ∷ []))
+pub means_cx : (c t : ℕ) → ◌≡◌ {A = Evaluation} (meaning_at standard_meanings row_cx.number [] (c ∷ t ∷ [])) (Ok (Cx c t ∷ []))
 unfolding row_cx standard_meanings library standard added
 means_cx c t = refl
 

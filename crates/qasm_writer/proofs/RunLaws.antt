@@ -23,23 +23,23 @@ use Rattle.qasm_parser.specs.declared.tree.Arg.{Arg}
 use Rattle.qasm_check.specs.Arguments.{operands}
 use Rattle.qasm_check.specs.Checking.{AllFine, bits_of, steps}
 use Rattle.qasm_check.specs.Bound.{is_barrier}
-use Rattle.gate_library.specs.Gates.{Gate, u, cx}
-use Rattle.gate_library.specs.Known.{Known}
+use Rattle.gate_library.specs.Gates.{BoundGate, u, cx}
 use Rattle.gate_library.specs.Library.{library}
 use Rattle.gate_library.specs.declared.operand.Operand.{Operand}
+use Rattle.qasm_check.specs.Known.{Known}
 use Rattle.qasm_check.specs.Refusals.{IsFine}
 use Rattle.qasm_check.specs.Steps.{Step, applies, measures, bars, nothing, after, step}
-use Rattle.qasm_check.specs.declared.bits.Bits.{Bits}
-use Rattle.gate_inline.specs.Meanings.{Answer, Meaning, followed, joined, meanings, step_answer}
+use Rattle.qasm_check.specs.declared.register.ClassicalRegister.{ClassicalRegister}
+use Rattle.gate_inline.specs.Meanings.{Evaluation, Meaning, followed, joined, meanings, step_answer}
 use Rattle.gate_inline.specs.Reads.{last_read, step_read}
 use Rattle.gate_inline.specs.Splits.{AreOperations, bar_of}
 
 unfoldable pub standard_meanings : List Meaning
 standard_meanings = meanings (u ∷ cx ∷ library)
 
-pub record Run (k : Known) (ss : List Statement) (us : List Op) (rs : List Bits) (f : ℕ → Option ℕ) : Type 0 where
+pub record Run (k : Known) (ss : List Statement) (us : List Op) (rs : List ClassicalRegister) (f : ℕ → Option ℕ) : Type 0 where
   pub fine : AllFine k ss
-  pub ops : ◌≡◌ {A = Answer} (joined (map (step_answer standard_meanings) (steps k ss))) (Ok us)
+  pub ops : ◌≡◌ {A = Evaluation} (joined (map (step_answer standard_meanings) (steps k ss))) (Ok us)
   pub registers : filter_map bits_of ss ≡ rs
   pub reads : (bit : ℕ) → last_read (steps k ss) bit ≡ f bit
   pub quiet : AllByRecursion (λ s. is_barrier s ≡ false) (steps k ss)
@@ -80,20 +80,20 @@ last_read-append (x ∷ xs) ys bit =
     ap (λ (o : Option ℕ). option_or o (step_read x bit)) (last_read-append xs ys bit)
     ∙ or_or (last_read ys bit) (last_read xs bit) (step_read x bit)
 
-joined_both : (xs ys : List Answer) (us vs : List Op) → ◌≡◌ {A = Answer} (joined xs) (Ok us) → ◌≡◌ {A = Answer} (joined ys) (Ok vs)
-    → ◌≡◌ {A = Answer} (joined (xs ++ ys)) (Ok (us ++ vs))
+joined_both : (xs ys : List Evaluation) (us vs : List Op) → ◌≡◌ {A = Evaluation} (joined xs) (Ok us) → ◌≡◌ {A = Evaluation} (joined ys) (Ok vs)
+    → ◌≡◌ {A = Evaluation} (joined (xs ++ ys)) (Ok (us ++ vs))
 joined_both [] ys us vs e f = let none : [] ≡ us = cc in f ∙ ap (λ (ws : List Op). Ok (ws ++ vs)) none
 joined_both (x ∷ xs) ys us vs e f = go x (joined xs) (λ zs same. joined_both xs ys zs vs same f) e
   where
-    go : (a b : Answer) → ((zs : List Op) → ◌≡◌ {A = Answer} b (Ok zs) → ◌≡◌ {A = Answer} (joined (xs ++ ys)) (Ok (zs ++ vs)))
-        → ◌≡◌ {A = Answer} (followed a b) (Ok us) → ◌≡◌ {A = Answer} (followed a (joined (xs ++ ys))) (Ok (us ++ vs))
+    go : (a b : Evaluation) → ((zs : List Op) → ◌≡◌ {A = Evaluation} b (Ok zs) → ◌≡◌ {A = Evaluation} (joined (xs ++ ys)) (Ok (zs ++ vs)))
+        → ◌≡◌ {A = Evaluation} (followed a b) (Ok us) → ◌≡◌ {A = Evaluation} (followed a (joined (xs ++ ys))) (Ok (us ++ vs))
     go (Err r) b later e = absurd (cc)
     go (Ok ws) (Err r) later e = absurd (cc)
     go (Ok ws) (Ok zs) later e =
         let all : ws ++ zs ≡ us = cc in
         ap (followed (Ok ws)) (later zs refl) ∙ ap (λ (ts : List Op). Ok ts) (sym (append_assoc ws zs vs)) ∙ ap (λ (ts : List Op). Ok (ts ++ vs)) all
 
-pub Run-append : (k : Known) (xs ys : List Statement) (us vs : List Op) (rs ts : List Bits) (f g : ℕ → Option ℕ)
+pub Run-append : (k : Known) (xs ys : List Statement) (us vs : List Op) (rs ts : List ClassicalRegister) (f g : ℕ → Option ℕ)
     → Run k xs us rs f → Run (fold after k xs) ys vs ts g → Run k (xs ++ ys) (us ++ vs) (rs ++ ts) (λ bit. option_or (g bit) (f bit))
 Run-append k xs ys us vs rs ts f g r s = record {
   fine = all_fine-append k xs ys r.fine s.fine;
@@ -108,7 +108,7 @@ Run-append k xs ys us vs rs ts f g r s = record {
       (each-append (λ (x : Step). is_barrier x ≡ false) (steps k xs) (steps (fold after k xs) ys) r.quiet s.quiet);
 }
 
-pub Run-reads : (k : Known) (ss : List Statement) (us : List Op) (rs : List Bits) (f g : ℕ → Option ℕ)
+pub Run-reads : (k : Known) (ss : List Statement) (us : List Op) (rs : List ClassicalRegister) (f g : ℕ → Option ℕ)
     → ((bit : ℕ) → f bit ≡ g bit) → Run k ss us rs f → Run k ss us rs g
 Run-reads k ss us rs f g e r = record {
   fine = r.fine;
@@ -119,41 +119,41 @@ Run-reads k ss us rs f g e r = record {
 }
 
 -- ---- one statement
-pub Run-one : (k : Known) (s : Statement) (x : Step) (us : List Op) (o : Option Bits) (f : ℕ → Option ℕ)
-    → IsFine k s → step k s ≡ x → ◌≡◌ {A = Answer} (step_answer standard_meanings x) (Ok us) → bits_of s ≡ o → ((bit : ℕ) → step_read x bit ≡ f bit)
+pub Run-one : (k : Known) (s : Statement) (x : Step) (us : List Op) (o : Option ClassicalRegister) (f : ℕ → Option ℕ)
+    → IsFine k s → step k s ≡ x → ◌≡◌ {A = Evaluation} (step_answer standard_meanings x) (Ok us) → bits_of s ≡ o → ((bit : ℕ) → step_read x bit ≡ f bit)
     → is_barrier x ≡ false → Run k (s ∷ []) us (cons_option o []) f
 Run-one k s x us o f fine does e b reads p = record {
   fine = (fine, tt);
-  ops = ap (λ (y : Step). followed (step_answer standard_meanings y) (Ok [])) does ∙ ap (λ (a : Answer). followed a (Ok [])) e
+  ops = ap (λ (y : Step). followed (step_answer standard_meanings y) (Ok [])) does ∙ ap (λ (a : Evaluation). followed a (Ok [])) e
       ∙ ap (λ (vs : List Op). Ok vs) (append-nil us);
-  registers = ap (λ (c : Option Bits). cons_option c []) b;
+  registers = ap (λ (c : Option ClassicalRegister). cons_option c []) b;
   reads = λ bit. ap (λ (y : Step). step_read y bit) does ∙ reads bit;
   quiet = (ap is_barrier does ∙ p, tt);
 }
 
-pub Run-quiet : (k : Known) (s : Statement) (o : Option Bits) → IsFine k s → step k s ≡ nothing → bits_of s ≡ o → Run k (s ∷ []) [] (cons_option o []) (λ bit. None)
+pub Run-quiet : (k : Known) (s : Statement) (o : Option ClassicalRegister) → IsFine k s → step k s ≡ nothing → bits_of s ≡ o → Run k (s ∷ []) [] (cons_option o []) (λ bit. None)
 Run-quiet k s o fine does b = Run-one k s nothing [] o (λ bit. None) fine does refl b (λ bit. refl) refl
 
 -- ---- parts
-abbrev pub answer_of : List Step → Answer
+abbrev pub answer_of : List Step → Evaluation
 answer_of ss = joined (map (step_answer standard_meanings) ss)
 
 abbrev pub AreAnswers : List (List Step) → List (List Op) → Type 0
 AreAnswers [] [] = Unit {0}
-AreAnswers (ss ∷ parts) (us ∷ lists) = (◌≡◌ {A = Answer} (answer_of ss) (Ok us)) × AreAnswers parts lists
+AreAnswers (ss ∷ parts) (us ∷ lists) = (◌≡◌ {A = Evaluation} (answer_of ss) (Ok us)) × AreAnswers parts lists
 AreAnswers _ _ = ⊥
 
 abbrev pub cut_in : List Step → List (List Step) → List (List ℕ) → Cut Step
 cut_in here later bs = record { parts = here ∷ later; bars = bs }
 
-pub record Parted (k : Known) (ss : List Statement) (us : List Op) (parts : List (List Op)) (bs : List (List ℕ)) (rs : List Bits) (f : ℕ → Option ℕ) : Type 0 where
+pub record Parted (k : Known) (ss : List Statement) (us : List Op) (parts : List (List Op)) (bs : List (List ℕ)) (rs : List ClassicalRegister) (f : ℕ → Option ℕ) : Type 0 where
   pub fine : AllFine k ss
   pub here : List Step
   pub later : List (List Step)
   pub cut : cut_at bar_of (steps k ss) ≡ cut_in here later bs
-  pub first : ◌≡◌ {A = Answer} (answer_of here) (Ok us)
+  pub first : ◌≡◌ {A = Evaluation} (answer_of here) (Ok us)
   pub others : AreAnswers later parts
-  pub ops : ◌≡◌ {A = Answer} (answer_of (steps k ss)) (Ok (us ++ whole parts))
+  pub ops : ◌≡◌ {A = Evaluation} (answer_of (steps k ss)) (Ok (us ++ whole parts))
   pub registers : filter_map bits_of ss ≡ rs
   pub reads : (bit : ℕ) → last_read (steps k ss) bit ≡ f bit
   pub barriers : count_by is_barrier (steps k ss) ≡ length bs
@@ -181,7 +181,7 @@ count-front (x ∷ xs) ys q =
 count-bar : (ps : List Operand) (ys : List Step) → count_by is_barrier (bars ps ∷ ys) ≡ suc (count_by is_barrier ys)
 count-bar ps ys = sum_by-cons (λ s. cond (is_barrier s) 1 0) (bars ps) ys ∙ one-add (count_by is_barrier ys)
 
-pub Parted-run : (k : Known) (ss : List Statement) (us : List Op) (rs : List Bits) (f : ℕ → Option ℕ) → Run k ss us rs f → Parted k ss us [] [] rs f
+pub Parted-run : (k : Known) (ss : List Statement) (us : List Op) (rs : List ClassicalRegister) (f : ℕ → Option ℕ) → Run k ss us rs f → Parted k ss us [] [] rs f
 Parted-run k ss us rs f r =
     let all : steps k ss ++ [] ≡ steps k ss = append-nil (steps k ss) in record {
       fine = r.fine;
@@ -196,13 +196,13 @@ Parted-run k ss us rs f r =
       barriers = ap (count_by is_barrier) (sym all) ∙ count-front (steps k ss) [] r.quiet;
     }
 
-answer-append : (xs ys : List Step) (us vs : List Op) → ◌≡◌ {A = Answer} (answer_of xs) (Ok us) → ◌≡◌ {A = Answer} (answer_of ys) (Ok vs)
-    → ◌≡◌ {A = Answer} (answer_of (xs ++ ys)) (Ok (us ++ vs))
+answer-append : (xs ys : List Step) (us vs : List Op) → ◌≡◌ {A = Evaluation} (answer_of xs) (Ok us) → ◌≡◌ {A = Evaluation} (answer_of ys) (Ok vs)
+    → ◌≡◌ {A = Evaluation} (answer_of (xs ++ ys)) (Ok (us ++ vs))
 answer-append xs ys us vs e f =
     ap joined (map-append (step_answer standard_meanings) xs ys)
     ∙ joined_both (map (step_answer standard_meanings) xs) (map (step_answer standard_meanings) ys) us vs e f
 
-pub Parted-front : (k : Known) (xs ys : List Statement) (vs us : List Op) (parts : List (List Op)) (bs : List (List ℕ)) (rs ts : List Bits) (f : ℕ → Option ℕ)
+pub Parted-front : (k : Known) (xs ys : List Statement) (vs us : List Op) (parts : List (List Op)) (bs : List (List ℕ)) (rs ts : List ClassicalRegister) (f : ℕ → Option ℕ)
     → Run k xs vs rs (λ bit. None) → Parted (fold after k xs) ys us parts bs ts f → Parted k (xs ++ ys) (vs ++ us) parts bs (rs ++ ts) f
 Parted-front k xs ys vs us parts bs rs ts f r s =
     let here = steps k xs in
@@ -222,7 +222,7 @@ Parted-front k xs ys vs us parts bs rs ts f r s =
       barriers = ap (count_by is_barrier) all ∙ count-front here later r.quiet ∙ s.barriers;
     }
 
-pub Parted-bar : (k : Known) (args : List Arg) (ws : List ℕ) (ys : List Statement) (us : List Op) (parts : List (List Op)) (bs : List (List ℕ)) (ts : List Bits)
+pub Parted-bar : (k : Known) (args : List Arg) (ws : List ℕ) (ys : List Statement) (us : List Op) (parts : List (List Op)) (bs : List (List ℕ)) (ts : List ClassicalRegister)
     (f : ℕ → Option ℕ) → IsFine k (act (barrier args)) → bar_of (bars (operands k args)) ≡ Some ws → Parted k ys us parts bs ts f
     → Parted k (act (barrier args) ∷ ys) [] (us ∷ parts) (ws ∷ bs) ts f
 Parted-bar k args ws ys us parts bs ts f fine named s = record {
@@ -239,7 +239,7 @@ Parted-bar k args ws ys us parts bs ts f fine named s = record {
 }
 
 -- ---- what the gates do
-pub AreOperations-answers : (gates : List Gate) (parts : List (List Step)) (lists : List (List Op)) → meanings gates ≡ standard_meanings
+pub AreOperations-answers : (gates : List BoundGate) (parts : List (List Step)) (lists : List (List Op)) → meanings gates ≡ standard_meanings
     → AreAnswers parts lists → AreOperations gates parts lists
 AreOperations-answers gates [] [] e h = tt
 AreOperations-answers gates [] (us ∷ lists) e h = h

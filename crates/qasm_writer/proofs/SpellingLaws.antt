@@ -29,7 +29,7 @@ use Rattle.qasm_parser.specs.Symbols.{Symbol, mark, mark_symbol, name, quoted, r
 use Rattle.qasm_parser.specs.Tree.{Expression, Statement, act, include, measure, register}
 use Rattle.qasm_parser.specs.declared.symbols.Keyword.TheVariants.{OpenQasm, Include, Qreg, Creg, Measure, Barrier, Pi}
 use Rattle.qasm_parser.specs.declared.symbols.Mark.TheVariants.{Semicolon, Comma, Open, Close, OpenBracket, CloseBracket, Arrow}
-use Rattle.qasm_check.specs.declared.bits.Bits.{Bits}
+use Rattle.qasm_check.specs.declared.register.ClassicalRegister.{ClassicalRegister}
 use Rattle.program_parts.specs.Cuts.{Cut}
 use Rattle.gate_inline.specs.Registers.{AreRegisters, IsFree, IsRead}
 use Rattle.gate_inline.specs.Programs.{IsTreeOf}
@@ -42,7 +42,7 @@ use Rattle.trace_text.specs.Texts.{commented, ended, lines_of, trace_of}
 use Rattle.qasm_writer.proofs.SymbolLaws.{Gives, Gives-line, Gives-name, Gives-number, Gives-space, Gives-token}
 use Rattle.qasm_writer.proofs.CommentLaws.{AreUnbroken, Ends, Ends-end, Ends-index, Ends-then, Gives-commented, IsHeld, Silent, Silent-line, Silent-nil, Silent-then, is_opening, opening-word, trace-behind}
 use Rattle.qasm_writer.proofs.GateLaws.{IsWritable}
-use Rattle.qasm_writer.proofs.LineLaws.{listed-joined, next_text}
+use Rattle.qasm_writer.proofs.LineLaws.{listed_behind, listed-listed_behind}
 use Rattle.qasm_writer.proofs.StatementLaws.{IsNamed}
 
 -- ---- texts, one behind another
@@ -171,7 +171,7 @@ wires_spelt q n h few = by_test (n == 0)
     by_test true = Spelt-nil
     by_test false = line
 
-bits_spelt : (r : Bits) → IsFreeWord r.name → r.size ≤ most_part → Spelt (bits_statement r ∷ []) (bits_line r)
+bits_spelt : (r : ClassicalRegister) → IsFreeWord r.name → r.size ≤ most_part → Spelt (bits_statement r ∷ []) (bits_line r)
 bits_spelt r h few = Spelt-line (bits_statement r) (bits_line r)
     (λ rest. word Creg ∷ name r.name ∷ index_symbols (Some r.size) (mark Semicolon ∷ rest)) (λ rest. [])
     (λ tail rest g. let shown : bits_line r ++ tail ≡ codes "creg " ++ (index_text r.name r.size ++ (codes ";\n" ++ tail)) = simp append_assoc in
@@ -180,7 +180,7 @@ bits_spelt r h few = Spelt-line (bits_statement r) (bits_line r)
     (λ rest. (refl, refl)) (λ rest. refl)
     (Silent-line (codes "creg ") (index_text r.name r.size ++ codes ";\n") refl (Ends-index r.name r.size (codes ";\n") h (omega arith) Ends-end))
 
-registers_spelt : (rs : List Bits) → AllByRecursion (λ r. IsFreeWord r.name × (r.size ≤ most_part)) rs
+registers_spelt : (rs : List ClassicalRegister) → AllByRecursion (λ r. IsFreeWord r.name × (r.size ≤ most_part)) rs
     → Spelt (map bits_statement rs) (flat_map bits_line rs)
 registers_spelt [] h = Spelt-nil
 registers_spelt (r ∷ rs) h =
@@ -227,7 +227,7 @@ there_drop n zero reads h = h
 there_drop n (suc k) [] h = tt
 there_drop n (suc k) (r ∷ reads) h = there_drop n k reads h.1
 
-all_reads_spelt : (q : Bytes) (n : ℕ) (rs : List Bits) (reads : List (Option ℕ)) → IsFreeWord q → n ≤ most_part
+all_reads_spelt : (q : Bytes) (n : ℕ) (rs : List ClassicalRegister) (reads : List (Option ℕ)) → IsFreeWord q → n ≤ most_part
     → AllByRecursion (λ r. IsFreeWord r.name × (r.size ≤ most_part)) rs → AllByRecursion (IsRead n) reads
     → Spelt (read_statements q rs reads) (read_lines q rs reads)
 all_reads_spelt q n [] reads h few named there = Spelt-nil
@@ -394,11 +394,11 @@ others_symbols q [] rest = rest
 others_symbols q (i ∷ is) rest = mark Comma ∷ name q ∷ index_symbols (Some i) (others_symbols q is rest)
 
 gives-others : (q : Bytes) (is : List ℕ) (n : ℕ) (t : Bytes) (ss : List Symbol) → IsFreeWord q → n ≤ most_part → AllByRecursion (λ w. w < n) is → Gives t ss
-    → Gives (flat_map (next_text q) is ++ t) (others_symbols q is ss)
+    → Gives (listed_behind q (codes ",") is ++ t) (others_symbols q is ss)
 gives-others q [] n t ss h few l g = g
 gives-others q (i ∷ is) n t ss h few l g =
-    let last = flat_map (next_text q) is ++ t in
-    let shown : flat_map (next_text q) (i ∷ is) ++ t ≡ codes "," ++ (index_text q i ++ last) = simp append_assoc in
+    let last = listed_behind q (codes ",") is ++ t in
+    let shown : listed_behind q (codes ",") (i ∷ is) ++ t ≡ codes "," ++ (index_text q i ++ last) = simp append_assoc in
     rw shown (gives-comma (index_text q i ++ last) _ (gives-index q i last _ h (omega (arith, l.0)) (gives-others q is n t ss h few l.1 g)))
 
 others_spelt : (q : Bytes) (is : List ℕ) (rest : List Symbol)
@@ -408,19 +408,19 @@ others_spelt q (i ∷ is) rest =
     (others_symbols q is rest, [], [], (name q ∷ index_symbols (Some i) (others_symbols q is rest), refl, (refl, tt, refl)), others_spelt q is rest, refl)
 
 Ends-others : (q : Bytes) (is : List ℕ) (n : ℕ) (more : Bytes) → IsFreeWord q → n ≤ most_part → AllByRecursion (λ w. w < n) is → Ends more
-    → Ends (flat_map (next_text q) is ++ more)
+    → Ends (listed_behind q (codes ",") is ++ more)
 Ends-others q [] n more h few l e = e
 Ends-others q (i ∷ is) n more h few l e =
-    let last = flat_map (next_text q) is ++ more in
-    let shown : flat_map (next_text q) (i ∷ is) ++ more ≡ codes "," ++ (index_text q i ++ last) = simp append_assoc in
+    let last = listed_behind q (codes ",") is ++ more in
+    let shown : listed_behind q (codes ",") (i ∷ is) ++ more ≡ codes "," ++ (index_text q i ++ last) = simp append_assoc in
     rw shown (Ends-then (codes ",") (index_text q i ++ last) refl (Ends-index q i last h (omega (arith, l.0)) (Ends-others q is n more h few l.1 e)))
 
 bar_spelt : (q : Bytes) (is : List ℕ) (n : ℕ) → IsFreeWord q → n ≤ most_part → IsNamed n is → Spelt (barrier_statement q is ∷ []) (barrier_line q is)
 bar_spelt q [] n h few l = absurd (l.0 refl)
 bar_spelt q (i ∷ is) n h few l =
-    let others = flat_map (next_text q) is in
+    let others = listed_behind q (codes ",") is in
     let text : barrier_line q (i ∷ is) ≡ codes "barrier " ++ (index_text q i ++ (others ++ codes ";\n")) =
-    ap (λ z. codes "barrier " ++ (z ++ codes ";\n")) (listed-joined q i is) ∙ ap (λ z. codes "barrier " ++ z) (append_assoc (index_text q i) others (codes ";\n")) in
+    ap (λ z. codes "barrier " ++ (z ++ codes ";\n")) (listed-listed_behind q (i ∷ is)) ∙ ap (λ z. codes "barrier " ++ z) (append_assoc (index_text q i) others (codes ";\n")) in
     subst (λ (z : Bytes). Spelt (barrier_statement q (i ∷ is) ∷ []) z) (sym text)
     (Spelt-line (barrier_statement q (i ∷ is)) (codes "barrier " ++ (index_text q i ++ (others ++ codes ";\n")))
     (λ rest. word Barrier ∷ name q ∷ index_symbols (Some i) (others_symbols q is (mark Semicolon ∷ rest))) (λ rest. [])
@@ -479,7 +479,7 @@ IsFreeWord-underscores (suc k) = record { word = all_words k; free = refl; no_fu
     all_words zero = refl
     all_words (suc k) = all_words k
 
-size-le-sum : (rs : List Bits) → AllByRecursion IsFree rs → sum_by (λ r. r.size) rs ≤ 1024
+size-le-sum : (rs : List ClassicalRegister) → AllByRecursion IsFree rs → sum_by (λ r. r.size) rs ≤ 1024
     → AllByRecursion (λ r. IsFreeWord r.name × (r.size ≤ most_part)) rs
 size-le-sum [] h few = tt
 size-le-sum (r ∷ rs) h few =
@@ -495,7 +495,7 @@ tree_by : HasTokens → (text : Bytes) (xs : List Statement) (ts : List Symbol) 
 tree_by law text xs ts found g each shallow =
     let it = g.behind [] in (it.tokens, law text it.tokens it.lexed, (found, (ts, it.spelt, each), refl, shallow))
 
-pub written_tree-spelt : HasTokens → AreUnbroken → IsHeld → (q : List ℕ) (n bits : ℕ) (c : Cut Op) (rs : List Bits) (reads : List (Option ℕ)) (trace : Bytes)
+pub written_tree-spelt : HasTokens → AreUnbroken → IsHeld → (q : List ℕ) (n bits : ℕ) (c : Cut Op) (rs : List ClassicalRegister) (reads : List (Option ℕ)) (trace : Bytes)
     → n ≤ most_part → IsQubitsName rs q → AreRegisters rs bits → AllByRecursion (AllByRecursion (IsWritable n)) c.parts → AllByRecursion (IsNamed n) c.bars
     → All (IsRead n) reads
     → IsTreeOf (written_text q n c rs reads ++ commented trace) (written_tree q n c rs reads)

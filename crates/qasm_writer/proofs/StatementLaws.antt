@@ -19,22 +19,22 @@ use Rattle.unitary_model.specs.Limits.{most_qubits}
 use Rattle.unitary_model.specs.declared.Op.{Op}
 use Rattle.qasm_parser.specs.Tree.{Expression, include, register, act, measure}
 use Rattle.qasm_parser.specs.declared.tree.Arg.{Arg}
-use Rattle.gate_library.specs.Gates.{Gate, u, cx, gate_at, gate_params, gate_qubits, is_opaque}
-use Rattle.gate_library.specs.Known.{Known, fresh, gate_number, meaning, own_number}
-use Rattle.gate_library.specs.Library.{library, standard_names, table_names}
+use Rattle.gate_library.specs.Gates.{BoundGate, u, cx, gate_at, gate_params, gate_qubits, is_opaque}
+use Rattle.gate_library.specs.Library.{library, own_number, standard_names, table_names}
 use Rattle.gate_library.specs.Names.{is_one_of}
-use Rattle.gate_library.specs.Operands.{broadcast, operand_in, upto, wires_of, differs_from, measure_differs, repeats}
+use Rattle.gate_library.specs.Operands.{broadcast, upto, wires_of, differs_from, measure_differs, repeats}
 use Rattle.qasm_check.specs.Arguments.{operand, operands}
-use Rattle.qasm_check.specs.Refusals.{IsFine, is_beyond as is_past, is_unknown, is_wrong, of_gate}
-use Rattle.gate_library.specs.Meanings.{is_beyond, is_other, is_register}
+use Rattle.qasm_check.specs.Known.{Known, fresh, gate_number, meaning}
+use Rattle.qasm_check.specs.Meanings.{is_past_end, is_other, names_register, operand_in}
+use Rattle.qasm_check.specs.Refusals.{IsFine, is_beyond, is_unknown, is_wrong, of_gate}
 use Rattle.qasm_check.specs.Steps.{applies, measures, bars, formula, measure_step, step}
-use Rattle.qasm_check.specs.declared.bits.Bits.{Bits}
-use Rattle.gate_library.specs.declared.meaning.Meaning.{Meaning}
-use Rattle.gate_library.specs.declared.meaning.Meaning.TheVariants.{Gate as Numbered, Register}
+use Rattle.qasm_check.specs.declared.meaning.Meaning.{Meaning}
+use Rattle.qasm_check.specs.declared.meaning.Meaning.TheVariants.{Gate as Numbered, Register}
+use Rattle.qasm_check.specs.declared.register.ClassicalRegister.{ClassicalRegister}
 use Rattle.gate_library.specs.declared.operand.Operand.{Operand}
-use Rattle.qasm_check.specs.declared.refusal.Refusal.TheVariants.{NameTaken, UnknownName, WrongKind, IndexRange, EmptyRegister, ParamCount, QubitCount, SizeDiffers, RepeatedQubit, OpaqueApplied, AfterMeasure, TooManyQubits, TooManyBits}
+use Rattle.qasm_check.specs.declared.refusal.CheckRefusal.TheVariants.{NameTaken, UnknownName, WrongKind, IndexRange, EmptyRegister, ParamCount, QubitCount, SizeDiffers, RepeatedQubit, OpaqueApplied, AfterMeasure, TooManyQubits, TooManyBits}
 use Rattle.angle_fraction.specs.declared.Angle.{Angle}
-use Rattle.gate_inline.specs.Meanings.{Answer, broadcast_answer, followed, meaning_at, step_answer, unvalued}
+use Rattle.gate_inline.specs.Meanings.{Evaluation, broadcast_answer, followed, meaning_at, step_answer, unvalued}
 use Rattle.gate_inline.specs.Reads.{read_within}
 use Rattle.gate_inline.specs.Splits.{bar_of, if_some}
 use Rattle.gate_inline.specs.Values.{and_next, values}
@@ -115,7 +115,7 @@ bits_fine k name size d t some few EmptyRegister = not_nought size some
 bits_fine k name size d t some few TooManyBits = within 1024 (k.bits + size) few
 bits_fine k name size d t some few _ = refl
 
-pub bits_run : (k : Known) (r : Bits) → k.declared r.name ≡ None → is_one_of table_names r.name ≡ false → 0 < r.size
+pub bits_run : (k : Known) (r : ClassicalRegister) → k.declared r.name ≡ None → is_one_of table_names r.name ≡ false → 0 < r.size
     → k.bits + r.size ≤ 1024 → Run k (bits_statement r ∷ []) [] (r ∷ []) (λ bit. None)
 bits_run k r d t some few = Run-quiet k (bits_statement r) (Some r) (bits_fine k r.name r.size d t some few) refl refl
 
@@ -152,15 +152,15 @@ one_fine k q n w name es given r h l = go
     wire = wire_known k q n w h l
 
     there : gate_at k.gates r.number ≡ r.shape
-    there = ap (λ (gs : List Gate). gate_at gs r.number) h.gates ∙ r.there
+    there = ap (λ (gs : List BoundGate). gate_at gs r.number) h.gates ∙ r.there
 
     spots : operands k (at q w ∷ []) ≡ spot 0 n w ∷ []
     spots = ap (λ (o : Option Operand). cons_option o []) (wire_placed k q n w h l)
 
     go : IsFine k (applied name es (at q w ∷ []))
     go UnknownName = λ j. is_none (named j) || (is_none (wire j) || false) || r.closed j
-    go WrongKind = λ j. is_register (named j) || (is_other true (wire j) || false)
-    go IndexRange = (λ j. is_beyond (wire j) (Some w) || false) ∙ ap (λ (b : Bool). b || false) (not_over w n l)
+    go WrongKind = λ j. names_register (named j) || (is_other true (wire j) || false)
+    go IndexRange = (λ j. is_past_end (wire j) (Some w) || false) ∙ ap (λ (b : Bool). b || false) (not_over w n l)
     go ParamCount = (λ j. of_gate k (λ g. not (gate_params g == length es)) (named j))
         ∙ (λ j. not (gate_params (there j) == length es)) ∙ ap not r.params
     go QubitCount = (λ j. of_gate k (λ g. not (gate_qubits g == 1)) (named j))
@@ -178,16 +178,16 @@ applied_step : (k : Known) (name : List ℕ) (es : List Expression) (args : List
 applied_step k name es args i ps named spots = λ j. applies (gate_number (named j)) (map (formula []) es) (spots j)
 
 one_answer : (i : ℕ) (es : List Expression) (given : List Angle) (n w : ℕ) (us : List Op) → values [] (map (formula []) es) ≡ Ok given
-    → ◌≡◌ {A = Answer} (meaning_at standard_meanings i given (w ∷ [])) (Ok us)
-    → ◌≡◌ {A = Answer} (step_answer standard_meanings (applies i (map (formula []) es) (spot 0 n w ∷ []))) (Ok (us ++ []))
+    → ◌≡◌ {A = Evaluation} (meaning_at standard_meanings i given (w ∷ [])) (Ok us)
+    → ◌≡◌ {A = Evaluation} (step_answer standard_meanings (applies i (map (formula []) es) (spot 0 n w ∷ []))) (Ok (us ++ []))
 unfolding upto
 one_answer i es given n w us exact means =
     ap (λ a. and_next (unvalued a) (λ angles. broadcast_answer standard_meanings i angles (spot 0 n w ∷ []) 1)) exact
     ∙ ap (λ (x : ℕ). followed (meaning_at standard_meanings i given (x ∷ [])) (Ok [])) (from_nought w)
-    ∙ ap (λ (a : Answer). followed a (Ok [])) means
+    ∙ ap (λ (a : Evaluation). followed a (Ok [])) means
 
 pub one_run : (k : Known) (q : List ℕ) (n w : ℕ) (name : List ℕ) (es : List Expression) (given : List Angle) (op : Op) → (r : Row name es 1 given)
-    → IsReady k q n → w < n → ◌≡◌ {A = Answer} (meaning_at standard_meanings r.number given (w ∷ [])) (Ok (op ∷ []))
+    → IsReady k q n → w < n → ◌≡◌ {A = Evaluation} (meaning_at standard_meanings r.number given (w ∷ [])) (Ok (op ∷ []))
     → Run k (applied name es (at q w ∷ []) ∷ []) (op ∷ []) [] (λ bit. None)
 one_run k q n w name es given op r h l means =
     Run-one k (applied name es (at q w ∷ [])) (applies r.number (map (formula []) es) (spot 0 n w ∷ [])) (op ∷ []) None (λ bit. None)
@@ -209,15 +209,15 @@ two_fine k q n c t name es given r h lc lt apart = go
     wire = wire_known k q n c h lc
 
     there : gate_at k.gates r.number ≡ r.shape
-    there = ap (λ (gs : List Gate). gate_at gs r.number) h.gates ∙ r.there
+    there = ap (λ (gs : List BoundGate). gate_at gs r.number) h.gates ∙ r.there
 
     spots : operands k (at q c ∷ at q t ∷ []) ≡ spot 0 n c ∷ spot 0 n t ∷ []
     spots = λ j. cons_option (wire_placed k q n c h lc j) (cons_option (wire_placed k q n t h lt j) [])
 
     go : IsFine k (applied name es (at q c ∷ at q t ∷ []))
     go UnknownName = λ j. is_none (named j) || (is_none (wire j) || (is_none (wire j) || false)) || r.closed j
-    go WrongKind = λ j. is_register (named j) || (is_other true (wire j) || (is_other true (wire j) || false))
-    go IndexRange = (λ j. is_beyond (wire j) (Some c) || (is_beyond (wire j) (Some t) || false))
+    go WrongKind = λ j. names_register (named j) || (is_other true (wire j) || (is_other true (wire j) || false))
+    go IndexRange = (λ j. is_past_end (wire j) (Some c) || (is_past_end (wire j) (Some t) || false))
         ∙ (λ j. not_over c n lc j || (not_over t n lt j || false))
     go ParamCount = (λ j. of_gate k (λ g. not (gate_params g == length es)) (named j))
         ∙ (λ j. not (gate_params (there j) == length es)) ∙ ap not r.params
@@ -231,16 +231,16 @@ two_fine k q n c t name es given r h lc lt apart = go
     go _ = refl
 
 two_answer : (i : ℕ) (es : List Expression) (given : List Angle) (n c t : ℕ) (us : List Op) → values [] (map (formula []) es) ≡ Ok given
-    → ◌≡◌ {A = Answer} (meaning_at standard_meanings i given (c ∷ t ∷ [])) (Ok us)
-    → ◌≡◌ {A = Answer} (step_answer standard_meanings (applies i (map (formula []) es) (spot 0 n c ∷ spot 0 n t ∷ []))) (Ok (us ++ []))
+    → ◌≡◌ {A = Evaluation} (meaning_at standard_meanings i given (c ∷ t ∷ [])) (Ok us)
+    → ◌≡◌ {A = Evaluation} (step_answer standard_meanings (applies i (map (formula []) es) (spot 0 n c ∷ spot 0 n t ∷ []))) (Ok (us ++ []))
 unfolding upto
 two_answer i es given n c t us exact means =
     ap (λ a. and_next (unvalued a) (λ angles. broadcast_answer standard_meanings i angles (spot 0 n c ∷ spot 0 n t ∷ []) 1)) exact
     ∙ (λ j. followed (meaning_at standard_meanings i given (from_nought c j ∷ from_nought t j ∷ [])) (Ok []))
-    ∙ ap (λ (a : Answer). followed a (Ok [])) means
+    ∙ ap (λ (a : Evaluation). followed a (Ok [])) means
 
 pub two_run : (k : Known) (q : List ℕ) (n c t : ℕ) (name : List ℕ) (es : List Expression) (given : List Angle) (op : Op) → (r : Row name es 2 given)
-    → IsReady k q n → c < n → t < n → c ≢ t → ◌≡◌ {A = Answer} (meaning_at standard_meanings r.number given (c ∷ t ∷ [])) (Ok (op ∷ []))
+    → IsReady k q n → c < n → t < n → c ≢ t → ◌≡◌ {A = Evaluation} (meaning_at standard_meanings r.number given (c ∷ t ∷ [])) (Ok (op ∷ []))
     → Run k (applied name es (at q c ∷ at q t ∷ []) ∷ []) (op ∷ []) [] (λ bit. None)
 two_run k q n c t name es given op r h lc lt apart means =
     Run-one k (applied name es (at q c ∷ at q t ∷ [])) (applies r.number (map (formula []) es) (spot 0 n c ∷ spot 0 n t ∷ [])) (op ∷ []) None (λ bit. None)
@@ -264,7 +264,7 @@ measure_fine k q n w name first size i dq dn lw li = go
     go : IsFine k (act (measure (at q w) (at name i)))
     go UnknownName = λ j. is_none (wire j) || is_none (bit j)
     go WrongKind = λ j. is_other true (wire j) || is_other false (bit j)
-    go IndexRange = (λ j. is_beyond (wire j) (Some w) || is_beyond (bit j) (Some i)) ∙ (λ j. not_over w n lw j || not_over i size li j)
+    go IndexRange = (λ j. is_past_end (wire j) (Some w) || is_past_end (bit j) (Some i)) ∙ (λ j. not_over w n lw j || not_over i size li j)
     go SizeDiffers = λ j. measure_differs (placed k q true 0 n w dq lw j) (placed k name false first size i dn li j)
     go _ = refl
 
@@ -301,8 +301,8 @@ barrier_fine k q n is h l = go
     go : IsFine k (barrier_statement q is)
     go UnknownName = none_passes (is_unknown k) q n is (λ w m. ap is_none (wire_known k q n w h m)) l
     go WrongKind = none_passes (is_wrong k true) q n is (λ w m. ap (is_other true) (wire_known k q n w h m)) l
-    go IndexRange = none_passes (is_past k) q n is
-        (λ w m. ap (λ (o : Option Meaning). is_beyond o (Some w)) (wire_known k q n w h m) ∙ not_over w n m) l
+    go IndexRange = none_passes (is_beyond k) q n is
+        (λ w m. ap (λ (o : Option Meaning). is_past_end o (Some w)) (wire_known k q n w h m) ∙ not_over w n m) l
     go _ = refl
 
 bar_operands : (k : Known) (q : List ℕ) (n : ℕ) (is : List ℕ) → IsReady k q n → AllByRecursion (λ w. w < n) is

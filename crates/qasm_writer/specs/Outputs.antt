@@ -8,7 +8,7 @@
 --   HasText o Came       of the text of the output, a written program that holds the lines of its trace, this holds
 use Rattle.std.specs.Prelude.{◌≡◌, ℕ, ◌<◌, List, [], ◌++◌, All, length, map, sum_by}
 use Rattle.circuit_list.specs.Gates.{ops}
-use Rattle.qasm_check.specs.declared.bits.Bits.{Bits}
+use Rattle.qasm_check.specs.declared.register.ClassicalRegister.{ClassicalRegister}
 use Rattle.gate_inline.specs.Programs.{IsWritten, Program}
 use Rattle.gate_inline.specs.Registers.{AreRegisters, IsRead}
 use Rattle.program_parts.specs.Cuts.{Cut, IsCut, chopped}
@@ -18,7 +18,7 @@ use Rattle.qasm_writer.specs.Texts.{IsQubitsName, written_text}
 use Rattle.qasm_writer.specs.declared.output.Register.{Register}
 use Rattle.qasm_writer.specs.declared.output.Output.{Output}
 
-abbrev pub bits_of : Register → Bits
+abbrev pub bits_of : Register → ClassicalRegister
 bits_of r = record { name = r.name.now; size = r.size }
 
 abbrev pub cut_of : Output → Cut Op

@@ -1,6 +1,6 @@
--- Working form. Bytes on their way to a sink by a room.
+-- Working form. Bytes on their way to a sink by a buffer.
 --   HasRoom v            so few bytes in it that one more makes at most a piece, and memory for a piece
---   Leads a r b s bs cs  of the bytes bs, behind those that were in the room, all but cs went out or are in the room
+--   Leads a r b s bs cs  of the bytes bs, behind those that were in the buffer, all but cs went out or are in the buffer
 --   Sends a r b s bs     all of them did
 use Rattle.std.specs.Prelude.{◌≡◌, ℕ, ◌<◌, ◌≤◌, List, [], ◌++◌, Option, Vec, length, vec_capacity}
 use Rattle.std.specs.declared.alloc.Global.{Global}

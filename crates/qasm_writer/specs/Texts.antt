@@ -19,7 +19,7 @@ use Rattle.std.specs.Prelude.{◌≡◌, ℕ, ◌+◌, ◌<◌, ◌==◌, true, 
 use Rattle.std.specs.List.{flat_map}
 use Rattle.std.specs.Fmt.{decimal}
 use Rattle.gate_library.specs.Names.{is_one_of}
-use Rattle.qasm_check.specs.declared.bits.Bits.{Bits}
+use Rattle.qasm_check.specs.declared.register.ClassicalRegister.{ClassicalRegister}
 use Rattle.gate_inline.specs.Registers.{names_of}
 use Rattle.program_parts.specs.Cuts.{Cut}
 use Rattle.unitary_model.specs.declared.Op.{Op}
@@ -28,7 +28,7 @@ use Rattle.unitary_model.specs.declared.Op.TheVariants.{U, Cx}
 abbrev pub with_underscores : ℕ → List ℕ
 with_underscores k = codes "q" ++ replicate k 95
 
-pub record IsQubitsName (rs : List Bits) (q : List ℕ) : Type 0 where
+pub record IsQubitsName (rs : List ClassicalRegister) (q : List ℕ) : Type 0 where
   pub underscores : ℕ
   pub spelt : q ≡ with_underscores underscores
   pub spare : is_one_of (names_of rs) q ≡ false
@@ -70,7 +70,7 @@ part_lines q (us ∷ vs ∷ parts) (is ∷ bars) = flat_map (op_line q) us ++ (b
 abbrev pub wires_line : List ℕ → ℕ → List ℕ
 wires_line q wires = if wires == 0 then [] else codes "qreg " ++ (index_text q wires ++ codes ";\n")
 
-abbrev pub bits_line : Bits → List ℕ
+abbrev pub bits_line : ClassicalRegister → List ℕ
 bits_line r = codes "creg " ++ (index_text r.name r.size ++ codes ";\n")
 
 abbrev pub read_line : List ℕ → List ℕ → ℕ → Option ℕ → List ℕ
@@ -83,13 +83,13 @@ register_lines q name k [] = []
 register_lines q name k (r ∷ rs) = read_line q name k r ++ register_lines q name (k + 1) rs
 
 -- registers stand side by side
-abbrev pub read_lines : List ℕ → List Bits → List (Option ℕ) → List ℕ
+abbrev pub read_lines : List ℕ → List ClassicalRegister → List (Option ℕ) → List ℕ
 read_lines q [] reads = []
 read_lines q (r ∷ rs) reads = register_lines q r.name 0 (take r.size reads) ++ read_lines q rs (drop r.size reads)
 
 abbrev pub heading_text : List ℕ
 heading_text = codes "OPENQASM 2.0;\ninclude \"qelib1.inc\";\n"
 
-abbrev pub written_text : List ℕ → ℕ → Cut Op → List Bits → List (Option ℕ) → List ℕ
+abbrev pub written_text : List ℕ → ℕ → Cut Op → List ClassicalRegister → List (Option ℕ) → List ℕ
 written_text q wires cut rs reads = heading_text
     ++ (wires_line q wires ++ (flat_map bits_line rs ++ (part_lines q cut.parts cut.bars ++ read_lines q rs reads)))

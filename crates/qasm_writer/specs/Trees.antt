@@ -16,7 +16,7 @@ use Rattle.angle_fraction.specs.declared.signs.Binary.TheVariants.{Mul, Div}
 use Rattle.qasm_parser.specs.Parsing.{two}
 use Rattle.qasm_parser.specs.Tree.{Expression, number, pi, binary, Statement, include, register, act, apply, barrier, measure, Tree}
 use Rattle.qasm_parser.specs.declared.tree.Arg.{Arg}
-use Rattle.qasm_check.specs.declared.bits.Bits.{Bits}
+use Rattle.qasm_check.specs.declared.register.ClassicalRegister.{ClassicalRegister}
 use Rattle.program_parts.specs.Cuts.{Cut}
 use Rattle.unitary_model.specs.declared.Op.{Op}
 use Rattle.unitary_model.specs.declared.Op.TheVariants.{U, Cx}
@@ -61,7 +61,7 @@ part_statements q (us ∷ vs ∷ parts) (is ∷ bars) = map (op_statement q) us 
 abbrev pub wires_statements : List ℕ → ℕ → List Statement
 wires_statements q wires = if wires == 0 then [] else register true q wires ∷ []
 
-abbrev pub bits_statement : Bits → Statement
+abbrev pub bits_statement : ClassicalRegister → Statement
 bits_statement r = register false r.name r.size
 
 abbrev pub read_statement : List ℕ → List ℕ → ℕ → Option ℕ → List Statement
@@ -72,11 +72,11 @@ abbrev pub register_statements : List ℕ → List ℕ → ℕ → List (Option 
 register_statements q name k [] = []
 register_statements q name k (r ∷ rs) = read_statement q name k r ++ register_statements q name (k + 1) rs
 
-abbrev pub read_statements : List ℕ → List Bits → List (Option ℕ) → List Statement
+abbrev pub read_statements : List ℕ → List ClassicalRegister → List (Option ℕ) → List Statement
 read_statements q [] reads = []
 read_statements q (r ∷ rs) reads = register_statements q r.name 0 (take r.size reads) ++ read_statements q rs (drop r.size reads)
 
-abbrev pub written_tree : List ℕ → ℕ → Cut Op → List Bits → List (Option ℕ) → Tree
+abbrev pub written_tree : List ℕ → ℕ → Cut Op → List ClassicalRegister → List (Option ℕ) → Tree
 written_tree q wires cut rs reads = record {
   version = two;
   list = include (codes "qelib1.inc")

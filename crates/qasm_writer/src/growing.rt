@@ -16,7 +16,7 @@ pub struct Growing {
 impl Growing {
     /// No bytes.
     pub fn new(alloc: Global) -> Self
-        ensures { result.bytes.items ≡ [] }
+        ensures value { result.bytes.items ≡ [] }
     {
         Growing {
             bytes: Vec::new(alloc),
@@ -27,7 +27,7 @@ impl Growing {
 
     /// The bytes that came.
     pub fn into_bytes(self) -> Vec<u8>
-        ensures { result ≡ self.bytes }
+        ensures value { result ≡ self.bytes }
     {
         self.bytes
     }

@@ -10,21 +10,20 @@
 #![tactic(auto)]
 
 ghost use Rattle.std.specs.List.{list_all, list_any};
-ghost use Rattle.std.specs.Prelude.{◌≡◌, ◌≤◌, ◌==◌, [], All, IfOk, OnErr, OnOk, length, map, vec_capacity};
+ghost use Rattle.std.specs.Prelude.{◌≡◌, ◌≤◌, ◌==◌, [], All, IfOk, OnErr, OnOk, length, map};
 ghost use Rattle.std.specs.Str.{bytes_eq};
 ghost use Rattle.gate_inline.specs.Programs.{IsWritten};
 ghost use Rattle.trace_text.specs.Texts.{ended, lines_of, trace_of};
 ghost use Rattle.outside_io.specs.Bytes.{Gains, GainsPrefix};
 ghost use Rattle.outside_io.specs.Causes.{HasCause};
 ghost use Rattle.qasm_writer.specs.Outputs.{HasText, IsOutput, IsText, bits_of, program_of};
-ghost use Rattle.qasm_writer.specs.Pieces.{HasRoom};
 ghost use Rattle.qasm_writer.specs.Texts.{IsQubitsName, with_underscores};
 
 use growing::Growing;
 use lines::put_lines;
 use output::{Output, Register};
 use outside_io::{Failed, Sink};
-use pieces::{PIECE, send_room};
+use pieces::send_buffer;
 use std::alloc::{AllocError, Global};
 use trace_text::laws::{commented_trace, lines_of_text};
 
@@ -32,6 +31,8 @@ mod growing;
 mod lines;
 pub mod output;
 mod pieces;
+
+pub use pieces::PieceBuffer;
 
 /// The length of the longest name; 0 where there is no register.
 fn longest(registers: &[Register]) -> usize
@@ -65,7 +66,7 @@ fn is_taken(registers: &[Register], count: usize) -> bool
 {
     registers
         .iter()
-        .any(|register| is_spelt(register.name.as_bytes(), count))
+        .any(|register| is_spelt(register.name, count))
 }
 
 /// Whether all bytes are underscores.
@@ -88,67 +89,60 @@ fn is_spelt(name: &[u8], count: usize) -> bool
 
 /// The text of a program; `Err` for want of memory alone.
 pub fn program_text(alloc: Global, output: &Output) -> Result<Vec<u8>, AllocError>
-    requires { IsOutput output.now }
+    requires output { IsOutput output.now }
     ensures text { IfOk result (λ v. IsText output.now v.items) }
     ensures written { IfOk result (λ v. IsWritten v.items (program_of output.now)) }
     ensures trace { IfOk result (λ v. trace_of v.items ≡ ended (lines_of output.now.trace.now)) }
 {
-    let mut room = empty_room(alloc)?;
+    let mut buffer = PieceBuffer::new(alloc)?;
     let mut text = Growing::new(alloc);
-    match write_program(output, &mut room, &mut text) {
+    match write_program(output, &mut buffer, &mut text) {
         Ok(()) => Ok(text.into_bytes()),
         Err(Failed) => Err(AllocError),
     }
 }
 
-/// Room for a piece of a text, as [`write_program`] asks for it.
-pub fn empty_room(alloc: Global) -> Result<Vec<u8>, AllocError>
-    ensures empty { IfOk result (λ v. v.items ≡ []) }
-    ensures capacity { IfOk result (λ v. 4096 ≤ vec_capacity v) }
-{
-    Vec::with_capacity(alloc, PIECE)
-}
-
 /// Writes the text of a program to a sink, in pieces of 4,096 bytes, of which the last may be shorter. After `Failed` a prefix
 /// of the text was written.
 ///
-/// A piece is put together in the room, that of [`empty_room`], and no memory is taken. The room comes back as it was given, empty.
+/// A piece is put together in the buffer, and no memory is taken. The buffer is emptied first, and comes back empty.
 pub fn write_program<S: Sink>(
     output: &Output,
-    room: &mut Vec<u8>,
+    buffer: &mut PieceBuffer,
     sink: &mut S,
 ) -> Result<(), Failed>
     requires output { IsOutput output.now }
-    requires empty { room.old.items ≡ [] }
-    requires capacity { 4096 ≤ vec_capacity room.old }
     ensures ok { OnOk result (HasText output.now (λ text. Gains (S.held sink.old) (S.held sink.new) text)) }
     ensures err { OnErr result (HasText output.now (λ text. GainsPrefix (S.held sink.old) (S.held sink.new) text)) }
     ensures cause { HasCause (S.faults sink.old) (S.faults sink.new) result }
-    ensures empty { room.new.items ≡ [] }
-    ensures capacity { 4096 ≤ vec_capacity room.new }
+    ensures empty { buffer.new ≡ [] }
 {
-    let written = write_lines(output, room, sink);
-    room.clear();
+    buffer.clear();
+    let written = write_lines(output, buffer, sink);
+    buffer.clear();
     written
 }
 
-/// Puts all lines, and sends what is left in the room.
-fn write_lines<S: Sink>(output: &Output, room: &mut Vec<u8>, sink: &mut S) -> Result<(), Failed>
+/// Puts all lines, and sends what is left in the buffer.
+fn write_lines<S: Sink>(
+    output: &Output,
+    buffer: &mut PieceBuffer,
+    sink: &mut S,
+) -> Result<(), Failed>
     requires output { IsOutput output.now }
-    requires empty { room.old.items ≡ [] }
-    requires room { HasRoom room.old }
+    requires empty { buffer.old ≡ [] }
     ensures ok { OnOk result (HasText output.now (λ text. Gains (S.held sink.old) (S.held sink.new) text)) }
     ensures err { OnErr result (HasText output.now (λ text. GainsPrefix (S.held sink.old) (S.held sink.new) text)) }
     ensures cause { HasCause (S.faults sink.old) (S.faults sink.new) result }
-    ensures capacity { 4096 ≤ vec_capacity room.new }
 {
     qasm_lexer::lexed_exactly();
     lines_of_text();
     commented_trace();
+    output.body.facts();
     let wires = output.body.wires();
     let q = underscores(output.registers);
-    put_lines(output, q, wires, room, sink)?;
-    send_room(room, sink)
+    put_lines(output, q, wires, buffer, sink)?;
+    send_buffer(buffer, sink)
 }
 
 #[cfg(test)]

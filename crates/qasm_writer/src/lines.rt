@@ -7,71 +7,78 @@ ghost use Rattle.outside_io.specs.Bytes.{GainsPrefix};
 ghost use Rattle.outside_io.specs.Causes.{HasCause};
 ghost use Rattle.trace_text.specs.Texts.{commented};
 ghost use Rattle.qasm_writer.specs.Outputs.{bits_of, cut_of};
-ghost use Rattle.qasm_writer.specs.Pieces.{HasRoom, Sends};
+ghost use Rattle.qasm_writer.specs.Pieces.{Sends};
 ghost use Rattle.qasm_writer.specs.Texts.{barrier_line, bits_line, index_text, listed, op_line, part_lines, phase_text, read_line, read_lines, register_lines, wires_line, with_underscores, written_text};
 
 use crate::output::{Output, Register};
-use crate::pieces::{put, put_bytes, put_number};
+use crate::pieces::{PieceBuffer, put, put_bytes, put_number};
 use circuit_list::{Circuit, Gate};
 use outside_io::{Failed, Sink};
 use trace_text::first_line;
 
 /// Puts a place, as `[3]`.
-fn put_place<S: Sink>(room: &mut Vec<u8>, sink: &mut S, place: usize) -> Result<(), Failed>
-    requires { HasRoom room.old }
-    ensures ok { OnOk result (Sends (S.held sink.old) room.old.items (S.held sink.new) room.new.items (index_text [] place)) }
-    ensures err { OnErr result (GainsPrefix (S.held sink.old) (S.held sink.new) (room.old.items ++ index_text [] place)) }
+fn put_place<S: Sink>(buffer: &mut PieceBuffer, sink: &mut S, place: usize) -> Result<(), Failed>
+    ensures ok { OnOk result (Sends (S.held sink.old) buffer.old (S.held sink.new) buffer.new (index_text [] place)) }
+    ensures err { OnErr result (GainsPrefix (S.held sink.old) (S.held sink.new) (buffer.old ++ index_text [] place)) }
     ensures cause { HasCause (S.faults sink.old) (S.faults sink.new) result }
-    ensures room { HasRoom room.new }
 {
-    put(room, sink, "[")?;
-    put_number(room, sink, place)?;
-    put(room, sink, "]")
+    put(buffer, sink, "[")?;
+    put_number(buffer, sink, place)?;
+    put(buffer, sink, "]")
 }
+
+/// Underscores, of which some go out at once.
+const UNDERSCORES: [u8; 256] = [b'_'; 256];
 
 /// Puts so many underscores.
 #[tactic(auto, using(crate::proofs::PieceLaws::loops, crate::proofs::LineLaws::lines))]
-fn put_underscores<S: Sink>(room: &mut Vec<u8>, sink: &mut S, count: usize) -> Result<(), Failed>
-    requires { HasRoom room.old }
-    ensures ok { OnOk result (Sends (S.held sink.old) room.old.items (S.held sink.new) room.new.items (replicate count 95)) }
-    ensures err { OnErr result (GainsPrefix (S.held sink.old) (S.held sink.new) (room.old.items ++ replicate count 95)) }
+fn put_underscores<S: Sink>(
+    buffer: &mut PieceBuffer,
+    sink: &mut S,
+    count: usize,
+) -> Result<(), Failed>
+    ensures ok { OnOk result (Sends (S.held sink.old) buffer.old (S.held sink.new) buffer.new (replicate count 95)) }
+    ensures err { OnErr result (GainsPrefix (S.held sink.old) (S.held sink.new) (buffer.old ++ replicate count 95)) }
     ensures cause { HasCause (S.faults sink.old) (S.faults sink.new) result }
-    ensures room { HasRoom room.new }
 {
-    'underscores: for _ in 0..count {
-        put(room, sink, "_")?;
+    let mut left = count;
+    'underscores: while left > 0 {
+        let some = left.min(UNDERSCORES.len());
+        put_bytes(buffer, sink, &UNDERSCORES[..some])?;
+        left -= some;
     }
     Ok(())
 }
 
 /// Puts a qubit, as `q_[3]`.
-fn put_qubit<S: Sink>(room: &mut Vec<u8>, sink: &mut S, q: usize, wire: u32) -> Result<(), Failed>
-    requires { HasRoom room.old }
-    ensures ok { OnOk result (Sends (S.held sink.old) room.old.items (S.held sink.new) room.new.items (index_text (with_underscores q) wire)) }
-    ensures err { OnErr result (GainsPrefix (S.held sink.old) (S.held sink.new) (room.old.items ++ index_text (with_underscores q) wire)) }
+fn put_qubit<S: Sink>(
+    buffer: &mut PieceBuffer,
+    sink: &mut S,
+    q: usize,
+    wire: u32,
+) -> Result<(), Failed>
+    ensures ok { OnOk result (Sends (S.held sink.old) buffer.old (S.held sink.new) buffer.new (index_text (with_underscores q) wire)) }
+    ensures err { OnErr result (GainsPrefix (S.held sink.old) (S.held sink.new) (buffer.old ++ index_text (with_underscores q) wire)) }
     ensures cause { HasCause (S.faults sink.old) (S.faults sink.new) result }
-    ensures room { HasRoom room.new }
 {
-    put(room, sink, "q")?;
-    put_underscores(room, sink, q)?;
-    put_place(room, sink, wire as usize)
+    put(buffer, sink, "q")?;
+    put_underscores(buffer, sink, q)?;
+    put_place(buffer, sink, wire as usize)
 }
 
 /// Puts a name and a place, as `c[3]`.
 fn put_indexed<S: Sink>(
-    room: &mut Vec<u8>,
+    buffer: &mut PieceBuffer,
     sink: &mut S,
-    name: &str,
+    name: &[u8],
     place: usize,
 ) -> Result<(), Failed>
-    requires { HasRoom room.old }
-    ensures ok { OnOk result (Sends (S.held sink.old) room.old.items (S.held sink.new) room.new.items (index_text name.now place)) }
-    ensures err { OnErr result (GainsPrefix (S.held sink.old) (S.held sink.new) (room.old.items ++ index_text name.now place)) }
+    ensures ok { OnOk result (Sends (S.held sink.old) buffer.old (S.held sink.new) buffer.new (index_text name.now place)) }
+    ensures err { OnErr result (GainsPrefix (S.held sink.old) (S.held sink.new) (buffer.old ++ index_text name.now place)) }
     ensures cause { HasCause (S.faults sink.old) (S.faults sink.new) result }
-    ensures room { HasRoom room.new }
 {
-    put(room, sink, name)?;
-    put_place(room, sink, place)
+    put_bytes(buffer, sink, name)?;
+    put_place(buffer, sink, place)
 }
 
 /// The name of a phase, from 1 to 7 in units of pi/4.
@@ -91,287 +98,226 @@ fn phase_name(k: u8) -> &'static str
 
 /// Puts the line of a gate on one qubit.
 fn put_single<S: Sink>(
-    room: &mut Vec<u8>,
+    buffer: &mut PieceBuffer,
     sink: &mut S,
     name: &str,
     q: usize,
     wire: u32,
 ) -> Result<(), Failed>
-    requires { HasRoom room.old }
-    ensures ok { OnOk result (Sends (S.held sink.old) room.old.items (S.held sink.new) room.new.items (name.now ++ (codes " " ++ (index_text (with_underscores q) wire ++ codes ";\n")))) }
-    ensures err { OnErr result (GainsPrefix (S.held sink.old) (S.held sink.new) (room.old.items ++ (name.now ++ (codes " " ++ (index_text (with_underscores q) wire ++ codes ";\n"))))) }
+    ensures ok { OnOk result (Sends (S.held sink.old) buffer.old (S.held sink.new) buffer.new (name.now ++ (codes " " ++ (index_text (with_underscores q) wire ++ codes ";\n")))) }
+    ensures err { OnErr result (GainsPrefix (S.held sink.old) (S.held sink.new) (buffer.old ++ (name.now ++ (codes " " ++ (index_text (with_underscores q) wire ++ codes ";\n"))))) }
     ensures cause { HasCause (S.faults sink.old) (S.faults sink.new) result }
-    ensures room { HasRoom room.new }
 {
-    put(room, sink, name)?;
-    put(room, sink, " ")?;
-    put_qubit(room, sink, q, wire)?;
-    put(room, sink, ";\n")
+    put(buffer, sink, name)?;
+    put(buffer, sink, " ")?;
+    put_qubit(buffer, sink, q, wire)?;
+    put(buffer, sink, ";\n")
 }
 
 /// Puts the line of a CNOT.
 fn put_cx<S: Sink>(
-    room: &mut Vec<u8>,
+    buffer: &mut PieceBuffer,
     sink: &mut S,
     q: usize,
     control: u32,
     target: u32,
 ) -> Result<(), Failed>
-    requires { HasRoom room.old }
-    ensures ok { OnOk result (Sends (S.held sink.old) room.old.items (S.held sink.new) room.new.items (codes "cx " ++ (index_text (with_underscores q) control ++ (codes "," ++ (index_text (with_underscores q) target ++ codes ";\n"))))) }
-    ensures err { OnErr result (GainsPrefix (S.held sink.old) (S.held sink.new) (room.old.items ++ (codes "cx " ++ (index_text (with_underscores q) control ++ (codes "," ++ (index_text (with_underscores q) target ++ codes ";\n")))))) }
+    ensures ok { OnOk result (Sends (S.held sink.old) buffer.old (S.held sink.new) buffer.new (codes "cx " ++ (index_text (with_underscores q) control ++ (codes "," ++ (index_text (with_underscores q) target ++ codes ";\n"))))) }
+    ensures err { OnErr result (GainsPrefix (S.held sink.old) (S.held sink.new) (buffer.old ++ (codes "cx " ++ (index_text (with_underscores q) control ++ (codes "," ++ (index_text (with_underscores q) target ++ codes ";\n")))))) }
     ensures cause { HasCause (S.faults sink.old) (S.faults sink.new) result }
-    ensures room { HasRoom room.new }
 {
-    put(room, sink, "cx ")?;
-    put_qubit(room, sink, q, control)?;
-    put(room, sink, ",")?;
-    put_qubit(room, sink, q, target)?;
-    put(room, sink, ";\n")
+    put(buffer, sink, "cx ")?;
+    put_qubit(buffer, sink, q, control)?;
+    put(buffer, sink, ",")?;
+    put_qubit(buffer, sink, q, target)?;
+    put(buffer, sink, ";\n")
 }
 
 /// Puts the line of a gate.
 pub fn put_gate<S: Sink>(
-    room: &mut Vec<u8>,
+    buffer: &mut PieceBuffer,
     sink: &mut S,
     q: usize,
     gate: Gate,
 ) -> Result<(), Failed>
-    requires { HasRoom room.old }
-    ensures ok { OnOk result (Sends (S.held sink.old) room.old.items (S.held sink.new) room.new.items (op_line (with_underscores q) (op_of gate))) }
-    ensures err { OnErr result (GainsPrefix (S.held sink.old) (S.held sink.new) (room.old.items ++ op_line (with_underscores q) (op_of gate))) }
+    ensures ok { OnOk result (Sends (S.held sink.old) buffer.old (S.held sink.new) buffer.new (op_line (with_underscores q) (op_of gate))) }
+    ensures err { OnErr result (GainsPrefix (S.held sink.old) (S.held sink.new) (buffer.old ++ op_line (with_underscores q) (op_of gate))) }
     ensures cause { HasCause (S.faults sink.old) (S.faults sink.new) result }
-    ensures room { HasRoom room.new }
 {
     match gate {
-        Gate::H { q: wire } => put_single(room, sink, "h", q, wire),
-        Gate::X { q: wire } => put_single(room, sink, "x", q, wire),
-        Gate::P { k, q: wire } => put_single(room, sink, phase_name(k), q, wire),
-        Gate::Cx { c, t } => put_cx(room, sink, q, c, t),
+        Gate::H { q: wire } => put_single(buffer, sink, "h", q, wire),
+        Gate::X { q: wire } => put_single(buffer, sink, "x", q, wire),
+        Gate::P { k, q: wire } => put_single(buffer, sink, phase_name(k), q, wire),
+        Gate::Cx { c, t } => put_cx(buffer, sink, q, c, t),
     }
 }
 
 /// Puts the line of the quantum register.
 fn put_quantum_register<S: Sink>(
-    room: &mut Vec<u8>,
+    buffer: &mut PieceBuffer,
     sink: &mut S,
     q: usize,
     wires: u32,
 ) -> Result<(), Failed>
-    requires { HasRoom room.old }
-    ensures ok { OnOk result (Sends (S.held sink.old) room.old.items (S.held sink.new) room.new.items (codes "qreg " ++ (index_text (with_underscores q) wires ++ codes ";\n"))) }
-    ensures err { OnErr result (GainsPrefix (S.held sink.old) (S.held sink.new) (room.old.items ++ (codes "qreg " ++ (index_text (with_underscores q) wires ++ codes ";\n")))) }
+    ensures ok { OnOk result (Sends (S.held sink.old) buffer.old (S.held sink.new) buffer.new (codes "qreg " ++ (index_text (with_underscores q) wires ++ codes ";\n"))) }
+    ensures err { OnErr result (GainsPrefix (S.held sink.old) (S.held sink.new) (buffer.old ++ (codes "qreg " ++ (index_text (with_underscores q) wires ++ codes ";\n")))) }
     ensures cause { HasCause (S.faults sink.old) (S.faults sink.new) result }
-    ensures room { HasRoom room.new }
 {
-    put(room, sink, "qreg ")?;
-    put_qubit(room, sink, q, wires)?;
-    put(room, sink, ";\n")
+    put(buffer, sink, "qreg ")?;
+    put_qubit(buffer, sink, q, wires)?;
+    put(buffer, sink, ";\n")
 }
 
 /// Puts the line of the quantum register, if there are wires.
-fn put_wires<S: Sink>(room: &mut Vec<u8>, sink: &mut S, q: usize, wires: u32) -> Result<(), Failed>
-    requires { HasRoom room.old }
-    ensures ok { OnOk result (Sends (S.held sink.old) room.old.items (S.held sink.new) room.new.items (wires_line (with_underscores q) wires)) }
-    ensures err { OnErr result (GainsPrefix (S.held sink.old) (S.held sink.new) (room.old.items ++ wires_line (with_underscores q) wires)) }
+fn put_wires<S: Sink>(
+    buffer: &mut PieceBuffer,
+    sink: &mut S,
+    q: usize,
+    wires: u32,
+) -> Result<(), Failed>
+    ensures ok { OnOk result (Sends (S.held sink.old) buffer.old (S.held sink.new) buffer.new (wires_line (with_underscores q) wires)) }
+    ensures err { OnErr result (GainsPrefix (S.held sink.old) (S.held sink.new) (buffer.old ++ wires_line (with_underscores q) wires)) }
     ensures cause { HasCause (S.faults sink.old) (S.faults sink.new) result }
-    ensures room { HasRoom room.new }
 {
     if wires == 0 {
         return Ok(());
     }
-    put_quantum_register(room, sink, q, wires)
+    put_quantum_register(buffer, sink, q, wires)
 }
 
 /// Puts the line of a classical register.
-fn put_register<S: Sink>(room: &mut Vec<u8>, sink: &mut S, register: Register) -> Result<(), Failed>
-    requires { HasRoom room.old }
-    ensures ok { OnOk result (Sends (S.held sink.old) room.old.items (S.held sink.new) room.new.items (bits_line (bits_of register.entry))) }
-    ensures err { OnErr result (GainsPrefix (S.held sink.old) (S.held sink.new) (room.old.items ++ bits_line (bits_of register.entry))) }
+fn put_register<S: Sink>(
+    buffer: &mut PieceBuffer,
+    sink: &mut S,
+    register: Register,
+) -> Result<(), Failed>
+    ensures ok { OnOk result (Sends (S.held sink.old) buffer.old (S.held sink.new) buffer.new (bits_line (bits_of register.entry))) }
+    ensures err { OnErr result (GainsPrefix (S.held sink.old) (S.held sink.new) (buffer.old ++ bits_line (bits_of register.entry))) }
     ensures cause { HasCause (S.faults sink.old) (S.faults sink.new) result }
-    ensures room { HasRoom room.new }
 {
-    put(room, sink, "creg ")?;
-    put_indexed(room, sink, register.name, register.size as usize)?;
-    put(room, sink, ";\n")
+    put(buffer, sink, "creg ")?;
+    put_indexed(buffer, sink, register.name, register.size as usize)?;
+    put(buffer, sink, ";\n")
 }
 
 /// Puts the line of the measurement of a qubit into a bit of a register.
 fn put_measurement<S: Sink>(
-    room: &mut Vec<u8>,
+    buffer: &mut PieceBuffer,
     sink: &mut S,
     q: usize,
     wire: u32,
-    name: &str,
+    name: &[u8],
     bit: usize,
 ) -> Result<(), Failed>
-    requires { HasRoom room.old }
-    ensures ok { OnOk result (Sends (S.held sink.old) room.old.items (S.held sink.new) room.new.items (read_line (with_underscores q) name.now bit (Some wire))) }
-    ensures err { OnErr result (GainsPrefix (S.held sink.old) (S.held sink.new) (room.old.items ++ read_line (with_underscores q) name.now bit (Some wire))) }
+    ensures ok { OnOk result (Sends (S.held sink.old) buffer.old (S.held sink.new) buffer.new (read_line (with_underscores q) name.now bit (Some wire))) }
+    ensures err { OnErr result (GainsPrefix (S.held sink.old) (S.held sink.new) (buffer.old ++ read_line (with_underscores q) name.now bit (Some wire))) }
     ensures cause { HasCause (S.faults sink.old) (S.faults sink.new) result }
-    ensures room { HasRoom room.new }
 {
-    put(room, sink, "measure ")?;
-    put_qubit(room, sink, q, wire)?;
-    put(room, sink, " -> ")?;
-    put_indexed(room, sink, name, bit)?;
-    put(room, sink, ";\n")
+    put(buffer, sink, "measure ")?;
+    put_qubit(buffer, sink, q, wire)?;
+    put(buffer, sink, " -> ")?;
+    put_indexed(buffer, sink, name, bit)?;
+    put(buffer, sink, ";\n")
 }
 
 /// Puts the line of a measurement into a bit of a register, if there is one.
 fn put_read<S: Sink>(
-    room: &mut Vec<u8>,
+    buffer: &mut PieceBuffer,
     sink: &mut S,
     q: usize,
-    name: &str,
+    name: &[u8],
     bit: usize,
     read: Option<u32>,
 ) -> Result<(), Failed>
-    requires { HasRoom room.old }
-    ensures ok { OnOk result (Sends (S.held sink.old) room.old.items (S.held sink.new) room.new.items (read_line (with_underscores q) name.now bit read)) }
-    ensures err { OnErr result (GainsPrefix (S.held sink.old) (S.held sink.new) (room.old.items ++ read_line (with_underscores q) name.now bit read)) }
+    ensures ok { OnOk result (Sends (S.held sink.old) buffer.old (S.held sink.new) buffer.new (read_line (with_underscores q) name.now bit read)) }
+    ensures err { OnErr result (GainsPrefix (S.held sink.old) (S.held sink.new) (buffer.old ++ read_line (with_underscores q) name.now bit read)) }
     ensures cause { HasCause (S.faults sink.old) (S.faults sink.new) result }
-    ensures room { HasRoom room.new }
 {
     match read {
         None => Ok(()),
-        Some(wire) => put_measurement(room, sink, q, wire, name, bit),
+        Some(wire) => put_measurement(buffer, sink, q, wire, name, bit),
     }
 }
 
 /// Puts the lines of the classical registers.
 #[tactic(auto, using(crate::proofs::PieceLaws::loops, crate::proofs::LineLaws::lines))]
 fn put_registers<S: Sink>(
-    room: &mut Vec<u8>,
+    buffer: &mut PieceBuffer,
     sink: &mut S,
     registers: &[Register],
 ) -> Result<(), Failed>
-    requires { HasRoom room.old }
-    ensures ok { OnOk result (Sends (S.held sink.old) room.old.items (S.held sink.new) room.new.items (flat_map bits_line (map bits_of registers.now))) }
-    ensures err { OnErr result (GainsPrefix (S.held sink.old) (S.held sink.new) (room.old.items ++ flat_map bits_line (map bits_of registers.now))) }
+    ensures ok { OnOk result (Sends (S.held sink.old) buffer.old (S.held sink.new) buffer.new (flat_map bits_line (map bits_of registers.now))) }
+    ensures err { OnErr result (GainsPrefix (S.held sink.old) (S.held sink.new) (buffer.old ++ flat_map bits_line (map bits_of registers.now))) }
     ensures cause { HasCause (S.faults sink.old) (S.faults sink.new) result }
-    ensures room { HasRoom room.new }
 {
     'registers: for i in 0..registers.len() {
-        put_register(room, sink, registers[i])?;
+        put_register(buffer, sink, registers[i])?;
     }
     Ok(())
 }
 
-/// Puts a comma and a qubit.
-fn put_next<S: Sink>(room: &mut Vec<u8>, sink: &mut S, q: usize, wire: u32) -> Result<(), Failed>
-    requires { HasRoom room.old }
-    ensures ok { OnOk result (Sends (S.held sink.old) room.old.items (S.held sink.new) room.new.items (codes "," ++ index_text (with_underscores q) wire)) }
-    ensures err { OnErr result (GainsPrefix (S.held sink.old) (S.held sink.new) (room.old.items ++ (codes "," ++ index_text (with_underscores q) wire))) }
-    ensures cause { HasCause (S.faults sink.old) (S.faults sink.new) result }
-    ensures room { HasRoom room.new }
-{
-    put(room, sink, ",")?;
-    put_qubit(room, sink, q, wire)
-}
-
-/// Puts qubits, a comma before each.
+/// Puts qubits, a comma before all but the first.
 #[tactic(auto, using(crate::proofs::PieceLaws::loops, crate::proofs::LineLaws::lines))]
-fn put_others<S: Sink>(
-    room: &mut Vec<u8>,
+fn put_listed<S: Sink>(
+    buffer: &mut PieceBuffer,
     sink: &mut S,
     q: usize,
     wires: &[u32],
 ) -> Result<(), Failed>
-    requires { HasRoom room.old }
-    ensures ok { OnOk result (Sends (S.held sink.old) room.old.items (S.held sink.new) room.new.items (flat_map (λ i. codes "," ++ index_text (with_underscores q) i) wires.now)) }
-    ensures err { OnErr result (GainsPrefix (S.held sink.old) (S.held sink.new) (room.old.items ++ (flat_map (λ i. codes "," ++ index_text (with_underscores q) i) wires.now))) }
+    ensures ok { OnOk result (Sends (S.held sink.old) buffer.old (S.held sink.new) buffer.new (listed (with_underscores q) wires.now)) }
+    ensures err { OnErr result (GainsPrefix (S.held sink.old) (S.held sink.new) (buffer.old ++ listed (with_underscores q) wires.now)) }
     ensures cause { HasCause (S.faults sink.old) (S.faults sink.new) result }
-    ensures room { HasRoom room.new }
 {
+    let mut comma: &[u8] = b"";
     'wires: for i in 0..wires.len() {
-        put_next(room, sink, q, wires[i])?;
+        put_bytes(buffer, sink, comma)?;
+        put_qubit(buffer, sink, q, wires[i])?;
+        comma = b",";
     }
     Ok(())
-}
-
-/// Puts a qubit, and others behind commas.
-fn put_joined<S: Sink>(
-    room: &mut Vec<u8>,
-    sink: &mut S,
-    q: usize,
-    first: u32,
-    others: &[u32],
-) -> Result<(), Failed>
-    requires { HasRoom room.old }
-    ensures ok { OnOk result (Sends (S.held sink.old) room.old.items (S.held sink.new) room.new.items (index_text (with_underscores q) first ++ flat_map (λ i. codes "," ++ index_text (with_underscores q) i) others.now)) }
-    ensures err { OnErr result (GainsPrefix (S.held sink.old) (S.held sink.new) (room.old.items ++ (index_text (with_underscores q) first ++ flat_map (λ i. codes "," ++ index_text (with_underscores q) i) others.now))) }
-    ensures cause { HasCause (S.faults sink.old) (S.faults sink.new) result }
-    ensures room { HasRoom room.new }
-{
-    put_qubit(room, sink, q, first)?;
-    put_others(room, sink, q, others)
-}
-
-/// Puts qubits, joined by commas.
-fn put_listed<S: Sink>(
-    room: &mut Vec<u8>,
-    sink: &mut S,
-    q: usize,
-    wires: &[u32],
-) -> Result<(), Failed>
-    requires { HasRoom room.old }
-    ensures ok { OnOk result (Sends (S.held sink.old) room.old.items (S.held sink.new) room.new.items (listed (with_underscores q) wires.now)) }
-    ensures err { OnErr result (GainsPrefix (S.held sink.old) (S.held sink.new) (room.old.items ++ listed (with_underscores q) wires.now)) }
-    ensures cause { HasCause (S.faults sink.old) (S.faults sink.new) result }
-    ensures room { HasRoom room.new }
-{
-    match wires.split_first() {
-        None => Ok(()),
-        Some((first, others)) => put_joined(room, sink, q, *first, others),
-    }
 }
 
 /// Puts the line of a barrier.
 fn put_barrier<S: Sink>(
-    room: &mut Vec<u8>,
+    buffer: &mut PieceBuffer,
     sink: &mut S,
     q: usize,
     wires: &[u32],
 ) -> Result<(), Failed>
-    requires { HasRoom room.old }
-    ensures ok { OnOk result (Sends (S.held sink.old) room.old.items (S.held sink.new) room.new.items (barrier_line (with_underscores q) wires.now)) }
-    ensures err { OnErr result (GainsPrefix (S.held sink.old) (S.held sink.new) (room.old.items ++ barrier_line (with_underscores q) wires.now)) }
+    ensures ok { OnOk result (Sends (S.held sink.old) buffer.old (S.held sink.new) buffer.new (barrier_line (with_underscores q) wires.now)) }
+    ensures err { OnErr result (GainsPrefix (S.held sink.old) (S.held sink.new) (buffer.old ++ barrier_line (with_underscores q) wires.now)) }
     ensures cause { HasCause (S.faults sink.old) (S.faults sink.new) result }
-    ensures room { HasRoom room.new }
 {
-    put(room, sink, "barrier ")?;
-    put_listed(room, sink, q, wires)?;
-    put(room, sink, ";\n")
+    put(buffer, sink, "barrier ")?;
+    put_listed(buffer, sink, q, wires)?;
+    put(buffer, sink, ";\n")
 }
 
 /// Puts the lines of the gates from one place to another.
 #[tactic(auto, using(crate::proofs::PieceLaws::loops, crate::proofs::LineLaws::lines))]
 fn put_gates<S: Sink>(
-    room: &mut Vec<u8>,
+    buffer: &mut PieceBuffer,
     sink: &mut S,
     q: usize,
     body: &Circuit,
     from: usize,
     to: usize,
 ) -> Result<(), Failed>
-    requires room { HasRoom room.old }
     requires order { from ≤ to }
     requires there { to ≤ length body.now.gates }
-    ensures ok { OnOk result (Sends (S.held sink.old) room.old.items (S.held sink.new) room.new.items (flat_map (op_line (with_underscores q)) (ops (take (to - from) (drop from body.now.gates))))) }
-    ensures err { OnErr result (GainsPrefix (S.held sink.old) (S.held sink.new) (room.old.items ++ flat_map (op_line (with_underscores q)) (ops (take (to - from) (drop from body.now.gates))))) }
+    ensures ok { OnOk result (Sends (S.held sink.old) buffer.old (S.held sink.new) buffer.new (flat_map (op_line (with_underscores q)) (ops (take (to - from) (drop from body.now.gates))))) }
+    ensures err { OnErr result (GainsPrefix (S.held sink.old) (S.held sink.new) (buffer.old ++ flat_map (op_line (with_underscores q)) (ops (take (to - from) (drop from body.now.gates))))) }
     ensures cause { HasCause (S.faults sink.old) (S.faults sink.new) result }
-    ensures room { HasRoom room.new }
 {
     'gates: for i in from..to {
-        put_gate(room, sink, q, body.gate(i))?;
+        put_gate(buffer, sink, q, body.gate(i))?;
     }
     Ok(())
 }
 
 /// Puts the lines of these gates, and that of the barrier behind them.
 fn put_part<S: Sink>(
-    room: &mut Vec<u8>,
+    buffer: &mut PieceBuffer,
     sink: &mut S,
     q: usize,
     body: &Circuit,
@@ -379,61 +325,55 @@ fn put_part<S: Sink>(
     to: usize,
     wires: &[u32],
 ) -> Result<(), Failed>
-    requires room { HasRoom room.old }
     requires order { from ≤ to }
     requires there { to ≤ length body.now.gates }
-    ensures ok { OnOk result (Sends (S.held sink.old) room.old.items (S.held sink.new) room.new.items (flat_map (op_line (with_underscores q)) (ops (take (to - from) (drop from body.now.gates))) ++ barrier_line (with_underscores q) wires.now)) }
-    ensures err { OnErr result (GainsPrefix (S.held sink.old) (S.held sink.new) (room.old.items ++ (flat_map (op_line (with_underscores q)) (ops (take (to - from) (drop from body.now.gates))) ++ barrier_line (with_underscores q) wires.now))) }
+    ensures ok { OnOk result (Sends (S.held sink.old) buffer.old (S.held sink.new) buffer.new (flat_map (op_line (with_underscores q)) (ops (take (to - from) (drop from body.now.gates))) ++ barrier_line (with_underscores q) wires.now)) }
+    ensures err { OnErr result (GainsPrefix (S.held sink.old) (S.held sink.new) (buffer.old ++ (flat_map (op_line (with_underscores q)) (ops (take (to - from) (drop from body.now.gates))) ++ barrier_line (with_underscores q) wires.now))) }
     ensures cause { HasCause (S.faults sink.old) (S.faults sink.new) result }
-    ensures room { HasRoom room.new }
 {
-    put_gates(room, sink, q, body, from, to)?;
-    put_barrier(room, sink, q, wires)
+    put_gates(buffer, sink, q, body, from, to)?;
+    put_barrier(buffer, sink, q, wires)
 }
 
 /// Puts the lines of all parts, a barrier between two of them.
 #[tactic(auto, using(crate::proofs::PieceLaws::loops, crate::proofs::LineLaws::lines))]
 fn put_parts<S: Sink>(
-    room: &mut Vec<u8>,
+    buffer: &mut PieceBuffer,
     sink: &mut S,
     q: usize,
     output: &Output,
 ) -> Result<(), Failed>
-    requires room { HasRoom room.old }
     requires lengths { sum_by (λ n. n) output.now.lengths.now ≡ length output.now.body.now.gates }
     requires cut { length output.now.lengths.now ≡ length output.now.barriers.now + 1 }
-    ensures ok { OnOk result (Sends (S.held sink.old) room.old.items (S.held sink.new) room.new.items (part_lines (with_underscores q) (cut_of output.now).parts (cut_of output.now).bars)) }
-    ensures err { OnErr result (GainsPrefix (S.held sink.old) (S.held sink.new) (room.old.items ++ part_lines (with_underscores q) (cut_of output.now).parts (cut_of output.now).bars)) }
+    ensures ok { OnOk result (Sends (S.held sink.old) buffer.old (S.held sink.new) buffer.new (part_lines (with_underscores q) (cut_of output.now).parts (cut_of output.now).bars)) }
+    ensures err { OnErr result (GainsPrefix (S.held sink.old) (S.held sink.new) (buffer.old ++ part_lines (with_underscores q) (cut_of output.now).parts (cut_of output.now).bars)) }
     ensures cause { HasCause (S.faults sink.old) (S.faults sink.new) result }
-    ensures room { HasRoom room.new }
 {
     let end = output.body.len();
     let mut from = 0;
     'barriers: for k in 0..output.barriers.len() {
         let to = from + output.lengths[k];
-        put_part(room, sink, q, output.body, from, to, &output.barriers[k])?;
+        put_part(buffer, sink, q, output.body, from, to, &output.barriers[k])?;
         from = to;
     }
-    put_gates(room, sink, q, output.body, from, end)
+    put_gates(buffer, sink, q, output.body, from, end)
 }
 
 /// Puts the lines of the measurements into one register.
 #[tactic(auto, using(crate::proofs::PieceLaws::loops, crate::proofs::LineLaws::lines))]
 fn put_register_reads<S: Sink>(
-    room: &mut Vec<u8>,
+    buffer: &mut PieceBuffer,
     sink: &mut S,
     q: usize,
-    name: &str,
+    name: &[u8],
     reads: &[Option<u32>],
 ) -> Result<(), Failed>
-    requires { HasRoom room.old }
-    ensures ok { OnOk result (Sends (S.held sink.old) room.old.items (S.held sink.new) room.new.items (register_lines (with_underscores q) name.now 0 reads.now)) }
-    ensures err { OnErr result (GainsPrefix (S.held sink.old) (S.held sink.new) (room.old.items ++ register_lines (with_underscores q) name.now 0 reads.now)) }
+    ensures ok { OnOk result (Sends (S.held sink.old) buffer.old (S.held sink.new) buffer.new (register_lines (with_underscores q) name.now 0 reads.now)) }
+    ensures err { OnErr result (GainsPrefix (S.held sink.old) (S.held sink.new) (buffer.old ++ register_lines (with_underscores q) name.now 0 reads.now)) }
     ensures cause { HasCause (S.faults sink.old) (S.faults sink.new) result }
-    ensures room { HasRoom room.new }
 {
     'reads: for bit in 0..reads.len() {
-        put_read(room, sink, q, name, bit, reads[bit])?;
+        put_read(buffer, sink, q, name, bit, reads[bit])?;
     }
     Ok(())
 }
@@ -441,23 +381,21 @@ fn put_register_reads<S: Sink>(
 /// Puts the lines of the measurements, register by register.
 #[tactic(auto, using(crate::proofs::PieceLaws::loops, crate::proofs::LineLaws::lines))]
 fn put_reads<S: Sink>(
-    room: &mut Vec<u8>,
+    buffer: &mut PieceBuffer,
     sink: &mut S,
     q: usize,
     registers: &[Register],
     reads: &[Option<u32>],
 ) -> Result<(), Failed>
-    requires room { HasRoom room.old }
     requires reads { sum_by (λ r. r.size) (map bits_of registers.now) ≤ length reads.now }
-    ensures ok { OnOk result (Sends (S.held sink.old) room.old.items (S.held sink.new) room.new.items (read_lines (with_underscores q) (map bits_of registers.now) reads.now)) }
-    ensures err { OnErr result (GainsPrefix (S.held sink.old) (S.held sink.new) (room.old.items ++ read_lines (with_underscores q) (map bits_of registers.now) reads.now)) }
+    ensures ok { OnOk result (Sends (S.held sink.old) buffer.old (S.held sink.new) buffer.new (read_lines (with_underscores q) (map bits_of registers.now) reads.now)) }
+    ensures err { OnErr result (GainsPrefix (S.held sink.old) (S.held sink.new) (buffer.old ++ read_lines (with_underscores q) (map bits_of registers.now) reads.now)) }
     ensures cause { HasCause (S.faults sink.old) (S.faults sink.new) result }
-    ensures room { HasRoom room.new }
 {
     let mut rest = reads;
     'registers: for register in registers {
         let (own, others) = rest.split_at(register.size as usize);
-        put_register_reads(room, sink, q, register.name, own)?;
+        put_register_reads(buffer, sink, q, register.name, own)?;
         rest = others;
     }
     Ok(())
@@ -468,50 +406,44 @@ fn put_program<S: Sink>(
     output: &Output,
     q: usize,
     wires: u32,
-    room: &mut Vec<u8>,
+    buffer: &mut PieceBuffer,
     sink: &mut S,
 ) -> Result<(), Failed>
-    requires room { HasRoom room.old }
     requires lengths { sum_by (λ n. n) output.now.lengths.now ≡ length output.now.body.now.gates }
     requires cut { length output.now.lengths.now ≡ length output.now.barriers.now + 1 }
     requires reads { sum_by (λ r. r.size) (map bits_of output.now.registers.now) ≤ length output.now.reads.now }
-    ensures ok { OnOk result (Sends (S.held sink.old) room.old.items (S.held sink.new) room.new.items (written_text (with_underscores q) wires (cut_of output.now) (map bits_of output.now.registers.now) output.now.reads.now)) }
-    ensures err { OnErr result (GainsPrefix (S.held sink.old) (S.held sink.new) (room.old.items ++ written_text (with_underscores q) wires (cut_of output.now) (map bits_of output.now.registers.now) output.now.reads.now)) }
+    ensures ok { OnOk result (Sends (S.held sink.old) buffer.old (S.held sink.new) buffer.new (written_text (with_underscores q) wires (cut_of output.now) (map bits_of output.now.registers.now) output.now.reads.now)) }
+    ensures err { OnErr result (GainsPrefix (S.held sink.old) (S.held sink.new) (buffer.old ++ written_text (with_underscores q) wires (cut_of output.now) (map bits_of output.now.registers.now) output.now.reads.now)) }
     ensures cause { HasCause (S.faults sink.old) (S.faults sink.new) result }
-    ensures room { HasRoom room.new }
 {
-    put(room, sink, "OPENQASM 2.0;\ninclude \"qelib1.inc\";\n")?;
-    put_wires(room, sink, q, wires)?;
-    put_registers(room, sink, output.registers)?;
-    put_parts(room, sink, q, output)?;
-    put_reads(room, sink, q, output.registers, output.reads)
+    put(buffer, sink, "OPENQASM 2.0;\ninclude \"qelib1.inc\";\n")?;
+    put_wires(buffer, sink, q, wires)?;
+    put_registers(buffer, sink, output.registers)?;
+    put_parts(buffer, sink, q, output)?;
+    put_reads(buffer, sink, q, output.registers, output.reads)
 }
 
 /// Puts a line of a trace as a comment.
-fn put_comment<S: Sink>(room: &mut Vec<u8>, sink: &mut S, line: &[u8]) -> Result<(), Failed>
-    requires { HasRoom room.old }
-    ensures ok { OnOk result (Sends (S.held sink.old) room.old.items (S.held sink.new) room.new.items (codes "//!" ++ (line.now ++ codes "\n"))) }
-    ensures err { OnErr result (GainsPrefix (S.held sink.old) (S.held sink.new) (room.old.items ++ (codes "//!" ++ (line.now ++ codes "\n")))) }
+fn put_comment<S: Sink>(buffer: &mut PieceBuffer, sink: &mut S, line: &[u8]) -> Result<(), Failed>
+    ensures ok { OnOk result (Sends (S.held sink.old) buffer.old (S.held sink.new) buffer.new (codes "//!" ++ (line.now ++ codes "\n"))) }
+    ensures err { OnErr result (GainsPrefix (S.held sink.old) (S.held sink.new) (buffer.old ++ (codes "//!" ++ (line.now ++ codes "\n")))) }
     ensures cause { HasCause (S.faults sink.old) (S.faults sink.new) result }
-    ensures room { HasRoom room.new }
 {
-    put(room, sink, "//!")?;
-    put_bytes(room, sink, line)?;
-    put(room, sink, "\n")
+    put(buffer, sink, "//!")?;
+    put_bytes(buffer, sink, line)?;
+    put(buffer, sink, "\n")
 }
 
 /// Puts the lines of a trace.
 #[tactic(auto, using(crate::proofs::PieceLaws::loops))]
-fn put_trace<S: Sink>(room: &mut Vec<u8>, sink: &mut S, trace: &[u8]) -> Result<(), Failed>
-    requires { HasRoom room.old }
-    ensures ok { OnOk result (Sends (S.held sink.old) room.old.items (S.held sink.new) room.new.items (commented trace.now)) }
-    ensures err { OnErr result (GainsPrefix (S.held sink.old) (S.held sink.new) (room.old.items ++ commented trace.now)) }
+fn put_trace<S: Sink>(buffer: &mut PieceBuffer, sink: &mut S, trace: &[u8]) -> Result<(), Failed>
+    ensures ok { OnOk result (Sends (S.held sink.old) buffer.old (S.held sink.new) buffer.new (commented trace.now)) }
+    ensures err { OnErr result (GainsPrefix (S.held sink.old) (S.held sink.new) (buffer.old ++ commented trace.now)) }
     ensures cause { HasCause (S.faults sink.old) (S.faults sink.new) result }
-    ensures room { HasRoom room.new }
 {
     let mut rest = trace;
     'lines: while let Some((line, behind)) = first_line(rest) {
-        put_comment(room, sink, line)?;
+        put_comment(buffer, sink, line)?;
         rest = behind;
     }
     Ok(())
@@ -522,18 +454,16 @@ pub fn put_lines<S: Sink>(
     output: &Output,
     q: usize,
     wires: u32,
-    room: &mut Vec<u8>,
+    buffer: &mut PieceBuffer,
     sink: &mut S,
 ) -> Result<(), Failed>
-    requires room { HasRoom room.old }
     requires lengths { sum_by (λ n. n) output.now.lengths.now ≡ length output.now.body.now.gates }
     requires cut { length output.now.lengths.now ≡ length output.now.barriers.now + 1 }
     requires reads { sum_by (λ r. r.size) (map bits_of output.now.registers.now) ≤ length output.now.reads.now }
-    ensures ok { OnOk result (Sends (S.held sink.old) room.old.items (S.held sink.new) room.new.items (written_text (with_underscores q) wires (cut_of output.now) (map bits_of output.now.registers.now) output.now.reads.now ++ commented output.now.trace.now)) }
-    ensures err { OnErr result (GainsPrefix (S.held sink.old) (S.held sink.new) (room.old.items ++ (written_text (with_underscores q) wires (cut_of output.now) (map bits_of output.now.registers.now) output.now.reads.now ++ commented output.now.trace.now))) }
+    ensures ok { OnOk result (Sends (S.held sink.old) buffer.old (S.held sink.new) buffer.new (written_text (with_underscores q) wires (cut_of output.now) (map bits_of output.now.registers.now) output.now.reads.now ++ commented output.now.trace.now)) }
+    ensures err { OnErr result (GainsPrefix (S.held sink.old) (S.held sink.new) (buffer.old ++ (written_text (with_underscores q) wires (cut_of output.now) (map bits_of output.now.registers.now) output.now.reads.now ++ commented output.now.trace.now))) }
     ensures cause { HasCause (S.faults sink.old) (S.faults sink.new) result }
-    ensures room { HasRoom room.new }
 {
-    put_program(output, q, wires, room, sink)?;
-    put_trace(room, sink, output.trace)
+    put_program(output, q, wires, buffer, sink)?;
+    put_trace(buffer, sink, output.trace)
 }

@@ -5,7 +5,7 @@ use circuit_list::Circuit;
 /// A classical register.
 #[derive(Clone, Copy)]
 pub struct Register<'a> {
-    pub name: &'a str,
+    pub name: &'a [u8],
     /// The number of its bits.
     pub size: u32,
 }

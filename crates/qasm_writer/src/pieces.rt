@@ -1,80 +1,129 @@
-//! Bytes on their way to a sink: they wait in a room until it holds a whole piece.
+//! Bytes on their way to a sink: they wait in a buffer until it holds a whole piece.
 
-ghost use Rattle.std.specs.Prelude.{◌≡◌, ◌≤◌, ◌<◌, ◌++◌, [], OnErr, OnOk, decimal, length, vec_capacity};
+ghost use Rattle.std.specs.Prelude.{◌≡◌, ◌≤◌, ◌<◌, ◌++◌, [], IfOk, OnErr, OnOk, decimal, length, vec_capacity};
 ghost use Rattle.outside_io.specs.Bytes.{Gains, GainsPrefix};
 ghost use Rattle.outside_io.specs.Causes.{HasCause};
 ghost use Rattle.qasm_writer.specs.Pieces.{HasRoom, Sends};
 
 use itoa::Buffer;
 use outside_io::{Failed, Sink, write_all};
+use std::alloc::{AllocError, Global};
+use std::marker::Model;
 
 /// The number of bytes in a piece.
-pub const PIECE: usize = 4_096;
+const PIECE: usize = 4_096;
 
-/// Puts as many first bytes into the room as make a piece, and gives the others.
-fn fill<'a>(room: &mut Vec<u8>, bytes: &'a [u8]) -> &'a [u8]
-    requires { HasRoom room.old }
-    ensures bytes { room.old.items ++ bytes.now ≡ room.new.items ++ result.now }
-    ensures bound { length room.new.items ≤ 4096 }
-    ensures all { length room.new.items < 4096 → result.now ≡ [] }
-    ensures capacity { 4096 ≤ vec_capacity room.new }
+/// Bytes that wait until they are a whole piece: contracts see these bytes. They are fewer than a piece, and memory for one is
+/// there from the start.
+#[derive(Drop)]
+pub struct PieceBuffer {
+    bytes: Vec<u8>,
+}
+
+impl Model for PieceBuffer {
+    ghost use Rattle.std.specs.Prelude.{List, ℕ};
+    ghost use Rattle.qasm_writer.specs.Pieces.{HasRoom};
+
+    ghost Value = { List ℕ };
+
+    ghost view = { λ b. b.bytes.items };
+
+    ghost invariant = { λ b. HasRoom b.bytes };
+}
+
+impl PieceBuffer {
+    /// A buffer in which no bytes wait.
+    pub fn new(alloc: Global) -> Result<PieceBuffer, AllocError>
+        ensures empty { IfOk result (λ b. b ≡ []) }
+    {
+        let bytes = Vec::with_capacity(alloc, PIECE)?;
+        Ok(PieceBuffer { bytes })
+    }
+
+    /// Drops the bytes that wait.
+    pub(crate) fn clear(&mut self)
+        ensures empty { self.new ≡ [] }
+    {
+        self.bytes.clear();
+    }
+}
+
+/// Puts as many first bytes behind those that wait as make a piece, and gives the others.
+fn fill<'a>(waiting: &mut Vec<u8>, bytes: &'a [u8]) -> &'a [u8]
+    requires { HasRoom waiting.old }
+    ensures bytes { waiting.old.items ++ bytes.now ≡ waiting.new.items ++ result.now }
+    ensures bound { length waiting.new.items ≤ 4096 }
+    ensures all { length waiting.new.items < 4096 → result.now ≡ [] }
+    ensures capacity { 4096 ≤ vec_capacity waiting.new }
 {
-    let free = PIECE - room.len();
+    let free = PIECE - waiting.len();
     let (fitting, others) = bytes.split_at(free.min(bytes.len()));
-    room.extend_from_slice(fitting).unwrap();
+    waiting.extend_from_slice(fitting).unwrap();
     others
 }
 
-/// Sends what is in the room, and empties it.
-pub fn send_room<S: Sink>(room: &mut Vec<u8>, sink: &mut S) -> Result<(), Failed>
-    requires { 4096 ≤ vec_capacity room.old }
-    ensures ok { OnOk result (Gains (S.held sink.old) (S.held sink.new) room.old.items) }
-    ensures err { OnErr result (GainsPrefix (S.held sink.old) (S.held sink.new) room.old.items) }
+/// Sends the bytes that wait; none waits then.
+fn send_waiting<S: Sink>(waiting: &mut Vec<u8>, sink: &mut S) -> Result<(), Failed>
+    requires { 4096 ≤ vec_capacity waiting.old }
+    ensures ok { OnOk result (Gains (S.held sink.old) (S.held sink.new) waiting.old.items) }
+    ensures err { OnErr result (GainsPrefix (S.held sink.old) (S.held sink.new) waiting.old.items) }
     ensures cause { HasCause (S.faults sink.old) (S.faults sink.new) result }
-    ensures empty { room.new.items ≡ [] }
-    ensures capacity { 4096 ≤ vec_capacity room.new }
+    ensures empty { waiting.new.items ≡ [] }
+    ensures capacity { 4096 ≤ vec_capacity waiting.new }
 {
-    let sent = write_all(sink, room);
-    room.clear();
+    let sent = write_all(sink, waiting);
+    waiting.clear();
     sent
 }
 
-/// Puts bytes behind those in the room, and sends each whole piece.
-#[tactic(auto, using(crate::proofs::PieceLaws::pieces))]
-pub fn put_bytes<S: Sink>(room: &mut Vec<u8>, sink: &mut S, bytes: &[u8]) -> Result<(), Failed>
-    requires { HasRoom room.old }
-    ensures ok { OnOk result (Sends (S.held sink.old) room.old.items (S.held sink.new) room.new.items bytes.now) }
-    ensures err { OnErr result (GainsPrefix (S.held sink.old) (S.held sink.new) (room.old.items ++ bytes.now)) }
+/// Sends what is in the buffer, and empties it.
+pub fn send_buffer<S: Sink>(buffer: &mut PieceBuffer, sink: &mut S) -> Result<(), Failed>
+    ensures ok { OnOk result (Gains (S.held sink.old) (S.held sink.new) buffer.old) }
+    ensures err { OnErr result (GainsPrefix (S.held sink.old) (S.held sink.new) buffer.old) }
     ensures cause { HasCause (S.faults sink.old) (S.faults sink.new) result }
-    ensures room { HasRoom room.new }
+    ensures empty { buffer.new ≡ [] }
 {
-    let mut rest = fill(room, bytes);
-    'pieces: while room.len() == PIECE {
-        send_room(room, sink)?;
-        rest = fill(room, rest);
+    send_waiting(&mut buffer.bytes, sink)
+}
+
+/// Puts bytes behind those in the buffer, and sends each whole piece.
+#[tactic(auto, using(crate::proofs::PieceLaws::pieces))]
+pub fn put_bytes<S: Sink>(
+    buffer: &mut PieceBuffer,
+    sink: &mut S,
+    bytes: &[u8],
+) -> Result<(), Failed>
+    ensures ok { OnOk result (Sends (S.held sink.old) buffer.old (S.held sink.new) buffer.new bytes.now) }
+    ensures err { OnErr result (GainsPrefix (S.held sink.old) (S.held sink.new) (buffer.old ++ bytes.now)) }
+    ensures cause { HasCause (S.faults sink.old) (S.faults sink.new) result }
+{
+    let mut rest = fill(&mut buffer.bytes, bytes);
+    'pieces: while buffer.bytes.len() == PIECE {
+        send_waiting(&mut buffer.bytes, sink)?;
+        rest = fill(&mut buffer.bytes, rest);
     }
     Ok(())
 }
 
 /// Puts a word.
-pub fn put<S: Sink>(room: &mut Vec<u8>, sink: &mut S, word: &str) -> Result<(), Failed>
-    requires { HasRoom room.old }
-    ensures ok { OnOk result (Sends (S.held sink.old) room.old.items (S.held sink.new) room.new.items word.now) }
-    ensures err { OnErr result (GainsPrefix (S.held sink.old) (S.held sink.new) (room.old.items ++ word.now)) }
+pub fn put<S: Sink>(buffer: &mut PieceBuffer, sink: &mut S, word: &str) -> Result<(), Failed>
+    ensures ok { OnOk result (Sends (S.held sink.old) buffer.old (S.held sink.new) buffer.new word.now) }
+    ensures err { OnErr result (GainsPrefix (S.held sink.old) (S.held sink.new) (buffer.old ++ word.now)) }
     ensures cause { HasCause (S.faults sink.old) (S.faults sink.new) result }
-    ensures room { HasRoom room.new }
 {
-    put_bytes(room, sink, word.as_bytes())
+    put_bytes(buffer, sink, word.as_bytes())
 }
 
 /// Puts a number.
-pub fn put_number<S: Sink>(room: &mut Vec<u8>, sink: &mut S, number: usize) -> Result<(), Failed>
-    requires { HasRoom room.old }
-    ensures ok { OnOk result (Sends (S.held sink.old) room.old.items (S.held sink.new) room.new.items (decimal number)) }
-    ensures err { OnErr result (GainsPrefix (S.held sink.old) (S.held sink.new) (room.old.items ++ decimal number)) }
+pub fn put_number<S: Sink>(
+    buffer: &mut PieceBuffer,
+    sink: &mut S,
+    number: usize,
+) -> Result<(), Failed>
+    ensures ok { OnOk result (Sends (S.held sink.old) buffer.old (S.held sink.new) buffer.new (decimal number)) }
+    ensures err { OnErr result (GainsPrefix (S.held sink.old) (S.held sink.new) (buffer.old ++ decimal number)) }
     ensures cause { HasCause (S.faults sink.old) (S.faults sink.new) result }
-    ensures room { HasRoom room.new }
 {
     let mut digits = Buffer::new();
-    put(room, sink, digits.format(number))
+    put(buffer, sink, digits.format(number))
 }

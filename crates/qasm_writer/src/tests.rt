@@ -17,7 +17,10 @@ fn names_the_quantum_register_apart(rt: HostRuntime) -> Result<(), Fail> {
     for (names, wanted) in rows {
         let mut registers = Vec::new(alloc);
         for name in names {
-            registers.push(Register { name, size: 1 })?;
+            registers.push(Register {
+                name: name.as_bytes(),
+                size: 1,
+            })?;
         }
         assert_eq!(rt; underscores(&registers), wanted);
     }

@@ -15,17 +15,16 @@ use Rattle.outside_io.specs.declared.TextFault.TheVariants as text_fault
 use Rattle.gate_inline.specs.Programs.{IsWritten, Program, kept}
 use Rattle.program_parts.specs.Cuts.{uncut}
 use Rattle.program_reader.specs.Texts.{IsAcceptedText, IsTextRefusal}
-use Rattle.program_reader.specs.declared.refusal.Refusal.{Refusal}
+use Rattle.program_reader.specs.declared.refusal.ProgramRefusal.{ProgramRefusal}
 use Rattle.route_report.specs.declared.faults.Side.{Side}
 use Rattle.route_report.specs.declared.faults.Side.TheVariants as side
 use Rattle.trace_check.specs.Proves.{Claim, Proves, StopsAt}
-use Rattle.trace_check.specs.Verdicts.{IsReadAs, IsVerdict, claim_of}
-use Rattle.trace_check.specs.declared.verdict.Verdict.{Verdict}
-use Rattle.trace_check.specs.declared.verdict.Verdict.TheVariants as verdict
 use Rattle.std.proofs.lemmas.Grind.{common_steps}
 use Rattle.std.specs.Prelude.{Bool, true, false, cond, codes, drop, nat_eq, suc, ◌+◌, [], ◌∷◌}
-use Rattle.rewrite_pass.specs.TraceLines.{ended}
-use Rattle.trace_text.specs.Texts.{begins, begun, lines_of, trace_of, traced}
+use Rattle.trace_text.specs.Texts.{begins, begun, ended, lines_of, trace_of, traced}
+use Rattle.qroute_top.specs.Verdicts.{IsReadAs, IsVerdict, claim_of}
+use Rattle.qroute_top.specs.declared.verdict.Verdict.{Verdict}
+use Rattle.qroute_top.specs.declared.verdict.Verdict.TheVariants as verdict
 use Rattle.qroute_top.specs.Causes.{IsClaimCause, claim_status}
 use Rattle.qroute_top.specs.Claims.{Absent, AreTold, Bad, Ending, Found, Good, IsBehind, IsCompared, IsEnding, IsJudged, IsTextRefused, IsVerified, IsYes, Missing, Proved, Refused, Says, Stopped, ending_status, limit_of}
 use Rattle.qroute_top.specs.Stops.{IsClaimStop, IsTextStop, IsTraceStop, IsUnreadText, unloaded_text}
@@ -164,8 +163,8 @@ one-part text x (p, ok, e) = subst (λ (y : Program). y.cut ≡ uncut y.ops) (sy
 
 -- ---- one ending
 pub record Readable : Type 0 where
-  pub accepted : (text : List ℕ) (p : Program) (r : Refusal) → IsAcceptedText text p → IsTextRefusal text r → ⊥
-  pub refused : (text : List ℕ) (r s : Refusal) → IsTextRefusal text r → IsTextRefusal text s → r ≡ s
+  pub accepted : (text : List ℕ) (p : Program) (r : ProgramRefusal) → IsAcceptedText text p → IsTextRefusal text r → ⊥
+  pub refused : (text : List ℕ) (r s : ProgramRefusal) → IsTextRefusal text r → IsTextRefusal text s → r ≡ s
   pub means : (text : List ℕ) (p q : Program) → IsWritten text p → IsWritten text q → p ≡ q
 
 pub record Traceable : Type 0 where
@@ -176,13 +175,13 @@ pub record Traceable : Type 0 where
 written_of : (text : List ℕ) (p : Program) → IsAcceptedText text p → IsWritten text p
 written_of text p a = (a.tree, a.source, a.means)
 
-refused_same : Readable → (s : Side) (text : List ℕ) (r q : Refusal) → IsTextRefused s text r → IsTextRefused s text q → r ≡ q
+refused_same : Readable → (s : Side) (text : List ℕ) (r q : ProgramRefusal) → IsTextRefused s text r → IsTextRefused s text q → r ≡ q
 refused_same law s text r q (inl x) (inl y) = x.0 ∙ sym y.0
 refused_same law s text r q (inl x) (inr y) = absurd (omega (arith, x.1, y.0))
 refused_same law s text r q (inr x) (inl y) = absurd (omega (arith, x.0, y.1))
 refused_same law s text r q (inr x) (inr y) = law.refused text r q x.1 y.1
 
-refused_or_good : Readable → (s : Side) (text : List ℕ) (r : Refusal) (p : Program) → IsTextRefused s text r → length text ≤ limit_of s → IsAcceptedText text p → ⊥
+refused_or_good : Readable → (s : Side) (text : List ℕ) (r : ProgramRefusal) (p : Program) → IsTextRefused s text r → length text ≤ limit_of s → IsAcceptedText text p → ⊥
 refused_or_good law s text r p (inl x) short ok = omega (arith, x.1, short)
 refused_or_good law s text r p (inr x) short ok = law.accepted text p r ok x.1
 
@@ -270,11 +269,11 @@ this_text None t v e h = cc
 this_text (Some x) t v e h = cc
 
 abbrev pub Unrefused : Side → List ℕ → Type 0
-Unrefused s text = (r : Refusal) → IsTextRefused s text r → ⊥
+Unrefused s text = (r : ProgramRefusal) → IsTextRefused s text r → ⊥
 
 -- of a text that is there and isn't refused nothing else is found
 good_alone : (s : Side) (o : Option (Option (List ℕ))) (t : List ℕ) (f : Found) → o ≡ Some (Some t) → Unrefused s t → Says o s f
-    → (f ≡ Missing → ⊥) × ((r : Refusal) → f ≡ Bad r → ⊥)
+    → (f ≡ Missing → ⊥) × ((r : ProgramRefusal) → f ≡ Bad r → ⊥)
 good_alone s o t Missing told fine h = absurd (no_text_here o t told h)
 good_alone s o t (Bad r) told fine (text, tells, is) =
     absurd (fine r (subst (λ w. IsTextRefused s w r) (this_text o t text told tells) is))
@@ -304,7 +303,7 @@ ending-unrefused content a b s t x told fine here well (f, says, c) = behind_sta
 
 -- ---- a program's own trace
 abbrev pub AcceptedOrRefused : Type 0
-AcceptedOrRefused = (text : List ℕ) → ((p : Program) × IsAcceptedText text p) ⊎ ((r : Refusal) × IsTextRefusal text r)
+AcceptedOrRefused = (text : List ℕ) → ((p : Program) × IsAcceptedText text p) ⊎ ((r : ProgramRefusal) × IsTextRefusal text r)
 
 pub yes-proved : Readable → Traceable → (s t : List ℕ) (p q : Program) (first last : List ℕ) (phase : ℕ) (v : Verdict) → IsAcceptedText s p → IsAcceptedText t q
     → Proves (claim_of p q) (trace_of t) first last phase → IsVerdict s t (trace_of t) v → IsYes first last phase v
@@ -326,7 +325,7 @@ yes-proved law traces s t p q first last phase (verdict.Source r) ok good proves
 yes-proved law traces s t p q first last phase (verdict.Target r) ok good proves (readable, (f, is, code, at)) = absurd (law.accepted t q f good is)
 
 pub yes-own : Readable → Traceable → AcceptedOrRefused → (s t : List ℕ) (p q : Program) (first last : List ℕ) (phase : ℕ) (v : Verdict) → IsAcceptedText s p
-    → IsWritten t q → ((r : Refusal) → IsTextRefusal t r → ⊥) → Proves (claim_of p q) (trace_of t) first last phase → IsVerdict s t (trace_of t) v
+    → IsWritten t q → ((r : ProgramRefusal) → IsTextRefusal t r → ⊥) → Proves (claim_of p q) (trace_of t) first last phase → IsVerdict s t (trace_of t) v
     → IsYes first last phase v
 yes-own law traces either s t p q first last phase v ok written fine proves is = elim (either t) [
   | inl good ↦ yes-proved law traces s t p q first last phase v ok

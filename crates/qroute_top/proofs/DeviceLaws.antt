@@ -11,7 +11,7 @@ use Rattle.coupling_map.specs.Text.{Outcome, Says, edge_cost, graph, outcome_of,
 use Rattle.coupling_map.specs.Walks.{IsJoined}
 use Rattle.coupling_map.specs.declared.faults.DeviceFault.TheVariants as fault
 use Rattle.qroute_top.specs.Causes.{IsDeviceCause}
-use Rattle.qroute_top.specs.Devices.{IsDevice, IsDeviceRefusal, device_limit}
+use Rattle.qroute_top.specs.Devices.{IsDevice, IsDeviceRefusal, most_device_bytes}
 use Rattle.qroute_top.specs.declared.stops.DeviceRefusal.{DeviceRefusal}
 use Rattle.qroute_top.specs.declared.stops.DeviceRefusal.TheVariants as device
 use Rattle.qroute_top.specs.declared.stops.DeviceStop.{DeviceStop}
@@ -66,7 +66,7 @@ IsDevice-refused text d n (device.TooFewQubits size qubits) is fits (c, other, a
 
 -- why a text of the shelf isn't had is why the device isn't
 pub IsDeviceCause-text : (content : Option (Option (List ℕ))) (n before after : ℕ) (f : TextFault) (s : DeviceStop)
-    → IsTextCause content device_limit before after f → s ≡ unloaded f → IsDeviceCause content n before after s
+    → IsTextCause content most_device_bytes before after f → s ≡ unloaded f → IsDeviceCause content n before after s
 IsDeviceCause-text content n before after text_fault.Failed s c is = rw is c
 IsDeviceCause-text content n before after text_fault.Absent s c is = rw is c
 IsDeviceCause-text content n before after text_fault.TooLong s c is = rw is c

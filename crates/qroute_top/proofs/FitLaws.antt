@@ -18,8 +18,7 @@ use Rattle.gate_inline.specs.Splits.{IsBar}
 use Rattle.program_parts.specs.Cuts.{IsCut, whole}
 use Rattle.program_parts.specs.Parts.{AreRealised, Part}
 use Rattle.program_parts.proofs.CutLaws.{length-whole}
-use Rattle.rewrite_pass.specs.TraceLines.{ended}
-use Rattle.trace_text.specs.Texts.{lines_of}
+use Rattle.trace_text.specs.Texts.{ended, lines_of}
 use Rattle.unitary_model.specs.declared.Op.{Op}
 use Rattle.unitary_model.specs.Operations.{cx_count}
 use Rattle.unitary_model.specs.Placement.{IsPlacement}

@@ -1,4 +1,5 @@
 pub mod StatusLaws
+pub mod EmittedLaws
 pub mod SourceLaws
 pub mod DeviceLaws
 pub mod TargetLaws
@@ -9,5 +10,6 @@ pub mod SparedLaws
 pub mod StandLaws
 pub mod FitLaws
 pub mod MadeLaws
+pub mod VerdictLaws
 pub mod ClaimLaws
 pub mod RunLaws

@@ -22,11 +22,10 @@ use Rattle.coupling_map.specs.Edges.{FollowsEdges}
 use Rattle.coupling_map.specs.Walks.{IsDiameter}
 use Rattle.gate_expand.specs.Expansion.{IsFineOp}
 use Rattle.gate_inline.specs.Programs.{Program}
-use Rattle.gate_inline.specs.Sizes.{operation_limit}
+use Rattle.gate_inline.specs.Sizes.{most_operations}
 use Rattle.gate_inline.specs.Splits.{IsBar}
 use Rattle.program_parts.specs.Cuts.{IsCut, uncut, whole}
 use Rattle.program_parts.specs.Parts.{AreRealised, Part, sources, targets}
-use Rattle.rewrite_pass.specs.TraceLines.{ended}
 use Rattle.rewrite_pass.specs.Traces.{Step}
 use Rattle.route_report.specs.declared.lines.Report.{Report}
 use Rattle.routed_parts.specs.Legs.{AreLegs, IsStill}
@@ -35,7 +34,7 @@ use Rattle.routed_parts.proofs.StillLaws.{AreRealised-still, cx-still, ends-stil
 use Rattle.sabre_route.specs.Measures.{bound, bound_by}
 use Rattle.sabre_route.specs.Routing.{IsLayout}
 use Rattle.sabre_route.specs.declared.router.Routed.{Routed}
-use Rattle.trace_text.specs.Texts.{lines_of}
+use Rattle.trace_text.specs.Texts.{ended, lines_of}
 use Rattle.unitary_model.specs.declared.Op.{Op}
 use Rattle.unitary_model.specs.Operations.{cx_count}
 use Rattle.unitary_model.specs.Placement.{identity}
@@ -74,7 +73,7 @@ trace-of_part : (d : Coupling) (n : ℕ) (S : List Op) (o : Option (List Step)) 
     (trace : List ℕ) → IfSome o (HasSteps n S c)
     → IfSome o (λ ss. (x : Routed) × IsRunTrace d c ss given x m.turn trace × (x.last ≡ m.last) × (x.body.gates ≡ m.body.gates)
     × (m.turn ≡ (c.turn + x.turn) % 8))
-    → (o ≡ None → trace ≡ []) → c.body.wires ≡ n → length S ≤ operation_limit → All (IsFineOp n) S → s.ops ≡ S → s.wires ≡ n → t.ops ≡ ops m.body.gates
+    → (o ≡ None → trace ≡ []) → c.body.wires ≡ n → length S ≤ most_operations → All (IsFineOp n) S → s.ops ≡ S → s.wires ≡ n → t.ops ≡ ops m.body.gates
     → t.wires ≡ d.size → told.initial ≡ given → told.last ≡ m.last → told.phase ≡ m.turn → IsOwnTrace (is_some o) s t told trace
 trace-of_part d n S None c given m s t told trace steps run none wires few fine source width target size begins ends phase = none refl
 trace-of_part d n S (Some ss) c given m s t told trace steps (x, run, last, gates, sum) none wires few fine source width target size begins ends phase =
@@ -84,7 +83,7 @@ trace-of_part d n S (Some ss) c given m s t told trace steps (x, run, last, gate
 trace-one : (d : Coupling) (clean : Bool) (s : Program) (rs : List Rewritten) (ms : List PartTarget) (t : Target) (told : Report)
     → AllZip (λ us r. IsOptimised s.wires us r.passed) (s.ops ∷ []) rs → AllZip (λ us r. IfSome r.steps (HasSteps s.wires us r.passed)) (s.ops ∷ []) rs
     → AreRoutedParts d clean t.initial rs ms → AreTraced d t.initial rs ms t.trace.items → (All (λ r. r.steps ≡ None) rs → t.trace.items ≡ [])
-    → length s.ops ≤ operation_limit → All (IsFineOp s.wires) s.ops → t.body.gates ≡ whole (map (λ m. m.body.gates) ms) → t.body.wires ≡ d.size
+    → length s.ops ≤ most_operations → All (IsFineOp s.wires) s.ops → t.body.gates ≡ whole (map (λ m. m.body.gates) ms) → t.body.wires ≡ d.size
     → t.last ≡ last_of t.initial ms → t.turn ≡ turns_of ms % 8 → IsTold t told → IsOwnTrace (are_told rs) s (target_program s t) told t.trace.items
 trace-one d clean s [] ms t told o steps routed traced silent few fine gates wires last turn r = absurd o
 trace-one d clean s (q ∷ p ∷ rs) ms t told o steps routed traced silent few fine gates wires last turn r = absurd o.1
@@ -102,7 +101,7 @@ pub IsOwnTrace-parts : (d : Coupling) (clean : Bool) (s : Program) (rs : List Re
     → AllZip (λ us r. IsOptimised s.wires us r.passed) s.cut.parts rs → AllZip (λ us r. IfSome r.steps (HasSteps s.wires us r.passed)) s.cut.parts rs
     → (s.cut ≡ uncut s.ops) × (clean ≡ false) ⊎ All (λ r. r.steps ≡ None) rs → AreRoutedParts d clean t.initial rs ms
     → (clean ≡ false → AreTraced d t.initial rs ms t.trace.items) → (All (λ r. r.steps ≡ None) rs → t.trace.items ≡ [])
-    → length s.ops ≤ operation_limit → All (IsFineOp s.wires) s.ops → t.body.gates ≡ whole (map (λ m. m.body.gates) ms) → t.body.wires ≡ d.size
+    → length s.ops ≤ most_operations → All (IsFineOp s.wires) s.ops → t.body.gates ≡ whole (map (λ m. m.body.gates) ms) → t.body.wires ≡ d.size
     → t.last ≡ last_of t.initial ms → t.turn ≡ turns_of ms % 8 → IsTold t told → IsOwnTrace (are_told rs) s (target_program s t) told t.trace.items
 IsOwnTrace-parts d clean s rs ms t told o steps (inl (one, plain)) routed traced silent few fine gates wires last turn r =
     let parts : s.cut.parts ≡ s.ops ∷ [] = ap (λ c. c.parts) one in
@@ -229,7 +228,7 @@ pub Stands-routed : (keep trivial clean : Bool) (d : Coupling) (s : Program) (rs
     → (trivial ≡ true → t.initial ≡ identity d.size) → (trivial ≡ false → IsLayout d (whole (gates_of rs)) t.initial)
     → (k : ℕ) → IsDiameter d.size d.edges (cost d) k → t.cost ≡ told_cost d (ops t.body.gates)
     → (clean ≡ false → AreTraced d t.initial rs ms t.trace.items) → (All (λ r. r.steps ≡ None) rs → t.trace.items ≡ [])
-    → length s.ops ≤ operation_limit → All (IsFineOp s.wires) s.ops → t.spares ≡ None
+    → length s.ops ≤ most_operations → All (IsFineOp s.wires) s.ops → t.spares ≡ None
     → Stands s keep (are_told rs) (IsOnQubits d trivial clean s) t
 Stands-routed keep trivial clean d s rs ms t cut all bars a o steps which routed fits wires last swaps begins laid_out k diameter cost traced silent few fine alone =
     Stands-legs keep (are_told rs) trivial clean d s ms (gates_of rs) t (legs-together keep clean d s rs ms t cut all bars a o routed fits wires last swaps)
@@ -252,7 +251,7 @@ bound-few (Some cs) n k few short = omega (arith, few)
 
 few-routed : (clean : Bool) (d : Coupling) (s : Program) (first : List ℕ) (rs : List Rewritten) (ms : List PartTarget) (k : ℕ) → whole s.cut.parts ≡ s.ops
     → AllZip (λ us r. IsOptimised s.wires us r.passed) s.cut.parts rs → AreRoutedParts d clean first rs ms → s.wires ≤ d.size
-    → IsDiameter d.size d.edges (cost d) k → (d.costs ≡ None → k < d.size) → d.size ≤ 256 → length s.ops ≤ operation_limit
+    → IsDiameter d.size d.edges (cost d) k → (d.costs ≡ None → k < d.size) → d.size ≤ 256 → length s.ops ≤ most_operations
     → sum_by (λ (m : PartTarget). m.swaps) ms ≤ 33554432
 few-routed clean d s first rs ms k all o routed fits diameter short size few =
     let parts = parts_of s.cut.parts ms in
@@ -267,7 +266,7 @@ few-routed clean d s first rs ms k all o routed fits diameter short size few =
 
 pub swaps-few : (clean : Bool) (d : Coupling) (s : Program) (first : List ℕ) (rs : List Rewritten) (ms : List PartTarget) (k : ℕ) → whole s.cut.parts ≡ s.ops
     → AllZip (λ us r. IsOptimised s.wires us r.passed) s.cut.parts rs → AreRoutedParts d clean first rs ms → s.wires ≤ d.size
-    → IsDiameter d.size d.edges (cost d) k → (d.costs ≡ None → k < d.size) → d.size ≤ 256 → length s.ops ≤ operation_limit
+    → IsDiameter d.size d.edges (cost d) k → (d.costs ≡ None → k < d.size) → d.size ≤ 256 → length s.ops ≤ most_operations
     → sum_by (λ (m : PartTarget). m.swaps) ms < 18446744073709551616
 swaps-few clean d s first rs ms k all o routed fits diameter short size few =
     let most = few-routed clean d s first rs ms k all o routed fits diameter short size few in
@@ -283,7 +282,7 @@ edges-followed clean d s first rs ms gs o routed fits gates =
 
 pub cost-few : (clean : Bool) (d : Coupling) (s : Program) (first : List ℕ) (rs : List Rewritten) (ms : List PartTarget) (gs : List Gate) (k : ℕ)
     → whole s.cut.parts ≡ s.ops → AllZip (λ us r. IsOptimised s.wires us r.passed) s.cut.parts rs → AreRoutedParts d clean first rs ms → s.wires ≤ d.size
-    → IsDiameter d.size d.edges (cost d) k → (d.costs ≡ None → k < d.size) → d.size ≤ 256 → length s.ops ≤ operation_limit
+    → IsDiameter d.size d.edges (cost d) k → (d.costs ≡ None → k < d.size) → d.size ≤ 256 → length s.ops ≤ most_operations
     → gs ≡ whole (map (λ m. m.body.gates) ms) → cx_count (ops gs) ≤ 4294967296
 cost-few clean d s first rs ms gs k all o routed fits diameter short size few gates =
     let parts = parts_of s.cut.parts ms in

@@ -1,20 +1,16 @@
 -- What is planned for a source is what is to be delivered.
 --   plain_of             the operations of a circuit are plain
 --   reads_wider          reads of fewer wires are reads of more
---   NamesAreAscii, name_is_utf8, ok_of   a register's name is UTF-8
 --   counted-next         the counts of some parts, and of the next one
 --   few_cx, few_t, few_cx_counts, few_t_counts   the counts of few operations fit
 --   Rewrites-planned     what is planned for a target that stands for the source
 --   WritesWithSpares-planned   .. and for one that stands for it with spare wires
 --   HasPlanned-written   what came of a program came of its target
-use Rattle.std.proofs.Common.{◌≡◌, ℕ, zero, suc, ◌+◌, ◌++◌, drop, ◌*◌, ◌%◌, ◌<◌, ◌≤◌, Bool, true, false, List, [], ◌∷◌, Option, Some, None, Result, Ok, Err, All, refl, sym, subst, arith, inl, inr, length, map, get_or, ◌∙◌, Vec, ap}
+use Rattle.std.proofs.Common.{◌≡◌, ℕ, zero, suc, ◌+◌, ◌++◌, drop, ◌*◌, ◌%◌, ◌<◌, ◌≤◌, Bool, true, false, List, [], ◌∷◌, Option, Some, None, All, refl, sym, subst, arith, inl, inr, length, map, get_or, ◌∙◌, Vec, ap}
 use Rattle.std.proofs.lemmas.List.Elements.{recursion_from_All, All-from_recursion}
 use Rattle.std.specs.List.{AllByRecursion}
-use Rattle.std.specs.Prelude.{IsOk, MatchResult, cond, nat_eq}
-use Rattle.std.specs.Str.{IsAscii, IsUtf8}
-use Rattle.std.proofs.lemmas.Str.{IsUtf8-from_ascii}
-use Rattle.qasm_check.specs.declared.bits.Bits.{Bits}
-use Rattle.qasm_lexer.specs.Names.{IsName}
+use Rattle.std.specs.Prelude.{cond, nat_eq}
+use Rattle.qasm_check.specs.declared.register.ClassicalRegister.{ClassicalRegister}
 use Rattle.unitary_model.specs.declared.Op.{Op}
 use Rattle.unitary_model.specs.declared.Op.TheVariants.{U, Cx as OpCx}
 use Rattle.unitary_model.specs.Operations.{IsPlain, cx_count, t_count}
@@ -22,7 +18,7 @@ use Rattle.circuit_list.specs.declared.Gate.{Gate}
 use Rattle.circuit_list.specs.declared.Gate.TheVariants.{H, X, P, Cx}
 use Rattle.circuit_list.specs.Gates.{IsFine, ops}
 use Rattle.gate_expand.specs.declared.source.Ops.{Ops}
-use Rattle.gate_inline.specs.Registers.{IsFree, IsRead}
+use Rattle.gate_inline.specs.Registers.{IsRead}
 use Rattle.gate_inline.specs.Programs.{IsWritten, Program}
 use Rattle.route_report.specs.declared.lines.Report.{Report}
 use Rattle.trace_text.specs.Texts.{trace_of}
@@ -94,11 +90,11 @@ pub cut-same : (t : Target) (ns : List ℕ) (bars : List (Vec ℕ Global)) → n
 cut-same t ns bars e f = λ i. record { parts = chopped (e i) (ops t.body.gates); bars = map (λ v. v.items) (f i) }
 
 -- what came of a program came of its target
-pub HasPlanned-written : (s : Program) (t : Target) (text line : List ℕ) (Done : List ℕ → Type 0) (bits : List Bits) (reads : List (Option ℕ)) (cut : Cut Op)
+pub HasPlanned-written : (s : Program) (t : Target) (text line : List ℕ) (Done : List ℕ → List ℕ → Type 0) (bits : List ClassicalRegister) (reads : List (Option ℕ)) (cut : Cut Op)
     (barriers : ℕ) → bits ≡ s.registers → reads ≡ map (placed_read t.last) s.reads → cut ≡ (target_program s t).cut → barriers ≡ length t.barriers.items
     → TellsReport s t line → trace_of text ≡ t.trace.items
-    → IsWritten text (record { wires = t.body.wires; ops = ops t.body.gates; cut = cut; reads = reads; registers = bits; barriers = barriers }) → Done text
-    → HasPlanned s t (λ x _. Done x)
+    → IsWritten text (record { wires = t.body.wires; ops = ops t.body.gates; cut = cut; reads = reads; registers = bits; barriers = barriers }) → Done text line
+    → HasPlanned s t Done
 HasPlanned-written s t text line Done bits reads cut barriers registers same parts many (told, report, numbers) trace written came =
     let here : IsWritten text (target_program s t) = rw (registers, same, parts, many) at written in
     (text, line, record { written = here; trace = trace; told = told; report = report; numbers = numbers }, came)
@@ -138,17 +134,3 @@ few_t_counts us few = let more = few_t us in omega (arith, few, more)
 pub ruleset plans = (Rewrites-planned, WritesWithSpares-planned, reads_wider)
 
 pub ruleset counts = (few_cx_counts, few_t_counts)
-
--- ---- names
-abbrev pub NamesAreAscii : Type 0
-NamesAreAscii = (name : List ℕ) → IsName name → IsAscii name
-
-pub name_is_utf8 : NamesAreAscii → (bits : List Bits) (i : ℕ) (b : Bits) (bytes : List ℕ) → All IsFree bits → i < length bits → b ≡ get_or bits i b
-    → bytes ≡ b.name → IsUtf8 bytes
-name_is_utf8 law bits i b bytes each there at same =
-    let free : IsFree b = subst IsFree (sym at) (each i b there) in
-    subst IsUtf8 (sym same) (IsUtf8-from_ascii b.name (law b.name free.name))
-
-pub ok_of : {T E U : Type 0} (good : T → Type 0) (bad : E → Type 0) (r : Result T E) → MatchResult r good (λ e. ¬ U × bad e) → U → IsOk r
-ok_of good bad (Ok x) m u = refl
-ok_of good bad (Err e) m u = absurd (m.0 u)

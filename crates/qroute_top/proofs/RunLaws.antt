@@ -8,7 +8,7 @@
 --   Delivers-opt, Delivers-spared, Delivers-check, Delivers-stages, Delivers-entry, Delivers-routed, Delivers-drawn   from the parts of `decide` to what is delivered
 --   Delivers-verified, IsCause-claim   the same where `verify` is asked
 --   stopped-..               what follows of a status after a stop
---   planned-..               what follows where a work was decided on
+--   planned-..               what follows where an answer was decided on
 use Rattle.std.proofs.Common.{◌≡◌, ◌⊎◌, inl, inr, ℕ, ◌≤◌, Bool, true, false, List, [], Option, Some, None, Result, Err, refl, sym, ap, ◌∙◌, arith, subst, is_some}
 use Rattle.outside_io.specs.Bytes.{Tells}
 use Rattle.outside_io.specs.Causes.{Rose}
@@ -16,20 +16,21 @@ use Rattle.outside_io.specs.Shelf.{HasNoText, TellsText}
 use Rattle.coupling_map.specs.Coupling.{Coupling}
 use Rattle.gate_inline.specs.Programs.{IsAccepted, IsWritten, Program, kept}
 use Rattle.program_reader.specs.Refusals.{IsRefusal}
-use Rattle.program_reader.specs.declared.refusal.Refusal.{Refusal}
-use Rattle.command_words.specs.Commands.{command_of}
-use Rattle.command_words.specs.Demands.{Entry, Question, Spares, asked_texts, device_name, keeps_barriers, question_of, reads_input, writes_out, writes_report}
-use Rattle.command_words.specs.declared.commands.Command.{Command}
-use Rattle.command_words.specs.declared.commands.Command.TheVariants.{Opt, OptWithSpares, Route, Check, Stages, Bench, Amplitude, Verify}
+use Rattle.program_reader.specs.declared.refusal.ProgramRefusal.{ProgramRefusal}
+use Rattle.command_line.specs.Commands.{command_of}
+use Rattle.command_line.specs.Demands.{Entry, Question, Spares, asked_texts, device_name, keeps_barriers, question_of, reads_input, writes_out, writes_report}
+use Rattle.command_line.specs.declared.commands.Command.{Command}
+use Rattle.command_line.specs.declared.commands.Command.TheVariants.{Opt, OptWithSpares, Route, Check, Stages, Bench, Amplitude, Verify}
 use Rattle.route_report.specs.Lines.{check_line}
 use Rattle.qroute_top.specs.Claims.{AreTold, Compares, Ending, IsEnding, IsVerified, Proved, ending_status}
 use Rattle.qroute_top.specs.Causes.{Handed, claim_status, IsCause, IsDeviceCause, IsRefusedDevice, IsRefusedQuestion, IsRefusedSource, IsSourceCause, Reaches, Reads}
 use Rattle.qroute_top.specs.Delivered.{Content, Delivered, Delivers, IsAnswer, IsHad, IsInPlace, IsOnDevice, IsOnQubits, IsStages, Rewrites, WritesWithSpares, counts_of, drawn_program}
 use Rattle.qroute_top.specs.Devices.{HasDevice, IsDevice, IsDeviceRefusal, HasSource}
-use Rattle.qroute_top.specs.Plans.{HasWork, IsWork}
+use Rattle.qroute_top.specs.Emitted.{IsEmitted, Sent}
+use Rattle.qroute_top.specs.Plans.{HasAnswer, IsAnswerOf}
 use Rattle.qroute_top.specs.Questions.{IsEntryText, IsQuestionRefusal}
 use Rattle.qroute_top.specs.Stops.{IsClaimStop, IsUnanswered, IsUnasked, device_stopped, question_stopped, source_stopped}
-use Rattle.qroute_top.specs.declared.plan.Work.{Work}
+use Rattle.qroute_top.specs.declared.plan.Answer.{Answer}
 use Rattle.qroute_top.specs.declared.stops.ClaimStop.{ClaimStop}
 use Rattle.qroute_top.specs.declared.stops.ClaimStop.TheVariants as claim
 use Rattle.qroute_top.specs.declared.stops.DeviceRefusal.{DeviceRefusal}
@@ -50,7 +51,7 @@ use Rattle.qroute_top.proofs.SourceLaws.{Tells-taken}
 use Rattle.qroute_top.proofs.StatusLaws.{Ends}
 
 abbrev pub NoRefusal : Type 0
-NoRefusal = (text : List ℕ) (p : Program) (r : Refusal) → IsAccepted text p → IsRefusal text r → ⊥
+NoRefusal = (text : List ℕ) (p : Program) (r : ProgramRefusal) → IsAccepted text p → IsRefusal text r → ⊥
 
 abbrev pub MeansOnce : Type 0
 MeansOnce = (text : List ℕ) (p q : Program) → IsWritten text p → IsWritten text q → p ≡ q
@@ -380,7 +381,7 @@ told_text None t text e h = cc
 told_text (Some x) t text e h = cc
 
 -- a program that is read and needs qubits isn't refused
-refused_or_needed : NoRefusal → (input : Option (List ℕ)) (b : Bool) (n : ℕ) (r : Refusal) → b ≡ true → HasSource b (λ t. input ≡ Some t) n
+refused_or_needed : NoRefusal → (input : Option (List ℕ)) (b : Bool) (n : ℕ) (r : ProgramRefusal) → b ≡ true → HasSource b (λ t. input ≡ Some t) n
     → IsRefusedSource input r → ⊥
 refused_or_needed law input true n r reads (t, p, told, ok, wires) (text, tells, refusal) =
     let same = told_text input t text told tells in
@@ -388,7 +389,7 @@ refused_or_needed law input true n r reads (t, p, told, ok, wires) (text, tells,
 refused_or_needed law input false n r reads needs refused = cc
 
 -- nor is one with which a device is reached
-needed_or_refused : NoRefusal → (input : Option (List ℕ)) (b : Bool) (n : ℕ) (t : List ℕ) (r : Refusal) → b ≡ true → HasSource b (Tells input) n
+needed_or_refused : NoRefusal → (input : Option (List ℕ)) (b : Bool) (n : ℕ) (t : List ℕ) (r : ProgramRefusal) → b ≡ true → HasSource b (Tells input) n
     → input ≡ Some t → IsRefusal t r → ⊥
 needed_or_refused law input true n t r reads (text, p, tells, ok, wires) told refusal =
     let same = told_text input t text told tells in
@@ -396,7 +397,7 @@ needed_or_refused law input true n t r reads (text, p, tells, ok, wires) told re
     law t p r here refusal
 needed_or_refused law input false n t r reads needs told refusal = cc
 
-reached_or_refused : NoRefusal → (h : Handed) (a : Command) (name t : List ℕ) (r : Refusal) → Reaches h name → command_of h.words ≡ Some a
+reached_or_refused : NoRefusal → (h : Handed) (a : Command) (name t : List ℕ) (r : ProgramRefusal) → Reaches h name → command_of h.words ≡ Some a
     → reads_input a ≡ true → h.input ≡ Some t → IsRefusal t r → ⊥
 reached_or_refused law h a name t r route asked reads told refusal =
     let same = same_command h.words a route.command asked route.asked in
@@ -404,14 +405,14 @@ reached_or_refused law h a name t r route asked reads told refusal =
     needed_or_refused law h.input (reads_input route.command) route.wires t r read route.source told refusal
 
 -- nor is one on which a question is asked
-questioned_or_refused : NoRefusal → (input : Option (List ℕ)) (bits : Option Question) (x : QuestionRefusal) (t : List ℕ) (r : Refusal)
+questioned_or_refused : NoRefusal → (input : Option (List ℕ)) (bits : Option Question) (x : QuestionRefusal) (t : List ℕ) (r : ProgramRefusal)
     → IsRefusedQuestion input bits x → input ≡ Some t → IsRefusal t r → ⊥
 questioned_or_refused law input bits x t r (text, p, tells, ok, refused) told refusal =
     let same = told_text input t text told tells in
     let here : IsAccepted t p = rw same at ok in
     law t p r here refusal
 
-pub stopped-refuses : NoRefusal → (h : Handed) (s : Stop) (n : ℕ) (a : Command) (t : List ℕ) (r : Refusal) → IsCause h s → Ends s n → command_of h.words ≡ Some a
+pub stopped-refuses : NoRefusal → (h : Handed) (s : Stop) (n : ℕ) (a : Command) (t : List ℕ) (r : ProgramRefusal) → IsCause h s → Ends s n → command_of h.words ≡ Some a
     → reads_input a ≡ true → h.input ≡ Some t → IsRefusal t r → (Rose h.faults_before h.faults_after → ⊥) → (n ≡ 3) ⊎ (n ≡ 7)
 stopped-refuses law h stop.NoMemory n a t r c e asked reads told is calm = inr (grind arith)
 stopped-refuses law h stop.Words n a t r c e asked reads told is calm = cc
@@ -663,22 +664,24 @@ stopped-absent law h s n c name q w e a wants here = elim (by_stop s) [
         absent_text (h.content other) u there tells
 
 -- ---- after a decision
--- memory was wanting, or some text and line are right for a work
-abbrev pub Came : Work → ℕ → Type 0
-Came w n = (n ≡ 7) ⊎ ((x : List ℕ) × (l : List ℕ) × IsWork w x l)
+-- memory was wanting, or some text and line are right for an answer
+abbrev pub Came : Answer → ℕ → Type 0
+Came w n = (n ≡ 7) ⊎ ((x : List ℕ) × (l : List ℕ) × IsAnswerOf w x l)
 
-pub came : (w : Work) (n : ℕ) → (n ≡ 0) ⊎ ((n ≡ 6) ⊎ ((n ≡ 7) ⊎ (n ≡ 8))) → (n ≡ 0 → (x : List ℕ) × (l : List ℕ) × IsWork w x l)
-    → (n ≡ 6 → (x : List ℕ) × (l : List ℕ) × IsWork w x l) → (n ≡ 8 → (x : List ℕ) × (l : List ℕ) × IsWork w x l) → Came w n
-came w n (inl zero) done failed told = inr (done zero)
-came w n (inr (inl six)) done failed told = inr (failed six)
-came w n (inr (inr (inl seven))) done failed told = inl seven
-came w n (inr (inr (inr eight))) done failed told = inr (told eight)
+pub came : {A B : Type 0} {text line : Bool} {o : Sent A} {r : Sent B} (w : Answer) (n : ℕ) → IsEmitted text line (HasAnswer w) o r n → Came w n
+came w n e = by_end e.ends
+  where
+    by_end : (n ≡ 0) ⊎ ((n ≡ 6) ⊎ ((n ≡ 7) ⊎ (n ≡ 8))) → Came w n
+    by_end (inl zero) = let h = e.done zero in inr (h.0, h.1, h.2)
+    by_end (inr (inl six)) = let h = (e.output six).0 in inr (h.0, h.1, h.2)
+    by_end (inr (inr (inl seven))) = inl seven
+    by_end (inr (inr (inr eight))) = let h = (e.report eight).0 in inr (h.0, h.1, h.2)
 
--- what is delivered for each text and line that are right for the work
-abbrev pub DeliversWork : List (List ℕ) → Content → Option (List ℕ) → Option (List ℕ) → Work → Type 0
-DeliversWork words content old new w = (text line : List ℕ) → IsWork w text line → Delivers words content old new text line
+-- what is delivered for each text and line that are right for the answer
+abbrev pub DeliversAnswer : List (List ℕ) → Content → Option (List ℕ) → Option (List ℕ) → Answer → Type 0
+DeliversAnswer words content old new w = (text line : List ℕ) → IsAnswerOf w text line → Delivers words content old new text line
 
-refused_or_had : NoRefusal → (old new : Option (List ℕ)) (b keep : Bool) (p : Program) (text : List ℕ) (r : Refusal) → b ≡ true → IsHad b keep old new p
+refused_or_had : NoRefusal → (old new : Option (List ℕ)) (b keep : Bool) (p : Program) (text : List ℕ) (r : ProgramRefusal) → b ≡ true → IsHad b keep old new p
     → old ≡ Some text → IsRefusal text r → ⊥
 refused_or_had law old new true keep p text r reads (t, q, taken, accepted, is) told refusal =
     let same = told_text old text t told (Tells-taken old new t taken) in
@@ -686,15 +689,15 @@ refused_or_had law old new true keep p text r reads (t, q, taken, accepted, is) 
     law text q r ok refusal
 refused_or_had law old new false keep p text r reads had told refusal = cc
 
-refused_or_delivered : NoRefusal → (words : List (List ℕ)) (content : Content) (old new : Option (List ℕ)) (x l text : List ℕ) (r : Refusal) (c : Command)
+refused_or_delivered : NoRefusal → (words : List (List ℕ)) (content : Content) (old new : Option (List ℕ)) (x l text : List ℕ) (r : ProgramRefusal) (c : Command)
     → Delivers words content old new x l → command_of words ≡ Some c → reads_input c ≡ true → old ≡ Some text → IsRefusal text r → ⊥
 refused_or_delivered law words content old new x l text r c d asked reads told refusal =
     let same = same_command words c d.command asked d.asked in
     let read : reads_input d.command ≡ true = subst (λ y. reads_input y ≡ true) same reads in
     refused_or_had law old new (reads_input d.command) (keeps_barriers d.command) d.source text r read d.had told refusal
 
-pub planned-refuses : NoRefusal → (words : List (List ℕ)) (content : Content) (old new : Option (List ℕ)) (w : Work) (n : ℕ) (text : List ℕ) (r : Refusal) (c : Command)
-    → DeliversWork words content old new w → Came w n → command_of words ≡ Some c → reads_input c ≡ true → old ≡ Some text → IsRefusal text r
+pub planned-refuses : NoRefusal → (words : List (List ℕ)) (content : Content) (old new : Option (List ℕ)) (w : Answer) (n : ℕ) (text : List ℕ) (r : ProgramRefusal) (c : Command)
+    → DeliversAnswer words content old new w → Came w n → command_of words ≡ Some c → reads_input c ≡ true → old ≡ Some text → IsRefusal text r
     → (n ≡ 3) ⊎ (n ≡ 7)
 planned-refuses law words content old new w n text r c delivers (inl seven) asked reads told refusal = inr seven
 planned-refuses law words content old new w n text r c delivers (inr (x, l, is)) asked reads told refusal =
@@ -709,8 +712,8 @@ answered_had once old new true keep p q text reads (t, x, taken, ok, is) told go
     is ∙ ap (λ (y : Program). kept keep y) (once text x p (written_of text x here) (written_of text p good))
 answered_had once old new false keep p q text reads had told good = cc
 
-pub planned-refuses_question : MeansOnce → (words : List (List ℕ)) (content : Content) (old new : Option (List ℕ)) (w : Work) (n : ℕ) (text : List ℕ) (p : Program)
-    (r : QuestionRefusal) (c : Command) → DeliversWork words content old new w → Came w n → command_of words ≡ Some c
+pub planned-refuses_question : MeansOnce → (words : List (List ℕ)) (content : Content) (old new : Option (List ℕ)) (w : Answer) (n : ℕ) (text : List ℕ) (p : Program)
+    (r : QuestionRefusal) (c : Command) → DeliversAnswer words content old new w → Came w n → command_of words ≡ Some c
     → old ≡ Some text → IsAccepted text p → IsQuestionRefusal (question_of c) p r → (n ≡ 3) ⊎ (n ≡ 7)
 planned-refuses_question once words content old new w n text p r c delivers (inl seven) asked told ok refused = inr seven
 planned-refuses_question once words content old new w n text p r c delivers (inr (x, l, is)) asked told ok refused =
@@ -770,8 +773,8 @@ planned_on words content old new x l name c d asked wants =
     let same = same_command words c d.command asked d.asked in
     answer_on content name d.command d.source x l (subst (λ y. device_name y ≡ Some name) same wants) d.answer
 
-pub planned-absent : (words : List (List ℕ)) (content : Content) (old new : Option (List ℕ)) (w : Work) (n : ℕ) (name : List ℕ) (c : Command)
-    → DeliversWork words content old new w → Came w n → command_of words ≡ Some c → device_name c ≡ Some name → content name ≡ Some None
+pub planned-absent : (words : List (List ℕ)) (content : Content) (old new : Option (List ℕ)) (w : Answer) (n : ℕ) (name : List ℕ) (c : Command)
+    → DeliversAnswer words content old new w → Came w n → command_of words ≡ Some c → device_name c ≡ Some name → content name ≡ Some None
     → (n ≡ 9) ⊎ (n ≡ 7)
 planned-absent words content old new w n name c delivers (inl seven) asked wants none = inr seven
 planned-absent words content old new w n name c delivers (inr (x, l, is)) asked wants none =
@@ -791,8 +794,8 @@ refused_or_routed once words content old new x l name c t q r d asked wants need
     let fits : d.source.wires ≤ placed.device.size = rw (← placed.routed.qubits) on.answer.made.stands.unitary.fits in
     IsDevice-refused t placed.device q r described (omega (arith, wires, fits)) refusal
 
-pub planned-refuses_device : MeansOnce → (words : List (List ℕ)) (content : Content) (old new : Option (List ℕ)) (w : Work) (n : ℕ) (name : List ℕ) (c : Command)
-    (t : List ℕ) (q : ℕ) (r : DeviceRefusal) → DeliversWork words content old new w → Came w n → command_of words ≡ Some c
+pub planned-refuses_device : MeansOnce → (words : List (List ℕ)) (content : Content) (old new : Option (List ℕ)) (w : Answer) (n : ℕ) (name : List ℕ) (c : Command)
+    (t : List ℕ) (q : ℕ) (r : DeviceRefusal) → DeliversAnswer words content old new w → Came w n → command_of words ≡ Some c
     → device_name c ≡ Some name → HasSource (reads_input c) (λ u. old ≡ Some u) q → content name ≡ Some (Some t) → IsDeviceRefusal t q r
     → (n ≡ 4) ⊎ (n ≡ 7)
 planned-refuses_device once words content old new w n name c t q r delivers (inl seven) asked wants needs here refusal = inr seven
@@ -830,25 +833,26 @@ pub ruleset decided = (IsCause-words, IsCause-source)
 pub device_failed : {T : Type 0} (r : Result T DeviceStop) (s t : DeviceStop) → r ≡ Err s → r ≡ Err t → s ≡ t
 device_failed r s t e f = cc
 
--- ---- what the end of a work says
--- a work that has a text, or a line, is one of a command that writes, or tells
+-- ---- what the end of an answer says
+-- an answer that has a text, or a line, is one of a command that writes, or tells
 not_ended : (has writes : Bool) (rose : Type 0) → has ≡ writes → rose → (has ≡ false → ⊥) → (writes ≡ true → rose → ⊥) → ⊥
 not_ended true writes rose same r some calm = calm (sym same) r
 not_ended false writes rose same r some calm = some refl
 
-pub planned-complete : (has line writes tells : Bool) (n : ℕ) (out report : Type 0) → (n ≡ 0) ⊎ ((n ≡ 6) ⊎ ((n ≡ 7) ⊎ (n ≡ 8)))
-    → has ≡ writes → line ≡ tells → (n ≡ 6 → out) → (n ≡ 8 → report) → (has ≡ false → n ≡ 6 → ⊥) → (line ≡ false → n ≡ 8 → ⊥)
-    → (writes ≡ true → out → ⊥) → (tells ≡ true → report → ⊥) → (n ≡ 0) ⊎ (n ≡ 7)
-planned-complete has line writes tells n out report (inl zero) same told f g none still calm quiet = inl zero
-planned-complete has line writes tells n out report (inr (inl six)) same told f g none still calm quiet =
-    absurd (not_ended has writes out same (f six) (λ e. none e six) calm)
-planned-complete has line writes tells n out report (inr (inr (inl seven))) same told f g none still calm quiet = inr seven
-planned-complete has line writes tells n out report (inr (inr (inr eight))) same told f g none still calm quiet =
-    absurd (not_ended line tells report told (g eight) (λ e. still e eight) quiet)
+pub planned-complete : {A B : Type 0} {P : (List ℕ → List ℕ → Type 0) → Type 0} {has line : Bool} {o : Sent A} {r : Sent B} {n : ℕ} (writes tells : Bool)
+    → IsEmitted has line P o r n → has ≡ writes → line ≡ tells → (writes ≡ true → Rose (o.faults o.old) (o.faults o.new) → ⊥)
+    → (tells ≡ true → Rose (r.faults r.old) (r.faults r.new) → ⊥) → (n ≡ 0) ⊎ (n ≡ 7)
+planned-complete {has = has} {line = line} {n = n} writes tells e same told calm quiet = by_end e.ends
+  where
+    by_end : (n ≡ 0) ⊎ ((n ≡ 6) ⊎ ((n ≡ 7) ⊎ (n ≡ 8))) → (n ≡ 0) ⊎ (n ≡ 7)
+    by_end (inl zero) = inl zero
+    by_end (inr (inl six)) = absurd (not_ended has writes _ same (e.output six).1 (λ no. e.no_fault no six) calm)
+    by_end (inr (inr (inl seven))) = inr seven
+    by_end (inr (inr (inr eight))) = absurd (not_ended line tells _ told (e.report eight).3 (λ no. e.no_report no eight) quiet)
 
--- what is delivered for each text and line that are right for a work is delivered for those that came
-pub Delivered-done : (words : List (List ℕ)) (content : Content) (old new : Option (List ℕ)) (w : Work) (Done : List ℕ → List ℕ → Type 0)
-    → DeliversWork words content old new w → HasWork w Done
+-- what is delivered for each text and line that are right for an answer is delivered for those that came
+pub Delivered-done : (words : List (List ℕ)) (content : Content) (old new : Option (List ℕ)) (w : Answer) (Done : List ℕ → List ℕ → Type 0)
+    → DeliversAnswer words content old new w → HasAnswer w Done
     → Delivered words content old new Done
 Delivered-done words content old new w Done delivers (text, line, is, done) = (text, line, delivers text line is, done)
 
@@ -912,24 +916,28 @@ verify_writes (Bench start gates name) a b e = cc
 verify_writes (Amplitude from to) a b e = cc
 verify_writes (Verify c d) a b e = (refl, refl)
 
-pub planned-verdict : Readable → Traceable → (words : List (List ℕ)) (content : Content) (old new : Option (List ℕ)) (w : Work) (n : ℕ) (c : Command)
-    (a b : List ℕ) (x : Ending) (line : Bool) (out : Type 0) → DeliversWork words content old new w → Came w n → (n ≡ 0) ⊎ ((n ≡ 6) ⊎ ((n ≡ 7) ⊎ (n ≡ 8)))
-    → command_of words ≡ Some c → asked_texts c ≡ Some (a, b) → line ≡ writes_report c → (n ≡ 6 → out) → (line ≡ false → n ≡ 8 → ⊥)
-    → AreTold content a b → IsEnding content a b x → (ending_status x ≡ 0 → out → ⊥) → (n ≡ ending_status x) ⊎ (n ≡ 7)
-planned-verdict law traces words content old new w n c a b x line out delivers (inl seven) ends asked texts tells failed quiet told is calm = inr seven
-planned-verdict law traces words content old new w n c a b x line out delivers (inr (t, l, made)) ends asked texts tells failed quiet told is calm =
-    let d = delivers t l made in
-    let there : asked_texts d.command ≡ Some (a, b) = subst (λ y. asked_texts y ≡ Some (a, b)) (same_command words c d.command asked d.asked) texts in
-    let v = verified_of content d.command a b d.source t l there d.answer in
-    let same = same_ending law traces content a b (Proved v.first v.last v.phase) x told (ended-verified content a b t v) is in
-    let zero : ending_status x ≡ 0 = sym (ap ending_status same) in
-    by_end n (ending_status x) ends zero (λ six. calm zero (failed six)) (quiet (tells ∙ (verify_writes c a b texts).1))
+pub planned-verdict : {A B : Type 0} {has line : Bool} {o : Sent A} {r : Sent B} → Readable → Traceable → (words : List (List ℕ)) (content : Content)
+    (old new : Option (List ℕ)) (w : Answer) (n : ℕ) (c : Command) (a b : List ℕ) (x : Ending) → DeliversAnswer words content old new w
+    → IsEmitted has line (HasAnswer w) o r n → command_of words ≡ Some c → asked_texts c ≡ Some (a, b) → line ≡ writes_report c
+    → AreTold content a b → IsEnding content a b x → (ending_status x ≡ 0 → Rose (o.faults o.old) (o.faults o.new) → ⊥)
+    → (n ≡ ending_status x) ⊎ (n ≡ 7)
+planned-verdict law traces words content old new w n c a b x delivers e asked texts tells told is calm = by_came (came w n e)
   where
-    by_end : (n m : ℕ) → (n ≡ 0) ⊎ ((n ≡ 6) ⊎ ((n ≡ 7) ⊎ (n ≡ 8))) → m ≡ 0 → (n ≡ 6 → ⊥) → (n ≡ 8 → ⊥) → (n ≡ m) ⊎ (n ≡ 7)
-    by_end n m (inl e) zero six eight = inl (e ∙ sym zero)
-    by_end n m (inr (inl e)) zero six eight = absurd (six e)
-    by_end n m (inr (inr (inl e))) zero six eight = inr e
-    by_end n m (inr (inr (inr e))) zero six eight = absurd (eight e)
+    by_end : (m : ℕ) → (n ≡ 0) ⊎ ((n ≡ 6) ⊎ ((n ≡ 7) ⊎ (n ≡ 8))) → m ≡ 0 → (n ≡ 6 → ⊥) → (n ≡ 8 → ⊥) → (n ≡ m) ⊎ (n ≡ 7)
+    by_end m (inl z) zero six eight = inl (z ∙ sym zero)
+    by_end m (inr (inl z)) zero six eight = absurd (six z)
+    by_end m (inr (inr (inl z))) zero six eight = inr z
+    by_end m (inr (inr (inr z))) zero six eight = absurd (eight z)
+
+    by_came : Came w n → (n ≡ ending_status x) ⊎ (n ≡ 7)
+    by_came (inl seven) = inr seven
+    by_came (inr (t, l, made)) =
+        let d = delivers t l made in
+        let there : asked_texts d.command ≡ Some (a, b) = subst (λ y. asked_texts y ≡ Some (a, b)) (same_command words c d.command asked d.asked) texts in
+        let v = verified_of content d.command a b d.source t l there d.answer in
+        let same = same_ending law traces content a b (Proved v.first v.last v.phase) x told (ended-verified content a b t v) is in
+        let zero : ending_status x ≡ 0 = sym (ap ending_status same) in
+        by_end (ending_status x) e.ends zero (λ six. calm zero (e.output six).1) (e.no_report (tells ∙ (verify_writes c a b texts).1))
 
 -- where both texts are there, and neither is refused
 pub stopped-complete_texts : (h : Handed) (s : Stop) (n : ℕ) (c : Command) (a b source target : List ℕ) → IsCause h s → Ends s n
@@ -961,12 +969,11 @@ stopped-complete_texts h (stop.Claim y) n c a b source target w e asked texts to
     by_status n k m (inr is) same (inl zero) = inl (is ∙ same ∙ zero)
     by_status n k m (inr is) same (inr one) = inr (inl (is ∙ same ∙ one))
 
-pub planned-complete_texts : (c : Command) (a b : List ℕ) (has line : Bool) (n : ℕ) (out report : Type 0) → (n ≡ 0) ⊎ ((n ≡ 6) ⊎ ((n ≡ 7) ⊎ (n ≡ 8)))
-    → asked_texts c ≡ Some (a, b) → has ≡ writes_out c → line ≡ writes_report c → (n ≡ 6 → out) → (n ≡ 8 → report) → (has ≡ false → n ≡ 6 → ⊥)
-    → (line ≡ false → n ≡ 8 → ⊥) → (out → ⊥) → (n ≡ 0) ⊎ ((n ≡ 1) ⊎ (n ≡ 7))
-planned-complete_texts c a b has line n out report ends texts same told f g none still calm = elim
-    (planned-complete has line (writes_out c) (writes_report c) n out report ends same told f g none still (λ w. calm)
-    (λ w. let no = (verify_writes c a b texts).1 in cc)) [
+pub planned-complete_texts : {A B : Type 0} {P : (List ℕ → List ℕ → Type 0) → Type 0} {has line : Bool} {o : Sent A} {r : Sent B} {n : ℕ} (c : Command)
+    (a b : List ℕ) → IsEmitted has line P o r n → asked_texts c ≡ Some (a, b) → has ≡ writes_out c → line ≡ writes_report c
+    → (Rose (o.faults o.old) (o.faults o.new) → ⊥) → (n ≡ 0) ⊎ ((n ≡ 1) ⊎ (n ≡ 7))
+planned-complete_texts c a b e texts same told calm = elim
+    (planned-complete (writes_out c) (writes_report c) e same told (λ w. calm) (λ w. let no = (verify_writes c a b texts).1 in cc)) [
       | inl zero ↦ inl zero
       | inr seven ↦ inr (inr seven)
     ]

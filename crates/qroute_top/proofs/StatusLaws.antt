@@ -4,24 +4,21 @@
 --   not_late              it is none of those that a plan ends with
 --   not_memory            a fault that is told isn't want of memory
 --   Gains-nothing         what is untouched gained no bytes
---   HasWork-program       what came of a work that has a program
---   HasWork-line, HasWork-told, no_text_of   what came of a work that has a line alone
 --   on_ok, on_err         what holds anyway holds of an answer
 --   on_calm               what holds of an answer that is Ok, where the count of faults did not rise
 --   HasText-stays, HasText-prefix   a program that came, and a sink that then keeps what it holds
-use Rattle.std.proofs.Common.{◌≡◌, ◌⊎◌, inl, inr, ℕ, List, [], Option, Some, None, Result, Ok, Err, true, false, refl, sym, ap, subst, arith, append-nil}
-use Rattle.std.specs.Prelude.{OnErr, OnOk, Vec}
-use Rattle.std.specs.declared.alloc.Global.{Global}
+use Rattle.std.proofs.Common.{◌≡◌, ◌⊎◌, inl, inr, ℕ, List, [], Option, Some, None, Result, Ok, Err, true, false, refl, sym, ap, arith, append-nil}
+use Rattle.std.specs.Prelude.{OnErr, OnOk}
 use Rattle.outside_io.specs.Causes.{HasCause, Rose}
 use Rattle.outside_io.specs.Bytes.{Gains, GainsPrefix, Stays}
 use Rattle.outside_io.proofs.Known.{Gains-stays, GainsPrefix-stays}
 use Rattle.coupling_map.specs.declared.faults.DeviceFault.TheVariants as device_fault_is
-use Rattle.program_reader.specs.declared.refusal.Refusal.{Refusal}
-use Rattle.program_reader.specs.declared.refusal.Refusal.TheVariants as refusal
-use Rattle.qasm_check.specs.declared.refusal.Refusal.{Refusal as CheckRefusal}
-use Rattle.qasm_check.specs.declared.refusal.Refusal.TheVariants as check
-use Rattle.gate_inline.specs.declared.refusal.Refusal.{Refusal as InlineRefusal}
-use Rattle.gate_inline.specs.declared.refusal.Refusal.TheVariants as inline
+use Rattle.program_reader.specs.declared.refusal.ProgramRefusal.{ProgramRefusal}
+use Rattle.program_reader.specs.declared.refusal.ProgramRefusal.TheVariants as refusal
+use Rattle.qasm_check.specs.declared.refusal.CheckRefusal.{CheckRefusal}
+use Rattle.qasm_check.specs.declared.refusal.CheckRefusal.TheVariants as check
+use Rattle.gate_inline.specs.declared.refusal.InlineRefusal.{InlineRefusal}
+use Rattle.gate_inline.specs.declared.refusal.InlineRefusal.TheVariants as inline
 use Rattle.gate_inline.specs.Inlined.{code as inline_code}
 use Rattle.qasm_check.specs.Refusals.{code as check_code}
 use Rattle.route_report.specs.Faults.{status_of}
@@ -32,11 +29,6 @@ use Rattle.route_report.specs.declared.faults.Fault.TheVariants as fault
 use Rattle.qasm_writer.specs.Outputs.{HasText}
 use Rattle.qasm_writer.specs.declared.output.Output.{Output}
 use Rattle.qroute_top.specs.Causes.{claim_fault, claim_status, device_fault, fault_of, is_early_fault, question_fault, refusal_fault, stop_status, text_fault}
-use Rattle.gate_inline.specs.Programs.{Program}
-use Rattle.qroute_top.specs.declared.target.Target.{Target}
-use Rattle.qroute_top.specs.Plans.{HasPlanned, HasWork, has_text}
-use Rattle.qroute_top.specs.declared.plan.Work.{Work}
-use Rattle.qroute_top.specs.declared.plan.Work.TheVariants as work
 use Rattle.qroute_top.specs.declared.stops.ClaimStop.{ClaimStop}
 use Rattle.qroute_top.specs.declared.stops.ClaimStop.TheVariants as claim
 use Rattle.qroute_top.specs.declared.stops.DeviceRefusal.{DeviceRefusal}
@@ -71,7 +63,7 @@ inline_status inline.AngleRange = refl
 inline_status inline.AngleStep = refl
 inline_status inline.TooManyOps = refl
 
-text_status : (s : Side) (r : Refusal) → status_of (text_fault s r) ≡ 3
+text_status : (s : Side) (r : ProgramRefusal) → status_of (text_fault s r) ≡ 3
 text_status s refusal.TooLong = refl
 text_status s (refusal.BadByte place) = refl
 text_status s (refusal.Number place) = refl
@@ -93,7 +85,7 @@ some_same x y e = cc
 by_fault : (f g : Fault) (n m : ℕ) → Some f ≡ Some g → n ≡ status_of g → status_of f ≡ m → n ≡ m
 by_fault f g n m e is same = let here = some_same f g e in cc
 
-program_status : (r : Refusal) → status_of (refusal_fault r) ≡ 3
+program_status : (r : ProgramRefusal) → status_of (refusal_fault r) ≡ 3
 program_status refusal.TooLong = refl
 program_status (refusal.BadByte place) = refl
 program_status (refusal.Number place) = refl
@@ -162,24 +154,7 @@ on_calm before now (Err e) P cause h calm = absurd (calm cause.failed)
 
 pub ruleset told = (status-stop, on_calm)
 
--- a work that has a program
-pub HasWork-program : (w : Work) (s : Program) (t : Target) (Done : List ℕ → List ℕ → Type 0) → w ≡ work.Program s t → HasPlanned s t Done → HasWork w Done
-HasWork-program w s t Done is h = subst (λ (y : Work). HasWork y Done) (sym is) h
-
--- a work that has a line alone
-pub HasWork-line : (w : Work) (v : Vec ℕ Global) (line : List ℕ) (a b c : Option (List ℕ)) → w ≡ work.Line v → line ≡ v.items → Gains b c line
-    → HasWork w (λ x l. Gains a a x × Gains b c l)
-HasWork-line w v line a b c is same came =
-    subst (λ (y : Work). HasWork y (λ x l. Gains a a x × Gains b c l)) (sym is) ([], line, (refl, same), (Gains-nothing a, came))
-
-pub no_text_of : (w : Work) (v : Vec ℕ Global) → w ≡ work.Line v → has_text w ≡ true → ⊥
-no_text_of w v is some = let no : has_text w ≡ false = ap has_text is in cc
-
-pub HasWork-told : (w : Work) (v : Vec ℕ Global) (line : List ℕ) (a b c : Option (List ℕ)) → w ≡ work.Line v → line ≡ v.items → GainsPrefix b c line
-    → HasWork w (λ x l. Gains a a x × GainsPrefix b c l)
-HasWork-told w v line a b c is same came =
-    subst (λ (y : Work). HasWork y (λ x l. Gains a a x × GainsPrefix b c l)) (sym is) ([], line, (refl, same), (Gains-nothing a, came))
-
+-- a program that came
 pub HasText-stays : (o : Output) (a b c : Option (List ℕ)) → HasText o (λ text. Gains a b text) → Stays b c → HasText o (λ text. Gains a c text)
 HasText-stays o a b c (text, is, written, trace, came) stays = (text, is, written, trace, Gains-stays a b c text came stays)
 

@@ -20,10 +20,9 @@ use Rattle.unitary_model.proofs.RealisesLaws.{Realises_chain, Realises_same}
 use Rattle.commute_rules.specs.Reducible.{NoReducible}
 use Rattle.gate_expand.specs.Expansion.{IsFineOp, expanded, turn_of}
 use Rattle.gate_inline.specs.Programs.{Program}
-use Rattle.gate_inline.specs.Sizes.{operation_limit}
+use Rattle.gate_inline.specs.Sizes.{most_operations}
 use Rattle.rewrite_pass.specs.Traces.{AreSteps, Step}
 use Rattle.route_report.specs.declared.lines.Report.{Report}
-use Rattle.trace_check.specs.Verdicts.{claim_of}
 use Rattle.rewrite_pass.specs.Windows.{IsWindow}
 use Rattle.rewrite_pass.specs.Law.{IsRewriting}
 use Rattle.coupling_map.specs.Coupling.{Coupling, cost}
@@ -33,6 +32,7 @@ use Rattle.sabre_route.specs.Routing.{IsLayout, IsRouted, turned}
 use Rattle.sabre_route.specs.declared.router.Routed.{Routed}
 use Rattle.routed_parts.specs.Runs.{HasFewSwaps, IsMachineRun}
 use Rattle.routed_parts.specs.Settled.{IsSettled}
+use Rattle.qroute_top.specs.Verdicts.{claim_of}
 use Rattle.qroute_top.specs.Delivered.{IsOwnTrace}
 use Rattle.qroute_top.specs.Targets.{HasSteps, IsOptimised, IsRunTrace}
 
@@ -74,7 +74,7 @@ HasSteps-summed n S e r t (Some ss) wires gates turn sum h = record {
 -- the trace of the run is that of the source
 pub IsOwnTrace-run : (d : Coupling) (n : ℕ) (S : List Op) (c : Passed) (o : Option (List Step)) (given : List ℕ) (r : Routed) (s : Program) (t : Program)
     (told : Report) (j : ℕ) (trace : List ℕ) → IfSome o (HasSteps n S c) → IfSome o (λ ss. IsRunTrace d c ss given r j trace) → (o ≡ None → trace ≡ [])
-    → c.body.wires ≡ n → length S ≤ operation_limit → All (IsFineOp n) S → s.ops ≡ S → s.wires ≡ n → t.ops ≡ ops r.body.gates → t.wires ≡ d.size
+    → c.body.wires ≡ n → length S ≤ most_operations → All (IsFineOp n) S → s.ops ≡ S → s.wires ≡ n → t.ops ≡ ops r.body.gates → t.wires ≡ d.size
     → j ≡ (c.turn + r.turn) % 8 → told.initial ≡ given → told.last ≡ r.last → told.phase ≡ j → IsOwnTrace (is_some o) s t told trace
 IsOwnTrace-run d n S c None given r s t told j trace steps run none wires few fine source width target size turn begins ends phase = none refl
 IsOwnTrace-run d n S c (Some ss) given r s t told j trace steps run none wires few fine source width target size turn begins ends phase =

@@ -29,11 +29,11 @@ use Rattle.gate_inline.specs.Inlined.{code as inline_code}
 use Rattle.gate_inline.specs.Programs.{IsAccepted, Program}
 use Rattle.qasm_check.specs.Refusals.{code as check_code}
 use Rattle.program_reader.specs.Refusals.{IsRefusal}
-use Rattle.program_reader.specs.declared.refusal.Refusal.{Refusal}
-use Rattle.program_reader.specs.declared.refusal.Refusal.TheVariants as refusal
-use Rattle.command_words.specs.declared.commands.Command.{Command}
-use Rattle.command_words.specs.Commands.{command_of}
-use Rattle.command_words.specs.Demands.{Question, device_name, question_of, reads_input}
+use Rattle.program_reader.specs.declared.refusal.ProgramRefusal.{ProgramRefusal}
+use Rattle.program_reader.specs.declared.refusal.ProgramRefusal.TheVariants as refusal
+use Rattle.command_line.specs.declared.commands.Command.{Command}
+use Rattle.command_line.specs.Commands.{command_of}
+use Rattle.command_line.specs.Demands.{Question, device_name, question_of, reads_input}
 use Rattle.qroute_top.specs.declared.stops.DeviceRefusal.{DeviceRefusal}
 use Rattle.qroute_top.specs.declared.stops.DeviceRefusal.TheVariants as device
 use Rattle.qroute_top.specs.declared.stops.DeviceStop.{DeviceStop}
@@ -73,7 +73,7 @@ pub record Reaches (h : Handed) (name : List ℕ) : Type 0 where
   pub wires : ℕ
   pub source : HasSource (reads_input command) (Tells h.input) wires
 
-abbrev pub IsRefusedSource : Option (List ℕ) → Refusal → Type 0
+abbrev pub IsRefusedSource : Option (List ℕ) → ProgramRefusal → Type 0
 IsRefusedSource input r = (text : List ℕ) × Tells input text × IsRefusal text r
 
 abbrev pub IsRefusedDevice : Option (Option (List ℕ)) → ℕ → DeviceRefusal → Type 0
@@ -113,7 +113,7 @@ IsDeviceCause content n before after device_stop.Failed = Rose before after
 IsDeviceCause content n before after device_stop.Absent = HasNoText content
 IsDeviceCause content n before after (device_stop.Refused r) = IsRefusedDevice content n r
 
-abbrev pub refusal_fault : Refusal → Fault
+abbrev pub refusal_fault : ProgramRefusal → Fault
 refusal_fault refusal.TooLong = fault.Plain 60
 refusal_fault (refusal.BadByte place) = fault.Place 10 place
 refusal_fault (refusal.Number place) = fault.Place 11 place
@@ -139,7 +139,7 @@ question_fault (question.ManyBranches branches) = fault.ManyBranches branches
 question_fault (question.BitsLength qubits) = fault.BitsLength qubits
 question_fault (question.TooManySpares qubits spares) = fault.TooManySpares qubits spares
 
-abbrev pub text_fault : Side → Refusal → Fault
+abbrev pub text_fault : Side → ProgramRefusal → Fault
 text_fault s refusal.TooLong = fault.TextPlain 60 s
 text_fault s (refusal.BadByte place) = fault.TextPlace 10 place s
 text_fault s (refusal.Number place) = fault.TextPlace 11 place s

@@ -16,33 +16,33 @@
 --   IsYes first last phase v   the verdict v is yes, from and to these placements and up to this power of w
 use Rattle.std.specs.Prelude.{◌≡◌, ◌⊎◌, ℕ, ◌<◌, ◌≤◌, List, Option, Some, length}
 use Rattle.outside_io.specs.Shelf.{HasNoText, TellsText}
-use Rattle.gate_inline.specs.Programs.{Program, text_limit}
+use Rattle.gate_inline.specs.Programs.{Program, most_text_bytes}
 use Rattle.program_reader.specs.Texts.{IsAcceptedText, IsTextRefusal}
-use Rattle.program_reader.specs.declared.refusal.Refusal.{Refusal}
-use Rattle.program_reader.specs.declared.refusal.Refusal.TheVariants.{TooLong}
-use Rattle.command_words.specs.Commands.{command_of}
-use Rattle.command_words.specs.Demands.{asked_texts}
-use Rattle.command_words.specs.declared.commands.Command.{Command}
+use Rattle.program_reader.specs.declared.refusal.ProgramRefusal.{ProgramRefusal}
+use Rattle.program_reader.specs.declared.refusal.ProgramRefusal.TheVariants.{TooLong}
+use Rattle.command_line.specs.Commands.{command_of}
+use Rattle.command_line.specs.Demands.{asked_texts}
+use Rattle.command_line.specs.declared.commands.Command.{Command}
 use Rattle.route_report.specs.Verdicts.{verdict_line}
 use Rattle.route_report.specs.declared.faults.Side.{Side}
 use Rattle.route_report.specs.declared.faults.Side.TheVariants as side
 use Rattle.trace_check.specs.Proves.{Claim, Proves, StopsAt}
-use Rattle.trace_check.specs.Verdicts.{claim_of}
-use Rattle.trace_check.specs.declared.verdict.Verdict.{Verdict}
-use Rattle.trace_check.specs.declared.verdict.Verdict.TheVariants as verdict
 use Rattle.trace_text.specs.Texts.{trace_of}
 use Rattle.unitary_model.specs.Realises.{Realises}
+use Rattle.qroute_top.specs.Verdicts.{claim_of}
+use Rattle.qroute_top.specs.declared.verdict.Verdict.{Verdict}
+use Rattle.qroute_top.specs.declared.verdict.Verdict.TheVariants as verdict
 
 abbrev pub limit_of : Side → ℕ
-limit_of side.Source = text_limit
+limit_of side.Source = most_text_bytes
 limit_of side.Target = 67108864
 
-abbrev pub IsTextRefused : Side → List ℕ → Refusal → Type 0
+abbrev pub IsTextRefused : Side → List ℕ → ProgramRefusal → Type 0
 IsTextRefused s text r = ((r ≡ TooLong) × (limit_of s < length text)) ⊎ ((length text ≤ limit_of s) × IsTextRefusal text r)
 
 pub data Found : Type 0 where
   Missing : Found
-  Bad : (refusal : Refusal) → Found
+  Bad : (refusal : ProgramRefusal) → Found
   Good : (text : List ℕ) (program : Program) → Found
 
 abbrev pub Says : Option (Option (List ℕ)) → Side → Found → Type 0
@@ -52,7 +52,7 @@ Says content s (Good text p) = TellsText content text × (length text ≤ limit_
 
 pub data Ending : Type 0 where
   Absent : Ending
-  Refused : (text : Side) (refusal : Refusal) → Ending
+  Refused : (text : Side) (refusal : ProgramRefusal) → Ending
   Stopped : (line : ℕ) → Ending
   Proved : (first last : List ℕ) (phase : ℕ) → Ending
 

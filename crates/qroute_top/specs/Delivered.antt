@@ -36,16 +36,15 @@ use Rattle.bench_program.specs.Program.{drawn}
 use Rattle.gate_expand.specs.Expansion.{expanded}
 use Rattle.gate_inline.specs.Programs.{IsAccepted, IsWritten, Program, kept}
 use Rattle.layer_stages.specs.Stages.{IsStageText}
-use Rattle.phase_poly.specs.Layers.{layers_of}
+use Rattle.circuit_layers.specs.Layers.{layers_of}
 use Rattle.program_parts.specs.Cuts.{uncut}
 use Rattle.program_parts.specs.Parts.{Part, ends, powers}
 use Rattle.trace_check.specs.Proves.{Proves}
-use Rattle.trace_check.specs.Verdicts.{claim_of}
 use Rattle.trace_text.specs.Texts.{trace_of}
-use Rattle.command_words.specs.declared.commands.Command.{Command}
-use Rattle.command_words.specs.declared.commands.Command.TheVariants.{Opt, OptWithSpares, Route, Check, Stages, Bench, Amplitude, Verify}
-use Rattle.command_words.specs.Commands.{command_of}
-use Rattle.command_words.specs.Demands.{keeps_barriers, question_of, reads_input}
+use Rattle.command_line.specs.declared.commands.Command.{Command}
+use Rattle.command_line.specs.declared.commands.Command.TheVariants.{Opt, OptWithSpares, Route, Check, Stages, Bench, Amplitude, Verify}
+use Rattle.command_line.specs.Commands.{command_of}
+use Rattle.command_line.specs.Demands.{keeps_barriers, question_of, reads_input}
 use Rattle.qroute_top.specs.Claims.{IsVerified}
 use Rattle.qroute_top.specs.Costs.{told_cost}
 use Rattle.qroute_top.specs.Devices.{IsDevice}
@@ -55,6 +54,7 @@ use Rattle.qroute_top.specs.InParts.{AreMade, HasFewTs, told_parts}
 use Rattle.qroute_top.specs.WithSpares.{StandsWithSpares, ToldWithSpares}
 use Rattle.routed_parts.specs.Runs.{AreMachineRuns, HasFewSwaps}
 use Rattle.routed_parts.specs.Settled.{IsSettled}
+use Rattle.qroute_top.specs.Verdicts.{claim_of}
 
 abbrev pub Content : Type 0
 Content = List ℕ → Option (Option (List ℕ))

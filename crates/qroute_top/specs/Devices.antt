@@ -1,5 +1,5 @@
 -- Which device texts are accepted, and the first refusal of the others.
---   device_limit               the most bytes of a device text
+--   most_device_bytes               the most bytes of a device text
 --   IsDevice text d            the text describes the device d
 --   IsDeviceRefusal text n r   r is the first refusal of the text for a program on n wires: its length, or else that it
 --                              describes no device, or else that its device has fewer qubits
@@ -14,17 +14,17 @@ use Rattle.gate_inline.specs.Programs.{IsAccepted, Program}
 use Rattle.qroute_top.specs.declared.stops.DeviceRefusal.{DeviceRefusal}
 use Rattle.qroute_top.specs.declared.stops.DeviceRefusal.TheVariants as device
 
-abbrev pub device_limit : ℕ
-device_limit = 1048576
+abbrev pub most_device_bytes : ℕ
+most_device_bytes = 1048576
 
 pub record IsDevice (text : List ℕ) (d : Coupling) : Type 0 where
-  pub short : length text ≤ device_limit
+  pub short : length text ≤ most_device_bytes
   pub says : Says text (graph d.size d.edges d.costs)
   pub coupling : IsCoupling d
 
 abbrev pub IsDeviceRefusal : List ℕ → ℕ → DeviceRefusal → Type 0
-IsDeviceRefusal text n device.TooLong = device_limit < length text
-IsDeviceRefusal text n (device.Fault f) = (length text ≤ device_limit) × IsDeviceFault text f
+IsDeviceRefusal text n device.TooLong = most_device_bytes < length text
+IsDeviceRefusal text n (device.Fault f) = (length text ≤ most_device_bytes) × IsDeviceFault text f
 IsDeviceRefusal text n (device.TooFewQubits size qubits) = (d : Coupling) × IsDevice text d × (size ≡ d.size) × (qubits ≡ n) × (size < n)
 
 abbrev pub HasDevice : (List ℕ → Option (Option (List ℕ))) → Option (List ℕ) → ℕ → Type 0

@@ -8,10 +8,10 @@
 --   TellsReport s t line   the line is that of the report of the target
 --   IsPlanned s t ..     the text of the target, and the line of its report
 --   HasPlanned s t Done  some text and line are so, and this was done with them
---   has_text w, has_line w   whether a work has something for the output, and for the report
---   IsFitWork w          what is asked of a work before it is done
---   IsWork w ..          the text and the line that are right for a work
---   HasWork w Done       some text and line are right for the work, and this was done with them
+--   has_text w, has_line w   whether an answer has something for the output, and for the report
+--   IsFitAnswer w          what is asked of an answer before it is done
+--   IsAnswerOf w ..          the text and the line that are right for an answer
+--   HasAnswer w Done       some text and line are right for the answer, and this was done with them
 use Rattle.std.specs.Prelude.{◌≡◌, ℕ, suc, ◌<◌, ◌≤◌, Bool, true, false, List, [], None, All, length, map, sum_by}
 use Rattle.circuit_list.specs.Gates.{ops}
 use Rattle.gate_inline.specs.Programs.{IsWritten, Program}
@@ -19,10 +19,9 @@ use Rattle.program_parts.specs.Cuts.{chopped}
 use Rattle.program_parts.specs.Parts.{Part}
 use Rattle.route_report.specs.declared.lines.Report.{Report}
 use Rattle.route_report.specs.Lines.{report_line}
-use Rattle.rewrite_pass.specs.TraceLines.{ended}
-use Rattle.trace_text.specs.Texts.{lines_of, trace_of}
-use Rattle.qroute_top.specs.declared.plan.Work.{Work}
-use Rattle.qroute_top.specs.declared.plan.Work.TheVariants as work
+use Rattle.trace_text.specs.Texts.{ended, lines_of, trace_of}
+use Rattle.qroute_top.specs.declared.plan.Answer.{Answer}
+use Rattle.qroute_top.specs.declared.plan.Answer.TheVariants as answer
 use Rattle.qroute_top.specs.declared.target.Target.{Target}
 use Rattle.qroute_top.specs.Delivered.{IsOwnTrace, Reports, StandsFor, placed_read}
 use Rattle.qroute_top.specs.InParts.{told_parts}
@@ -78,25 +77,25 @@ pub record IsPlanned (s : Program) (t : Target) (text line : List ℕ) : Type 0 
 abbrev pub HasPlanned : Program → Target → (List ℕ → List ℕ → Type 0) → Type 0
 HasPlanned s t Done = (text : List ℕ) × (line : List ℕ) × IsPlanned s t text line × Done text line
 
-abbrev pub has_text : Work → Bool
-has_text (work.Program s t) = true
-has_text (work.Text text) = true
-has_text (work.Line line) = false
+abbrev pub has_text : Answer → Bool
+has_text (answer.Program s t) = true
+has_text (answer.Text text) = true
+has_text (answer.Line line) = false
 
-abbrev pub has_line : Work → Bool
-has_line (work.Program s t) = true
-has_line (work.Text text) = false
-has_line (work.Line line) = true
+abbrev pub has_line : Answer → Bool
+has_line (answer.Program s t) = true
+has_line (answer.Text text) = false
+has_line (answer.Line line) = true
 
-abbrev pub IsFitWork : Work → Type 0
-IsFitWork (work.Program s t) = IsFit s t
-IsFitWork (work.Text text) = Unit {0}
-IsFitWork (work.Line line) = Unit {0}
+abbrev pub IsFitAnswer : Answer → Type 0
+IsFitAnswer (answer.Program s t) = IsFit s t
+IsFitAnswer (answer.Text text) = Unit {0}
+IsFitAnswer (answer.Line line) = Unit {0}
 
-abbrev pub IsWork : Work → List ℕ → List ℕ → Type 0
-IsWork (work.Program s t) text line = IsPlanned s t text line
-IsWork (work.Text v) text line = (text ≡ v.items) × (line ≡ [])
-IsWork (work.Line v) text line = (text ≡ []) × (line ≡ v.items)
+abbrev pub IsAnswerOf : Answer → List ℕ → List ℕ → Type 0
+IsAnswerOf (answer.Program s t) text line = IsPlanned s t text line
+IsAnswerOf (answer.Text v) text line = (text ≡ v.items) × (line ≡ [])
+IsAnswerOf (answer.Line v) text line = (text ≡ []) × (line ≡ v.items)
 
-abbrev pub HasWork : Work → (List ℕ → List ℕ → Type 0) → Type 0
-HasWork w Done = (text : List ℕ) × (line : List ℕ) × IsWork w text line × Done text line
+abbrev pub HasAnswer : Answer → (List ℕ → List ℕ → Type 0) → Type 0
+HasAnswer w Done = (text : List ℕ) × (line : List ℕ) × IsAnswerOf w text line × Done text line

@@ -11,12 +11,12 @@
 --   IsTraceStop e trace s    why a trace proves no claim
 --   IsClaimStop ..       why a claim on two texts isn't proved
 use Rattle.std.specs.Prelude.{◌≡◌, ℕ, List, Option, None, Some, ⊤}
-use Rattle.command_words.specs.Commands.{command_of}
-use Rattle.command_words.specs.Demands.{Question}
+use Rattle.command_line.specs.Commands.{command_of}
+use Rattle.command_line.specs.Demands.{Question}
 use Rattle.outside_io.specs.declared.TextFault.{TextFault}
 use Rattle.outside_io.specs.declared.TextFault.TheVariants as text_fault
-use Rattle.program_reader.specs.declared.refusal.ReadFault.{ReadFault}
-use Rattle.program_reader.specs.declared.refusal.ReadFault.TheVariants as read_fault
+use Rattle.program_reader.specs.declared.refusal.ProgramFault.{ProgramFault}
+use Rattle.program_reader.specs.declared.refusal.ProgramFault.TheVariants as read_fault
 use Rattle.qroute_top.specs.declared.stops.DeviceRefusal.TheVariants as device
 use Rattle.qroute_top.specs.declared.stops.DeviceStop.{DeviceStop}
 use Rattle.qroute_top.specs.declared.stops.DeviceStop.TheVariants as device_stop
@@ -29,7 +29,7 @@ use Rattle.qroute_top.specs.declared.stops.Stop.TheVariants as stop
 use Rattle.gate_inline.specs.Programs.{Program}
 use Rattle.outside_io.specs.Causes.{Rose}
 use Rattle.outside_io.specs.Shelf.{HasNoText}
-use Rattle.program_reader.specs.declared.refusal.Refusal.TheVariants as refusal
+use Rattle.program_reader.specs.declared.refusal.ProgramRefusal.TheVariants as refusal
 use Rattle.route_report.specs.declared.faults.Side.{Side}
 use Rattle.trace_check.specs.Proves.{Claim, StopsAt}
 use Rattle.qroute_top.specs.declared.stops.ClaimStop.TheVariants as claim
@@ -38,7 +38,7 @@ use Rattle.qroute_top.specs.Claims.{Bad, IsTextRefused, Says}
 use Rattle.qroute_top.specs.Devices.{IsDeviceRefusal}
 use Rattle.qroute_top.specs.Questions.{IsQuestionRefusal}
 
-abbrev pub unread : ReadFault → SourceStop
+abbrev pub unread : ProgramFault → SourceStop
 unread read_fault.NoMemory = source_stop.NoMemory
 unread (read_fault.Refused r) = source_stop.Refused r
 

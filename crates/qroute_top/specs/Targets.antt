@@ -27,7 +27,7 @@ use Rattle.coupling_map.specs.Coupling.{Coupling, cost}
 use Rattle.coupling_map.specs.Edges.{FollowsEdges}
 use Rattle.coupling_map.specs.Walks.{IsDiameter}
 use Rattle.gate_expand.specs.Expansion.{IsFineOp, expanded, turn_of}
-use Rattle.gate_inline.specs.Sizes.{operation_limit}
+use Rattle.gate_inline.specs.Sizes.{most_operations}
 use Rattle.gate_inline.specs.Programs.{Program}
 use Rattle.program_parts.specs.Cuts.{whole}
 use Rattle.program_parts.specs.Parts.{Part}
@@ -76,7 +76,7 @@ pub record IsRunOf (d : Coupling) (n : ℕ) (gates : List Gate) (given : List �
   pub few_swaps : (k : ℕ) → IsDiameter d.size d.edges (cost d) k → r.swaps ≤ cx_count (ops gates) * bound d k
 
 abbrev pub IsRunTrace : Coupling → Passed → List Step → List ℕ → Routed → ℕ → List ℕ → Type 0
-IsRunTrace d c ss given r j trace = (e : Claim) (t : ℕ) → e.wires ≡ c.body.wires → e.qubits ≡ d.size → length e.source ≤ operation_limit
+IsRunTrace d c ss given r j trace = (e : Claim) (t : ℕ) → e.wires ≡ c.body.wires → e.qubits ≡ d.size → length e.source ≤ most_operations
     → All (IsFineOp e.wires) e.source → AreSteps e.wires (expanded e.source) ss c.body.gates t → e.target ≡ ops r.body.gates
     → j ≡ (turn_of e.source + (t + r.turn)) % 8 → Proves e trace given r.last j
 

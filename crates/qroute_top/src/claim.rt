@@ -5,17 +5,17 @@ ghost use Rattle.outside_io.specs.Causes.{Rose};
 ghost use Rattle.outside_io.specs.Shelf.{TellsText};
 ghost use Rattle.program_parts.specs.Cuts.{uncut};
 ghost use Rattle.trace_check.specs.Proves.{Proves};
-ghost use Rattle.trace_check.specs.Verdicts.{IsReadAs, claim_of};
 ghost use Rattle.trace_text.specs.Texts.{trace_of};
+ghost use Rattle.qroute_top.specs.Verdicts.{IsReadAs, claim_of};
 ghost use Rattle.qroute_top.specs.Claims.{IsVerified, limit_of};
-ghost use Rattle.qroute_top.specs.Plans.{IsFitWork, IsWork, has_line, has_text};
+ghost use Rattle.qroute_top.specs.Plans.{IsFitAnswer, IsAnswerOf, has_line, has_text};
 ghost use Rattle.qroute_top.specs.Stops.{IsClaimStop, IsTextStop, IsTraceStop, IsUnreadText, unloaded_text};
 
-use crate::plan::Work;
+use crate::plan::Answer;
 use crate::stops::{ClaimStop, Stop};
-use command_words::name::Name;
+use command_line::name::Name;
 use outside_io::{Shelf, TextFault, load_text};
-use program_reader::{ReadFault, Refusal, SourceProgram, read_text};
+use program_reader::{ProgramFault, ProgramRefusal, SourceProgram, read_text};
 use route_report::{Side, verdict_line};
 use std::alloc::Global;
 use trace_check::laws::traces_are_sound;
@@ -27,7 +27,7 @@ fn limit_of(side: Side) -> usize
     ensures { result ≡ limit_of side }
 {
     match side {
-        Side::Source => program_reader::TEXT_LIMIT,
+        Side::Source => program_reader::MOST_TEXT_BYTES,
         Side::Target => 67_108_864,
     }
 }
@@ -41,7 +41,7 @@ fn stop_of(side: Side, fault: TextFault) -> Stop
         TextFault::Absent => Stop::Claim(ClaimStop::Absent),
         TextFault::TooLong => Stop::Claim(ClaimStop::Refused {
             side,
-            refusal: Refusal::TooLong,
+            refusal: ProgramRefusal::TooLong,
         }),
         TextFault::NoMemory => Stop::NoMemory,
     }
@@ -62,8 +62,11 @@ fn program_of(alloc: Global, side: Side, text: &[u8]) -> Result<SourceProgram, S
 {
     match read_text(alloc, text, false) {
         Ok(program) => Ok(program),
-        Err(ReadFault::Refused(refusal)) => Err(Stop::Claim(ClaimStop::Refused { side, refusal })),
-        Err(ReadFault::NoMemory) => Err(Stop::NoMemory),
+        Err(ProgramFault::Refused(refusal)) => Err(Stop::Claim(ClaimStop::Refused {
+            side,
+            refusal,
+        })),
+        Err(ProgramFault::NoMemory) => Err(Stop::NoMemory),
     }
 }
 
@@ -112,15 +115,15 @@ fn power_of(alloc: Global, source: &SourceProgram, target: &Loaded) -> Result<u8
 
 /// The line of the claim that the text of the second name does what that of the first does; nothing goes to the report.
 #[tactic(auto, using(crate::proofs::ClaimLaws::texts))]
-pub fn claim_work<F: Shelf>(
+pub fn claim_answer<F: Shelf>(
     alloc: Global,
     shelf: &mut F,
     source: &Name,
     target: &Name,
-) -> Result<Work, Stop>
-    ensures made { IfOk result (λ w. (text line : List ℕ) → IsWork w text line →
+) -> Result<Answer, Stop>
+    ensures made { IfOk result (λ w. (text line : List ℕ) → IsAnswerOf w text line →
         IsVerified (F.content shelf.old) source.now target.now text × (line ≡ [])) }
-    ensures fit { IfOk result IsFitWork }
+    ensures fit { IfOk result IsFitAnswer }
     ensures writes { IfOk result (λ w. has_text w ≡ true) }
     ensures tells { IfOk result (λ w. has_line w ≡ false) }
     ensures err { IfErr result (IsClaimStop (F.content shelf.old) source.now target.now (F.faults shelf.old) (F.faults shelf.new)) }
@@ -134,5 +137,5 @@ pub fn claim_work<F: Shelf>(
     target.program.facts();
     let phase = power_of(alloc, &source.program, &target)?;
     let text = verdict_line(alloc, phase)?;
-    Ok(Work::Text { text })
+    Ok(Answer::Text { text })
 }

@@ -27,7 +27,7 @@ fn gate_cost(device: &Device, gate: Gate) -> u64
 #[tactic(auto, using(crate::proofs::CostLaws::sums))]
 fn sum_of_costs(device: &Device, body: &Circuit) -> u64
     requires edges { FollowsEdges device.now.edges (ops body.now.gates) }
-    requires few { cx_count (ops body.now.gates) ≤ 4294967296 }
+    requires cx_limit { cx_count (ops body.now.gates) ≤ 4294967296 }
     ensures { result ≡ cx_cost device.now (ops body.now.gates) }
 {
     let mut sum = 0;
@@ -41,8 +41,8 @@ fn sum_of_costs(device: &Device, body: &Circuit) -> u64
 #[tactic(auto, using(crate::proofs::CostLaws::told))]
 pub fn cost_of(device: &Device, body: &Circuit) -> Option<u64>
     requires edges { FollowsEdges device.now.edges (ops body.now.gates) }
-    requires few { format_of device.now.costs ≡ 2 → cx_count (ops body.now.gates) ≤ 4294967296 }
-    ensures { result ≡ told_cost device.now (ops body.now.gates) }
+    requires cx_limit { format_of device.now.costs ≡ 2 → cx_count (ops body.now.gates) ≤ 4294967296 }
+    ensures value { result ≡ told_cost device.now (ops body.now.gates) }
 {
     if device.format() == 2 {
         Some(sum_of_costs(device, body))

@@ -1,30 +1,30 @@
 //! All that happens before a sink is touched.
 
 ghost use Rattle.std.specs.Prelude.{◌≡◌, ℕ, List, Some, None, Err, false, map, IfOk, IfErr};
-ghost use Rattle.command_words.specs.Commands.{IsAllowed, command_of};
-ghost use Rattle.command_words.specs.Demands.{asked_texts, device_name, reads_input, writes_out, writes_report};
-ghost use Rattle.command_words.specs.declared.commands.Command.{Command as Asked};
+ghost use Rattle.command_line.specs.Commands.{IsAllowed, command_of};
+ghost use Rattle.command_line.specs.Demands.{asked_texts, device_name, reads_input, writes_out, writes_report};
+ghost use Rattle.command_line.specs.declared.commands.Command.{Command as Asked};
 ghost use Rattle.qroute_top.specs.Causes.{IsCause};
 ghost use Rattle.qroute_top.specs.Delivered.{Delivers};
-ghost use Rattle.qroute_top.specs.Plans.{IsFitWork, IsWork, has_line, has_text};
+ghost use Rattle.qroute_top.specs.Plans.{IsFitAnswer, IsAnswerOf, has_line, has_text};
 ghost use Rattle.qroute_top.specs.Stops.{IsUnasked};
 
-use crate::claim::claim_work;
+use crate::claim::claim_answer;
 use crate::device::load_device;
 use crate::pipeline::{Wishes, optimise, optimise_with_spares, route_on};
-use crate::plan::{Work, check_work, stage_work};
-use crate::question::entry_work;
+use crate::plan::{Answer, check_answer, stage_answer};
+use crate::question::entry_answer;
 use crate::source::{drawn_source, read_source};
 use crate::stops::Stop;
-use command_words::commands::{Command, WordsFault};
-use command_words::words::command;
+use command_line::commands::{Command, WordsFault};
+use command_line::words::command;
 use outside_io::{Shelf, Source as Input};
 use std::alloc::Global;
 
 /// The command of the words.
 fn asked(alloc: Global, words: &[&str]) -> Result<Command, Stop>
     ensures ok { IfOk result (λ c. command_of (map (λ w. w.now) words.now) ≡ Some c) }
-    ensures few { IfOk result IsAllowed }
+    ensures allowed { IfOk result IsAllowed }
     ensures err { IfErr result (IsUnasked (map (λ w. w.now) words.now)) }
 {
     match command(alloc, words) {
@@ -42,9 +42,9 @@ pub fn decide<I: Input, F: Shelf>(
     words: &[&str],
     input: &mut I,
     shelf: &mut F,
-) -> Result<Work, Stop>
-    ensures made { IfOk result (λ p. (text line : List ℕ) → IsWork p text line → Delivers (map (λ w. w.now) words.now) (F.content shelf.old) (I.left input.old) (I.left input.new) text line) }
-    ensures fit { IfOk result IsFitWork }
+) -> Result<Answer, Stop>
+    ensures made { IfOk result (λ p. (text line : List ℕ) → IsAnswerOf p text line → Delivers (map (λ w. w.now) words.now) (F.content shelf.old) (I.left input.old) (I.left input.new) text line) }
+    ensures fit { IfOk result IsFitAnswer }
     ensures writes { IfOk result (λ p. (c : Asked) → command_of (map (λ w. w.now) words.now) ≡ Some c → has_text p ≡ writes_out c) }
     ensures tells { IfOk result (λ p. (c : Asked) → command_of (map (λ w. w.now) words.now) ≡ Some c → has_line p ≡ writes_report c) }
     ensures stop { IfErr result (IsCause (record {
@@ -75,15 +75,15 @@ pub fn decide<I: Input, F: Shelf>(
         }
         Command::Check => {
             let source = read_source(alloc, input, false)?;
-            Ok(check_work(alloc, &source)?)
+            Ok(check_answer(alloc, &source)?)
         }
         Command::Stages { spares } => {
             let source = read_source(alloc, input, false)?;
-            Ok(stage_work(alloc, &source, spares)?)
+            Ok(stage_answer(alloc, &source, spares)?)
         }
         Command::Amplitude { from, to } => {
             let source = read_source(alloc, input, false)?;
-            Ok(entry_work(alloc, &source, &from, &to)?)
+            Ok(entry_answer(alloc, &source, &from, &to)?)
         }
         Command::Route {
             device: name,
@@ -109,6 +109,8 @@ pub fn decide<I: Input, F: Shelf>(
         } => {
             // The program is made for the device, so any device has enough qubits.
             let device = load_device(alloc, shelf, &name, 0)?;
+            // Its contract says how many qubits a device has.
+            device.facts();
             let source = drawn_source(alloc, start, gates, device.size())?;
             let wishes = Wishes {
                 trivial: false,
@@ -118,6 +120,6 @@ pub fn decide<I: Input, F: Shelf>(
             };
             Ok(route_on(alloc, source, &device, wishes)?)
         }
-        Command::Verify { source, target } => claim_work(alloc, shelf, &source, &target),
+        Command::Verify { source, target } => claim_answer(alloc, shelf, &source, &target),
     }
 }

@@ -3,17 +3,17 @@
 ghost use Rattle.std.specs.Prelude.{◌≡◌, ◌≤◌, ◌<◌, ℕ, List, Err, IfErr, IfOk, length};
 ghost use Rattle.outside_io.specs.Shelf.{TellsText};
 ghost use Rattle.qroute_top.specs.Causes.{IsDeviceCause};
-ghost use Rattle.qroute_top.specs.Devices.{IsDevice, device_limit};
+ghost use Rattle.qroute_top.specs.Devices.{IsDevice, most_device_bytes};
 ghost use Rattle.qroute_top.specs.Stops.{IsUndescribed, unloaded};
 
 use crate::stops::{DeviceRefusal, DeviceStop};
-use command_words::name::Name;
+use command_line::name::Name;
 use coupling_map::{Device, DeviceError, read_device};
 use outside_io::{Shelf, TextFault, load_text};
 use std::alloc::Global;
 
 /// The most bytes of a device text.
-const TEXT_LIMIT: usize = 1_048_576;
+const MOST_DEVICE_BYTES: usize = 1_048_576;
 
 /// Why a text of the shelf isn't had.
 fn stop_of(fault: TextFault) -> DeviceStop
@@ -29,7 +29,7 @@ fn stop_of(fault: TextFault) -> DeviceStop
 
 /// The device of a text, with at least `wires` qubits.
 fn device_of(alloc: Global, text: &[u8], wires: u32) -> Result<Device, DeviceStop>
-    requires { length text.now ≤ device_limit }
+    requires { length text.now ≤ most_device_bytes }
     ensures ok { IfOk result (λ d. IsDevice text.now d × (wires ≤ d.size)) }
     ensures err { IfErr result (IsUndescribed text.now wires) }
 {
@@ -63,7 +63,7 @@ pub fn load_device<F: Shelf>(
     ensures later { F.faults shelf.old ≤ F.faults shelf.new }
     ensures calm { (result ≡ Err DeviceStop.Failed → ⊥) → F.faults shelf.new ≡ F.faults shelf.old }
 {
-    match load_text(alloc, shelf, name.as_str(), TEXT_LIMIT) {
+    match load_text(alloc, shelf, name.as_str(), MOST_DEVICE_BYTES) {
         Err(fault) => Err(stop_of(fault)),
         Ok(text) => device_of(alloc, &text, wires),
     }

@@ -11,12 +11,12 @@
 //! tells of a program without writing one, `stages` writes a line for each layer of its gates, and `amplitude` writes one entry of
 //! its unitary. `bench` reads none: it routes one that it draws for the device, gate by gate. With `--trace` the program that is
 //! written on a device carries a trace, which proves that it is the source; `verify` tells whether the trace in one text proves
-//! that it is another, whoever wrote them.
+//! that it is another, whoever wrote them. [`check_trace`] tells so of two texts, of whatever length, and a trace beside them.
 //!
 //! `source` reads the input, over all of the readers, or draws a program; `device` loads the device of a name; `target` makes the
 //! circuit that is to be written and its trace, `question` the entry that is asked for and whether spares have room, `claim` the verdict on two texts, and `plan`
-//! all that takes memory, before `emission` writes the first byte. A program goes out in pieces, so its text never stands whole in
-//! memory. What a command asks of its surroundings is told by `command_words`, so that each clause is said once for all commands.
+//! all that takes memory, before `delivery` writes the first byte. A program goes out in pieces, so its text never stands whole in
+//! memory. What a command asks of its surroundings is told by `command_line`, so that each clause is said once for all commands.
 #![tactic(auto)]
 
 ghost use Rattle.std.specs.Prelude.{◌≡◌, ◌⊎◌, ℕ, List, Some, None, map, true, false, is_some};
@@ -25,10 +25,10 @@ ghost use Rattle.outside_io.specs.Causes.{Rose};
 ghost use Rattle.route_report.specs.Faults.{fault_line};
 ghost use Rattle.route_report.specs.declared.faults.Side.TheVariants as Side;
 ghost use Rattle.program_reader.specs.Refusals.{IsRefusal};
-ghost use Rattle.program_reader.specs.declared.refusal.Refusal.{Refusal as Refused};
-ghost use Rattle.command_words.specs.Commands.{command_of};
-ghost use Rattle.command_words.specs.Demands.{asked_texts, device_name, question_of, reads_input, writes_out, writes_report};
-ghost use Rattle.command_words.specs.declared.commands.Command.{Command as Asked};
+ghost use Rattle.program_reader.specs.declared.refusal.ProgramRefusal.{ProgramRefusal as Refused};
+ghost use Rattle.command_line.specs.Commands.{command_of};
+ghost use Rattle.command_line.specs.Demands.{asked_texts, device_name, question_of, reads_input, writes_out, writes_report};
+ghost use Rattle.command_line.specs.declared.commands.Command.{Command as Asked};
 ghost use Rattle.qroute_top.specs.declared.stops.DeviceRefusal.{DeviceRefusal as RefusedDevice};
 ghost use Rattle.gate_inline.specs.Programs.{IsAccepted, Program};
 ghost use Rattle.qroute_top.specs.declared.stops.QuestionRefusal.{QuestionRefusal as RefusedQuestion};
@@ -39,21 +39,22 @@ ghost use Rattle.qroute_top.specs.Claims.{AreTold, Ending, IsEnding, IsTextRefus
 ghost use Rattle.qroute_top.specs.Delivered.{Delivered};
 
 pub use bench_program::made;
-pub use command_words::{bits, commands, name, words};
+pub use command_line::{bits, commands, name, words};
 use decision::decide;
-use emission::{emit, tell};
+use delivery::{emit, tell};
 use outside_io::{Shelf, Sink, Source};
 use program_reader::{
     accepted_has_no_refusal, accepted_text_has_no_refusal, means_once, text_refused_once,
 };
 use std::alloc::Global;
 use trace_check::laws::traces_are_exact;
+pub use verdict::{TextRefusal, Verdict, check_trace};
 
 mod claim;
 mod cost;
 mod decision;
+mod delivery;
 mod device;
-mod emission;
 pub mod laws;
 mod parts;
 mod passes;
@@ -63,6 +64,7 @@ mod question;
 mod source;
 mod stops;
 mod target;
+mod verdict;
 
 /// Runs the command of the words: reads the input, or for `bench` draws a program, writes the program to `out` and the report
 /// line to `report`, and answers the status that the program ends with.
@@ -185,7 +187,7 @@ pub fn run<I: Source, F: Shelf, O: Sink, R: Sink>(
     text_refused_once();
     traces_are_exact();
     match decide(alloc, words, input, shelf) {
-        Ok(work) => emit(alloc, &work, out, report),
+        Ok(answer) => emit(alloc, &answer, out, report),
         Err(stop) => tell(alloc, stop, report),
     }
 }

@@ -30,7 +30,7 @@ pub struct PartTarget {
 /// Puts the gates of a part behind those of the parts before it.
 #[tactic(auto, using(crate::proofs::PartLaws::parts))]
 pub fn append(body: &mut Circuit, part: &Circuit) -> Result<(), AllocError>
-    requires { part.now.wires ≡ body.old.wires }
+    requires wires { part.now.wires ≡ body.old.wires }
     ensures wires { body.new.wires ≡ body.old.wires }
     ensures gates { OnOk result (body.new.gates ≡ body.old.gates ++ part.now.gates) }
 {
@@ -43,7 +43,7 @@ pub fn append(body: &mut Circuit, part: &Circuit) -> Result<(), AllocError>
 /// The gates of all parts, one part after the other.
 #[tactic(auto, using(crate::proofs::PartLaws::parts))]
 fn joined(alloc: Global, size: u32, made: &[PartTarget]) -> Result<Circuit, AllocError>
-    requires few { size ≤ most_wires }
+    requires wires_limit { size ≤ most_wires }
     requires each { All (IsOnSize size) made.now }
     ensures wires { IfOk result (λ c. c.wires ≡ size) }
     ensures gates { IfOk result (λ c. c.gates ≡ whole (map (λ m. m.body.gates) made.now)) }
@@ -57,7 +57,7 @@ fn joined(alloc: Global, size: u32, made: &[PartTarget]) -> Result<Circuit, Allo
 
 /// The same; of one part its own circuit.
 pub fn body_of(alloc: Global, size: u32, made: Vec<PartTarget>) -> Result<Circuit, AllocError>
-    requires few { size ≤ most_wires }
+    requires wires_limit { size ≤ most_wires }
     requires each { All (IsOnSize size) made.items }
     ensures wires { IfOk result (λ c. c.wires ≡ size) }
     ensures gates { IfOk result (λ c. c.gates ≡ whole (map (λ m. m.body.gates) made.items)) }
@@ -74,7 +74,7 @@ pub fn body_of(alloc: Global, size: u32, made: Vec<PartTarget>) -> Result<Circui
 
 /// The number of gates of each part.
 pub fn lengths_of(alloc: Global, made: &[PartTarget]) -> Result<Vec<usize>, AllocError>
-    ensures { IfOk result (λ v. v.items ≡ map (λ m. length m.body.gates) made.now) }
+    ensures ok { IfOk result (λ v. v.items ≡ map (λ m. length m.body.gates) made.now) }
 {
     let mut lengths = Vec::with_capacity(alloc, made.len())?;
     'parts: for part in made {
@@ -85,7 +85,7 @@ pub fn lengths_of(alloc: Global, made: &[PartTarget]) -> Result<Vec<usize>, Allo
 
 /// The turn of all parts.
 pub fn turn_of(made: &[PartTarget]) -> u8
-    requires { All (λ m. m.turn < 8) made.now }
+    requires turns { All (λ m. m.turn < 8) made.now }
     ensures below { result < 8 }
     ensures sum { result ≡ turns_of made.now % 8 }
 {
@@ -98,8 +98,8 @@ pub fn turn_of(made: &[PartTarget]) -> u8
 
 /// The number of swaps of all parts.
 pub fn swaps_of(made: &[PartTarget]) -> u64
-    requires { sum_by (λ m. m.swaps) made.now < 18446744073709551616 }
-    ensures { result ≡ sum_by (λ m. m.swaps) made.now }
+    requires limit { sum_by (λ m. m.swaps) made.now < 18446744073709551616 }
+    ensures value { result ≡ sum_by (λ m. m.swaps) made.now }
 {
     let mut swaps = 0;
     'parts: for part in made {
@@ -129,7 +129,7 @@ pub fn placed_bars(
 ) -> Result<Vec<Vec<u32>>, AllocError>
     requires many { length made.now ≡ length source.now.cut.parts }
     requires placed { All (λ m. source.now.wires ≤ length m.last) made.now }
-    ensures { IfOk result (λ v. map (λ b. b.items) v.items ≡ placed_bars (parts_of source.now.cut.parts made.now) source.now.cut.bars) }
+    ensures ok { IfOk result (λ v. map (λ b. b.items) v.items ≡ placed_bars (parts_of source.now.cut.parts made.now) source.now.cut.bars) }
 {
     source.facts();
     let bars = source.bars();
@@ -173,7 +173,7 @@ pub fn told_parts(
     keep: bool,
 ) -> Result<Option<Parts>, AllocError>
     requires many { length made.now ≡ length source.now.cut.parts }
-    ensures { IfOk result (λ p. p ≡ told_parts keep (parts_of source.now.cut.parts made.now)) }
+    ensures ok { IfOk result (λ p. p ≡ told_parts keep (parts_of source.now.cut.parts made.now)) }
 {
     if keep {
         Ok(Some(Parts {

@@ -1,30 +1,28 @@
 //! What a command has to write, and all that is made before the first byte goes out.
 
-ghost use Rattle.std.specs.Prelude.{◌≡◌, ◌≤◌, ℕ, List, [], All, IfOk, length, map, false, true, vec_capacity};
-ghost use Rattle.gate_inline.specs.Registers.{IsFree, IsRead};
+ghost use Rattle.std.specs.Prelude.{◌≡◌, ℕ, List, [], All, IfOk, length, map, false, true};
+ghost use Rattle.gate_inline.specs.Registers.{IsRead};
 ghost use Rattle.program_parts.specs.Cuts.{uncut};
 ghost use Rattle.qasm_writer.specs.Outputs.{bits_of};
 ghost use Rattle.route_report.specs.Lines.{check_line};
 ghost use Rattle.qroute_top.specs.Causes.{output_fault_line};
 ghost use Rattle.qroute_top.specs.Delivered.{IsStages, counts_of, placed_read};
-ghost use Rattle.qroute_top.specs.Plans.{IsFit, IsFitWork, IsPlanned, IsReport, IsWork, TellsReport, has_line, has_text};
+ghost use Rattle.qroute_top.specs.Plans.{IsFit, IsFitAnswer, IsPlanned, IsReport, IsAnswerOf, TellsReport, has_line, has_text};
 
 use crate::target::Target;
-use gate_expand::expand;
+use gate_expand::{cx_count_of, expand, t_count_of};
 use layer_stages::stage_lines;
 use placement::Placement;
 use program_reader::SourceProgram;
-use qasm_check::Bits;
-use qasm_lexer::names_are_ascii;
-use qasm_writer::empty_room;
+use qasm_check::ClassicalRegister;
+use qasm_writer::PieceBuffer;
 use qasm_writer::output::Register;
 use route_report::{Counts, Fault, Parts, Report, Wires, check_line, fault_line, report_line};
 use std::alloc::{AllocError, Global};
-use unitary_plain::counts::{cx_count_of, t_count_of};
 
 /// What a command has to write, before the bytes of a program and its report line are made.
 #[derive(Drop)]
-pub enum Work {
+pub enum Answer {
     /// A program that stands for a source goes to the output, and its report line to the report.
     Program {
         source: SourceProgram,
@@ -46,7 +44,7 @@ pub struct Prepared<'a> {
     pub registers: Vec<Register<'a>>,
     pub reads: Vec<Option<u32>>,
     /// Where the pieces of the text are put together.
-    pub room: Vec<u8>,
+    pub buffer: PieceBuffer,
     /// The line of the report.
     pub line: Vec<u8>,
     /// The line that is told where the output fails.
@@ -107,17 +105,16 @@ fn placed_reads(
 }
 
 /// The classical registers as they are written.
-fn registers_of<'a>(alloc: Global, bits: &'a [Bits]) -> Result<Vec<Register<'a>>, AllocError>
-    requires { All IsFree bits.now }
+fn registers_of<'a>(
+    alloc: Global,
+    bits: &'a [ClassicalRegister],
+) -> Result<Vec<Register<'a>>, AllocError>
     ensures { IfOk result (λ v. map bits_of v.items ≡ bits.now) }
 {
-    names_are_ascii();
     let mut registers = Vec::new(alloc);
     'registers: for it in bits {
-        // A name of the language is ASCII.
-        let name = str::from_utf8(it.name.as_bytes()).unwrap();
         registers.push(Register {
-            name,
+            name: it.name.as_bytes(),
             size: it.size,
         })?;
     }
@@ -152,7 +149,7 @@ fn report_of(alloc: Global, source: &SourceProgram, target: &Target) -> Result<R
 {
     let counts = counts_of(source);
     let last = Wires::new(Vec::from_slice(alloc, target.last.qubits())?);
-    let initial = Wires::new(Vec::from_slice(alloc, target.initial.as_slice())?);
+    let initial = Wires::new(Vec::from_slice(alloc, target.initial.qubits())?);
     Ok(Report {
         barriers: counts.barriers,
         cost: target.cost,
@@ -171,15 +168,15 @@ fn report_of(alloc: Global, source: &SourceProgram, target: &Target) -> Result<R
     })
 }
 
-/// The work of writing a target that stands for a source.
-pub fn work_of(source: SourceProgram, target: Target) -> Work
-    requires { IsFit source target }
-    ensures planned { (text line : List ℕ) → IsWork result text line → IsPlanned source target text line }
-    ensures fit { IsFitWork result }
+/// The answer that is a target that stands for a source.
+pub fn answer_of(source: SourceProgram, target: Target) -> Answer
+    requires fit { IsFit source target }
+    ensures planned { (text line : List ℕ) → IsAnswerOf result text line → IsPlanned source target text line }
+    ensures fit { IsFitAnswer result }
     ensures writes { has_text result ≡ true }
     ensures tells { has_line result ≡ true }
 {
-    Work::Program { source, target }
+    Answer::Program { source, target }
 }
 
 /// All that is made for a target that stands for a source.
@@ -188,12 +185,10 @@ pub fn prepare<'a>(
     source: &'a SourceProgram,
     target: &Target,
 ) -> Result<Prepared<'a>, AllocError>
-    requires { IsFit source.now target.now }
+    requires fit { IsFit source.now target.now }
     ensures registers { IfOk result (λ p. map bits_of p.registers.items ≡ source.now.registers) }
     ensures reads { IfOk result (λ p. p.reads.items ≡ map (placed_read target.now.last) source.now.reads) }
     ensures there { IfOk result (λ p. All (IsRead target.now.body.wires) p.reads.items) }
-    ensures empty { IfOk result (λ p. p.room.items ≡ []) }
-    ensures capacity { IfOk result (λ p. 4096 ≤ vec_capacity p.room) }
     ensures line { IfOk result (λ p. TellsReport source.now target.now p.line.items) }
     ensures fault { IfOk result (λ p. p.fault.items ≡ output_fault_line) }
 {
@@ -203,41 +198,41 @@ pub fn prepare<'a>(
     let report = report_of(alloc, source, target)?;
     let line = report_line(alloc, &report)?;
     let fault = fault_line(alloc, &Fault::Output)?;
-    let room = empty_room(alloc)?;
+    let buffer = PieceBuffer::new(alloc)?;
     Ok(Prepared {
         registers,
         reads,
-        room,
+        buffer,
         line,
         fault,
     })
 }
 
 /// The line that tells what a program has; nothing goes to the output.
-pub fn check_work(alloc: Global, source: &SourceProgram) -> Result<Work, AllocError>
-    ensures made { IfOk result (λ w. (text line : List ℕ) → IsWork w text line → (text ≡ []) × (line ≡ check_line (counts_of source.now))) }
-    ensures fit { IfOk result IsFitWork }
+pub fn check_answer(alloc: Global, source: &SourceProgram) -> Result<Answer, AllocError>
+    ensures made { IfOk result (λ w. (text line : List ℕ) → IsAnswerOf w text line → (text ≡ []) × (line ≡ check_line (counts_of source.now))) }
+    ensures fit { IfOk result IsFitAnswer }
     ensures writes { IfOk result (λ w. has_text w ≡ false) }
     ensures tells { IfOk result (λ w. has_line w ≡ true) }
 {
     let line = check_line(alloc, &counts_of(source))?;
-    Ok(Work::Line { line })
+    Ok(Answer::Line { line })
 }
 
 /// The lines of the layers of a program's gates, with spare wires where a number is given; nothing goes to the report.
-pub fn stage_work(
+pub fn stage_answer(
     alloc: Global,
     source: &SourceProgram,
     spares: Option<u32>,
-) -> Result<Work, AllocError>
-    requires { source.now.cut ≡ uncut source.now.ops }
-    ensures made { IfOk result (λ w. (text line : List ℕ) → IsWork w text line → IsStages source.now spares text × (line ≡ [])) }
-    ensures fit { IfOk result IsFitWork }
+) -> Result<Answer, AllocError>
+    requires uncut { source.now.cut ≡ uncut source.now.ops }
+    ensures made { IfOk result (λ w. (text line : List ℕ) → IsAnswerOf w text line → IsStages source.now spares text × (line ≡ [])) }
+    ensures fit { IfOk result IsFitAnswer }
     ensures writes { IfOk result (λ w. has_text w ≡ true) }
     ensures tells { IfOk result (λ w. has_line w ≡ false) }
 {
     source.facts();
     let gates = expand(alloc, source.ops())?;
     let text = stage_lines(alloc, &gates.body, spares)?;
-    Ok(Work::Text { text })
+    Ok(Answer::Text { text })
 }

@@ -1,46 +1,46 @@
 //! Questions on a program: the entry of its unitary that is asked for, and whether there is room for spare wires.
 
 ghost use Rattle.std.specs.Prelude.{◌≡◌, ◌+◌, ◌≤◌, ℕ, List, [], length, None, Some, IfOk, IfErr, IfSome, false, true};
-ghost use Rattle.amplitude_exact.specs.Entries.{branches, most_branches, most_wires};
-ghost use Rattle.qroute_top.specs.Plans.{IsFitWork, IsWork, has_line, has_text};
-ghost use Rattle.command_words.specs.Demands.{Entry as EntryOf, Spares};
+ghost use Rattle.amplitude_exact.specs.Entries.{branches, most_branches, most_entry_wires};
+ghost use Rattle.qroute_top.specs.Plans.{IsFitAnswer, IsAnswerOf, has_line, has_text};
+ghost use Rattle.command_line.specs.Demands.{Entry as EntryOf, Spares};
 ghost use Rattle.program_parts.specs.Cuts.{uncut};
 ghost use Rattle.qroute_top.specs.Questions.{IsEntryText, IsQuestionRefusal, most_wires_in_all};
 ghost use Rattle.qroute_top.specs.Stops.{IsUnanswered};
 ghost use Rattle.qroute_top.specs.declared.stops.QuestionRefusal.{QuestionRefusal as RefusedQuestion};
 
-use crate::plan::Work;
+use crate::plan::Answer;
 use crate::stops::{QuestionRefusal, QuestionStop};
 use amplitude_exact::{Amp, amplitude, branches_of};
 use circuit_list::MOST_WIRES;
-use command_words::bits::BitList;
+use command_line::bits::BitList;
 use program_reader::SourceProgram;
 use route_report::{Entry, entry_line};
 use std::alloc::Global;
 
 /// The most wires of a program of which an entry is told.
-const WIRE_LIMIT: u32 = 12;
+const MOST_ENTRY_WIRES: u32 = 12;
 
 /// The most of its operations that are branches.
-const BRANCH_LIMIT: usize = 60;
+const MOST_BRANCHES: usize = 60;
 
 /// Why the entry of a program between two lists of bits isn't told.
 fn refusal_of(source: &SourceProgram, from: &[bool], to: &[bool]) -> Option<QuestionRefusal>
     requires { source.now.cut ≡ uncut source.now.ops }
     ensures refused { IfSome result (IsQuestionRefusal (Some (EntryOf from.now to.now)) source.now) }
     ensures answered { result ≡ None → (r : RefusedQuestion) → IsQuestionRefusal (Some (EntryOf from.now to.now)) source.now r → ⊥ }
-    ensures few_wires { result ≡ None → source.now.wires ≤ most_wires }
-    ensures few_branches { result ≡ None → branches source.now.ops ≤ most_branches }
+    ensures wires_limit { result ≡ None → source.now.wires ≤ most_entry_wires }
+    ensures branches_limit { result ≡ None → branches source.now.ops ≤ most_branches }
     ensures from_length { result ≡ None → length from.now ≡ source.now.wires }
     ensures to_length { result ≡ None → length to.now ≡ source.now.wires }
 {
     let ops = source.ops();
     let wires = ops.wires;
-    if wires > WIRE_LIMIT {
+    if wires > MOST_ENTRY_WIRES {
         return Some(QuestionRefusal::WideProgram { qubits: wires });
     }
     let branches = branches_of(ops.list.as_slice());
-    if branches > BRANCH_LIMIT {
+    if branches > MOST_BRANCHES {
         return Some(QuestionRefusal::ManyBranches {
             branches: branches as u64,
         });
@@ -56,10 +56,10 @@ fn refusal_of(source: &SourceProgram, from: &[bool], to: &[bool]) -> Option<Ques
 
 /// Why so many spare wires can't stand behind a program's.
 pub fn spares_refusal(source: &SourceProgram, spares: u32) -> Option<QuestionRefusal>
-    requires { spares ≤ 255 }
+    requires spares_limit { spares ≤ 255 }
     ensures refused { IfSome result (IsQuestionRefusal (Some (Spares spares)) source.now) }
     ensures answered { result ≡ None → (r : RefusedQuestion) → IsQuestionRefusal (Some (Spares spares)) source.now r → ⊥ }
-    ensures room { result ≡ None → source.now.wires + spares ≤ most_wires_in_all }
+    ensures wires_limit { result ≡ None → source.now.wires + spares ≤ most_wires_in_all }
 {
     source.facts();
     let qubits = source.wires();
@@ -87,16 +87,16 @@ fn told(amp: Amp) -> Entry
 }
 
 /// The line of the entry of a program's unitary between two lists of bits; nothing goes to the report.
-pub fn entry_work(
+pub fn entry_answer(
     alloc: Global,
     source: &SourceProgram,
     from: &BitList,
     to: &BitList,
-) -> Result<Work, QuestionStop>
-    requires { source.now.cut ≡ uncut source.now.ops }
-    ensures made { IfOk result (λ w. (text line : List ℕ) → IsWork w text line → IsEntryText source.now.ops from.now to.now text × (line ≡ [])) }
+) -> Result<Answer, QuestionStop>
+    requires uncut { source.now.cut ≡ uncut source.now.ops }
+    ensures made { IfOk result (λ w. (text line : List ℕ) → IsAnswerOf w text line → IsEntryText source.now.ops from.now to.now text × (line ≡ [])) }
     ensures answered { IfOk result (λ w. (r : RefusedQuestion) → IsQuestionRefusal (Some (EntryOf from.now to.now)) source.now r → ⊥) }
-    ensures fit { IfOk result IsFitWork }
+    ensures fit { IfOk result IsFitAnswer }
     ensures writes { IfOk result (λ w. has_text w ≡ true) }
     ensures tells { IfOk result (λ w. has_line w ≡ false) }
     ensures err { IfErr result (IsUnanswered (EntryOf from.now to.now) source.now) }
@@ -108,7 +108,7 @@ pub fn entry_work(
         None => {
             let amp = amplitude(alloc, source.ops(), from, to)?;
             let text = entry_line(alloc, &told(amp))?;
-            Ok(Work::Text { text })
+            Ok(Answer::Text { text })
         }
     }
 }

@@ -8,8 +8,8 @@ ghost use Rattle.qroute_top.specs.Delivered.{IsHad, drawn_program};
 
 use crate::stops::SourceStop;
 use bench_program::made;
-use outside_io::{ReadFault, Source, read_all};
-use program_reader::{Refusal, SourceProgram, TEXT_LIMIT, read_program};
+use outside_io::{InputFault, Source, read_all};
+use program_reader::{MOST_TEXT_BYTES, ProgramRefusal, SourceProgram, read_program};
 use std::alloc::{AllocError, Global};
 
 /// Reads the input to its end, or to one byte past the limit, and the program that it spells, in parts where `keep` says that its
@@ -25,10 +25,10 @@ pub fn read_source<I: Source>(
     ensures later { I.faults input.old ≤ I.faults input.new }
     ensures calm { (result ≡ Err SourceStop.Failed → ⊥) → I.faults input.new ≡ I.faults input.old }
 {
-    match read_all(alloc, input, TEXT_LIMIT) {
-        Err(ReadFault::Failed) => Err(SourceStop::Failed),
-        Err(ReadFault::TooLong) => Err(SourceStop::Refused(Refusal::TooLong)),
-        Err(ReadFault::NoMemory) => Err(SourceStop::NoMemory),
+    match read_all(alloc, input, MOST_TEXT_BYTES) {
+        Err(InputFault::Failed) => Err(SourceStop::Failed),
+        Err(InputFault::TooLong) => Err(SourceStop::Refused(ProgramRefusal::TooLong)),
+        Err(InputFault::NoMemory) => Err(SourceStop::NoMemory),
         Ok(text) => Ok(read_program(alloc, &text, keep)?),
     }
 }
@@ -40,7 +40,7 @@ pub fn drawn_source(
     gates: u32,
     qubits: u32,
 ) -> Result<SourceProgram, AllocError>
-    requires few_gates { gates ≤ most_gates }
+    requires gates_limit { gates ≤ most_gates }
     requires some { 0 < qubits }
     requires limit { qubits ≤ most_qubits }
     ensures drawn { IfOk result (λ s. s ≡ drawn_program start gates qubits) }

@@ -1,7 +1,7 @@
 //! Why a run ends before its first byte goes out.
 
 use coupling_map::DeviceFault;
-use program_reader::{ReadFault, Refusal};
+use program_reader::{ProgramFault, ProgramRefusal};
 use route_report::Side;
 use std::alloc::AllocError;
 
@@ -37,7 +37,7 @@ pub enum SourceStop {
     /// Reading the input failed.
     Failed,
     /// The program is refused.
-    Refused(Refusal),
+    Refused(ProgramRefusal),
 }
 
 /// Why the device isn't had.
@@ -70,7 +70,7 @@ pub enum ClaimStop {
     /// The shelf has no text of the name.
     Absent,
     /// A text is refused.
-    Refused { side: Side, refusal: Refusal },
+    Refused { side: Side, refusal: ProgramRefusal },
     /// The trace stops at this line.
     Trace { line: u32 },
 }
@@ -85,7 +85,7 @@ pub enum Stop {
     /// Reading the input failed.
     Input,
     /// The program is refused.
-    Program(Refusal),
+    Program(ProgramRefusal),
     /// The shelf failed.
     Shelf,
     /// The shelf has no text of the device's name.
@@ -98,16 +98,16 @@ pub enum Stop {
     Claim(ClaimStop),
 }
 
-impl From<ReadFault> for SourceStop {
+impl From<ProgramFault> for SourceStop {
     ghost use Rattle.std.specs.Prelude.{◌≡◌};
     ghost use Rattle.qroute_top.specs.Stops.{unread};
 
     ghost from_gives = { λ f s. s ≡ unread f };
 
-    fn from(fault: ReadFault) -> SourceStop {
+    fn from(fault: ProgramFault) -> SourceStop {
         match fault {
-            ReadFault::NoMemory => SourceStop::NoMemory,
-            ReadFault::Refused(refusal) => SourceStop::Refused(refusal),
+            ProgramFault::NoMemory => SourceStop::NoMemory,
+            ProgramFault::Refused(refusal) => SourceStop::Refused(refusal),
         }
     }
 }

@@ -5,8 +5,7 @@ ghost use Rattle.std.specs.List.{AllZip};
 ghost use Rattle.circuit_list.specs.Gates.{most_wires};
 ghost use Rattle.gate_expand.specs.Expansion.{IsFineOp};
 ghost use Rattle.program_parts.specs.Cuts.{uncut, whole};
-ghost use Rattle.rewrite_pass.specs.TraceLines.{ended};
-ghost use Rattle.trace_text.specs.Texts.{lines_of};
+ghost use Rattle.trace_text.specs.Texts.{ended, lines_of};
 ghost use Rattle.unitary_model.specs.Placement.{IsPlacement, identity};
 ghost use Rattle.routed_parts.specs.Legs.{IsCleaned};
 ghost use Rattle.sabre_route.specs.Routing.{IsLayout};
@@ -45,7 +44,7 @@ pub struct Target {
     /// The qubits of the barrier between two parts.
     pub barriers: Vec<Vec<u32>>,
     /// The qubit on which each wire begins, spare wires included.
-    pub initial: Wires,
+    pub initial: Placement,
     /// The qubit on which each wire ends.
     pub last: Placement,
     /// The number of swaps.
@@ -66,7 +65,7 @@ pub struct Target {
 /// The circuit of a part's operations after all passes, its turn against the part, and the steps from the part's gates to it where
 /// they are asked for.
 fn optimised(alloc: Global, part: &Ops, traced: bool) -> Result<Rewritten, AllocError>
-    requires few { part.now.wires ≤ most_wires }
+    requires wires_limit { part.now.wires ≤ most_wires }
     requires fine { All (IsFineOp part.now.wires) part.now.list }
     ensures optimised { IfOk result (λ r. IsOptimised part.now.wires part.now.list r.passed) }
     ensures asked { IfOk result (λ r. is_some r.steps ≡ traced) }
@@ -76,7 +75,7 @@ fn optimised(alloc: Global, part: &Ops, traced: bool) -> Result<Rewritten, Alloc
     let Rewritten { passed, steps } = rewrite(alloc, expanded.body, traced)?;
     let turn = turn_sum(expanded.turn, passed.turn);
     // Its contract says that the gates are on these wires.
-    let _wires = passed.body.wires();
+    passed.body.facts();
     Ok(Rewritten {
         passed: Passed {
             body: passed.body,
@@ -114,7 +113,7 @@ fn qubits_of(alloc: Global, placement: &Placement) -> Result<Wires, AllocError>
 
 /// A part of a source after all passes, on its own wires.
 fn placed_part(alloc: Global, part: &Ops, own: &Placement) -> Result<PartTarget, AllocError>
-    requires few { part.now.wires ≤ most_wires }
+    requires wires_limit { part.now.wires ≤ most_wires }
     requires fine { All (IsFineOp part.now.wires) part.now.list }
     requires own { own.now ≡ identity part.now.wires }
     ensures { IfOk result (IsPlacedPart part.now.wires part.now.list) }
@@ -150,7 +149,7 @@ pub fn in_place(alloc: Global, source: &SourceProgram, keep: bool) -> Result<Tar
     source.facts();
     let wires = source.wires();
     let last = Placement::identity(alloc, wires)?;
-    let initial = qubits_of(alloc, &last)?;
+    let initial = last.copy()?;
     let made = placed_parts(alloc, source)?;
     let swaps = 0;
     Ok(Target {
@@ -171,7 +170,7 @@ pub fn in_place(alloc: Global, source: &SourceProgram, keep: bool) -> Result<Tar
 /// The circuit on its own wires and so many spare ones behind them: the layers that take fewer blocks there are written anew.
 pub fn on_spares(alloc: Global, source: &SourceProgram, spares: u32) -> Result<Target, AllocError>
     requires one { source.now.cut ≡ uncut source.now.ops }
-    requires few { source.now.wires + spares ≤ most_wires }
+    requires wires_limit { source.now.wires + spares ≤ most_wires }
     ensures stands { IfOk result (IsSparedTarget source.now spares) }
     ensures fit { IfOk result (IsFit source.now) }
 {
@@ -181,7 +180,7 @@ pub fn on_spares(alloc: Global, source: &SourceProgram, spares: u32) -> Result<T
     let Rewritten { passed, .. } = optimised(alloc, source.ops(), false)?;
     let made = with_spares(alloc, spares, &passed.body)?;
     let own = Placement::identity(alloc, made.body.wires())?;
-    let initial = qubits_of(alloc, &own)?;
+    let initial = own.copy()?;
     // There is no device, and there are no parts, to tell of.
     let (cost, parts) = (None, None);
     Ok(Target {
@@ -202,7 +201,7 @@ pub fn on_spares(alloc: Global, source: &SourceProgram, spares: u32) -> Result<T
 /// The gates of some circuits, one after the other.
 #[tactic(auto, using(crate::proofs::PartLaws::parts))]
 fn joined(alloc: Global, wires: u32, rewritten: &[Rewritten]) -> Result<Circuit, AllocError>
-    requires few { wires ≤ most_wires }
+    requires wires_limit { wires ≤ most_wires }
     requires each { All (λ r. r.passed.body.wires ≡ wires) rewritten.now }
     ensures wires { IfOk result (λ c. c.wires ≡ wires) }
     ensures gates { IfOk result (λ c. c.gates ≡ whole (gates_of rewritten.now)) }
@@ -226,7 +225,7 @@ fn layout_of(
     ensures placed { IfOk result (λ p. length p ≡ device.now.size) }
     ensures laid_out { IfOk result (IsLayout device.now (whole (gates_of rewritten.now))) }
 {
-    let _size = device.size();
+    device.facts();
     if rewritten.len() == 1 {
         return layout(alloc, &rewritten[0].passed.body, device);
     }
@@ -278,13 +277,13 @@ fn run_from(
     // Their contracts say that the gates are on these qubits, and that the wires stand on them.
     if traced {
         let (routed, events) = route_traced(alloc, circuit, device, given)?;
-        let _qubits = routed.body.wires();
-        let _placed = routed.last.size();
+        routed.body.facts();
+        routed.last.facts();
         return Ok(Run { routed, events });
     }
     let routed = route(alloc, circuit, device, given)?;
-    let _qubits = routed.body.wires();
-    let _placed = routed.last.size();
+    routed.body.facts();
+    routed.last.facts();
     Ok(Run {
         routed,
         events: Vec::new(alloc),
@@ -365,9 +364,9 @@ fn routed_part(
 {
     let passed = &rewritten.passed;
     // Their contracts say that the gates are on these wires, and that what is given is a placement.
-    let _wires = passed.body.wires();
-    let _size = device.size();
-    let _placed = given.size();
+    passed.body.facts();
+    device.facts();
+    given.facts();
     let initial = qubits_of(alloc, &given)?;
     let run = run_from(
         alloc,
@@ -381,7 +380,7 @@ fn routed_part(
     let routed = run.routed;
     let last = qubits_of(alloc, &routed.last)?;
     let left = cleaned(alloc, routed.body, clean)?;
-    let _left = left.body.wires();
+    left.body.facts();
     Ok(Leg {
         made: PartTarget {
             body: left.body,
@@ -455,10 +454,11 @@ pub fn on_device(
 {
     source.facts();
     // Their contracts say how many qubits a device has at most, and that it has a diameter.
+    device.facts();
     let size = device.size();
     let _diameter = device.diameter();
     let given = first_placement(alloc, source.wires(), rewritten, device, trivial)?;
-    let initial = qubits_of(alloc, &given)?;
+    let initial = given.copy()?;
     let Legs { made, last, trace } = routed_parts(alloc, rewritten, device, given, clean)?;
     let lengths = lengths_of(alloc, &made)?;
     let barriers = placed_bars(alloc, source, &made)?;

@@ -2,7 +2,8 @@
 
 use angle_fraction::Binary;
 use gate_library::{
-    Formula, Gate, Indices, Item, Known, Meaning, is_in_table, is_standard, names_repeat,
+    BoundGate, Formula, Item, gates, is_in_table, is_standard, names_repeat, own_number,
+    standard_names,
 };
 use std::alloc::{AllocError, Global};
 use std::test::Fail;
@@ -185,22 +186,25 @@ fn tables(rt: HostRuntime) -> Result<(), Fail> {
         (b"sxdg", b"", b"a", b"s a; h a; s a;"),
     ];
     let alloc = rt.alloc();
-    let mut known = Known::new(alloc)?;
-    known.include();
     let mut names = Vec::new(alloc);
     for (i, (name, _, _, _)) in rows.iter().enumerate() {
-        assert!(rt;
-            known.meaning(name) == Some(Meaning::Gate(i + 2)),
-            "row {i}"
-        );
+        assert_eq!(rt; own_number(true, name), Some(i + 2), "row {i}");
         names.push(*name)?;
     }
-    let gates = known.into_gates();
+    let standard = standard_names();
+    assert_eq!(rt; standard.len(), 22);
+    for (i, name) in standard.iter().enumerate() {
+        let Some(listed) = names.get(i) else {
+            panic!(rt; "row {i}");
+        };
+        assert!(rt; *listed == *name, "row {i}");
+    }
+    let gates = gates(alloc)?;
     assert_eq!(rt; gates.len(), 31);
     for (i, (_, params, qubits, body)) in rows.iter().enumerate() {
         let shape = (params.len().div_ceil(2), qubits.len().div_ceil(2));
         let Some(
-            Gate::Composed {
+            BoundGate::Composed {
                 params: many,
                 qubits: wide,
                 body: items,
@@ -237,26 +241,25 @@ fn names(rt: HostRuntime) -> Result<(), Fail> {
     Ok(())
 }
 
-/// What names stand for before an include and behind it, and once a program declares one.
+/// The numbers of gates that need no declaration, before an include and behind it.
 #[test]
-fn known_names(rt: HostRuntime) -> Result<(), Fail> {
-    let alloc = rt.alloc();
-    let mut known = Known::new(alloc)?;
-    assert_eq!(rt; known.meaning(b"U"), Some(Meaning::Gate(0)));
-    assert_eq!(rt; known.meaning(b"CX"), Some(Meaning::Gate(1)));
-    assert_eq!(rt; known.meaning(b"u3"), None);
-    known.include();
-    assert_eq!(rt; known.meaning(b"u3"), Some(Meaning::Gate(2)));
-    assert_eq!(rt; known.meaning(b"sxdg"), Some(Meaning::Gate(30)));
-    assert_eq!(rt; known.params(2), 3);
-    assert_eq!(rt; known.qubits(30), 1);
-    assert!(rt; !known.is_opaque(30));
+fn own_numbers(rt: HostRuntime) -> Result<(), Fail> {
+    assert_eq!(rt; own_number(false, b"U"), Some(0));
+    assert_eq!(rt; own_number(false, b"CX"), Some(1));
+    assert_eq!(rt; own_number(false, b"u3"), None);
+    assert_eq!(rt; own_number(true, b"u3"), Some(2));
+    assert_eq!(rt; own_number(true, b"sxdg"), Some(30));
+    assert_eq!(rt; own_number(true, b"nosuch"), None);
+    let gates = gates(rt.alloc())?;
+    assert_eq!(rt; gates.get(2).map(|gate| gate.params()), Some(3));
+    assert_eq!(rt; gates.get(30).map(|gate| gate.qubits()), Some(1));
+    assert_eq!(rt; gates.get(30).map(|gate| gate.is_opaque()), Some(false));
     Ok(())
 }
 
-/// The first index of each name, and names that stand twice.
+/// Names that stand twice.
 #[test]
-fn indices(rt: HostRuntime) -> Result<(), Fail> {
+fn repeated_names(rt: HostRuntime) -> Result<(), Fail> {
     let alloc = rt.alloc();
     let mut names: Vec<&[u8]> = Vec::new(alloc);
     names.push(b"a")?;
@@ -264,9 +267,5 @@ fn indices(rt: HostRuntime) -> Result<(), Fail> {
     assert!(rt; !names_repeat(alloc, &names)?);
     names.push(b"a")?;
     assert!(rt; names_repeat(alloc, &names)?);
-    let indices = Indices::of(alloc, names)?;
-    assert!(rt; indices.has(b"a") && indices.has(b"b") && !indices.has(b"c"));
-    assert_eq!(rt; indices.index(b"a"), 0);
-    assert_eq!(rt; indices.index(b"b"), 1);
     Ok(())
 }

@@ -2,10 +2,10 @@
 //! of the textbooks; the power of w is worked out by floating numbers.
 
 use crate::inline_tests::{behind_head, inlined};
-use circuit_samples::{Value, doubled, entry, halvings, sum, turned};
 use gate_expand::Ops;
 use std::alloc::{AllocError, Global};
 use std::test::Fail;
+use test_circuits::{Value, doubled, entry, halvings, sum, turned};
 
 const ZERO: Value = Value {
     a: 0,

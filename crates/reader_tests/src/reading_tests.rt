@@ -1,6 +1,6 @@
 //! What is read of texts, and the borders of the limits.
 
-use program_reader::{ReadFault, Refusal, SourceProgram, read_program};
+use program_reader::{ProgramFault, ProgramRefusal, SourceProgram, read_program};
 use std::alloc::{AllocError, Global};
 use std::test::Fail;
 
@@ -15,8 +15,8 @@ fn headed(alloc: Global, text: &str) -> Result<Vec<u8>, AllocError> {
 fn told(alloc: Global, text: &[u8], keep: bool) -> Result<String, AllocError> {
     match read_program(alloc, text, keep) {
         Ok(source) => told_source(alloc, &source),
-        Err(ReadFault::Refused(refusal)) => told_refusal(alloc, refusal),
-        Err(ReadFault::NoMemory) => Ok(String::new(alloc)),
+        Err(ProgramFault::Refused(refusal)) => told_refusal(alloc, refusal),
+        Err(ProgramFault::NoMemory) => Ok(String::new(alloc)),
     }
 }
 
@@ -41,18 +41,18 @@ fn told_source(alloc: Global, source: &SourceProgram) -> Result<String, AllocErr
     Ok(text)
 }
 
-fn told_refusal(alloc: Global, refusal: Refusal) -> Result<String, AllocError> {
+fn told_refusal(alloc: Global, refusal: ProgramRefusal) -> Result<String, AllocError> {
     match refusal {
-        Refusal::TooLong => format!(in alloc; "too long"),
-        Refusal::BadByte { place } => format!(in alloc; "bad byte {place}"),
-        Refusal::Number { place } => format!(in alloc; "number {place}"),
-        Refusal::Syntax { place } => format!(in alloc; "syntax {place}"),
-        Refusal::Version { place } => format!(in alloc; "version {place}"),
-        Refusal::Depth { place } => format!(in alloc; "depth {place}"),
-        Refusal::Check(refused) => {
+        ProgramRefusal::TooLong => format!(in alloc; "too long"),
+        ProgramRefusal::BadByte { place } => format!(in alloc; "bad byte {place}"),
+        ProgramRefusal::Number { place } => format!(in alloc; "number {place}"),
+        ProgramRefusal::Syntax { place } => format!(in alloc; "syntax {place}"),
+        ProgramRefusal::Version { place } => format!(in alloc; "version {place}"),
+        ProgramRefusal::Depth { place } => format!(in alloc; "depth {place}"),
+        ProgramRefusal::Check(refused) => {
             format!(in alloc; "check {} {}", refused.refusal.code(), refused.statement)
         }
-        Refusal::Inline(refused) => {
+        ProgramRefusal::Inline(refused) => {
             format!(in alloc; "inline {} {}", refused.refusal.code(), refused.statement)
         }
     }

@@ -35,7 +35,7 @@ pub trait Rule {
 
     /// The change for the window that begins at a place, and nothing where none does.
     fn at(&self, body: &Circuit, place: usize) -> Option<Change>
-        requires { place < length body.now.gates }
+        requires within { place < length body.now.gates }
         ensures found { IfSome result (λ c. window body.now.gates place) }
         ensures none { IfNone result (¬ window body.now.gates place) }
         ensures change { IfSome result (λ c. IsChange body.now.wires body.now.gates c) }

@@ -44,7 +44,7 @@ impl Model for Trace {
 impl Trace {
     /// No step.
     pub fn start(alloc: Global) -> Trace
-        ensures { result ≡ [] }
+        ensures value { result ≡ [] }
     {
         Trace {
             alloc,
@@ -54,7 +54,7 @@ impl Trace {
 
     /// The number of steps.
     pub fn len(&self) -> usize
-        ensures { result ≡ length self.now }
+        ensures value { result ≡ length self.now }
     {
         self.steps.len()
     }
@@ -92,7 +92,7 @@ impl Trace {
 
     /// The bytes of the steps' lines, each with its line break.
     pub fn lines(&self) -> Result<Vec<u8>, AllocError>
-        ensures { IfOk result (λ bytes. bytes.items ≡ steps_text self.now) }
+        ensures ok { IfOk result (λ bytes. bytes.items ≡ steps_text self.now) }
     {
         let mut bytes = Vec::new(self.alloc);
         'steps: for step in &self.steps {
@@ -103,7 +103,7 @@ impl Trace {
 
     /// The first steps alone.
     pub fn truncate(&mut self, len: usize)
-        ensures { self.new ≡ take len self.old }
+        ensures new { self.new ≡ take len self.old }
     {
         self.steps.truncate(len);
     }

@@ -97,6 +97,7 @@ fn rewritten(alloc: Global, body: &Circuit, mut totals: Totals) -> Result<Passed
     ensures fine { All (IsFine body.now.wires) body.now.gates }
     ensures merged { IfOk result (IsMerged body.now.wires body.now.gates) }
 {
+    body.facts();
     let mut written = Circuit::with_room(alloc, body.wires(), body.len())?;
     let mut read = 0;
     'gates: for i in 0..body.len() {

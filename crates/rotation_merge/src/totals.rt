@@ -129,7 +129,7 @@ impl Totals {
 
     /// Adds a gate, where the walk has come to it.
     pub fn gather(&mut self, alloc: Global, walk: &Walk, gate: Gate) -> Result<(), AllocError>
-        requires { IsFine (length walk.now.labels) gate }
+        requires fine { IsFine (length walk.now.labels) gate }
         ensures gathers { OnOk result ((T : ℕ → ℕ) → HasTotals self.old T → Gathers gate (labels_at walk.now) T self.old self.new) }
         ensures noted { OnOk result ((ls : List PathLabel) → AreNoted (rows self.old) self.old.notes.items ls →
             AreNoted (rows self.new) self.new.notes.items (ls ++ phase_label gate (labels_at walk.now))) }

@@ -12,7 +12,7 @@ use std::alloc::{AllocError, Global};
 
 /// An array of whole numbers.
 pub(crate) fn number_array(alloc: Global, numbers: &[u32]) -> Result<Value, AllocError>
-    ensures { IfOk result (λ v. view v ≡ wholes numbers.now) }
+    ensures ok { IfOk result (λ v. view v ≡ wholes numbers.now) }
 {
     let mut list = Vec::with_capacity(alloc, numbers.len())?;
     'numbers: for number in numbers {
@@ -23,7 +23,7 @@ pub(crate) fn number_array(alloc: Global, numbers: &[u32]) -> Result<Value, Allo
 
 /// An array of powers of w.
 pub(crate) fn power_array(alloc: Global, powers: &[u8]) -> Result<Value, AllocError>
-    ensures { IfOk result (λ v. view v ≡ wholes powers.now) }
+    ensures ok { IfOk result (λ v. view v ≡ wholes powers.now) }
 {
     let mut list = Vec::with_capacity(alloc, powers.len())?;
     'powers: for power in powers {
@@ -34,7 +34,7 @@ pub(crate) fn power_array(alloc: Global, powers: &[u8]) -> Result<Value, AllocEr
 
 /// An array of placements, each an array of whole numbers.
 pub(crate) fn placement_array(alloc: Global, placements: &[Wires]) -> Result<Value, AllocError>
-    ensures { IfOk result (λ v. view v ≡ lists placements.now) }
+    ensures ok { IfOk result (λ v. view v ≡ lists placements.now) }
 {
     let mut list = Vec::with_capacity(alloc, placements.len())?;
     'placements: for placement in placements {
@@ -50,7 +50,7 @@ pub(crate) fn with_member(
     key: &str,
     member: Value,
 ) -> Result<Value, AllocError>
-    ensures { IfOk result (λ v. (ms : Members) → view value ≡ object ms → view v ≡ object (put key.now (view member) ms)) }
+    ensures ok { IfOk result (λ v. (ms : Members) → view value ≡ object ms → view v ≡ object (put key.now (view member) ms)) }
 {
     match value {
         Value::Object(mut map) => {
@@ -63,8 +63,8 @@ pub(crate) fn with_member(
 
 /// The text of a value that holds no float, without a space, and a line break.
 pub(crate) fn value_line(alloc: Global, value: &Value) -> Result<Vec<u8>, AllocError>
-    requires { has_float (view value.now) ≡ false }
-    ensures { IfOk result (λ v. v.items ≡ line (view value.now)) }
+    requires whole { has_float (view value.now) ≡ false }
+    ensures ok { IfOk result (λ v. v.items ≡ line (view value.now)) }
 {
     let mut bytes = value.to_string(alloc)?.into_bytes();
     bytes.push(b'\n')?;

@@ -29,7 +29,7 @@ fn push_part(line: &mut Vec<u8>, part: i128) -> Result<(), AllocError>
 
 /// The bytes of the line of an entry: its five numbers; `Err` for want of memory alone.
 pub fn entry_line(alloc: Global, entry: &Entry) -> Result<Vec<u8>, AllocError>
-    ensures { IfOk result (λ v. v.items ≡ entry_line entry.now) }
+    ensures ok { IfOk result (λ v. v.items ≡ entry_line entry.now) }
 {
     let mut line = Vec::new(alloc);
     push_part(&mut line, entry.a)?;

@@ -120,7 +120,7 @@ fn side_word(side: Side) -> &'static str
 
 /// The status that the program ends with, from 1 to 9.
 pub fn status(fault: &Fault) -> u8
-    ensures { result ≡ status_of fault.now }
+    ensures value { result ≡ status_of fault.now }
 {
     match *fault {
         Fault::Words => 2,
@@ -147,7 +147,7 @@ pub fn status(fault: &Fault) -> u8
 
 /// The JSON object of a fault.
 pub(crate) fn fault_value(alloc: Global, fault: &Fault) -> Result<Value, AllocError>
-    ensures { IfOk result (λ v. view v ≡ fault_data fault.now) }
+    ensures ok { IfOk result (λ v. view v ≡ fault_data fault.now) }
 {
     let status = status(fault);
     match *fault {

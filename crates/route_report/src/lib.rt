@@ -30,7 +30,7 @@ pub use wires::Wires;
 /// The bytes of the report line; `Err` for want of memory alone.
 #[tactic(auto, using(crate::proofs::Floats::floats))]
 pub fn report_line(alloc: Global, report: &Report) -> Result<Vec<u8>, AllocError>
-    ensures { IfOk result (λ v. v.items ≡ report_line report.now) }
+    ensures ok { IfOk result (λ v. v.items ≡ report_line report.now) }
 {
     let value = lines::report_value(alloc, report)?;
     compact::value_line(alloc, &value)
@@ -39,7 +39,7 @@ pub fn report_line(alloc: Global, report: &Report) -> Result<Vec<u8>, AllocError
 /// The bytes of the check line; `Err` for want of memory alone.
 #[tactic(auto, using(crate::proofs::Floats::floats))]
 pub fn check_line(alloc: Global, counts: &Counts) -> Result<Vec<u8>, AllocError>
-    ensures { IfOk result (λ v. v.items ≡ check_line counts.now) }
+    ensures ok { IfOk result (λ v. v.items ≡ check_line counts.now) }
 {
     let value = lines::check_value(alloc, counts)?;
     compact::value_line(alloc, &value)
@@ -48,7 +48,7 @@ pub fn check_line(alloc: Global, counts: &Counts) -> Result<Vec<u8>, AllocError>
 /// The bytes of the line of a fault; `Err` for want of memory alone.
 #[tactic(auto, using(crate::proofs::Floats::floats))]
 pub fn fault_line(alloc: Global, fault: &Fault) -> Result<Vec<u8>, AllocError>
-    ensures { IfOk result (λ v. v.items ≡ fault_line fault.now) }
+    ensures ok { IfOk result (λ v. v.items ≡ fault_line fault.now) }
 {
     let value = faults::fault_value(alloc, fault)?;
     compact::value_line(alloc, &value)

@@ -155,7 +155,7 @@ fn with_parts(alloc: Global, value: Value, parts: &Parts) -> Result<Value, Alloc
 
 /// The JSON object of a report.
 pub(crate) fn report_value(alloc: Global, report: &Report) -> Result<Value, AllocError>
-    ensures { IfOk result (λ v. view v ≡ report_data report.now) }
+    ensures ok { IfOk result (λ v. view v ≡ report_data report.now) }
 {
     let value = partless_value(alloc, report)?;
     match &report.parts {
@@ -166,7 +166,7 @@ pub(crate) fn report_value(alloc: Global, report: &Report) -> Result<Value, Allo
 
 /// The JSON object of a checked program's numbers.
 pub(crate) fn check_value(alloc: Global, counts: &Counts) -> Result<Value, AllocError>
-    ensures { IfOk result (λ v. view v ≡ check_data counts.now) }
+    ensures ok { IfOk result (λ v. view v ≡ check_data counts.now) }
 {
     json!(in alloc; {
         "barriers": counts.barriers,

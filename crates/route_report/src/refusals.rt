@@ -21,7 +21,7 @@ pub(crate) const TOO_MANY_SPARES: u8 = 73;
 
 /// The name of a refusal.
 pub(crate) fn refusal_name(code: u8) -> &'static str
-    ensures { result.now ≡ name_of code }
+    ensures value { result.now ≡ name_of code }
 {
     match code {
         10 => "BadByte",
@@ -69,7 +69,7 @@ pub(crate) fn refusal_name(code: u8) -> &'static str
 
 /// The status that a refusal ends with: 4 for a device's text, 3 for a program's.
 pub(crate) fn refusal_status(code: u8) -> u8
-    ensures { result ≡ stops_with code }
+    ensures value { result ≡ stops_with code }
 {
     match code {
         50..=57 => 4,

@@ -9,7 +9,7 @@ use std::alloc::{AllocError, Global};
 /// The bytes of the line that says yes, with the global phase of the target against the source, in units of pi/4;
 /// `Err` for want of memory alone.
 pub fn verdict_line(alloc: Global, phase: u8) -> Result<Vec<u8>, AllocError>
-    ensures { IfOk result (λ v. v.items ≡ verdict_line phase) }
+    ensures ok { IfOk result (λ v. v.items ≡ verdict_line phase) }
 {
     let mut line = Vec::new(alloc);
     line.extend_from_slice(b"yes ")?;

@@ -21,21 +21,21 @@ impl Wires {
 
     /// The wires of a `Vec`; takes no memory.
     pub fn new(list: Vec<u32>) -> Wires
-        ensures { result ≡ list.items }
+        ensures value { result ≡ list.items }
     {
         Wires { list }
     }
 
     /// The wires in order.
     pub fn as_slice(&self) -> &[u32]
-        ensures { result.now ≡ self.now }
+        ensures value { result.now ≡ self.now }
     {
         self.list.as_slice()
     }
 
     /// The `Vec` that was handed in; takes no memory.
     pub fn into_vec(self) -> Vec<u32>
-        ensures { result.items ≡ self }
+        ensures value { result.items ≡ self }
     {
         let Wires { list } = self;
         list

@@ -115,6 +115,8 @@ fn replays_alike(
 
 /// Whether the events of a drawn circuit are replayed.
 fn agree(alloc: Global, device: &Device, random: &mut Random) -> Result<bool, AllocError> {
+    // it says how many wires are the most
+    device.facts();
     let size = device.size();
     if size < 2 {
         return Ok(false);

@@ -13,7 +13,8 @@ use Rattle.circuit_list.specs.declared.Gate.{Gate}
 use Rattle.circuit_list.specs.declared.Gate.TheVariants.{H, X, P, Cx}
 use Rattle.circuit_list.specs.Gates.{IsFine}
 use Rattle.rewrite_pass.specs.Traces.{Step, Rule, Both, Join, Sums, AreSteps, IsStep, edits_of, rule_of}
-use Rattle.rewrite_pass.specs.TraceLines.{ended, gate_line, gate_numbers, step_lines, step_numbers, steps_text, words}
+use Rattle.rewrite_pass.specs.TraceLines.{gate_line, gate_numbers, step_lines, step_numbers, steps_text, words}
+use Rattle.trace_text.specs.Texts.{ended}
 use Rattle.rewrite_pass.specs.Windows.{IsWindow, HadSHad, HadSdgHad, HadZHad, HadXHad, FourHads, SCxSdg, SdgCxS}
 use Rattle.rewrite_pass.proofs.EditLaws.{changed_short}
 use Rattle.trace_check.specs.Lines.{Line, Rewrite}

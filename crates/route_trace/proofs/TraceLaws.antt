@@ -14,7 +14,7 @@ use Rattle.circuit_list.specs.Gates.{IsFine, ops}
 use Rattle.coupling_map.specs.Coupling.{Coupling}
 use Rattle.gate_expand.specs.Expansion.{IsFineOp, expanded, turn_of}
 use Rattle.rewrite_pass.specs.Traces.{Step, AreSteps}
-use Rattle.rewrite_pass.specs.TraceLines.{ended, step_lines, steps_text, words}
+use Rattle.rewrite_pass.specs.TraceLines.{step_lines, steps_text, words}
 use Rattle.sabre_route.specs.declared.events.Event.{Event as Told}
 use Rattle.sabre_route.specs.declared.router.Routed.{Routed as Router}
 use Rattle.sabre_route.specs.Machine.{start}
@@ -22,7 +22,7 @@ use Rattle.sabre_route.specs.Routing.{turned, written}
 use Rattle.sabre_route.specs.Telling.{IsRoutedBy}
 use Rattle.trace_check.specs.Lines.{Line, Rewrite, Place, End, IsSmall, all_spelt, spelt}
 use Rattle.trace_check.specs.Proves.{Claim, Proved, Proves, Rewritten, Runs, State, Unread}
-use Rattle.trace_text.specs.Texts.{lines_of}
+use Rattle.trace_text.specs.Texts.{ended, lines_of}
 use Rattle.unitary_model.specs.Placement.{IsPlacement}
 use Rattle.route_trace.specs.EventLines.{event_lines, trace_lines}
 use Rattle.route_trace.proofs.EventRuns.{Near, at, events-run}

@@ -15,12 +15,11 @@ mod replay;
 ghost use Rattle.std.specs.Prelude.{◌≡◌, ℕ, ◌+◌, ◌%◌, ◌^◌, ◌<◌, ◌≤◌, All, IfOk, length};
 ghost use Rattle.circuit_list.specs.Gates.{ops};
 ghost use Rattle.gate_expand.specs.Expansion.{IsFineOp, expanded, turn_of};
-ghost use Rattle.rewrite_pass.specs.TraceLines.{ended};
 ghost use Rattle.rewrite_pass.specs.Traces.{AreSteps};
 ghost use Rattle.sabre_route.specs.Telling.{IsRoutedBy};
 ghost use Rattle.trace_check.specs.Lines.{all_spelt};
 ghost use Rattle.trace_check.specs.Proves.{Claim, Proves};
-ghost use Rattle.trace_text.specs.Texts.{lines_of};
+ghost use Rattle.trace_text.specs.Texts.{ended, lines_of};
 ghost use Rattle.unitary_model.specs.Placement.{IsPlacement};
 ghost use Rattle.route_trace.specs.EventLines.{AreThere, event_lines, trace_lines};
 
@@ -34,7 +33,7 @@ use sabre_route::{Event, Routed};
 use std::alloc::{AllocError, Global};
 
 /// A trace has less bytes than this.
-const SIZE_LIMIT: usize = 1 << 31;
+const MOST_TRACE_BYTES: usize = 1 << 31;
 
 /// The bytes of the lines of a trace.
 fn text(
@@ -95,10 +94,10 @@ pub fn route_trace(
     // Their contracts say that near qubits are different qubits of the device, and that the gates are
     // fine.
     distances_on_device();
-    let _size = device.size();
-    let _wires = routed.body.wires();
+    device.facts();
+    routed.body.facts();
     let bytes = text(alloc, steps, body, device, given, events, turn)?;
-    if bytes.len() >= SIZE_LIMIT {
+    if bytes.len() >= MOST_TRACE_BYTES {
         return Err(AllocError);
     }
     Ok(bytes)

@@ -1,7 +1,8 @@
 //! The lines of a trace, but for those of its steps.
 
 ghost use Rattle.std.specs.Prelude.{◌≡◌, [], ◌∷◌, ◌++◌, codes, decimal, OnOk};
-ghost use Rattle.rewrite_pass.specs.TraceLines.{ended, words};
+ghost use Rattle.rewrite_pass.specs.TraceLines.{words};
+ghost use Rattle.trace_text.specs.Texts.{ended};
 ghost use Rattle.trace_check.specs.Lines.{spelt};
 ghost use Rattle.route_trace.specs.EventLines.{line_of};
 
@@ -21,7 +22,7 @@ fn push_number(bytes: &mut Vec<u8>, number: usize) -> Result<(), AllocError>
 
 /// A line of a word and a number.
 pub fn push_one(bytes: &mut Vec<u8>, word: &[u8], number: usize) -> Result<(), AllocError>
-    ensures { OnOk result (bytes.new.items ≡ bytes.old.items ++ (words word.now (number ∷ []) ++ 10 ∷ [])) }
+    ensures ok { OnOk result (bytes.new.items ≡ bytes.old.items ++ (words word.now (number ∷ []) ++ 10 ∷ [])) }
 {
     bytes.extend_from_slice(word)?;
     push_number(bytes, number)?;
@@ -42,7 +43,7 @@ fn push_two(bytes: &mut Vec<u8>, word: &[u8], first: usize, second: usize) -> Re
 
 /// The line of a placement.
 pub fn push_place(bytes: &mut Vec<u8>, qubits: &[u32]) -> Result<(), AllocError>
-    ensures { OnOk result (bytes.new.items ≡ bytes.old.items ++ (words (codes "place") qubits.now ++ 10 ∷ [])) }
+    ensures ok { OnOk result (bytes.new.items ≡ bytes.old.items ++ (words (codes "place") qubits.now ++ 10 ∷ [])) }
 {
     bytes.extend_from_slice(b"place")?;
     'qubits: for qubit in qubits {
@@ -54,7 +55,7 @@ pub fn push_place(bytes: &mut Vec<u8>, qubits: &[u32]) -> Result<(), AllocError>
 
 /// The line of an event.
 pub fn push_line(bytes: &mut Vec<u8>, line: EventLine) -> Result<(), AllocError>
-    ensures { OnOk result (bytes.new.items ≡ bytes.old.items ++ ended (spelt (line_of line))) }
+    ensures ok { OnOk result (bytes.new.items ≡ bytes.old.items ++ ended (spelt (line_of line))) }
 {
     match line {
         EventLine::Emit { place } => push_one(bytes, b"emit", place),

@@ -2,7 +2,7 @@
 
 ghost use Rattle.std.specs.Prelude.{◌≡◌, ◌<◌, ◌≤◌, ◌++◌, Some, IfOk, OnOk, length};
 ghost use Rattle.circuit_list.specs.Gates.{IsFine};
-ghost use Rattle.rewrite_pass.specs.TraceLines.{ended};
+ghost use Rattle.trace_text.specs.Texts.{ended};
 ghost use Rattle.sabre_route.specs.Emission.{low_order};
 ghost use Rattle.trace_check.specs.Lines.{all_spelt};
 ghost use Rattle.unitary_model.specs.Placement.{IsPlacement};
@@ -102,7 +102,7 @@ impl Replay {
         ensures placement { IfOk result (λ r. r.placement ≡ given.now) }
     {
         // Its contract says that the device isn't too large.
-        let _size = device.size();
+        device.facts();
         let mut rest = body.copy()?;
         rest.link()?;
         let placement = Placement::of(alloc, given)?.unwrap();
@@ -147,7 +147,7 @@ pub fn push_events(
 ) -> Result<(), AllocError>
     requires replay { IsReplay device.now.size replay }
     requires there { AreThere device.now.size replay.rest.gates events.now }
-    ensures { OnOk result (bytes.new.items ≡ bytes.old.items
+    ensures ok { OnOk result (bytes.new.items ≡ bytes.old.items
         ++ ended (all_spelt (event_lines device.now.edges replay.placement replay.rest.gates events.now))) }
 {
     let mut replay = replay;

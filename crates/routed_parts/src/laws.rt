@@ -60,5 +60,5 @@ pub fn run_is_leg()
 
 /// Gates whose CNOTs are all among those of others follow the edges that those follow: so it is after each pass that keeps them.
 pub fn kept_pairs_follow_edges()
-    ensures { (es : List (ℕ × ℕ)) (old new : List Gate) → KeepsCnots old new → FollowsEdges es (ops old) → FollowsEdges es (ops new) }
+    ensures edges { (es : List (ℕ × ℕ)) (old new : List Gate) → KeepsCnots old new → FollowsEdges es (ops old) → FollowsEdges es (ops new) }
 {}

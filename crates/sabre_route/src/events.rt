@@ -52,8 +52,8 @@ impl Teller {
 
     /// A gate is emitted, which is first on its wires.
     pub fn emit(&mut self, gate: Gate) -> Result<(), AllocError>
-        requires { IfSome self.old.left (λ gs. (j : ℕ) × IsFirstGate gs j gate) }
-        ensures { OnOk result (HasEmitted gate self.old.left self.old.events.items self.new.left self.new.events.items) }
+        requires left { IfSome self.old.left (λ gs. (j : ℕ) × IsFirstGate gs j gate) }
+        ensures ok { OnOk result (HasEmitted gate self.old.left self.old.events.items self.new.left self.new.events.items) }
     {
         if let Some(place) = take_from(&mut self.left, gate) {
             self.events.push(Event::Emit { place })?;
@@ -63,7 +63,7 @@ impl Teller {
 
     /// Two qubits are swapped.
     pub fn swap(&mut self, a: u32, b: u32) -> Result<(), AllocError>
-        ensures { OnOk result (HasSwapped a b self.old.left self.old.events.items self.new.left self.new.events.items) }
+        ensures ok { OnOk result (HasSwapped a b self.old.left self.old.events.items self.new.left self.new.events.items) }
     {
         if self.left.is_some() {
             self.events.push(Event::Swap { a, b })?;

@@ -33,7 +33,7 @@ impl Model for Left {
 impl Left {
     /// All gates of a circuit.
     pub fn start(alloc: Global, circuit: &Circuit) -> Result<Left, AllocError>
-        ensures { IfOk result (λ l. l ≡ circuit.now.gates) }
+        ensures ok { IfOk result (λ l. l ≡ circuit.now.gates) }
     {
         let mut circuit = circuit.copy()?;
         circuit.compact()?;
@@ -49,7 +49,7 @@ impl Left {
         ensures taken { self.new ≡ remove self.old result }
     {
         // Its contract says that the gate's wires are there.
-        let _wires = self.circuit.wires();
+        self.circuit.facts();
         let (first, second) = wires_of(gate);
         let Some(slot) = self.heads[first as usize] else {
             unreachable!()
@@ -85,8 +85,8 @@ fn heads_of(alloc: Global, circuit: &Circuit) -> Result<Vec<Option<Slot>>, Alloc
 
 /// Takes a gate that is first on its wires from those that are left, if these are known, and gives the place at which it stood.
 pub fn take_from(left: &mut Option<Left>, gate: Gate) -> Option<usize>
-    requires { IfSome left.old (λ gs. (j : ℕ) × IsFirstGate gs j gate) }
-    ensures { IsTaken gate left.old left.new result }
+    requires left { IfSome left.old (λ gs. (j : ℕ) × IsFirstGate gs j gate) }
+    ensures taken { IsTaken gate left.old left.new result }
 {
     match left {
         Some(left) => Some(left.take(gate)),

@@ -17,7 +17,7 @@ ghost use Rattle.unitary_model.specs.Placement.{IsPlacement};
 ghost use Rattle.unitary_model.specs.Realises.{Realises};
 
 use crate::best::QUBITS;
-use crate::choice::{Room, choose_swap_in};
+use crate::choice::{Scratch, choose_swap_in};
 use crate::emission::Written;
 use crate::events::{Event, Teller};
 use crate::laws::few_swaps;
@@ -53,15 +53,15 @@ enum Move {
 
 /// The first step of a walk: the control of the earliest CNOT of the front, and the next qubit on a
 /// shortest path to its target.
-fn choose_walk(state: &RouteState, device: &Device) -> (u32, u32)
+fn choose_walk(state: &RouteState<'_>, device: &Device) -> (u32, u32)
     requires placed { length state.now.placement ≡ device.now.size }
     requires left { state.now.rest ≡ [] → ⊥ }
     requires stuck { (j : ℕ) (g : Gate) → IsEmittable device.now.edges state.now.placement state.now.rest j g → ⊥ }
     ensures { IsWalk device.now state.now.placement state.now.rest result.0 result.1 }
 {
     // Their contracts say that the device is connected, and that the wires stand on different qubits.
-    let _size = device.size();
-    let _qubits = state.placement().size();
+    device.facts();
+    state.placement().facts();
     let Some((control, target)) = state.earliest_front() else {
         unreachable!()
     };
@@ -71,40 +71,44 @@ fn choose_walk(state: &RouteState, device: &Device) -> (u32, u32)
 /// The two qubits that the machine swaps where no gate can be emitted.
 ///
 /// The room is for the qubits of the front layer, so that a run makes it once.
-fn choose(room: &mut Room, state: &RouteState, device: &Device) -> (u32, u32)
+fn choose(scratch: &mut Scratch, state: &RouteState<'_>, device: &Device) -> (u32, u32)
     requires placed { length state.now.placement ≡ device.now.size }
     requires left { state.now.rest ≡ [] → ⊥ }
     requires stuck { (j : ℕ) (g : Gate) → IsEmittable device.now.edges state.now.placement state.now.rest j g → ⊥ }
     ensures { IsChosen device.now state.now result.0 result.1 }
 {
     if state.stalled() < device.size() {
-        choose_swap_in(room, state, device)
+        choose_swap_in(scratch, state, device)
     } else {
         choose_walk(state, device)
     }
 }
 
 /// One step of the machine, and what it does.
-fn step(room: &mut Room, state: &mut RouteState, device: &Device) -> Result<Move, AllocError>
+fn step(
+    scratch: &mut Scratch,
+    state: &mut RouteState<'_>,
+    device: &Device,
+) -> Result<Move, AllocError>
     requires placed { length state.old.placement ≡ device.now.size }
     requires left { state.old.rest ≡ [] → ⊥ }
     ensures { IfOk result (λ m. IsMove device.now state.old m state.new) }
 {
     // Their contracts say that near qubits are qubits of the device.
     distances_on_device();
-    let _size = device.size();
+    device.facts();
     if let Some(gate) = state.emit_earliest(device)? {
         return Ok(Move::Emitted(gate));
     }
-    let (a, b) = choose(room, state, device);
+    let (a, b) = choose(scratch, state, device);
     state.swap(a, b);
     Ok(Move::Swapped(a, b))
 }
 
 /// One step of the machine, and what it does is written, and told where the teller tells.
 fn write_step(
-    room: &mut Room,
-    state: &mut RouteState,
+    scratch: &mut Scratch,
+    state: &mut RouteState<'_>,
     device: &Device,
     written: &mut Written,
     teller: &mut Teller,
@@ -119,9 +123,9 @@ fn write_step(
     // Their contracts say that near qubits are qubits of the device, and that the wires stand on
     // different qubits.
     distances_on_device();
-    let _size = device.size();
-    let _qubits = state.placement().size();
-    match step(room, state, device)? {
+    device.facts();
+    state.placement().facts();
+    match step(scratch, state, device)? {
         Move::Emitted(gate) => {
             teller.emit(gate)?;
             written.write_gate(device, state.placement(), gate)
@@ -136,32 +140,32 @@ fn write_step(
 /// The machine's run over a list of gates, what it writes, and its events where the teller tells them.
 fn run(
     alloc: Global,
-    gates: Vec<Gate>,
+    gates: &[Gate],
     wires: u32,
     device: &Device,
     given: Placement,
     teller: Teller,
 ) -> Result<(Routed, Vec<Event>), AllocError>
-    requires fine { All (IsFine wires) gates.items }
+    requires fine { All (IsFine wires) gates.now }
     requires fits { wires ≤ device.now.size }
     requires placed { length given ≡ device.now.size }
-    requires left { IfSome teller.left (λ gs. gs ≡ gates.items) }
+    requires left { IfSome teller.left (λ gs. gs ≡ gates.now) }
     requires untold { teller.events.items ≡ [] }
     ensures wires { IfOk result (λ r. r.0.body.wires ≡ device.now.size) }
-    ensures run { IfOk result (λ r. IsRouted device.now gates.items given r.0) }
+    ensures run { IfOk result (λ r. IsRouted device.now gates.now given r.0) }
     ensures events { IfSome teller.left (λ gs. IfOk result (λ r. IsRoutedBy device.now gs given r.0 r.1.items)) }
-    ensures realises { IfOk result (λ r. IsRealising device.now wires gates.items given r.0) }
+    ensures realises { IfOk result (λ r. IsRealising device.now wires gates.now given r.0) }
 {
     // Their contracts say what distances are, and that `given` is a placement.
     distances_on_device();
-    let _qubits = given.size();
-    let size = device.size();
+    device.facts();
+    given.facts();
     let mut state = RouteState::start(alloc, gates, wires, given)?;
-    let mut written = Written::nothing(alloc, size)?;
+    let mut written = Written::nothing(alloc, device.size())?;
     let mut teller = teller;
-    let mut room = [(0, 0); QUBITS];
+    let mut scratch = [(0, 0); QUBITS];
     'steps: while !state.is_done() {
-        write_step(&mut room, &mut state, device, &mut written, &mut teller)?;
+        write_step(&mut scratch, &mut state, device, &mut written, &mut teller)?;
     }
     let Written { body, swaps, turn } = written;
     let routed = Routed {
@@ -176,29 +180,29 @@ fn run(
 /// The placement at the end of the machine's run over a list of gates.
 fn settle(
     alloc: Global,
-    gates: Vec<Gate>,
+    gates: &[Gate],
     wires: u32,
     device: &Device,
     given: Placement,
 ) -> Result<Placement, AllocError>
-    requires fine { All (IsFine wires) gates.items }
+    requires fine { All (IsFine wires) gates.now }
     requires fits { wires ≤ device.now.size }
     requires placed { length given ≡ device.now.size }
     ensures placement { IfOk result (λ p. IsPlacement device.now.size p) }
-    ensures run { IfOk result (λ p. HasEnded device.now gates.items given p) }
+    ensures run { IfOk result (λ p. HasEnded device.now gates.now given p) }
 {
     // Their contracts say what distances are, and that `given` is a placement.
     distances_on_device();
-    let _qubits = given.size();
-    let _size = device.size();
+    device.facts();
+    given.facts();
     let mut state = RouteState::start(alloc, gates, wires, given)?;
-    let mut room = [(0, 0); QUBITS];
+    let mut scratch = [(0, 0); QUBITS];
     'steps: while !state.is_done() {
-        let _move = step(&mut room, &mut state, device)?;
+        let _move = step(&mut scratch, &mut state, device)?;
     }
     let placement = state.into_placement();
     // Its contract says that it is a placement.
-    let _wires = placement.size();
+    placement.facts();
     Ok(placement)
 }
 
@@ -228,12 +232,13 @@ pub fn route(
     // Their contracts say how few swaps a run has, that the device is connected, and that `given` is a
     // placement.
     few_swaps();
-    let _size = device.size();
-    let _qubits = given.size();
+    device.facts();
+    given.facts();
+    circuit.facts();
     let wires = circuit.wires();
     let gates = gates_of(alloc, circuit)?;
     let teller = Teller::silent(alloc);
-    let (routed, _events) = run(alloc, gates, wires, device, given, teller)?;
+    let (routed, _events) = run(alloc, &gates, wires, device, given, teller)?;
     Ok(routed)
 }
 
@@ -264,12 +269,13 @@ pub fn route_traced(
     // Their contracts say how few swaps a run has, that the device is connected, and that `given` is a
     // placement.
     few_swaps();
-    let _size = device.size();
-    let _qubits = given.size();
+    device.facts();
+    given.facts();
+    circuit.facts();
     let wires = circuit.wires();
     let gates = gates_of(alloc, circuit)?;
     let teller = Teller::telling(alloc, circuit)?;
-    let (routed, events) = run(alloc, gates, wires, device, given, teller)?;
+    let (routed, events) = run(alloc, &gates, wires, device, given, teller)?;
     Ok((routed, events))
 }
 
@@ -280,10 +286,11 @@ pub fn layout(alloc: Global, circuit: &Circuit, device: &Device) -> Result<Place
     ensures layout { IfOk result (λ p. IsLayout device.now circuit.now.gates p) }
     ensures placement { IfOk result (λ p. IsPlacement device.now.size p) }
 {
+    circuit.facts();
     let wires = circuit.wires();
     let mut gates = gates_of(alloc, circuit)?;
     let identity = Placement::identity(alloc, device.size())?;
-    let there = settle(alloc, gates.clone()?, wires, device, identity)?;
+    let there = settle(alloc, &gates, wires, device, identity)?;
     gates.reverse();
-    settle(alloc, gates, wires, device, there)
+    settle(alloc, &gates, wires, device, there)
 }

@@ -16,7 +16,7 @@ use Rattle.unitary_model.proofs.AmplitudeLaws.{Turns-amplitude}
 use Rattle.circuit_list.specs.declared.Gate.{Gate}
 use Rattle.circuit_list.specs.declared.Gate.TheVariants.{H, X, P, Cx}
 use Rattle.circuit_list.specs.Gates.{ops, IsFine}
-use Rattle.phase_poly.specs.Layers.{LayerBody, first_walk, hadamards, layers_of, line, linked}
+use Rattle.circuit_layers.specs.Layers.{LayerBody, first_walk, hadamards, layers_of, line, linked}
 use Rattle.phase_poly.specs.Polys.{AreDihedral}
 use Rattle.phase_poly.specs.Resynthesis.{AllBelow}
 use Rattle.phase_poly.specs.Replaced.{AreFine, DihedralLayers}

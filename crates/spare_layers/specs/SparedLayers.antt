@@ -25,7 +25,7 @@ use Rattle.circuit_list.specs.Gates.{ops}
 use Rattle.gf2_linear.specs.Matrices.{identity_rows}
 use Rattle.matroid_partition.specs.Partitions.{IsPartition}
 use Rattle.matroid_partition.specs.Spares.{IsSparePartition}
-use Rattle.phase_poly.specs.Layers.{LayerBody, layers_of, linked}
+use Rattle.circuit_layers.specs.Layers.{LayerBody, layers_of, linked}
 use Rattle.phase_poly.specs.Polys.{AreDihedral, PolyBody, coefficient, poly_of, polyed_all}
 use Rattle.phase_poly.specs.Resynthesis.{cnots, flip_gates, rows_of}
 

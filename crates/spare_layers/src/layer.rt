@@ -24,7 +24,7 @@ pub fn spared_layer(
     spares: u32,
     list: &[Gate],
 ) -> Result<Resynth, AllocError>
-    requires few { wires + spares ≤ most_wires }
+    requires wires_limit { wires + spares ≤ most_wires }
     requires dihedral { AreDihedral wires list.now }
     ensures below { IfOk result (λ r. r.turn < 8) }
     ensures layer { IfOk result (λ r. IsSparedLayer wires spares list.now r.list.items r.turn) }
@@ -53,7 +53,7 @@ fn written(
     sum: &Poly,
     blocks: &[Vec<usize>],
 ) -> Result<Resynth, AllocError>
-    requires few { wires + spares ≤ most_wires }
+    requires wires_limit { wires + spares ≤ most_wires }
     requires map { IsWide wires spares (spare_rows spares sum.now.map) }
     requires terms { AreTerms wires sum.now.terms }
     requires differ { AllDiffer sum.now.terms }
@@ -109,7 +109,7 @@ fn push_flips(gates: &mut Vec<Gate>, wires: u32, flips: &Row) -> Result<u32, All
     requires { wires ≤ most_wires }
     ensures ok { OnOk result (gates.new.items ≡ gates.old.items ++ flip_gates wires flips.now) }
     ensures number { IfOk result (λ k. k ≡ length (flip_gates wires flips.now)) }
-    ensures few { IfOk result (λ k. k ≤ most_wires) }
+    ensures wires_limit { IfOk result (λ k. k ≤ most_wires) }
 {
     let mut number = 0u32;
     'wires: for q in 0..wires {

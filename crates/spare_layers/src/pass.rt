@@ -2,7 +2,7 @@
 
 ghost use Rattle.std.specs.Prelude.{◌≡◌, ◌+◌, ◌≤◌, ◌<◌, ◌++◌, All, IfOk, OnOk};
 ghost use Rattle.circuit_list.specs.Gates.{most_wires, IsFine};
-ghost use Rattle.phase_poly.specs.Layers.{hadamards};
+ghost use Rattle.circuit_layers.specs.Layers.{hadamards};
 ghost use Rattle.phase_poly.specs.Replaced.{DihedralLayers};
 ghost use Rattle.spare_layers.specs.SparedLayers.{IsSparedCircuit, IsSparedList};
 
@@ -14,11 +14,12 @@ use std::alloc::{AllocError, Global};
 /// The circuit on its wires and so many spares behind them, layer by layer as [`spared_layer`] has it, each layer followed by
 /// its H on ascending wires.
 pub fn with_spares(alloc: Global, spares: u32, body: &Circuit) -> Result<Passed, AllocError>
-    requires { body.now.wires + spares ≤ most_wires }
+    requires wires_limit { body.now.wires + spares ≤ most_wires }
     ensures wires { IfOk result (λ p. p.body.wires ≡ body.now.wires + spares) }
     ensures below { IfOk result (λ p. p.turn < 8) }
     ensures layers { IfOk result (λ p. IsSparedCircuit body.now.wires spares body.now.gates p.body.gates p.turn) }
 {
+    body.facts();
     let layers = layers(alloc, body)?;
     let wires = body.wires();
     let other = relinked(alloc, wires, spares, &layers)?;
@@ -31,7 +32,7 @@ pub fn with_spares(alloc: Global, spares: u32, body: &Circuit) -> Result<Passed,
 
 /// The gates of all layers, one behind the other.
 fn relinked(alloc: Global, wires: u32, spares: u32, layers: &[Layer]) -> Result<Resynth, AllocError>
-    requires few { wires + spares ≤ most_wires }
+    requires wires_limit { wires + spares ≤ most_wires }
     requires dihedral { DihedralLayers wires layers.now }
     ensures below { IfOk result (λ r. r.turn < 8) }
     ensures layers { IfOk result (λ r. IsSparedList wires spares layers.now r.list.items r.turn) }
@@ -65,7 +66,7 @@ fn push_hadamards(list: &mut Vec<Gate>, wires: &[u32]) -> Result<(), AllocError>
 
 /// A circuit of these gates.
 fn circuit_of(alloc: Global, wires: u32, list: &[Gate]) -> Result<Circuit, AllocError>
-    requires few { wires ≤ most_wires }
+    requires wires_limit { wires ≤ most_wires }
     requires fine { All (IsFine wires) list.now }
     ensures wires { IfOk result (λ c. c.wires ≡ wires) }
     ensures gates { IfOk result (λ c. c.gates ≡ list.now) }

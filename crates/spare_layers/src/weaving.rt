@@ -18,8 +18,8 @@ use std::alloc::{AllocError, Global};
 
 /// The rows of `wires` wires, each on its own wire, and behind them spares without a row.
 pub(crate) fn first_rows(alloc: Global, wires: u32, spares: u32) -> Result<Vec<Row>, AllocError>
-    requires { wires ≤ most_wires }
-    ensures { IfOk result (λ v. v.items ≡ spare_rows spares (identity_rows wires)) }
+    requires wires_limit { wires ≤ most_wires }
+    ensures ok { IfOk result (λ v. v.items ≡ spare_rows spares (identity_rows wires)) }
 {
     let matrix = Matrix::identity(alloc, wires)?;
     let all = spared(matrix.into_rows(), spares)?;
@@ -28,7 +28,7 @@ pub(crate) fn first_rows(alloc: Global, wires: u32, spares: u32) -> Result<Vec<R
 
 /// The same for the rows of a matrix.
 pub(crate) fn last_rows(alloc: Global, map: &Matrix, spares: u32) -> Result<Vec<Row>, AllocError>
-    ensures { IfOk result (λ v. v.items ≡ spare_rows spares map.now) }
+    ensures ok { IfOk result (λ v. v.items ≡ spare_rows spares map.now) }
 {
     let matrix = map.copy(alloc)?;
     let all = spared(matrix.into_rows(), spares)?;
@@ -56,7 +56,7 @@ pub(crate) fn put_blocks(
     terms: &[(Row, u8)],
     blocks: &[Vec<usize>],
 ) -> Result<(), AllocError>
-    requires few { wires + spares ≤ most_wires }
+    requires wires_limit { wires + spares ≤ most_wires }
     requires first { held.old.items ≡ spare_rows spares (identity_rows wires) }
     requires none { gates.old.items ≡ [] }
     requires terms { AreTerms wires terms.now }
@@ -83,7 +83,7 @@ fn put_block(
     terms: &[(Row, u8)],
     block: &[usize],
 ) -> Result<(), AllocError>
-    requires few { wires + spares ≤ most_wires }
+    requires wires_limit { wires + spares ≤ most_wires }
     requires wide { IsWide wires spares held.old.items }
     requires terms { AreTerms wires terms.now }
     requires within { All (λ i. i < length terms.now) block.now }
@@ -108,7 +108,7 @@ pub(crate) fn bring(
     gates: &mut Vec<Gate>,
     target: Vec<Row>,
 ) -> Result<(), AllocError>
-    requires few { wires + spares ≤ most_wires }
+    requires wires_limit { wires + spares ≤ most_wires }
     requires from { IsWide wires spares held.old.items }
     requires to { IsWide wires spares target.items }
     ensures held { OnOk result (held.new.items ≡ target.items) }
@@ -153,7 +153,7 @@ fn put_terms(
     terms: &[(Row, u8)],
     block: &[usize],
 ) -> Result<(), AllocError>
-    requires few { length held.now ≤ most_wires }
+    requires wires_limit { length held.now ≤ most_wires }
     requires within { All (λ i. i < length terms.now) block.now }
     ensures { OnOk result (gates.new.items ≡ gates.old.items ++ phases (placed held.now (at_places terms.now block.now))) }
 {

@@ -3,10 +3,10 @@
 ghost use Rattle.std.specs.Prelude.{◌≡◌};
 
 use circuit_list::{Circuit, Gate};
-use circuit_samples::{Kind, Random, circuit_of_text, gates_of, gates_of_text};
 use spare_layers::with_spares;
 use std::alloc::{AllocError, Global};
 use std::test::Fail;
+use test_circuits::{Kind, Random, circuit_of_text, gates_of, gates_of_text};
 
 /// The gates with spares, and the turn, or nothing where a text is no circuit.
 #[derive(Drop)]

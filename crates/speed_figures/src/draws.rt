@@ -25,8 +25,8 @@ impl Draws {
 
     /// The next number below a bound, which isn't 0.
     pub fn below(&mut self, bound: u32) -> u32
-        requires { 0 < bound }
-        ensures { result < bound }
+        requires positive { 0 < bound }
+        ensures below { result < bound }
     {
         self.next() % bound
     }

@@ -61,7 +61,7 @@ pub fn blocks_of_counted(alloc: Global, count: u32) -> Result<usize, AllocError>
 
 /// The blocks of the numbers below a power of two, in an order that an odd factor makes.
 pub fn blocks_of_scattered(alloc: Global, count: u32) -> Result<usize, AllocError>
-    requires { 0 < count }
+    requires positive { 0 < count }
 {
     let mut masks = Vec::new(alloc);
     for number in 1..count {
@@ -99,7 +99,7 @@ fn pairs_of(alloc: Global, matrix: &Matrix) -> Result<usize, AllocError> {
     match invert(alloc, matrix)? {
         None => Ok(0),
         Some(inverse) => {
-            let _wires = matrix.wires();
+            matrix.facts();
             let completed = complete(alloc, matrix.rows(), matrix.wires())?;
             let pairs = synth(alloc, matrix)?;
             Ok(

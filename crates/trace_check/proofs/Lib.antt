@@ -19,4 +19,3 @@ pub mod GateLaws
 pub mod StepLaws
 pub mod EditLaws
 pub mod RuleLaws
-pub mod VerdictLaws

@@ -2,9 +2,7 @@
 pub mod Lines
 pub mod Proves
 pub mod Outcomes
-pub mod Verdicts
 -- ---- working forms
-pub mod Told
 pub mod Spelling
 pub mod Progress
 pub mod Pairs

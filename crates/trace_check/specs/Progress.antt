@@ -6,7 +6,7 @@
 --     placed s w              what the lines behind `place` work on, where the gates w were appended
 --     Came e trace s behind n the first n lines of the trace lead to the state s, and the lines `behind` are left
 --     IsRouting s             what the lines behind `place` work on is fit
---     IsKept s t              from s to t the first placement and the numbers of wires and qubits stay, and what is fit stays fit
+--     KeepsGoal s t              from s to t the first placement and the numbers of wires and qubits stay, and what is fit stays fit
 --     Goes w ks s t           a line of the word w and the numbers ks applies, and leads from s to t
 --     Moves goal w ks s t     so it does whatever was appended before, and what was is known as before
 --     Halts w ks s            no such line applies
@@ -49,7 +49,7 @@ pub record IsRouting (s : Routing) : Type 0 where
   pub fits : s.rest.wires ≤ length s.now
   pub turn : s.turn < 8
 
-pub record IsKept (s t : Routing) : Type 0 where
+pub record KeepsGoal (s t : Routing) : Type 0 where
   pub first : t.first ≡ s.first
   pub qubits : length t.now ≡ length s.now
   pub fit : IsRouting t

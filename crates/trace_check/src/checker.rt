@@ -70,7 +70,7 @@ pub fn check(alloc: Global, source: &Ops, target: &Ops, trace: &[u8]) -> Result<
     requires source { All (IsFineOp source.now.wires) source.now.list }
     requires target { All (IsFineOp target.now.wires) target.now.list }
     requires short { length trace.now < 2 ^ 31 }
-    ensures { IfOk result (IsOutcome (claim source.now target.now) trace.now) }
+    ensures ok { IfOk result (IsOutcome (claim source.now target.now) trace.now) }
 {
     let mut numbers = Vec::new(alloc);
     let Some(text) = headed(trace, &mut numbers)? else {
@@ -286,10 +286,11 @@ fn replaced<'a>(
     let Some(count) = one(numbers) else {
         return Ok(None);
     };
+    state.body.facts();
     let Some(listed) = read_gates(alloc, mark.text, state.body.wires(), count, numbers)? else {
         return Ok(None);
     };
-    let _listed = listed.body.wires();
+    listed.body.facts();
     let Some(turn) = sums(alloc, &state.body, &listed.body)? else {
         return Ok(None);
     };

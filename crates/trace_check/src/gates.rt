@@ -81,7 +81,7 @@ pub(crate) fn read_gates<'a>(
     count: u32,
     numbers: &mut Vec<u32>,
 ) -> Result<Option<Listed<'a>>, AllocError>
-    requires { wires ≤ most_wires }
+    requires wires_limit { wires ≤ most_wires }
     ensures none { IfOk result (λ o. MatchOption o ((gs : List Gate) (rest : List (List ℕ)) → length gs ≡ count → All (IsFine wires) gs →
         AreSmall (flat_map gate_numbers gs) → lines_of text.now ≡ map gate_line gs ++ rest → ⊥) (λ l. Unit {0})) }
     ensures some { IfOk result (λ o. MatchOption o (Unit {0}) (λ l. (l.body.wires ≡ wires) × ((length l.body.gates ≡ count)

@@ -3,8 +3,7 @@
 //! What goes in is a claim, the operations of a source and of a target, and the bytes of a trace. `specs/Lines.antt` says which
 //! bytes spell which lines, `specs/Proves.antt` when a line applies. The laws say that what a trace proves is so, whoever wrote
 //! it, and that a trace proves one thing at most or stops at one line, and never both. [`check`] tells which of the two it is.
-//! [`check_trace`] does so of the texts of two programs, of whatever length, and tells the first refusal of a text that isn't
-//! accepted: the source's before the target's. It calls no pass and no router.
+//! It calls no pass and no router.
 #![tactic(auto)]
 
 mod checker;
@@ -16,10 +15,8 @@ mod pairs;
 mod routed;
 mod routing;
 mod sums;
-mod verdict;
 mod windows;
 mod wires;
 mod words;
 
 pub use checker::{Outcome, check};
-pub use verdict::{Refusal, Verdict, check_trace};

@@ -21,7 +21,7 @@ fn is_free_on(body: &Circuit, from: Slot, to: Slot, gate: Gate, wire: u32) -> bo
 {
     slots_in_order();
     // it says that the slots ascend
-    let _wires = body.wires();
+    body.facts();
     let mut at = from;
     'gates: loop {
         let Some(next) = body.next_on(at, wire) else {

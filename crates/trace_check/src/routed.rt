@@ -4,7 +4,7 @@ ghost use Rattle.std.specs.Prelude.{◌≡◌, ℕ, ◌+◌, ◌-◌, ◌%◌, �
 ghost use Rattle.circuit_list.specs.declared.Gate.{Gate};
 ghost use Rattle.trace_text.specs.Texts.{lines_of};
 ghost use Rattle.trace_check.specs.Outcomes.{IsOutcome};
-ghost use Rattle.trace_check.specs.Progress.{Came, Ends, Halts, IsKept, IsRouting, IsWritten, Moves, placed};
+ghost use Rattle.trace_check.specs.Progress.{Came, Ends, Halts, KeepsGoal, IsRouting, IsWritten, Moves, placed};
 ghost use Rattle.trace_check.specs.Proves.{Claim, Routed};
 ghost use Rattle.trace_check.specs.declared.words.Word.TheVariants as kind;
 
@@ -19,7 +19,7 @@ use unitary_model::turn_sum;
 /// The line `emit`. False where it doesn't apply.
 fn emits(state: &mut Routing, goal: &Circuit, numbers: &[u32]) -> bool
     requires { IsRouting state.old }
-    ensures kept { IsKept state.old state.new }
+    ensures kept { KeepsGoal state.old state.new }
     ensures applies { result ≡ true → Moves goal.now.gates kind.Emit numbers.now state.old state.new }
     ensures not { result ≡ false → (written : List Gate) → Halts kind.Emit numbers.now (placed state.old written) }
 {
@@ -32,7 +32,7 @@ fn emits(state: &mut Routing, goal: &Circuit, numbers: &[u32]) -> bool
 /// The line `back`. False where it doesn't apply.
 fn backs(state: &mut Routing, goal: &Circuit, numbers: &[u32]) -> bool
     requires { IsRouting state.old }
-    ensures kept { IsKept state.old state.new }
+    ensures kept { KeepsGoal state.old state.new }
     ensures applies { result ≡ true → Moves goal.now.gates kind.Back numbers.now state.old state.new }
     ensures not { result ≡ false → (written : List Gate) → Halts kind.Back numbers.now (placed state.old written) }
 {
@@ -45,7 +45,7 @@ fn backs(state: &mut Routing, goal: &Circuit, numbers: &[u32]) -> bool
 /// The line `swap`. False where it doesn't apply.
 fn swaps(state: &mut Routing, goal: &Circuit, numbers: &[u32]) -> bool
     requires { IsRouting state.old }
-    ensures kept { IsKept state.old state.new }
+    ensures kept { KeepsGoal state.old state.new }
     ensures applies { result ≡ true → Moves goal.now.gates kind.Swap numbers.now state.old state.new }
     ensures not { result ≡ false → (written : List Gate) → Halts kind.Swap numbers.now (placed state.old written) }
 {
@@ -58,7 +58,7 @@ fn swaps(state: &mut Routing, goal: &Circuit, numbers: &[u32]) -> bool
 /// The line `turn`. False where it doesn't apply.
 fn turns(state: &mut Routing, goal: &Circuit, numbers: &[u32]) -> bool
     requires { IsRouting state.old }
-    ensures kept { IsKept state.old state.new }
+    ensures kept { KeepsGoal state.old state.new }
     ensures applies { result ≡ true → Moves goal.now.gates kind.Turn numbers.now state.old state.new }
     ensures not { result ≡ false → (written : List Gate) → Halts kind.Turn numbers.now (placed state.old written) }
 {
@@ -72,7 +72,7 @@ fn turns(state: &mut Routing, goal: &Circuit, numbers: &[u32]) -> bool
 fn routes(state: &mut Routing, goal: &Circuit, word: Word, numbers: &[u32]) -> bool
     requires fit { IsRouting state.old }
     requires on { word ≡ kind.End → ⊥ }
-    ensures kept { IsKept state.old state.new }
+    ensures kept { KeepsGoal state.old state.new }
     ensures applies { result ≡ true → Moves goal.now.gates word numbers.now state.old state.new }
     ensures not { result ≡ false → (written : List Gate) → Halts word numbers.now (placed state.old written) }
 {
@@ -135,7 +135,7 @@ pub(crate) fn routed(
     requires fit { IsRouting state }
     requires goal { goal.now.turn < 8 }
     requires lines { line + length text.now < 2 ^ 32 }
-    ensures { IfOk result (λ o. (e : Claim) (trace : List ℕ) (n : ℕ) (written : List Gate) → e.qubits ≡ length state.now → Ends e goal.now →
+    ensures ok { IfOk result (λ o. (e : Claim) (trace : List ℕ) (n : ℕ) (written : List Gate) → e.qubits ≡ length state.now → Ends e goal.now →
         IsWritten goal.now.body.gates state.agreed written → Came e trace (Routed (placed state written)) (lines_of text.now) n →
         line ≡ n + 1 → IsOutcome e trace o) }
 {

@@ -45,8 +45,8 @@ pub(crate) fn first_at(rest: &Circuit, place: usize) -> Option<First>
 
 /// A gate on the qubits of its wires.
 pub(crate) fn on_qubits(now: &Placement, gate: Gate) -> Gate
-    requires { IsFine (length now.now) gate }
-    ensures { result ≡ on_qubits now.now gate }
+    requires fine { IsFine (length now.now) gate }
+    ensures value { result ≡ on_qubits now.now gate }
 {
     match gate {
         Gate::H { q } => Gate::H { q: now.phys(q) },
@@ -127,7 +127,7 @@ pub(crate) struct Routing {
 /// The line `emit`: a gate that is first on its wires leaves the list and is appended on its qubits. False where none stands
 /// at the place that is; then nothing changes.
 pub(crate) fn emit(state: &mut Routing, goal: &Circuit, place: usize) -> bool
-    requires { state.old.rest.wires ≤ length state.old.now }
+    requires wires { state.old.rest.wires ≤ length state.old.now }
     ensures rest { state.new.rest.wires ≡ state.old.rest.wires }
     ensures first { state.new.first ≡ state.old.first }
     ensures now { state.new.now ≡ state.old.now }
@@ -137,7 +137,7 @@ pub(crate) fn emit(state: &mut Routing, goal: &Circuit, place: usize) -> bool
     ensures not { result ≡ false → ((g : Gate) → IsFirst state.old.rest.gates place g → ⊥) × ((state.new.rest.gates ≡ state.old.rest.gates)
         × (state.new.agreed ≡ state.old.agreed)) }
 {
-    let _wires = state.rest.wires();
+    state.rest.facts();
     let Some(first) = first_at(&state.rest, place) else {
         return false;
     };
@@ -160,7 +160,7 @@ pub(crate) fn back(state: &mut Routing, goal: &Circuit, place: usize) -> bool
     ensures not { result ≡ false → ((c t : ℕ) → IsFirst state.old.rest.gates place (Gate.Cx c t) → ⊥) × ((state.new.rest.gates ≡ state.old.rest.gates)
         × ((state.new.agreed ≡ state.old.agreed) × (state.new.turn ≡ state.old.turn))) }
 {
-    let _wires = state.rest.wires();
+    state.rest.facts();
     let Some(first) = first_at(&state.rest, place) else {
         return false;
     };

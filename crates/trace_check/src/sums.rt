@@ -389,7 +389,7 @@ fn walked(alloc: Global, totals: &mut Totals, body: &Circuit, sign: u8) -> Resul
 
 /// The turn from a circuit to another on the same wires with the same path sum. None where they have another.
 pub(crate) fn sums(alloc: Global, old: &Circuit, new: &Circuit) -> Result<Option<u8>, AllocError>
-    requires { old.now.wires ≡ new.now.wires }
+    requires wires { old.now.wires ≡ new.now.wires }
     ensures same { IfOk result (λ o. MatchOption o (SamePathSum old.now.wires old.now.gates new.now.gates → ⊥)
         (λ turn. SamePathSum old.now.wires old.now.gates new.now.gates × (turn ≡ constants_turn old.now.wires old.now.gates new.now.gates))) }
 {

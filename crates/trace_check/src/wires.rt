@@ -8,21 +8,21 @@ use circuit_list::{Circuit, Gate, Slot};
 
 /// A gate with its slot.
 #[derive(Clone, Copy, Debug)]
-pub(crate) struct Spot {
+pub(crate) struct SlotGate {
     pub slot: Slot,
     pub gate: Gate,
 }
 
 /// The next gate on one of the wires of the gate in a slot.
-pub(crate) fn next_gate(body: &Circuit, slot: Slot, wire: u32) -> Option<Spot>
+pub(crate) fn next_gate(body: &Circuit, slot: Slot, wire: u32) -> Option<SlotGate>
     requires live { IsLive body.now slot }
     requires on { is_on_at wire body.now.gates (place_of slot body.now.slots) ≡ true }
-    ensures { MatchOption result (NoneBehind wire body.now.gates (place_of slot body.now.slots))
+    ensures found { MatchOption result (NoneBehind wire body.now.gates (place_of slot body.now.slots))
         (λ s. IsLive body.now s.slot
         × Follows wire body.now.gates (place_of slot body.now.slots) s.gate (place_of s.slot body.now.slots)) }
 {
     let next = body.next_on(slot, wire)?;
-    Some(Spot {
+    Some(SlotGate {
         slot: next,
         gate: body.gate_at(next),
     })
@@ -32,7 +32,7 @@ pub(crate) fn next_gate(body: &Circuit, slot: Slot, wire: u32) -> Option<Spot>
 pub(crate) fn next_is(body: &Circuit, slot: Slot, wire: u32, gate: Gate) -> Option<Slot>
     requires live { IsLive body.now slot }
     requires on { is_on_at wire body.now.gates (place_of slot body.now.slots) ≡ true }
-    ensures { MatchOption result ((j : ℕ) → ¬ Follows wire body.now.gates (place_of slot body.now.slots) gate j)
+    ensures found { MatchOption result ((j : ℕ) → ¬ Follows wire body.now.gates (place_of slot body.now.slots) gate j)
         (λ t. IsLive body.now t
         × Follows wire body.now.gates (place_of slot body.now.slots) gate (place_of t body.now.slots)) }
 {
@@ -48,7 +48,7 @@ pub(crate) fn next_is(body: &Circuit, slot: Slot, wire: u32, gate: Gate) -> Opti
 pub(crate) fn prev_is(body: &Circuit, slot: Slot, wire: u32, gate: Gate) -> Option<Slot>
     requires live { IsLive body.now slot }
     requires on { is_on_at wire body.now.gates (place_of slot body.now.slots) ≡ true }
-    ensures { MatchOption result
+    ensures found { MatchOption result
         ((j : ℕ) → At body.now.gates j gate → ¬ IsPrevOn wire body.now.gates (place_of slot body.now.slots) j)
         (λ t. IsLive body.now t × At body.now.gates (place_of t body.now.slots) gate
         × IsPrevOn wire body.now.gates (place_of slot body.now.slots) (place_of t body.now.slots)) }

@@ -95,7 +95,7 @@ pub(crate) fn split_words<'a>(
     line: &'a [u8],
     numbers: &mut Vec<u32>,
 ) -> Result<Option<&'a [u8]>, AllocError>
-    ensures { IfOk result (λ o. MatchOption o ((w ks : List ℕ) → HasNoSpace w → AreSmall ks → line.now ≡ words w ks → ⊥)
+    ensures ok { IfOk result (λ o. MatchOption o ((w ks : List ℕ) → HasNoSpace w → AreSmall ks → line.now ≡ words w ks → ⊥)
         (λ w. HasNoSpace w.now × (line.now ≡ words w.now numbers.new.items))) }
 {
     numbers.clear();
@@ -113,7 +113,7 @@ pub(crate) fn split_words<'a>(
 
 /// The word and the numbers of a line. None where no word of a trace with numbers is spelt so.
 pub(crate) fn read_words(line: &[u8], numbers: &mut Vec<u32>) -> Result<Option<Word>, AllocError>
-    ensures { IfOk result (λ o. MatchOption o ((w : Word) (ks : List ℕ) → AreSmall ks → line.now ≡ words (spelling w) ks → ⊥)
+    ensures ok { IfOk result (λ o. MatchOption o ((w : Word) (ks : List ℕ) → AreSmall ks → line.now ≡ words (spelling w) ks → ⊥)
         (λ w. line.now ≡ words (spelling w) numbers.new.items)) }
 {
     match split_words(line, numbers)? {
@@ -124,12 +124,12 @@ pub(crate) fn read_words(line: &[u8], numbers: &mut Vec<u32>) -> Result<Option<W
 
 /// Numbers of their type are small: does nothing, and its contract says so.
 pub(crate) fn known_small(numbers: &[u32])
-    ensures { AreSmall numbers.now }
+    ensures small { AreSmall numbers.now }
 {}
 
 /// The number of a list of one.
 pub(crate) fn one(numbers: &[u32]) -> Option<u32>
-    ensures { MatchOption result ((i : ℕ) → numbers.now ≡ i ∷ [] → ⊥) (λ i. numbers.now ≡ i ∷ []) }
+    ensures found { MatchOption result ((i : ℕ) → numbers.now ≡ i ∷ [] → ⊥) (λ i. numbers.now ≡ i ∷ []) }
 {
     if numbers.len() == 1 {
         Some(numbers[0])
@@ -140,7 +140,7 @@ pub(crate) fn one(numbers: &[u32]) -> Option<u32>
 
 /// The numbers of a list of two.
 pub(crate) fn two(numbers: &[u32]) -> Option<(u32, u32)>
-    ensures { MatchOption result ((i j : ℕ) → numbers.now ≡ i ∷ j ∷ [] → ⊥) (λ p. numbers.now ≡ p.0 ∷ p.1 ∷ []) }
+    ensures found { MatchOption result ((i j : ℕ) → numbers.now ≡ i ∷ j ∷ [] → ⊥) (λ p. numbers.now ≡ p.0 ∷ p.1 ∷ []) }
 {
     if numbers.len() == 2 {
         Some((numbers[0], numbers[1]))

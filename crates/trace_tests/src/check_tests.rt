@@ -75,7 +75,7 @@ fn is_fine(wires: u32, op: Op) -> bool
 
 /// The operations of a row, those that are fine.
 fn ops(alloc: Global, wires: u32, list: &[Op]) -> Result<Ops, AllocError>
-    ensures few { IfOk result (λ o. o.wires ≤ most_wires) }
+    ensures wires_limit { IfOk result (λ o. o.wires ≤ most_wires) }
     ensures fine { IfOk result (λ o. All (IsFineOp o.wires) o.list) }
 {
     let few = wires.min(256);

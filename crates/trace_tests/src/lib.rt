@@ -1,6 +1,6 @@
-//! Tests of `trace_check` and `route_trace`: worked traces, and what is told of each.
+//! Tests of `trace_check`, `route_trace` and `check_trace` of `qroute_top`: worked traces, and what is told of each.
 //!
-//! Each test function is proved too, so they stand in a crate of their own: the two crates are proved once.
+//! Each test function is proved too, so they stand in a crate of their own: the crates below aren't proved again with them.
 #![tactic(auto)]
 
 #[cfg(test)]

@@ -1,7 +1,7 @@
 //! Worked rows: the texts of a source and of a target, a trace, and the verdict.
 
+use qroute_top::check_trace;
 use std::test::Fail;
-use trace_check::check_trace;
 
 const TWO_T: &str = "OPENQASM 2.0;\ninclude \"qelib1.inc\";\nqreg q[1];\nt q[0];\nt q[0];\n";
 
@@ -33,19 +33,29 @@ fn rows_on_texts(rt: HostRuntime) -> Result<(), Fail> {
             "TRACE 1\nplace 0\nemit 0\nend 0\n",
             "No { line: 4 }",
         ),
-        (NO_QUBITS, ONE_S, "", "Source(Refusal { code: 25, at: 1 })"),
-        (TWO_T, BAD_BYTE, "", "Target(Refusal { code: 10, at: 14 })"),
+        (
+            NO_QUBITS,
+            ONE_S,
+            "",
+            "Source(TextRefusal { code: 25, at: 1 })",
+        ),
+        (
+            TWO_T,
+            BAD_BYTE,
+            "",
+            "Target(TextRefusal { code: 10, at: 14 })",
+        ),
         (
             NO_QUBITS,
             BAD_BYTE,
             "",
-            "Source(Refusal { code: 25, at: 1 })",
+            "Source(TextRefusal { code: 25, at: 1 })",
         ),
         (
             BAD_BYTE,
             NO_QUBITS,
             "",
-            "Source(Refusal { code: 10, at: 14 })",
+            "Source(TextRefusal { code: 10, at: 14 })",
         ),
     ];
     for (source, target, trace, wanted) in rows {

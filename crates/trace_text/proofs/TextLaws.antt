@@ -12,8 +12,7 @@ use Rattle.std.proofs.Common.{◌≡◌, ℕ, Bool, true, false, cond, not, ◌&
 use Rattle.std.specs.Prelude.{codes, drop, nat_eq}
 use Rattle.std.specs.List.{AllByRecursion, flat_map, list_all}
 use Rattle.std.proofs.lemmas.List.Elements.{All-from_recursion, recursion_from_All}
-use Rattle.rewrite_pass.specs.TraceLines.{ended}
-use Rattle.trace_text.specs.Texts.{IsLine, IsWhole, begins, begun, commented, in_line, lines_of, trace_of, traced}
+use Rattle.trace_text.specs.Texts.{IsLine, IsWhole, begins, begun, commented, ended, in_line, lines_of, trace_of, traced}
 
 -- ---- lines
 split_line : (c d : Bool) → (not c && d) ≡ true → (c ≡ false) × (d ≡ true)

@@ -3,7 +3,7 @@
 --     lines_of text       the lines of a text: a line ends before a byte 10, and the last one may end with the text
 --     in_line b           b is no line break
 --     IsLine l            no byte of l is a line break
---     ended ls            the bytes of lines, a line break behind each (of `TraceLines`)
+--     ended ls            the bytes of lines, a line break behind each
 --     IsWhole text        a line break ends each line of the text, the last one too
 --     begins p l          l begins with p
 --     traced ls           what follows `//!` in each of the lines ls that begins so
@@ -11,7 +11,6 @@
 --     commented trace     each line of a trace as a comment: behind `//!`, with a line break behind it
 use Rattle.std.specs.Prelude.{◌≡◌, ℕ, Bool, true, false, cond, not, List, [], ◌∷◌, ◌++◌, codes, drop, nat_eq}
 use Rattle.std.specs.List.{flat_map, list_all}
-pub use Rattle.rewrite_pass.specs.TraceLines.{ended}
 
 abbrev pub begun : ℕ → List (List ℕ) → List (List ℕ)
 begun b [] = (b ∷ []) ∷ []
@@ -26,6 +25,9 @@ in_line b = not (nat_eq b 10)
 
 abbrev pub IsLine : List ℕ → Type 0
 IsLine l = list_all in_line l ≡ true
+
+abbrev pub ended : List (List ℕ) → List ℕ
+ended ls = flat_map (λ l. l ++ 10 ∷ []) ls
 
 abbrev pub IsWhole : List ℕ → Type 0
 IsWhole text = ended (lines_of text) ≡ text

@@ -1,8 +1,7 @@
 //! The laws of texts and their lines: each function's contract is one law. They take nothing and do nothing.
 
 ghost use Rattle.std.specs.Prelude.{◌≡◌, ℕ, ◌++◌, All, List, [], codes, map};
-ghost use Rattle.rewrite_pass.specs.TraceLines.{ended};
-ghost use Rattle.trace_text.specs.Texts.{IsLine, IsWhole, commented, lines_of, trace_of, traced};
+ghost use Rattle.trace_text.specs.Texts.{IsLine, IsWhole, commented, ended, lines_of, trace_of, traced};
 
 /// No line of a text has a line break, lines without a line break are those of the text that they make, and behind whole lines
 /// come the lines of what follows.

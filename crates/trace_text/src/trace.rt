@@ -16,7 +16,7 @@ fn told(line: &[u8]) -> Option<&[u8]>
 /// The trace that a text holds: what its lines say behind `//!`, one behind the other; empty where it holds none. In linear
 /// time.
 pub fn trace_of(alloc: Global, text: &[u8]) -> Result<Vec<u8>, AllocError>
-    ensures { IfOk result (λ v. v.items ≡ trace_of text.now) }
+    ensures ok { IfOk result (λ v. v.items ≡ trace_of text.now) }
 {
     let mut trace = Vec::new(alloc);
     let mut rest = text;

@@ -13,5 +13,5 @@ returns-clause-rows c =
 pub returns-clause-pairs : goal.returns-clause-pairs
 returns-clause-pairs c = subst (λ n. All (IsPair n) c.in_ok-pairs.pairs.items) c.in_ok-wide_from.ensures.length c.in_ok-pairs.ensures.pairs
 
-pub returns-clause-few : goal.returns-clause-few
-returns-clause-few c = subst (λ n. length c.in_ok-pairs.pairs.items ≤ n * n) c.in_ok-wide_from.ensures.length c.in_ok-pairs.ensures.few
+pub returns-clause-gates_limit : goal.returns-clause-gates_limit
+returns-clause-gates_limit c = subst (λ n. length c.in_ok-pairs.pairs.items ≤ n * n) c.in_ok-wide_from.ensures.length c.in_ok-pairs.ensures.gates_limit

@@ -26,26 +26,26 @@ gates-preserved c =
     let known = c.gates.invariant in
     let fine = subst (λ m. IsFine m c.gate.result) (sym known.wires) c.gate.ensures.fine in
     record {
-      fits = fits_on c.gate.result c.gates.walk c.step.new.self known.fits c.in_ok-step.ensures;
-      wires = c.in_ok-step.ensures.wires ∙ known.wires;
-      turned = goes_on c.args.body.now.wires c.args.body.now.gates c.gates.i c.gate.result c.gates.walk c.step.new.self known.fits c.gate.ensures.there fine c.in_ok-step.ensures known.turned;
-      none = none_more c.gate.result c.gates.walk c.step.new.self c.in_ok-step.ensures known.none;
-      follows = follows_on c.args.body.now.wires c.args.body.now.gates c.gates.i c.gate.result c.gates.walk c.step.new.self c.gate.ensures.there c.in_ok-step.ensures known.follows;
+      fits = fits_on c.gate.result c.gates.walk c.step.new.self known.fits c.in_ok-step.ensures.ok;
+      wires = c.in_ok-step.ensures.ok.wires ∙ known.wires;
+      turned = goes_on c.args.body.now.wires c.args.body.now.gates c.gates.i c.gate.result c.gates.walk c.step.new.self known.fits c.gate.ensures.there fine c.in_ok-step.ensures.ok known.turned;
+      none = none_more c.gate.result c.gates.walk c.step.new.self c.in_ok-step.ensures.ok known.none;
+      follows = follows_on c.args.body.now.wires c.args.body.now.gates c.gates.i c.gate.result c.gates.walk c.step.new.self c.gate.ensures.there c.in_ok-step.ensures.ok known.follows;
     }
 
 pub returns-clause-law : goal.returns-clause-law
 returns-clause-law c =
     IfOk-weaker c.finish.result (HasFinished c.gates.walk) (λ p. IsRewriting c.args.body.now.wires c.args.body.now.gates p.body.gates p.turn)
-    (λ p done. ends c.args.body.now.wires c.args.body.now.gates c.gates.i c.gates.walk p c.wires.ensures.fine (omega arith) c.gates.invariant.wires c.gates.invariant.turned done)
-    c.finish.ensures
+    (λ p done. ends c.args.body.now.wires c.args.body.now.gates c.gates.i c.gates.walk p c.facts.ensures.fine (omega arith) c.gates.invariant.wires c.gates.invariant.turned done)
+    c.finish.ensures.ok
 
 pub returns-clause-shape : goal.returns-clause-shape
 returns-clause-shape c = IfOk-weaker c.finish.result (HasFinished c.gates.walk) (λ p. XLast p.body.gates)
     (λ p done. ends_x c.gates.walk p c.gates.invariant.none done)
-    c.finish.ensures
+    c.finish.ensures.ok
 
 pub returns-clause-sums : goal.returns-clause-sums
 returns-clause-sums c =
     IfOk-weaker c.finish.result (HasFinished c.gates.walk) (λ p. IsSumsStep c.args.body.now.wires p.body.gates c.args.body.now.gates p.body.gates p.turn)
-    (λ p done. follows_end c.args.body.now.wires c.args.body.now.gates c.gates.i c.gates.walk p c.wires.ensures.fine (omega arith) c.gates.invariant.wires c.gates.invariant.fits done c.gates.invariant.follows)
-    c.finish.ensures
+    (λ p done. follows_end c.args.body.now.wires c.args.body.now.gates c.gates.i c.gates.walk p c.facts.ensures.fine (omega arith) c.gates.invariant.wires c.gates.invariant.fits done c.gates.invariant.follows)
+    c.finish.ensures.ok

@@ -21,8 +21,8 @@ returns-in_err-put_lines-clause-err g c =
     } in
     on_err _ _ (HasText-written laws o c.underscores-q.result c.wires-wires.result
     (λ text. GainsPrefix (g.S.Sink.held c.args.sink.now) (g.S.Sink.held c.put_lines.new.sink) text) c.requires.output c.underscores-q.ensures
-    c.wires-wires.ensures.wires c.wires-wires.ensures.few c.wires-wires.ensures.fine
-    (fault-whole _ _ c.args.room.now.items
+    c.wires-wires.ensures.wires c.facts.ensures.wires_limit c.facts.ensures.fine
+    (fault-whole _ _ c.args.buffer.now
     (written_text (with_underscores c.underscores-q.result) c.wires-wires.result (cut_of o) (map bits_of o.registers.now) o.reads.now ++ commented o.trace.now)
     c.requires.empty c.in_err-put_lines.ensures.err))
 
@@ -34,11 +34,11 @@ returns-clause-ok g c =
       unbroken = c.lines_of_text.ensures.unbroken;
       held = c.commented_trace.ensures.held;
     } in
-    on_ok-map _ (Gains (g.S.Sink.held c.put_lines.new.sink) (g.S.Sink.held c.send_room.new.sink) c.put_lines.new.room.items) _
+    on_ok-map _ (Gains (g.S.Sink.held c.put_lines.new.sink) (g.S.Sink.held c.send_buffer.new.sink) c.put_lines.new.buffer) _
     (λ gained. HasText-written laws o c.underscores-q.result c.wires-wires.result
-    (λ text. Gains (g.S.Sink.held c.args.sink.now) (g.S.Sink.held c.send_room.new.sink) text) c.requires.output c.underscores-q.ensures
-    c.wires-wires.ensures.wires c.wires-wires.ensures.few c.wires-wires.ensures.fine
-    (Sends-rest _ _ _ _ _ _ c.requires.empty c.in_ok-put_lines.ensures.ok gained)) c.send_room.ensures.ok
+    (λ text. Gains (g.S.Sink.held c.args.sink.now) (g.S.Sink.held c.send_buffer.new.sink) text) c.requires.output c.underscores-q.ensures
+    c.wires-wires.ensures.wires c.facts.ensures.wires_limit c.facts.ensures.fine
+    (Sends-rest _ _ _ _ _ _ c.requires.empty c.in_ok-put_lines.ensures.ok gained)) c.send_buffer.ensures.ok
 
 pub returns-clause-err : goal.returns-clause-err
 returns-clause-err g c =
@@ -48,8 +48,8 @@ returns-clause-err g c =
       unbroken = c.lines_of_text.ensures.unbroken;
       held = c.commented_trace.ensures.held;
     } in
-    on_err-map _ (GainsPrefix (g.S.Sink.held c.put_lines.new.sink) (g.S.Sink.held c.send_room.new.sink) c.put_lines.new.room.items) _
+    on_err-map _ (GainsPrefix (g.S.Sink.held c.put_lines.new.sink) (g.S.Sink.held c.send_buffer.new.sink) c.put_lines.new.buffer) _
     (λ failed. HasText-written laws o c.underscores-q.result c.wires-wires.result
-    (λ text. GainsPrefix (g.S.Sink.held c.args.sink.now) (g.S.Sink.held c.send_room.new.sink) text) c.requires.output c.underscores-q.ensures
-    c.wires-wires.ensures.wires c.wires-wires.ensures.few c.wires-wires.ensures.fine
-    (rest-fault _ _ _ _ _ _ c.requires.empty c.in_ok-put_lines.ensures.ok failed)) c.send_room.ensures.err
+    (λ text. GainsPrefix (g.S.Sink.held c.args.sink.now) (g.S.Sink.held c.send_buffer.new.sink) text) c.requires.output c.underscores-q.ensures
+    c.wires-wires.ensures.wires c.facts.ensures.wires_limit c.facts.ensures.fine
+    (rest-fault _ _ _ _ _ _ c.requires.empty c.in_ok-put_lines.ensures.ok failed)) c.send_buffer.ensures.err

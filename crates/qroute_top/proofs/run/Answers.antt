@@ -1,9 +1,8 @@
--- What follows of each status, from the cause of a stop or from what a work delivers.
+-- What follows of each status, from the cause of a stop or from what an answer delivers.
 use Rattle.std.proofs.Common.{inl, inr, ◌∙◌, ap, Err, map}
 use Rattle.outside_io.specs.Bytes.{Gains, GainsPrefix}
-use Rattle.command_words.specs.Demands.{writes_out, writes_report}
+use Rattle.command_line.specs.Demands.{writes_out, writes_report}
 use Rattle.qroute_top.specs.Causes.{Handed}
-use Rattle.qroute_top.specs.Plans.{has_line, has_text}
 use Rattle.qroute_top.proofs.RunLaws.{Delivered-done, device_alone, answered_on, asked_of, came, handed, planned-absent, planned-complete, planned-complete_texts, planned-refuses, planned-refuses_device, planned-refuses_question, planned-verdict, same_stop, stopped-absent, stopped-complete, stopped-complete_texts, stopped-read, stopped-refuses, stopped-refuses_device, stopped-refuses_question, stopped-two, stopped-verdict, stopped-words}
 use Rattle.qroute_top.proofs.ClaimLaws.{Readable, Traceable}
 use Rattle.qroute_top.proofs.StatusLaws.{not_late, not_memory}
@@ -12,63 +11,55 @@ use Rattle.qroute_top.proofs.run.Goals as goal
 pub returns-in-Ok-clause-headline : goal.returns-in-Ok-clause-headline
 returns-in-Ok-clause-headline g c = λ e.
     Delivered-done (map (λ w. w.now) c.args.words.now) (g.F.Shelf.content c.args.shelf.now) (g.I.Source.left c.args.input.now)
-    (g.I.Source.left c.decide.new.input) c.in-Ok.work
+    (g.I.Source.left c.decide.new.input) c.in-Ok.answer
     (λ text line. Gains (g.O.Sink.held c.args.out.now) (g.O.Sink.held c.emit.new.out) text
     × Gains (g.R.Sink.held c.args.report.now) (g.R.Sink.held c.emit.new.report) line)
-    c.in-Ok.ensures.made (c.emit.ensures.done e)
+    c.in-Ok.ensures.made (c.emit.ensures.emitted.done e)
 
 pub returns-in-Ok-clause-output : goal.returns-in-Ok-clause-output
 returns-in-Ok-clause-output g c = λ e.
-    let h = c.emit.ensures.output e in
+    let h = c.emit.ensures.emitted.output e in
     let came = Delivered-done (map (λ w. w.now) c.args.words.now) (g.F.Shelf.content c.args.shelf.now) (g.I.Source.left c.args.input.now)
-    (g.I.Source.left c.decide.new.input) c.in-Ok.work
+    (g.I.Source.left c.decide.new.input) c.in-Ok.answer
     (λ text line. GainsPrefix (g.O.Sink.held c.args.out.now) (g.O.Sink.held c.emit.new.out) text) c.in-Ok.ensures.made h.0 in
     (h.1, came, h.2)
 
 pub returns-in-Ok-clause-report : goal.returns-in-Ok-clause-report
 returns-in-Ok-clause-report g c = λ e.
-    let h = c.emit.ensures.report e in
+    let h = c.emit.ensures.emitted.report e in
     let came = Delivered-done (map (λ w. w.now) c.args.words.now) (g.F.Shelf.content c.args.shelf.now) (g.I.Source.left c.args.input.now)
-    (g.I.Source.left c.decide.new.input) c.in-Ok.work
+    (g.I.Source.left c.decide.new.input) c.in-Ok.answer
     (λ text line. Gains (g.O.Sink.held c.args.out.now) (g.O.Sink.held c.emit.new.out) text
     × GainsPrefix (g.R.Sink.held c.args.report.now) (g.R.Sink.held c.emit.new.report) line) c.in-Ok.ensures.made h.0 in
     (h.3, came, (λ a asked writes. h.1 (c.in-Ok.ensures.writes a asked ∙ writes)), h.2)
 
 pub returns-in-Ok-clause-refuses : goal.returns-in-Ok-clause-refuses
 returns-in-Ok-clause-refuses g c =
-    let e = c.emit.ensures in
-    let some = came c.in-Ok.work c.emit.result e.ends (λ z. let h = e.done z in (h.0, h.1, h.2)) (λ z. let h = (e.output z).0 in (h.0, h.1, h.2))
-    (λ z. let h = (e.report z).0 in (h.0, h.1, h.2)) in
-    λ a text r asked reads told is calm. planned-refuses c.accepted_has_no_refusal.ensures (map (λ w. w.now) c.args.words.now) (g.F.Shelf.content c.args.shelf.now) (g.I.Source.left c.args.input.now)
-    (g.I.Source.left c.decide.new.input) c.in-Ok.work c.emit.result text r a
+    let some = came c.in-Ok.answer c.emit.result c.emit.ensures.emitted in
+    λ a text r asked reads told is calm. planned-refuses c.accepted_has_no_refusal.ensures.no_refusal (map (λ w. w.now) c.args.words.now) (g.F.Shelf.content c.args.shelf.now) (g.I.Source.left c.args.input.now)
+    (g.I.Source.left c.decide.new.input) c.in-Ok.answer c.emit.result text r a
     c.in-Ok.ensures.made some asked reads told is
 
 pub returns-in-Ok-clause-absent : goal.returns-in-Ok-clause-absent
 returns-in-Ok-clause-absent g c =
-    let e = c.emit.ensures in
-    let some = came c.in-Ok.work c.emit.result e.ends (λ z. let h = e.done z in (h.0, h.1, h.2)) (λ z. let h = (e.output z).0 in (h.0, h.1, h.2))
-    (λ z. let h = (e.report z).0 in (h.0, h.1, h.2)) in
+    let some = came c.in-Ok.answer c.emit.result c.emit.ensures.emitted in
     λ a name n asked wants needs calm shelf_calm none. planned-absent (map (λ w. w.now) c.args.words.now) (g.F.Shelf.content c.args.shelf.now) (g.I.Source.left c.args.input.now)
-    (g.I.Source.left c.decide.new.input) c.in-Ok.work c.emit.result name a
+    (g.I.Source.left c.decide.new.input) c.in-Ok.answer c.emit.result name a
     c.in-Ok.ensures.made some asked wants none
 
 pub returns-in-Ok-clause-refuses_device : goal.returns-in-Ok-clause-refuses_device
 returns-in-Ok-clause-refuses_device g c =
-    let e = c.emit.ensures in
-    let some = came c.in-Ok.work c.emit.result e.ends (λ z. let h = e.done z in (h.0, h.1, h.2)) (λ z. let h = (e.output z).0 in (h.0, h.1, h.2))
-    (λ z. let h = (e.report z).0 in (h.0, h.1, h.2)) in
-    λ a name device_text n r asked wants needs calm shelf_calm here refusal. planned-refuses_device c.means_once.ensures
+    let some = came c.in-Ok.answer c.emit.result c.emit.ensures.emitted in
+    λ a name device_text n r asked wants needs calm shelf_calm here refusal. planned-refuses_device c.means_once.ensures.once
     (map (λ w. w.now) c.args.words.now) (g.F.Shelf.content c.args.shelf.now) (g.I.Source.left c.args.input.now)
-    (g.I.Source.left c.decide.new.input) c.in-Ok.work c.emit.result name a device_text n r
+    (g.I.Source.left c.decide.new.input) c.in-Ok.answer c.emit.result name a device_text n r
     c.in-Ok.ensures.made some asked wants needs here refusal
 
 pub returns-in-Ok-clause-complete : goal.returns-in-Ok-clause-complete
 returns-in-Ok-clause-complete g c =
-    let e = c.emit.ensures in
     let d = c.in-Ok.ensures in
-    λ a n asked alone needs has answered calm shelf_calm out_calm report_calm. planned-complete (has_text c.in-Ok.work) (has_line c.in-Ok.work) (writes_out a)
-    (writes_report a) c.emit.result _ _ e.ends (d.writes a asked) (d.tells a asked) (λ six. (e.output six).1) (λ eight. (e.report eight).3) e.no_fault
-    e.no_report out_calm report_calm
+    λ a n asked alone needs has answered calm shelf_calm out_calm report_calm. planned-complete (writes_out a) (writes_report a) c.emit.ensures.emitted
+    (d.writes a asked) (d.tells a asked) out_calm report_calm
 
 pub returns-in-Err-clause-calm : goal.returns-in-Err-clause-calm
 returns-in-Err-clause-calm g c = λ e. absurd (not_late c.in-Err.stop c.tell.result c.tell.ensures.status (inl e))
@@ -91,7 +82,7 @@ returns-in-Err-clause-refuses g c =
     let h : Handed = handed (map (λ w. w.now) c.args.words.now) (g.I.Source.left c.args.input.now) (g.I.Source.faults c.args.input.now)
     (g.I.Source.faults c.decide.new.input) (g.F.Shelf.content c.args.shelf.now) (g.F.Shelf.faults c.args.shelf.now)
     (g.F.Shelf.faults c.decide.new.shelf) in
-    λ a text r asked reads told is calm. stopped-refuses c.accepted_has_no_refusal.ensures h c.in-Err.stop c.tell.result a text r c.in-Err.ensures.stop
+    λ a text r asked reads told is calm. stopped-refuses c.accepted_has_no_refusal.ensures.no_refusal h c.in-Err.stop c.tell.result a text r c.in-Err.ensures.stop
     c.tell.ensures.status asked reads told is calm
 
 pub returns-in-Err-clause-output : goal.returns-in-Err-clause-output
@@ -111,7 +102,7 @@ returns-in-Err-clause-absent g c =
     let h : Handed = handed (map (λ w. w.now) c.args.words.now) (g.I.Source.left c.args.input.now) (g.I.Source.faults c.args.input.now)
     (g.I.Source.faults c.decide.new.input) (g.F.Shelf.content c.args.shelf.now) (g.F.Shelf.faults c.args.shelf.now)
     (g.F.Shelf.faults c.decide.new.shelf) in
-    λ a name n asked wants needs calm shelf_calm none. stopped-absent c.accepted_has_no_refusal.ensures h c.in-Err.stop c.tell.result a name n c.in-Err.ensures.stop
+    λ a name n asked wants needs calm shelf_calm none. stopped-absent c.accepted_has_no_refusal.ensures.no_refusal h c.in-Err.stop c.tell.result a name n c.in-Err.ensures.stop
     c.tell.ensures.status (asked_of h a n asked (device_alone a name wants) needs (answered_on (g.I.Source.left c.args.input.now) a name wants) calm (λ w. shelf_calm)) wants none
 
 pub returns-in-Err-clause-refuses_device : goal.returns-in-Err-clause-refuses_device
@@ -119,7 +110,7 @@ returns-in-Err-clause-refuses_device g c =
     let h : Handed = handed (map (λ w. w.now) c.args.words.now) (g.I.Source.left c.args.input.now) (g.I.Source.faults c.args.input.now)
     (g.I.Source.faults c.decide.new.input) (g.F.Shelf.content c.args.shelf.now) (g.F.Shelf.faults c.args.shelf.now)
     (g.F.Shelf.faults c.decide.new.shelf) in
-    λ a name device_text n r asked wants needs calm shelf_calm here refusal. stopped-refuses_device c.accepted_has_no_refusal.ensures h c.in-Err.stop c.tell.result a name
+    λ a name device_text n r asked wants needs calm shelf_calm here refusal. stopped-refuses_device c.accepted_has_no_refusal.ensures.no_refusal h c.in-Err.stop c.tell.result a name
     device_text n c.in-Err.ensures.stop c.tell.ensures.status (asked_of h a n asked (device_alone a name wants) needs (answered_on (g.I.Source.left c.args.input.now) a name wants) calm (λ w. shelf_calm)) wants here
 
 pub returns-in-Err-clause-complete : goal.returns-in-Err-clause-complete
@@ -127,16 +118,14 @@ returns-in-Err-clause-complete g c =
     let h : Handed = handed (map (λ w. w.now) c.args.words.now) (g.I.Source.left c.args.input.now) (g.I.Source.faults c.args.input.now)
     (g.I.Source.faults c.decide.new.input) (g.F.Shelf.content c.args.shelf.now) (g.F.Shelf.faults c.args.shelf.now)
     (g.F.Shelf.faults c.decide.new.shelf) in
-    λ a n asked alone needs has answered calm shelf_calm out_calm report_calm. stopped-complete c.accepted_has_no_refusal.ensures c.means_once.ensures h c.in-Err.stop c.tell.result a n
+    λ a n asked alone needs has answered calm shelf_calm out_calm report_calm. stopped-complete c.accepted_has_no_refusal.ensures.no_refusal c.means_once.ensures.once h c.in-Err.stop c.tell.result a n
     c.in-Err.ensures.stop c.tell.ensures.status (asked_of h a n asked alone needs answered calm shelf_calm) has
 
 pub returns-in-Ok-clause-refuses_question : goal.returns-in-Ok-clause-refuses_question
 returns-in-Ok-clause-refuses_question g c =
-    let e = c.emit.ensures in
-    let some = came c.in-Ok.work c.emit.result e.ends (λ z. let h = e.done z in (h.0, h.1, h.2)) (λ z. let h = (e.output z).0 in (h.0, h.1, h.2))
-    (λ z. let h = (e.report z).0 in (h.0, h.1, h.2)) in
-    λ a text p r asked told ok is calm. planned-refuses_question c.means_once.ensures (map (λ w. w.now) c.args.words.now) (g.F.Shelf.content c.args.shelf.now)
-    (g.I.Source.left c.args.input.now) (g.I.Source.left c.decide.new.input) c.in-Ok.work c.emit.result text p r a
+    let some = came c.in-Ok.answer c.emit.result c.emit.ensures.emitted in
+    λ a text p r asked told ok is calm. planned-refuses_question c.means_once.ensures.once (map (λ w. w.now) c.args.words.now) (g.F.Shelf.content c.args.shelf.now)
+    (g.I.Source.left c.args.input.now) (g.I.Source.left c.decide.new.input) c.in-Ok.answer c.emit.result text p r a
     c.in-Ok.ensures.made some asked told ok is
 
 pub returns-in-Err-clause-refuses_question : goal.returns-in-Err-clause-refuses_question
@@ -149,21 +138,18 @@ returns-in-Err-clause-refuses_question g c =
 
 pub returns-in-Ok-clause-verdict : goal.returns-in-Ok-clause-verdict
 returns-in-Ok-clause-verdict g c =
-    let e = c.emit.ensures in
-    let some = came c.in-Ok.work c.emit.result e.ends (λ z. let h = e.done z in (h.0, h.1, h.2)) (λ z. let h = (e.output z).0 in (h.0, h.1, h.2))
-    (λ z. let h = (e.report z).0 in (h.0, h.1, h.2)) in
-    let law : Readable = record { accepted = c.accepted_text_has_no_refusal.ensures; refused = c.text_refused_once.ensures; means = c.means_once.ensures } in
+    let law : Readable = record { accepted = c.accepted_text_has_no_refusal.ensures.no_refusal; refused = c.text_refused_once.ensures.once; means = c.means_once.ensures.once } in
     let traces : Traceable = record { not_both = c.traces_are_exact.ensures.not_both; one_line = c.traces_are_exact.ensures.one_line; one_proof = c.traces_are_exact.ensures.one_proof } in
     λ a x y end asked texts told is calm out_calm. planned-verdict law traces (map (λ w. w.now) c.args.words.now) (g.F.Shelf.content c.args.shelf.now)
-    (g.I.Source.left c.args.input.now) (g.I.Source.left c.decide.new.input) c.in-Ok.work c.emit.result a x y end (has_line c.in-Ok.work) _
-    c.in-Ok.ensures.made some e.ends asked texts (c.in-Ok.ensures.tells a asked) (λ six. (e.output six).1) e.no_report told is out_calm
+    (g.I.Source.left c.args.input.now) (g.I.Source.left c.decide.new.input) c.in-Ok.answer c.emit.result a x y end
+    c.in-Ok.ensures.made c.emit.ensures.emitted asked texts (c.in-Ok.ensures.tells a asked) told is out_calm
 
 pub returns-in-Err-clause-verdict : goal.returns-in-Err-clause-verdict
 returns-in-Err-clause-verdict g c =
     let h : Handed = handed (map (λ w. w.now) c.args.words.now) (g.I.Source.left c.args.input.now) (g.I.Source.faults c.args.input.now)
     (g.I.Source.faults c.decide.new.input) (g.F.Shelf.content c.args.shelf.now) (g.F.Shelf.faults c.args.shelf.now)
     (g.F.Shelf.faults c.decide.new.shelf) in
-    let law : Readable = record { accepted = c.accepted_text_has_no_refusal.ensures; refused = c.text_refused_once.ensures; means = c.means_once.ensures } in
+    let law : Readable = record { accepted = c.accepted_text_has_no_refusal.ensures.no_refusal; refused = c.text_refused_once.ensures.once; means = c.means_once.ensures.once } in
     let traces : Traceable = record { not_both = c.traces_are_exact.ensures.not_both; one_line = c.traces_are_exact.ensures.one_line; one_proof = c.traces_are_exact.ensures.one_proof } in
     λ a x y end asked texts told is calm out_calm. stopped-verdict law traces h c.in-Err.stop c.tell.result a x y end c.in-Err.ensures.stop c.tell.ensures.status
     asked texts told is calm
@@ -177,10 +163,9 @@ returns-in-Err-clause-words g c =
 
 pub returns-in-Ok-clause-complete_texts : goal.returns-in-Ok-clause-complete_texts
 returns-in-Ok-clause-complete_texts g c =
-    let e = c.emit.ensures in
     let d = c.in-Ok.ensures in
-    λ a x y s t asked texts told fine here well calm out_calm. planned-complete_texts a x y (has_text c.in-Ok.work) (has_line c.in-Ok.work) c.emit.result _ _ e.ends
-    texts (d.writes a asked) (d.tells a asked) (λ six. (e.output six).1) (λ eight. (e.report eight).3) e.no_fault e.no_report out_calm
+    λ a x y s t asked texts told fine here well calm out_calm. planned-complete_texts a x y c.emit.ensures.emitted texts (d.writes a asked)
+    (d.tells a asked) out_calm
 
 pub returns-in-Err-clause-complete_texts : goal.returns-in-Err-clause-complete_texts
 returns-in-Err-clause-complete_texts g c =

@@ -11,7 +11,7 @@ returns-then-q-wires-clause-bits c = bits-past c.args.wires c.args.number c.args
 pub overflow_sub-cleared : goal.overflow_sub-cleared
 overflow_sub-cleared c =
     let g = place_le c.args.wires c.args.number c.args.q c.if-q-wires.false (sym c.bit_at.ensures.bit ∙ c.if-bit_at.true) in
-    omega (arith, g, c.power_of_two-place.ensures)
+    omega (arith, g, c.power_of_two-place.ensures.value)
 
 put : (c : goal.After-row_known-1) → (bits c.args.wires (c.if-bit_at.cleared + c.power_of_two-place.result) ≡ with_bit (bits c.args.wires c.args.number) c.args.q c.args.bit) × (c.if-bit_at.cleared + c.power_of_two-place.result < 2 ^ c.args.wires)
 put c =
@@ -20,7 +20,7 @@ put c =
       | then-bit_at w ↦ w.cleared-is ∙ ap (λ s. c.args.number - cond s place 0) (sym w.if-bit_at.true)
       | else-bit_at w ↦ (let z : c.if-bit_at.cleared ≡ c.args.number - 0 = omega (arith, w.cleared-is) in z ∙ ap (λ s. c.args.number - cond s place 0) (sym w.if-bit_at.false))
     ] in
-    put_made c.args.wires c.args.number c.args.q place c.if-bit_at.cleared _ c.bit_at.result c.args.bit c.if-q-wires.false c.requires.below c.bit_at.ensures.bit c.power_of_two-place.ensures e
+    put_made c.args.wires c.args.number c.args.q place c.if-bit_at.cleared _ c.bit_at.result c.args.bit c.if-q-wires.false c.requires.below c.bit_at.ensures.bit c.power_of_two-place.ensures.value e
     (ap (λ s. c.if-bit_at.cleared + cond s place 0) (sym c.if-bit.true))
 
 off : (c : goal.Else-bit) → (bits c.args.wires c.if-bit_at.cleared ≡ with_bit (bits c.args.wires c.args.number) c.args.q c.args.bit) × (c.if-bit_at.cleared < 2 ^ c.args.wires)
@@ -31,7 +31,7 @@ off c =
       | else-bit_at w ↦ (let z : c.if-bit_at.cleared ≡ c.args.number - 0 = omega (arith, w.cleared-is) in z ∙ ap (λ s. c.args.number - cond s place 0) (sym w.if-bit_at.false))
     ] in
     let z : c.if-bit_at.cleared ≡ c.if-bit_at.cleared + 0 = omega arith in
-    put_made c.args.wires c.args.number c.args.q place c.if-bit_at.cleared _ c.bit_at.result c.args.bit c.if-q-wires.false c.requires.below c.bit_at.ensures.bit c.power_of_two-place.ensures e
+    put_made c.args.wires c.args.number c.args.q place c.if-bit_at.cleared _ c.bit_at.result c.args.bit c.if-q-wires.false c.requires.below c.bit_at.ensures.bit c.power_of_two-place.ensures.value e
     (z ∙ ap (λ s. c.if-bit_at.cleared + cond s place 0) (sym c.if-bit.false))
 
 pub returns-then-bit-clause-below : goal.returns-then-bit-clause-below

@@ -8,7 +8,10 @@ numbers-preserved c = λ k l d us to h.
     (λ b. c.numbers.invariant k b d us to h) (c.value_at.ensures us to h)
 
 pub returns : goal.returns
-returns c = λ us to h. record {
-  long = c.numbers.auto.next ∙ c.requires.next_long;
-  each = λ i d l. c.numbers.invariant i (omega (arith, l, c.requires.next_long, c.numbers-test.false)) d us to h;
+returns c = record {
+  new =
+      λ us to h. record {
+        long = c.numbers.auto.next ∙ c.requires.next_long;
+        each = λ i d l. c.numbers.invariant i (omega (arith, l, c.requires.next_long, c.numbers-test.false)) d us to h;
+      };
 }

@@ -20,4 +20,4 @@ keep-requires-else-num-lt0 c =
     let n_fits : FitsSigned w128 c.num-num.result = search rules in
     let d_fits : FitsSigned w128 c.den-den.result = search rules in
     simp to_z-of_z (over c.args.a.now c.num-num.result c.den-den.result c.num-num.result c.den-den.ensures.lowest
-    c.num-num.ensures.value c.num-num.ensures.size c.den-den.ensures.size c.requires (omega (arith, ints)) c.den-den.ensures.value refl)
+    c.num-num.ensures.value c.num-num.ensures.size c.den-den.ensures.size c.requires.nonzero (omega (arith, ints)) c.den-den.ensures.value refl)

@@ -16,18 +16,18 @@ gates-preserved c =
 
 pub returns-clause-list : goal.returns-clause-list
 returns-clause-list c =
-    c.new.ensures
+    c.new.ensures.value
     ∙ walked-done c.args.size c.args.gates c.gates._i c.gates.draws.state c.gates.list.items _ c.gates-test.false c.gates.invariant
     ∙ sym (drawn-walked c.args.start c.args.gates c.args.size)
 
 pub returns-clause-fine : goal.returns-clause-fine
 returns-clause-fine c =
-    let made : c.new.result ≡ walked c.args.size c.args.gates c.args.start = c.new.ensures
+    let made : c.new.result ≡ walked c.args.size c.args.gates c.args.start = c.new.ensures.value
     ∙ walked-done c.args.size c.args.gates c.gates._i c.gates.draws.state c.gates.list.items _ c.gates-test.false c.gates.invariant in
     subst (λ us. All (IsFineOp c.args.size) us) (sym made) (All-walked c.args.size c.args.gates c.args.start c.requires.some)
 
 pub returns-clause-count : goal.returns-clause-count
 returns-clause-count c =
-    let made : c.new.result ≡ walked c.args.size c.args.gates c.args.start = c.new.ensures
+    let made : c.new.result ≡ walked c.args.size c.args.gates c.args.start = c.new.ensures.value
     ∙ walked-done c.args.size c.args.gates c.gates._i c.gates.draws.state c.gates.list.items _ c.gates-test.false c.gates.invariant in
     ap length made ∙ length-walked c.args.size c.args.gates c.args.start

@@ -8,22 +8,28 @@ use Rattle.circuit_list.proofs.EntryLaws.{slot_below}
 use Rattle.circuit_list.proofs.Circuit.after.Goals as goal
 
 pub next-requires : goal.next-requires
-next-requires c =
-    let l = live_entry c.self.inside.tree c.args.s (subst (λ (b : Body). IsLive b c.args.s) (sym c.self.view_is) c.requires) in
-    let here : entry c.self.inside.tree c.index.result ≡ Some l.0 = ap (entry c.self.inside.tree) c.index.ensures ∙ l.1 in
-    slot_below c.self.inside.tree c.index.result l.0 here
+next-requires c = record {
+  within =
+      let l = live_entry c.self.inside.tree c.args.s (subst (λ (b : Body). IsLive b c.args.s) (sym c.self.view_is) c.requires.live) in
+      let here : entry c.self.inside.tree c.index.result ≡ Some l.0 = ap (entry c.self.inside.tree) c.index.ensures.value ∙ l.1 in
+      slot_below c.self.inside.tree c.index.result l.0 here;
+}
 
 pub returns-in_err-slot : goal.returns-in_err-slot
-returns-in_err-slot c =
-    let l = live_entry c.self.inside.tree c.args.s (subst (λ (b : Body). IsLive b c.args.s) (sym c.self.view_is) c.requires) in
-    subst (λ (o : Option ℕ). MatchOption o (place_of c.args.s c.args.self.now.slots + 1 ≡ length c.args.self.now.gates)
-    (λ t. IsLive c.args.self.now t × (place_of t c.args.self.now.slots ≡ place_of c.args.s c.args.self.now.slots + 1))) (sym c.from_residual.ensures)
-    (subst (λ (b : Body). place_of c.args.s b.slots + 1 ≡ length b.gates) c.self.view_is
-    (after-none c.self.inside.tree c.args.s l.0 l.1 (subst (λ n. NoneOn any_wire c.self.inside.tree (n + 1) (length c.self.inside.tree)) c.index.ensures c.in_err-slot.ensures)))
+returns-in_err-slot c = record {
+  found =
+      let l = live_entry c.self.inside.tree c.args.s (subst (λ (b : Body). IsLive b c.args.s) (sym c.self.view_is) c.requires.live) in
+      subst (λ (o : Option ℕ). MatchOption o (place_of c.args.s c.args.self.now.slots + 1 ≡ length c.args.self.now.gates)
+      (λ t. IsLive c.args.self.now t × (place_of t c.args.self.now.slots ≡ place_of c.args.s c.args.self.now.slots + 1))) (sym c.from_residual.ensures)
+      (subst (λ (b : Body). place_of c.args.s b.slots + 1 ≡ length b.gates) c.self.view_is
+      (after-none c.self.inside.tree c.args.s l.0 l.1 (subst (λ n. NoneOn any_wire c.self.inside.tree (n + 1) (length c.self.inside.tree)) c.index.ensures.value c.in_err-slot.ensures.found)));
+}
 
 pub returns : goal.returns
-returns c =
-    let l = live_entry c.self.inside.tree c.args.s (subst (λ (b : Body). IsLive b c.args.s) (sym c.self.view_is) c.requires) in
-    subst (λ t. IsLive c.args.self.now t × (place_of t c.args.self.now.slots ≡ place_of c.args.s c.args.self.now.slots + 1)) (sym c.new.ensures)
-    (subst (λ (b : Body). IsLive b c.in_ok-slot.slot × (place_of c.in_ok-slot.slot b.slots ≡ place_of c.args.s b.slots + 1)) c.self.view_is
-    (after-some c.self.inside.tree c.args.s c.in_ok-slot.slot l.0 l.1 (subst (λ n. IsFirstOn any_wire c.self.inside.tree (n + 1) c.in_ok-slot.slot) c.index.ensures c.in_ok-slot.ensures)))
+returns c = record {
+  found =
+      let l = live_entry c.self.inside.tree c.args.s (subst (λ (b : Body). IsLive b c.args.s) (sym c.self.view_is) c.requires.live) in
+      subst (λ t. IsLive c.args.self.now t × (place_of t c.args.self.now.slots ≡ place_of c.args.s c.args.self.now.slots + 1)) (sym c.new.ensures.value)
+      (subst (λ (b : Body). IsLive b c.in_ok-slot.slot × (place_of c.in_ok-slot.slot b.slots ≡ place_of c.args.s b.slots + 1)) c.self.view_is
+      (after-some c.self.inside.tree c.args.s c.in_ok-slot.slot l.0 l.1 (subst (λ n. IsFirstOn any_wire c.self.inside.tree (n + 1) c.in_ok-slot.slot) c.index.ensures.value c.in_ok-slot.ensures.found)));
+}

@@ -4,4 +4,4 @@ use Rattle.circuit_list.proofs.EntryLaws.{rank-length}
 use Rattle.circuit_list.proofs.Circuit.len.Goals as goal
 
 pub returns : goal.returns
-returns c = c.count.ensures ∙ rank-length c.self.inside.tree ∙ ap (λ (b : Body). length b.gates) c.self.view_is
+returns c = record { value = c.count.ensures.value ∙ rank-length c.self.inside.tree ∙ ap (λ (b : Body). length b.gates) c.self.view_is }

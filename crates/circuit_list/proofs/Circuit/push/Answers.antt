@@ -16,7 +16,7 @@ pub invariant_of-self : goal.invariant_of-self
 invariant_of-self c = (
   c.self.invariant.0,
   push-fine c.self.inside.wires c.self.inside.tree c.push.new.self c.args.g c.push.result c.push.ensures.ok c.push.ensures.err
-      (subst (λ (b : Body). IsFine b.wires c.args.g) (sym c.self.view_is) c.requires) c.self.invariant.1,
+      (subst (λ (b : Body). IsFine b.wires c.args.g) (sym c.self.view_is) c.requires.fine) c.self.invariant.1,
 )
 
 pub returns-clause-gates : goal.returns-clause-gates

@@ -9,32 +9,34 @@ use Rattle.circuit_list.proofs.SlotLaws.{place_of-earlier, place_of-later}
 use Rattle.circuit_list.proofs.Circuit.remove_at.Goals as goal
 
 pub set-requires : goal.set-requires
-set-requires c =
-    let l = live_entry c.self.inside.tree c.args.s (subst (λ (b : Body). IsLive b c.args.s) (sym c.self.view_is) c.requires) in
-    let here : entry c.self.inside.tree c.index.result ≡ Some l.0 = ap (entry c.self.inside.tree) c.index.ensures ∙ l.1 in
-    slot_below c.self.inside.tree c.index.result l.0 here
+set-requires c = record {
+  within =
+      let l = live_entry c.self.inside.tree c.args.s (subst (λ (b : Body). IsLive b c.args.s) (sym c.self.view_is) c.requires.live) in
+      let here : entry c.self.inside.tree c.index.result ≡ Some l.0 = ap (entry c.self.inside.tree) c.index.ensures.value ∙ l.1 in
+      slot_below c.self.inside.tree c.index.result l.0 here;
+}
 
 pub invariant_of-self : goal.invariant_of-self
 invariant_of-self c =
-    let l = live_entry c.self.inside.tree c.args.s (subst (λ (b : Body). IsLive b c.args.s) (sym c.self.view_is) c.requires) in
-    let here : entry c.self.inside.tree c.index.result ≡ Some l.0 = ap (entry c.self.inside.tree) c.index.ensures ∙ l.1 in
-    (c.self.invariant.0, gone-fine c.self.inside.wires c.self.inside.tree c.set.new.self c.index.result l.0 here c.set.ensures c.self.invariant.1)
+    let l = live_entry c.self.inside.tree c.args.s (subst (λ (b : Body). IsLive b c.args.s) (sym c.self.view_is) c.requires.live) in
+    let here : entry c.self.inside.tree c.index.result ≡ Some l.0 = ap (entry c.self.inside.tree) c.index.ensures.value ∙ l.1 in
+    (c.self.invariant.0, gone-fine c.self.inside.wires c.self.inside.tree c.set.new.self c.index.result l.0 here c.set.ensures.new c.self.invariant.1)
 
 pub returns-clause-gates : goal.returns-clause-gates
 returns-clause-gates c =
-    let l = live_entry c.self.inside.tree c.args.s (subst (λ (b : Body). IsLive b c.args.s) (sym c.self.view_is) c.requires) in
-    let here : entry c.self.inside.tree c.index.result ≡ Some l.0 = ap (entry c.self.inside.tree) c.index.ensures ∙ l.1 in
+    let l = live_entry c.self.inside.tree c.args.s (subst (λ (b : Body). IsLive b c.args.s) (sym c.self.view_is) c.requires.live) in
+    let here : entry c.self.inside.tree c.index.result ≡ Some l.0 = ap (entry c.self.inside.tree) c.index.ensures.value ∙ l.1 in
     let place : rank c.self.inside.tree c.index.result ≡ place_of c.args.s c.args.self.now.slots =
-    ap (rank c.self.inside.tree) c.index.ensures ∙ sym (place-entry c.self.inside.tree c.args.s l.0 l.1) ∙ ap (λ (b : Body). place_of c.args.s b.slots) c.self.view_is in
-    ap gates_of c.set.ensures ∙ gates_of-gone c.self.inside.tree c.index.result l.0 here ∙ (λ i. remove (ap (λ (b : Body). b.gates) c.self.view_is i) (place i))
+    ap (rank c.self.inside.tree) c.index.ensures.value ∙ sym (place-entry c.self.inside.tree c.args.s l.0 l.1) ∙ ap (λ (b : Body). place_of c.args.s b.slots) c.self.view_is in
+    ap gates_of c.set.ensures.new ∙ gates_of-gone c.self.inside.tree c.index.result l.0 here ∙ (λ i. remove (ap (λ (b : Body). b.gates) c.self.view_is i) (place i))
 
 slots_gone : goal.returns-clause-slots
 slots_gone c =
-    let l = live_entry c.self.inside.tree c.args.s (subst (λ (b : Body). IsLive b c.args.s) (sym c.self.view_is) c.requires) in
-    let here : entry c.self.inside.tree c.index.result ≡ Some l.0 = ap (entry c.self.inside.tree) c.index.ensures ∙ l.1 in
+    let l = live_entry c.self.inside.tree c.args.s (subst (λ (b : Body). IsLive b c.args.s) (sym c.self.view_is) c.requires.live) in
+    let here : entry c.self.inside.tree c.index.result ≡ Some l.0 = ap (entry c.self.inside.tree) c.index.ensures.value ∙ l.1 in
     let place : rank c.self.inside.tree c.index.result ≡ place_of c.args.s c.args.self.now.slots =
-    ap (rank c.self.inside.tree) c.index.ensures ∙ sym (place-entry c.self.inside.tree c.args.s l.0 l.1) ∙ ap (λ (b : Body). place_of c.args.s b.slots) c.self.view_is in
-    ap (slots_from 0) c.set.ensures ∙ slots_from-gone 0 c.self.inside.tree c.index.result l.0 here ∙ (λ i. remove (ap (λ (b : Body). b.slots) c.self.view_is i) (place i))
+    ap (rank c.self.inside.tree) c.index.ensures.value ∙ sym (place-entry c.self.inside.tree c.args.s l.0 l.1) ∙ ap (λ (b : Body). place_of c.args.s b.slots) c.self.view_is in
+    ap (slots_from 0) c.set.ensures.new ∙ slots_from-gone 0 c.self.inside.tree c.index.result l.0 here ∙ (λ i. remove (ap (λ (b : Body). b.slots) c.self.view_is i) (place i))
 
 pub returns-clause-slots : goal.returns-clause-slots
 returns-clause-slots c = slots_gone c

@@ -10,17 +10,19 @@ overflow_add-height c =
     omega arith
 
 pub returns : goal.returns
-returns c =
-    let value = ap (λ (xs : List Node). length xs) c.deref_mut.ensures.value in
-    let told = c.tell.ensures.len in
-    let e = written-back c.higher.nodes.len c.tell.new.nodes c.higher.nodes.items (told ∙ value) (sym c.deref_mut.ensures.len ∙ value) in
-    let size : length c.tell.new.nodes ≡ 2 ^ c.higher.height = told ∙ value ∙ c.higher.invariant in
-    record {
-      tree = subst (λ (xs : List Node). IsTree c.higher.height c.args.gates.now xs) (sym e) (record {
-        low = low_power c.higher.height (omega (arith, c.deref_mut.ensures.len));
-        size = size;
-        room = omega (arith, c.len.ensures, c.deref_mut.ensures.len);
-        joined = c.tell.ensures.joined;
-      });
-      marked = c.in_ok-marks.ensures;
-    }
+returns c = record {
+  ok =
+      let value = ap (λ (xs : List Node). length xs) c.deref_mut.ensures.value in
+      let told = c.tell.ensures.len in
+      let e = written-back c.higher.nodes.len c.tell.new.nodes c.higher.nodes.items (told ∙ value) (sym c.deref_mut.ensures.len ∙ value) in
+      let size : length c.tell.new.nodes ≡ 2 ^ c.higher.height = told ∙ value ∙ c.higher.invariant in
+      record {
+        tree = subst (λ (xs : List Node). IsTree c.higher.height c.args.gates.now xs) (sym e) (record {
+          low = low_power c.higher.height (omega (arith, c.deref_mut.ensures.len));
+          size = size;
+          room = omega (arith, c.len.ensures, c.deref_mut.ensures.len);
+          joined = c.tell.ensures.joined;
+        });
+        marked = c.in_ok-marks.ensures;
+      };
+}

@@ -5,4 +5,4 @@ use Rattle.circuit_list.proofs.nodes.wire_bit.Goals as goal
 
 pub returns : goal.returns
 unfolding wire_bit
-returns c = shl_one (c.args.wire % 64) (omega arith)
+returns c = record { value = shl_one (c.args.wire % 64) (omega arith) }

@@ -9,7 +9,7 @@ slots-init c = sym (rank-zero c.args.gates.now)
 
 pub overflow_add-count : goal.overflow_add-count
 overflow_add-count c =
-    let here = ap (λ (n : Node). n.count) c.leaf-count.ensures in
+    let here = ap (λ (n : Node). n.count) c.leaf-count.ensures.value in
     let next = rank-next c.args.gates.now c.slots.before in
     let few = rank_le c.args.gates.now (c.slots.before + 1) in
     let far : c.slots.count ≡ rank c.args.gates.now c.slots.before = c.slots.invariant in
@@ -17,7 +17,7 @@ overflow_add-count c =
 
 pub slots-preserved : goal.slots-preserved
 slots-preserved c =
-    let here = ap (λ (n : Node). n.count) c.leaf-count.ensures in
+    let here = ap (λ (n : Node). n.count) c.leaf-count.ensures.value in
     let next = rank-next c.args.gates.now c.slots.before in
     let far : c.slots.count ≡ rank c.args.gates.now c.slots.before = c.slots.invariant in
     omega arith

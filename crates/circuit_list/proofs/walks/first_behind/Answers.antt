@@ -16,17 +16,19 @@ first_in-requires-clause-covers c = (
 )
 
 pub returns-then-has_any : goal.returns-then-has_any
-returns-then-has_any c =
-    ahead-found c.args.wires c.args.gates.now c.args.nodes.now c.args.slot c.up.node c.first_in.result c.up.invariant
-    (c.first_in.ensures c.up.invariant.h (c.up.invariant.lo + 2 ^ c.up.invariant.h)
-    (ahead_beside c.args.wires c.args.gates.now c.args.nodes.now c.args.slot c.up.node (c.up.node / 2) c.requires.tree.1.joined c.up-test.true (omega arith) c.up.invariant))
+returns-then-has_any c = record {
+  found =
+      ahead-found c.args.wires c.args.gates.now c.args.nodes.now c.args.slot c.up.node c.first_in.result c.up.invariant
+      (c.first_in.ensures c.up.invariant.h (c.up.invariant.lo + 2 ^ c.up.invariant.h)
+      (ahead_beside c.args.wires c.args.gates.now c.args.nodes.now c.args.slot c.up.node (c.up.node / 2) c.requires.tree.1.joined c.up-test.true (omega arith) c.up.invariant));
+}
 
 pub up-preserved : goal.up-preserved
 up-preserved c = elim c.else-node-eq0.branch [
   | else-node-eq0-via-then-node-eq0+else-has_any w ↦
       let even = w.if-node-eq0.true in
       let lacks : has_any c.args.wires (node_at c.args.gates.now c.args.nodes.now (c.up.node + 1)).wires ≡ false =
-      ap (λ (n : Node). has_any c.args.wires n.wires) (sym w.node_at.ensures) ∙ sym w.has_any.ensures ∙ w.if-has_any.false in
+      ap (λ (n : Node). has_any c.args.wires n.wires) (sym w.node_at.ensures.value) ∙ sym w.has_any.ensures.value ∙ w.if-has_any.false in
       ahead-left c.args.wires c.args.gates.now c.args.nodes.now c.args.slot c.up.node (c.up.node / 2) c.requires.tree.1.joined c.up-test.true (omega arith) lacks c.up.invariant
   | else-node-eq0-via-else-node-eq0 w ↦
       let odd = w.if-node-eq0.false in
@@ -34,4 +36,4 @@ up-preserved c = elim c.else-node-eq0.branch [
 ]
 
 pub returns : goal.returns
-returns c = ahead-end c.args.wires c.args.gates.now c.args.nodes.now c.args.slot c.up.node (omega arith) c.up.invariant
+returns c = record { found = ahead-end c.args.wires c.args.gates.now c.args.nodes.now c.args.slot c.up.node (omega arith) c.up.invariant }

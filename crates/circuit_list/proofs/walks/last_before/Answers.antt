@@ -14,17 +14,19 @@ last_in-requires-clause-covers c =
     (c.up.invariant.h, c.up.invariant.lo - 2 ^ c.up.invariant.h, b.covers)
 
 pub returns-then-has_any : goal.returns-then-has_any
-returns-then-has_any c =
-    let b = beside c.args.gates.now c.args.nodes.now c.up.invariant.h c.up.node (c.up.node / 2) c.up.invariant.lo c.requires.tree.1.joined c.up-test.true (omega arith) c.up.invariant.spans in
-    back-found c.args.wires c.args.gates.now c.args.nodes.now c.args.slot c.up.node c.last_in.result c.up.invariant b.room
-    (c.last_in.ensures c.up.invariant.h (c.up.invariant.lo - 2 ^ c.up.invariant.h) b.covers)
+returns-then-has_any c = record {
+  found =
+      let b = beside c.args.gates.now c.args.nodes.now c.up.invariant.h c.up.node (c.up.node / 2) c.up.invariant.lo c.requires.tree.1.joined c.up-test.true (omega arith) c.up.invariant.spans in
+      back-found c.args.wires c.args.gates.now c.args.nodes.now c.args.slot c.up.node c.last_in.result c.up.invariant b.room
+      (c.last_in.ensures c.up.invariant.h (c.up.invariant.lo - 2 ^ c.up.invariant.h) b.covers);
+}
 
 pub up-preserved : goal.up-preserved
 up-preserved c = elim c.else-node-eq1.branch [
   | else-node-eq1-via-then-node-eq1+else-has_any w ↦
       let odd = w.if-node-eq1.true in
       let lacks : has_any c.args.wires (node_at c.args.gates.now c.args.nodes.now (c.up.node - 1)).wires ≡ false =
-      ap (λ (n : Node). has_any c.args.wires n.wires) (sym w.node_at.ensures) ∙ sym w.has_any.ensures ∙ w.if-has_any.false in
+      ap (λ (n : Node). has_any c.args.wires n.wires) (sym w.node_at.ensures.value) ∙ sym w.has_any.ensures.value ∙ w.if-has_any.false in
       back-right c.args.wires c.args.gates.now c.args.nodes.now c.args.slot c.up.node (c.up.node / 2) c.requires.tree.1.joined c.up-test.true (omega arith) lacks c.up.invariant
   | else-node-eq1-via-else-node-eq1 w ↦
       let even = w.if-node-eq1.false in
@@ -32,4 +34,4 @@ up-preserved c = elim c.else-node-eq1.branch [
 ]
 
 pub returns : goal.returns
-returns c = back-end c.args.wires c.args.gates.now c.args.nodes.now c.args.slot c.up.node (omega arith) c.up.invariant
+returns c = record { found = back-end c.args.wires c.args.gates.now c.args.nodes.now c.args.slot c.up.node (omega arith) c.up.invariant }

@@ -16,7 +16,7 @@ down-smaller-then-not-has_any c =
 pub down-preserved-then-not-has_any : goal.down-preserved-then-not-has_any
 down-preserved-then-not-has_any c =
     let lacks : has_any c.args.wires (node_at c.args.gates.now c.args.nodes.now (2 * c.down.node + 1)).wires ≡ false =
-    ap (λ (n : Node). has_any c.args.wires n.wires) (sym c.node_at.ensures) ∙ sym c.has_any.ensures ∙ c.if-not-has_any.true in
+    ap (λ (n : Node). has_any c.args.wires n.wires) (sym c.node_at.ensures.value) ∙ sym c.has_any.ensures.value ∙ c.if-not-has_any.true in
     let same : 2 * c.down.node ≡ 2 * c.down.node + 1 - 1 = omega arith in
     subst (Last c.args.wires c.args.gates.now c.args.nodes.now c.args.top) same
     (last-past c.args.wires c.args.gates.now c.args.nodes.now c.args.top c.down.node c.down-test.true lacks c.down.invariant)
@@ -24,7 +24,7 @@ down-preserved-then-not-has_any c =
 pub down-preserved : goal.down-preserved
 down-preserved c =
     let has : has_any c.args.wires (node_at c.args.gates.now c.args.nodes.now (2 * c.down.node + 1)).wires ≡ true =
-    ap (λ (n : Node). has_any c.args.wires n.wires) (sym c.node_at.ensures) ∙ sym c.has_any.ensures ∙ c.if-not-has_any.false in
+    ap (λ (n : Node). has_any c.args.wires n.wires) (sym c.node_at.ensures.value) ∙ sym c.has_any.ensures.value ∙ c.if-not-has_any.false in
     last-right c.args.wires c.args.gates.now c.args.nodes.now c.args.top c.down.node c.down-test.true has c.down.invariant
 
 pub returns : goal.returns

@@ -11,7 +11,7 @@ up-init c = counted-begin c.requires.tree.0 c.args.gates.now c.args.nodes.now c.
 pub overflow_add-count : goal.overflow_add-count
 overflow_add-count c =
     let few = counted-few c.args.gates.now c.args.nodes.now c.args.slot c.up.count c.up.node (c.up.node / 2) (omega arith) c.requires.tree.1.joined c.up-test.true (omega arith) c.up.invariant in
-    let same = ap (λ (n : Node). n.count) c.node_at-count.ensures in
+    let same = ap (λ (n : Node). n.count) c.node_at-count.ensures.value in
     omega arith
 
 pub up-preserved : goal.up-preserved
@@ -19,7 +19,7 @@ up-preserved c = elim c.if-node-eq1.branch [
   | then-node-eq1 w ↦
       let odd = w.if-node-eq1.true in
       let same : c.up.count + (node_at c.args.gates.now c.args.nodes.now (c.up.node - 1)).count ≡ c.if-node-eq1.count =
-      ap (λ (n : Node). c.up.count + n.count) (sym w.node_at-count.ensures) ∙ sym w.count-is in
+      ap (λ (n : Node). c.up.count + n.count) (sym w.node_at-count.ensures.value) ∙ sym w.count-is in
       subst (λ n. Counted c.args.gates.now c.args.nodes.now c.args.slot n (c.up.node / 2)) same
       (counted-right c.args.gates.now c.args.nodes.now c.args.slot c.up.count c.up.node (c.up.node / 2) (omega arith) c.requires.tree.1.joined c.up-test.true (omega arith) c.up.invariant)
   | else-node-eq1 w ↦
@@ -29,4 +29,4 @@ up-preserved c = elim c.if-node-eq1.branch [
 ]
 
 pub returns : goal.returns
-returns c = counted-end c.args.gates.now c.args.nodes.now c.args.slot c.up.count c.up.node (omega arith) c.up.invariant
+returns c = record { value = counted-end c.args.gates.now c.args.nodes.now c.args.slot c.up.count c.up.node (omega arith) c.up.invariant }

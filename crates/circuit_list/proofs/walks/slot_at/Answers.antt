@@ -15,13 +15,13 @@ down-smaller c =
 
 pub down-preserved-then-rest-count : goal.down-preserved-then-rest-count
 down-preserved-then-rest-count c =
-    let count : (node_at c.args.gates.now c.args.nodes.now (2 * c.down.node)).count ≡ c.node_at-count.result.count = ap (λ (n : Node). n.count) (sym c.node_at-count.ensures) in
+    let count : (node_at c.args.gates.now c.args.nodes.now (2 * c.down.node)).count ≡ c.node_at-count.result.count = ap (λ (n : Node). n.count) (sym c.node_at-count.ensures.value) in
     subst (λ n. Placed c.args.gates.now c.args.nodes.now c.args.place (c.down.rest - n) (2 * c.down.node + 1)) count
     (placed-right c.args.gates.now c.args.nodes.now c.args.place c.down.rest c.down.node (omega arith) c.down-test.true (omega arith) c.down.invariant)
 
 pub down-preserved : goal.down-preserved
 down-preserved c =
-    let count = ap (λ (n : Node). n.count) (sym c.node_at-count.ensures) in
+    let count = ap (λ (n : Node). n.count) (sym c.node_at-count.ensures.value) in
     placed-left c.args.gates.now c.args.nodes.now c.args.place c.down.rest c.down.node c.down-test.true (omega arith) c.down.invariant
 
 pub returns-clause-live : goal.returns-clause-live

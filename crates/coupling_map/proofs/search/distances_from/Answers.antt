@@ -9,9 +9,11 @@ qubits-init g c =
     (IsSearched-start c.args.graph.now.size _ _ _ c.args.from c.requires.from)
 
 pub returns-in-None : goal.returns-in-None
-returns-in-None g c =
-    IsRow-searched _ _ _ _ _ c.qubits.row.items c.qubits.marks.items c.qubits.invariant
-    (subst (λ ms. (y : ℕ) → mark ms y ≡ false) c.deref-in-qubits.ensures.value (c.nearest.ensures.none c.in-None.is))
+returns-in-None g c = record {
+  ok =
+      IsRow-searched _ _ _ _ _ c.qubits.row.items c.qubits.marks.items c.qubits.invariant
+      (subst (λ ms. (y : ℕ) → mark ms y ≡ false) c.deref-in-qubits.ensures.value (c.nearest.ensures.none c.in-None.is));
+}
 
 pub look_at-requires : goal.look_at-requires
 look_at-requires g c =

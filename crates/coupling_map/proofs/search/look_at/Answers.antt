@@ -24,18 +24,20 @@ near-init g c =
     }
 
 pub cost-requires : goal.cost-requires
-cost-requires g c =
-    let q = c.args.qubit in
-    let n = c.args.graph.now.size in
-    let es = c.args.graph.now.edges in
-    let nears = c.deref-near-items.result.now in
-    let inside : q < length c.args.neighbours.now = omega (arith, c.requires.qubit, c.requires.near.long, length-map c.args.neighbours.now (λ v. v.items)) in
-    let read = c.deref-near-items.ensures.value ∙ near_read (λ v. v.items) c.args.neighbours.now q c.index-neighbours-qubit.result inside c.index-neighbours-qubit.is in
-    let near = subst (IsNeighbours n es q) (sym read) (c.requires.near.each q c.requires.qubit) in
-    let x = get_or nears c.near.near-index 0 in
-    let here = near.each c.near.near-index 0 c.near-test.true in
-    let listed = c.requires.listed x q (near_back es q x here.1) in
-    listed
+cost-requires g c = record {
+  listed =
+      let q = c.args.qubit in
+      let n = c.args.graph.now.size in
+      let es = c.args.graph.now.edges in
+      let nears = c.deref-near-items.result.now in
+      let inside : q < length c.args.neighbours.now = omega (arith, c.requires.qubit, c.requires.near.long, length-map c.args.neighbours.now (λ v. v.items)) in
+      let read = c.deref-near-items.ensures.value ∙ near_read (λ v. v.items) c.args.neighbours.now q c.index-neighbours-qubit.result inside c.index-neighbours-qubit.is in
+      let near = subst (IsNeighbours n es q) (sym read) (c.requires.near.each q c.requires.qubit) in
+      let x = get_or nears c.near.near-index 0 in
+      let here = near.each c.near.near-index 0 c.near-test.true in
+      let listed = c.requires.listed x q (near_back es q x here.1) in
+      listed;
+}
 
 pub overflow_cast-by : goal.overflow_cast-by
 overflow_cast-by g c =
@@ -50,7 +52,7 @@ overflow_cast-by g c =
     let here = near.each c.near.near-index 0 c.near-test.true in
     let listed = c.requires.listed x q (near_back es q x here.1) in
     let small = (g.met.C.Cost.fair c.args.costs.now).limited x q listed in
-    omega (arith, c.cost.ensures, small)
+    omega (arith, c.cost.ensures.value, small)
 
 pub overflow_add-by : goal.overflow_add-by
 overflow_add-by g c =
@@ -67,7 +69,7 @@ overflow_add-by g c =
     let small = (g.met.C.Cost.fair c.args.costs.now).limited x q listed in
     let h = c.near.invariant.relaxing in
     let short = entry-short n es (g.C.Cost.price c.args.costs.now) most_cost c.args.from c.near.row.items q c.unwrap-distance.result h.good h.here in
-    omega (arith, c.cost.ensures, entry-fits n c.unwrap-distance.result (g.C.Cost.price c.args.costs.now x q) c.size-graph.ensures.graph.limited short small)
+    omega (arith, c.cost.ensures.value, entry-fits n c.unwrap-distance.result (g.C.Cost.price c.args.costs.now x q) c.facts.ensures.graph.limited short small)
 
 pub index-requires-in-near : goal.index-requires-in-near
 index-requires-in-near g c =
@@ -147,7 +149,7 @@ near-preserved g c =
     let within : x < length row = omega (arith, here.0, h.good.long) in
     let place : x < length marks = omega (arith, here.0, h.as_many) in
     let small = to_most (w x q) ((g.met.C.Cost.fair c.args.costs.now).limited x q listed) in
-    let by : k ≡ c.unwrap-distance.result + w x q = omega (arith, c.cost.ensures) in
+    let by : k ≡ c.unwrap-distance.result + w x q = omega (arith, c.cost.ensures.value) in
     elim c.if-is_above.branch [
       | then-is_above b ↦
           let above = above_read row x c.index-in-near.result.now k within c.index-in-near.ensures (c.is_above.ensures.0 b.if-is_above.true) in

@@ -15,13 +15,13 @@ partners-preserved c = record {
   live = c.merge.ensures.live;
   reach = c.merge.ensures.reach c.search-found.result.1 c.search-found.ensures.reach;
   so_far = gone_after c.partners.done c.args.body.now c.partners.body c.merge.new.body.gates 0 c.args.log.now c.partners.log c.push_join.new.self c.partners.invariant.so_far c.partners.invariant.wires
-      (c.merge.ensures.reduced c.partners.log c.push_join.new.self c.in_ok-push_join-in-Merge.ensures);
+      (c.merge.ensures.reduced c.partners.log c.push_join.new.self c.in_ok-push_join-in-Merge.ensures.ok);
 }
 
 pub returns-in-Both-clause-reduction : goal.returns-in-Both-clause-reduction
 returns-in-Both-clause-reduction c =
     gone_after c.partners.done c.args.body.now c.partners.body c.take_out.new.body.gates c.in-Both.turn c.args.log.now c.partners.log c.push_both.new.self c.partners.invariant.so_far c.partners.invariant.wires
-    (c.take_out.ensures.reduced c.partners.log c.push_both.new.self c.in_ok-push_both-in-Both.ensures)
+    (c.take_out.ensures.reduced c.partners.log c.push_both.new.self c.in_ok-push_both-in-Both.ensures.ok)
 
 pub partners-smaller : goal.partners-smaller
-partners-smaller c = (c.merge.ensures.reduced c.partners.log c.push_join.new.self c.in_ok-push_join-in-Merge.ensures).fewer
+partners-smaller c = (c.merge.ensures.reduced c.partners.log c.push_join.new.self c.in_ok-push_join-in-Merge.ensures.ok).fewer

@@ -13,4 +13,4 @@ returns-clause-reduced c = λ x y pushed.
     let j = place_of c.args.second b.slots in
     let gates = c.remove_at-2.ensures.gates ∙ (λ k. remove (c.remove_at.ensures.gates k) (c.remove_at.ensures.earlier c.args.first c.requires.pair.before k)) in
     subst (λ (gs : List Gate). IsReduced b.wires b.gates gs c.args.turn x y) (sym gates)
-    (reduced_gone b.wires c.args.turn b.gates i j c.wires-wires.ensures.fine c.requires.pair c.requires.told x y pushed)
+    (reduced_gone b.wires c.args.turn b.gates i j c.facts.ensures.fine c.requires.pair c.requires.told x y pushed)

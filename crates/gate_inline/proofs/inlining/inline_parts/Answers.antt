@@ -1,6 +1,7 @@
 -- What is split of the gates and steps of a checked program is that of the program.
-use Rattle.std.proofs.Common.{◌≡◌, ℕ, suc, ◌≤◌, All, List, Ok, Err, IfOk, IfErr, Result, [], arith, ap, ◌∙◌, length, map, refl, subst, sym}
+use Rattle.std.proofs.Common.{◌≡◌, ℕ, suc, ◌≤◌, All, List, [], arith, ap, ◌∙◌, length, map, refl, subst, sym}
 use Rattle.std.proofs.lemmas.List.{length-map}
+use Rattle.std.proofs.lemmas.Result.{IfErr-weaker, IfOk-weaker}
 use Rattle.qasm_check.specs.Bound.{Bound}
 use Rattle.qasm_check.specs.CheckedView.{program}
 use Rattle.qasm_check.specs.Sound.{IsSound}
@@ -11,14 +12,13 @@ use Rattle.gate_expand.specs.Expansion.{IsFineOp}
 use Rattle.gate_expand.specs.declared.source.Ops.{Ops}
 use Rattle.gate_inline.specs.Inlined.{IsInlineFault, IsInlined}
 use Rattle.gate_inline.specs.Parting.{IsOnWires}
-use Rattle.gate_inline.specs.Placed.{IsPlaced}
 use Rattle.gate_inline.specs.Registers.{IsRead}
-use Rattle.gate_inline.specs.Sizes.{operation_limit}
+use Rattle.gate_inline.specs.Sizes.{most_operations}
 use Rattle.gate_inline.specs.Splits.{IsBar, IsSplit, bar_of, cut_of, named_once, once}
 use Rattle.gate_inline.specs.declared.split.Split.{Split}
 use Rattle.gate_inline.proofs.BarLaws.{bars-fine}
 use Rattle.gate_inline.proofs.CutLaws.{bars-named, cut-lengths, parts-fine, silent, split-inlined}
-use Rattle.gate_inline.proofs.FineLaws.{fault_same, fine_ops, split_same, steps_wide}
+use Rattle.gate_inline.proofs.FineLaws.{fault_same, fine_ops, placed_within, split_same}
 use Rattle.gate_inline.proofs.LengthLaws.{inlined_short}
 use Rattle.gate_inline.proofs.PlacedLaws.{steps_on}
 use Rattle.gate_inline.proofs.ReadWires.{inlined_reads, length-reads}
@@ -26,14 +26,6 @@ use Rattle.gate_inline.proofs.inlining.inline_parts.Goals as goal
 use Rattle.program_parts.specs.Cuts.{Cut, IsCut, whole}
 use Rattle.unitary_model.specs.declared.Op.{Op}
 use Rattle.unitary_model.specs.Limits.{most_qubits}
-
-in_ok : {A E : Type 0} (P Q : A → Type 0) (r : Result A E) → ((x : A) → P x → Q x) → IfOk r P → IfOk r Q
-in_ok P Q (Ok x) f h = f x h
-in_ok P Q (Err e) f h = tt
-
-in_err : {A E : Type 0} (P Q : E → Type 0) (r : Result A E) → ((x : E) → P x → Q x) → IfErr r P → IfErr r Q
-in_err P Q (Ok x) f h = tt
-in_err P Q (Err e) f h = f e h
 
 -- the operations in one list
 joined : Split → Ops
@@ -43,7 +35,7 @@ one_list : (b : Bound) (s : Split) → IsSplit b s → IsInlined b (joined s)
 unfolding joined
 one_list b s h = split-inlined b s (joined s) h refl refl refl
 
-short : (b : Bound) (s : Split) → IsSplit b s → length (whole (cut_of s).parts) ≤ operation_limit
+short : (b : Bound) (s : Split) → IsSplit b s → length (whole (cut_of s).parts) ≤ most_operations
 unfolding joined
 short b s h = inlined_short b (joined s) (one_list b s h)
 
@@ -69,22 +61,22 @@ one_fewer b s h =
 
 pub returns-clause-ok : goal.returns-clause-ok
 returns-clause-ok c =
-    in_ok _ (IsSplit (program c.args.checked.now)) c.split_out.result
-    (λ s h. split_same _ (program c.args.checked.now) s c.gates.ensures c.steps.ensures c.wires.ensures c.bits.ensures h) c.split_out.ensures.ok
+    IfOk-weaker c.split_out.result _ (IsSplit (program c.args.checked.now))
+    (λ s h. split_same _ (program c.args.checked.now) s c.gates.ensures.value c.steps.ensures.value c.wires.ensures.value c.bits.ensures.value h) c.split_out.ensures.ok
 
 pub returns-clause-cut : goal.returns-clause-cut
 returns-clause-cut c =
-    in_ok (IsSplit (program c.args.checked.now)) (λ s. IsCut (cut_of s)) c.split_out.result
+    IfOk-weaker c.split_out.result (IsSplit (program c.args.checked.now)) (λ s. IsCut (cut_of s))
     (λ s h. one_fewer (program c.args.checked.now) s h) (returns-clause-ok c)
 
-pub returns-clause-short : goal.returns-clause-short
-returns-clause-short c =
-    in_ok (IsSplit (program c.args.checked.now)) (λ s. length (whole (cut_of s).parts) ≤ operation_limit) c.split_out.result
+pub returns-clause-operations_limit : goal.returns-clause-operations_limit
+returns-clause-operations_limit c =
+    IfOk-weaker c.split_out.result (IsSplit (program c.args.checked.now)) (λ s. length (whole (cut_of s).parts) ≤ most_operations)
     (λ s h. short (program c.args.checked.now) s h) (returns-clause-ok c)
 
-pub returns-clause-few : goal.returns-clause-few
-returns-clause-few c =
-    in_ok (IsSplit (program c.args.checked.now)) (λ s. s.wires ≤ most_qubits) c.split_out.result
+pub returns-clause-wires_limit : goal.returns-clause-wires_limit
+returns-clause-wires_limit c =
+    IfOk-weaker c.split_out.result (IsSplit (program c.args.checked.now)) (λ s. s.wires ≤ most_qubits)
     (λ s h. let sound : IsSound (program c.args.checked.now) = c.args.checked.now.sound in
     let w : (program c.args.checked.now).wires ≤ most_qubits = sound.wires in
     let e : s.wires ≡ (program c.args.checked.now).wires = h.wires in
@@ -92,22 +84,22 @@ returns-clause-few c =
 
 pub returns-clause-fine : goal.returns-clause-fine
 returns-clause-fine c =
-    in_ok (IsSplit (program c.args.checked.now)) (λ s. All (All (IsFineOp s.wires)) (cut_of s).parts) c.split_out.result
+    IfOk-weaker c.split_out.result (IsSplit (program c.args.checked.now)) (λ s. All (All (IsFineOp s.wires)) (cut_of s).parts)
     (λ s h. fine (program c.args.checked.now) s c.args.checked.now.sound h) (returns-clause-ok c)
 
 pub returns-clause-bars : goal.returns-clause-bars
 returns-clause-bars c =
-    in_ok (IsSplit (program c.args.checked.now)) (λ s. All (IsBar s.wires) (cut_of s).bars) c.split_out.result
+    IfOk-weaker c.split_out.result (IsSplit (program c.args.checked.now)) (λ s. All (IsBar s.wires) (cut_of s).bars)
     (λ s h. named (program c.args.checked.now) s c.args.checked.now.sound h) (returns-clause-ok c)
 
 pub returns-clause-bits : goal.returns-clause-bits
 returns-clause-bits c =
-    in_ok (IsSplit (program c.args.checked.now)) (λ s. length s.reads.items ≡ (program c.args.checked.now).bits) c.split_out.result
+    IfOk-weaker c.split_out.result (IsSplit (program c.args.checked.now)) (λ s. length s.reads.items ≡ (program c.args.checked.now).bits)
     (λ s h. ap length h.reads ∙ length-reads (program c.args.checked.now).bits (program c.args.checked.now).steps) (returns-clause-ok c)
 
 pub returns-clause-reads : goal.returns-clause-reads
 returns-clause-reads c =
-    in_ok (IsSplit (program c.args.checked.now)) (λ s. All (IsRead s.wires) s.reads.items) c.split_out.result
+    IfOk-weaker c.split_out.result (IsSplit (program c.args.checked.now)) (λ s. All (IsRead s.wires) s.reads.items)
     (λ s h. read (program c.args.checked.now) s c.args.checked.now.sound h) (returns-clause-ok c)
 
 pub returns-clause-err : goal.returns-clause-err
@@ -119,22 +111,17 @@ returns-clause-err c =
       bits = c.bits.result;
       registers = [];
     } in
-    in_err (IsInlineFault b) (IsInlineFault (program c.args.checked.now)) c.split_out.result
-    (λ f h. fault_same b (program c.args.checked.now) f c.gates.ensures c.steps.ensures h) c.split_out.ensures.err
+    IfErr-weaker c.split_out.result (IsInlineFault b) (IsInlineFault (program c.args.checked.now))
+    (λ f h. fault_same b (program c.args.checked.now) f c.gates.ensures.value c.steps.ensures.value h) c.split_out.ensures.err
 
 pub split_out-requires-clause-placed : goal.split_out-requires-clause-placed
 split_out-requires-clause-placed c =
-    let b : Bound = program c.args.checked.now in
-    let sound : IsSound b = c.args.checked.now.sound in
-    let few : b.wires ≤ 4294967296 = (let w : b.wires ≤ most_qubits = sound.wires in omega arith) in
-    let wide : All (IsPlaced 4294967296 b.bits) b.steps = steps_wide b 4294967296 sound few in
-    let here : All (IsPlaced 4294967296 c.bits.result) b.steps = subst (λ n. All (IsPlaced 4294967296 n) b.steps) (sym c.bits.ensures) wide in
-    subst (λ (steps : List Step). All (IsPlaced 4294967296 c.bits.result) steps) (sym c.steps.ensures) here
+    placed_within (program c.args.checked.now) (map step_view c.steps.result.now) c.bits.result c.args.checked.now.sound c.steps.ensures.value c.bits.ensures.value
 
 pub split_out-requires-clause-on_wires : goal.split_out-requires-clause-on_wires
 split_out-requires-clause-on_wires c =
     let b : Bound = program c.args.checked.now in
     let sound : IsSound b = c.args.checked.now.sound in
     let on : All (IsOnWires b.wires) b.steps = steps_on b.gates b.wires b.bits b.steps sound.steps in
-    let here : All (IsOnWires c.wires.result) b.steps = subst (λ n. All (IsOnWires n) b.steps) (sym c.wires.ensures) on in
-    subst (λ (steps : List Step). All (IsOnWires c.wires.result) steps) (sym c.steps.ensures) here
+    let here : All (IsOnWires c.wires.result) b.steps = subst (λ n. All (IsOnWires n) b.steps) (sym c.wires.ensures.value) on in
+    subst (λ (steps : List Step). All (IsOnWires c.wires.result) steps) (sym c.steps.ensures.value) here

@@ -3,4 +3,4 @@ use Rattle.gate_inline.proofs.CutLaws.{cut-once, silent}
 use Rattle.gate_inline.proofs.laws.cut_once.Goals as goal
 
 pub returns : goal.returns
-returns c = λ gates steps a b. cut-once gates bar_of (silent gates) steps a b
+returns c = record { once = λ gates steps a b. cut-once gates bar_of (silent gates) steps a b }

@@ -3,6 +3,9 @@ use Rattle.gate_inline.proofs.CutLaws.{cut-lengths, cut-there, silent}
 use Rattle.gate_inline.proofs.laws.operations_are_cut.Goals as goal
 
 pub returns : goal.returns
-returns c = λ gates steps us h.
-    let there = cut-there gates bar_of (silent gates) steps us h in
-    (there.0, there.1, there.2, cut-lengths gates bar_of (silent gates) steps there.0 there.1)
+returns c = record {
+  cut =
+      λ gates steps us h.
+      let there = cut-there gates bar_of (silent gates) steps us h in
+      (there.0, there.1, there.2, cut-lengths gates bar_of (silent gates) steps there.0 there.1);
+}

@@ -2,4 +2,4 @@ use Rattle.gate_inline.proofs.CutLaws.{split-inlined}
 use Rattle.gate_inline.proofs.laws.split_is_inlined.Goals as goal
 
 pub returns : goal.returns
-returns c = split-inlined
+returns c = record { inlined = split-inlined }

@@ -9,6 +9,6 @@ wires-init c = record { list = sym (no_wires _ _); marked = c.requires.marked }
 
 pub wires-preserved : goal.wires-preserved
 wires-preserved c = record {
-  list = c.in_ok-note_wire.ensures.list ∙ (λ i. with_wire (c.wires.invariant.list i) (c.wire_at.ensures i)) ∙ sym (noted_wire _ _ c.wires.j);
+  list = c.in_ok-note_wire.ensures.list ∙ (λ i. with_wire (c.wires.invariant.list i) (c.wire_at.ensures.value i)) ∙ sym (noted_wire _ _ c.wires.j);
   marked = c.in_ok-note_wire.ensures.marked;
 }

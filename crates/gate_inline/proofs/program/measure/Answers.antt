@@ -14,5 +14,5 @@ wires-preserved c = λ x l.
     let within : c.wires.j < times c.args.bit.now = omega arith in
     let placed = (c.requires.placed c.wires.j within).1 in
     let there : wire_at c.wires.j c.args.bit.now < length c.wires.list = omega (arith, placed, c.wires.auto.list) in
-    (λ i. get_or (set c.wires.list (c.wire_at-place.ensures i) (Some (c.wire_at-wire.ensures i))) x None)
+    (λ i. get_or (set c.wires.list (c.wire_at-place.ensures.value i) (Some (c.wire_at-wire.ensures.value i))) x None)
     ∙ measured_next c.wires.list c.args.list.now c.args.qubit.now c.args.bit.now c.wires.j within there c.wires.invariant x l

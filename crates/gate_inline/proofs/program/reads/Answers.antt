@@ -12,7 +12,7 @@ use Rattle.gate_inline.proofs.program.reads.Goals as goal
 pub read_step-requires : goal.read_step-requires
 read_step-requires c =
     subst (λ (n : ℕ). IsPlaced 4294967296 n (step_view c.step-item.result)) (sym (ap length c.deref_mut.ensures.value ∙ c.steps.invariant.long))
-    (holds_at (IsPlaced 4294967296 c.args.bits) step_view c.args.steps.now c.requires c.steps.step-index c.step-item.result (omega arith) c.step-item.is)
+    (holds_at (IsPlaced 4294967296 c.args.bits) step_view c.args.steps.now c.requires.placed c.steps.step-index c.step-item.result (omega arith) c.step-item.is)
 
 pub steps-preserved : goal.steps-preserved
 steps-preserved c =
@@ -30,7 +30,9 @@ steps-preserved c =
     }
 
 pub returns : goal.returns
-returns c =
-    let all : take c.steps.step-index c.args.steps.now ≡ c.args.steps.now = grind (arith, common_steps) in
-    reads-listed c.steps.list.items c.args.bits (map step_view c.args.steps.now) c.steps.invariant.long
-    (λ x l. c.steps.invariant.last x l ∙ ap (λ ss. last_read (map step_view ss) x) all)
+returns c = record {
+  ok =
+      let all : take c.steps.step-index c.args.steps.now ≡ c.args.steps.now = grind (arith, common_steps) in
+      reads-listed c.steps.list.items c.args.bits (map step_view c.args.steps.now) c.steps.invariant.long
+      (λ x l. c.steps.invariant.last x l ∙ ap (λ ss. last_read (map step_view ss) x) all);
+}

@@ -1,12 +1,17 @@
 -- One more step, and one more part where it is a barrier; or the first that isn't exact.
-use Rattle.std.proofs.Common.{◌≡◌, List, map, sym, subst, ap, refl, Ok, arith, length}
+use Rattle.std.proofs.Common.{◌≡◌, List, map, sym, subst, ap, ◌∙◌, refl, Ok, arith, length}
 use Rattle.qasm_check.specs.StepViews.{step as step_view}
+use Rattle.gate_library.specs.Gates.{BoundGate}
 use Rattle.gate_library.specs.Views.{gate as gate_view}
 use Rattle.gate_inline.specs.Inlined.{IsUnwritten}
+use Rattle.gate_inline.specs.Meanings.{meanings, step_answer}
 use Rattle.gate_inline.specs.Parting.{IsOnWires, ended, named_of, so_far}
 use Rattle.gate_inline.specs.Placed.{IsPlaced}
+use Rattle.gate_inline.specs.Progress.{HasWritten, gates_of}
+use Rattle.gate_inline.specs.Stops.{IsStop}
 use Rattle.gate_inline.specs.declared.program.Unwritten.{Unwritten}
 use Rattle.gate_inline.proofs.CutLaws.{cut-next, cut-none}
+use Rattle.gate_inline.proofs.ProgressLaws.{written_longer}
 use Rattle.gate_inline.proofs.ReadLaws.{holds_at}
 use Rattle.gate_inline.proofs.StepLaws.{more_operations, stopped_unwritten}
 use Rattle.gate_inline.proofs.splitting.split_operations.Goals as goal
@@ -14,22 +19,25 @@ use Rattle.unitary_model.specs.declared.Op.{Op}
 
 pub steps-init : goal.steps-init
 steps-init c = record {
-  same = ap (λ l. Ok l) (sym c.new-list.ensures.items);
-  kept = c.new-memo.ensures (map gate_view c.args.gates.now) c.new-list.result.items;
-  cut = cut-none (map gate_view c.args.gates.now) (record { done = c.new.result; bars = c.new-2.result; start = 0 }) c.new-list.result.items c.new.ensures.items c.new-2.ensures.items refl c.new-list.ensures.items;
+  gates = refl;
+  same = ap (λ (us : List Op). Ok us) (sym c.requires.nothing);
+  cut = cut-none (gates_of c.args.inliner) (record { done = c.new.result; bars = c.new-2.result; start = 0 }) c.args.inliner.list c.new.ensures.items c.new-2.ensures.items refl c.requires.nothing;
   start = omega arith;
   clear = c.requires.clear;
 }
 
-pub write_step-requires-clause-placed : goal.write_step-requires-clause-placed
-write_step-requires-clause-placed c =
-    holds_at (IsPlaced 4294967296 4294967296) step_view c.args.steps.now c.requires.placed c.steps.i c.index-steps-i.result (omega arith) c.index-steps-i.is
+pub write_step-requires : goal.write_step-requires
+write_step-requires c = record {
+  placed = holds_at (IsPlaced 4294967296 4294967296) step_view c.args.steps.now c.requires.placed c.steps.i c.index-steps-i.result (omega arith) c.index-steps-i.is;
+}
 
 pub returns-in-Err-clause-err : goal.returns-in-Err-clause-err
 returns-in-Err-clause-err c =
-    subst (λ (u : Unwritten). IsUnwritten (map gate_view c.args.gates.now) (map step_view c.args.steps.now) u) (sym c.at_statement.ensures)
-    (stopped_unwritten step_view (map gate_view c.args.gates.now) c.args.steps.now c.steps.i c.number.result c.index-steps-i.result c.steps.list.items c.in-Err.stop
-    (omega arith) c.index-steps-i.is c.number.ensures c.steps.invariant.same c.in-Err.ensures.err)
+    let gs = gates_of c.args.inliner in
+    let stop = subst (λ (xs : List BoundGate). IsStop (step_answer (meanings xs) (step_view c.index-steps-i.result)) c.in-Err.stop) (ap (map gate_view) c.steps.invariant.gates) c.in-Err.ensures.err in
+    subst (λ (u : Unwritten). IsUnwritten gs (map step_view c.args.steps.now) u) (sym c.at_statement.ensures.value)
+    (stopped_unwritten step_view gs c.args.steps.now c.steps.i c.number.result c.index-steps-i.result c.steps.inliner.list c.in-Err.stop
+    (omega arith) c.index-steps-i.is c.number.ensures.value c.steps.invariant.same stop)
 
 pub end_part-requires-clause-placed : goal.end_part-requires-clause-placed
 end_part-requires-clause-placed c =
@@ -37,18 +45,26 @@ end_part-requires-clause-placed c =
     subst (λ n. IsOnWires n (step_view c.index-steps-i.result)) (sym same)
     (holds_at (IsOnWires (length c.args.marks.now)) step_view c.args.steps.now c.requires.on_wires c.steps.i c.index-steps-i.result (omega arith) c.index-steps-i.is)
 
+pub end_part-requires-clause-start : goal.end_part-requires-clause-start
+end_part-requires-clause-start c =
+    let longer = written_longer c.steps.inliner c.write_step.new.self _ c.in-Ok.ensures.ok in
+    omega (arith, c.steps.invariant.start, longer, ap (λ (us : List Op). length us) c.operations.ensures.value)
+
 pub steps-preserved : goal.steps-preserved
 steps-preserved c =
+    let gs = gates_of c.args.inliner in
+    let more = subst (λ (xs : List BoundGate). HasWritten c.steps.inliner (step_answer (meanings xs) (step_view c.index-steps-i.result)) c.write_step.new.self)
+    (ap (map gate_view) c.steps.invariant.gates) c.in-Ok.ensures.ok in
     let made = subst (λ (us : List Op). so_far c.end_part.new.parts us ≡ ended (named_of (step_view c.index-steps-i.result)) (so_far c.steps.parts us))
-    c.deref.ensures.value c.in_ok-end_part.ensures.parts in
+    c.operations.ensures.value c.in_ok-end_part.ensures.parts in
     record {
+      gates = more.gates ∙ c.steps.invariant.gates;
       same =
-          more_operations step_view (map gate_view c.args.gates.now) c.args.steps.now c.steps.i c.index-steps-i.result c.steps.list.items _ (omega arith) c.index-steps-i.is
-          c.steps.invariant.same c.in-Ok.ensures.ok;
-      kept = c.in-Ok.ensures.kept;
+          more_operations step_view gs c.args.steps.now c.steps.i c.index-steps-i.result c.steps.inliner.list c.write_step.new.self.list (omega arith) c.index-steps-i.is
+          c.steps.invariant.same more.list;
       cut =
-          cut-next step_view (map gate_view c.args.gates.now) c.args.steps.now c.steps.i c.index-steps-i.result c.steps.parts c.end_part.new.parts
-          c.steps.list.items c.write_step.new.list.items (omega arith) c.index-steps-i.is c.steps.invariant.start c.in-Ok.ensures.ok made c.steps.invariant.cut;
-      start = omega (arith, c.in_ok-end_part.ensures.start, ap (λ (us : List Op). length us) c.deref.ensures.value);
+          cut-next step_view gs c.args.steps.now c.steps.i c.index-steps-i.result c.steps.parts c.end_part.new.parts
+          c.steps.inliner.list c.write_step.new.self.list (omega arith) c.index-steps-i.is c.steps.invariant.start more.list made c.steps.invariant.cut;
+      start = omega (arith, c.in_ok-end_part.ensures.start, ap (λ (us : List Op). length us) c.operations.ensures.value);
       clear = c.in_ok-end_part.ensures.clear;
     }

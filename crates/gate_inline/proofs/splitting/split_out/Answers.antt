@@ -1,34 +1,30 @@
 -- Too much, a step that isn't exact, or the operations in parts and the reads.
-use Rattle.std.proofs.Common.{rules, [], map, sym, subst, refl}
-use Rattle.qasm_check.specs.Bound.{Bound}
+use Rattle.std.proofs.Common.{rules, map, refl, subst}
 use Rattle.qasm_check.specs.StepViews.{step as step_view}
 use Rattle.gate_library.specs.Views.{gate as gate_view}
-use Rattle.gate_inline.specs.Inlined.{IsInlineFault}
-use Rattle.gate_inline.specs.declared.refusal.InlineFault.{InlineFault}
+use Rattle.gate_inline.specs.Parting.{cut_in, named_of}
+use Rattle.gate_inline.specs.Progress.{Progress, gates_of}
+use Rattle.gate_inline.specs.Splits.{IsCutBy}
 use Rattle.gate_inline.proofs.CutLaws.{cut-named}
-use Rattle.gate_inline.proofs.StepLaws.{unwritten_fault-told}
+use Rattle.gate_inline.proofs.StepLaws.{unwritten_told}
 use Rattle.gate_inline.proofs.splitting.split_out.Goals as goal
 
-pub returns-in_err-sizes-clause-err : goal.returns-in_err-sizes-clause-err
-returns-in_err-sizes-clause-err c =
-    let gates = map gate_view c.args.gates.now in
-    let steps = map step_view c.args.steps.now in
-    let b : Bound = record { gates = gates; steps = steps; wires = c.args.wires; bits = c.args.bits; registers = [] } in
-    let told : IsInlineFault b c.in_err-sizes.field-0.0 = c.in_err-sizes.ensures.err c.args.wires c.args.bits in
+pub returns-in_err-inliner-clause-err : goal.returns-in_err-inliner-clause-err
+returns-in_err-inliner-clause-err c =
+    let told = c.in_err-inliner.ensures.err c.args.wires c.args.bits in
     search rules
 
 pub returns-in-Err-clause-err : goal.returns-in-Err-clause-err
 returns-in-Err-clause-err c =
-    let gates = map gate_view c.args.gates.now in
-    let steps = map step_view c.args.steps.now in
-    let b : Bound = record { gates = gates; steps = steps; wires = c.args.wires; bits = c.args.bits; registers = [] } in
-    subst (λ (f : InlineFault). IsInlineFault b f) (sym c.unwritten_fault.ensures)
-    (unwritten_fault-told b c.in-Err.unwritten c.in_ok-sizes.ensures.small c.in-Err.ensures.err)
+    unwritten_told c.args.gates.now (map step_view c.args.steps.now) c.args.wires c.args.bits c.in_ok-inliner.inliner c.in-Err.unwritten c.unwritten_fault.result
+    c.in_ok-inliner.ensures.start c.in_ok-inliner.ensures.small c.in-Err.ensures.err c.unwritten_fault.ensures.value
 
 pub returns-clause-ok : goal.returns-clause-ok
 returns-clause-ok c = record {
-  small = c.in_ok-sizes.ensures.small;
+  small = c.in_ok-inliner.ensures.small;
   wires = refl;
-  cut = cut-named (map gate_view c.args.gates.now) (map step_view c.args.steps.now) _ c.in-Ok.ensures.ok;
-  reads = c.in_ok-reads.ensures;
+  cut =
+      cut-named (map gate_view c.args.gates.now) (map step_view c.args.steps.now) _
+      (subst (λ (p : Progress). IsCutBy named_of (gates_of p) (map step_view c.args.steps.now) (cut_in c.in-Ok.parts)) c.in_ok-inliner.ensures.start c.in-Ok.ensures.ok);
+  reads = c.in_ok-reads.ensures.ok;
 }

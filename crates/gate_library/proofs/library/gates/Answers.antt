@@ -5,4 +5,4 @@ use Rattle.gate_library.proofs.library.gates.Goals as goal
 
 pub returns : goal.returns
 unfolding library table_names standard added
-returns c = c.gates_with.ensures
+returns c = record { ok = c.gates_with.ensures }

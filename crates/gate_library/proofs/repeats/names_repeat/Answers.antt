@@ -12,10 +12,12 @@ same x y = bytes_eq x.now y.now
 
 pub returns-then-not-branch : goal.returns-then-not-branch
 unfolding same
-returns-then-not-branch c =
-    (repeat_found same (λ x y. nat_list_eq_equiv.symm x.now y.now) c.args.names.now c.names.name-index _ c.names-test.true
-    (sym (c.names.invariant.same _) ∙ was_true _ _ c.in_ok-insert.ensures.added c.if-not-branch.true))
-    ∙ has_repeat-names c.args.names.now
+returns-then-not-branch c = record {
+  ok =
+      (repeat_found same (λ x y. nat_list_eq_equiv.symm x.now y.now) c.args.names.now c.names.name-index _ c.names-test.true
+      (sym (c.names.invariant.same _) ∙ was_true _ _ c.in_ok-insert.ensures.added c.if-not-branch.true))
+      ∙ has_repeat-names c.args.names.now;
+}
 
 pub names-preserved : goal.names-preserved
 unfolding same key
@@ -27,7 +29,7 @@ names-preserved c = record {
 }
 
 pub returns : goal.returns
-returns c = sym (sym (has_repeat-names c.args.names.now) ∙ whole)
+returns c = record { ok = sym (sym (has_repeat-names c.args.names.now) ∙ whole) }
   where
     whole : has_repeat (λ x y. bytes_eq x.now y.now) c.args.names.now ≡ false
     whole = grind (arith, common_steps)

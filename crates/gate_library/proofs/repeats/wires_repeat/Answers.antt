@@ -5,9 +5,11 @@ use Rattle.gate_library.proofs.RepeatLaws.{contains-updates, repeat_found, repea
 use Rattle.gate_library.proofs.repeats.wires_repeat.Goals as goal
 
 pub returns-then-not-branch : goal.returns-then-not-branch
-returns-then-not-branch c =
-    repeat_found nat_eq nat_eq_equiv.symm c.args.wires.now c.wires.wire-index 0 c.wires-test.true
-    (sym (c.wires.invariant.same _) ∙ was_true _ _ c.in_ok-insert.ensures.added c.if-not-branch.true)
+returns-then-not-branch c = record {
+  ok =
+      repeat_found nat_eq nat_eq_equiv.symm c.args.wires.now c.wires.wire-index 0 c.wires-test.true
+      (sym (c.wires.invariant.same _) ∙ was_true _ _ c.in_ok-insert.ensures.added c.if-not-branch.true);
+}
 
 pub wires-preserved : goal.wires-preserved
 wires-preserved c = record {

@@ -23,17 +23,17 @@ columns-preserved c =
 pub returns-clause-ok : goal.returns-clause-ok
 returns-clause-ok c =
     let n : c.columns.column ≡ length c.args.matrix.now = omega arith in
-    eliminated-identity c.args.matrix.now c.columns.rest c.columns.log.items c.columns.column n c.wires-wires.ensures.below c.columns.invariant
+    eliminated-identity c.args.matrix.now c.columns.rest c.columns.log.items c.columns.column n c.facts.ensures.below c.columns.invariant
 
 pub returns-clause-back : goal.returns-clause-back
 returns-clause-back c =
     let n : c.columns.column ≡ length c.args.matrix.now = omega arith in
-    eliminated-back c.args.matrix.now c.columns.rest c.columns.log.items c.columns.column n c.wires-wires.ensures.below c.columns.invariant
+    eliminated-back c.args.matrix.now c.columns.rest c.columns.log.items c.columns.column n c.facts.ensures.below c.columns.invariant
 
 pub returns-clause-times : goal.returns-clause-times
 returns-clause-times c =
     let n : c.columns.column ≡ length c.args.matrix.now = omega arith in
-    eliminated-times c.args.matrix.now c.columns.rest c.columns.log.items c.columns.column n c.wires-wires.ensures.below c.columns.invariant
+    eliminated-times c.args.matrix.now c.columns.rest c.columns.log.items c.columns.column n c.facts.ensures.below c.columns.invariant
 
 pub returns-clause-pairs : goal.returns-clause-pairs
 returns-clause-pairs c = pairs-All (length c.args.matrix.now) c.columns.log.items c.columns.invariant.pairs
@@ -41,4 +41,4 @@ returns-clause-pairs c = pairs-All (length c.args.matrix.now) c.columns.log.item
 pub returns-clause-independent : goal.returns-clause-independent
 returns-clause-independent c =
     let n : c.columns.column ≡ length c.args.matrix.now = omega arith in
-    eliminated-independent c.args.matrix.now c.columns.rest c.columns.log.items c.columns.column n c.wires-wires.ensures.below c.columns.invariant
+    eliminated-independent c.args.matrix.now c.columns.rest c.columns.log.items c.columns.column n c.facts.ensures.below c.columns.invariant

@@ -8,15 +8,15 @@ complete-requires-clause-below c =
 
 pub returns-clause-below : goal.returns-clause-below
 returns-clause-below c =
-    (completed _ c.requires.below c.in_ok-basis.ensures c.in_ok-matrix.ensures.places c.in_ok-matrix.ensures.wires c.wires-wires.ensures.below
-    c.in_ok-matrix.ensures.independent c.into_rows-most.ensures c.in_ok-append.ensures.items c.in_ok-wide.ensures).below
+    (completed _ c.requires.below c.in_ok-basis.ensures c.in_ok-matrix.ensures.places c.in_ok-matrix.ensures.wires c.facts.ensures.below
+    c.in_ok-matrix.ensures.independent c.into_rows-most.ensures.value c.in_ok-append.ensures.items c.in_ok-wide.ensures).below
 
 pub returns-clause-rank : goal.returns-clause-rank
 returns-clause-rank c =
-    (completed _ c.requires.below c.in_ok-basis.ensures c.in_ok-matrix.ensures.places c.in_ok-matrix.ensures.wires c.wires-wires.ensures.below
-    c.in_ok-matrix.ensures.independent c.into_rows-most.ensures c.in_ok-append.ensures.items c.in_ok-wide.ensures).rank
+    (completed _ c.requires.below c.in_ok-basis.ensures c.in_ok-matrix.ensures.places c.in_ok-matrix.ensures.wires c.facts.ensures.below
+    c.in_ok-matrix.ensures.independent c.into_rows-most.ensures.value c.in_ok-append.ensures.items c.in_ok-wide.ensures).rank
 
 pub returns-clause-each : goal.returns-clause-each
 returns-clause-each c =
-    (completed _ c.requires.below c.in_ok-basis.ensures c.in_ok-matrix.ensures.places c.in_ok-matrix.ensures.wires c.wires-wires.ensures.below
-    c.in_ok-matrix.ensures.independent c.into_rows-most.ensures c.in_ok-append.ensures.items c.in_ok-wide.ensures).among
+    (completed _ c.requires.below c.in_ok-basis.ensures c.in_ok-matrix.ensures.places c.in_ok-matrix.ensures.wires c.facts.ensures.below
+    c.in_ok-matrix.ensures.independent c.into_rows-most.ensures.value c.in_ok-append.ensures.items c.in_ok-wide.ensures).among

@@ -9,6 +9,6 @@ spares-preserved c =
     let next : n + 1 ≡ c.spares.counter + 1 - length c.args.rows.items = omega (arith, c.spares.invariant.start) in
     record {
       start = omega (arith, c.spares.invariant.start);
-      rows = c.in_ok-push.ensures.items ∙ (λ i. c.spares.invariant.rows i ++ c.empty.ensures i ∷ []) ∙ append_assoc rows (replicate n 0) (0 ∷ [])
+      rows = c.in_ok-push.ensures.items ∙ (λ i. c.spares.invariant.rows i ++ c.empty.ensures.value i ∷ []) ∙ append_assoc rows (replicate n 0) (0 ∷ [])
           ∙ ap (λ (q : List ℕ). rows ++ q) (replicate_more n 0) ∙ ap (λ k. rows ++ replicate k 0) next;
     }

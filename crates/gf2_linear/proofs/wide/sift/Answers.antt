@@ -18,4 +18,4 @@ rows-preserved c = elim c.if-not-branch.branch [
 pub returns : goal.returns
 returns c =
     let end : c.rows.row-index ≡ length c.args.rows.now = omega (arith, c.rows.invariant.within) in
-    sifting-end c.args.rows.now c.rows.row-index c.rows.basis c.rows.left.items end c.len-rank.ensures.independent c.rows.invariant
+    sifting-end c.args.rows.now c.rows.row-index c.rows.basis c.rows.left.items end c.facts.ensures.independent c.rows.invariant

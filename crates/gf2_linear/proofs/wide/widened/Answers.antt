@@ -6,21 +6,23 @@ use Rattle.gf2_linear.proofs.wide.widened.Goals.{then-not-branch, else-not-branc
 use Rattle.gf2_linear.proofs.wide.widened.Goals as goal
 
 pub rows-init : goal.rows-init
-rows-init c = widening-none c.args.rows.now c.new-basis.result c.new-wide.result.items c.args.wires c.new-basis.ensures c.new-wide.ensures.items
+rows-init c = widening-none c.args.rows.now c.new-basis.result c.new-wide.result.items c.args.wires c.new-basis.ensures.value c.new-wide.ensures.items
 
 pub flip-requires : goal.flip-requires
-flip-requires c =
-    let room : c.rows.extra < length c.args.rows.now =
-    widening-room c.args.rows.now c.rows.row-index c.args.wires c.row-item.result c.in_ok-insert.field-0 c.rows.basis c.insert.new.self c.rows.wide.items c.rows.extra c.rows-test.true c.row-item.is
-    c.requires.rank c.if-not-branch.true c.in_ok-insert.ensures.told c.in_ok-insert.ensures.ok c.rows.invariant in
-    omega (arith, c.requires.few)
+flip-requires c = record {
+  wires_limit =
+      let room : c.rows.extra < length c.args.rows.now =
+      widening-room c.args.rows.now c.rows.row-index c.args.wires c.row-item.result c.in_ok-insert.field-0 c.rows.basis c.insert.new.self c.rows.wide.items c.rows.extra c.rows-test.true c.row-item.is
+      c.requires.rank c.if-not-branch.true c.in_ok-insert.ensures.told c.in_ok-insert.ensures.ok c.rows.invariant in
+      omega (arith, c.requires.wires_limit);
+}
 
 pub overflow_add-extra : goal.overflow_add-extra
 overflow_add-extra c =
     let room : c.rows.extra < length c.args.rows.now =
     widening-room c.args.rows.now c.rows.row-index c.args.wires c.row-item.result c.in_ok-insert.field-0 c.rows.basis c.insert.new.self c.rows.wide.items c.rows.extra c.rows-test.true c.row-item.is
     c.requires.rank c.if-not-branch.true c.in_ok-insert.ensures.told c.in_ok-insert.ensures.ok c.rows.invariant in
-    omega (arith, c.requires.few)
+    omega (arith, c.requires.wires_limit)
 
 pub rows-preserved : goal.rows-preserved
 rows-preserved c = elim c.if-not-branch.branch [
@@ -28,7 +30,7 @@ rows-preserved c = elim c.if-not-branch.branch [
       subst (λ (n : ℕ). Widening c.args.rows.now (c.rows.row-index + 1) c.args.wires c.insert.new.self c.push.new.self.items n) (sym w.extra-is)
       (widening-flip c.args.rows.now c.rows.row-index c.args.wires c.row-item.result c.if-not-branch.more c.in_ok-insert.field-0 c.rows.basis c.insert.new.self c.rows.wide.items c.push.new.self.items c.rows.extra
       c.requires.below c.rows-test.true c.row-item.is w.if-not-branch.true c.in_ok-insert.ensures.told c.in_ok-insert.ensures.ok
-      (w.more-is ∙ w.flip.ensures ∙ ap (λ (q : ℕ). bit_xor q (2 ^ c.rows.extra)) c.copy-more.ensures.same) c.in_ok-push.ensures.items c.rows.invariant)
+      (w.more-is ∙ w.flip.ensures.new ∙ ap (λ (q : ℕ). bit_xor q (2 ^ c.rows.extra)) c.copy-more.ensures.same) c.in_ok-push.ensures.items c.rows.invariant)
   | else-not-branch w ↦
       subst (λ (n : ℕ). Widening c.args.rows.now (c.rows.row-index + 1) c.args.wires c.insert.new.self c.push.new.self.items n) (sym w.extra-is)
       (widening-insert c.args.rows.now c.rows.row-index c.args.wires c.row-item.result c.in_ok-insert.field-0 c.rows.basis c.insert.new.self c.rows.wide.items c.push.new.self.items c.rows.extra
@@ -37,18 +39,20 @@ rows-preserved c = elim c.if-not-branch.branch [
 ]
 
 pub from_rows-requires : goal.from_rows-requires
-from_rows-requires c =
-    let end : c.rows.row-index ≡ length c.args.rows.now = omega (arith, c.rows.invariant.within) in
-    (widening-end c.args.rows.now c.rows.row-index c.args.wires c.rows.basis c.rows.wide.items c.rows.extra c.requires.few c.requires.rank end c.len-rank.ensures.independent c.rows.invariant).matrix
+from_rows-requires c = record {
+  matrix =
+      let end : c.rows.row-index ≡ length c.args.rows.now = omega (arith, c.rows.invariant.within) in
+      (widening-end c.args.rows.now c.rows.row-index c.args.wires c.rows.basis c.rows.wide.items c.rows.extra c.requires.wires_limit c.requires.rank end c.facts.ensures.independent c.rows.invariant).matrix;
+}
 
 pub returns-clause-length : goal.returns-clause-length
 returns-clause-length c =
     let end : c.rows.row-index ≡ length c.args.rows.now = omega (arith, c.rows.invariant.within) in
-    ap length c.from_rows.ensures
-    ∙ (widening-end c.args.rows.now c.rows.row-index c.args.wires c.rows.basis c.rows.wide.items c.rows.extra c.requires.few c.requires.rank end c.len-rank.ensures.independent c.rows.invariant).long
+    ap length c.from_rows.ensures.value
+    ∙ (widening-end c.args.rows.now c.rows.row-index c.args.wires c.rows.basis c.rows.wide.items c.rows.extra c.requires.wires_limit c.requires.rank end c.facts.ensures.independent c.rows.invariant).long
 
 pub returns-clause-independent : goal.returns-clause-independent
 returns-clause-independent c =
     let end : c.rows.row-index ≡ length c.args.rows.now = omega (arith, c.rows.invariant.within) in
-    ap is_independent c.from_rows.ensures
-    ∙ (widening-end c.args.rows.now c.rows.row-index c.args.wires c.rows.basis c.rows.wide.items c.rows.extra c.requires.few c.requires.rank end c.len-rank.ensures.independent c.rows.invariant).independent
+    ap is_independent c.from_rows.ensures.value
+    ∙ (widening-end c.args.rows.now c.rows.row-index c.args.wires c.rows.basis c.rows.wide.items c.rows.extra c.requires.wires_limit c.requires.rank end c.facts.ensures.independent c.rows.invariant).independent

@@ -1,6 +1,6 @@
 use Rattle.std.proofs.Common.{◌≡◌, ◌+◌, ◌<◌, ◌++◌, List, [], ◌∷◌, get_or, length, take, string_bytes, slice_index_or, subst, sym, arith}
 use Rattle.std.proofs.lemmas.Grind.{common_steps}
-use Rattle.phase_poly.specs.Layers.{LayerBody, layers_of}
+use Rattle.circuit_layers.specs.Layers.{LayerBody, layers_of}
 use Rattle.phase_poly.specs.Polys.{AreDihedral}
 use Rattle.layer_stages.specs.Stages.{IsSoFar}
 use Rattle.layer_stages.proofs.StageLaws.{so_far_next}
@@ -11,7 +11,7 @@ push_layer-requires-clause-dihedral c =
     let layers : c.deref-layer-items.result.now ≡ layers_of c.args.body.now.gates = grind (arith, common_steps) in
     let there : c.layers.layer-index < length (layers_of c.args.body.now.gates) = subst (λ (ls : List LayerBody). c.layers.layer-index < length ls) layers c.layers-test.true in
     let dihedral : AreDihedral c.args.body.now.wires (get_or (layers_of c.args.body.now.gates) c.layers.layer-index c.layer-item.result).gates =
-    c.dihedral_layers.ensures.dihedral c.args.body.now.wires c.args.body.now.gates c.wires.ensures.fine c.layers.layer-index c.layer-item.result there in
+    c.dihedral_layers.ensures.dihedral c.args.body.now.wires c.args.body.now.gates c.facts.ensures.fine c.layers.layer-index c.layer-item.result there in
     let told : AreDihedral c.args.body.now.wires (get_or c.deref-layer-items.result.now c.layers.layer-index c.layer-item.result).gates =
     subst (λ (ls : List LayerBody). AreDihedral c.args.body.now.wires (get_or ls c.layers.layer-index c.layer-item.result).gates) (sym layers) dihedral in
     subst (λ (l : LayerBody). AreDihedral c.wires.result l.gates) (sym c.layer-item.is) (subst (λ n. AreDihedral n (get_or c.deref-layer-items.result.now c.layers.layer-index c.layer-item.result).gates) (sym c.wires.ensures.wires) told)

@@ -1,6 +1,5 @@
-use Rattle.std.proofs.Common.{Bool, List, length, get_or, ap, ◌∙◌, false}
-use Rattle.std.specs.Prelude.{filter}
-use Rattle.std.specs.List.{range_with_len}
+use Rattle.std.proofs.Common.{ap, ◌∙◌}
+use Rattle.matroid_partition.specs.Closed.{places_seen}
 use Rattle.matroid_partition.proofs.DealingLaws.{dealing-back, dealing-opened, dealing-same, shown-marked}
 use Rattle.matroid_partition.proofs.dealing.make_room.Goals as goal
 
@@ -18,5 +17,5 @@ returns-in_ok-open_last-in-Some-clause-dealing c n m g =
 pub returns-in_ok-open_last-in-Some-clause-some : goal.returns-in_ok-open_last-in-Some-clause-some
 returns-in_ok-open_last-in-Some-clause-some c n m g f =
     let stuck = rw c.in-Some.is at c.in_ok-retry.ensures.some in
-    shown-marked c.args.rows.now c.args.dealing.now c.retry.new.dealing n m c.in-Some.marks.items c.in_ok-reached-in-Some.reached.items stuck g f
-    (c.in_ok-reached-in-Some.ensures ∙ ap (λ (q : List Bool). filter (λ p. get_or q p false) (range_with_len 0 (length q))) c.deref.ensures.value)
+    shown-marked c.args.rows.now c.args.dealing.now c.retry.new.dealing n m c.in-Some.marks.items c.in_ok-reached-in-Some.reached.items c.facts.ensures.arranged stuck g f
+    (c.in_ok-reached-in-Some.ensures.ok ∙ ap places_seen c.deref.ensures.value)

@@ -2,11 +2,15 @@ use Rattle.std.proofs.Common.{◌≡◌, ◌<◌, ◌∙◌, ℕ, Bool, true, Li
 use Rattle.std.proofs.lemmas.Bool.{cases_eq}
 use Rattle.std.proofs.lemmas.List.{get_or_read, length-set}
 use Rattle.gf2_linear.specs.Rows.{is_sum}
+use Rattle.matroid_partition.specs.Arrangements.{Arrangement}
 use Rattle.matroid_partition.specs.Dealings.{IsMarked}
 use Rattle.matroid_partition.specs.Searches.{IsSeen}
 use Rattle.matroid_partition.proofs.PlaceLaws.{Has-at, at-Has}
-use Rattle.matroid_partition.proofs.DealingLaws.{closed-same, closed-union, marks-set, marks-only, marks-there, unchanged-twice}
+use Rattle.matroid_partition.proofs.DealingLaws.{closed-same, closed-union, held-named, held-same, marks-set, marks-only, marks-there, unchanged-twice}
 use Rattle.matroid_partition.proofs.dealing.retry.Goals as goal
+
+pub offer-requires-clause-held : goal.offer-requires-clause-held
+offer-requires-clause-held c = held-same c.args.rows.now c.args.dealing.now c.over.dealing c.over.invariant.same c.requires.held
 
 pub offer-requires-clause-there : goal.offer-requires-clause-there
 offer-requires-clause-there c =
@@ -24,8 +28,16 @@ offer-requires-clause-sum c =
     let here : c.over.index < length c.over.dealing.over.items = subst (λ (q : List ℕ). c.over.index < length q) (sym c.over.invariant.same.over) low in
     let is : c.index-place.result.now ≡ get_or over c.over.index 0 =
     get_or_read c.over.dealing.over.items c.over.index c.index-place.result.now here c.index-place.ensures 0 ∙ ap (λ (q : List ℕ). get_or q c.over.index 0) c.over.invariant.same.over in
-    subst (λ (q : List ℕ). is_sum q (get_or c.args.rows.now c.index-place.result.now 0) ≡ true) (sym c.over.invariant.same.all)
-    (subst (λ p. is_sum c.args.dealing.now.all (get_or c.args.rows.now p 0) ≡ true) (sym is) (c.requires.rows.sums (get_or over c.over.index 0) (at-Has over c.over.index 0 low)))
+    subst (λ (a : Arrangement). is_sum a.all (get_or c.args.rows.now c.index-place.result.now 0) ≡ true) (sym c.over.invariant.same.held)
+    (subst (λ p. is_sum c.args.dealing.now.held.all (get_or c.args.rows.now p 0) ≡ true) (sym is) (c.requires.rows.sums (get_or over c.over.index 0) (at-Has over c.over.index 0 low)))
+
+pub mark-requires-clause-long : goal.mark-requires-clause-long
+mark-requires-clause-long c =
+    let stuck = rw c.in-Some.is at c.in_ok-offer.ensures.some in
+    let names : length c.deref.result.now ≡ length c.args.dealing.now.names.items = ap length (c.deref.ensures.value ∙ stuck.same.names ∙ c.over.invariant.same.names) in
+    let seen : length c.deref-in-Some.result.now ≡ length c.in-Some.seen.items = ap length c.deref-in-Some.ensures.value in
+    let homes : length c.over.dealing.held.homes ≡ length c.args.dealing.now.held.homes = ap (λ (a : Arrangement). length a.homes) c.over.invariant.same.held in
+    omega (arith, names, seen, stuck.closed.long, homes, held-named c.args.rows.now c.args.dealing.now c.requires.held, c.facts.ensures.arranged.count)
 
 pub index_mut-requires : goal.index_mut-requires
 index_mut-requires c =
@@ -61,7 +73,7 @@ over-preserved c =
         | inr n ↦ kept (get_or over j 0) (c.mark.ensures.kept (get_or over j 0) (c.over.invariant.over j (omega arith)))
       ];
       closed = closed-union c.args.rows.now c.args.dealing.now c.index-place.result.now c.in-Some.seen.items c.over.marks.items c.mark.new.marks.items
-          (set c.mark.new.marks.items c.index-place.result.now true) c.requires.held
+          (set c.mark.new.marks.items c.index-place.result.now true) c.facts.ensures.arranged c.requires.held
           (closed-same c.args.rows.now c.args.dealing.now c.over.dealing c.index-place.result.now c.in-Some.seen.items c.over.invariant.same stuck.closed)
           c.over.invariant.closed
           (subst (λ (q : List Bool). IsMarked c.over.marks.items c.mark.new.marks.items c.args.dealing.now.names.items q) c.deref-in-Some.ensures.value

@@ -3,4 +3,4 @@ use Rattle.matroid_partition.proofs.PartLaws.{Underway}
 use Rattle.matroid_partition.proofs.parts.partition.Given as goal
 
 abbrev pub invariant-rows : goal.invariant-rows
-invariant-rows l = Underway l.rows l.row-index l.homes.items l.blocks.items l.unfilled.items l.all (shown_by l.witness)
+invariant-rows l = Underway l.rows l.row-index l.underway (shown_by l.witness)

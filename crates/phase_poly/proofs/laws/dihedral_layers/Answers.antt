@@ -1,5 +1,5 @@
 use Rattle.std.proofs.Common.{refl}
-use Rattle.phase_poly.specs.Layers.{layers_of}
+use Rattle.circuit_layers.specs.Layers.{layers_of}
 use Rattle.phase_poly.proofs.FineLaws.{dihedral_told}
 use Rattle.phase_poly.proofs.RelinkedLaws.{dihedral_layer}
 use Rattle.phase_poly.proofs.laws.dihedral_layers.Goals as goal

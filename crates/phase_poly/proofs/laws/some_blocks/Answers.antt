@@ -1,5 +1,5 @@
 use Rattle.std.proofs.Common.{length}
-use Rattle.phase_poly.specs.Layers.{layers_of}
+use Rattle.circuit_layers.specs.Layers.{layers_of}
 use Rattle.phase_poly.proofs.BlockLaws.{singles, singles-partition, some_blocks}
 use Rattle.phase_poly.proofs.FineLaws.{fine_of}
 use Rattle.phase_poly.proofs.PassLaws.{layers_dihedral}

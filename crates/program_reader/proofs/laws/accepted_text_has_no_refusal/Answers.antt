@@ -2,11 +2,14 @@ use Rattle.program_reader.proofs.ReaderLaws.{accepted-no_refusal}
 use Rattle.program_reader.proofs.laws.accepted_text_has_no_refusal.Goals as goal
 
 pub returns : goal.returns
-returns c = accepted-no_refusal (record {
-  lexed_once = c.lexed_once.ensures;
-  no_lex_fault = c.accepted_has_no_fault.ensures;
-  spelt_once = c.spelt_once.ensures;
-  no_parse_fault = c.accepted_has_no_fault-2.ensures;
-  no_check_fault = c.accepted_has_no_fault-3.ensures;
-  no_inline_fault = c.inlined_has_no_fault.ensures;
-})
+returns c = record {
+  no_refusal =
+      accepted-no_refusal (record {
+        lexed_once = c.lexed_once.ensures.once;
+        no_lex_fault = c.accepted_has_no_fault.ensures.no_fault;
+        spelt_once = c.spelt_once.ensures.once;
+        no_parse_fault = c.accepted_has_no_fault-2.ensures.no_fault;
+        no_check_fault = c.accepted_has_no_fault-3.ensures.no_fault;
+        no_inline_fault = c.inlined_has_no_fault.ensures.no_fault;
+      });
+}

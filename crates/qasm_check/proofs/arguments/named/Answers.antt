@@ -1,12 +1,11 @@
 -- One argument more.
 use Rattle.std.proofs.Common.{◌≡◌, Bool, not, true, false, Option, Some, None, refl, ◌∙◌, ap}
 use Rattle.std.specs.Prelude.{is_none, is_some}
-use Rattle.gate_library.specs.Known.{meaning}
-use Rattle.gate_library.specs.Meanings.{is_beyond as goes_beyond, is_other}
-use Rattle.gate_library.specs.Operands.{operand_in}
-use Rattle.gate_library.specs.State.{state}
 use Rattle.qasm_check.specs.Arguments.{operand}
+use Rattle.qasm_check.specs.Known.{meaning}
+use Rattle.qasm_check.specs.Meanings.{is_past_end, is_other, operand_in}
 use Rattle.qasm_check.specs.Refusals.{is_beyond, is_unknown, is_wrong}
+use Rattle.qasm_check.specs.State.{state}
 use Rattle.qasm_check.proofs.LoopLaws.{filter_map_step, list_any_step}
 use Rattle.qasm_check.proofs.arguments.named.Goals as goal
 
@@ -23,9 +22,9 @@ each-preserved c =
     let i = c.each.arg-index in
     let x = c.arg-item.result in
     let before = c.each.invariant in
-    let found : c.meaning-found.result ≡ meaning K x.name = c.meaning-found.ensures ∙ ap (meaning K) c.as_bytes.ensures in (
+    let found : c.meaning-found.result ≡ meaning K x.name = c.meaning-found.ensures.value ∙ ap (meaning K) c.as_bytes.ensures.value in (
       list_any_step (is_unknown K) xs i x _ _ c.each-test.true c.arg-item.is before.0 (none_by _ _ c.is_none-unknown.ensures ∙ ap is_none found),
-      list_any_step (is_wrong K true) xs i x _ _ c.each-test.true c.arg-item.is before.1 (c.is_other-wrong.ensures ∙ ap (is_other true) found),
-      list_any_step (is_beyond K) xs i x _ _ c.each-test.true c.arg-item.is before.2 (c.is_beyond-beyond.ensures ∙ ap (λ m. goes_beyond m x.index) found),
-      filter_map_step (operand K) xs i x _ _ _ c.each-test.true c.arg-item.is before.3 (c.operand_in.ensures ∙ ap (λ m. operand_in m x.index) found) c.in_ok-add.ensures,
+      list_any_step (is_wrong K true) xs i x _ _ c.each-test.true c.arg-item.is before.1 (c.is_other-wrong.ensures.value ∙ ap (is_other true) found),
+      list_any_step (is_beyond K) xs i x _ _ c.each-test.true c.arg-item.is before.2 (c.is_past_end-beyond.ensures.value ∙ ap (λ m. is_past_end m x.index) found),
+      filter_map_step (operand K) xs i x _ _ _ c.each-test.true c.arg-item.is before.3 (c.operand_in.ensures.value ∙ ap (λ m. operand_in m x.index) found) c.in_ok-add.ensures,
     )

@@ -1,8 +1,8 @@
 use Rattle.std.proofs.Common.{◌≡◌, true, take}
 use Rattle.std.specs.List.{list_any}
-use Rattle.gate_library.specs.State.{state}
 use Rattle.qasm_check.specs.Arguments.{operands}
 use Rattle.qasm_check.specs.Refusals.{is_beyond, is_unknown, is_wrong}
+use Rattle.qasm_check.specs.State.{state}
 use Rattle.qasm_check.proofs.arguments.named.Given as goal
 
 abbrev pub invariant-each : goal.invariant-each

@@ -4,9 +4,9 @@ use Rattle.std.proofs.lemmas.Grind.{common_steps}
 use Rattle.std.proofs.lemmas.List.Folds.{list_any_at}
 use Rattle.qasm_parser.specs.Tree.{action}
 use Rattle.qasm_parser.specs.declared.tree.Stmt.{Stmt}
-use Rattle.gate_library.specs.State.{state}
 use Rattle.qasm_check.proofs.LoopLaws.{list_any-map}
 use Rattle.qasm_check.specs.Refusals.{unknown_in_body}
+use Rattle.qasm_check.specs.State.{state}
 use Rattle.qasm_check.proofs.body.any_unknown.Goals as goal
 
 pub returns-then-is_unknown_in : goal.returns-then-is_unknown_in

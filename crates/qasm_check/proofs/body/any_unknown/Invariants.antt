@@ -1,8 +1,8 @@
 use Rattle.std.proofs.Common.{◌≡◌, false, take}
 use Rattle.std.specs.List.{list_any}
 use Rattle.qasm_parser.specs.Tree.{action}
-use Rattle.gate_library.specs.State.{state}
 use Rattle.qasm_check.specs.Refusals.{unknown_in_body}
+use Rattle.qasm_check.specs.State.{state}
 use Rattle.qasm_check.proofs.body.any_unknown.Given as goal
 
 abbrev pub invariant-items : goal.invariant-items

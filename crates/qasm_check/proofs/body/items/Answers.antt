@@ -3,7 +3,7 @@ use Rattle.std.proofs.lemmas.Grind.{common_steps}
 use Rattle.std.proofs.lemmas.Simd.{map-map}
 use Rattle.qasm_parser.specs.Tree.{action}
 use Rattle.qasm_parser.specs.declared.tree.Stmt.{Stmt}
-use Rattle.gate_library.specs.State.{state}
+use Rattle.qasm_check.specs.State.{state}
 use Rattle.qasm_check.specs.Steps.{item}
 use Rattle.gate_library.specs.Views.{item as item_view}
 use Rattle.qasm_check.proofs.body.items.Goals as goal

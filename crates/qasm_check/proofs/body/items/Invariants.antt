@@ -1,6 +1,6 @@
 use Rattle.std.proofs.Common.{◌≡◌, map, take}
 use Rattle.qasm_parser.specs.Tree.{action}
-use Rattle.gate_library.specs.State.{state}
+use Rattle.qasm_check.specs.State.{state}
 use Rattle.qasm_check.specs.Steps.{item}
 use Rattle.gate_library.specs.Views.{item as item_view}
 use Rattle.qasm_check.proofs.body.items.Given as goal

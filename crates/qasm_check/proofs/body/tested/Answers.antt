@@ -3,10 +3,10 @@ use Rattle.std.specs.List.{list_any}
 use Rattle.qasm_parser.specs.Tree.{action}
 use Rattle.qasm_parser.specs.declared.tree.Stmt.{Stmt}
 use Rattle.qasm_check.specs.Bodies.{declaration}
-use Rattle.gate_library.specs.Known.{meaning}
-use Rattle.gate_library.specs.Meanings.{is_register}
+use Rattle.qasm_check.specs.Known.{meaning}
+use Rattle.qasm_check.specs.Meanings.{names_register}
 use Rattle.qasm_check.specs.Refusals.{applies_opaque, gate_taken, in_body, params_differ, qubits_differ, repeats_name, unknown_in_body}
-use Rattle.gate_library.specs.State.{state}
+use Rattle.qasm_check.specs.State.{state}
 use Rattle.qasm_check.proofs.body.tested.Goals as goal
 
 pub returns-then-any_register-clause-err : goal.returns-then-any_register-clause-err
@@ -18,8 +18,8 @@ returns-then-any_register-clause-err c =
     ap (λ (ps : List (List ℕ)). list_any (unknown_in_body K ps g.qubits.items) (map action g.body.items)) (sym c.requires.params)
     ∙ ap (λ (qs : List (List ℕ)). list_any (unknown_in_body K c.args.params.now qs) (map action g.body.items)) (sym c.requires.qubits)
     ∙ sym c.any_unknown.ensures ∙ c.if-any_unknown.false in
-    let register : list_any (in_body (λ a. is_register (meaning K a.gate))) (map action g.body.items) ≡ true =
-    ap (λ (xs : List Stmt). list_any (in_body (λ a. is_register (meaning K a.gate))) (map action xs)) (sym c.deref.ensures.value) ∙ sym c.any_register.ensures ∙ c.if-any_register.true in
+    let register : list_any (in_body (λ a. names_register (meaning K a.gate))) (map action g.body.items) ≡ true =
+    ap (λ (xs : List Stmt). list_any (in_body (λ a. names_register (meaning K a.gate))) (map action xs)) (sym c.deref.ensures.value) ∙ sym c.any_register.ensures ∙ c.if-any_register.true in
     rw (taken, unknown, register) refl
 
 pub returns-then-any_params_differ-clause-err : goal.returns-then-any_params_differ-clause-err
@@ -31,8 +31,8 @@ returns-then-any_params_differ-clause-err c =
     ap (λ (ps : List (List ℕ)). list_any (unknown_in_body K ps g.qubits.items) (map action g.body.items)) (sym c.requires.params)
     ∙ ap (λ (qs : List (List ℕ)). list_any (unknown_in_body K c.args.params.now qs) (map action g.body.items)) (sym c.requires.qubits)
     ∙ sym c.any_unknown.ensures ∙ c.if-any_unknown.false in
-    let register : list_any (in_body (λ a. is_register (meaning K a.gate))) (map action g.body.items) ≡ false =
-    ap (λ (xs : List Stmt). list_any (in_body (λ a. is_register (meaning K a.gate))) (map action xs)) (sym c.deref.ensures.value) ∙ sym c.any_register.ensures ∙ c.if-any_register.false in
+    let register : list_any (in_body (λ a. names_register (meaning K a.gate))) (map action g.body.items) ≡ false =
+    ap (λ (xs : List Stmt). list_any (in_body (λ a. names_register (meaning K a.gate))) (map action xs)) (sym c.deref.ensures.value) ∙ sym c.any_register.ensures ∙ c.if-any_register.false in
     let params : list_any (in_body (params_differ K)) (map action g.body.items) ≡ true =
     ap (λ (xs : List Stmt). list_any (in_body (params_differ K)) (map action xs)) (sym c.deref-2.ensures.value) ∙ sym c.any_params_differ.ensures ∙ c.if-any_params_differ.true in
     rw (taken, unknown, register, params) refl
@@ -46,8 +46,8 @@ returns-then-any_qubits_differ-clause-err c =
     ap (λ (ps : List (List ℕ)). list_any (unknown_in_body K ps g.qubits.items) (map action g.body.items)) (sym c.requires.params)
     ∙ ap (λ (qs : List (List ℕ)). list_any (unknown_in_body K c.args.params.now qs) (map action g.body.items)) (sym c.requires.qubits)
     ∙ sym c.any_unknown.ensures ∙ c.if-any_unknown.false in
-    let register : list_any (in_body (λ a. is_register (meaning K a.gate))) (map action g.body.items) ≡ false =
-    ap (λ (xs : List Stmt). list_any (in_body (λ a. is_register (meaning K a.gate))) (map action xs)) (sym c.deref.ensures.value) ∙ sym c.any_register.ensures ∙ c.if-any_register.false in
+    let register : list_any (in_body (λ a. names_register (meaning K a.gate))) (map action g.body.items) ≡ false =
+    ap (λ (xs : List Stmt). list_any (in_body (λ a. names_register (meaning K a.gate))) (map action xs)) (sym c.deref.ensures.value) ∙ sym c.any_register.ensures ∙ c.if-any_register.false in
     let params : list_any (in_body (params_differ K)) (map action g.body.items) ≡ false =
     ap (λ (xs : List Stmt). list_any (in_body (params_differ K)) (map action xs)) (sym c.deref-2.ensures.value) ∙ sym c.any_params_differ.ensures ∙ c.if-any_params_differ.false in
     let qubits : list_any (in_body (qubits_differ K)) (map action g.body.items) ≡ true =
@@ -63,8 +63,8 @@ returns-then-branch-2-clause-err c =
     ap (λ (ps : List (List ℕ)). list_any (unknown_in_body K ps g.qubits.items) (map action g.body.items)) (sym c.requires.params)
     ∙ ap (λ (qs : List (List ℕ)). list_any (unknown_in_body K c.args.params.now qs) (map action g.body.items)) (sym c.requires.qubits)
     ∙ sym c.any_unknown.ensures ∙ c.if-any_unknown.false in
-    let register : list_any (in_body (λ a. is_register (meaning K a.gate))) (map action g.body.items) ≡ false =
-    ap (λ (xs : List Stmt). list_any (in_body (λ a. is_register (meaning K a.gate))) (map action xs)) (sym c.deref.ensures.value) ∙ sym c.any_register.ensures ∙ c.if-any_register.false in
+    let register : list_any (in_body (λ a. names_register (meaning K a.gate))) (map action g.body.items) ≡ false =
+    ap (λ (xs : List Stmt). list_any (in_body (λ a. names_register (meaning K a.gate))) (map action xs)) (sym c.deref.ensures.value) ∙ sym c.any_register.ensures ∙ c.if-any_register.false in
     let params : list_any (in_body (params_differ K)) (map action g.body.items) ≡ false =
     ap (λ (xs : List Stmt). list_any (in_body (params_differ K)) (map action xs)) (sym c.deref-2.ensures.value) ∙ sym c.any_params_differ.ensures ∙ c.if-any_params_differ.false in
     let qubits : list_any (in_body (qubits_differ K)) (map action g.body.items) ≡ false =
@@ -82,8 +82,8 @@ returns-then-any_opaque-clause-err c =
     ap (λ (ps : List (List ℕ)). list_any (unknown_in_body K ps g.qubits.items) (map action g.body.items)) (sym c.requires.params)
     ∙ ap (λ (qs : List (List ℕ)). list_any (unknown_in_body K c.args.params.now qs) (map action g.body.items)) (sym c.requires.qubits)
     ∙ sym c.any_unknown.ensures ∙ c.if-any_unknown.false in
-    let register : list_any (in_body (λ a. is_register (meaning K a.gate))) (map action g.body.items) ≡ false =
-    ap (λ (xs : List Stmt). list_any (in_body (λ a. is_register (meaning K a.gate))) (map action xs)) (sym c.deref.ensures.value) ∙ sym c.any_register.ensures ∙ c.if-any_register.false in
+    let register : list_any (in_body (λ a. names_register (meaning K a.gate))) (map action g.body.items) ≡ false =
+    ap (λ (xs : List Stmt). list_any (in_body (λ a. names_register (meaning K a.gate))) (map action xs)) (sym c.deref.ensures.value) ∙ sym c.any_register.ensures ∙ c.if-any_register.false in
     let params : list_any (in_body (params_differ K)) (map action g.body.items) ≡ false =
     ap (λ (xs : List Stmt). list_any (in_body (params_differ K)) (map action xs)) (sym c.deref-2.ensures.value) ∙ sym c.any_params_differ.ensures ∙ c.if-any_params_differ.false in
     let qubits : list_any (in_body (qubits_differ K)) (map action g.body.items) ≡ false =
@@ -103,8 +103,8 @@ returns-clause-ok c =
     ap (λ (ps : List (List ℕ)). list_any (unknown_in_body K ps g.qubits.items) (map action g.body.items)) (sym c.requires.params)
     ∙ ap (λ (qs : List (List ℕ)). list_any (unknown_in_body K c.args.params.now qs) (map action g.body.items)) (sym c.requires.qubits)
     ∙ sym c.any_unknown.ensures ∙ c.if-any_unknown.false in
-    let register : list_any (in_body (λ a. is_register (meaning K a.gate))) (map action g.body.items) ≡ false =
-    ap (λ (xs : List Stmt). list_any (in_body (λ a. is_register (meaning K a.gate))) (map action xs)) (sym c.deref.ensures.value) ∙ sym c.any_register.ensures ∙ c.if-any_register.false in
+    let register : list_any (in_body (λ a. names_register (meaning K a.gate))) (map action g.body.items) ≡ false =
+    ap (λ (xs : List Stmt). list_any (in_body (λ a. names_register (meaning K a.gate))) (map action xs)) (sym c.deref.ensures.value) ∙ sym c.any_register.ensures ∙ c.if-any_register.false in
     let params : list_any (in_body (params_differ K)) (map action g.body.items) ≡ false =
     ap (λ (xs : List Stmt). list_any (in_body (params_differ K)) (map action xs)) (sym c.deref-2.ensures.value) ∙ sym c.any_params_differ.ensures ∙ c.if-any_params_differ.false in
     let qubits : list_any (in_body (qubits_differ K)) (map action g.body.items) ≡ false =

@@ -1,4 +1,4 @@
-use Rattle.gate_library.specs.Known.{fresh}
+use Rattle.qasm_check.specs.Known.{fresh}
 use Rattle.qasm_check.proofs.AcceptedLaws.{accepted_sound, steps-length}
 use Rattle.qasm_check.proofs.laws.accepted_is_sound.Goals as goal
 

@@ -2,4 +2,4 @@ use Rattle.qasm_lexer.proofs.LexingLaws.{no_fault}
 use Rattle.qasm_lexer.proofs.laws.accepted_has_no_fault.Goals as goal
 
 pub returns : goal.returns
-returns c = no_fault
+returns c = record { no_fault = no_fault }

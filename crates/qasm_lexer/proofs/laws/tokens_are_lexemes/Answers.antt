@@ -4,5 +4,5 @@ use Rattle.qasm_lexer.proofs.laws.tokens_are_lexemes.Goals as goal
 pub returns-clause-each : goal.returns-clause-each
 returns-clause-each c = each_token
 
-pub returns-clause-few : goal.returns-clause-few
-returns-clause-few c = few_tokens
+pub returns-clause-tokens_limit : goal.returns-clause-tokens_limit
+returns-clause-tokens_limit c = few_tokens

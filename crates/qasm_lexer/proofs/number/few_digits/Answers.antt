@@ -10,10 +10,12 @@ use Rattle.qasm_lexer.proofs.TailLaws.{ten_pow}
 use Rattle.qasm_lexer.proofs.number.few_digits.Goals as goal
 
 pub lowest-requires : goal.lowest-requires
-lowest-requires c =
-    let some = ten_pow (length c.args.part.now) in
-    let d_fits : FitsSigned w128 c.from-2.result = search rules in
-    simp to_z-of_z (omega (arith, ints))
+lowest-requires c = record {
+  positive =
+      let some = ten_pow (length c.args.part.now) in
+      let d_fits : FitsSigned w128 c.from-2.result = search rules in
+      simp to_z-of_z (omega (arith, ints));
+}
 
 pub returns : goal.returns
 returns c =
@@ -26,5 +28,5 @@ returns c =
     let is : c.head-num.result ≡ number digits = omega arith in
     let num : c.from.result ≡ pos (number digits) = c.from.ensures ∙ ap pos is in
     let den : unsigned_abs c.from-2.result ≡ 10 ^ length c.args.part.now = ap unsigned_abs c.from-2.ensures ∙ c.pow-den.ensures in
-    let value = simp to_z-of_z at c.lowest.ensures in
+    let value = simp to_z-of_z at c.lowest.ensures.value in
     value ∙ (λ i. fitted (fraction (num i) (den i)))

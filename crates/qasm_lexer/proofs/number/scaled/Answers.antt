@@ -8,7 +8,7 @@ pub returns-then-head-eq0 : goal.returns-then-head-eq0
 returns-then-head-eq0 c =
     let all = all_digits c.args.whole.now c.args.part.now in
     let none : number (c.args.whole.now ++ c.args.part.now) ≡ 0 = omega arith in
-    ap Ok c.nought.ensures ∙ sym (scaled-nought (laws c.lowest_terms.ensures.reduced c.lowest_terms.ensures.same) (c.args.whole.now ++ c.args.part.now) (length c.args.part.now) c.args.down c.args.size none)
+    ap Ok c.nought.ensures.value ∙ sym (scaled-nought (laws c.lowest_terms.ensures.reduced c.lowest_terms.ensures.same) (c.args.whole.now ++ c.args.part.now) (length c.args.part.now) c.args.down c.args.size none)
 
 pub scaled_down-requires-clause-some : goal.scaled_down-requires-clause-some
 scaled_down-requires-clause-some c = let all = all_digits c.args.whole.now c.args.part.now in omega arith

@@ -7,10 +7,12 @@ use Rattle.qasm_lexer.proofs.ValueLaws.{kept_value}
 use Rattle.qasm_lexer.proofs.reading.value.Goals as goal
 
 pub unwrap-requires : goal.unwrap-requires
-unwrap-requires c = ap is_ok (c.number.ensures ∙ kept_value (decimal (bytes_of c.args.text.now c.args.token.now)) c.requires.number.value)
+unwrap-requires c = ap is_ok (c.number.ensures.value ∙ kept_value (decimal (bytes_of c.args.text.now c.args.token.now)) c.requires.number.value)
 
 pub returns : goal.returns
-returns c =
-    let same : Ok c.unwrap.result ≡ Ok (lowest (decimal (bytes_of c.args.text.now c.args.token.now))) =
-    sym c.unwrap.ensures ∙ c.number.ensures ∙ kept_value (decimal (bytes_of c.args.text.now c.args.token.now)) c.requires.number.value in
-    cc
+returns c = record {
+  value =
+      let same : Ok c.unwrap.result ≡ Ok (lowest (decimal (bytes_of c.args.text.now c.args.token.now))) =
+      sym c.unwrap.ensures ∙ c.number.ensures.value ∙ kept_value (decimal (bytes_of c.args.text.now c.args.token.now)) c.requires.number.value in
+      cc;
+}

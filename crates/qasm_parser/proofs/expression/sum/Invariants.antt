@@ -1,5 +1,5 @@
 use Rattle.std.proofs.Common.{◌≡◌, ◌≤◌, length}
-use Rattle.qasm_parser.specs.Tree.{depth_limit}
+use Rattle.qasm_parser.specs.Tree.{most_depth}
 use Rattle.qasm_parser.specs.Frames.{stack}
 use Rattle.qasm_parser.specs.Machine.{open_in, sum_of}
 use Rattle.qasm_parser.specs.Modes.{go, steps, way_go}
@@ -8,7 +8,7 @@ use Rattle.qasm_parser.proofs.expression.sum.Given as goal
 
 abbrev pub invariant-steps : goal.invariant-steps
 invariant-steps l = record {
-  same : go (stack l.frames) l.mode l.cursor ≡ sum_of depth_limit l.initial.cursor;
+  same : go (stack l.frames) l.mode l.cursor ≡ sum_of most_depth l.initial.cursor;
   walked : way_go (open_in (stack l.frames)) l.mode l.cursor ≡ walk sum l.initial.cursor;
   shorter : length l.cursor ≤ length l.initial.cursor;
 }

@@ -5,11 +5,11 @@ use Rattle.qasm_writer.proofs.lines.put_barrier.Goals as goal
 
 pub returns-in_err-put-clause-err : goal.returns-in_err-put-clause-err
 returns-in_err-put-clause-err g c =
-    on_err _ _ (fault-now _ _ c.args.room.now.items (codes "barrier ") _ c.in_err-put.ensures.err)
+    on_err _ _ (fault-now _ _ c.args.buffer.now (codes "barrier ") _ c.in_err-put.ensures.err)
 
 pub returns-in_err-put_listed-clause-err : goal.returns-in_err-put_listed-clause-err
 returns-in_err-put_listed-clause-err g c =
-    on_err _ _ (fault-then _ _ _ _ _ _ _ c.in_ok-put.ensures.ok (fault-now _ _ c.put.new.room.items (listed (with_underscores c.args.q) c.args.wires.now) _ c.in_err-put_listed.ensures.err))
+    on_err _ _ (fault-then _ _ _ _ _ _ _ c.in_ok-put.ensures.ok (fault-now _ _ c.put.new.buffer (listed (with_underscores c.args.q) c.args.wires.now) _ c.in_err-put_listed.ensures.err))
 
 pub returns-clause-ok : goal.returns-clause-ok
 returns-clause-ok g c = then-ok _ _ _ _ _ _ _ _ _ c.in_ok-put.ensures.ok (then-ok _ _ _ _ _ _ _ _ _ c.in_ok-put_listed.ensures.ok c.put-2.ensures.ok)

@@ -13,6 +13,5 @@ pub gates-preserved : goal.gates-preserved
 gates-preserved g c = record {
   leads = Leads-more _ _ _ _ _ _ _ _ _ _ c.gates.invariant.leads
       (gates-next (with_underscores c.args.q) c.args.body.now.gates c.gates.i c.args.to c.gate.result c.gates-test.true c.gate.ensures.there) c.in_ok-put_gate.ensures.ok;
-  room = c.in_ok-put_gate.ensures.room;
   calm = c.in_ok-put_gate.ensures.cause.ok ∙ c.gates.invariant.calm;
 }

@@ -7,7 +7,7 @@ use Rattle.qasm_writer.proofs.lines.put_lines.Goals as goal
 pub returns-in_err-put_program-clause-err : goal.returns-in_err-put_program-clause-err
 returns-in_err-put_program-clause-err g c =
     let o = c.args.output.now in
-    on_err _ _ (fault-now _ _ c.args.room.now.items (written_text (with_underscores c.args.q) c.args.wires (cut_of o) (map bits_of o.registers.now) o.reads.now) _
+    on_err _ _ (fault-now _ _ c.args.buffer.now (written_text (with_underscores c.args.q) c.args.wires (cut_of o) (map bits_of o.registers.now) o.reads.now) _
     c.in_err-put_program.ensures.err)
 
 pub returns-clause-ok : goal.returns-clause-ok

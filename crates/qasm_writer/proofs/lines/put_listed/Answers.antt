@@ -1,16 +1,30 @@
-use Rattle.std.proofs.Common.{List, ℕ, OnOk, subst}
-use Rattle.qasm_writer.specs.Pieces.{Sends}
+use Rattle.std.proofs.Common.{◌++◌, ◌∙◌, ap, refl}
 use Rattle.qasm_writer.specs.Texts.{with_underscores}
-use Rattle.qasm_writer.proofs.LineLaws.{listed-split}
-use Rattle.qasm_writer.proofs.PieceLaws.{on_err-same}
+use Rattle.qasm_writer.proofs.LineLaws.{listed_behind-next, listed-listed_behind}
+use Rattle.qasm_writer.proofs.PieceLaws.{Leads-more, Leads-start, Leads-stop, on_err}
 use Rattle.qasm_writer.proofs.lines.put_listed.Goals as goal
 
-pub returns-in-Some-clause-ok : goal.returns-in-Some-clause-ok
-returns-in-Some-clause-ok g c =
-    subst (λ (z : List ℕ). OnOk c.put_joined.result (Sends (g.S.Sink.held c.args.sink.now) c.args.room.now.items (g.S.Sink.held c.put_joined.new.sink) c.put_joined.new.room.items z))
-    (listed-split (with_underscores c.args.q) c.args.wires.now c.in-Some.first.now c.in-Some.others.now c.in-Some.ensures.cases.0) c.put_joined.ensures.ok
+pub wires-init : goal.wires-init
+wires-init g c = record {
+  leads = Leads-start _ _ _ _ _ (ap (λ z. c.args.buffer.now ++ z) (listed-listed_behind (with_underscores c.args.q) c.args.wires.now));
+  calm = refl;
+}
 
-pub returns-in-Some-clause-err : goal.returns-in-Some-clause-err
-returns-in-Some-clause-err g c =
-    on_err-same c.put_joined.result _ _ c.args.room.now.items _ _
-    (listed-split (with_underscores c.args.q) c.args.wires.now c.in-Some.first.now c.in-Some.others.now c.in-Some.ensures.cases.0) c.put_joined.ensures.err
+pub returns-in_err-put_bytes-clause-err : goal.returns-in_err-put_bytes-clause-err
+returns-in_err-put_bytes-clause-err g c =
+    on_err _ _ (Leads-stop _ _ _ _ _ _ _ _ _ c.wires.invariant.leads
+    (listed_behind-next (with_underscores c.args.q) c.wires.comma.now c.args.wires.now c.wires.i 0 c.wires-test.true) c.in_err-put_bytes.ensures.err)
+
+pub returns-in_err-put_qubit-clause-err : goal.returns-in_err-put_qubit-clause-err
+returns-in_err-put_qubit-clause-err g c =
+    on_err _ _ (Leads-stop _ _ _ _ _ _ _ _ _ (Leads-more _ _ _ _ _ _ _ _ _ _ c.wires.invariant.leads
+    (listed_behind-next (with_underscores c.args.q) c.wires.comma.now c.args.wires.now c.wires.i _ c.wires-test.true) c.in_ok-put_bytes.ensures.ok)
+    refl c.in_err-put_qubit.ensures.err)
+
+pub wires-preserved : goal.wires-preserved
+wires-preserved g c = record {
+  leads = Leads-more _ _ _ _ _ _ _ _ _ _ (Leads-more _ _ _ _ _ _ _ _ _ _ c.wires.invariant.leads
+      (listed_behind-next (with_underscores c.args.q) c.wires.comma.now c.args.wires.now c.wires.i _ c.wires-test.true) c.in_ok-put_bytes.ensures.ok)
+      refl c.in_ok-put_qubit.ensures.ok;
+  calm = c.in_ok-put_qubit.ensures.cause.ok ∙ c.in_ok-put_bytes.ensures.cause.ok ∙ c.wires.invariant.calm;
+}

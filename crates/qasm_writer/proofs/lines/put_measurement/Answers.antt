@@ -5,19 +5,19 @@ use Rattle.qasm_writer.proofs.lines.put_measurement.Goals as goal
 
 pub returns-in_err-put-clause-err : goal.returns-in_err-put-clause-err
 returns-in_err-put-clause-err g c =
-    on_err _ _ (fault-now _ _ c.args.room.now.items (codes "measure ") _ c.in_err-put.ensures.err)
+    on_err _ _ (fault-now _ _ c.args.buffer.now (codes "measure ") _ c.in_err-put.ensures.err)
 
 pub returns-in_err-put_qubit-clause-err : goal.returns-in_err-put_qubit-clause-err
 returns-in_err-put_qubit-clause-err g c =
-    on_err _ _ (fault-then _ _ _ _ _ _ _ c.in_ok-put.ensures.ok (fault-now _ _ c.put.new.room.items (index_text (with_underscores c.args.q) c.args.wire) _ c.in_err-put_qubit.ensures.err))
+    on_err _ _ (fault-then _ _ _ _ _ _ _ c.in_ok-put.ensures.ok (fault-now _ _ c.put.new.buffer (index_text (with_underscores c.args.q) c.args.wire) _ c.in_err-put_qubit.ensures.err))
 
 pub returns-in_err-put-2-clause-err : goal.returns-in_err-put-2-clause-err
 returns-in_err-put-2-clause-err g c =
-    on_err _ _ (fault-then _ _ _ _ _ _ _ c.in_ok-put.ensures.ok (fault-then _ _ _ _ _ _ _ c.in_ok-put_qubit.ensures.ok (fault-now _ _ c.put_qubit.new.room.items (codes " -> ") _ c.in_err-put-2.ensures.err)))
+    on_err _ _ (fault-then _ _ _ _ _ _ _ c.in_ok-put.ensures.ok (fault-then _ _ _ _ _ _ _ c.in_ok-put_qubit.ensures.ok (fault-now _ _ c.put_qubit.new.buffer (codes " -> ") _ c.in_err-put-2.ensures.err)))
 
 pub returns-in_err-put_indexed-clause-err : goal.returns-in_err-put_indexed-clause-err
 returns-in_err-put_indexed-clause-err g c =
-    on_err _ _ (fault-then _ _ _ _ _ _ _ c.in_ok-put.ensures.ok (fault-then _ _ _ _ _ _ _ c.in_ok-put_qubit.ensures.ok (fault-then _ _ _ _ _ _ _ c.in_ok-put-2.ensures.ok (fault-now _ _ c.put-2.new.room.items (index_text c.args.name.now c.args.bit) _ c.in_err-put_indexed.ensures.err))))
+    on_err _ _ (fault-then _ _ _ _ _ _ _ c.in_ok-put.ensures.ok (fault-then _ _ _ _ _ _ _ c.in_ok-put_qubit.ensures.ok (fault-then _ _ _ _ _ _ _ c.in_ok-put-2.ensures.ok (fault-now _ _ c.put-2.new.buffer (index_text c.args.name.now c.args.bit) _ c.in_err-put_indexed.ensures.err))))
 
 pub returns-clause-ok : goal.returns-clause-ok
 returns-clause-ok g c = then-ok _ _ _ _ _ _ _ _ _ c.in_ok-put.ensures.ok (then-ok _ _ _ _ _ _ _ _ _ c.in_ok-put_qubit.ensures.ok (then-ok _ _ _ _ _ _ _ _ _ c.in_ok-put-2.ensures.ok (then-ok _ _ _ _ _ _ _ _ _ c.in_ok-put_indexed.ensures.ok c.put-3.ensures.ok)))

@@ -7,7 +7,7 @@ use Rattle.qasm_writer.proofs.lines.put_part.Goals as goal
 
 pub returns-in_err-put_gates-clause-err : goal.returns-in_err-put_gates-clause-err
 returns-in_err-put_gates-clause-err g c =
-    on_err _ _ (fault-now _ _ c.args.room.now.items
+    on_err _ _ (fault-now _ _ c.args.buffer.now
     (flat_map (op_line (with_underscores c.args.q)) (ops (take (c.args.to - c.args.from) (drop c.args.from c.args.body.now.gates)))) _
     c.in_err-put_gates.ensures.err)
 

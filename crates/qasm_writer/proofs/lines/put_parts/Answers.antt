@@ -19,7 +19,6 @@ barriers-preserved g c =
           (parts-next (with_underscores c.args.q) o.lengths.now o.barriers.now o.body.now.gates c.barriers.k c.barriers.from _ _ _ _ c.barriers-test.true
           c.requires.cut refl c.deref.ensures.value)
           c.in_ok-put_part.ensures.ok;
-      room = c.in_ok-put_part.ensures.room;
       calm = c.in_ok-put_part.ensures.cause.ok ∙ c.barriers.invariant.calm;
       left = parts_within o.lengths.now c.barriers.k c.barriers.from _ (length o.body.now.gates) (omega (arith, c.barriers-test.true, c.requires.cut)) c.barriers.invariant.left;
     }
@@ -29,11 +28,11 @@ returns-clause-ok g c =
     let o = c.args.output.now in
     last-ok _ _ _ _ _ _ _ _ _ _ c.barriers.invariant.leads
     (parts-last (with_underscores c.args.q) o.lengths.now o.barriers.now o.body.now.gates c.barriers.k c.barriers.from _ c.barriers-test.false c.barriers.auto.k-end
-    c.requires.cut c.barriers.invariant.left c.len-end.ensures) c.put_gates.ensures.ok
+    c.requires.cut c.barriers.invariant.left c.len-end.ensures.value) c.put_gates.ensures.ok
 
 pub returns-clause-err : goal.returns-clause-err
 returns-clause-err g c =
     let o = c.args.output.now in
     last-err _ _ _ _ _ _ _ _ _ c.barriers.invariant.leads
     (parts-last (with_underscores c.args.q) o.lengths.now o.barriers.now o.body.now.gates c.barriers.k c.barriers.from _ c.barriers-test.false c.barriers.auto.k-end
-    c.requires.cut c.barriers.invariant.left c.len-end.ensures) c.put_gates.ensures.err
+    c.requires.cut c.barriers.invariant.left c.len-end.ensures.value) c.put_gates.ensures.err

@@ -1,16 +1,15 @@
 -- The lines of the parts that are left follow those that were put, and these parts are the gates that are left.
 use Rattle.std.proofs.Common.{◌≡◌, ◌+◌, drop, length, sum_by}
-use Rattle.qasm_writer.specs.Pieces.{HasRoom, Leads}
+use Rattle.qasm_writer.specs.Pieces.{Leads}
 use Rattle.qasm_writer.specs.Texts.{part_lines, with_underscores}
 use Rattle.qasm_writer.proofs.LineLaws.{parts_left, wires_of_each}
 use Rattle.qasm_writer.proofs.lines.put_parts.Given as goal
 
 abbrev pub invariant-barriers : goal.invariant-barriers
 invariant-barriers g l = record {
-  leads : Leads (g.S.Sink.held l.fn.sink) l.fn.room.items (g.S.Sink.held l.sink) l.room.items
+  leads : Leads (g.S.Sink.held l.fn.sink) l.fn.buffer (g.S.Sink.held l.sink) l.buffer
       (part_lines (with_underscores l.q) (parts_left l.output.lengths.now l.output.body.now.gates 0) (wires_of_each l.output.barriers.now))
       (part_lines (with_underscores l.q) (parts_left (drop l.k l.output.lengths.now) l.output.body.now.gates l.from) (wires_of_each (drop l.k l.output.barriers.now)));
-  room : HasRoom l.room;
   calm : g.S.Sink.faults l.sink ≡ g.S.Sink.faults l.fn.sink;
   left : l.from + sum_by (λ n. n) (drop l.k l.output.lengths.now) ≡ length l.output.body.now.gates;
 }

@@ -13,7 +13,6 @@ pub registers-preserved : goal.registers-preserved
 registers-preserved g c = record {
   leads = Leads-more _ _ _ _ _ _ _ _ _ _ c.registers.invariant.leads
       (register_reads-split (with_underscores c.args.q) c.args.registers.now c.registers.rest.now _ _ c.registers.register-index _ c.registers-test.true c.split_at.ensures.front c.split_at.ensures.back) c.in_ok-put_register_reads.ensures.ok;
-  room = c.in_ok-put_register_reads.ensures.room;
   calm = c.in_ok-put_register_reads.ensures.cause.ok ∙ c.registers.invariant.calm;
   enough = reads_enough c.args.registers.now c.registers.rest.now _ c.registers.register-index _ c.registers-test.true
       c.registers.invariant.enough c.split_at.ensures.back;

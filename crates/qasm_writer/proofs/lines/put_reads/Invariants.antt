@@ -1,16 +1,15 @@
 -- The lines of the registers that are left follow those that were put.
 use Rattle.std.proofs.Common.{◌≡◌, ◌≤◌, drop, length, map, sum_by}
 use Rattle.qasm_writer.specs.Outputs.{bits_of}
-use Rattle.qasm_writer.specs.Pieces.{HasRoom, Leads}
+use Rattle.qasm_writer.specs.Pieces.{Leads}
 use Rattle.qasm_writer.specs.Texts.{read_lines, with_underscores}
 use Rattle.qasm_writer.proofs.lines.put_reads.Given as goal
 
 abbrev pub invariant-registers : goal.invariant-registers
 invariant-registers g l = record {
-  leads : Leads (g.S.Sink.held l.fn.sink) l.fn.room.items (g.S.Sink.held l.sink) l.room.items
+  leads : Leads (g.S.Sink.held l.fn.sink) l.fn.buffer (g.S.Sink.held l.sink) l.buffer
       (read_lines (with_underscores l.q) (map bits_of l.registers) l.reads)
       (read_lines (with_underscores l.q) (map bits_of (drop l.register-index l.registers)) l.rest);
-  room : HasRoom l.room;
   calm : g.S.Sink.faults l.sink ≡ g.S.Sink.faults l.fn.sink;
   enough : sum_by (λ r. r.size) (map bits_of (drop l.register-index l.registers)) ≤ length l.rest;
 }

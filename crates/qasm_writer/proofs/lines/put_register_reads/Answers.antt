@@ -13,6 +13,5 @@ pub reads-preserved : goal.reads-preserved
 reads-preserved g c = record {
   leads = Leads-more _ _ _ _ _ _ _ _ _ _ c.reads.invariant.leads
       (reads-next (with_underscores c.args.q) c.args.name.now c.args.reads.now c.reads.bit _ c.reads-test.true) c.in_ok-put_read.ensures.ok;
-  room = c.in_ok-put_read.ensures.room;
   calm = c.in_ok-put_read.ensures.cause.ok ∙ c.reads.invariant.calm;
 }

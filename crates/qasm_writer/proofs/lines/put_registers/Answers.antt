@@ -12,6 +12,5 @@ pub registers-preserved : goal.registers-preserved
 registers-preserved g c = record {
   leads = Leads-more _ _ _ _ _ _ _ _ _ _ c.registers.invariant.leads
       (registers-next c.args.registers.now c.registers.i _ c.registers-test.true) c.in_ok-put_register.ensures.ok;
-  room = c.in_ok-put_register.ensures.room;
   calm = c.in_ok-put_register.ensures.cause.ok ∙ c.registers.invariant.calm;
 }

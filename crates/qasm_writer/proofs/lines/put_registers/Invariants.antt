@@ -2,15 +2,14 @@
 use Rattle.std.proofs.Common.{◌≡◌, drop, map}
 use Rattle.std.specs.List.{flat_map}
 use Rattle.qasm_writer.specs.Outputs.{bits_of}
-use Rattle.qasm_writer.specs.Pieces.{HasRoom, Leads}
+use Rattle.qasm_writer.specs.Pieces.{Leads}
 use Rattle.qasm_writer.specs.Texts.{bits_line}
 use Rattle.qasm_writer.proofs.lines.put_registers.Given as goal
 
 abbrev pub invariant-registers : goal.invariant-registers
 invariant-registers g l = record {
-  leads : Leads (g.S.Sink.held l.fn.sink) l.fn.room.items (g.S.Sink.held l.sink) l.room.items
+  leads : Leads (g.S.Sink.held l.fn.sink) l.fn.buffer (g.S.Sink.held l.sink) l.buffer
       (flat_map bits_line (map bits_of l.registers))
       (flat_map bits_line (map bits_of (drop l.i l.registers)));
-  room : HasRoom l.room;
   calm : g.S.Sink.faults l.sink ≡ g.S.Sink.faults l.fn.sink;
 }

@@ -12,6 +12,5 @@ pub lines-preserved : goal.lines-preserved
 lines-preserved g c = record {
   leads = Leads-more _ _ _ _ _ _ _ _ _ _ c.lines.invariant.leads
       (commented-next c.lines.rest.now c.in-Some.line.now c.in-Some.behind.now c.in-Some.ensures.lines) c.in_ok-put_comment.ensures.ok;
-  room = c.in_ok-put_comment.ensures.room;
   calm = c.in_ok-put_comment.ensures.cause.ok ∙ c.lines.invariant.calm;
 }

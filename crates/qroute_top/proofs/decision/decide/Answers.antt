@@ -1,8 +1,8 @@
 -- Why the device isn't had, and what is delivered on one that is.
 use Rattle.std.proofs.Common.{refl, map, ap, ◌∙◌}
 use Rattle.std.proofs.lemmas.Result.{err_from_is_err_and}
-use Rattle.command_words.specs.Demands.{Entry, Spares}
-use Rattle.command_words.specs.declared.commands.Command.TheVariants.{Amplitude, OptWithSpares}
+use Rattle.command_line.specs.Demands.{Entry, Spares}
+use Rattle.command_line.specs.declared.commands.Command.TheVariants.{Amplitude, OptWithSpares}
 use Rattle.qroute_top.specs.Causes.{Handed}
 use Rattle.qroute_top.specs.Delivered.{drawn_program}
 use Rattle.qroute_top.proofs.RunLaws.{Delivers-drawn, Delivers-entry, Delivers-routed, Delivers-spared, IsCause-device, IsCause-question, Reaches-drawn, Reaches-read, device_failed, handed}
@@ -16,7 +16,7 @@ returns-in_err-device-in-Route-clause-stop g c =
     (g.F.Shelf.faults c.load_device.new.shelf) in
     let reached = Reaches-read h c.in_ok-command.command c.in-Route.name c.in-Route.trivial c.in-Route.trace c.in-Route.keep_barriers c.in-Route.clean _ _ c.in_ok-command.ensures.ok c.in-Route.is
     c.in_ok-source-in-Route.ensures.ok in
-    let it = IsCause-device h c.in-Route.name c.wires.result _ (reached.0, c.wires.ensures ∙ reached.1) c.in_err-device-in-Route.ensures.err
+    let it = IsCause-device h c.in-Route.name c.wires.result _ (reached.0, c.wires.ensures.value ∙ reached.1) c.in_err-device-in-Route.ensures.err
     (λ f. c.in_err-device-in-Route.ensures.calm (λ e. f (device_failed _ _ _ refl e))) in
     rw (p.1, p.2) it
 
@@ -46,23 +46,23 @@ returns-in_ok-route_on-in-Bench-clause-made g c =
     (c.in_ok-source-in-Bench.ensures.drawn ∙ ap (λ k. drawn_program c.in-Bench.start c.in-Bench.gates k) c.size.ensures.size)
     (c.in_ok-route_on-in-Bench.ensures.made text line is)
 
-pub returns-in_err-entry_work-in-Amplitude-clause-stop : goal.returns-in_err-entry_work-in-Amplitude-clause-stop
-returns-in_err-entry_work-in-Amplitude-clause-stop g c =
-    let p = err_from_is_err_and c.from_residual-in_err-entry_work-in-Amplitude.result c.from_residual-in_err-entry_work-in-Amplitude.ensures.1 in
+pub returns-in_err-entry_answer-in-Amplitude-clause-stop : goal.returns-in_err-entry_answer-in-Amplitude-clause-stop
+returns-in_err-entry_answer-in-Amplitude-clause-stop g c =
+    let p = err_from_is_err_and c.from_residual-in_err-entry_answer-in-Amplitude.result c.from_residual-in_err-entry_answer-in-Amplitude.ensures.1 in
     let h : Handed = handed (map (λ w. w.now) c.args.words.now) (g.I.Source.left c.args.input.now) (g.I.Source.faults c.args.input.now)
     (g.I.Source.faults c.read_source-in-Amplitude.new.input) (g.F.Shelf.content c.args.shelf.now) (g.F.Shelf.faults c.args.shelf.now)
     (g.F.Shelf.faults c.args.shelf.now) in
     let it = IsCause-question h c.in_ok-command.command (Amplitude c.in-Amplitude.from c.in-Amplitude.to) (Entry c.in-Amplitude.from c.in-Amplitude.to)
     (g.I.Source.left c.read_source-in-Amplitude.new.input) c.in_ok-source-in-Amplitude.source _ c.in_ok-command.ensures.ok c.in-Amplitude.is refl refl
-    c.in_ok-source-in-Amplitude.ensures.ok c.in_err-entry_work-in-Amplitude.ensures.err in
+    c.in_ok-source-in-Amplitude.ensures.ok c.in_err-entry_answer-in-Amplitude.ensures.err in
     rw (p.1, p.2) it
 
-pub returns-in_ok-entry_work-in-Amplitude-clause-made : goal.returns-in_ok-entry_work-in-Amplitude-clause-made
-returns-in_ok-entry_work-in-Amplitude-clause-made g c =
+pub returns-in_ok-entry_answer-in-Amplitude-clause-made : goal.returns-in_ok-entry_answer-in-Amplitude-clause-made
+returns-in_ok-entry_answer-in-Amplitude-clause-made g c =
     λ text line is. Delivers-entry (map (λ w. w.now) c.args.words.now) (g.F.Shelf.content c.args.shelf.now) c.in_ok-command.command c.in-Amplitude.from
     c.in-Amplitude.to (g.I.Source.left c.args.input.now) (g.I.Source.left c.read_source-in-Amplitude.new.input) c.in_ok-source-in-Amplitude.source
-    text line c.in_ok-command.ensures.ok c.in-Amplitude.is c.in_ok-source-in-Amplitude.ensures.ok c.in_ok-entry_work-in-Amplitude.ensures.answered
-    (c.in_ok-entry_work-in-Amplitude.ensures.made text line is)
+    text line c.in_ok-command.ensures.ok c.in-Amplitude.is c.in_ok-source-in-Amplitude.ensures.ok c.in_ok-entry_answer-in-Amplitude.ensures.answered
+    (c.in_ok-entry_answer-in-Amplitude.ensures.made text line is)
 
 pub returns-in_err-optimise_with_spares-in-OptWithSpares-clause-stop : goal.returns-in_err-optimise_with_spares-in-OptWithSpares-clause-stop
 returns-in_err-optimise_with_spares-in-OptWithSpares-clause-stop g c =

@@ -11,4 +11,4 @@ returns-clause-made c =
     let r = c.in_ok-rewritten.ensures in
     λ text line is. Rewrites-routed c.args.device.now c.args.source c.in_ok-target.target c.in_ok-rewritten.rewritten.items c.deref.result.now
     c.args.wishes.keep c.args.wishes.trivial c.args.wishes.clean c.args.wishes.trace text line c.deref.ensures.value c.facts.ensures.cut r.optimised r.asked
-    c.in_ok-target.ensures.stands (c.work_of.ensures.planned text line is)
+    c.in_ok-target.ensures.stands (c.answer_of.ensures.planned text line is)

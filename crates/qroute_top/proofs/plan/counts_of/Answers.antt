@@ -11,7 +11,7 @@ cx_count_of-cx-requires c =
     let next = counted-next length length-append c.parts-parts.result.now c.parts.part-index c.part-item.result c.parts-test.true c.part-item.is in
     record {
       fits = few_cx_counts c.as_slice-list.result.now
-          (omega (arith, next, ap length c.as_slice-list.ensures, c.parts.invariant.operations, c.facts.ensures.operations_limit));
+          (omega (arith, next, ap length c.as_slice-list.ensures.value, c.parts.invariant.operations, c.facts.ensures.operations_limit));
     }
 
 pub overflow_add-cx : goal.overflow_add-cx
@@ -21,7 +21,7 @@ overflow_add-cx c =
       arith,
       next,
       c.cx_count_of-cx.ensures.count,
-      ap cx_count c.as_slice-list.ensures,
+      ap cx_count c.as_slice-list.ensures.value,
       c.parts.invariant.cx,
       few_cx c.args.source.now.ops,
       c.facts.ensures.operations_limit,
@@ -32,7 +32,7 @@ t_count_of-t-requires c =
     let next = counted-next length length-append c.parts-parts.result.now c.parts.part-index c.part-item.result c.parts-test.true c.part-item.is in
     record {
       fits = few_t_counts c.as_slice-list.result.now
-          (omega (arith, next, ap length c.as_slice-list.ensures, c.parts.invariant.operations, c.facts.ensures.operations_limit));
+          (omega (arith, next, ap length c.as_slice-list.ensures.value, c.parts.invariant.operations, c.facts.ensures.operations_limit));
     }
 
 pub overflow_add-t : goal.overflow_add-t
@@ -42,7 +42,7 @@ overflow_add-t c =
       arith,
       next,
       c.t_count_of-t.ensures.count,
-      ap t_count c.as_slice-list.ensures,
+      ap t_count c.as_slice-list.ensures.value,
       c.parts.invariant.t,
       few_t c.args.source.now.ops,
       c.facts.ensures.operations_limit,
@@ -55,7 +55,7 @@ parts-preserved c =
     let all = counted-next length length-append os c.parts.part-index c.part-item.result c.parts-test.true c.part-item.is in
     let t = counted-next t_count t_count-append os c.parts.part-index c.part-item.result c.parts-test.true c.part-item.is in
     record {
-      cx = omega (arith, cx, c.cx_count_of-cx.ensures.count, ap cx_count c.as_slice-list.ensures, c.parts.invariant.cx);
-      operations = omega (arith, all, ap length c.as_slice-list.ensures, c.parts.invariant.operations);
-      t = omega (arith, t, c.t_count_of-t.ensures.count, ap t_count c.as_slice-list.ensures, c.parts.invariant.t);
+      cx = omega (arith, cx, c.cx_count_of-cx.ensures.count, ap cx_count c.as_slice-list.ensures.value, c.parts.invariant.cx);
+      operations = omega (arith, all, ap length c.as_slice-list.ensures.value, c.parts.invariant.operations);
+      t = omega (arith, t, c.t_count_of-t.ensures.count, ap t_count c.as_slice-list.ensures.value, c.parts.invariant.t);
     }

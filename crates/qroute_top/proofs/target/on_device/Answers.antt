@@ -4,7 +4,8 @@ use Rattle.std.specs.Prelude.{sum_by}
 use Rattle.program_parts.specs.Cuts.{whole}
 use Rattle.sabre_route.specs.Routing.{IsLayout}
 use Rattle.qroute_top.specs.InParts.{placed_bars, told_parts}
-use Rattle.qroute_top.specs.Targets.{AreRoutedParts, AreTraced, IsOnSize, gates_of, last_of, parts_of, turns_of}
+use Rattle.qroute_top.specs.Targets.{AreRoutedParts, AreTraced, IsAssembled, IsOnSize, gates_of, last_of, parts_of, turns_of}
+use Rattle.qroute_top.specs.declared.parts.PartTarget.{PartTarget}
 use Rattle.qroute_top.specs.declared.target.Target.{Target}
 use Rattle.qroute_top.proofs.MadeLaws.{IsFit-routed, Stands-routed, as-many, cost-few, edges-followed, optimised-fits, optimised-turns, optimised-wires, sizes-routed, swaps-few, turns-routed, wide-routed}
 use Rattle.qroute_top.proofs.target.on_device.Goals as goal
@@ -12,7 +13,7 @@ use Rattle.qroute_top.proofs.target.on_device.Goals as goal
 pub first_placement-requires-clause-each : goal.first_placement-requires-clause-each
 first_placement-requires-clause-each c =
     let s = c.args.source.now in
-    subst (λ n. All (λ r. r.passed.body.wires ≡ n) c.args.rewritten.now) (sym c.wires.ensures)
+    subst (λ n. All (λ r. r.passed.body.wires ≡ n) c.args.rewritten.now) (sym c.wires.ensures.value)
     (optimised-wires s.wires s.cut.parts c.args.rewritten.now c.requires.optimised)
 
 pub routed_parts-requires-clause-turns : goal.routed_parts-requires-clause-turns
@@ -46,30 +47,34 @@ placed_bars-requires-clause-placed c =
     subst (All (λ m. s.wires ≤ length m.last)) (sym c.deref-2.ensures.value) (wide-routed d c.args.clean s.wires given rs ms c.requires.fits e.routed)
 
 pub swaps_of-swaps-requires : goal.swaps_of-swaps-requires
-swaps_of-swaps-requires c =
-    let s = c.args.source.now in
-    let d = c.args.device.now in
-    let rs = c.args.rewritten.now in
-    let ms = c.in_ok-made.field-0.made.items in
-    let given = c.in_ok-given.given in
-    let e = c.in_ok-made.ensures in
-    let o = c.requires.optimised in
-    let f = c.facts.ensures in
-    let k = c.diameter-diameter.ensures in
-    subst (λ ns. sum_by (λ m. m.swaps) ns < 18446744073709551616) (sym c.deref-3.ensures.value)
-    (swaps-few c.args.clean d s given rs ms c.diameter-diameter.result f.parts o e.routed c.requires.fits k.diameter k.few
-    c.size-size.ensures.coupling.graph.limited f.operations_limit)
+swaps_of-swaps-requires c = record {
+  limit =
+      let s = c.args.source.now in
+      let d = c.args.device.now in
+      let rs = c.args.rewritten.now in
+      let ms = c.in_ok-made.field-0.made.items in
+      let given = c.in_ok-given.given in
+      let e = c.in_ok-made.ensures in
+      let o = c.requires.optimised in
+      let f = c.facts.ensures in
+      let k = c.diameter-diameter.ensures in
+      subst (λ ns. sum_by (λ m. m.swaps) ns < 18446744073709551616) (sym c.deref-3.ensures.value)
+      (swaps-few c.args.clean d s given rs ms c.diameter-diameter.result f.parts o e.routed c.requires.fits k.diameter k.below_size
+      c.facts-2.ensures.coupling.graph.limited f.operations_limit);
+}
 
 pub turn_of-turn-requires : goal.turn_of-turn-requires
-turn_of-turn-requires c =
-    let s = c.args.source.now in
-    let d = c.args.device.now in
-    let rs = c.args.rewritten.now in
-    let ms = c.in_ok-made.field-0.made.items in
-    let given = c.in_ok-given.given in
-    let e = c.in_ok-made.ensures in
-    let o = c.requires.optimised in
-    subst (All (λ m. m.turn < 8)) (sym c.deref-4.ensures.value) (turns-routed d c.args.clean given rs ms e.routed)
+turn_of-turn-requires c = record {
+  turns =
+      let s = c.args.source.now in
+      let d = c.args.device.now in
+      let rs = c.args.rewritten.now in
+      let ms = c.in_ok-made.field-0.made.items in
+      let given = c.in_ok-given.given in
+      let e = c.in_ok-made.ensures in
+      let o = c.requires.optimised in
+      subst (All (λ m. m.turn < 8)) (sym c.deref-4.ensures.value) (turns-routed d c.args.clean given rs ms e.routed);
+}
 
 pub told_parts-requires : goal.told_parts-requires
 told_parts-requires c =
@@ -104,8 +109,8 @@ cost_of-cost-requires-clause-edges c =
     let o = c.requires.optimised in
     edges-followed c.args.clean d s given rs ms c.in_ok-body.body.gates o e.routed c.requires.fits c.in_ok-body.ensures.gates
 
-pub cost_of-cost-requires-clause-few : goal.cost_of-cost-requires-clause-few
-cost_of-cost-requires-clause-few c =
+pub cost_of-cost-requires-clause-cx_limit : goal.cost_of-cost-requires-clause-cx_limit
+cost_of-cost-requires-clause-cx_limit c =
     let s = c.args.source.now in
     let d = c.args.device.now in
     let rs = c.args.rewritten.now in
@@ -115,20 +120,19 @@ cost_of-cost-requires-clause-few c =
     let o = c.requires.optimised in
     let f = c.facts.ensures in
     let k = c.diameter-diameter.ensures in
-    λ listed. cost-few c.args.clean d s given rs ms c.in_ok-body.body.gates c.diameter-diameter.result f.parts o e.routed c.requires.fits k.diameter k.few
-    c.size-size.ensures.coupling.graph.limited f.operations_limit c.in_ok-body.ensures.gates
+    λ listed. cost-few c.args.clean d s given rs ms c.in_ok-body.body.gates c.diameter-diameter.result f.parts o e.routed c.requires.fits k.diameter k.below_size
+    c.facts-2.ensures.coupling.graph.limited f.operations_limit c.in_ok-body.ensures.gates
 
-pub returns-clause-stands : goal.returns-clause-stands
-returns-clause-stands c =
+pub returns : goal.returns
+returns c =
     let s = c.args.source.now in
     let d = c.args.device.now in
     let rs = c.args.rewritten.now in
     let ms = c.in_ok-made.field-0.made.items in
-    let given = c.in_ok-given.given in
     let e = c.in_ok-made.ensures in
     let o = c.requires.optimised in
     let f = c.facts.ensures in
-    let begins = c.in_ok-initial.ensures in
+    let begins = c.in_ok-initial.ensures.ok in
     let t : Target = record {
       body = c.in_ok-body.body;
       lengths = c.in_ok-lengths.lengths;
@@ -142,53 +146,23 @@ returns-clause-stands c =
       spares = None;
       trace = c.in_ok-made.field-0.trace;
     } in
-    Stands-routed c.args.keep c.args.trivial c.args.clean d s rs ms t f.cut f.parts f.bars
-    (record {
+    let made : IsAssembled c.args.keep s ms t = record {
       gates = c.in_ok-body.ensures.gates;
-      lengths = c.in_ok-lengths.ensures ∙ ap (map (λ m. length m.body.gates)) c.deref.ensures.value;
-      bars = c.in_ok-barriers.ensures ∙ ap (λ ns. placed_bars (parts_of s.cut.parts ns) s.cut.bars) c.deref-2.ensures.value;
+      lengths = c.in_ok-lengths.ensures.ok ∙ ap (map (λ m. length m.body.gates)) c.deref.ensures.value;
+      bars = c.in_ok-barriers.ensures.ok ∙ ap (λ ns. placed_bars (parts_of s.cut.parts ns) s.cut.bars) c.deref-2.ensures.value;
       turn = c.turn_of-turn.ensures.sum ∙ ap (λ ns. turns_of ns % 8) c.deref-4.ensures.value;
-      tells = c.in_ok-parts.ensures ∙ ap (λ ns. told_parts c.args.keep (parts_of s.cut.parts ns)) c.deref-5.ensures.value;
-    })
-    o c.requires.steps c.requires.silent (subst (λ p. AreRoutedParts d c.args.clean p rs ms) (sym begins) e.routed) c.requires.fits
-    (c.in_ok-body.ensures.wires ∙ c.size-size.ensures.size) (e.last ∙ ap (λ p. last_of p ms) (sym begins))
-    (c.swaps_of-swaps.ensures ∙ ap (sum_by (λ m. m.swaps)) c.deref-3.ensures.value) (λ x. begins ∙ c.in_ok-given.ensures.trivial x)
-    (λ x. subst (IsLayout d (whole (gates_of rs))) (sym begins) (c.in_ok-given.ensures.laid_out x)) c.diameter-diameter.result
-    c.diameter-diameter.ensures.diameter c.cost_of-cost.ensures (λ x. subst (λ p. AreTraced d p rs ms c.in_ok-made.field-0.trace.items) (sym begins) (e.told x))
-    e.silent f.operations_limit f.fine refl
-
-pub returns-clause-fit : goal.returns-clause-fit
-returns-clause-fit c =
-    let s = c.args.source.now in
-    let d = c.args.device.now in
-    let rs = c.args.rewritten.now in
-    let ms = c.in_ok-made.field-0.made.items in
-    let given = c.in_ok-given.given in
-    let e = c.in_ok-made.ensures in
-    let o = c.requires.optimised in
-    let f = c.facts.ensures in
-    let begins = c.in_ok-initial.ensures in
-    let t : Target = record {
-      body = c.in_ok-body.body;
-      lengths = c.in_ok-lengths.lengths;
-      barriers = c.in_ok-barriers.barriers;
-      initial = c.in_ok-initial.initial;
-      last = c.in_ok-made.field-0.last;
-      swaps = c.swaps_of-swaps.result;
-      turn = c.turn_of-turn.result;
-      cost = c.cost_of-cost.result;
-      parts = c.in_ok-parts.parts;
-      spares = None;
-      trace = c.in_ok-made.field-0.trace;
+      tells = c.in_ok-parts.ensures.ok ∙ ap (λ ns. told_parts c.args.keep (parts_of s.cut.parts ns)) c.deref-5.ensures.value;
     } in
-    IsFit-routed c.args.keep c.args.clean d s rs ms t f.cut f.parts f.bars
-    (record {
-      gates = c.in_ok-body.ensures.gates;
-      lengths = c.in_ok-lengths.ensures ∙ ap (map (λ m. length m.body.gates)) c.deref.ensures.value;
-      bars = c.in_ok-barriers.ensures ∙ ap (λ ns. placed_bars (parts_of s.cut.parts ns) s.cut.bars) c.deref-2.ensures.value;
-      turn = c.turn_of-turn.ensures.sum ∙ ap (λ ns. turns_of ns % 8) c.deref-4.ensures.value;
-      tells = c.in_ok-parts.ensures ∙ ap (λ ns. told_parts c.args.keep (parts_of s.cut.parts ns)) c.deref-5.ensures.value;
-    })
-    o (subst (λ p. AreRoutedParts d c.args.clean p rs ms) (sym begins) e.routed) c.requires.fits
-    (c.in_ok-body.ensures.wires ∙ c.size-size.ensures.size) (e.last ∙ ap (λ p. last_of p ms) (sym begins))
-    (c.swaps_of-swaps.ensures ∙ ap (sum_by (λ m. m.swaps)) c.deref-3.ensures.value) (ap length begins ∙ c.in_ok-given.ensures.placed) e.lines
+    let routed : AreRoutedParts d c.args.clean t.initial rs ms = subst (λ p. AreRoutedParts d c.args.clean p rs ms) (sym begins) e.routed in
+    let wires : t.body.wires ≡ d.size = c.in_ok-body.ensures.wires ∙ c.size-size.ensures.size in
+    let ends : t.last ≡ last_of t.initial ms = e.last ∙ ap (λ p. last_of p ms) (sym begins) in
+    let swaps : t.swaps ≡ sum_by (λ (m : PartTarget). m.swaps) ms = c.swaps_of-swaps.ensures.value ∙ ap (sum_by (λ m. m.swaps)) c.deref-3.ensures.value in
+    record {
+      stands = Stands-routed c.args.keep c.args.trivial c.args.clean d s rs ms t f.cut f.parts f.bars made o c.requires.steps c.requires.silent routed
+          c.requires.fits wires ends swaps (λ x. begins ∙ c.in_ok-given.ensures.trivial x)
+          (λ x. subst (IsLayout d (whole (gates_of rs))) (sym begins) (c.in_ok-given.ensures.laid_out x)) c.diameter-diameter.result
+          c.diameter-diameter.ensures.diameter c.cost_of-cost.ensures.value
+          (λ x. subst (λ p. AreTraced d p rs ms c.in_ok-made.field-0.trace.items) (sym begins) (e.told x)) e.silent f.operations_limit f.fine refl;
+      fit = IsFit-routed c.args.keep c.args.clean d s rs ms t f.cut f.parts f.bars made o routed c.requires.fits wires ends swaps
+          (ap length begins ∙ c.in_ok-given.ensures.placed) e.lines;
+    }

@@ -18,4 +18,4 @@ returns-clause-stands c =
     let wires = c.in_ok-made.ensures.wires ∙ ap (λ n. n + m) o.wires in
     let own = c.in_ok-own.ensures.identity ∙ ap identity c.wires.ensures.wires in
     IsSparedTarget-made c.spared_chain.ensures.chain laws.entries laws.fine laws.t_gates s m _ p made.turn o layers wires c.turn_sum.ensures.sum
-    (c.in_ok-initial.ensures ∙ own) own refl refl refl refl c.new.ensures.items c.new-2.ensures.items
+    (c.in_ok-initial.ensures.ok ∙ own) own refl refl refl refl c.new.ensures.items c.new-2.ensures.items

@@ -6,7 +6,7 @@ returns-clause-optimised c =
     let e = c.in_ok-expanded.ensures in
     let r = c.in_ok-passed.ensures in
     IsOptimised-rewritten _ _ c.in_ok-expanded.expanded c.in_ok-passed.field-0.passed _ e.wires e.below e.same (e.odd_paths _) e.cx_count r.wires
-    r.law r.settled c.turn_sum-turn.ensures.sum c.wires-wires.ensures.fine
+    r.law r.settled c.turn_sum-turn.ensures.sum c.facts.ensures.fine
 
 pub returns-clause-steps : goal.returns-clause-steps
 returns-clause-steps c =

@@ -1,7 +1,6 @@
 -- The first parts on the device.
 use Rattle.std.proofs.Common.{◌≡◌, [], All, None, false, length, take}
-use Rattle.rewrite_pass.specs.TraceLines.{ended}
-use Rattle.trace_text.specs.Texts.{lines_of}
+use Rattle.trace_text.specs.Texts.{ended, lines_of}
 use Rattle.qroute_top.specs.Targets.{AreRoutedParts, AreTraced, last_of}
 use Rattle.qroute_top.proofs.target.routed_parts.Given as goal
 

@@ -20,7 +20,7 @@ put_blocks-requires-clause-partition c =
 
 pub bring-requires-clause-to : goal.bring-requires-clause-to
 bring-requires-clause-to c =
-    subst (IsWide c.args.wires c.args.spares) (sym (c.in_ok-last.ensures ∙ ap (λ (rows : List ℕ). spare_rows c.args.spares rows) c.map.ensures)) c.requires.map
+    subst (IsWide c.args.wires c.args.spares) (sym (c.in_ok-last.ensures.ok ∙ ap (λ (rows : List ℕ). spare_rows c.args.spares rows) c.map.ensures.value)) c.requires.map
 
 pub returns-clause-anew : goal.returns-clause-anew
 returns-clause-anew c =
@@ -33,9 +33,9 @@ returns-clause-anew c =
       woven = subst (λ j. IsWoven c.args.wires c.args.spares j c.put_blocks.new.gates.items c.put_blocks.new.held.items (picked c.args.sum.now.terms (map (λ b. b.items) c.args.blocks.now)))
           (sym (length-map c.args.blocks.now (λ b. b.items)))
           (subst (λ (ts : List Term). IsWoven c.args.wires c.args.spares (length c.args.blocks.now) c.put_blocks.new.gates.items c.put_blocks.new.held.items (picked ts (map (λ b. b.items) c.args.blocks.now))) c.terms.ensures.same c.in_ok-put_blocks.ensures.woven);
-      map = c.in_ok-last.ensures ∙ ap (λ (rows : List ℕ). spare_rows c.args.spares rows) c.map.ensures;
+      map = c.in_ok-last.ensures.ok ∙ ap (λ (rows : List ℕ). spare_rows c.args.spares rows) c.map.ensures.value;
       brought = c.in_ok-bring.ensures.brought;
-      written = pushed ∙ ap (λ f. c.bring.new.gates.items ++ flip_gates c.args.wires f) c.flips.ensures;
-      flips = c.in_ok-flips.ensures.number ∙ ap (λ f. length (flip_gates c.args.wires f)) c.flips.ensures;
+      written = pushed ∙ ap (λ f. c.bring.new.gates.items ++ flip_gates c.args.wires f) c.flips.ensures.value;
+      flips = c.in_ok-flips.ensures.number ∙ ap (λ f. length (flip_gates c.args.wires f)) c.flips.ensures.value;
       constant = c.constant.ensures.same;
     }))

@@ -1,5 +1,5 @@
 use Rattle.std.proofs.Common.{◌≡◌, ◌++◌, take}
-use Rattle.phase_poly.specs.Layers.{hadamards}
+use Rattle.circuit_layers.specs.Layers.{hadamards}
 use Rattle.spare_layers.proofs.pass.push_hadamards.Given as goal
 
 abbrev pub invariant-pushed : goal.invariant-pushed

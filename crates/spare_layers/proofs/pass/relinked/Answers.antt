@@ -1,7 +1,7 @@
 use Rattle.std.proofs.Common.{◌≡◌, ◌++◌, ℕ, List, slice_index_or, subst, sym, ◌∙◌, ap, arith, append_assoc}
 use Rattle.std.proofs.lemmas.Grind.{common_steps}
 use Rattle.circuit_list.specs.declared.Gate.{Gate}
-use Rattle.phase_poly.specs.Layers.{no_gates, hadamards}
+use Rattle.circuit_layers.specs.Layers.{no_gates, hadamards}
 use Rattle.phase_poly.specs.Polys.{AreDihedral}
 use Rattle.phase_poly.proofs.RelinkedLaws.{dihedral_layer}
 use Rattle.spare_layers.specs.SparedLayers.{IsSparedLayer}

@@ -17,7 +17,7 @@ pub returns-then-eq-clause-place : goal.returns-then-eq-clause-place
 returns-then-eq-clause-place c = λ y e trace n q k is.
     let h = c.lines.invariant.came e trace n q k is in
     let ks : List ℕ = c.read_words.new.numbers.items in
-    let first : c.in-Some.line.now ≡ words (spelling c.in-Some-2.word) ks = some-of _ c.in_ok-word.field-0 c.in-Some-2.word _ c.in-Some-2.is c.in_ok-word.ensures in
+    let first : c.in-Some.line.now ≡ words (spelling c.in-Some-2.word) ks = some-of _ c.in_ok-word.field-0 c.in-Some-2.word _ c.in-Some-2.is c.in_ok-word.ensures.ok in
     let word : c.in-Some-2.word ≡ kind.Place = search rules in
     let front : c.in-Some.line.now ≡ words (codes "place") ks = first ∙ ap (λ w. words (spelling w) ks) word in
     let lines : lines_of c.lines.mark.text.now ≡ words (codes "place") ks ∷ lines_of c.in-Some.text.now = c.in-Some.ensures.lines ∙ ap (λ l. l ∷ lines_of c.in-Some.text.now) front in
@@ -29,7 +29,7 @@ lines-preserved c =
     let t : Passed = c.changed.new.state in
     let m : Mark = c.in-Some-3.next in
     let ks : List ℕ = c.read_words.new.numbers.items in
-    let first : c.in-Some.line.now ≡ words (spelling c.in-Some-2.word) ks = some-of _ c.in_ok-word.field-0 c.in-Some-2.word _ c.in-Some-2.is c.in_ok-word.ensures in
+    let first : c.in-Some.line.now ≡ words (spelling c.in-Some-2.word) ks = some-of _ c.in_ok-word.field-0 c.in-Some-2.word _ c.in-Some-2.is c.in_ok-word.ensures.ok in
     let lines : lines_of c.lines.mark.text.now ≡ words (spelling c.in-Some-2.word) ks ∷ lines_of c.in-Some.text.now = c.in-Some.ensures.lines ∙ ap (λ l. l ∷ lines_of c.in-Some.text.now) first in
     let step = some-of _ c.in_ok-next.field-0 m _ c.in-Some-3.is c.in_ok-next.ensures.step in
     let leads : Leads s t (lines_of c.lines.mark.text.now) (lines_of m.text.now) = subst (λ x. Leads s t x (lines_of m.text.now)) (sym lines) step in
@@ -54,10 +54,10 @@ returns-clause-stops c = λ y e trace n q k is.
     came-blocked e trace s (lines_of c.lines.mark.text.now) h.0 c.lines.mark.line (q ∙ sym c.lines.invariant.wires)
     (elim c.match-first_line.branch [
       | in-Some+in_ok-word+in_default-2 w ↦
-          subst (Blocked s) (sym w.in-Some.ensures.lines) (λ d r. stuck-unread d (reached s) w.in-Some.line.now (lines_of w.in-Some.text.now) (none-of _ w.in_ok-word.field-0 _ w.in_default-2.is w.in_ok-word.ensures))
+          subst (Blocked s) (sym w.in-Some.ensures.lines) (λ d r. stuck-unread d (reached s) w.in-Some.line.now (lines_of w.in-Some.text.now) (none-of _ w.in_ok-word.field-0 _ w.in_default-2.is w.in_ok-word.ensures.ok))
       | in-Some+in_ok-word+in-Some-2+else-eq+in_ok-next+in_default-3 w ↦
           let ks : List ℕ = w.read_words.new.numbers.items in
-          let first : w.in-Some.line.now ≡ words (spelling w.in-Some-2.word) ks = some-of _ w.in_ok-word.field-0 w.in-Some-2.word _ w.in-Some-2.is w.in_ok-word.ensures in
+          let first : w.in-Some.line.now ≡ words (spelling w.in-Some-2.word) ks = some-of _ w.in_ok-word.field-0 w.in-Some-2.word _ w.in-Some-2.is w.in_ok-word.ensures.ok in
           let lines : lines_of c.lines.mark.text.now ≡ words (spelling w.in-Some-2.word) ks ∷ lines_of w.in-Some.text.now = w.in-Some.ensures.lines ∙ ap (λ l. l ∷ lines_of w.in-Some.text.now) first in
           subst (Blocked s) (sym lines) (none-of _ w.in_ok-next.field-0 _ w.in_default-3.is w.in_ok-next.ensures.step)
       | in_default w ↦ subst (Blocked s) (sym w.in_default.ensures.lines) (λ d r. stuck-nothing d (reached s))

@@ -9,10 +9,10 @@ pub returns-in-Some-clause-applies : goal.returns-in-Some-clause-applies
 returns-in-Some-clause-applies c = λ y old is.
     let h = c.back.ensures.applies y in
     let new : List Gate = old ++ turned_cx (slice_index c.args.state.now.now h.0) (slice_index c.args.state.now.now h.1.0) in
-    (new, (h.1.1.1.1.0 old is, backs-goes (placed c.args.state.now old) (placed c.back.new.state new) c.args.numbers.now c.in-Some.place h.0 h.1.0 (numbers-small c.args.numbers.now c.type_inv.numbers) c.in-Some.ensures h.1.1.0 (λ i. (c.back.ensures.first i).items) c.back.ensures.now h.1.1.1.0 refl h.1.1.1.1.1))
+    (new, (h.1.1.1.1.0 old is, backs-goes (placed c.args.state.now old) (placed c.back.new.state new) c.args.numbers.now c.in-Some.place h.0 h.1.0 (numbers-small c.args.numbers.now c.type_inv.numbers) c.in-Some.ensures.found h.1.1.0 (λ i. (c.back.ensures.first i).items) c.back.ensures.now h.1.1.1.0 refl h.1.1.1.1.1))
 
 pub returns-in-Some-clause-not : goal.returns-in-Some-clause-not
-returns-in-Some-clause-not c = λ n written. backs-halts (placed c.args.state.now written) c.args.numbers.now c.in-Some.place (numbers-small c.args.numbers.now c.type_inv.numbers) c.in-Some.ensures (c.back.ensures.not n).0
+returns-in-Some-clause-not c = λ n written. backs-halts (placed c.args.state.now written) c.args.numbers.now c.in-Some.place (numbers-small c.args.numbers.now c.type_inv.numbers) c.in-Some.ensures.found (c.back.ensures.not n).0
 
 pub returns-in-None-clause-not : goal.returns-in-None-clause-not
-returns-in-None-clause-not c = λ n written e behind q. stuck-backs e (Routed (placed c.args.state.now written)) c.args.numbers.now behind (numbers-small c.args.numbers.now c.type_inv.numbers) c.in-None.ensures
+returns-in-None-clause-not c = λ n written e behind q. stuck-backs e (Routed (placed c.args.state.now written)) c.args.numbers.now behind (numbers-small c.args.numbers.now c.type_inv.numbers) c.in-None.ensures.found

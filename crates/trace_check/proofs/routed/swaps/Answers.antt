@@ -9,10 +9,10 @@ pub returns-in-Some-clause-applies : goal.returns-in-Some-clause-applies
 returns-in-Some-clause-applies c = λ y old is.
     let h = c.swap.ensures.applies y in
     let new : List Gate = old ++ swap_cx c.in-Some.u c.in-Some.v in
-    (new, (h.1.1.1.1 old is, swaps-goes (placed c.args.state.now old) (placed c.swap.new.state new) c.args.numbers.now c.in-Some.u c.in-Some.v c.requires.turn (numbers-small c.args.numbers.now c.type_inv.numbers) c.in-Some.ensures h.0 h.1.0 h.1.1.0 (λ i. (c.swap.ensures.first i).items) h.1.1.1.0 (λ i. (c.swap.ensures.rest i).gates) refl c.swap.ensures.turn))
+    (new, (h.1.1.1.1 old is, swaps-goes (placed c.args.state.now old) (placed c.swap.new.state new) c.args.numbers.now c.in-Some.u c.in-Some.v c.requires.turn (numbers-small c.args.numbers.now c.type_inv.numbers) c.in-Some.ensures.found h.0 h.1.0 h.1.1.0 (λ i. (c.swap.ensures.first i).items) h.1.1.1.0 (λ i. (c.swap.ensures.rest i).gates) refl c.swap.ensures.turn))
 
 pub returns-in-Some-clause-not : goal.returns-in-Some-clause-not
-returns-in-Some-clause-not c = λ n written. swaps-halts (placed c.args.state.now written) c.args.numbers.now c.in-Some.u c.in-Some.v (numbers-small c.args.numbers.now c.type_inv.numbers) c.in-Some.ensures (c.swap.ensures.not n).0
+returns-in-Some-clause-not c = λ n written. swaps-halts (placed c.args.state.now written) c.args.numbers.now c.in-Some.u c.in-Some.v (numbers-small c.args.numbers.now c.type_inv.numbers) c.in-Some.ensures.found (c.swap.ensures.not n).0
 
 pub returns-in-None-clause-not : goal.returns-in-None-clause-not
-returns-in-None-clause-not c = λ n written e behind q. stuck-swaps e (Routed (placed c.args.state.now written)) c.args.numbers.now behind (numbers-small c.args.numbers.now c.type_inv.numbers) c.in-None.ensures
+returns-in-None-clause-not c = λ n written e behind q. stuck-swaps e (Routed (placed c.args.state.now written)) c.args.numbers.now behind (numbers-small c.args.numbers.now c.type_inv.numbers) c.in-None.ensures.found

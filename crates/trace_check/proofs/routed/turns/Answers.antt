@@ -9,10 +9,10 @@ pub returns-in-Some-clause-applies : goal.returns-in-Some-clause-applies
 returns-in-Some-clause-applies c = λ y old is.
     let h = c.turn.ensures.applies y in
     let new : List Gate = old ++ turn_cx c.in-Some.u c.in-Some.v in
-    (new, (h.1.1.1.1.0 old is, turns-goes (placed c.args.state.now old) (placed c.turn.new.state new) c.args.numbers.now c.in-Some.u c.in-Some.v (numbers-small c.args.numbers.now c.type_inv.numbers) c.in-Some.ensures h.0 h.1.0 h.1.1.0 (λ i. (c.turn.ensures.first i).items) h.1.1.1.0 (λ i. (c.turn.ensures.rest i).gates) refl h.1.1.1.1.1))
+    (new, (h.1.1.1.1.0 old is, turns-goes (placed c.args.state.now old) (placed c.turn.new.state new) c.args.numbers.now c.in-Some.u c.in-Some.v (numbers-small c.args.numbers.now c.type_inv.numbers) c.in-Some.ensures.found h.0 h.1.0 h.1.1.0 (λ i. (c.turn.ensures.first i).items) h.1.1.1.0 (λ i. (c.turn.ensures.rest i).gates) refl h.1.1.1.1.1))
 
 pub returns-in-Some-clause-not : goal.returns-in-Some-clause-not
-returns-in-Some-clause-not c = λ n written. turns-halts (placed c.args.state.now written) c.args.numbers.now c.in-Some.u c.in-Some.v (numbers-small c.args.numbers.now c.type_inv.numbers) c.in-Some.ensures (c.turn.ensures.not n).0
+returns-in-Some-clause-not c = λ n written. turns-halts (placed c.args.state.now written) c.args.numbers.now c.in-Some.u c.in-Some.v (numbers-small c.args.numbers.now c.type_inv.numbers) c.in-Some.ensures.found (c.turn.ensures.not n).0
 
 pub returns-in-None-clause-not : goal.returns-in-None-clause-not
-returns-in-None-clause-not c = λ n written e behind q. stuck-turns e (Routed (placed c.args.state.now written)) c.args.numbers.now behind (numbers-small c.args.numbers.now c.type_inv.numbers) c.in-None.ensures
+returns-in-None-clause-not c = λ n written e behind q. stuck-turns e (Routed (placed c.args.state.now written)) c.args.numbers.now behind (numbers-small c.args.numbers.now c.type_inv.numbers) c.in-None.ensures.found

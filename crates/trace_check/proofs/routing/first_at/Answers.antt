@@ -15,7 +15,7 @@ returns-in-None-second-clause-first c =
     let g = c.gate_at-gate.result in
     let p = c.slot-slot.ensures.place in
     first-free gs c.args.place c.wires-first.result.0 c.wires-first.result.1 g (subst (λ k. slice_get gs k ≡ Some g) p c.gate_at-gate.ensures.there) c.wires-first.ensures.all
-    (subst (λ k. NoneBefore c.wires-first.result.0 gs k) p c.in-None.ensures) (λ w e. none c.wires-first.result.1 w _ c.in-None-second.is e)
+    (subst (λ k. NoneBefore c.wires-first.result.0 gs k) p c.in-None.ensures.found) (λ w e. none c.wires-first.result.1 w _ c.in-None-second.is e)
 
 pub returns-in-None-prev_on-clause-first : goal.returns-in-None-prev_on-clause-first
 returns-in-None-prev_on-clause-first c =
@@ -23,6 +23,6 @@ returns-in-None-prev_on-clause-first c =
     let g = c.gate_at-gate.result in
     let p = c.slot-slot.ensures.place in
     first-free gs c.args.place c.wires-first.result.0 c.wires-first.result.1 g (subst (λ k. slice_get gs k ≡ Some g) p c.gate_at-gate.ensures.there) c.wires-first.ensures.all
-    (subst (λ k. NoneBefore c.wires-first.result.0 gs k) p c.in-None.ensures)
+    (subst (λ k. NoneBefore c.wires-first.result.0 gs k) p c.in-None.ensures.found)
     (λ w e. subst (λ v. NoneBefore v gs c.args.place) (same c.wires-first.result.1 c.in-Some-second.wire w c.in-Some-second.is e)
-    (subst (λ k. NoneBefore c.in-Some-second.wire gs k) p c.in-None-prev_on.ensures))
+    (subst (λ k. NoneBefore c.in-Some-second.wire gs k) p c.in-None-prev_on.ensures.found))

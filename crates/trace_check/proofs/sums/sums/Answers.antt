@@ -15,7 +15,7 @@ returns-then-are_none c =
     let two = c.walked-2.new.totals in
     let a = c.in_ok-before.before in
     let b = c.in_ok-after.after in
-    let second : IsWalked n B 1 one two b = subst (λ k. IsWalked k B 1 one two b) (sym c.requires) c.in_ok-after.ensures in
+    let second : IsWalked n B 1 one two b = subst (λ k. IsWalked k B 1 one two b) (sym c.requires.wires) c.in_ok-after.ensures in
     record {
       same = (
         same-sums n A B none one two a b c.new-totals.ensures.sets c.new-totals.ensures.constant c.in_ok-before.ensures second (c.is_same.ensures.0 c.if-is_same.true) (c.are_none.ensures.0 c.if-are_none.true),
@@ -33,7 +33,7 @@ returns c =
     let two = c.walked-2.new.totals in
     let a = c.in_ok-before.before in
     let b = c.in_ok-after.after in
-    let second : IsWalked n B 1 one two b = subst (λ k. IsWalked k B 1 one two b) (sym c.requires) c.in_ok-after.ensures in
+    let second : IsWalked n B 1 one two b = subst (λ k. IsWalked k B 1 one two b) (sym c.requires.wires) c.in_ok-after.ensures in
     record {
       same = λ h. elim c.else-is_same.branch [
         | else-is_same-via-then-is_same+else-are_none w ↦

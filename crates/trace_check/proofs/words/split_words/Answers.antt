@@ -12,9 +12,12 @@ numbers-init c =
     (subst (λ m. IsSplit line (take m line) [] (drop m line)) (sym c.piece_len-size.ensures.value) (split-start line)))
 
 pub returns-in_default : goal.returns-in_default
-returns-in_default c = λ w ks hw hk e.
-    split-no_number c.args.line.now (take c.piece_len-size.result c.args.line.now) c.numbers.numbers.items c.numbers.rest.now w ks c.numbers.invariant
-    (filled c.is_empty.result (length c.numbers.rest.now) c.is_empty.ensures c.numbers-test.true) c.in_default.ensures.number hw hk e
+returns-in_default c = record {
+  ok =
+      λ w ks hw hk e.
+      split-no_number c.args.line.now (take c.piece_len-size.result c.args.line.now) c.numbers.numbers.items c.numbers.rest.now w ks c.numbers.invariant
+      (filled c.is_empty.result (length c.numbers.rest.now) c.is_empty.ensures c.numbers-test.true) c.in_default.ensures.number hw hk e;
+}
 
 pub numbers-preserved : goal.numbers-preserved
 numbers-preserved c =

@@ -44,7 +44,7 @@ returns c =
     let few : length c.args.gates.now ≤ length c.args.self.now.nodes.items = omega (arith, c.requires.1.0.nodes) in
     record {
       tree = IsTree-written c.args.self.now.height c.args.self.now.nodes.len es c.args.gates.now c.args.self.now.nodes.items c.add.new.nodes c.requires.1.0.links.tree
-          (written ∙ value) (sym c.deref_mut.ensures.len ∙ value) few (λ j pos lt. c.add.ensures j pos (omega (arith, written)));
+          (written ∙ value) (sym c.deref_mut.ensures.len ∙ value) few (λ j pos lt. c.add.ensures.new j pos (omega (arith, written)));
       marked = subst (λ (xs : List (Option Gate)). IsMarked xs c.put_marks.new.marks.items) (sym same)
           (IsMarked-push es c.args.self.now.marks.items c.put_marks.new.marks.items (length c.args.gates.now - 1) (Some c.args.gate) len c.requires.1.0.links.marked
           (subst (λ n. n / 64 * 64 + 64 ≤ length c.args.self.now.marks.items) (sym len) c.requires.1.0.marks) c.put_marks.ensures.len c.put_marks.ensures.marks);

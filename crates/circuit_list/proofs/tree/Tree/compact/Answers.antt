@@ -8,5 +8,5 @@ use Rattle.circuit_list.proofs.tree.Tree.compact.Goals as goal
 pub invariant_of-self : goal.invariant_of-self
 invariant_of-self c = (
   c.self.invariant.0 ∙ sym (rank-same c.self.inside.gates.items c.in_ok-gates.gates.items (c.in_ok-gates.ensures ∙ ap gates_of c.deref.ensures.value)),
-  subst (λ (xs : List (Option Gate)). IfSome c.in_ok-links.links (IsLinks xs)) c.deref-2.ensures.value c.in_ok-links.ensures,
+  subst (λ (xs : List (Option Gate)). IfSome c.in_ok-links.links (IsLinks xs)) c.deref-2.ensures.value c.in_ok-links.ensures.ok,
 )

@@ -6,18 +6,20 @@ use Rattle.circuit_list.proofs.TreeLaws.{meets_live}
 use Rattle.circuit_list.proofs.tree.Tree.prev_on.Goals as goal
 
 pub gate-requires : goal.gate-requires
-gate-requires c = ap is_live (meets_live (wire_bit c.args.wire) (entry c.args.self.now c.in-Some.prev) c.in-Some.ensures.on).1
+gate-requires c = record { live = ap is_live (meets_live (wire_bit c.args.wire) (entry c.args.self.now c.in-Some.prev) c.in-Some.ensures.on).1 }
 
 pub returns-then-is_on : goal.returns-then-is_on
-returns-then-is_on c =
-    let before : c.in-Some.prev < c.marked.first = c.in-Some.ensures.below in
-    let to : c.marked.first ≤ c.args.slot = c.marked.invariant.to in
-    record {
-      below = omega arith;
-      on = on_gate c.args.wire (entry c.args.self.now c.in-Some.prev) c.gate.result c.is_on.result true c.gate.ensures c.is_on.ensures c.if-is_on.true;
-      none = NoGateOn-both c.args.wire c.args.self.now (c.in-Some.prev + 1) c.marked.first c.args.slot
-          (NoGateOn-marked c.args.wire c.args.self.now (c.in-Some.prev + 1) c.marked.first c.in-Some.ensures.none) c.marked.invariant.none;
-    }
+returns-then-is_on c = record {
+  found =
+      let before : c.in-Some.prev < c.marked.first = c.in-Some.ensures.below in
+      let to : c.marked.first ≤ c.args.slot = c.marked.invariant.to in
+      record {
+        below = omega arith;
+        on = on_gate c.args.wire (entry c.args.self.now c.in-Some.prev) c.gate.result c.is_on.result true c.gate.ensures.value c.is_on.ensures.value c.if-is_on.true;
+        none = NoGateOn-both c.args.wire c.args.self.now (c.in-Some.prev + 1) c.marked.first c.args.slot
+            (NoGateOn-marked c.args.wire c.args.self.now (c.in-Some.prev + 1) c.marked.first c.in-Some.ensures.none) c.marked.invariant.none;
+      };
+}
 
 pub marked-preserved : goal.marked-preserved
 marked-preserved c =
@@ -29,12 +31,14 @@ marked-preserved c =
       to = omega arith;
       none = NoGateOn-joined c.args.wire c.args.self.now c.in-Some.prev c.in-Some.prev c.args.slot
           (λ s ge lt. absurd (omega arith))
-          (on_gate c.args.wire (entry c.args.self.now c.in-Some.prev) c.gate.result c.is_on.result false c.gate.ensures c.is_on.ensures c.if-is_on.false)
+          (on_gate c.args.wire (entry c.args.self.now c.in-Some.prev) c.gate.result c.is_on.result false c.gate.ensures.value c.is_on.ensures.value c.if-is_on.false)
           (NoGateOn-both c.args.wire c.args.self.now (c.in-Some.prev + 1) c.marked.first c.args.slot
           (NoGateOn-marked c.args.wire c.args.self.now (c.in-Some.prev + 1) c.marked.first c.in-Some.ensures.none) c.marked.invariant.none);
     }
 
 pub returns : goal.returns
-returns c =
-    NoGateOn-both c.args.wire c.args.self.now 0 c.marked.first c.args.slot
-    (NoGateOn-marked c.args.wire c.args.self.now 0 c.marked.first c.in_default.ensures) c.marked.invariant.none
+returns c = record {
+  found =
+      NoGateOn-both c.args.wire c.args.self.now 0 c.marked.first c.args.slot
+      (NoGateOn-marked c.args.wire c.args.self.now 0 c.marked.first c.in_default.ensures) c.marked.invariant.none;
+}

@@ -20,4 +20,4 @@ invariant_of-self-2 c =
     let before : c.self.inside.count ≡ rank items (length items) = c.self.invariant.0 ∙ ap (λ (xs : List (Option Gate)). rank xs (length xs)) (sym c.reserve.ensures.items) in
     let more : rank c.push.new.self.items (length c.push.new.self.items) ≡ rank items (length items) + 1 =
     ap (λ (xs : List (Option Gate)). rank xs (length xs)) c.in_ok-push.ensures.items ∙ rank-push items c.args.gate in
-    (omega arith, subst (λ (xs : List (Option Gate)). IfSome c.link_last.new.links (IsLinks xs)) c.deref-2.ensures.value c.link_last.ensures)
+    (omega arith, subst (λ (xs : List (Option Gate)). IfSome c.link_last.new.links (IsLinks xs)) c.deref-2.ensures.value c.link_last.ensures.linked)

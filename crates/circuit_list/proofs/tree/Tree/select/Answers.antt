@@ -15,14 +15,14 @@ slot_at-requires-clause-there c =
     (λ i. (node_at (c.deref.ensures.value i) (c.deref-in-Some.ensures.value i) 1).count)
     ∙ count_root c.in-Some.links.height c.self.inside.gates.items c.in-Some.links.nodes.items (omega (arith, ap (λ (xs : List (Option Gate)). length xs) c.deref.ensures.value)) links.tree
     ∙ ap (λ (xs : List (Option Gate)). rank xs (length xs)) c.self.view_is in
-    omega (arith, c.requires)
+    omega (arith, c.requires.within)
 
 pub returns-then-count-entries-clause-live : goal.returns-then-count-entries-clause-live
 returns-then-count-entries-clause-live c =
-    let full : rank c.args.self.now (length c.args.self.now) ≡ length c.args.self.now = sym c.count.ensures ∙ c.if-count-entries.true ∙ ap (λ (xs : List (Option Gate)). length xs) c.entries.ensures in
-    (rank_full c.args.self.now c.args.place full (omega (arith, c.requires))).1
+    let full : rank c.args.self.now (length c.args.self.now) ≡ length c.args.self.now = sym c.count.ensures.value ∙ c.if-count-entries.true ∙ ap (λ (xs : List (Option Gate)). length xs) c.entries.ensures.value in
+    (rank_full c.args.self.now c.args.place full (omega (arith, c.requires.within))).1
 
 pub returns-then-count-entries-clause-rank : goal.returns-then-count-entries-clause-rank
 returns-then-count-entries-clause-rank c =
-    let full : rank c.args.self.now (length c.args.self.now) ≡ length c.args.self.now = sym c.count.ensures ∙ c.if-count-entries.true ∙ ap (λ (xs : List (Option Gate)). length xs) c.entries.ensures in
-    (rank_full c.args.self.now c.args.place full (omega (arith, c.requires))).0
+    let full : rank c.args.self.now (length c.args.self.now) ≡ length c.args.self.now = sym c.count.ensures.value ∙ c.if-count-entries.true ∙ ap (λ (xs : List (Option Gate)). length xs) c.entries.ensures.value in
+    (rank_full c.args.self.now c.args.place full (omega (arith, c.requires.within))).0

@@ -10,15 +10,15 @@ use Rattle.circuit_list.proofs.tree.Tree.set.Goals as goal
 pub recounted-self-inside-requires-clause-there : goal.recounted-self-inside-requires-clause-there
 recounted-self-inside-requires-clause-there c =
     let es = c.self.inside.gates.items in
-    let within : c.args.slot < length es = omega (arith, c.requires, ap (λ (xs : List (Option Gate)). length xs) c.self.view_is) in
+    let within : c.args.slot < length es = omega (arith, c.requires.within, ap (λ (xs : List (Option Gate)). length xs) c.self.view_is) in
     let here = ap (λ (o : Option Gate). (leaf o).count) (get_or_read es _ _ within c.index-before.ensures None) in
     let low = rank_there es c.args.slot in
     omega (arith, c.self.invariant.0)
 
-pub recounted-self-inside-requires-clause-few : goal.recounted-self-inside-requires-clause-few
-recounted-self-inside-requires-clause-few c =
+pub recounted-self-inside-requires-clause-count_limit : goal.recounted-self-inside-requires-clause-count_limit
+recounted-self-inside-requires-clause-count_limit c =
     let es = c.self.inside.gates.items in
-    let within : c.args.slot < length es = omega (arith, c.requires, ap (λ (xs : List (Option Gate)). length xs) c.self.view_is) in
+    let within : c.args.slot < length es = omega (arith, c.requires.within, ap (λ (xs : List (Option Gate)). length xs) c.self.view_is) in
     let here = ap (λ (o : Option Gate). (leaf o).count) (get_or_read es _ _ within c.index-before.ensures None) in
     let changed = rank-set es c.args.slot c.args.entry within in
     let few = rank_le (set es c.args.slot c.args.entry) (length (set es c.args.slot c.args.entry)) in
@@ -28,9 +28,9 @@ recounted-self-inside-requires-clause-few c =
 pub invariant_of-self : goal.invariant_of-self
 invariant_of-self c =
     let es = c.self.inside.gates.items in
-    let within : c.args.slot < length es = omega (arith, c.requires, ap (λ (xs : List (Option Gate)). length xs) c.self.view_is) in
+    let within : c.args.slot < length es = omega (arith, c.requires.within, ap (λ (xs : List (Option Gate)). length xs) c.self.view_is) in
     let here = ap (λ (o : Option Gate). (leaf o).count) (get_or_read es _ _ within c.index-before.ensures None) in
     let changed = rank-set es c.args.slot c.args.entry within in (
       omega (arith, c.self.invariant.0, c.recounted-self-inside.ensures),
-      subst (λ (xs : List (Option Gate)). IfSome c.link_anew.new.links (IsLinks xs)) c.deref.ensures.value c.link_anew.ensures,
+      subst (λ (xs : List (Option Gate)). IfSome c.link_anew.new.links (IsLinks xs)) c.deref.ensures.value c.link_anew.ensures.linked,
     )

@@ -6,11 +6,13 @@ use Rattle.coupling_map.proofs.CostLaws.{cost-limited, cost-positive, listed-nea
 use Rattle.coupling_map.proofs.coupling.Device.cost.Goals as goal
 
 pub cost-requires : goal.cost-requires
-cost-requires c =
-    let d = c.self.inside in
-    let t : IsTrue (is_near d.graph.edges c.args.a c.args.b) = subst (λ (e : Coupling). IsTrue (is_near e.edges c.args.a c.args.b)) (sym c.self.view_is) c.requires.near in
-    let h = c.self.invariant in
-    listed-near d.graph.size d.graph.edges d.costs h.coupling.graph.within h.coupling.costs h.priced c.args.a c.args.b t
+cost-requires c = record {
+  listed =
+      let d = c.self.inside in
+      let t : IsTrue (is_near d.graph.edges c.args.a c.args.b) = subst (λ (e : Coupling). IsTrue (is_near e.edges c.args.a c.args.b)) (sym c.self.view_is) c.requires.near in
+      let h = c.self.invariant in
+      listed-near d.graph.size d.graph.edges d.costs h.coupling.graph.within h.coupling.costs h.priced c.args.a c.args.b t;
+}
 
 pub returns-clause-exact : goal.returns-clause-exact
 returns-clause-exact c =
@@ -18,7 +20,7 @@ returns-clause-exact c =
     let t : IsTrue (is_near d.graph.edges c.args.a c.args.b) = subst (λ (e : Coupling). IsTrue (is_near e.edges c.args.a c.args.b)) (sym c.self.view_is) c.requires.near in
     let h = c.self.invariant in
     subst (λ (e : Coupling). c.cost.result ≡ cost e c.args.a c.args.b) c.self.view_is
-    (c.cost.ensures ∙ priced-near d.graph.size d.graph.edges d.costs h.coupling.graph.within h.priced c.args.a c.args.b t)
+    (c.cost.ensures.value ∙ priced-near d.graph.size d.graph.edges d.costs h.coupling.graph.within h.priced c.args.a c.args.b t)
 
 pub returns-clause-positive : goal.returns-clause-positive
 returns-clause-positive c =

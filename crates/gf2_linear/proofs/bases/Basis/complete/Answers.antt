@@ -7,7 +7,7 @@ use Rattle.gf2_linear.proofs.SumLaws.{item}
 use Rattle.gf2_linear.proofs.bases.Basis.complete.Goals as goal
 
 pub rows-init : goal.rows-init
-rows-init c = placed-none c.self.inside.rows.items (pivots_of c.self.inside.entries.items) c.args.wires c.in_ok-matrix.matrix c.in_ok-matrix.ensures
+rows-init c = placed-none c.self.inside.rows.items (pivots_of c.self.inside.entries.items) c.args.wires c.in_ok-matrix.matrix c.in_ok-matrix.ensures.ok
 
 pub index-requires : goal.index-requires
 index-requires c =
@@ -37,7 +37,7 @@ rows-preserved c =
     let p : c.index.result.now.pivot ≡ get_or (pivots_of es) c.rows.place 0 = pivot-read es c.rows.place c.index.result.now c.index.result.now (omega (arith, n, l)) c.index.ensures in
     let v : c.row-item.result ≡ get_or rows c.rows.place 0 =
     item c.deref-row-items.result.now c.rows.place c.row-item.result c.rows-test.true c.row-item.is ∙ ap (λ (k : List ℕ). get_or k c.rows.place 0) c.deref-row-items.ensures.value in
-    subst (λ (m : List ℕ). Placed rows (pivots_of es) c.args.wires (c.rows.place + 1) m) (sym c.replace.ensures)
+    subst (λ (m : List ℕ). Placed rows (pivots_of es) c.args.wires (c.rows.place + 1) m) (sym c.replace.ensures.new)
     (placed-more rows (pivots_of es) c.args.wires c.rows.place c.index.result.now.pivot c.row-item.result c.rows.matrix c.self.invariant.pivots l p v (omega (arith, w, p)) c.rows.invariant)
 
 pub returns-clause-independent : goal.returns-clause-independent

@@ -8,7 +8,7 @@ returns-clause-law c =
     let gs = c.args.body.gates in
     let new = c.remove-2.new.self.gates in
     let e = front_pair q c.in-X-X.second gs c.remove.new.self.gates new c.in-X-X.ensures.there c.in-X-X.ensures'.there (omega arith) c.remove.ensures.gates c.remove-2.ensures.gates in
-    pair_law c.args.body.wires q gs new e c.wires-wires.ensures.fine
+    pair_law c.args.body.wires q gs new e c.facts.ensures.fine
 
 pub returns-clause-kept : goal.returns-clause-kept
 returns-clause-kept c =

@@ -12,7 +12,7 @@ returns-clause-law c =
     let n = c.args.body.now.wires in
     let put = c.in_ok-put.put in
     let found : flipped c.gate-first.result c.gate-second.result c.gate-third.result ≡ Some put = sym c.in_ok-put.ensures in
-    let f = flip_law n c.args.place gs c.gate-first.result c.gate-second.result c.gate-third.result put c.wires-wires.ensures.fine c.gate-first.ensures.fine
+    let f = flip_law n c.args.place gs c.gate-first.result c.gate-second.result c.gate-third.result put c.facts.ensures.fine c.gate-first.ensures.fine
     c.gate-first.ensures.there c.gate-second.ensures.there c.gate-third.ensures.there found in
     subst (λ k. IsRewriting n gs (changed (three_edits c.args.place put k) gs) k) (sym c.turn_of.ensures) f.law
 
@@ -22,6 +22,6 @@ returns-clause-fewer c =
     let n = c.args.body.now.wires in
     let put = c.in_ok-put.put in
     let found : flipped c.gate-first.result c.gate-second.result c.gate-third.result ≡ Some put = sym c.in_ok-put.ensures in
-    let f = flip_law n c.args.place gs c.gate-first.result c.gate-second.result c.gate-third.result put c.wires-wires.ensures.fine c.gate-first.ensures.fine
+    let f = flip_law n c.args.place gs c.gate-first.result c.gate-second.result c.gate-third.result put c.facts.ensures.fine c.gate-first.ensures.fine
     c.gate-first.ensures.there c.gate-second.ensures.there c.gate-third.ensures.there found in
     subst (λ k. h_count (changed (three_edits c.args.place put k) gs) < h_count gs) (sym c.turn_of.ensures) f.fewer

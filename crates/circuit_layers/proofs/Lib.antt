@@ -1,0 +1,4 @@
+pub mod WalkLaws
+pub mod LayerExamples
+pub mod TurnLaws
+pub mod WalkExamples

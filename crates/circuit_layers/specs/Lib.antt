@@ -1,0 +1,3 @@
+-- ---- definitions that public clauses reach
+pub mod Layers
+pub mod Walk

@@ -1,0 +1,222 @@
+-- The command of the words, by `clap`'s own definitions of what a command line may be and of what it matches.
+--   root_command        the program: its name, no help, and a subcommand that has to be there
+--   needed_option id    `--ID VALUE`, which has to be there, once
+--   optional id         `--ID VALUE`, at most once
+--   flag id             `--ID`, at most once
+--   opt_command         the subcommand `opt`, which takes `--keep-barriers` and `--spares`
+--   check_command       the subcommand `check`, which takes no argument
+--   stages_command      the subcommand `stages`, which takes `--spares`
+--   traced_command      the subcommand `route` with `--device`, `--trivial` and `--trace`
+--   route_command       .. and with `--keep-barriers` and `--clean`, so with all that it takes
+--   bench_command       the subcommand `bench`, which takes `--start`, `--gates` and `--device`
+--   amplitude_command   the subcommand `amplitude`, which takes `--from` and `--to`
+--   verify_command      the subcommand `verify`, which takes `--source` and `--target`
+--   plain_commands      the program with the subcommands that need no value
+--   device_commands     .. and with those that take a device
+--   entry_commands      .. and with `amplitude`
+--   qroute_command      the program with all of its subcommands
+--   device_of rows      the name behind `--device` in what was matched, none where there is none
+--   is_given id rows    whether the flag `--ID` was matched
+--   is_trivial rows     whether `--trivial` was matched
+--   is_traced rows      whether `--trace` was matched
+--   is_kept rows        whether `--keep-barriers` was matched
+--   is_cleaned rows     whether `--clean` was matched
+--   clashes rows        `--trace` was matched, and one of the two flags that have no trace
+--   route_of rows       what `route` asks for, with what was matched
+--   number_of a b text  the number from a to b whose decimal digits the text is, none where there is none
+--   start_of rows       the number behind `--start`, 0 to 4294967295
+--   gates_of rows       the number behind `--gates`, 1 to 20000
+--   has_spares rows     whether a text was matched behind `--spares`
+--   spares_of rows      the number behind `--spares`, 1 to 255
+--   opt_of rows         what `opt` asks for, with what was matched
+--   stages_of rows      what `stages` asks for, with what was matched
+--   bench_of rows       what `bench` asks for, with what was matched
+--   is_bit c            the character is 0 or 1
+--   bits_of text        the bits whose digits the text is, none where there is another character
+--   from_of, to_of      the bits behind `--from` and `--to`
+--   amplitude_of rows   what `amplitude` asks for, with what was matched
+--   source_of, target_of the names behind `--source` and `--target`
+--   verify_of rows      what `verify` asks for, with what was matched
+--   meaning name rows   what the subcommand of this name asks for, with what it matched
+--   command_of words    the command that the words mean, the program's name first; none where they mean none
+--   IsAllowed c         `bench` has 1 to 20000 gates, `route` no trace beside kept barriers or cleaning, and there are 1 to 255 spare
+--                       wires where there are any
+use Rattle.std.specs.Prelude.{◌≡◌, ℕ, List, ◌==◌, ◌≤◌, ◌&&◌, ◌||◌, Bool, true, false, Option, Some, None, IfSome, if◌then◌else◌, codes, decimal, is_some, length, map, nat_le, option_map, option_and_then}
+use Rattle.std.specs.Option.{option_map_or}
+use Rattle.std.specs.List.{list_all}
+use Rattle.std.specs.Str.{bytes_eq}
+use Rattle.std.specs.Str.Parse.{digits_value}
+use Rattle.clap.specs.Simple.{on_top}
+use Rattle.clap.specs.Words.{App, Row, Rule, Text, fault_of, first_of, new_app, new_rule, subcommand_of, with_rule, with_subcommand}
+use Rattle.clap.specs.declared.builder.action.ArgAction.TheVariants.{Set, SetTrue}
+use Rattle.command_line.specs.declared.commands.Command.{Command}
+use Rattle.command_line.specs.declared.commands.Command.TheVariants.{Opt, OptWithSpares, Route, Check, Stages, Bench, Amplitude, Verify}
+
+abbrev pub root_command : App
+root_command = on_top (λ s. record s {
+  disable_help_flag = true;
+  disable_help_subcommand = true;
+  subcommand_required = true;
+}) (new_app (codes "qroute"))
+
+abbrev pub check_command : App
+check_command = new_app (codes "check")
+
+abbrev pub needed_option : Text → Rule
+needed_option id = record (new_rule id) {
+  long = Some id;
+  action = Some Set;
+  required = true;
+}
+
+abbrev pub flag : Text → Rule
+flag id = record (new_rule id) {
+  long = Some id;
+  action = Some SetTrue;
+}
+
+abbrev pub optional : Text → Rule
+optional id = record (new_rule id) {
+  long = Some id;
+  action = Some Set;
+}
+
+abbrev pub opt_command : App
+opt_command = with_rule (with_rule (new_app (codes "opt")) (flag (codes "keep-barriers"))) (optional (codes "spares"))
+
+abbrev pub stages_command : App
+stages_command = with_rule (new_app (codes "stages")) (optional (codes "spares"))
+
+abbrev pub traced_command : App
+traced_command = with_rule (with_rule (with_rule (new_app (codes "route")) (needed_option (codes "device"))) (flag (codes "trivial")))
+    (flag (codes "trace"))
+
+abbrev pub route_command : App
+route_command = with_rule (with_rule traced_command (flag (codes "keep-barriers"))) (flag (codes "clean"))
+
+abbrev pub bench_command : App
+bench_command = with_rule (with_rule (with_rule (new_app (codes "bench")) (needed_option (codes "start"))) (needed_option (codes "gates")))
+    (needed_option (codes "device"))
+
+abbrev pub amplitude_command : App
+amplitude_command = with_rule (with_rule (new_app (codes "amplitude")) (needed_option (codes "from"))) (needed_option (codes "to"))
+
+abbrev pub verify_command : App
+verify_command = with_rule (with_rule (new_app (codes "verify")) (needed_option (codes "source"))) (needed_option (codes "target"))
+
+abbrev pub plain_commands : App
+plain_commands = with_subcommand (with_subcommand (with_subcommand root_command opt_command.top) check_command.top) stages_command.top
+
+abbrev pub device_commands : App
+device_commands = with_subcommand (with_subcommand plain_commands route_command.top) bench_command.top
+
+abbrev pub entry_commands : App
+entry_commands = with_subcommand device_commands amplitude_command.top
+
+abbrev pub qroute_command : App
+qroute_command = with_subcommand entry_commands verify_command.top
+
+abbrev pub device_of : List Row → Option Text
+device_of rows = first_of (codes "device") rows
+
+-- a flag that was given matches the value `true`
+abbrev pub is_given : Text → List Row → Bool
+is_given id rows = option_map_or (λ t. bytes_eq t (codes "true")) (first_of id rows) false
+
+abbrev pub is_trivial : List Row → Bool
+is_trivial rows = is_given (codes "trivial") rows
+
+abbrev pub is_traced : List Row → Bool
+is_traced rows = is_given (codes "trace") rows
+
+abbrev pub is_kept : List Row → Bool
+is_kept rows = is_given (codes "keep-barriers") rows
+
+abbrev pub is_cleaned : List Row → Bool
+is_cleaned rows = is_given (codes "clean") rows
+
+-- a trace is of the whole program, as the router leaves it
+abbrev pub clashes : List Row → Bool
+clashes rows = is_traced rows && (is_kept rows || is_cleaned rows)
+
+abbrev pub route_of : List Row → Option Command
+route_of rows = if clashes rows then None
+    else option_map (λ device. Route device (is_trivial rows) (is_traced rows) (is_kept rows) (is_cleaned rows)) (device_of rows)
+
+-- only the value of the digits can be this number, and its decimal digits have to be the text
+abbrev pub number_of : ℕ → ℕ → Text → Option ℕ
+number_of least most text = let n = digits_value 10 text in
+    if bytes_eq text (decimal n) && (nat_le least n && nat_le n most) then Some n else None
+
+abbrev pub start_of : List Row → Option ℕ
+start_of rows = option_and_then (number_of 0 4294967295) (first_of (codes "start") rows)
+
+abbrev pub gates_of : List Row → Option ℕ
+gates_of rows = option_and_then (number_of 1 20000) (first_of (codes "gates") rows)
+
+abbrev pub has_spares : List Row → Bool
+has_spares rows = is_some (first_of (codes "spares") rows)
+
+abbrev pub spares_of : List Row → Option ℕ
+spares_of rows = option_and_then (number_of 1 255) (first_of (codes "spares") rows)
+
+-- a program's barriers aren't kept beside spare wires
+abbrev pub opt_of : List Row → Option Command
+opt_of rows = if has_spares rows then (if is_kept rows then None else option_map OptWithSpares (spares_of rows))
+    else Some (Opt (is_kept rows))
+
+abbrev pub stages_of : List Row → Option Command
+stages_of rows = if has_spares rows then option_map (λ m. Stages (Some m)) (spares_of rows) else Some (Stages None)
+
+abbrev pub bench_of : List Row → Option Command
+bench_of rows = option_and_then (λ start. option_and_then (λ gates. option_map (λ device. Bench start gates device)
+    (device_of rows)) (gates_of rows)) (start_of rows)
+
+-- 48 is the character 0, 49 is 1
+abbrev pub is_bit : ℕ → Bool
+is_bit c = c == 48 || c == 49
+
+abbrev pub bits_of : Text → Option (List Bool)
+bits_of text = if list_all is_bit text then Some (map (λ c. c == 49) text) else None
+
+abbrev pub from_of : List Row → Option (List Bool)
+from_of rows = option_and_then bits_of (first_of (codes "from") rows)
+
+abbrev pub to_of : List Row → Option (List Bool)
+to_of rows = option_and_then bits_of (first_of (codes "to") rows)
+
+abbrev pub amplitude_of : List Row → Option Command
+amplitude_of rows = option_and_then (λ from. option_map (λ to. Amplitude from to) (to_of rows)) (from_of rows)
+
+abbrev pub source_of : List Row → Option Text
+source_of rows = first_of (codes "source") rows
+
+abbrev pub target_of : List Row → Option Text
+target_of rows = first_of (codes "target") rows
+
+abbrev pub verify_of : List Row → Option Command
+verify_of rows = option_and_then (λ source. option_map (λ target. Verify source target) (target_of rows)) (source_of rows)
+
+abbrev pub meaning : Text → List Row → Option Command
+meaning name rows = if bytes_eq name (codes "opt") then opt_of rows
+    else (if bytes_eq name (codes "check") then Some Check
+    else (if bytes_eq name (codes "stages") then stages_of rows
+    else (if bytes_eq name (codes "bench") then bench_of rows
+    else (if bytes_eq name (codes "amplitude") then amplitude_of rows
+    else (if bytes_eq name (codes "verify") then verify_of rows
+    else route_of rows)))))
+
+-- none where `clap` finds a fault, and else what the subcommand asks for
+abbrev pub command_of : List Text → Option Command
+command_of words = if length (fault_of qroute_command words) == 0
+    then option_and_then (λ s. meaning s.0 s.1) (subcommand_of qroute_command words) else None
+
+abbrev pub IsAllowed : Command → Type 0
+IsAllowed (Opt kept) = Unit {0}
+IsAllowed (OptWithSpares m) = (1 ≤ m) × (m ≤ 255)
+IsAllowed (Route device trivial trace kept clean) = trace ≡ true → (kept ≡ false) × (clean ≡ false)
+IsAllowed Check = Unit {0}
+IsAllowed (Stages o) = IfSome o (λ m. (1 ≤ m) × (m ≤ 255))
+IsAllowed (Amplitude from to) = Unit {0}
+IsAllowed (Verify source target) = Unit {0}
+IsAllowed (Bench start gates device) = (1 ≤ gates) × (gates ≤ 20000)

@@ -1,0 +1,87 @@
+-- What a command asks of its surroundings.
+--   reads_input c     it reads the program from the input
+--   device_name c     the name of the device that it loads, if it loads one
+--   writes_out c      it writes to the output
+--   writes_report c   it writes a line of its own to the report; faults are told there by every command
+--   keeps_barriers c  it keeps the program's barriers
+--   Question          what may be asked on a program;  Entry: the entry of its unitary from these bits to those;  Spares: whether so
+--                     many spare wires can stand behind its own
+--   question_of c     the question that it asks on its program, if it asks one
+--   asked_texts c     the names of the two texts that it verifies a trace against, the source's and the target's, if it verifies one
+use Rattle.std.specs.Prelude.{ℕ, Bool, true, false, List, Option, Some, None}
+use Rattle.command_line.specs.declared.commands.Command.{Command}
+use Rattle.command_line.specs.declared.commands.Command.TheVariants.{Opt, OptWithSpares, Route, Check, Stages, Bench, Amplitude, Verify}
+
+abbrev pub reads_input : Command → Bool
+reads_input (Opt kept) = true
+reads_input (OptWithSpares m) = true
+reads_input (Route name trivial trace kept clean) = true
+reads_input Check = true
+reads_input (Stages spares) = true
+reads_input (Bench start gates name) = false
+reads_input (Amplitude from to) = true
+reads_input (Verify source target) = false
+
+abbrev pub device_name : Command → Option (List ℕ)
+device_name (Opt kept) = None
+device_name (OptWithSpares m) = None
+device_name (Route name trivial trace kept clean) = Some name
+device_name Check = None
+device_name (Stages spares) = None
+device_name (Bench start gates name) = Some name
+device_name (Amplitude from to) = None
+device_name (Verify source target) = None
+
+abbrev pub writes_out : Command → Bool
+writes_out (Opt kept) = true
+writes_out (OptWithSpares m) = true
+writes_out (Route name trivial trace kept clean) = true
+writes_out Check = false
+writes_out (Stages spares) = true
+writes_out (Bench start gates name) = true
+writes_out (Amplitude from to) = true
+writes_out (Verify source target) = true
+
+abbrev pub writes_report : Command → Bool
+writes_report (Opt kept) = true
+writes_report (OptWithSpares m) = true
+writes_report (Route name trivial trace kept clean) = true
+writes_report Check = true
+writes_report (Stages spares) = false
+writes_report (Bench start gates name) = true
+writes_report (Amplitude from to) = false
+writes_report (Verify source target) = false
+
+abbrev pub keeps_barriers : Command → Bool
+keeps_barriers (Opt kept) = kept
+keeps_barriers (OptWithSpares m) = false
+keeps_barriers (Route name trivial trace kept clean) = kept
+keeps_barriers Check = false
+keeps_barriers (Stages spares) = false
+keeps_barriers (Bench start gates name) = false
+keeps_barriers (Amplitude from to) = false
+keeps_barriers (Verify source target) = false
+
+pub data Question : Type 0 where
+  Entry : List Bool → List Bool → Question
+  Spares : ℕ → Question
+
+abbrev pub question_of : Command → Option Question
+question_of (Opt kept) = None
+question_of (OptWithSpares m) = Some (Spares m)
+question_of (Route name trivial trace kept clean) = None
+question_of Check = None
+question_of (Stages spares) = None
+question_of (Bench start gates name) = None
+question_of (Amplitude from to) = Some (Entry from to)
+question_of (Verify source target) = None
+
+abbrev pub asked_texts : Command → Option (List ℕ × List ℕ)
+asked_texts (Opt kept) = None
+asked_texts (OptWithSpares m) = None
+asked_texts (Route name trivial trace kept clean) = None
+asked_texts Check = None
+asked_texts (Stages spares) = None
+asked_texts (Bench start gates name) = None
+asked_texts (Amplitude from to) = None
+asked_texts (Verify source target) = Some (source, target)

@@ -1,9 +1,0 @@
-use Rattle.std.proofs.Common.{rules}
-use Rattle.clap.proofs.WalkLemmas.{first_value-rows}
-use Rattle.command_words.proofs.words.bits_behind.Goals as goal
-
-pub returns-in-None : goal.returns-in-None
-returns-in-None c = search (first_value-rows, rules)
-
-pub returns-in_ok-bits-in-Some : goal.returns-in_ok-bits-in-Some
-returns-in_ok-bits-in-Some c = search (first_value-rows, rules)

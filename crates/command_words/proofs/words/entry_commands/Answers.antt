@@ -1,5 +1,0 @@
-use Rattle.std.proofs.Common.{arith}
-use Rattle.command_words.proofs.words.entry_commands.Goals as goal
-
-pub returns : goal.returns
-returns c = grind arith

@@ -1,5 +1,0 @@
-use Rattle.std.proofs.Common.{arith}
-use Rattle.command_words.proofs.words.qroute_command.Goals as goal
-
-pub returns : goal.returns
-returns c = grind arith

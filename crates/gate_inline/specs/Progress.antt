@@ -1,0 +1,52 @@
+-- Working form. What an inliner has written.
+--     Progress            gates, and what is written of them
+--     gates_of p          its gates, apart from where their parts lie in memory
+--     at_start gates      nothing is written
+--     written p us        these operations are written behind the others
+--     IsInliner gates sizes us places     what an inliner keeps beside these: sizes that are those of the gates, and calls whose operations are
+--                         those that they tell
+--     HasWritten p a q     an answer's operations are written behind the others
+--     IsUnderway p fs a q gs      an answer is written, or left to bodies that wait: fs wait before it, and gs behind
+use Rattle.std.specs.Prelude.{◌≡◌, ◌++◌, List, [], Option, Ok, map}
+use Rattle.unitary_model.specs.declared.Op.{Op}
+use Rattle.gate_library.specs.Gates.{BoundGate}
+use Rattle.gate_library.specs.Views.{gate as gate_view}
+use Rattle.gate_library.specs.declared.gate.BoundGate.{BoundGate as CodeGate}
+use Rattle.gate_inline.specs.Capped.{capped}
+use Rattle.gate_inline.specs.Frames.{frames_answer}
+use Rattle.gate_inline.specs.Meanings.{Evaluation, followed}
+use Rattle.gate_inline.specs.Remembered.{AreBegun, AreKept}
+use Rattle.gate_inline.specs.Sizes.{sizes as sizes_of}
+use Rattle.gate_inline.specs.declared.body.Frame.{Frame}
+use Rattle.gate_inline.specs.declared.memo.Kept.{Kept}
+use Rattle.gate_inline.specs.declared.size.Size.{Size}
+
+pub record Progress : Type 0 where
+  -- the gates, which have their index for a number
+  pub gates : List CodeGate
+  -- the operations so far
+  pub list : List Op
+
+abbrev pub gates_of : Progress → List BoundGate
+gates_of p = map gate_view p.gates
+
+abbrev pub at_start : List CodeGate → Progress
+at_start gates = record { gates = gates; list = [] }
+
+abbrev pub written : Progress → List Op → Progress
+written p us = record { gates = p.gates; list = p.list ++ us }
+
+pub record IsInliner (gates : List CodeGate) (sizes : List Size) (us : List Op) (places : List (Option Kept)) : Type 0 where
+  pub sized : sizes ≡ map capped (sizes_of (map gate_view gates))
+  pub kept : AreKept (map gate_view gates) us places
+
+pub record HasWritten (p : Progress) (a : Evaluation) (q : Progress) : Type 0 where
+  pub gates : q.gates ≡ p.gates
+  pub list : Ok q.list ≡ followed (Ok p.list) a
+
+pub record IsUnderway (p : Progress) (fs : List Frame) (a : Evaluation) (q : Progress) (gs : List Frame) : Type 0 where
+  pub gates : q.gates ≡ p.gates
+  -- what is written, and then what is left
+  pub same : followed (Ok q.list) (frames_answer (gates_of p) gs) ≡ followed (Ok p.list) (followed a (frames_answer (gates_of p) fs))
+  -- and each body's operations are those from its start on
+  pub begun : AreBegun (gates_of p) q.list (Ok []) gs

@@ -1,8 +1,0 @@
-use Rattle.std.proofs.Common.{◌≡◌, ℕ, List, map, take}
-use Rattle.std.specs.List.{position}
-use Rattle.std.specs.Str.{bytes_eq}
-use Rattle.gate_library.specs.Views.{found}
-use Rattle.gate_library.proofs.indices.first_indices.Given as goal
-
-abbrev pub invariant-names : goal.invariant-names
-invariant-names l = (name : List ℕ) → found l.first name ≡ position (λ y. bytes_eq name y) (map (λ n. n.now) (take l.i l.names))

@@ -1,8 +1,0 @@
-use Rattle.layer_walk.proofs.TurnLaws.{same_layers, none_left}
-use Rattle.layer_walk.proofs.layers_by_walk.Goals as goal
-
-pub returns-clause-walk : goal.returns-clause-walk
-returns-clause-walk c = same_layers
-
-pub returns-clause-ends : goal.returns-clause-ends
-returns-clause-ends c = none_left

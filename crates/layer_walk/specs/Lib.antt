@@ -1,2 +1,0 @@
--- ---- definitions that public clauses reach
-pub mod Walk

@@ -1,0 +1,4 @@
+use Rattle.matroid_partition.proofs.partitioning.Partitioning.near_in.Given as goal
+
+abbrev pub invariant-members : goal.invariant-members
+invariant-members l = Unit {0}

@@ -1,0 +1,6 @@
+use Rattle.std.proofs.Common.{◌≡◌}
+use Rattle.std.specs.List.{range_with_len}
+use Rattle.matroid_partition.proofs.witness.places_below.Given as goal
+
+abbrev pub invariant-places : goal.invariant-places
+invariant-places l = l.places.items ≡ range_with_len 0 l.place

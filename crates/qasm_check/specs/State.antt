@@ -1,0 +1,25 @@
+-- What is known, as the code keeps it.
+--   found        what a map of names has for a name
+--   state        what is known, apart from where its parts lie in memory
+use Rattle.std.specs.Prelude.{ℕ, List, Option, map}
+use Rattle.std.specs.BTreeMap.{BTreeMap, get_by}
+use Rattle.std.specs.BTreeSet.{contains}
+use Rattle.std.specs.Cmp.Lexicographic.{slice_cmp}
+use Rattle.std.specs.Ordering.{nat_cmp}
+use denote.Ref.{Bor}
+use Rattle.gate_library.specs.Views.{gate}
+use Rattle.qasm_check.specs.Known.{Known}
+use Rattle.qasm_check.specs.declared.known.Known.{Known as Kept}
+
+abbrev pub found : {A : Type 0} → BTreeMap (Bor (List ℕ)) A → List ℕ → Option A
+found names name = get_by (λ k. slice_cmp nat_cmp name k.now) names
+
+abbrev pub state : Kept → Known
+state k = record {
+  declared = found k.declared;
+  included = k.included;
+  gates = map gate k.gates.items;
+  wires = k.wires;
+  bits = k.bits;
+  measured = contains nat_cmp k.measured;
+}

@@ -1,5 +1,0 @@
-use Rattle.std.proofs.Common.{length}
-use Rattle.unitary_plain.proofs.entries.+amplitude_of.Given as goal
-
-abbrev pub decreases-amplitude_of : goal.decreases-amplitude_of
-decreases-amplitude_of l = length l.ops.now

@@ -1,6 +1,0 @@
-use Rattle.std.proofs.Common.{◌∙◌}
-use Rattle.unitary_plain.proofs.ValueLaws.{same_bits-pointwise}
-use Rattle.unitary_plain.proofs.entries.are_same.Goals as goal
-
-pub returns : goal.returns
-returns c = record { same = c.eq.ensures ∙ same_bits-pointwise c.args.x.now c.args.y.now }
