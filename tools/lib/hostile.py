@@ -58,12 +58,19 @@ def doublings():
     return HEAD + "\n".join(lines) + "\nqreg q[1]; g14999 q[0];"
 
 
-def angles_apart(levels=18, terms=900):
+def angles_apart(start="0", levels=18, terms=900):
     """Each of 2^18 applications has an angle of its own, a long sum, and none of them has an operation."""
     part = f"({'+'.join(['p'] * 30)})"
     lines = ["gate e(p) a { }", f"gate g0(p) a {{ e({'+'.join([part] * (terms // 30))}) a; }}"]
     lines += [f"gate g{i}(p) a {{ g{i - 1}(p) a; g{i - 1}(p+{2 ** (i - 1)}) a; }}" for i in range(1, levels + 1)]
-    return HEAD + "\n".join(lines) + f"\nqreg q[1]; g{levels}(0) q[0];"
+    return HEAD + "\n".join(lines) + f"\nqreg q[1]; g{levels}({start}) q[0];"
+
+
+def broad(others=128):
+    """A gate without a body on many qubits and on a register, at an angle that is a fraction."""
+    names = ",".join(f"a{i}" for i in range(others + 1))
+    call = f"g(1/2) {','.join(f'q[{i}]' for i in range(others))},r;\n"
+    return filled(f"{HEAD}gate g(k) {names} {{ }}\nqreg q[{others}]; qreg r[{256 - others}];\n", call)
 
 
 def declarations():
@@ -220,12 +227,15 @@ KINDS = [
     Kind("CNOTs on a line of 16, a barrier behind each", (*ROUTE, "--keep-barriers"), 0, barred, lambda: line(16)),
     Kind("a comment", OPT, 0, lambda: filled(ONE + "t q[0]; //", "/")),
     Kind("digits", CHECK, 0, lambda: filled(ONE + "u1(0.", "0", ") q[0];")),
+    Kind("100,000 zeros", CHECK, 3, lambda: ONE + "u1(" + "0" * 100_000),
     Kind("a long name", CHECK, 0, lambda: f"{HEAD}qreg {'a' * 2_000_000}[1]; h {'a' * 2_000_000};"),
     Kind("sums of sixty terms", CHECK, 0, sums),
     Kind("declarations", CHECK, 0, declarations),
     Kind("a chain of gates", OPT, 0, chain),
     Kind("gates that double", CHECK, 3, doublings),
     Kind("gates that double, each angle another", CHECK, 0, angles_apart),
+    Kind("gates that double, each angle another, and a half", CHECK, 0, lambda: angles_apart("1/2")),
+    Kind("a gate on 129 operands", CHECK, 0, broad),
     Kind("1,024 underscores", OPT, 0, lambda: underscores(MOST_OPERATIONS)),
     Kind("1,024 underscores", ROUTE, 0, lambda: underscores(MOST_OPERATIONS // 4), lambda: line(64)),
     Kind("a nest", OPT, 0, nested),

@@ -16,7 +16,7 @@ use unitary_model::Op;
 pub fn made(alloc: Global, start: u32, gates: u32, size: u32) -> Result<Ops, AllocError>
     requires gates_limit { gates ≤ most_gates }
     requires some { 0 < size }
-    requires limit { size ≤ most_qubits }
+    requires wires_limit { size ≤ most_qubits }
 
     // the operations are those that are drawn
     ensures wires { IfOk result (λ p. p.wires ≡ size) }
@@ -42,7 +42,7 @@ pub fn made(alloc: Global, start: u32, gates: u32, size: u32) -> Result<Ops, All
 /// The next operation on `size` wires.
 fn next_op(draws: &mut Draws, size: u32) -> Op
     requires some { 0 < size }
-    requires limit { size ≤ most_qubits }
+    requires wires_limit { size ≤ most_qubits }
     ensures op { result ≡ op_at size draws.old.state }
     ensures state { draws.new.state ≡ after size draws.old.state }
 {

@@ -110,7 +110,7 @@ impl Device {
         ensures symmetric { IsDistance self.now.edges (cost self.now) b a result }
         ensures short { result + most_cost ≤ self.now.size * most_cost }
         ensures zero { (result ≡ 0) ↔ (a ≡ b) }
-        ensures below_size { self.now.costs ≡ None → result < self.now.size }
+        ensures hops_limit { self.now.costs ≡ None → result < self.now.size }
         ensures one { self.now.costs ≡ None → (result ≡ 1) ↔ IsTrue (is_near self.now.edges a b) }
     {
         u64::from(self.distances[place(self.graph.size(), b, a)])
@@ -138,7 +138,7 @@ impl Device {
     /// The greatest distance of two qubits.
     pub fn diameter(&self) -> u64
         ensures diameter { IsDiameter self.now.size self.now.edges (cost self.now) result }
-        ensures below_size { self.now.costs ≡ None → result < self.now.size }
+        ensures hops_limit { self.now.costs ≡ None → result < self.now.size }
     {
         u64::from(self.diameter)
     }

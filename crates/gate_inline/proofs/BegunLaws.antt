@@ -5,6 +5,7 @@
 --     AreBegun-written        operations that are written
 --     AreBegun-entered, answer_entered    an operation, or a body
 --     AreBegun-recalled, answer_recalled  operations of a call that is remembered
+--     answer_skipped          a call without an operation
 --     AreBegun-ended, answer_ended, kept_ended    a body at its end, which is a call that can be kept
 --     some_room               each call has room
 use Rattle.std.proofs.Common.{◌≡◌, ℕ, ◌+◌, ◌*◌, ◌<◌, ◌≤◌, List, [], ◌∷◌, ◌++◌, length, refl, sym, ◌∙◌, ap, subst, arith, Ok, IfSome, Option, Some, None, append-nil, drop, map, slice_get, take}
@@ -170,6 +171,11 @@ pub answer_recalled : (gates : List BoundGate) (us ops : List Op) (c : Evaluatio
     followed (Ok (us ++ ops)) (frames_answer gates fs) ≡ followed (Ok us) (followed c (frames_answer gates fs))
 answer_recalled gates us ops c fs e =
     followed-followed (Ok us) (Ok ops) (frames_answer gates fs) ∙ ap (λ x. followed (Ok us) (followed x (frames_answer gates fs))) (sym e)
+
+pub answer_skipped : (gates : List BoundGate) (us : List Op) (c : Evaluation) (fs : List Frame) → c ≡ Ok [] →
+    followed (Ok us) (frames_answer gates fs) ≡ followed (Ok us) (followed c (frames_answer gates fs))
+answer_skipped gates us c fs e =
+    ap (followed (Ok us)) (sym (nil-followed (frames_answer gates fs)) ∙ ap (λ x. followed x (frames_answer gates fs)) (sym e))
 
 pub AreBegun-recalled : (gates : List BoundGate) (us ops : List Op) (c : Evaluation) (fs : List Frame) → c ≡ Ok ops → AreBegun gates us c fs → AreBegun gates (us ++ ops) (Ok []) fs
 AreBegun-recalled gates us ops c fs e h =

@@ -11,6 +11,8 @@ pub mod OnceLaws
 pub mod ReadWires
 pub mod KeptLaws
 pub mod BegunLaws
+pub mod QuietLaws
 pub mod ProgressLaws
+pub mod RenamingLaws
 pub mod BarLaws
 pub mod CutLaws

@@ -24,9 +24,9 @@ use Rattle.gate_inline.proofs.BegunLaws.{call_answer-all}
 use Rattle.gate_inline.proofs.FrameLaws.{IsStop_through, followed-followed, followed-nil, frames_answer-push}
 use Rattle.gate_inline.proofs.KeptLaws.{AreKept_more}
 
-pub IsInliner-more : (gates : List CodeGate) (sizes : List Size) (us ops vs : List Op) (places : List (Option Kept)) → vs ≡ us ++ ops →
-    IsInliner gates sizes us places → IsInliner gates sizes vs places
-IsInliner-more gates sizes us ops vs places e h = record { sized = h.sized; kept = AreKept_more (map gate_view gates) us ops vs places e h.kept }
+pub IsInliner-more : (gates : List CodeGate) (sizes : List Size) (limits : List (Option ℕ)) (us ops vs : List Op) (places : List (Option Kept)) → vs ≡ us ++ ops →
+    IsInliner gates sizes limits us places → IsInliner gates sizes limits vs places
+IsInliner-more gates sizes limits us ops vs places e h = record { sized = h.sized; quiet = h.quiet; kept = AreKept_more (map gate_view gates) us ops vs places e h.kept }
 
 -- ---- answers
 pub written_nothing : (p : Progress) → HasWritten p (Ok []) p

@@ -13,5 +13,7 @@ pub mod Stops
 pub mod Placed
 pub mod Frames
 pub mod Remembered
+pub mod Quiet
 pub mod Progress
+pub mod Renaming
 pub mod Parting

@@ -3,18 +3,19 @@
 --     gates_of p          its gates, apart from where their parts lie in memory
 --     at_start gates      nothing is written
 --     written p us        these operations are written behind the others
---     IsInliner gates sizes us places     what an inliner keeps beside these: sizes that are those of the gates, and calls whose operations are
---                         those that they tell
+--     IsInliner gates sizes limits us places      what an inliner keeps beside these: sizes that are those of the gates, limits below which they
+--                         come to nothing, and calls whose operations are those that they tell
 --     HasWritten p a q     an answer's operations are written behind the others
 --     IsUnderway p fs a q gs      an answer is written, or left to bodies that wait: fs wait before it, and gs behind
-use Rattle.std.specs.Prelude.{◌≡◌, ◌++◌, List, [], Option, Ok, map}
+use Rattle.std.specs.Prelude.{◌≡◌, ◌++◌, ℕ, List, [], Option, Ok, map}
 use Rattle.unitary_model.specs.declared.Op.{Op}
 use Rattle.gate_library.specs.Gates.{BoundGate}
 use Rattle.gate_library.specs.Views.{gate as gate_view}
 use Rattle.gate_library.specs.declared.gate.BoundGate.{BoundGate as CodeGate}
 use Rattle.gate_inline.specs.Capped.{capped}
 use Rattle.gate_inline.specs.Frames.{frames_answer}
-use Rattle.gate_inline.specs.Meanings.{Evaluation, followed}
+use Rattle.gate_inline.specs.Meanings.{Evaluation, followed, meanings}
+use Rattle.gate_inline.specs.Quiet.{AreQuiet}
 use Rattle.gate_inline.specs.Remembered.{AreBegun, AreKept}
 use Rattle.gate_inline.specs.Sizes.{sizes as sizes_of}
 use Rattle.gate_inline.specs.declared.body.Frame.{Frame}
@@ -36,8 +37,9 @@ at_start gates = record { gates = gates; list = [] }
 abbrev pub written : Progress → List Op → Progress
 written p us = record { gates = p.gates; list = p.list ++ us }
 
-pub record IsInliner (gates : List CodeGate) (sizes : List Size) (us : List Op) (places : List (Option Kept)) : Type 0 where
+pub record IsInliner (gates : List CodeGate) (sizes : List Size) (limits : List (Option ℕ)) (us : List Op) (places : List (Option Kept)) : Type 0 where
   pub sized : sizes ≡ map capped (sizes_of (map gate_view gates))
+  pub quiet : AreQuiet (meanings (map gate_view gates)) limits
   pub kept : AreKept (map gate_view gates) us places
 
 pub record HasWritten (p : Progress) (a : Evaluation) (q : Progress) : Type 0 where

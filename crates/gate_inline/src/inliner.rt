@@ -1,6 +1,6 @@
 //! Gates' bodies and steps written out.
 
-ghost use Rattle.std.specs.Prelude.{◌≡◌, ℕ, ◌+◌, ◌*◌, ◌<◌, ◌≤◌, ◌^◌, [], ◌∷◌, ◌++◌, All, Ok, IfOk, IfErr, IfSome, OnOk, length, map, take};
+ghost use Rattle.std.specs.Prelude.{◌≡◌, ℕ, ◌+◌, ◌*◌, ◌<◌, ◌≤◌, ◌^◌, [], ◌∷◌, ◌++◌, All, Ok, IfOk, IfErr, IfSome, OnOk, false, length, map, take, true};
 ghost use Rattle.gate_library.specs.Operands.{broadcast as broadcast_of, wire_at as wire_there};
 ghost use Rattle.gate_library.specs.Views.{gate as gate_view};
 ghost use Rattle.gate_inline.specs.Capped.{capped};
@@ -8,6 +8,7 @@ ghost use Rattle.gate_inline.specs.Frames.{call_answer, frame_answer, frame_room
 ghost use Rattle.gate_inline.specs.Meanings.{broadcast_answer, meaning_at, meanings, one_op, step_answer};
 ghost use Rattle.gate_inline.specs.Placed.{IsPlaced};
 ghost use Rattle.gate_inline.specs.Progress.{IsUnderway, HasWritten, at_start, gates_of, written};
+ghost use Rattle.gate_inline.specs.Quiet.{AreQuiet};
 ghost use Rattle.gate_inline.specs.Remembered.{AreBegun, IsKept, IsPart, part};
 ghost use Rattle.gate_inline.specs.Sizes.{size_at, sizes as sizes_of};
 ghost use Rattle.gate_inline.specs.Stops.{IsStop};
@@ -16,6 +17,8 @@ ghost use Rattle.qasm_check.specs.StepViews.{step as step_view};
 
 use crate::body::{Call, Entered, Frame, call_of, enter, push_body, split};
 use crate::memo::{Kept, Memo};
+use crate::quiet::is_nothing;
+use crate::renaming::{is_renaming, push_renamed};
 use crate::size::Size;
 use crate::stop::InlineStop;
 use crate::value::values;
@@ -27,11 +30,12 @@ use std::marker::Model;
 use unitary_model::Op;
 
 /// Writes the operations of steps over these gates, one behind the other. Contracts see the gates, and the operations so far.
-/// Beside these it keeps the gates' sizes, and calls that are remembered.
+/// Beside these it keeps the gates' sizes, the limits below which they come to nothing, and calls that are remembered.
 #[derive(Drop)]
 pub struct Inliner<'a> {
     gates: &'a [BoundGate],
     sizes: Vec<Size>,
+    limits: Vec<Option<u64>>,
     memo: Memo,
     list: Vec<Op>,
 }
@@ -47,7 +51,7 @@ impl<'a> Model for Inliner<'a> {
 
     ghost view = { λ s. record { gates = s.gates.now; list = s.list.items } };
 
-    ghost invariant = { λ s. IsInliner s.gates.now s.sizes.items s.list.items s.memo.places.items };
+    ghost invariant = { λ s. IsInliner s.gates.now s.sizes.items s.limits.items s.list.items s.memo.places.items };
 }
 
 /// The wires at an index of a broadcast.
@@ -70,13 +74,20 @@ fn copied(alloc: Global, angles: &[Angle]) -> Result<Vec<Angle>, AllocError>
 
 impl<'a> Inliner<'a> {
     /// Nothing is written.
-    pub fn new(alloc: Global, gates: &'a [BoundGate], sizes: Vec<Size>) -> Inliner<'a>
+    pub fn new(
+        alloc: Global,
+        gates: &'a [BoundGate],
+        sizes: Vec<Size>,
+        limits: Vec<Option<u64>>,
+    ) -> Inliner<'a>
         requires sized { sizes.items ≡ map capped (sizes_of (map gate_view gates.now)) }
+        requires limits { AreQuiet (meanings (map gate_view gates.now)) limits.items }
         ensures value { result ≡ at_start gates.now }
     {
         Inliner {
             gates,
             sizes,
+            limits,
             memo: Memo::new(alloc),
             list: Vec::new(alloc),
         }
@@ -96,6 +107,7 @@ impl<'a> Inliner<'a> {
         let Inliner {
             gates: _,
             sizes: _,
+            limits: _,
             memo: _,
             list,
         } = self;
@@ -114,6 +126,13 @@ impl<'a> Inliner<'a> {
         ensures { result ≡ length self.now.list }
     {
         self.list.len()
+    }
+
+    /// Whether a call of one of the first `below` gates has no operation and no refusal, as the gate's limit tells.
+    fn skips(&self, below: usize, call: &Call) -> bool
+        ensures { result ≡ true → call_answer (gates_of self.now) below call.now ≡ Ok [] }
+    {
+        call.gate < below && is_nothing(&self.limits, call.gate, &call.angles)
     }
 
     /// Where the operations of a call of one of the first `below` gates stand, if it is remembered.
@@ -175,6 +194,9 @@ impl<'a> Inliner<'a> {
         ensures room { OnOk result (frames_room (gates_of self.old) frames.new.items
             < frames_room (gates_of self.old) frames.old.items + 2 * (size_at (sizes_of (take below (gates_of self.old))) call.gate).items) }
     {
+        if self.skips(below, &call) {
+            return Ok(());
+        }
         if let Some((start, end)) = self.recalled(below, &call) {
             self.write_again(start, end)?;
             return Ok(());
@@ -249,6 +271,54 @@ impl<'a> Inliner<'a> {
         Ok(())
     }
 
+    /// Puts the operations of a gate at an index of a broadcast behind the others, where a call with these values is
+    /// remembered, on whatever wires. False where there is none.
+    fn write_alike(
+        &mut self,
+        gate: usize,
+        angles: &[Angle],
+        places: &[Operand],
+        j: u32,
+    ) -> Result<bool, InlineStop>
+        requires placed { All (λ p. wire_there j p < 2 ^ 32) places.now }
+        ensures ok { IfOk result (λ b. b ≡ true → HasWritten self.old (meaning_at (meanings (gates_of self.old)) gate angles.now (map (wire_there j) places.now)) self.new) }
+        ensures none { IfOk result (λ b. b ≡ false → self.new ≡ self.old) }
+        ensures err { IfErr result (λ e. e ≡ NoMemory) }
+    {
+        let Some(kept) = self.memo.alike(gate, angles) else {
+            return Ok(false);
+        };
+        if !is_renaming(&kept.wires, places, j) {
+            return Ok(false);
+        }
+        push_renamed(&mut self.list, kept.start, kept.end, &kept.wires, places, j)?;
+        Ok(true)
+    }
+
+    /// Puts the operations of a gate at an index of a broadcast behind the others.
+    fn write_index(
+        &mut self,
+        alloc: Global,
+        gate: usize,
+        angles: &[Angle],
+        places: &[Operand],
+        j: u32,
+    ) -> Result<(), InlineStop>
+        requires placed { All (λ p. wire_there j p < 2 ^ 32) places.now }
+        ensures ok { OnOk result (HasWritten self.old (meaning_at (meanings (gates_of self.old)) gate angles.now (map (wire_there j) places.now)) self.new) }
+        ensures err { IfErr result (IsStop (meaning_at (meanings (gates_of self.old)) gate angles.now (map (wire_there j) places.now))) }
+    {
+        if self.write_alike(gate, angles, places, j)? {
+            return Ok(());
+        }
+        let call = Call {
+            gate,
+            angles: copied(alloc, angles)?,
+            wires: wires_at(alloc, places, j)?,
+        };
+        self.write_out(alloc, call)
+    }
+
     /// Puts the operations of a gate behind the others, for each index of the broadcast.
     fn write_broadcast(
         &mut self,
@@ -262,12 +332,7 @@ impl<'a> Inliner<'a> {
         ensures err { IfErr result (IsStop (broadcast_answer (meanings (gates_of self.old)) gate angles.now places.now (broadcast_of places.now))) }
     {
         'indices: for j in 0..broadcast(places) {
-            let call = Call {
-                gate,
-                angles: copied(alloc, angles)?,
-                wires: wires_at(alloc, places, j)?,
-            };
-            match self.write_out(alloc, call) {
+            match self.write_index(alloc, gate, angles, places, j) {
                 Ok(()) => {}
                 Err(stop) => return Err(stop),
             }
@@ -288,7 +353,7 @@ impl<'a> Inliner<'a> {
                 angles,
                 operands,
             } => match values(alloc, &[], angles) {
-                Ok(angles) => self.write_broadcast(alloc, *gate, &angles, operands),
+                Ok(angles) => self.write_broadcast(alloc, *gate, &angles, operands.as_slice()),
                 Err(stop) => Err(stop),
             },
             Step::Measure { qubit: _, bit: _ } | Step::Barrier { operands: _ } | Step::Nothing =>

@@ -115,7 +115,7 @@ fn are_same_wires(a: &[u32], b: &[u32]) -> bool
 }
 
 /// Whether the gate of this number has no operation, whatever its values and wires are.
-fn is_quiet(sizes: &[Size], gate: usize) -> bool
+fn has_no_operation(sizes: &[Size], gate: usize) -> bool
     ensures { result ≡ true → (size_at sizes.now gate).operations ≡ 0 }
 {
     match sizes.get(gate) {
@@ -141,7 +141,7 @@ fn is_same(kept: &Kept, sizes: &[Size], gate: usize, angles: &[Angle], wires: &[
     if !is_of(kept, gate, angles) {
         return false;
     }
-    if is_quiet(sizes, gate) {
+    if has_no_operation(sizes, gate) {
         return true;
     }
     are_same_wires(&kept.wires, wires)
@@ -184,6 +184,24 @@ impl Memo {
             Some(Some(kept)) => {
                 if is_same(kept, sizes, gate, angles, wires) {
                     Some((kept.start, kept.end))
+                } else {
+                    None
+                }
+            }
+            Some(None) => None,
+            None => None,
+        }
+    }
+
+    /// The call of a gate with these values that is remembered, whatever its wires are.
+    pub fn alike(&self, gate: usize, angles: &[Angle]) -> Option<&Kept>
+        ensures some { IfSome result (λ k. (gates : List BoundGate) (us : List Op) → AreKept gates us self.now.places.items →
+            IsPart (meaning_at (meanings gates) gate angles.now k.now.wires.items) us k.now.start k.now.end) }
+    {
+        match self.places.get(place_of(self.places.len(), gate, angles)) {
+            Some(Some(kept)) => {
+                if is_of(kept, gate, angles) {
+                    Some(kept)
                 } else {
                     None
                 }

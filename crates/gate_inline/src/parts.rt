@@ -125,7 +125,7 @@ pub fn end_part(
 {
     match step {
         Step::Barrier { operands } => {
-            let wires = named_wires(alloc, operands, marks)?;
+            let wires = named_wires(alloc, operands.as_slice(), marks)?;
             end_with(alloc, wires, list, parts)
         }
         Step::Apply {

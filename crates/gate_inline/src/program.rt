@@ -13,6 +13,7 @@ ghost use Rattle.gate_inline.specs.Sizes.{is_too_much, total};
 ghost use Rattle.gate_inline.specs.Reads.{reads as reads_of, step_read};
 
 use crate::inliner::Inliner;
+use crate::quiet::limits;
 use crate::refusal::{InlineFault, InlineRefusal, InlineRefused};
 use crate::size::{sizes, too_much};
 use crate::stop::{AngleRefusal, InlineStop};
@@ -153,7 +154,10 @@ pub fn fitting_inliner<'a>(
 {
     let sizes = sizes(alloc, gates)?;
     match too_much(&sizes, steps) {
-        None => Ok(Inliner::new(alloc, gates, sizes)),
+        None => {
+            let limits = limits(alloc, gates)?;
+            Ok(Inliner::new(alloc, gates, sizes, limits))
+        }
         Some(index) => Err(InlineFault::Refused(InlineRefused {
             refusal: InlineRefusal::TooManyOps,
             statement: number(index),

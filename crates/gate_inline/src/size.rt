@@ -122,7 +122,7 @@ fn step_size(sizes: &[Size], step: &Step) -> Size
             gate,
             angles: _,
             operands,
-        } => times(broadcast(operands), size_at(sizes, *gate)),
+        } => times(broadcast(operands.as_slice()), size_at(sizes, *gate)),
         Step::Measure { qubit: _, bit: _ } | Step::Barrier { operands: _ } | Step::Nothing => Size {
             operations: 0,
             items: 0,

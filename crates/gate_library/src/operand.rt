@@ -9,7 +9,7 @@ use crate::repeats::wires_repeat;
 use std::alloc::{AllocError, Global};
 
 /// A register of wires or bits, its first and its size, or one of them by its index, which is below the size.
-#[derive(Clone, Copy, Debug, PartialEq, Eq)]
+#[derive(Clone, Copy, Debug, Default, PartialEq, Eq)]
 pub struct Operand {
     pub first: u32,
     pub size: u32,

@@ -76,7 +76,7 @@ impl Basis {
 
     /// Does nothing. Its contract says what holds of each basis.
     pub fn facts(&self)
-        ensures wires_limit { length self.now ≤ 256 }
+        ensures rank_limit { length self.now ≤ 256 }
         ensures independent { IsTrue (is_independent self.now) }
     {
         let _rows = &self.rows;

@@ -69,7 +69,7 @@ impl Row {
 
     /// The row of one wire.
     pub fn unit(wire: u32) -> Row
-        requires wires_limit { wire < 256 }
+        requires within { wire < 256 }
         ensures value { result ≡ 2 ^ wire }
     {
         let mut row = Row::empty();
@@ -104,7 +104,7 @@ impl Row {
 
     /// Whether a wire is in the set.
     pub fn has(&self, wire: u32) -> bool
-        requires wires_limit { wire < 256 }
+        requires within { wire < 256 }
         ensures value { IsTrue result ↔ (bit_at self.now wire ≡ 1) }
     {
         self.words[(wire / 64) as usize] >> (wire % 64) & 1 == 1
@@ -132,7 +132,7 @@ impl Row {
 
     /// Puts a wire in where it is not there, and takes it out where it is.
     pub fn flip(&mut self, wire: u32)
-        requires wires_limit { wire < 256 }
+        requires within { wire < 256 }
         ensures new { self.new ≡ bit_xor self.old (2 ^ wire) }
     {
         self.words[(wire / 64) as usize] ^= 1 << (wire % 64);

@@ -75,7 +75,7 @@ fn padded(rows: Vec<Row>, count: usize) -> Result<Vec<Row>, AllocError>
 /// A matrix that has the rows on its first wires, and one wire more for each row that is a sum of those before it. So
 /// additions that bring it to another such matrix bring the rows to those of the other.
 pub fn widened(alloc: Global, rows: &[Row], wires: u32) -> Result<Matrix, AllocError>
-    requires wires_limit { length rows.now ≤ 256 }
+    requires rows_limit { length rows.now ≤ 256 }
     requires below { All (λ r. r < 2 ^ wires) rows.now }
     requires rank { rank rows.now ≡ wires }
     ensures length { IfOk result (λ m. length m ≡ length rows.now) }

@@ -12,7 +12,6 @@
 #![tactic(auto)]
 
 mod change;
-mod walk;
 mod window;
 
 ghost use Rattle.std.specs.Prelude.{◌<◌};

@@ -1,11 +1,11 @@
 -- Working form. Rows that have come in, and the blocks in which they stand.
 --   Arrangement              what contracts see of them
 --   IsArranged a             each row stands in its block and in no other, and is a sum of what is told of all rows
---   IsPartitioning a unfilled    besides, each block that isn't listed has as many rows as all rows have rank
---   IsFull a                 each block has as many rows as all rows have rank
+--   IsPartitioning a unfilled    besides, each block that isn't listed has as many rows as are told of all rows
+--   IsFull a                 each block has as many rows as are told of all rows
 --   rows_with a v            the rows, and a new one behind them
 --   IsEntered v k o a        from o to a the new row has come in, and k blocks were opened
---   IsWidened v o a          v is a sum of what is told of all rows, and nothing else has changed
+--   IsWidened v o a          v is a sum of what is told of all rows, which may span more, and nothing else has changed
 use Rattle.std.specs.Prelude.{◌≡◌, ℕ, ◌+◌, List, [], ◌∷◌, ◌++◌, true, length}
 use Rattle.gf2_linear.specs.Rows.{is_sum}
 use Rattle.matroid_partition.specs.Blocks.{IsOpen, IsState, SpansFirst}

@@ -51,8 +51,8 @@ pub fn offer<'a>(
             dealing.names.push(place)?;
             Ok(None)
         }
-        Some(reach) => {
-            let seen = dealing.held.seen(alloc, reach)?;
+        Some(reached) => {
+            let seen = dealing.held.seen(alloc, reached)?;
             Ok(Some(seen))
         }
     }
@@ -199,7 +199,7 @@ pub fn take_in<'a>(
     ensures none { IfOk result (λ o. IfNone o (length dealing.new.held.blocks ≡ length dealing.old.held.blocks)) }
 {
     admit(alloc, rows, dealing, place)?;
-    if dealing.over.len() <= dealing.held.count().saturating_mul(spares) {
+    if dealing.over.len() <= dealing.held.block_count().saturating_mul(spares) {
         return Ok(None);
     }
     let room = make_room(alloc, rows, dealing)?;

@@ -25,7 +25,7 @@ pub fn dealt(
 {
     dealing.held.facts();
     let homes = homes_of(alloc, rows, dealing, spares)?;
-    let lists = lists_of(alloc, &homes, dealing.held.count())?;
+    let lists = lists_of(alloc, &homes, dealing.held.block_count())?;
     Ok(lists)
 }
 

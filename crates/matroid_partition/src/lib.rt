@@ -22,9 +22,9 @@ mod dealt;
 mod exchange;
 mod partitioning;
 mod parts;
+mod roomless;
 mod search;
 mod spares;
-mod taken;
 mod witness;
 
 pub use parts::{Parts, partition};

@@ -13,7 +13,7 @@ ghost use Rattle.matroid_partition.specs.declared.blocks.Block.{Block};
 use crate::blocks::{Block, block_of, first_fit, without};
 use crate::exchange::shift;
 use crate::search::{Chain, Front, Node, front_at};
-use crate::witness::{Reach, Witness, places_below, places_of, seen_places};
+use crate::witness::{ReachedRows, Witness, places_below, places_of, seen_places};
 use gf2_linear::{Basis, Row};
 use std::alloc::{AllocError, Global};
 use std::marker::Model;
@@ -22,7 +22,7 @@ use std::mem;
 /// Rows that have come in, each in one of some independent blocks.
 ///
 /// Contracts see the rows in the order in which they came, the block of each, the blocks, and independent rows of which each is
-/// a sum. After want of memory no row is left in it.
+/// a sum. After want of memory it has some rows, or none, and none that didn't come in.
 #[derive(Drop)]
 pub struct Partitioning<'a> {
     rows: Vec<&'a Row>,
@@ -62,7 +62,7 @@ impl<'a> Partitioning<'a> {
         }
     }
 
-    /// What holds of it at all times.
+    /// Does nothing. Its contract says what holds of each partitioning.
     pub fn facts(&self)
         ensures arranged { IsArranged self.now }
     {
@@ -70,14 +70,14 @@ impl<'a> Partitioning<'a> {
     }
 
     /// The number of rows.
-    pub fn len(&self) -> usize
+    pub fn row_count(&self) -> usize
         ensures value { result ≡ length self.now.homes }
     {
         self.homes.len()
     }
 
     /// The number of blocks.
-    pub fn count(&self) -> usize
+    pub fn block_count(&self) -> usize
         ensures value { result ≡ length self.now.blocks }
     {
         self.blocks.len()
@@ -133,7 +133,7 @@ impl<'a> Partitioning<'a> {
         first_fit(&self.blocks, &self.unfilled, row)
     }
 
-    /// Whether each block is known to have as many rows as all rows have rank.
+    /// Whether each block is known to have as many rows as are told of all rows.
     fn is_full(&self) -> bool
         ensures { result ≡ true → IsFull self.now }
     {
@@ -165,8 +165,8 @@ impl<'a> Partitioning<'a> {
         self.facts();
         match self.settle(alloc, row)? {
             None => Ok(None),
-            Some(reach) => {
-                let witness = self.witness(alloc, reach)?;
+            Some(reached) => {
+                let witness = self.witness(alloc, reached)?;
                 self.begin(alloc, row)?;
                 Ok(Some(witness))
             }
@@ -175,7 +175,7 @@ impl<'a> Partitioning<'a> {
 
     /// Brings a row in, by a block with room or by a chain of exchanges. Where there is no place for it, nothing changes, and it
     /// tells what was reached.
-    pub fn settle(&mut self, alloc: Global, row: &'a Row) -> Result<Option<Reach>, AllocError>
+    pub fn settle(&mut self, alloc: Global, row: &'a Row) -> Result<Option<ReachedRows>, AllocError>
         requires spanned { is_sum self.old.all row.now ≡ true }
         ensures none { IfOk result (λ o. IfNone o (IsEntered row.now 0 self.old self.new)) }
         ensures closed { IfOk result (λ o. IfSome o (IsClosedBy self.old row.now)) }
@@ -184,20 +184,20 @@ impl<'a> Partitioning<'a> {
         self.facts();
         if let Some(into) = self.fit(row) {
             let new = Node {
-                place: self.len(),
+                place: self.row_count(),
                 parent: 0,
             };
             self.enter(alloc, row, &[new], Chain { last: 0, into })?;
             return Ok(None);
         }
         if self.is_full() {
-            return Ok(Some(Reach::Every));
+            return Ok(Some(ReachedRows::Every));
         }
         self.by_chain(alloc, row)
     }
 
     /// The same by a chain of exchanges.
-    fn by_chain(&mut self, alloc: Global, row: &'a Row) -> Result<Option<Reach>, AllocError>
+    fn by_chain(&mut self, alloc: Global, row: &'a Row) -> Result<Option<ReachedRows>, AllocError>
         requires spanned { is_sum self.old.all row.now ≡ true }
         ensures none { IfOk result (λ o. IfNone o (IsEntered row.now 0 self.old self.new)) }
         ensures closed { IfOk result (λ o. IfSome o (IsClosedBy self.old row.now)) }
@@ -210,7 +210,7 @@ impl<'a> Partitioning<'a> {
                 self.enter(alloc, row, &front.nodes, chain)?;
                 Ok(None)
             }
-            None => Ok(Some(Reach::Seen(front.seen))),
+            None => Ok(Some(ReachedRows::Seen(front.seen))),
         }
     }
 
@@ -290,25 +290,25 @@ impl<'a> Partitioning<'a> {
     }
 
     /// For each row, and the new one behind them, whether it was reached.
-    pub fn seen(&self, alloc: Global, reach: Reach) -> Result<Vec<bool>, AllocError>
-        ensures ok { IfOk result (λ v. v.items ≡ seen_by (length self.now.homes + 1) reach) }
+    pub fn seen(&self, alloc: Global, reached: ReachedRows) -> Result<Vec<bool>, AllocError>
+        ensures ok { IfOk result (λ v. v.items ≡ seen_by (length self.now.homes + 1) reached) }
     {
-        match reach {
-            Reach::Every => {
+        match reached {
+            ReachedRows::Every => {
                 let seen = vec![in alloc; true; self.homes.len() + 1]?;
                 Ok(seen)
             }
-            Reach::Seen(seen) => Ok(seen),
+            ReachedRows::Seen(seen) => Ok(seen),
         }
     }
 
     /// The rows that were reached, as a witness.
-    fn witness(&self, alloc: Global, reach: Reach) -> Result<Witness, AllocError>
-        ensures { IfOk result (λ w. shown_by w ≡ places_seen (seen_by (length self.now.homes + 1) reach)) }
+    fn witness(&self, alloc: Global, reached: ReachedRows) -> Result<Witness, AllocError>
+        ensures { IfOk result (λ w. shown_by w ≡ places_seen (seen_by (length self.now.homes + 1) reached)) }
     {
-        match reach {
-            Reach::Every => Ok(Witness::First(self.homes.len() + 1)),
-            Reach::Seen(seen) => {
+        match reached {
+            ReachedRows::Every => Ok(Witness::First(self.homes.len() + 1)),
+            ReachedRows::Seen(seen) => {
                 let places = seen_places(alloc, &seen)?;
                 Ok(Witness::Reached(places))
             }

@@ -6,7 +6,7 @@ ghost use Rattle.matroid_partition.specs.Arrangements.{rows_with};
 ghost use Rattle.matroid_partition.specs.Searches.{IsChainOf, IsFrontOf, IsGrown, IsMember, IsNear, IsRoot, IsSeen, IsSet, IsStart, node_at};
 
 use crate::partitioning::Partitioning;
-use crate::taken::{ParityChecks, none_taken};
+use crate::roomless::{Roomless, none_roomless};
 use gf2_linear::{Basis, Row};
 use std::alloc::{AllocError, Global};
 
@@ -23,7 +23,7 @@ pub struct Node {
 pub struct Front {
     pub nodes: Vec<Node>,
     pub seen: Vec<bool>,
-    pub taken: ParityChecks,
+    pub roomless: Roomless,
 }
 
 /// A chain: the row of its last node goes into the block `into`.
@@ -42,7 +42,7 @@ pub fn front_at(alloc: Global, place: usize, all: &Basis) -> Result<Front, Alloc
     Ok(Front {
         nodes,
         seen: Vec::new(alloc),
-        taken: none_taken(alloc, all)?,
+        roomless: none_roomless(alloc, all)?,
     })
 }
 
@@ -60,22 +60,22 @@ impl<'a> Partitioning<'a> {
         ensures none { IfOk result (λ o. IfNone o (IsFrontOf self.now new.now front.new (length front.new.nodes.items) 0)) }
     {
         self.facts();
-        if let Some((place, into)) = self.near(new, &mut front.taken) {
+        if let Some((place, into)) = self.near(new, &mut front.roomless) {
             front.nodes.push(Node { place, parent: 0 })?;
             return Ok(Some(Chain { last: 1, into }));
         }
-        let mut seen = vec![in alloc; false; self.len()]?;
+        let mut seen = vec![in alloc; false; self.row_count()]?;
         seen.push(true)?;
         front.seen = seen;
         self.walk(new, front)
     }
 
     /// The first row that could make way for the new one, and the block that it would go into: a chain of one exchange.
-    fn near(&self, new: &Row, taken: &mut ParityChecks) -> Option<(usize, usize)>
+    fn near(&self, new: &Row, roomless: &mut Roomless) -> Option<(usize, usize)>
         ensures { IfSome result (λ e. IsNear self.now new.now e.0 e.1) }
     {
-        'numbers: for number in 0..self.count() {
-            if let Some(end) = self.near_in(new, number, taken) {
+        'numbers: for number in 0..self.block_count() {
+            if let Some(end) = self.near_in(new, number, roomless) {
                 return Some(end);
             }
         }
@@ -83,7 +83,7 @@ impl<'a> Partitioning<'a> {
     }
 
     /// The first such row of one block.
-    fn near_in(&self, new: &Row, number: usize, taken: &mut ParityChecks) -> Option<(usize, usize)>
+    fn near_in(&self, new: &Row, number: usize, roomless: &mut Roomless) -> Option<(usize, usize)>
         requires block { number < length self.now.blocks }
         ensures { IfSome result (λ e. IsNear self.now new.now e.0 e.1) }
     {
@@ -95,7 +95,7 @@ impl<'a> Partitioning<'a> {
             Some(set) => {
                 'members: for (member, place) in block.places.iter().enumerate() {
                     if set.has(member as u32) {
-                        if let Some(into) = self.room_for(new, *place, taken) {
+                        if let Some(into) = self.room_for(new, *place, roomless) {
                             return Some((*place, into));
                         }
                     }
@@ -106,18 +106,18 @@ impl<'a> Partitioning<'a> {
     }
 
     /// The first block that has room for a row that was reached; where there is none, that is noted.
-    fn room_for(&self, new: &Row, place: usize, taken: &mut ParityChecks) -> Option<usize>
+    fn room_for(&self, new: &Row, place: usize, roomless: &mut Roomless) -> Option<usize>
         requires old { place < length self.now.homes }
         ensures { IfSome result (λ k. HasRoomAt (slice_index (rows_with self.now new.now) place) self.now.blocks k) }
     {
         self.facts();
         let row = self.row(new, place);
-        if taken.has(row) {
+        if roomless.has(row) {
             return None;
         }
         let into = self.fit(row);
         if into.is_none() {
-            taken.add(row);
+            roomless.add(row);
         }
         into
     }
@@ -146,7 +146,7 @@ impl<'a> Partitioning<'a> {
         ensures none { IfOk result (λ o. IfNone o (IsFrontOf self.now new.now front.new (node + 1) 0)) }
         ensures there { IfOk result (λ o. IfNone o (node < length front.new.nodes.items)) }
     {
-        'numbers: for number in 0..self.count() {
+        'numbers: for number in 0..self.block_count() {
             if let Some(chain) = self.cross(new, node, number, front)? {
                 return Ok(Some(chain));
             }
@@ -171,7 +171,7 @@ impl<'a> Partitioning<'a> {
     {
         self.facts();
         let place = front.nodes[node].place;
-        if place < self.len() && self.home(place) == number {
+        if place < self.row_count() && self.home(place) == number {
             return Ok(None);
         }
         match self.block(number).basis.express(self.row(new, place)) {
@@ -239,7 +239,7 @@ impl<'a> Partitioning<'a> {
             place,
             parent: node,
         })?;
-        match self.room_for(new, place, &mut front.taken) {
+        match self.room_for(new, place, &mut front.roomless) {
             None => Ok(None),
             Some(into) => Ok(Some(Chain { last, into })),
         }

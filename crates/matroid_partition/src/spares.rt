@@ -38,7 +38,7 @@ pub fn partition_spares(alloc: Global, rows: &[Row], spares: u32) -> Result<Part
             witness = Witness::Reached(reached);
         }
     }
-    let count = dealing.held.count();
+    let count = dealing.held.block_count();
     Ok(Parts {
         blocks: dealt(alloc, rows, &dealing, room)?,
         witness: shown(alloc, count, rows.len(), witness)?,

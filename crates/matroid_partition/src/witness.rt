@@ -10,7 +10,7 @@ use std::alloc::{AllocError, Global};
 
 /// What was reached from a row that found no place.
 #[derive(Drop)]
-pub enum Reach {
+pub enum ReachedRows {
     /// All rows.
     Every,
     /// Each row that is marked; the new one is behind the others.

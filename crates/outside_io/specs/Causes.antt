@@ -14,6 +14,6 @@ Rose before now = min (before + 1) (2 ^ 64 - 1) ≤ now
 
 -- a count never falls, an `Err` comes only where it rose, and an `Ok` leaves it
 pub record HasCause {T E : Type 0} (before now : ℕ) (result : Result T E) : Type 0 where
-  pub later : before ≤ now
+  pub grows : before ≤ now
   pub failed : OnErr result (Rose before now)
   pub ok : OnOk result (now ≡ before)

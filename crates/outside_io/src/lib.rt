@@ -103,7 +103,7 @@ pub trait Shelf {
         ensures absent { IsErrOf result LoadFault.Absent → HasNoText (content self.old name.now) }
         ensures empty { OnErr result (into.new.items ≡ []) }
         ensures keeps { (other : List ℕ) → content self.new other ≡ content self.old other }
-        ensures later { faults self.old ≤ faults self.new }
+        ensures grows { faults self.old ≤ faults self.new }
         ensures failed { IsErrOf result LoadFault.Failed → Rose (faults self.old) (faults self.new) }
         ensures calm { (result ≡ Err LoadFault.Failed → ⊥) → faults self.new ≡ faults self.old };
 }
@@ -134,7 +134,7 @@ pub fn read_all<S: Source>(alloc: Global, source: &mut S, max: usize) -> Result<
     ensures fits { IfOk result (λ v. vec_len v ≤ max) }
     ensures too_long { IsErrOf result InputFault.TooLong → IsLongerThan (S.left source.old) max }
     ensures one_more { IsErrOf result InputFault.TooLong → TakesOneMore (S.left source.old) (S.left source.new) max }
-    ensures later { S.faults source.old ≤ S.faults source.new }
+    ensures grows { S.faults source.old ≤ S.faults source.new }
     ensures failed { IsErrOf result InputFault.Failed → Rose (S.faults source.old) (S.faults source.new) }
     ensures calm { (result ≡ Err InputFault.Failed → ⊥) → S.faults source.new ≡ S.faults source.old }
 {
@@ -154,7 +154,7 @@ fn read_into<S: Source>(source: &mut S, max: usize, into: &mut Vec<u8>) -> Resul
     ensures bound { vec_len into.new ≤ max + 1 }
     ensures too_long { IsErrOf result InputFault.TooLong → IsLongerThan (S.left source.old) max }
     ensures one_more { IsErrOf result InputFault.TooLong → TakesOneMore (S.left source.old) (S.left source.new) max }
-    ensures later { S.faults source.old ≤ S.faults source.new }
+    ensures grows { S.faults source.old ≤ S.faults source.new }
     ensures failed { IsErrOf result InputFault.Failed → Rose (S.faults source.old) (S.faults source.new) }
     ensures calm { (result ≡ Err InputFault.Failed → ⊥) → S.faults source.new ≡ S.faults source.old }
 {
@@ -231,7 +231,7 @@ pub fn load_text<F: Shelf>(
     ensures fits { IfOk result (λ t. vec_len t ≤ max) }
     ensures err { IfErr result (IsTextCause (F.content shelf.old name.now) max (F.faults shelf.old) (F.faults shelf.new)) }
     ensures keeps { (other : List ℕ) → F.content shelf.new other ≡ F.content shelf.old other }
-    ensures later { F.faults shelf.old ≤ F.faults shelf.new }
+    ensures grows { F.faults shelf.old ≤ F.faults shelf.new }
     ensures calm { (result ≡ Err TextFault.Failed → ⊥) → F.faults shelf.new ≡ F.faults shelf.old }
 {
     let mut text = Vec::new(alloc);
@@ -251,7 +251,7 @@ pub fn load_text<F: Shelf>(
 // One more fault.
 pub(crate) fn fail(faults: &mut u64) -> Failed
     ensures counted { faults.new ≡ one_more faults.old }
-    ensures later { faults.old ≤ faults.new }
+    ensures grows { faults.old ≤ faults.new }
 {
     *faults = faults.saturating_add(1);
     Failed

@@ -49,7 +49,7 @@ impl Calls {
         ensures fails { IsErr result ↔ IsToFail self.old }
         ensures ok { OnOk result (self.new ≡ passed self.old) }
         ensures err { OnErr result (self.new ≡ failed self.old) }
-        ensures later { self.old.faults ≤ self.new.faults }
+        ensures grows { self.old.faults ≤ self.new.faults }
     {
         self.made = self.made.saturating_add(1);
         if self.failing.contains(&self.made) {
@@ -61,7 +61,7 @@ impl Calls {
     // Fails the call that has begun.
     fn fail(&mut self) -> Failed
         ensures counted { (before : CallLog) → self.old ≡ passed before → self.new ≡ failed before }
-        ensures later { self.old.faults ≤ self.new.faults }
+        ensures grows { self.old.faults ≤ self.new.faults }
     {
         fail(&mut self.faults)
     }
@@ -315,13 +315,13 @@ impl Shelf for MemShelf {
     ghost faults = { λ s. s.calls.faults };
 
     fn load(&mut self, name: &str, max: usize, into: &mut Vec<u8>) -> Result<(), LoadFault>
-        requires { max < 2 ^ 32 }
+        requires limit { max < 2 ^ 32 }
         ensures text { OnOk result (LoadsText (Some (text_of self.old.texts name.now)) max into.new.items) }
         ensures bound { length into.new.items ≤ max + 1 }
         ensures absent { IsErrOf result LoadFault.Absent → HasNoText (Some (text_of self.old.texts name.now)) }
         ensures empty { OnErr result (into.new.items ≡ []) }
         ensures keeps { (other : List ℕ) → Some (text_of self.new.texts other) ≡ Some (text_of self.old.texts other) }
-        ensures later { self.old.calls.faults ≤ self.new.calls.faults }
+        ensures grows { self.old.calls.faults ≤ self.new.calls.faults }
         ensures failed { IsErrOf result LoadFault.Failed → Rose self.old.calls.faults self.new.calls.faults }
         ensures calm { (result ≡ Err LoadFault.Failed → ⊥) → self.new.calls.faults ≡ self.old.calls.faults }
         ensures fails { IsErrOf result LoadFault.Failed ↔ IsToFail self.old.calls }

@@ -17,7 +17,7 @@ pub struct StdSource<R> {
 impl<R: Read> StdSource<R> {
     /// This reader, with no fault so far.
     pub fn new(reader: R) -> Self
-        ensures value { ⟦<StdSource<R> as Source>⟧.faults result ≡ 0 }
+        ensures no_faults { ⟦<StdSource<R> as Source>⟧.faults result ≡ 0 }
     {
         StdSource { reader, faults: 0 }
     }
@@ -47,7 +47,7 @@ pub struct StdSink<W> {
 impl<W: Write> StdSink<W> {
     /// This writer, with no fault so far.
     pub fn new(writer: W) -> Self
-        ensures value { ⟦<StdSink<W> as Sink>⟧.faults result ≡ 0 }
+        ensures no_faults { ⟦<StdSink<W> as Sink>⟧.faults result ≡ 0 }
     {
         StdSink {
             writer,
@@ -95,7 +95,7 @@ pub struct DirShelf<'a, R> {
 impl<'a, R: Files> DirShelf<'a, R> {
     /// The files of this runtime, with no fault so far.
     pub fn new(files: &'a R) -> Self
-        ensures value { ⟦<DirShelf<'a, R> as Shelf>⟧.faults result ≡ 0 }
+        ensures no_faults { ⟦<DirShelf<'a, R> as Shelf>⟧.faults result ≡ 0 }
     {
         DirShelf { files, faults: 0 }
     }

@@ -32,7 +32,7 @@ pub(crate) fn bring(
     ensures held { OnOk result (held.new ≡ target.now) }
     ensures built { OnOk result ((done : List Term) → IsBuilt (length held.old) gates.old.items held.old done →
         IsBuilt (length held.old) gates.new.items target.now done) }
-    ensures gates_limit { OnOk result (cx_count (ops gates.new.items) ≤ cx_count (ops gates.old.items) + length held.old * length held.old) }
+    ensures cx_bound { OnOk result (cx_count (ops gates.new.items) ≤ cx_count (ops gates.old.items) + length held.old * length held.old) }
 {
     let pairs = synth_between(alloc, held, target)?;
     push_cnots(gates, &pairs)?;
@@ -81,7 +81,7 @@ pub(crate) fn put_blocks(
     ensures size { OnOk result (length held.new ≡ length held.old) }
     ensures built { OnOk result ((done : List Term) → IsBuilt (length held.old) gates.old.items held.old done →
         IsBuilt (length held.old) gates.new.items held.new (done ++ picked terms.now (map (λ b. b.items) blocks.now))) }
-    ensures gates_limit { OnOk result (cx_count (ops gates.new.items) ≤ cx_count (ops gates.old.items) + length blocks.now * (length held.old * length held.old)) }
+    ensures cx_bound { OnOk result (cx_count (ops gates.new.items) ≤ cx_count (ops gates.old.items) + length blocks.now * (length held.old * length held.old)) }
 {
     'parts: for block in blocks {
         put_block(alloc, held, gates, terms, block)?;
@@ -105,7 +105,7 @@ pub(crate) fn put_block(
     ensures size { OnOk result (length held.new ≡ length held.old) }
     ensures built { OnOk result ((done : List Term) → IsBuilt (length held.old) gates.old.items held.old done →
         IsBuilt (length held.old) gates.new.items held.new (done ++ at_places terms.now block.now)) }
-    ensures gates_limit { OnOk result (cx_count (ops gates.new.items) ≤ cx_count (ops gates.old.items) + length held.old * length held.old) }
+    ensures cx_bound { OnOk result (cx_count (ops gates.new.items) ≤ cx_count (ops gates.old.items) + length held.old * length held.old) }
 {
     let rows = chosen(alloc, terms, block)?;
     held.facts();

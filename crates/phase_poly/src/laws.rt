@@ -78,7 +78,7 @@ pub fn replaced_layers()
         IsReplaced n (layers_of gs) ms t → t_count (ops (linked ms)) ≤ t_count (ops gs) }
     ensures cx_gates { (n t : ℕ) (gs : List Gate) (ms : List LayerBody) → AreFine n gs →
         IsReplaced n (layers_of gs) ms t → cx_count (ops (linked ms)) ≤ cx_count (ops gs) }
-    ensures layers_limit { (n : ℕ) (gs : List Gate) (ms : List LayerBody) (bs : List ℕ) →
+    ensures cx_bound { (n : ℕ) (gs : List Gate) (ms : List LayerBody) (bs : List ℕ) →
         AreFew n (layers_of gs) ms bs → cx_count (ops (linked ms)) ≤ lesser n (layers_of gs) bs }
 {}
 

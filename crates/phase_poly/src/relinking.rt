@@ -39,7 +39,7 @@ fn taken(alloc: Global, wires: u32, gates: &[Gate]) -> Result<Resynth, AllocErro
     requires dihedral { AreDihedral wires gates.now }
     ensures below { IfOk result (λ r. r.turn < 8) }
     ensures taken { IfOk result (λ r. IsTaken wires gates.now r.list.items r.turn) }
-    ensures gates_limit { IfOk result (λ r. (b : ℕ) → HasBlocks wires gates.now b →
+    ensures cx_bound { IfOk result (λ r. (b : ℕ) → HasBlocks wires gates.now b →
         cx_count (ops r.list.items) ≤ min (cx_count (ops gates.now)) (cx_bound wires b)) }
 {
     if cx_number(gates) == 0 {

@@ -25,7 +25,7 @@ pub fn resynth(alloc: Global, wires: u32, list: &[Gate]) -> Result<Resynth, Allo
     requires dihedral { AreDihedral wires list.now }
     ensures below { IfOk result (λ r. r.turn < 8) }
     ensures resynthesis { IfOk result (λ r. IsResynthesis wires list.now r.list.items r.turn) }
-    ensures gates_limit { IfOk result (λ r. (blocks : List (List ℕ)) → IsPartition (rows_of (poly_of wires list.now).terms) blocks →
+    ensures cx_bound { IfOk result (λ r. (blocks : List (List ℕ)) → IsPartition (rows_of (poly_of wires list.now).terms) blocks →
         cx_count (ops r.list.items) ≤ cx_bound wires (length blocks)) }
 {
     let names = places_in(alloc, &wires_of(list, wires), wires)?;
@@ -44,7 +44,7 @@ fn rebuilt(alloc: Global, wires: u32, list: &[Gate]) -> Result<Resynth, AllocErr
     requires dihedral { AreDihedral wires list.now }
     ensures below { IfOk result (λ r. r.turn < 8) }
     ensures resynthesis { IfOk result (λ r. IsResynthesis wires list.now r.list.items r.turn) }
-    ensures gates_limit { IfOk result (λ r. (blocks : List (List ℕ)) → IsPartition (rows_of (poly_of wires list.now).terms) blocks →
+    ensures cx_bound { IfOk result (λ r. (blocks : List (List ℕ)) → IsPartition (rows_of (poly_of wires list.now).terms) blocks →
         cx_count (ops r.list.items) ≤ cx_bound wires (length blocks)) }
 {
     let sum = poly(alloc, wires, list)?;

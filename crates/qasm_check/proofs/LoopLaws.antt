@@ -1,7 +1,7 @@
 -- One more element of a list, as at a step of a loop.
 --   filter_map_some, filter_map_none   by what is made of it
 --   list_any-map                       a test of what is made of elements
---   list_any_more, filter_map_more     by the next element, whatever it is;  list_any_step, filter_map_step: as a loop has it
+--   list_any_more, filter_map_more     by the next element, whatever it is;  list_any_step, list_any_item, filter_map_step: as a loop has it
 --   drop_read                          the elements from one on
 --   loops                              these and the like
 use Rattle.std.proofs.Common.{◌≡◌, ℕ, ◌+◌, ◌<◌, true, false, sym, List, [], ◌∷◌, ◌++◌, Option, Some, None, ap, ◌∙◌, refl, length, drop, take, get_or, add-one}
@@ -61,6 +61,11 @@ pub list_any_step : {A : Type 0} (p : A → Bool) (xs : List A) (i : ℕ) (x : A
     → b ≡ list_any p (take i xs) → c ≡ p x → (b || c) ≡ list_any p (take (i + 1) xs)
 list_any_step p xs i x b c lt is before now =
     ap (λ y. y || c) before ∙ ap (λ y. list_any p (take i xs) || y) (now ∙ ap p is) ∙ sym (list_any_more p xs i x lt)
+
+pub list_any_item : {A B : Type 0} (p : B → Bool) (f : A → B) (xs : List A) (i : ℕ) (x : A) (b c : Bool) → i < length xs → x ≡ get_or xs i x
+    → b ≡ list_any p (map f (take i xs)) → c ≡ p (f x) → (b || c) ≡ list_any p (map f (take (i + 1) xs))
+list_any_item p f xs i x b c lt is before now =
+    list_any_step (λ y. p (f y)) xs i x b c lt is (before ∙ list_any-map p f (take i xs)) now ∙ sym (list_any-map p f (take (i + 1) xs))
 
 pub filter_map_step : {X Y : Type 0} (h : X → Option Y) (xs : List X) (i : ℕ) (x : X) (ys zs : List Y) (o : Option Y) → i < length xs
     → x ≡ get_or xs i x → ys ≡ filter_map h (take i xs) → o ≡ h x → zs ≡ ys ++ option_to_list o → zs ≡ filter_map h (take (i + 1) xs)

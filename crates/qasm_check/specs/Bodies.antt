@@ -1,20 +1,33 @@
 -- Working form. Declarations of gates, as the code has them.
 --   declaration   the tree of a declaration
---   has_flaw      what is wrong with an application
-use Rattle.std.specs.Prelude.{Bool, map}
-use Rattle.qasm_parser.specs.Tree.{Application, Definition, action, definition}
+--   flaws_of      what is wrong with an item of a body
+--   HasFlaws      what is wrong with a body
+use Rattle.std.specs.Prelude.{◌≡◌, ℕ, List, map}
+use Rattle.std.specs.List.{list_any}
+use Rattle.qasm_parser.specs.Tree.{Action, Definition, action, definition}
 use Rattle.qasm_parser.specs.declared.tree.GateDef.{GateDef}
 use Rattle.qasm_check.specs.Known.{Known, meaning}
 use Rattle.qasm_check.specs.Meanings.{names_register}
-use Rattle.qasm_check.specs.Refusals.{applies_opaque, params_differ, qubits_differ}
-use Rattle.qasm_check.specs.declared.body.Flaw.{Flaw}
-use Rattle.qasm_check.specs.declared.body.Flaw.TheVariants.{Register, Params, Qubits, Opaque}
+use Rattle.qasm_check.specs.Refusals.{applies_opaque, in_body, params_differ, qubits_differ, unknown_in_body}
+use Rattle.qasm_check.specs.declared.body.BodyFlaws.{BodyFlaws}
 
 abbrev pub declaration : GateDef → Definition
 declaration d = definition d.name d.params.items d.qubits.items (map action d.body.items)
 
-abbrev pub has_flaw : Known → Flaw → Application → Bool
-has_flaw k Register a = names_register (meaning k a.gate)
-has_flaw k Params a = params_differ k a
-has_flaw k Qubits a = qubits_differ k a
-has_flaw k Opaque a = applies_opaque k a
+-- of one item
+abbrev pub flaws_of : Known → List (List ℕ) → List (List ℕ) → Action → BodyFlaws
+flaws_of k params qubits a = record {
+  unknown = unknown_in_body k params qubits a;
+  register = in_body (λ a. names_register (meaning k a.gate)) a;
+  params = in_body (params_differ k) a;
+  qubits = in_body (qubits_differ k) a;
+  opaque = in_body (applies_opaque k) a;
+}
+
+-- of a body
+pub record HasFlaws (k : Known) (ps qs : List (List ℕ)) (body : List Action) (f : BodyFlaws) : Type 0 where
+  pub unknown : f.unknown ≡ list_any (unknown_in_body k ps qs) body
+  pub register : f.register ≡ list_any (in_body (λ a. names_register (meaning k a.gate))) body
+  pub params : f.params ≡ list_any (in_body (params_differ k)) body
+  pub qubits : f.qubits ≡ list_any (in_body (qubits_differ k)) body
+  pub opaque : f.opaque ≡ list_any (in_body (applies_opaque k)) body

@@ -11,16 +11,17 @@ ghost use Rattle.qasm_check.specs.Steps.{act_step};
 ghost use Rattle.qasm_check.specs.Verdicts.{IsStop, verdict};
 ghost use Rattle.qasm_check.specs.StepViews.{step};
 
-use crate::arguments::{NamedArgs, is_beyond, is_unknown, is_wrong, named, operand};
+use crate::arguments::{NamedArgs, named};
 use crate::expression::{any_foreign, formulas};
 use crate::indices::Indices;
 use crate::known::Known;
-use crate::meaning::{Meaning, names_register};
+use crate::meaning::{Meaning, is_other, is_past_end, names_register, operand_in};
 use crate::refusal::CheckRefusal;
 use crate::statement::Step;
 use crate::stop::CheckStop;
 use gate_library::{Operand, measure_differs, repeats_wire, sizes_differ};
 use qasm_parser::{Apply, Arg};
+use smallvec::SmallVec;
 use std::alloc::Global;
 
 /// The number of the gate that a name stands for.
@@ -95,13 +96,13 @@ fn tested<'a>(
     found: Option<Meaning>,
     none: &Indices<'a>,
     apply: &'a Apply,
-) -> Result<Vec<Operand>, CheckStop>
+) -> Result<SmallVec<Operand, 2>, CheckStop>
     requires none { none.now ≡ [] }
     requires found { found ≡ meaning (state known.now) apply.now.gate }
     ensures ok { IfOk result (λ v. (verdict (state known.now) (act (applied (application_tree apply.now))) ≡ None) × (v.items ≡ operands (state known.now) apply.now.args.items)) }
     ensures err { IfErr result (IsStop (verdict (state known.now) (act (applied (application_tree apply.now))))) }
 {
-    let named = named(alloc, known, &apply.args)?;
+    let named = named(alloc, known, apply.args.as_slice())?;
     if is_unknown_in(found, &named, none, apply) {
         return Err(CheckStop::Refused(CheckRefusal::UnknownName));
     }
@@ -118,16 +119,16 @@ fn tested<'a>(
         return Err(CheckStop::Refused(CheckRefusal::QubitCount));
     }
     let operands = named.operands;
-    if sizes_differ(&operands) {
+    if sizes_differ(operands.as_slice()) {
         return Err(CheckStop::Refused(CheckRefusal::SizeDiffers));
     }
-    if repeats_wire(alloc, &operands)? {
+    if repeats_wire(alloc, operands.as_slice())? {
         return Err(CheckStop::Refused(CheckRefusal::RepeatedQubit));
     }
     if applies_opaque(known, found, apply) {
         return Err(CheckStop::Refused(CheckRefusal::OpaqueApplied));
     }
-    if known.any_measured(&operands) {
+    if known.any_measured(operands.as_slice()) {
         return Err(CheckStop::Refused(CheckRefusal::AfterMeasure));
     }
     Ok(operands)
@@ -158,17 +159,19 @@ pub fn measure<'a>(known: &Known<'a>, qubit: &'a Arg, bit: &'a Arg) -> Result<St
     ensures ok { IfOk result (λ s. (verdict (state known.now) (act (measured qubit.now bit.now)) ≡ None) × (step s ≡ act_step (state known.now) (measured qubit.now bit.now))) }
     ensures err { IfErr result (IsStop (verdict (state known.now) (act (measured qubit.now bit.now)))) }
 {
-    if is_unknown(known, qubit) || is_unknown(known, bit) {
+    let from = known.meaning(qubit.name.as_bytes());
+    let into = known.meaning(bit.name.as_bytes());
+    if from.is_none() || into.is_none() {
         return Err(CheckStop::Refused(CheckRefusal::UnknownName));
     }
-    if is_wrong(known, true, qubit) || is_wrong(known, false, bit) {
+    if is_other(true, from) || is_other(false, into) {
         return Err(CheckStop::Refused(CheckRefusal::WrongKind));
     }
-    if is_beyond(known, qubit) || is_beyond(known, bit) {
+    if is_past_end(from, qubit.index) || is_past_end(into, bit.index) {
         return Err(CheckStop::Refused(CheckRefusal::IndexRange));
     }
-    let from = operand(known, qubit);
-    let into = operand(known, bit);
+    let from = operand_in(from, qubit.index);
+    let into = operand_in(into, bit.index);
     if measure_differs(from, into) {
         return Err(CheckStop::Refused(CheckRefusal::SizeDiffers));
     }

@@ -1,14 +1,12 @@
 //! Gates as they are declared.
 
-ghost use Rattle.std.specs.Prelude.{◌≡◌, ◌++◌, None, length, IfOk, IfErr, OnOk, map, not};
+ghost use Rattle.std.specs.Prelude.{◌≡◌, ◌++◌, None, false, length, IfOk, IfErr, OnOk, map, not};
 ghost use Rattle.std.specs.List.{list_any};
-ghost use Rattle.qasm_parser.specs.Tree.{action, application as application_tree, gate as declares, opaque as leaves_opaque};
-ghost use Rattle.qasm_check.specs.Bodies.{declaration, has_flaw};
+ghost use Rattle.qasm_parser.specs.Tree.{action, application as application_tree, apply as applied, gate as declares, opaque as leaves_opaque};
+ghost use Rattle.qasm_check.specs.Bodies.{HasFlaws, declaration, flaws_of};
 ghost use Rattle.gate_library.specs.Gates.{opaque as without_body};
 ghost use Rattle.gate_library.specs.Names.{index_of, is_one_of};
-ghost use Rattle.qasm_check.specs.Known.{meaning};
-ghost use Rattle.qasm_check.specs.Meanings.{names_register};
-ghost use Rattle.qasm_check.specs.Refusals.{applies_opaque, gate_taken, in_body, name_taken_by, params_differ, qubits_differ, repeats_name, unknown_in_body};
+ghost use Rattle.qasm_check.specs.Refusals.{gate_taken, in_body, name_taken_by, repeats_name};
 ghost use Rattle.qasm_check.specs.State.{state};
 ghost use Rattle.qasm_check.specs.Steps.{bound_gate, item as bound_item};
 ghost use Rattle.qasm_check.specs.Verdicts.{IsStop, verdict};
@@ -25,82 +23,6 @@ use gate_library::{BoundGate, Item, is_standard, names_repeat};
 use qasm_parser::{Apply, Arg, GateDef, Name, Stmt};
 use std::alloc::{AllocError, Global};
 
-/// What may be wrong with an application.
-#[derive(Clone, Copy)]
-pub enum Flaw {
-    /// A register stands for the gate.
-    Register,
-    /// The gate has another number of parameters.
-    Params,
-    /// The gate has another number of qubits.
-    Qubits,
-    /// The gate has no body.
-    Opaque,
-}
-
-/// Whether this is wrong with an application.
-fn has_flaw<'a>(known: &Known<'a>, flaw: Flaw, apply: &'a Apply) -> bool
-    ensures { result ≡ has_flaw (state known.now) flaw (application_tree apply.now) }
-{
-    let found = known.meaning(apply.gate.as_bytes());
-    match flaw {
-        Flaw::Register => names_register(found),
-        Flaw::Params => params_differ(known, found, apply),
-        Flaw::Qubits => qubits_differ(known, found, apply),
-        Flaw::Opaque => applies_opaque(known, found, apply),
-    }
-}
-
-/// Whether this is wrong with an item of a body.
-fn is_flawed<'a>(known: &Known<'a>, flaw: Flaw, item: &'a Stmt) -> bool
-    ensures { result ≡ in_body (has_flaw (state known.now) flaw) (action item.now) }
-{
-    match item {
-        Stmt::Apply(apply) => has_flaw(known, flaw, apply),
-        _ => false,
-    }
-}
-
-/// Whether this is wrong with an item of the body.
-fn any_flawed<'a>(known: &Known<'a>, flaw: Flaw, body: &'a [Stmt]) -> bool
-    ensures { result ≡ list_any (in_body (has_flaw (state known.now) flaw)) (map action body.now) }
-{
-    'items: for item in body {
-        if is_flawed(known, flaw, item) {
-            return true;
-        }
-    }
-    false
-}
-
-/// Whether a register stands for a gate in the body.
-fn any_register<'a>(known: &Known<'a>, body: &'a [Stmt]) -> bool
-    ensures { result ≡ list_any (in_body (λ a. names_register (meaning (state known.now) a.gate))) (map action body.now) }
-{
-    any_flawed(known, Flaw::Register, body)
-}
-
-/// Whether a gate in the body has another number of parameters.
-fn any_params_differ<'a>(known: &Known<'a>, body: &'a [Stmt]) -> bool
-    ensures { result ≡ list_any (in_body (params_differ (state known.now))) (map action body.now) }
-{
-    any_flawed(known, Flaw::Params, body)
-}
-
-/// Whether a gate in the body has another number of qubits.
-fn any_qubits_differ<'a>(known: &Known<'a>, body: &'a [Stmt]) -> bool
-    ensures { result ≡ list_any (in_body (qubits_differ (state known.now))) (map action body.now) }
-{
-    any_flawed(known, Flaw::Qubits, body)
-}
-
-/// Whether a gate in the body has no body of its own.
-fn any_opaque<'a>(known: &Known<'a>, body: &'a [Stmt]) -> bool
-    ensures { result ≡ list_any (in_body (applies_opaque (state known.now))) (map action body.now) }
-{
-    any_flawed(known, Flaw::Opaque, body)
-}
-
 /// Whether an argument is no qubit of the gate.
 fn is_foreign<'a>(qubits: &Indices<'a>, args: &'a [Arg]) -> bool
     ensures { result ≡ list_any (λ x. not (is_one_of qubits.now x.name)) args.now }
@@ -113,42 +35,94 @@ fn is_foreign<'a>(qubits: &Indices<'a>, args: &'a [Arg]) -> bool
     false
 }
 
-/// Whether an item of the body has a name that stands for nothing.
-fn is_unknown_in<'a>(
+/// What is wrong with the items of a body.
+#[derive(Clone, Copy)]
+struct BodyFlaws {
+    /// A name stands for nothing.
+    unknown: bool,
+    /// A register stands for a gate.
+    register: bool,
+    /// A gate has another number of parameters.
+    params: bool,
+    /// A gate has another number of qubits.
+    qubits: bool,
+    /// A gate has no body of its own.
+    opaque: bool,
+}
+
+/// Nothing is wrong.
+fn no_flaw() -> BodyFlaws
+    ensures { result ≡ record { unknown = false; register = false; params = false; qubits = false; opaque = false } }
+{
+    BodyFlaws {
+        unknown: false,
+        register: false,
+        params: false,
+        qubits: false,
+        opaque: false,
+    }
+}
+
+/// What is wrong with an application of a body: its gate's name is looked up once.
+fn application_flaws<'a>(
+    known: &Known<'a>,
+    params: &Indices<'a>,
+    qubits: &Indices<'a>,
+    apply: &'a Apply,
+) -> BodyFlaws
+    ensures { result ≡ flaws_of (state known.now) params.now qubits.now (applied (application_tree apply.now)) }
+{
+    let found = known.meaning(apply.gate.as_bytes());
+    BodyFlaws {
+        unknown: found.is_none()
+            || is_foreign(qubits, apply.args.as_slice())
+            || any_foreign(params, &apply.angles),
+        register: names_register(found),
+        params: params_differ(known, found, apply),
+        qubits: qubits_differ(known, found, apply),
+        opaque: applies_opaque(known, found, apply),
+    }
+}
+
+/// What is wrong with an item of a body.
+fn item_flaws<'a>(
     known: &Known<'a>,
     params: &Indices<'a>,
     qubits: &Indices<'a>,
     item: &'a Stmt,
-) -> bool
-    ensures { result ≡ unknown_in_body (state known.now) params.now qubits.now (action item.now) }
+) -> BodyFlaws
+    ensures { result ≡ flaws_of (state known.now) params.now qubits.now (action item.now) }
 {
     match item {
-        Stmt::Apply(apply) => {
-            known.meaning(apply.gate.as_bytes()).is_none()
-                || is_foreign(qubits, &apply.args)
-                || any_foreign(params, &apply.angles)
+        Stmt::Apply(apply) => application_flaws(known, params, qubits, apply),
+        Stmt::Barrier { args } => {
+            let mut flaws = no_flaw();
+            flaws.unknown = is_foreign(qubits, args.as_slice());
+            flaws
         }
-        Stmt::Barrier { args } => is_foreign(qubits, args),
-        _ => false,
+        _ => no_flaw(),
     }
 }
 
-/// Whether an item of the body has a name that stands for nothing.
-fn any_unknown<'a>(
+/// What is wrong with the items of a body.
+fn flaws<'a>(
     known: &Known<'a>,
     params: &Indices<'a>,
     qubits: &Indices<'a>,
-    definition: &'a GateDef,
-) -> bool
-    ensures { result ≡ list_any (unknown_in_body (state known.now) params.now qubits.now) (map action definition.now.body.items) }
+    body: &'a [Stmt],
+) -> BodyFlaws
+    ensures { HasFlaws (state known.now) params.now qubits.now (map action body.now) result }
 {
-    let body: &'a [Stmt] = &definition.body;
+    let mut all = no_flaw();
     'items: for item in body {
-        if is_unknown_in(known, params, qubits, item) {
-            return true;
-        }
+        let one = item_flaws(known, params, qubits, item);
+        all.unknown |= one.unknown;
+        all.register |= one.register;
+        all.params |= one.params;
+        all.qubits |= one.qubits;
+        all.opaque |= one.opaque;
     }
-    false
+    all
 }
 
 /// The names of arguments.
@@ -166,7 +140,7 @@ fn arg_names<'a>(alloc: Global, args: &'a [Arg]) -> Result<Vec<&'a [u8]>, AllocE
 fn repeats<'a>(alloc: Global, apply: &'a Apply) -> Result<bool, AllocError>
     ensures { IfOk result (λ b. b ≡ repeats_name (application_tree apply.now)) }
 {
-    let names = arg_names(alloc, &apply.args)?;
+    let names = arg_names(alloc, apply.args.as_slice())?;
     let repeats = names_repeat(alloc, &names)?;
     Ok(repeats)
 }
@@ -274,7 +248,7 @@ fn item<'a>(
         Stmt::Apply(apply) => Ok(Item::Call {
             gate: number_of(known.meaning(apply.gate.as_bytes())),
             angles: formulas(alloc, params, &apply.angles)?,
-            qubits: qubit_indices(alloc, qubits, &apply.args)?,
+            qubits: qubit_indices(alloc, qubits, apply.args.as_slice())?,
         }),
         _ => Ok(Item::Barrier),
     }
@@ -314,22 +288,29 @@ fn tested<'a>(
     if is_taken(alloc, known, definition)? {
         return Err(CheckStop::Refused(CheckRefusal::NameTaken));
     }
-    if any_unknown(known, params, qubits, definition) {
+    let BodyFlaws {
+        unknown,
+        register,
+        params,
+        qubits,
+        opaque,
+    } = flaws(known, params, qubits, &definition.body);
+    if unknown {
         return Err(CheckStop::Refused(CheckRefusal::UnknownName));
     }
-    if any_register(known, &definition.body) {
+    if register {
         return Err(CheckStop::Refused(CheckRefusal::WrongKind));
     }
-    if any_params_differ(known, &definition.body) {
+    if params {
         return Err(CheckStop::Refused(CheckRefusal::ParamCount));
     }
-    if any_qubits_differ(known, &definition.body) {
+    if qubits {
         return Err(CheckStop::Refused(CheckRefusal::QubitCount));
     }
     if any_repeating(alloc, &definition.body)? {
         return Err(CheckStop::Refused(CheckRefusal::RepeatedQubit));
     }
-    if any_opaque(known, &definition.body) {
+    if opaque {
         return Err(CheckStop::Refused(CheckRefusal::OpaqueApplied));
     }
     Ok(())

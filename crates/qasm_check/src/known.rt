@@ -8,17 +8,30 @@ ghost use Rattle.gate_library.specs.Operands.{wires_of};
 ghost use Rattle.gate_library.specs.Views.{gate as gate_view};
 ghost use Rattle.qasm_check.specs.Known.{fresh, meaning, with_gate, with_measured, with_register};
 ghost use Rattle.qasm_check.specs.Meanings.{names_gate};
-ghost use Rattle.qasm_check.specs.State.{state};
+ghost use Rattle.qasm_check.specs.State.{mark, state};
 
 use crate::meaning::{Meaning, Register, names_gate};
 use gate_library::{BoundGate, Operand, gates, own_number, standard_names};
 use std::alloc::{AllocError, Global};
 use std::collections::{BTreeMap, BTreeSet};
 
-/// What the program's own names stand for, the gates by their numbers, and so on.
+/// A name's last bytes, up to eight, as one number.
+#[tactic(auto, using(crate::proofs::StateLaws::marks))]
+fn mark(name: &[u8]) -> u64
+    ensures { result ≡ mark name.now }
+{
+    let mut sum = 0u64;
+    'bytes: for byte in name {
+        sum = sum.wrapping_mul(256).wrapping_add(u64::from(*byte));
+    }
+    sum
+}
+
+/// What the program's own names stand for, the gates by their numbers, and so on. Names lie in order of their marks first,
+/// so that a look-up seldom reads the bytes of another name.
 #[derive(Drop)]
 pub struct Known<'a> {
-    declared: BTreeMap<&'a [u8], Meaning>,
+    declared: BTreeMap<(u64, &'a [u8]), Meaning>,
     included: bool,
     gates: Vec<BoundGate>,
     wires: u32,
@@ -45,7 +58,7 @@ impl<'a> Known<'a> {
     pub fn declared(&self, name: &'a [u8]) -> Option<Meaning>
         ensures value { result ≡ (state self.now).declared name.now }
     {
-        self.declared.get(&name).copied()
+        self.declared.get(&(mark(name), name)).copied()
     }
 
     /// What a name stands for.
@@ -175,7 +188,8 @@ impl<'a> Known<'a> {
             first: self.wires,
             size,
         };
-        self.declared.insert(name, Meaning::Register(register))?;
+        self.declared
+            .insert((mark(name), name), Meaning::Register(register))?;
         self.wires += size;
         Ok(())
     }
@@ -190,7 +204,8 @@ impl<'a> Known<'a> {
             first: self.bits,
             size,
         };
-        self.declared.insert(name, Meaning::Register(register))?;
+        self.declared
+            .insert((mark(name), name), Meaning::Register(register))?;
         self.bits += size;
         Ok(())
     }
@@ -218,7 +233,8 @@ impl<'a> Known<'a> {
         ensures ok { OnOk result (state self.new ≡ with_gate (state self.old) name.now (gate_view gate)) }
     {
         let number = self.gates.len();
-        self.declared.insert(name, Meaning::Gate(number))?;
+        self.declared
+            .insert((mark(name), name), Meaning::Gate(number))?;
         self.gates.push(gate)?;
         Ok(())
     }

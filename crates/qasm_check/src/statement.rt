@@ -20,6 +20,7 @@ use crate::stop::CheckStop;
 use crate::{MOST_BITS, MOST_QUBITS};
 use gate_library::{Formula, Operand, is_in_table};
 use qasm_parser::{Arg, GateDef, Name, Stmt};
+use smallvec::SmallVec;
 use std::alloc::Global;
 
 /// What a statement does.
@@ -30,7 +31,7 @@ pub enum Step {
     Apply {
         gate: usize,
         angles: Vec<Formula>,
-        operands: Vec<Operand>,
+        operands: SmallVec<Operand, 2>,
     },
     /// Measures a wire into a bit, or wire by wire a register into one of bits.
     Measure {
@@ -39,7 +40,7 @@ pub enum Step {
     },
     /// A barrier over these wires.
     Barrier {
-        operands: Vec<Operand>,
+        operands: SmallVec<Operand, 2>,
     },
     /// A declaration or an include.
     Nothing,
@@ -195,6 +196,6 @@ pub fn statement<'a>(
             value: _,
             inner: _,
         } => Err(CheckStop::Refused(CheckRefusal::Conditional)),
-        Stmt::Barrier { args } => barrier(alloc, known, args),
+        Stmt::Barrier { args } => barrier(alloc, known, args.as_slice()),
     }
 }

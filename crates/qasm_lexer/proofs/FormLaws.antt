@@ -237,7 +237,7 @@ begins-cons : (b : ℕ) (t : Bytes) → begins_with b t ≡ true → t ≡ b ∷
 begins-cons b [] h = absurd (cc)
 begins-cons b (c ∷ t) h = ap (λ n. n ∷ t) ((Decides-eqb c b).0 h)
 
-letter-len : (b : ℕ) (t : Bytes) → is_ascii_alphabetic b ≡ true → form_len (b ∷ t) ≡ prefix_len is_word_byte (b ∷ t)
+pub letter-len : (b : ℕ) (t : Bytes) → is_ascii_alphabetic b ≡ true → form_len (b ∷ t) ≡ prefix_len is_word_byte (b ∷ t)
 unfolding form_len
 letter-len b t h = rw (letter_not_space b h, h) refl
 
@@ -436,7 +436,7 @@ among2 b e = either b 40 ((b == 41) || ((b == 91) || ((b == 93) || ((b == 123) |
 among1 : (b : ℕ) → ((b == 44) || ((b == 40) || ((b == 41) || ((b == 91) || ((b == 93) || ((b == 123) || ((b == 125) || ((b == 43) || ((b == 42) || (b == 94)))))))))) ≡ true → OneOf signs (b ∷ [])
 among1 b e = either b 44 ((b == 40) || ((b == 41) || ((b == 91) || ((b == 93) || ((b == 123) || ((b == 125) || ((b == 43) || ((b == 42) || (b == 94))))))))) (or_cases _ _ e) (inr (inl refl)) (among2 b)
 
-among0 : (b : ℕ) → ((b == 59) || ((b == 44) || ((b == 40) || ((b == 41) || ((b == 91) || ((b == 93) || ((b == 123) || ((b == 125) || ((b == 43) || ((b == 42) || (b == 94))))))))))) ≡ true → OneOf signs (b ∷ [])
+pub among0 : (b : ℕ) → ((b == 59) || ((b == 44) || ((b == 40) || ((b == 41) || ((b == 91) || ((b == 93) || ((b == 123) || ((b == 125) || ((b == 43) || ((b == 42) || (b == 94))))))))))) ≡ true → OneOf signs (b ∷ [])
 among0 b e = either b 59 ((b == 44) || ((b == 40) || ((b == 41) || ((b == 91) || ((b == 93) || ((b == 123) || ((b == 125) || ((b == 43) || ((b == 42) || (b == 94)))))))))) (or_cases _ _ e) (inl refl) (among1 b)
 
 a_sign : (w t : Bytes) (k : ℕ) → OneOf signs w → length w ≡ k → Found (w ++ t) k

@@ -72,7 +72,7 @@ number-tests b w point h e = record {
   as_number = h;
 }
 
-whole-point : (w : Bytes) → Each is_ascii_digit w → has_point w ≡ false
+pub whole-point : (w : Bytes) → Each is_ascii_digit w → has_point w ≡ false
 whole-point w h = rw (each-ends is_ascii_digit w h, drop-length) refl
 
 real-point : (whole u : Bytes) → Each is_ascii_digit whole → has_point (whole ++ (46 ∷ u)) ≡ true

@@ -8,4 +8,5 @@ pub mod KindLaws
 pub mod LexemeLaws
 pub mod TokenLaws
 pub mod LexingLaws
+pub mod PlainLaws
 pub mod NameLaws

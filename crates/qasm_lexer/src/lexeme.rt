@@ -11,8 +11,8 @@ use crate::Kind;
 use crate::number::has_point;
 
 /// White space.
-fn is_space(byte: u8) -> bool
-    ensures { result ≡ is_space byte }
+pub fn is_space(byte: u8) -> bool
+    ensures value { result ≡ is_space byte }
 {
     byte == 9 || byte == 10 || byte == 13 || byte == 32
 }
@@ -25,8 +25,8 @@ fn is_word_byte(byte: u8) -> bool
 }
 
 /// A token of one byte that no longer token begins with.
-fn is_sign(byte: u8) -> bool
-    ensures { result ≡ is_sign byte }
+pub fn is_sign(byte: u8) -> bool
+    ensures value { result ≡ is_sign byte }
 {
     byte == b';'
         || byte == b','
@@ -57,7 +57,8 @@ pub fn digits_len(text: &[u8]) -> usize
     text.iter().take_while(|b| b.is_ascii_digit()).count()
 }
 
-fn word_bytes_len(text: &[u8]) -> usize
+/// The bytes at the front that a word goes on with.
+pub fn word_bytes_len(text: &[u8]) -> usize
     ensures value { result ≡ prefix_len is_word_byte text.now }
     ensures bound { result ≤ length text.now }
 {

@@ -12,6 +12,7 @@ use thiserror::Error;
 mod laws;
 mod lexeme;
 mod number;
+mod plain;
 mod reading;
 mod step;
 

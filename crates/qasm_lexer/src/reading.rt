@@ -1,16 +1,26 @@
 //! The tokens of a whole text, and the values of its numbers.
 
-ghost use Rattle.std.specs.Prelude.{◌≡◌, ◌<◌, ◌^◌, length, IfOk, IfErr, All, Ok};
+ghost use Rattle.std.specs.Prelude.{◌≡◌, ◌<◌, ◌^◌, [], length, IfOk, IfErr, All, Ok};
 ghost use Rattle.angle_fraction.specs.Fraction.{lowest};
 ghost use Rattle.qasm_lexer.specs.Numbers.{decimal};
 ghost use Rattle.qasm_lexer.specs.Lexed.{kept, lexed};
 ghost use Rattle.qasm_lexer.specs.Tokens.{AreTokens, IsLexFault, IsNumberToken, IsTokenOf, bytes_of};
 
 use crate::number::number;
-use crate::step::lexeme_at;
+use crate::step::{lexeme_at, past_space};
 use crate::{LexFault, Token};
 use angle_fraction::Frac;
 use std::alloc::Global;
+
+/// No tokens yet, with room for so many where there is the memory: what isn't used of it costs nothing.
+fn room_for(alloc: Global, count: usize) -> Vec<Token>
+    ensures none { result.items ≡ [] }
+{
+    match Vec::with_capacity(alloc, count) {
+        Ok(tokens) => tokens,
+        Err(_) => Vec::new(alloc),
+    }
+}
 
 /// Puts a token, where there is one, behind the others.
 fn keep(tokens: &mut Vec<Token>, token: Option<Token>) -> Result<(), LexFault>
@@ -35,14 +45,13 @@ pub fn lex(alloc: Global, text: &[u8]) -> Result<Vec<Token>, LexFault>
     ensures each { IfOk result (λ v. All (IsTokenOf text.now) v.items) }
     ensures fault { IfErr result (IsLexFault text.now) }
 {
-    let mut tokens = Vec::new(alloc);
-    let mut place = 0usize;
+    let mut tokens = room_for(alloc, text.len());
+    let mut place = past_space(text, 0);
     'lexemes: while place < text.len() {
         let lexeme = lexeme_at(text, place)?;
         keep(&mut tokens, lexeme.token)?;
-        place = lexeme.to;
+        place = past_space(text, lexeme.to);
     }
-    tokens.shrink_to_fit();
     Ok(tokens)
 }
 

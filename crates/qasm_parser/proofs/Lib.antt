@@ -18,6 +18,7 @@ pub mod SumAgrees
 pub mod SumLaws
 pub mod SumWays
 pub mod SymbolLaws
+pub mod ReservedLaws
 pub mod SyntaxPlaces
 pub mod TreeLaws
 pub mod WayForms

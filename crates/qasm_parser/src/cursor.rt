@@ -11,6 +11,7 @@ use qasm_lexer::Token;
 use std::marker::Model;
 
 /// The first symbol of some tokens.
+#[inline]
 #[tactic(auto, using(crate::proofs::SymbolLaws::firsts))]
 fn first_symbol<'a>(text: &'a [u8], tokens: &'a [Token]) -> Option<Symbol<'a>>
     requires short { length text.now < 2 ^ 32 }
@@ -67,6 +68,7 @@ impl<'a> Cursor<'a> {
     }
 
     /// The next symbol.
+    #[inline]
     pub fn peek(&self) -> Option<Symbol<'a>>
         ensures first { IsFirst result self.now }
     {

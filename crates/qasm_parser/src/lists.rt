@@ -12,6 +12,7 @@ use crate::stop::ParseStop;
 use crate::symbols::{Keyword, Mark, Symbol};
 use crate::tree::{Arg, Name};
 use angle_fraction::Frac;
+use smallvec::SmallVec;
 use std::alloc::Global;
 
 fn code(mark: Mark) -> u8
@@ -250,22 +251,20 @@ pub fn names(alloc: Global, cursor: &mut Cursor<'_>) -> Result<Vec<Name>, ParseS
     Ok(list)
 }
 
-/// For how many arguments there is room at first, once the first is read: most applications have one or two.
-fn room_behind(cursor: &Cursor<'_>) -> usize {
-    if is_next(cursor, Mark::Comma) { 2 } else { 1 }
-}
-
 /// Arguments with commas between.
 #[tactic(auto, using(crate::proofs::ListLaws::args, crate::proofs::LoopLaws::args))]
-fn arg_list(alloc: Global, cursor: &mut Cursor<'_>, plain: bool) -> Result<Vec<Arg>, ParseStop>
+fn arg_list(
+    alloc: Global,
+    cursor: &mut Cursor<'_>,
+    plain: bool,
+) -> Result<SmallVec<Arg, 2>, ParseStop>
     ensures ok { IfOk result (λ v. list_of (arg_of plain) cursor.old ≡ Some (read v.items None cursor.new)) }
     ensures walked { OnOk result (walk (list_shape (arg_shape plain)) cursor.old ≡ past cursor.new) }
     ensures err { IfErr result (IsMisread (walk (list_shape (arg_shape plain)) cursor.old)) }
     ensures rest { OnOk result (length cursor.new ≤ length cursor.old) }
 {
-    let first = arg(alloc, cursor, plain)?;
-    let mut list = Vec::with_capacity(alloc, room_behind(cursor))?;
-    list.push(first)?;
+    let mut list = SmallVec::new(alloc);
+    list.push(arg(alloc, cursor, plain)?)?;
     'members: while take(cursor, Mark::Comma) {
         list.push(arg(alloc, cursor, plain)?)?;
     }
@@ -274,14 +273,17 @@ fn arg_list(alloc: Global, cursor: &mut Cursor<'_>, plain: bool) -> Result<Vec<A
 
 /// Arguments up to the semicolon.
 #[tactic(auto, unfolding(crate::specs::Reading::args_of, crate::specs::Shapes::args_shape))]
-pub fn args(alloc: Global, cursor: &mut Cursor<'_>, plain: bool) -> Result<Vec<Arg>, ParseStop>
+pub fn args(
+    alloc: Global,
+    cursor: &mut Cursor<'_>,
+    plain: bool,
+) -> Result<SmallVec<Arg, 2>, ParseStop>
     ensures ok { IfOk result (λ v. args_of plain cursor.old ≡ Some (read v.items None cursor.new)) }
     ensures walked { OnOk result (walk (args_shape plain) cursor.old ≡ past cursor.new) }
     ensures err { IfErr result (IsMisread (walk (args_shape plain) cursor.old)) }
     ensures rest { OnOk result (length cursor.new ≤ length cursor.old) }
 {
-    let mut list = arg_list(alloc, cursor, plain)?;
+    let list = arg_list(alloc, cursor, plain)?;
     expect(cursor, Mark::Semicolon)?;
-    list.shrink_to_fit();
     Ok(list)
 }

@@ -5,7 +5,7 @@ ghost use Rattle.std.specs.Str.{bytes_eq};
 ghost use Rattle.qasm_parser.specs.Symbols.{function_of, keyword_of, mark_of, sign_of, symbol_by, unquoted, word_symbol, mark_symbol, symbol_of, value_of, first_value, Symbol as SpecSymbol};
 ghost use Rattle.qasm_lexer.specs.Tokens.{IsTokenOf};
 ghost use Rattle.angle_fraction.specs.Fraction.{Fraction};
-ghost use Rattle.qasm_parser.specs.Views.{symbol};
+ghost use Rattle.qasm_parser.specs.Views.{begins_reserved, may_be_reserved, symbol};
 
 use angle_fraction::{Binary, Frac, Function};
 use qasm_lexer::{Kind, Token, value};
@@ -181,8 +181,44 @@ fn sign_of(sign: &[u8]) -> Option<Binary>
     Some(binary)
 }
 
+/// Whether a reserved word begins with these two bytes.
+#[inline]
+fn begins_reserved(first: u8, second: u8) -> bool
+    ensures { result ≡ begins_reserved first second }
+{
+    match first {
+        b'b' | b'g' | b't' => second == b'a',
+        b'c' => second == b'o' || second == b'r',
+        b'e' => second == b'x',
+        b'i' => second == b'f' || second == b'n',
+        b'l' => second == b'n',
+        b'm' | b'r' => second == b'e',
+        b'o' => second == b'p',
+        b'p' => second == b'i',
+        b'q' => second == b'r',
+        b's' => second == b'i' || second == b'q',
+        b'C' => second == b'X',
+        b'O' => second == b'P',
+        _ => false,
+    }
+}
+
+/// Whether a word is worth a look at the reserved words: most names are told apart from them by their first two bytes.
+#[inline]
+#[tactic(auto, unfolding(crate::specs::Views::may_be_reserved))]
+fn may_be_reserved(word: &[u8]) -> bool
+    ensures { result ≡ may_be_reserved word.now }
+{
+    match word {
+        [] => false,
+        [only] => *only == b'U',
+        [first, second, ..] => begins_reserved(*first, *second),
+    }
+}
+
+/// The symbol of a word that isn't told apart from the reserved words by its first two bytes.
 #[tactic(auto, unfolding(crate::specs::Symbols::word_symbol))]
-fn word_symbol(word: &[u8]) -> Symbol<'_>
+fn looked_up(word: &[u8]) -> Symbol<'_>
     ensures { (v : Fraction) → symbol result v ≡ word_symbol word.now (keyword_of word.now) }
 {
     match keyword_of(word) {
@@ -191,6 +227,19 @@ fn word_symbol(word: &[u8]) -> Symbol<'_>
             Some(function) => Symbol::Function(function),
             None => Symbol::Name(word),
         },
+    }
+}
+
+/// The symbol of a word.
+#[inline]
+#[tactic(auto, using(crate::proofs::ReservedLaws::name_symbol))]
+fn word_symbol(word: &[u8]) -> Symbol<'_>
+    ensures { (v : Fraction) → symbol result v ≡ word_symbol word.now (keyword_of word.now) }
+{
+    if may_be_reserved(word) {
+        looked_up(word)
+    } else {
+        Symbol::Name(word)
     }
 }
 
@@ -245,6 +294,7 @@ fn unquoted(text: &[u8]) -> &[u8]
 }
 
 /// The symbol of a token of a text.
+#[inline]
 #[tactic(auto, unfolding(crate::specs::Symbols::symbol_by))]
 pub fn symbol_of<'a>(text: &'a [u8], token: &Token) -> Symbol<'a>
     requires short { length text.now < 2 ^ 32 }

@@ -5,6 +5,7 @@ ghost use Rattle.std.specs.Prelude.{◌≡◌, IfOk};
 use angle_fraction::{Binary, Frac, Function};
 use smallvec::SmallVec;
 use std::alloc::{AllocError, Global};
+use std::default::MadeWith;
 use std::marker::Model;
 
 /// A name of a program, or the file that it includes; contracts see its bytes. Up to 16 bytes lie in the value itself.
@@ -71,12 +72,24 @@ pub struct Arg {
     pub index: Option<u64>,
 }
 
+/// No argument; what stands in a list where none has come yet.
+impl MadeWith<Global> for Arg {
+    fn made_with(alloc: Global) -> Arg {
+        Arg {
+            name: Name {
+                bytes: SmallVec::new(alloc),
+            },
+            index: None,
+        }
+    }
+}
+
 /// A gate applied. `U` and `CX` are names of gates too.
 #[derive(Drop)]
 pub struct Apply {
     pub gate: Name,
     pub angles: Vec<Expr>,
-    pub args: Vec<Arg>,
+    pub args: SmallVec<Arg, 2>,
 }
 
 /// A gate declared. Its body holds applications and barriers of plain names; that of an opaque gate is empty.
@@ -120,7 +133,7 @@ pub enum Stmt {
         inner: Box<Stmt>,
     },
     Barrier {
-        args: Vec<Arg>,
+        args: SmallVec<Arg, 2>,
     },
 }
 

@@ -83,7 +83,7 @@ fn load_program<F: Shelf>(
     ensures accepted { IfOk result (λ l. IsReadAs l.text.items l.program) }
     ensures err { IfErr result (IsTextStop side (F.content shelf.old name.now) (F.faults shelf.old) (F.faults shelf.new)) }
     ensures keeps { (other : List ℕ) → F.content shelf.new other ≡ F.content shelf.old other }
-    ensures later { F.faults shelf.old ≤ F.faults shelf.new }
+    ensures grows { F.faults shelf.old ≤ F.faults shelf.new }
     ensures calm { (result ≡ Err (Stop.Claim ClaimStop.Failed) → ⊥) → F.faults shelf.new ≡ F.faults shelf.old }
 {
     match load_text(alloc, shelf, name.as_str(), limit_of(side)) {

@@ -60,7 +60,7 @@ pub fn load_device<F: Shelf>(
     ensures ok { IfOk result (λ d. (text : List ℕ) × TellsText (F.content shelf.old name.now) text × IsDevice text d × (wires ≤ d.size)) }
     ensures err { IfErr result (IsDeviceCause (F.content shelf.old name.now) wires (F.faults shelf.old) (F.faults shelf.new)) }
     ensures keeps { (other : List ℕ) → F.content shelf.new other ≡ F.content shelf.old other }
-    ensures later { F.faults shelf.old ≤ F.faults shelf.new }
+    ensures grows { F.faults shelf.old ≤ F.faults shelf.new }
     ensures calm { (result ≡ Err DeviceStop.Failed → ⊥) → F.faults shelf.new ≡ F.faults shelf.old }
 {
     match load_text(alloc, shelf, name.as_str(), MOST_DEVICE_BYTES) {

@@ -2,10 +2,11 @@
 
 ghost use Rattle.std.specs.Prelude.{◌≡◌, ◌+◌, ◌≤◌, ℕ, List, [], length, None, Some, IfOk, IfErr, IfSome, false, true};
 ghost use Rattle.amplitude_exact.specs.Entries.{branches, most_branches, most_entry_wires};
+ghost use Rattle.circuit_list.specs.Gates.{most_wires};
 ghost use Rattle.qroute_top.specs.Plans.{IsFitAnswer, IsAnswerOf, has_line, has_text};
 ghost use Rattle.command_line.specs.Demands.{Entry as EntryOf, Spares};
 ghost use Rattle.program_parts.specs.Cuts.{uncut};
-ghost use Rattle.qroute_top.specs.Questions.{IsEntryText, IsQuestionRefusal, most_wires_in_all};
+ghost use Rattle.qroute_top.specs.Questions.{IsEntryText, IsQuestionRefusal};
 ghost use Rattle.qroute_top.specs.Stops.{IsUnanswered};
 ghost use Rattle.qroute_top.specs.declared.stops.QuestionRefusal.{QuestionRefusal as RefusedQuestion};
 
@@ -59,7 +60,7 @@ pub fn spares_refusal(source: &SourceProgram, spares: u32) -> Option<QuestionRef
     requires spares_limit { spares ≤ 255 }
     ensures refused { IfSome result (IsQuestionRefusal (Some (Spares spares)) source.now) }
     ensures answered { result ≡ None → (r : RefusedQuestion) → IsQuestionRefusal (Some (Spares spares)) source.now r → ⊥ }
-    ensures wires_limit { result ≡ None → source.now.wires + spares ≤ most_wires_in_all }
+    ensures wires_limit { result ≡ None → source.now.wires + spares ≤ most_wires }
 {
     source.facts();
     let qubits = source.wires();

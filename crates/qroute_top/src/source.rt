@@ -22,7 +22,7 @@ pub fn read_source<I: Source>(
 ) -> Result<SourceProgram, SourceStop>
     ensures ok { IfOk result (IsHad true keep (I.left input.old) (I.left input.new)) }
     ensures err { IfErr result (IsSourceCause (I.left input.old) (I.faults input.old) (I.faults input.new)) }
-    ensures later { I.faults input.old ≤ I.faults input.new }
+    ensures grows { I.faults input.old ≤ I.faults input.new }
     ensures calm { (result ≡ Err SourceStop.Failed → ⊥) → I.faults input.new ≡ I.faults input.old }
 {
     match read_all(alloc, input, MOST_TEXT_BYTES) {

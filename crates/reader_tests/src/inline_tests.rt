@@ -404,3 +404,84 @@ fn nests(rt: HostRuntime) -> Result<(), Fail> {
     assert_eq!(rt; found.as_str(), "|");
     Ok(())
 }
+
+/// A gate of one parameter with this body, that may apply the gate `none` without operations; one that applies it to its own
+/// parameter, and to one less; and an application of that to a value.
+fn below_most(alloc: Global, body: &str, value: &str) -> Result<String, AllocError> {
+    let mut text = String::new(alloc);
+    text.push_str("OPENQASM 2.0;\ninclude \"qelib1.inc\";\ngate none(k) a { }\ngate once(k) a { ")?;
+    text.push_str(body)?;
+    text.push_str("}\ngate twice(k) a { once(k) a; once(k-1) a; }\nqreg q[1];\ntwice(")?;
+    text.push_str(value)?;
+    text.push_str(") q[0];\n")?;
+    Ok(text)
+}
+
+#[test]
+fn parts_at_most(rt: HostRuntime) -> Result<(), Fail> {
+    let alloc = rt.alloc();
+    let rows: [(&str, &str, &str); 26] = [
+        // up to 2^62, and past it
+        ("none(k+k) a; ", "2305843009213693952", "|"),
+        ("none(k+k) a; ", "2305843009213693953", "code 42 at 6"),
+        ("none(k+1) a; ", "4611686018427387903", "|"),
+        ("none(k+1) a; ", "4611686018427387904", "code 42 at 6"),
+        // below 0: the second application is the one past it
+        ("none(k+k) a; ", "-2305843009213693951", "|"),
+        ("none(k+k) a; ", "-2305843009213693952", "code 42 at 6"),
+        ("none(0-k-1) a; ", "4611686018427387903", "|"),
+        ("none(0-k-1) a; ", "4611686018427387904", "code 42 at 6"),
+        // multiples of pi
+        ("none(k+k) a; ", "2305843009213693952*pi", "|"),
+        ("none(k+k) a; ", "2305843009213693953*pi", "code 42 at 6"),
+        ("none(k+pi) a; ", "4611686018427387904", "|"),
+        ("none(k+pi) a; ", "4611686018427387904*pi", "code 42 at 6"),
+        ("none(k-pi) a; ", "-4611686018427387904*pi", "code 42 at 6"),
+        // fractions
+        ("none(k+k) a; ", "1/4611686018427387904", "|"),
+        ("none(k/2) a; ", "1/4611686018427387904", "code 42 at 6"),
+        ("none(k+1/2) a; ", "1", "|"),
+        ("none(k+1/2) a; ", "4611686018427387904", "code 42 at 6"),
+        // the first refusal
+        ("none(1/k) a; ", "1", "code 41 at 6"),
+        (
+            "none(1/k) a; none(k+4611686018427387904) a; ",
+            "0",
+            "code 41 at 6",
+        ),
+        (
+            "none(1/k) a; none(k+4611686018427387904) a; ",
+            "1",
+            "code 42 at 6",
+        ),
+        ("none(k*k) a; ", "pi", "code 40 at 6"),
+        ("none(sin(k)) a; none(k+k) a; ", "0", "code 40 at 6"),
+        // barriers and operations
+        (
+            "barrier a; none(k+k) a; ",
+            "2305843009213693953",
+            "code 42 at 6",
+        ),
+        (
+            "none(k+k) a; U(0,0,0) a; ",
+            "2305843009213693952",
+            "000.0 000.0 |",
+        ),
+        (
+            "none(k+k) a; U(0,0,0) a; ",
+            "2305843009213693953",
+            "code 42 at 6",
+        ),
+        ("U(0,0,0) a; none(k+k) a; ", "1", "000.0 000.0 |"),
+    ];
+    for (body, value, wanted) in rows {
+        let text = below_most(alloc, body, value)?;
+        let found = told(alloc, text.as_bytes())?;
+        assert_eq!(rt; found.as_str(), wanted);
+    }
+    // another value at each application
+    let text = nest(alloc, "w(x0+x0) a; ", 18, 1, "x0+1")?;
+    let found = told(alloc, text.as_bytes())?;
+    assert_eq!(rt; found.as_str(), "|");
+    Ok(())
+}

@@ -8,6 +8,7 @@
 //! promise follows from what their parts promise.
 //! A pass that is [`Traced`] also tells its steps ([`Trace`]): steps of a table (`specs/Traces.antt`) that lead from the circuit
 //! to the result, which anyone can check again.
+//! [`next_gate`], [`next_is`] and [`prev_is`] go along the wires of a circuit, for rules and for a check of their steps.
 //!
 //! A circuit is always fine, so no pass refuses one: the only error is want of memory.
 #![tactic(auto)]
@@ -22,6 +23,7 @@ mod sweep;
 mod trace;
 mod traced;
 mod walks;
+mod wires;
 
 pub use combine::{Settle, Then, WhileSmaller};
 pub use pass::{KeepsPairs, Pass, Shrinks};
@@ -29,3 +31,4 @@ pub use rule::{Change, Edit, NumberedRule, Rule};
 pub use sweep::Sweep;
 pub use trace::{Trace, TraceStep};
 pub use traced::Traced;
+pub use wires::{SlotGate, next_gate, next_is, prev_is};

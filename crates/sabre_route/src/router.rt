@@ -70,7 +70,7 @@ fn choose_walk(state: &RouteState<'_>, device: &Device) -> (u32, u32)
 
 /// The two qubits that the machine swaps where no gate can be emitted.
 ///
-/// The room is for the qubits of the front layer, so that a run makes it once.
+/// The scratch is for the qubits of the front layer, so that a run makes it once.
 fn choose(scratch: &mut Scratch, state: &RouteState<'_>, device: &Device) -> (u32, u32)
     requires placed { length state.now.placement ≡ device.now.size }
     requires left { state.now.rest ≡ [] → ⊥ }

@@ -65,8 +65,8 @@ pub enum Outcome {
 /// What a trace says of two lists of operations: whether it proves that the target realises the source, and else the line
 /// at which it stops. Fails for want of memory alone.
 pub fn check(alloc: Global, source: &Ops, target: &Ops, trace: &[u8]) -> Result<Outcome, AllocError>
-    requires few_wires { source.now.wires ≤ most_wires }
-    requires few_qubits { target.now.wires ≤ most_wires }
+    requires wires_limit { source.now.wires ≤ most_wires }
+    requires qubits_limit { target.now.wires ≤ most_wires }
     requires source { All (IsFineOp source.now.wires) source.now.list }
     requires target { All (IsFineOp target.now.wires) target.now.list }
     requires short { length trace.now < 2 ^ 31 }

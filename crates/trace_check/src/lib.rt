@@ -16,7 +16,6 @@ mod routed;
 mod routing;
 mod sums;
 mod windows;
-mod wires;
 mod words;
 
 pub use checker::{Outcome, check};

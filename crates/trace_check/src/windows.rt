@@ -8,8 +8,8 @@ ghost use Rattle.rewrite_pass.specs.WindowPlaces.{IsConjugatedAt};
 ghost use Rattle.rewrite_pass.specs.Windows.{At, Follows, IsConjugated, IsSurrounded};
 ghost use Rattle.trace_check.specs.RuleWindows.{IsAround, IsExchanged, IsTurnedAround, IsTurnedTo, put_gates};
 
-use crate::wires::{next_gate, next_is, prev_is};
 use circuit_list::{Circuit, Gate};
+use rewrite_pass::{next_gate, next_is, prev_is};
 
 /// The wire of the H at a place.
 fn hadamard_at(body: &Circuit, place: usize) -> Option<u32>

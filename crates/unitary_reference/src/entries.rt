@@ -110,7 +110,7 @@ fn from_one(a: u8, b: u8, c: u8, to0: Value, to1: Value) -> Value
 /// times 2^weight. The list has at most 20 operations `U`, so that each part stays below 2^40 in
 /// size. `x` is written to on the way, and is in the end as it was.
 pub fn amplitude_of(ops: &[Op], x: &mut [bool], y: &[bool]) -> Value
-    requires operations_limit { weight ops.now ≤ 20 }
+    requires weight_limit { weight ops.now ≤ 20 }
     ensures entry { ring_of result ≡ amplitude ops.now x.old y.now }
     ensures kept { x.new ≡ x.old }
 {

@@ -10,11 +10,11 @@ rows-init c = widening-none c.args.rows.now c.new-basis.result c.new-wide.result
 
 pub flip-requires : goal.flip-requires
 flip-requires c = record {
-  wires_limit =
+  within =
       let room : c.rows.extra < length c.args.rows.now =
       widening-room c.args.rows.now c.rows.row-index c.args.wires c.row-item.result c.in_ok-insert.field-0 c.rows.basis c.insert.new.self c.rows.wide.items c.rows.extra c.rows-test.true c.row-item.is
       c.requires.rank c.if-not-branch.true c.in_ok-insert.ensures.told c.in_ok-insert.ensures.ok c.rows.invariant in
-      omega (arith, c.requires.wires_limit);
+      omega (arith, c.requires.rows_limit);
 }
 
 pub overflow_add-extra : goal.overflow_add-extra
@@ -22,7 +22,7 @@ overflow_add-extra c =
     let room : c.rows.extra < length c.args.rows.now =
     widening-room c.args.rows.now c.rows.row-index c.args.wires c.row-item.result c.in_ok-insert.field-0 c.rows.basis c.insert.new.self c.rows.wide.items c.rows.extra c.rows-test.true c.row-item.is
     c.requires.rank c.if-not-branch.true c.in_ok-insert.ensures.told c.in_ok-insert.ensures.ok c.rows.invariant in
-    omega (arith, c.requires.wires_limit)
+    omega (arith, c.requires.rows_limit)
 
 pub rows-preserved : goal.rows-preserved
 rows-preserved c = elim c.if-not-branch.branch [
@@ -42,17 +42,17 @@ pub from_rows-requires : goal.from_rows-requires
 from_rows-requires c = record {
   matrix =
       let end : c.rows.row-index ≡ length c.args.rows.now = omega (arith, c.rows.invariant.within) in
-      (widening-end c.args.rows.now c.rows.row-index c.args.wires c.rows.basis c.rows.wide.items c.rows.extra c.requires.wires_limit c.requires.rank end c.facts.ensures.independent c.rows.invariant).matrix;
+      (widening-end c.args.rows.now c.rows.row-index c.args.wires c.rows.basis c.rows.wide.items c.rows.extra c.requires.rows_limit c.requires.rank end c.facts.ensures.independent c.rows.invariant).matrix;
 }
 
 pub returns-clause-length : goal.returns-clause-length
 returns-clause-length c =
     let end : c.rows.row-index ≡ length c.args.rows.now = omega (arith, c.rows.invariant.within) in
     ap length c.from_rows.ensures.value
-    ∙ (widening-end c.args.rows.now c.rows.row-index c.args.wires c.rows.basis c.rows.wide.items c.rows.extra c.requires.wires_limit c.requires.rank end c.facts.ensures.independent c.rows.invariant).long
+    ∙ (widening-end c.args.rows.now c.rows.row-index c.args.wires c.rows.basis c.rows.wide.items c.rows.extra c.requires.rows_limit c.requires.rank end c.facts.ensures.independent c.rows.invariant).long
 
 pub returns-clause-independent : goal.returns-clause-independent
 returns-clause-independent c =
     let end : c.rows.row-index ≡ length c.args.rows.now = omega (arith, c.rows.invariant.within) in
     ap is_independent c.from_rows.ensures.value
-    ∙ (widening-end c.args.rows.now c.rows.row-index c.args.wires c.rows.basis c.rows.wide.items c.rows.extra c.requires.wires_limit c.requires.rank end c.facts.ensures.independent c.rows.invariant).independent
+    ∙ (widening-end c.args.rows.now c.rows.row-index c.args.wires c.rows.basis c.rows.wide.items c.rows.extra c.requires.rows_limit c.requires.rank end c.facts.ensures.independent c.rows.invariant).independent

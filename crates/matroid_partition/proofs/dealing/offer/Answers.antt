@@ -24,9 +24,9 @@ returns-in_ok-seen-in-Some-clause-some c =
     let closed = rw c.in-Some.is at c.in_ok-settle.ensures.closed in
     let o : Arrangement = c.args.dealing.now.held in
     let is : c.index-rows-place.result ≡ get_or c.args.rows.now c.args.place 0 = get_or_read c.args.rows.now c.args.place c.index-rows-place.result c.requires.there c.index-rows-place.is 0 in
-    let seen : c.in_ok-seen-in-Some.seen.items ≡ seen_by (length o.homes + 1) c.in-Some.reach = c.in_ok-seen-in-Some.ensures.ok ∙ ap (λ (a : Arrangement). seen_by (length a.homes + 1) c.in-Some.reach) same in
+    let seen : c.in_ok-seen-in-Some.seen.items ≡ seen_by (length o.homes + 1) c.in-Some.reached = c.in_ok-seen-in-Some.ensures.ok ∙ ap (λ (a : Arrangement). seen_by (length a.homes + 1) c.in-Some.reached) same in
     record {
       same = record { held = same; names = refl; over = refl };
       closed = subst (λ (q : List Bool). IsClosed (rows_with o (get_or c.args.rows.now c.args.place 0)) o.homes o.blocks q) (sym seen)
-          (subst (λ x. IsClosed (rows_with o x) o.homes o.blocks (seen_by (length o.homes + 1) c.in-Some.reach)) is closed);
+          (subst (λ x. IsClosed (rows_with o x) o.homes o.blocks (seen_by (length o.homes + 1) c.in-Some.reached)) is closed);
     }

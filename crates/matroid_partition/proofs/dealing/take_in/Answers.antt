@@ -6,7 +6,7 @@ use Rattle.matroid_partition.proofs.dealing.take_in.Goals as goal
 pub returns-then-len-saturating_mul-clause-dealing : goal.returns-then-len-saturating_mul-clause-dealing
 returns-then-len-saturating_mul-clause-dealing c =
     let d = c.admit.new.dealing in
-    let room : c.count.result * c.args.spares ≡ length d.held.blocks * c.args.spares = ap (λ k. k * c.args.spares) c.count.ensures.value in
+    let room : c.block_count.result * c.args.spares ≡ length d.held.blocks * c.args.spares = ap (λ k. k * c.args.spares) c.block_count.ensures.value in
     dealing-few c.args.rows.now (c.args.place + 1) c.args.spares 1 d (c.in_ok-admit.ensures.dealing c.args.spares c.requires.dealing)
     (omega (arith, c.if-len-saturating_mul.true, c.len.ensures, c.saturating_mul.ensures, d.over.ok.0, room))
 
@@ -22,7 +22,7 @@ returns-clause-dealing c = c.in_ok-room.ensures.dealing (c.args.place + 1) c.arg
 pub returns-clause-some : goal.returns-clause-some
 returns-clause-some c =
     let d = c.admit.new.dealing in
-    let room : c.count.result * c.args.spares ≡ length d.held.blocks * c.args.spares = ap (λ k. k * c.args.spares) c.count.ensures.value in
+    let room : c.block_count.result * c.args.spares ≡ length d.held.blocks * c.args.spares = ap (λ k. k * c.args.spares) c.block_count.ensures.value in
     let many : length d.held.blocks * c.args.spares < length d.over.items =
     omega (arith, c.if-len-saturating_mul.false, c.len.ensures, c.saturating_mul.ensures, d.over.ok.0, d.over.small, room) in
     some_map c.in_ok-room.room

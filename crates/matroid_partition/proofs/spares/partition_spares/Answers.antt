@@ -16,8 +16,8 @@ returns-clause-witness c =
     let end : c.rows.place ≡ length c.args.rows.now = omega arith in
     let u : UnderwayWide c.args.rows.now (length c.args.rows.now) c.args.spares c.rows.dealing (shown_by c.rows.witness) =
     subst (λ n. UnderwayWide c.args.rows.now n c.args.spares c.rows.dealing (shown_by c.rows.witness)) end c.rows.invariant in
-    let count : c.count-count.result ≡ length c.rows.dealing.held.blocks = c.count-count.ensures.value in
-    IsSpareWitness-shown c.args.rows.now c.args.spares c.count-count.result c.rows.dealing (shown_by c.rows.witness) c.in_ok-shown.field-0.items
+    let count : c.block_count-count.result ≡ length c.rows.dealing.held.blocks = c.block_count-count.ensures.value in
+    IsSpareWitness-shown c.args.rows.now c.args.spares c.block_count-count.result c.rows.dealing (shown_by c.rows.witness) c.in_ok-shown.field-0.items
     (map (λ b. b.items) c.in_ok-dealt.field-0.items) u c.in_ok-dealt.ensures.partition count
     (length-map c.in_ok-dealt.field-0.items (λ b. b.items) ∙ c.in_ok-dealt.ensures.count ∙ sym count) c.in_ok-shown.ensures.one c.in_ok-shown.ensures.other
 

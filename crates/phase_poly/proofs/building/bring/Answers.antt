@@ -9,7 +9,7 @@ returns-clause-built c =
     let pushed : c.push_cnots.new.gates.items ≡ c.args.gates.now.items ++ cnots c.in_ok-pairs.pairs.items = grind (arith, common_steps) in
     bring_built (length c.args.held.now) c.args.gates.now.items c.push_cnots.new.gates.items c.args.held.now c.args.target.now c.in_ok-pairs.pairs.items c.in_ok-pairs.ensures.pairs c.in_ok-pairs.ensures.rows pushed
 
-pub returns-clause-gates_limit : goal.returns-clause-gates_limit
-returns-clause-gates_limit c =
+pub returns-clause-cx_bound : goal.returns-clause-cx_bound
+returns-clause-cx_bound c =
     let pushed : c.push_cnots.new.gates.items ≡ c.args.gates.now.items ++ cnots c.in_ok-pairs.pairs.items = grind (arith, common_steps) in
     bring_few (length c.args.held.now) c.args.gates.now.items c.push_cnots.new.gates.items c.in_ok-pairs.pairs.items pushed c.in_ok-pairs.ensures.gates_limit

@@ -26,7 +26,7 @@ steps-preserved c =
       relinked = relinked-next c.args.wires c.steps.turn c.in_ok-part.part.turn c.args.layers.now c.steps.layer-index no_gates c.steps.list.items c.in_ok-part.part.list.items c.push_hadamards.new.list.items
           c.steps-test.true c.steps.invariant.relinked
           (subst (λ (gs : List Gate). IsTaken c.args.wires gs c.in_ok-part.part.list.items c.in_ok-part.part.turn) gates c.in_ok-part.ensures.taken)
-          (subst (λ (gs : List Gate). (b : ℕ) → HasBlocks c.args.wires gs b → cx_count (ops c.in_ok-part.part.list.items) ≤ min (cx_count (ops gs)) (cx_bound c.args.wires b)) gates c.in_ok-part.ensures.gates_limit)
+          (subst (λ (gs : List Gate). (b : ℕ) → HasBlocks c.args.wires gs b → cx_count (ops c.in_ok-part.part.list.items) ≤ min (cx_count (ops gs)) (cx_bound c.args.wires b)) gates c.in_ok-part.ensures.cx_bound)
           (rest ∙ ap (λ z. z ++ hadamards c.hadamards.result.now) part ∙ append_assoc c.steps.list.items c.in_ok-part.part.list.items (hadamards c.hadamards.result.now)
           ∙ ap (λ (qs : List ℕ). c.steps.list.items ++ (c.in_ok-part.part.list.items ++ hadamards qs)) wires);
     }

@@ -60,15 +60,15 @@ returns-clause-resynthesis c =
     c.terms-2.ensures.same c.map.ensures.value c.flips.ensures.value c.constant.ensures.same (ap (λ bs. map (λ b. b.items) bs) blocks) c.in_ok-parts.ensures.partition
     built pushed c.in_ok-flips.ensures.number
 
-pub returns-clause-gates_limit : goal.returns-clause-gates_limit
-returns-clause-gates_limit c =
+pub returns-clause-cx_bound : goal.returns-clause-cx_bound
+returns-clause-cx_bound c =
     let size : length c.in_ok-held.held ≡ c.args.wires = ap (λ (m : List _). length m) c.in_ok-held.ensures.ok ∙ length-identity c.args.wires in
     let rows : c.deref.result.now ≡ rows_of c.in_ok-sum.sum.terms = grind (arith, common_steps) in
     let blocks : c.deref-2.result.now ≡ c.in_ok-parts.parts.blocks.items = grind (arith, common_steps) in
     let pushed : c.push_flips.new.gates.items ≡ c.bring.new.gates.items ++ flip_gates c.args.wires c.flips.result.now = c.in_ok-flips.ensures.ok in
     let none : cx_count (ops c.new-gates.result.items) ≡ 0 = ap (λ gs. cx_count (ops gs)) c.new-gates.ensures.items in
     let few = mid_few c.args.wires (length c.in_ok-held.held) (length c.put_blocks.new.held) (length c.deref-2.result.now) (cx_count (ops c.new-gates.result.items)) (cx_count (ops c.put_blocks.new.gates.items)) (cx_count (ops c.bring.new.gates.items))
-    size c.in_ok-put_blocks.ensures.size c.in_ok-put_blocks.ensures.gates_limit c.in_ok-bring.ensures.gates_limit none in
+    size c.in_ok-put_blocks.ensures.size c.in_ok-put_blocks.ensures.cx_bound c.in_ok-bring.ensures.cx_bound none in
     few_told c.args.wires c.flips.result.now (length c.deref-2.result.now) c.args.list.now c.bring.new.gates.items c.push_flips.new.gates.items c.in_ok-sum.sum c.deref.result.now c.in_ok-sum.ensures.ok rows
     (λ other g. subst (λ k. k ≤ length other) (c.in_ok-parts.parts.blocks.ok.0 ∙ sym (ap (λ bs. length bs) blocks)) (c.in_ok-parts.ensures.least other g))
     few pushed

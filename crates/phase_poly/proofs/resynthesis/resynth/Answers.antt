@@ -48,11 +48,11 @@ returns-clause-resynthesis c =
     (c.deref-3.ensures.value ∙ sym c.deref.ensures.value) c.deref-2.ensures.value c.in_ok-gates.ensures.gates (c.in_ok-gates.ensures.dihedral c.args.wires c.requires.dihedral)
     c.in_ok-part.ensures.resynthesis c.deref-4.ensures.value c.in_ok-list.ensures.ok
 
-pub returns-clause-gates_limit : goal.returns-clause-gates_limit
-returns-clause-gates_limit c =
+pub returns-clause-cx_bound : goal.returns-clause-cx_bound
+returns-clause-cx_bound c =
     let count : c.len.result ≡ length c.deref.result.now = grind (arith, common_steps) in
     resynth_few c.args.wires c.len.result c.deref.result.now c.deref-3.result.now c.args.list.now c.in_ok-gates.gates.items c.deref-2.result.now
     c.in_ok-part.part.list.items c.deref-4.result.now c.in_ok-list.list.items
     (places-names c.args.wires c.wires_of.result c.deref.result.now (c.deref.ensures.value ∙ c.in_ok-names.ensures.ok)) count
     (c.deref-3.ensures.value ∙ sym c.deref.ensures.value) c.deref-2.ensures.value c.in_ok-gates.ensures.gates (c.in_ok-gates.ensures.dihedral c.args.wires c.requires.dihedral)
-    c.in_ok-part.ensures.gates_limit c.deref-4.ensures.value c.in_ok-list.ensures.ok
+    c.in_ok-part.ensures.cx_bound c.deref-4.ensures.value c.in_ok-list.ensures.ok

@@ -19,5 +19,5 @@ returns-in_ok-qubit_indices-in-Apply c =
     let angles : map formula c.in_ok-formulas-in-Apply.field-0.items ≡ map (bound P) (map expression a.angles.items) =
     c.in_ok-formulas-in-Apply.ensures.ok ∙ ap (map (λ (e : Expr). bound P (expression e))) c.deref.ensures.value ∙ sym (map-map (bound P) expression a.angles.items) in
     let qubits : c.in_ok-qubit_indices-in-Apply.field-0.items ≡ map (λ x. index_of c.args.qubits.now x.name) a.args.items =
-    c.in_ok-qubit_indices-in-Apply.ensures ∙ ap (map (λ x. index_of c.args.qubits.now x.name)) c.deref-in-Apply.ensures.value in
+    c.in_ok-qubit_indices-in-Apply.ensures ∙ ap (map (λ x. index_of c.args.qubits.now x.name)) c.as_slice.ensures in
     rw c.in-Apply.is (cc)

@@ -7,13 +7,13 @@ all_read : goal.returns-clause-tokens
 all_read c =
     let last : length (drop c.lexemes.place c.args.text.now) ≡ 0 = simp length-drop (omega arith) in
     sym c.lexemes.invariant.same ∙ ap (joined c.lexemes.tokens.items) (lexed_from-nil (drop c.lexemes.place c.args.text.now) c.lexemes.place last)
-    ∙ ap Ok (append-nil c.lexemes.tokens.items ∙ sym c.shrink_to_fit.ensures.items)
+    ∙ ap Ok (append-nil c.lexemes.tokens.items)
 
 pub returns-clause-tokens : goal.returns-clause-tokens
 returns-clause-tokens c = all_read c
 
 pub returns-clause-each : goal.returns-clause-each
-returns-clause-each c = each_token c.args.text.now c.shrink_to_fit.new.self.items (lexed-tokens c.args.text.now c.shrink_to_fit.new.self.items (all_read c))
+returns-clause-each c = each_token c.args.text.now c.lexemes.tokens.items (lexed-tokens c.args.text.now c.lexemes.tokens.items (all_read c))
 
 pub returns-clause-lexemes : goal.returns-clause-lexemes
-returns-clause-lexemes c = lexed-tokens c.args.text.now c.shrink_to_fit.new.self.items (all_read c)
+returns-clause-lexemes c = lexed-tokens c.args.text.now c.lexemes.tokens.items (all_read c)

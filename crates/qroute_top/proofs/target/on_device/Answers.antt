@@ -59,7 +59,7 @@ swaps_of-swaps-requires c = record {
       let f = c.facts.ensures in
       let k = c.diameter-diameter.ensures in
       subst (λ ns. sum_by (λ m. m.swaps) ns < 18446744073709551616) (sym c.deref-3.ensures.value)
-      (swaps-few c.args.clean d s given rs ms c.diameter-diameter.result f.parts o e.routed c.requires.fits k.diameter k.below_size
+      (swaps-few c.args.clean d s given rs ms c.diameter-diameter.result f.parts o e.routed c.requires.fits k.diameter k.hops_limit
       c.facts-2.ensures.coupling.graph.limited f.operations_limit);
 }
 
@@ -120,7 +120,7 @@ cost_of-cost-requires-clause-cx_limit c =
     let o = c.requires.optimised in
     let f = c.facts.ensures in
     let k = c.diameter-diameter.ensures in
-    λ listed. cost-few c.args.clean d s given rs ms c.in_ok-body.body.gates c.diameter-diameter.result f.parts o e.routed c.requires.fits k.diameter k.below_size
+    λ listed. cost-few c.args.clean d s given rs ms c.in_ok-body.body.gates c.diameter-diameter.result f.parts o e.routed c.requires.fits k.diameter k.hops_limit
     c.facts-2.ensures.coupling.graph.limited f.operations_limit c.in_ok-body.ensures.gates
 
 pub returns : goal.returns

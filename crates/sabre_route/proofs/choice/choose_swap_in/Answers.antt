@@ -14,21 +14,21 @@ best_swap-requires-clause-extended c =
     subst (AreWithin c.args.device.now.size) (sym c.extended_qubits-extended_count.ensures.qubits)
     (surveyed c.args.device.now c.args.state.now.placement _ c.args.state.now.rest c.requires.placed c.placement.ensures.value c.facts-2.ensures.placement c.front_qubits-front_count.ensures.fine c.requires.stuck c.requires.left).extended_within
 
-pub best_swap-requires-clause-front_few : goal.best_swap-requires-clause-front_few
-best_swap-requires-clause-front_few c =
+pub best_swap-requires-clause-front_limit : goal.best_swap-requires-clause-front_limit
+best_swap-requires-clause-front_limit c =
     omega (
       arith,
       ap length (sym c.front_qubits-front_count.ensures.qubits),
       c.facts.ensures.coupling.graph.limited,
-      (surveyed c.args.device.now c.args.state.now.placement _ c.args.state.now.rest c.requires.placed c.placement.ensures.value c.facts-2.ensures.placement c.front_qubits-front_count.ensures.fine c.requires.stuck c.requires.left).front_few,
+      (surveyed c.args.device.now c.args.state.now.placement _ c.args.state.now.rest c.requires.placed c.placement.ensures.value c.facts-2.ensures.placement c.front_qubits-front_count.ensures.fine c.requires.stuck c.requires.left).front_limit,
     )
 
-pub best_swap-requires-clause-extended_few : goal.best_swap-requires-clause-extended_few
-best_swap-requires-clause-extended_few c =
+pub best_swap-requires-clause-extended_limit : goal.best_swap-requires-clause-extended_limit
+best_swap-requires-clause-extended_limit c =
     omega (
       arith,
       ap length (sym c.extended_qubits-extended_count.ensures.qubits),
-      (surveyed c.args.device.now c.args.state.now.placement _ c.args.state.now.rest c.requires.placed c.placement.ensures.value c.facts-2.ensures.placement c.front_qubits-front_count.ensures.fine c.requires.stuck c.requires.left).extended_few,
+      (surveyed c.args.device.now c.args.state.now.placement _ c.args.state.now.rest c.requires.placed c.placement.ensures.value c.facts-2.ensures.placement c.front_qubits-front_count.ensures.fine c.requires.stuck c.requires.left).extended_limit,
     )
 
 pub best_swap-requires-clause-some : goal.best_swap-requires-clause-some

@@ -11,4 +11,4 @@ weight_most (U a b c q ∷ us) = omega (arith, weight_most us)
 weight_most (Cx c t ∷ us) = omega (arith, weight_most us)
 
 pub amplitude_of-requires : goal.amplitude_of-requires
-amplitude_of-requires c = record { operations_limit = omega (arith, weight_most c.args.ops.now, c.requires.operations_limit) }
+amplitude_of-requires c = record { weight_limit = omega (arith, weight_most c.args.ops.now, c.requires.operations_limit) }

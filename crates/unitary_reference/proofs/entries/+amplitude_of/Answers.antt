@@ -6,16 +6,16 @@ use Rattle.unitary_reference.proofs.ValueLaws.{first_and_rest, small, entry-U, p
 use Rattle.unitary_reference.proofs.entries.+amplitude_of.Goals as goal
 
 pub from_one-requires-clause-first : goal.from_one-requires-clause-first
-from_one-requires-clause-first t c = small c.args.ops.now _ _ _ _ _ _ _ _ (first_and_rest c.args.ops.now (U c.in-U.a c.in-U.b c.in-U.c c.in-U.q) _ c.in-len1-up.len_at_least c.in-U.is) c.requires.operations_limit c.amplitude_of-to0.ensures.entry
+from_one-requires-clause-first t c = small c.args.ops.now _ _ _ _ _ _ _ _ (first_and_rest c.args.ops.now (U c.in-U.a c.in-U.b c.in-U.c c.in-U.q) _ c.in-len1-up.len_at_least c.in-U.is) c.requires.weight_limit c.amplitude_of-to0.ensures.entry
 
 pub from_one-requires-clause-second : goal.from_one-requires-clause-second
-from_one-requires-clause-second t c = small c.args.ops.now _ _ _ _ _ _ _ _ (first_and_rest c.args.ops.now (U c.in-U.a c.in-U.b c.in-U.c c.in-U.q) _ c.in-len1-up.len_at_least c.in-U.is) c.requires.operations_limit c.amplitude_of-to1.ensures.entry
+from_one-requires-clause-second t c = small c.args.ops.now _ _ _ _ _ _ _ _ (first_and_rest c.args.ops.now (U c.in-U.a c.in-U.b c.in-U.c c.in-U.q) _ c.in-len1-up.len_at_least c.in-U.is) c.requires.weight_limit c.amplitude_of-to1.ensures.entry
 
 pub from_zero-requires-clause-first : goal.from_zero-requires-clause-first
-from_zero-requires-clause-first t c = small c.args.ops.now _ _ _ _ _ _ _ _ (first_and_rest c.args.ops.now (U c.in-U.a c.in-U.b c.in-U.c c.in-U.q) _ c.in-len1-up.len_at_least c.in-U.is) c.requires.operations_limit c.amplitude_of-to0.ensures.entry
+from_zero-requires-clause-first t c = small c.args.ops.now _ _ _ _ _ _ _ _ (first_and_rest c.args.ops.now (U c.in-U.a c.in-U.b c.in-U.c c.in-U.q) _ c.in-len1-up.len_at_least c.in-U.is) c.requires.weight_limit c.amplitude_of-to0.ensures.entry
 
 pub from_zero-requires-clause-second : goal.from_zero-requires-clause-second
-from_zero-requires-clause-second t c = small c.args.ops.now _ _ _ _ _ _ _ _ (first_and_rest c.args.ops.now (U c.in-U.a c.in-U.b c.in-U.c c.in-U.q) _ c.in-len1-up.len_at_least c.in-U.is) c.requires.operations_limit c.amplitude_of-to1.ensures.entry
+from_zero-requires-clause-second t c = small c.args.ops.now _ _ _ _ _ _ _ _ (first_and_rest c.args.ops.now (U c.in-U.a c.in-U.b c.in-U.c c.in-U.q) _ c.in-len1-up.len_at_least c.in-U.is) c.requires.weight_limit c.amplitude_of-to1.ensures.entry
 
 pub returns-then-was-clause-entry : goal.returns-then-was-clause-entry
 returns-then-was-clause-entry t c = entry-U c.args.ops.now _ c.in-U.a c.in-U.b c.in-U.c c.in-U.q c.args.x.now c.put_bit-in-U.new.x c.put_bit-in-U-2.new.x c.args.y.now _ _ _ true (first_and_rest c.args.ops.now (U c.in-U.a c.in-U.b c.in-U.c c.in-U.q) _ c.in-len1-up.len_at_least c.in-U.is)

@@ -12,6 +12,6 @@ returns-clause-diameter c =
     subst (λ (d : Coupling). IsDiameter d.size d.edges (cost d) c.from.result) c.self.view_is
     (subst (λ k. IsDiameter a.graph.size a.graph.edges (cost_of a.graph.edges (listed_costs a.costs)) k) (sym c.from.ensures) c.self.invariant.greatest)
 
-pub returns-clause-below_size : goal.returns-clause-below_size
-returns-clause-below_size c none =
+pub returns-clause-hops_limit : goal.returns-clause-hops_limit
+returns-clause-hops_limit c none =
     diameter-without_costs c.args.self.now c.from.result (subst IsCoupling c.self.view_is c.self.invariant.coupling) none (returns-clause-diameter c)

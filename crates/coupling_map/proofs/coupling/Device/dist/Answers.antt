@@ -45,8 +45,8 @@ returns-clause-zero c =
     let h : IsCoupling c.args.self.now = subst IsCoupling c.self.view_is c.self.invariant.coupling in
     zero-distance c.args.self.now.edges (cost c.args.self.now) c.args.a c.args.b c.from.result (λ x y t. cost-positive c.args.self.now h x y) (returns-clause-exact c)
 
-pub returns-clause-below_size : goal.returns-clause-below_size
-returns-clause-below_size c none =
+pub returns-clause-hops_limit : goal.returns-clause-hops_limit
+returns-clause-hops_limit c none =
     few-without_costs c.args.self.now c.args.a c.args.b c.from.result (subst IsCoupling c.self.view_is c.self.invariant.coupling) none
     c.requires.first c.requires.second (returns-clause-exact c)
 

@@ -1,5 +1,5 @@
--- A call that is remembered, or its gate's meaning.
-use Rattle.std.proofs.Common.{◌≡◌, ◌*◌, ◌<◌, ◌++◌, ℕ, List, IfSome, refl, sym, subst, ap, ◌∙◌, arith, take}
+-- A call that comes to nothing, one that is remembered, or its gate's meaning.
+use Rattle.std.proofs.Common.{◌≡◌, ◌*◌, ◌<◌, ◌++◌, ℕ, List, [], Ok, IfSome, refl, sym, subst, ap, ◌∙◌, arith, take}
 use Rattle.std.proofs.lemmas.Result.{err_from_is_err_and}
 use Rattle.gate_inline.specs.Frames.{body_room, call_answer, entered_answer, frames_room, one_frame}
 use Rattle.gate_inline.specs.Meanings.{one_op}
@@ -8,9 +8,24 @@ use Rattle.gate_inline.specs.Remembered.{frame_meaning, part}
 use Rattle.gate_inline.specs.Sizes.{size_at, sizes}
 use Rattle.gate_inline.specs.Stops.{IsStop}
 use Rattle.gate_inline.specs.declared.body.Frame.{Frame}
-use Rattle.gate_inline.proofs.BegunLaws.{AreBegun-entered, AreBegun-recalled, answer_entered, answer_recalled, some_room}
+use Rattle.gate_inline.proofs.BegunLaws.{AreBegun-entered, AreBegun-recalled, AreBegun-same, answer_entered, answer_recalled, answer_skipped, some_room}
 use Rattle.gate_inline.proofs.FrameLaws.{frames_room-body}
 use Rattle.gate_inline.proofs.inliner.Inliner.apply.Goals as goal
+
+pub returns-then-skips-clause-ok : goal.returns-then-skips-clause-ok
+returns-then-skips-clause-ok c =
+    let p = c.args.self.now in
+    let fs = c.args.frames.now.items in
+    let answer = call_answer (gates_of p) c.args.below c.args.call in
+    let none = c.skips.ensures c.if-skips.true in
+    record {
+      gates = refl;
+      same = answer_skipped (gates_of p) p.list answer fs none;
+      begun = AreBegun-same (gates_of p) p.list answer (Ok []) fs none c.requires.begun;
+    }
+
+pub returns-then-skips-clause-room : goal.returns-then-skips-clause-room
+returns-then-skips-clause-room c = omega (arith, some_room (gates_of c.args.self.now) c.args.below c.args.call.gate)
 
 pub write_again-requires-clause-order : goal.write_again-requires-clause-order
 write_again-requires-clause-order c = c.in-Some.ensures.order

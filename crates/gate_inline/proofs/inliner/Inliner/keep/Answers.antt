@@ -8,6 +8,7 @@ use Rattle.gate_inline.proofs.inliner.Inliner.keep.Goals as goal
 pub invariant_of-self : goal.invariant_of-self
 invariant_of-self c = record {
   sized = c.self.invariant.sized;
+  quiet = c.self.invariant.quiet;
   kept =
       c.keep.ensures.kept (map gate_view c.self.inside.gates.now) c.self.inside.list.items c.self.invariant.kept
       (subst (λ (p : Progress). IsKept (gates_of p) p.list c.args.kept) (sym c.self.view_is) c.requires);

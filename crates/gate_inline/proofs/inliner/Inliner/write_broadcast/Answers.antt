@@ -1,6 +1,5 @@
 -- One more index.
 use Rattle.std.proofs.Common.{ℕ, List, map, sym, subst, ap, arith}
-use Rattle.angle_fraction.specs.declared.Angle.{Angle}
 use Rattle.gate_library.specs.Gates.{BoundGate}
 use Rattle.gate_library.specs.Operands.{wire_at as wire_there}
 use Rattle.gate_library.specs.Views.{gate as gate_view}
@@ -23,20 +22,16 @@ returns-in-Err-clause-err c =
     let ms = meanings (gates_of p) in
     let m : ℕ → Evaluation = λ j. meaning_at ms c.args.gate c.args.angles.now (map (wire_there j) c.args.places.now) in
     let part = written_part (broadcast_answer ms c.args.gate c.args.angles.now c.args.places.now c.indices.j) c.indices.self.list p.list c.indices.invariant.list in
-    let stop = subst (λ (xs : List BoundGate). IsStop (meaning_at (meanings xs) c.args.gate c.in_ok-copied.field-0.items c.in_ok-wires_at.field-0.items) c.in-Err.stop)
+    let stop = subst (λ (xs : List BoundGate). IsStop (meaning_at (meanings xs) c.args.gate c.args.angles.now (map (wire_there c.indices.j) c.args.places.now)) c.in-Err.stop)
     (ap (map gate_view) c.indices.invariant.gates) c.in-Err.ensures.err in
     subst (λ (n : ℕ). IsStop (broadcast_answer ms c.args.gate c.args.angles.now c.args.places.now n) c.in-Err.stop) c.broadcast-j-end.ensures.value
-    (upto_stop m part.0 c.indices.j c.broadcast-j-end.result c.in-Err.stop part.1 (omega arith)
-    (subst (λ (angles : List Angle). IsStop (meaning_at ms c.args.gate angles (map (wire_there c.indices.j) c.args.places.now)) c.in-Err.stop) c.in_ok-copied.ensures
-    (subst (λ (wires : List ℕ). IsStop (meaning_at ms c.args.gate c.in_ok-copied.field-0.items wires) c.in-Err.stop) c.in_ok-wires_at.ensures stop)))
+    (upto_stop m part.0 c.indices.j c.broadcast-j-end.result c.in-Err.stop part.1 (omega arith) stop)
 
 pub indices-preserved : goal.indices-preserved
 indices-preserved c =
     let p = c.args.self.now in
     let ms = meanings (gates_of p) in
     let m : ℕ → Evaluation = λ j. meaning_at ms c.args.gate c.args.angles.now (map (wire_there j) c.args.places.now) in
-    let more = subst (λ (xs : List BoundGate). HasWritten c.indices.self (meaning_at (meanings xs) c.args.gate c.in_ok-copied.field-0.items c.in_ok-wires_at.field-0.items) c.write_out.new.self)
+    let more = subst (λ (xs : List BoundGate). HasWritten c.indices.self (meaning_at (meanings xs) c.args.gate c.args.angles.now (map (wire_there c.indices.j) c.args.places.now)) c.write_index.new.self)
     (ap (map gate_view) c.indices.invariant.gates) c.in-Ok.ensures.ok in
-    written_then p c.indices.self c.write_out.new.self _ (m c.indices.j) _ c.indices.invariant
-    (subst (λ (a : Evaluation). HasWritten c.indices.self a c.write_out.new.self) (λ i. meaning_at ms c.args.gate (c.in_ok-copied.ensures i) (c.in_ok-wires_at.ensures i)) more)
-    (upto-more m c.indices.j)
+    written_then p c.indices.self c.write_index.new.self _ (m c.indices.j) _ c.indices.invariant more (upto-more m c.indices.j)

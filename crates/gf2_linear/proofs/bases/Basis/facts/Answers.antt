@@ -5,8 +5,8 @@ use Rattle.gf2_linear.proofs.BasisLaws.{free-Free}
 use Rattle.gf2_linear.proofs.Ranks.{Free-independent}
 use Rattle.gf2_linear.proofs.bases.Basis.facts.Goals as goal
 
-pub returns-clause-wires_limit : goal.returns-clause-wires_limit
-returns-clause-wires_limit c =
+pub returns-clause-rank_limit : goal.returns-clause-rank_limit
+returns-clause-rank_limit c =
     subst (λ (r : List ℕ). length r ≤ 256) c.self.view_is
     (free-few 256 c.self.inside.rows.items c.self.invariant.below (free-Free c.self.inside.rows.items c.self.invariant.free))
 

@@ -39,5 +39,5 @@ pub returns-in_ok-begin-in-Some-clause-shown : goal.returns-in_ok-begin-in-Some-
 returns-in_ok-begin-in-Some-clause-shown c =
     let same = rw c.in-Some.is at c.in_ok-settle.ensures.same in
     let closed = rw c.in-Some.is at c.in_ok-settle.ensures.closed in
-    brought-shown c.args.self.now c.widen.new.self c.settle.new.self c.begin.new.self c.args.row.now c.in-Some.reach (shown_by c.in_ok-witness-in-Some.witness)
+    brought-shown c.args.self.now c.widen.new.self c.settle.new.self c.begin.new.self c.args.row.now c.in-Some.reached (shown_by c.in_ok-witness-in-Some.witness)
     c.in_ok-widen.ensures.ok c.facts.ensures.arranged closed same c.in_ok-witness-in-Some.ensures c.in_ok-begin-in-Some.ensures.ok

@@ -8,7 +8,7 @@ use Rattle.matroid_partition.specs.Searches.{IsOwn, node_at}
 use Rattle.matroid_partition.proofs.ArrangementLaws.{count-with, state-with}
 use Rattle.matroid_partition.proofs.SearchLaws.{front-through, node-row, set-told}
 use Rattle.matroid_partition.proofs.partitioning.Partitioning.cross.Goals as goal
-use Rattle.matroid_partition.proofs.partitioning.Partitioning.cross.Goals.{else-place-len-via-then-place-len+else-home-number, else-place-len-via-else-place-len}
+use Rattle.matroid_partition.proofs.partitioning.Partitioning.cross.Goals.{else-place-row_count-via-then-place-row_count+else-home-number, else-place-row_count-via-else-place-row_count}
 
 pub row-requires : goal.row-requires
 row-requires c = record {
@@ -29,9 +29,9 @@ reach-requires-clause-set c =
     let n : Node = node_at c.args.front.now.nodes.items c.args.node in
     let e : c.index.result.now ≡ n = get_or_read c.args.front.now.nodes.items c.args.node c.index.result.now c.requires.there c.index.ensures (record { place = 0; parent = 0 }) in
     let own : IsOwn homes n c.args.number → ⊥ =
-    elim c.else-place-len.branch [
-      | else-place-len-via-then-place-len+else-home-number w ↦ (λ o. w.if-home-number.false (w.home.ensures.value ∙ ap (λ (q : Node). get_or homes q.place 0) e ∙ o.1))
-      | else-place-len-via-else-place-len w ↦ (λ o. let g : length homes ≤ n.place = subst (λ (q : Node). length homes ≤ q.place) e (omega (arith, w.if-place-len.false, c.len.ensures)) in
+    elim c.else-place-row_count.branch [
+      | else-place-row_count-via-then-place-row_count+else-home-number w ↦ (λ o. w.if-home-number.false (w.home.ensures.value ∙ ap (λ (q : Node). get_or homes q.place 0) e ∙ o.1))
+      | else-place-row_count-via-else-place-row_count w ↦ (λ o. let g : length homes ≤ n.place = subst (λ (q : Node). length homes ≤ q.place) e (omega (arith, w.if-place-row_count.false, c.row_count.ensures)) in
           let s : n.place < length homes = o.0 in absurd (omega arith))
     ] in
     set-told rows homes blocks n c.args.number c.in-Some.set c.block.result.now (get_or rows n.place 0) (state-with c.args.self.now c.args.new.now c.facts.ensures.arranged) c.requires.block
@@ -46,9 +46,9 @@ returns-in-None-clause-some c =
     let n : Node = node_at c.args.front.now.nodes.items c.args.node in
     let e : c.index.result.now ≡ n = get_or_read c.args.front.now.nodes.items c.args.node c.index.result.now c.requires.there c.index.ensures (record { place = 0; parent = 0 }) in
     let own : IsOwn homes n c.args.number → ⊥ =
-    elim c.else-place-len.branch [
-      | else-place-len-via-then-place-len+else-home-number w ↦ (λ o. w.if-home-number.false (w.home.ensures.value ∙ ap (λ (q : Node). get_or homes q.place 0) e ∙ o.1))
-      | else-place-len-via-else-place-len w ↦ (λ o. let g : length homes ≤ n.place = subst (λ (q : Node). length homes ≤ q.place) e (omega (arith, w.if-place-len.false, c.len.ensures)) in
+    elim c.else-place-row_count.branch [
+      | else-place-row_count-via-then-place-row_count+else-home-number w ↦ (λ o. w.if-home-number.false (w.home.ensures.value ∙ ap (λ (q : Node). get_or homes q.place 0) e ∙ o.1))
+      | else-place-row_count-via-else-place-row_count w ↦ (λ o. let g : length homes ≤ n.place = subst (λ (q : Node). length homes ≤ q.place) e (omega (arith, w.if-place-row_count.false, c.row_count.ensures)) in
           let s : n.place < length homes = o.0 in absurd (omega arith))
     ] in
     record {

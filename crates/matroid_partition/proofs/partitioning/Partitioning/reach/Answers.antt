@@ -16,13 +16,13 @@ use Rattle.matroid_partition.proofs.partitioning.Partitioning.reach.Goals.{then-
 
 pub has-requires : goal.has-requires
 has-requires c = record {
-  wires_limit =
+  within =
       let blocks : List Block = c.args.self.now.blocks in
       let e : c.deref-place-items.result.now ≡ places_at blocks c.args.number =
       c.deref-place-items.ensures.value ∙ ap (λ (b : Block). b.places.items) (c.block-block.ensures.value c.block-block.result.now) ∙ sym (places_at-is blocks c.args.number c.block-block.result.now c.requires.block) in
       let l : c.members.member < length c.deref-place-items.result.now = c.members-test.true in
       let f : length (places_at blocks c.args.number) ≤ 256 =
-      block-few (rows_with c.args.self.now c.args.new.now) c.args.self.now.homes blocks c.args.number 256 c.block-block.result.now (state-with c.args.self.now c.args.new.now c.facts.ensures.arranged) c.requires.block (subst (λ (b : Block). length b.basis ≤ 256) (c.block-block.ensures.value c.block-block.result.now) c.facts-2.ensures.wires_limit) in
+      block-few (rows_with c.args.self.now c.args.new.now) c.args.self.now.homes blocks c.args.number 256 c.block-block.result.now (state-with c.args.self.now c.args.new.now c.facts.ensures.arranged) c.requires.block (subst (λ (b : Block). length b.basis ≤ 256) (c.block-block.ensures.value c.block-block.result.now) c.facts-2.ensures.rank_limit) in
       let n : length c.deref-place-items.result.now ≡ length (places_at blocks c.args.number) = ap length e in
       omega arith;
 }
@@ -34,7 +34,7 @@ overflow_cast-member c =
     c.deref-place-items.ensures.value ∙ ap (λ (b : Block). b.places.items) (c.block-block.ensures.value c.block-block.result.now) ∙ sym (places_at-is blocks c.args.number c.block-block.result.now c.requires.block) in
     let l : c.members.member < length c.deref-place-items.result.now = c.members-test.true in
     let f : length (places_at blocks c.args.number) ≤ 256 =
-    block-few (rows_with c.args.self.now c.args.new.now) c.args.self.now.homes blocks c.args.number 256 c.block-block.result.now (state-with c.args.self.now c.args.new.now c.facts.ensures.arranged) c.requires.block (subst (λ (b : Block). length b.basis ≤ 256) (c.block-block.ensures.value c.block-block.result.now) c.facts-2.ensures.wires_limit) in
+    block-few (rows_with c.args.self.now c.args.new.now) c.args.self.now.homes blocks c.args.number 256 c.block-block.result.now (state-with c.args.self.now c.args.new.now c.facts.ensures.arranged) c.requires.block (subst (λ (b : Block). length b.basis ≤ 256) (c.block-block.ensures.value c.block-block.result.now) c.facts-2.ensures.rank_limit) in
     let n : length c.deref-place-items.result.now ≡ length (places_at blocks c.args.number) = ap length e in
     omega arith
 

@@ -6,7 +6,7 @@ use Rattle.matroid_partition.proofs.partitioning.Partitioning.settle.Goals as go
 
 pub enter-requires-clause-chain : goal.enter-requires-clause-chain
 enter-requires-clause-chain c =
-    subst (λ k. IsChain (rows_with c.args.self.now c.args.row.now) c.args.self.now.homes c.args.self.now.blocks (record { place = k; parent = 0 } ∷ []) 0 c.in-Some.into) (sym c.len.ensures.value)
+    subst (λ k. IsChain (rows_with c.args.self.now c.args.row.now) c.args.self.now.homes c.args.self.now.blocks (record { place = k; parent = 0 } ∷ []) 0 c.in-Some.into) (sym c.row_count.ensures.value)
     (chain-root c.args.self.now c.args.row.now c.in-Some.into c.facts.ensures.arranged c.in-Some.ensures.some)
 
 pub returns-then-is_full-clause-closed : goal.returns-then-is_full-clause-closed

@@ -8,7 +8,7 @@ use Rattle.sabre_route.proofs.best.Lookahead.choice.Goals as goal
 pub weighed-requires-clause-extended : goal.weighed-requires-clause-extended
 weighed-requires-clause-extended c =
     let k = c.self.invariant in
-    extended-short c.self.inside.device.now c.self.inside.extended.now c.total_after-of_extended.result k.metric k.extended_few c.total_after-of_extended.ensures.short
+    extended-short c.self.inside.device.now c.self.inside.extended.now c.total_after-of_extended.result k.metric k.extended_limit c.total_after-of_extended.ensures.short
 
 pub returns-clause-choice : goal.returns-clause-choice
 unfolding score_on

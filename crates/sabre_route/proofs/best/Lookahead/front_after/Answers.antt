@@ -7,10 +7,10 @@ use Rattle.sabre_route.proofs.best.Lookahead.front_after.Goals as goal
 
 pub returns-clause-total : goal.returns-clause-total
 returns-clause-total c =
-    subst (λ (v : Judged). c.front_after.result ≡ total v.device (exchanged c.args.a c.args.b) v.front) c.self.view_is c.front_after.ensures
+    subst (λ (v : Judged). c.shifted_sum.result ≡ total v.device (exchanged c.args.a c.args.b) v.front) c.self.view_is c.shifted_sum.ensures
 
 pub returns-clause-short : goal.returns-clause-short
 returns-clause-short c =
     let o = c.args.self.now in
     let k = IsLookahead-seen _ o _ _ _ _ c.self.view_is c.self.invariant in
-    omega (arith, returns-clause-total c, front-short o.device o.front c.args.a c.args.b k.metric c.requires.first c.requires.second k.front_within k.front_few)
+    omega (arith, returns-clause-total c, front-short o.device o.front c.args.a c.args.b k.metric c.requires.first c.requires.second k.front_within k.front_limit)

@@ -12,7 +12,7 @@ pub overflow_add-nearer : goal.overflow_add-nearer
 overflow_add-nearer c =
     let o = c.args.self.now in
     let k = IsLookahead-seen _ o _ _ _ _ c.self.view_is c.self.invariant in
-    omega (arith, k.counted c.args.a c.requires.first, k.counted c.args.b c.requires.second, ends-few o.extended c.args.a, ends-few o.extended c.args.b, k.extended_few)
+    omega (arith, k.counted c.args.a c.requires.first, k.counted c.args.b c.requires.second, ends-few o.extended c.args.a, ends-few o.extended c.args.b, k.extended_limit)
 
 pub overflow_mul-price : goal.overflow_mul-price
 overflow_mul-price c =
@@ -21,7 +21,7 @@ overflow_mul-price c =
     let ends = c.self.inside.ends in
     let nearer = slice_index ends c.args.a + slice_index ends c.args.b in
     let few : nearer ≤ 4 * most_extended =
-    omega (arith, k.counted c.args.a c.requires.first, k.counted c.args.b c.requires.second, ends-few o.extended c.args.a, ends-few o.extended c.args.b, k.extended_few) in
+    omega (arith, k.counted c.args.a c.requires.first, k.counted c.args.b c.requires.second, ends-few o.extended c.args.a, ends-few o.extended c.args.b, k.extended_limit) in
     let price : c.cost-price.result ≤ most_pair = omega (arith, c.cost-price.ensures.exact, (c.self.invariant.metric.costs c.args.a c.args.b).1) in
     let gain = product-le c.cost-price.result nearer most_pair (4 * most_extended) price few in
     omega (arith, gain)
@@ -33,10 +33,10 @@ overflow_mul-self-inside c =
     let ends = c.self.inside.ends in
     let nearer = slice_index ends c.args.a + slice_index ends c.args.b in
     let few : nearer ≤ 4 * most_extended =
-    omega (arith, k.counted c.args.a c.requires.first, k.counted c.args.b c.requires.second, ends-few o.extended c.args.a, ends-few o.extended c.args.b, k.extended_few) in
+    omega (arith, k.counted c.args.a c.requires.first, k.counted c.args.b c.requires.second, ends-few o.extended c.args.a, ends-few o.extended c.args.b, k.extended_limit) in
     let price : c.cost-price.result ≤ most_pair = omega (arith, c.cost-price.ensures.exact, (c.self.invariant.metric.costs c.args.a c.args.b).1) in
     let gain = product-le c.cost-price.result nearer most_pair (4 * most_extended) price few in
-    omega (arith, product-le (length c.self.inside.front.now) (c.cost-price.result * nearer) most_qubits (most_pair * (4 * most_extended)) c.self.invariant.front_few gain)
+    omega (arith, product-le (length c.self.inside.front.now) (c.cost-price.result * nearer) most_qubits (most_pair * (4 * most_extended)) c.self.invariant.front_limit gain)
 
 pub overflow_add-best : goal.overflow_add-best
 overflow_add-best c =
@@ -45,16 +45,16 @@ overflow_add-best c =
     let ends = c.self.inside.ends in
     let nearer = slice_index ends c.args.a + slice_index ends c.args.b in
     let few : nearer ≤ 4 * most_extended =
-    omega (arith, k.counted c.args.a c.requires.first, k.counted c.args.b c.requires.second, ends-few o.extended c.args.a, ends-few o.extended c.args.b, k.extended_few) in
+    omega (arith, k.counted c.args.a c.requires.first, k.counted c.args.b c.requires.second, ends-few o.extended c.args.a, ends-few o.extended c.args.b, k.extended_limit) in
     let price : c.cost-price.result ≤ most_pair = omega (arith, c.cost-price.ensures.exact, (c.self.invariant.metric.costs c.args.a c.args.b).1) in
     let gain = product-le c.cost-price.result nearer most_pair (4 * most_extended) price few in
     let best = c.args.best in
     let below = k.metric.near best.a best.b c.requires.best.pair.near in
     omega (
       arith,
-      product-le (length c.self.inside.front.now) (c.cost-price.result * nearer) most_qubits (most_pair * (4 * most_extended)) c.self.invariant.front_few gain,
+      product-le (length c.self.inside.front.now) (c.cost-price.result * nearer) most_qubits (most_pair * (4 * most_extended)) c.self.invariant.front_limit gain,
       c.requires.best.score,
-      score-short o.device o.front o.extended best.a best.b k.metric below.0 below.1 k.front_within k.extended_within k.front_few k.extended_few,
+      score-short o.device o.front o.extended best.a best.b k.metric below.0 below.1 k.front_within k.extended_within k.front_limit k.extended_limit,
     )
 
 pub returns-then-weighed-best-clause-tried : goal.returns-then-weighed-best-clause-tried

@@ -7,17 +7,17 @@ use Rattle.sabre_route.proofs.best.Lookahead.weighed.Goals as goal
 
 pub overflow_mul-result-2 : goal.overflow_mul-result-2
 overflow_mul-result-2 c =
-    let weight : 2 * c.max.result ≤ 2 * most_extended = omega (arith, c.max.ensures, c.self.invariant.extended_few) in
+    let weight : 2 * c.max.result ≤ 2 * most_extended = omega (arith, c.max.ensures, c.self.invariant.extended_limit) in
     omega (arith, product-le (2 * c.max.result) c.args.of_front (2 * most_extended) (most_qubits * most_distance) weight c.requires.front)
 
 pub overflow_add-result : goal.overflow_add-result
 overflow_add-result c =
     let k = c.self.invariant in
-    let weight : 2 * c.max.result ≤ 2 * most_extended = omega (arith, c.max.ensures, k.extended_few) in
+    let weight : 2 * c.max.result ≤ 2 * most_extended = omega (arith, c.max.ensures, k.extended_limit) in
     omega (
       arith,
       product-le (2 * c.max.result) c.args.of_front (2 * most_extended) (most_qubits * most_distance) weight c.requires.front,
-      product-le (length c.self.inside.front.now) c.args.of_extended most_qubits (most_extended * most_distance) k.front_few c.requires.extended,
+      product-le (length c.self.inside.front.now) c.args.of_extended most_qubits (most_extended * most_distance) k.front_limit c.requires.extended,
     )
 
 pub returns-clause-score : goal.returns-clause-score
@@ -30,9 +30,9 @@ pub returns-clause-short : goal.returns-clause-short
 returns-clause-short c =
     let k = c.self.invariant in
     let m : c.max.result ≡ max 1 (length c.self.inside.extended.now) = omega (arith, c.max.ensures) in
-    let weight : 2 * c.max.result ≤ 2 * most_extended = omega (arith, c.max.ensures, k.extended_few) in
+    let weight : 2 * c.max.result ≤ 2 * most_extended = omega (arith, c.max.ensures, k.extended_limit) in
     omega (
       arith,
       product-le (2 * c.max.result) c.args.of_front (2 * most_extended) (most_qubits * most_distance) weight c.requires.front,
-      product-le (length c.self.inside.front.now) c.args.of_extended most_qubits (most_extended * most_distance) k.front_few c.requires.extended,
+      product-le (length c.self.inside.front.now) c.args.of_extended most_qubits (most_extended * most_distance) k.front_limit c.requires.extended,
     )
