@@ -57,10 +57,10 @@ fn bound_of(formula: &Formula) -> Option<PartBound>
         Formula::Pi => Some(PartBound { fixed: 1, times: 0 }),
         Formula::Param(_) => Some(PartBound { fixed: 0, times: 1 }),
         Formula::Neg(part) => bound_of(part),
-        Formula::Binary { sign, left, right } => match sign {
+        Formula::Binary { sign, sides } => match sign {
             Binary::Add | Binary::Sub => {
-                let left = bound_of(left)?;
-                let right = bound_of(right)?;
+                let left = bound_of(&sides.left)?;
+                let right = bound_of(&sides.right)?;
                 sum_bound(left, right)
             }
             Binary::Mul | Binary::Div | Binary::Pow => None,

@@ -59,9 +59,9 @@ pub fn value(params: &[Angle], formula: &Formula) -> Result<Angle, AngleFault>
             let _arg = value(params, arg)?;
             Err(AngleFault::Form)
         }
-        Formula::Binary { sign, left, right } => {
-            let left = value(params, left)?;
-            let right = value(params, right)?;
+        Formula::Binary { sign, sides } => {
+            let left = value(params, &sides.left)?;
+            let right = value(params, &sides.right)?;
             operation(*sign, &left, &right)
         }
     }

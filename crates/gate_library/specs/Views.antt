@@ -19,7 +19,7 @@ formula Pi = spec.pi
 formula (Param index) = spec.param index
 formula (Neg' p part) = spec.negated (formula part)
 formula (Call' function p part) = spec.called function (formula part)
-formula (Binary' sign p left q right) = spec.binary sign (formula left) (formula right)
+formula (Binary' sign p left right) = spec.binary sign (formula left) (formula right)
 
 abbrev pub item : Item → spec.Item
 item (Call gate angles qubits) = spec.call gate (map formula angles.items) qubits.items

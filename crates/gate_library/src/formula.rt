@@ -3,6 +3,7 @@
 use angle_fraction::{Binary, Frac, Function};
 
 /// An expression; a parameter is told by its index among the gate's parameters, from 0. Parentheses are gone.
+#[cycle(formula)]
 #[derive(Drop)]
 pub enum Formula {
     Number(Frac),
@@ -16,7 +17,14 @@ pub enum Formula {
     },
     Binary {
         sign: Binary,
-        left: Box<Formula>,
-        right: Box<Formula>,
+        sides: Box<FormulaSides>,
     },
+}
+
+/// The two parts of an expression with a sign between them.
+#[cycle(formula)]
+#[derive(Drop)]
+pub struct FormulaSides {
+    pub left: Formula,
+    pub right: Formula,
 }

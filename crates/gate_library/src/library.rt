@@ -10,7 +10,7 @@ ghost use Rattle.gate_library.specs.Names.{is_one_of};
 ghost use Rattle.gate_library.specs.Rows.{lines_of, row, row_formula, row_gate, row_gates, row_item};
 ghost use Rattle.gate_library.specs.Views.{gate as gate_view, formula as formula_view, item as item_view};
 
-use crate::formula::Formula;
+use crate::formula::{Formula, FormulaSides};
 use crate::gate::{BoundGate, Item};
 use crate::table::{LINES, Line, NAMES, PRIMITIVES, SHAPES, STANDARD, TableAngle};
 use angle_fraction::{Binary, Frac, lowest};
@@ -128,12 +128,13 @@ fn four() -> Frac
 fn divided(alloc: Global, part: Formula, by: Frac) -> Result<Formula, AllocError>
     ensures { IfOk result (λ f. formula_view f ≡ binary Div (formula_view part) (number by)) }
 {
-    let left = Box::new(alloc, part)?;
-    let right = Box::new(alloc, Formula::Number(by))?;
+    let sides = FormulaSides {
+        left: part,
+        right: Formula::Number(by),
+    };
     Ok(Formula::Binary {
         sign: Binary::Div,
-        left,
-        right,
+        sides: Box::new(alloc, sides)?,
     })
 }
 

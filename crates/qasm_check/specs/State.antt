@@ -1,7 +1,7 @@
 -- What is known, as the code keeps it.
 --   found        what a map of names has for a name
---   mark         a name's last bytes, up to eight, as one number
---   named        what a map of marked names has for a name
+--   tail         a name's last bytes, up to eight, as one number
+--   named        what a map of names behind their tails has for a name
 --   state        what is known, apart from where its parts lie in memory
 use Rattle.std.specs.Prelude.{ℕ, ◌+◌, ◌*◌, ◌%◌, ◌^◌, List, Option, fold, map}
 use Rattle.std.specs.BTreeMap.{BTreeMap, get_by}
@@ -16,11 +16,12 @@ use Rattle.qasm_check.specs.declared.known.Known.{Known as Kept}
 abbrev pub found : {A : Type 0} → BTreeMap (Bor (List ℕ)) A → List ℕ → Option A
 found names name = get_by (λ k. slice_cmp nat_cmp name k.now) names
 
-abbrev pub mark : List ℕ → ℕ
-mark name = fold (λ sum byte. (sum * 256 % 2 ^ 64 + byte) % 2 ^ 64) 0 name
+-- the bytes are digits to base 256, and what lies above the last eight goes
+abbrev pub tail : List ℕ → ℕ
+tail name = fold (λ sum byte. sum * 256 + byte) 0 name % 2 ^ 64
 
 abbrev pub named : {A : Type 0} → BTreeMap (ℕ × Bor (List ℕ)) A → List ℕ → Option A
-named names name = get_by (λ k. ordering_then (nat_cmp (mark name) k.0) (slice_cmp nat_cmp name k.1.now)) names
+named names name = get_by (λ k. ordering_then (nat_cmp (tail name) k.0) (slice_cmp nat_cmp name k.1.now)) names
 
 abbrev pub state : Kept → Known
 state k = record {

@@ -3,10 +3,11 @@
 ghost use Rattle.std.specs.Prelude.{◌≡◌, ◌++◌, None, false, length, IfOk, IfErr, OnOk, map, not};
 ghost use Rattle.std.specs.List.{list_any};
 ghost use Rattle.qasm_parser.specs.Tree.{action, application as application_tree, apply as applied, gate as declares, opaque as leaves_opaque};
-ghost use Rattle.qasm_check.specs.Bodies.{HasFlaws, declaration, flaws_of};
-ghost use Rattle.gate_library.specs.Gates.{opaque as without_body};
+ghost use Rattle.qasm_check.specs.Bodies.{HasFlaws, declaration, either_flaw, flaws_of};
+ghost use Rattle.gate_library.specs.Gates.{barrier as barrier_view, opaque as without_body};
 ghost use Rattle.gate_library.specs.Names.{index_of, is_one_of};
-ghost use Rattle.qasm_check.specs.Refusals.{gate_taken, in_body, name_taken_by, repeats_name};
+ghost use Rattle.qasm_check.specs.Known.{meaning};
+ghost use Rattle.qasm_check.specs.Refusals.{gate_taken, name_taken_by, repeats_name};
 ghost use Rattle.qasm_check.specs.State.{state};
 ghost use Rattle.qasm_check.specs.Steps.{bound_gate, item as bound_item};
 ghost use Rattle.qasm_check.specs.Verdicts.{IsStop, verdict};
@@ -16,7 +17,7 @@ use crate::act::{applies_opaque, number_of, params_differ, qubits_differ};
 use crate::expression::{any_foreign, formulas};
 use crate::indices::Indices;
 use crate::known::Known;
-use crate::meaning::names_register;
+use crate::meaning::{Meaning, names_register};
 use crate::refusal::CheckRefusal;
 use crate::stop::CheckStop;
 use gate_library::{BoundGate, Item, is_standard, names_repeat};
@@ -46,83 +47,24 @@ struct BodyFlaws {
     params: bool,
     /// A gate has another number of qubits.
     qubits: bool,
+    /// One qubit stands twice.
+    repeated: bool,
     /// A gate has no body of its own.
     opaque: bool,
 }
 
 /// Nothing is wrong.
 fn no_flaw() -> BodyFlaws
-    ensures { result ≡ record { unknown = false; register = false; params = false; qubits = false; opaque = false } }
+    ensures { result ≡ record { unknown = false; register = false; params = false; qubits = false; repeated = false; opaque = false } }
 {
     BodyFlaws {
         unknown: false,
         register: false,
         params: false,
         qubits: false,
+        repeated: false,
         opaque: false,
     }
-}
-
-/// What is wrong with an application of a body: its gate's name is looked up once.
-fn application_flaws<'a>(
-    known: &Known<'a>,
-    params: &Indices<'a>,
-    qubits: &Indices<'a>,
-    apply: &'a Apply,
-) -> BodyFlaws
-    ensures { result ≡ flaws_of (state known.now) params.now qubits.now (applied (application_tree apply.now)) }
-{
-    let found = known.meaning(apply.gate.as_bytes());
-    BodyFlaws {
-        unknown: found.is_none()
-            || is_foreign(qubits, apply.args.as_slice())
-            || any_foreign(params, &apply.angles),
-        register: names_register(found),
-        params: params_differ(known, found, apply),
-        qubits: qubits_differ(known, found, apply),
-        opaque: applies_opaque(known, found, apply),
-    }
-}
-
-/// What is wrong with an item of a body.
-fn item_flaws<'a>(
-    known: &Known<'a>,
-    params: &Indices<'a>,
-    qubits: &Indices<'a>,
-    item: &'a Stmt,
-) -> BodyFlaws
-    ensures { result ≡ flaws_of (state known.now) params.now qubits.now (action item.now) }
-{
-    match item {
-        Stmt::Apply(apply) => application_flaws(known, params, qubits, apply),
-        Stmt::Barrier { args } => {
-            let mut flaws = no_flaw();
-            flaws.unknown = is_foreign(qubits, args.as_slice());
-            flaws
-        }
-        _ => no_flaw(),
-    }
-}
-
-/// What is wrong with the items of a body.
-fn flaws<'a>(
-    known: &Known<'a>,
-    params: &Indices<'a>,
-    qubits: &Indices<'a>,
-    body: &'a [Stmt],
-) -> BodyFlaws
-    ensures { HasFlaws (state known.now) params.now qubits.now (map action body.now) result }
-{
-    let mut all = no_flaw();
-    'items: for item in body {
-        let one = item_flaws(known, params, qubits, item);
-        all.unknown |= one.unknown;
-        all.register |= one.register;
-        all.params |= one.params;
-        all.qubits |= one.qubits;
-        all.opaque |= one.opaque;
-    }
-    all
 }
 
 /// The names of arguments.
@@ -136,35 +78,146 @@ fn arg_names<'a>(alloc: Global, args: &'a [Arg]) -> Result<Vec<&'a [u8]>, AllocE
     Ok(names)
 }
 
-/// Whether two arguments are one name.
+/// Whether two arguments are one name; two are compared without a list.
 fn repeats<'a>(alloc: Global, apply: &'a Apply) -> Result<bool, AllocError>
     ensures { IfOk result (λ b. b ≡ repeats_name (application_tree apply.now)) }
 {
-    let names = arg_names(alloc, apply.args.as_slice())?;
+    let args = apply.args.as_slice();
+    if args.len() < 2 {
+        return Ok(false);
+    }
+    if args.len() == 2 {
+        return Ok(args[0].name.as_bytes() == args[1].name.as_bytes());
+    }
+    let names = arg_names(alloc, args)?;
     let repeats = names_repeat(alloc, &names)?;
     Ok(repeats)
 }
 
-/// Whether two arguments of an item are one name.
-fn is_repeating<'a>(alloc: Global, item: &'a Stmt) -> Result<bool, AllocError>
-    ensures { IfOk result (λ b. b ≡ in_body repeats_name (action item.now)) }
+/// The indices of arguments among the gate's qubits.
+fn qubit_indices<'a>(
+    alloc: Global,
+    qubits: &Indices<'a>,
+    args: &'a [Arg],
+) -> Result<Vec<usize>, AllocError>
+    ensures { IfOk result (λ v. v.items ≡ map (λ x. index_of qubits.now x.name) args.now) }
 {
-    match item {
-        Stmt::Apply(apply) => repeats(alloc, apply),
-        _ => Ok(false),
+    let mut list = Vec::with_capacity(alloc, args.len())?;
+    'each: for arg in args {
+        list.push(qubits.index(arg.name.as_bytes()))?;
+    }
+    Ok(list)
+}
+
+/// What is wrong with an application of a body; its gate's name was found as this, and this tells of its arguments.
+fn application_flaws<'a>(
+    known: &Known<'a>,
+    found: Option<Meaning>,
+    params: &Indices<'a>,
+    qubits: &Indices<'a>,
+    apply: &'a Apply,
+    repeated: bool,
+) -> BodyFlaws
+    requires found { found ≡ meaning (state known.now) apply.now.gate }
+    requires repeated { repeated ≡ repeats_name (application_tree apply.now) }
+    ensures { result ≡ flaws_of (state known.now) params.now qubits.now (applied (application_tree apply.now)) }
+{
+    BodyFlaws {
+        unknown: found.is_none()
+            || is_foreign(qubits, apply.args.as_slice())
+            || any_foreign(params, &apply.angles),
+        register: names_register(found),
+        params: params_differ(known, found, apply),
+        qubits: qubits_differ(known, found, apply),
+        repeated,
+        opaque: applies_opaque(known, found, apply),
     }
 }
 
-/// Whether two arguments of an item of the body are one name.
-fn any_repeating<'a>(alloc: Global, body: &'a [Stmt]) -> Result<bool, AllocError>
-    ensures { IfOk result (λ b. b ≡ list_any (in_body repeats_name) (map action body.now)) }
+/// An application of a body with its names bound, and what is wrong with it: its gate's name is looked up once.
+fn call<'a>(
+    alloc: Global,
+    known: &Known<'a>,
+    params: &Indices<'a>,
+    qubits: &Indices<'a>,
+    apply: &'a Apply,
+) -> Result<(BodyFlaws, Item), AllocError>
+    ensures flaws { IfOk result (λ p. p.0 ≡ flaws_of (state known.now) params.now qubits.now (applied (application_tree apply.now))) }
+    ensures item { IfOk result (λ p. item_view p.1 ≡ bound_item (state known.now) params.now qubits.now (applied (application_tree apply.now))) }
 {
-    'items: for item in body {
-        if is_repeating(alloc, item)? {
-            return Ok(true);
-        }
+    let found = known.meaning(apply.gate.as_bytes());
+    let repeated = repeats(alloc, apply)?;
+    let flaws = application_flaws(known, found, params, qubits, apply, repeated);
+    let item = Item::Call {
+        gate: number_of(found),
+        angles: formulas(alloc, params, &apply.angles)?,
+        qubits: qubit_indices(alloc, qubits, apply.args.as_slice())?,
+    };
+    Ok((flaws, item))
+}
+
+/// A barrier of a body, and what is wrong with it.
+fn barrier<'a>(qubits: &Indices<'a>, args: &'a [Arg]) -> (BodyFlaws, Item)
+    ensures flaws { result.0 ≡ record { unknown = list_any (λ x. not (is_one_of qubits.now x.name)) args.now; register = false; params = false; qubits = false; repeated = false; opaque = false } }
+    ensures item { item_view result.1 ≡ barrier_view }
+{
+    let mut flaws = no_flaw();
+    flaws.unknown = is_foreign(qubits, args);
+    (flaws, Item::Barrier)
+}
+
+/// An item of a body with its names bound, and what is wrong with it.
+fn item<'a>(
+    alloc: Global,
+    known: &Known<'a>,
+    params: &Indices<'a>,
+    qubits: &Indices<'a>,
+    item: &'a Stmt,
+) -> Result<(BodyFlaws, Item), AllocError>
+    ensures flaws { IfOk result (λ p. p.0 ≡ flaws_of (state known.now) params.now qubits.now (action item.now)) }
+    ensures item { IfOk result (λ p. item_view p.1 ≡ bound_item (state known.now) params.now qubits.now (action item.now)) }
+{
+    match item {
+        Stmt::Apply(apply) => call(alloc, known, params, qubits, apply),
+        Stmt::Barrier { args } => Ok(barrier(qubits, args.as_slice())),
+        _ => Ok((no_flaw(), Item::Barrier)),
     }
-    Ok(false)
+}
+
+/// What is wrong with the first of these or with the second.
+fn joined(all: BodyFlaws, one: BodyFlaws) -> BodyFlaws
+    ensures { result ≡ either_flaw all one }
+{
+    BodyFlaws {
+        unknown: all.unknown || one.unknown,
+        register: all.register || one.register,
+        params: all.params || one.params,
+        qubits: all.qubits || one.qubits,
+        repeated: all.repeated || one.repeated,
+        opaque: all.opaque || one.opaque,
+    }
+}
+
+/// The body with its names bound, and what is wrong with it.
+#[tactic(auto, using(crate::proofs::LoopLaws::tests))]
+fn items<'a>(
+    alloc: Global,
+    known: &Known<'a>,
+    params: &Indices<'a>,
+    qubits: &Indices<'a>,
+    body: &'a [Stmt],
+) -> Result<(BodyFlaws, Vec<Item>), AllocError>
+    ensures flaws { IfOk result (λ p. HasFlaws (state known.now) params.now qubits.now (map action body.now) p.0) }
+    ensures items { IfOk result (λ p. map item_view p.1.items ≡ map (bound_item (state known.now) params.now qubits.now) (map action body.now)) }
+{
+    let mut all = no_flaw();
+    let mut list = Vec::with_capacity(alloc, body.len())?;
+    'items: for it in body {
+        let (flaws, one) = item(alloc, known, params, qubits, it)?;
+        all = joined(all, flaws);
+        list.push(one)?;
+    }
+    Ok((all, list))
 }
 
 /// Puts names behind others.
@@ -175,15 +228,6 @@ fn add_names<'a>(list: &mut Vec<&'a [u8]>, names: &'a [Name]) -> Result<(), Allo
         list.push(name.as_bytes())?;
     }
     Ok(())
-}
-
-/// Names as slices.
-fn slices<'a>(alloc: Global, names: &'a [Name]) -> Result<Vec<&'a [u8]>, AllocError>
-    ensures { IfOk result (λ v. map (λ n. n.now) v.items ≡ names.now) }
-{
-    let mut list = Vec::with_capacity(alloc, names.len())?;
-    add_names(&mut list, names)?;
-    Ok(list)
 }
 
 /// The names of a gate's parameters and qubits.
@@ -219,98 +263,36 @@ fn is_taken<'a>(
     Ok(repeats)
 }
 
-/// The indices of arguments among the gate's qubits.
-fn qubit_indices<'a>(
-    alloc: Global,
-    qubits: &Indices<'a>,
-    args: &'a [Arg],
-) -> Result<Vec<usize>, AllocError>
-    ensures { IfOk result (λ v. v.items ≡ map (λ x. index_of qubits.now x.name) args.now) }
-{
-    let mut list = Vec::with_capacity(alloc, args.len())?;
-    'each: for arg in args {
-        list.push(qubits.index(arg.name.as_bytes()))?;
-    }
-    Ok(list)
-}
-
-/// An item of the body with its names bound.
-fn item<'a>(
-    alloc: Global,
-    known: &Known<'a>,
-    params: &Indices<'a>,
-    qubits: &Indices<'a>,
-    item: &'a Stmt,
-) -> Result<Item, AllocError>
-    ensures { IfOk result (λ i. item_view i ≡ bound_item (state known.now) params.now qubits.now (action item.now)) }
-{
-    match item {
-        Stmt::Apply(apply) => Ok(Item::Call {
-            gate: number_of(known.meaning(apply.gate.as_bytes())),
-            angles: formulas(alloc, params, &apply.angles)?,
-            qubits: qubit_indices(alloc, qubits, apply.args.as_slice())?,
-        }),
-        _ => Ok(Item::Barrier),
-    }
-}
-
-/// The body with its names bound.
-#[tactic(auto, using(crate::proofs::LoopLaws::tests))]
-fn items<'a>(
-    alloc: Global,
-    known: &Known<'a>,
-    params: &Indices<'a>,
-    qubits: &Indices<'a>,
-    body: &'a [Stmt],
-) -> Result<Vec<Item>, AllocError>
-    ensures { IfOk result (λ v. map item_view v.items ≡ map (bound_item (state known.now) params.now qubits.now) (map action body.now)) }
-{
-    let mut list = Vec::with_capacity(alloc, body.len())?;
-    'items: for it in body {
-        list.push(item(alloc, known, params, qubits, it)?)?;
-    }
-    Ok(list)
-}
-
-/// Tests a gate with a body.
+/// Tests a gate with a body, of which this is wrong.
 fn tested<'a>(
     alloc: Global,
     known: &Known<'a>,
-    params: &Indices<'a>,
-    qubits: &Indices<'a>,
     definition: &'a GateDef,
+    flaws: BodyFlaws,
 ) -> Result<(), CheckStop>
-    requires params { params.now ≡ definition.now.params.items }
-    requires qubits { qubits.now ≡ definition.now.qubits.items }
+    requires { HasFlaws (state known.now) definition.now.params.items definition.now.qubits.items (map action definition.now.body.items) flaws }
     ensures ok { OnOk result (verdict (state known.now) (declares (declaration definition.now)) ≡ None) }
     ensures err { IfErr result (IsStop (verdict (state known.now) (declares (declaration definition.now)))) }
 {
     if is_taken(alloc, known, definition)? {
         return Err(CheckStop::Refused(CheckRefusal::NameTaken));
     }
-    let BodyFlaws {
-        unknown,
-        register,
-        params,
-        qubits,
-        opaque,
-    } = flaws(known, params, qubits, &definition.body);
-    if unknown {
+    if flaws.unknown {
         return Err(CheckStop::Refused(CheckRefusal::UnknownName));
     }
-    if register {
+    if flaws.register {
         return Err(CheckStop::Refused(CheckRefusal::WrongKind));
     }
-    if params {
+    if flaws.params {
         return Err(CheckStop::Refused(CheckRefusal::ParamCount));
     }
-    if qubits {
+    if flaws.qubits {
         return Err(CheckStop::Refused(CheckRefusal::QubitCount));
     }
-    if any_repeating(alloc, &definition.body)? {
+    if flaws.repeated {
         return Err(CheckStop::Refused(CheckRefusal::RepeatedQubit));
     }
-    if opaque {
+    if flaws.opaque {
         return Err(CheckStop::Refused(CheckRefusal::OpaqueApplied));
     }
     Ok(())
@@ -325,13 +307,14 @@ pub fn gate<'a>(
     ensures ok { IfOk result (λ g. (verdict (state known.now) (declares (declaration definition.now)) ≡ None) × (gate_view g ≡ bound_gate (state known.now) (declaration definition.now))) }
     ensures err { IfErr result (IsStop (verdict (state known.now) (declares (declaration definition.now)))) }
 {
-    let params = Indices::of(alloc, slices(alloc, &definition.params)?)?;
-    let qubits = Indices::of(alloc, slices(alloc, &definition.qubits)?)?;
-    tested(alloc, known, &params, &qubits, definition)?;
+    let params = Indices::of(alloc, &definition.params)?;
+    let qubits = Indices::of(alloc, &definition.qubits)?;
+    let (flaws, body) = items(alloc, known, &params, &qubits, &definition.body)?;
+    tested(alloc, known, definition, flaws)?;
     Ok(BoundGate::Composed {
         params: definition.params.len(),
         qubits: definition.qubits.len(),
-        body: items(alloc, known, &params, &qubits, &definition.body)?,
+        body,
     })
 }
 

@@ -8,7 +8,7 @@ ghost use Rattle.gate_library.specs.Views.{formula as formula_view};
 ghost use Rattle.qasm_check.specs.Arguments.{knows as knows_all};
 
 use crate::indices::Indices;
-use gate_library::Formula;
+use gate_library::{Formula, FormulaSides};
 use qasm_parser::Expr;
 use std::alloc::{AllocError, Global};
 
@@ -51,13 +51,8 @@ pub fn bind<'a>(alloc: Global, params: &Indices<'a>, tree: &'a Expr) -> Result<F
         Expr::Binary { sign, sides } => {
             let left = bind(alloc, params, &sides.left)?;
             let right = bind(alloc, params, &sides.right)?;
-            let left = Box::new(alloc, left)?;
-            let right = Box::new(alloc, right)?;
-            Ok(Formula::Binary {
-                sign: *sign,
-                left,
-                right,
-            })
+            let sides = Box::new(alloc, FormulaSides { left, right })?;
+            Ok(Formula::Binary { sign: *sign, sides })
         }
     }
 }

@@ -8,7 +8,7 @@ ghost use Rattle.gate_library.specs.Operands.{wires_of};
 ghost use Rattle.gate_library.specs.Views.{gate as gate_view};
 ghost use Rattle.qasm_check.specs.Known.{fresh, meaning, with_gate, with_measured, with_register};
 ghost use Rattle.qasm_check.specs.Meanings.{names_gate};
-ghost use Rattle.qasm_check.specs.State.{mark, state};
+ghost use Rattle.qasm_check.specs.State.{state, tail};
 
 use crate::meaning::{Meaning, Register, names_gate};
 use gate_library::{BoundGate, Operand, gates, own_number, standard_names};
@@ -16,9 +16,8 @@ use std::alloc::{AllocError, Global};
 use std::collections::{BTreeMap, BTreeSet};
 
 /// A name's last bytes, up to eight, as one number.
-#[tactic(auto, using(crate::proofs::StateLaws::marks))]
-fn mark(name: &[u8]) -> u64
-    ensures { result ≡ mark name.now }
+fn tail(name: &[u8]) -> u64
+    ensures { result ≡ tail name.now }
 {
     let mut sum = 0u64;
     'bytes: for byte in name {
@@ -27,7 +26,7 @@ fn mark(name: &[u8]) -> u64
     sum
 }
 
-/// What the program's own names stand for, the gates by their numbers, and so on. Names lie in order of their marks first,
+/// What the program's own names stand for, the gates by their numbers, and so on. Names lie in order of their tails first,
 /// so that a look-up seldom reads the bytes of another name.
 #[derive(Drop)]
 pub struct Known<'a> {
@@ -58,7 +57,7 @@ impl<'a> Known<'a> {
     pub fn declared(&self, name: &'a [u8]) -> Option<Meaning>
         ensures value { result ≡ (state self.now).declared name.now }
     {
-        self.declared.get(&(mark(name), name)).copied()
+        self.declared.get(&(tail(name), name)).copied()
     }
 
     /// What a name stands for.
@@ -189,7 +188,7 @@ impl<'a> Known<'a> {
             size,
         };
         self.declared
-            .insert((mark(name), name), Meaning::Register(register))?;
+            .insert((tail(name), name), Meaning::Register(register))?;
         self.wires += size;
         Ok(())
     }
@@ -205,7 +204,7 @@ impl<'a> Known<'a> {
             size,
         };
         self.declared
-            .insert((mark(name), name), Meaning::Register(register))?;
+            .insert((tail(name), name), Meaning::Register(register))?;
         self.bits += size;
         Ok(())
     }
@@ -234,7 +233,7 @@ impl<'a> Known<'a> {
     {
         let number = self.gates.len();
         self.declared
-            .insert((mark(name), name), Meaning::Gate(number))?;
+            .insert((tail(name), name), Meaning::Gate(number))?;
         self.gates.push(gate)?;
         Ok(())
     }

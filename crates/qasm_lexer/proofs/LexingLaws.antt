@@ -22,7 +22,8 @@ use Rattle.qasm_lexer.specs.declared.Kind.TheVariants.{Whole, Real}
 use Rattle.qasm_lexer.specs.declared.Token.{Token}
 use Rattle.qasm_lexer.specs.declared.LexFault.{LexFault}
 use Rattle.qasm_lexer.specs.declared.LexFault.TheVariants.{BadByte, Number, NoMemory}
-use Rattle.qasm_lexer.proofs.TokenLaws.{joined, lexed_from-bad, lexed_from-lexeme, lexed_from-nil}
+use Rattle.qasm_lexer.specs.Steps.{joined}
+use Rattle.qasm_lexer.proofs.TokenLaws.{lexed_from-bad, lexed_from-lexeme, lexed_from-nil}
 use Rattle.qasm_lexer.proofs.KindLaws.{blank-is, blank-kept, kept-from, kind-is, lexeme-some, number-allowed, number-is, number-out, range-false, range-true}
 use Rattle.qasm_lexer.proofs.LexemeLaws.{Nothing, Taken, longest-len, next, no_lexeme, rest-is}
 

@@ -1,20 +1,21 @@
 -- Tokens that are told by their first byte.
 --   sign-plain, word-plain, whole-plain   each of these is the token at the front of a text
 --   plain-there      it stands at a place of a text
+--   nought-there     a nought at a place of a text, in front of digits behind which no point stands
 --   space-there      white space at a place of a text
-use Rattle.std.proofs.Common.{◌≡◌, ◌≢◌, inl, inr, ℕ, zero, suc, ◌+◌, ◌<◌, ◌≤◌, ◌==◌, ◌||◌, Bool, true, false, [], ◌∷◌, ◌++◌, if◌then◌else◌, pos, refl, sym, ap, ◌∙◌, subst, arith, length, length-drop, length-take-le, take, drop, append-nil, slice_index}
+use Rattle.std.proofs.Common.{◌≡◌, ◌≢◌, inl, inr, ℕ, zero, suc, ◌+◌, ◌<◌, ◌≤◌, ◌==◌, Bool, true, false, [], ◌∷◌, if◌then◌else◌, refl, sym, ap, ◌∙◌, subst, arith, length, length-take-le, take, drop, slice_index}
 use Rattle.std.specs.List.{prefix_len}
 use Rattle.std.specs.Char.{is_ascii_alphabetic, is_ascii_digit, is_ascii_lowercase, is_ascii_uppercase}
 use Rattle.std.proofs.lemmas.Bool.Decides.{Decides-eqb, nat_tests}
-use Rattle.std.proofs.lemmas.List.Folds.{length-prefix_len}
-use Rattle.angle_fraction.specs.Fraction.{Fraction, fraction, is_small, lowest}
-use Rattle.qasm_lexer.specs.Forms.{Bytes, Each, IsOfKind, IsWhole, is_space, is_word_byte}
-use Rattle.qasm_lexer.specs.Numbers.{begins_with, behind_point, front_digits, has_point, has_value, number}
-use Rattle.qasm_lexer.specs.Lexemes.{begins_number, form_len, is_blank, is_out_of_range, is_sign, is_stray, kind_of, lexeme_len, number_len}
+use Rattle.std.proofs.lemmas.List.{drop-drop}
+use Rattle.angle_fraction.specs.Fraction.{Fraction, is_small, lowest}
+use Rattle.qasm_lexer.specs.Forms.{Bytes, Each, IsOfKind, is_space, is_word_byte}
+use Rattle.qasm_lexer.specs.Numbers.{begins_with, behind_point, front_digits, has_value}
+use Rattle.qasm_lexer.specs.Lexemes.{begins_number, form_len, is_blank, is_out_of_range, is_sign, lexeme_len}
 use Rattle.qasm_lexer.specs.Lexed.{lexed_from, then_more}
 use Rattle.qasm_lexer.specs.Steps.{IsPlain}
 use Rattle.qasm_lexer.specs.declared.Kind.{Kind}
-use Rattle.qasm_lexer.specs.declared.Kind.TheVariants.{Word, Whole, Real, Text, Sign}
+use Rattle.qasm_lexer.specs.declared.Kind.TheVariants.{Word, Whole, Sign}
 use Rattle.qasm_lexer.specs.declared.plain.Plain.{Plain}
 use Rattle.qasm_lexer.proofs.ClassLaws.{each-ends, each-front, letter-word}
 use Rattle.qasm_lexer.proofs.FormLaws.{among0, form-number, letter-len}
@@ -148,6 +149,24 @@ front-at : (t : Bytes) (i : ℕ) → i < length t → drop i t ≡ slice_index t
 front-at [] i h = absurd (omega arith)
 front-at (b ∷ t) zero h = refl
 front-at (b ∷ t) (suc i) h = front-at t i (omega arith)
+
+after_nought : (n end i : ℕ) → i + (1 + n) ≡ end → suc i + n ≡ end
+after_nought n end i h = omega arith
+
+module _ (laws : LowestLaws) where
+  pub nought-there : (t : Bytes) (i end : ℕ) → i < length t → slice_index t i ≡ 48 → i + prefix_len is_ascii_digit (drop i t) ≡ end
+      → begins_with 46 (drop end t) ≡ false
+      → (i + 1 + prefix_len is_ascii_digit (drop (i + 1) t) ≡ end)
+      × (lexed_from i (drop i t) ≡ then_more (record { kind = Whole; from = i; to = i + 1 }) (lexed_from (i + 1) (drop (i + 1) t)))
+  nought-there t i end within is digits point =
+      let rest = drop (suc i) t in
+      let n = prefix_len is_ascii_digit rest in
+      let front : drop i t ≡ 48 ∷ rest = front-at t i within ∙ ap (λ b. b ∷ rest) is in
+      let more : suc i + n ≡ end = after_nought n end i (ap (λ (z : Bytes). i + prefix_len is_ascii_digit z) (sym front) ∙ digits) in
+      let behind : begins_with 46 (drop n rest) ≡ false =
+      ap (begins_with 46) (drop-drop n (suc i) t) ∙ ap (λ m. begins_with 46 (drop m t)) more ∙ point in
+      let next : suc i ≡ i + 1 = omega arith in
+      (subst (λ m. m + prefix_len is_ascii_digit (drop m t) ≡ end) next more, plain-there t (48 ∷ rest) i (record { kind = Whole; len = 1 }) (sym front) (nought-plain laws 48 n rest refl behind refl))
 
 space-front : (b : ℕ) (t : Bytes) → is_space b ≡ true → is_ascii_uppercase b ≡ false → lexeme_len (b ∷ t) ≡ 1
 unfolding form_len

@@ -4,12 +4,13 @@
 --   lexed_from-bad        no lexeme begins the text
 --   lexed_from-nil        no text
 --   bad_at, blank_at, number_at, token_there   what stands at a place of a text
---   joined                tokens before a list of tokens or its fault
-use Rattle.std.proofs.Common.{◌≡◌, ℕ, zero, suc, ◌+◌, ◌<◌, ◌≤◌, ◌==◌, true, false, List, [], ◌∷◌, ◌++◌, Option, Some, None, Ok, Err, Result, if◌then◌else◌, refl, sym, ap, ◌∙◌, arith, length, take, drop, append_assoc, length-take-le}
+--   joined-before, joined-nil   a token more that is read; none yet
+use Rattle.std.proofs.Common.{◌≡◌, ℕ, zero, suc, ◌+◌, ◌<◌, ◌≤◌, ◌==◌, true, false, List, [], ◌∷◌, Option, Some, None, Ok, Err, Result, if◌then◌else◌, refl, sym, ap, ◌∙◌, arith, length, take, drop, append_assoc, length-take-le}
 use Rattle.std.proofs.lemmas.List.{drop-drop, length-drop}
 use Rattle.qasm_lexer.specs.Forms.{Bytes}
 use Rattle.qasm_lexer.specs.Lexemes.{form_len, is_blank, is_out_of_range, kind_of, lexeme_len}
 use Rattle.qasm_lexer.specs.Lexed.{before, kept, lexed_from, lexed_within, then_more, with_lexeme}
+use Rattle.qasm_lexer.specs.Steps.{joined}
 use Rattle.qasm_lexer.specs.declared.Kind.{Kind}
 use Rattle.qasm_lexer.specs.declared.Token.{Token}
 use Rattle.qasm_lexer.specs.declared.LexFault.{LexFault}
@@ -102,10 +103,6 @@ token_there t rest lexeme place k kind e f some g le token fine h =
     ∙ ap (λ (x : Token). then_more x (lexed_from (place + k) (drop (place + k) t))) (λ i. record { kind = sym h i; from = place; to = place + long i })
 
 -- ---- the tokens that are read, and the others
-abbrev pub joined : List Token → Result (List Token) LexFault → Result (List Token) LexFault
-joined ts (Ok us) = Ok (ts ++ us)
-joined ts (Err e) = Err e
-
 pub joined-before : (ts : List Token) (k : Option Token) (r : Result (List Token) LexFault) → joined ts (before k r) ≡ joined (kept ts k) r
 joined-before ts None r = refl
 joined-before ts (Some k) (Ok us) = ap Ok (sym (append_assoc ts (k ∷ []) us))

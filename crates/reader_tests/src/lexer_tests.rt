@@ -52,6 +52,20 @@ fn tokens_of_texts(rt: HostRuntime) -> Result<(), Fail> {
         cut.as_slice(),
         [token(Kind::Real, 0, 5), token(Kind::Word, 5, 6)].as_slice()
     );
+
+    // zeros are numbers of their own, but for those before a point
+    let zeros = lex(rt.alloc(), b"(000120,00.)")?;
+    let tokens = [
+        token(Kind::Sign, 0, 1),
+        token(Kind::Whole, 1, 2),
+        token(Kind::Whole, 2, 3),
+        token(Kind::Whole, 3, 4),
+        token(Kind::Whole, 4, 7),
+        token(Kind::Sign, 7, 8),
+        token(Kind::Real, 8, 11),
+        token(Kind::Sign, 11, 12),
+    ];
+    assert_eq!(rt; zeros.as_slice(), tokens.as_slice());
     Ok(())
 }
 

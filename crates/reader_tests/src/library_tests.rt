@@ -47,12 +47,11 @@ fn write_angle(text: &mut Vec<u8>, params: &[u8], angle: &Formula) -> Result<(),
     match angle {
         Formula::Binary {
             sign: Binary::Div,
-            left,
-            right,
+            sides,
         } => {
-            write_signed(text, params, left)?;
+            write_signed(text, params, &sides.left)?;
             text.push(b'/')?;
-            write_part(text, params, right)
+            write_part(text, params, &sides.right)
         }
         _ => write_signed(text, params, angle),
     }
@@ -267,5 +266,16 @@ fn repeated_names(rt: HostRuntime) -> Result<(), Fail> {
     assert!(rt; !names_repeat(alloc, &names)?);
     names.push(b"a")?;
     assert!(rt; names_repeat(alloc, &names)?);
+
+    // one by one, and by a set from the ninth on
+    let letters = b"abcdefghijk";
+    let mut names: Vec<&[u8]> = Vec::new(alloc);
+    for k in 0..letters.len() {
+        names.push(&letters[k..k + 1])?;
+        assert!(rt; !names_repeat(alloc, &names)?);
+        names.push(b"a")?;
+        assert!(rt; names_repeat(alloc, &names)?);
+        names.pop();
+    }
     Ok(())
 }

@@ -1,5 +1,8 @@
-use Rattle.std.proofs.Common.{◌≡◌, ◌∙◌, sym, ap, arith, length, drop, length-drop, Ok, append-nil}
-use Rattle.qasm_lexer.proofs.TokenLaws.{joined, lexed_from-nil}
+use Rattle.std.proofs.Common.{◌≡◌, ◌∙◌, List, sym, ap, arith, length, drop, length-drop, Ok, append-nil}
+use Rattle.qasm_lexer.specs.Lexed.{lexed_from}
+use Rattle.qasm_lexer.specs.Steps.{joined}
+use Rattle.qasm_lexer.specs.declared.Token.{Token}
+use Rattle.qasm_lexer.proofs.TokenLaws.{joined-before, lexed_from-nil}
 use Rattle.qasm_lexer.proofs.LexingLaws.{each_token, lexed-tokens}
 use Rattle.qasm_lexer.proofs.reading.lex.Goals as goal
 
@@ -17,3 +20,25 @@ returns-clause-each c = each_token c.args.text.now c.lexemes.tokens.items (lexed
 
 pub returns-clause-lexemes : goal.returns-clause-lexemes
 returns-clause-lexemes c = lexed-tokens c.args.text.now c.lexemes.tokens.items (all_read c)
+
+pub lexemes-smaller : goal.lexemes-smaller
+lexemes-smaller c =
+    let read = c.in_ok-lexeme.ensures.lexeme in
+    let more = read.0 in
+    let behind = c.in_ok-to.ensures.further in
+    let past = c.past_space-place-in-lexemes.ensures.further in
+    let bound = c.past_space-place-in-lexemes.ensures.bound in
+    omega arith
+
+pub lexemes-preserved : goal.lexemes-preserved
+lexemes-preserved c =
+    let t = c.args.text.now in
+    let read = c.in_ok-lexeme.ensures.lexeme in
+    record {
+      same =
+          ap (joined c.keep_noughts.new.tokens.items) c.past_space-place-in-lexemes.ensures.same ∙ c.in_ok-to.ensures.same
+          ∙ ap (λ (ts : List Token). joined ts (lexed_from c.in_ok-lexeme.lexeme.to (drop c.in_ok-lexeme.lexeme.to t))) c.in_ok-keep.ensures.ok
+          ∙ sym (joined-before c.lexemes.tokens.items c.in_ok-lexeme.lexeme.token (lexed_from c.in_ok-lexeme.lexeme.to (drop c.in_ok-lexeme.lexeme.to t)))
+          ∙ ap (joined c.lexemes.tokens.items) (sym read.2) ∙ c.lexemes.invariant.same;
+      within = c.past_space-place-in-lexemes.ensures.bound;
+    }

@@ -1,6 +1,6 @@
 use Rattle.std.proofs.Common.{◌≡◌, ◌≤◌, ◌-◌, length, drop}
 use Rattle.qasm_lexer.specs.Lexed.{lexed, lexed_from}
-use Rattle.qasm_lexer.proofs.TokenLaws.{joined}
+use Rattle.qasm_lexer.specs.Steps.{joined}
 use Rattle.qasm_lexer.proofs.reading.lex.Given as goal
 
 abbrev pub invariant-lexemes : goal.invariant-lexemes

@@ -7,4 +7,4 @@ use Rattle.qasm_check.proofs.known.Known.add_bits.Goals as goal
 pub returns : goal.returns
 returns c =
     ap (λ (f : List ℕ → Option Meaning). record (state c.args.self.now) { declared = f; bits = c.args.self.now.bits + c.args.size })
-    (declared-with c.args.name.now _ c.mark.ensures c.args.self.now.declared c.insert.new.self _ c.in_ok-insert.ensures.updates)
+    (declared-with c.args.name.now _ c.tail.ensures c.args.self.now.declared c.insert.new.self _ c.in_ok-insert.ensures.updates)

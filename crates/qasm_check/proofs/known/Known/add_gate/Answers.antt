@@ -15,7 +15,7 @@ returns c = record {
   ok =
       let items = c.args.self.now.gates.items in
       let meant : named c.insert.new.self ≡ with c.args.name.now (Numbered c.len-number.result) (named c.args.self.now.declared) =
-      declared-with c.args.name.now _ c.mark.ensures c.args.self.now.declared c.insert.new.self _ c.in_ok-insert.ensures.updates in
+      declared-with c.args.name.now _ c.tail.ensures c.args.self.now.declared c.insert.new.self _ c.in_ok-insert.ensures.updates in
       let size : c.len-number.result ≡ length items = grind (arith, common_steps) in
       let number : c.len-number.result ≡ length (map gate items) = size ∙ sym (length-map items gate) in
       let pushed : map gate c.push.new.self.items ≡ map gate items ++ gate c.args.gate ∷ [] =

@@ -3,7 +3,7 @@ use Rattle.std.specs.List.{list_any}
 use Rattle.std.specs.Str.{bytes_eq}
 use Rattle.gate_library.specs.Names.{has_repeat}
 use Rattle.gate_library.specs.Views.{is_in}
-use Rattle.gate_library.proofs.repeats.names_repeat.Given as goal
+use Rattle.gate_library.proofs.repeats.many_repeat.Given as goal
 
 abbrev pub invariant-names : goal.invariant-names
 invariant-names l = record {

@@ -5,7 +5,7 @@ use Rattle.gate_library.specs.Names.{has_repeat}
 use Rattle.std.specs.Str.{bytes_eq}
 use Rattle.std.specs.Cmp.Lexicographic.{nat_list_eq_equiv}
 use Rattle.gate_library.proofs.RepeatLaws.{has_repeat-names, is_in-updates, key, repeat_found, repeat_none, set_more, was_false, was_true}
-use Rattle.gate_library.proofs.repeats.names_repeat.Goals as goal
+use Rattle.gate_library.proofs.repeats.many_repeat.Goals as goal
 
 same : Bor (List ℕ) → Bor (List ℕ) → Bool
 same x y = bytes_eq x.now y.now

@@ -1,8 +1,0 @@
-use Rattle.std.proofs.Common.{◌≡◌, false, take}
-use Rattle.std.specs.List.{list_any}
-use Rattle.qasm_parser.specs.Tree.{action}
-use Rattle.qasm_check.specs.Refusals.{in_body, repeats_name}
-use Rattle.qasm_check.proofs.body.any_repeating.Given as goal
-
-abbrev pub invariant-items : goal.invariant-items
-invariant-items l = list_any (λ s. in_body repeats_name (action s)) (take l.item-index l.body) ≡ false
