@@ -122,6 +122,15 @@ def mixed(wires, kinds, operations=MOST_OPERATIONS):
     return "\n".join(lines)
 
 
+def layered(wires=64, cnots=1_000):
+    """Layers of CNOTs drawn as in `mixed`, with H on all wires between them."""
+    count = MOST_OPERATIONS // (cnots + wires)
+    *begins, body = mixed(wires, ["cx"], count * cnots).split("\n", 3)
+    lines = body.split("\n")
+    layers = ("\n".join(lines[it : it + cnots]) for it in range(0, len(lines), cnots))
+    return "\n".join([*begins, "\nh q;\n".join(layers)])
+
+
 def barred(wires=16, operations=8_000):
     """CNOTs drawn as in `mixed`, each with a barrier behind it."""
     return mixed(wires, ["cx"], operations).replace(";\ncx", ";\nbarrier q;\ncx")
@@ -249,6 +258,7 @@ KINDS = [
     Kind("CNOTs and T gates", STAGES, 0, lambda: mixed(64, ["cx", "t"])),
     Kind("H, CNOTs and T gates", STAGES, 0, lambda: mixed(64, ["cx", "cx", "t", "h"])),
     Kind("CNOTs on a line of 64", ROUTE, 0, lambda: mixed(64, ["cx"]), lambda: line(64)),
+    Kind("CNOTs in layers on a line of 64", ROUTE, 0, layered, lambda: line(64)),
     Kind("CNOTs on a grid of 64", (*ROUTE, "--trivial"), 0, lambda: mixed(64, ["cx", "cx", "t"]), lambda: grid(8, 8)),
     Kind("CNOTs on a grid of 256", ROUTE, 0, lambda: mixed(256, ["cx", "cx", "t"]), lambda: grid(16, 16)),
     Kind("a device of nested arrays", ROUTE, 4, lambda: ONE, lambda: long_device("[", "other = ")),
