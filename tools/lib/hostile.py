@@ -2,8 +2,8 @@
 
 `KINDS` lists them: what a text is called, the words of the command, the status that it must end with, what makes the program's
 text, and what makes the device's or the target's where there is one. Each text is as long as it may be, or has as many
-operations, but for the traces of H in turn with CNOTs: for a `sums` each H takes as long as its label's row, so time grows
-with the square of the H on one wire.
+operations, but for two kinds: the traces of H in turn with CNOTs, since for a `sums` each H takes as long as its label's row
+and time grows with the square of the H on one wire; and texts under a long name, of which `route` writes gigabytes.
 """
 
 import dataclasses
@@ -88,10 +88,19 @@ def sums():
     return ONE + "u1({}) q[0];\n".format("+".join(["pi/4"] * 60)) * 12_000
 
 
-def underscores(operations):
-    """A register that is written with 1,024 underscores behind its name, since classical ones have all others."""
-    lines = [f"creg q{'_' * i}[1];" for i in range(1_024)]
-    return HEAD + "\n".join([*lines, "qreg w[1];", *["h w[0];", "t w[0];"] * (operations // 2)])
+def underscores(body):
+    """A program on a register w that is written with 1,024 underscores behind its name, since classical ones have all others."""
+    return HEAD + "".join(f"creg q{'_' * i}[1];\n" for i in range(1_024)) + body
+
+
+def few_underscores(operations):
+    """H and T in turn on one wire, under that name."""
+    return underscores("qreg w[1];\n" + "h w[0];\nt w[0];\n" * (operations // 2))
+
+
+def many_underscores():
+    """CNOTs in layers on 64 wires under that name, so many that `route` writes 5 GB on a line."""
+    return underscores(layered(layers=33).removeprefix(HEAD).replace("q[", "w[").replace("h q;", "h w;"))
 
 
 def levels(count):
@@ -122,13 +131,13 @@ def mixed(wires, kinds, operations=MOST_OPERATIONS):
     return "\n".join(lines)
 
 
-def layered(wires=64, cnots=1_000):
-    """Layers of CNOTs drawn as in `mixed`, with H on all wires between them."""
-    count = MOST_OPERATIONS // (cnots + wires)
+def layered(wires=64, cnots=1_000, layers=None):
+    """Layers of CNOTs drawn as in `mixed`, with H on all wires between them, as many as there may be or as are asked for."""
+    count = layers or MOST_OPERATIONS // (cnots + wires)
     *begins, body = mixed(wires, ["cx"], count * cnots).split("\n", 3)
     lines = body.split("\n")
-    layers = ("\n".join(lines[it : it + cnots]) for it in range(0, len(lines), cnots))
-    return "\n".join([*begins, "\nh q;\n".join(layers)])
+    parts = ("\n".join(lines[it : it + cnots]) for it in range(0, len(lines), cnots))
+    return "\n".join([*begins, "\nh q;\n".join(parts)])
 
 
 def barred(wires=16, operations=8_000):
@@ -247,8 +256,9 @@ KINDS = [
     Kind("gates that double, each angle another", CHECK, 0, angles_apart),
     Kind("gates that double, each angle another, and a half", CHECK, 0, lambda: angles_apart("1/2")),
     Kind("a gate on 129 operands", CHECK, 0, broad),
-    Kind("1,024 underscores", OPT, 0, lambda: underscores(MOST_OPERATIONS)),
-    Kind("1,024 underscores", ROUTE, 0, lambda: underscores(MOST_OPERATIONS // 4), lambda: line(64)),
+    Kind("1,024 underscores", OPT, 0, lambda: few_underscores(MOST_OPERATIONS)),
+    Kind("1,024 underscores", ROUTE, 0, lambda: few_underscores(MOST_OPERATIONS // 4), lambda: line(64)),
+    Kind("1,024 underscores, CNOTs in layers", ROUTE, 0, many_underscores, lambda: line(64)),
     Kind("a nest", OPT, 0, nested),
     Kind("CNOTs there and back", OPT, 0, there_and_back),
     Kind("8,000 gates in levels", OPT, 0, lambda: levels(1_000)),

@@ -2,6 +2,7 @@ import contextlib
 import io
 import json
 import os
+import pathlib
 import runpy
 import subprocess
 import sys
@@ -35,7 +36,7 @@ class Bench(ToolTest):
         path = os.path.join(self.room, "plot.svg")
         status, out, err = self.bench("/bin/true", "--plot", path)
         self.assertEqual((status, err), (1, ""))
-        self.assertIn("wrong: opt, 1000 gates: ", out)
+        self.assertIn("wrong: opt on 20 wires, 2000 gates: ", out)
         self.assertIn("wrong: routing on grid_8x8, 2000 gates: placements\n", out)
         self.assertIn("wrong: routing on grid_4x5, 65536 gates: placements\n", out)
         self.assertIn("wrong: route --trace, 65536 gates: the trace begins and ends with [] in place of", out)
@@ -51,7 +52,7 @@ class Bench(ToolTest):
     def test_a_program_that_fails(self):
         status, out, err = self.bench("/bin/false")
         self.assertEqual((status, err), (1, ""))
-        self.assertIn("wrong: opt, 65536 gates: status [1]\n", out)
+        self.assertIn("wrong: opt on 64 wires, 65536 gates: status [1]\n", out)
         self.assertIn("wrong: verify, 20000 gates: status [1]\n", out)
 
     def test_no_program(self):
@@ -157,6 +158,17 @@ class Bench(ToolTest):
                 if it.words == hostile.VERIFY and it.status == 1:
                     self.assertRegex(checked(it.text(), it.target()), "^no, line ", it.name)
 
+    def test_instructions(self):
+        with mock.patch("shutil.which", lambda name: None), self.assertRaises(SystemExit) as ended:
+            with contextlib.redirect_stderr(io.StringIO()) as told:
+                self.parts["instructions"]("/bin/true")
+        self.assertEqual((ended.exception.code, told.getvalue()), (2, "bench: there is no valgrind\n"))
+        counting = self.file("valgrind", '#!/bin/sh\necho "==1== I   refs:      1,234" > "${2#--log-file=}"\n')
+        os.chmod(counting, 0o755)
+        self.file("in", "")
+        with mock.patch.dict(os.environ, PATH=f"{self.room}:{os.environ['PATH']}"):
+            self.assertEqual(self.parts["instructions_of"](["/bin/true"], pathlib.Path(self.room)), (0, 1_234))
+
     def test_a_hostile_text_and_its_files(self):
         path = self.file("program", '#!/bin/sh\ncat "$2" "$3"\n[ "$1" = check ]\n')
         os.chmod(path, 0o755)
@@ -166,4 +178,4 @@ class Bench(ToolTest):
         with mock.patch.object(hostile, "KINDS", kinds), contextlib.redirect_stdout(io.StringIO()) as told:
             wrong = self.parts["hostile_texts"](path)
         self.assertEqual(wrong, ["verify of a text: status 1 in place of 0", "verify of a text: status 1 in place of 1"])
-        self.assertIn(" 12           12\n", told.getvalue())
+        self.assertIn(" 12            12\n", told.getvalue())

@@ -13,6 +13,7 @@
 //! A circuit that isn't linked answers the same, by a look along its slots.
 #![tactic(auto)]
 
+mod entry;
 pub mod laws;
 mod links;
 mod marks;
@@ -28,6 +29,7 @@ ghost use Rattle.circuit_list.specs.Gates.{IsFine, first_wire, h_count, is_cx, i
 ghost use Rattle.circuit_list.specs.Slots.{Ascend, IsFirstFrom, IsLive, IsNextOn, IsPrevOn, NoneBefore, NoneBehind, NoneFrom, is_on_at, place_of};
 ghost use Rattle.unitary_model.specs.Operations.{cx_count, t_count};
 
+use entry::Entry;
 pub use slot::Slot;
 use std::alloc::{AllocError, Global};
 use std::marker::Model;
@@ -70,17 +72,17 @@ impl Gate {
 /// A slot whose gate was taken out stays, empty, and takes room and time until [`Circuit::compact`], behind which slots of
 /// before mean nothing: counting and copying go through all slots, and so does `compact` itself, in linear time.
 ///
-/// A circuit begins as a plain list of slots, 16 bytes each. The number of gates and the gate in a slot are at hand, and where no
+/// A circuit begins as a plain list of slots, 12 bytes each. The number of gates and the gate in a slot are at hand, and where no
 /// slot is empty so are [`Circuit::place`], [`Circuit::slot`], [`Circuit::gate`], [`Circuit::after`], [`Circuit::before`] and
 /// [`Circuit::slot_from`]. Else `place`, `slot` and `gate` look along the slots before the one, and `after`, `before` and
 /// `slot_from` along the empty ones up to the answer. [`Circuit::next_on`] and [`Circuit::prev_on`] look along all slots up to the
 /// answer.
 ///
-/// [`Circuit::link`] makes links, a tree over the slots and marks of the wires: 24 bytes more a slot, 40 in all. With them `place`,
+/// [`Circuit::link`] makes links, a tree over the slots and marks of the wires: 24 bytes more a slot, 36 in all. With them `place`,
 /// `slot` and `gate` take as many steps as the logarithm of the number of slots, and the others as many as the logarithm of
 /// the number of slots between the given one and the answer. `next_on` and `prev_on` find an answer up to 192 slots away in at
 /// most four words of bits, of which there are eight bytes a slot. In return an edit takes as many steps as the logarithm, and
-/// a push now and then tells all slots anew, which spreads over the pushes before it.
+/// a push now and then tells all slots anew, which spreads over the pushes before it. They go with [`Circuit::unlink`].
 #[derive(Drop)]
 pub struct Circuit {
     wires: u32,
@@ -311,6 +313,13 @@ impl Circuit {
         self.tree.link()
     }
 
+    /// Drops the links. What contracts see of the circuit stays.
+    pub fn unlink(&mut self)
+        ensures same { self.new ≡ self.old }
+    {
+        self.tree.unlink();
+    }
+
     /// Drops the slots whose gates were taken out; where there is none, nothing changes. Else the gates get new slots, and
     /// those of before mean nothing any more. After want of memory the circuit is as it was.
     pub fn compact(&mut self) -> Result<(), AllocError>
@@ -369,28 +378,28 @@ impl Circuit {
     }
 }
 
-fn holds_h(entry: Option<Gate>) -> bool
+fn holds_h(entry: Entry) -> bool
     ensures { result ≡ holds is_h entry }
 {
-    match entry {
+    match entry.gate() {
         Some(gate) => is_h(gate),
         None => false,
     }
 }
 
-fn holds_cx(entry: Option<Gate>) -> bool
+fn holds_cx(entry: Entry) -> bool
     ensures { result ≡ holds is_cx entry }
 {
-    match entry {
+    match entry.gate() {
         Some(gate) => is_cx(gate),
         None => false,
     }
 }
 
-fn holds_t(entry: Option<Gate>) -> bool
+fn holds_t(entry: Entry) -> bool
     ensures { result ≡ holds is_t entry }
 {
-    match entry {
+    match entry.gate() {
         Some(gate) => is_t(gate),
         None => false,
     }

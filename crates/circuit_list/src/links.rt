@@ -13,6 +13,7 @@ ghost use Rattle.circuit_list.specs.Marks.{IsMarked};
 ghost use Rattle.circuit_list.specs.Tree.{IsTree};
 
 use crate::Gate;
+use crate::entry::Entry;
 use crate::marks::{make_marks, put_marks};
 use crate::nodes::{Node, add, refresh, tell};
 use std::alloc::{AllocError, Global};
@@ -28,7 +29,7 @@ pub(crate) struct Links {
 
 impl Links {
     /// Sees to it that there is room for one slot more.
-    fn make_room(&mut self, gates: &[Option<Gate>]) -> Result<(), AllocError>
+    fn make_room(&mut self, gates: &[Entry]) -> Result<(), AllocError>
         requires { IsLinks gates.now self.old }
         ensures links { IsLinks gates.now self.new }
         ensures ready { OnOk result (IsReady gates.now self.new) }
@@ -38,23 +39,17 @@ impl Links {
     }
 
     /// Links the last slot, which came behind the others with a gate.
-    fn push(&mut self, gates: &[Option<Gate>], gate: Gate)
+    fn push(&mut self, gates: &[Entry], gate: Gate)
         requires { (es : List (Option Gate)) × (IsReady es self.old × (gates.now ≡ es ++ Some gate ∷ [])) }
         ensures { IsLinks gates.now self.new }
     {
         let slot = gates.len() - 1;
-        put_marks(&mut self.marks, slot, Some(gate), true);
+        put_marks(&mut self.marks, slot, Entry::of(Some(gate)), true);
         add(gates, &mut self.nodes, slot, gate);
     }
 
     /// Links a slot anew whose gate was changed.
-    fn set(
-        &mut self,
-        gates: &[Option<Gate>],
-        slot: usize,
-        before: Option<Gate>,
-        after: Option<Gate>,
-    )
+    fn set(&mut self, gates: &[Entry], slot: usize, before: Entry, after: Entry)
         requires within { slot < length gates.now }
         requires changed { (es : List (Option Gate)) × (IsLinks es self.old × ((entry es slot ≡ before) × (gates.now ≡ slice_set es slot after))) }
         ensures { IsLinks gates.now self.new }
@@ -66,7 +61,7 @@ impl Links {
 }
 
 /// The links of some slots, with no more nodes than these need.
-pub(crate) fn planted(alloc: Global, gates: &[Option<Gate>]) -> Result<Links, AllocError>
+pub(crate) fn planted(alloc: Global, gates: &[Entry]) -> Result<Links, AllocError>
     ensures ok { IfOk result (IsLinks gates.now) }
 {
     let mut nodes = Vec::new(alloc);
@@ -89,7 +84,7 @@ pub(crate) fn planted(alloc: Global, gates: &[Option<Gate>]) -> Result<Links, Al
 pub(crate) fn planted_if(
     wanted: bool,
     alloc: Global,
-    gates: &[Option<Gate>],
+    gates: &[Entry],
 ) -> Result<Option<Links>, AllocError>
     ensures ok { IfOk result (λ l. IfSome l (IsLinks gates.now)) }
 {
@@ -102,7 +97,7 @@ pub(crate) fn planted_if(
 }
 
 /// Sees to it that there is room for one slot more.
-pub(crate) fn make_room(links: &mut Option<Links>, gates: &[Option<Gate>]) -> Result<(), AllocError>
+pub(crate) fn make_room(links: &mut Option<Links>, gates: &[Entry]) -> Result<(), AllocError>
     requires linked { IfSome links.old (IsLinks gates.now) }
     ensures links { IfSome links.new (IsLinks gates.now) }
     ensures ready { OnOk result (IfSome links.new (IsReady gates.now)) }
@@ -114,7 +109,7 @@ pub(crate) fn make_room(links: &mut Option<Links>, gates: &[Option<Gate>]) -> Re
 }
 
 /// Links the last slot, which came behind the others with a gate.
-pub(crate) fn link_last(links: &mut Option<Links>, gates: &[Option<Gate>], gate: Gate)
+pub(crate) fn link_last(links: &mut Option<Links>, gates: &[Entry], gate: Gate)
     requires ready { (es : List (Option Gate)) × (IfSome links.old (IsReady es) × (gates.now ≡ es ++ Some gate ∷ [])) }
     ensures linked { IfSome links.new (IsLinks gates.now) }
 {
@@ -127,10 +122,10 @@ pub(crate) fn link_last(links: &mut Option<Links>, gates: &[Option<Gate>], gate:
 /// Links a slot anew whose gate was changed.
 pub(crate) fn link_anew(
     links: &mut Option<Links>,
-    gates: &[Option<Gate>],
+    gates: &[Entry],
     slot: usize,
-    before: Option<Gate>,
-    after: Option<Gate>,
+    before: Entry,
+    after: Entry,
 )
     requires within { slot < length gates.now }
     requires changed { (es : List (Option Gate)) × (IfSome links.old (IsLinks es) × ((entry es slot ≡ before) × (gates.now ≡ slice_set es slot after))) }
@@ -155,11 +150,7 @@ fn double(nodes: &mut Vec<Node>) -> Result<(), AllocError>
 }
 
 /// Sees to it that there are enough nodes for one slot more.
-fn make_nodes(
-    gates: &[Option<Gate>],
-    nodes: &mut Vec<Node>,
-    height: &mut u32,
-) -> Result<(), AllocError>
+fn make_nodes(gates: &[Entry], nodes: &mut Vec<Node>, height: &mut u32) -> Result<(), AllocError>
     requires { IsTree height.old gates.now nodes.old.items }
     ensures tree { IsTree height.new gates.now nodes.new.items }
     ensures room { OnOk result (length gates.now < length nodes.new.items) }
@@ -174,7 +165,7 @@ fn make_nodes(
 }
 
 /// The marks of some slots.
-fn marked(alloc: Global, gates: &[Option<Gate>]) -> Result<Vec<u64>, AllocError>
+fn marked(alloc: Global, gates: &[Entry]) -> Result<Vec<u64>, AllocError>
     ensures { IfOk result (λ m. IsMarked gates.now m.items) }
 {
     let mut marks = Vec::new(alloc);

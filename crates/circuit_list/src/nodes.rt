@@ -9,6 +9,7 @@ ghost use Rattle.circuit_list.specs.Gates.{is_on};
 ghost use Rattle.circuit_list.specs.Tree.{IsJoined, Lacks, has_any, join, leaf, meets, node_at, wire_bit, wires_of};
 
 use crate::Gate;
+use crate::entry::Entry;
 
 /// What stands in some slots: the number of gates and the wires that they are on, one bit for all wires that differ by a
 /// multiple of 64.
@@ -54,10 +55,10 @@ pub(crate) fn is_on(gate: Gate, wire: u32) -> bool
     }
 }
 
-pub(crate) fn leaf(entry: Option<Gate>) -> Node
+pub(crate) fn leaf(entry: Entry) -> Node
     ensures value { result ≡ leaf entry }
 {
-    match entry {
+    match entry.gate() {
         Some(gate) => Node {
             count: 1,
             wires: wires_of(gate),
@@ -67,25 +68,25 @@ pub(crate) fn leaf(entry: Option<Gate>) -> Node
 }
 
 /// Whether a slot's gate is on one of some wires.
-pub(crate) fn meets(entry: Option<Gate>, wires: u64) -> bool
+pub(crate) fn meets(entry: Entry, wires: u64) -> bool
     ensures value { result ≡ meets wires entry }
 {
     has_any(leaf(entry).wires, wires)
 }
 
 /// The gate in a slot, and none behind the last slot.
-pub(crate) fn entry(gates: &[Option<Gate>], slot: usize) -> Option<Gate>
+pub(crate) fn entry(gates: &[Entry], slot: usize) -> Entry
     ensures value { result ≡ entry gates.now slot }
 {
     if slot < gates.len() {
         gates[slot]
     } else {
-        None
+        Entry::of(None)
     }
 }
 
 /// A node; from the number of nodes on, a slot.
-pub(crate) fn node_at(gates: &[Option<Gate>], nodes: &[Node], node: usize) -> Node
+pub(crate) fn node_at(gates: &[Entry], nodes: &[Node], node: usize) -> Node
     ensures value { result ≡ node_at gates.now nodes.now node }
 {
     if node < nodes.len() {
@@ -105,7 +106,7 @@ fn join(left: Node, right: Node) -> Node
 }
 
 /// What a node tells, from the two below it.
-fn joined(gates: &[Option<Gate>], nodes: &[Node], node: usize) -> Node
+fn joined(gates: &[Entry], nodes: &[Node], node: usize) -> Node
     requires { node < length nodes.now }
     ensures { result ≡ join (node_at gates.now nodes.now (2 * node)) (node_at gates.now nodes.now (2 * node + 1)) }
 {
@@ -116,7 +117,7 @@ fn joined(gates: &[Option<Gate>], nodes: &[Node], node: usize) -> Node
 }
 
 /// Tells the nodes above a slot anew.
-pub(crate) fn refresh(gates: &[Option<Gate>], nodes: &mut [Node], slot: usize)
+pub(crate) fn refresh(gates: &[Entry], nodes: &mut [Node], slot: usize)
     requires within { slot < length nodes.old }
     requires others { (j : ℕ) → 0 < j → j < length nodes.old → j ≢ (length nodes.old + slot) / 2 → IsJoined gates.now nodes.old j }
     ensures new { (j : ℕ) → 0 < j → j < length nodes.old → IsJoined gates.now nodes.new j }
@@ -129,13 +130,13 @@ pub(crate) fn refresh(gates: &[Option<Gate>], nodes: &mut [Node], slot: usize)
 }
 
 /// Adds a gate, which a slot has got, to the nodes above the slot.
-pub(crate) fn add(gates: &[Option<Gate>], nodes: &mut [Node], slot: usize, gate: Gate)
+pub(crate) fn add(gates: &[Entry], nodes: &mut [Node], slot: usize, gate: Gate)
     requires within { slot < length nodes.old }
     requires others { (j : ℕ) → 0 < j → j < length nodes.old → j ≢ (length nodes.old + slot) / 2 → IsJoined gates.now nodes.old j }
     requires lacks { 0 < (length nodes.old + slot) / 2 → Lacks (Some gate) gates.now nodes.old ((length nodes.old + slot) / 2) }
     ensures new { (j : ℕ) → 0 < j → j < length nodes.old → IsJoined gates.now nodes.new j }
 {
-    let more = leaf(Some(gate));
+    let more = leaf(Entry::of(Some(gate)));
     let mut node = (nodes.len() + slot) / 2;
     'up: while node > 0 {
         nodes[node] = join(nodes[node], more);
@@ -144,7 +145,7 @@ pub(crate) fn add(gates: &[Option<Gate>], nodes: &mut [Node], slot: usize, gate:
 }
 
 /// Tells all nodes anew.
-pub(crate) fn tell(gates: &[Option<Gate>], nodes: &mut [Node])
+pub(crate) fn tell(gates: &[Entry], nodes: &mut [Node])
     ensures len { length nodes.new ≡ length nodes.old }
     ensures joined { (j : ℕ) → 0 < j → j < length nodes.new → IsJoined gates.now nodes.new j }
 {

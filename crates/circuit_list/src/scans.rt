@@ -4,31 +4,31 @@ ghost use Rattle.std.specs.Prelude.{◌≡◌, ◌+◌, ◌<◌, MatchOption, le
 ghost use Rattle.circuit_list.specs.Entries.{entry, is_live, rank};
 ghost use Rattle.circuit_list.specs.Tree.{IsFirstOn, IsLastOn, NoneOn};
 
-use crate::Gate;
-use crate::nodes::{leaf, meets};
+use crate::entry::Entry;
+use crate::nodes::{entry, leaf, meets};
 
 /// The number of gates in the slots before one.
-pub(crate) fn count_before(gates: &[Option<Gate>], slot: usize) -> usize
+pub(crate) fn count_before(gates: &[Entry], slot: usize) -> usize
     requires within { slot < length gates.now }
     ensures value { result ≡ rank gates.now slot }
 {
     let _gates = gates.len();
     let mut count = 0;
     'slots: for before in 0..slot {
-        count += leaf(gates[before]).count;
+        count += leaf(entry(gates, before)).count;
     }
     count
 }
 
 /// The slot with a gate, with so many gates in the slots before it.
-pub(crate) fn scan_to(gates: &[Option<Gate>], place: usize) -> usize
+pub(crate) fn scan_to(gates: &[Entry], place: usize) -> usize
     requires within { place < rank gates.now (length gates.now) }
     ensures live { is_live (entry gates.now result) ≡ true }
     ensures rank { rank gates.now result ≡ place }
 {
     let mut rest = place;
     'slots: for slot in 0..gates.len() {
-        if gates[slot].is_some() {
+        if entry(gates, slot).is_some() {
             if rest == 0 {
                 return slot;
             }
@@ -39,7 +39,7 @@ pub(crate) fn scan_to(gates: &[Option<Gate>], place: usize) -> usize
 }
 
 /// The first slot behind one with a gate on some wires.
-pub(crate) fn scan_behind(gates: &[Option<Gate>], slot: usize, wires: u64) -> Option<usize>
+pub(crate) fn scan_behind(gates: &[Entry], slot: usize, wires: u64) -> Option<usize>
     requires within { slot < length gates.now }
     ensures found { MatchOption result (NoneOn wires gates.now (slot + 1) (length gates.now)) (IsFirstOn wires gates.now (slot + 1)) }
 {
@@ -52,7 +52,7 @@ pub(crate) fn scan_behind(gates: &[Option<Gate>], slot: usize, wires: u64) -> Op
 }
 
 /// The last slot before one with a gate on some wires.
-pub(crate) fn scan_before(gates: &[Option<Gate>], slot: usize, wires: u64) -> Option<usize>
+pub(crate) fn scan_before(gates: &[Entry], slot: usize, wires: u64) -> Option<usize>
     requires within { slot < length gates.now }
     ensures found { MatchOption result (NoneOn wires gates.now 0 slot) (IsLastOn wires gates.now slot) }
 {

@@ -8,6 +8,7 @@ ghost use Rattle.circuit_list.specs.OnWire.{IsFirstGateOn, IsLastGateOn, NoGateO
 ghost use Rattle.circuit_list.specs.Tree.{IsFirstOn, IsLastOn, NoneOn, any_wire, leaf, wire_bit};
 
 use crate::Gate;
+use crate::entry::Entry;
 use crate::links::{Links, link_anew, link_last, make_room, planted, planted_if};
 use crate::marks::{near_before, near_behind};
 use crate::nodes::{entry, is_on, wire_bit};
@@ -22,7 +23,7 @@ const ANY_WIRE: u64 = u64::MAX;
 /// A list of slots, the number of gates in them, and the links once they are made.
 #[derive(Drop)]
 pub(crate) struct Tree {
-    gates: Vec<Option<Gate>>,
+    gates: Vec<Entry>,
     count: usize,
     links: Option<Links>,
 }
@@ -75,8 +76,15 @@ impl Tree {
         Ok(())
     }
 
+    /// Drops the links.
+    pub(crate) fn unlink(&mut self)
+        ensures new { self.new ≡ self.old }
+    {
+        self.links = None;
+    }
+
     /// The slots in order.
-    pub(crate) fn entries(&self) -> &[Option<Gate>]
+    pub(crate) fn entries(&self) -> &[Entry]
         ensures value { result.now ≡ self.now }
     {
         &self.gates
@@ -94,7 +102,7 @@ impl Tree {
         requires live { is_live (entry self.now slot) ≡ true }
         ensures value { entry self.now slot ≡ Some result }
     {
-        match entry(&self.gates, slot) {
+        match entry(&self.gates, slot).gate() {
             Some(gate) => gate,
             None => unreachable!(),
         }
@@ -107,7 +115,7 @@ impl Tree {
     {
         self.gates.reserve(1)?;
         make_room(&mut self.links, &self.gates)?;
-        self.gates.push(Some(gate))?;
+        self.gates.push(Entry::of(Some(gate)))?;
         let _slots = self.gates.len();
         self.count += 1;
         link_last(&mut self.links, &self.gates, gate);
@@ -115,12 +123,13 @@ impl Tree {
     }
 
     /// Puts a gate or none into a slot.
-    pub(crate) fn set(&mut self, slot: usize, entry: Option<Gate>)
+    pub(crate) fn set(&mut self, slot: usize, gate: Option<Gate>)
         requires within { slot < length self.old }
-        ensures new { self.new ≡ slice_set self.old slot entry }
+        ensures new { self.new ≡ slice_set self.old slot gate }
     {
         let _slots = self.gates.len();
         let before = self.gates[slot];
+        let entry = Entry::of(gate);
         self.gates[slot] = entry;
         self.count = recounted(self.count, before, entry);
         link_anew(&mut self.links, &self.gates, slot, before, entry);
@@ -299,12 +308,12 @@ impl Tree {
 }
 
 /// The number of gates behind a change in one slot.
-fn recounted(count: usize, before: Option<Gate>, after: Option<Gate>) -> usize
+fn recounted(count: usize, before: Entry, after: Entry) -> usize
     requires there { (leaf before).count ≤ count }
     requires count_limit { count + (leaf after).count < (leaf before).count + 2 ^ 64 }
     ensures { result + (leaf before).count ≡ count + (leaf after).count }
 {
-    match (before, after) {
+    match (before.gate(), after.gate()) {
         (Some(_), None) => count - 1,
         (None, Some(_)) => count + 1,
         (Some(_), Some(_)) | (None, None) => count,
@@ -312,7 +321,7 @@ fn recounted(count: usize, before: Option<Gate>, after: Option<Gate>) -> usize
 }
 
 /// The slots with gates alone.
-fn live(alloc: Global, entries: &[Option<Gate>]) -> Result<Vec<Option<Gate>>, AllocError>
+fn live(alloc: Global, entries: &[Entry]) -> Result<Vec<Entry>, AllocError>
     ensures { IfOk result (λ v. gates_of v.items ≡ gates_of entries.now) }
 {
     let mut kept = Vec::new(alloc);

@@ -7,11 +7,11 @@ ghost use Rattle.std.specs.Prelude.{◌≡◌, ℕ, ◌+◌, ◌^◌, ◌<◌, M
 ghost use Rattle.circuit_list.specs.Entries.{entry, is_live, rank};
 ghost use Rattle.circuit_list.specs.Tree.{Covers, IsFirstOn, IsLastOn, IsTree, NoneOn, has_any, node_at};
 
-use crate::Gate;
+use crate::entry::Entry;
 use crate::nodes::{Node, has_any, node_at};
 
 /// The number of gates in the slots before one.
-pub(crate) fn rank_of(gates: &[Option<Gate>], nodes: &[Node], slot: usize) -> usize
+pub(crate) fn rank_of(gates: &[Entry], nodes: &[Node], slot: usize) -> usize
     requires tree { (h : ℕ) × IsTree h gates.now nodes.now }
     requires within { slot < length nodes.now }
     ensures value { result ≡ rank gates.now slot }
@@ -29,7 +29,7 @@ pub(crate) fn rank_of(gates: &[Option<Gate>], nodes: &[Node], slot: usize) -> us
 }
 
 /// The slot with a gate, with so many gates in the slots before it.
-pub(crate) fn slot_at(gates: &[Option<Gate>], nodes: &[Node], place: usize) -> usize
+pub(crate) fn slot_at(gates: &[Entry], nodes: &[Node], place: usize) -> usize
     requires tree { (h : ℕ) × IsTree h gates.now nodes.now }
     requires there { place < (node_at gates.now nodes.now 1).count }
     ensures live { is_live (entry gates.now result) ≡ true }
@@ -51,7 +51,7 @@ pub(crate) fn slot_at(gates: &[Option<Gate>], nodes: &[Node], place: usize) -> u
 }
 
 /// The first slot below a node with a gate on some wires.
-fn first_in(gates: &[Option<Gate>], nodes: &[Node], top: usize, wires: u64) -> usize
+fn first_in(gates: &[Entry], nodes: &[Node], top: usize, wires: u64) -> usize
     requires covers { (h lo : ℕ) × Covers gates.now nodes.now h top lo }
     requires on { has_any wires (node_at gates.now nodes.now top).wires ≡ true }
     ensures { (h lo : ℕ) → Covers gates.now nodes.now h top lo → IsFirstOn wires gates.now lo result }
@@ -68,7 +68,7 @@ fn first_in(gates: &[Option<Gate>], nodes: &[Node], top: usize, wires: u64) -> u
 }
 
 /// The last slot below a node with a gate on some wires.
-fn last_in(gates: &[Option<Gate>], nodes: &[Node], top: usize, wires: u64) -> usize
+fn last_in(gates: &[Entry], nodes: &[Node], top: usize, wires: u64) -> usize
     requires covers { (h lo : ℕ) × Covers gates.now nodes.now h top lo }
     requires on { has_any wires (node_at gates.now nodes.now top).wires ≡ true }
     ensures { (h lo : ℕ) → Covers gates.now nodes.now h top lo → IsLastOn wires gates.now (lo + 2 ^ h) result }
@@ -86,7 +86,7 @@ fn last_in(gates: &[Option<Gate>], nodes: &[Node], top: usize, wires: u64) -> us
 
 /// The first slot behind one with a gate on some wires: up while the half to the right has none, and then down.
 pub(crate) fn first_behind(
-    gates: &[Option<Gate>],
+    gates: &[Entry],
     nodes: &[Node],
     slot: usize,
     wires: u64,
@@ -106,12 +106,7 @@ pub(crate) fn first_behind(
 }
 
 /// The last slot before one with a gate on some wires: up while the half to the left has none, and then down.
-pub(crate) fn last_before(
-    gates: &[Option<Gate>],
-    nodes: &[Node],
-    slot: usize,
-    wires: u64,
-) -> Option<usize>
+pub(crate) fn last_before(gates: &[Entry], nodes: &[Node], slot: usize, wires: u64) -> Option<usize>
     requires tree { (h : ℕ) × IsTree h gates.now nodes.now }
     requires within { slot < length nodes.now }
     ensures found { MatchOption result (NoneOn wires gates.now 0 slot) (IsLastOn wires gates.now slot) }

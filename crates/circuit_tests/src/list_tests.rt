@@ -411,7 +411,7 @@ fn compare(rt: &impl Abort, circuit: &Circuit, plain: &Plain, place: usize, othe
 }
 
 /// Five kinds of edits on eight of 256 wires, more than a thousand of each, with empty slots dropped now and then, and after each of them the
-/// answers at a drawn place. The circuit is linked at a drawn moment, in the middle third.
+/// answers at a drawn place. The circuit is linked at a drawn moment, in the middle third, and no longer linked from one in the last.
 #[test]
 fn answers_as_a_plain_list_does(rt: HostRuntime) -> Result<(), Fail> {
     let alloc = rt.alloc();
@@ -423,9 +423,13 @@ fn answers_as_a_plain_list_does(rt: HostRuntime) -> Result<(), Fail> {
         slots: Vec::new(alloc),
     };
     let moment = 2400 + random.below(2200);
+    let end = 4700 + random.below(2200);
     'steps: for step in 0..7000 {
         if step == moment {
             circuit.link()?;
+        }
+        if step == end {
+            circuit.unlink();
         }
         edit(&rt, &mut circuit, &mut plain, &mut random)?;
         if random.below(60) == 0 {

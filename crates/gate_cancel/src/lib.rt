@@ -75,12 +75,13 @@ fn cancelled(alloc: Global, body: Circuit, log: &mut Log) -> Result<Passed, Allo
     body.link()?;
     'walks: loop {
         let Some(more) = walk_all(&mut body, &mut queue, log)? else {
+            // no slot is kept anywhere now, and `compact` would make links anew, which no later pass asks for
+            body.unlink();
+            body.compact()?;
             return Ok(Passed { body, turn });
         };
         let rest = walk_queue(alloc, &mut body, &mut queue, log)?;
         turn = turn_sum(turn, turn_sum(more, rest));
-        // the queue is empty, so no slot is kept anywhere
-        body.compact()?;
     }
 }
 

@@ -1,4 +1,4 @@
-//! Rows by hand, and random lists against the plain amplitude program and the odd path parities.
+//! Rows by hand, and random lists against the plain amplitude program and the odd path parities; what comes out is merged.
 
 use path_parity::odd_paths;
 use rewrite_pass::{Pass, Trace, Traced};
@@ -83,6 +83,13 @@ fn random_lists_by_their_entries(rt: HostRuntime) -> Result<(), Fail> {
             is_turned(alloc, &source, &passed.body, passed.turn)?,
             "list {number}"
         );
+        let again = MergePass.run(alloc, passed.body.copy()?)?;
+        assert_eq!(rt;
+            gates_of(alloc, &again.body)?,
+            gates_of(alloc, &passed.body)?,
+            "list {number}"
+        );
+        assert_eq!(rt; again.turn, 0, "list {number}");
     }
     Ok(())
 }

@@ -32,9 +32,10 @@ pub fn rewrite(alloc: Global, body: Circuit, traced: bool) -> Result<Rewritten, 
     ensures asked { IfOk result (λ r. is_some r.steps ≡ traced) }
     ensures steps { IfOk result (λ r. IfSome r.steps (λ ss. AreSteps body.wires body.gates ss r.passed.body.gates r.passed.turn)) }
 {
-    let round = Then(NotPass, Then(HadamardPass, Then(CancelPass, MergePass)));
+    let round = Then(NotPass, Then(HadamardPass, CancelPass));
+    let rounds = WhileSmaller(round, MergePass);
     let rest = Settle(HadamardRules, CancelPass, MergePass);
-    let passes = Then(WhileSmaller(round), Then(ResynthPass, rest));
+    let passes = Then(rounds, Then(ResynthPass, rest));
     if traced {
         let mut trace = Trace::start(alloc);
         let passed = passes.run_traced(alloc, body, &mut trace)?;

@@ -26,7 +26,7 @@ mod walks;
 mod wires;
 
 pub use combine::{Settle, Then, WhileSmaller};
-pub use pass::{KeepsPairs, Pass, Shrinks};
+pub use pass::{KeepsPairs, MayStay, Pass, Shrinks};
 pub use rule::{Change, Edit, NumberedRule, Rule};
 pub use sweep::Sweep;
 pub use trace::{Trace, TraceStep};

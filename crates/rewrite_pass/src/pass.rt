@@ -28,6 +28,11 @@ pub trait KeepsPairs: Pass {
     ghost keeps_pairs: { (n : ℕ) (old new : List Gate) → Self.kept n old new → KeepsCnots old new };
 }
 
+/// A pass whose promises allow that it leaves each of its results as it is; whether it does, no clause says.
+pub trait MayStay: Pass {
+    ghost may_stay: { (n : ℕ) (gs : List Gate) → Self.shape n gs → Self.kept n gs gs };
+}
+
 /// A pass whose result has fewer gates, or is what it was given.
 pub trait Shrinks: Pass {
     ghost shrinks: { (n : ℕ) (old new : List Gate) → Self.kept n old new → IsSmallerOrSame old new };

@@ -1,13 +1,14 @@
 //! Passes that tell what they do.
 
-ghost use Rattle.std.specs.Prelude.{◌≡◌, ℕ, ◌<◌, ◌≤◌, List, length, take, IfOk, OnErr};
+ghost use Rattle.std.specs.Prelude.{◌≡◌, ℕ, ◌<◌, ◌≤◌, List, length, take, IfOk, IfSome, IfNone, OnErr};
 ghost use Rattle.circuit_list.specs.declared.Gate.{Gate};
 ghost use Rattle.rewrite_pass.specs.Law.{IsRewriting};
 ghost use Rattle.rewrite_pass.specs.TraceOf.{IsTraced};
 
 use crate::combine::{Settle, Then, WhileSmaller};
+use crate::gates::are_same;
 use crate::make::make_change;
-use crate::pass::{Pass, Shrinks};
+use crate::pass::{MayStay, Pass, Shrinks};
 use crate::rule::NumberedRule;
 use crate::sweep::Sweep;
 use crate::trace::{Trace, TraceStep};
@@ -58,7 +59,7 @@ impl<A: Traced, B: Traced> Traced for Then<A, B> {
     }
 }
 
-impl<P: Traced> Traced for WhileSmaller<P> {
+impl<A: Traced, B: MayStay + Traced> Traced for WhileSmaller<A, B> {
     fn run_traced(
         &self,
         alloc: Global,
@@ -66,7 +67,7 @@ impl<P: Traced> Traced for WhileSmaller<P> {
         trace: &mut Trace,
     ) -> Result<Passed, AllocError> {
         let start = trace.len();
-        match smallest_traced(alloc, &self.0, body, trace) {
+        match smallest_traced(alloc, self, body, trace) {
             Ok(passed) => Ok(passed),
             Err(error) => {
                 trace.truncate(start);
@@ -77,34 +78,70 @@ impl<P: Traced> Traced for WhileSmaller<P> {
 }
 
 /// What [`WhileSmaller`] gives; the steps of the round that is dropped go again.
-fn smallest_traced<P: Traced>(
+fn smallest_traced<A: Traced, B: MayStay + Traced>(
     alloc: Global,
-    pass: &P,
+    passes: &WhileSmaller<A, B>,
     body: Circuit,
     trace: &mut Trace,
 ) -> Result<Passed, AllocError>
     ensures wires { IfOk result (λ p. p.body.wires ≡ body.wires) }
     ensures law { IfOk result (λ p. IsRewriting body.wires body.gates p.body.gates p.turn) }
-    ensures shape { IfOk result (λ p. P.shape body.wires p.body.gates) }
-    ensures again { IfOk result (λ p. (gs : List Gate) × (P.kept body.wires p.body.gates gs × (length p.body.gates ≤ length gs))) }
+    ensures shape { IfOk result (λ p. B.shape body.wires p.body.gates) }
+    ensures again { IfOk result (λ p. (gs hs : List Gate) × (A.kept body.wires p.body.gates gs × (B.kept body.wires gs hs × (length p.body.gates ≤ length hs)))) }
     ensures traced { IfOk result (λ p. IsTraced body.wires body.gates p.body.gates p.turn trace.old trace.new) }
     ensures before { take (length trace.old) trace.new ≡ trace.old }
 {
-    let mut keep = pass.run_traced(alloc, body, trace)?;
+    let first = passes.0.run_traced(alloc, body, trace)?;
+    let second = passes.1.run_traced(alloc, first.body, trace)?;
+    let turn = turn_sum(first.turn, second.turn);
+    let mut keep = Passed {
+        body: second.body,
+        turn,
+    };
     'rounds: loop {
         let before = trace.len();
-        let copy = keep.body.copy()?;
-        let next = pass.run_traced(alloc, copy, trace)?;
-        if next.body.len() >= keep.body.len() {
+        let Some(next) = smaller_traced(alloc, passes, &keep.body, trace)? else {
             trace.truncate(before);
             return Ok(keep);
-        }
+        };
         let turn = turn_sum(keep.turn, next.turn);
         keep = Passed {
             body: next.body,
             turn,
         };
     }
+}
+
+/// The passes once more on what the second gave, where that makes it smaller; where it doesn't, some steps may stand there.
+fn smaller_traced<A: Traced, B: MayStay + Traced>(
+    alloc: Global,
+    passes: &WhileSmaller<A, B>,
+    body: &Circuit,
+    trace: &mut Trace,
+) -> Result<Option<Passed>, AllocError>
+    requires shape { B.shape body.now.wires body.now.gates }
+    ensures wires { IfOk result (λ o. IfSome o (λ p. p.body.wires ≡ body.now.wires)) }
+    ensures law { IfOk result (λ o. IfSome o (λ p. IsRewriting body.now.wires body.now.gates p.body.gates p.turn)) }
+    ensures shape { IfOk result (λ o. IfSome o (λ p. B.shape body.now.wires p.body.gates)) }
+    ensures fewer { IfOk result (λ o. IfSome o (λ p. length p.body.gates < length body.now.gates)) }
+    ensures none { IfOk result (λ o. IfNone o ((gs hs : List Gate) × (A.kept body.now.wires body.now.gates gs × (B.kept body.now.wires gs hs × (length body.now.gates ≤ length hs))))) }
+    ensures traced { IfOk result (λ o. IfSome o (λ p. IsTraced body.now.wires body.now.gates p.body.gates p.turn trace.old trace.new)) }
+    ensures before { take (length trace.old) trace.new ≡ trace.old }
+{
+    let copy = body.copy()?;
+    let first = passes.0.run_traced(alloc, copy, trace)?;
+    if are_same(body, &first.body) {
+        return Ok(None);
+    }
+    let second = passes.1.run_traced(alloc, first.body, trace)?;
+    if second.body.len() >= body.len() {
+        return Ok(None);
+    }
+    let turn = turn_sum(first.turn, second.turn);
+    Ok(Some(Passed {
+        body: second.body,
+        turn,
+    }))
 }
 
 impl<R: NumberedRule> Traced for Sweep<R> {

@@ -1,17 +1,19 @@
 -- Numbers of sets, and the labels of phases by them.
 --     row-at                  the row with a number is that of the entry there
 --     entry-at                and a number that has a row has an entry
---     position-row            the number at which a set is found
+--     position-row, index-row     the number at which a set is found
 --     rows-push, row-last     one entry more
 --     noted-more, noted-push  labels noted are so where there are more rows, and one label more
 --     noted-within, noted-first, noted-rest   the next label, where some were read
-use Rattle.std.proofs.Common.{◌≡◌, ℕ, zero, suc, ◌+◌, ◌<◌, List, [], ◌∷◌, ◌++◌, Some, map, length, drop, get_or, slice_get, position, refl, sym, subst, ◌∙◌, ap, arith}
+use Rattle.std.proofs.Common.{◌≡◌, ℕ, zero, suc, ◌+◌, ◌<◌, List, [], ◌∷◌, ◌++◌, Bool, true, Option, None, Some, is_some, map, length, drop, get_or, slice_get, position, true≢false, refl, sym, subst, ◌∙◌, ap, arith}
 use Rattle.std.specs.Prelude.{nat_eq}
-use Rattle.std.specs.Map.{keys_of}
+use Rattle.std.specs.List.{position_or_len}
+use Rattle.std.specs.Map.{keys_of, lookup}
 use Rattle.std.specs.Cmp.Lexicographic.{pointwise, bytes_decides}
 use Rattle.std.specs.Option.{option_map}
 use Rattle.std.proofs.lemmas.List.Quantifiers.{position-Some}
 use Rattle.std.proofs.lemmas.Option.{slice_get-map, slice_get-get_or}
+use Rattle.indexmap.proofs.MapLemmas.{Found-position, some_index}
 use Rattle.path_parity.specs.PathSum.{PathLabel}
 use Rattle.rotation_merge.specs.declared.totals.Note.{Note}
 use Rattle.rotation_merge.specs.Sums.{IsNoted, AreNoted}
@@ -32,6 +34,17 @@ position-row f set [] i h = absurd (cc)
 position-row {K} f set (k ∷ ks) i h =
     let found = position-Some (λ (x : K). pointwise nat_eq set (f x)) (k ∷ ks) i k h in
     slice_get-map f (k ∷ ks) i ∙ ap (λ o. option_map f o) (slice_get-get_or (k ∷ ks) i k found.0) ∙ ap (λ (row : List ℕ). Some row) (sym ((bytes_decides set (f (get_or (k ∷ ks) i k))).0 found.1))
+
+pub index-row : {K : Type 0} (f : K → List ℕ) (set : List ℕ) (es : List (K × ℕ)) → is_some (lookup (λ k. pointwise nat_eq set (f k)) es) ≡ true →
+    slice_get (map f (keys_of es)) (position_or_len (λ k. pointwise nat_eq set (f k)) (keys_of es)) ≡ Some set
+index-row {K} f set es there = at (position test (keys_of es)) refl
+  where
+    test : K → Bool
+    test k = pointwise nat_eq set (f k)
+
+    at : (r : Option ℕ) → position test (keys_of es) ≡ r → slice_get (map f (keys_of es)) (position_or_len test (keys_of es)) ≡ Some set
+    at None p = absurd (true≢false (sym there ∙ sym (some_index test es) ∙ ap is_some p))
+    at (Some i) p = ap (λ n. slice_get (map f (keys_of es)) n) (Found-position test es i p).or_len ∙ position-row f set (keys_of es) i p
 
 pub rows-push : {K : Type 0} (f : K → List ℕ) (es : List (K × ℕ)) (e : K × ℕ) → map f (keys_of (es ++ e ∷ [])) ≡ map f (keys_of es) ++ f e.0 ∷ []
 rows-push f [] e = refl

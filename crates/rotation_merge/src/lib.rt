@@ -24,7 +24,7 @@ ghost use Rattle.unitary_model.specs.OddPaths.{odd_paths};
 
 use circuit_list::{Circuit, Passed};
 use path_parity::Walk;
-use rewrite_pass::{Pass, Shrinks, Trace, Traced};
+use rewrite_pass::{MayStay, Pass, Shrinks, Trace, Traced};
 use std::alloc::{AllocError, Global};
 use totals::Totals;
 
@@ -55,6 +55,12 @@ impl Traced for MergePass {
         trace.push_sums(&body, &passed.body)?;
         Ok(passed)
     }
+}
+
+impl MayStay for MergePass {
+    ghost use Rattle.std.proofs.Common.{inr, refl};
+
+    ghost may_stay = { λ _ _ _. inr refl };
 }
 
 impl Shrinks for MergePass {

@@ -75,14 +75,12 @@ impl Totals {
         ensures notes { self.new.notes ≡ self.old.notes }
         ensures constant { self.new.constant ≡ self.old.constant }
     {
-        if let Some(number) = self.sets.get_index_of(set) {
-            let total = self.total(number);
-            self.put(number, (total % 8 + k) % 8);
-            return Ok(number);
-        }
-        let number = self.sets.len();
         let key = Vec::from_slice(alloc, set)?;
-        self.sets.insert(key, k % 8)?;
+        let (number, before) = self.sets.insert_full(key, k % 8)?;
+        let Some(total) = before else {
+            return Ok(number);
+        };
+        self.put(number, (total % 8 + k) % 8);
         Ok(number)
     }
 

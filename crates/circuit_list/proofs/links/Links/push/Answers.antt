@@ -1,9 +1,10 @@
-use Rattle.std.proofs.Common.{◌≡◌, ◌∙◌, ◌≤◌, ◌+◌, ◌-◌, ◌*◌, ◌/◌, sym, ap, subst, arith, length, List, [], ◌∷◌, Option, Some}
+use Rattle.std.proofs.Common.{◌≡◌, ◌∙◌, ◌≤◌, ◌+◌, ◌-◌, ◌*◌, ◌/◌, ◌==◌, ◌&&◌, ℕ, cond, true, sym, ap, subst, arith, length, List, [], ◌∷◌, Option, Some}
 use Rattle.std.proofs.lemmas.List.{length-append}
 use Rattle.circuit_list.specs.declared.Gate.{Gate}
 use Rattle.circuit_list.specs.declared.nodes.Node.{Node}
 use Rattle.circuit_list.specs.Entries.{entry}
-use Rattle.circuit_list.specs.Marks.{IsMarked}
+use Rattle.circuit_list.specs.Marks.{IsMarked, is_marked}
+use Rattle.circuit_list.specs.Tree.{meets, wire_bit}
 use Rattle.circuit_list.proofs.EntryLaws.{entry-past, entry-push, entry-pushed}
 use Rattle.circuit_list.proofs.MarkLaws.{IsMarked-push}
 use Rattle.circuit_list.proofs.TreeLaws.{IsTree-written, joined_written, lacks_written}
@@ -42,10 +43,13 @@ returns c =
     let value = ap (λ (xs : List Node). length xs) c.deref_mut.ensures.value in
     let written : length c.add.new.nodes ≡ length c.deref_mut.result.now = c.add.auto.nodes in
     let few : length c.args.gates.now ≤ length c.args.self.now.nodes.items = omega (arith, c.requires.1.0.nodes) in
+    let marks : (w s : ℕ) → is_marked w c.put_marks.new.marks.items s ≡ cond ((s == length c.args.gates.now - 1) && meets (wire_bit w) (Some c.args.gate)) true (is_marked w c.args.self.now.marks.items s) =
+    λ w s. c.put_marks.ensures.marks w s
+    ∙ ap (λ (e : Option Gate). cond ((s == length c.args.gates.now - 1) && meets (wire_bit w) e) true (is_marked w c.args.self.now.marks.items s)) c.of.ensures.value in
     record {
       tree = IsTree-written c.args.self.now.height c.args.self.now.nodes.len es c.args.gates.now c.args.self.now.nodes.items c.add.new.nodes c.requires.1.0.links.tree
           (written ∙ value) (sym c.deref_mut.ensures.len ∙ value) few (λ j pos lt. c.add.ensures.new j pos (omega (arith, written)));
       marked = subst (λ (xs : List (Option Gate)). IsMarked xs c.put_marks.new.marks.items) (sym same)
           (IsMarked-push es c.args.self.now.marks.items c.put_marks.new.marks.items (length c.args.gates.now - 1) (Some c.args.gate) len c.requires.1.0.links.marked
-          (subst (λ n. n / 64 * 64 + 64 ≤ length c.args.self.now.marks.items) (sym len) c.requires.1.0.marks) c.put_marks.ensures.len c.put_marks.ensures.marks);
+          (subst (λ n. n / 64 * 64 + 64 ≤ length c.args.self.now.marks.items) (sym len) c.requires.1.0.marks) c.put_marks.ensures.len marks);
     }

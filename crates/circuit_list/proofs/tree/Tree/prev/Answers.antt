@@ -11,7 +11,7 @@ returns-then-is_some c = record {
       let here : c.entry.result ≡ entry c.args.self.now (c.args.slot - 1) =
       c.entry.ensures.value ∙ ap (λ (xs : List (Option Gate)). entry xs (c.args.slot - 1)) (c.deref.ensures.value ∙ c.self.view_is) in
       let on : meets any_wire (entry c.args.self.now (c.args.slot - 1)) ≡ true =
-      some_meets (entry c.args.self.now (c.args.slot - 1)) (ap is_some (sym here) ∙ sym c.is_some.ensures ∙ c.if-is_some.true) in
+      some_meets (entry c.args.self.now (c.args.slot - 1)) (ap is_some (sym here) ∙ sym c.is_some.ensures.value ∙ c.if-is_some.true) in
       record { below = omega arith; on = on; none = λ s ge lt. absurd (omega arith) };
 }
 

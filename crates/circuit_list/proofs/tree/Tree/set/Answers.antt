@@ -20,9 +20,9 @@ recounted-self-inside-requires-clause-count_limit c =
     let es = c.self.inside.gates.items in
     let within : c.args.slot < length es = omega (arith, c.requires.within, ap (λ (xs : List (Option Gate)). length xs) c.self.view_is) in
     let here = ap (λ (o : Option Gate). (leaf o).count) (get_or_read es _ _ within c.index-before.ensures None) in
-    let changed = rank-set es c.args.slot c.args.entry within in
-    let few = rank_le (set es c.args.slot c.args.entry) (length (set es c.args.slot c.args.entry)) in
-    let size = length-set es c.args.slot c.args.entry in
+    let changed = rank-set es c.args.slot c.of-entry.result within in
+    let few = rank_le (set es c.args.slot c.of-entry.result) (length (set es c.args.slot c.of-entry.result)) in
+    let size = length-set es c.args.slot c.of-entry.result in
     omega (arith, c.self.invariant.0, c.len-slots.ensures)
 
 pub invariant_of-self : goal.invariant_of-self
@@ -30,7 +30,7 @@ invariant_of-self c =
     let es = c.self.inside.gates.items in
     let within : c.args.slot < length es = omega (arith, c.requires.within, ap (λ (xs : List (Option Gate)). length xs) c.self.view_is) in
     let here = ap (λ (o : Option Gate). (leaf o).count) (get_or_read es _ _ within c.index-before.ensures None) in
-    let changed = rank-set es c.args.slot c.args.entry within in (
+    let changed = rank-set es c.args.slot c.of-entry.result within in (
       omega (arith, c.self.invariant.0, c.recounted-self-inside.ensures),
       subst (λ (xs : List (Option Gate)). IfSome c.link_anew.new.links (IsLinks xs)) c.deref.ensures.value c.link_anew.ensures.linked,
     )
