@@ -12,6 +12,7 @@ pub mod Heads
 pub mod Machine
 pub mod Misread
 pub mod Modes
+pub mod NameBytes
 pub mod Parts
 pub mod Reading
 pub mod Shapes

@@ -12,9 +12,10 @@ ghost use Rattle.qasm_parser.specs.Heads.{head_view};
 use crate::cursor::Cursor;
 use crate::expression::sum;
 use crate::lists::{args, expect, take};
+use crate::name::Name;
 use crate::stop::ParseStop;
 use crate::symbols::{Keyword, Mark, Symbol};
-use crate::tree::{Apply, Expr, Name};
+use crate::tree::{Apply, Expr};
 use std::alloc::Global;
 
 /// An expression, and where it begins if it is too deep.

@@ -15,10 +15,11 @@ ghost use Rattle.qasm_parser.specs.declared.stop.ParseStop.TheVariants.{Misfit};
 use crate::cursor::Cursor;
 use crate::frames::{Frame, Frames, binding, reduce};
 use crate::growth::{applied, parenthesised};
+use crate::name::Name;
 use crate::part::{Part, atom, number};
 use crate::stop::ParseStop;
 use crate::symbols::{Keyword, Mark, Symbol};
-use crate::tree::{Expr, Name};
+use crate::tree::Expr;
 use angle_fraction::Binary;
 use std::alloc::Global;
 

@@ -15,6 +15,7 @@ mod frames;
 mod growth;
 mod laws;
 mod lists;
+mod name;
 mod part;
 mod program;
 mod statement;
@@ -27,9 +28,10 @@ pub use laws::{
     accepted_has_no_fault, declares_names, few_statements, parsed_or_refused, refused_once,
     spelt_once,
 };
+pub use name::Name;
 pub use program::parse;
 use thiserror::Error;
-pub use tree::{Apply, Arg, Expr, GateDef, Name, Program, Sides, Stmt};
+pub use tree::{Apply, Arg, Expr, GateDef, Program, Sides, Stmt};
 
 /// Why the tokens of a text are refused. A place is an offset in bytes.
 #[derive(Clone, Copy, Debug, PartialEq, Eq, Error)]

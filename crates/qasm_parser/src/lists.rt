@@ -8,9 +8,10 @@ ghost use Rattle.qasm_parser.specs.Symbols.{Symbol as SpecSymbol};
 ghost use Rattle.qasm_parser.specs.Reading.{args_of, arg_of, begins_with, begins_word, bracketed_of, first_word, index_of, list_of, mark_code, name_of, read, skip, whole_number, whole_of, word_code};
 
 use crate::cursor::Cursor;
+use crate::name::Name;
 use crate::stop::ParseStop;
 use crate::symbols::{Keyword, Mark, Symbol};
-use crate::tree::{Arg, Name};
+use crate::tree::Arg;
 use angle_fraction::Frac;
 use smallvec::SmallVec;
 use std::alloc::Global;

@@ -10,9 +10,10 @@ ghost use Rattle.qasm_parser.specs.Reading.{conditional_of, gate_of, include_of,
 use crate::action::{action, barrier, body};
 use crate::cursor::Cursor;
 use crate::lists::{bracketed, expect, is_word, name, names, next_word, take, whole};
+use crate::name::Name;
 use crate::stop::ParseStop;
 use crate::symbols::{Keyword, Mark, Symbol};
-use crate::tree::{GateDef, Name, Stmt};
+use crate::tree::{GateDef, Stmt};
 use std::alloc::Global;
 
 /// Names up to the end of the parenthesis.

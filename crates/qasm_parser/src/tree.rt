@@ -1,44 +1,10 @@
 //! Programs as trees. Contracts see what a tree spells, apart from where its parts lie in memory.
 
-ghost use Rattle.std.specs.Prelude.{◌≡◌, IfOk};
-
+use crate::name::Name;
 use angle_fraction::{Binary, Frac, Function};
 use smallvec::SmallVec;
-use std::alloc::{AllocError, Global};
+use std::alloc::Global;
 use std::default::MadeWith;
-use std::marker::Model;
-
-/// A name of a program, or the file that it includes; contracts see its bytes. Up to 16 bytes lie in the value itself.
-#[derive(Drop)]
-pub struct Name {
-    bytes: SmallVec<u8, 16>,
-}
-
-impl Model for Name {
-    ghost use Rattle.std.specs.Prelude.{List, ℕ};
-
-    ghost Value = { List ℕ };
-
-    ghost view = { λ n. n.bytes.items };
-}
-
-impl Name {
-    /// A name of these bytes.
-    pub fn copied(alloc: Global, bytes: &[u8]) -> Result<Name, AllocError>
-        ensures ok { IfOk result (λ n. n ≡ bytes.now) }
-    {
-        Ok(Name {
-            bytes: SmallVec::from_slice(alloc, bytes)?,
-        })
-    }
-
-    /// The bytes.
-    pub fn as_bytes(&self) -> &[u8]
-        ensures value { result.now ≡ self.now }
-    {
-        self.bytes.as_slice()
-    }
-}
 
 /// An expression, at most 64 deep in the tree of a text.
 #[cycle(expression)]
@@ -74,11 +40,9 @@ pub struct Arg {
 
 /// No argument; what stands in a list where none has come yet.
 impl MadeWith<Global> for Arg {
-    fn made_with(alloc: Global) -> Arg {
+    fn made_with(_alloc: Global) -> Arg {
         Arg {
-            name: Name {
-                bytes: SmallVec::new(alloc),
-            },
+            name: Name::empty(),
             index: None,
         }
     }

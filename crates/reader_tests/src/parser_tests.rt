@@ -4,7 +4,7 @@ ghost use Rattle.std.specs.Prelude.{◌<◌, ◌^◌};
 
 use angle_fraction::Frac;
 use qasm_lexer::lex;
-use qasm_parser::{Binary, Expr, ParseFault, Program, Stmt, parse};
+use qasm_parser::{Binary, Expr, Name, ParseFault, Program, Stmt, parse};
 use std::alloc::{AllocError, Global};
 use std::test::Fail;
 
@@ -273,6 +273,17 @@ fn programs(rt: HostRuntime) -> Result<(), Fail> {
     ];
     for (text, count) in rows {
         assert_eq!(rt; statements_of(rt.alloc(), text)?, Some(count));
+    }
+    Ok(())
+}
+
+/// A name of 22 bytes lies in the value, and one of 23 in memory of its own.
+#[test]
+fn names(rt: HostRuntime) -> Result<(), Fail> {
+    let letters: &[u8] = b"abcdefghijklmnopqrstuvwxyz";
+    for count in 0..letters.len() {
+        let name = Name::copied(rt.alloc(), &letters[..count])?;
+        assert_eq!(rt; name.as_bytes(), &letters[..count]);
     }
     Ok(())
 }
