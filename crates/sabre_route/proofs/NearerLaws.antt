@@ -8,9 +8,11 @@
 --   front-short, score-short     the sum of the front layer after a swap, and a score, are small
 --   score-above           a swap whose front layer weighs too much has a greater score
 --   near-more             one near qubit more was tried
+--   near-step             .. and what holds of the best so far
+--   near-left             a swap that is tried from the lesser qubit isn't to be tried from the other
 use Rattle.std.proofs.Common.{◌≡◌, ◌≢◌, ℕ, suc, ◌+◌, ◌*◌, ◌<◌, ◌≤◌, ◌⊎◌, inl, inr, Bool, true, false, cond, List, [], ◌∷◌, ◌++◌, get_or, length, max, min, nat_eq, set, slice_index, take, sym, ◌∙◌, ap, subst, arith}
 use Rattle.std.proofs.Math.Nat.{mul-add, mul-le-mul_left}
-use Rattle.std.proofs.lemmas.Bool.{cases_eq, cases_lt}
+use Rattle.std.proofs.lemmas.Bool.{both_ways, cases_eq, cases_lt}
 use Rattle.std.proofs.lemmas.Bool.Decides.{nat_tests}
 use Rattle.std.proofs.lemmas.List.{get_or-set_same, get_or-set_other, length-set, take_more}
 use Rattle.coupling_map.specs.Coupling.{Coupling, cost, dist}
@@ -20,7 +22,7 @@ use Rattle.unitary_model.specs.Placement.{exchanged}
 use Rattle.unitary_model.proofs.PlacementLaws.{exchanged-below}
 use Rattle.sabre_route.specs.declared.best.Choice.{Choice}
 use Rattle.sabre_route.specs.Search.{most_extended, IsNotAbove}
-use Rattle.sabre_route.specs.Scores.{ends_on, score_on, total, AreWithin, HasTried, IsMetric, most_distance}
+use Rattle.sabre_route.specs.Scores.{ends_on, score_on, stands, total, AreWithin, HasTried, IsChoice, IsMetric, most_distance}
 use Rattle.sabre_route.proofs.DistanceLaws.{near-symmetric}
 use Rattle.sabre_route.proofs.ScoreLaws.{exchanged-from, exchanged-off, exchanged-to, not_above-trans, product-le, total-comm, total-short}
 
@@ -203,12 +205,30 @@ HasTried-better : (d : Coupling) (fs es : List (ℕ × ℕ)) (old new : Choice) 
 HasTried-better d fs es old new a b better h =
     not_above-trans new.score new.a new.b old.score old.a old.b (score_on d fs es (min a b) (max a b)) (min a b) (max a b) better h
 
-pub near-more : (d : Coupling) (fs es : List (ℕ × ℕ)) (old new : Choice) (a k : ℕ) (nears : List ℕ) → IsNotAbove new.score new.a new.b old.score old.a old.b
-    → ((j : ℕ) → j < k → HasTried d fs es old a (slice_index nears j)) → HasTried d fs es new a (slice_index nears k) → (j : ℕ) → j < k + 1 → HasTried d fs es new a (slice_index nears j)
-near-more d fs es old new a k nears better h here j lt = go (cases_lt j k)
+near-more : (d : Coupling) (fs es : List (ℕ × ℕ)) (old new : Choice) (a k : ℕ) (nears : List ℕ) → IsNotAbove new.score new.a new.b old.score old.a old.b
+    → ((j : ℕ) → j < k → (a < slice_index nears j) ⊎ (stands fs (slice_index nears j) ≡ false) → HasTried d fs es old a (slice_index nears j))
+    → ((a < slice_index nears k) ⊎ (stands fs (slice_index nears k) ≡ false) → HasTried d fs es new a (slice_index nears k))
+    → (j : ℕ) → j < k + 1 → (a < slice_index nears j) ⊎ (stands fs (slice_index nears j) ≡ false) → HasTried d fs es new a (slice_index nears j)
+near-more d fs es old new a k nears better h here j lt mine = go (cases_lt j k)
   where
     go : (j < k) ⊎ (k ≤ j) → HasTried d fs es new a (slice_index nears j)
-    go (inl l) = HasTried-better d fs es old new a (slice_index nears j) better (h j l)
+    go (inl l) = HasTried-better d fs es old new a (slice_index nears j) better (h j l mine)
     go (inr ge) =
         let e : k ≡ j = omega (arith, lt, ge) in
-        subst (λ (i : ℕ). HasTried d fs es new a (slice_index nears i)) e here
+        subst (λ (i : ℕ). (a < slice_index nears i) ⊎ (stands fs (slice_index nears i) ≡ false) → HasTried d fs es new a (slice_index nears i)) e here mine
+
+-- what is tried from the other qubit isn't tried from this one
+pub near-left : (fs : List (ℕ × ℕ)) (a x : ℕ) → (x < a) × (stands fs x ≡ true) → (a < x) ⊎ (stands fs x ≡ false) → ⊥
+near-left fs a x h (inl lt) = omega (arith, h.0, lt)
+near-left fs a x h (inr e) = both_ways (stands fs x) e h.1
+
+-- what holds of the best so far, behind the first k near qubits
+abbrev pub IsBestAt : Coupling → List (ℕ × ℕ) → List (ℕ × ℕ) → Choice → Choice → ℕ → ℕ → List ℕ → Type 0
+IsBestAt d fs es given best a k nears = IsChoice d fs es best × (IsNotAbove best.score best.a best.b given.score given.a given.b
+    × ((j : ℕ) → j < k → (a < slice_index nears j) ⊎ (stands fs (slice_index nears j) ≡ false) → HasTried d fs es best a (slice_index nears j)))
+
+pub near-step : (d : Coupling) (fs es : List (ℕ × ℕ)) (given old new : Choice) (a k : ℕ) (nears : List ℕ) → IsChoice d fs es new → IsNotAbove new.score new.a new.b old.score old.a old.b
+    → IsBestAt d fs es given old a k nears → ((a < slice_index nears k) ⊎ (stands fs (slice_index nears k) ≡ false) → HasTried d fs es new a (slice_index nears k))
+    → IsBestAt d fs es given new a (k + 1) nears
+near-step d fs es given old new a k nears choice better h here =
+    (choice, (not_above-trans new.score new.a new.b old.score old.a old.b given.score given.a given.b better h.1.0, near-more d fs es old new a k nears better h.1.1 here))

@@ -12,5 +12,5 @@ returns-clause-total c =
 pub returns-clause-short : goal.returns-clause-short
 returns-clause-short c =
     let o = c.args.self.now in
-    let k = IsLookahead-seen _ o _ _ _ _ c.self.view_is c.self.invariant in
+    let k = IsLookahead-seen _ o _ _ _ _ _ c.self.view_is c.self.invariant in
     omega (arith, returns-clause-total c, front-short o.device o.front c.args.a c.args.b k.metric c.requires.first c.requires.second k.front_within k.front_limit)

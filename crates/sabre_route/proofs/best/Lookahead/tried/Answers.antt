@@ -11,13 +11,13 @@ use Rattle.sabre_route.proofs.best.Lookahead.tried.Goals as goal
 pub overflow_add-nearer : goal.overflow_add-nearer
 overflow_add-nearer c =
     let o = c.args.self.now in
-    let k = IsLookahead-seen _ o _ _ _ _ c.self.view_is c.self.invariant in
+    let k = IsLookahead-seen _ o _ _ _ _ _ c.self.view_is c.self.invariant in
     omega (arith, k.counted c.args.a c.requires.first, k.counted c.args.b c.requires.second, ends-few o.extended c.args.a, ends-few o.extended c.args.b, k.extended_limit)
 
 pub overflow_mul-price : goal.overflow_mul-price
 overflow_mul-price c =
     let o = c.args.self.now in
-    let k = IsLookahead-seen _ o _ _ _ _ c.self.view_is c.self.invariant in
+    let k = IsLookahead-seen _ o _ _ _ _ _ c.self.view_is c.self.invariant in
     let ends = c.self.inside.ends in
     let nearer = slice_index ends c.args.a + slice_index ends c.args.b in
     let few : nearer ≤ 4 * most_extended =
@@ -29,7 +29,7 @@ overflow_mul-price c =
 pub overflow_mul-self-inside : goal.overflow_mul-self-inside
 overflow_mul-self-inside c =
     let o = c.args.self.now in
-    let k = IsLookahead-seen _ o _ _ _ _ c.self.view_is c.self.invariant in
+    let k = IsLookahead-seen _ o _ _ _ _ _ c.self.view_is c.self.invariant in
     let ends = c.self.inside.ends in
     let nearer = slice_index ends c.args.a + slice_index ends c.args.b in
     let few : nearer ≤ 4 * most_extended =
@@ -41,7 +41,7 @@ overflow_mul-self-inside c =
 pub overflow_add-best : goal.overflow_add-best
 overflow_add-best c =
     let o = c.args.self.now in
-    let k = IsLookahead-seen _ o _ _ _ _ c.self.view_is c.self.invariant in
+    let k = IsLookahead-seen _ o _ _ _ _ _ c.self.view_is c.self.invariant in
     let ends = c.self.inside.ends in
     let nearer = slice_index ends c.args.a + slice_index ends c.args.b in
     let few : nearer ≤ 4 * most_extended =
@@ -60,7 +60,7 @@ overflow_add-best c =
 pub returns-then-weighed-best-clause-tried : goal.returns-then-weighed-best-clause-tried
 returns-then-weighed-best-clause-tried c =
     let o = c.args.self.now in
-    let k = IsLookahead-seen _ o _ _ _ _ c.self.view_is c.self.invariant in
+    let k = IsLookahead-seen _ o _ _ _ _ _ c.self.view_is c.self.invariant in
     let d = o.device in
     let fs = o.front in
     let es = o.extended in
