@@ -8,12 +8,13 @@
 --     between-start, between-front, between-back      at first, and one place less on either side
 --     between-set, between-packed     the sum of two rows, by its words at the places between
 --     between-none            no place between: the sum is empty
+--     copied-word             the words of a set copied from a place on
 --     added-word              the words of a set added to those of a row
---     Adds old new set        the same, of all words;  adds-both: zeros to which two rows were added
+--     IsSum xs ys zs a b      the words of a row between two places are the sums of those of two rows;  is_sum: by its length;  IsSum-other: of the two in the other order
 use Rattle.std.proofs.Common.{◌≡◌, ℕ, suc, ◌+◌, ◌-◌, ◌*◌, ◌/◌, ◌%◌, ◌^◌, ◌<◌, ◌≤◌, Bool, true, false, cond, List, [], ◌∷◌, length, get_or, min, refl, sym, subst, ◌∙◌, ap, arith, ◌⊎◌, inl, inr, add-zero, mul_assoc}
 use Rattle.std.specs.Prelude.{bit_xor, nat_lt}
 use Rattle.std.specs.Int.{bit_at}
-use Rattle.std.specs.Int.Bits.{xor_assoc, xor_self, xor_zero_l, xor_zero_r}
+use Rattle.std.specs.Int.Bits.{xor_assoc, xor_comm, xor_self, xor_zero_l, xor_zero_r}
 use Rattle.std.proofs.Math.Nat.{mul-div_cancel}
 use Rattle.std.proofs.lemmas.Bool.{cases_lt}
 use Rattle.std.proofs.lemmas.Bool.Decides.{nat_tests}
@@ -234,6 +235,25 @@ between-packed xs ys (from ∷ words) a b f s t l m e front back = record {
     at : (p : ℕ) → a ≤ p → p < b → (word_at xs p ≡ word_at ys p → ⊥) → 0 < get_or (from ∷ words) (p - from + 1) 0
     at p c d ne = subst (λ w. 0 < w) (sym (e p c d) ∙ word-from (from ∷ words) p (omega arith)) (differs (word_at xs p) (word_at ys p) ne)
 
+-- ---- the words of a set copied from a place on
+pub copied-word : (set row : List ℕ) (start size gap skip many p : ℕ) → gap ≡ min (get_or set 0 0 - start) size → skip ≡ 1 + min (start - get_or set 0 0) (length set - 1) →
+    many ≡ min (size - gap) (length set - skip) → 0 < length set → get_or row 0 0 ≡ start →
+    ((k : ℕ) → 1 ≤ k → k < gap + 1 → get_or row k 0 ≡ 0) → ((j : ℕ) → j < many → get_or row (gap + 1 + j) 0 ≡ get_or set (skip + j) 0) →
+    ((k : ℕ) → gap + 1 + many ≤ k → k < size + 1 → get_or row k 0 ≡ 0) →
+    start ≤ p → p < start + size → word_at row p ≡ word_at set p
+copied-word set row start size gap skip many p g s m some first before copied behind from below =
+    word-from row p (omega arith) ∙ (λ i. get_or row (p - first i + 1) 0)
+    ∙ go (cases_lt p (get_or set 0 0)) (cases_lt (p - get_or set 0 0 + 1) (length set))
+  where
+    go : (p < get_or set 0 0) ⊎ (get_or set 0 0 ≤ p) → (p - get_or set 0 0 + 1 < length set) ⊎ (length set ≤ p - get_or set 0 0 + 1) →
+        get_or row (p - start + 1) 0 ≡ word_at set p
+    go (inl l) d = before (p - start + 1) (omega arith) (omega arith) ∙ sym (word-before set p l)
+    go (inr c) (inr d) = behind (p - start + 1) (omega arith) (omega arith) ∙ sym (word-from set p c ∙ get_or_past set (p - get_or set 0 0 + 1) 0 d)
+    go (inr c) (inl d) =
+        let a : gap + 1 + (p - start - gap) ≡ p - start + 1 = omega arith in
+        let b : skip + (p - start - gap) ≡ p - get_or set 0 0 + 1 = omega arith in
+        sym (ap (λ k. get_or row k 0) a) ∙ copied (p - start - gap) (omega arith) ∙ ap (λ k. get_or set k 0) b ∙ sym (word-from set p c)
+
 -- ---- the words of a set added to a row
 pub added-word : (old new set : List ℕ) (gap skip many p : ℕ) → gap ≡ 1 + min (get_or set 0 0 - get_or old 0 0) (length old - 1) → skip ≡ 1 + min (get_or old 0 0 - get_or set 0 0) (length set - 1) →
     many ≡ min (length old - gap) (length set - skip) → 0 < length set →
@@ -259,11 +279,6 @@ added-word old new set gap skip many p g s m some before added after from below 
         sym (ap (λ k. get_or new k 0) a) ∙ added (p - get_or old 0 0 + 1 - gap) (omega arith)
         ∙ (λ i. bit_xor (get_or old (a i) 0) (get_or set (b i) 0)) ∙ ap (bit_xor (get_or old (p - get_or old 0 0 + 1) 0)) (sym (word-from set p c))
 
-pub record Adds (old new set : List ℕ) : Type 0 where
-  pub long : length new ≡ length old
-  pub first : get_or new 0 0 ≡ get_or old 0 0
-  pub added : (p : ℕ) → first_place old ≤ p → p < places_end old → word_at new p ≡ bit_xor (word_at old p) (word_at set p)
-
 pub record IsSum (xs ys zs : List ℕ) (a b : ℕ) : Type 0 where
   pub wide : Wide zs
   pub first : first_place zs ≡ a
@@ -280,24 +295,16 @@ word-fits row p f = go (nat_lt p (get_or row 0 0))
     go true = omega arith
     go false = subst (λ k. get_or row k 0 < 2 ^ 64) (next (p - get_or row 0 0)) (f (p - get_or row 0 0))
 
-pub adds-both : (xs ys zeros one two : List ℕ) (a b : ℕ) → Wide xs → Wide ys → a ≤ b → length zeros ≡ b - a + 1 → get_or zeros 0 0 ≡ a → ((p : ℕ) → word_at zeros p ≡ 0) →
-    Adds zeros one xs → Adds one two ys → IsSum xs ys two a b
-adds-both xs ys zeros one two a b f g le long first none h k = record { wide = λ j. wide j (cases_lt j (b - a)); first = start; end = end; words = words }
+pub is_sum : (xs ys zs : List ℕ) (a b : ℕ) → Wide xs → Wide ys → a ≤ b → length zs ≡ b - a + 1 → get_or zs 0 0 ≡ a →
+    ((p : ℕ) → a ≤ p → p < b → word_at zs p ≡ bit_xor (word_at xs p) (word_at ys p)) → IsSum xs ys zs a b
+is_sum xs ys zs a b f g le long first words = record { wide = λ j. wide j (cases_lt j (b - a)); first = first; end = omega (arith, first, long); words = words }
   where
-    start : get_or two 0 0 ≡ a
-    start = k.first ∙ h.first ∙ first
-
-    end : get_or two 0 0 + (length two - 1) ≡ b
-    end = omega (arith, start, k.long, h.long, long)
-
-    words : (p : ℕ) → a ≤ p → p < b → word_at two p ≡ bit_xor (word_at xs p) (word_at ys p)
-    words p c d =
-        k.added p (omega (arith, h.first, first)) (omega (arith, h.first, first, h.long, long))
-        ∙ ap (λ w. bit_xor w (word_at ys p)) (h.added p (omega (arith, first)) (omega (arith, first, long)) ∙ ap (λ w. bit_xor w (word_at xs p)) (none p) ∙ xor_zero_l (word_at xs p))
-
-    wide : (j : ℕ) → (j < b - a) ⊎ (b - a ≤ j) → get_or two (suc j) 0 < 2 ^ 64
+    wide : (j : ℕ) → (j < b - a) ⊎ (b - a ≤ j) → get_or zs (suc j) 0 < 2 ^ 64
     wide j (inl l) =
-        let n : a + j - get_or two 0 0 + 1 ≡ suc j = omega (arith, start) in
-        subst (λ w. w < 2 ^ 64) (sym (words (a + j) (omega arith) (omega arith)) ∙ word-from two (a + j) (omega (arith, start)) ∙ ap (λ m. get_or two m 0) n)
+        let n : a + j - get_or zs 0 0 + 1 ≡ suc j = omega (arith, first) in
+        subst (λ w. w < 2 ^ 64) (sym (words (a + j) (omega arith) (omega arith)) ∙ word-from zs (a + j) (omega (arith, first)) ∙ ap (λ m. get_or zs m 0) n)
         (xor_lt 64 (word_at xs (a + j)) (word_at ys (a + j)) (word-fits xs (a + j) f) (word-fits ys (a + j) g))
-    wide j (inr l) = subst (λ w. w < 2 ^ 64) (sym (get_or_past two (suc j) 0 (omega (arith, k.long, h.long, long)))) (omega arith)
+    wide j (inr l) = subst (λ w. w < 2 ^ 64) (sym (get_or_past zs (suc j) 0 (omega (arith, long)))) (omega arith)
+
+pub IsSum-other : (xs ys zs : List ℕ) (a b : ℕ) → IsSum xs ys zs a b → IsSum ys xs zs a b
+IsSum-other xs ys zs a b h = record { wide = h.wide; first = h.first; end = h.end; words = λ p c d. h.words p c d ∙ xor_comm (word_at xs p) (word_at ys p) }

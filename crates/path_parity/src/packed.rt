@@ -8,6 +8,7 @@ ghost use Rattle.std.specs.Prelude.{◌≡◌, ℕ, ◌+◌, ◌^◌, ◌<◌, �
 ghost use Rattle.path_parity.specs.Sets.{IsPacked, first_place, places_end, set_of, word_at};
 
 use std::alloc::AllocError;
+use std::simd::u64x8;
 
 /// Writes one variable alone into a row, whatever it held.
 pub fn write_single(row: &mut Vec<u64>, variable: u64) -> Result<(), AllocError>
@@ -46,8 +47,29 @@ pub fn write_difference(row: &mut Vec<u64>, xs: &[u64], ys: &[u64]) -> Result<()
     if start == end {
         return Ok(());
     }
-    write_zeros(row, start, (end - start) as usize)?;
-    add(row, xs);
+    let size = (end - start) as usize;
+    if xs.len() < ys.len() {
+        return write_between(row, ys, xs, start, size);
+    }
+    write_between(row, xs, ys, start, size)
+}
+
+/// Writes the sums of the words of two sets, so many from a place on, into a row, whatever it held. The words of the first are
+/// copied, and those of the second added.
+fn write_between(
+    row: &mut Vec<u64>,
+    xs: &[u64],
+    ys: &[u64],
+    start: u64,
+    size: usize,
+) -> Result<(), AllocError>
+    requires left { 0 < length xs.now }
+    requires right { 0 < length ys.now }
+    requires below { start + size ≤ 2 ^ 58 }
+    ensures sums { OnOk result ((length row.new.items ≡ size + 1) × (slice_index row.new.items 0 ≡ start) ×
+        ((p : ℕ) → start ≤ p → p < start + size → word_at row.new.items p ≡ bit_xor (word_at xs.now p) (word_at ys.now p))) }
+{
+    write_words(row, xs, start, size)?;
     add(row, ys);
     Ok(())
 }
@@ -73,15 +95,21 @@ fn word(set: &[u64], place: u64) -> u64
     set[(place - set[0]) as usize + 1]
 }
 
-/// Writes so many words that are 0, from a place on, into a row, whatever it held.
-fn write_zeros(row: &mut Vec<u64>, start: u64, size: usize) -> Result<(), AllocError>
-    requires { size < 2 ^ 63 }
+/// Writes the words of a set, so many from a place on, into a row, whatever it held.
+fn write_words(row: &mut Vec<u64>, set: &[u64], start: u64, size: usize) -> Result<(), AllocError>
+    requires some { 0 < length set.now }
+    requires below { start + size ≤ 2 ^ 58 }
     ensures long { OnOk result (length row.new.items ≡ size + 1) }
     ensures first { OnOk result (slice_index row.new.items 0 ≡ start) }
-    ensures zeros { OnOk result ((p : ℕ) → word_at row.new.items p ≡ 0) }
+    ensures words { OnOk result ((p : ℕ) → start ≤ p → p < start + size → word_at row.new.items p ≡ word_at set.now p) }
 {
     row.clear();
     row.push(start)?;
+    let gap = (set[0].saturating_sub(start) as usize).min(size);
+    let skip = 1 + (start.saturating_sub(set[0]) as usize).min(set.len() - 1);
+    let many = (size - gap).min(set.len() - skip);
+    row.resize(gap + 1, 0)?;
+    row.extend_from_slice(&set[skip..skip + many])?;
     row.resize(size + 1, 0)?;
     Ok(())
 }
@@ -97,7 +125,26 @@ fn add(row: &mut [u64], set: &[u64])
     let gap = 1 + (set[0].saturating_sub(row[0]) as usize).min(row.len() - 1);
     let skip = 1 + (row[0].saturating_sub(set[0]) as usize).min(set.len() - 1);
     let many = (row.len() - gap).min(set.len() - skip);
-    'words: for k in 0..many {
-        row[gap + k] ^= set[skip + k];
+    let mut k = 0;
+    'eights: while many - k >= 8 {
+        add_eight(row, gap + k, set, skip + k);
+        k += 8;
     }
+    'words: while k < many {
+        row[gap + k] ^= set[skip + k];
+        k += 1;
+    }
+}
+
+/// Adds eight words of a set to eight of a row at once.
+fn add_eight(row: &mut [u64], at: usize, set: &[u64], from: usize)
+    requires row { at + 8 ≤ length row.old }
+    requires set { from + 8 ≤ length set.now }
+    ensures long { length row.new ≡ length row.old }
+    ensures before { (k : ℕ) → k < at → slice_index row.new k ≡ slice_index row.old k }
+    ensures added { (j : ℕ) → j < 8 → slice_index row.new (at + j) ≡ bit_xor (slice_index row.old (at + j)) (slice_index set.now (from + j)) }
+    ensures after { (k : ℕ) → at + 8 ≤ k → slice_index row.new k ≡ slice_index row.old k }
+{
+    let sum = u64x8::from_slice(&row[at..]) ^ u64x8::from_slice(&set[from..]);
+    sum.copy_to_slice(&mut row[at..]);
 }
