@@ -1,3 +1,4 @@
 -- ---- working forms
+pub mod Hashing
 pub mod Merging
 pub mod Sums

@@ -10,6 +10,7 @@
 //! wires, the set of each label that has a phase, once, and a note of some bytes for each phase.
 #![tactic(auto)]
 
+mod row_hash;
 mod totals;
 
 ghost use Rattle.std.specs.Prelude.{◌≡◌, ◌%◌, All, IfOk};

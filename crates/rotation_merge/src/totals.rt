@@ -9,6 +9,7 @@ ghost use Rattle.path_parity.specs.Sets.{IsLabel, label_of};
 ghost use Rattle.rotation_merge.specs.Merging.{constant_phase, kept_constant, kept_phase, signed_phase};
 ghost use Rattle.rotation_merge.specs.Sums.{AreNoted, ChangesTotal, Gathers, HasTotals, Writes, rows, total_in};
 
+use crate::row_hash::RowHash;
 use circuit_list::{Circuit, Gate};
 use indexmap::IndexMap;
 use path_parity::{Label, Walk};
@@ -25,7 +26,7 @@ pub struct Note {
 /// constant, whose value counts modulo 8.
 #[derive(Drop)]
 pub struct Totals {
-    pub sets: IndexMap<Vec<u64>, u8>,
+    pub sets: IndexMap<Vec<u64>, u8, RowHash>,
     pub notes: Vec<Note>,
     pub constant: u8,
 }
@@ -38,7 +39,7 @@ impl Totals {
         ensures constant { result.constant ≡ 0 }
     {
         Totals {
-            sets: IndexMap::new(alloc),
+            sets: IndexMap::with_hasher(alloc, RowHash::new()),
             notes: Vec::new(alloc),
             constant: 0,
         }

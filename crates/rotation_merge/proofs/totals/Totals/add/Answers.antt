@@ -7,7 +7,7 @@ use Rattle.std.specs.declared.alloc.Global.{Global}
 use Rattle.indexmap.proofs.CallerLemmas.{insert_entry-new, keys-insert_entry-present}
 use Rattle.indexmap.proofs.MapLemmas.{absent_from_lookup, or_len-absent}
 use Rattle.rotation_merge.specs.declared.totals.Totals.{Totals}
-use Rattle.rotation_merge.specs.Sums.{ChangesTotal, rows, total_in}
+use Rattle.rotation_merge.specs.Sums.{rows, total_in}
 use Rattle.rotation_merge.proofs.MapLaws.{changed}
 use Rattle.rotation_merge.proofs.NoteLaws.{index-row, row-last, rows-push}
 use Rattle.rotation_merge.proofs.totals.Totals.add.Goals as goal
