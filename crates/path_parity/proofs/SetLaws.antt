@@ -10,7 +10,9 @@
 --     between-none            no place between: the sum is empty
 --     copied-word             the words of a set copied from a place on
 --     added-word              the words of a set added to those of a row
---     IsSum xs ys zs a b      the words of a row between two places are the sums of those of two rows;  is_sum: by its length;  IsSum-other: of the two in the other order
+--     IsSum xs ys zs a b      the words of a row between two places are the sums of those of two rows
+--     IsSum-words             by its length
+--     IsSum-other             of the two in the other order
 use Rattle.std.proofs.Common.{◌≡◌, ℕ, suc, ◌+◌, ◌-◌, ◌*◌, ◌/◌, ◌%◌, ◌^◌, ◌<◌, ◌≤◌, Bool, true, false, cond, List, [], ◌∷◌, length, get_or, min, refl, sym, subst, ◌∙◌, ap, arith, ◌⊎◌, inl, inr, add-zero, mul_assoc}
 use Rattle.std.specs.Prelude.{bit_xor, nat_lt}
 use Rattle.std.specs.Int.{bit_at}
@@ -295,9 +297,9 @@ word-fits row p f = go (nat_lt p (get_or row 0 0))
     go true = omega arith
     go false = subst (λ k. get_or row k 0 < 2 ^ 64) (next (p - get_or row 0 0)) (f (p - get_or row 0 0))
 
-pub is_sum : (xs ys zs : List ℕ) (a b : ℕ) → Wide xs → Wide ys → a ≤ b → length zs ≡ b - a + 1 → get_or zs 0 0 ≡ a →
+pub IsSum-words : (xs ys zs : List ℕ) (a b : ℕ) → Wide xs → Wide ys → a ≤ b → length zs ≡ b - a + 1 → get_or zs 0 0 ≡ a →
     ((p : ℕ) → a ≤ p → p < b → word_at zs p ≡ bit_xor (word_at xs p) (word_at ys p)) → IsSum xs ys zs a b
-is_sum xs ys zs a b f g le long first words = record { wide = λ j. wide j (cases_lt j (b - a)); first = first; end = omega (arith, first, long); words = words }
+IsSum-words xs ys zs a b f g le long first words = record { wide = λ j. wide j (cases_lt j (b - a)); first = first; end = omega (arith, first, long); words = words }
   where
     wide : (j : ℕ) → (j < b - a) ⊎ (b - a ≤ j) → get_or zs (suc j) 0 < 2 ^ 64
     wide j (inl l) =

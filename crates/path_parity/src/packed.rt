@@ -104,6 +104,7 @@ fn write_words(row: &mut Vec<u64>, set: &[u64], start: u64, size: usize) -> Resu
     ensures words { OnOk result ((p : ℕ) → start ≤ p → p < start + size → word_at row.new.items p ≡ word_at set.now p) }
 {
     row.clear();
+    row.reserve(size + 1)?;
     row.push(start)?;
     let gap = (set[0].saturating_sub(start) as usize).min(size);
     let skip = 1 + (start.saturating_sub(set[0]) as usize).min(set.len() - 1);

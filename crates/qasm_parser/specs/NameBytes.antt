@@ -1,9 +1,9 @@
--- Working form.
--- The bytes of a name, wherever they lie.
+-- Working form. Names of the code.
+--   name_bytes    the bytes of a name, wherever they lie
 use Rattle.std.specs.Prelude.{ℕ, List}
 use Rattle.qasm_parser.specs.declared.name.Bytes.{Bytes}
 use Rattle.qasm_parser.specs.declared.name.Bytes.TheVariants.{Short, Long}
 
-abbrev pub bytes_of : Bytes → List ℕ
-bytes_of (Short s) = s
-bytes_of (Long v) = v.value.items
+abbrev pub name_bytes : Bytes → List ℕ
+name_bytes (Short s) = s
+name_bytes (Long v) = v.value.items

@@ -66,9 +66,9 @@ impl Model for Name {
 
     ghost Value = { List ℕ };
 
-    ghost use Rattle.qasm_parser.specs.NameBytes.{bytes_of};
+    ghost use Rattle.qasm_parser.specs.NameBytes.{name_bytes};
 
-    ghost view = { λ n. bytes_of n.bytes };
+    ghost view = { λ n. name_bytes n.bytes };
 }
 
 impl Name {

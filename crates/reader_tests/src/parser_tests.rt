@@ -277,7 +277,7 @@ fn programs(rt: HostRuntime) -> Result<(), Fail> {
     Ok(())
 }
 
-/// A name of 22 bytes lies in the value, and one of 23 in memory of its own.
+/// Names of 0 to 25 bytes: one of 22 lies in the value, and one of 23 in memory of its own.
 #[test]
 fn names(rt: HostRuntime) -> Result<(), Fail> {
     let letters: &[u8] = b"abcdefghijklmnopqrstuvwxyz";

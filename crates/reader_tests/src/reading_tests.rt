@@ -66,6 +66,11 @@ fn reads_programs(rt: HostRuntime) -> Result<(), Fail> {
             "qreg q[2]; creg c[1]; creg d[3]; h q; barrier q; measure q[0] -> d[2];",
             "2 2 4 1 c[1] d[3]",
         ),
+        // names of 22 and 23 bytes
+        (
+            "qreg abcdefghijklmnopqrstuv[1]; qreg abcdefghijklmnopqrstuvw[1]; creg zbcdefghijklmnopqrstuvw[1]; cx abcdefghijklmnopqrstuv[0],abcdefghijklmnopqrstuvw[0]; measure abcdefghijklmnopqrstuvw[0] -> zbcdefghijklmnopqrstuvw[0];",
+            "2 1 1 0 zbcdefghijklmnopqrstuvw[1]",
+        ),
         // a gate with a bad angle that is never applied
         ("gate g a { u1(1/0) a; } qreg q[1]; x q[0];", "1 1 0 0"),
         // the first refusal is that of an earlier stage

@@ -8,8 +8,8 @@
 --   front-short, score-short     the sum of the front layer after a swap, and a score, are small
 --   score-above           a swap whose front layer weighs too much has a greater score
 --   near-more             one near qubit more was tried
---   near-step             .. and what holds of the best so far
 --   near-left             a swap that is tried from the lesser qubit isn't to be tried from the other
+--   IsBestAt, near-step   what holds of the best so far, behind the first k near qubits; and of one more
 use Rattle.std.proofs.Common.{◌≡◌, ◌≢◌, ℕ, suc, ◌+◌, ◌*◌, ◌<◌, ◌≤◌, ◌⊎◌, inl, inr, Bool, true, false, cond, List, [], ◌∷◌, ◌++◌, get_or, length, max, min, nat_eq, set, slice_index, take, sym, ◌∙◌, ap, subst, arith}
 use Rattle.std.proofs.Math.Nat.{mul-add, mul-le-mul_left}
 use Rattle.std.proofs.lemmas.Bool.{both_ways, cases_eq, cases_lt}

@@ -1,9 +1,11 @@
 -- The sums of distances after a swap, by the pairs with an end on its qubits.
---   has_end-take          the ends of one pair more
---   bit-put               one bit put into a word of a list
+--   has_end-past, has_end-take   no pair is behind the last; the ends of one pair more
+--   bit_at-shifted        a bit behind place k
+--   put-bit m x k         bit k put into word x of a list;  bit-put: the bits then
 --   told-more             the bits of one pair more
 --   midway d a b ps k     the sum where the first k pairs are moved by the swap of a and b, the others not yet
 --   midway-none, midway-all, midway-more    none are moved, all, and one more
+--   midway-has            the sum has what the next pair is
 --   midway-skip, midway-rest     pairs without an end on a and b stay as they are: the next n, and all that are left
 --   midway-short          it is at most the greatest distance for each pair
 --   bit-told, bit-untold, within-told, either-bit    what a bit tells, and those of two words
@@ -20,15 +22,9 @@ use Rattle.coupling_map.specs.Coupling.{Coupling, dist}
 use Rattle.unitary_model.specs.Placement.{exchanged}
 use Rattle.unitary_model.proofs.PlacementLaws.{exchanged-below}
 use Rattle.sabre_route.specs.Scores.{has_end, total, AreWithin, IsMetric, most_distance}
-use Rattle.sabre_route.proofs.ScoreLaws.{exchanged-off}
+use Rattle.sabre_route.proofs.ScoreLaws.{equal, exchanged-off, total-within, unequal, unequal-not}
 
 -- ---- which pairs have an end on a qubit
-equal : (u a : ℕ) → u ≡ a → nat_eq u a ≡ true
-equal u a e = grind (arith, nat_tests)
-
-unequal : (u a : ℕ) → u ≢ a → nat_eq u a ≡ false
-unequal u a n = grind (arith, nat_tests)
-
 has_end-last : (ps : List (ℕ × ℕ)) (p : ℕ × ℕ) (a : ℕ) → has_end (ps ++ p ∷ []) (length ps) a ≡ (nat_eq p.0 a || nat_eq p.1 a)
 has_end-last [] p a = refl
 has_end-last (q ∷ ps) p a = has_end-last ps p a
@@ -39,12 +35,12 @@ has_end-others [] p (suc i) a n = refl
 has_end-others (q ∷ ps) p zero a n = refl
 has_end-others (q ∷ ps) p (suc i) a n = has_end-others ps p i a (λ e. n (ap suc e))
 
-pub has_end-past : (ps : List (ℕ × ℕ)) (i a : ℕ) → length ps ≤ i → has_end ps i a ≡ false
+has_end-past : (ps : List (ℕ × ℕ)) (i a : ℕ) → length ps ≤ i → has_end ps i a ≡ false
 has_end-past [] i a le = refl
 has_end-past (p ∷ ps) zero a le = absurd (omega (arith, le))
 has_end-past (p ∷ ps) (suc i) a le = has_end-past ps i a (omega (arith, le))
 
-pub has_end-take : (ps : List (ℕ × ℕ)) (k i a : ℕ) → k < length ps
+has_end-take : (ps : List (ℕ × ℕ)) (k i a : ℕ) → k < length ps
     → has_end (take (k + 1) ps) i a ≡ cond (nat_eq i k) (nat_eq (get_or ps k (0, 0)).0 a || nat_eq (get_or ps k (0, 0)).1 a) (has_end (take k ps) i a)
 has_end-take ps k i a lt = ap (λ qs. has_end qs i a) (take_more ps k (0, 0) lt) ∙ go (cases_eq i k)
   where
@@ -66,7 +62,7 @@ has_end-take ps k i a lt = ap (λ qs. has_end qs i a) (take_more ps k (0, 0) lt)
 pub bit_at-shifted : (n k i : ℕ) → bit_at (n / 2 ^ k / 2 ^ 1) i ≡ bit_at n (k + 1 + i)
 bit_at-shifted n k i = ap (λ m. m / 2 ^ i % 2) (shr-shr n k 1) ∙ ap (λ m. m % 2) (shr-shr n (k + 1) i)
 
-pub bit-told : (t : Bool) → ◌≡◌ {A = ℕ} (cond t 1 0) 1 → t ≡ true
+bit-told : (t : Bool) → ◌≡◌ {A = ℕ} (cond t 1 0) 1 → t ≡ true
 bit-told true e = refl
 bit-told false e = absurd (omega (arith, e))
 
@@ -98,7 +94,7 @@ word-put n k i lt = go (cases_eq i k)
 abbrev pub put-bit : List ℕ → ℕ → ℕ → List ℕ
 put-bit m x k = set m x (bit_or (slice_index m x) (1 * 2 ^ k % 4294967296))
 
-pub bit-put : (m : List ℕ) (x a k i : ℕ) → x < length m → k < 32
+bit-put : (m : List ℕ) (x a k i : ℕ) → x < length m → k < 32
     → bit_at (slice_index (put-bit m x k) a) i ≡ cond (nat_eq i k) (cond (nat_eq x a) 1 (bit_at (slice_index m a) i)) (bit_at (slice_index m a) i)
 bit-put m x a k i lx lt = go (cases_eq x a) (cases_eq i k)
   where
@@ -174,7 +170,7 @@ pub midway-none : (d : Coupling) (a b : ℕ) (ps : List (ℕ × ℕ)) → midway
 midway-none d a b [] = refl
 midway-none d a b (p ∷ ps) = refl
 
-pub midway-all : (d : Coupling) (a b : ℕ) (ps : List (ℕ × ℕ)) (k : ℕ) → length ps ≤ k → midway d a b ps k ≡ total d (exchanged a b) ps
+midway-all : (d : Coupling) (a b : ℕ) (ps : List (ℕ × ℕ)) (k : ℕ) → length ps ≤ k → midway d a b ps k ≡ total d (exchanged a b) ps
 midway-all d a b [] k le = refl
 midway-all d a b (p ∷ ps) zero le = absurd (omega (arith, le))
 midway-all d a b (p ∷ ps) (suc k) le = ap (λ n. dist d (exchanged a b p.0) (exchanged a b p.1) + n) (midway-all d a b ps k (omega (arith, le)))
@@ -200,11 +196,8 @@ neither : (s t : Bool) → (s || t) ≡ false → (s ≡ false) × (t ≡ false)
 neither true t e = absurd (cc)
 neither false t e = (refl, e)
 
-differs : (u a : ℕ) → nat_eq u a ≡ false → u ≢ a
-differs u a e = grind (arith, nat_tests)
-
 off : (p : ℕ × ℕ) (a : ℕ) → (nat_eq p.0 a || nat_eq p.1 a) ≡ false → IsOff p a
-off p a e = let h = neither (nat_eq p.0 a) (nat_eq p.1 a) e in record { first = differs p.0 a h.0; second = differs p.1 a h.1 }
+off p a e = let h = neither (nat_eq p.0 a) (nat_eq p.1 a) e in record { first = unequal-not p.0 a h.0; second = unequal-not p.1 a h.1 }
 
 kept : (d : Coupling) (a b : ℕ) (p : ℕ × ℕ) → IsOff p a → IsOff p b → dist d (exchanged a b p.0) (exchanged a b p.1) ≡ dist d p.0 p.1
 kept d a b p h k = λ z. dist d (exchanged-off a b p.0 h.first k.first z) (exchanged-off a b p.1 h.second k.second z)
@@ -227,13 +220,7 @@ midway-rest d a b ps k h = sym (midway-skip d a b ps k (length ps) (λ i lt. h i
 
 pub midway-short : (d : Coupling) (a b : ℕ) (ps : List (ℕ × ℕ)) (k : ℕ) → IsMetric d → a < d.size → b < d.size → AreWithin d.size ps → midway d a b ps k ≤ length ps * most_distance
 midway-short d a b [] k m la lb w = omega arith
-midway-short d a b (p ∷ ps) zero m la lb w = resting d (p ∷ ps) m w
-  where
-    resting : (d : Coupling) (ps : List (ℕ × ℕ)) → IsMetric d → AreWithin d.size ps → total d (λ q. q) ps ≤ length ps * most_distance
-    resting d [] m w = omega arith
-    resting d (p ∷ ps) m w =
-        let here = w 0 p (omega arith) in
-        omega (arith, suc-mul (length ps) most_distance, resting d ps m (λ k q lt. w (suc k) q (omega (arith, lt))), m.short p.0 p.1 here.0 here.1)
+midway-short d a b (p ∷ ps) zero m la lb w = total-within d (λ q. q) (p ∷ ps) m (λ q lt. lt) w
 midway-short d a b (p ∷ ps) (suc k) m la lb w =
     let here = w 0 p (omega arith) in
     omega (

@@ -2,7 +2,7 @@
 use Rattle.std.proofs.Common.{◌≡◌, ℕ, ◌+◌, ◌-◌, ◌^◌, ◌<◌, ◌≤◌, List, bit_xor, length, get_or, sym, ◌∙◌, ap, arith}
 use Rattle.std.proofs.lemmas.Result.{on_ok_weaker}
 use Rattle.path_parity.specs.Sets.{IsPacked, set_of, word_at}
-use Rattle.path_parity.proofs.SetLaws.{IsBetween, IsSum, IsSum-other, IsPacked-wide, between-none, between-packed, between-set, is_sum}
+use Rattle.path_parity.proofs.SetLaws.{IsBetween, IsSum, IsSum-other, IsPacked-wide, between-none, between-packed, between-set, IsSum-words}
 use Rattle.path_parity.proofs.packed.write_difference.Goals as goal
 use Rattle.path_parity.proofs.packed.write_difference.Goals.{then-front-test+else-word, else-front-test, then-back-test+else-word-2, else-back-test}
 
@@ -17,7 +17,7 @@ abbrev IsWritten : List ℕ → List ℕ → List ℕ → ℕ → ℕ → Type 0
 IsWritten xs ys zs a n = (length zs ≡ n + 1) × (get_or zs 0 0 ≡ a) × ((p : ℕ) → a ≤ p → p < a + n → word_at zs p ≡ bit_xor (word_at xs p) (word_at ys p))
 
 sum : (xs ys zs : List ℕ) (a b : ℕ) → IsPacked xs → IsPacked ys → a ≤ b → IsWritten xs ys zs a (b - a) → IsSum xs ys zs a b
-sum xs ys zs a b f g le w = is_sum xs ys zs a b (IsPacked-wide xs f) (IsPacked-wide ys g) le w.0 w.1 (λ p c d. w.2 p c (omega arith))
+sum xs ys zs a b f g le w = IsSum-words xs ys zs a b (IsPacked-wide xs f) (IsPacked-wide ys g) le w.0 w.1 (λ p c d. w.2 p c (omega arith))
 
 set : (xs ys zs : List ℕ) (a b : ℕ) → IsPacked xs → IsPacked ys → IsBetween xs ys a b → IsSum xs ys zs a b → set_of zs ≡ bit_xor (set_of xs) (set_of ys)
 set xs ys zs a b f g between s = between-set xs ys zs a b (IsPacked-wide xs f) (IsPacked-wide ys g) s.wide between s.first s.end s.words
