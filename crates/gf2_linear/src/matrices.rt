@@ -31,7 +31,7 @@ impl Matrix {
         requires wires_limit { wires ≤ 256 }
         ensures ok { IfOk result (λ m. m ≡ identity_rows wires) }
     {
-        let mut rows = Vec::new(alloc);
+        let mut rows = Vec::with_capacity(alloc, wires as usize)?;
         'rows: for wire in 0..wires {
             rows.push(Row::unit(wire))?;
         }
@@ -119,7 +119,7 @@ impl Matrix {
     pub fn copy(&self, alloc: Global) -> Result<Matrix, AllocError>
         ensures ok { IfOk result (λ m. m ≡ self.now) }
     {
-        let mut rows = Vec::new(alloc);
+        let mut rows = Vec::with_capacity(alloc, self.rows.len())?;
         'rows: for row in &self.rows {
             rows.push(row.copy())?;
         }
@@ -131,7 +131,7 @@ impl Matrix {
         requires size { length other.now ≡ length self.now }
         ensures ok { IfOk result (λ m. m ≡ product self.now other.now) }
     {
-        let mut rows = Vec::new(alloc);
+        let mut rows = Vec::with_capacity(alloc, self.rows.len())?;
         'rows: for row in &self.rows {
             rows.push(combined(&other.rows, row))?;
         }

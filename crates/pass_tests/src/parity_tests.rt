@@ -156,18 +156,54 @@ fn sums_by_hand(rt: HostRuntime) -> Result<(), Fail> {
     Ok(())
 }
 
-// Rows of seven, eight, nine and seventeen words, at one place and at two.
+// Rows of seven, eight, nine and seventeen words; and of nine that begin one place behind.
 #[test]
 fn long_sums_by_hand(rt: HostRuntime) -> Result<(), Fail> {
     let alloc = rt.alloc();
-    let counted = [3, 1, 2, 3, 4, 5, 6, 7, 8, 9, 10, 11, 12, 13, 14, 15, 16, 17];
-    let raised = [3, 64, 64, 64, 64, 64, 64, 64, 64, 64, 64, 64, 64, 64, 64, 64, 64, 64];
-    let sum = [3, 65, 66, 67, 68, 69, 70, 71, 72, 73, 74, 75, 76, 77, 78, 79, 80, 81];
-    for words in [7, 8, 9, 17] {
-        assert!(rt; adds_up(alloc, &counted[..=words], &raised[..=words], &sum[..=words])?);
-    }
-    // nine words from one place behind
-    assert!(rt; adds_up(alloc, &[3, 1, 2, 3, 4, 5, 6, 7, 8, 9, 10], &[4, 64, 64, 64, 64, 64, 64, 64, 64, 64], &[3, 1, 66, 67, 68, 69, 70, 71, 72, 73, 74])?);
+    assert!(rt;
+        adds_up(
+            alloc,
+            &[3, 1, 2, 3, 4, 5, 6, 7],
+            &[3, 64, 64, 64, 64, 64, 64, 64],
+            &[3, 65, 66, 67, 68, 69, 70, 71]
+        )?
+    );
+    assert!(rt;
+        adds_up(
+            alloc,
+            &[3, 1, 2, 3, 4, 5, 6, 7, 8],
+            &[3, 64, 64, 64, 64, 64, 64, 64, 64],
+            &[3, 65, 66, 67, 68, 69, 70, 71, 72]
+        )?
+    );
+    assert!(rt;
+        adds_up(
+            alloc,
+            &[3, 1, 2, 3, 4, 5, 6, 7, 8, 9],
+            &[3, 64, 64, 64, 64, 64, 64, 64, 64, 64],
+            &[3, 65, 66, 67, 68, 69, 70, 71, 72, 73]
+        )?
+    );
+    assert!(rt;
+        adds_up(
+            alloc,
+            &[3, 1, 2, 3, 4, 5, 6, 7, 8, 9, 10, 11, 12, 13, 14, 15, 16, 17],
+            &[
+                3, 64, 64, 64, 64, 64, 64, 64, 64, 64, 64, 64, 64, 64, 64, 64, 64, 64
+            ],
+            &[
+                3, 65, 66, 67, 68, 69, 70, 71, 72, 73, 74, 75, 76, 77, 78, 79, 80, 81
+            ]
+        )?
+    );
+    assert!(rt;
+        adds_up(
+            alloc,
+            &[3, 1, 2, 3, 4, 5, 6, 7, 8, 9, 10],
+            &[4, 64, 64, 64, 64, 64, 64, 64, 64, 64],
+            &[3, 1, 66, 67, 68, 69, 70, 71, 72, 73, 74]
+        )?
+    );
     Ok(())
 }
 
