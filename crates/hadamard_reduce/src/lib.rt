@@ -17,7 +17,7 @@ mod window;
 ghost use Rattle.std.specs.Prelude.{◌<◌};
 
 use change::{change_of, number_of};
-use circuit_list::{Circuit, Passed};
+use circuit_list::{Circuit, Passed, Slot};
 use rewrite_pass::{Change, NumberedRule, Pass, Rule, Sweep, Trace, Traced};
 use std::alloc::{AllocError, Global};
 use window::window_at;
@@ -48,9 +48,13 @@ impl Rule for HadamardRules {
     ghost made = { λ gs i c. (k : ℕ) × IsRuleStep k i gs (changed c gs) c.turn };
 
     fn at(&self, body: &Circuit, place: usize) -> Option<Change> {
+        self.at_slot(body, place, body.slot(place))
+    }
+
+    fn at_slot(&self, body: &Circuit, place: usize, slot: Slot) -> Option<Change> {
         // it says that the gates are fine, and the slots in order
         body.facts();
-        let window = window_at(body, place)?;
+        let window = window_at(body, slot)?;
         Some(change_of(place, window))
     }
 }
@@ -59,7 +63,7 @@ impl NumberedRule for HadamardRules {
     fn number(&self, body: &Circuit, place: usize) -> u8 {
         // it says that the gates are fine, and the slots in order
         body.facts();
-        let window = window_at(body, place).unwrap();
+        let window = window_at(body, body.slot(place)).unwrap();
         number_of(window)
     }
 }

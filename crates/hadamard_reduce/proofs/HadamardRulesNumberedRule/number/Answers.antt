@@ -13,7 +13,8 @@ returns c =
     let gs = c.args.body.now.gates in
     let i = c.args.place in
     let w = c.unwrap-window.result in
-    let found = subst (λ (o : Option Window). MatchOption o (IsWindow gs i → ⊥) (IsFound gs i)) c.unwrap-window.ensures c.window_at.ensures.found in
+    let found = subst (λ (o : Option Window). MatchOption o (IsWindow gs i → ⊥) (IsFound gs i)) c.unwrap-window.ensures
+    (subst (λ n. MatchOption c.window_at.result (IsWindow gs n → ⊥) (IsFound gs n)) c.slot.ensures.place c.window_at.ensures.found) in
     record {
       number = λ d made. subst (λ k. IsRuleStep k i gs (changed d gs) d.turn) (sym c.number_of.ensures.value) (step_found gs (changed d gs) i d.turn made.0 w found made.1);
     }
