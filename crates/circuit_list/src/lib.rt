@@ -81,8 +81,9 @@ impl Gate {
 /// [`Circuit::link`] makes links, a tree over the slots and marks of the wires: 24 bytes more a slot, 36 in all. With them `place`,
 /// `slot` and `gate` take as many steps as the logarithm of the number of slots, and the others as many as the logarithm of
 /// the number of slots between the given one and the answer. `next_on` and `prev_on` find an answer up to 192 slots away in at
-/// most four words of bits, of which there are eight bytes a slot. In return an edit takes as many steps as the logarithm, and
-/// a push now and then tells all slots anew, which spreads over the pushes before it. They go with [`Circuit::unlink`].
+/// most four words of bits, of which there are eight bytes a slot; with more than 64 wires some share a bit, and the two look
+/// at each gate on the way that has the wire's. In return an edit takes as many steps as the logarithm, and a push now and then
+/// tells all slots anew, which spreads over the pushes before it. They go with [`Circuit::unlink`].
 #[derive(Drop)]
 pub struct Circuit {
     wires: u32,

@@ -75,7 +75,7 @@ fn cancelled(alloc: Global, body: Circuit, log: &mut Log) -> Result<Passed, Allo
     body.link()?;
     'walks: loop {
         let Some(more) = walk_all(&mut body, &mut queue, log)? else {
-            // no slot is kept anywhere now, and `compact` would make links anew, which no later pass asks for
+            // no slot is kept anywhere now, and `compact` would make the links anew, which few passes ask for
             body.unlink();
             body.compact()?;
             return Ok(Passed { body, turn });

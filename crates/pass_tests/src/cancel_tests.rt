@@ -5,7 +5,7 @@ ghost use Rattle.std.specs.Prelude.{◌<◌};
 use circuit_list::Gate;
 use commute_rules::{Cancel, cancels, commute};
 use gate_cancel::CancelPass;
-use rewrite_pass::{Pass, Then, Trace, Traced, WhileSmaller};
+use rewrite_pass::{Pass, Round, Then, Trace, Traced, WhileSmaller};
 use rotation_merge::MergePass;
 use std::alloc::Global;
 use std::process::Abort;
@@ -71,7 +71,7 @@ fn tells_its_steps(rt: HostRuntime) -> Result<(), Fail> {
         let gates = gates_of_text(alloc, source)?;
         let body = circuit_of(alloc, 3, &gates)?.expect(&rt, "gates on the wires");
         let mut trace = Trace::start(alloc);
-        let passes = Then(CancelPass, WhileSmaller(CancelPass, MergePass));
+        let passes = Then(CancelPass, WhileSmaller(Round(CancelPass, MergePass)));
         let passed = passes.run_traced(alloc, body, &mut trace)?;
         assert!(rt; passed.turn < 8);
         assert_eq!(rt; trace.lines()?.as_slice(), lines.as_bytes(), "at {source}");

@@ -11,7 +11,7 @@ use gate_cancel::CancelPass;
 use hadamard_reduce::{HadamardPass, HadamardRules};
 use not_propagate::NotPass;
 use phase_poly::ResynthPass;
-use rewrite_pass::{Pass, Settle, Then, Trace, Traced, WhileSmaller};
+use rewrite_pass::{Pass, Round, Settle, Then, Trace, Traced, WhileSmaller};
 use rotation_merge::MergePass;
 use std::alloc::{AllocError, Global};
 
@@ -32,8 +32,8 @@ pub fn rewrite(alloc: Global, body: Circuit, traced: bool) -> Result<Rewritten, 
     ensures asked { IfOk result (λ r. is_some r.steps ≡ traced) }
     ensures steps { IfOk result (λ r. IfSome r.steps (λ ss. AreSteps body.wires body.gates ss r.passed.body.gates r.passed.turn)) }
 {
-    let round = Then(NotPass, Then(HadamardPass, CancelPass));
-    let rounds = WhileSmaller(round, MergePass);
+    let before = Then(NotPass, Then(HadamardPass, CancelPass));
+    let rounds = WhileSmaller(Round(before, MergePass));
     let rest = Settle(HadamardRules, CancelPass, MergePass);
     let passes = Then(rounds, Then(ResynthPass, rest));
     if traced {

@@ -1,6 +1,6 @@
 //! Passes made of passes.
 
-ghost use Rattle.std.specs.Prelude.{◌≡◌, ℕ, ◌<◌, ◌≤◌, List, length, IfOk, IfSome, IfNone};
+ghost use Rattle.std.specs.Prelude.{◌≡◌, ℕ, ◌<◌, ◌≤◌, List, length, IfOk};
 ghost use Rattle.circuit_list.specs.declared.Gate.{Gate};
 ghost use Rattle.rewrite_pass.specs.Law.{IsRewriting};
 
@@ -22,55 +22,94 @@ impl<A: Pass, B: Pass> Pass for Then<A, B> {
     ghost kept = { λ _ _ _. Unit {0} };
 
     fn run(&self, alloc: Global, body: Circuit) -> Result<Passed, AllocError> {
-        let first = self.0.run(alloc, body)?;
-        let second = self.1.run(alloc, first.body)?;
-        let turn = turn_sum(first.turn, second.turn);
-        Ok(Passed {
-            body: second.body,
-            turn,
-        })
+        in_turn(alloc, &self.0, &self.1, body)
     }
 }
 
-/// Two passes, one after the other, once, and then again while that makes the circuit smaller. Of the results, of which the
-/// first always counts, it is the last that has fewer gates than the one before. The passes once more take no gate from it, or
-/// the first of them leaves it as it is: then the second isn't run again, since it may leave what it gave ([`MayStay`]).
+/// Two passes, one after the other, as in [`Then`]. Once more on a result of theirs, where the first leaves it as it is, the
+/// second isn't run: it may leave what it gave ([`MayStay`]).
 #[derive(Clone, Debug, Drop)]
-pub struct WhileSmaller<A, B>(pub A, pub B);
+pub struct Round<A, B>(pub A, pub B);
 
-impl<A: Pass, B: MayStay> Pass for WhileSmaller<A, B> {
-    ghost use Rattle.std.specs.Prelude.{◌≤◌, List, length};
+impl<A: Pass, B: MayStay> Pass for Round<A, B> {
+    ghost use Rattle.std.specs.Prelude.{List};
     ghost use Rattle.circuit_list.specs.declared.Gate.{Gate};
 
     ghost shape = { B.shape };
 
-    ghost kept = { λ n old new. (gs hs : List Gate) × (A.kept n new gs × (B.kept n gs hs × (length new ≤ length hs))) };
+    ghost kept = { λ n old new. (gs : List Gate) × (A.kept n old gs × B.kept n gs new) };
 
     fn run(&self, alloc: Global, body: Circuit) -> Result<Passed, AllocError> {
-        smallest(alloc, self, body)
+        in_turn(alloc, &self.0, &self.1, body)
+    }
+
+    fn run_again(&self, alloc: Global, body: &Circuit) -> Result<Option<Passed>, AllocError> {
+        let copy = body.copy()?;
+        let first = self.0.run(alloc, copy)?;
+        if are_same(body, &first.body) {
+            return Ok(None);
+        }
+        let second = self.1.run(alloc, first.body)?;
+        if second.body.len() >= body.len() {
+            return Ok(None);
+        }
+        let turn = turn_sum(first.turn, second.turn);
+        Ok(Some(Passed {
+            body: second.body,
+            turn,
+        }))
     }
 }
 
-/// What [`WhileSmaller`] gives: a result from which one more round takes no gate, or need not take one.
-fn smallest<A: Pass, B: MayStay>(
+/// What a pass gives, and another one behind it.
+fn in_turn<A: Pass, B: Pass>(
     alloc: Global,
-    passes: &WhileSmaller<A, B>,
+    a: &A,
+    b: &B,
     body: Circuit,
 ) -> Result<Passed, AllocError>
     ensures wires { IfOk result (λ p. p.body.wires ≡ body.wires) }
     ensures law { IfOk result (λ p. IsRewriting body.wires body.gates p.body.gates p.turn) }
     ensures shape { IfOk result (λ p. B.shape body.wires p.body.gates) }
-    ensures again { IfOk result (λ p. (gs hs : List Gate) × (A.kept body.wires p.body.gates gs × (B.kept body.wires gs hs × (length p.body.gates ≤ length hs)))) }
+    ensures kept { IfOk result (λ p. (gs : List Gate) × (A.kept body.wires body.gates gs × B.kept body.wires gs p.body.gates)) }
 {
-    let first = passes.0.run(alloc, body)?;
-    let second = passes.1.run(alloc, first.body)?;
+    let first = a.run(alloc, body)?;
+    let second = b.run(alloc, first.body)?;
     let turn = turn_sum(first.turn, second.turn);
-    let mut keep = Passed {
+    Ok(Passed {
         body: second.body,
         turn,
-    };
+    })
+}
+
+/// A pass once, and then again while that makes the circuit smaller. Of the results, of which the first always counts, it is
+/// the last that has fewer gates than the one before: the pass once more takes no gate from it ([`Pass::run_again`]).
+#[derive(Clone, Debug, Drop)]
+pub struct WhileSmaller<P>(pub P);
+
+impl<P: Pass> Pass for WhileSmaller<P> {
+    ghost use Rattle.std.specs.Prelude.{◌≤◌, List, length};
+    ghost use Rattle.circuit_list.specs.declared.Gate.{Gate};
+
+    ghost shape = { P.shape };
+
+    ghost kept = { λ n old new. (gs : List Gate) × (P.kept n new gs × (length new ≤ length gs)) };
+
+    fn run(&self, alloc: Global, body: Circuit) -> Result<Passed, AllocError> {
+        smallest(alloc, &self.0, body)
+    }
+}
+
+/// What [`WhileSmaller`] gives: a result which one more run does not make smaller.
+fn smallest<P: Pass>(alloc: Global, pass: &P, body: Circuit) -> Result<Passed, AllocError>
+    ensures wires { IfOk result (λ p. p.body.wires ≡ body.wires) }
+    ensures law { IfOk result (λ p. IsRewriting body.wires body.gates p.body.gates p.turn) }
+    ensures shape { IfOk result (λ p. P.shape body.wires p.body.gates) }
+    ensures again { IfOk result (λ p. (gs : List Gate) × (P.kept body.wires p.body.gates gs × (length p.body.gates ≤ length gs))) }
+{
+    let mut keep = pass.run(alloc, body)?;
     'rounds: loop {
-        let Some(next) = smaller(alloc, passes, &keep.body)? else {
+        let Some(next) = pass.run_again(alloc, &keep.body)? else {
             return Ok(keep);
         };
         let turn = turn_sum(keep.turn, next.turn);
@@ -79,35 +118,6 @@ fn smallest<A: Pass, B: MayStay>(
             turn,
         };
     }
-}
-
-/// The passes once more on what the second gave, where that makes it smaller.
-fn smaller<A: Pass, B: MayStay>(
-    alloc: Global,
-    passes: &WhileSmaller<A, B>,
-    body: &Circuit,
-) -> Result<Option<Passed>, AllocError>
-    requires shape { B.shape body.now.wires body.now.gates }
-    ensures wires { IfOk result (λ o. IfSome o (λ p. p.body.wires ≡ body.now.wires)) }
-    ensures law { IfOk result (λ o. IfSome o (λ p. IsRewriting body.now.wires body.now.gates p.body.gates p.turn)) }
-    ensures shape { IfOk result (λ o. IfSome o (λ p. B.shape body.now.wires p.body.gates)) }
-    ensures fewer { IfOk result (λ o. IfSome o (λ p. length p.body.gates < length body.now.gates)) }
-    ensures none { IfOk result (λ o. IfNone o ((gs hs : List Gate) × (A.kept body.now.wires body.now.gates gs × (B.kept body.now.wires gs hs × (length body.now.gates ≤ length hs))))) }
-{
-    let copy = body.copy()?;
-    let first = passes.0.run(alloc, copy)?;
-    if are_same(body, &first.body) {
-        return Ok(None);
-    }
-    let second = passes.1.run(alloc, first.body)?;
-    if second.body.len() >= body.len() {
-        return Ok(None);
-    }
-    let turn = turn_sum(first.turn, second.turn);
-    Ok(Some(Passed {
-        body: second.body,
-        turn,
-    }))
 }
 
 /// A rule's sweep and two passes, again and again, until the passes leave as many gates as the sweep did. Nothing is left to

@@ -4,7 +4,7 @@
 //! pass keeps one law ([`Pass`], `specs/Law.antt`): the amplitudes up to that power of w, and no more T
 //! gates, CNOTs and odd path parities than before. Each pass has a shape that its results have.
 //! A rule ([`Rule`]) finds a local change of a few gates; [`Sweep`] makes a pass of a rule, and
-//! [`Then`], [`WhileSmaller`] and [`Settle`] make passes of passes. They name no gate: what they
+//! [`Then`], [`Round`], [`WhileSmaller`] and [`Settle`] make passes of passes. They name no gate: what they
 //! promise follows from what their parts promise.
 //! A pass that is [`Traced`] also tells its steps ([`Trace`]): steps of a table (`specs/Traces.antt`) that lead from the circuit
 //! to the result, which anyone can check again.
@@ -25,7 +25,7 @@ mod traced;
 mod walks;
 mod wires;
 
-pub use combine::{Settle, Then, WhileSmaller};
+pub use combine::{Round, Settle, Then, WhileSmaller};
 pub use pass::{KeepsPairs, MayStay, Pass, Shrinks};
 pub use rule::{Change, Edit, NumberedRule, Rule};
 pub use sweep::Sweep;

@@ -1,6 +1,6 @@
 //! What a pass is.
 
-ghost use Rattle.std.specs.Prelude.{◌≡◌, ℕ, List, IfOk};
+ghost use Rattle.std.specs.Prelude.{◌≡◌, ℕ, ◌<◌, ◌≤◌, List, length, IfOk, IfSome, IfNone};
 ghost use Rattle.circuit_list.specs.declared.Gate.{Gate};
 ghost use Rattle.rewrite_pass.specs.Law.{IsRewriting, IsSmallerOrSame, KeepsCnots};
 
@@ -21,6 +21,24 @@ pub trait Pass {
         ensures law { IfOk result (λ p. IsRewriting body.wires body.gates p.body.gates p.turn) }
         ensures shape { IfOk result (λ p. shape body.wires p.body.gates) }
         ensures kept { IfOk result (λ p. kept body.wires body.gates p.body.gates) };
+
+    /// One more run, on a result of the pass: what it gives where that has fewer gates, and else nothing. A pass that knows that
+    /// it may leave its result needn't run to the end.
+    fn run_again(&self, alloc: Global, body: &Circuit) -> Result<Option<Passed>, AllocError>
+        requires shape { shape body.now.wires body.now.gates }
+        ensures wires { IfOk result (λ o. IfSome o (λ p. p.body.wires ≡ body.now.wires)) }
+        ensures law { IfOk result (λ o. IfSome o (λ p. IsRewriting body.now.wires body.now.gates p.body.gates p.turn)) }
+        ensures shape { IfOk result (λ o. IfSome o (λ p. shape body.now.wires p.body.gates)) }
+        ensures fewer { IfOk result (λ o. IfSome o (λ p. length p.body.gates < length body.now.gates)) }
+        ensures none { IfOk result (λ o. IfNone o ((gs : List Gate) × (kept body.now.wires body.now.gates gs × (length body.now.gates ≤ length gs)))) }
+    {
+        let copy = body.copy()?;
+        let next = self.run(alloc, copy)?;
+        if next.body.len() >= body.len() {
+            return Ok(None);
+        }
+        Ok(Some(next))
+    }
 }
 
 /// A pass that puts no CNOT between two wires, control and target, where none was before.

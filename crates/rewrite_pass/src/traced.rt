@@ -5,7 +5,7 @@ ghost use Rattle.circuit_list.specs.declared.Gate.{Gate};
 ghost use Rattle.rewrite_pass.specs.Law.{IsRewriting};
 ghost use Rattle.rewrite_pass.specs.TraceOf.{IsTraced};
 
-use crate::combine::{Settle, Then, WhileSmaller};
+use crate::combine::{Round, Settle, Then, WhileSmaller};
 use crate::gates::are_same;
 use crate::make::make_change;
 use crate::pass::{MayStay, Pass, Shrinks};
@@ -32,6 +32,33 @@ pub trait Traced: Pass {
         ensures kept { IfOk result (λ p. Self.kept body.wires body.gates p.body.gates) }
         ensures traced { IfOk result (λ p. IsTraced body.wires body.gates p.body.gates p.turn trace.old trace.new) }
         ensures unchanged { OnErr result (trace.new ≡ trace.old) };
+
+    /// What [`Pass::run_again`] may give, and its steps. Where that is nothing or there is no memory the trace is as it was.
+    fn run_again_traced(
+        &self,
+        alloc: Global,
+        body: &Circuit,
+        trace: &mut Trace,
+    ) -> Result<Option<Passed>, AllocError>
+        requires shape { Self.shape body.now.wires body.now.gates }
+        ensures wires { IfOk result (λ o. IfSome o (λ p. p.body.wires ≡ body.now.wires)) }
+        ensures law { IfOk result (λ o. IfSome o (λ p. IsRewriting body.now.wires body.now.gates p.body.gates p.turn)) }
+        ensures shape { IfOk result (λ o. IfSome o (λ p. Self.shape body.now.wires p.body.gates)) }
+        ensures fewer { IfOk result (λ o. IfSome o (λ p. length p.body.gates < length body.now.gates)) }
+        ensures none { IfOk result (λ o. IfNone o ((gs : List Gate) × (Self.kept body.now.wires body.now.gates gs × (length body.now.gates ≤ length gs)))) }
+        ensures traced { IfOk result (λ o. IfSome o (λ p. IsTraced body.now.wires body.now.gates p.body.gates p.turn trace.old trace.new)) }
+        ensures dropped { IfOk result (λ o. IfNone o (trace.new ≡ trace.old)) }
+        ensures unchanged { OnErr result (trace.new ≡ trace.old) }
+    {
+        let before = trace.len();
+        let copy = body.copy()?;
+        let next = self.run_traced(alloc, copy, trace)?;
+        if next.body.len() >= body.len() {
+            trace.truncate(before);
+            return Ok(None);
+        }
+        Ok(Some(next))
+    }
 }
 
 impl<A: Traced, B: Traced> Traced for Then<A, B> {
@@ -41,34 +68,33 @@ impl<A: Traced, B: Traced> Traced for Then<A, B> {
         body: Circuit,
         trace: &mut Trace,
     ) -> Result<Passed, AllocError> {
-        let start = trace.len();
-        let first = self.0.run_traced(alloc, body, trace)?;
-        match self.1.run_traced(alloc, first.body, trace) {
-            Ok(second) => {
-                let turn = turn_sum(first.turn, second.turn);
-                Ok(Passed {
-                    body: second.body,
-                    turn,
-                })
-            }
-            Err(error) => {
-                trace.truncate(start);
-                Err(error)
-            }
-        }
+        in_turn_traced(alloc, &self.0, &self.1, body, trace)
     }
 }
 
-impl<A: Traced, B: MayStay + Traced> Traced for WhileSmaller<A, B> {
+impl<A: Traced, B: MayStay + Traced> Traced for Round<A, B> {
     fn run_traced(
         &self,
         alloc: Global,
         body: Circuit,
         trace: &mut Trace,
     ) -> Result<Passed, AllocError> {
+        in_turn_traced(alloc, &self.0, &self.1, body, trace)
+    }
+
+    fn run_again_traced(
+        &self,
+        alloc: Global,
+        body: &Circuit,
+        trace: &mut Trace,
+    ) -> Result<Option<Passed>, AllocError> {
         let start = trace.len();
-        match smallest_traced(alloc, self, body, trace) {
-            Ok(passed) => Ok(passed),
+        match smaller_traced(alloc, self, body, trace) {
+            Ok(Some(passed)) => Ok(Some(passed)),
+            Ok(None) => {
+                trace.truncate(start);
+                Ok(None)
+            }
             Err(error) => {
                 trace.truncate(start);
                 Err(error)
@@ -77,45 +103,42 @@ impl<A: Traced, B: MayStay + Traced> Traced for WhileSmaller<A, B> {
     }
 }
 
-/// What [`WhileSmaller`] gives; the steps of the round that is dropped go again.
-fn smallest_traced<A: Traced, B: MayStay + Traced>(
+/// What a pass gives, and another one behind it, with their steps.
+fn in_turn_traced<A: Traced, B: Traced>(
     alloc: Global,
-    passes: &WhileSmaller<A, B>,
+    a: &A,
+    b: &B,
     body: Circuit,
     trace: &mut Trace,
 ) -> Result<Passed, AllocError>
     ensures wires { IfOk result (λ p. p.body.wires ≡ body.wires) }
     ensures law { IfOk result (λ p. IsRewriting body.wires body.gates p.body.gates p.turn) }
     ensures shape { IfOk result (λ p. B.shape body.wires p.body.gates) }
-    ensures again { IfOk result (λ p. (gs hs : List Gate) × (A.kept body.wires p.body.gates gs × (B.kept body.wires gs hs × (length p.body.gates ≤ length hs)))) }
+    ensures kept { IfOk result (λ p. (gs : List Gate) × (A.kept body.wires body.gates gs × B.kept body.wires gs p.body.gates)) }
     ensures traced { IfOk result (λ p. IsTraced body.wires body.gates p.body.gates p.turn trace.old trace.new) }
-    ensures before { take (length trace.old) trace.new ≡ trace.old }
+    ensures unchanged { OnErr result (trace.new ≡ trace.old) }
 {
-    let first = passes.0.run_traced(alloc, body, trace)?;
-    let second = passes.1.run_traced(alloc, first.body, trace)?;
-    let turn = turn_sum(first.turn, second.turn);
-    let mut keep = Passed {
-        body: second.body,
-        turn,
-    };
-    'rounds: loop {
-        let before = trace.len();
-        let Some(next) = smaller_traced(alloc, passes, &keep.body, trace)? else {
-            trace.truncate(before);
-            return Ok(keep);
-        };
-        let turn = turn_sum(keep.turn, next.turn);
-        keep = Passed {
-            body: next.body,
-            turn,
-        };
+    let start = trace.len();
+    let first = a.run_traced(alloc, body, trace)?;
+    match b.run_traced(alloc, first.body, trace) {
+        Ok(second) => {
+            let turn = turn_sum(first.turn, second.turn);
+            Ok(Passed {
+                body: second.body,
+                turn,
+            })
+        }
+        Err(error) => {
+            trace.truncate(start);
+            Err(error)
+        }
     }
 }
 
 /// The passes once more on what the second gave, where that makes it smaller; where it doesn't, some steps may stand there.
 fn smaller_traced<A: Traced, B: MayStay + Traced>(
     alloc: Global,
-    passes: &WhileSmaller<A, B>,
+    passes: &Round<A, B>,
     body: &Circuit,
     trace: &mut Trace,
 ) -> Result<Option<Passed>, AllocError>
@@ -124,7 +147,7 @@ fn smaller_traced<A: Traced, B: MayStay + Traced>(
     ensures law { IfOk result (λ o. IfSome o (λ p. IsRewriting body.now.wires body.now.gates p.body.gates p.turn)) }
     ensures shape { IfOk result (λ o. IfSome o (λ p. B.shape body.now.wires p.body.gates)) }
     ensures fewer { IfOk result (λ o. IfSome o (λ p. length p.body.gates < length body.now.gates)) }
-    ensures none { IfOk result (λ o. IfNone o ((gs hs : List Gate) × (A.kept body.now.wires body.now.gates gs × (B.kept body.now.wires gs hs × (length body.now.gates ≤ length hs))))) }
+    ensures none { IfOk result (λ o. IfNone o ((hs : List Gate) × (((gs : List Gate) × (A.kept body.now.wires body.now.gates gs × B.kept body.now.wires gs hs)) × (length body.now.gates ≤ length hs)))) }
     ensures traced { IfOk result (λ o. IfSome o (λ p. IsTraced body.now.wires body.now.gates p.body.gates p.turn trace.old trace.new)) }
     ensures before { take (length trace.old) trace.new ≡ trace.old }
 {
@@ -142,6 +165,51 @@ fn smaller_traced<A: Traced, B: MayStay + Traced>(
         body: second.body,
         turn,
     }))
+}
+
+impl<P: Traced> Traced for WhileSmaller<P> {
+    fn run_traced(
+        &self,
+        alloc: Global,
+        body: Circuit,
+        trace: &mut Trace,
+    ) -> Result<Passed, AllocError> {
+        let start = trace.len();
+        match smallest_traced(alloc, &self.0, body, trace) {
+            Ok(passed) => Ok(passed),
+            Err(error) => {
+                trace.truncate(start);
+                Err(error)
+            }
+        }
+    }
+}
+
+/// What [`WhileSmaller`] gives, with its steps.
+fn smallest_traced<P: Traced>(
+    alloc: Global,
+    pass: &P,
+    body: Circuit,
+    trace: &mut Trace,
+) -> Result<Passed, AllocError>
+    ensures wires { IfOk result (λ p. p.body.wires ≡ body.wires) }
+    ensures law { IfOk result (λ p. IsRewriting body.wires body.gates p.body.gates p.turn) }
+    ensures shape { IfOk result (λ p. P.shape body.wires p.body.gates) }
+    ensures again { IfOk result (λ p. (gs : List Gate) × (P.kept body.wires p.body.gates gs × (length p.body.gates ≤ length gs))) }
+    ensures traced { IfOk result (λ p. IsTraced body.wires body.gates p.body.gates p.turn trace.old trace.new) }
+    ensures before { take (length trace.old) trace.new ≡ trace.old }
+{
+    let mut keep = pass.run_traced(alloc, body, trace)?;
+    'rounds: loop {
+        let Some(next) = pass.run_again_traced(alloc, &keep.body, trace)? else {
+            return Ok(keep);
+        };
+        let turn = turn_sum(keep.turn, next.turn);
+        keep = Passed {
+            body: next.body,
+            turn,
+        };
+    }
 }
 
 impl<R: NumberedRule> Traced for Sweep<R> {
