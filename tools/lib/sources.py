@@ -205,7 +205,7 @@ class Promise:
 
 
 PROMISE = re.compile(r"    ghost (\w+) = \{ (.*) \};$")
-WRITTEN_FOR = re.compile(r"impl(?:<.*?>)? (Pass|Rule|KeepsPairs|Shrinks) for (\w+)")
+WRITTEN_FOR = re.compile(r"impl(?:<.*?>)? (Pass|Rule|KeepsPairs|MayStay|Shrinks) for (\w+)")
 
 
 def promises(crate, top=TOP):
