@@ -57,7 +57,22 @@ fn rows_by_hand(rt: HostRuntime) -> Result<(), Fail> {
     Ok(())
 }
 
-/// The steps of rows by hand; nothing is left to the passes that come behind.
+/// The lines of the steps that a pass tells of gates on three wires.
+fn lines_of(
+    rt: &impl Abort,
+    alloc: Global,
+    pass: &impl Traced,
+    source: &str,
+) -> Result<Vec<u8>, Fail> {
+    let gates = gates_of_text(alloc, source)?;
+    let body = circuit_of(alloc, 3, &gates)?.expect(rt, "gates on the wires");
+    let mut trace = Trace::start(alloc);
+    let passed = pass.run_traced(alloc, body, &mut trace)?;
+    assert!(rt; passed.turn < 8);
+    Ok(trace.lines()?)
+}
+
+/// The steps of rows by hand. What is put together tells the steps of its parts, and none of the run that takes no gate away.
 #[test]
 fn tells_its_steps(rt: HostRuntime) -> Result<(), Fail> {
     let alloc = rt.alloc();
@@ -66,15 +81,19 @@ fn tells_its_steps(rt: HostRuntime) -> Result<(), Fail> {
         ("x.0 x.0", "both 0 1\n"),
         ("1.0 h.0 h.0 1.0", "both 1 2\njoin 0 1\n"),
         ("c01 c02 1.0 c01", "both 0 3\n"),
+        // the phases go by their labels, and the CNOTs in the run behind
+        (
+            "c01 1.1 c01 c10 7.0 c10",
+            "sums 4\nC 0 1\nC 0 1\nC 1 0\nC 1 0\nboth 0 1\nboth 0 1\n",
+        ),
     ];
     'rows: for (source, lines) in rows {
-        let gates = gates_of_text(alloc, source)?;
-        let body = circuit_of(alloc, 3, &gates)?.expect(&rt, "gates on the wires");
-        let mut trace = Trace::start(alloc);
-        let passes = Then(CancelPass, WhileSmaller(Round(CancelPass, MergePass)));
-        let passed = passes.run_traced(alloc, body, &mut trace)?;
-        assert!(rt; passed.turn < 8);
-        assert_eq!(rt; trace.lines()?.as_slice(), lines.as_bytes(), "at {source}");
+        let rounds = Then(CancelPass, WhileSmaller(Round(CancelPass, MergePass)));
+        let told = lines_of(&rt, alloc, &rounds, source)?;
+        assert_eq!(rt; told.as_slice(), lines.as_bytes(), "at {source}");
+        let plain = WhileSmaller(Then(CancelPass, MergePass));
+        let told = lines_of(&rt, alloc, &plain, source)?;
+        assert_eq!(rt; told.as_slice(), lines.as_bytes(), "at {source}");
     }
     Ok(())
 }

@@ -17,9 +17,12 @@ use unitary_model::turn_sum;
 pub struct Then<A, B>(pub A, pub B);
 
 impl<A: Pass, B: Pass> Pass for Then<A, B> {
+    ghost use Rattle.std.specs.Prelude.{List};
+    ghost use Rattle.circuit_list.specs.declared.Gate.{Gate};
+
     ghost shape = { B.shape };
 
-    ghost kept = { λ _ _ _. Unit {0} };
+    ghost kept = { λ n old new. (gs : List Gate) × (A.kept n old gs × B.kept n gs new) };
 
     fn run(&self, alloc: Global, body: Circuit) -> Result<Passed, AllocError> {
         in_turn(alloc, &self.0, &self.1, body)
@@ -61,11 +64,11 @@ impl<A: Pass, B: MayStay> Pass for Round<A, B> {
     }
 }
 
-/// What a pass gives, and another one behind it.
+/// What one pass gives, and then another of that.
 fn in_turn<A: Pass, B: Pass>(
     alloc: Global,
-    a: &A,
-    b: &B,
+    front: &A,
+    back: &B,
     body: Circuit,
 ) -> Result<Passed, AllocError>
     ensures wires { IfOk result (λ p. p.body.wires ≡ body.wires) }
@@ -73,8 +76,8 @@ fn in_turn<A: Pass, B: Pass>(
     ensures shape { IfOk result (λ p. B.shape body.wires p.body.gates) }
     ensures kept { IfOk result (λ p. (gs : List Gate) × (A.kept body.wires body.gates gs × B.kept body.wires gs p.body.gates)) }
 {
-    let first = a.run(alloc, body)?;
-    let second = b.run(alloc, first.body)?;
+    let first = front.run(alloc, body)?;
+    let second = back.run(alloc, first.body)?;
     let turn = turn_sum(first.turn, second.turn);
     Ok(Passed {
         body: second.body,
@@ -83,7 +86,7 @@ fn in_turn<A: Pass, B: Pass>(
 }
 
 /// A pass once, and then again while that makes the circuit smaller. Of the results, of which the first always counts, it is
-/// the last that has fewer gates than the one before: the pass once more takes no gate from it ([`Pass::run_again`]).
+/// the last that has fewer gates than the one before: one more run gives nothing then ([`Pass::run_again`]).
 #[derive(Clone, Debug, Drop)]
 pub struct WhileSmaller<P>(pub P);
 
@@ -100,7 +103,7 @@ impl<P: Pass> Pass for WhileSmaller<P> {
     }
 }
 
-/// What [`WhileSmaller`] gives: a result which one more run does not make smaller.
+/// What [`WhileSmaller`] gives: a result of which one more run gives nothing.
 fn smallest<P: Pass>(alloc: Global, pass: &P, body: Circuit) -> Result<Passed, AllocError>
     ensures wires { IfOk result (λ p. p.body.wires ≡ body.wires) }
     ensures law { IfOk result (λ p. IsRewriting body.wires body.gates p.body.gates p.turn) }

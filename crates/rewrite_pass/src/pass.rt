@@ -22,13 +22,14 @@ pub trait Pass {
         ensures shape { IfOk result (λ p. shape body.wires p.body.gates) }
         ensures kept { IfOk result (λ p. kept body.wires body.gates p.body.gates) };
 
-    /// One more run, on a result of the pass: what it gives where that has fewer gates, and else nothing. A pass that knows that
-    /// it may leave its result needn't run to the end.
+    /// One more run, on a result of the pass: its result where that has fewer gates, and nothing where it has as many, or where
+    /// the pass may leave the one before; then it needn't run to the end. Fails for want of memory alone.
     fn run_again(&self, alloc: Global, body: &Circuit) -> Result<Option<Passed>, AllocError>
         requires shape { shape body.now.wires body.now.gates }
         ensures wires { IfOk result (λ o. IfSome o (λ p. p.body.wires ≡ body.now.wires)) }
         ensures law { IfOk result (λ o. IfSome o (λ p. IsRewriting body.now.wires body.now.gates p.body.gates p.turn)) }
         ensures shape { IfOk result (λ o. IfSome o (λ p. shape body.now.wires p.body.gates)) }
+        ensures kept { IfOk result (λ o. IfSome o (λ p. kept body.now.wires body.now.gates p.body.gates)) }
         ensures fewer { IfOk result (λ o. IfSome o (λ p. length p.body.gates < length body.now.gates)) }
         ensures none { IfOk result (λ o. IfNone o ((gs : List Gate) × (kept body.now.wires body.now.gates gs × (length body.now.gates ≤ length gs)))) }
     {

@@ -44,17 +44,18 @@ pub trait Traced: Pass {
         ensures wires { IfOk result (λ o. IfSome o (λ p. p.body.wires ≡ body.now.wires)) }
         ensures law { IfOk result (λ o. IfSome o (λ p. IsRewriting body.now.wires body.now.gates p.body.gates p.turn)) }
         ensures shape { IfOk result (λ o. IfSome o (λ p. Self.shape body.now.wires p.body.gates)) }
+        ensures kept { IfOk result (λ o. IfSome o (λ p. Self.kept body.now.wires body.now.gates p.body.gates)) }
         ensures fewer { IfOk result (λ o. IfSome o (λ p. length p.body.gates < length body.now.gates)) }
         ensures none { IfOk result (λ o. IfNone o ((gs : List Gate) × (Self.kept body.now.wires body.now.gates gs × (length body.now.gates ≤ length gs)))) }
         ensures traced { IfOk result (λ o. IfSome o (λ p. IsTraced body.now.wires body.now.gates p.body.gates p.turn trace.old trace.new)) }
         ensures dropped { IfOk result (λ o. IfNone o (trace.new ≡ trace.old)) }
         ensures unchanged { OnErr result (trace.new ≡ trace.old) }
     {
-        let before = trace.len();
+        let start = trace.len();
         let copy = body.copy()?;
         let next = self.run_traced(alloc, copy, trace)?;
         if next.body.len() >= body.len() {
-            trace.truncate(before);
+            trace.truncate(start);
             return Ok(None);
         }
         Ok(Some(next))
@@ -103,11 +104,11 @@ impl<A: Traced, B: MayStay + Traced> Traced for Round<A, B> {
     }
 }
 
-/// What a pass gives, and another one behind it, with their steps.
+/// What one pass gives, and then another of that, with their steps.
 fn in_turn_traced<A: Traced, B: Traced>(
     alloc: Global,
-    a: &A,
-    b: &B,
+    front: &A,
+    back: &B,
     body: Circuit,
     trace: &mut Trace,
 ) -> Result<Passed, AllocError>
@@ -119,8 +120,8 @@ fn in_turn_traced<A: Traced, B: Traced>(
     ensures unchanged { OnErr result (trace.new ≡ trace.old) }
 {
     let start = trace.len();
-    let first = a.run_traced(alloc, body, trace)?;
-    match b.run_traced(alloc, first.body, trace) {
+    let first = front.run_traced(alloc, body, trace)?;
+    match back.run_traced(alloc, first.body, trace) {
         Ok(second) => {
             let turn = turn_sum(first.turn, second.turn);
             Ok(Passed {
@@ -146,6 +147,7 @@ fn smaller_traced<A: Traced, B: MayStay + Traced>(
     ensures wires { IfOk result (λ o. IfSome o (λ p. p.body.wires ≡ body.now.wires)) }
     ensures law { IfOk result (λ o. IfSome o (λ p. IsRewriting body.now.wires body.now.gates p.body.gates p.turn)) }
     ensures shape { IfOk result (λ o. IfSome o (λ p. B.shape body.now.wires p.body.gates)) }
+    ensures kept { IfOk result (λ o. IfSome o (λ p. (gs : List Gate) × (A.kept body.now.wires body.now.gates gs × B.kept body.now.wires gs p.body.gates))) }
     ensures fewer { IfOk result (λ o. IfSome o (λ p. length p.body.gates < length body.now.gates)) }
     ensures none { IfOk result (λ o. IfNone o ((hs : List Gate) × (((gs : List Gate) × (A.kept body.now.wires body.now.gates gs × B.kept body.now.wires gs hs)) × (length body.now.gates ≤ length hs)))) }
     ensures traced { IfOk result (λ o. IfSome o (λ p. IsTraced body.now.wires body.now.gates p.body.gates p.turn trace.old trace.new)) }
