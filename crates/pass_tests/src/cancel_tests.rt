@@ -5,6 +5,8 @@ ghost use Rattle.std.specs.Prelude.{◌<◌};
 use circuit_list::Gate;
 use commute_rules::{Cancel, cancels, commute};
 use gate_cancel::CancelPass;
+use hadamard_reduce::HadamardPass;
+use not_propagate::NotPass;
 use rewrite_pass::{Pass, Round, Then, Trace, Traced, WhileSmaller};
 use rotation_merge::MergePass;
 use std::alloc::Global;
@@ -57,44 +59,58 @@ fn rows_by_hand(rt: HostRuntime) -> Result<(), Fail> {
     Ok(())
 }
 
-/// The lines of the steps that a pass tells of gates on three wires.
-fn lines_of(
+/// Whether a pass tells these steps of gates on three wires, and has this turn.
+fn tells(
     rt: &impl Abort,
     alloc: Global,
     pass: &impl Traced,
     source: &str,
-) -> Result<Vec<u8>, Fail> {
+    turn: u8,
+    lines: &str,
+) -> Result<bool, Fail> {
     let gates = gates_of_text(alloc, source)?;
     let body = circuit_of(alloc, 3, &gates)?.expect(rt, "gates on the wires");
     let mut trace = Trace::start(alloc);
     let passed = pass.run_traced(alloc, body, &mut trace)?;
-    assert!(rt; passed.turn < 8);
-    Ok(trace.lines()?)
+    let told = trace.lines()?;
+    Ok(passed.turn == turn && told.as_slice() == lines.as_bytes())
 }
 
-/// The steps of rows by hand. What is put together tells the steps of its parts, and none of the run that takes no gate away.
+/// Turns and steps of rows by hand. What is put together tells the steps of its parts, and none of the run that takes no gate
+/// away.
 #[test]
 fn tells_its_steps(rt: HostRuntime) -> Result<(), Fail> {
     let alloc = rt.alloc();
     let rows = [
-        ("h.0 x.0 h.0", ""),
-        ("x.0 x.0", "both 0 1\n"),
-        ("1.0 h.0 h.0 1.0", "both 1 2\njoin 0 1\n"),
-        ("c01 c02 1.0 c01", "both 0 3\n"),
+        ("h.0 x.0 h.0", 0, ""),
+        ("x.0 x.0", 4, "both 0 1\n"),
+        ("1.0 h.0 h.0 1.0", 6, "both 1 2\njoin 0 1\n"),
+        ("c01 c02 1.0 c01", 0, "both 0 3\n"),
         // the phases go by their labels, and the CNOTs in the run behind
         (
             "c01 1.1 c01 c10 7.0 c10",
+            0,
             "sums 4\nC 0 1\nC 0 1\nC 1 0\nC 1 0\nboth 0 1\nboth 0 1\n",
         ),
     ];
-    'rows: for (source, lines) in rows {
+    'rows: for (source, turn, lines) in rows {
         let rounds = Then(CancelPass, WhileSmaller(Round(CancelPass, MergePass)));
-        let told = lines_of(&rt, alloc, &rounds, source)?;
-        assert_eq!(rt; told.as_slice(), lines.as_bytes(), "at {source}");
+        assert!(rt;
+            tells(&rt, alloc, &rounds, source, turn, lines)?,
+            "at {source}"
+        );
         let plain = WhileSmaller(Then(CancelPass, MergePass));
-        let told = lines_of(&rt, alloc, &plain, source)?;
-        assert_eq!(rt; told.as_slice(), lines.as_bytes(), "at {source}");
+        assert!(rt;
+            tells(&rt, alloc, &plain, source, turn, lines)?,
+            "at {source}"
+        );
     }
+    // the next run takes the NOT past the CNOT, which makes one more of it, so its steps go
+    let source = "h.0 4.0 h.0 c01";
+    let plain = WhileSmaller(Then(NotPass, HadamardPass));
+    assert!(rt; tells(&rt, alloc, &plain, source, 0, "rule 3 0\n")?);
+    let rounds = WhileSmaller(Round(Then(NotPass, HadamardPass), MergePass));
+    assert!(rt; tells(&rt, alloc, &rounds, source, 0, "rule 3 0\n")?);
     Ok(())
 }
 
