@@ -2,8 +2,10 @@
 
 `KINDS` lists them: what a text is called, the words of the command, the status that it must end with, what makes the program's
 text, and what makes the device's or the target's where there is one. Each text is as long as it may be, or has as many
-operations, but for two kinds: the traces of H in turn with CNOTs, since for a `sums` each H takes as long as its label's row
-and time grows with the square of the H on one wire; and texts under a long name, of which `route` writes gigabytes.
+operations, but where time or what is written grows faster than the text: traces of H in turn with CNOTs, since for a `sums`
+each H takes as long as its label's row, and time grows with the square of the H on one wire; gates that double; gates in
+levels, of which there are three sizes; CNOTs with a barrier behind each; and texts under a long name, of which `route` writes
+gigabytes.
 """
 
 import dataclasses

@@ -41,6 +41,7 @@ class Bench(ToolTest):
         self.assertIn("wrong: routing on grid_4x5, 65536 gates: placements\n", out)
         self.assertIn("wrong: route --trace, 65536 gates: the trace begins and ends with [] in place of", out)
         self.assertIn("wrong: verify, 65536 gates: it says b''b'' in place of b'yes None\\n'\n", out)
+        self.assertIn("wrong: amplitude on 12 wires, 2000 gates: it says b'' in place of a power of w\n", out)
         self.assertIn("wrong: 20000 CNOTs on devices/grid_8x8_directed.toml: placements\n", out)
         self.assertIn("wrong: examples/bell.qasm, opt: ", out)
         self.assertIn("wrong: examples/bell.qasm, opt --spares 4: ", out)
@@ -74,6 +75,34 @@ class Bench(ToolTest):
         self.assertEqual(lines[2], "qreg q[4];")
         written = [it.replace("cx q[", "cx").replace("],q[", ".").replace(" q[", ".").rstrip("];") for it in lines[3:]]
         self.assertEqual((" ".join(written), counts), (gates, (4, 3)))
+
+    def test_a_program_that_is_taken_back(self):
+        whole = self.parts["entry_program"](122).decode()
+        self.assertEqual((whole.count("\nh "), whole.count(";\n")), (60, 125))
+        # what is left is a NOT and a T
+        ends = self.file("ends", whole.split("qreg")[0] + "qreg q[12];\nx q[0];\nt q[0];\n")
+        t_gates, cnots = self.parts["counted"](whole.splitlines())
+        report = {"barriers": 0, "device": 12, "format": 1, "phase": 0, "qubits": 12, "swaps": 0}
+        report |= {"t_before": t_gates, "t_after": 1, "cx_before": cnots, "cx_after": 0}
+        told = self.file("report", json.dumps(report | {"initial": [*range(12)], "final": [*range(12)]}) + "\n")
+        status, out, err = self.run_tool("check-small", self.file("whole", whole), ends, told)
+        self.assertEqual((status, err), (0, ""), out)
+
+    def test_powers(self):
+        for line, count in (("0 0 0 -1 0\n", 0), ("1 0 0 0 0\n", 0), ("1 0 0 0 1\n", 1), ("1 1 0 0 0\n", 1), ("2 0 0 0 0\n", 1), ("0 0 0 1 0", 1)):
+            answer = self.parts["Answer"](0, line.encode(), b"")
+            self.assertEqual(len(self.parts["entry_faults"](answer)), count, line)
+
+    def test_the_best_of_some_runs(self):
+        path = self.file("program", '#!/bin/sh\necho >> "$1"; [ $(wc -l < "$1") = "$2" ] && echo more\n')
+        os.chmod(path, 0o755)
+        self.file("in", "")
+        for last, wanted in (("9", 3), ("1", 2), ("2", 2)):
+            count = self.file("count", "")
+            answer, _, _ = self.parts["best_of"](3, [path, count, last], pathlib.Path(self.room))
+            with open(count) as file:
+                self.assertEqual(len(file.read()), wanted)
+            self.assertGreater(answer.wall, 0)
 
     def answer(self, gates, **told):
         """The answer with these lines of gates on a line of five qubits, and a report that is told otherwise."""
