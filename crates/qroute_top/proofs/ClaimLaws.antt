@@ -5,9 +5,8 @@
 --   trace-short              the trace of a text is short enough for the checker
 --   same_ending              on texts that are told `verify` ends in one way
 --   ending-unrefused         .. with 0 or 1 where both are there and neither is refused
---   yes-proved, yes-own      a trace that proves the claim gets a yes
 --   ended-claim, ended-verified   from the cause of a stop, and from what is verified, to the way in which it ends
-use Rattle.std.proofs.Common.{◌≡◌, ◌⊎◌, None, inl, inr, ℕ, ◌<◌, ◌≤◌, List, Option, Some, Result, Ok, Err, refl, sym, ap, ◌∙◌, arith, subst, length, false}
+use Rattle.std.proofs.Common.{◌≡◌, ◌⊎◌, None, inl, inr, ℕ, ◌<◌, ◌≤◌, List, Option, Some, Result, Ok, Err, refl, sym, ap, ◌∙◌, arith, subst, length, false, []}
 use Rattle.outside_io.specs.Causes.{Rose}
 use Rattle.outside_io.specs.Shelf.{HasNoText, IsTextCause, TellsText}
 use Rattle.outside_io.specs.declared.TextFault.{TextFault}
@@ -20,14 +19,12 @@ use Rattle.route_report.specs.declared.faults.Side.{Side}
 use Rattle.route_report.specs.declared.faults.Side.TheVariants as side
 use Rattle.trace_check.specs.Proves.{Claim, Proves, StopsAt}
 use Rattle.std.proofs.lemmas.Grind.{common_steps}
-use Rattle.std.specs.Prelude.{Bool, true, false, cond, codes, drop, nat_eq, suc, ◌+◌, [], ◌∷◌}
+use Rattle.std.specs.Prelude.{Bool, true, false, cond, codes, drop, nat_eq, suc, ◌+◌, ◌∷◌}
 use Rattle.trace_text.specs.Texts.{begins, begun, ended, lines_of, trace_of, traced}
-use Rattle.qroute_top.specs.Verdicts.{IsReadAs, IsVerdict, claim_of}
-use Rattle.qroute_top.specs.declared.verdict.Verdict.{Verdict}
-use Rattle.qroute_top.specs.declared.verdict.Verdict.TheVariants as verdict
+use Rattle.qroute_top.specs.Stops.{IsReadAs, IsClaimStop, IsTextStop, IsTraceStop, IsUnreadText, unloaded_text}
+use Rattle.circuit_target.specs.Standing.{claim_of}
 use Rattle.qroute_top.specs.Causes.{IsClaimCause, claim_status}
-use Rattle.qroute_top.specs.Claims.{Absent, AreTold, Bad, Ending, Found, Good, IsBehind, IsCompared, IsEnding, IsJudged, IsTextRefused, IsVerified, IsYes, Missing, Proved, Refused, Says, Stopped, ending_status, limit_of}
-use Rattle.qroute_top.specs.Stops.{IsClaimStop, IsTextStop, IsTraceStop, IsUnreadText, unloaded_text}
+use Rattle.qroute_top.specs.Claims.{Absent, AreTold, Bad, Ending, Found, Good, IsBehind, IsCompared, IsEnding, IsJudged, IsTextRefused, IsVerified, Missing, Proved, Refused, Says, Stopped, ending_status, limit_of}
 use Rattle.qroute_top.specs.declared.stops.ClaimStop.{ClaimStop}
 use Rattle.qroute_top.specs.declared.stops.ClaimStop.TheVariants as claim
 use Rattle.qroute_top.specs.declared.stops.Stop.{Stop}
@@ -300,35 +297,3 @@ behind_status o u s t (Good text p) x told fine here well says (f, found, c) = c
 pub ending-unrefused : (content : Content) (a b s t : List ℕ) (x : Ending) → content a ≡ Some (Some s) → Unrefused side.Source s
     → content b ≡ Some (Some t) → Unrefused side.Target t → IsEnding content a b x → (ending_status x ≡ 0) ⊎ (ending_status x ≡ 1)
 ending-unrefused content a b s t x told fine here well (f, says, c) = behind_status (content a) (content b) s t f x told fine here well says c
-
--- ---- a program's own trace
-abbrev pub AcceptedOrRefused : Type 0
-AcceptedOrRefused = (text : List ℕ) → ((p : Program) × IsAcceptedText text p) ⊎ ((r : ProgramRefusal) × IsTextRefusal text r)
-
-pub yes-proved : Readable → Traceable → (s t : List ℕ) (p q : Program) (first last : List ℕ) (phase : ℕ) (v : Verdict) → IsAcceptedText s p → IsAcceptedText t q
-    → Proves (claim_of p q) (trace_of t) first last phase → IsVerdict s t (trace_of t) v → IsYes first last phase v
-yes-proved law traces s t p q first last phase (verdict.Yes i l j) ok good proves (u, w, is, too, other) =
-    let source : u ≡ p = law.means s u p (written_of s u is) (written_of s p ok) in
-    let target : w ≡ q = law.means t w q (written_of t w too) (written_of t q good) in
-    let here : Proves (claim_of p q) (trace_of t) i.items l.items j =
-    subst (λ y. Proves (claim_of p y) (trace_of t) i.items l.items j) target
-    (subst (λ y. Proves (claim_of y w) (trace_of t) i.items l.items j) source other) in
-    let same = traces.one_proof (claim_of p q) (trace_of t) i.items l.items first last j phase here proves in
-    (same.0, same.1.0, same.1.1)
-yes-proved law traces s t p q first last phase (verdict.No line) ok good proves (u, w, is, too, other) =
-    let source : u ≡ p = law.means s u p (written_of s u is) (written_of s p ok) in
-    let target : w ≡ q = law.means t w q (written_of t w too) (written_of t q good) in
-    let here : StopsAt (claim_of p q) (trace_of t) line =
-    subst (λ y. StopsAt (claim_of p y) (trace_of t) line) target (subst (λ y. StopsAt (claim_of y w) (trace_of t) line) source other) in
-    absurd (traces.not_both (claim_of p q) (trace_of t) line first last phase here proves)
-yes-proved law traces s t p q first last phase (verdict.Source r) ok good proves (f, is, code, at) = absurd (law.accepted s p f ok is)
-yes-proved law traces s t p q first last phase (verdict.Target r) ok good proves (readable, (f, is, code, at)) = absurd (law.accepted t q f good is)
-
-pub yes-own : Readable → Traceable → AcceptedOrRefused → (s t : List ℕ) (p q : Program) (first last : List ℕ) (phase : ℕ) (v : Verdict) → IsAcceptedText s p
-    → IsWritten t q → ((r : ProgramRefusal) → IsTextRefusal t r → ⊥) → Proves (claim_of p q) (trace_of t) first last phase → IsVerdict s t (trace_of t) v
-    → IsYes first last phase v
-yes-own law traces either s t p q first last phase v ok written fine proves is = elim (either t) [
-  | inl good ↦ yes-proved law traces s t p q first last phase v ok
-      (subst (IsAcceptedText t) (law.means t good.0 q (written_of t good.0 good.1) written) good.1) proves is
-  | inr refused ↦ absurd (fine refused.0 refused.1)
-]

@@ -2,7 +2,7 @@
 --   Says-once              a text says one thing
 --   IsDevice-refused       a text that describes a device is refused for too few qubits alone
 --   IsDeviceCause-text, IsDeviceCause-stop     why a device isn't had
-use Rattle.std.proofs.Common.{◌≡◌, ℕ, ◌≤◌, List, [], Option, Some, sym, ap, ◌∙◌, arith}
+use Rattle.std.proofs.Common.{◌≡◌, ℕ, ◌≤◌, List, Option, Some, sym, ap, ◌∙◌, arith, []}
 use Rattle.outside_io.specs.Shelf.{IsTextCause, TellsText}
 use Rattle.outside_io.specs.declared.TextFault.{TextFault}
 use Rattle.outside_io.specs.declared.TextFault.TheVariants as text_fault

@@ -2,7 +2,7 @@
 --   IsEmitted-within     where what is right for the one is right for the other
 --   IsEmitted-answer       .. for an answer
 --   EndsLine, IsEmitted-line   a line alone;  IsEmitted-behind: behind a program that came
-use Rattle.std.proofs.Common.{◌≡◌, ◌⊎◌, inl, inr, ℕ, ◌<◌, Bool, true, false, List, [], ap, arith, subst, sym}
+use Rattle.std.proofs.Common.{◌≡◌, ◌⊎◌, inl, inr, ℕ, ◌<◌, Bool, true, false, List, ap, arith, subst, sym, []}
 use Rattle.outside_io.specs.Bytes.{Gains, GainsPrefix}
 use Rattle.outside_io.specs.Causes.{Rose}
 use Rattle.qasm_writer.specs.Outputs.{HasText}

@@ -2,14 +2,7 @@ pub mod StatusLaws
 pub mod EmittedLaws
 pub mod SourceLaws
 pub mod DeviceLaws
-pub mod TargetLaws
-pub mod CostLaws
-pub mod PartLaws
 pub mod PlanLaws
 pub mod SparedLaws
-pub mod StandLaws
-pub mod FitLaws
-pub mod MadeLaws
-pub mod VerdictLaws
 pub mod ClaimLaws
 pub mod RunLaws

@@ -1,22 +1,19 @@
 -- What is planned for a source is what is to be delivered.
---   plain_of             the operations of a circuit are plain
 --   reads_wider          reads of fewer wires are reads of more
 --   counted-next         the counts of some parts, and of the next one
 --   few_cx, few_t, few_cx_counts, few_t_counts   the counts of few operations fit
 --   Rewrites-planned     what is planned for a target that stands for the source
 --   WritesWithSpares-planned   .. and for one that stands for it with spare wires
 --   HasPlanned-written   what came of a program came of its target
-use Rattle.std.proofs.Common.{◌≡◌, ℕ, zero, suc, ◌+◌, ◌++◌, drop, ◌*◌, ◌%◌, ◌<◌, ◌≤◌, Bool, true, false, List, [], ◌∷◌, Option, Some, None, All, refl, sym, subst, arith, inl, inr, length, map, get_or, ◌∙◌, Vec, ap}
+use Rattle.std.proofs.Common.{◌≡◌, ℕ, zero, suc, ◌+◌, ◌++◌, drop, ◌*◌, ◌%◌, ◌<◌, ◌≤◌, Bool, true, false, List, ◌∷◌, Option, Some, None, All, sym, subst, arith, length, map, get_or, ◌∙◌, Vec, ap, []}
 use Rattle.std.proofs.lemmas.List.Elements.{recursion_from_All, All-from_recursion}
 use Rattle.std.specs.List.{AllByRecursion}
 use Rattle.std.specs.Prelude.{cond, nat_eq}
 use Rattle.qasm_check.specs.declared.register.ClassicalRegister.{ClassicalRegister}
 use Rattle.unitary_model.specs.declared.Op.{Op}
 use Rattle.unitary_model.specs.declared.Op.TheVariants.{U, Cx as OpCx}
-use Rattle.unitary_model.specs.Operations.{IsPlain, cx_count, t_count}
-use Rattle.circuit_list.specs.declared.Gate.{Gate}
-use Rattle.circuit_list.specs.declared.Gate.TheVariants.{H, X, P, Cx}
-use Rattle.circuit_list.specs.Gates.{IsFine, ops}
+use Rattle.unitary_model.specs.Operations.{cx_count, t_count}
+use Rattle.circuit_list.specs.Gates.{ops}
 use Rattle.gate_expand.specs.declared.source.Ops.{Ops}
 use Rattle.gate_inline.specs.Registers.{IsRead}
 use Rattle.gate_inline.specs.Programs.{IsWritten, Program}
@@ -25,21 +22,11 @@ use Rattle.trace_text.specs.Texts.{trace_of}
 use Rattle.std.specs.declared.alloc.Global.{Global}
 use Rattle.program_parts.specs.Cuts.{Cut, chopped, whole}
 use Rattle.program_parts.specs.Parts.{Part}
-use Rattle.qroute_top.specs.Delivered.{IsOwnTrace, Rewrites, WritesWithSpares, placed_read}
-use Rattle.qroute_top.specs.Plans.{HasPlanned, IsPlanned, IsSparedTarget, Stands, TellsReport, target_program}
-use Rattle.qroute_top.specs.Targets.{IsTold}
-use Rattle.qroute_top.specs.declared.target.Target.{Target}
-
--- ---- the operations of a circuit
-plain_by : (n : ℕ) (gs : List Gate) → AllByRecursion (IsFine n) gs → AllByRecursion IsPlain (ops gs)
-plain_by n [] h = tt
-plain_by n (H q ∷ gs) h = (inl (refl, refl, refl), plain_by n gs h.1)
-plain_by n (X q ∷ gs) h = (inr (inl (refl, refl, refl)), plain_by n gs h.1)
-plain_by n (P k q ∷ gs) h = (inr (inr (refl, refl, h.0.1.0, h.0.1.1)), plain_by n gs h.1)
-plain_by n (Cx c t ∷ gs) h = (tt, plain_by n gs h.1)
-
-pub plain_of : (n : ℕ) (gs : List Gate) → All (IsFine n) gs → All IsPlain (ops gs)
-plain_of n gs h = All-from_recursion IsPlain (ops gs) (plain_by n gs (recursion_from_All (IsFine n) gs h))
+use Rattle.circuit_target.specs.Standing.{IsOwnTrace, placed_read}
+use Rattle.qroute_top.specs.Delivered.{Rewrites, WritesWithSpares}
+use Rattle.qroute_top.specs.Plans.{HasPlanned, IsPlanned, IsSparedTarget, TellsReport}
+use Rattle.circuit_target.specs.Targets.{Stands, target_program}
+use Rattle.circuit_target.specs.declared.target.Target.{Target}
 
 -- ---- reads
 pub reads_wider : (n m : ℕ) (rs : List (Option ℕ)) → n ≤ m → All (IsRead n) rs → All (IsRead m) rs

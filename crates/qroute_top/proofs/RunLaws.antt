@@ -9,7 +9,7 @@
 --   Delivers-verified, IsCause-claim   the same where `verify` is asked
 --   stopped-..               what follows of a status after a stop
 --   planned-..               what follows where an answer was decided on
-use Rattle.std.proofs.Common.{◌≡◌, ◌⊎◌, inl, inr, ℕ, ◌≤◌, Bool, true, false, List, [], Option, Some, None, Result, Err, refl, sym, ap, ◌∙◌, arith, subst, is_some}
+use Rattle.std.proofs.Common.{◌≡◌, ◌⊎◌, inl, inr, ℕ, ◌≤◌, Bool, true, false, List, Option, Some, None, Result, Err, refl, sym, ap, ◌∙◌, arith, subst, is_some, []}
 use Rattle.outside_io.specs.Bytes.{Tells}
 use Rattle.outside_io.specs.Causes.{Rose}
 use Rattle.outside_io.specs.Shelf.{HasNoText, TellsText}
@@ -24,7 +24,8 @@ use Rattle.command_line.specs.declared.commands.Command.TheVariants.{Opt, OptWit
 use Rattle.route_report.specs.Lines.{check_line}
 use Rattle.qroute_top.specs.Claims.{AreTold, Compares, Ending, IsEnding, IsVerified, Proved, ending_status}
 use Rattle.qroute_top.specs.Causes.{Handed, claim_status, IsCause, IsDeviceCause, IsRefusedDevice, IsRefusedQuestion, IsRefusedSource, IsSourceCause, Reaches, Reads}
-use Rattle.qroute_top.specs.Delivered.{Content, Delivered, Delivers, IsAnswer, IsHad, IsInPlace, IsOnDevice, IsOnQubits, IsStages, Rewrites, WritesWithSpares, counts_of, drawn_program}
+use Rattle.qroute_top.specs.Delivered.{Content, Delivered, Delivers, IsAnswer, IsHad, IsOnDevice, IsStages, Rewrites, WritesWithSpares, counts_of, drawn_program}
+use Rattle.circuit_target.specs.Standing.{IsInPlace, IsOnQubits}
 use Rattle.qroute_top.specs.Devices.{HasDevice, IsDevice, IsDeviceRefusal, HasSource}
 use Rattle.qroute_top.specs.Emitted.{IsEmitted, Sent}
 use Rattle.qroute_top.specs.Plans.{HasAnswer, IsAnswerOf}

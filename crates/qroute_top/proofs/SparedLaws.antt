@@ -1,7 +1,7 @@
 -- A circuit whose layers were written anew with spare wires stands for the source.
---   Chains, Entries, Fine, FewTs    laws of spare wires, as they are handed in
+--   Plain, Chains, Entries, Fine, FewTs    laws of circuits and of spare wires, as they are handed in
 --   IsSparedTarget-made   a target with spare wires stands for the source
-use Rattle.std.proofs.Common.{◌≡◌, ℕ, ◌+◌, ◌%◌, ◌<◌, ◌≤◌, List, [], ◌∷◌, Some, None, arith, map, refl, sym, subst, ap, ◌∙◌}
+use Rattle.std.proofs.Common.{◌≡◌, ℕ, ◌+◌, ◌%◌, ◌<◌, ◌≤◌, All, List, ◌∷◌, Some, None, arith, map, refl, sym, subst, ap, ◌∙◌, []}
 use Rattle.std.specs.List.{AllByRecursion}
 use Rattle.std.proofs.lemmas.List.Elements.{All-from_recursion, recursion_from_All}
 use Rattle.circuit_list.specs.declared.Gate.{Gate}
@@ -12,15 +12,17 @@ use Rattle.phase_poly.specs.Replaced.{AreFine}
 use Rattle.spare_layers.specs.Spared.{IsSpared}
 use Rattle.spare_layers.specs.SparedLayers.{IsSparedCircuit}
 use Rattle.unitary_model.specs.declared.Op.{Op}
-use Rattle.unitary_model.specs.Operations.{t_count}
+use Rattle.unitary_model.specs.Operations.{IsPlain, t_count}
 use Rattle.unitary_model.specs.Placement.{identity}
 use Rattle.unitary_model.specs.SameUpTo.{SameUpTo}
 use Rattle.unitary_model.proofs.RealisesLaws.{Realises_same}
-use Rattle.qroute_top.specs.Delivered.{placed_read}
+use Rattle.circuit_target.specs.Standing.{placed_read}
 use Rattle.qroute_top.specs.Plans.{IsSparedTarget}
-use Rattle.qroute_top.specs.Targets.{IsOptimised}
-use Rattle.qroute_top.specs.declared.target.Target.{Target}
-use Rattle.qroute_top.proofs.PlanLaws.{plain_of}
+use Rattle.circuit_target.specs.Targets.{IsOptimised}
+use Rattle.circuit_target.specs.declared.target.Target.{Target}
+
+abbrev pub Plain : Type 0
+Plain = (n : ℕ) (gs : List Gate) → All (IsFine n) gs → All IsPlain (ops gs)
 
 abbrev pub Chains : Type 0
 Chains = (S Q R : List Op) (n m i j : ℕ) → i < 8 → SameUpTo i n S Q → IsSpared Q n R m j → IsSpared S n R m ((i + j) % 8)
@@ -42,11 +44,11 @@ each_fine : (n : ℕ) (gs : List Gate) → AreFine n gs → AllByRecursion (IsFi
 each_fine n [] h = tt
 each_fine n (g ∷ gs) h = (h.0, each_fine n gs h.1)
 
-pub IsSparedTarget-made : Chains → Entries → Fine → FewTs → (s : Program) (m : ℕ) (t : Target) (c : Passed) (change : ℕ) → IsOptimised s.wires s.ops c
+pub IsSparedTarget-made : Plain → Chains → Entries → Fine → FewTs → (s : Program) (m : ℕ) (t : Target) (c : Passed) (change : ℕ) → IsOptimised s.wires s.ops c
     → IsSparedCircuit s.wires m c.body.gates t.body.gates change → t.body.wires ≡ s.wires + m → t.turn ≡ (c.turn + change) % 8
     → t.initial ≡ identity t.body.wires → t.last ≡ identity t.body.wires → t.swaps ≡ 0 → t.cost ≡ None → t.parts ≡ None → t.spares ≡ Some m
     → t.barriers.items ≡ [] → t.trace.items ≡ [] → IsSparedTarget s m t
-IsSparedTarget-made chains entries fine few s m t c change o layers wires turn initial last swaps cost parts spares barriers trace =
+IsSparedTarget-made plain chains entries fine few s m t c change o layers wires turn initial last swaps cost parts spares barriers trace =
     let n = s.wires in
     let old = c.body.gates in
     let new = t.body.gates in
@@ -57,7 +59,7 @@ IsSparedTarget-made chains entries fine few s m t c change o layers wires turn i
     let fewer = few n m change old new layers in record {
       stands = λ told r. record {
         registers = refl;
-        plain = plain_of (n + m) new (All-from_recursion (IsFine (n + m)) new all);
+        plain = plain (n + m) new (All-from_recursion (IsFine (n + m)) new all);
         wires = wires;
         bars = ap (map (λ v. v.items)) barriers;
         entries = subst (IsSpared s.ops n (ops new) m) (sym (r.phase ∙ turn)) spared;

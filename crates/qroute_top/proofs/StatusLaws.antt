@@ -7,7 +7,7 @@
 --   on_ok, on_err         what holds anyway holds of an answer
 --   on_calm               what holds of an answer that is Ok, where the count of faults did not rise
 --   HasText-stays, HasText-prefix   a program that came, and a sink that then keeps what it holds
-use Rattle.std.proofs.Common.{◌≡◌, ◌⊎◌, inl, inr, ℕ, List, [], Option, Some, None, Result, Ok, Err, true, false, refl, sym, ap, arith, append-nil}
+use Rattle.std.proofs.Common.{◌≡◌, ◌⊎◌, inl, inr, ℕ, List, Option, Some, None, Result, Ok, Err, true, false, refl, sym, ap, arith, append-nil, []}
 use Rattle.std.specs.Prelude.{OnErr, OnOk}
 use Rattle.outside_io.specs.Causes.{HasCause, Rose}
 use Rattle.outside_io.specs.Bytes.{Gains, GainsPrefix, Stays}

@@ -13,7 +13,6 @@
 --   IsVerified content a b text   the text is the line of the power up to which the target realises the source
 --   Compares words a b   the words mean `verify` with these two names
 --   ending_status x      the status that it ends with
---   IsYes first last phase v   the verdict v is yes, from and to these placements and up to this power of w
 use Rattle.std.specs.Prelude.{◌≡◌, ◌⊎◌, ℕ, ◌<◌, ◌≤◌, List, Option, Some, length}
 use Rattle.outside_io.specs.Shelf.{HasNoText, TellsText}
 use Rattle.gate_inline.specs.Programs.{Program, most_text_bytes}
@@ -29,9 +28,7 @@ use Rattle.route_report.specs.declared.faults.Side.TheVariants as side
 use Rattle.trace_check.specs.Proves.{Claim, Proves, StopsAt}
 use Rattle.trace_text.specs.Texts.{trace_of}
 use Rattle.unitary_model.specs.Realises.{Realises}
-use Rattle.qroute_top.specs.Verdicts.{claim_of}
-use Rattle.qroute_top.specs.declared.verdict.Verdict.{Verdict}
-use Rattle.qroute_top.specs.declared.verdict.Verdict.TheVariants as verdict
+use Rattle.circuit_target.specs.Standing.{claim_of}
 
 abbrev pub limit_of : Side → ℕ
 limit_of side.Source = most_text_bytes
@@ -106,7 +103,3 @@ ending_status Absent = 9
 ending_status (Refused s r) = 3
 ending_status (Stopped line) = 1
 ending_status (Proved first last phase) = 0
-
-abbrev pub IsYes : List ℕ → List ℕ → ℕ → Verdict → Type 0
-IsYes first last phase (verdict.Yes i l j) = (i.items ≡ first) × (l.items ≡ last) × (j ≡ phase)
-IsYes first last phase _ = ⊥

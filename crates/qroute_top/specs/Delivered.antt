@@ -1,15 +1,10 @@
 -- What is written and reported for a program that is read or drawn: the headline.
 --   Content                     what a shelf tells of each name: nothing, no text, or a text
 --   Reports source target r     the report's numbers are those of both programs
---   placed_read p r             the qubit at which the wire of a read stands by p
---   StandsFor source target parts r   the target is the source, up to the reported power of w and the reported placements, as a whole
---                               and part by part
 --   Makes source target parts r ..    the text and the report line are right for a source: they are those of a target that stands for it
---   IsOwnTrace traced source target told trace   where a trace is asked for, it proves that the target realises the source, from and
---                               to the reported placements and up to the reported power; else it is empty
 --   Rewrites source keep traced P ..  there is such a target, with its trace; the line tells of its parts where barriers are kept;
 --                               and of its parts, qubits, placements and edges P holds
---   IsInPlace, IsOnDevice       this P for `opt` and `route`, and part of it for `bench`;  IsOnQubits: for a device that is known
+--   IsOnDevice                  this P for `route`, and part of it for `bench`: the device is that of a name; for `opt` it is IsInPlace
 --   WritesWithSpares source m ..  the text and the report line are right for a source with m spare wires: they are those of a target that
 --                               stands for it where the spares start at zero
 --   counts_of source            what `check` tells of a program
@@ -20,41 +15,33 @@
 --                               is one part unless barriers are kept; a program that is drawn is told by the answer
 --   Delivers words content ..   the words mean a command, and the text and the line are its answer for such a program
 --   Delivered ..                some text and line are so, and this was done with them
-use Rattle.std.specs.Prelude.{◌≡◌, ℕ, ◌+◌, ◌*◌, ◌%◌, ◌≤◌, Bool, true, false, List, [], Option, None, Some, All, length, map, option_map, slice_index, sum_by}
-use Rattle.std.specs.List.{AllByRecursion}
+use Rattle.std.specs.Prelude.{◌≡◌, ℕ, ◌+◌, ◌*◌, ◌%◌, ◌≤◌, Bool, true, false, List, Option, None, Some, length, []}
 use Rattle.outside_io.specs.Bytes.{TakesAll}
 use Rattle.outside_io.specs.Shelf.{TellsText}
 use Rattle.coupling_map.specs.Coupling.{Coupling}
 use Rattle.route_report.specs.declared.lines.Counts.{Counts}
 use Rattle.route_report.specs.declared.lines.Report.{Report}
 use Rattle.route_report.specs.Lines.{check_line, report_line}
-use Rattle.unitary_model.specs.Operations.{IsPlain, cx_count, t_count}
-use Rattle.unitary_model.specs.Placement.{identity}
-use Rattle.unitary_model.specs.Realises.{Realises}
-use Rattle.coupling_map.specs.Edges.{FollowsEdges}
+use Rattle.unitary_model.specs.Operations.{cx_count, t_count}
 use Rattle.bench_program.specs.Program.{drawn}
 use Rattle.gate_expand.specs.Expansion.{expanded}
 use Rattle.gate_inline.specs.Programs.{IsAccepted, IsWritten, Program, kept}
 use Rattle.layer_stages.specs.Stages.{IsStageText}
 use Rattle.circuit_layers.specs.Layers.{layers_of}
 use Rattle.program_parts.specs.Cuts.{uncut}
-use Rattle.program_parts.specs.Parts.{Part, ends, powers}
-use Rattle.trace_check.specs.Proves.{Proves}
+use Rattle.program_parts.specs.Parts.{Part}
 use Rattle.trace_text.specs.Texts.{trace_of}
 use Rattle.command_line.specs.declared.commands.Command.{Command}
 use Rattle.command_line.specs.declared.commands.Command.TheVariants.{Opt, OptWithSpares, Route, Check, Stages, Bench, Amplitude, Verify}
 use Rattle.command_line.specs.Commands.{command_of}
 use Rattle.command_line.specs.Demands.{keeps_barriers, question_of, reads_input}
 use Rattle.qroute_top.specs.Claims.{IsVerified}
-use Rattle.qroute_top.specs.Costs.{told_cost}
 use Rattle.qroute_top.specs.Devices.{IsDevice}
 use Rattle.qroute_top.specs.Questions.{IsEntryText, IsQuestionRefusal}
 use Rattle.qroute_top.specs.declared.stops.QuestionRefusal.{QuestionRefusal}
-use Rattle.qroute_top.specs.InParts.{AreMade, HasFewTs, told_parts}
+use Rattle.circuit_target.specs.InParts.{told_parts}
+use Rattle.circuit_target.specs.Standing.{IsInPlace, IsOnQubits, IsOwnTrace, StandsFor}
 use Rattle.qroute_top.specs.WithSpares.{StandsWithSpares, ToldWithSpares}
-use Rattle.routed_parts.specs.Runs.{AreMachineRuns, HasFewSwaps}
-use Rattle.routed_parts.specs.Settled.{IsSettled}
-use Rattle.qroute_top.specs.Verdicts.{claim_of}
 
 abbrev pub Content : Type 0
 Content = List ℕ → Option (Option (List ℕ))
@@ -68,25 +55,6 @@ pub record Reports (source target : Program) (r : Report) : Type 0 where
   pub t_after : r.t_after ≡ t_count target.ops
   pub t_before : r.t_before ≡ t_count source.ops
 
-abbrev pub placed_read : List ℕ → Option ℕ → Option ℕ
-placed_read p r = option_map (slice_index p) r
-
-pub record StandsFor (source target : Program) (parts : List Part) (told : Report) : Type 0 where
-  -- it has the same classical registers and plain operations
-  pub registers : target.registers ≡ source.registers
-  pub plain : All IsPlain target.ops
-  -- the target's unitary is the source's, up to the reported power of w and the reported placements; spare wires only move
-  pub unitary : Realises source.ops source.wires target.ops target.wires told.initial told.last told.phase
-  -- each bit reads its wire of the source, where it ends
-  pub reads : target.reads ≡ map (placed_read told.last) source.reads
-  -- no more CNOTs but three a swap
-  pub cx_gates : cx_count target.ops ≤ cx_count source.ops + 3 * told.swaps
-  -- so it is part by part, with powers that add up, and no part has more T gates than its source has odd path parities
-  pub made : AreMade source target told.initial parts
-  pub last : told.last ≡ ends told.initial parts
-  pub phase : told.phase ≡ powers parts % 8
-  pub t_gates : AllByRecursion (HasFewTs source.wires) parts
-
 pub record Makes (source target : Program) (parts : List Part) (told : Report) (text line : List ℕ) : Type 0 where
   -- the text is the target's
   pub written : IsWritten text target
@@ -95,10 +63,6 @@ pub record Makes (source target : Program) (parts : List Part) (told : Report) (
   pub numbers : Reports source target told
   -- and the target stands for the source
   pub stands : StandsFor source target parts told
-
-abbrev pub IsOwnTrace : Bool → Program → Program → Report → List ℕ → Type 0
-IsOwnTrace true source target told trace = Proves (claim_of source target) trace told.initial told.last told.phase
-IsOwnTrace false source target told trace = trace ≡ []
 
 pub record Rewrites (source : Program) (keep traced : Bool) (IsPlaced : Program → List Part → Report → Type 0) (text line : List ℕ) : Type 0 where
   pub target : Program
@@ -109,27 +73,6 @@ pub record Rewrites (source : Program) (keep traced : Bool) (IsPlaced : Program 
   pub alone : told.spares ≡ None
   pub trace : IsOwnTrace traced source target told (trace_of text)
   pub placed : IsPlaced target parts told
-
--- no wire moves, there is no spare one, and each part is settled
-pub record IsInPlace (source target : Program) (parts : List Part) (told : Report) : Type 0 where
-  pub wires : target.wires ≡ source.wires
-  pub swaps : told.swaps ≡ 0
-  pub initial : told.initial ≡ identity source.wires
-  pub last : told.last ≡ identity source.wires
-  pub cost : told.cost ≡ None
-  pub stay : AllByRecursion (λ p. p.last ≡ identity source.wires) parts
-  pub settled : AllByRecursion (λ p. IsSettled source.wires p.target) parts
-
--- the qubits are a device's, each CNOT follows an edge, what is written for each part is the routing machine's run, cleaned where
--- `clean` says so, with few swaps, and where the device lists costs of edges, the line tells what the CNOTs cost
-pub record IsOnQubits (device : Coupling) (trivial clean : Bool) (source target : Program) (parts : List Part) (told : Report) : Type 0 where
-  pub qubits : target.wires ≡ device.size
-  pub edges : FollowsEdges device.edges target.ops
-  pub placed : trivial ≡ true → told.initial ≡ identity target.wires
-  pub runs : AreMachineRuns device trivial clean source.wires told.initial parts
-  pub sum : told.swaps ≡ sum_by (λ p. p.swaps) parts
-  pub swaps : HasFewSwaps device source.ops target.ops told.swaps
-  pub cost : told.cost ≡ told_cost device target.ops
 
 -- the device is the one that the shelf's text of this name describes
 pub record IsOnDevice (content : Content) (name : List ℕ) (trivial clean : Bool) (source target : Program) (parts : List Part) (told : Report) : Type 0 where

@@ -6,11 +6,12 @@
 --   source_stopped e, device_stopped e, question_stopped e   a stop of reading, of the device, or of a question, as one of the run
 --   IsUnanswered q p e   why the question q on the program p isn't answered
 --   unloaded_text side f     why a text of the shelf isn't had, as a stop of the run
+--   IsReadAs text s      the text is accepted as a program, and s is that program, as one part
 --   IsUnreadText side text s   why a text that isn't too long isn't accepted
 --   IsTextStop ..        why a text of `verify` isn't had as a program
 --   IsTraceStop e trace s    why a trace proves no claim
 --   IsClaimStop ..       why a claim on two texts isn't proved
-use Rattle.std.specs.Prelude.{◌≡◌, ℕ, List, Option, None, Some, ⊤}
+use Rattle.std.specs.Prelude.{◌≡◌, ℕ, false, List, Option, None, Some, ⊤}
 use Rattle.command_line.specs.Commands.{command_of}
 use Rattle.command_line.specs.Demands.{Question}
 use Rattle.outside_io.specs.declared.TextFault.{TextFault}
@@ -26,7 +27,8 @@ use Rattle.qroute_top.specs.declared.stops.SourceStop.{SourceStop}
 use Rattle.qroute_top.specs.declared.stops.SourceStop.TheVariants as source_stop
 use Rattle.qroute_top.specs.declared.stops.Stop.{Stop}
 use Rattle.qroute_top.specs.declared.stops.Stop.TheVariants as stop
-use Rattle.gate_inline.specs.Programs.{Program}
+use Rattle.gate_inline.specs.Programs.{Program, kept}
+use Rattle.program_reader.specs.Texts.{IsAcceptedText}
 use Rattle.outside_io.specs.Causes.{Rose}
 use Rattle.outside_io.specs.Shelf.{HasNoText}
 use Rattle.program_reader.specs.declared.refusal.ProgramRefusal.TheVariants as refusal
@@ -83,6 +85,9 @@ unloaded_text s text_fault.Failed = stop.Claim claim.Failed
 unloaded_text s text_fault.Absent = stop.Claim claim.Absent
 unloaded_text s text_fault.TooLong = stop.Claim (claim.Refused s refusal.TooLong)
 unloaded_text s text_fault.NoMemory = stop.NoMemory
+
+abbrev pub IsReadAs : List ℕ → Program → Type 0
+IsReadAs text s = (p : Program) × IsAcceptedText text p × (s ≡ kept false p)
 
 abbrev pub IsUnreadText : Side → List ℕ → Stop → Type 0
 IsUnreadText s text stop.NoMemory = ⊤

@@ -4,7 +4,7 @@
 --   StandsWithSpares source target m told   where the m spares start at zero the target is the source, up to the reported power of w, and they
 --                                 end at zero; layer by layer it is as above
 --   ToldWithSpares target m told  the report tells of the spares, and that no wire moves
-use Rattle.std.specs.Prelude.{◌≡◌, ℕ, ◌+◌, ◌≤◌, List, [], None, Some, All, map, option_map, slice_index}
+use Rattle.std.specs.Prelude.{◌≡◌, ℕ, ◌+◌, ◌≤◌, List, None, Some, All, map, option_map, slice_index, []}
 use Rattle.circuit_list.specs.declared.Gate.{Gate}
 use Rattle.circuit_list.specs.Gates.{IsFine, ops}
 use Rattle.gate_inline.specs.Programs.{Program}

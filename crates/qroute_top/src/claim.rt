@@ -1,15 +1,14 @@
 //! The claim that one text does what another does, by the trace in its comments.
 
-ghost use Rattle.std.specs.Prelude.{◌≡◌, ◌≤◌, ℕ, List, [], IfErr, IfOk, Err, false, length, true};
-ghost use Rattle.outside_io.specs.Causes.{Rose};
+ghost use Rattle.std.specs.Prelude.{◌≡◌, ◌≤◌, ℕ, List, IfErr, IfOk, Err, false, length, true, []};
 ghost use Rattle.outside_io.specs.Shelf.{TellsText};
 ghost use Rattle.program_parts.specs.Cuts.{uncut};
 ghost use Rattle.trace_check.specs.Proves.{Proves};
 ghost use Rattle.trace_text.specs.Texts.{trace_of};
-ghost use Rattle.qroute_top.specs.Verdicts.{IsReadAs, claim_of};
+ghost use Rattle.qroute_top.specs.Stops.{IsReadAs, IsClaimStop, IsTextStop, IsTraceStop, IsUnreadText, unloaded_text};
+ghost use Rattle.circuit_target.specs.Standing.{claim_of};
 ghost use Rattle.qroute_top.specs.Claims.{IsVerified, limit_of};
 ghost use Rattle.qroute_top.specs.Plans.{IsFitAnswer, IsAnswerOf, has_line, has_text};
-ghost use Rattle.qroute_top.specs.Stops.{IsClaimStop, IsTextStop, IsTraceStop, IsUnreadText, unloaded_text};
 
 use crate::plan::Answer;
 use crate::stops::{ClaimStop, Stop};

@@ -11,11 +11,12 @@ ghost use Rattle.qroute_top.specs.Stops.{IsUnasked};
 
 use crate::claim::claim_answer;
 use crate::device::load_device;
-use crate::pipeline::{Wishes, optimise, optimise_with_spares, route_on};
+use crate::pipeline::{optimise, optimise_with_spares, route_on};
 use crate::plan::{Answer, check_answer, stage_answer};
 use crate::question::entry_answer;
 use crate::source::{drawn_source, read_source};
 use crate::stops::Stop;
+use circuit_target::Wishes;
 use command_line::commands::{Command, WordsFault};
 use command_line::words::command;
 use outside_io::{Shelf, Source as Input};

@@ -8,11 +8,12 @@ ghost use Rattle.route_report.specs.Faults.{fault_line, status_of};
 ghost use Rattle.route_report.specs.declared.faults.Fault.{Fault as Told};
 ghost use Rattle.qroute_top.specs.Causes.{claim_fault, device_fault, fault_of, output_fault_line, question_fault, refusal_fault, stop_status, text_fault};
 ghost use Rattle.qroute_top.specs.Emitted.{IsEmitted, sent};
-ghost use Rattle.qroute_top.specs.Plans.{HasPlanned, HasAnswer, IsFit, IsFitAnswer, has_line, has_text};
+ghost use Rattle.qroute_top.specs.Plans.{HasPlanned, HasAnswer, IsFitAnswer, has_line, has_text};
+ghost use Rattle.circuit_target.specs.Targets.{IsFit};
 
 use crate::plan::{Answer, Prepared, prepare};
 use crate::stops::{ClaimStop, DeviceRefusal, QuestionRefusal, Stop};
-use crate::target::Target;
+use circuit_target::Target;
 use coupling_map::DeviceFault;
 use outside_io::{Failed, Sink, send};
 use program_reader::{ProgramRefusal, SourceProgram};

@@ -11,11 +11,12 @@
 //! tells of a program without writing one, `stages` writes a line for each layer of its gates, and `amplitude` writes one entry of
 //! its unitary. `bench` reads none: it routes one that it draws for the device, gate by gate. With `--trace` the program that is
 //! written on a device carries a trace, which proves that it is the source; `verify` tells whether the trace in one text proves
-//! that it is another, whoever wrote them. [`check_trace`] tells so of two texts, of whatever length, and a trace beside them.
+//! that it is another, whoever wrote them.
 //!
-//! `source` reads the input, over all of the readers, or draws a program; `device` loads the device of a name; `target` makes the
-//! circuit that is to be written and its trace, `question` the entry that is asked for and whether spares have room, `claim` the verdict on two texts, and `plan`
-//! all that takes memory, before `delivery` writes the first byte. A program goes out in pieces, so its text never stands whole in
+//! `source` reads the input, over all of the readers, or draws a program; `device` loads the device of a name; `pipeline` has the
+//! circuit made that is to be written and its trace, by `circuit_target`, and `spared` makes the one with spare wires; `question`
+//! tells the entry that is asked for and whether spares have room, `claim` how two texts compare, and `plan` makes all that takes
+//! memory, before `delivery` writes the first byte. A program goes out in pieces, so its text never stands whole in
 //! memory. What a command asks of its surroundings is told by `command_line`, so that each clause is said once for all commands.
 #![tactic(auto)]
 
@@ -48,23 +49,17 @@ use program_reader::{
 };
 use std::alloc::Global;
 use trace_check::laws::traces_are_exact;
-pub use verdict::{TextRefusal, Verdict, check_trace};
 
 mod claim;
-mod cost;
 mod decision;
 mod delivery;
 mod device;
-pub mod laws;
-mod parts;
-mod passes;
 mod pipeline;
 mod plan;
 mod question;
 mod source;
+mod spared;
 mod stops;
-mod target;
-mod verdict;
 
 /// Runs the command of the words: reads the input, or for `bench` draws a program, writes the program to `out` and the report
 /// line to `report`, and answers the status that the program ends with.

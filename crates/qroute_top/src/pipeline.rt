@@ -3,7 +3,8 @@
 ghost use Rattle.std.specs.Prelude.{◌≡◌, ◌≤◌, ℕ, List, Some, IfOk, IfErr, false, true};
 ghost use Rattle.command_line.specs.Demands.{Spares};
 ghost use Rattle.program_parts.specs.Cuts.{uncut};
-ghost use Rattle.qroute_top.specs.Delivered.{IsInPlace, IsOnQubits, Rewrites, WritesWithSpares};
+ghost use Rattle.circuit_target.specs.Standing.{IsInPlace, IsOnQubits};
+ghost use Rattle.qroute_top.specs.Delivered.{Rewrites, WritesWithSpares};
 ghost use Rattle.qroute_top.specs.Plans.{IsFitAnswer, IsAnswerOf, has_line, has_text};
 ghost use Rattle.qroute_top.specs.Questions.{IsQuestionRefusal};
 ghost use Rattle.qroute_top.specs.Stops.{IsUnanswered};
@@ -11,11 +12,50 @@ ghost use Rattle.qroute_top.specs.declared.stops.QuestionRefusal.{QuestionRefusa
 
 use crate::plan::{Answer, answer_of};
 use crate::question::spares_refusal;
+use crate::spared::on_spares;
 use crate::stops::QuestionStop;
-use crate::target::{in_place, on_device, on_spares, optimised_parts};
+use circuit_list::Circuit;
+use circuit_target::{PartedProgram, RunTraces, Wishes, in_place, routed};
 use coupling_map::Device;
 use program_reader::SourceProgram;
+use rewrite_pass::Trace;
+use route_trace::route_trace;
+use sabre_route::{Event, Routed};
 use std::alloc::{AllocError, Global};
+
+/// A source, as it is handed on.
+fn parted(source: &SourceProgram) -> PartedProgram<'_>
+    ensures value { result ≡ source.now }
+{
+    source.facts();
+    PartedProgram::new(
+        source.wires(),
+        source.parts(),
+        source.bars(),
+        source.reads(),
+        source.registers(),
+        source.barriers(),
+    )
+}
+
+/// The traces of routed programs, as `route_trace` writes them.
+struct RoutedTraces;
+
+impl RunTraces for RoutedTraces {
+    fn trace(
+        &self,
+        alloc: Global,
+        steps: &Trace,
+        body: &Circuit,
+        device: &Device,
+        given: &[u32],
+        events: &[Event],
+        routed: &Routed,
+        turn: u8,
+    ) -> Result<Vec<u8>, AllocError> {
+        route_trace(alloc, steps, body, device, given, events, routed, turn)
+    }
+}
 
 /// Makes what is to be written for a source on its own wires. The report tells of its parts where `keep` says that its barriers
 /// are kept.
@@ -26,7 +66,7 @@ pub fn optimise(alloc: Global, source: SourceProgram, keep: bool) -> Result<Answ
     ensures tells { IfOk result (λ w. has_line w ≡ true) }
     ensures fit { IfOk result IsFitAnswer }
 {
-    let target = in_place(alloc, &source, keep)?;
+    let target = in_place(alloc, &parted(&source), keep)?;
     Ok(answer_of(source, target))
 }
 
@@ -53,19 +93,6 @@ pub fn optimise_with_spares(
     Ok(answer_of(source, target))
 }
 
-/// What is asked of a program that is written on a device.
-#[derive(Clone, Copy, Debug)]
-pub struct Wishes {
-    /// The wires begin on the qubits of their own numbers.
-    pub trivial: bool,
-    /// The trace that shows it is written behind it.
-    pub trace: bool,
-    /// The report tells of its parts, as its barriers are kept.
-    pub keep: bool,
-    /// What was routed is cleaned.
-    pub clean: bool,
-}
-
 /// Makes what is to be written for a source on the qubits of a device.
 #[tactic(auto, using(crate::proofs::PlanLaws::plans))]
 pub fn route_on(
@@ -82,16 +109,6 @@ pub fn route_on(
     ensures tells { IfOk result (λ w. has_line w ≡ true) }
     ensures fit { IfOk result IsFitAnswer }
 {
-    source.facts();
-    let rewritten = optimised_parts(alloc, &source, wishes.trace)?;
-    let target = on_device(
-        alloc,
-        &source,
-        &rewritten,
-        device,
-        wishes.trivial,
-        wishes.keep,
-        wishes.clean,
-    )?;
+    let target = routed(alloc, &RoutedTraces, &parted(&source), device, wishes)?;
     Ok(answer_of(source, target))
 }

@@ -1,15 +1,17 @@
 //! What a command has to write, and all that is made before the first byte goes out.
 
-ghost use Rattle.std.specs.Prelude.{◌≡◌, ℕ, List, [], All, IfOk, length, map, false, true};
+ghost use Rattle.std.specs.Prelude.{◌≡◌, ℕ, List, All, IfOk, length, map, false, true, []};
 ghost use Rattle.gate_inline.specs.Registers.{IsRead};
 ghost use Rattle.program_parts.specs.Cuts.{uncut};
 ghost use Rattle.qasm_writer.specs.Outputs.{bits_of};
 ghost use Rattle.route_report.specs.Lines.{check_line};
 ghost use Rattle.qroute_top.specs.Causes.{output_fault_line};
-ghost use Rattle.qroute_top.specs.Delivered.{IsStages, counts_of, placed_read};
-ghost use Rattle.qroute_top.specs.Plans.{IsFit, IsFitAnswer, IsPlanned, IsReport, IsAnswerOf, TellsReport, has_line, has_text};
+ghost use Rattle.qroute_top.specs.Delivered.{IsStages, counts_of};
+ghost use Rattle.circuit_target.specs.Standing.{placed_read};
+ghost use Rattle.circuit_target.specs.Targets.{IsFit};
+ghost use Rattle.qroute_top.specs.Plans.{IsFitAnswer, IsPlanned, IsReport, IsAnswerOf, TellsReport, has_line, has_text};
 
-use crate::target::Target;
+use circuit_target::Target;
 use gate_expand::{cx_count_of, expand, t_count_of};
 use layer_stages::stage_lines;
 use placement::Placement;

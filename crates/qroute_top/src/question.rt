@@ -1,6 +1,6 @@
 //! Questions on a program: the entry of its unitary that is asked for, and whether there is room for spare wires.
 
-ghost use Rattle.std.specs.Prelude.{◌≡◌, ◌+◌, ◌≤◌, ℕ, List, [], length, None, Some, IfOk, IfErr, IfSome, false, true};
+ghost use Rattle.std.specs.Prelude.{◌≡◌, ◌+◌, ◌≤◌, ℕ, List, length, None, Some, IfOk, IfErr, IfSome, false, true, []};
 ghost use Rattle.amplitude_exact.specs.Entries.{branches, most_branches, most_entry_wires};
 ghost use Rattle.circuit_list.specs.Gates.{most_wires};
 ghost use Rattle.qroute_top.specs.Plans.{IsFitAnswer, IsAnswerOf, has_line, has_text};

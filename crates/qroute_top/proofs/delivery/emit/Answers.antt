@@ -1,5 +1,5 @@
 -- What came of the program, the text or the line is right for the answer.
-use Rattle.std.proofs.Common.{[], refl}
+use Rattle.std.proofs.Common.{refl, []}
 use Rattle.qroute_top.specs.declared.plan.Answer.TheVariants as answer
 use Rattle.qroute_top.proofs.EmittedLaws.{IsEmitted-line, IsEmitted-answer}
 use Rattle.qroute_top.proofs.delivery.emit.Goals as goal

@@ -1,12 +1,12 @@
 -- What is handed to the writer, and what came of it.
-use Rattle.std.proofs.Common.{◌≡◌, ◌<◌, ◌∙◌, [], All, suc, ap, length, map, subst, sym}
+use Rattle.std.proofs.Common.{◌≡◌, ◌<◌, ◌∙◌, All, suc, ap, length, map, subst, sym, []}
 use Rattle.std.specs.Prelude.{sum_by}
 use Rattle.std.proofs.lemmas.List.Elements.{All-map}
 use Rattle.program_parts.proofs.CutLaws.{length-chopped}
 use Rattle.std.proofs.lemmas.List.{length-map}
 use Rattle.trace_text.specs.Texts.{ended, lines_of}
 use Rattle.qasm_writer.specs.Outputs.{bits_of}
-use Rattle.qroute_top.specs.Delivered.{placed_read}
+use Rattle.circuit_target.specs.Standing.{placed_read}
 use Rattle.qroute_top.specs.Plans.{TellsReport}
 use Rattle.qroute_top.proofs.EmittedLaws.{IsEmitted-within}
 use Rattle.qroute_top.proofs.PlanLaws.{HasPlanned-written, cut-same}

@@ -1,7 +1,7 @@
 -- The reads so far are placed.
 use Rattle.std.proofs.Common.{◌≡◌, All, length, map, take}
 use Rattle.gate_inline.specs.Registers.{IsRead}
-use Rattle.qroute_top.specs.Delivered.{placed_read}
+use Rattle.circuit_target.specs.Standing.{placed_read}
 use Rattle.qroute_top.proofs.plan.placed_reads.Given as goal
 
 abbrev pub invariant-reads : goal.invariant-reads

@@ -1,0 +1,6 @@
+pub mod TargetLaws
+pub mod CostLaws
+pub mod PartLaws
+pub mod StandLaws
+pub mod FitLaws
+pub mod MadeLaws

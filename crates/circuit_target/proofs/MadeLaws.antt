@@ -1,0 +1,325 @@
+-- What is made of all parts of a source.
+--   zip-each, each-routed  what holds of each part that is made
+--   IsOwnTrace-parts       the trace is that of the one part
+--   Stands-placed, IsFit-placed   a target on its own wires stands for the source, and can be written
+--   Stands-routed, IsFit-routed   .. and one on the qubits of a device
+--   wide-placed, turns-placed, sizes-placed   what calls ask of parts on their own wires
+--   optimised-wires, optimised-turns, optimised-fits   .. of parts that were rewritten
+--   wide-routed, turns-routed, sizes-routed, last-long, swaps-few, edges-followed, cost-few   .. and of parts that were routed
+--   Stands-asked, silent-or   what is made of them, with a trace or without
+use Rattle.std.proofs.Common.{◌≡◌, ℕ, ◌+◌, ◌*◌, ◌%◌, ◌<◌, ◌≤◌, ◌⊎◌, inl, inr, Bool, true, false, List, ◌∷◌, Option, None, Some, All, Result, arith, is_some, length, map, append-nil, refl, sym, subst, ap, ◌∙◌, []}
+use Rattle.std.specs.Prelude.{IfOk, IfSome, sum_by}
+use Rattle.std.specs.List.{AllByRecursion, AllZip}
+use Rattle.std.proofs.lemmas.List.Elements.{All-cons, All-from_recursion, All-head, All-nil, recursion_from_All}
+use Rattle.std.proofs.lemmas.List.Sums.{sum_by-cons}
+use Rattle.std.proofs.lemmas.Nat.{mul-le}
+use Rattle.std.proofs.lemmas.Slice.Zip.{AllZip-long}
+use Rattle.circuit_list.specs.declared.Gate.{Gate}
+use Rattle.circuit_list.specs.declared.Passed.{Passed}
+use Rattle.circuit_list.specs.Gates.{IsFine, ops}
+use Rattle.coupling_map.specs.Coupling.{Coupling, cost}
+use Rattle.coupling_map.specs.Edges.{FollowsEdges}
+use Rattle.coupling_map.specs.Walks.{IsDiameter}
+use Rattle.gate_expand.specs.Expansion.{IsFineOp}
+use Rattle.gate_inline.specs.Programs.{Program}
+use Rattle.gate_inline.specs.Sizes.{most_operations}
+use Rattle.gate_inline.specs.Splits.{IsBar}
+use Rattle.program_parts.specs.Cuts.{IsCut, uncut, whole}
+use Rattle.program_parts.specs.Parts.{AreRealised, sources}
+use Rattle.rewrite_pass.specs.Traces.{Step}
+use Rattle.route_report.specs.declared.lines.Report.{Report}
+use Rattle.routed_parts.proofs.LegLaws.{AreRealised-legs, FollowsEdges-legs, cx-legs, few-swaps, t_gates-legs}
+use Rattle.routed_parts.proofs.StillLaws.{AreRealised-still, cx-still, ends-still}
+use Rattle.sabre_route.specs.Measures.{bound, bound_by}
+use Rattle.sabre_route.specs.Routing.{IsLayout}
+use Rattle.sabre_route.specs.declared.router.Routed.{Routed}
+use Rattle.trace_text.specs.Texts.{ended, lines_of}
+use Rattle.unitary_model.specs.declared.Op.{Op}
+use Rattle.unitary_model.specs.declared.Op.TheVariants.{U, Cx as OpCx}
+use Rattle.unitary_model.specs.Operations.{cx_count}
+use Rattle.unitary_model.specs.Placement.{identity}
+use Rattle.unitary_model.proofs.PlacementLaws.{identity_placement}
+use Rattle.circuit_target.specs.Costs.{told_cost}
+use Rattle.circuit_target.specs.Standing.{IsInPlace, IsOnQubits, IsOwnTrace}
+use Rattle.circuit_target.specs.Targets.{IsFit, Stands, target_program, HasSteps, IsOptimised, IsTold}
+use Rattle.circuit_target.specs.Making.{AreRoutedParts, AreTraced, IsAssembled, IsOnSize, IsPlacedPart, IsRoutedPart, IsRunTrace, are_told, gates_of, last_of, parts_of, turns_of}
+use Rattle.circuit_target.specs.declared.parts.PartTarget.{PartTarget}
+use Rattle.circuit_target.specs.declared.passes.Rewritten.{Rewritten}
+use Rattle.circuit_target.specs.declared.target.Target.{Target}
+use Rattle.circuit_target.proofs.FitLaws.{IsFit-parts, IsPutTogether-parts, weaken}
+use Rattle.circuit_target.proofs.PartLaws.{AreRouted-long, parts-ends, parts-swaps, some-rewritten, told_asked}
+use Rattle.circuit_target.proofs.StandLaws.{AreLegs-routed, AreStill-placed, IsPutTogether, Stands-legs, Stands-still, sources-source, targets-gates, targets-target}
+use Rattle.circuit_target.proofs.TargetLaws.{IsOwnTrace-run}
+
+-- ---- each part
+pub zip-each : {A B : Type 0} {R : A → B → Type 0} {P : B → Type 0} (xs : List A) (ys : List B) → ((x : A) (y : B) → R x y → P y) → AllZip R xs ys
+    → AllByRecursion P ys
+zip-each [] [] f h = tt
+zip-each [] (y ∷ ys) f h = absurd h
+zip-each (x ∷ xs) [] f h = absurd h
+zip-each (x ∷ xs) (y ∷ ys) f h = (f x y h.0, zip-each xs ys f h.1)
+
+pub each-routed : {P : PartTarget → Type 0} (d : Coupling) (clean : Bool) (given : List ℕ) (rs : List Rewritten) (ms : List PartTarget)
+    → ((given : List ℕ) (r : Rewritten) (m : PartTarget) → IsRoutedPart d clean given r m → P m) → AreRoutedParts d clean given rs ms → AllByRecursion P ms
+each-routed d clean given [] [] f h = tt
+each-routed d clean given [] (m ∷ ms) f h = absurd h
+each-routed d clean given (r ∷ rs) [] f h = absurd h
+each-routed d clean given (r ∷ rs) (m ∷ ms) f h = (f given r m h.0, each-routed d clean m.last rs ms f h.1)
+
+-- ---- the trace
+trace-of_part : (d : Coupling) (n : ℕ) (S : List Op) (o : Option (List Step)) (c : Passed) (given : List ℕ) (m : PartTarget) (s t : Program) (told : Report)
+    (trace : List ℕ) → IfSome o (HasSteps n S c)
+    → IfSome o (λ ss. (x : Routed) × IsRunTrace d c ss given x m.turn trace × (x.last ≡ m.last) × (x.body.gates ≡ m.body.gates)
+    × (m.turn ≡ (c.turn + x.turn) % 8))
+    → (o ≡ None → trace ≡ []) → c.body.wires ≡ n → length S ≤ most_operations → All (IsFineOp n) S → s.ops ≡ S → s.wires ≡ n → t.ops ≡ ops m.body.gates
+    → t.wires ≡ d.size → told.initial ≡ given → told.last ≡ m.last → told.phase ≡ m.turn → IsOwnTrace (is_some o) s t told trace
+trace-of_part d n S None c given m s t told trace steps run none wires few fine source width target size begins ends phase = none refl
+trace-of_part d n S (Some ss) c given m s t told trace steps (x, run, last, gates, sum) none wires few fine source width target size begins ends phase =
+    IsOwnTrace-run d n S c (Some ss) given x s t told m.turn trace steps run none wires few fine source width (target ∙ ap ops (sym gates)) size sum begins
+    (ends ∙ sym last) phase
+
+trace-one : (d : Coupling) (clean : Bool) (s : Program) (rs : List Rewritten) (ms : List PartTarget) (t : Target) (told : Report)
+    → AllZip (λ us r. IsOptimised s.wires us r.passed) (s.ops ∷ []) rs → AllZip (λ us r. IfSome r.steps (HasSteps s.wires us r.passed)) (s.ops ∷ []) rs
+    → AreRoutedParts d clean t.initial rs ms → AreTraced d t.initial rs ms t.trace.items → (All (λ r. r.steps ≡ None) rs → t.trace.items ≡ [])
+    → length s.ops ≤ most_operations → All (IsFineOp s.wires) s.ops → t.body.gates ≡ whole (map (λ m. m.body.gates) ms) → t.body.wires ≡ d.size
+    → t.last ≡ last_of t.initial ms → t.turn ≡ turns_of ms % 8 → IsTold t told → IsOwnTrace (are_told rs) s (target_program s t) told t.trace.items
+trace-one d clean s [] ms t told o steps routed traced silent few fine gates wires last turn r = absurd o
+trace-one d clean s (q ∷ p ∷ rs) ms t told o steps routed traced silent few fine gates wires last turn r = absurd o.1
+trace-one d clean s (q ∷ []) [] t told o steps routed traced silent few fine gates wires last turn r = absurd routed
+trace-one d clean s (q ∷ []) (m ∷ n ∷ ms) t told o steps routed traced silent few fine gates wires last turn r = absurd routed.1
+trace-one d clean s (q ∷ []) (m ∷ []) t told o steps routed traced silent few fine gates wires last turn r =
+    trace-of_part d s.wires s.ops q.steps q.passed t.initial m s (target_program s t) told t.trace.items steps.0 traced
+    (λ none. silent (All-cons (λ r. r.steps ≡ None) q [] none (All-nil (λ r. r.steps ≡ None)))) o.0.wires few fine refl refl
+    (ap ops (gates ∙ append-nil m.body.gates)) wires r.initial (r.last ∙ last) (r.phase ∙ turn ∙ one m routed.0)
+  where
+    one : (k : PartTarget) → IsRoutedPart d clean t.initial q k → turns_of (k ∷ []) % 8 ≡ k.turn
+    one k is = let sum = is.sum in omega (arith, sum, sum_by-cons (λ (m : PartTarget). m.turn) k [])
+
+pub IsOwnTrace-parts : (d : Coupling) (clean : Bool) (s : Program) (rs : List Rewritten) (ms : List PartTarget) (t : Target) (told : Report)
+    → AllZip (λ us r. IsOptimised s.wires us r.passed) s.cut.parts rs → AllZip (λ us r. IfSome r.steps (HasSteps s.wires us r.passed)) s.cut.parts rs
+    → (s.cut ≡ uncut s.ops) × (clean ≡ false) ⊎ All (λ r. r.steps ≡ None) rs → AreRoutedParts d clean t.initial rs ms
+    → (clean ≡ false → AreTraced d t.initial rs ms t.trace.items) → (All (λ r. r.steps ≡ None) rs → t.trace.items ≡ [])
+    → length s.ops ≤ most_operations → All (IsFineOp s.wires) s.ops → t.body.gates ≡ whole (map (λ m. m.body.gates) ms) → t.body.wires ≡ d.size
+    → t.last ≡ last_of t.initial ms → t.turn ≡ turns_of ms % 8 → IsTold t told → IsOwnTrace (are_told rs) s (target_program s t) told t.trace.items
+IsOwnTrace-parts d clean s rs ms t told o steps (inl (one, plain)) routed traced silent few fine gates wires last turn r =
+    let parts : s.cut.parts ≡ s.ops ∷ [] = ap (λ c. c.parts) one in
+    trace-one d clean s rs ms t told (subst (λ uss. AllZip (λ us r. IsOptimised s.wires us r.passed) uss rs) parts o)
+    (subst (λ uss. AllZip (λ us r. IfSome r.steps (HasSteps s.wires us r.passed)) uss rs) parts steps) routed (traced plain) silent few fine gates wires last
+    turn r
+IsOwnTrace-parts d clean s [] ms t told o steps (inr none) routed traced silent few fine gates wires last turn r = silent none
+IsOwnTrace-parts d clean s (q ∷ rs) ms t told o steps (inr none) routed traced silent few fine gates wires last turn r =
+    subst (λ b. IsOwnTrace b s (target_program s t) told t.trace.items) (sym (ap is_some (All-head (λ r. r.steps ≡ None) q rs none))) (silent none)
+
+-- ---- on its own wires
+still-together : (keep : Bool) (s : Program) (ms : List PartTarget) (t : Target) → IsCut s.cut → whole s.cut.parts ≡ s.ops → All (IsBar s.wires) s.cut.bars
+    → IsAssembled keep s ms t → AllZip (IsPlacedPart s.wires) s.cut.parts ms → t.body.wires ≡ s.wires → t.initial ≡ identity s.wires
+    → t.last ≡ identity s.wires → IsPutTogether keep s ms t
+still-together keep s ms t cut all bars a placed wires initial last =
+    let parts = parts_of s.cut.parts ms in
+    let still = AreStill-placed s.wires s.cut.parts ms placed in
+    let many : length s.cut.parts ≡ length ms = sym (AllZip-long (IsPlacedPart s.wires) s.cut.parts ms placed) in
+    let realised : AreRealised s.wires t.body.wires t.initial parts = subst (λ (k : ℕ). AreRealised s.wires k t.initial parts) (sym wires)
+    (subst (λ (p : List ℕ). AreRealised s.wires s.wires p parts) (sym initial) (AreRealised-still s.wires parts still)) in
+    let ends : t.last ≡ last_of t.initial ms = last ∙ sym (ends-still s.wires parts still) ∙ parts-ends s.cut.parts ms (identity s.wires) many
+    ∙ ap (λ (p : List ℕ). last_of p ms) (sym initial) in
+    let few = cx-still s.wires parts still in
+    IsPutTogether-parts keep s ms t cut all bars a many
+    (zip-each s.cut.parts ms (λ us m h. subst (λ (k : ℕ). All (IsFine k) m.body.gates) (sym wires) h.optimised.fine) placed) realised (omega (arith, wires)) ends
+    (weaken parts (λ p h. h.t_gates) still)
+    (omega (arith, few, ap cx_count (targets-target s ms t many a.gates), ap cx_count (sources-source s ms many all)))
+
+pub Stands-placed : (keep : Bool) (s : Program) (ms : List PartTarget) (t : Target) → IsCut s.cut → whole s.cut.parts ≡ s.ops → All (IsBar s.wires) s.cut.bars
+    → IsAssembled keep s ms t → AllZip (IsPlacedPart s.wires) s.cut.parts ms → t.body.wires ≡ s.wires → t.swaps ≡ 0 → t.initial ≡ identity s.wires
+    → t.last ≡ identity s.wires → t.cost ≡ None → t.trace.items ≡ [] → t.spares ≡ None → Stands s keep false (IsInPlace s) t
+Stands-placed keep s ms t cut all bars a placed wires swaps initial last cost trace alone =
+    Stands-still keep s ms t (still-together keep s ms t cut all bars a placed wires initial last) (AreStill-placed s.wires s.cut.parts ms placed) wires swaps
+    initial last cost trace alone
+
+pub IsFit-placed : (keep : Bool) (s : Program) (ms : List PartTarget) (t : Target) → IsCut s.cut → whole s.cut.parts ≡ s.ops → All (IsBar s.wires) s.cut.bars
+    → IsAssembled keep s ms t → AllZip (IsPlacedPart s.wires) s.cut.parts ms → t.body.wires ≡ s.wires → t.initial ≡ identity s.wires
+    → t.last ≡ identity s.wires → t.trace.items ≡ [] → IsFit s t
+IsFit-placed keep s ms t cut all bars a placed wires initial last trace =
+    let is = still-together keep s ms t cut all bars a placed wires initial last in
+    IsFit-parts keep s ms t cut bars a is.many is.realised (omega (arith, wires)) (ap length last ∙ (identity_placement s.wires).long ∙ sym wires)
+    (ap (λ (v : List ℕ). ended (lines_of v)) trace ∙ sym trace)
+
+-- what calls ask of parts on their own wires
+pub wide-placed : (n : ℕ) (uss : List (List Op)) (ms : List PartTarget) → AllZip (IsPlacedPart n) uss ms → All (λ m. n ≤ length m.last) ms
+wide-placed n uss ms h = All-from_recursion (λ m. n ≤ length m.last) ms (zip-each uss ms (λ us m is. wide m is.last) h)
+  where
+    wide : (m : PartTarget) → m.last ≡ identity n → n ≤ length m.last
+    wide m e = omega (arith, ap length e, (identity_placement n).long)
+
+pub turns-placed : (n : ℕ) (uss : List (List Op)) (ms : List PartTarget) → AllZip (IsPlacedPart n) uss ms → All (λ m. m.turn < 8) ms
+turns-placed n uss ms h = All-from_recursion (λ m. m.turn < 8) ms (zip-each uss ms (λ us m is. is.optimised.below) h)
+
+pub sizes-placed : (n : ℕ) (uss : List (List Op)) (ms : List PartTarget) → AllZip (IsPlacedPart n) uss ms → All (IsOnSize n) ms
+sizes-placed n uss ms h = All-from_recursion (IsOnSize n) ms (zip-each uss ms (λ us m is. is.optimised.wires) h)
+
+-- ---- on the qubits of a device
+pub optimised-wires : (n : ℕ) (uss : List (List Op)) (rs : List Rewritten) → AllZip (λ us r. IsOptimised n us r.passed) uss rs
+    → All (λ r. r.passed.body.wires ≡ n) rs
+optimised-wires n uss rs h = All-from_recursion (λ r. r.passed.body.wires ≡ n) rs (zip-each uss rs (λ us r is. is.wires) h)
+
+pub optimised-turns : (n : ℕ) (uss : List (List Op)) (rs : List Rewritten) → AllZip (λ us r. IsOptimised n us r.passed) uss rs
+    → All (λ r. r.passed.turn < 8) rs
+optimised-turns n uss rs h = All-from_recursion (λ r. r.passed.turn < 8) rs (zip-each uss rs (λ us r is. is.below) h)
+
+pub optimised-fits : (n size : ℕ) (uss : List (List Op)) (rs : List Rewritten) → n ≤ size → AllZip (λ us r. IsOptimised n us r.passed) uss rs
+    → All (λ r. r.passed.body.wires ≤ size) rs
+optimised-fits n size uss rs fits h = All-from_recursion (λ r. r.passed.body.wires ≤ size) rs (zip-each uss rs (λ us r is. below r is.wires) h)
+  where
+    below : (r : Rewritten) → r.passed.body.wires ≡ n → r.passed.body.wires ≤ size
+    below r e = omega (arith, e, fits)
+
+pub wide-routed : (d : Coupling) (clean : Bool) (n : ℕ) (given : List ℕ) (rs : List Rewritten) (ms : List PartTarget) → n ≤ d.size
+    → AreRoutedParts d clean given rs ms → All (λ m. n ≤ length m.last) ms
+wide-routed d clean n given rs ms fits h =
+    All-from_recursion (λ m. n ≤ length m.last) ms (each-routed d clean given rs ms (λ p r m is. wide m (ap length is.last ∙ is.run.placed.long)) h)
+  where
+    wide : (m : PartTarget) → length m.last ≡ d.size → n ≤ length m.last
+    wide m e = omega (arith, e, fits)
+
+pub turns-routed : (d : Coupling) (clean : Bool) (given : List ℕ) (rs : List Rewritten) (ms : List PartTarget) → AreRoutedParts d clean given rs ms
+    → All (λ m. m.turn < 8) ms
+turns-routed d clean given rs ms h = All-from_recursion (λ m. m.turn < 8) ms (each-routed d clean given rs ms (λ p r m is. below m _ is.sum) h)
+  where
+    below : (m : PartTarget) (k : ℕ) → m.turn ≡ k % 8 → m.turn < 8
+    below m k e = omega (arith, e)
+
+pub sizes-routed : (d : Coupling) (clean : Bool) (given : List ℕ) (rs : List Rewritten) (ms : List PartTarget) → AreRoutedParts d clean given rs ms
+    → All (IsOnSize d.size) ms
+sizes-routed d clean given rs ms h = All-from_recursion (IsOnSize d.size) ms (each-routed d clean given rs ms (λ p r m is. is.wires) h)
+
+pub last-long : (d : Coupling) (clean : Bool) (given : List ℕ) (rs : List Rewritten) (ms : List PartTarget) → AreRoutedParts d clean given rs ms
+    → length given ≡ d.size → length (last_of given ms) ≡ d.size
+last-long d clean given [] [] h long = long
+last-long d clean given [] (m ∷ ms) h long = absurd h
+last-long d clean given (r ∷ rs) [] h long = absurd h
+last-long d clean given (r ∷ rs) (m ∷ ms) h long = last-long d clean m.last rs ms h.1 (ap length h.0.last ∙ h.0.run.placed.long)
+
+pub as-many : (d : Coupling) (clean : Bool) (s : Program) (first : List ℕ) (rs : List Rewritten) (ms : List PartTarget)
+    → AllZip (λ us r. IsOptimised s.wires us r.passed) s.cut.parts rs → AreRoutedParts d clean first rs ms → length s.cut.parts ≡ length ms
+as-many d clean s first rs ms o routed =
+    sym (AllZip-long (λ us r. IsOptimised s.wires us r.passed) s.cut.parts rs o) ∙ AreRouted-long d clean first rs ms routed
+
+legs-together : (keep clean : Bool) (d : Coupling) (s : Program) (rs : List Rewritten) (ms : List PartTarget) (t : Target) → IsCut s.cut
+    → whole s.cut.parts ≡ s.ops → All (IsBar s.wires) s.cut.bars → IsAssembled keep s ms t → AllZip (λ us r. IsOptimised s.wires us r.passed) s.cut.parts rs
+    → AreRoutedParts d clean t.initial rs ms → s.wires ≤ d.size → t.body.wires ≡ d.size → t.last ≡ last_of t.initial ms
+    → t.swaps ≡ sum_by (λ (m : PartTarget). m.swaps) ms → IsPutTogether keep s ms t
+legs-together keep clean d s rs ms t cut all bars a o routed fits wires last swaps =
+    let parts = parts_of s.cut.parts ms in
+    let legs = AreLegs-routed d clean s.wires t.initial s.cut.parts rs ms fits o routed in
+    let many = as-many d clean s t.initial rs ms o routed in
+    let cx = cx-legs d clean s.wires t.initial parts (gates_of rs) legs in
+    IsPutTogether-parts keep s ms t cut all bars a many
+    (each-routed d clean t.initial rs ms (λ given r m h. subst (λ (k : ℕ). All (IsFine k) m.body.gates) (sym wires) h.fine) routed)
+    (subst (λ (k : ℕ). AreRealised s.wires k t.initial parts) (sym wires) (AreRealised-legs d clean s.wires t.initial parts (gates_of rs) legs))
+    (omega (arith, fits, wires)) last (t_gates-legs d clean s.wires t.initial parts (gates_of rs) legs)
+    (omega (arith, cx, swaps, parts-swaps s.cut.parts ms many, ap cx_count (targets-target s ms t many a.gates), ap cx_count (sources-source s ms many all)))
+
+pub Stands-routed : (keep trivial clean : Bool) (d : Coupling) (s : Program) (rs : List Rewritten) (ms : List PartTarget) (t : Target) → IsCut s.cut
+    → whole s.cut.parts ≡ s.ops → All (IsBar s.wires) s.cut.bars → IsAssembled keep s ms t → AllZip (λ us r. IsOptimised s.wires us r.passed) s.cut.parts rs
+    → AllZip (λ us r. IfSome r.steps (HasSteps s.wires us r.passed)) s.cut.parts rs
+    → (s.cut ≡ uncut s.ops) × (clean ≡ false) ⊎ All (λ r. r.steps ≡ None) rs → AreRoutedParts d clean t.initial rs ms → s.wires ≤ d.size
+    → t.body.wires ≡ d.size → t.last ≡ last_of t.initial ms → t.swaps ≡ sum_by (λ (m : PartTarget). m.swaps) ms
+    → (trivial ≡ true → t.initial ≡ identity d.size) → (trivial ≡ false → IsLayout d (whole (gates_of rs)) t.initial)
+    → (k : ℕ) → IsDiameter d.size d.edges (cost d) k → t.cost ≡ told_cost d (ops t.body.gates)
+    → (clean ≡ false → AreTraced d t.initial rs ms t.trace.items) → (All (λ r. r.steps ≡ None) rs → t.trace.items ≡ [])
+    → length s.ops ≤ most_operations → All (IsFineOp s.wires) s.ops → t.spares ≡ None
+    → Stands s keep (are_told rs) (IsOnQubits d trivial clean s) t
+Stands-routed keep trivial clean d s rs ms t cut all bars a o steps which routed fits wires last swaps begins laid_out k diameter cost traced silent few fine alone =
+    Stands-legs keep (are_told rs) trivial clean d s ms (gates_of rs) t (legs-together keep clean d s rs ms t cut all bars a o routed fits wires last swaps)
+    (AreLegs-routed d clean s.wires t.initial s.cut.parts rs ms fits o routed) wires swaps begins laid_out k diameter cost
+    (λ told r. IsOwnTrace-parts d clean s rs ms t told o steps which routed traced silent few fine a.gates wires last a.turn r) alone
+
+pub IsFit-routed : (keep clean : Bool) (d : Coupling) (s : Program) (rs : List Rewritten) (ms : List PartTarget) (t : Target) → IsCut s.cut
+    → whole s.cut.parts ≡ s.ops → All (IsBar s.wires) s.cut.bars → IsAssembled keep s ms t → AllZip (λ us r. IsOptimised s.wires us r.passed) s.cut.parts rs
+    → AreRoutedParts d clean t.initial rs ms → s.wires ≤ d.size → t.body.wires ≡ d.size → t.last ≡ last_of t.initial ms
+    → t.swaps ≡ sum_by (λ (m : PartTarget). m.swaps) ms → length t.initial ≡ d.size → ended (lines_of t.trace.items) ≡ t.trace.items → IsFit s t
+IsFit-routed keep clean d s rs ms t cut all bars a o routed fits wires last swaps long lines =
+    let is = legs-together keep clean d s rs ms t cut all bars a o routed fits wires last swaps in
+    IsFit-parts keep s ms t cut bars a is.many is.realised (omega (arith, fits, wires))
+    (ap length last ∙ last-long d clean t.initial rs ms routed long ∙ sym wires) lines
+
+-- ---- what calls ask
+few_cx : (us : List Op) → cx_count us ≤ length us
+few_cx [] = omega arith
+few_cx (OpCx c t ∷ us) = let more = few_cx us in omega (arith, more)
+few_cx (U a b c q ∷ us) = let more = few_cx us in omega (arith, more)
+
+bound-few : (o : Option (List ℕ)) (n k : ℕ) → n ≤ 256 → (o ≡ None → k < n) → bound_by o n k ≤ 512
+bound-few None n k few short = let here = short refl in omega (arith, few, here)
+bound-few (Some cs) n k few short = omega (arith, few)
+
+few-routed : (clean : Bool) (d : Coupling) (s : Program) (first : List ℕ) (rs : List Rewritten) (ms : List PartTarget) (k : ℕ) → whole s.cut.parts ≡ s.ops
+    → AllZip (λ us r. IsOptimised s.wires us r.passed) s.cut.parts rs → AreRoutedParts d clean first rs ms → s.wires ≤ d.size
+    → IsDiameter d.size d.edges (cost d) k → (d.costs ≡ None → k < d.size) → d.size ≤ 256 → length s.ops ≤ most_operations
+    → sum_by (λ (m : PartTarget). m.swaps) ms ≤ 33554432
+few-routed clean d s first rs ms k all o routed fits diameter short size few =
+    let parts = parts_of s.cut.parts ms in
+    let many = as-many d clean s first rs ms o routed in
+    let legs = AreLegs-routed d clean s.wires first s.cut.parts rs ms fits o routed in
+    let cx = few_cx s.ops in
+    let n = cx_count (sources parts) in
+    let same : n ≡ cx_count s.ops = ap cx_count (sources-source s ms many all) in
+    let is = few-swaps d clean s.wires first parts (gates_of rs) k legs diameter in
+    let most : n * bound d k ≤ 65536 * 512 = mul-le n (bound d k) 65536 512 (omega (arith, same, cx, few)) (bound-few d.costs d.size k size short) in
+    omega (arith, is, most, parts-swaps s.cut.parts ms many)
+
+pub swaps-few : (clean : Bool) (d : Coupling) (s : Program) (first : List ℕ) (rs : List Rewritten) (ms : List PartTarget) (k : ℕ) → whole s.cut.parts ≡ s.ops
+    → AllZip (λ us r. IsOptimised s.wires us r.passed) s.cut.parts rs → AreRoutedParts d clean first rs ms → s.wires ≤ d.size
+    → IsDiameter d.size d.edges (cost d) k → (d.costs ≡ None → k < d.size) → d.size ≤ 256 → length s.ops ≤ most_operations
+    → sum_by (λ (m : PartTarget). m.swaps) ms < 18446744073709551616
+swaps-few clean d s first rs ms k all o routed fits diameter short size few =
+    let most = few-routed clean d s first rs ms k all o routed fits diameter short size few in
+    omega (arith, most)
+
+pub edges-followed : (clean : Bool) (d : Coupling) (s : Program) (first : List ℕ) (rs : List Rewritten) (ms : List PartTarget) (gs : List Gate)
+    → AllZip (λ us r. IsOptimised s.wires us r.passed) s.cut.parts rs → AreRoutedParts d clean first rs ms → s.wires ≤ d.size
+    → gs ≡ whole (map (λ m. m.body.gates) ms) → FollowsEdges d.edges (ops gs)
+edges-followed clean d s first rs ms gs o routed fits gates =
+    let parts = parts_of s.cut.parts ms in
+    subst (FollowsEdges d.edges) (targets-gates s ms gs (as-many d clean s first rs ms o routed) gates)
+    (FollowsEdges-legs d clean s.wires first parts (gates_of rs) (AreLegs-routed d clean s.wires first s.cut.parts rs ms fits o routed))
+
+pub cost-few : (clean : Bool) (d : Coupling) (s : Program) (first : List ℕ) (rs : List Rewritten) (ms : List PartTarget) (gs : List Gate) (k : ℕ)
+    → whole s.cut.parts ≡ s.ops → AllZip (λ us r. IsOptimised s.wires us r.passed) s.cut.parts rs → AreRoutedParts d clean first rs ms → s.wires ≤ d.size
+    → IsDiameter d.size d.edges (cost d) k → (d.costs ≡ None → k < d.size) → d.size ≤ 256 → length s.ops ≤ most_operations
+    → gs ≡ whole (map (λ m. m.body.gates) ms) → cx_count (ops gs) ≤ 4294967296
+cost-few clean d s first rs ms gs k all o routed fits diameter short size few gates =
+    let parts = parts_of s.cut.parts ms in
+    let many = as-many d clean s first rs ms o routed in
+    let legs = AreLegs-routed d clean s.wires first s.cut.parts rs ms fits o routed in
+    let cx = few_cx s.ops in
+    let most = few-routed clean d s first rs ms k all o routed fits diameter short size few in
+    let is = cx-legs d clean s.wires first parts (gates_of rs) legs in
+    omega (
+      arith,
+      is,
+      most,
+      cx,
+      few,
+      parts-swaps s.cut.parts ms many,
+      ap cx_count (sources-source s ms many all),
+      ap cx_count (targets-gates s ms gs many gates),
+    )
+
+-- ---- what is asked for
+pub Stands-asked : {E : Type 0} (d : Coupling) (s : Program) (x : Result Target E) (rs ss : List Rewritten) (keep trivial clean trace : Bool) → ss ≡ rs
+    → IsCut s.cut → AllZip (λ us r. IsOptimised s.wires us r.passed) s.cut.parts rs → All (λ r. is_some r.steps ≡ trace) rs
+    → IfOk x (Stands s keep (are_told ss) (IsOnQubits d trivial clean s)) → IfOk x (Stands s keep trace (IsOnQubits d trivial clean s))
+Stands-asked d s x rs ss keep trivial clean trace same cut o asked stands =
+    let told : are_told ss ≡ trace = ap are_told same ∙ told_asked rs trace (some-rewritten s.wires s.cut rs cut o) asked in
+    subst (λ b. IfOk x (Stands s keep b (IsOnQubits d trivial clean s))) told stands
+
+none_told : (o : Option (List Step)) → is_some o ≡ false → o ≡ None
+none_told None e = refl
+none_told (Some ss) e = absurd (cc)
+
+pub silent-or : (b : Bool) (rs ss : List Rewritten) (A : Type 0) → ss ≡ rs → (b ≡ true → A) → All (λ r. is_some r.steps ≡ b) rs
+    → A ⊎ All (λ r. r.steps ≡ None) ss
+silent-or true rs ss A same one asked = inl (one refl)
+silent-or false rs ss A same one asked =
+    inr (subst (All (λ r. r.steps ≡ None)) (sym same) (All-from_recursion (λ r. r.steps ≡ None) rs
+    (weaken rs (λ r h. none_told r.steps h) (recursion_from_All (λ r. is_some r.steps ≡ false) rs asked))))

@@ -1,0 +1,37 @@
+-- A program, as it is handed in: its parts, one by one.
+--   lists_of parts       the operations of each part
+--   parted ..            the program that the parts are, with all else
+--   IsParted wires os p  it is within the limits, its parts are all its operations, and its operations and barriers are on its
+--                        wires, as each part is
+use Rattle.std.specs.Prelude.{◌≡◌, ℕ, ◌≤◌, List, All, Option, length, map}
+use Rattle.gate_expand.specs.Expansion.{IsFineOp}
+use Rattle.gate_expand.specs.declared.source.Ops.{Ops}
+use Rattle.gate_inline.specs.Programs.{Program}
+use Rattle.gate_inline.specs.Sizes.{most_operations}
+use Rattle.gate_inline.specs.Splits.{IsBar}
+use Rattle.program_parts.specs.Cuts.{IsCut, whole}
+use Rattle.qasm_check.specs.declared.register.ClassicalRegister.{ClassicalRegister}
+use Rattle.unitary_model.specs.Limits.{most_qubits}
+use Rattle.unitary_model.specs.declared.Op.{Op}
+
+abbrev pub lists_of : List Ops → List (List Op)
+lists_of parts = map (λ o. o.list) parts
+
+abbrev pub parted : ℕ → List Ops → List (List ℕ) → List (Option ℕ) → List ClassicalRegister → ℕ → Program
+parted wires parts bars reads registers barriers = record {
+  wires = wires;
+  ops = whole (lists_of parts);
+  cut = record { parts = lists_of parts; bars = bars };
+  reads = reads;
+  registers = registers;
+  barriers = barriers;
+}
+
+pub record IsParted (wires : ℕ) (os : List Ops) (p : Program) : Type 0 where
+  pub wires_limit : p.wires ≤ most_qubits
+  pub operations_limit : length p.ops ≤ most_operations
+  pub cut : IsCut p.cut
+  pub parts : whole p.cut.parts ≡ p.ops
+  pub fine : All (IsFineOp p.wires) p.ops
+  pub bars : All (IsBar p.wires) p.cut.bars
+  pub on : All (λ o. o.wires ≡ wires) os

@@ -1,8 +1,0 @@
--- The first barriers.
-use Rattle.std.proofs.Common.{◌≡◌, map, take}
-use Rattle.qroute_top.specs.InParts.{placed_bars}
-use Rattle.qroute_top.specs.Targets.{parts_of}
-use Rattle.qroute_top.proofs.parts.placed_bars.Given as goal
-
-abbrev pub invariant-bars : goal.invariant-bars
-invariant-bars l = map (λ b. b.items) l.placed.items ≡ take l.part (placed_bars (parts_of l.source.cut.parts l.made) l.source.cut.bars)

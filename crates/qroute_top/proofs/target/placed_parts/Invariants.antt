@@ -1,8 +1,0 @@
--- The first parts after all passes.
-use Rattle.std.proofs.Common.{map, take}
-use Rattle.std.specs.List.{AllZip}
-use Rattle.qroute_top.specs.Targets.{IsPlacedPart}
-use Rattle.qroute_top.proofs.target.placed_parts.Given as goal
-
-abbrev pub invariant-parts : goal.invariant-parts
-invariant-parts l = AllZip (IsPlacedPart l.source.wires) (take l.part-index (map (λ o. o.list) l.parts)) l.made.items

@@ -1,0 +1,4 @@
+-- ---- definitions that public clauses reach
+pub mod Verdicts
+-- ---- working forms
+pub mod Told
