@@ -5,14 +5,14 @@
 --   shown-with             a witness stays one
 --   spanned-old            a row that came in is spanned
 use Rattle.std.proofs.Common.{◌≡◌, ℕ, ◌+◌, ◌<◌, ◌≤◌, true, List, [], ◌∷◌, ◌++◌, length, map, get_or, refl, sym, ap, subst, ◌∙◌, arith, ◌⊎◌, inl, inr}
-use Rattle.std.specs.Prelude.{All, ◌*◌}
+use Rattle.std.specs.Prelude.{◌*◌}
 use Rattle.std.proofs.lemmas.Bool.{cases_lt}
 use Rattle.std.proofs.lemmas.List.{length-append, get_or_append_left, get_or_push}
 use Rattle.std.proofs.lemmas.List.Elements.{All-weaker}
 use Rattle.matroid_partition.specs.declared.blocks.Block.{Block}
 use Rattle.matroid_partition.specs.Arrangements.{Arrangement, IsArranged, rows_with}
 use Rattle.matroid_partition.specs.Places.{Has}
-use Rattle.matroid_partition.specs.Blocks.{IsBlock, IsShown, IsState, SpansFirst, places_at}
+use Rattle.matroid_partition.specs.Blocks.{IsBlock, IsShown, IsState, SpansFirst}
 use Rattle.gf2_linear.specs.Rows.{is_independent, is_sum, rank, rows_at}
 use Rattle.matroid_partition.proofs.PlaceLaws.{Has-at, at-Has}
 use Rattle.matroid_partition.proofs.StateLaws.{places_at-is}

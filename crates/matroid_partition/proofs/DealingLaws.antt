@@ -31,9 +31,9 @@ use Rattle.gf2_linear.proofs.Spans.{Span, Span-same, Span-within}
 use Rattle.gf2_linear.proofs.Ranks.{is_sum-spanned, Span-is_sum}
 use Rattle.matroid_partition.proofs.Exchanges.{Has-span}
 use Rattle.matroid_partition.proofs.PlaceLaws.{Has-at, at-Has, IsStrictlyIncreasing-ascending}
-use Rattle.matroid_partition.proofs.Witnesses.{is_in, is_in-has, kept, All_close}
+use Rattle.matroid_partition.proofs.Witnesses.{kept, All_close}
 use Rattle.matroid_partition.proofs.OpenLaws.{Has-range}
-use Rattle.matroid_partition.proofs.PartLaws.{all_span-from, at_most-from, distinct-ascending, filter-ascending, filter-from, has-is_in, range-ascending, state-once}
+use Rattle.matroid_partition.proofs.PartLaws.{all_span-from, at_most-from, distinct-ascending, filter-ascending, range-ascending, state-once}
 use Rattle.matroid_partition.proofs.ClosedLaws.{kept-seen, seen-from, seen-has}
 use Rattle.matroid_partition.proofs.SpareLaws.{spare-witness-more}
 

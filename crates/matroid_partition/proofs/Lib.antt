@@ -15,3 +15,4 @@ pub mod ClosedLaws
 pub mod PartitioningLaws
 pub mod DealingLaws
 pub mod DealtLaws
+pub mod FlatLaws

@@ -25,13 +25,13 @@ use Rattle.matroid_partition.specs.Blocks.{IsOpen, IsShown, IsState, OthersSpan,
 use Rattle.matroid_partition.specs.Arrangements.{Arrangement}
 use Rattle.matroid_partition.specs.Searches.{node_at, row_of, IsChain}
 use Rattle.gf2_linear.specs.Rows.{is_independent, is_sum, rank, row_sum, rows_at}
-use Rattle.gf2_linear.proofs.Spans.{Span, All_span, Free, Span-zero, Span-same, Span-add, steinitz}
+use Rattle.gf2_linear.proofs.Spans.{Span, All_span, Free, Span-zero, Span-add, steinitz}
 use Rattle.gf2_linear.proofs.Ranks.{is_sum-spanned, Span-is_sum, independent-Free}
 use Rattle.matroid_partition.proofs.PlaceLaws.{Has-at, at-Has, count_of-none, count_of-one, IsStrictlyIncreasing-ascending}
 use Rattle.matroid_partition.proofs.Exchanges.{Has-span}
 use Rattle.matroid_partition.proofs.Witnesses.{is_in, kept, Distinct, At_most_once, At_least_once, All_close, All_free, witness-more, least-by_witness}
 use Rattle.matroid_partition.proofs.StateLaws.{any-block, listed, places_at-is}
-use Rattle.matroid_partition.proofs.OpenLaws.{Has-range, range-below}
+use Rattle.matroid_partition.proofs.OpenLaws.{range-below}
 use Rattle.matroid_partition.proofs.ArrangementLaws.{shown-with}
 use Rattle.matroid_partition.proofs.BlockLaws.{take-next}
 

@@ -20,7 +20,7 @@ use Rattle.matroid_partition.specs.declared.blocks.Block.{Block}
 use Rattle.matroid_partition.specs.declared.search.Node.{Node}
 use Rattle.matroid_partition.specs.declared.witness.ReachedRows.{ReachedRows}
 use Rattle.gf2_linear.specs.Rows.{is_sum}
-use Rattle.matroid_partition.specs.Arrangements.{Arrangement, IsArranged, IsEntered, IsFull, IsPartitioning, IsWidened, rows_with}
+use Rattle.matroid_partition.specs.Arrangements.{Arrangement, IsArranged, IsFull, IsPartitioning, rows_with}
 use Rattle.matroid_partition.specs.Blocks.{HasRoomAt, IsBlock, IsOpen, IsShown, IsState, OthersSpan, SpansFirst, places_at}
 use Rattle.matroid_partition.specs.Closed.{IsClosed, IsClosedBy, places_seen, seen_by}
 use Rattle.matroid_partition.specs.Places.{Has, taken_out}
@@ -144,11 +144,9 @@ begun-kept a unfilled v b p h k e = record {
 pub full-reached : (a : Arrangement) (v : ℕ) → IsArranged a → is_sum a.all v ≡ true → IsFull a → IsClosed (rows_with a v) a.homes a.blocks (replicate (length a.homes + 1) true)
 full-reached a v w h f = closed-full (rows_with a v) a.homes a.blocks a.all (replicate (length a.homes + 1) true) (state-with a v w) (spans-with a v w h) f refl
 
--- a row that opened a block
-pub brought-shown : (o w s b : Arrangement) (v : ℕ) (reached : ReachedRows) (S : List ℕ) → IsWidened v o w → IsArranged w → IsClosedBy w v reached → s ≡ w
-    → S ≡ places_seen (seen_by (length s.homes + 1) reached) → IsEntered v 1 s b → IsShown b.rows (length o.blocks) S
-brought-shown o w s b v reached S wi ar cl e q en =
-    subst (λ (r : List ℕ). IsShown r (length o.blocks) S) (sym (en.rows ∙ ap (λ (a : Arrangement). rows_with a v) e))
-    (subst (λ (k : List Block). IsShown (rows_with w v) (length k) S) wi.blocks
-    (closed-shown (rows_with w v) w.homes w.blocks (seen_by (length w.homes + 1) reached) S (state-with w v ar) (count-with w v ar) cl
-    (q ∙ ap (λ (a : Arrangement). places_seen (seen_by (length a.homes + 1) reached)) e)))
+-- a row that opens a block
+pub brought-shown : (w s : Arrangement) (v : ℕ) (reached : ReachedRows) (S : List ℕ) → IsArranged w → IsClosedBy w v reached → s ≡ w
+    → S ≡ places_seen (seen_by (length s.homes + 1) reached) → IsShown (rows_with w v) (length w.blocks) S
+brought-shown w s v reached S ar cl e q =
+    closed-shown (rows_with w v) w.homes w.blocks (seen_by (length w.homes + 1) reached) S (state-with w v ar) (count-with w v ar) cl
+    (q ∙ ap (λ (a : Arrangement). places_seen (seen_by (length a.homes + 1) reached)) e)

@@ -19,7 +19,7 @@
 --   IsChain last into         the row of the last node has room in another block
 --   IsFrontOf a v, IsChainOf a v    IsFront and IsChain of rows that have come in, and a new one v behind them
 --   IsNear a v place into     a row that the new one's sum takes in has room in another block
-use Rattle.std.specs.Prelude.{◌≡◌, ◌⊎◌, ℕ, ◌+◌, ◌<◌, ◌≤◌, Bool, true, false, cond, List, [], ◌∷◌, ◌++◌, All, length, map, replicate, slice_index, slice_index_or, bit_xor}
+use Rattle.std.specs.Prelude.{◌≡◌, ◌⊎◌, ℕ, ◌+◌, ◌<◌, ◌≤◌, Bool, true, false, cond, List, [], ◌∷◌, ◌++◌, length, map, replicate, slice_index, slice_index_or, bit_xor}
 use Rattle.matroid_partition.specs.Places.{Has}
 use Rattle.matroid_partition.specs.Arrangements.{Arrangement, rows_with}
 use Rattle.matroid_partition.specs.Blocks.{HasRoomAt, places_at}

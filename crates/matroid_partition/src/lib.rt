@@ -10,7 +10,8 @@
 //! The method is Edmonds' matroid partition (J. Res. NBS 69B, 1965), with a breadth-first search. Rows
 //! come in one by one: a block with room takes the row; where none has room, the shortest chain of exchanges
 //! that the search meets first makes some; where there is no chain, the row opens a block, and what the search
-//! reached is the witness. A block with as many rows as the rank of all that came is passed over. There is no bad
+//! reached is the witness. A block with as many rows as the rank of all that came is passed over, and a row
+//! of a span of which the blocks hold all that they can opens a block without a search. There is no bad
 //! input; want of memory leaves nothing behind.
 //!
 //! `partition_spares` lets a block have some rows more than its rank, as where its circuit has wires to spare.
@@ -20,6 +21,7 @@ mod blocks;
 mod dealing;
 mod dealt;
 mod exchange;
+mod flat;
 mod partitioning;
 mod parts;
 mod roomless;

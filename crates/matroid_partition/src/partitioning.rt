@@ -1,17 +1,19 @@
 //! Rows that come in one by one, each into one of some independent blocks.
 
-ghost use Rattle.std.specs.Prelude.{◌≡◌, [], ◌+◌, ◌<◌, ◌≤◌, ◌++◌, ◌∷◌, All, IfOk, IfSome, IfNone, length, map, slice_index, slice_index_or, true};
+ghost use Rattle.std.specs.Prelude.{◌≡◌, [], ◌+◌, ◌*◌, ◌<◌, ◌≤◌, ◌++◌, ◌∷◌, All, IfOk, IfSome, IfNone, length, map, slice_index, slice_index_or, true};
 ghost use Rattle.std.specs.List.Sorted.{IsStrictlyIncreasing};
 ghost use Rattle.gf2_linear.specs.Rows.{is_sum};
 ghost use Rattle.matroid_partition.specs.Arrangements.{IsArranged, IsEntered, IsFull, IsWidened, rows_with};
 ghost use Rattle.matroid_partition.specs.Blocks.{HasRoomAt, IsShown, shown_by};
 ghost use Rattle.matroid_partition.specs.Closed.{IsClosedBy, places_seen, seen_by};
+ghost use Rattle.matroid_partition.specs.Flats.{IsFlat};
 ghost use Rattle.matroid_partition.specs.Partitions.{IsPartition};
 ghost use Rattle.matroid_partition.specs.Searches.{IsChainOf, IsRoot};
 ghost use Rattle.matroid_partition.specs.declared.blocks.Block.{Block};
 
 use crate::blocks::{Block, block_of, first_fit, without};
 use crate::exchange::shift;
+use crate::flat::{Flat, flat_at};
 use crate::search::{Chain, Front, Node, front_at};
 use crate::witness::{ReachedRows, Witness, places_below, places_of, seen_places};
 use gf2_linear::{Basis, Row};
@@ -153,22 +155,92 @@ impl<'a> Partitioning<'a> {
         Ok(())
     }
 
-    /// Brings the next row in. Where it opens a block, it gives the rows that show why.
-    pub fn bring(&mut self, alloc: Global, row: &'a Row) -> Result<Option<Witness>, AllocError>
+    /// Brings the next row in. If it opens a block, it gives the rows that show why. `flat` has rows of one span, which may show
+    /// it without a search; it is kept up to date.
+    pub fn bring(
+        &mut self,
+        alloc: Global,
+        row: &'a Row,
+        flat: &mut Flat,
+    ) -> Result<Option<Witness>, AllocError>
         requires nonzero { row.now ≡ 0 → ⊥ }
-        ensures rows { IfOk result (λ _. self.new.rows ≡ self.old.rows ++ row.now ∷ []) }
+        requires flat { IsFlat self.old.rows flat.old }
+        ensures rows { IfOk result (λ _. self.new.rows ≡ rows_with self.old row.now) }
         ensures none { IfOk result (λ o. IfNone o (length self.new.blocks ≡ length self.old.blocks)) }
         ensures opened { IfOk result (λ o. IfSome o (λ _. length self.new.blocks ≡ length self.old.blocks + 1)) }
         ensures shown { IfOk result (λ o. IfSome o (λ w. IsShown self.new.rows (length self.old.blocks) (shown_by w))) }
+        ensures flat { IfOk result (λ _. IsFlat self.new.rows flat.new) }
     {
         self.widen(alloc, row)?;
+        self.facts();
+        flat.note(row, self.row_count())?;
+        if flat.is_over(self.block_count()) {
+            let witness = self.begin_over(alloc, row, flat)?;
+            Ok(Some(witness))
+        } else {
+            self.bring_or_begin(alloc, row, flat)
+        }
+    }
+
+    /// Opens a block with the next row, since `flat` has more rows than the blocks can hold. Gives these rows.
+    fn begin_over(
+        &mut self,
+        alloc: Global,
+        row: &'a Row,
+        flat: &Flat,
+    ) -> Result<Witness, AllocError>
+        requires spanned { is_sum self.old.all row.now ≡ true }
+        requires nonzero { row.now ≡ 0 → ⊥ }
+        requires flat { IsFlat (rows_with self.old row.now) flat.now }
+        requires over { length self.old.blocks * length flat.now.basis < length flat.now.places.items }
+        ensures entered { IfOk result (λ _. IsEntered row.now 1 self.old self.new) }
+        ensures shown { IfOk result (λ w. IsShown (rows_with self.old row.now) (length self.old.blocks) (shown_by w)) }
+    {
+        let places = flat.places.clone()?;
+        self.begin(alloc, row)?;
+        Ok(Witness::Reached(places))
+    }
+
+    /// Brings the next row in by a block with room or a chain of exchanges, or opens a block with it. Then `flat` becomes the span
+    /// of the rows that were reached.
+    fn bring_or_begin(
+        &mut self,
+        alloc: Global,
+        row: &'a Row,
+        flat: &mut Flat,
+    ) -> Result<Option<Witness>, AllocError>
+        requires spanned { is_sum self.old.all row.now ≡ true }
+        requires nonzero { row.now ≡ 0 → ⊥ }
+        requires flat { IsFlat (rows_with self.old row.now) flat.old }
+        ensures none { IfOk result (λ o. IfNone o (IsEntered row.now 0 self.old self.new)) }
+        ensures opened { IfOk result (λ o. IfSome o (λ _. IsEntered row.now 1 self.old self.new)) }
+        ensures shown { IfOk result (λ o. IfSome o (λ w. IsShown (rows_with self.old row.now) (length self.old.blocks) (shown_by w))) }
+        ensures flat { IfOk result (λ _. IsFlat (rows_with self.old row.now) flat.new) }
+    {
         self.facts();
         match self.settle(alloc, row)? {
             None => Ok(None),
             Some(reached) => {
                 let witness = self.witness(alloc, reached)?;
                 self.begin(alloc, row)?;
+                self.renew(alloc, &witness, flat)?;
                 Ok(Some(witness))
+            }
+        }
+    }
+
+    /// Puts the span of the rows of a witness in the place of another one. If it is all rows, nothing changes.
+    fn renew(&self, alloc: Global, witness: &Witness, flat: &mut Flat) -> Result<(), AllocError>
+        requires flat { IsFlat self.now.rows flat.old }
+        requires within { All (λ i. i < length self.now.rows) (shown_by witness.now) }
+        requires ascending { IsStrictlyIncreasing (shown_by witness.now) }
+        ensures flat { IfOk result (λ _. IsFlat self.now.rows flat.new) }
+    {
+        match witness {
+            Witness::First(_) => Ok(()),
+            Witness::Reached(places) => {
+                *flat = flat_at(alloc, &self.rows, places)?;
+                Ok(())
             }
         }
     }

@@ -6,6 +6,7 @@ ghost use Rattle.std.specs.List.Sorted.{IsStrictlyIncreasing};
 ghost use Rattle.matroid_partition.specs.Blocks.{shown_by};
 ghost use Rattle.matroid_partition.specs.Partitions.{IsPartition, IsWitness, blocks_of};
 
+use crate::flat::no_flat;
 use crate::partitioning::Partitioning;
 use crate::witness::{Witness, listed, places_below};
 use gf2_linear::Row;
@@ -30,9 +31,10 @@ pub fn partition(alloc: Global, rows: &[Row]) -> Result<Parts, AllocError>
     ensures none { IfOk result (λ p. vec_len p.blocks ≡ 0 → p.witness.items ≡ []) }
 {
     let mut underway = Partitioning::none(alloc);
+    let mut flat = no_flat(alloc);
     let mut witness = Witness::First(0);
     'rows: for row in rows {
-        if let Some(reached) = underway.bring(alloc, row)? {
+        if let Some(reached) = underway.bring(alloc, row, &mut flat)? {
             witness = reached;
         }
     }

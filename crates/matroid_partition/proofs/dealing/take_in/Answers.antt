@@ -1,4 +1,4 @@
-use Rattle.std.proofs.Common.{◌≡◌, ◌+◌, ◌*◌, ◌<◌, ℕ, IfNone, IfSome, length, subst, ap, ◌∙◌, arith}
+use Rattle.std.proofs.Common.{◌≡◌, ◌+◌, ◌*◌, ◌<◌, ℕ, IfNone, IfSome, length, subst, ap, arith}
 use Rattle.matroid_partition.specs.Dealings.{IsDealing, IsShownWide}
 use Rattle.matroid_partition.proofs.DealingLaws.{dealing-few, dealing-rows, some_map}
 use Rattle.matroid_partition.proofs.dealing.take_in.Goals as goal

@@ -1,4 +1,4 @@
-use Rattle.std.proofs.Common.{◌≡◌, ◌+◌, ◌<◌, ◌≤◌, ◌∷◌, [], ℕ, List, length, get_or, refl, subst, sym, ap, ◌∙◌, arith, inl}
+use Rattle.std.proofs.Common.{◌≡◌, ◌+◌, ◌<◌, ◌≤◌, ◌∷◌, [], ℕ, List, length, get_or, refl, subst, sym, ap, ◌∙◌, arith}
 use Rattle.std.proofs.lemmas.List.{get_or_read, length-append}
 use Rattle.gf2_linear.specs.Rows.{combined, is_sum}
 use Rattle.matroid_partition.specs.declared.blocks.Block.{Block}
@@ -6,7 +6,7 @@ use Rattle.matroid_partition.specs.declared.search.Node.{Node}
 use Rattle.matroid_partition.specs.Arrangements.{rows_with}
 use Rattle.matroid_partition.specs.Searches.{IsOwn, node_at}
 use Rattle.matroid_partition.proofs.ArrangementLaws.{count-with, state-with}
-use Rattle.matroid_partition.proofs.SearchLaws.{front-through, node-row, set-told}
+use Rattle.matroid_partition.proofs.SearchLaws.{node-row, set-told}
 use Rattle.matroid_partition.proofs.partitioning.Partitioning.cross.Goals as goal
 use Rattle.matroid_partition.proofs.partitioning.Partitioning.cross.Goals.{else-place-row_count-via-then-place-row_count+else-home-number, else-place-row_count-via-else-place-row_count}
 

@@ -1,6 +1,5 @@
-use Rattle.std.proofs.Common.{◌≡◌, ◌≤◌, IfSome, true, length, subst, ap, ◌∙◌, arith}
+use Rattle.std.proofs.Common.{IfSome, subst, ap, ◌∙◌, arith}
 use Rattle.gf2_linear.specs.Rows.{is_sum}
-use Rattle.matroid_partition.specs.Arrangements.{rows_with}
 use Rattle.matroid_partition.specs.Blocks.{HasRoomAt}
 use Rattle.matroid_partition.proofs.ArrangementLaws.{spanned-old}
 use Rattle.matroid_partition.proofs.partitioning.Partitioning.room_for.Goals as goal
