@@ -17,7 +17,7 @@ use Rattle.amplitude_exact.specs.declared.values.Value.{Value}
 use Rattle.amplitude_exact.specs.Entries.{IsEntry, branches}
 use Rattle.amplitude_exact.specs.Columns.{bits, IsWithin, IsValue, IsColumn, IsSmall}
 use Rattle.amplitude_exact.specs.Values.{ring_of}
-use Rattle.unitary_model.specs.Ring.{Ring, nought, unit}
+use Rattle.unitary_model.specs.Ring.{nought, unit}
 use Rattle.unitary_model.specs.Amplitude.{same_bits, amplitude}
 use Rattle.amplitude_exact.proofs.BitLaws.{bits_same, same_bits-own, same_bits-equal}
 use Rattle.amplitude_exact.proofs.EntryLaws.{entry-column}

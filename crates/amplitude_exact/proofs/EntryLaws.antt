@@ -3,7 +3,7 @@
 --   entry-least     a value without a half has the least power
 --   entry-whole     so has the power 0
 --   entry-column    a column's value, with the number of branches
-use Rattle.std.proofs.Common.{◌≡◌, ℕ, zero, suc, ◌+◌, ◌-◌, ◌<◌, ◌≤◌, Bool, true, false, List, [], ◌∷◌, refl, sym, ap, ◌∙◌, subst, arith}
+use Rattle.std.proofs.Common.{◌≡◌, ℕ, zero, suc, ◌+◌, ◌-◌, ◌<◌, Bool, true, false, List, [], ◌∷◌, refl, sym, ap, ◌∙◌, subst, arith}
 use Rattle.std.specs.Prelude.{◌==◌, ◌||◌, if◌then◌else◌}
 use Rattle.unitary_model.specs.declared.Op.{Op}
 use Rattle.unitary_model.specs.declared.Op.TheVariants.{U, Cx}

@@ -1,5 +1,6 @@
 -- Rows of an amplitude over a column.
 --     turn_rest       only the rest of a turn modulo 8 matters
+--     turn_half       w^4 is -1
 --     row-double      a row of doubled entries
 --     row_turned, row_exchanged       the rows of the U that aren't branches
 --     within-row      how large a row is
@@ -25,6 +26,9 @@ turn_rest k v = let e : k ≡ k % 8 + 8 * (k / 8) = omega arith in sym (ap (λ j
 minus-turn : (v : Ring) → minus v ≡ turn 4 v
 unfolding minus turn1
 minus-turn v = refl
+
+pub turn_half : (k j : ℕ) (v m r : Ring) → k % 8 ≡ j + 4 → m ≡ minus v → r ≡ turn j m → r ≡ turn k v
+turn_half k j v m r e n h = h ∙ ap (turn j) (n ∙ minus-turn v) ∙ turn-turn j 4 v ∙ ap (λ i. turn i v) (sym e) ∙ turn_rest k v
 
 double-minus : (n : ℕ) (v : Ring) → double n (minus v) ≡ minus (double n v)
 double-minus n v = ap (double n) (minus-turn v) ∙ double-turn n 4 v ∙ sym (minus-turn (double n v))

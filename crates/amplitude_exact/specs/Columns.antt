@@ -7,7 +7,7 @@
 --                             part is at most 4^branches, so 60 branches stay within 2^120
 --     IsColumn n us y vs      value i of the column is that
 --     IsSmall vs              each value of the column is within 2^120
-use Rattle.std.specs.Prelude.{◌≡◌, ℕ, zero, suc, ◌+◌, ◌^◌, ◌/◌, ◌%◌, ◌<◌, ◌==◌, ◌||◌, Bool, cond, List, [], ◌∷◌, ℤ, pos, neg_ℤ, ◌≤ℤ◌, length, slice_index_or, if◌then◌else◌}
+use Rattle.std.specs.Prelude.{◌≡◌, ℕ, zero, suc, ◌+◌, ◌^◌, ◌/◌, ◌%◌, ◌<◌, ◌==◌, ◌||◌, Bool, cond, List, [], ◌∷◌, pos, neg_ℤ, ◌≤ℤ◌, length, slice_index_or, if◌then◌else◌}
 use Rattle.unitary_model.specs.declared.Op.{Op}
 use Rattle.unitary_model.specs.declared.Op.TheVariants.{U, Cx}
 use Rattle.unitary_model.specs.Ring.{Ring, double, plus, minus, turn}

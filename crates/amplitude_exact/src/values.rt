@@ -1,6 +1,6 @@
 //! Values of the ring Z[w], w the eighth root of unity.
 
-ghost use Rattle.std.specs.Prelude.{◌≡◌, ◌+◌, ◌^◌, cond};
+ghost use Rattle.std.specs.Prelude.{◌≡◌, ◌+◌, ◌^◌, ◌<◌, cond};
 ghost use Rattle.unitary_model.specs.Ring.{plus as sum_of, minus, turn1, turn};
 ghost use Rattle.unitary_model.specs.Amplitude.{one_plus as times_one_plus, one_minus as times_one_minus};
 ghost use Rattle.amplitude_exact.specs.Columns.{IsWithin, entry_of};
@@ -55,16 +55,57 @@ fn turned_once(v: Value) -> Value
     }
 }
 
+/// w^2 v
+fn turned_twice(v: Value) -> Value
+    requires small { IsWithin (2 ^ 125) (ring_of v) }
+    ensures turned { ring_of result ≡ turn 2 (ring_of v) }
+{
+    Value {
+        a: -v.c,
+        b: -v.d,
+        c: v.a,
+        d: v.b,
+    }
+}
+
+/// w^3 v
+fn turned_thrice(v: Value) -> Value
+    requires small { IsWithin (2 ^ 125) (ring_of v) }
+    ensures turned { ring_of result ≡ turn 3 (ring_of v) }
+{
+    Value {
+        a: -v.b,
+        b: -v.c,
+        c: -v.d,
+        d: v.a,
+    }
+}
+
+/// w^k v for a `k` below 4
+fn turned_below_4(v: Value, k: u16) -> Value
+    requires small { IsWithin (2 ^ 125) (ring_of v) }
+    requires below { k < 4 }
+    ensures turned { ring_of result ≡ turn k (ring_of v) }
+{
+    match k {
+        0 => v,
+        1 => turned_once(v),
+        2 => turned_twice(v),
+        _ => turned_thrice(v),
+    }
+}
+
 /// w^k v
 fn turned(v: Value, k: u16) -> Value
     requires small { IsWithin (2 ^ 125) (ring_of v) }
     ensures turned { ring_of result ≡ turn k (ring_of v) }
 {
-    let mut value = v;
-    for step in 0..k % 8 {
-        value = turned_once(value);
+    // w^4 is -1
+    if k % 8 < 4 {
+        turned_below_4(v, k % 8)
+    } else {
+        turned_below_4(negated(v), k % 8 - 4)
     }
-    value
 }
 
 /// (1 + w^a) v

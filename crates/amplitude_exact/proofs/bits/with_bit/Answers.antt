@@ -1,5 +1,5 @@
-use Rattle.std.proofs.Common.{◌≡◌, ◌-◌, ◌+◌, ◌^◌, ◌≤◌, Bool, true, false, cond, sym, ◌∙◌, ap, refl, arith, ◌<◌}
-use Rattle.unitary_model.specs.Amplitude.{bit_of, with_bit}
+use Rattle.std.proofs.Common.{◌≡◌, ◌-◌, ◌+◌, ◌^◌, cond, sym, ◌∙◌, ap, arith, ◌<◌}
+use Rattle.unitary_model.specs.Amplitude.{with_bit}
 use Rattle.amplitude_exact.specs.Columns.{bits}
 use Rattle.amplitude_exact.proofs.BitLaws.{bits-past, put_made, place_le}
 use Rattle.amplitude_exact.proofs.bits.with_bit.Goals as goal

@@ -1,6 +1,4 @@
-use Rattle.std.proofs.Common.{◌≡◌, ℕ, subst, sym, arith}
-use Rattle.unitary_model.specs.Ring.{Ring}
-use Rattle.amplitude_exact.specs.Entries.{IsExact}
+use Rattle.std.proofs.Common.{arith}
 use Rattle.amplitude_exact.specs.Values.{amp_ring, ring_of}
 use Rattle.amplitude_exact.proofs.EntryLaws.{entry-halved, entry-least, entry-whole, exact-same}
 use Rattle.amplitude_exact.proofs.HalfLaws.{half-parts, no-half}

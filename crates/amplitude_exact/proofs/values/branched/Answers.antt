@@ -1,4 +1,4 @@
-use Rattle.std.proofs.Common.{Bool, sym, ◌∙◌, ap}
+use Rattle.std.proofs.Common.{sym, ◌∙◌, ap}
 use Rattle.amplitude_exact.specs.Columns.{entry_of}
 use Rattle.amplitude_exact.specs.Values.{ring_of}
 use Rattle.amplitude_exact.proofs.values.branched.Goals as goal

@@ -1,9 +1,6 @@
-use Rattle.std.proofs.Common.{◌≡◌, ◌∷◌, ◌∙◌, ◌^◌, ℕ, List, ap, sym, subst, length, arith, ◌<◌}
+use Rattle.std.proofs.Common.{◌≡◌, ◌∙◌, ◌^◌, ap, sym, subst, length, arith, ◌<◌}
 use Rattle.std.proofs.lemmas.List.{with_items_is}
-use Rattle.amplitude_exact.specs.declared.values.Value.{Value}
-use Rattle.amplitude_exact.specs.Columns.{IsColumn, bits}
-use Rattle.amplitude_exact.specs.Entries.{IsEntry, branches}
-use Rattle.amplitude_exact.specs.Values.{ring_of}
+use Rattle.amplitude_exact.specs.Columns.{bits}
 use Rattle.amplitude_exact.proofs.ColumnLaws.{rest_small, one_more, whole_entry, column_same, entry_same}
 use Rattle.amplitude_exact.proofs.walk.entry.Goals as goal
 

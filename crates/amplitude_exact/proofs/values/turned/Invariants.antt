@@ -1,7 +1,0 @@
-use Rattle.std.proofs.Common.{◌≡◌}
-use Rattle.unitary_model.specs.Ring.{turn}
-use Rattle.amplitude_exact.specs.Values.{ring_of}
-use Rattle.amplitude_exact.proofs.values.turned.Given as goal
-
-abbrev pub invariant-loop-step : goal.invariant-loop-step
-invariant-loop-step l = ring_of l.value ≡ turn l.step (ring_of l.fn.v)
