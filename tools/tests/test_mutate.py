@@ -7,58 +7,83 @@ from tool import TOP, ToolTest
 
 LIB = """//! Numbers.
 
+pub const LIMIT: u8 = 3;
+
 /// Two.
 pub fn two(n: u8) -> u8
     ensures small { result < 3 }
-    ensures even { IsEven result
-        × (result ≡ 2) }
+    ensures even { IsEven result }
 {
     2
 }
-"""
-WORDS = """-- Even numbers.
-pub record IsEven (n : ℕ) : Type 0 where
-  pub half : ℕ
-  pub twice : half + half ≡ n
-"""
-ANSWERS = """pub returns-clause-small : goal.returns-clause-small
-returns-clause-small c = record {
-  half = 1;
-  twice =
-      refl;
+
+/// Three.
+fn three(n: u8) -> u8
+    ensures { result ≡ 3 }
+{
+    LIMIT
 }
 
-pub returns-clause-even : goal.returns-clause-even
-returns-clause-even c = arith
-"""
-# proves what has neither the clause nor the line of the proof
-RT = """#!/bin/sh
-if grep -q 'ensures even' src/lib.rt || grep -q 'twice' proofs/two/Answers.antt specs/Words.antt; then exit 1; fi
-grep -q '^    4$' src/lib.rt || exit 1
-echo logic=proved
-"""
+impl Next for Even {
+    fn next(&self) -> Even
+        ensures twice { IsTwice result }
+    {
+        Even { half: self.half + 1 }
+    }
+}
 
-
-PROOF = "with\tproofs/two/Answers.antt\treturns-clause-small\ttwice\t"
+impl Evens {
+    fn next(&self) -> u8
+        ensures least { result ≡ 2 }
+    {
+        'walk: for n in 0..9 {
+            return n;
+        }
+        9
+    }
+}
+"""
+# for each text that a check may find, what it says then
+SAYS = {
+    "    4\n": "note: src/lib.rt:6:1: it is not proved that what it ensures holds (`returns-clause-even`); `search` gave up\n"
+    "fn low::two: no proof: expected answers in ./proofs/two/Answers.antt; `search` did not prove `returns-clause-even`",
+    "    5\n": "./proofs/two/Answers.antt:3:1: error: `returns-clause-small`: terms differ\nfn low::two: not proved",
+    "LIMIT + 0": "fn low::three: no proof: expected answers in ./proofs/three/Answers.antt; `search` did not prove `returns`",
+    "u8 = 4;": "fn low::three: no proof: `search` did not prove `returns`\nfn low::uses: no proof: it calls `low::three`, which is not proved",
+    "half + 2": "fn low::EvenNext::next: no proof: `search` did not prove `returns-clause-twice`",
+    "return 1;": "note: src/lib.rt:31:9: it is not proved that the invariant holds (`walk-preserved`)\nfn low::Evens::next: no proof: `search` did not prove `walk-preserved`",
+    "return n + 0;": "./proofs/Evens/next/Answers.antt:3:1: error: `returns`: `c.n` has no field `is`\nfn low::Evens::next: not proved",
+}
+RT = """#!{python}
+import sys
+text = open("src/lib.rt").read()
+open(sys.argv[sys.argv.index("--stage-times") + 1], "w").write("stage session 2.0 1\\n" + "stage offers 1.25 1\\n" * ("    4\\n" in text))
+open("{log}", "a").write("check\\n")
+if "$" in text:
+    sys.exit("error: it can't be read")
+told = [said for sign, said in {says!r}.items() if sign in text]
+print("\\n".join(told + ["logic=not-proved" if told else "logic=proved"]))
+"""
 
 
 class Mutate(ToolTest):
     def setUp(self):
         super().setUp()
         shutil.copytree(os.path.join(TOP, "tools"), os.path.join(self.room, "tools"))
+        self.checks = os.path.join(self.room, "checks")
         for name, text in {
-            "crates.txt": "low:\n",
+            "crates.txt": "low:\nhigh: low\n",
             "HANDLES": "Handles allowed: none.\n",
             "crates/low/src/lib.rt": LIB,
-            "crates/low/specs/Words.antt": WORDS,
-            "crates/low/proofs/two/Answers.antt": ANSWERS,
-            "docs/CLAIMS.md": "# Claims\n",
-            "bin/rt": RT,
+            "crates/high/src/lib.rt": "//! High.\n",
+            "docs/CLAIMS.md": "# Claims\n\n<!-- made: edits -->\n<!-- /made -->\n",
+            "bin/rt": RT.format(python=sys.executable, log=self.checks, says=SAYS),
         }.items():
             self.file(name, text)
         os.chmod(os.path.join(self.room, "bin/rt"), 0o755)
 
     def mutate(self, *words):
+        """Status, the lines that tell verdicts, and all lines."""
         path = os.path.join(self.room, "bin") + os.pathsep + os.environ["PATH"]
         ran = subprocess.run(
             [sys.executable, os.path.join(self.room, "tools/mutate"), *words],
@@ -67,84 +92,116 @@ class Mutate(ToolTest):
             timeout=60,
             env=dict(os.environ, PATH=path, TMPDIR=self.room),
         )
-        return ran.returncode, ran.stdout.splitlines()
+        lines = ran.stdout.splitlines()
+        return ran.returncode, [it for it in lines if not it.startswith(("copy ", "low:", "high:"))][:-1], lines
 
-    def edit(self, *rows):
-        self.file("crates/low/must-fail/four.edit", "file: src/lib.rt\nold:     2\nnew:     4\n")
-        head = "crate\tedit\trole\tfile\tpart\tname\tproved\n"
-        self.file("docs/edits.tsv", head + "".join(f"low\tfour\t{it}\n" for it in rows))
+    def edit(self, name, old, new, folder="more-edits", crate="low", file="src/lib.rt"):
+        self.file(f"crates/{crate}/{folder}/{name}.edit", f"file: {file}\nold: {old}\nnew: {new}\n")
 
-    def kept(self):
-        with open(os.path.join(self.room, "docs/edits.tsv"), encoding="utf-8") as file:
-            return [line.rstrip("\n").split("\t")[-1] for line in file][1:]
+    def number_of_checks(self):
+        if not os.path.exists(self.checks):
+            return 0
+        with open(self.checks, encoding="utf-8") as file:
+            return len(file.readlines())
 
-    def test_says(self):
-        self.edit("says\tsrc/lib.rt\ttwo\teven\t", "says\tspecs/Words.antt\tIsEven\ttwice\t", PROOF)
-        self.assertEqual(self.mutate("low"), (0, ["four: says `even` of `two`, `twice` of `IsEven`"]))
-        self.assertEqual(self.kept(), ["", "", ""])
-        self.assertEqual(self.mutate("--keep", "low", "four")[0], 0)
-        self.assertEqual(self.kept(), ["yes", "yes", ""])
-        # the sources are as they were
-        with open(os.path.join(self.room, "crates/low/specs/Words.antt"), encoding="utf-8") as file:
-            self.assertEqual(file.read(), WORDS)
+    def test_edits_of_many_functions_take_one_check(self):
+        self.edit("four", "    2", "    4", "must-fail")
+        self.edit("limit_and_nothing", "    LIMIT", "    LIMIT + 0")
+        self.edit("two_more", "half + 1", "half + 2")
+        self.edit("one_always", "return n;", "return 1;")
+        status, verdicts, lines = self.mutate("--joined", "low")
+        self.assertEqual(
+            verdicts,
+            [
+                "four: shown: `even` of `two`",
+                "limit_and_nothing: shown: the clause of `three`",
+                "one_always: shown: within, `walk-preserved` of `Evens::next`",
+                "two_more: shown: `twice` of `Even::next`",
+            ],
+        )
+        self.assertEqual((status, self.number_of_checks()), (0, 1))
+        self.assertRegex(lines[1], r"^copy 1: .*: [\d.]+ s, offers 1.2 s by the clock$")
+        self.assertRegex(lines[-1], r"^4 edits, 4 shown, 1 checks, \d+ processor seconds$")
+        self.assertEqual(self.mutate("--each", "--joined", "low")[1], verdicts)
+        self.assertEqual(self.number_of_checks(), 5)
 
-    def test_refused(self):
-        self.edit("says\tsrc/lib.rt\ttwo\teven\tyes")
-        status, lines = self.mutate("--keep", "low")
-        self.assertEqual((status, lines[0].split(";")[0]), (1, "four: refused all the same"))
-        self.assertEqual(self.kept(), ["no"])
+    def test_edits_of_one_function_take_two(self):
+        self.edit("four", "    2", "    4")
+        self.edit("five", "    2", "    5")
+        status, verdicts, _ = self.mutate("--joined", "low")
+        self.assertEqual(verdicts, ["five: shown: `small` of `two`", "four: shown: `even` of `two`"])
+        self.assertEqual((status, self.number_of_checks()), (0, 2))
+        self.assertEqual(self.mutate("--joined", "low", "four")[1], verdicts[1:])
 
-    def test_unnamed(self):
-        self.file("crates/low/src/lib.rt", LIB.replace("ensures even {", "ensures {"))
-        self.file("bin/rt", RT.replace("'ensures even'", "'ensures {'").replace("|| grep -q 'twice'", "&& grep -q 'twice'"))
-        os.chmod(os.path.join(self.room, "bin/rt"), 0o755)
-        self.edit("says\tsrc/lib.rt\ttwo\t\t")
-        self.assertEqual(self.mutate("low"), (0, ["four: says the clause of `two`"]))
+    def test_what_is_proved_all_the_same_is_not_shown(self):
+        self.edit("four", "    2", "    4")
+        self.edit("nothing", "    LIMIT", "    3")
+        status, verdicts, _ = self.mutate("--joined", "low")
+        self.assertEqual(verdicts, ["four: shown: `even` of `two`", "nothing: not shown"])
+        # it is tried once more, alone
+        self.assertEqual((status, self.number_of_checks()), (1, 2))
 
-    def test_promise(self):
-        pass_of = "impl Pass for Two {\n    ghost shape = { λ n gates. IsTwo n };\n    ghost kept = { IsKept };\n}\n"
-        self.file("crates/low/src/lib.rt", LIB + pass_of)
-        self.file("bin/rt", RT.replace("'ensures even'", "IsTwo").replace("|| grep -q 'twice'", "&& grep -q 'twice'"))
-        os.chmod(os.path.join(self.room, "bin/rt"), 0o755)
-        self.edit("says\tsrc/lib.rt\tTwo\tshape\t")
-        self.assertEqual(self.mutate("low"), (0, ["four: says `shape` of `Two`"]))
-        self.edit("says\tsrc/lib.rt\tTwo\tkept\t")
-        self.assertEqual(self.mutate("low")[0], 1)
-        self.edit("says\tsrc/lib.rt\tThree\tshape\t")
-        self.assertEqual(self.mutate("low"), (1, ["four: can't be made: no shape of Three"]))
+    def test_what_a_refused_function_is_called_by_is_no_refusal(self):
+        self.edit("four_at_most", "LIMIT: u8 = 3;", "LIMIT: u8 = 4;")
+        self.file("crates/low/src/lib.rt", LIB + "\nfn uses() {\n    three();\n}\n")
+        self.edit("other_use", "    three();", "    three(); three();")
+        status, verdicts, _ = self.mutate("--joined", "low")
+        self.assertEqual(verdicts, ["four_at_most: shown: the clause of `three`", "other_use: not shown"])
+        self.assertEqual(status, 1)
 
-    def test_definition(self):
-        self.file("crates/low/specs/Words.antt", WORDS + "\nabbrev pub limit : ℕ\nlimit = 2\n")
-        self.file("bin/rt", "#!/bin/sh\ngrep -q '^limit = 4$' specs/Words.antt && grep -q '^    4$' src/lib.rt && echo logic=proved\n")
-        os.chmod(os.path.join(self.room, "bin/rt"), 0o755)
-        self.edit("says\tspecs/Words.antt\tlimit = 2\tlimit = 4\t")
-        self.assertEqual(self.mutate("low"), (0, ["four: says `limit = 2`"]))
-        self.edit("says\tspecs/Words.antt\tlimit = 2\tlimit = 3\t")
-        self.assertEqual(self.mutate("low")[0], 1)
-        self.edit("says\tspecs/Words.antt\tlimit = 3\tlimit = 4\t")
-        self.assertEqual(self.mutate("low"), (1, ["four: can't be made: `limit = 3` stands 0 times"]))
+    def test_a_name_that_is_gone_shows_little(self):
+        self.edit("sum", "return n;", "return n + 0;")
+        self.assertEqual(self.mutate("--joined", "low")[:2], (1, ["sum: shown by a name alone: `least` of `Evens::next`"]))
 
-    def test_added(self):
-        add = "add\tproofs/four/Answers.antt\t\t-- Four.\\nreturns c = refl\\n\t"
-        answers = os.path.join(self.room, "crates/low/proofs/four/Answers.antt")
-        self.file("bin/rt", RT.replace("echo", "[ \"$(tail -n 1 proofs/four/Answers.antt)\" = 'returns c = refl' ] && echo"))
-        os.chmod(os.path.join(self.room, "bin/rt"), 0o755)
-        says = ["says\tsrc/lib.rt\ttwo\teven\t", "with\tspecs/Words.antt\tIsEven\ttwice\t", PROOF]
-        self.edit(*says)
-        self.assertEqual(self.mutate("low")[0], 1)
-        self.edit(*says, add)
-        self.assertEqual(self.mutate("low"), (0, ["four: says `even` of `two`"]))
-        self.assertFalse(os.path.exists(answers))
-        # where the file is there, it is no file that the edit alone needs
-        self.file("crates/low/proofs/four/Answers.antt", "-- Four.\n")
-        self.assertEqual(self.mutate("low"), (1, ["four: can't be made: there is a file Answers.antt already"]))
+    def test_a_body_that_cannot_be_read_goes_alone(self):
+        self.edit("four", "    2", "    4")
+        self.edit("unread", "    LIMIT", "    LIMIT $")
+        status, verdicts, _ = self.mutate("--joined", "low")
+        self.assertEqual(verdicts, ["four: shown: `even` of `two`", "unread: can't be made: error: it can't be read"])
+        self.assertEqual((status, self.number_of_checks()), (1, 3))
 
-    def test_nothing(self):
-        self.edit()
-        self.assertEqual(self.mutate("low"), (1, ["four: names nothing"]))
-        self.edit("says\tspecs/Words.antt\tIsEven\tthrice\t")
-        self.assertEqual(self.mutate("low"), (1, ["four: can't be made: no field thrice of IsEven"]))
-        self.edit("says\tsrc/lib.rt\ttwo\todd\t")
-        self.assertEqual(self.mutate("low"), (1, ["four: can't be made: no clause odd of two"]))
-        self.assertEqual(self.mutate("high")[0], 2)
-        self.assertEqual(self.mutate("low", "five")[0], 2)
+    def test_edits_that_do_not_fit_the_files(self):
+        self.edit("seven", "    7", "    8")
+        self.edit("no_file", "    2", "    8", file="src/there.rt")
+        self.file("crates/low/more-edits/no_pair.edit", "file: src/lib.rt\nold:     2\n")
+        status, verdicts, _ = self.mutate("--joined", "low")
+        self.assertEqual(
+            verdicts,
+            [
+                "no_file: can't be made: there is no file src/there.rt",
+                "no_pair: can't be made: it has no pair of lines `old:` and `new:`",
+                "seven: can't be made: `7` stands 0 times in src/lib.rt",
+            ],
+        )
+        self.assertEqual((status, self.number_of_checks()), (1, 0))
+
+    def test_the_table(self):
+        table = "<!-- made: edits -->\n| edits | refused by |\n|---|---|\n| **`low`** at `12345678` | |\n| `four` | old |\n| `gone` | `x` of `y` |\n"
+        self.file("docs/CLAIMS.md", f"# Claims\n\n{table}| **`high`** at `12345678` | |\n| `more`, `much` | `kept` of `it` |\n<!-- /made -->\n\nEnd.\n")
+        self.edit("more", "//! High.", "//! Higher.", crate="high")
+        self.edit("much", "//! High.", "//! Highest.", crate="high")
+        self.edit("never", "//! High.", "//! Lower.", crate="high")
+        self.edit("four", "    2", "    4")
+        self.edit("nothing", "    LIMIT", "    3")
+        for words in (["git", "init", "-q"], ["git", "add", "-A"], ["git", "-c", "user.name=a", "-c", "user.email=a", "commit", "-qm", "All"]):
+            subprocess.run(words, cwd=self.room, check=True)
+        at = subprocess.run(["git", "rev-parse", "--short=8", "HEAD"], cwd=self.room, capture_output=True, text=True, check=True).stdout.strip()
+        self.mutate("--mend", "--joined", "low")
+        with open(os.path.join(self.room, "docs/CLAIMS.md"), encoding="utf-8") as file:
+            text = file.read()
+        mended = table.replace("12345678", at).replace("old", "`even` of `two`").replace("| `gone` | `x` of `y` |", "| `nothing` | not shown |")
+        self.assertEqual(text, f"# Claims\n\n{mended}| **`high`** at `12345678` | |\n| `more`, `much` | `kept` of `it` |\n| `never` | not tried |\n<!-- /made -->\n\nEnd.\n")
+
+    def test_all_crates(self):
+        self.edit("four", "    2", "    4")
+        self.edit("higher", "//! High.", "//! Higher.", crate="high")
+        status, verdicts, lines = self.mutate("--all", "--jobs", "2", "--log", os.path.join(self.room, "log"))
+        self.assertEqual(sorted(verdicts), ["four: shown: `even` of `two`", "higher: not shown"])
+        self.assertEqual(status, 1)
+        self.assertEqual(sorted(os.listdir(os.path.join(self.room, "log"))), ["high-1.log", "low-1.log"])
+        self.assertTrue(lines[-1].startswith("2 edits, 1 shown, 2 checks, "))
+
+    def test_words(self):
+        for words in ([], ["low"], ["--joined"], ["--joined", "lower"], ["--all", "low"], ["--all", "--jobs", "0"], ["--all", "--more"], ["--joined", "low", "six"]):
+            self.assertEqual(self.mutate(*words)[0], 2, words)
+        self.assertEqual(self.mutate("--help")[0], 0)
