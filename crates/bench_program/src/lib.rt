@@ -11,7 +11,5 @@
 
 mod draws;
 mod program;
-#[cfg(test)]
-mod tests;
 
 pub use program::made;

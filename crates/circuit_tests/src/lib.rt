@@ -1,9 +1,20 @@
 //! Tests of `circuit_list` and `test_circuits`: worked circuits, and random edits against a plain list.
 //!
-//! Each test function is proved too, so they stand in a crate of their own: the two crates are proved once.
+//! Each test function is proved too, so they are in a crate of their own: the two crates are proved once. A proof is long for each
+//! assert in a loop, and so a test has one: small functions judge a row of a text by a bool.
 #![tactic(auto)]
 
 #[cfg(test)]
-mod list_tests;
+mod circuits;
+#[cfg(test)]
+mod edit_tests;
+#[cfg(test)]
+mod far_tests;
+#[cfg(test)]
+mod near_tests;
+#[cfg(test)]
+mod plain_tests;
 #[cfg(test)]
 mod samples_tests;
+#[cfg(test)]
+mod walk_tests;

@@ -1,100 +1,114 @@
 //! Texts and their gates, and circuits that are told apart.
 
 use circuit_list::Gate;
+use std::alloc::{AllocError, Global};
 use std::test::Fail;
 use test_circuits::{Kind, Random, circuit_of_text, gates_of, gates_of_text, is_turned};
+use test_rows::{field, small, word};
+
+const FOUR_GATES: [Gate; 4] = [
+    Gate::H { q: 0 },
+    Gate::X { q: 2 },
+    Gate::P { k: 7, q: 1 },
+    Gate::Cx { c: 1, t: 0 },
+];
 
 #[test]
 fn gates_by_their_texts(rt: HostRuntime) -> Result<(), Fail> {
-    let alloc = rt.alloc();
-    let want = [
-        Gate::H { q: 0 },
-        Gate::X { q: 2 },
-        Gate::P { k: 7, q: 1 },
-        Gate::Cx { c: 1, t: 0 },
-    ];
-    let body = circuit_of_text(alloc, 3, "h.0 x.2 7.1 c10")?.expect(&rt, "four gates");
-    assert_eq!(rt; gates_of(alloc, &body)?.as_slice(), want.as_slice());
-    for text in ["h.3", "x.0 x.3", "0.0", "8.0", "c11", "c31", "c03", "y.0"] {
-        assert!(rt; circuit_of_text(alloc, 3, text)?.is_none(), "at {text}");
+    let body = circuit_of_text(rt.alloc(), 3, "h.0 x.2 7.1 c10")?.ok_or("no circuit")?;
+    let gates = gates_of(rt.alloc(), &body)?;
+    assert!(rt; gates.as_slice() == FOUR_GATES.as_slice());
+    Ok(())
+}
+
+const NO_CIRCUITS: &str = "h.3|x.0 x.3|0.0|8.0|c11|c31|c03|y.0";
+
+#[test]
+fn no_gates_by_their_texts(rt: HostRuntime) -> Result<(), Fail> {
+    'texts: for text in NO_CIRCUITS.split('|') {
+        assert!(rt; circuit_of_text(rt.alloc(), 3, text)?.is_none(), "{text}");
     }
     Ok(())
 }
+
+/// Whether a row's second circuit is its first up to the row's turn, or isn't, as the row says.
+fn is_turned_so(alloc: Global, row: &str) -> Result<bool, AllocError> {
+    let before = circuit_of_text(alloc, 3, field(row, 0))?;
+    let after = circuit_of_text(alloc, 3, field(row, 1))?;
+    let (Some(before), Some(after)) = (before, after) else {
+        return Ok(false);
+    };
+    let turn = field(row, 2).parse::<u8>().unwrap_or(77);
+    Ok(is_turned(alloc, &before, &after, turn)? == (field(row, 3) == "same"))
+}
+
+const TURNS: &str = "\
+||0|same
+||4|other
+h.0 h.0||6|same
+h.0 h.0||2|other
+x.1 x.1||4|same
+1.0 1.0|2.0|0|same
+1.0|1.1|0|other
+c01|c10|0|other
+h.0 h.1 c01 h.0 h.1|c10|4|same
+c02 c02||0|same";
 
 #[test]
 fn turns_by_hand(rt: HostRuntime) -> Result<(), Fail> {
-    let alloc = rt.alloc();
-    let rows = [
-        ("", "", 0, true),
-        ("", "", 4, false),
-        ("h.0 h.0", "", 6, true),
-        ("h.0 h.0", "", 2, false),
-        ("x.1 x.1", "", 4, true),
-        ("1.0 1.0", "2.0", 0, true),
-        ("1.0", "1.1", 0, false),
-        ("c01", "c10", 0, false),
-        ("h.0 h.1 c01 h.0 h.1", "c10", 4, true),
-        ("c02 c02", "", 0, true),
-    ];
-    for (old, new, turn, same) in rows {
-        let before = circuit_of_text(alloc, 3, old)?.expect(&rt, old);
-        let after = circuit_of_text(alloc, 3, new)?.expect(&rt, new);
-        assert_eq!(rt;
-            is_turned(alloc, &before, &after, turn)?,
-            same,
-            "{old} and {new}"
-        );
+    'rows: for row in TURNS.split('\n') {
+        assert!(rt; is_turned_so(rt.alloc(), row)?, "{row}");
     }
     Ok(())
 }
+
+/// Whether a random circuit of a row's wires and gates is told to be itself, or isn't, as the row says.
+fn is_told(alloc: Global, row: &str) -> Result<bool, AllocError> {
+    let (wires, gates) = (small(row, 0), small(row, 1));
+    if wires < 2 || wires > 4 {
+        return Ok(false);
+    }
+    let body = Random::from_start(1).circuit(alloc, wires, &[Kind::X, Kind::Cx], gates)?;
+    let is_same = is_turned(alloc, &body, &body, 0)?;
+    Ok(body.len() == gates as usize && is_same == (word(row, 2) == "same"))
+}
+
+const LIMITS: &str = "\
+3 20 same
+3 21 other
+2 5 other
+4 5 other";
 
 #[test]
 fn tells_no_long_circuits_and_no_other_wires(rt: HostRuntime) -> Result<(), Fail> {
-    let alloc = rt.alloc();
-    let kinds = [Kind::X, Kind::Cx];
-    for (wires, gates, same) in [(3, 20, true), (3, 21, false), (2, 5, false), (4, 5, false)] {
-        assert!(rt; 1 < wires && wires <= 4);
-        let body = Random::from_start(1).circuit(alloc, wires, &kinds, gates)?;
-        assert_eq!(rt; body.len(), gates as usize);
-        assert_eq!(rt;
-            is_turned(alloc, &body, &body, 0)?,
-            same,
-            "{wires} wires, {gates} gates"
-        );
+    'rows: for row in LIMITS.split('\n') {
+        assert!(rt; is_told(rt.alloc(), row)?, "{row}");
     }
     Ok(())
 }
 
-// The gates were computed by a program of its own.
+const KINDS: [Kind; 6] = [Kind::H, Kind::X, Kind::P, Kind::S, Kind::InverseS, Kind::Cx];
+
+/// Whether the random circuit from a row's start has the row's gates.
+fn is_random(alloc: Global, row: &str) -> Result<bool, AllocError> {
+    let (start, wires) = (small(field(row, 0), 0), small(field(row, 0), 1));
+    if wires < 2 || wires > 4 {
+        return Ok(false);
+    }
+    let body = Random::from_start(start as u64).circuit(alloc, wires, KINDS.as_slice(), 14)?;
+    Ok(gates_of(alloc, &body)? == gates_of_text(alloc, field(row, 1))?)
+}
+
+/// Start and wires, and the gates, which a program of its own computed.
+const RANDOM: &str = "\
+1 4|2.2 h.0 c21 2.2 2.2 h.2 5.0 c20 x.1 5.1 5.1 2.0 c02 c03
+2 4|h.0 3.0 h.3 2.2 c21 6.2 h.0 c21 4.3 2.0 c23 x.3 6.2 6.1
+7 2|c01 x.1 6.1 x.0 x.0 6.1 6.1 2.1 c01 6.1 c01 c01 6.0 4.1";
+
 #[test]
 fn random_circuits_by_their_texts(rt: HostRuntime) -> Result<(), Fail> {
-    let alloc = rt.alloc();
-    let kinds = [Kind::H, Kind::X, Kind::P, Kind::S, Kind::InverseS, Kind::Cx];
-    let rows = [
-        (
-            1,
-            4,
-            "2.2 h.0 c21 2.2 2.2 h.2 5.0 c20 x.1 5.1 5.1 2.0 c02 c03",
-        ),
-        (
-            2,
-            4,
-            "h.0 3.0 h.3 2.2 c21 6.2 h.0 c21 4.3 2.0 c23 x.3 6.2 6.1",
-        ),
-        (
-            7,
-            2,
-            "c01 x.1 6.1 x.0 x.0 6.1 6.1 2.1 c01 6.1 c01 c01 6.0 4.1",
-        ),
-    ];
-    for (start, wires, text) in rows {
-        assert!(rt; 1 < wires && wires <= 4);
-        let body = Random::from_start(start).circuit(alloc, wires, &kinds, 14)?;
-        assert_eq!(rt;
-            gates_of(alloc, &body)?,
-            gates_of_text(alloc, text)?,
-            "from {start}"
-        );
+    'rows: for row in RANDOM.split('\n') {
+        assert!(rt; is_random(rt.alloc(), row)?, "{row}");
     }
     Ok(())
 }

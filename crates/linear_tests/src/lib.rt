@@ -1,7 +1,8 @@
 //! Tests of `gf2_linear`, `cnot_synth`, `matroid_partition`, `phase_poly` and `layer_stages`: worked rows and lists of gates, and
 //! drawn ones against plain programs.
 //!
-//! Each test function is proved too, so they stand in a crate of their own: these crates are proved once.
+//! Each test function is proved too, so they are in a crate of their own: these crates are proved once. A proof is long for each
+//! assert in a loop, and so a test has one: small functions judge a row of a text by a bool.
 #![tactic(auto)]
 
 #[cfg(test)]

@@ -7,30 +7,32 @@ use phase_poly::{ResynthPass, layers, poly, resynth};
 use rewrite_pass::{Pass, Trace, Traced};
 use std::alloc::{AllocError, Global};
 use std::test::Fail;
+use test_circuits::{circuit_of_text, gates_of, gates_of_text, is_fine};
+use test_rows::{field, is_line, small};
 
-/// T and then H on one wire is one layer.
-#[test]
-fn one_layer(rt: HostRuntime) -> Result<(), Fail> {
-    let mut body = Circuit::empty(rt.alloc(), 1)?;
-    body.push(Gate::P { k: 1, q: 0 })?;
-    body.push(Gate::H { q: 0 })?;
-    let all = layers(rt.alloc(), &body)?;
-    assert_eq!(rt; all.len(), 1);
-    assert_eq!(rt; all[0].gates(), [Gate::P { k: 1, q: 0 }].as_slice());
-    assert_eq!(rt; all[0].hadamards(), [0].as_slice());
-    Ok(())
+/// Whether the layers of a row's gates on one wire are the row's: its gates, and the wires of its H, in brackets.
+fn are_layers(alloc: Global, row: &str) -> Result<bool, AllocError> {
+    let Some(body) = circuit_of_text(alloc, 1, field(row, 0))? else {
+        return Ok(false);
+    };
+    let mut text = String::new(alloc);
+    'layers: for layer in &layers(alloc, &body)? {
+        let told = format!(in alloc; "{:?} {:?}.", layer.gates(), layer.hadamards())?;
+        text.push_str(told.as_str())?;
+    }
+    Ok(text.as_str() == field(row, 1))
 }
 
-/// H twice is two layers without other gates.
+/// T and then H on one wire is one layer; H twice is two layers without other gates.
+const LAYERS: &str = "\
+1.0 h.0|[P { k: 1, q: 0 }] [0].
+h.0 h.0|[] [0].[] [0].";
+
 #[test]
-fn two_layers(rt: HostRuntime) -> Result<(), Fail> {
-    let mut body = Circuit::empty(rt.alloc(), 1)?;
-    body.push(Gate::H { q: 0 })?;
-    body.push(Gate::H { q: 0 })?;
-    let all = layers(rt.alloc(), &body)?;
-    assert_eq!(rt; all.len(), 2);
-    assert_eq!(rt; all[0].gates().len(), 0);
-    assert_eq!(rt; all[1].hadamards(), [0].as_slice());
+fn layers_by_hand(rt: HostRuntime) -> Result<(), Fail> {
+    'rows: for row in LAYERS.split('\n') {
+        assert!(rt; are_layers(rt.alloc(), row)?, "{row}");
+    }
     Ok(())
 }
 
@@ -41,14 +43,10 @@ fn polynomial(rt: HostRuntime) -> Result<(), Fail> {
     let sum = poly(rt.alloc(), 2, list.as_slice())?;
     let mut both = Row::unit(0);
     both.flip(1);
-    assert_eq!(rt; sum.map().wires(), 2);
-    assert!(rt; sum.map().row(0).equals(&Row::unit(0)));
-    assert!(rt; sum.map().row(1).equals(&both));
-    assert!(rt; sum.flips().is_empty());
-    assert_eq!(rt; sum.constant(), 0);
-    assert_eq!(rt; sum.terms().len(), 1);
-    assert!(rt; sum.terms()[0].0.equals(&both));
-    assert_eq!(rt; sum.terms()[0].1, 1);
+    assert!(rt; sum.map().wires() == 2 && sum.terms().len() == 1);
+    assert!(rt; sum.map().row(0).equals(&Row::unit(0)) && sum.map().row(1).equals(&both));
+    assert!(rt; sum.flips().is_empty() && sum.constant() == 0);
+    assert!(rt; sum.terms()[0].0.equals(&both) && sum.terms()[0].1 == 1);
     Ok(())
 }
 
@@ -57,8 +55,7 @@ fn polynomial(rt: HostRuntime) -> Result<(), Fail> {
 fn cnot_twice(rt: HostRuntime) -> Result<(), Fail> {
     let list = [Gate::Cx { c: 0, t: 1 }, Gate::Cx { c: 0, t: 1 }];
     let built = resynth(rt.alloc(), 2, list.as_slice())?;
-    assert_eq!(rt; built.list.len(), 0);
-    assert_eq!(rt; built.turn, 0);
+    assert!(rt; built.list.is_empty() && built.turn == 0);
     Ok(())
 }
 
@@ -71,19 +68,8 @@ fn flipped_phase(rt: HostRuntime) -> Result<(), Fail> {
         Gate::P { k: 2, q: 1 },
     ];
     let built = resynth(rt.alloc(), 2, list.as_slice())?;
-    assert_eq!(rt;
-        built.list.as_slice(),
-        [
-            Gate::Cx { c: 1, t: 0 },
-            Gate::P { k: 6, q: 0 },
-            Gate::Cx { c: 1, t: 0 },
-            Gate::Cx { c: 0, t: 1 },
-            Gate::X { q: 0 },
-            Gate::X { q: 1 },
-        ]
-        .as_slice()
-    );
-    assert_eq!(rt; built.turn, 0);
+    let wanted = gates_of_text(rt.alloc(), "c10 6.0 c10 c01 x.0 x.1")?;
+    assert!(rt; built.list.as_slice() == wanted.as_slice() && built.turn == 0);
     Ok(())
 }
 
@@ -96,64 +82,69 @@ fn four_to_one(rt: HostRuntime) -> Result<(), Fail> {
     body.push(Gate::Cx { c: 63, t: 64 })?;
     body.push(Gate::Cx { c: 64, t: 255 })?;
     let passed = ResynthPass.run(rt.alloc(), body)?;
-    assert_eq!(rt; passed.body.len(), 1);
-    assert_eq!(rt; passed.body.gate(0), Gate::Cx { c: 63, t: 255 });
-    assert_eq!(rt; passed.turn, 0);
+    let gates = gates_of(rt.alloc(), &passed.body)?;
+    assert!(rt; gates.as_slice() == [Gate::Cx { c: 63, t: 255 }].as_slice() && passed.turn == 0);
     Ok(())
 }
 
-/// A circuit of which no layer is replaced comes back in its own order.
-#[test]
-fn unchanged(rt: HostRuntime) -> Result<(), Fail> {
-    let mut body = Circuit::empty(rt.alloc(), 2)?;
-    body.push(Gate::H { q: 1 })?;
-    body.push(Gate::H { q: 0 })?;
-    let passed = ResynthPass.run(rt.alloc(), body)?;
-    assert_eq!(rt; passed.body.len(), 2);
-    assert_eq!(rt; passed.body.gate(0), Gate::H { q: 1 });
-    Ok(())
+/// Whether the gates of a row, on its wires, become the row's by the pass, with turn 0.
+fn is_passed(alloc: Global, row: &str) -> Result<bool, AllocError> {
+    let Some(body) = circuit_of_text(alloc, small(field(row, 0), 0), field(row, 1))? else {
+        return Ok(false);
+    };
+    let passed = ResynthPass.run(alloc, body)?;
+    let is_same = gates_of(alloc, &passed.body)? == gates_of_text(alloc, field(row, 2))?;
+    Ok(is_same && passed.turn == 0)
 }
 
-/// The first layer has one CNOT in the place of four, and the second, which would have two again, stays as it is.
+/// A circuit of which no layer is replaced comes back in its own order. In the second row the first layer has one CNOT in the place
+/// of four, and the second, which would have two again, stays as it is.
+const PASSES: &str = "\
+2|h.1 h.0|h.1 h.0
+3|c01 c12 c01 c12 h.1 h.0 c01 1.1 c01|c02 h.0 h.1 c01 1.1 c01";
+
 #[test]
 fn keeps_a_layer_at_equal_cnots(rt: HostRuntime) -> Result<(), Fail> {
-    let mut body = Circuit::empty(rt.alloc(), 3)?;
-    body.push(Gate::Cx { c: 0, t: 1 })?;
-    body.push(Gate::Cx { c: 1, t: 2 })?;
-    body.push(Gate::Cx { c: 0, t: 1 })?;
-    body.push(Gate::Cx { c: 1, t: 2 })?;
-    body.push(Gate::H { q: 1 })?;
-    body.push(Gate::H { q: 0 })?;
-    body.push(Gate::Cx { c: 0, t: 1 })?;
-    body.push(Gate::P { k: 1, q: 1 })?;
-    body.push(Gate::Cx { c: 0, t: 1 })?;
-    let passed = ResynthPass.run(rt.alloc(), body)?;
-    let gates = [
-        Gate::Cx { c: 0, t: 2 },
-        Gate::H { q: 0 },
-        Gate::H { q: 1 },
-        Gate::Cx { c: 0, t: 1 },
-        Gate::P { k: 1, q: 1 },
-        Gate::Cx { c: 0, t: 1 },
-    ];
-    assert_eq!(rt; passed.body.len(), 6);
-    for place in 0..6 {
-        assert_eq!(rt; passed.body.gate(place), gates[place]);
+    'rows: for row in PASSES.split('\n') {
+        assert!(rt; is_passed(rt.alloc(), row)?, "{row}");
     }
-    assert_eq!(rt; passed.turn, 0);
     Ok(())
 }
 
-/// Puts a gate behind the others where it may stand on the wires.
-fn push_fine(body: &mut Circuit, gate: Gate) -> Result<(), AllocError> {
-    let wires = body.wires();
-    let fine = match gate {
-        Gate::H { q } | Gate::X { q } => q < wires,
-        Gate::P { k, q } => q < wires && 0 < k && k < 8,
-        Gate::Cx { c, t } => c < wires && t < wires && c != t,
+/// Whether the first line of a case, gates on three wires and a turn, is told by the lines that follow.
+fn is_told(alloc: Global, case: &str) -> Result<bool, AllocError> {
+    let (row, lines) = case.split_once('\n').unwrap_or((case, ""));
+    let Some(body) = circuit_of_text(alloc, 3, field(row, 0))? else {
+        return Ok(false);
     };
-    if fine {
-        body.push(gate)?;
+    let mut trace = Trace::start(alloc);
+    let passed = ResynthPass.run_traced(alloc, body, &mut trace)?;
+    let told = trace.lines()?;
+    let is_told = is_line(told.as_slice(), lines) || (told.is_empty() && lines.is_empty());
+    Ok(is_told && field(row, 1).parse::<u8>().ok() == Some(passed.turn))
+}
+
+/// A trace gets one step, with the gates of the result, if a layer is replaced, and none if no layer is. In the first case an X
+/// comes in the place of two: the constant was 4 and is 2, so the turn is 6.
+const TOLD: &str = "\
+x.0 c01 x.0 c01|6
+sums 1
+X 1
+
+c01 c12 c01 c12 h.1 h.0 c01 1.1|0
+sums 5
+C 0 2
+H 0
+H 1
+C 0 1
+P 1 1
+
+h.1 h.0 c01|0";
+
+#[test]
+fn tells_one_step(rt: HostRuntime) -> Result<(), Fail> {
+    'cases: for case in TOLD.split("\n\n") {
+        assert!(rt; is_told(rt.alloc(), case)?, "{case}");
     }
     Ok(())
 }
@@ -176,73 +167,31 @@ fn drawn(alloc: Global, seed: u32) -> Result<Circuit, AllocError> {
             },
             _ => Gate::Cx { c: q, t },
         };
-        push_fine(&mut body, gate)?;
+        if is_fine(body.wires(), gate) {
+            body.push(gate)?;
+        }
     }
     Ok(body)
 }
 
-/// A trace gets one step, with the gates of the result, where a layer is replaced, and none where no layer is. In the first row
-/// an X comes in the place of two: the constant was 4 and is 2, so the turn is 6.
-#[test]
-fn tells_one_step(rt: HostRuntime) -> Result<(), Fail> {
-    let alloc = rt.alloc();
-    let flipped = [
-        Gate::X { q: 0 },
-        Gate::Cx { c: 0, t: 1 },
-        Gate::X { q: 0 },
-        Gate::Cx { c: 0, t: 1 },
-    ];
-    let two_layers = [
-        Gate::Cx { c: 0, t: 1 },
-        Gate::Cx { c: 1, t: 2 },
-        Gate::Cx { c: 0, t: 1 },
-        Gate::Cx { c: 1, t: 2 },
-        Gate::H { q: 1 },
-        Gate::H { q: 0 },
-        Gate::Cx { c: 0, t: 1 },
-        Gate::P { k: 1, q: 1 },
-    ];
-    let none = [Gate::H { q: 1 }, Gate::H { q: 0 }, Gate::Cx { c: 0, t: 1 }];
-    let rows = [
-        (flipped.as_slice(), "sums 1\nX 1\n", 6),
-        (
-            two_layers.as_slice(),
-            "sums 5\nC 0 2\nH 0\nH 1\nC 0 1\nP 1 1\n",
-            0,
-        ),
-        (none.as_slice(), "", 0),
-    ];
-    'rows: for (list, lines, turn) in rows {
-        let mut body = Circuit::empty(alloc, 3)?;
-        for gate in list {
-            push_fine(&mut body, *gate)?;
-        }
-        let mut trace = Trace::start(alloc);
-        let passed = ResynthPass.run_traced(alloc, body, &mut trace)?;
-        assert_eq!(rt; passed.turn, turn, "for {lines}");
-        assert_eq!(rt; trace.lines()?.as_slice(), lines.as_bytes());
-    }
-    Ok(())
+/// Whether the pass gives what the written walk gives, and gives the same with a trace, for the circuit that is drawn from a seed.
+fn is_walked(alloc: Global, seed: u32) -> Result<bool, AllocError> {
+    let body = drawn(alloc, seed)?;
+    let expected = walked(alloc, &body)?;
+    let mut trace = Trace::start(alloc);
+    let traced = ResynthPass.run_traced(alloc, body.copy()?, &mut trace)?;
+    let passed = ResynthPass.run(alloc, body)?;
+    Ok(
+        gates_of(alloc, &passed.body)? == expected
+            && gates_of(alloc, &traced.body)? == expected
+            && traced.turn == passed.turn,
+    )
 }
 
-/// The pass gives what the written walk gives, and gives the same with a trace.
 #[test]
 fn as_the_written_walk(rt: HostRuntime) -> Result<(), Fail> {
-    for seed in 0..64u32 {
-        let body = drawn(rt.alloc(), seed)?;
-        let expected = walked(rt.alloc(), &body)?;
-        let mut trace = Trace::start(rt.alloc());
-        let traced = ResynthPass.run_traced(rt.alloc(), body.copy()?, &mut trace)?;
-        let passed = ResynthPass.run(rt.alloc(), body)?;
-        assert_eq!(rt; passed.body.len(), expected.len(), "at {seed}");
-        assert_eq!(rt; traced.body.len(), expected.len(), "at {seed}");
-        assert_eq!(rt; traced.turn, passed.turn, "at {seed}");
-        for place in 0..expected.len() {
-            if place < passed.body.len() && place < traced.body.len() {
-                assert_eq!(rt; passed.body.gate(place), expected[place], "at {seed}");
-                assert_eq!(rt; traced.body.gate(place), expected[place], "at {seed}");
-            }
-        }
+    'seeds: for seed in 0..64u32 {
+        assert!(rt; is_walked(rt.alloc(), seed)?, "{seed}");
     }
     Ok(())
 }

@@ -1,95 +1,47 @@
 //! Lines of layers, worked by hand.
 
-use circuit_list::{Circuit, Gate};
 use layer_stages::stage_lines;
 use std::alloc::{AllocError, Global};
 use std::test::Fail;
+use test_circuits::circuit_of_text;
+use test_rows::{field, is_line, small};
 
-/// The Toffoli gate: thirteen gates between its H, and seven sums of three wires.
-fn toffoli_body(alloc: Global) -> Result<Circuit, AllocError> {
-    let mut body = Circuit::empty(alloc, 3)?;
-    let gates: [Gate; 15] = [
-        Gate::H { q: 2 },
-        Gate::Cx { c: 1, t: 2 },
-        Gate::P { k: 7, q: 2 },
-        Gate::Cx { c: 0, t: 2 },
-        Gate::P { k: 1, q: 2 },
-        Gate::Cx { c: 1, t: 2 },
-        Gate::P { k: 7, q: 2 },
-        Gate::Cx { c: 0, t: 2 },
-        Gate::P { k: 1, q: 1 },
-        Gate::P { k: 1, q: 2 },
-        Gate::H { q: 2 },
-        Gate::Cx { c: 0, t: 1 },
-        Gate::P { k: 1, q: 0 },
-        Gate::P { k: 7, q: 1 },
-        Gate::Cx { c: 0, t: 1 },
-    ];
-    for gate in gates.as_slice() {
-        push_fine(&mut body, *gate)?;
-    }
-    Ok(body)
-}
-
-/// Of its seven sums a block takes three, with spare wires as many more as these are.
-#[test]
-fn toffoli(rt: HostRuntime) -> Result<(), Fail> {
-    let body = toffoli_body(rt.alloc())?;
-    let text = stage_lines(rt.alloc(), &body, None)?;
-    assert!(rt;
-        text.as_slice() == b"layer 1 gates 13 parities 7 blocks 3 witness 7 rank 3\n".as_slice()
-    );
-    let one = stage_lines(rt.alloc(), &body, Some(4))?;
-    assert!(rt;
-        one.as_slice()
-            == b"layer 1 gates 13 parities 7 blocks 1 witness 7 rank 3 spares 4\n".as_slice()
-    );
-    let two = stage_lines(rt.alloc(), &body, Some(3))?;
-    assert!(rt;
-        two.as_slice()
-            == b"layer 1 gates 13 parities 7 blocks 2 witness 7 rank 3 spares 3\n".as_slice()
-    );
-    Ok(())
-}
-
-/// Puts a gate behind the others where it may stand on three wires.
-fn push_fine(body: &mut Circuit, gate: Gate) -> Result<(), AllocError> {
-    let wires = body.wires();
-    let fine = match gate {
-        Gate::H { q } | Gate::X { q } => q < wires,
-        Gate::P { k, q } => q < wires && 0 < k && k < 8,
-        Gate::Cx { c, t } => c < wires && t < wires && c != t,
+/// Whether the first line of a case, wires, gates and spares, is told by the lines that follow.
+fn is_told(alloc: Global, case: &str) -> Result<bool, AllocError> {
+    let Some((row, lines)) = case.split_once('\n') else {
+        return Ok(false);
     };
-    if fine {
-        body.push(gate)?;
+    let Some(body) = circuit_of_text(alloc, small(field(row, 0), 0), field(row, 1))? else {
+        return Ok(false);
+    };
+    let spares = field(row, 2).parse::<u32>().ok();
+    let text = stage_lines(alloc, &body, spares)?;
+    Ok(is_line(text.as_slice(), lines))
+}
+
+/// The Toffoli gate has thirteen gates between its H, and seven sums of three wires. Of these a block takes three, with spares as
+/// many more as these are. With one block the witness is all sums, and an H between two T makes two layers, each with one odd sum.
+const CASES: &str = "\
+3|h.2 c12 7.2 c02 1.2 c12 7.2 c02 1.1 1.2 h.2 c01 1.0 7.1 c01|none
+layer 1 gates 13 parities 7 blocks 3 witness 7 rank 3
+
+3|h.2 c12 7.2 c02 1.2 c12 7.2 c02 1.1 1.2 h.2 c01 1.0 7.1 c01|4
+layer 1 gates 13 parities 7 blocks 1 witness 7 rank 3 spares 4
+
+3|h.2 c12 7.2 c02 1.2 c12 7.2 c02 1.1 1.2 h.2 c01 1.0 7.1 c01|3
+layer 1 gates 13 parities 7 blocks 2 witness 7 rank 3 spares 3
+
+2|1.0 1.1|none
+layer 1 gates 2 parities 2 blocks 1 witness 2 rank 2
+
+1|1.0 h.0 1.0|none
+layer 1 gates 1 parities 1 blocks 1 witness 1 rank 1
+layer 2 gates 1 parities 1 blocks 1 witness 1 rank 1";
+
+#[test]
+fn lines_by_hand(rt: HostRuntime) -> Result<(), Fail> {
+    'cases: for case in CASES.split("\n\n") {
+        assert!(rt; is_told(rt.alloc(), case)?, "{case}");
     }
-    Ok(())
-}
-
-/// With one block the witness is both sums.
-#[test]
-fn one_block(rt: HostRuntime) -> Result<(), Fail> {
-    let mut body = Circuit::empty(rt.alloc(), 2)?;
-    body.push(Gate::P { k: 1, q: 0 })?;
-    body.push(Gate::P { k: 1, q: 1 })?;
-    let text = stage_lines(rt.alloc(), &body, None)?;
-    assert!(rt;
-        text.as_slice() == b"layer 1 gates 2 parities 2 blocks 1 witness 2 rank 2\n".as_slice()
-    );
-    Ok(())
-}
-
-/// An H between two T makes two layers, each with one odd sum.
-#[test]
-fn two_layers(rt: HostRuntime) -> Result<(), Fail> {
-    let mut body = Circuit::empty(rt.alloc(), 1)?;
-    body.push(Gate::P { k: 1, q: 0 })?;
-    body.push(Gate::H { q: 0 })?;
-    body.push(Gate::P { k: 1, q: 0 })?;
-    let text = stage_lines(rt.alloc(), &body, None)?;
-    assert!(rt;
-        text.as_slice()
-            == b"layer 1 gates 1 parities 1 blocks 1 witness 1 rank 1\nlayer 2 gates 1 parities 1 blocks 1 witness 1 rank 1\n".as_slice()
-    );
     Ok(())
 }

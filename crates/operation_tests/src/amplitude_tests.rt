@@ -79,23 +79,17 @@ fn entry(
 fn entries_by_hand(rt: HostRuntime) -> Result<(), AllocError> {
     let alloc = rt.alloc();
     let (o, i) = ([false], [true]);
-    assert_eq!(rt; entry(alloc, &[], &[], &[])?, (1, 0, 0, 0, 0));
-    assert_eq!(rt; entry(alloc, &[H], &o, &o)?, (1, 0, 1, 0, 1));
-    assert_eq!(rt; entry(alloc, &[H], &i, &i)?, (-1, 0, -1, 0, 1));
-    assert_eq!(rt; entry(alloc, &[H, H], &o, &o)?, (0, 0, 1, 0, 0));
-    assert_eq!(rt; entry(alloc, &[X, X], &o, &o)?, (-1, 0, 0, 0, 0));
-    assert_eq!(rt; entry(alloc, &[T], &i, &i)?, (0, 1, 0, 0, 0));
-    assert_eq!(rt; entry(alloc, &[T], &o, &i)?, (0, 0, 0, 0, 0));
-    assert_eq!(rt; entry(alloc, &[SDG, H, T], &i, &o)?, (1, 0, -1, 0, 1));
-    assert_eq!(rt; entry(alloc, &[SDG, H, T], &o, &i)?, (0, 1, 0, 1, 1));
-    assert_eq!(rt;
-        entry(alloc, &[H, CX], &[false, false], &[true, true])?,
-        (1, 0, 1, 0, 1)
-    );
-    assert_eq!(rt;
-        entry(alloc, &[X], &[false, false], &[true, false])?,
-        (0, 0, 1, 0, 0)
-    );
+    assert!(rt; entry(alloc, &[], &[], &[])? == (1, 0, 0, 0, 0));
+    assert!(rt; entry(alloc, &[H], &o, &o)? == (1, 0, 1, 0, 1));
+    assert!(rt; entry(alloc, &[H], &i, &i)? == (-1, 0, -1, 0, 1));
+    assert!(rt; entry(alloc, &[H, H], &o, &o)? == (0, 0, 1, 0, 0));
+    assert!(rt; entry(alloc, &[X, X], &o, &o)? == (-1, 0, 0, 0, 0));
+    assert!(rt; entry(alloc, &[T], &i, &i)? == (0, 1, 0, 0, 0));
+    assert!(rt; entry(alloc, &[T], &o, &i)? == (0, 0, 0, 0, 0));
+    assert!(rt; entry(alloc, &[SDG, H, T], &i, &o)? == (1, 0, -1, 0, 1));
+    assert!(rt; entry(alloc, &[SDG, H, T], &o, &i)? == (0, 1, 0, 1, 1));
+    assert!(rt; entry(alloc, &[H, CX], &[false, false], &[true, true])? == (1, 0, 1, 0, 1));
+    assert!(rt; entry(alloc, &[X], &[false, false], &[true, false])? == (0, 0, 1, 0, 0));
     Ok(())
 }
 
@@ -103,6 +97,6 @@ fn entries_by_hand(rt: HostRuntime) -> Result<(), AllocError> {
 #[test]
 fn the_most_branches_on_the_most_wires(rt: HostRuntime) -> Result<(), AllocError> {
     let (none, ops) = ([false; 12], [LAST_H; 60]);
-    assert_eq!(rt; entry(rt.alloc(), &ops, &none, &none)?, (-1, 0, 0, 0, 0));
+    assert!(rt; entry(rt.alloc(), &ops, &none, &none)? == (-1, 0, 0, 0, 0));
     Ok(())
 }

@@ -4,12 +4,13 @@ use bench_program::made;
 use gate_expand::Ops;
 use std::alloc::{AllocError, Global};
 use std::test::Fail;
+use test_rows::{field, small, word};
 use unitary_model::Op;
 
-/// The operations with their wires, as `u204.1 cx0.2`.
+/// The operations with their wires, as `u204.1 cx0.2 `.
 fn told(alloc: Global, program: &Ops) -> Result<String, AllocError> {
     let mut text = String::new(alloc);
-    for op in program.list.as_slice() {
+    'ops: for op in program.list.as_slice() {
         let word = match *op {
             Op::U { a, b, c, q } => format!(in alloc; "u{a}{b}{c}.{q} ")?,
             Op::Cx { c, t } => format!(in alloc; "cx{c}.{t} ")?,
@@ -19,58 +20,143 @@ fn told(alloc: Global, program: &Ops) -> Result<String, AllocError> {
     Ok(text)
 }
 
-// The words were computed by a program of its own.
+/// Whether the program of a row's start, gates and wires has the row's operations.
+fn is_drawn(alloc: Global, row: &str) -> Result<bool, AllocError> {
+    let head = field(row, 0);
+    let (start, gates, size) = (small(head, 0), small(head, 1), small(head, 2));
+    if gates > 20_000 || size == 0 || size > 256 {
+        return Ok(false);
+    }
+    let program = made(alloc, start, gates, size)?;
+    let text = told(alloc, &program)?;
+    Ok(
+        text.as_str().strip_suffix(' ').unwrap_or("") == field(row, 1)
+            && program.wires == size
+            && program.reads.as_slice().is_empty(),
+    )
+}
+
+/// Start, gates and wires, and the operations, which a program of its own computed.
+const PROGRAMS: &str = "\
+1 12 4|cx1.2 cx2.1 u007.2 u001.2 u002.2 u404.0 u007.0 u007.3 u404.1 u002.1 cx2.3 u204.0
+0 12 2|cx0.1 u404.1 u002.0 cx0.1 cx0.1 cx0.1 u001.0 u002.1 cx1.0 u007.1 u002.1 cx1.0
+7 10 1|u204.0 u001.0 u001.0 u204.0 u002.0 u002.0 u204.0 u204.0 u204.0 u404.0
+4294967295 12 64|cx44.42 u002.62 cx56.37 cx0.43 u007.31 cx32.43 cx24.5 u007.16 u001.3 u002.35 u007.40 cx4.7
+3 12 256|u002.251 u002.202 u404.163 cx85.69 u001.83 u007.104 cx198.23 u002.59 cx88.214 cx251.197 cx155.3 u002.205
+2 0 3|";
+
 #[test]
 fn programs(rt: HostRuntime) -> Result<(), Fail> {
-    let alloc = rt.alloc();
-    let rows = [
-        (
-            (1, 12, 4),
-            "cx1.2 cx2.1 u007.2 u001.2 u002.2 u404.0 u007.0 u007.3 u404.1 u002.1 cx2.3 u204.0 ",
-        ),
-        (
-            (0, 12, 2),
-            "cx0.1 u404.1 u002.0 cx0.1 cx0.1 cx0.1 u001.0 u002.1 cx1.0 u007.1 u002.1 cx1.0 ",
-        ),
-        (
-            (7, 10, 1),
-            "u204.0 u001.0 u001.0 u204.0 u002.0 u002.0 u204.0 u204.0 u204.0 u404.0 ",
-        ),
-        (
-            (4294967295, 12, 64),
-            "cx44.42 u002.62 cx56.37 cx0.43 u007.31 cx32.43 cx24.5 u007.16 u001.3 u002.35 u007.40 cx4.7 ",
-        ),
-        (
-            (3, 12, 256),
-            "u002.251 u002.202 u404.163 cx85.69 u001.83 u007.104 cx198.23 u002.59 cx88.214 cx251.197 cx155.3 u002.205 ",
-        ),
-        ((2, 0, 3), ""),
-    ];
-    for ((start, gates, size), words) in rows {
-        assert!(rt; gates <= 20000 && 0 < size && size <= 256);
-        let program = made(alloc, start, gates, size)?;
-        let text = told(alloc, &program)?;
-        assert_eq!(rt; text.as_str(), words, "from {start}");
-        assert_eq!(rt; program.wires, size);
-        assert_eq!(rt; program.reads.as_slice().len(), 0);
+    'rows: for row in PROGRAMS.split('\n') {
+        assert!(rt; is_drawn(rt.alloc(), row)?, "{row}");
     }
     Ok(())
 }
 
-// The last operation was computed by a program of its own.
+/// The name of the gate of a number that is drawn, as `specs/Program.antt` of `bench_program` has them, on two wires or more.
+fn kind(number: u32) -> &'static str {
+    word("h t tdg s x cx cx cx", (number % 8) as usize)
+}
+
+/// The name of an operation, if it may be drawn.
+fn name(op: &Op) -> &'static str {
+    match *op {
+        Op::Cx { .. } => "cx",
+        Op::U {
+            a: 2,
+            b: 0,
+            c: 4,
+            ..
+        } => "h",
+        Op::U {
+            a: 0,
+            b: 0,
+            c: 1,
+            ..
+        } => "t",
+        Op::U {
+            a: 0,
+            b: 0,
+            c: 7,
+            ..
+        } => "tdg",
+        Op::U {
+            a: 0,
+            b: 0,
+            c: 2,
+            ..
+        } => "s",
+        Op::U {
+            a: 4,
+            b: 0,
+            c: 4,
+            ..
+        } => "x",
+        _ => "none",
+    }
+}
+
+/// Whether an operation is the CNOT of three numbers that are drawn: its kind, its control, and the steps to its target.
+fn is_first(op: &Op, row: &str, size: u32) -> bool {
+    let (control, steps) = (small(row, 2), small(row, 3));
+    match *op {
+        Op::Cx { c, t } => {
+            size > 1
+                && kind(small(row, 1)) == "cx"
+                && c == control % size
+                && t == c.wrapping_add(1).wrapping_add(steps % (size - 1)) % size
+        }
+        Op::U { .. } => false,
+    }
+}
+
+/// Whether the first two gates from a row's start are those of the row's numbers: three for a CNOT, and the next gate's kind.
+fn is_of_draws(alloc: Global, row: &str, size: u32) -> Result<bool, AllocError> {
+    if size < 2 || size > 256 {
+        return Ok(false);
+    }
+    let program = made(alloc, small(row, 0), 2, size)?;
+    let Some((first, rest)) = program.list.as_slice().split_first() else {
+        return Ok(false);
+    };
+    let Some(second) = rest.first() else {
+        return Ok(false);
+    };
+    Ok(is_first(first, row, size) && name(second) == kind(small(row, 4)))
+}
+
+/// A start, and the first four numbers that are drawn from it, which a program of its own computed.
+const DRAWS: &str = "\
+1 908834774 1093944153 1392341196 822192870
+0 167951807 218396424 1299921937 861605236
+7 1059165278 2052263231 1946856753 585718673
+4294967295 69501759 1503429036 1091279824 2129514251";
+
+/// By the wires of the first gate among 256, 255, 253 and 251, the second number is told from all others below 2^31.
+#[test]
+fn first_draws(rt: HostRuntime) -> Result<(), Fail> {
+    'rows: for row in DRAWS.split('\n') {
+        'sizes: for size in [256u32, 255, 253, 251] {
+            assert!(rt;
+                is_of_draws(rt.alloc(), row, size)?,
+                "{row} on {size} wires"
+            );
+        }
+    }
+    Ok(())
+}
+
+/// The last operation was computed by a program of its own.
 #[test]
 fn longest_program(rt: HostRuntime) -> Result<(), Fail> {
     let program = made(rt.alloc(), 12, 20000, 64)?;
     let list = program.list.as_slice();
-    assert_eq!(rt; list.len(), 20000);
-    assert!(rt;
-        list.last()
-            == Some(&Op::U {
-                a: 4,
-                b: 0,
-                c: 4,
-                q: 5
-            })
-    );
+    let last = Op::U {
+        a: 4,
+        b: 0,
+        c: 4,
+        q: 5,
+    };
+    assert!(rt; list.len() == 20000 && list.last() == Some(&last));
     Ok(())
 }

@@ -1,5 +1,6 @@
 //! The rows of the table by hand, and all of them against the plain amplitude program.
 
+ghost use Rattle.std.specs.Prelude.{◌<◌};
 ghost use Rattle.gate_expand.specs.Expansion.{IsFineOp};
 
 use circuit_list::Passed;
@@ -7,6 +8,7 @@ use gate_expand::{OpList, Ops, ReadList, expand};
 use std::alloc::{AllocError, Global};
 use std::test::Fail;
 use test_circuits::{are_turned, gates_of, gates_of_text, operations};
+use test_rows::{field, word};
 use unitary_model::Op;
 
 /// The circuit of one operation on three wires.
@@ -21,59 +23,78 @@ fn expanded(alloc: Global, op: Op) -> Result<Passed, AllocError>
     expand(alloc, &source)
 }
 
+/// Whether a circuit on three wires has the gates of a text, and the turn.
+fn is_passed(alloc: Global, passed: &Passed, gates: &str, turn: u8) -> Result<bool, AllocError> {
+    let is_same = gates_of(alloc, &passed.body)? == gates_of_text(alloc, gates)?;
+    Ok(is_same && passed.turn == turn && passed.body.wires() == 3)
+}
+
+/// The angle of a row at an index, or one that no row has.
+fn angle(row: &str, at: usize) -> u8 {
+    word(row, at).parse::<u8>().unwrap_or(77)
+}
+
+/// Whether the operation on wire 0 with a row's angles has the row's gates and turn.
+fn is_expanded(alloc: Global, row: &str) -> Result<bool, AllocError> {
+    let angles = field(row, 0);
+    let (a, b, c) = (angle(angles, 0), angle(angles, 1), angle(angles, 2));
+    if a >= 8 || b >= 8 || c >= 8 {
+        return Ok(false);
+    }
+    let passed = expanded(alloc, Op::U { a, b, c, q: 0 })?;
+    is_passed(alloc, &passed, field(row, 1), angle(field(row, 2), 0))
+}
+
+/// Three angles, the gates, and the turn.
+const ROWS: &str = "\
+0 0 0||0
+0 3 5||0
+0 1 2|3.0|0
+2 0 4|h.0|0
+2 3 1|5.0 h.0 3.0|0
+4 0 4|x.0|0
+4 1 0|4.0 x.0 1.0|0
+6 4 0|h.0|2
+6 1 2|2.0 h.0 5.0|2
+1 0 0|6.0 h.0 1.0 h.0 2.0|2
+3 6 2|h.0 3.0 h.0|2
+7 7 7|5.0 h.0 7.0 h.0 1.0|2";
+
 #[test]
 fn rows_by_hand(rt: HostRuntime) -> Result<(), Fail> {
-    let alloc = rt.alloc();
-    let rows = [
-        ((0, 0, 0), "", 0),
-        ((0, 3, 5), "", 0),
-        ((0, 1, 2), "3.0", 0),
-        ((2, 0, 4), "h.0", 0),
-        ((2, 3, 1), "5.0 h.0 3.0", 0),
-        ((4, 0, 4), "x.0", 0),
-        ((4, 1, 0), "4.0 x.0 1.0", 0),
-        ((6, 4, 0), "h.0", 2),
-        ((6, 1, 2), "2.0 h.0 5.0", 2),
-        ((1, 0, 0), "6.0 h.0 1.0 h.0 2.0", 2),
-        ((3, 6, 2), "h.0 3.0 h.0", 2),
-        ((7, 7, 7), "5.0 h.0 7.0 h.0 1.0", 2),
-    ];
-    for ((a, b, c), gates, turn) in rows {
-        assert!(rt; a < 8 && b < 8 && c < 8);
-        let passed = expanded(alloc, Op::U { a, b, c, q: 0 })?;
-        assert_eq!(rt;
-            gates_of(alloc, &passed.body)?,
-            gates_of_text(alloc, gates)?,
-            "at {a} {b} {c}"
-        );
-        assert_eq!(rt; passed.turn, turn, "at {a} {b} {c}");
-        assert_eq!(rt; passed.body.wires(), 3);
+    'rows: for row in ROWS.split('\n') {
+        assert!(rt; is_expanded(rt.alloc(), row)?, "{row}");
     }
-    let passed = expanded(alloc, Op::Cx { c: 1, t: 0 })?;
-    assert_eq!(rt;
-        gates_of(alloc, &passed.body)?,
-        gates_of_text(alloc, "c10")?
-    );
-    assert_eq!(rt; passed.turn, 0);
     Ok(())
 }
 
-// Each entry of the circuit's matrix is w^turn times that of the operation's.
+#[test]
+fn cnot_by_hand(rt: HostRuntime) -> Result<(), Fail> {
+    let passed = expanded(rt.alloc(), Op::Cx { c: 1, t: 0 })?;
+    assert!(rt; is_passed(rt.alloc(), &passed, "c10", 0)?);
+    Ok(())
+}
+
+/// Whether each entry of the circuit's matrix is w^turn times that of the operation's; `abc` are the angles, as octal digits.
+fn is_same(alloc: Global, abc: u16) -> Result<bool, AllocError>
+    requires { abc < 512 }
+{
+    let (a, b, c) = (abc / 64, abc / 8 % 8, abc % 8);
+    let op = Op::U {
+        a: a as u8,
+        b: b as u8,
+        c: c as u8,
+        q: 1,
+    };
+    let passed = expanded(alloc, op)?;
+    let gates = operations(alloc, &passed.body)?;
+    Ok(gates.len() <= 5 && are_turned(&[op], &gates, passed.turn))
+}
+
 #[test]
 fn all_rows_by_their_entries(rt: HostRuntime) -> Result<(), Fail> {
-    let alloc = rt.alloc();
-    for number in 0u16..512 {
-        let (a, b, c) = (number / 64, number / 8 % 8, number % 8);
-        let op = Op::U {
-            a: a as u8,
-            b: b as u8,
-            c: c as u8,
-            q: 1,
-        };
-        let passed = expanded(alloc, op)?;
-        let gates = operations(alloc, &passed.body)?;
-        assert!(rt; gates.len() <= 5);
-        assert!(rt; are_turned(&[op], &gates, passed.turn), "at {number}");
+    'angles: for abc in 0u16..512 {
+        assert!(rt; is_same(rt.alloc(), abc)?, "{abc}");
     }
     Ok(())
 }

@@ -1,195 +1,214 @@
-//! Ends in memory and those of the system, call by call.
+//! Ends in memory, call by call.
 
 use outside_io::{
-    CalmShelf, CalmSink, CalmSource, DirShelf, Failed, InputFault, LoadFault, MemShelf, MemSink,
-    MemSource, NamedText, Shelf, Sink, Source, StdSink, StdSource, TextFault, load_text, read_all,
-    send,
+    CalmShelf, CalmSink, CalmSource, InputFault, LoadFault, MemShelf, MemSink, MemSource,
+    NamedText, Shelf, Sink, TextFault, load_text, read_all, send,
 };
-use std::io::Read;
+use std::alloc::{AllocError, Global};
 use std::test::Fail;
-use std::{fs, io};
+use test_rows::{number, word};
+
+/// The name of a fault of the input.
+fn input_fault(fault: &InputFault) -> &'static str {
+    match fault {
+        InputFault::Failed => "Failed",
+        InputFault::TooLong => "TooLong",
+        InputFault::NoMemory => "NoMemory",
+    }
+}
+
+/// Whether an answer is `=` and these bytes, or this fault.
+fn is_read(answer: &Result<Vec<u8>, InputFault>, want: &str) -> bool {
+    match (answer, want.strip_prefix('=')) {
+        (Ok(read), Some(text)) => read.as_slice() == text.as_bytes(),
+        (Err(fault), None) => input_fault(fault) == want,
+        _ => false,
+    }
+}
+
+/// The source of a row.
+fn source_of(alloc: Global, row: &str) -> Result<MemSource, AllocError> {
+    let bytes = Vec::from_slice(alloc, word(row, 0).as_bytes())?;
+    let failing = Vec::from_slice(alloc, &[number(row, 2)])?;
+    Ok(MemSource::new(bytes, (number(row, 1) as usize).max(1), failing))
+}
+
+/// Whether the source of a row is read as the row says, and left so.
+fn reads(alloc: Global, row: &str) -> Result<bool, AllocError> {
+    let mut source = source_of(alloc, row)?;
+    let answer = read_all(alloc, &mut source, (number(row, 3) as usize).min(100));
+    let is_answer = is_read(&answer, word(row, 4));
+    Ok(
+        is_answer
+            && source.calls() == number(row, 5)
+            && source.rest().len() as u64 == number(row, 6),
+    )
+}
+
+/// Text, most bytes a call, failing call, limit, answer, calls, bytes left.
+const READS: &str = "\
+abc 1 0 3 =abc 4 0
+abc 3 0 3 =abc 2 0
+abc 100 0 9 =abc 2 0
+- 1 0 0 = 1 0
+a 1 0 0 TooLong 1 0
+abc 1 0 2 TooLong 3 0
+abcdef 100 0 2 TooLong 1 3
+abc 1 1 9 Failed 1 3
+abc 1 2 9 Failed 2 2
+abc 1 4 9 Failed 4 0
+abc 1 5 9 =abc 4 0";
 
 #[test]
 fn reads_all_or_says_why(rt: HostRuntime) -> Result<(), Fail> {
-    let alloc = rt.alloc();
-    // text, most bytes a call, failing call, limit, answer, calls, bytes left
-    let rows: [(
-        &str,
-        usize,
-        u64,
-        usize,
-        Result<&str, InputFault>,
-        u64,
-        usize,
-    ); 11] = [
-        ("abc", 1, 0, 3, Ok("abc"), 4, 0),
-        ("abc", 3, 0, 3, Ok("abc"), 2, 0),
-        ("abc", 100, 0, 9, Ok("abc"), 2, 0),
-        ("", 1, 0, 0, Ok(""), 1, 0),
-        ("a", 1, 0, 0, Err(InputFault::TooLong), 1, 0),
-        ("abc", 1, 0, 2, Err(InputFault::TooLong), 3, 0),
-        ("abcdef", 100, 0, 2, Err(InputFault::TooLong), 1, 3),
-        ("abc", 1, 1, 9, Err(InputFault::Failed), 1, 3),
-        ("abc", 1, 2, 9, Err(InputFault::Failed), 2, 2),
-        ("abc", 1, 4, 9, Err(InputFault::Failed), 4, 0),
-        ("abc", 1, 5, 9, Ok("abc"), 4, 0),
-    ];
-    for (text, most, failing, max, answer, calls, left) in rows {
-        assert!(rt; most > 0 && max < 100);
-        let bytes = Vec::from_slice(alloc, text.as_bytes())?;
-        let mut source = MemSource::new(bytes, most, Vec::from_slice(alloc, &[failing])?);
-        match (read_all(alloc, &mut source, max), answer) {
-            (Ok(read), Ok(want)) => {
-                assert_eq!(rt; read.as_slice(), want.as_bytes(), "{text} by {most}");
-            }
-            (Err(fault), Err(want)) => assert_eq!(rt; fault, want, "{text} by {most}"),
-            _ => panic!(rt; "{text} by {most}, call {failing}, limit {max}"),
-        }
-        assert_eq!(rt; source.calls(), calls, "{text} by {most}");
-        assert_eq!(rt; source.rest().len(), left, "{text} by {most}");
+    'rows: for row in READS.split('\n') {
+        assert!(rt; reads(rt.alloc(), row)?, "{row}");
     }
-    let long = vec![in alloc; 7u8; 200_000]?;
-    let mut source = CalmSource::new(Vec::from_slice(alloc, &long)?);
-    assert_eq!(rt;
-        read_all(alloc, &mut source, 200_000)?.as_slice(),
-        long.as_slice()
-    );
-    assert!(rt; source.rest().is_empty());
     Ok(())
 }
+
+#[test]
+fn reads_a_long_text(rt: HostRuntime) -> Result<(), Fail> {
+    let long = vec![in rt.alloc(); 7u8; 200_000]?;
+    let mut source = CalmSource::new(Vec::from_slice(rt.alloc(), &long)?);
+    let read = read_all(rt.alloc(), &mut source, 200_000)?;
+    assert!(rt; read.as_slice() == long.as_slice() && source.rest().is_empty());
+    Ok(())
+}
+
+/// The sink of a row.
+fn sink_of(alloc: Global, row: &str) -> Result<MemSink, AllocError> {
+    let failing = Vec::from_slice(alloc, &[number(row, 2)])?;
+    let room = number(row, 0) as usize;
+    MemSink::new(alloc, room, (number(row, 1) as usize).max(1), failing)
+}
+
+/// Whether a sink takes all of five bytes.
+fn sends_to(sink: &mut MemSink) -> bool {
+    send(sink, b"abcde".as_slice()).is_ok()
+}
+
+/// Whether a sink holds what its row says, was called as often, and is flushed only if it took all.
+fn is_held(sink: &MemSink, row: &str) -> bool {
+    sink.as_slice() == word(row, 4).as_bytes()
+        && sink.calls() == number(row, 5)
+        && sink.is_flushed() == (word(row, 3) == "sent")
+}
+
+/// Whether the sink of a row takes what the row says.
+fn sends(alloc: Global, row: &str) -> Result<bool, AllocError> {
+    let mut sink = sink_of(alloc, row)?;
+    let is_sent = sends_to(&mut sink);
+    Ok(is_sent == (word(row, 3) == "sent") && is_held(&sink, row))
+}
+
+/// Room, most bytes a call, failing call, whether all was sent, what is held, calls.
+const SENDS: &str = "\
+5 1 0 sent abcde 6
+5 2 0 sent abcde 4
+99 99 0 sent abcde 2
+5 2 5 sent abcde 4
+4 1 0 fails abcd 5
+4 2 0 fails abcd 3
+4 99 0 fails - 1
+5 99 1 fails - 1
+5 2 2 fails ab 2
+5 2 4 fails abcde 4
+5 99 2 fails abcde 2";
 
 #[test]
 fn sends_all_or_a_prefix(rt: HostRuntime) -> Result<(), Fail> {
-    let alloc = rt.alloc();
-    // room, most bytes a call, failing call, whether all is well, what is held, calls
-    let rows: [(usize, usize, u64, bool, &str, u64); 11] = [
-        (5, 1, 0, true, "abcde", 6),
-        (5, 2, 0, true, "abcde", 4),
-        (99, 99, 0, true, "abcde", 2),
-        (5, 2, 5, true, "abcde", 4),
-        (4, 1, 0, false, "abcd", 5),
-        (4, 2, 0, false, "abcd", 3),
-        (4, 99, 0, false, "", 1),
-        (5, 99, 1, false, "", 1),
-        (5, 2, 2, false, "ab", 2),
-        (5, 2, 4, false, "abcde", 4),
-        (5, 99, 2, false, "abcde", 2),
-    ];
-    for (room, most, failing, is_sent, held, calls) in rows {
-        assert!(rt; most > 0);
-        let mut sink = MemSink::new(alloc, room, most, Vec::from_slice(alloc, &[failing])?)?;
-        let sent = send(&mut sink, b"abcde".as_slice());
-        assert_eq!(rt;
-            sent.is_ok(),
-            is_sent,
-            "room {room}, by {most}, call {failing}"
-        );
-        assert_eq!(rt; sink.as_slice(), held.as_bytes(), "room {room}, by {most}");
-        assert_eq!(rt; sink.calls(), calls, "room {room}, by {most}");
-        assert_eq!(rt; sink.is_flushed(), is_sent, "room {room}, by {most}");
+    'rows: for row in SENDS.split('\n') {
+        assert!(rt; sends(rt.alloc(), row)?, "{row}");
     }
-    let mut sink = CalmSink::new(alloc, 6)?;
-    send(&mut sink, b"abcde".as_slice())?;
-    assert_eq!(rt; sink.told(), Some(b"abcde".as_slice()));
-    assert!(rt; sink.is_flushed());
-    assert_eq!(rt; sink.write(b"fg".as_slice())?, 2);
-    assert!(rt; !sink.is_flushed());
-    assert!(rt; sink.told().is_none());
     Ok(())
 }
+
+/// Whether a sink tells these bytes, and whether it is flushed.
+fn is_told(sink: &CalmSink, told: Option<&[u8]>, is_flushed: bool) -> bool {
+    sink.told() == told && sink.is_flushed() == is_flushed
+}
+
+#[test]
+fn tells_what_came_until_the_room_ends(rt: HostRuntime) -> Result<(), Fail> {
+    let mut sink = CalmSink::new(rt.alloc(), 6)?;
+    send(&mut sink, b"abcde".as_slice())?;
+    assert!(rt; is_told(&sink, Some(b"abcde".as_slice()), true));
+    assert!(rt; sink.write(b"fg".as_slice())? == 2);
+    assert!(rt; is_told(&sink, None, false));
+    Ok(())
+}
+
+/// The name of a fault of a text.
+fn text_fault(fault: &TextFault) -> &'static str {
+    match fault {
+        TextFault::Failed => "Failed",
+        TextFault::Absent => "Absent",
+        TextFault::TooLong => "TooLong",
+        TextFault::NoMemory => "NoMemory",
+    }
+}
+
+/// Whether an answer is `=` and these bytes, or this fault.
+fn is_text(answer: &Result<Vec<u8>, TextFault>, want: &str) -> bool {
+    match (answer, want.strip_prefix('=')) {
+        (Ok(read), Some(text)) => read.as_slice() == text.as_bytes(),
+        (Err(fault), None) => text_fault(fault) == want,
+        _ => false,
+    }
+}
+
+/// A shelf with two texts of one name and an empty one.
+fn shelf_of(alloc: Global, fails: u64) -> Result<MemShelf, AllocError> {
+    let mut texts = Vec::new(alloc);
+    texts.push(NamedText::new(alloc, "a", b"first".as_slice())?)?;
+    texts.push(NamedText::new(alloc, "a", b"second".as_slice())?)?;
+    texts.push(NamedText::new(alloc, "b", b"".as_slice())?)?;
+    Ok(MemShelf::new(texts, Vec::from_slice(alloc, &[fails])?))
+}
+
+/// Whether the text of a row is loaded as the row says, by one call.
+fn loads(alloc: Global, row: &str) -> Result<bool, AllocError> {
+    let mut shelf = shelf_of(alloc, number(row, 2))?;
+    let max = (number(row, 1) as usize).min(100);
+    let answer = load_text(alloc, &mut shelf, word(row, 0), max);
+    Ok(is_text(&answer, word(row, 3)) && shelf.calls() == 1)
+}
+
+/// Name, limit, failing call, answer.
+const LOADS: &str = "\
+a 5 0 =first
+b 0 0 =
+a 5 2 =first
+a 5 1 Failed
+c 5 1 Failed
+c 5 0 Absent
+- 5 0 Absent
+a 4 0 TooLong";
 
 #[test]
 fn loads_a_text_or_says_why(rt: HostRuntime) -> Result<(), Fail> {
-    let alloc = rt.alloc();
-    // name, limit, failing call, answer
-    let rows: [(&str, usize, u64, Result<&str, TextFault>); 8] = [
-        ("a", 5, 0, Ok("first")),
-        ("b", 0, 0, Ok("")),
-        ("a", 5, 2, Ok("first")),
-        ("a", 5, 1, Err(TextFault::Failed)),
-        ("c", 5, 1, Err(TextFault::Failed)),
-        ("c", 5, 0, Err(TextFault::Absent)),
-        ("", 5, 0, Err(TextFault::Absent)),
-        ("a", 4, 0, Err(TextFault::TooLong)),
-    ];
-    for (name, max, failing, answer) in rows {
-        assert!(rt; max < 100);
-        let mut texts = Vec::new(alloc);
-        texts.push(NamedText::new(alloc, "a", b"first".as_slice())?)?;
-        texts.push(NamedText::new(alloc, "a", b"second".as_slice())?)?;
-        texts.push(NamedText::new(alloc, "b", b"".as_slice())?)?;
-        let mut shelf = MemShelf::new(texts, Vec::from_slice(alloc, &[failing])?);
-        match (load_text(alloc, &mut shelf, name, max), answer) {
-            (Ok(text), Ok(want)) => {
-                assert_eq!(rt; text.as_slice(), want.as_bytes(), "{name}");
-            }
-            (Err(fault), Err(want)) => assert_eq!(rt; fault, want, "{name}"),
-            _ => panic!(rt; "{name}, limit {max}, call {failing}"),
-        }
-        assert_eq!(rt; shelf.calls(), 1, "{name}");
+    'rows: for row in LOADS.split('\n') {
+        assert!(rt; loads(rt.alloc(), row)?, "{row}");
     }
-    let mut shelf = CalmShelf::new(Vec::from_slice(alloc, b"text".as_slice())?);
-    assert_eq!(rt;
-        load_text(alloc, &mut shelf, "any", 4)?.as_slice(),
-        b"text".as_slice()
-    );
-    let mut into = Vec::new(alloc);
+    Ok(())
+}
+
+#[test]
+fn loads_one_text_under_any_name(rt: HostRuntime) -> Result<(), Fail> {
+    let mut shelf = CalmShelf::new(Vec::from_slice(rt.alloc(), b"text".as_slice())?);
+    let text = load_text(rt.alloc(), &mut shelf, "any", 4)?;
+    assert!(rt; text.as_slice() == b"text".as_slice());
+    let mut into = Vec::new(rt.alloc());
     shelf.load("any", 2, &mut into)?;
-    assert_eq!(rt; into.as_slice(), b"tex".as_slice());
+    assert!(rt; into.as_slice() == b"tex".as_slice());
+    Ok(())
+}
+
+#[test]
+fn loads_none_from_an_empty_shelf(rt: HostRuntime) -> Result<(), Fail> {
+    let mut into = Vec::from_slice(rt.alloc(), b"tex".as_slice())?;
     let absent = CalmShelf::empty().load("any", 2, &mut into);
-    assert_eq!(rt; absent, Err(LoadFault::Absent));
-    assert!(rt; into.is_empty());
-    Ok(())
-}
-
-#[derive(Drop)]
-struct Broken;
-
-impl Read for Broken {
-    fn read(&mut self, _buf: &mut [u8]) -> io::Result<usize> {
-        Err(io::Error::from(io::ErrorKind::Other))
-    }
-}
-
-#[test]
-fn reads_and_writes_devices(rt: HostRuntime) -> Result<(), Fail> {
-    let alloc = rt.alloc();
-    let mut zeros = StdSource::new(fs::open(&rt, "/dev/zero")?);
-    let mut piece = [1u8; 3];
-    assert_eq!(rt; zeros.read(&mut piece)?, 3);
-    assert_eq!(rt; piece, [0u8; 3]);
-    let endless = read_all(alloc, &mut zeros, 100_000).is_err();
-    assert!(rt; endless);
-    let mut nothing = StdSource::new(fs::open(&rt, "/dev/null")?);
-    assert!(rt; read_all(alloc, &mut nothing, 9)?.is_empty());
-    assert_eq!(rt; StdSource::new(Broken).read(&mut piece), Err(Failed));
-    let mut full = StdSink::new(fs::create(&rt, "/dev/full")?);
-    assert_eq!(rt; send(&mut full, b"a".as_slice()), Err(Failed));
-    let mut null = StdSink::new(fs::create(&rt, "/dev/null")?);
-    send(&mut null, b"a".as_slice())?;
-    send(&mut StdSink::new(rt.stderr()), b"".as_slice())?;
-    Ok(())
-}
-
-#[test]
-fn loads_files(rt: HostRuntime) -> Result<(), Fail> {
-    let alloc = rt.alloc();
-    // path, answer, bytes that came
-    let rows: [(&str, Result<(), LoadFault>, usize); 6] = [
-        ("/dev/null", Ok(()), 0),
-        ("/dev/zero", Ok(()), 70_001),
-        ("/no such file", Err(LoadFault::Absent), 0),
-        ("", Err(LoadFault::Absent), 0),
-        ("/", Err(LoadFault::Failed), 0),
-        ("/dev/null/file", Err(LoadFault::Failed), 0),
-    ];
-    let mut shelf = DirShelf::new(&rt);
-    let mut into = Vec::new(alloc);
-    for (path, answer, count) in rows {
-        into.push(1)?;
-        let loaded = shelf.load(path, 70_000, &mut into);
-        assert_eq!(rt; loaded, answer, "{path}");
-        assert_eq!(rt; into.len(), count, "{path}");
-    }
+    assert!(rt; absent == Err(LoadFault::Absent) && into.is_empty());
     Ok(())
 }

@@ -1,1 +1,1 @@
-pub mod FlipLaws
+pub mod PairLaws

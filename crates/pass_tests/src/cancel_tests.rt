@@ -2,126 +2,116 @@
 
 ghost use Rattle.std.specs.Prelude.{◌<◌};
 
+use crate::passed::{makes, tells};
+use crate::rows::{field, lines_below, number};
 use circuit_list::Gate;
 use commute_rules::{Cancel, cancels, commute};
 use gate_cancel::CancelPass;
 use hadamard_reduce::HadamardPass;
 use not_propagate::NotPass;
-use rewrite_pass::{Pass, Round, Then, Trace, Traced, WhileSmaller};
+use rewrite_pass::{Pass, Round, Then, WhileSmaller};
 use rotation_merge::MergePass;
-use std::alloc::Global;
-use std::process::Abort;
+use std::alloc::{AllocError, Global};
 use std::test::Fail;
-use test_circuits::{Kind, Random, circuit_of, gates_of, gates_of_text};
+use test_circuits::{Kind, Random, circuit_of, gates_of};
 use unitary_model::turn_sum;
 
-/// Whether the pass makes these gates, with this turn, of others.
-fn makes(
-    rt: &impl Abort,
-    alloc: Global,
-    wires: u32,
-    gates: &[Gate],
-    expected: &[Gate],
-    turn: u8,
-) -> Result<bool, Fail> {
-    let body = circuit_of(alloc, wires, gates)?.expect(rt, "gates on the wires");
-    let passed = CancelPass.run(alloc, body)?;
-    let made = gates_of(alloc, &passed.body)?;
-    Ok(passed.turn == turn && made.as_slice() == expected)
+fn is_shortened(alloc: Global, row: &str) -> Result<bool, AllocError> {
+    let (source, gates) = (field(row, 1), field(row, 2));
+    makes(
+        alloc,
+        &CancelPass,
+        number(row, 0),
+        source,
+        gates,
+        number(row, 3),
+    )
 }
+
+/// Wires, gates, those that are left, and the turn; the last six pass gates that commute.
+const ROWS: &str = "\
+1 | h.0 h.0 | - | 6
+1 | x.0 x.0 | - | 4
+1 | 1.0 1.0 | 2.0 | 0
+1 | 1.0 7.0 | - | 0
+1 | h.0 x.0 h.0 | h.0 x.0 h.0 | 0
+1 | 1.0 h.0 h.0 1.0 | 2.0 | 6
+2 | c01 1.0 c01 | 1.0 | 0
+3 | c01 c02 1.0 c01 | c02 1.0 | 0
+2 | c01 1.1 c01 | c01 1.1 c01 | 0
+2 | x.1 c01 x.1 | c01 | 4
+2 | x.0 c01 x.0 | x.0 c01 x.0 | 0
+2 | c01 h.1 c01 | c01 h.1 c01 | 0";
 
 #[test]
 fn rows_by_hand(rt: HostRuntime) -> Result<(), Fail> {
-    let alloc = rt.alloc();
-    let rows = [
-        (1, "h.0 h.0", "", 6),
-        (1, "x.0 x.0", "", 4),
-        (1, "1.0 1.0", "2.0", 0),
-        (1, "1.0 7.0", "", 0),
-        (1, "h.0 x.0 h.0", "h.0 x.0 h.0", 0),
-        (1, "1.0 h.0 h.0 1.0", "2.0", 6),
-        // past gates that commute
-        (2, "c01 1.0 c01", "1.0", 0),
-        (3, "c01 c02 1.0 c01", "c02 1.0", 0),
-        (2, "c01 1.1 c01", "c01 1.1 c01", 0),
-        (2, "x.1 c01 x.1", "c01", 4),
-        (2, "x.0 c01 x.0", "x.0 c01 x.0", 0),
-        (2, "c01 h.1 c01", "c01 h.1 c01", 0),
-    ];
-    for (wires, source, result, turn) in rows {
-        let gates = gates_of_text(alloc, source)?;
-        let expected = gates_of_text(alloc, result)?;
-        assert!(rt;
-            makes(&rt, alloc, wires, &gates, &expected, turn)?,
-            "at {source}"
-        );
+    'rows: for row in ROWS.split('\n') {
+        assert!(rt; is_shortened(rt.alloc(), row)?, "{row}");
     }
     Ok(())
 }
 
-/// Whether a pass tells these steps of gates on three wires, and has this turn.
-fn tells(
-    rt: &impl Abort,
-    alloc: Global,
-    pass: &impl Traced,
-    source: &str,
-    turn: u8,
-    lines: &str,
-) -> Result<bool, Fail> {
-    let gates = gates_of_text(alloc, source)?;
-    let body = circuit_of(alloc, 3, &gates)?.expect(rt, "gates on the wires");
-    let mut trace = Trace::start(alloc);
-    let passed = pass.run_traced(alloc, body, &mut trace)?;
-    let told = trace.lines()?;
-    Ok(passed.turn == turn && told.as_slice() == lines.as_bytes())
+/// Whether two ways to put the passes together tell the steps of a row.
+fn is_told(alloc: Global, row: &str) -> Result<bool, AllocError> {
+    let (row, lines) = lines_below(row);
+    let (source, turn) = (field(row, 0), number(row, 1));
+    let rounds = Then(CancelPass, WhileSmaller(Round(CancelPass, MergePass)));
+    let plain = WhileSmaller(Then(CancelPass, MergePass));
+    Ok(tells(alloc, &rounds, source, turn, lines)? && tells(alloc, &plain, source, turn, lines)?)
 }
 
-/// Turns and steps of rows by hand. What is put together tells the steps of its parts, and none of the run that takes no gate
-/// away.
+/// Gates, the turn, and the steps. In the last row the phases go by their labels, and the CNOTs in the run after.
+const STEPS: &str = "\
+h.0 x.0 h.0 | 0
+
+x.0 x.0 | 4
+both 0 1
+
+1.0 h.0 h.0 1.0 | 6
+both 1 2
+join 0 1
+
+c01 c02 1.0 c01 | 0
+both 0 3
+
+c01 1.1 c01 c10 7.0 c10 | 0
+sums 4
+C 0 1
+C 0 1
+C 1 0
+C 1 0
+both 0 1
+both 0 1";
+
+/// What is put together tells the steps of its parts, and none of the run that takes no gate away.
 #[test]
 fn tells_its_steps(rt: HostRuntime) -> Result<(), Fail> {
-    let alloc = rt.alloc();
-    let rows = [
-        ("h.0 x.0 h.0", 0, ""),
-        ("x.0 x.0", 4, "both 0 1\n"),
-        ("1.0 h.0 h.0 1.0", 6, "both 1 2\njoin 0 1\n"),
-        ("c01 c02 1.0 c01", 0, "both 0 3\n"),
-        // the phases go by their labels, and the CNOTs in the run behind
-        (
-            "c01 1.1 c01 c10 7.0 c10",
-            0,
-            "sums 4\nC 0 1\nC 0 1\nC 1 0\nC 1 0\nboth 0 1\nboth 0 1\n",
-        ),
-    ];
-    'rows: for (source, turn, lines) in rows {
-        let rounds = Then(CancelPass, WhileSmaller(Round(CancelPass, MergePass)));
-        assert!(rt;
-            tells(&rt, alloc, &rounds, source, turn, lines)?,
-            "at {source}"
-        );
-        let plain = WhileSmaller(Then(CancelPass, MergePass));
-        assert!(rt;
-            tells(&rt, alloc, &plain, source, turn, lines)?,
-            "at {source}"
-        );
+    'rows: for row in STEPS.split("\n\n") {
+        assert!(rt; is_told(rt.alloc(), row)?, "{row}");
     }
-    // the next run takes the NOT past the CNOT, which makes one more of it, so its steps go
-    let source = "h.0 4.0 h.0 c01";
+    Ok(())
+}
+
+/// The next run takes the NOT past the CNOT, which makes one more of it, so its steps go.
+#[test]
+fn tells_no_step_of_a_run_that_goes(rt: HostRuntime) -> Result<(), Fail> {
+    let (source, lines) = ("h.0 4.0 h.0 c01", "rule 3 0");
     let plain = WhileSmaller(Then(NotPass, HadamardPass));
-    assert!(rt; tells(&rt, alloc, &plain, source, 0, "rule 3 0\n")?);
+    assert!(rt; tells(rt.alloc(), &plain, source, 0, lines)?);
     let rounds = WhileSmaller(Round(Then(NotPass, HadamardPass), MergePass));
-    assert!(rt; tells(&rt, alloc, &rounds, source, 0, "rule 3 0\n")?);
+    assert!(rt; tells(rt.alloc(), &rounds, source, 0, lines)?);
     Ok(())
 }
 
 /// The place of the partner of the gate at a place, by a look at each later gate.
 fn partner(gates: &[Gate], place: usize) -> Option<usize> {
     let gate = *gates.get(place)?;
-    'later: for (later, other) in gates.iter().enumerate().skip(place).skip(1) {
-        if cancels(gate, *other) != Cancel::No {
+    'later: for later in place.saturating_add(1)..gates.len() {
+        let other = gates[later];
+        if cancels(gate, other) != Cancel::No {
             return Some(later);
         }
-        if !commute(gate, *other) {
+        if !commute(gate, other) {
             return None;
         }
     }
@@ -129,10 +119,12 @@ fn partner(gates: &[Gate], place: usize) -> Option<usize> {
 }
 
 /// What the book does with a pair. Its turn.
-fn plain_step(rt: &impl Abort, gates: &mut Vec<Gate>, place: usize, later: usize) -> u8
+fn plain_step(gates: &mut Vec<Gate>, place: usize, later: usize) -> u8
     ensures { result < 8 }
 {
-    assert!(rt; place < later && later < gates.len());
+    if place >= later || later >= gates.len() {
+        return 0;
+    }
     let first = gates[place];
     let second = gates.remove(later);
     match cancels(first, second) {
@@ -145,14 +137,13 @@ fn plain_step(rt: &impl Abort, gates: &mut Vec<Gate>, place: usize, later: usize
         }
         Cancel::Both { turn } => {
             let _first = gates.remove(place);
-            assert!(rt; turn < 8);
-            turn
+            turn % 8
         }
     }
 }
 
 /// One walk by the book. Whether it changed anything, and its turn.
-fn plain_walk(rt: &impl Abort, gates: &mut Vec<Gate>) -> (bool, u8)
+fn plain_walk(gates: &mut Vec<Gate>) -> (bool, u8)
     ensures { result.1 < 8 }
 {
     let mut changed = false;
@@ -165,7 +156,7 @@ fn plain_walk(rt: &impl Abort, gates: &mut Vec<Gate>) -> (bool, u8)
         match partner(gates, place) {
             Some(later) => {
                 changed = true;
-                turn = turn_sum(turn, plain_step(rt, gates, place, later));
+                turn = turn_sum(turn, plain_step(gates, place, later));
             }
             None => place += 1,
         }
@@ -174,10 +165,10 @@ fn plain_walk(rt: &impl Abort, gates: &mut Vec<Gate>) -> (bool, u8)
 }
 
 /// Such walks until one changes nothing. The turn of all.
-fn plain_walks(rt: &impl Abort, gates: &mut Vec<Gate>) -> u8 {
+fn plain_walks(gates: &mut Vec<Gate>) -> u8 {
     let mut turn = 0;
     'walks: for _ in 0..u64::MAX {
-        let (changed, more) = plain_walk(rt, gates);
+        let (changed, more) = plain_walk(gates);
         turn = turn_sum(turn, more);
         if !changed {
             break;
@@ -186,21 +177,23 @@ fn plain_walks(rt: &impl Abort, gates: &mut Vec<Gate>) -> u8 {
     turn
 }
 
-/// The gate that undoes another, up to a turn.
-fn inverse(gate: Gate) -> Gate {
-    match gate {
-        Gate::P { k, q } => Gate::P {
-            k: 8u8.saturating_sub(k),
-            q,
-        },
-        other => other,
-    }
+/// Whether the pass on 256 wires makes these gates, with this turn, of others.
+fn makes_of_gates(
+    alloc: Global,
+    gates: &[Gate],
+    wanted: &[Gate],
+    turn: u8,
+) -> Result<bool, AllocError> {
+    let Some(body) = circuit_of(alloc, 256, gates)? else {
+        return Ok(false);
+    };
+    let passed = CancelPass.run(alloc, body)?;
+    Ok(passed.turn == turn && gates_of(alloc, &passed.body)?.as_slice() == wanted)
 }
 
 /// Wires that differ by a multiple of 64 are told apart, and so are gates with the one or the other.
 #[test]
 fn tells_wires_of_one_bit_apart(rt: HostRuntime) -> Result<(), Fail> {
-    let alloc = rt.alloc();
     let gates = [
         Gate::Cx { c: 1, t: 193 },
         Gate::H { q: 65 },
@@ -214,7 +207,7 @@ fn tells_wires_of_one_bit_apart(rt: HostRuntime) -> Result<(), Fail> {
         Gate::X { q: 191 },
         Gate::X { q: 255 },
     ];
-    let expected = [
+    let wanted = [
         Gate::H { q: 65 },
         Gate::H { q: 129 },
         Gate::Cx { c: 1, t: 65 },
@@ -223,8 +216,19 @@ fn tells_wires_of_one_bit_apart(rt: HostRuntime) -> Result<(), Fail> {
         Gate::H { q: 129 },
         Gate::X { q: 191 },
     ];
-    assert!(rt; makes(&rt, alloc, 256, &gates, &expected, 4)?);
+    assert!(rt; makes_of_gates(rt.alloc(), &gates, &wanted, 4)?);
     Ok(())
+}
+
+/// The gate that undoes another, up to a turn.
+fn inverse(gate: Gate) -> Gate {
+    match gate {
+        Gate::P { k, q } => Gate::P {
+            k: 8u8.saturating_sub(k),
+            q,
+        },
+        other => other,
+    }
 }
 
 /// A gate on wires that are 64 times as far.
@@ -247,30 +251,48 @@ fn spread(gate: Gate) -> Gate {
     }
 }
 
-/// Random circuits, and random ones before what undoes them: the list and the turn are those of the plain walks. A third of
-/// them is on the wires 0, 64, 128 and 192.
+/// Gates before what undoes them.
+fn mirror(gates: &mut Vec<Gate>) -> Result<(), AllocError> {
+    let count = gates.len();
+    'back: for i in 1..count.saturating_add(1) {
+        let place = count.saturating_sub(i);
+        if place < gates.len() {
+            let gate = gates[place];
+            gates.push(inverse(gate))?;
+        }
+    }
+    Ok(())
+}
+
+const KINDS: [Kind; 5] = [Kind::H, Kind::X, Kind::P, Kind::Cx, Kind::Cx];
+
+/// Random gates, each second list before what undoes it, and each third on the wires 0, 64, 128 and 192.
+fn drawn(alloc: Global, random: &mut Random, number: u32) -> Result<Vec<Gate>, AllocError> {
+    let mut gates = gates_of(alloc, &random.circuit(alloc, 4, &KINDS, 60)?)?;
+    if number % 2 == 0 {
+        mirror(&mut gates)?;
+    }
+    if number % 3 == 0 {
+        'spread: for gate in gates.iter_mut() {
+            *gate = spread(*gate);
+        }
+    }
+    Ok(gates)
+}
+
+/// Whether the list and the turn are those of the plain walks.
+fn cancels_alike(alloc: Global, gates: &[Gate]) -> Result<bool, AllocError> {
+    let mut plain = gates.to_vec(alloc)?;
+    let turn = plain_walks(&mut plain);
+    makes_of_gates(alloc, gates, &plain, turn)
+}
+
 #[test]
 fn cancels_as_the_plain_walks_do(rt: HostRuntime) -> Result<(), Fail> {
-    let alloc = rt.alloc();
-    let kinds = [Kind::H, Kind::X, Kind::P, Kind::Cx, Kind::Cx];
     let mut random = Random::from_start(1);
-    'circuits: for round in 0..400 {
-        let mut gates = gates_of(alloc, &random.circuit(alloc, 4, &kinds, 60)?)?;
-        if round % 2 == 0 {
-            let mut mirrored = Vec::new(alloc);
-            'back: for gate in gates.iter().rev() {
-                mirrored.push(inverse(*gate))?;
-            }
-            gates.extend_from_slice(&mirrored)?;
-        }
-        if round % 3 == 0 {
-            'spread: for gate in gates.iter_mut() {
-                *gate = spread(*gate);
-            }
-        }
-        let mut plain = gates.clone()?;
-        let turn = plain_walks(&rt, &mut plain);
-        assert!(rt; makes(&rt, alloc, 256, &gates, &plain, turn)?);
+    'circuits: for number in 0..400 {
+        let gates = drawn(rt.alloc(), &mut random, number)?;
+        assert!(rt; cancels_alike(rt.alloc(), &gates)?, "{number}");
     }
     Ok(())
 }

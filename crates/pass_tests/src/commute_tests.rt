@@ -1,82 +1,101 @@
 //! Rows worked by hand.
 
+use crate::rows::field;
 use circuit_list::Gate;
 use commute_rules::{Cancel, cancels, commute};
+use std::alloc::{AllocError, Global};
+use std::test::Fail;
+use test_circuits::gates_of_text;
 
-const H_0: Gate = Gate::H { q: 0 };
-
-const X_0: Gate = Gate::X { q: 0 };
-
-const T_0: Gate = Gate::P { k: 1, q: 0 };
-
-const H_1: Gate = Gate::H { q: 1 };
-
-const X_1: Gate = Gate::X { q: 1 };
-
-const T_1: Gate = Gate::P { k: 1, q: 1 };
-
-const CX_01: Gate = Gate::Cx { c: 0, t: 1 };
-
-const CX_10: Gate = Gate::Cx { c: 1, t: 0 };
-
-const CX_02: Gate = Gate::Cx { c: 0, t: 2 };
-
-const CX_12: Gate = Gate::Cx { c: 1, t: 2 };
-
-/// Each pair with whether it commutes, which it does in either order.
-const PAIRS: [(Gate, Gate, bool); 17] = [
-    (H_0, H_1, true),
-    (H_0, T_1, true),
-    (H_0, CX_12, true),
-    (X_0, X_0, true),
-    (T_0, T_0, true),
-    (T_0, CX_01, true),
-    (X_1, CX_01, true),
-    (CX_01, CX_02, true),
-    (CX_02, CX_12, true),
-    (H_0, H_0, false),
-    (H_0, X_0, false),
-    (H_0, T_0, false),
-    (X_0, T_0, false),
-    (T_1, CX_01, false),
-    (X_0, CX_01, false),
-    (H_1, CX_01, false),
-    (CX_01, CX_10, false),
-];
-
-#[test]
-fn commutes_by_the_table(rt: HostRuntime) {
-    for (a, b, expected) in PAIRS {
-        assert!(rt;
-            commute(a, b) == expected && commute(b, a) == expected,
-            "{a:?} {b:?}"
-        );
+/// The two gates of a row, if they are two.
+fn pair(alloc: Global, row: &str) -> Result<Option<(Gate, Gate)>, AllocError> {
+    let gates = gates_of_text(alloc, field(row, 0))?;
+    match gates.as_slice() {
+        [first, second] => Ok(Some((*first, *second))),
+        _ => Ok(None),
     }
 }
 
-/// Each pair with what it is together.
-const NEIGHBOURS: [(Gate, Gate, Cancel); 12] = [
-    (H_0, H_0, Cancel::Both { turn: 6 }),
-    (X_0, X_0, Cancel::Both { turn: 4 }),
-    (CX_01, CX_01, Cancel::Both { turn: 0 }),
-    (T_0, T_0, Cancel::Merge { k: 2 }),
-    (T_0, Gate::P { k: 7, q: 0 }, Cancel::Both { turn: 0 }),
-    (
-        Gate::P { k: 5, q: 0 },
-        Gate::P { k: 6, q: 0 },
-        Cancel::Merge { k: 3 },
-    ),
-    (H_0, H_1, Cancel::No),
-    (X_0, X_1, Cancel::No),
-    (T_0, T_1, Cancel::No),
-    (H_0, X_0, Cancel::No),
-    (CX_01, CX_10, Cancel::No),
-    (CX_01, CX_02, Cancel::No),
-];
+/// Whether the gates of a row commute as it says, in either order.
+fn is_commuting(alloc: Global, row: &str) -> Result<bool, AllocError> {
+    let Some((a, b)) = pair(alloc, row)? else {
+        return Ok(false);
+    };
+    let wanted = field(row, 1) == "yes";
+    Ok(commute(a, b) == wanted && commute(b, a) == wanted)
+}
+
+/// Two gates, and whether they commute.
+const PAIRS: &str = "\
+h.0 h.1 | yes
+h.0 1.1 | yes
+h.0 c12 | yes
+x.0 x.0 | yes
+1.0 1.0 | yes
+1.0 c01 | yes
+x.1 c01 | yes
+c01 c02 | yes
+c02 c12 | yes
+h.0 h.0 | no
+h.0 x.0 | no
+h.0 1.0 | no
+x.0 1.0 | no
+1.1 c01 | no
+x.0 c01 | no
+h.1 c01 | no
+c01 c10 | no";
 
 #[test]
-fn cancels_by_the_table(rt: HostRuntime) {
-    for (a, b, expected) in NEIGHBOURS {
-        assert_eq!(rt; cancels(a, b), expected, "{a:?} {b:?}");
+fn commutes_by_the_table(rt: HostRuntime) -> Result<(), Fail> {
+    'rows: for row in PAIRS.split('\n') {
+        assert!(rt; is_commuting(rt.alloc(), row)?, "{row}");
     }
+    Ok(())
+}
+
+/// The number behind a word, or one that no row has.
+fn behind(text: &str, word: &str) -> u8 {
+    text.strip_prefix(word)
+        .unwrap_or("none")
+        .parse::<u8>()
+        .unwrap_or(77)
+}
+
+/// Whether two gates are together what a word and a number say.
+fn is_told(found: Cancel, wanted: &str) -> bool {
+    match found {
+        Cancel::No => wanted == "no",
+        Cancel::Merge { k } => k == behind(wanted, "merge "),
+        Cancel::Both { turn } => turn == behind(wanted, "both "),
+    }
+}
+
+fn is_cancelled(alloc: Global, row: &str) -> Result<bool, AllocError> {
+    match pair(alloc, row)? {
+        Some((a, b)) => Ok(is_told(cancels(a, b), field(row, 1))),
+        None => Ok(false),
+    }
+}
+
+/// Two gates, and what they are together: both gone with a turn, or merged to a phase.
+const NEIGHBOURS: &str = "\
+h.0 h.0 | both 6
+x.0 x.0 | both 4
+c01 c01 | both 0
+1.0 1.0 | merge 2
+1.0 7.0 | both 0
+5.0 6.0 | merge 3
+h.0 h.1 | no
+x.0 x.1 | no
+1.0 1.1 | no
+h.0 x.0 | no
+c01 c10 | no
+c01 c02 | no";
+
+#[test]
+fn cancels_by_the_table(rt: HostRuntime) -> Result<(), Fail> {
+    'rows: for row in NEIGHBOURS.split('\n') {
+        assert!(rt; is_cancelled(rt.alloc(), row)?, "{row}");
+    }
+    Ok(())
 }

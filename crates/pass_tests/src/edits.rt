@@ -4,24 +4,30 @@ ghost use Rattle.std.specs.Prelude.{◌≡◌};
 
 use circuit_list::Circuit;
 use rewrite_pass::Change;
-use std::process::Abort;
 use test_circuits::is_fine;
 
-/// Makes the edits, which ascend, from the last to the first.
-pub fn make(rt: &impl Abort, wires: u32, body: &mut Circuit, change: &Change)
+/// Makes the edits, which ascend, from the last to the first. Whether each can be made.
+pub fn make(wires: u32, body: &mut Circuit, change: &Change) -> bool
     requires wires { body.old.wires ≡ wires }
     ensures wires { body.new.wires ≡ wires }
 {
-    assert!(rt; change.count <= 5);
+    if change.count > 5 {
+        return false;
+    }
     'edits: for i in (0..change.count).rev() {
         let edit = change.edits[i];
-        assert!(rt; edit.place < body.len());
+        if edit.place >= body.len() {
+            return false;
+        }
         match edit.put {
             Some(gate) => {
-                assert!(rt; is_fine(wires, gate));
+                if !is_fine(wires, gate) {
+                    return false;
+                }
                 body.replace(edit.place, gate);
             }
             None => body.remove(edit.place),
         }
     }
+    true
 }

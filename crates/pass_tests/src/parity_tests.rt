@@ -1,244 +1,226 @@
 //! Rows by hand, and a slow program beside.
 
-ghost use Rattle.std.specs.Prelude.{◌≡◌, ◌≤◌, IfOk};
-ghost use Rattle.path_parity.specs.Sets.{IsPacked};
+ghost use Rattle.std.specs.Prelude.{◌≤◌, IfOk};
+ghost use Rattle.path_parity.specs.Sets.{IsLabel};
 ghost use Rattle.unitary_model.specs.OddPaths.{first_walk, walked_all};
 ghost use Rattle.unitary_model.specs.Operations.{WiresBelow};
 
-use circuit_list::{Circuit, Gate};
-use path_parity::{Label, Labels, labels_of, odd_paths};
+use crate::rows::field;
+use path_parity::{Label, labels_of, odd_paths};
 use std::alloc::{AllocError, Global};
-use std::process::Abort;
 use std::test::Fail;
+use test_circuits::circuit_of_text;
 use unitary_model::Op;
 use unitary_reference::paths::odd_paths_of;
 
-const T: Gate = Gate::P { k: 1, q: 0 };
+/// The number of a text, or one that no row has.
+fn number_of(text: &str) -> u64 {
+    text.parse::<u64>().unwrap_or(7777)
+}
 
-const H: Gate = Gate::H { q: 0 };
+/// Numbers that stand apart by commas, the first a place, the others the words of a set from there on.
+fn words_of(alloc: Global, text: &str) -> Result<Vec<u64>, AllocError> {
+    let mut words = Vec::new(alloc);
+    if text.is_empty() {
+        return Ok(words);
+    }
+    'words: for word in text.split(',') {
+        words.push(number_of(word))?;
+    }
+    Ok(words)
+}
 
-const X: Gate = Gate::X { q: 0 };
+/// Whether a label has the set of a text, and the bit where `!` stands before it.
+fn is_label(alloc: Global, label: &Label, text: &str) -> Result<bool, AllocError> {
+    let (set, bit) = match text.strip_prefix('!') {
+        Some(set) => (set, true),
+        None => (text, false),
+    };
+    Ok(label.bit == bit && label.set.as_slice() == words_of(alloc, set)?.as_slice())
+}
 
-const CX: Gate = Gate::Cx { c: 0, t: 1 };
-
-const BELOW: Gate = Gate::P { k: 1, q: 1 };
-
-/// Puts a gate behind the others if it may stand in the circuit.
-fn put(circuit: &mut Circuit, gate: Gate) -> Result<(), AllocError> {
-    let wires = circuit.wires();
-    match gate {
-        Gate::H { q } | Gate::X { q } => {
-            if q < wires {
-                circuit.push(gate)?;
-            }
-        }
-        Gate::P { k, q } => {
-            if q < wires && k > 0 && k < 8 {
-                circuit.push(gate)?;
-            }
-        }
-        Gate::Cx { c, t } => {
-            if c < wires && t < wires && c != t {
-                circuit.push(gate)?;
-            }
+/// Whether the gates of a row have its labels.
+fn has_labels(alloc: Global, row: &str) -> Result<bool, AllocError> {
+    let Some(body) = circuit_of_text(alloc, 3, field(row, 0))? else {
+        return Ok(false);
+    };
+    let labels = labels_of(alloc, &body)?;
+    'labels: for (at, label) in labels.list.iter().enumerate() {
+        let wanted = field(row, 2).split(' ').nth(at).unwrap_or("none");
+        if !is_label(alloc, label, wanted)? {
+            return Ok(false);
         }
     }
-    Ok(())
+    Ok(labels.list.len() as u64 == number_of(field(row, 1)))
 }
 
-/// A circuit on three wires.
-fn circuit_of(alloc: Global, gates: &[Gate]) -> Result<Circuit, AllocError> {
-    let mut circuit = Circuit::empty(alloc, 3)?;
-    for gate in gates {
-        put(&mut circuit, *gate)?;
-    }
-    Ok(circuit)
-}
+/// Gates on three wires, the number of the labels, and the labels. Variables 0 to 2 are those of the wires, so the first H
+/// gives variable 3.
+const LABELS: &str = "\
+- | 0 | -
+1.0 h.0 h.0 1.0 | 2 | 0,1 0,16
+1.0 x.0 1.0 | 2 | 0,1 !0,1
+h.0 x.0 c01 1.1 c01 1.1 | 2 | !0,10 0,2";
 
-fn labels(alloc: Global, gates: &[Gate]) -> Result<Labels, AllocError> {
-    labels_of(alloc, &circuit_of(alloc, gates)?)
-}
-
-fn odd(alloc: Global, gates: &[Gate]) -> Result<u64, AllocError> {
-    odd_paths(alloc, &circuit_of(alloc, gates)?)
-}
-
-/// Whether the label at a place has this set and this bit.
-fn has(labels: &Labels, place: usize, set: &[u64], bit: bool) -> bool {
-    match labels.list.get(place) {
-        Some(label) => label.set.as_slice() == set && label.bit == bit,
-        None => false,
-    }
-}
-
-// Variables 0 to 2 are those of the wires, so the first H gives variable 3.
 #[test]
 fn labels_by_hand(rt: HostRuntime) -> Result<(), Fail> {
-    let alloc = rt.alloc();
-    assert_eq!(rt; labels(alloc, &[])?.list.len(), 0);
-    let twice = labels(alloc, &[T, H, H, T])?;
-    assert_eq!(rt; twice.list.len(), 2);
-    assert!(rt; has(&twice, 0, &[0, 0b1], false) && has(&twice, 1, &[0, 0b10000], false));
-    let turned = labels(alloc, &[T, X, T])?;
-    assert_eq!(rt; turned.list.len(), 2);
-    assert!(rt; has(&turned, 0, &[0, 0b1], false) && has(&turned, 1, &[0, 0b1], true));
-    let added = labels(alloc, &[H, X, CX, BELOW, CX, BELOW])?;
-    assert_eq!(rt; added.list.len(), 2);
-    assert!(rt; has(&added, 0, &[0, 0b1010], true) && has(&added, 1, &[0, 0b10], false));
+    'rows: for row in LABELS.split('\n') {
+        assert!(rt; has_labels(rt.alloc(), row)?, "{row}");
+    }
     Ok(())
 }
 
-/// The label of a row.
-fn label_of_row(alloc: Global, row: &[u64]) -> Result<Label, AllocError>
-    ensures { IfOk result (λ l. l.set.items ≡ row.now) }
-{
-    let set = Vec::from_slice(alloc, row)?;
+/// A label of any words, to be written anew.
+fn other_label(alloc: Global) -> Result<Label, AllocError> {
+    let set = Vec::from_slice(alloc, &[9, 8, 7])?;
     Ok(Label { set, bit: false })
 }
 
-/// Whether a variable alone has this row, written where another row was.
-fn is_single(alloc: Global, variable: u64, row: &[u64]) -> Result<bool, AllocError> {
-    let mut written = label_of_row(alloc, &[9, 8, 7])?;
-    written.write_fresh(variable)?;
-    Ok(written.set.as_slice() == row)
+/// Whether a variable alone has the words of a row, written where other words were.
+fn is_single(alloc: Global, row: &str) -> Result<bool, AllocError> {
+    let mut written = other_label(alloc)?;
+    written.write_fresh(number_of(field(row, 0)))?;
+    Ok(written.set.as_slice() == words_of(alloc, field(row, 1))?.as_slice())
 }
 
-// Variable 63 is the last of the word at place 0, and 64 the first of that at place 1.
+/// A variable and its words: 63 is the last of the word at place 0, and 64 the first of that at place 1.
+const SINGLES: &str = "\
+0 | 0,1
+63 | 0,9223372036854775808
+64 | 1,1
+18446744073709551615 | 288230376151711743,9223372036854775808";
+
 #[test]
 fn single_variables(rt: HostRuntime) -> Result<(), Fail> {
-    let alloc = rt.alloc();
-    assert!(rt; is_single(alloc, 0, &[0, 1])?);
-    assert!(rt; is_single(alloc, 63, &[0, 1 << 63])?);
-    assert!(rt; is_single(alloc, 64, &[1, 1])?);
-    assert!(rt; is_single(alloc, u64::MAX, &[0x03ff_ffff_ffff_ffff, 1 << 63])?);
+    'rows: for row in SINGLES.split('\n') {
+        assert!(rt; is_single(rt.alloc(), row)?, "{row}");
+    }
     Ok(())
 }
 
-/// Whether a row is the sum of two others, written where another row was.
-fn is_sum(alloc: Global, xs: &[u64], ys: &[u64], sum: &[u64]) -> Result<bool, AllocError>
-    requires left { IsPacked xs.now }
-    requires right { IsPacked ys.now }
+/// A label with one variable more, or one fewer.
+fn toggled(alloc: Global, label: &Label, variable: u64) -> Result<Label, AllocError>
+    requires packed { IsLabel label.now }
+    ensures packed { IfOk result IsLabel }
 {
-    let left = label_of_row(alloc, xs)?;
-    let right = label_of_row(alloc, ys)?;
-    let mut written = label_of_row(alloc, &[9, 8, 7])?;
-    written.write_sum(&left, &right)?;
+    let single = Label::fresh(alloc, variable)?;
+    let mut sum = Label::fresh(alloc, variable)?;
+    sum.write_sum(label, &single)?;
+    Ok(sum)
+}
+
+/// The label of a set, variable by variable.
+fn label_of(alloc: Global, set: &[u64]) -> Result<Label, AllocError>
+    ensures packed { IfOk result IsLabel }
+{
+    let single = Label::fresh(alloc, 0)?;
+    let mut label = toggled(alloc, &single, 0)?;
+    let Some((from, words)) = set.split_first() else {
+        return Ok(label);
+    };
+    'variables: for number in 0..words.len().saturating_mul(64) {
+        let word = words.get(number / 64).copied().unwrap_or(0);
+        if (word >> (number % 64)) & 1 == 1 {
+            let variable = from.saturating_mul(64).saturating_add(number as u64);
+            label = toggled(alloc, &label, variable)?;
+        }
+    }
+    Ok(label)
+}
+
+/// Whether a set is the sum of two labels, written where other words were.
+fn is_sum(alloc: Global, left: &Label, right: &Label, sum: &[u64]) -> Result<bool, AllocError>
+    requires left { IsLabel left.now }
+    requires right { IsLabel right.now }
+{
+    let mut written = other_label(alloc)?;
+    written.write_sum(left, right)?;
     Ok(written.set.as_slice() == sum)
 }
 
-/// Whether two rows add up to a third, whichever stands first, and the third and either to the other.
-fn adds_up(alloc: Global, xs: &[u64], ys: &[u64], sum: &[u64]) -> Result<bool, AllocError>
-    requires left { IsPacked xs.now }
-    requires right { IsPacked ys.now }
-    requires sum { IsPacked sum.now }
-{
+/// Whether two sets add up to the third of a row, whichever stands first, and the third and either to the other.
+fn adds_up(alloc: Global, row: &str) -> Result<bool, AllocError> {
+    let xs = words_of(alloc, field(row, 0))?;
+    let ys = words_of(alloc, field(row, 1))?;
+    let zs = words_of(alloc, field(row, 2))?;
+    let (left, right) = (label_of(alloc, &xs)?, label_of(alloc, &ys)?);
+    let sum = label_of(alloc, &zs)?;
+    let are_built = left.set.as_slice() == xs.as_slice()
+        && right.set.as_slice() == ys.as_slice()
+        && sum.set.as_slice() == zs.as_slice();
     Ok(
-        is_sum(alloc, xs, ys, sum)?
-            && is_sum(alloc, ys, xs, sum)?
-            && is_sum(alloc, sum, ys, xs)?
-            && is_sum(alloc, xs, sum, ys)?,
+        are_built
+            && is_sum(alloc, &left, &right, &zs)?
+            && is_sum(alloc, &right, &left, &zs)?
+            && is_sum(alloc, &sum, &right, &xs)?
+            && is_sum(alloc, &left, &sum, &ys)?,
     )
 }
 
-// Rows that are apart, that touch, that overlap, and of which one lies within the other; words that become 0 are cut off at
-// both ends, and stay in the middle.
+/// Two sets and their sum. Sets that are apart, that touch, that overlap, and of which one lies within the other; words that
+/// become 0 are cut off at both ends, and stay in the middle. Then sets of seven, eight, nine and seventeen words; and of nine
+/// that begin one place later.
+const SUMS: &str = "\
+- | - | -
+7,1,2 | - | 7,1,2
+0,1 | 3,256 | 0,1,0,0,256
+2,5,6 | 4,7 | 2,5,6,7
+2,5,6,7 | 3,5,3,9 | 2,5,3,4,9
+2,5,6,7 | 3,6 | 2,5,0,7
+2,5,6,7,9 | 2,5,6,1,9 | 4,6
+2,5,6 | 2,5,6,0,8 | 5,8
+3,1,2,3,4,5,6,7 | 3,64,64,64,64,64,64,64 | 3,65,66,67,68,69,70,71
+3,1,2,3,4,5,6,7,8 | 3,64,64,64,64,64,64,64,64 | 3,65,66,67,68,69,70,71,72
+3,1,2,3,4,5,6,7,8,9 | 3,64,64,64,64,64,64,64,64,64 | 3,65,66,67,68,69,70,71,72,73
+3,1,2,3,4,5,6,7,8,9,10,11,12,13,14,15,16,17 | 3,64,64,64,64,64,64,64,64,64,64,64,64,64,64,64,64,64 | 3,65,66,67,68,69,70,71,72,73,74,75,76,77,78,79,80,81
+3,1,2,3,4,5,6,7,8,9,10 | 4,64,64,64,64,64,64,64,64,64 | 3,1,66,67,68,69,70,71,72,73,74";
+
 #[test]
 fn sums_by_hand(rt: HostRuntime) -> Result<(), Fail> {
-    let alloc = rt.alloc();
-    assert!(rt; adds_up(alloc, &[], &[], &[])?);
-    assert!(rt; adds_up(alloc, &[7, 1, 2], &[], &[7, 1, 2])?);
-    assert!(rt; adds_up(alloc, &[0, 1], &[3, 1 << 8], &[0, 1, 0, 0, 1 << 8])?);
-    assert!(rt; adds_up(alloc, &[2, 5, 6], &[4, 7], &[2, 5, 6, 7])?);
-    assert!(rt; adds_up(alloc, &[2, 5, 6, 7], &[3, 5, 3, 9], &[2, 5, 3, 4, 9])?);
-    assert!(rt; adds_up(alloc, &[2, 5, 6, 7], &[3, 6], &[2, 5, 0, 7])?);
-    assert!(rt; adds_up(alloc, &[2, 5, 6, 7, 9], &[2, 5, 6, 1, 9], &[4, 6])?);
-    assert!(rt; adds_up(alloc, &[2, 5, 6], &[2, 5, 6, 0, 8], &[5, 8])?);
+    'rows: for row in SUMS.split('\n') {
+        assert!(rt; adds_up(rt.alloc(), row)?, "{row}");
+    }
     Ok(())
 }
 
-// Rows of seven, eight, nine and seventeen words; and of nine that begin one place behind.
-#[test]
-fn long_sums_by_hand(rt: HostRuntime) -> Result<(), Fail> {
-    let alloc = rt.alloc();
-    assert!(rt;
-        adds_up(
-            alloc,
-            &[3, 1, 2, 3, 4, 5, 6, 7],
-            &[3, 64, 64, 64, 64, 64, 64, 64],
-            &[3, 65, 66, 67, 68, 69, 70, 71]
-        )?
-    );
-    assert!(rt;
-        adds_up(
-            alloc,
-            &[3, 1, 2, 3, 4, 5, 6, 7, 8],
-            &[3, 64, 64, 64, 64, 64, 64, 64, 64],
-            &[3, 65, 66, 67, 68, 69, 70, 71, 72]
-        )?
-    );
-    assert!(rt;
-        adds_up(
-            alloc,
-            &[3, 1, 2, 3, 4, 5, 6, 7, 8, 9],
-            &[3, 64, 64, 64, 64, 64, 64, 64, 64, 64],
-            &[3, 65, 66, 67, 68, 69, 70, 71, 72, 73]
-        )?
-    );
-    assert!(rt;
-        adds_up(
-            alloc,
-            &[3, 1, 2, 3, 4, 5, 6, 7, 8, 9, 10, 11, 12, 13, 14, 15, 16, 17],
-            &[
-                3, 64, 64, 64, 64, 64, 64, 64, 64, 64, 64, 64, 64, 64, 64, 64, 64, 64
-            ],
-            &[
-                3, 65, 66, 67, 68, 69, 70, 71, 72, 73, 74, 75, 76, 77, 78, 79, 80, 81
-            ]
-        )?
-    );
-    assert!(rt;
-        adds_up(
-            alloc,
-            &[3, 1, 2, 3, 4, 5, 6, 7, 8, 9, 10],
-            &[4, 64, 64, 64, 64, 64, 64, 64, 64, 64],
-            &[3, 1, 66, 67, 68, 69, 70, 71, 72, 73, 74]
-        )?
-    );
-    Ok(())
+/// Whether the gates of a row have so many odd path parities.
+fn has_odd_paths(alloc: Global, row: &str) -> Result<bool, AllocError> {
+    match circuit_of_text(alloc, 3, field(row, 0))? {
+        Some(body) => Ok(odd_paths(alloc, &body)? == number_of(field(row, 1))),
+        None => Ok(false),
+    }
 }
+
+/// Gates on three wires, and how many odd path parities they have.
+const ODD_PATHS: &str = "\
+- | 0
+1.0 1.0 | 0
+1.0 h.0 h.0 1.0 | 2
+1.0 x.0 1.0 | 0
+1.1 c01 1.1 c01 1.1 | 1";
 
 #[test]
 fn odd_paths_by_hand(rt: HostRuntime) -> Result<(), Fail> {
-    let alloc = rt.alloc();
-    assert_eq!(rt; odd(alloc, &[])?, 0);
-    assert_eq!(rt; odd(alloc, &[T, T])?, 0);
-    assert_eq!(rt; odd(alloc, &[T, H, H, T])?, 2);
-    assert_eq!(rt; odd(alloc, &[T, X, T])?, 0);
-    assert_eq!(rt; odd(alloc, &[BELOW, CX, BELOW, CX, BELOW])?, 1);
+    'rows: for row in ODD_PATHS.split('\n') {
+        assert!(rt; has_odd_paths(rt.alloc(), row)?, "{row}");
+    }
     Ok(())
 }
 
 /// Whether a circuit on three wires and its operations have as many odd path parities as the slow program counts.
-fn agrees(alloc: Global, gates: &[Gate], ops: &[Op]) -> Result<bool, AllocError>
+fn agrees(alloc: Global, gates: &str, ops: &[Op]) -> Result<bool, AllocError>
     requires below { WiresBelow 3 ops.now }
     requires variables { (walked_all ops.now (first_walk 3)).unused ≤ 64 }
 {
-    Ok(odd(alloc, gates)? == odd_paths_of(alloc, 3, ops)? as u64)
+    let Some(body) = circuit_of_text(alloc, 3, gates)? else {
+        return Ok(false);
+    };
+    Ok(odd_paths(alloc, &body)? == odd_paths_of(alloc, 3, ops)? as u64)
 }
 
 #[test]
 fn agrees_with_the_slow_program(rt: HostRuntime) -> Result<(), Fail> {
-    let gates = [
-        Gate::Cx { c: 1, t: 0 },
-        Gate::P { k: 7, q: 2 },
-        Gate::P { k: 7, q: 1 },
-        Gate::P { k: 1, q: 0 },
-        Gate::P { k: 1, q: 0 },
-        Gate::H { q: 1 },
-        Gate::Cx { c: 2, t: 0 },
-        Gate::P { k: 1, q: 2 },
-        Gate::Cx { c: 2, t: 1 },
-    ];
+    let gates = "c10 7.2 7.1 1.0 1.0 h.1 c20 1.2 c21";
     let ops = [
         Op::Cx { c: 1, t: 0 },
         Op::U {
@@ -280,23 +262,13 @@ fn agrees_with_the_slow_program(rt: HostRuntime) -> Result<(), Fail> {
         },
         Op::Cx { c: 2, t: 1 },
     ];
-    assert!(rt; agrees(rt.alloc(), &gates, &ops)?);
+    assert!(rt; agrees(rt.alloc(), gates, &ops)?);
     Ok(())
 }
 
 #[test]
 fn agrees_with_the_slow_program_again(rt: HostRuntime) -> Result<(), Fail> {
-    let gates = [
-        Gate::P { k: 3, q: 2 },
-        Gate::P { k: 7, q: 2 },
-        Gate::X { q: 0 },
-        Gate::H { q: 1 },
-        Gate::P { k: 3, q: 0 },
-        Gate::Cx { c: 1, t: 2 },
-        Gate::P { k: 3, q: 0 },
-        Gate::X { q: 2 },
-        Gate::P { k: 1, q: 0 },
-    ];
+    let gates = "3.2 7.2 x.0 h.1 3.0 c12 3.0 x.2 1.0";
     let ops = [
         Op::U {
             a: 0,
@@ -348,6 +320,6 @@ fn agrees_with_the_slow_program_again(rt: HostRuntime) -> Result<(), Fail> {
             q: 0,
         },
     ];
-    assert!(rt; agrees(rt.alloc(), &gates, &ops)?);
+    assert!(rt; agrees(rt.alloc(), gates, &ops)?);
     Ok(())
 }

@@ -1,29 +1,18 @@
-//! Tests of the whole program, by `run` of `qroute_top` over ends in memory: what each command writes and tells.
+//! Tests of the whole program, by `run` of `qroute_top` over ends in memory: what only such ends can show.
+//!
+//! An end in memory fails at the call that it is told, gives and takes as few bytes a call, and knows whether it was flushed.
+//! What the program makes of a text and a device stands in `cases/`, as runs of the built program.
 //!
 //! Each test function is proved too, so they stand in a crate of their own: `qroute_top` is proved once.
 #![tactic(auto)]
 
 #[cfg(test)]
-mod bench_tests;
+mod ends_tests;
 #[cfg(test)]
-mod cases_tests;
+mod pieces_tests;
 #[cfg(test)]
-mod literature_tests;
+mod runs_tests;
 #[cfg(test)]
-mod opt_tests;
-#[cfg(test)]
-mod parts_tests;
-#[cfg(test)]
-mod read_tests;
-#[cfg(test)]
-mod route_tests;
-#[cfg(test)]
-mod spares_tests;
-#[cfg(test)]
-mod stop_tests;
-#[cfg(test)]
-mod traced_tests;
-#[cfg(test)]
-mod verify_tests;
+mod system_tests;
 #[cfg(test)]
 mod walk_tests;

@@ -1,11 +1,10 @@
-//! `opt` against its passes one by one in their written order, and against another program's texts.
+//! `opt` against its passes one by one in their written order.
 
 ghost use Rattle.std.specs.Prelude.{◌<◌, ◌≤◌, All, IfOk};
 ghost use Rattle.gate_expand.specs.Expansion.{IsFineOp};
 ghost use Rattle.unitary_model.specs.Limits.{most_qubits};
 
-use crate::bench_tests::text_of;
-use crate::cases_tests::{HEAD, run_opt};
+use crate::runs_tests::{Case, HEAD, run_case};
 use bench_program::made;
 use circuit_list::{Circuit, Gate, Passed};
 use gate_cancel::CancelPass;
@@ -17,6 +16,7 @@ use rewrite_pass::Pass;
 use rotation_merge::MergePass;
 use std::alloc::{AllocError, Global};
 use std::test::Fail;
+use unitary_model::Op;
 
 /// What one more pass makes.
 fn after<P: Pass>(alloc: Global, before: Passed, pass: &P) -> Result<Passed, AllocError> {
@@ -106,81 +106,60 @@ fn drawn_ops(alloc: Global, start: u32, wires: u32) -> Result<Ops, AllocError>
     Ok(ops)
 }
 
-/// Programs that are drawn for 2 to 5 wires: the gates and the turn are those of the passes one by one.
-#[test]
-fn keeps_the_order_of_the_passes(rt: HostRuntime) -> Result<(), Fail> {
-    let alloc = rt.alloc();
-    'starts: for start in 0..120u32 {
-        let program = drawn_ops(alloc, start, start % 4 + 2)?;
-        let rounded = rounds(alloc, expand(alloc, &program)?)?;
-        let Passed { body, turn } = settled(alloc, after(alloc, rounded, &ResynthPass)?)?;
-        let got = run_opt(alloc, &rt, text_of(alloc, &program)?.as_str())?;
-        let want = circuit_text(alloc, &body)?;
-        assert_eq!(rt; got.out.as_slice(), want.as_bytes(), "{start}");
-        let told = str::from_utf8(&got.report).expect(&rt, "a report in UTF-8");
-        let phase = format!(in alloc; "\"phase\":{turn},")?;
-        assert!(rt; told.contains(phase.as_str()), "{start}");
-    }
-    Ok(())
-}
-
-/// The next number below a limit: the upper 31 bits of a linear congruence modulo 2^64.
-fn draw(state: &mut u64, limit: u32) -> u32 {
-    *state = state
-        .wrapping_mul(6_364_136_223_846_793_005)
-        .wrapping_add(1_442_695_040_888_963_407);
-    (*state >> 33) as u32 % limit.max(1)
-}
-
-/// A program of so many gates, each of one of the kinds, on drawn wires.
-fn drawn(alloc: Global, row: (u64, u32, u32, &str)) -> Result<String, AllocError> {
-    let (start, wires, gates, kinds) = row;
-    let mut state = start;
-    let mut text = format!(in alloc; "{HEAD}qreg q[{wires}];\n")?;
-    'gates: for _ in 0..gates {
-        let kind = draw(&mut state, 8) as usize;
-        let name = kinds.split(' ').nth(kind).unwrap_or("h");
-        let wire = draw(&mut state, wires);
-        if name == "cx" {
-            let steps = u64::from(draw(&mut state, wires.saturating_sub(1)));
-            let target = (u64::from(wire) + 1 + steps) % u64::from(wires.max(1));
-            write!(text, "cx q[{wire}],q[{target}];\n")?;
-        } else {
-            write!(text, "{name} q[{wire}];\n")?;
+/// The text of a program whose gates are those that are drawn.
+fn text_of(alloc: Global, program: &Ops) -> Result<String, AllocError> {
+    let qubits = program.wires;
+    let mut text = format!(in alloc; "{HEAD}qreg q[{qubits}];\n")?;
+    'gates: for op in program.list.as_slice() {
+        match *op {
+            Op::Cx { c, t } => write!(text, "cx q[{c}],q[{t}];\n")?,
+            Op::U { a, b: _, c, q } => write!(text, "{} q[{q}];\n", name_of(a, c))?,
         }
     }
     Ok(text)
 }
 
-/// The checksum of bytes by Fowler, Noll and Vo (1a, 64 bits), behind that of others.
-fn checksum(before: u64, bytes: &[u8]) -> u64 {
-    let mut sum = before;
-    'bytes: for byte in bytes {
-        sum = (sum ^ u64::from(*byte)).wrapping_mul(0x100_0000_01b3);
+/// The name of a drawn gate on one wire.
+fn name_of(a: u8, c: u8) -> &'static str {
+    match (a, c) {
+        (2, 4) => "h",
+        (4, 4) => "x",
+        (0, 1) => "t",
+        (0, 2) => "s",
+        (0, 7) => "tdg",
+        _ => "none",
     }
-    sum
 }
 
-/// Starts, wires, gates, the eight kinds that they are drawn from, and the checksum of output and report as another program,
-/// made apart from this one from its specification, has them.
+/// Whether `opt` writes the gates that the passes make one by one of a drawn program, and tells their turn.
+fn keeps_order(alloc: Global, start: u32) -> Result<bool, AllocError> {
+    let program = drawn_ops(alloc, start, start % 4 + 2)?;
+    let rounded = rounds(alloc, expand(alloc, &program)?)?;
+    let Passed { body, turn } = settled(alloc, after(alloc, rounded, &ResynthPass)?)?;
+    let text = text_of(alloc, &program)?;
+    let case = Case {
+        words: "qroute opt",
+        text: text.as_str().as_bytes(),
+        shelf: [("", ""), ("", ""), ("", "")],
+        fails: [0, 1, 0, 0],
+        most: [64, 16, 9999],
+    };
+    let got = run_case(alloc, case)?;
+    let want = circuit_text(alloc, &body)?;
+    let phase = format!(in alloc; "\"phase\":{turn},")?;
+    let told = str::from_utf8(&got.report).unwrap_or("");
+    Ok(
+        got.status == 0
+            && got.out.as_slice() == want.as_str().as_bytes()
+            && told.contains(phase.as_str()),
+    )
+}
+
+/// Programs that are drawn for 2 to 5 wires: the gates and the turn are those of the passes one by one.
 #[test]
-fn writes_what_another_program_writes(rt: HostRuntime) -> Result<(), Fail> {
-    let alloc = rt.alloc();
-    let rows = [
-        (1, 3, 60, "h t tdg s x cx cx cx", 0xe6a7_3702_4cef_cb35),
-        (2, 4, 100, "h t cx cx s cx x cx", 0xcc13_e041_7f8e_d469),
-        (3, 5, 140, "h t tdg s x cx cx cx", 0xd63a_3c8e_37aa_c477),
-        (4, 5, 200, "h t cx cx s cx tdg cx", 0xbbe5_ba18_eee8_102a),
-        (5, 6, 240, "h t cx cx x cx cx cx", 0x1ebe_cb04_aceb_adf6),
-        (6, 7, 300, "h t tdg s x cx cx cx", 0x744a_aacf_74e2_013b),
-        (7, 8, 300, "h t cx cx s cx cx cx", 0xb33e_cf58_1808_86af),
-        (8, 8, 180, "h s cx x tdg cx t h", 0x2640_3cf6_81aa_93de),
-    ];
-    'rows: for (start, wires, gates, kinds, want) in rows {
-        let text = drawn(alloc, (start, wires, gates, kinds))?;
-        let got = run_opt(alloc, &rt, text.as_str())?;
-        let sum = checksum(0xcbf2_9ce4_8422_2325, &got.out);
-        assert_eq!(rt; checksum(sum, &got.report), want, "{start}");
+fn keeps_the_order_of_the_passes(rt: HostRuntime) -> Result<(), Fail> {
+    'starts: for start in 0..120u32 {
+        assert!(rt; keeps_order(rt.alloc(), start)?, "{start}");
     }
     Ok(())
 }

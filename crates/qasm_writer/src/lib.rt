@@ -144,6 +144,3 @@ fn write_lines<S: Sink>(
     put_lines(output, q, wires, buffer, sink)?;
     send_buffer(buffer, sink)
 }
-
-#[cfg(test)]
-mod tests;

@@ -1,102 +1,138 @@
 //! Small cases of each rule, worked by hand.
 
-use angle_fraction::{Angle, AngleFault, add, div, eighths, lowest, mul, neg, pow, sub};
-use std::process::Abort;
+use crate::rows::{number, word};
+use angle_fraction::{Angle, AngleFault, Frac, add, div, eighths, lowest, mul, neg, pow, sub};
+use std::test::Fail;
 
-const BIG: i128 = 1 << 62;
-
-/// The angle of a plain fraction and a fraction of pi.
-fn angle(rt: &impl Abort, parts: [i128; 4]) -> Angle {
-    let [a, b, c, d] = parts;
-    assert!(rt; b > 0 && d > 0);
-    let plain = lowest(a, b).expect(rt, "the plain part fits");
-    let pis = lowest(c, d).expect(rt, "the part with pi fits");
-    Angle { plain, pis }
+/// The number of a text, or one that no row has.
+fn large(text: &str) -> i128 {
+    text.parse::<i128>().unwrap_or(7777)
 }
 
-#[test]
-fn sums_and_products(rt: HostRuntime) {
-    let half = angle(&rt, [1, 2, 0, 1]);
-    let third = angle(&rt, [1, 3, 0, 1]);
-    let pi = angle(&rt, [0, 1, 1, 1]);
-    let two_pi = angle(&rt, [0, 1, 2, 1]);
-    let both = angle(&rt, [1, 1, 1, 4]);
-    let big = angle(&rt, [BIG, 1, 0, 1]);
-    let one = angle(&rt, [1, 1, 0, 1]);
-    let nought = angle(&rt, [0, 1, 0, 1]);
-
-    assert_eq!(rt; add(&half, &third), Ok(angle(&rt, [5, 6, 0, 1])));
-    assert_eq!(rt; add(&both, &pi), Ok(angle(&rt, [1, 1, 5, 4])));
-    assert_eq!(rt; sub(&half, &third), Ok(angle(&rt, [1, 6, 0, 1])));
-    assert_eq!(rt; neg(&both), Ok(angle(&rt, [-1, 1, -1, 4])));
-    assert_eq!(rt; mul(&half, &both), Ok(angle(&rt, [1, 2, 1, 8])));
-    assert_eq!(rt; mul(&pi, &both), Err(AngleFault::Form));
-    assert_eq!(rt; div(&two_pi, &pi), Ok(angle(&rt, [2, 1, 0, 1])));
-    assert_eq!(rt; div(&both, &half), Ok(angle(&rt, [2, 1, 1, 2])));
-    assert_eq!(rt; div(&nought, &pi), Ok(nought));
-    assert_eq!(rt; div(&nought, &both), Err(AngleFault::Form));
-    assert_eq!(rt; div(&half, &pi), Err(AngleFault::Form));
-    assert_eq!(rt; div(&pi, &nought), Err(AngleFault::ZeroDivisor));
-    assert_eq!(rt; sub(&big, &one), Ok(angle(&rt, [BIG - 1, 1, 0, 1])));
-    assert_eq!(rt; add(&big, &nought), Ok(big));
-    assert_eq!(rt; add(&big, &one), Err(AngleFault::Range));
-}
-
-#[test]
-fn powers_and_eighths(rt: HostRuntime) {
-    let two = angle(&rt, [2, 1, 0, 1]);
-    let minus_two = angle(&rt, [-2, 1, 0, 1]);
-    let minus_one = angle(&rt, [-1, 1, 0, 1]);
-    let three_halves = angle(&rt, [3, 2, 0, 1]);
-    let pi = angle(&rt, [0, 1, 1, 1]);
-    let nought = angle(&rt, [0, 1, 0, 1]);
-    let one = angle(&rt, [1, 1, 0, 1]);
-    let big = angle(&rt, [BIG, 1, 0, 1]);
-    let sixty_two = angle(&rt, [62, 1, 0, 1]);
-    let sixty_three = angle(&rt, [63, 1, 0, 1]);
-
-    assert_eq!(rt; pow(&three_halves, &two), Ok(angle(&rt, [9, 4, 0, 1])));
-    assert_eq!(rt;
-        pow(&three_halves, &minus_two),
-        Ok(angle(&rt, [4, 9, 0, 1]))
-    );
-    assert_eq!(rt; pow(&minus_two, &minus_one), Ok(angle(&rt, [-1, 2, 0, 1])));
-    assert_eq!(rt; pow(&minus_one, &big), Ok(one));
-    assert_eq!(rt; pow(&nought, &big), Ok(nought));
-    assert_eq!(rt; pow(&nought, &nought), Ok(one));
-    assert_eq!(rt; pow(&nought, &minus_one), Err(AngleFault::ZeroDivisor));
-    assert_eq!(rt; pow(&pi, &one), Ok(pi));
-    assert_eq!(rt; pow(&pi, &nought), Ok(one));
-    assert_eq!(rt; pow(&pi, &two), Err(AngleFault::Form));
-    assert_eq!(rt; pow(&two, &three_halves), Err(AngleFault::Form));
-    assert_eq!(rt; pow(&two, &sixty_two), Ok(big));
-    assert_eq!(rt; pow(&two, &sixty_three), Err(AngleFault::Range));
-    assert_eq!(rt; pow(&three_halves, &big), Err(AngleFault::Range));
-
-    // k pi/4 for k from -9 to 9
-    for (k, eighth) in [
-        (-9, 7),
-        (-8, 0),
-        (-7, 1),
-        (-3, 5),
-        (-1, 7),
-        (0, 0),
-        (1, 1),
-        (7, 7),
-        (8, 0),
-        (9, 1),
-    ] {
-        assert_eq!(rt;
-            eighths(&angle(&rt, [0, 1, k, 4])),
-            Some(eighth),
-            "{k} eighths"
-        );
+/// The fraction of a text, as `5/6` or `-2`.
+fn fraction(text: &str) -> Option<Frac> {
+    let (num, den) = text.split_once('/').unwrap_or((text, "1"));
+    let den = large(den);
+    if den <= 0 {
+        return None;
     }
-    assert_eq!(rt; eighths(&angle(&rt, [0, 1, 1, 3])), None);
-    assert_eq!(rt;
-        eighths(&angle(&rt, [7853981633974483, 10000000000000000, 0, 1])),
-        None
-    );
-    assert_eq!(rt; eighths(&angle(&rt, [1, 1, 1, 4])), None);
-    assert_eq!(rt; eighths(&angle(&rt, [0, 1, BIG, 1])), Some(0));
+    lowest(large(num), den).ok()
+}
+
+/// The angle of a plain fraction and a fraction of pi, as `1/2,0`.
+fn angle(text: &str) -> Option<Angle> {
+    let (plain, pis) = text.split_once(',')?;
+    Some(Angle {
+        plain: fraction(plain)?,
+        pis: fraction(pis)?,
+    })
+}
+
+/// What a rule gives of two angles.
+fn found(rule: &str, a: &Angle, b: &Angle) -> Result<Angle, AngleFault> {
+    if rule == "add" {
+        add(a, b)
+    } else if rule == "sub" {
+        sub(a, b)
+    } else if rule == "mul" {
+        mul(a, b)
+    } else if rule == "div" {
+        div(a, b)
+    } else if rule == "pow" {
+        pow(a, b)
+    } else {
+        neg(a)
+    }
+}
+
+/// Whether this is found: an angle, or a fault.
+fn is_found(found: Result<Angle, AngleFault>, wanted: &str) -> bool {
+    match found {
+        Ok(found) => angle(wanted) == Some(found),
+        Err(AngleFault::Form) => wanted == "Form",
+        Err(AngleFault::ZeroDivisor) => wanted == "ZeroDivisor",
+        Err(AngleFault::Range) => wanted == "Range",
+    }
+}
+
+fn is_row(row: &str) -> bool {
+    match (angle(word(row, 1)), angle(word(row, 2))) {
+        (Some(a), Some(b)) => is_found(found(word(row, 0), &a, &b), word(row, 3)),
+        _ => false,
+    }
+}
+
+/// A rule, two angles, and what comes out; `neg` looks at the first alone.
+const RULES: &str = "\
+add 1/2,0 1/3,0 5/6,0
+add 1,1/4 0,1 1,5/4
+sub 1/2,0 1/3,0 1/6,0
+neg 1,1/4 0,0 -1,-1/4
+mul 1/2,0 1,1/4 1/2,1/8
+mul 0,1 1,1/4 Form
+div 0,2 0,1 2,0
+div 1,1/4 1/2,0 2,1/2
+div 0,0 0,1 0,0
+div 0,0 1,1/4 Form
+div 1/2,0 0,1 Form
+div 0,1 0,0 ZeroDivisor
+sub 4611686018427387904,0 1,0 4611686018427387903,0
+add 4611686018427387904,0 0,0 4611686018427387904,0
+add 4611686018427387904,0 1,0 Range
+pow 3/2,0 2,0 9/4,0
+pow 3/2,0 -2,0 4/9,0
+pow -2,0 -1,0 -1/2,0
+pow -1,0 4611686018427387904,0 1,0
+pow 0,0 4611686018427387904,0 0,0
+pow 0,0 0,0 1,0
+pow 0,0 -1,0 ZeroDivisor
+pow 0,1 1,0 0,1
+pow 0,1 0,0 1,0
+pow 0,1 2,0 Form
+pow 2,0 3/2,0 Form
+pow 2,0 62,0 4611686018427387904,0
+pow 2,0 63,0 Range
+pow 3/2,0 4611686018427387904,0 Range";
+
+#[test]
+fn sums_products_and_powers(rt: HostRuntime) -> Result<(), Fail> {
+    'rows: for row in RULES.split('\n') {
+        assert!(rt; is_row(row), "{row}");
+    }
+    Ok(())
+}
+
+fn has_eighths(row: &str) -> bool {
+    let Some(angle) = angle(word(row, 0)) else {
+        return false;
+    };
+    match eighths(&angle) {
+        Some(found) => u32::from(found) == number(row, 1),
+        None => word(row, 1) == "none",
+    }
+}
+
+/// An angle, and how many eighths of a turn it is, modulo 8.
+const EIGHTHS: &str = "\
+0,-9/4 7
+0,-8/4 0
+0,-7/4 1
+0,-3/4 5
+0,-1/4 7
+0,0/4 0
+0,1/4 1
+0,7/4 7
+0,8/4 0
+0,9/4 1
+0,1/3 none
+7853981633974483/10000000000000000,0 none
+1,1/4 none
+0,4611686018427387904 0";
+
+#[test]
+fn eighths_of_turns(rt: HostRuntime) -> Result<(), Fail> {
+    'rows: for row in EIGHTHS.split('\n') {
+        assert!(rt; has_eighths(row), "{row}");
+    }
+    Ok(())
 }

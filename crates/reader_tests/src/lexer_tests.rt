@@ -3,97 +3,138 @@
 ghost use Rattle.std.specs.Prelude.{◌<◌, ◌^◌, length};
 ghost use Rattle.qasm_lexer.specs.Tokens.{IsTokenOf};
 
+use crate::rows::{number, number_of, sides, word};
 use angle_fraction::{Frac, lowest};
 use qasm_lexer::{Kind, LexFault, Token, lex, value};
 use std::alloc::Global;
 use std::test::Fail;
 
-fn token(kind: Kind, from: u32, to: u32) -> Token {
-    Token { kind, from, to }
+/// The name of a kind.
+fn name(kind: Kind) -> &'static str {
+    match kind {
+        Kind::Word => "word",
+        Kind::Whole => "whole",
+        Kind::Real => "real",
+        Kind::Text => "text",
+        Kind::Sign => "sign",
+    }
 }
+
+/// Whether a token is of the kind and at the places of a word, as `word:0-8`.
+fn is_token(token: &Token, wanted: &str) -> bool {
+    let (kind, places) = wanted.split_once(':').unwrap_or(("none", "none"));
+    let (from, to) = places.split_once('-').unwrap_or(("none", "none"));
+    kind == name(token.kind) && token.from == number_of(from) && token.to == number_of(to)
+}
+
+/// Whether tokens are those of some words.
+fn are_tokens(tokens: &[Token], wanted: &str) -> bool {
+    'tokens: for (at, token) in tokens.iter().enumerate() {
+        if !is_token(token, word(wanted, at)) {
+            return false;
+        }
+    }
+    word(wanted, tokens.len()) == "none"
+}
+
+/// Whether a text has the tokens of its row.
+fn has_tokens(alloc: Global, row: &str) -> bool {
+    let (text, wanted) = sides(row);
+    let bytes = text.as_bytes();
+    if bytes.len() > 1000 {
+        return false;
+    }
+    match lex(alloc, bytes) {
+        Ok(tokens) => are_tokens(&tokens, wanted),
+        Err(_) => false,
+    }
+}
+
+/// Texts with their tokens. A comment begins at the first of two slashes; letters behind digits are a word of their own; zeros
+/// are numbers of their own, but for those before a point.
+const TOKENS: &str = "\
+OPENQASM 2.0;\n\"a b\"->x_1==\t[0]//end => word:0-8 real:9-12 sign:12-13 text:14-19 sign:19-21 word:21-24 sign:24-26 sign:27-28 whole:28-29 sign:29-30
+
+pi///x => word:0-2
+
+pi/ //x => word:0-2 sign:2-3
+
+0e5 => whole:0-1 word:1-3
+
+1e5 => whole:0-1 word:1-3
+
+007.5e => real:0-5 word:5-6
+
+(000120,00.) => sign:0-1 whole:1-2 whole:2-3 whole:3-4 whole:4-7 sign:7-8 real:8-11 sign:11-12";
 
 #[test]
 fn tokens_of_texts(rt: HostRuntime) -> Result<(), Fail> {
-    let program = lex(rt.alloc(), b"OPENQASM 2.0;\n\"a b\"->x_1==\t[0]//end")?;
-    let tokens = [
-        token(Kind::Word, 0, 8),
-        token(Kind::Real, 9, 12),
-        token(Kind::Sign, 12, 13),
-        token(Kind::Text, 14, 19),
-        token(Kind::Sign, 19, 21),
-        token(Kind::Word, 21, 24),
-        token(Kind::Sign, 24, 26),
-        token(Kind::Sign, 27, 28),
-        token(Kind::Whole, 28, 29),
-        token(Kind::Sign, 29, 30),
-    ];
-    assert_eq!(rt; program.as_slice(), tokens.as_slice());
-
-    // a comment begins at the first of two slashes
-    let comment = lex(rt.alloc(), b"pi///x")?;
-    assert_eq!(rt; comment.as_slice(), [token(Kind::Word, 0, 2)].as_slice());
-    let slash = lex(rt.alloc(), b"pi/ //x")?;
-    assert_eq!(rt;
-        slash.as_slice(),
-        [token(Kind::Word, 0, 2), token(Kind::Sign, 2, 3)].as_slice()
-    );
-
-    let letters: [&[u8]; 2] = [b"0e5", b"1e5"];
-    for text in letters {
-        let numbers = lex(rt.alloc(), text)?;
-        assert_eq!(rt;
-            numbers.as_slice(),
-            [token(Kind::Whole, 0, 1), token(Kind::Word, 1, 3)].as_slice()
-        );
+    'rows: for row in TOKENS.split("\n\n") {
+        assert!(rt; has_tokens(rt.alloc(), row), "{row}");
     }
-
-    let cut = lex(rt.alloc(), b"007.5e")?;
-    assert_eq!(rt;
-        cut.as_slice(),
-        [token(Kind::Real, 0, 5), token(Kind::Word, 5, 6)].as_slice()
-    );
-
-    // zeros are numbers of their own, but for those before a point
-    let zeros = lex(rt.alloc(), b"(000120,00.)")?;
-    let tokens = [
-        token(Kind::Sign, 0, 1),
-        token(Kind::Whole, 1, 2),
-        token(Kind::Whole, 2, 3),
-        token(Kind::Whole, 3, 4),
-        token(Kind::Whole, 4, 7),
-        token(Kind::Sign, 7, 8),
-        token(Kind::Real, 8, 11),
-        token(Kind::Sign, 11, 12),
-    ];
-    assert_eq!(rt; zeros.as_slice(), tokens.as_slice());
     Ok(())
 }
 
-#[test]
-fn faults_of_texts(rt: HostRuntime) {
-    let faults: [(&[u8], LexFault); 13] = [
-        (b"1E5", LexFault::BadByte { place: 1 }),
-        (b"q\x0c", LexFault::BadByte { place: 1 }),
-        (b"\xef\xbb\xbfq", LexFault::BadByte { place: 0 }),
-        (b"x \"ab", LexFault::BadByte { place: 2 }),
-        (b"x \"a\nb\"", LexFault::BadByte { place: 2 }),
-        (b"a=b", LexFault::BadByte { place: 1 }),
-        (b"- >", LexFault::BadByte { place: 2 }),
-        (b"CXx", LexFault::BadByte { place: 0 }),
-        (b"0 . 1", LexFault::BadByte { place: 2 }),
-        (b"  4611686018427387905", LexFault::Number { place: 2 }),
-        (b"0.00000000000000000001", LexFault::Number { place: 0 }),
-        (b"1.e99999999999999999999 =", LexFault::Number { place: 0 }),
-        (b"= 4611686018427387905", LexFault::BadByte { place: 0 }),
-    ];
-    for (text, fault) in faults {
-        let told = lex(rt.alloc(), text).err();
-        assert_eq!(rt; told, Some(fault));
+/// Whether a fault is that of two words.
+fn is_fault(fault: LexFault, wanted: &str) -> bool {
+    match fault {
+        LexFault::BadByte { place } => word(wanted, 0) == "BadByte" && place == number(wanted, 1),
+        LexFault::Number { place } => word(wanted, 0) == "Number" && place == number(wanted, 1),
+        LexFault::NoMemory => false,
     }
 }
 
+/// Whether a text has the fault of its row.
+fn has_fault(alloc: Global, row: &str) -> bool {
+    let (text, wanted) = sides(row);
+    let bytes = text.as_bytes();
+    if bytes.len() > 1000 {
+        return false;
+    }
+    match lex(alloc, bytes) {
+        Ok(_) => false,
+        Err(fault) => is_fault(fault, wanted),
+    }
+}
+
+/// Texts with their faults: a form feed, a mark of the order of bytes and open texts among them.
+const FAULTS: &str = "\
+1E5 => BadByte 1
+
+q\x0c => BadByte 1
+
+\u{feff}q => BadByte 0
+
+x \"ab => BadByte 2
+
+x \"a\nb\" => BadByte 2
+
+a=b => BadByte 1
+
+- > => BadByte 2
+
+CXx => BadByte 0
+
+0 . 1 => BadByte 2
+
+\x20 4611686018427387905 => Number 2
+
+0.00000000000000000001 => Number 0
+
+1.e99999999999999999999 = => Number 0
+
+= 4611686018427387905 => BadByte 0";
+
+#[test]
+fn faults_of_texts(rt: HostRuntime) -> Result<(), Fail> {
+    'rows: for row in FAULTS.split("\n\n") {
+        assert!(rt; has_fault(rt.alloc(), row), "{row}");
+    }
+    Ok(())
+}
+
 /// The value of a token that is a number.
-fn number_of(text: &[u8], token: &Token) -> Option<Frac>
+fn value_of_token(text: &[u8], token: &Token) -> Option<Frac>
     requires short { length text.now < 2 ^ 32 }
     requires token { IsTokenOf text.now token.now }
 {
@@ -105,43 +146,63 @@ fn number_of(text: &[u8], token: &Token) -> Option<Frac>
 }
 
 /// The value of a text that is one number.
-fn value_of(alloc: Global, text: &[u8]) -> Result<Option<Frac>, LexFault>
-    requires { length text.now < 2 ^ 32 }
-{
-    let tokens = lex(alloc, text)?;
-    if tokens.len() != 1 {
-        return Ok(None);
+fn value_of(alloc: Global, text: &[u8]) -> Option<Frac> {
+    if text.len() > 1000 {
+        return None;
     }
-    Ok(number_of(text, &tokens[0]))
+    let Ok(tokens) = lex(alloc, text) else {
+        return None;
+    };
+    if tokens.len() != 1 {
+        return None;
+    }
+    value_of_token(text, &tokens[0])
 }
+
+/// The number of a text, or one that no row has.
+fn large(text: &str) -> i128 {
+    text.parse::<i128>().unwrap_or(7777)
+}
+
+/// Whether a number has the value of its row.
+fn has_value(alloc: Global, row: &str) -> bool {
+    let (text, wanted) = sides(row);
+    let den = large(word(wanted, 1));
+    if den <= 0 {
+        return false;
+    }
+    match (
+        value_of(alloc, text.as_bytes()),
+        lowest(large(word(wanted, 0)), den),
+    ) {
+        (Some(found), Ok(value)) => found == value,
+        _ => false,
+    }
+}
+
+/// Numbers with their numerators and denominators.
+const VALUES: &str = "\
+0 => 0 1
+42 => 42 1
+4611686018427387904 => 4611686018427387904 1
+4611686018427387904.000 => 4611686018427387904 1
+1. => 1 1
+.5 => 1 2
+0.5 => 1 2
+0.75 => 3 4
+1.5e3 => 1500 1
+1.5e-3 => 3 2000
+1.E5 => 100000 1
+12.50E+0001 => 125 1
+1000000000000000000000.e-21 => 1 1
+0.000000000000000001 => 1 1000000000000000000
+0.000e99999999999999999999 => 0 1
+0.00000000000000000021684043449710088680149056017398834228515625 => 1 4611686018427387904";
 
 #[test]
 fn values_of_numbers(rt: HostRuntime) -> Result<(), Fail> {
-    let numbers: [(&[u8], i128, i128); 16] = [
-        (b"0", 0, 1),
-        (b"42", 42, 1),
-        (b"4611686018427387904", 1 << 62, 1),
-        (b"4611686018427387904.000", 1 << 62, 1),
-        (b"1.", 1, 1),
-        (b".5", 1, 2),
-        (b"0.5", 1, 2),
-        (b"0.75", 3, 4),
-        (b"1.5e3", 1500, 1),
-        (b"1.5e-3", 3, 2000),
-        (b"1.E5", 100000, 1),
-        (b"12.50E+0001", 125, 1),
-        (b"1000000000000000000000.e-21", 1, 1),
-        (b"0.000000000000000001", 1, 1000000000000000000),
-        (b"0.000e99999999999999999999", 0, 1),
-        (
-            b"0.00000000000000000021684043449710088680149056017398834228515625",
-            1,
-            1 << 62,
-        ),
-    ];
-    for (text, num, den) in numbers {
-        assert!(rt; den > 0);
-        assert_eq!(rt; value_of(rt.alloc(), text)?, lowest(num, den).ok());
+    'rows: for row in VALUES.split('\n') {
+        assert!(rt; has_value(rt.alloc(), row), "{row}");
     }
     Ok(())
 }

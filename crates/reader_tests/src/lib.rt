@@ -1,7 +1,8 @@
 //! Tests of the reader, stage by stage: `angle_fraction`, `qasm_lexer`, `gate_library`, `qasm_parser`, `qasm_check`, `gate_inline`
 //! and `program_reader`.
 //!
-//! Each test function is proved too, so they stand in a crate of their own: these crates are proved once.
+//! Each test function is proved too, so they stand in a crate of their own: these crates are proved once. What a test asserts is
+//! dear, so it asserts one bool a row, and what the bool says stands in small functions. Rows are lines of a text.
 #![tactic(auto)]
 
 #[cfg(test)]
@@ -20,3 +21,5 @@ mod matrix_tests;
 mod parser_tests;
 #[cfg(test)]
 mod reading_tests;
+#[cfg(test)]
+mod rows;

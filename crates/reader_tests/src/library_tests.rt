@@ -1,5 +1,6 @@
 //! The gate tables against the listing, and names at their borders.
 
+use crate::rows::{field, number, word};
 use angle_fraction::Binary;
 use gate_library::{
     BoundGate, Formula, Item, gates, is_in_table, is_standard, names_repeat, own_number,
@@ -57,24 +58,54 @@ fn write_angle(text: &mut Vec<u8>, params: &[u8], angle: &Formula) -> Result<(),
     }
 }
 
+/// Each gate of the tables as a listing has it: its name, parameters, qubits and body.
+const TABLES: &str = "\
+u3 | t,p,l | q | U(t,p,l) q;
+u2 | p,l | q | U(pi/2,p,l) q;
+u1 | l | q | U(0,0,l) q;
+cx | - | c,t | CX c,t;
+id | - | a | U(0,0,0) a;
+x | - | a | u3(pi,0,pi) a;
+y | - | a | u3(pi,pi/2,pi/2) a;
+z | - | a | u1(pi) a;
+h | - | a | u2(0,pi) a;
+s | - | a | u1(pi/2) a;
+sdg | - | a | u1(-pi/2) a;
+t | - | a | u1(pi/4) a;
+tdg | - | a | u1(-pi/4) a;
+rx | t | a | u3(t,-pi/2,pi/2) a;
+ry | t | a | u3(t,0,0) a;
+rz | p | a | u1(p) a;
+cz | - | a,b | h b; cx a,b; h b;
+cy | - | a,b | sdg b; cx a,b; s b;
+ch | - | a,b | h b; sdg b; cx a,b; h b; t b; cx a,b; t b; h b; s b; x b; s a;
+ccx | - | a,b,c | h c; cx b,c; tdg c; cx a,c; t c; cx b,c; tdg c; cx a,c; t b; t c; h c; cx a,b; t a; tdg b; cx a,b;
+crz | l | a,b | u1(l/2) b; cx a,b; u1(-l/2) b; cx a,b;
+cu1 | l | a,b | u1(l/2) a; cx a,b; u1(-l/2) b; cx a,b; u1(l/2) b;
+u | t,p,l | q | U(t,p,l) q;
+p | l | q | U(0,0,l) q;
+cp | l | a,b | u1(l/2) a; cx a,b; u1(-l/2) b; cx a,b; u1(l/2) b;
+swap | - | a,b | cx a,b; cx b,a; cx a,b;
+cswap | - | a,b,c | cx c,b; ccx a,b,c; cx c,b;
+sx | - | a | sdg a; h a; sdg a;
+sxdg | - | a | s a; h a; s a;";
+
 /// The name that stands for a gate of this number behind an include, among those of the rows.
-fn gate_name(names: &[&'static [u8]], number: usize) -> &'static [u8] {
+fn gate_name(number: usize) -> &'static str {
     if number == 0 {
-        return b"U";
+        return "U";
     }
+    let row = TABLES.split('\n').nth(number.saturating_sub(2));
     if number == 1 {
-        return b"CX";
-    }
-    match names.get(number - 2) {
-        Some(name) => name,
-        None => b"?",
+        "CX"
+    } else {
+        field(row.unwrap_or("?"), 0)
     }
 }
 
-/// A line of a body, with these names.
+/// A line of a body, with these names of parameters and qubits.
 fn write_item(
     text: &mut Vec<u8>,
-    names: &[&'static [u8]],
     item: &Item,
     params: &[u8],
     qubits: &[u8],
@@ -87,7 +118,7 @@ fn write_item(
     else {
         return text.extend_from_slice(b"barrier");
     };
-    text.extend_from_slice(gate_name(names, *gate))?;
+    text.extend_from_slice(gate_name(*gate).as_bytes())?;
     let mut before = b'(';
     for angle in angles.as_slice() {
         text.push(before)?;
@@ -110,7 +141,6 @@ fn write_item(
 /// A gate's body, with these names.
 fn spelt(
     alloc: Global,
-    names: &[&'static [u8]],
     body: &[Item],
     params: &[u8],
     qubits: &[u8],
@@ -120,162 +150,175 @@ fn spelt(
         if !text.is_empty() {
             text.push(b' ')?;
         }
-        write_item(&mut text, names, item, params, qubits)?;
+        write_item(&mut text, item, params, qubits)?;
     }
     Ok(text)
 }
 
-/// Each gate of the tables, spelt as a listing has it.
+/// Whether the standard names have this name at this place, if they go so far.
+fn is_standard_at(index: usize, name: &str) -> bool {
+    match standard_names().get(index) {
+        Some(listed) => *listed == name.as_bytes(),
+        None => index >= 22,
+    }
+}
+
+/// How many names of one letter a field has.
+fn names_in(field: &str) -> usize {
+    field.len().div_ceil(2)
+}
+
+/// Whether a gate is that of its row.
+fn is_spelt(alloc: Global, gate: &BoundGate, row: &str) -> Result<bool, AllocError> {
+    let (listed, wires) = (field(row, 1), field(row, 2));
+    let BoundGate::Composed {
+        params,
+        qubits,
+        body,
+    } = gate
+    else {
+        return Ok(false);
+    };
+    let text = spelt(alloc, body, listed.as_bytes(), wires.as_bytes())?;
+    Ok(
+        *params == names_in(listed)
+            && *qubits == names_in(wires)
+            && text.as_slice() == field(row, 3).as_bytes(),
+    )
+}
+
+/// Whether the gate of a row stands at its place, by its number and among the standard names.
+fn is_listed(
+    alloc: Global,
+    gates: &[BoundGate],
+    index: usize,
+    row: &str,
+) -> Result<bool, AllocError> {
+    let (name, place) = (field(row, 0), index.saturating_add(2));
+    let Some(gate) = gates.get(place) else {
+        return Ok(false);
+    };
+    Ok(
+        own_number(true, name.as_bytes()) == Some(place)
+            && is_standard_at(index, name)
+            && is_spelt(alloc, gate, row)?,
+    )
+}
+
 #[test]
 fn tables(rt: HostRuntime) -> Result<(), Fail> {
-    let rows: [(&'static [u8], &[u8], &[u8], &[u8]); 29] = [
-        (b"u3", b"t,p,l", b"q", b"U(t,p,l) q;"),
-        (b"u2", b"p,l", b"q", b"U(pi/2,p,l) q;"),
-        (b"u1", b"l", b"q", b"U(0,0,l) q;"),
-        (b"cx", b"", b"c,t", b"CX c,t;"),
-        (b"id", b"", b"a", b"U(0,0,0) a;"),
-        (b"x", b"", b"a", b"u3(pi,0,pi) a;"),
-        (b"y", b"", b"a", b"u3(pi,pi/2,pi/2) a;"),
-        (b"z", b"", b"a", b"u1(pi) a;"),
-        (b"h", b"", b"a", b"u2(0,pi) a;"),
-        (b"s", b"", b"a", b"u1(pi/2) a;"),
-        (b"sdg", b"", b"a", b"u1(-pi/2) a;"),
-        (b"t", b"", b"a", b"u1(pi/4) a;"),
-        (b"tdg", b"", b"a", b"u1(-pi/4) a;"),
-        (b"rx", b"t", b"a", b"u3(t,-pi/2,pi/2) a;"),
-        (b"ry", b"t", b"a", b"u3(t,0,0) a;"),
-        (b"rz", b"p", b"a", b"u1(p) a;"),
-        (b"cz", b"", b"a,b", b"h b; cx a,b; h b;"),
-        (b"cy", b"", b"a,b", b"sdg b; cx a,b; s b;"),
-        (
-            b"ch",
-            b"",
-            b"a,b",
-            b"h b; sdg b; cx a,b; h b; t b; cx a,b; t b; h b; s b; x b; s a;",
-        ),
-        (
-            b"ccx",
-            b"",
-            b"a,b,c",
-            b"h c; cx b,c; tdg c; cx a,c; t c; cx b,c; tdg c; cx a,c; t b; t c; h c; cx a,b; t a; tdg b; cx a,b;",
-        ),
-        (
-            b"crz",
-            b"l",
-            b"a,b",
-            b"u1(l/2) b; cx a,b; u1(-l/2) b; cx a,b;",
-        ),
-        (
-            b"cu1",
-            b"l",
-            b"a,b",
-            b"u1(l/2) a; cx a,b; u1(-l/2) b; cx a,b; u1(l/2) b;",
-        ),
-        (b"u", b"t,p,l", b"q", b"U(t,p,l) q;"),
-        (b"p", b"l", b"q", b"U(0,0,l) q;"),
-        (
-            b"cp",
-            b"l",
-            b"a,b",
-            b"u1(l/2) a; cx a,b; u1(-l/2) b; cx a,b; u1(l/2) b;",
-        ),
-        (b"swap", b"", b"a,b", b"cx a,b; cx b,a; cx a,b;"),
-        (b"cswap", b"", b"a,b,c", b"cx c,b; ccx a,b,c; cx c,b;"),
-        (b"sx", b"", b"a", b"sdg a; h a; sdg a;"),
-        (b"sxdg", b"", b"a", b"s a; h a; s a;"),
-    ];
-    let alloc = rt.alloc();
-    let mut names = Vec::new(alloc);
-    for (i, (name, _, _, _)) in rows.iter().enumerate() {
-        assert_eq!(rt; own_number(true, name), Some(i + 2), "row {i}");
-        names.push(*name)?;
-    }
-    let standard = standard_names();
-    assert_eq!(rt; standard.len(), 22);
-    for (i, name) in standard.iter().enumerate() {
-        let Some(listed) = names.get(i) else {
-            panic!(rt; "row {i}");
-        };
-        assert!(rt; *listed == *name, "row {i}");
-    }
-    let gates = gates(alloc)?;
-    assert_eq!(rt; gates.len(), 31);
-    for (i, (_, params, qubits, body)) in rows.iter().enumerate() {
-        let shape = (params.len().div_ceil(2), qubits.len().div_ceil(2));
-        let Some(
-            BoundGate::Composed {
-                params: many,
-                qubits: wide,
-                body: items,
-            },
-        ) = gates.get(i + 2)
-        else {
-            panic!(rt; "row {i}");
-        };
-        assert_eq!(rt; (*many, *wide), shape, "row {i}");
-        let text = spelt(alloc, &names, items, params, qubits)?;
-        assert!(rt; text.as_slice() == *body, "row {i}");
+    let gates = gates(rt.alloc())?;
+    assert!(rt; gates.len() == 31 && standard_names().len() == 22);
+    'rows: for (index, row) in TABLES.split('\n').enumerate() {
+        assert!(rt; is_listed(rt.alloc(), &gates, index, row)?, "{row}");
     }
     Ok(())
 }
 
-/// Which names the tables have, and which the first of them.
+fn is_named(row: &str) -> bool {
+    let name = field(word(row, 2), 0).as_bytes();
+    is_in_table(name) == (word(row, 0) == "yes") && is_standard(name) == (word(row, 1) == "yes")
+}
+
+/// Whether the tables have a name, whether the first of them has it, and the name; the last one is empty.
+const NAMES: &str = "\
+yes yes u3
+yes yes crz
+yes yes cu1
+yes no u
+yes no sxdg
+no no U
+no no CX
+no no CU1
+no no -";
+
 #[test]
 fn names(rt: HostRuntime) -> Result<(), Fail> {
-    let rows: [(&[u8], bool, bool); 9] = [
-        (b"u3", true, true),
-        (b"crz", true, true),
-        (b"cu1", true, true),
-        (b"u", true, false),
-        (b"sxdg", true, false),
-        (b"U", false, false),
-        (b"CX", false, false),
-        (b"CU1", false, false),
-        (b"", false, false),
-    ];
-    for (i, (name, listed, standard)) in rows.iter().enumerate() {
-        assert_eq!(rt; is_in_table(name), *listed, "row {i}");
-        assert_eq!(rt; is_standard(name), *standard, "row {i}");
+    'rows: for row in NAMES.split('\n') {
+        assert!(rt; is_named(row), "{row}");
     }
     Ok(())
+}
+
+fn is_own(row: &str) -> bool {
+    match own_number(word(row, 0) == "include", word(row, 1).as_bytes()) {
+        Some(found) => found as u64 == u64::from(number(row, 2)),
+        None => word(row, 2) == "none",
+    }
 }
 
 /// The numbers of gates that need no declaration, before an include and behind it.
+const OWN_NUMBERS: &str = "\
+plain U 0
+plain CX 1
+plain u3 none
+include u3 2
+include sxdg 30
+include nosuch none";
+
 #[test]
 fn own_numbers(rt: HostRuntime) -> Result<(), Fail> {
-    assert_eq!(rt; own_number(false, b"U"), Some(0));
-    assert_eq!(rt; own_number(false, b"CX"), Some(1));
-    assert_eq!(rt; own_number(false, b"u3"), None);
-    assert_eq!(rt; own_number(true, b"u3"), Some(2));
-    assert_eq!(rt; own_number(true, b"sxdg"), Some(30));
-    assert_eq!(rt; own_number(true, b"nosuch"), None);
-    let gates = gates(rt.alloc())?;
-    assert_eq!(rt; gates.get(2).map(|gate| gate.params()), Some(3));
-    assert_eq!(rt; gates.get(30).map(|gate| gate.qubits()), Some(1));
-    assert_eq!(rt; gates.get(30).map(|gate| gate.is_opaque()), Some(false));
+    'rows: for row in OWN_NUMBERS.split('\n') {
+        assert!(rt; is_own(row), "{row}");
+    }
     Ok(())
 }
 
-/// Names that stand twice.
+/// Whether gates 2 and 30 are what they are.
+fn are_shaped(gates: &[BoundGate]) -> bool {
+    match (gates.get(2), gates.get(30)) {
+        (Some(first), Some(last)) => {
+            first.params() == 3 && last.qubits() == 1 && !last.is_opaque()
+        }
+        _ => false,
+    }
+}
+
+#[test]
+fn shapes(rt: HostRuntime) -> Result<(), Fail> {
+    let gates = gates(rt.alloc())?;
+    assert!(rt; are_shaped(&gates));
+    Ok(())
+}
+
+/// Whether one of the letters of a row stands twice exactly where the row says so.
+fn repeats(alloc: Global, row: &str) -> Result<bool, AllocError> {
+    let mut names = Vec::new(alloc);
+    'letters: for letter in word(row, 0).as_bytes().chunks(1) {
+        names.push(letter)?;
+    }
+    Ok(names_repeat(alloc, &names)? == (word(row, 1) == "yes"))
+}
+
+/// Names of one letter, and whether one stands twice: looked at one by one, and by a set from the ninth on.
+const REPEATS: &str = "\
+a no
+aa yes
+ab no
+aba yes
+abc no
+abca yes
+abcd no
+abcda yes
+abcde no
+abcdea yes
+abcdef no
+abcdefa yes
+abcdefg no
+abcdefga yes
+abcdefgh no
+abcdefgha yes
+abcdefghi no
+abcdefghia yes
+abcdefghij no
+abcdefghija yes
+abcdefghijk no
+abcdefghijka yes";
+
 #[test]
 fn repeated_names(rt: HostRuntime) -> Result<(), Fail> {
-    let alloc = rt.alloc();
-    let mut names: Vec<&[u8]> = Vec::new(alloc);
-    names.push(b"a")?;
-    names.push(b"b")?;
-    assert!(rt; !names_repeat(alloc, &names)?);
-    names.push(b"a")?;
-    assert!(rt; names_repeat(alloc, &names)?);
-
-    // one by one, and by a set from the ninth on
-    let letters = b"abcdefghijk";
-    let mut names: Vec<&[u8]> = Vec::new(alloc);
-    for k in 0..letters.len() {
-        names.push(&letters[k..k + 1])?;
-        assert!(rt; !names_repeat(alloc, &names)?);
-        names.push(b"a")?;
-        assert!(rt; names_repeat(alloc, &names)?);
-        names.pop();
+    'rows: for row in REPEATS.split('\n') {
+        assert!(rt; repeats(rt.alloc(), row)?, "{row}");
     }
     Ok(())
 }

@@ -1,7 +1,9 @@
 //! Each gate of the tables, with each multiple of pi/4 for each parameter, against its matrix. The matrices are those
 //! of the textbooks; the power of w is worked out by floating numbers.
 
-use crate::inline_tests::{behind_head, inlined};
+use crate::check_tests::behind_head;
+use crate::inline_tests::inlined;
+use crate::rows::{number, word};
 use gate_expand::Ops;
 use std::alloc::{AllocError, Global};
 use std::test::Fail;
@@ -132,11 +134,11 @@ fn is_matrix(alloc: Global, gate: &str, wires: usize, matrix: Matrix) -> Result<
         _ => "q[0],q[1],q[2]",
     };
     let body = format!(in alloc; "qreg q[3]; {gate} {qubits};")?;
-    let text = behind_head(alloc, body.as_bytes())?;
-    let Some(Ok(ops)) = inlined(alloc, &text) else {
-        return Ok(false);
-    };
-    agrees(alloc, &ops, wires, matrix)
+    let text = behind_head(alloc, body.as_str())?;
+    match inlined(alloc, text.as_bytes()) {
+        Some(Ok(ops)) => agrees(alloc, &ops, wires, matrix),
+        _ => Ok(false),
+    }
 }
 
 fn agrees(alloc: Global, ops: &Ops, wires: usize, matrix: Matrix) -> Result<bool, AllocError> {
@@ -163,101 +165,153 @@ fn agrees(alloc: Global, ops: &Ops, wires: usize, matrix: Matrix) -> Result<bool
     Ok(true)
 }
 
-fn plain(theta: u8, phi: u8, lambda: u8, controls: usize, on: u8, off: u8) -> Matrix {
+/// The eighths at a place of a row, or as many as no row has.
+fn eighths(row: &str, at: usize) -> u8 {
+    word(row, at).parse::<u8>().unwrap_or(77)
+}
+
+/// The matrix of a row: how many controls, a power with them and one without them, and a rotation, if there is one.
+fn matrix_of(row: &str) -> Matrix {
+    let core = if word(row, 5) == "exchange" {
+        Core::Exchange
+    } else {
+        Core::Rotation(Angles {
+            theta: eighths(row, 5),
+            phi: eighths(row, 6),
+            lambda: eighths(row, 7),
+        })
+    };
+    Matrix {
+        controls: usize::from(eighths(row, 2)),
+        core,
+        on: eighths(row, 3),
+        off: eighths(row, 4),
+    }
+}
+
+fn is_gate(alloc: Global, row: &str) -> Result<bool, AllocError> {
+    is_matrix(alloc, word(row, 0), number(row, 1) as usize, matrix_of(row))
+}
+
+/// Gates without angles: wires, controls, the powers with them and without them, and the angles. On its own, X is w^6 U(4,0,4),
+/// Y is w^6 U(4,2,2) and the Hadamard matrix w^7 U(2,0,4).
+const GATES: &str = "\
+id 1 0 0 0 0 0 0
+x 1 0 0 0 4 0 4
+y 1 0 0 0 4 2 2
+z 1 0 0 0 0 0 4
+h 1 0 0 0 2 0 4
+s 1 0 0 0 0 0 2
+sdg 1 0 0 0 0 0 6
+t 1 0 0 0 0 0 1
+tdg 1 0 0 0 0 0 7
+sx 1 0 0 0 2 6 2
+sxdg 1 0 0 0 2 2 6
+CX 2 1 6 0 4 0 4
+cx 2 1 6 0 4 0 4
+cz 2 1 2 2 0 0 4
+cy 2 1 6 0 4 2 2
+ch 2 1 5 6 2 0 4
+swap 2 0 0 0 exchange
+ccx 3 2 0 2 4 0 4
+cswap 3 1 2 2 exchange";
+
+#[test]
+fn gates_without_angles(rt: HostRuntime) -> Result<(), Fail> {
+    'rows: for row in GATES.split('\n') {
+        assert!(rt; is_gate(rt.alloc(), row)?, "{row}");
+    }
+    Ok(())
+}
+
+/// A rotation of the last wire: where the control is 1, with one, and of the only wire without one.
+fn rotation_of(angles: [u8; 3], controls: usize, on: u8) -> Matrix {
+    let [theta, phi, lambda] = angles;
     Matrix {
         controls,
         core: Core::Rotation(Angles { theta, phi, lambda }),
         on,
-        off,
+        off: 0,
     }
 }
 
-fn exchange(controls: usize, on: u8, off: u8) -> Matrix {
-    Matrix {
-        controls,
-        core: Core::Exchange,
-        on,
-        off,
-    }
+/// Whether a gate with one angle of so many eighths of a turn is this rotation.
+fn is_turn(alloc: Global, name: &str, k: u8, angles: [u8; 3]) -> Result<bool, AllocError> {
+    let gate = format!(in alloc; "{name}({k}*pi/4)")?;
+    is_matrix(alloc, gate.as_str(), 1, rotation_of(angles, 0, 0))
 }
 
-/// Gates without angles. On its own, X is w^6 U(4,0,4), Y is w^6 U(4,2,2) and the Hadamard matrix w^7 U(2,0,4).
-#[test]
-fn gates_without_angles(rt: HostRuntime) -> Result<(), Fail> {
-    let alloc = rt.alloc();
-    let rows = [
-        ("id", 1, plain(0, 0, 0, 0, 0, 0)),
-        ("x", 1, plain(4, 0, 4, 0, 0, 0)),
-        ("y", 1, plain(4, 2, 2, 0, 0, 0)),
-        ("z", 1, plain(0, 0, 4, 0, 0, 0)),
-        ("h", 1, plain(2, 0, 4, 0, 0, 0)),
-        ("s", 1, plain(0, 0, 2, 0, 0, 0)),
-        ("sdg", 1, plain(0, 0, 6, 0, 0, 0)),
-        ("t", 1, plain(0, 0, 1, 0, 0, 0)),
-        ("tdg", 1, plain(0, 0, 7, 0, 0, 0)),
-        ("sx", 1, plain(2, 6, 2, 0, 0, 0)),
-        ("sxdg", 1, plain(2, 2, 6, 0, 0, 0)),
-        ("CX", 2, plain(4, 0, 4, 1, 6, 0)),
-        ("cx", 2, plain(4, 0, 4, 1, 6, 0)),
-        ("cz", 2, plain(0, 0, 4, 1, 2, 2)),
-        ("cy", 2, plain(4, 2, 2, 1, 6, 0)),
-        ("ch", 2, plain(2, 0, 4, 1, 5, 6)),
-        ("swap", 2, exchange(0, 0, 0)),
-        ("ccx", 3, plain(4, 0, 4, 2, 0, 2)),
-        ("cswap", 3, exchange(1, 2, 2)),
-    ];
-    for (gate, wires, matrix) in rows {
-        assert!(rt; is_matrix(alloc, gate, wires, matrix)?, "{gate}");
-    }
-    Ok(())
+fn are_turns(alloc: Global, k: u8) -> Result<bool, AllocError> {
+    Ok(
+        is_turn(alloc, "u1", k, [0, 0, k])?
+            && is_turn(alloc, "p", k, [0, 0, k])?
+            && is_turn(alloc, "rz", k, [0, 0, k])?
+            && is_turn(alloc, "rx", k, [k, 6, 2])?
+            && is_turn(alloc, "ry", k, [k, 0, 0])?,
+    )
+}
+
+/// The same of one with a control and an angle of so many quarters of a turn.
+fn is_controlled_turn(alloc: Global, name: &str, k: u8, on: u8) -> Result<bool, AllocError> {
+    let gate = format!(in alloc; "{name}({k}*pi/2)")?;
+    let angles = [0, 0, k.wrapping_mul(2)];
+    is_matrix(alloc, gate.as_str(), 2, rotation_of(angles, 1, on))
+}
+
+fn are_controlled_turns(alloc: Global, k: u8) -> Result<bool, AllocError> {
+    Ok(
+        is_controlled_turn(alloc, "cu1", k, 0)?
+            && is_controlled_turn(alloc, "cp", k, 0)?
+            && is_controlled_turn(alloc, "crz", k, 8u8.saturating_sub(k))?,
+    )
 }
 
 /// Gates with one angle, at each multiple of pi/4; those that halve it at each multiple of pi/2.
 #[test]
 fn gates_with_an_angle(rt: HostRuntime) -> Result<(), Fail> {
-    let alloc = rt.alloc();
-    for k in 0u8..8 {
-        for (name, matrix) in [
-            ("u1", plain(0, 0, k, 0, 0, 0)),
-            ("p", plain(0, 0, k, 0, 0, 0)),
-            ("rz", plain(0, 0, k, 0, 0, 0)),
-            ("rx", plain(k, 6, 2, 0, 0, 0)),
-            ("ry", plain(k, 0, 0, 0, 0, 0)),
-        ] {
-            let gate = format!(in alloc; "{name}({k}*pi/4)")?;
-            assert!(rt; is_matrix(alloc, gate.as_str(), 1, matrix)?, "{name} {k}");
-        }
+    'eighths: for k in 0..8 {
+        assert!(rt; are_turns(rt.alloc(), k)?, "{k} eighths");
     }
-    for k in 0u8..4 {
-        for (name, matrix) in [
-            ("cu1", plain(0, 0, 2 * k, 1, 0, 0)),
-            ("cp", plain(0, 0, 2 * k, 1, 0, 0)),
-            ("crz", plain(0, 0, 2 * k, 1, 8 - k, 0)),
-        ] {
-            let gate = format!(in alloc; "{name}({k}*pi/2)")?;
-            assert!(rt; is_matrix(alloc, gate.as_str(), 2, matrix)?, "{name} {k}");
-        }
+    'quarters: for k in 0..4 {
+        assert!(rt; are_controlled_turns(rt.alloc(), k)?, "{k} quarters");
     }
     Ok(())
+}
+
+/// Whether a gate with three angles is this rotation.
+fn is_rotation(alloc: Global, name: &str, angles: [u8; 3]) -> Result<bool, AllocError> {
+    let [a, b, c] = angles;
+    let gate = format!(in alloc; "{name}({a}*pi/4,{b}*pi/4,{c}*pi/4)")?;
+    is_matrix(alloc, gate.as_str(), 1, rotation_of(angles, 0, 0))
+}
+
+/// The same of the gate of two angles, for which the first is 2.
+fn is_half_rotation(alloc: Global, angles: [u8; 3]) -> Result<bool, AllocError> {
+    let [a, b, c] = angles;
+    if a != 2 {
+        return Ok(true);
+    }
+    let gate = format!(in alloc; "u2({b}*pi/4,{c}*pi/4)")?;
+    is_matrix(alloc, gate.as_str(), 1, rotation_of(angles, 0, 0))
+}
+
+fn are_rotations(alloc: Global, angles: [u8; 3]) -> Result<bool, AllocError> {
+    Ok(
+        is_rotation(alloc, "U", angles)?
+            && is_rotation(alloc, "u3", angles)?
+            && is_rotation(alloc, "u", angles)?
+            && is_half_rotation(alloc, angles)?,
+    )
 }
 
 /// Gates with two and three angles, at all multiples of pi/4.
 #[test]
 fn gates_with_angles(rt: HostRuntime) -> Result<(), Fail> {
-    let alloc = rt.alloc();
-    for number in 0u16..512 {
-        let (a, b, c) = (number / 64, number / 8 % 8, number % 8);
-        let matrix = plain(a as u8, b as u8, c as u8, 0, 0, 0);
-        for name in ["U", "u3", "u"] {
-            let gate = format!(in alloc; "{name}({a}*pi/4,{b}*pi/4,{c}*pi/4)")?;
-            assert!(rt;
-                is_matrix(alloc, gate.as_str(), 1, matrix)?,
-                "{name} {number}"
-            );
-        }
-        if a == 2 {
-            let gate = format!(in alloc; "u2({b}*pi/4,{c}*pi/4)")?;
-            assert!(rt; is_matrix(alloc, gate.as_str(), 1, matrix)?, "u2 {number}");
+    'first: for a in 0..8 {
+        'second: for b in 0..8 {
+            'third: for c in 0..8 {
+                assert!(rt; are_rotations(rt.alloc(), [a, b, c])?, "{a} {b} {c}");
+            }
         }
     }
     Ok(())

@@ -1,26 +1,60 @@
 //! Exchanges by hand.
 
+use crate::rows::{number, word};
 use placement::Placement;
+use std::alloc::AllocError;
 use std::test::Fail;
+
+/// The digit at a place, or one that no row has.
+fn digit(digits: &str, at: u32) -> u32 {
+    match digits.as_bytes().get(at as usize) {
+        Some(digit) => u32::from(digit.wrapping_sub(b'0')),
+        None => 7777,
+    }
+}
+
+/// Whether the wire and the qubit of one number stand where a row says: its third word has the qubits of the wires, and its
+/// fourth the wires of the qubits.
+fn is_at(placement: &Placement, row: &str, at: u32) -> bool {
+    if at >= placement.size() {
+        return false;
+    }
+    placement.phys(at) == digit(word(row, 2), at)
+        && placement.qubits().get(at as usize) == Some(&digit(word(row, 2), at))
+        && placement.logical(at) == digit(word(row, 3), at)
+}
+
+fn is_placed(placement: &Placement, row: &str) -> bool {
+    placement.size() == 3
+        && placement.qubits().len() == 3
+        && is_at(placement, row, 0)
+        && is_at(placement, row, 1)
+        && is_at(placement, row, 2)
+}
+
+/// Whether the exchange of a row leads where it says, and a copy is there too.
+fn exchanges(placement: &mut Placement, row: &str) -> Result<bool, AllocError> {
+    let (a, b) = (number(row, 0), number(row, 1));
+    if a >= placement.size() || b >= placement.size() {
+        return Ok(false);
+    }
+    placement.swap(a, b);
+    Ok(is_placed(placement, row) && is_placed(&placement.copy()?, row))
+}
+
+/// Two qubits that are exchanged, one row after the other, the qubits of the wires then, and the wires of the qubits; the first
+/// row leaves all where it was.
+const ROWS: &str = "\
+0 0 012 012
+0 2 210 210
+2 1 120 201
+1 1 120 201";
 
 #[test]
 fn exchanges_and_copies(rt: HostRuntime) -> Result<(), Fail> {
     let mut placement = Placement::identity(rt.alloc(), 3)?;
-    assert_eq!(rt; placement.qubits(), [0, 1, 2].as_slice());
-    assert_eq!(rt; placement.size(), 3);
-    for (a, b, qubits, wires) in [
-        (0, 2, [2, 1, 0], [2, 1, 0]),
-        (2, 1, [1, 2, 0], [2, 0, 1]),
-        (1, 1, [1, 2, 0], [2, 0, 1]),
-    ] {
-        assert!(rt; placement.size() == 3);
-        placement.swap(a, b);
-        assert_eq!(rt; placement.qubits(), qubits.as_slice());
-        assert_eq!(rt; placement.copy()?.qubits(), qubits.as_slice());
-        for qubit in 0..3 {
-            assert_eq!(rt; placement.logical(qubit), wires[qubit as usize]);
-            assert_eq!(rt; placement.phys(wires[qubit as usize]), qubit);
-        }
+    'rows: for row in ROWS.split('\n') {
+        assert!(rt; exchanges(&mut placement, row)?, "{row}");
     }
     Ok(())
 }

@@ -1,6 +1,7 @@
 //! Tests of `spare_layers`: worked circuits, and drawn ones against a plain walk over the bits.
 //!
-//! Each test function is proved too, so they stand in a crate of their own: `spare_layers` is proved once.
+//! Each test function is proved too, so they are in a crate of their own: `spare_layers` is proved once. A proof is long for each
+//! assert in a loop, and so a test has one.
 #![tactic(auto)]
 
 #[cfg(test)]

@@ -8,7 +8,7 @@ use std::alloc::{AllocError, Global};
 use std::test::Fail;
 use test_circuits::{Kind, Random, circuit_of_text, gates_of, gates_of_text};
 
-/// The gates with spares, and the turn, or nothing where a text is no circuit.
+/// The gates of a circuit, those with spares, and the turn.
 #[derive(Drop)]
 struct Spared {
     before: Vec<Gate>,
@@ -16,6 +16,7 @@ struct Spared {
     turn: u8,
 }
 
+/// Those of the circuit of a text on three wires, if it is one.
 fn of_text(alloc: Global, text: &str, spares: u8) -> Result<Option<Spared>, AllocError> {
     let Some(body) = circuit_of_text(alloc, 3, text)? else {
         return Ok(None);
@@ -24,6 +25,7 @@ fn of_text(alloc: Global, text: &str, spares: u8) -> Result<Option<Spared>, Allo
     Ok(Some(lists))
 }
 
+/// Those of a circuit.
 fn made(alloc: Global, body: &Circuit, spares: u8) -> Result<Spared, AllocError>
     requires { body.now.wires ≡ 3 }
 {
@@ -37,7 +39,7 @@ fn made(alloc: Global, body: &Circuit, spares: u8) -> Result<Spared, AllocError>
     })
 }
 
-/// The bits and the turn behind some gates without H.
+/// The bits and the turn after some gates without H.
 fn walk(gates: &[Gate], bits: u32) -> (u32, u8) {
     let mut bits = bits;
     let mut turn = 0u8;
@@ -63,7 +65,7 @@ fn walk(gates: &[Gate], bits: u32) -> (u32, u8) {
     (bits, turn)
 }
 
-/// Whether the gates with spares do what those on three wires do, up to the turn, where the spares start at zero.
+/// Whether the gates with spares do what those on three wires do, up to the turn, if the spares start at zero.
 fn is_same(lists: &Spared) -> bool {
     for bits in 0u32..8 {
         let (from, turn) = walk(&lists.before, bits);
@@ -75,7 +77,7 @@ fn is_same(lists: &Spared) -> bool {
     true
 }
 
-/// How many lists of phases stand in a list of gates.
+/// How many lists of phases are in a list of gates.
 fn blocks(gates: &[Gate]) -> u32 {
     let mut count = 0u32;
     let mut within = false;
@@ -89,56 +91,57 @@ fn blocks(gates: &[Gate]) -> u32 {
     count
 }
 
-/// The seven sums of three wires, which are one block where four wires more are there, and two where three are. Without
-/// spares the layer stays as it is, with phases at five places.
+/// The seven sums of three wires are one block if four wires more are there, and two if three are. Without spares the layer stays as
+/// it is, with phases at five places.
+const SEVEN_SUMS: &str = "1.0 1.1 1.2 c01 7.1 c12 1.2 c01 c12 7.2 c12 c02 7.2 x.1 c02";
+
+/// Whether the gates of the seven sums do the same with so many spares, in so many blocks.
+fn is_spared(alloc: Global, spares: u8, count: u32) -> Result<bool, AllocError> {
+    match of_text(alloc, SEVEN_SUMS, spares)? {
+        Some(lists) => Ok(is_same(&lists) && blocks(&lists.after) == count),
+        None => Ok(false),
+    }
+}
+
 #[test]
 fn seven_sums(rt: HostRuntime) -> Result<(), Fail> {
-    let alloc = rt.alloc();
-    let text = "1.0 1.1 1.2 c01 7.1 c12 1.2 c01 c12 7.2 c12 c02 7.2 x.1 c02";
-    for (spares, count) in [(4u8, 1u32), (3, 2), (0, 5)].as_slice() {
-        let lists = of_text(alloc, text, *spares)?.ok_or("no circuit")?;
+    'rows: for (spares, count) in [(4u8, 1u32), (3, 2), (0, 5)] {
         assert!(rt;
-            is_same(&lists),
-            "with {spares} spares: {:?}",
-            lists.after.as_slice()
-        );
-        assert_eq!(rt;
-            blocks(&lists.after),
-            *count,
-            "with {spares} spares: {:?}",
-            lists.after.as_slice()
+            is_spared(rt.alloc(), spares, count)?,
+            "with {spares} spares"
         );
     }
     Ok(())
 }
 
-/// A layer with one sum needs no spare: it stays, with its H behind the gates that they don't stop.
+/// A layer with one sum needs no spare: it stays, with its H after the gates that they don't stop.
 #[test]
 fn kept_layers(rt: HostRuntime) -> Result<(), Fail> {
-    let alloc = rt.alloc();
-    let lists = of_text(alloc, "1.0 c01 h.1 1.1 x.2", 4)?.ok_or("no circuit")?;
-    let expected = gates_of_text(alloc, "1.0 c01 x.2 h.1 1.1")?;
-    assert_eq!(rt; lists.after.as_slice(), expected.as_slice());
-    assert_eq!(rt; lists.turn, 0);
+    let lists = of_text(rt.alloc(), "1.0 c01 h.1 1.1 x.2", 4)?.ok_or("no circuit")?;
+    let expected = gates_of_text(rt.alloc(), "1.0 c01 x.2 h.1 1.1")?;
+    assert!(rt; lists.after.as_slice() == expected.as_slice() && lists.turn == 0);
     Ok(())
 }
 
-/// Drawn circuits without H do the same on the bits, with one to four spares.
+/// Whether forty drawn circuits without H do the same on the bits with so many spares.
+fn are_same(alloc: Global, random: &mut Random, spares: u8) -> Result<bool, AllocError> {
+    for _ in 0..40 {
+        let body = random.circuit(alloc, 3, &[Kind::P, Kind::Cx, Kind::P, Kind::X], 24)?;
+        if !is_same(&made(alloc, &body, spares)?) {
+            return Ok(false);
+        }
+    }
+    Ok(true)
+}
+
 #[test]
 fn drawn_circuits(rt: HostRuntime) -> Result<(), Fail> {
-    let alloc = rt.alloc();
-    let kinds = [Kind::P, Kind::Cx, Kind::P, Kind::X];
     let mut random = Random::from_start(7);
-    for spares in 1u8..5 {
-        for _ in 0..40 {
-            let body = random.circuit(alloc, 3, kinds.as_slice(), 24)?;
-            let lists = made(alloc, &body, spares)?;
-            assert!(rt;
-                is_same(&lists),
-                "with {spares} spares: {:?}",
-                lists.after.as_slice()
-            );
-        }
+    'spares: for spares in 1u8..5 {
+        assert!(rt;
+            are_same(rt.alloc(), &mut random, spares)?,
+            "with {spares} spares"
+        );
     }
     Ok(())
 }

@@ -1,50 +1,92 @@
 //! Texts of programs, worked by hand, and what of one comes to a sink that fails.
 
+ghost use Rattle.std.specs.Prelude.{◌≡◌, IfOk};
+
 use circuit_list::{Circuit, Gate};
-use outside_io::{Failed, MemSink};
+use outside_io::MemSink;
 use qasm_writer::output::{Output, Register};
 use qasm_writer::{PieceBuffer, program_text, write_program};
+use std::alloc::{AllocError, Global};
 use std::test::Fail;
 use test_circuits::is_fine;
+use test_rows::{field, number, small, word};
 
 const HEAD: &str = "OPENQASM 2.0;\ninclude \"qelib1.inc\";\n";
 
+/// Whether a text is the header and some lines.
+fn is_program(alloc: Global, text: &[u8], lines: &str) -> Result<bool, AllocError> {
+    let mut wanted = String::from_str(alloc, HEAD)?;
+    wanted.push_str(lines)?;
+    Ok(text == wanted.as_bytes())
+}
+
+/// The text of a circuit with one bit that reads nothing, of a register `q`.
+fn one_bit_text(alloc: Global, body: &Circuit) -> Result<Vec<u8>, AllocError> {
+    let output = Output {
+        body,
+        registers: &[Register {
+            name: b"q",
+            size: 1,
+        }],
+        reads: &[None],
+        lengths: &[body.len()],
+        barriers: &[],
+        trace: b"",
+    };
+    program_text(alloc, &output)
+}
+
+/// The gate of a row: `h` or `x` with a wire, `p` with a phase and a wire, or `cx` with two wires.
+fn gate(row: &str) -> Gate {
+    let (q, t) = (small(row, 1), small(row, 2));
+    if word(row, 0) == "h" {
+        return Gate::H { q };
+    }
+    if word(row, 0) == "x" {
+        return Gate::X { q };
+    }
+    if word(row, 0) == "cx" {
+        return Gate::Cx { c: q, t };
+    }
+    Gate::P {
+        k: word(row, 1).parse::<u8>().unwrap_or(77),
+        q: t,
+    }
+}
+
+/// Whether a row's gate is written as its line.
+fn is_written(alloc: Global, row: &str) -> Result<bool, AllocError> {
+    let gate = gate(field(row, 0));
+    if !is_fine(256, gate) {
+        return Ok(false);
+    }
+    let mut body = Circuit::empty(alloc, 256)?;
+    body.push(gate)?;
+    let text = one_bit_text(alloc, &body)?;
+    let mut lines = String::from_str(alloc, "qreg q_[256];\ncreg q[1];\n")?;
+    lines.push_str(field(row, 1))?;
+    lines.push_str("\n")?;
+    is_program(alloc, &text, lines.as_str())
+}
+
+/// Gates, and their lines.
+const GATES: &str = "\
+h 0|h q_[0];
+x 11|x q_[11];
+cx 10 3|cx q_[10],q_[3];
+cx 255 100|cx q_[255],q_[100];
+p 1 0|t q_[0];
+p 2 1|s q_[1];
+p 3 2|u1(3*pi/4) q_[2];
+p 4 3|z q_[3];
+p 5 4|u1(5*pi/4) q_[4];
+p 6 5|sdg q_[5];
+p 7 6|tdg q_[6];";
+
 #[test]
 fn writes_each_gate(rt: HostRuntime) -> Result<(), Fail> {
-    let alloc = rt.alloc();
-    let rows = [
-        (Gate::H { q: 0 }, "h q_[0];\n"),
-        (Gate::X { q: 11 }, "x q_[11];\n"),
-        (Gate::Cx { c: 10, t: 3 }, "cx q_[10],q_[3];\n"),
-        (Gate::Cx { c: 255, t: 100 }, "cx q_[255],q_[100];\n"),
-        (Gate::P { k: 1, q: 0 }, "t q_[0];\n"),
-        (Gate::P { k: 2, q: 1 }, "s q_[1];\n"),
-        (Gate::P { k: 3, q: 2 }, "u1(3*pi/4) q_[2];\n"),
-        (Gate::P { k: 4, q: 3 }, "z q_[3];\n"),
-        (Gate::P { k: 5, q: 4 }, "u1(5*pi/4) q_[4];\n"),
-        (Gate::P { k: 6, q: 5 }, "sdg q_[5];\n"),
-        (Gate::P { k: 7, q: 6 }, "tdg q_[6];\n"),
-    ];
-    for (gate, line) in rows {
-        let mut body = Circuit::empty(alloc, 256)?;
-        assert!(rt; is_fine(256, gate));
-        body.push(gate)?;
-        let output = Output {
-            body: &body,
-            registers: &[Register {
-                name: b"q",
-                size: 1,
-            }],
-            reads: &[None],
-            lengths: &[body.len()],
-            barriers: &[],
-            trace: b"",
-        };
-        let text = program_text(alloc, &output)?;
-        let mut wanted = String::from_str(alloc, HEAD)?;
-        wanted.push_str("qreg q_[256];\ncreg q[1];\n")?;
-        wanted.push_str(line)?;
-        assert_eq!(rt; text.as_slice(), wanted.as_bytes());
+    'rows: for row in GATES.split('\n') {
+        assert!(rt; is_written(rt.alloc(), row)?, "{row}");
     }
     Ok(())
 }
@@ -73,10 +115,17 @@ fn writes_registers_side_by_side(rt: HostRuntime) -> Result<(), Fail> {
         trace: b"",
     };
     let text = program_text(alloc, &output)?;
-    let mut wanted = String::from_str(alloc, HEAD)?;
-    wanted.push_str("qreg q_[2];\ncreg q[3];\ncreg q__[2];\nh q_[1];\ncx q_[1],q_[0];\n")?;
-    wanted.push_str("measure q_[1] -> q[0];\nmeasure q_[0] -> q[2];\nmeasure q_[1] -> q__[1];\n")?;
-    assert_eq!(rt; text.as_slice(), wanted.as_bytes());
+    let lines = "\
+qreg q_[2];
+creg q[3];
+creg q__[2];
+h q_[1];
+cx q_[1],q_[0];
+measure q_[1] -> q[0];
+measure q_[0] -> q[2];
+measure q_[1] -> q__[1];
+";
+    assert!(rt; is_program(alloc, &text, lines)?);
     Ok(())
 }
 
@@ -96,21 +145,53 @@ fn leaves_out_a_register_without_wires(rt: HostRuntime) -> Result<(), Fail> {
         trace: b"",
     };
     let text = program_text(alloc, &output)?;
-    let mut wanted = String::from_str(alloc, HEAD)?;
-    wanted.push_str("creg q[2];\n")?;
-    assert_eq!(rt; text.as_slice(), wanted.as_bytes());
+    let lines = "creg q[2];\n";
+    assert!(rt; is_program(alloc, &text, lines)?);
     Ok(())
 }
 
-#[test]
-fn writes_whole_pieces_and_the_rest(rt: HostRuntime) -> Result<(), Fail> {
-    let alloc = rt.alloc();
+/// The text of a circuit without bits, and of a trace.
+fn bare_text(alloc: Global, body: &Circuit, trace: &[u8]) -> Result<Vec<u8>, AllocError> {
+    let output = Output {
+        body,
+        registers: &[],
+        reads: &[],
+        lengths: &[body.len()],
+        barriers: &[],
+        trace,
+    };
+    program_text(alloc, &output)
+}
+
+/// A circuit on twelve wires whose text is longer than four pieces.
+fn long_body(alloc: Global) -> Result<Circuit, AllocError>
+    ensures { IfOk result (λ c. c.wires ≡ 12) }
+{
     let mut body = Circuit::empty(alloc, 12)?;
     'gates: for _ in 0..1_030 {
         body.push(Gate::P { k: 3, q: 11 })?;
     }
+    Ok(body)
+}
+
+/// The header, and 18 bytes for each gate.
+#[test]
+fn writes_whole_pieces_and_the_rest(rt: HostRuntime) -> Result<(), Fail> {
+    let body = long_body(rt.alloc())?;
+    let text = bare_text(rt.alloc(), &body, b"")?;
+    assert!(rt; text.len() == 48 + 18 * 1_030);
+    Ok(())
+}
+
+/// Whether so much of the text of a circuit comes to a sink as a row says.
+fn is_sent(
+    alloc: Global,
+    body: &Circuit,
+    buffer: &mut PieceBuffer,
+    row: &str,
+) -> Result<bool, AllocError> {
     let output = Output {
-        body: &body,
+        body,
         registers: &[],
         reads: &[],
         lengths: &[body.len()],
@@ -118,57 +199,63 @@ fn writes_whole_pieces_and_the_rest(rt: HostRuntime) -> Result<(), Fail> {
         trace: b"",
     };
     let text = program_text(alloc, &output)?;
-    // the header, and 18 bytes for each gate
-    assert_eq!(rt; text.len(), 48 + 18 * 1_030);
-    // failing call, whether all is well, bytes that came, calls
-    let rows: [(u64, bool, usize, u64); 7] = [
-        (0, true, 18_588, 5),
-        (1, false, 0, 1),
-        (2, false, 4_096, 2),
-        (3, false, 8_192, 3),
-        (4, false, 12_288, 4),
-        (5, false, 16_384, 5),
-        (6, true, 18_588, 5),
-    ];
-    let mut buffer = PieceBuffer::new(alloc)?;
-    for (failing, is_written, held, calls) in rows {
-        assert!(rt; held <= text.len());
-        let failing = Vec::from_slice(alloc, &[failing])?;
-        let mut sink = MemSink::new(alloc, 20_000, 4_096, failing)?;
-        let written = write_program(&output, &mut buffer, &mut sink);
-        assert_eq!(rt; written, if is_written { Ok(()) } else { Err(Failed) });
-        assert_eq!(rt; sink.as_slice(), &text[..held]);
-        assert_eq!(rt; sink.calls(), calls);
+    let held = number(row, 2) as usize;
+    if held > text.len() {
+        return Ok(false);
+    }
+    let failing = Vec::from_slice(alloc, &[number(row, 0)])?;
+    let mut sink = MemSink::new(alloc, 20_000, 4_096, failing)?;
+    let is_written = write_program(&output, buffer, &mut sink).is_ok();
+    Ok(
+        is_written == (word(row, 1) == "sent")
+            && sink.as_slice() == &text[..held]
+            && sink.calls() == number(row, 3),
+    )
+}
+
+/// Failing call, whether all was sent, bytes that came, calls.
+const SENDS: &str = "\
+0 sent 18588 5
+1 fails 0 1
+2 fails 4096 2
+3 fails 8192 3
+4 fails 12288 4
+5 fails 16384 5
+6 sent 18588 5";
+
+#[test]
+fn sends_whole_pieces_and_the_rest(rt: HostRuntime) -> Result<(), Fail> {
+    let body = long_body(rt.alloc())?;
+    let mut buffer = PieceBuffer::new(rt.alloc())?;
+    'rows: for row in SENDS.split('\n') {
+        assert!(rt; is_sent(rt.alloc(), &body, &mut buffer, row)?, "{row}");
     }
     Ok(())
 }
 
-#[test]
-fn writes_a_trace_behind_the_program(rt: HostRuntime) -> Result<(), Fail> {
-    let alloc = rt.alloc();
+/// Traces, and their comments.
+const TRACES: [(&str, &str); 5] = [
+    ("", ""),
+    ("TRACE 1\nend 0 0\n", "//!TRACE 1\n//!end 0 0\n"),
+    ("one\n\nthree\n", "//!one\n//!\n//!three\n"),
+    ("one\ntwo", "//!one\n//!two\n"),
+    ("\r\n//!\"{\t\n", "//!\r\n//!//!\"{\t\n"),
+];
+
+/// Whether a trace is written as these comments after a program.
+fn is_commented(alloc: Global, trace: &str, comments: &str) -> Result<bool, AllocError> {
     let mut body = Circuit::empty(alloc, 1)?;
     body.push(Gate::X { q: 0 })?;
-    let rows: [(&[u8], &str); 5] = [
-        (b"", ""),
-        (b"TRACE 1\nend 0 0\n", "//!TRACE 1\n//!end 0 0\n"),
-        (b"one\n\nthree\n", "//!one\n//!\n//!three\n"),
-        (b"one\ntwo", "//!one\n//!two\n"),
-        (b"\r\n//!\"{\t\n", "//!\r\n//!//!\"{\t\n"),
-    ];
-    for (trace, comments) in rows {
-        let output = Output {
-            body: &body,
-            registers: &[],
-            reads: &[],
-            lengths: &[body.len()],
-            barriers: &[],
-            trace,
-        };
-        let text = program_text(alloc, &output)?;
-        let mut wanted = String::from_str(alloc, HEAD)?;
-        wanted.push_str("qreg q[1];\nx q[0];\n")?;
-        wanted.push_str(comments)?;
-        assert_eq!(rt; text.as_slice(), wanted.as_bytes());
+    let text = bare_text(alloc, &body, trace.as_bytes())?;
+    let mut lines = String::from_str(alloc, "qreg q[1];\nx q[0];\n")?;
+    lines.push_str(comments)?;
+    is_program(alloc, &text, lines.as_str())
+}
+
+#[test]
+fn writes_a_trace_behind_the_program(rt: HostRuntime) -> Result<(), Fail> {
+    'rows: for (trace, comments) in TRACES {
+        assert!(rt; is_commented(rt.alloc(), trace, comments)?, "{trace}");
     }
     Ok(())
 }
@@ -191,9 +278,8 @@ fn writes_a_barrier_between_two_parts(rt: HostRuntime) -> Result<(), Fail> {
         trace: b"",
     };
     let text = program_text(alloc, &output)?;
-    let mut wanted = String::from_str(alloc, HEAD)?;
-    wanted.push_str("qreg q[4];\nh q[1];\ncx q[1],q[0];\nbarrier q[3],q[0];\nx q[2];\n")?;
-    assert_eq!(rt; text.as_slice(), wanted.as_bytes());
+    let lines = "qreg q[4];\nh q[1];\ncx q[1],q[0];\nbarrier q[3],q[0];\nx q[2];\n";
+    assert!(rt; is_program(alloc, &text, lines)?);
     Ok(())
 }
 
@@ -216,21 +302,15 @@ fn writes_parts_without_gates(rt: HostRuntime) -> Result<(), Fail> {
         trace: b"",
     };
     let text = program_text(alloc, &output)?;
-    let mut wanted = String::from_str(alloc, HEAD)?;
-    wanted.push_str(
-        "qreg q[2];\nbarrier q[0];\nx q[0];\nbarrier q[1],q[0],q[1];\nbarrier q[1];\n",
-    )?;
-    assert_eq!(rt; text.as_slice(), wanted.as_bytes());
+    let lines = "qreg q[2];\nbarrier q[0];\nx q[0];\nbarrier q[1],q[0],q[1];\nbarrier q[1];\n";
+    assert!(rt; is_program(alloc, &text, lines)?);
     Ok(())
 }
 
 #[test]
 fn writes_a_barrier_in_a_later_piece(rt: HostRuntime) -> Result<(), Fail> {
     let alloc = rt.alloc();
-    let mut body = Circuit::empty(alloc, 12)?;
-    'gates: for _ in 0..1_030 {
-        body.push(Gate::P { k: 3, q: 11 })?;
-    }
+    let body = long_body(alloc)?;
     let barriers = [Vec::from_slice(alloc, &[11, 0])?];
     let last = body.len().min(30);
     let output = Output {
@@ -245,16 +325,15 @@ fn writes_a_barrier_in_a_later_piece(rt: HostRuntime) -> Result<(), Fail> {
         trace: b"",
     };
     let text = program_text(alloc, &output)?;
-    let mut wanted = String::from_str(alloc, HEAD)?;
-    wanted.push_str("qreg q_[12];\ncreg q[1];\n")?;
+    let mut wanted = String::from_str(alloc, "qreg q_[12];\ncreg q[1];\n")?;
     'before: for _ in 0..1_000 {
         wanted.push_str("u1(3*pi/4) q_[11];\n")?;
     }
     wanted.push_str("barrier q_[11],q_[0];\n")?;
-    'behind: for _ in 0..30 {
+    'after: for _ in 0..30 {
         wanted.push_str("u1(3*pi/4) q_[11];\n")?;
     }
     wanted.push_str("measure q_[11] -> q[0];\n")?;
-    assert_eq!(rt; text.as_slice(), wanted.as_bytes());
+    assert!(rt; is_program(alloc, &text, wanted.as_str())?);
     Ok(())
 }

@@ -3,6 +3,7 @@
 ghost use Rattle.std.specs.Prelude.{◌≡◌, ◌≤◌, true, IfOk};
 ghost use Rattle.circuit_list.specs.Gates.{IsFine, most_wires};
 
+use crate::rows::{field, lines, number};
 use circuit_list::{Circuit, Gate};
 use coupling_map::{DeviceError, read_device};
 use placement::Placement;
@@ -69,61 +70,58 @@ fn traced(
     Ok(trace)
 }
 
+/// Whether the trace of one CNOT on the device below a row is that of the row.
+fn is_traced(alloc: Global, row: &str) -> Result<bool, DeviceError> {
+    let (row, device) = row.split_once('\n').unwrap_or((row, ""));
+    let (c, t) = (number(field(row, 0), 0), number(field(row, 0), 1));
+    let trace = traced(alloc, device.as_bytes(), &[Gate::Cx { c, t }], None)?;
+    Ok(trace.as_slice() == lines(alloc, field(row, 1))?.as_slice())
+}
+
+/// Control, target and trace on the device below. A CNOT along its edge, and one against it; a swap with both edges, with one,
+/// and with the other; and where the swap moved the control away from its edge.
+const ROWS: &str = "\
+0 1 | TRACE 1;place 0 1;emit 0;end 0;
+qubits = 2
+edges = [[0, 1]]
+
+1 0 | TRACE 1;place 0 1;back 0;end 4;
+qubits = 2
+edges = [[0, 1]]
+
+0 2 | TRACE 1;place 0 1 2;swap 0 1;emit 0;end 0;
+qubits = 3
+edges = [[0, 1], [1, 0], [1, 2]]
+
+0 2 | TRACE 1;place 0 1 2;turn 0 1;emit 0;end 4;
+qubits = 3
+edges = [[0, 1], [1, 2]]
+
+2 0 | TRACE 1;place 0 1 2;turn 1 0;emit 0;end 4;
+qubits = 3
+edges = [[1, 0], [2, 1]]
+
+0 2 | TRACE 1;place 0 1 2;swap 0 1;back 0;end 4;
+qubits = 3
+edges = [[0, 1], [1, 0], [2, 1]]";
+
 #[test]
 fn writes_worked_rows(rt: HostRuntime) -> Result<(), Fail> {
-    let alloc = rt.alloc();
+    'rows: for row in ROWS.split("\n\n") {
+        assert!(rt; is_traced(rt.alloc(), row)?, "{row}");
+    }
+    Ok(())
+}
+
+#[test]
+fn writes_the_steps_before(rt: HostRuntime) -> Result<(), Fail> {
     let step = TraceStep::Join {
         first: 0,
         second: 1,
     };
-    let trace = traced(
-        alloc,
-        b"qubits = 1\nedges = []",
-        &[Gate::P { k: 2, q: 0 }],
-        Some(step),
-    )?;
-    assert_eq!(rt;
-        trace.as_slice(),
-        b"TRACE 1\njoin 0 1\nplace 0\nemit 0\nend 0\n".as_slice()
-    );
-    let rows = [
-        // a CNOT along its edge, and one against it
-        (
-            b"qubits = 2\nedges = [[0, 1]]".as_slice(),
-            [Gate::Cx { c: 0, t: 1 }],
-            b"TRACE 1\nplace 0 1\nemit 0\nend 0\n".as_slice(),
-        ),
-        (
-            b"qubits = 2\nedges = [[0, 1]]",
-            [Gate::Cx { c: 1, t: 0 }],
-            b"TRACE 1\nplace 0 1\nback 0\nend 4\n",
-        ),
-        // a swap with both edges, with one, and with the other
-        (
-            b"qubits = 3\nedges = [[0, 1], [1, 0], [1, 2]]",
-            [Gate::Cx { c: 0, t: 2 }],
-            b"TRACE 1\nplace 0 1 2\nswap 0 1\nemit 0\nend 0\n",
-        ),
-        (
-            b"qubits = 3\nedges = [[0, 1], [1, 2]]",
-            [Gate::Cx { c: 0, t: 2 }],
-            b"TRACE 1\nplace 0 1 2\nturn 0 1\nemit 0\nend 4\n",
-        ),
-        (
-            b"qubits = 3\nedges = [[1, 0], [2, 1]]",
-            [Gate::Cx { c: 2, t: 0 }],
-            b"TRACE 1\nplace 0 1 2\nturn 1 0\nemit 0\nend 4\n",
-        ),
-        // the swap moved the control away from its edge
-        (
-            b"qubits = 3\nedges = [[0, 1], [1, 0], [2, 1]]",
-            [Gate::Cx { c: 0, t: 2 }],
-            b"TRACE 1\nplace 0 1 2\nswap 0 1\nback 0\nend 4\n",
-        ),
-    ];
-    for (device, gates, wanted) in rows {
-        let trace = traced(alloc, device, &gates, None)?;
-        assert_eq!(rt; trace.as_slice(), wanted);
-    }
+    let gates = [Gate::P { k: 2, q: 0 }];
+    let trace = traced(rt.alloc(), b"qubits = 1\nedges = []", &gates, Some(step))?;
+    let wanted = b"TRACE 1\njoin 0 1\nplace 0\nemit 0\nend 0\n";
+    assert!(rt; trace.as_slice() == wanted.as_slice());
     Ok(())
 }

@@ -1,7 +1,9 @@
 //! Worked rows: the texts of a source and of a target, a trace, and the verdict.
 
-use qroute_top::check_trace;
+use crate::rows::{field, lines, word};
+use std::alloc::{AllocError, Global};
 use std::test::Fail;
+use trace_verdict::check_trace;
 
 const TWO_T: &str = "OPENQASM 2.0;\ninclude \"qelib1.inc\";\nqreg q[1];\nt q[0];\nt q[0];\n";
 
@@ -11,63 +13,45 @@ const NO_QUBITS: &str = "OPENQASM 2.0;\nqreg q[0];\n";
 
 const BAD_BYTE: &str = "OPENQASM 2.0;\n@\n";
 
+/// The text of a name.
+fn text_of(name: &str) -> &'static str {
+    if name == "two_t" {
+        TWO_T
+    } else if name == "one_s" {
+        ONE_S
+    } else if name == "no_qubits" {
+        NO_QUBITS
+    } else {
+        BAD_BYTE
+    }
+}
+
+fn is_verdict(alloc: Global, row: &str) -> Result<bool, AllocError> {
+    let names = field(row, 0);
+    let (source, target) = (text_of(word(names, 0)), text_of(word(names, 1)));
+    let trace = lines(alloc, field(row, 2))?;
+    if source.len() >= 1 << 31 || target.len() >= 1 << 31 || trace.len() >= 1 << 31 {
+        return Ok(false);
+    }
+    let verdict = check_trace(alloc, source.as_bytes(), target.as_bytes(), &trace)?;
+    let found = format!(in alloc; "{verdict:?}")?;
+    Ok(found.as_str() == field(row, 1))
+}
+
+/// The names of source and target, the verdict, and the trace.
+const ROWS: &str = "\
+two_t one_s | Yes { initial: [0], last: [0], phase: 0 } | TRACE 1;join 0 1;place 0;emit 0;end 0;
+two_t one_s | No { line: 5 } | TRACE 1;join 0 1;place 0;emit 0;end 4;
+two_t one_s | No { line: 4 } | TRACE 1;place 0;emit 0;end 0;
+no_qubits one_s | Source(TextRefusal { code: 25, at: 1 }) | -
+two_t bad_byte | Target(TextRefusal { code: 10, at: 14 }) | -
+no_qubits bad_byte | Source(TextRefusal { code: 25, at: 1 }) | -
+bad_byte no_qubits | Source(TextRefusal { code: 10, at: 14 }) | -";
+
 #[test]
 fn rows_on_texts(rt: HostRuntime) -> Result<(), Fail> {
-    let alloc = rt.alloc();
-    let rows: [(&str, &str, &str, &str); 7] = [
-        (
-            TWO_T,
-            ONE_S,
-            "TRACE 1\njoin 0 1\nplace 0\nemit 0\nend 0\n",
-            "Yes { initial: [0], last: [0], phase: 0 }",
-        ),
-        (
-            TWO_T,
-            ONE_S,
-            "TRACE 1\njoin 0 1\nplace 0\nemit 0\nend 4\n",
-            "No { line: 5 }",
-        ),
-        (
-            TWO_T,
-            ONE_S,
-            "TRACE 1\nplace 0\nemit 0\nend 0\n",
-            "No { line: 4 }",
-        ),
-        (
-            NO_QUBITS,
-            ONE_S,
-            "",
-            "Source(TextRefusal { code: 25, at: 1 })",
-        ),
-        (
-            TWO_T,
-            BAD_BYTE,
-            "",
-            "Target(TextRefusal { code: 10, at: 14 })",
-        ),
-        (
-            NO_QUBITS,
-            BAD_BYTE,
-            "",
-            "Source(TextRefusal { code: 25, at: 1 })",
-        ),
-        (
-            BAD_BYTE,
-            NO_QUBITS,
-            "",
-            "Source(TextRefusal { code: 10, at: 14 })",
-        ),
-    ];
-    for (source, target, trace, wanted) in rows {
-        assert!(rt; source.len() < 1 << 31 && target.len() < 1 << 31 && trace.len() < 1 << 31);
-        let verdict = check_trace(
-            alloc,
-            source.as_bytes(),
-            target.as_bytes(),
-            trace.as_bytes(),
-        )?;
-        let found = format!(in alloc; "{verdict:?}")?;
-        assert_eq!(rt; found.as_str(), wanted, "at {source}{target}{trace}");
+    'rows: for row in ROWS.split('\n') {
+        assert!(rt; is_verdict(rt.alloc(), row)?, "{row}");
     }
     Ok(())
 }

@@ -2,4 +2,4 @@ use Rattle.std.proofs.Common.{◌<◌}
 use Rattle.pass_tests.proofs.cancel_tests.plain_walks.Given as goal
 
 abbrev pub invariant-walks : goal.invariant-walks
-invariant-walks g l = l.turn < 8
+invariant-walks l = l.turn < 8

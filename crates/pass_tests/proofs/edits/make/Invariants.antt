@@ -2,4 +2,4 @@ use Rattle.std.proofs.Common.{◌≡◌}
 use Rattle.pass_tests.proofs.edits.make.Given as goal
 
 abbrev pub invariant-edits : goal.invariant-edits
-invariant-edits g l = l.body.wires ≡ l.wires
+invariant-edits l = l.body.wires ≡ l.wires

@@ -1,5 +1,5 @@
 use Rattle.std.proofs.Common.{arith}
-use Rattle.pass_tests.proofs.rewrite_tests.FlipLaws.{front_pair, pair_law, pair_shrinks, pair_keeps}
+use Rattle.pass_tests.proofs.rewrite_tests.PairLaws.{front_pair, pair_law, pair_shrinks, pair_keeps}
 use Rattle.pass_tests.proofs.rewrite_tests.FirstPairPass.run.Goals as goal
 
 pub returns-clause-law : goal.returns-clause-law

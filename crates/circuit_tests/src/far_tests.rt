@@ -1,0 +1,120 @@
+//! Gates far apart, with gates or with empty slots between them.
+
+use crate::circuits::{first_slots, has_gates, slot_at};
+use circuit_list::{Circuit, Gate, Slot};
+use std::alloc::Global;
+use std::test::Fail;
+use test_rows::number;
+
+/// H on wire 1, 300 times X on wire 0, H on wire 1 and X on wire 0; linked after the first gate, or not.
+fn far_apart(alloc: Global, is_linked: bool) -> Result<Circuit, Fail> {
+    let mut circuit = Circuit::empty(alloc, 2)?;
+    circuit.push(Gate::H { q: 1 })?;
+    if is_linked {
+        circuit.link()?;
+    }
+    'pushes: for _ in 0..300 {
+        circuit.push(Gate::X { q: 0 })?;
+    }
+    circuit.push(Gate::H { q: 1 })?;
+    circuit.push(Gate::X { q: 0 })?;
+    Ok(circuit)
+}
+
+/// Whether each of the two H is the other's next or last gate on wire 1.
+fn is_found(circuit: &Circuit) -> bool {
+    if circuit.len() != 303 {
+        return false;
+    }
+    let (first, far) = (circuit.slot(0), circuit.slot(301));
+    let (near_wire, none) = circuit.gate_at(first).wires();
+    let (far_wire, _) = circuit.gate_at(far).wires();
+    near_wire == 1
+        && none.is_none()
+        && circuit.next_on(first, near_wire) == Some(far)
+        && circuit.next_on(far, far_wire).is_none()
+        && circuit.prev_on(far, far_wire) == Some(first)
+}
+
+#[test]
+fn finds_gates_far_away(rt: HostRuntime) -> Result<(), Fail> {
+    'links: for is_linked in [false, true] {
+        assert!(rt; is_found(&far_apart(rt.alloc(), is_linked)?), "{is_linked}");
+    }
+    Ok(())
+}
+
+/// The same with all but the first and the last X taken out.
+fn hollow(alloc: Global, is_linked: bool) -> Result<Circuit, Fail> {
+    let mut circuit = far_apart(alloc, is_linked)?;
+    'removals: for _ in 0..299 {
+        if circuit.len() > 2 {
+            circuit.remove(2);
+        }
+    }
+    Ok(circuit)
+}
+
+/// Whether the gates on both sides of the empty slots are next to each other, under their slots.
+fn is_closed(circuit: &Circuit, slots: &[Slot]) -> bool {
+    if circuit.len() != 4 || slots.len() != 302 {
+        return false;
+    }
+    let (second, far) = (circuit.slot(1), circuit.slot(2));
+    circuit.slot(0) == slots[0]
+        && far == slots[301]
+        && circuit.after(second) == Some(far)
+        && circuit.before(far) == Some(second)
+}
+
+#[test]
+fn tells_gates_past_empty_slots(rt: HostRuntime) -> Result<(), Fail> {
+    let slots = first_slots(rt.alloc(), 302)?;
+    'links: for is_linked in [false, true] {
+        assert!(rt;
+            is_closed(&hollow(rt.alloc(), is_linked)?, &slots),
+            "{is_linked}"
+        );
+    }
+    Ok(())
+}
+
+/// Whether the first gate from a slot on is at the place that a row has for it.
+fn is_first_from(circuit: &Circuit, slots: &[Slot], row: &str) -> bool {
+    match slots.get(number(row, 0) as usize) {
+        Some(slot) => circuit.slot_from(*slot) == slot_at(circuit, number(row, 1)),
+        None => false,
+    }
+}
+
+/// A slot, by how many slots are before it, and the place of the first gate from there on.
+const FROM: &str = "\
+0 0
+2 2
+255 2
+301 2
+303 -
+69999 -";
+
+#[test]
+fn finds_gates_past_empty_slots(rt: HostRuntime) -> Result<(), Fail> {
+    let slots = first_slots(rt.alloc(), 70_000)?;
+    'links: for is_linked in [false, true] {
+        let circuit = hollow(rt.alloc(), is_linked)?;
+        'rows: for row in FROM.split('\n') {
+            assert!(rt; is_first_from(&circuit, &slots, row), "{row}");
+        }
+    }
+    Ok(())
+}
+
+#[test]
+fn drops_empty_slots(rt: HostRuntime) -> Result<(), Fail> {
+    let slots = first_slots(rt.alloc(), 4)?;
+    let mut circuit = hollow(rt.alloc(), true)?;
+    circuit.compact()?;
+    let is_same = has_gates(rt.alloc(), &circuit, "h.1 x.0 h.1 x.0")?;
+    assert!(rt; is_same && circuit.len() == 4 && circuit.wires() == 2);
+    assert!(rt; slot_at(&circuit, 3) == slots.last().copied());
+    Ok(())
+}

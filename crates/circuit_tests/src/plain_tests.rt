@@ -1,0 +1,239 @@
+//! Random edits against a plain list.
+
+ghost use Rattle.std.specs.Prelude.{◌≡◌, ◌+◌, ◌*◌, ◌/◌, ◌%◌, ◌<◌};
+ghost use Rattle.circuit_list.specs.Gates.{IsFine};
+
+use crate::circuits::first_slots;
+use circuit_list::{Circuit, Gate, Slot};
+use std::test::Fail;
+
+/// Numbers that look random, the same at each run.
+#[derive(Drop)]
+struct Random {
+    state: u64,
+}
+
+impl Random {
+    fn below(&mut self, limit: usize) -> usize
+        requires { 0 < limit }
+        ensures { result < limit }
+    {
+        self.state = self
+            .state
+            .wrapping_mul(6364136223846793005)
+            .wrapping_add(1442695040888963407);
+        (self.state >> 33) as usize % limit
+    }
+
+    fn gate(&mut self) -> Gate
+        ensures { IsFine 256 result }
+    {
+        let number = self.below(8);
+        let wire = wire_of(number);
+        match self.below(4) {
+            0 => Gate::H { q: wire },
+            1 => Gate::X { q: wire },
+            2 => Gate::P {
+                k: self.below(7) as u8 + 1,
+                q: wire,
+            },
+            _ => Gate::Cx {
+                c: wire,
+                t: wire_of((number + 1 + self.below(7)) % 8),
+            },
+        }
+    }
+}
+
+/// Eight wires, four with one bit in the marks of the slots and four with the next.
+fn wire_of(number: usize) -> u32
+    requires { number < 8 }
+    ensures below { result < 256 }
+    ensures number { number ≡ result / 64 * 2 + result % 64 }
+{
+    (number / 2 * 64 + number % 2) as u32
+}
+
+/// The circuit as a plain list: each gate with its slot.
+#[derive(Drop)]
+struct Plain {
+    gates: Vec<Gate>,
+    slots: Vec<Slot>,
+}
+
+impl Plain {
+    /// The slot of the next gate on a wire, by a look at each.
+    fn next_on(&self, place: usize, wire: u32) -> Option<Slot> {
+        let mut found = None;
+        'gates: for (gate, slot) in self.gates.iter().zip(self.slots.iter()).skip(place).skip(1) {
+            let (first, second) = gate.wires();
+            if found.is_none() && (first == wire || second == Some(wire)) {
+                found = Some(*slot);
+            }
+        }
+        found
+    }
+
+    /// The slot of the last gate on a wire before a place.
+    fn prev_on(&self, place: usize, wire: u32) -> Option<Slot> {
+        let mut found = None;
+        'gates: for (gate, slot) in self.gates.iter().zip(self.slots.iter()).take(place) {
+            let (first, second) = gate.wires();
+            if first == wire || second == Some(wire) {
+                found = Some(*slot);
+            }
+        }
+        found
+    }
+
+    /// The slot after that at a place.
+    fn slot_after(&self, place: usize) -> Option<Slot> {
+        self.slots.get(place.saturating_add(1)).copied()
+    }
+
+    /// The slot before that at a place.
+    fn slot_before(&self, place: usize) -> Option<Slot> {
+        if place == 0 {
+            None
+        } else {
+            self.slots.get(place - 1).copied()
+        }
+    }
+
+    /// The first slot that isn't before one, by a look at each.
+    fn slot_from(&self, slot: Slot) -> Option<Slot> {
+        let mut found = None;
+        'slots: for other in &self.slots {
+            if found.is_none() && *other >= slot {
+                found = Some(*other);
+            }
+        }
+        found
+    }
+
+    /// New slots: the first of all.
+    fn compact(&mut self, first: &[Slot]) {
+        'slots: for (slot, new) in self.slots.iter_mut().zip(first.iter()) {
+            *slot = *new;
+        }
+    }
+}
+
+/// One edit of both, each kind as often as the others, but for more pushes.
+fn edit(circuit: &mut Circuit, plain: &mut Plain, random: &mut Random) -> Result<(), Fail>
+    requires { circuit.old.wires ≡ 256 }
+    ensures { circuit.new.wires ≡ 256 }
+{
+    let gate = random.gate();
+    let len = circuit.len();
+    let choice = random.below(6);
+    if len == 0 || choice < 2 {
+        circuit.push(gate)?;
+        plain.gates.push(gate)?;
+        if len < circuit.len() {
+            plain.slots.push(circuit.slot(len))?;
+        }
+        return Ok(());
+    }
+    let place = random.below(len);
+    if plain.gates.len() != len || plain.slots.len() != len {
+        return Ok(());
+    }
+    let slot = circuit.slot(place);
+    if choice < 4 {
+        let _gate = plain.gates.remove(place);
+        let _slot = plain.slots.remove(place);
+        if choice == 2 {
+            circuit.remove(place);
+        } else {
+            circuit.remove_at(slot);
+        }
+    } else {
+        plain.gates[place] = gate;
+        if choice == 4 {
+            circuit.replace(place, gate);
+        } else {
+            circuit.replace_at(slot, gate);
+        }
+    }
+    Ok(())
+}
+
+/// Whether the gates next to one on its wires are those of the plain list.
+fn is_next(circuit: &Circuit, plain: &Plain, place: usize) -> bool {
+    if place >= circuit.len() {
+        return false;
+    }
+    let slot = circuit.slot(place);
+    let (first, second) = circuit.gate_at(slot).wires();
+    let second = second.unwrap_or(first);
+    circuit.next_on(slot, first) == plain.next_on(place, first)
+        && circuit.next_on(slot, second) == plain.next_on(place, second)
+        && circuit.prev_on(slot, first) == plain.prev_on(place, first)
+        && circuit.prev_on(slot, second) == plain.prev_on(place, second)
+}
+
+/// Whether all other answers at one place are those of the plain list, and the first slot from some other slot on, which may have
+/// had a gate or never been there.
+fn is_same(circuit: &Circuit, plain: &Plain, place: usize, other: Slot) -> bool {
+    if place >= circuit.len() {
+        return false;
+    }
+    let slot = circuit.slot(place);
+    plain.slots.get(place).copied() == Some(slot)
+        && circuit.place(slot) == place
+        && plain.gates.get(place).copied() == Some(circuit.gate(place))
+        && circuit.gate_at(slot) == circuit.gate(place)
+        && circuit.first() == plain.slots.first().copied()
+        && circuit.after(slot) == plain.slot_after(place)
+        && circuit.before(slot) == plain.slot_before(place)
+        && circuit.slot_from(slot) == Some(slot)
+        && circuit.slot_from(other) == plain.slot_from(other)
+}
+
+/// Whether both are as long, and agree at a drawn place.
+fn agrees(circuit: &Circuit, plain: &Plain, slots: &[Slot], random: &mut Random) -> bool {
+    let len = circuit.len();
+    if plain.gates.len() != len || plain.slots.len() != len {
+        return false;
+    }
+    if len == 0 {
+        return true;
+    }
+    let place = random.below(len);
+    match slots.get(random.below(len.saturating_add(40))) {
+        Some(other) => is_same(circuit, plain, place, *other) && is_next(circuit, plain, place),
+        None => false,
+    }
+}
+
+/// Five kinds of edits on eight of 256 wires, more than a thousand of each, with empty slots dropped now and then, and after each of
+/// them the answers at a drawn place. The circuit is linked at a drawn moment, in the middle third, and no longer linked from one in
+/// the last.
+#[test]
+fn answers_as_a_plain_list_does(rt: HostRuntime) -> Result<(), Fail> {
+    let slots = first_slots(rt.alloc(), 7_100)?;
+    let mut random = Random { state: 1 };
+    let mut circuit = Circuit::empty(rt.alloc(), 256)?;
+    let mut plain = Plain {
+        gates: Vec::new(rt.alloc()),
+        slots: Vec::new(rt.alloc()),
+    };
+    let moment = 2400 + random.below(2200);
+    let end = 4700 + random.below(2200);
+    'steps: for step in 0..7000 {
+        if step == moment {
+            circuit.link()?;
+        }
+        if step == end {
+            circuit.unlink();
+        }
+        edit(&mut circuit, &mut plain, &mut random)?;
+        if random.below(60) == 0 {
+            circuit.compact()?;
+            plain.compact(&slots);
+        }
+        assert!(rt; agrees(&circuit, &plain, &slots, &mut random), "{step}");
+    }
+    Ok(())
+}

@@ -1,8 +1,0 @@
-use Rattle.std.proofs.Common.{◌≡◌, ◌<◌}
-use Rattle.pass_tests.proofs.rewrite_tests.swept_plainly.Given as goal
-
-abbrev pub invariant-walks : goal.invariant-walks
-invariant-walks g l = record { wires : l.body.wires ≡ 1; low : l.turn < 8 }
-
-abbrev pub invariant-places : goal.invariant-places
-invariant-places g l = record { wires : l.body.wires ≡ 1; low : l.turn < 8 }

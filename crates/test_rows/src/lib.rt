@@ -1,0 +1,53 @@
+//! What tests share that read their rows from a text: the words of a row, its numbers, and the line that is wanted.
+//!
+//! A test is proved too, and rows of tuples are dear. So a table is one text with a row on each line. Its words are apart by
+//! single spaces: `word` gives one of them, and `number`, `small` and `numbers` read it. Rows of texts that have spaces of their
+//! own have bars between them: `field` gives one of those. No contract is needed: a word that isn't there, or is no number, reads
+//! as one that no row has, so that the row fails. The only error is out of memory.
+#![tactic(auto)]
+
+use std::alloc::{AllocError, Global};
+
+/// The number of a word that is none; no row has it.
+const NO_NUMBER: u32 = 7777;
+
+/// The word of a row at an index; an empty one for `-`.
+pub fn word(row: &str, at: usize) -> &str {
+    let word = row.split(' ').nth(at).unwrap_or("no word");
+    if word == "-" { "" } else { word }
+}
+
+/// The text of a row at an index, apart from the others by bars.
+pub fn field(row: &str, at: usize) -> &str {
+    row.split('|').nth(at).unwrap_or("no field")
+}
+
+/// The number of a row at an index.
+pub fn number(row: &str, at: usize) -> u64 {
+    word(row, at).parse::<u64>().unwrap_or(NO_NUMBER as u64)
+}
+
+/// The same, of 32 bits.
+pub fn small(row: &str, at: usize) -> u32 {
+    word(row, at).parse::<u32>().unwrap_or(NO_NUMBER)
+}
+
+/// The numbers of a word, apart by commas.
+pub fn numbers(alloc: Global, word: &str) -> Result<Vec<u32>, AllocError> {
+    let mut found = Vec::new(alloc);
+    if word.is_empty() {
+        return Ok(found);
+    }
+    'words: for number in word.split(',') {
+        found.push(number.parse::<u32>().unwrap_or(NO_NUMBER))?;
+    }
+    Ok(found)
+}
+
+/// Whether some bytes are this line and a line break.
+pub fn is_line(bytes: &[u8], line: &str) -> bool {
+    match bytes.split_last() {
+        Some((last, rest)) => *last == b'\n' && rest == line.as_bytes(),
+        None => false,
+    }
+}
