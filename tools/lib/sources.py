@@ -5,6 +5,7 @@ or a `trait`, one `ensures` at the beginning of a line.
 """
 
 import dataclasses
+import functools
 import glob
 import itertools
 import os
@@ -18,6 +19,7 @@ INLINE_TESTS = re.compile(r"^#\[cfg\(test\)\]\nmod \w+ \{\n.*?^\}", re.MULTILINE
 OPENING = re.compile(r"(pub(?:\(\w+\))? )?(impl|trait)\b.*\{$")
 
 
+@functools.cache
 def crates(top=TOP):
     """The crates of the repository with what they stand on, in the order of crates.txt."""
     found = {}
@@ -30,6 +32,7 @@ def crates(top=TOP):
     return found
 
 
+@functools.cache
 def rooms(top=TOP):
     """The rooms with their crates, in the order of crates.txt: a comment of its own above crates is the name of their room."""
     found = {}
@@ -41,6 +44,11 @@ def rooms(top=TOP):
             elif name := line.split("#")[0].split(":")[0].split():
                 found.setdefault(room, []).append(name[0])
     return found
+
+
+def product(top=TOP):
+    """The rooms of the product, without the crates that have nothing but tests and what tests share."""
+    return {room: listed for room, listed in rooms(top).items() if room != "tests"}
 
 
 @dataclasses.dataclass
@@ -79,6 +87,7 @@ def is_test(path, top=TOP):
         return bool(re.search(rf"^#\[cfg\(test\)\]\nmod {module_of(path)};", file.read(), re.MULTILINE))
 
 
+@functools.cache
 def named(crate, top=TOP):
     """The words that the sources of a crate have, comments left out: those of its code, and those of its tests."""
     code, tests = set(), set()
@@ -187,6 +196,7 @@ def functions_of(crate, path, top=TOP):
     return found
 
 
+@functools.cache
 def functions(top=TOP):
     found = []
     for crate in crates(top):
@@ -226,50 +236,15 @@ def promises(crate, top=TOP):
     return found
 
 
+def edit_paths(crate, top=TOP):
+    """The edits that must be refused with their files: those of the gate, and those that `tools/mutate` alone tries."""
+    found = [it for folder in ("must-fail", "more-edits") for it in glob.glob(f"crates/{crate}/{folder}/*.edit", root_dir=top)]
+    return {os.path.basename(it)[: -len(".edit")]: it for it in sorted(found, key=os.path.basename)}
+
+
 def edits(crate, top=TOP):
     """The names of the edits that must be refused."""
-    found = glob.glob(f"crates/{crate}/must-fail/*.edit", root_dir=top)
-    return sorted(os.path.basename(it)[: -len(".edit")] for it in found)
-
-
-@dataclasses.dataclass
-class EditRow:
-    """A line of docs/edits.tsv: see `tools/mutate`."""
-
-    crate: str
-    edit: str
-    role: str  # says, with, cut, instead or add
-    file: str
-    part: str  # a record, a function or a lemma, or a line of a definition, or the words of a file, or nothing
-    name: str  # its field, or its clause, or the line or words instead or of a file
-    proved: str  # yes or no, as `tools/mutate` found it
-
-    @property
-    def is_line(self):
-        return self.role == "says" and (" = " in self.part or " : " in self.part)
-
-    @property
-    def said(self):
-        if self.is_line:
-            return f"`{self.part}`"
-        return f"`{self.name}` of `{self.part}`" if self.name else f"the clause of `{self.part}`"
-
-
-EDIT_HEAD = "crate\tedit\trole\tfile\tpart\tname\tproved"
-
-
-def edit_rows(top=TOP):
-    """What docs/edits.tsv has."""
-    path = os.path.join(top, "docs", "edits.tsv")
-    if not os.path.exists(path):
-        return []
-    with open(path, encoding="utf-8") as file:
-        return [EditRow(*line.rstrip("\n").split("\t")) for line in file if line.rstrip("\n") != EDIT_HEAD]
-
-
-def edit_text(rows):
-    """The text of docs/edits.tsv."""
-    return "".join(f"{it}\n" for it in [EDIT_HEAD] + ["\t".join(dataclasses.astuple(row)) for row in rows])
+    return list(edit_paths(crate, top))
 
 
 def tracked(top=TOP):

@@ -22,9 +22,14 @@ def given():
 
 def put(text):
     """Writes a text to standard output, past Python's buffer, so that nothing is left to fail at the end."""
+    put_bytes(text.encode("utf-8", "surrogateescape"))
+
+
+def put_bytes(data):
+    """The same of bytes."""
     if sys.stdout is None:
         raise OSError(errno.EBADF, "it is closed", "standard output")
-    left = memoryview(text.encode("utf-8", "surrogateescape"))
+    left = memoryview(data)
     try:
         while left:
             left = left[os.write(sys.stdout.fileno(), left) :]

@@ -1,8 +1,12 @@
 import os
 import shutil
 import subprocess
+import sys
 
-from tool import ToolTest
+from tool import TOP, ToolTest
+
+sys.path.insert(0, os.path.join(TOP, "tools", "lib"))
+import built
 
 # takes memory three times, and has a way round the second; WRITES says whether it writes something where the third is refused
 STAND_IN = """
@@ -47,3 +51,13 @@ class Growths(ToolTest):
     def test_no_program(self):
         status, out, err = self.run_tool("refuse-growths", self.file("p", "no program"))
         self.assertEqual((status, out, err), (2, "", f"refuse-growths: {self.room}/p is no program\n"))
+
+    def test_built(self):
+        """Each growth of each command on the built program."""
+        program = built.program()
+        if program is None:
+            self.skipTest("there is no built program")
+        status, out, err = self.run_tool("refuse-growths", program, timeout=1200)
+        self.assertEqual((status, err), (0, ""), out)
+        self.assertEqual(len(out.splitlines()), 17)
+        self.assertIn("opt: status 0, ", out)

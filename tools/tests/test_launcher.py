@@ -6,30 +6,37 @@ import time
 
 from tool import TOP, ToolTest
 
-# Stands for rt: proves all crates and notes that, waits or fails as it is told, and builds a program that says what it was
-# built of.
+# Stands for rt: notes which crates it proves, with how many jobs, waits or fails as it is told, and builds a program that says
+# what it was built of.
 FAKE_RT = """#!/bin/bash
 here=$(dirname -- "$(readlink -f -- "$0")")/..
 [ "$1" = version ] && { cat "$here/kit"; exit; }
-if [ "$1 $2 $3" = "all check --jobs" ]; then
-    echo build >>"$here/builds"
-    echo "$4" >>"$here/jobs"
-    [ -e "$here/meanwhile" ] && { eval "$(cat "$here/meanwhile")"; rm "$here/meanwhile"; }
-    sleep "$(cat "$here/seconds" 2>/dev/null || echo 0)"
-    echo == low; echo it is proved
-    if [ -e "$here/fails" ]; then
-        printf '%s\\n' "== top" "one goal is open" "== summary" "low: ok" "top: failed (1)" "qroute: not run, since top failed"
-        exit 1
-    elif [ -e "$here/kills" ]; then
-        rm "$here/kills"
-        printf '%s\\n' "== top" "== summary" "low: ok" "top: failed (-9)" "qroute: not run, since top failed"
+name=$(basename -- "$PWD")
+echo "$name $3" >>"$here/jobs"
+if [ "$1 $2" = "lib --jobs" ]; then
+    echo "it is proved"
+    if [ "$name" = low ]; then
+        echo build >>"$here/builds"
+        [ -e "$here/meanwhile" ] && { eval "$(cat "$here/meanwhile")"; rm "$here/meanwhile"; }
+        sleep "$(cat "$here/seconds" 2>/dev/null || echo 0)"
+    elif [ ! -e ../low/out/rlib/stamp ]; then
+        echo "low isn't there"
         exit 1
     fi
-    [ -e "$here/wide" ] && { echo == other; sleep 30; }
-    printf '%s\\n' "== top" "it is proved" "== qroute" "== summary" "low: ok" "top: ok" "qroute: ok"
+    if [ "$name" = top ] && [ -e "$here/fails" ]; then
+        echo "one goal is open"
+        exit 1
+    elif [ "$name" = top ] && [ -e "$here/kills" ]; then
+        rm "$here/kills"
+        kill -9 $$
+    fi
+    mkdir -p out/rlib out/incremental
+    cat src/lib.rt >out/rlib/stamp
+    echo "$PWD" >>out/incremental/rooms
     exit 0
 fi
-[ -e "$here/leaves" ] && exit 3
+[ "$1 $2 $4 $5" = "run --jobs -- opt" ] || exit 2
+[ -e "$here/leaves" ] && { echo "it can't write"; exit 3; }
 mkdir -p out
 if [ -e "$here/shell" ]; then cp /bin/bash out/qroute; exit 3; fi
 { echo '#!/bin/bash'; echo "echo $(cat src/main.rt)" '"$@"'; } >out/qroute
@@ -40,6 +47,8 @@ CRATES = "# a comment\nlow: kit_crate\nqroute: top low # and more\ntop: low\noth
 
 
 class Launcher(ToolTest):
+    gate = ""
+
     def setUp(self):
         super().setUp()
         self.top = os.path.join(self.room, "checkout")
@@ -58,10 +67,14 @@ class Launcher(ToolTest):
         self.put(top, "crates/low/src/lib.rt", "low")
         self.put(top, "crates/low/src/tests.rt", "tests")
         self.put(top, "crates/low/specs/Lib.antt", "specs")
+        self.put(top, "crates/top/src/lib.rt", "top")
         self.put(top, "crates/other/src/lib.rt", "other")
         os.makedirs(os.path.join(top, "docs"))
         self.put(top, "docs/qroute.1", ".B qroute opt\n<\n.br\n.B qroute route \\-\\-device\n")
         shutil.copy(os.path.join(TOP, "qroute"), top)
+        os.makedirs(os.path.join(top, "tools/lib"))
+        for name in ("build", "lib/schedule.py", "lib/sources.py"):
+            shutil.copy(os.path.join(TOP, "tools", name), os.path.join(top, "tools", name))
 
     def put(self, top, name, text):
         with open(os.path.join(top, name), "w", encoding="utf-8") as file:
@@ -81,11 +94,11 @@ class Launcher(ToolTest):
         path = f"{self.room}/bin:{os.environ['PATH']}"
         top = self.top if top is None else top
         name = os.path.join(os.fsencode(top), b"qroute")
-        return [*before, name, *words], {"PATH": path, "HOME": self.room, "QROUTE_JOBS": "3"}
+        return [*before, name, *words], {"PATH": path, "HOME": self.room, "QROUTE_JOBS": "3", "QROUTE_GATE": self.gate}
 
     def launch(self, *words, **more):
         line, env = self.command(*words, **more)
-        ran = subprocess.run(line, capture_output=True, env=env, timeout=60, cwd="/")
+        ran = subprocess.run(line, capture_output=True, env=env, timeout=300, cwd="/")
         return ran.returncode, ran.stdout.decode(), ran.stderr.decode("utf-8", "replace")
 
     def assert_runs(self, says, builds, **more):
@@ -96,7 +109,8 @@ class Launcher(ToolTest):
     def test_builds_once(self):
         err = self.assert_runs("one", 1)
         self.assertIn("qroute: building the program, and proving it first", err)
-        lines = [it for it in err.splitlines() if it.startswith("qroute: crate ")]
+        self.assertRegex(err, r"qroute: up to 3 crates at a time, 1 minute by what they took before; one process takes up to \d+\.\d GB of memory, all together \d+\.\d, and \d+\.\d are free\n")
+        lines = [it.split(", about")[0] for it in err.splitlines() if it.startswith("qroute: crate ")]
         self.assertEqual(lines, [f"qroute: crate {i} of 3, {it}, 0 minutes so far" for i, it in enumerate(("low", "top", "qroute"), 1)])
         self.assertIn("qroute: built in ", err)
         self.assertEqual(self.assert_runs("one", 1), "")
@@ -130,8 +144,8 @@ class Launcher(ToolTest):
         for builds in (2, 3):
             status, out, err = self.launch("opt")
             self.assertEqual((status, out, self.builds()), (70, "", builds))
-            self.assertIn("== top: failed (1)\none goal is open\n", err)
-            self.assertNotIn("it is proved", err)
+            self.assertIn("== top: failed (1)\nit is proved\none goal is open\n", err)
+            self.assertNotIn("== low", err)
             self.assertIn("qroute: the build failed after ", err)
         # what rt had built is where it was, too
         with open(os.path.join(self.top, "crates/qroute/out/qroute"), encoding="utf-8") as file:
@@ -150,24 +164,64 @@ class Launcher(ToolTest):
         self.write("leaves", "")
         status, out, err = self.launch("opt")
         self.assertEqual((status, out), (70, ""))
-        self.assertIn("it is proved\n", err)
-        self.assertNotIn("qroute: over", err)
+        self.assertIn("== qroute: failed (3)\nit can't write\n", err)
 
-    def test_the_last_crates_have_all_processors(self):
-        # nothing can be built beside top and qroute, so the check of all crates is ended before them
+    def jobs(self):
+        with open(os.path.join(self.room, "jobs"), encoding="utf-8") as file:
+            return file.read().splitlines()
+
+    def test_crates_side_by_side(self):
+        # low and other at once, each with a job or two of three, and then top and qroute with all
         self.put(self.top, "crates.txt", CRATES.replace("top: low", "top: low other").replace("other: low", "other:"))
-        self.write("wide", "")
-        began = time.time()
-        err = self.assert_runs("one", 1)
-        self.assertLess(time.time() - began, 20)
-        self.assertIn("qroute: crate 2 of 4, other, 0 minutes so far\nqroute: the last 2 crates with all processors\n", err)
+        self.write("bin/rt", FAKE_RT.replace('elif [ ! -e ../low/out/rlib/stamp ]', 'elif [ "$name" = top ] && [ ! -e ../other/out/rlib/stamp ]'))
+        self.write("seconds", "1")
+        self.assert_runs("one", 1)
+        self.assertEqual(sorted(self.jobs()[:2]), ["low 1", "other 2"])
+        self.assertEqual(self.jobs()[2:], ["top 3", "qroute 3"])
 
     def test_a_check_that_was_killed(self):
         self.write("kills", "")
-        err = self.assert_runs("one", 2)
-        self.assertIn("qroute: the check of top was killed, most likely for want of memory\n", err)
-        with open(os.path.join(self.room, "jobs"), encoding="utf-8") as file:
-            self.assertEqual(file.read().split(), ["3", "1"])
+        err = self.assert_runs("one", 1)
+        self.assertIn("qroute: the check of top was killed, most likely for want of memory; once more, with nothing beside it\n", err)
+        self.assertEqual(self.jobs(), ["low 3", "top 3", "top 1", "qroute 3"])
+
+    def test_what_is_kept(self):
+        # each crate is proved in a room of its own, and what is kept goes from room to room
+        self.assert_runs("one", 1)
+        self.put(self.top, "crates/qroute/src/main.rt", "two")
+        self.assert_runs("two", 2)
+        with open(os.path.join(self.top, "crates/top/out/incremental/rooms"), encoding="utf-8") as file:
+            rooms = file.read().splitlines()
+        self.assertEqual(rooms, [os.path.join(self.top, "out/rooms/top/crates/top")] * 2)
+        self.assertEqual(os.listdir(os.path.join(self.top, "out/rooms")), [])
+        with open(os.path.join(self.top, "crates/top/out/rlib/stamp"), encoding="utf-8") as file:
+            self.assertEqual(file.read(), "top")
+
+    def test_rooms_that_a_killed_build_left(self):
+        left = "out/rooms/top/crates/top/out"
+        for kind in ("incremental", "rlib"):
+            os.makedirs(os.path.join(self.top, left, kind))
+            self.put(self.top, f"{left}/{kind}/rooms", "left\n")
+        self.assert_runs("one", 1)
+        with open(os.path.join(self.top, "crates/top/out/incremental/rooms"), encoding="utf-8") as file:
+            self.assertEqual(file.read().split("\n")[0], "left")
+        self.assertEqual(os.listdir(os.path.join(self.top, "out/rooms")), [])
+
+    def test_what_a_gate_built(self):
+        program = os.path.join(self.top, "crates/qroute/out/qroute")
+        os.makedirs(os.path.dirname(program))
+        self.put(self.top, "crates/qroute/out/qroute", "#!/bin/bash\necho by the gate\n")
+        os.chmod(program, 0o755)
+        self.gate = "1000"
+        # all sources are newer
+        self.assertEqual(self.launch("opt"), (70, "", "qroute: the gate's program isn't taken: it isn't there, or a source was written since the gate began\n"))
+        self.gate = f"{time.time() + 1}"
+        self.assertEqual(self.launch("opt"), (0, "by the gate\n", ""))
+        self.gate = ""
+        self.assertEqual(self.launch("opt"), (0, "by the gate\n", ""))
+        self.assertEqual(self.builds(), 0)
+        self.put(self.top, "crates/low/src/lib.rt", "changed")
+        self.assert_runs("one", 1)
 
     def test_words_that_no_command_begins_with(self):
         wanted = (
@@ -221,7 +275,7 @@ class Launcher(ToolTest):
         status, out, err = self.launch("opt", "second")
         self.assertEqual((status, out), (70, ""))
         self.assertIn("qroute: waiting for a build that another call began\n", err)
-        first.communicate(timeout=60)
+        first.communicate(timeout=300)
 
     def test_a_second_call_waits(self):
         self.write("seconds", "2")
@@ -232,7 +286,7 @@ class Launcher(ToolTest):
         status, out, err = self.launch("opt", "second")
         self.assertEqual((status, out), (0, "one opt second\n"))
         self.assertEqual(err, "qroute: waiting for a build that another call began\n")
-        self.assertEqual(first.communicate(timeout=60)[0], b"one opt first\n")
+        self.assertEqual(first.communicate(timeout=300)[0], b"one opt first\n")
         self.assertEqual(self.builds(), 1)
 
     def test_the_plain_name(self):
@@ -274,7 +328,7 @@ class Launcher(ToolTest):
         for name in ("bash", "readlink", "sed", "sort", "find", "xargs"):
             os.symlink(shutil.which(name), os.path.join(self.room, "bin", name))
         line, env = self.command("opt")
-        ran = subprocess.run(line, capture_output=True, env=env | {"PATH": f"{self.room}/bin"}, timeout=60)
+        ran = subprocess.run(line, capture_output=True, env=env | {"PATH": f"{self.room}/bin"}, timeout=300)
         self.assertEqual((ran.returncode, ran.stdout), (70, b""))
         self.assertEqual(ran.stderr, b"qroute: the command sha256sum isn't there, and the launcher needs it\n")
 

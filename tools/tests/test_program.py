@@ -1,0 +1,176 @@
+"""The built program, if what one run writes is what another reads, or if many texts are made by a rule."""
+
+import concurrent.futures
+import json
+import os
+import subprocess
+import sys
+
+from tool import TOP, ToolTest
+
+sys.path.insert(0, os.path.join(TOP, "tools", "lib"))
+import built
+from cases import HEADING
+
+DEVICES = {
+    "both": "qubits = 4\nedges = [[0, 1], [1, 0], [1, 2], [2, 1], [2, 3], [3, 2]]\n",
+    "one": "qubits = 4\nedges = [[1, 0], [1, 2], [3, 2]]\n",
+    "costs": "format = 2\nqubits = 4\nedges = [[0, 1, 5], [1, 3, 5], [2, 0, 1], [2, 3, 1]]\n",
+    "line": "qubits = 4\nedges = [[0, 1], [1, 2], [2, 3]]\n",
+    "ring": "qubits = 5\nedges = [[0, 1], [1, 2], [3, 2], [3, 4], [4, 0]]\n",
+}
+PROGRAMS = (
+    "qreg q[3]; creg c[3]; ccx q[0],q[1],q[2]; measure q -> c;",
+    "qreg q[4]; h q[0]; cx q[0],q[3]; s q[3]; h q[0]; cx q[1],q[2]; t q[2]; cx q[1],q[2]; tdg q[2];",
+    "qreg q[4]; x q[0]; cx q[0],q[2]; h q[2]; cx q[1],q[3]; t q[3]; cx q[3],q[0]; swap q[0],q[3];",
+    "qreg q[3]; cx q[0],q[1]; cx q[1],q[2]; cx q[0],q[1]; cx q[1],q[2]; h q[0]; s q[0]; h q[0];",
+    "qreg q[2]; rx(pi/4) q[0]; cx q[0],q[1]; y q[1]; cy q[1],q[0];",
+    "qreg q[1]; h q[0]; z q[0]; h q[0]; x q[0];",
+)
+KINDS = """gate g(x) a,b { u1(x) a; cx a,b; }
+qreg q[2];
+creg c[2];
+g(pi/4) q[0],q[1];
+barrier q;
+measure q -> c;
+"""
+
+
+def numbers(state):
+    """The numbers that are drawn from a start: the upper 31 bits of a linear congruence modulo 2^64."""
+    while True:
+        state = (state * 6364136223846793005 + 1442695040888963407) % 2**64
+        yield state >> 33
+
+
+def drawn_for_bench(start, gates, qubits):
+    """The program that `bench` draws, by its rule in docs/LANGUAGE.md."""
+    drawn = numbers(start)
+    lines = [f"qreg q[{qubits}];"]
+    for _ in range(gates):
+        kind, wire = next(drawn) % 8, next(drawn) % qubits
+        if kind < 5:
+            lines.append(f"{('h', 't', 'tdg', 's', 'x')[kind]} q[{wire}];")
+        else:
+            lines.append(f"cx q[{wire}],q[{(wire + 1 + next(drawn) % (qubits - 1)) % qubits}];")
+    return "\n".join(lines)
+
+
+def drawn(start, wires, gates, kinds):
+    """So many gates of these eight kinds on drawn wires."""
+    found = numbers(start)
+    lines = [f"qreg q[{wires}];"]
+    for _ in range(gates):
+        name, wire = kinds.split()[next(found) % 8], next(found) % wires
+        if name == "cx":
+            lines.append(f"cx q[{wire}],q[{(wire + 1 + next(found) % (wires - 1)) % wires}];")
+        else:
+            lines.append(f"{name} q[{wire}];")
+    return "\n".join(lines) + "\n"
+
+
+def checksum(data):
+    """That of Fowler, Noll and Vo (1a, 64 bits)."""
+    found = 0xCBF29CE484222325
+    for byte in data:
+        found = (found ^ byte) * 0x100000001B3 % 2**64
+    return found
+
+
+class Program(ToolTest):
+    def setUp(self):
+        super().setUp()
+        self.program = built.program()
+        if self.program is None:
+            self.skipTest("there is no built program")
+        for name, text in DEVICES.items():
+            self.file(name, text)
+
+    def ran(self, words, text=b""):
+        """Status and both outputs; a text in str stands behind the heading."""
+        given = text if isinstance(text, bytes) else HEADING + text.encode()
+        found = subprocess.run([self.program, *words.split()], input=given, capture_output=True, timeout=60, cwd=self.room)
+        return found.returncode, found.stdout, found.stderr
+
+    def each(self, check, rows):
+        """A check of each row, some at once."""
+        with concurrent.futures.ThreadPoolExecutor(os.cpu_count()) as pool:
+            for _ in pool.map(lambda row: check(*row), rows):
+                pass
+
+    def test_entries_of_a_toffoli(self):
+        """With spares the entries are its own if the spares end at zero, and else none; two H bring w^2."""
+        status, text, _ = self.ran("opt --spares 4", "qreg q[3]; ccx q[0],q[1],q[2];")
+        self.assertEqual(status, 0)
+        for begin, end in (("000", "000"), ("110", "111"), ("111", "110"), ("101", "101"), ("011", "011")):
+            for spares, entry in (("0000", b"0 0 1 0 0\n"), ("1000", b"0 0 0 0 0\n"), ("0001", b"0 0 0 0 0\n")):
+                words = f"amplitude --from {begin}0000 --to {end}{spares}"
+                self.assertEqual(self.ran(words, text), (0, entry, b""), words)
+
+    def verdict(self, name, source, target):
+        with open(os.path.join(self.room, f"{name}.s"), "wb") as file:
+            file.write(HEADING + source.encode())
+        with open(os.path.join(self.room, f"{name}.t"), "wb") as file:
+            file.write(target)
+        return self.ran(f"verify --source {name}.s --target {name}.t")
+
+    def verifies(self, name, device, program):
+        """The program and the report are those without a trace, the trace proves the report's phase, and needs each line."""
+        plain = self.ran(f"route --device {device}", program)
+        status, out, report = self.ran(f"route --device {device} --trace", program)
+        self.assertEqual((plain[0], status, report), (0, 0, plain[2]), program)
+        self.assertTrue(out.startswith(plain[1]), program)
+        yes = f"yes {json.loads(report)['phase']}\n".encode()
+        self.assertEqual(self.verdict(name, program, out), (0, yes, b""), program)
+        trace = out[len(plain[1]) :].splitlines(True)
+        self.assertGreater(len(trace), 2)
+        for number in range(len(trace)):
+            less = plain[1] + b"".join(trace[:number] + trace[number + 1 :])
+            status, out, _ = self.verdict(name, program, less)
+            self.assertEqual((status, out), (1, b""), (program, number))
+
+    def test_what_is_written_is_verified(self):
+        rows = [(device, program) for device in ("both", "one", "costs") for program in PROGRAMS]
+        self.each(self.verifies, [(str(i), *it) for i, it in enumerate(rows)])
+
+    def routes(self, start):
+        device, qubits = (("line", 4), ("ring", 5))[start % 2]
+        bench = self.ran(f"bench --start {start} --gates 200 --device {device}")
+        self.assertEqual(bench[0], 0)
+        self.assertEqual(bench, self.ran(f"route --device {device}", drawn_for_bench(start, 200, qubits)), start)
+        return json.loads(bench[2])["swaps"]
+
+    def test_what_is_drawn_is_routed(self):
+        """`bench` writes and tells what `route` does of the drawn program's text."""
+        with concurrent.futures.ThreadPoolExecutor(os.cpu_count()) as pool:
+            self.assertGreater(sum(pool.map(self.routes, range(50))), 0)
+
+    def test_another_program(self):
+        """Output and report of drawn programs have the checksums that another program's have, made apart from the specification."""
+        rows = (
+            (1, 3, 60, "h t tdg s x cx cx cx", 0xE6A737024CEFCB35),
+            (2, 4, 100, "h t cx cx s cx x cx", 0xCC13E0417F8ED469),
+            (3, 5, 140, "h t tdg s x cx cx cx", 0xD63A3C8E37AAC477),
+            (4, 5, 200, "h t cx cx s cx tdg cx", 0xBBE5BA18EEE8102A),
+            (5, 6, 240, "h t cx cx x cx cx cx", 0x1EBECB04ACEBADF6),
+            (6, 7, 300, "h t tdg s x cx cx cx", 0x744AAACF74E2013B),
+            (7, 8, 300, "h t cx cx s cx cx cx", 0xB33ECF58180886AF),
+            (8, 8, 180, "h s cx x tdg cx t h", 0x26403CF681AA93DE),
+        )
+        for start, wires, gates, kinds, wanted in rows:
+            status, out, report = self.ran("opt", drawn(start, wires, gates, kinds))
+            self.assertEqual((status, checksum(out + report)), (0, wanted), start)
+
+    def cut(self, length):
+        """A text that is cut behind a whole line is accepted, one that is cut elsewhere is refused."""
+        text = HEADING + KINDS.encode()
+        status, out, report = self.ran("opt", text[:length])
+        if b"\n" in text[length - 1 : length + 1]:
+            self.assertEqual(status, 0, length)
+        else:
+            self.assertEqual((status, out), (3, b""), length)
+        if length == 12:
+            self.assertEqual(report, b'{"code":12,"fault":"Syntax","place":12,"status":3}\n')
+
+    def test_cut_texts(self):
+        self.each(self.cut, [(it,) for it in range(1, len(HEADING + KINDS.encode()))])
