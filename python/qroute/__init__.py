@@ -5,13 +5,14 @@
     print(result.text, result.swaps, result.initial, result.final)
 
 Nothing is rewritten here: each call runs the program once, hands it the text, and reads what it wrote. The program is the
-file that the environment's QROUTE names; else the one that the launcher of this checkout has built, the one that was
-installed with this file, or one beside it; else `qroute` along PATH. A refusal, and every other end than a result, is an
-exception (`QrouteError`), which says in words what happened. The device files that come with `qroute` are found in this
-checkout, in `share/qroute/devices` beside the program's folder or Python's, or in the folder that the environment's
-QROUTE_DEVICES names.
+file that the environment's QROUTE names; else the one that the launcher of this checkout has built, the one in this package,
+as a wheel has it, or the one that was installed with this file; else `qroute` along PATH. A refusal, and every other end than
+a result, is an exception (`QrouteError`), which says in words what happened. The device files that come with `qroute` are
+those of the folder that the environment's QROUTE_DEVICES names, of this checkout, of this package, or of `share/qroute/devices`
+where it is installed.
 
-It needs Python 3.11 and no packages. docs/PYTHON.md says how to come from Qiskit and from pytket, and back.
+It needs Python 3.11 and no packages. `qroute.batch` runs many programs, and `qroute.qiskit` and `qroute.pytket` stand between
+this module and Qiskit or pytket; each has to be imported by its name. docs/PYTHON.md describes all of it.
 """
 
 from __future__ import annotations
@@ -30,10 +31,12 @@ import tomllib
 import typing
 
 __all__ = [
+    "AnyGates",
     "Checked",
     "Device",
     "DeviceRefused",
     "Fault",
+    "Metrics",
     "NoCommand",
     "NoMemory",
     "NoProgram",
@@ -44,6 +47,8 @@ __all__ = [
     "SAYS",
     "Stage",
     "StreamFault",
+    "Unreadable",
+    "Verdict",
     "amplitude",
     "check",
     "opt",
@@ -52,7 +57,7 @@ __all__ = [
     "stages",
     "verify",
 ]
-__version__ = "0.9.0"
+__version__ = "0.10.0"
 
 HERE = pathlib.Path(__file__).resolve().parent
 
@@ -131,7 +136,7 @@ class NoProgram(QrouteError):
 class Fault(QrouteError):
     """The program ended with another status than 0.
 
-    `name` is the fault's, as `Syntax`, `code` its number where it has one, `status` the program's, and `told` the line itself.
+    `name` is the fault's, as `Syntax`, `code` its number if it has one, `status` the program's, and `told` the line itself.
     """
 
     def __init__(self, told: dict[str, typing.Any], status: int, where: str = "") -> None:
@@ -148,9 +153,9 @@ class NoCommand(Fault):
 
 
 class Refused(Fault):
-    """The text was refused. `line` and `column`, from 1, tell where, and `offset` in bytes, where the refusal has a place.
+    """The text was refused. If the refusal has a place, `line` and `column` give it from 1, and `offset` in bytes.
 
-    `which` is `source` or `target` where `verify` was asked.
+    `which` is `source` or `target` if `verify` was asked.
     """
 
     def __init__(self, told: dict[str, typing.Any], status: int, text: bytes) -> None:
@@ -184,7 +189,7 @@ class StreamFault(Fault):
 
 
 class NoMemory(Fault):
-    """Memory was wanting."""
+    """The program ran out of memory."""
 
 
 KINDS: dict[int, type[Fault]] = {
@@ -202,7 +207,7 @@ TOKEN = re.compile(rb'\s+|//[^\n]*|"[^"\n]*"|[{};]|[^\s{};"/]+|.')
 
 
 def statement_offset(text: bytes, number: int) -> int | None:
-    """The offset of a statement, counted from 1 behind the header's; None where there is none."""
+    """The offset of a statement, counted from 1 after the header's; None if there is none."""
     depth = count = 0
     begins = False
     for match in TOKEN.finditer(text):
@@ -245,6 +250,9 @@ class Device:
         """The device with these edges: pairs of control and target, or triples with a cost from 1 to 1,000,000.
 
         It has as many qubits as the edges need, or as `qubits` says; with `both` a CNOT may have each edge in both directions.
+
+        >>> Device.of([(0, 1), (1, 2)], both=True).edges()
+        [[0, 1], [1, 2], [1, 0], [2, 1]]
         """
         listed = [tuple(int(part) for part in it) for it in edges]
         if both:
@@ -276,24 +284,41 @@ class Device:
 
     def edges(self) -> list[list[int]]:
         """The edges, as the file has them."""
-        return tomllib.loads(self.text)["edges"]
+        return [list(it) for it in tomllib.loads(self.text)["edges"]]
 
     def qubits(self) -> int:
         """The number of qubits, as the file says it."""
-        return tomllib.loads(self.text)["qubits"]
+        return int(tomllib.loads(self.text)["qubits"])
 
 
 def device_folders() -> list[pathlib.Path]:
     """Where device files may be."""
     found = [pathlib.Path(os.environ["QROUTE_DEVICES"])] if "QROUTE_DEVICES" in os.environ else []
-    found.append(HERE.parent.parent / "devices")
-    roots = [pathlib.Path(sys.prefix)]
+    found += [HERE.parent.parent / "devices", HERE / "devices"]
+    roots = [*prefixes(), pathlib.Path(sys.prefix)]
     try:
         roots.insert(0, pathlib.Path(program()).resolve().parent.parent)
     except NoProgram:
         pass
     found += [it / "share/qroute/devices" for it in roots]
     return [it for it in found if it.is_dir()]
+
+
+# a measurement and the register of qubits, as the program writes them, a statement on a line
+MEASURE = re.compile(r"measure (?P<name>\w+)\[(?P<qubit>\d+)\] -> (?P<bit>\w+\[\d+\]);")
+QREG = re.compile(r"qreg (?P<name>\w+)\[\d+\];")
+
+
+def swaps_of(back: collections.abc.Mapping[int, int]) -> list[tuple[int, int]]:
+    """The swaps, in turn, that bring what is on each qubit to the one that the map tells: the fewest, if any two can be swapped."""
+    there = dict(back)
+    swaps = []
+    for qubit in sorted(there):
+        while there[qubit] != qubit:
+            other = there[qubit]
+            swaps.append((qubit, other))
+            there[qubit], there[other] = there[other], other
+    return swaps
 
 
 @dataclasses.dataclass(frozen=True)
@@ -303,13 +328,14 @@ class Result:
     Entry i of `initial` and `final` is the qubit on which wire i begins and ends; wires from `qubits` on are the spare ones
     of the device. The written unitary is exp(i pi/4) to the power `phase` times the source's, between the two.
 
-    Where `spares` is given, so many wires stand behind the source's, they start at zero and end
-    at zero. The written unitary is the source's then where they start at zero, and nothing is said of where they don't. It is
-    None where none were asked for.
+    `spares` is the number of wires after the source's, which start and end at zero; None if none were asked for. The written
+    unitary is the source's if they start at zero; nothing is said if they don't.
 
-    Where barriers are kept, entry j of `between` is the placement at barrier j, and entry j of `parts` the power of the part
-    before it, the last entry that of the part behind all barriers: each part is so its own source's, from the placement where
-    the one before ends. Both are None where barriers are left out.
+    If barriers are kept, entry j of `between` is the placement at barrier j, and entry j of `parts` the power of the part before
+    it; the last entry is that of the part after all barriers. Each part is its own source's, from the placement at which the one
+    before ends. Both are None if barriers are left out.
+
+    `any_gates` says what was put back, and what of it all is proved, if a program with any gates was asked for.
     """
 
     text: str
@@ -328,12 +354,57 @@ class Result:
     between: tuple[tuple[int, ...], ...] | None = None
     parts: tuple[int, ...] | None = None
     spares: int | None = None
+    any_gates: AnyGates | None = None
     report: dict[str, typing.Any] = dataclasses.field(default_factory=dict, repr=False, compare=False)
 
     @property
     def trace(self) -> tuple[str, ...]:
-        """The lines of the trace that the text holds, without the signs before them; none where none was asked for."""
+        """The lines of the trace that the text holds, without the signs before them; none if none was asked for."""
         return tuple(line[3:] for line in self.text.split("\n") if line.startswith("//!"))
+
+    @property
+    def measured(self) -> dict[str, int]:
+        """The qubit that each classical bit reads in the written program, as `{"c[0]": 2}`, in the order of the text.
+
+        A bit that is read more than once has the last one.
+        """
+        return {it["bit"]: int(it["qubit"]) for it in map(MEASURE.fullmatch, self.text.split("\n")) if it}
+
+    @property
+    def permutation(self) -> tuple[int, ...]:
+        """Entry p is the qubit where what began on qubit p ends, for each qubit of the device."""
+        return tuple(ends for _, ends in sorted(zip(self.initial, self.final, strict=True)))
+
+    def undo(self) -> str:
+        """The written program with its final placement undone: wire i ends where it began, on qubit `initial[i]`.
+
+        Swaps of three CNOTs bring the wires back, before the measurements at the end, which are moved along; a trace is left
+        out. This is for simulators and comparisons: these CNOTs follow no edges of the device, and nothing is proved of them.
+
+        >>> moved = Result(text='OPENQASM 2.0;\\nqreg q[2];\\ncreg c[1];\\nmeasure q[1] -> c[0];\\n', initial=(0, 1), final=(1, 0),
+        ...                phase=0, swaps=1, qubits=2, device=2, barriers=0, cx_before=0, cx_after=3, t_before=0, t_after=0)
+        >>> print(*moved.undo().splitlines()[3:], sep="\\n")
+        cx q[0],q[1];
+        cx q[1],q[0];
+        cx q[0],q[1];
+        measure q[0] -> c[0];
+        """
+        lines = [it for it in self.text.split("\n") if it and not it.startswith("//!")]
+        ends = len(lines)
+        while ends > 0 and MEASURE.fullmatch(lines[ends - 1]):
+            ends -= 1
+        register = next((it["name"] for it in map(QREG.match, lines) if it), "q")
+        back = dict(zip(self.final, self.initial, strict=True))
+        reads = []
+        for read in filter(None, map(MEASURE.fullmatch, lines[ends:])):
+            reads.append(f"measure {register}[{back[int(read['qubit'])]}] -> {read['bit']};")
+        swaps = [f"cx {register}[{a}],{register}[{b}];" for p, q in swaps_of(back) for a, b in ((p, q), (q, p), (p, q))]
+        return "\n".join([*lines[:ends], *swaps, *reads, ""])
+
+    @property
+    def metrics(self) -> Metrics:
+        """Gates by name, depths, and on a device with costs the estimated success, of what was written."""
+        return metrics.of(self.text, self.cost)
 
 
 @dataclasses.dataclass(frozen=True)
@@ -349,11 +420,36 @@ class Checked:
 
 
 @dataclasses.dataclass(frozen=True)
+class Verdict:
+    """What `verify` finds of two texts; it counts as true exactly if the trace shows that the target is the source.
+
+    `phase` is then the power J for which the target's unitary is exp(i pi/4) to the power J times the source's, with the wires
+    on the qubits that the trace says. Otherwise `line` is the first line of the trace, from 1, that doesn't apply or is missing,
+    and `why` says so in words.
+    """
+
+    proved: bool
+    phase: int | None = None
+    line: int | None = None
+    why: str = ""
+    fault: NotShown | None = dataclasses.field(default=None, repr=False, compare=False)
+
+    def __bool__(self) -> bool:
+        return self.proved
+
+    def demand(self) -> int:
+        """The phase; raises `NotShown` if the trace doesn't show it."""
+        if self.phase is None:
+            raise self.fault or NotShown({}, 1)
+        return self.phase
+
+
+@dataclasses.dataclass(frozen=True)
 class Stage:
     """A layer of gates between H: its gates, its parities with an odd coefficient, and into how few independent blocks they fall.
 
-    `witness` of the parities have the rank `rank`, which is why fewer blocks don't do. With `spares` wires beside the program's
-    a block may have so many parities more than its rank; it is None where none were asked for.
+    `witness` of the parities have the rank `rank`, which is why fewer blocks aren't enough. With `spares` wires beside the
+    program's a block may have that many parities more than its rank; it is None if none were asked for.
     """
 
     layer: int
@@ -365,16 +461,21 @@ class Stage:
     spares: int | None = None
 
 
+def prefixes() -> list[pathlib.Path]:
+    """The folder below which `tools/install`, or the Debian package, has put this file, if one of them has."""
+    return [HERE.parents[3]] if HERE.parent.name in ("site-packages", "dist-packages") else []
+
+
 def installed() -> list[pathlib.Path]:
-    """Where `tools/install` puts the program, if it has put this file here."""
-    return [HERE.parents[3] / "bin/qroute"] if HERE.parent.name == "site-packages" else []
+    """Where the program is if this file was installed, by `tools/install` or as a Debian package."""
+    return [it / "lib/qroute/qroute" for it in prefixes()]
 
 
 def program() -> str:
     """The path of the program that is run."""
     if asked := os.environ.get("QROUTE"):
         return asked
-    for path in (HERE.parent.parent / "out/qroute", HERE / "qroute", *installed()):
+    for path in (HERE.parent.parent / "out/qroute", HERE / "bin/qroute", HERE / "qroute", *installed()):
         if path.is_file() and os.access(path, os.X_OK):
             return str(path)
     found = shutil.which("qroute")
@@ -439,16 +540,36 @@ def spare_words(spares: int | None) -> list[str]:
 
 
 def opt(
-    text: str | bytes, *, keep_barriers: bool = False, spares: int | None = None, timeout: float | None = None
+    text: str | bytes,
+    *,
+    keep_barriers: bool = False,
+    spares: int | None = None,
+    any_gates: bool = False,
+    within: float = 1e-9,
+    timeout: float | None = None,
 ) -> Result:
-    """The program on its own qubits, with fewer gates where some are found.
+    """The program on its own qubits, with fewer gates if some are found.
 
-    With `keep_barriers` its barriers outside of gates' bodies are written too, and what stands between two is rewritten by itself.
-    With `spares`, from 1 to 255, so many wires stand behind its own, which start and end at zero, and T gates stand in fewer
-    blocks side by side where that makes some; barriers can't be kept then (ValueError).
+    With `keep_barriers` its barriers outside of gates' bodies are kept, and what is between two is rewritten by itself.
+    With `spares`, from 1 to 255, that many wires follow its own, which start and end at zero, and T gates are in fewer blocks side
+    by side if that is possible; barriers can't be kept then (ValueError).
+
+    With `any_gates` it takes any OpenQASM 2.0: other angles, `reset`, `if`, measurements anywhere, and the gates that exporters
+    write. Angles within `within` of a multiple of pi/4 become exact. Proved, part by part: the CNOTs, the Clifford+T gates, the
+    placements and the order on each qubit, of the program with barriers in place of its other gates; tested and not proved: that
+    this is the source written out, and that each other gate is put back unchanged where its wire is. Spare wires don't go with it
+    (ValueError).
+
+    >>> found = opt('OPENQASM 2.0; include "qelib1.inc"; qreg q[1]; t q[0]; t q[0];')
+    >>> found.text.splitlines()[3:], found.t_before, found.t_after
+    (['s q[0];'], 2, 0)
     """
     if keep_barriers and spares is not None:
         raise ValueError("with spare wires no barriers are kept")
+    if any_gates:
+        if spares is not None:
+            raise ValueError("with spare wires there are no other gates")
+        return whole.opt(text, keep_barriers=keep_barriers, within=within, timeout=timeout)
     return result(*run(["opt", *flags(keep_barriers=keep_barriers), *spare_words(spares)], as_bytes(text), timeout))
 
 
@@ -460,15 +581,27 @@ def route(
     trace: bool = False,
     keep_barriers: bool = False,
     clean: bool = False,
+    any_gates: bool = False,
+    within: float = 1e-9,
     timeout: float | None = None,
 ) -> Result:
     """The program on the qubits of a device; with `trivial` wire i begins on qubit i.
 
-    With `trace` its text has its trace behind it. With `keep_barriers` its barriers are kept, as by `opt`, and with `clean` gates
+    With `trace` its text is followed by its trace. With `keep_barriers` its barriers are kept, as by `opt`, and with `clean` gates
     that cancel once they are routed are taken out; a trace can be asked for with neither of the two (ValueError).
+
+    With `any_gates` it takes any OpenQASM 2.0, as `opt` says, which also has what is proved then; no trace can be asked for.
+
+    >>> text = 'OPENQASM 2.0; include "qelib1.inc"; qreg q[3]; creg c[1]; ccx q[0],q[1],q[2]; measure q[2] -> c[0];'
+    >>> found = route(text, Device.named("ibm_tokyo"))
+    >>> found.t_after, found.device, found.measured["c[0]"] == found.final[2]
+    (7, 20, True)
     """
-    if trace and (keep_barriers or clean):
-        raise ValueError("there are no traces of programs whose barriers are kept, or that are cleaned")
+    if trace and (keep_barriers or clean or any_gates):
+        raise ValueError("there are no traces of programs whose barriers are kept, that are cleaned, or that have any gates")
+    if any_gates:
+        asked: dict[str, typing.Any] = {"trivial": trivial, "keep_barriers": keep_barriers, "clean": clean, "within": within, "timeout": timeout}
+        return whole.route(text, device, **asked)
     with tempfile.TemporaryDirectory() as room:
         path = os.path.join(room, "device.toml")
         with open(path, "w", encoding="utf-8") as file:
@@ -477,9 +610,17 @@ def route(
         return result(*run(words, as_bytes(text), timeout))
 
 
-def verify(source: str | bytes, target: str | bytes, *, timeout: float | None = None) -> int:
-    """The power J for which the trace in the target's text shows that its unitary is exp(i pi/4) to the power J times the
-    source's, with the wires on the qubits that the trace says, whoever wrote it. `NotShown` where it doesn't show that.
+def verify(source: str | bytes, target: str | bytes, *, timeout: float | None = None) -> Verdict:
+    """Whether the trace in the target's text shows that its unitary is the source's up to a power of exp(i pi/4), whoever wrote it.
+
+    A no is an answer, no exception; `verify(..).demand()` raises `NotShown` for it. A text that is refused raises `Refused`.
+
+    >>> text = 'OPENQASM 2.0; include "qelib1.inc"; qreg q[3]; ccx q[0],q[1],q[2];'
+    >>> found = route(text, Device.named("line_5"), trace=True)
+    >>> verify(text, found.text).demand() == found.phase
+    True
+    >>> verify(text, text)
+    Verdict(proved=False, phase=None, line=1, why="line 1 of the trace doesn't apply, or is missing")
     """
     named = {"source": as_bytes(source), "target": as_bytes(target)}
     with tempfile.TemporaryDirectory() as room:
@@ -489,18 +630,30 @@ def verify(source: str | bytes, target: str | bytes, *, timeout: float | None = 
             with open(path, "wb") as file:
                 file.write(text)
             words += [f"--{name}", path]
-        written, _ = run(words, b"", timeout, named)
-    return int(written.removeprefix("yes "))
+        try:
+            written, _ = run(words, b"", timeout, named)
+        except NotShown as fault:
+            return Verdict(proved=False, line=fault.line, why=fault.says, fault=fault)
+    return Verdict(proved=True, phase=int(written.removeprefix("yes ")))
 
 
 def check(text: str | bytes, *, timeout: float | None = None) -> Checked:
-    """What is in a program."""
+    """What is in a program.
+
+    >>> check('OPENQASM 2.0; include "qelib1.inc"; qreg q[3]; creg c[2]; ccx q[0],q[1],q[2];')
+    Checked(qubits=3, bits=2, operations=15, cx=6, t=7, barriers=0)
+    """
     _, told = run(["check"], as_bytes(text), timeout)
     return Checked(**{it.name: told[it.name] for it in dataclasses.fields(Checked)})
 
 
 def stages(text: str | bytes, *, spares: int | None = None, timeout: float | None = None) -> list[Stage]:
-    """The layers of a program's gates between H, as they are before anything is rewritten; with `spares` wires beside its own."""
+    """The layers of a program's gates between H, as they are before anything is rewritten; with `spares` wires beside its own.
+
+    >>> text = 'OPENQASM 2.0; include "qelib1.inc"; qreg q[3]; ccx q[0],q[1],q[2];'
+    >>> [(it.parities, it.blocks) for it in stages(text)], [(it.parities, it.blocks) for it in stages(text, spares=4)]
+    ([(7, 3)], [(7, 1)])
+    """
     written, _ = run(["stages", *spare_words(spares)], as_bytes(text), timeout)
     rows = [line.split() for line in written.splitlines()]
     return [Stage(**{name: int(value) for name, value in zip(row[::2], row[1::2], strict=True)}) for row in rows]
@@ -509,7 +662,15 @@ def stages(text: str | bytes, *, spares: int | None = None, timeout: float | Non
 def amplitude(text: str | bytes, begins: str, ends: str, *, timeout: float | None = None) -> tuple[int, int, int, int, int]:
     """The entry of a program's unitary from one basis state to another, exactly: (a, b, c, d, e) for
     (a + b w + c w^2 + d w^3) / 2^e with w = exp(i pi/4). A state is a text with a 0 or 1 for each wire, wire 0 first.
+
+    >>> amplitude('OPENQASM 2.0; include "qelib1.inc"; qreg q[2]; t q[1]; cx q[1],q[0];', "01", "11")
+    (0, 1, 0, 0, 0)
     """
     written, _ = run(["amplitude", "--from", begins, "--to", ends], as_bytes(text), timeout)
     a, b, c, d, e = map(int, written.split())
     return a, b, c, d, e
+
+
+from . import metrics, whole  # at the end, since they stand on what is above
+from .metrics import Metrics
+from .whole import AnyGates, Unreadable

@@ -2,7 +2,7 @@
 
 `expanded` makes them of operations, `commute` and `cancelled` are the tables of pairs, `Gates` is a list whose places stay
 known while gates go, and `path_sum` is what a list does along its paths. All of it is written from the definitions in
-docs/SPECIFICATION.md, in the plain way.
+docs/REWRITING.md, in the plain way.
 """
 
 import dataclasses

@@ -1,7 +1,11 @@
+import doctest
 import json
 import os
+import shutil
 import subprocess
 import sys
+import unittest
+import zipfile
 from unittest import mock
 
 from tool import TOP, ToolTest
@@ -38,16 +42,8 @@ SOURCE = 'OPENQASM 2.0;\ninclude "qelib1.inc"; // here; {\nqreg q[2];\n  gate g 
 BUILT = os.path.join(TOP, "out/qroute")
 
 
-class Module(ToolTest):
-    """The module over a program that stands in for the real one."""
-
-    def setUp(self):
-        super().setUp()
-        self.program = self.file("qroute", STAND_IN)
-        os.chmod(self.program, 0o755)
-        patch = mock.patch.dict(os.environ, {"QROUTE": self.program})
-        patch.start()
-        self.addCleanup(patch.stop)
+class StoodIn(ToolTest):
+    """What a program that stands in for the real one answers and was given."""
 
     def answers(self, status, out="", err=""):
         self.file("status", str(status))
@@ -57,6 +53,18 @@ class Module(ToolTest):
     def given(self, name):
         with open(os.path.join(self.room, name), encoding="utf-8") as file:
             return file.read()
+
+
+class Module(StoodIn):
+    """The module over a program that stands in for the real one."""
+
+    def setUp(self):
+        super().setUp()
+        self.program = self.file("qroute", STAND_IN)
+        os.chmod(self.program, 0o755)
+        patch = mock.patch.dict(os.environ, {"QROUTE": self.program})
+        patch.start()
+        self.addCleanup(patch.stop)
 
     def test_results(self):
         self.answers(0, "written\n", REPORT)
@@ -132,7 +140,8 @@ class Module(ToolTest):
         self.answers(0, "written\n", REPORT)
         self.assertEqual(qroute.opt(SOURCE).trace, ())
         self.answers(0, "yes 6\n")
-        self.assertEqual(qroute.verify(SOURCE, found.text.encode()), 6)
+        verdict = qroute.verify(SOURCE, found.text.encode())
+        self.assertEqual((verdict, bool(verdict), verdict.demand()), (qroute.Verdict(proved=True, phase=6), True, 6))
         self.assertEqual((self.given("source"), self.given("target"), self.given("in")), (SOURCE, found.text, ""))
         words = self.given("words").split()
         self.assertEqual((words[0], words[1::2], len(words)), ("verify", ["--source", "--target"], 5))
@@ -145,10 +154,18 @@ class Module(ToolTest):
 
     def test_faults_of_traces(self):
         def call():
-            qroute.verify("OPENQASM 2.0;\nqreg q[1];\n", SOURCE)
+            return qroute.verify("OPENQASM 2.0;\nqreg q[1];\n", SOURCE)
 
-        fault = self.fault(qroute.NotShown, 1, {"fault": "Trace", "line": 5, "status": 1}, call)
-        self.assertEqual((str(fault), fault.line, fault.status), ("Trace: line 5 of the trace doesn't apply, or is missing", 5, 1))
+        # a no is an answer, and an exception only on demand
+        self.answers(1, "", {"fault": "Trace", "line": 5, "status": 1})
+        verdict = call()
+        self.assertFalse(verdict)
+        self.assertEqual((verdict.proved, verdict.phase, verdict.line), (False, None, 5))
+        self.assertEqual(verdict.why, "line 5 of the trace doesn't apply, or is missing")
+        with self.assertRaises(qroute.NotShown) as caught:
+            verdict.demand()
+        self.assertEqual((caught.exception.line, caught.exception.status), (5, 1))
+        self.assertEqual(str(caught.exception), "Trace: line 5 of the trace doesn't apply, or is missing")
         # a place is one of the text that is refused
         told = {"code": 12, "fault": "Syntax", "place": 20, "status": 3, "text": "source"}
         fault = self.fault(qroute.Refused, 3, told, call)
@@ -217,12 +234,142 @@ class Module(ToolTest):
         with open(os.path.join(TOP, "VERSION"), encoding="utf-8") as file:
             self.assertEqual(file.read().strip(), qroute.__version__)
 
+    def written(self, text, initial, final):
+        """A result with this text and these placements."""
+        told = REPORT | {"initial": initial, "final": final, "device": len(initial)}
+        self.answers(0, text, told)
+        return qroute.opt(SOURCE)
+
+    def test_measured_bits(self):
+        text = "OPENQASM 2.0;\nqreg q_[2];\ncreg a[2];\nh q_[0];\nmeasure q_[1] -> a[0];\nmeasure q_[0] -> a[1];\n"
+        found = self.written(text, [0, 1], [1, 0])
+        self.assertEqual(found.measured, {"a[0]": 1, "a[1]": 0})
+        self.assertEqual(self.written("OPENQASM 2.0;\nqreg q[1];\n", [0], [0]).measured, {})
+
+    def test_placements_undone(self):
+        # what began on 0, 1, 2 ends on 1, 2, 0: two swaps bring it back, and reads follow their wires
+        text = "OPENQASM 2.0;\nqreg q[3];\ncreg a[1];\nh q[0];\nmeasure q[1] -> a[0];\n//!TRACE 1\n"
+        found = self.written(text, [2, 0, 1], [0, 1, 2])
+        self.assertEqual(found.permutation, (1, 2, 0))
+        lines = found.undo().splitlines()
+        self.assertEqual((lines[:4], lines[-1], len(lines)), (text.splitlines()[:4], "measure q[0] -> a[0];", 11))
+        stands = [0, 1, 2]
+        for first in lines[4:10:3]:
+            a, b = (int(it[2]) for it in first.removeprefix("cx ").rstrip(";").split(","))
+            stands[a], stands[b] = stands[b], stands[a]
+        # entry q is what stands on q, by the number of the qubit where it ended before
+        self.assertEqual([found.final.index(it) for it in stands], [found.initial.index(it) for it in range(3)])
+        # where nothing moved, nothing is put in
+        self.assertEqual(self.written(text, [0, 1], [0, 1]).undo(), text.replace("//!TRACE 1\n", ""))
+
+    def test_examples_that_need_no_program(self):
+        for name in ("qroute.Result.undo", "qroute.Device.of"):
+            found = [it for it in doctest.DocTestFinder().find(qroute, "qroute") if it.name == name]
+            self.assertEqual([(doctest.DocTestRunner().run(it).failed, bool(it.examples)) for it in found], [(0, True)])
+
     def test_a_table(self):
-        self.answers(0, "written\n", REPORT)
+        self.answers(0, 'OPENQASM 2.0;\ninclude "qelib1.inc";\nqreg q[2];\nt q[0];\ncx q[0],q[1];\nh q[1];\n', REPORT)
         words = [os.path.join(TOP, "python/route_table.py"), os.path.join(TOP, "examples/bell.qasm"), "--device", "line_5", "ibm_tokyo"]
         ran = subprocess.run(words, capture_output=True, text=True, timeout=60)
         rows = [it.split() for it in ran.stdout.splitlines()[1:]]
-        self.assertEqual(rows, [["bell", it, "1", "2", "5", "1", "0"] for it in ("line_5", "ibm_tokyo")], ran.stderr)
+        self.assertEqual(rows, [["bell", it, "1", "2", "5", "1", "0", "3", "1", "1"] for it in ("line_5", "ibm_tokyo")], ran.stderr)
+
+
+class Wheel(StoodIn):
+    """The wheel and the sdist, of a copy of what they are made of, and installed without a network."""
+
+    def setUp(self):
+        super().setUp()
+        for name in ("python", "devices", "docs", "tools/completions"):
+            shutil.copytree(os.path.join(TOP, name), os.path.join(self.room, "top", name), ignore=shutil.ignore_patterns("__pycache__"))
+        for name in ("LICENSE", "NOTICE"):
+            shutil.copy(os.path.join(TOP, name), os.path.join(self.room, "top", name))
+        self.program = self.file("program", STAND_IN)
+        os.chmod(self.program, 0o755)
+
+    def made(self, call, *words, folder="top/python", **more):
+        """The path of what the build backend makes, run as pip runs it."""
+        script = f"import backend; print(backend.{call}({self.room!r}, *{words!r}))"
+        env = {"PATH": os.environ["PATH"], "PYTHONDONTWRITEBYTECODE": "1", **more}
+        ran = subprocess.run([sys.executable, "-c", script], cwd=os.path.join(self.room, folder), env=env, capture_output=True, text=True)
+        self.assertEqual(ran.returncode, 0, ran.stderr)
+        return os.path.join(self.room, ran.stdout.strip())
+
+    def elf(self, *versions):
+        """A file that looks like a program for x86-64 that names versions of the C library."""
+        names = b"".join(b"\0GLIBC_" + it.encode() for it in versions) + b"\0"
+        return self.file("elf", b"\x7fELF" + bytes(14) + b"\x3e\0" + names)
+
+    def test_a_wheel_has_the_program_and_the_devices(self):
+        path = self.made("build_wheel", {"program": self.elf("2.2.5", "2.34", "2.9")})
+        self.assertEqual(os.path.basename(path), f"qroute-{qroute.__version__}-py3-none-manylinux_2_34_x86_64.whl")
+        with zipfile.ZipFile(path) as wheel:
+            names = set(wheel.namelist())
+            mode = wheel.getinfo("qroute/bin/qroute").external_attr >> 16
+        self.assertEqual(mode & 0o777, 0o755)
+        for folder, ending in (("qroute", ".py"), ("devices", ".toml")):
+            source = os.path.join(TOP, "python/qroute" if folder == "qroute" else folder)
+            wanted = {f"{'qroute/' * (folder != 'qroute')}{folder}/{it}" for it in os.listdir(source) if it.endswith(ending)}
+            self.assertTrue(wanted and wanted <= names, wanted - names)
+        # the same files make the same bytes, and another time others
+        with open(path, "rb") as file:
+            first = file.read()
+        self.made("build_wheel", {"program": self.elf("2.2.5", "2.34", "2.9")})
+        with open(path, "rb") as file:
+            self.assertEqual(file.read(), first)
+
+    def test_a_program_that_is_none(self):
+        with self.assertRaises(AssertionError) as caught:
+            self.made("build_wheel", {"program": self.program})
+        self.assertIn("no ELF file", str(caught.exception))
+
+    def test_an_sdist_makes_the_same_wheel(self):
+        sdist = self.made("build_sdist")
+        wheel = self.made("build_wheel")
+        with open(wheel, "rb") as file:
+            first = file.read()
+        shutil.unpack_archive(sdist, os.path.join(self.room, "unpacked"))
+        again = self.made("build_wheel", folder=f"unpacked/qroute-{qroute.__version__}")
+        self.assertEqual(os.path.basename(wheel), f"qroute-{qroute.__version__}-py3-none-any.whl")
+        with open(again, "rb") as file:
+            self.assertEqual(file.read(), first)
+
+    def test_installed_without_a_network(self):
+        venv = os.path.join(self.room, "venv")
+        for words in (["venv", "--without-pip", venv], ["pip", "--python", os.path.join(venv, "bin/python"), "--version"]):
+            if subprocess.run([sys.executable, "-m", *words], capture_output=True).returncode != 0:
+                self.skipTest(f"there is no module {words[0]}, so nothing is installed")
+        pip = [sys.executable, "-m", "pip", "--python", os.path.join(venv, "bin/python"), "install", "--quiet", "--no-index"]
+        ran = subprocess.run([*pip, os.path.join(self.room, "top/python")], capture_output=True, text=True, timeout=120)
+        self.assertEqual(ran.returncode, 0, ran.stdout + ran.stderr)
+        shutil.rmtree(os.path.join(self.room, "top"))
+        self.assertFalse(os.path.exists(os.path.join(venv, "bin/qroute")))
+        script = "import qroute; print(qroute.__file__, qroute.program(), len(qroute.Device.names()), qroute.opt('').swaps)"
+        # beside the module there is none, so the one along PATH is run
+        self.answers(0, "written\n", REPORT)
+        os.rename(self.program, os.path.join(self.room, "qroute"))
+        env = {"PATH": f"{self.room}:{os.environ['PATH']}"}
+        python = os.path.join(venv, "bin/python")
+        ran = subprocess.run([python, "-c", script], capture_output=True, text=True, env=env, cwd=self.room, timeout=60)
+        self.assertEqual(ran.returncode, 0, ran.stderr)
+        place, program, devices, swaps = ran.stdout.split()
+        self.assertTrue(place.startswith(venv), place)
+        count = len(os.listdir(os.path.join(TOP, "devices")))
+        self.assertEqual((program, int(devices), swaps), (os.path.join(self.room, "qroute"), count, "1"))
+        # the module as a command becomes the program
+        self.file("out", "by the command\n")
+        ran = subprocess.run([python, "-m", "qroute", "opt"], input="", capture_output=True, text=True, env=env, cwd=self.room, timeout=60)
+        self.assertEqual((ran.returncode, ran.stdout), (0, "by the command\n"))
+        self.assertEqual(self.given("words"), "opt\n")
+
+
+class Types(unittest.TestCase):
+    def test_mypy_finds_nothing(self):
+        mypy = shutil.which("mypy")
+        if mypy is None:
+            self.skipTest("mypy isn't installed, so types aren't checked (apt-get install mypy)")
+        ran = subprocess.run([mypy, "--cache-dir", os.devnull], cwd=os.path.join(TOP, "python"), capture_output=True, text=True)
+        self.assertEqual(ran.returncode, 0, ran.stdout + ran.stderr)
 
 
 class Built(ToolTest):
@@ -279,10 +426,30 @@ class Built(ToolTest):
             text = file.read()
         found = qroute.route(text, qroute.Device.named("line_5"), trace=True)
         self.assertEqual((found.trace[0], found.trace[-1]), ("TRACE 1", f"end {found.phase}"))
-        self.assertEqual(qroute.verify(text, found.text), found.phase)
-        with self.assertRaises(qroute.NotShown) as caught:
-            qroute.verify(text, found.text.replace("//!emit 0\n", "", 1))
-        self.assertEqual(caught.exception.line, len(found.trace) - 1)
+        self.assertEqual(qroute.verify(text, found.text).demand(), found.phase)
+        verdict = qroute.verify(text, found.text.replace("//!emit 0\n", "", 1))
+        self.assertEqual((verdict.proved, verdict.line), (False, len(found.trace) - 1))
+
+    def test_placements_undone(self):
+        with open(os.path.join(TOP, "examples/toffoli.qasm"), encoding="utf-8") as file:
+            text = file.read()
+        found = qroute.route(text, qroute.Device.of([(0, 1), (1, 2)], both=True), True)
+        self.assertGreater(found.swaps, 0)
+        # a device on which any two qubits are joined takes the swaps that no device's edges have
+        pairs = [(a, b) for a in range(3) for b in range(3) if a != b]
+        count = found.undo().count("cx ")
+        swaps = found.swaps + (count - found.cx_after) // 3
+        report = json.dumps(found.report | {"final": list(found.initial), "cx_after": count, "swaps": swaps}) + "\n"
+        files = [self.file(name, it) for name, it in (("s", text), ("w", found.undo()), ("r", report))]
+        device = self.file("device.toml", qroute.Device.of(pairs).text)
+        status, out, err = self.run_tool("check-small", *files, "--device", device)
+        self.assertNotEqual(found.initial, found.final)
+        self.assertTrue(out.startswith("agrees on each of"), out + err)
+
+    def test_examples_of_docstrings(self):
+        failed, tried = doctest.testmod(qroute)
+        self.assertEqual(failed, 0)
+        self.assertGreater(tried, 10)
 
     def test_faults(self):
         with self.assertRaises(qroute.Refused) as caught:

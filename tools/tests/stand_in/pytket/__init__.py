@@ -1,0 +1,1 @@
+"""Stands in for pytket in tests: the names that `qroute.pytket` uses, written after its documentation, and no more."""

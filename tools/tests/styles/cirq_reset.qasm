@@ -1,0 +1,17 @@
+// In the form in which Cirq's to_qasm writes programs; written by hand from that form, and not its output.
+// Generated from Cirq v1.3.0
+
+OPENQASM 2.0;
+include "qelib1.inc";
+
+
+// Qubits: [q(0), q(1)]
+qreg q[2];
+creg m_end[1];
+
+
+ry(pi*0.4) q[0];
+cx q[0],q[1];
+reset q[0];
+h q[0];
+measure q[0] -> m_end[0];

@@ -1,0 +1,21 @@
+// In the form in which Qiskit's qasm2.dumps writes programs; written by hand from that form, and not its output.
+OPENQASM 2.0;
+include "qelib1.inc";
+qreg q[4];
+creg c[3];
+h q[0];
+h q[1];
+h q[2];
+x q[3];
+cu1(pi/8) q[0],q[3];
+cu1(pi/4) q[1],q[3];
+cu1(pi/2) q[2],q[3];
+h q[2];
+cu1(-pi/2) q[2],q[1];
+h q[1];
+cu1(-pi/4) q[2],q[0];
+cu1(-pi/2) q[1],q[0];
+h q[0];
+measure q[0] -> c[0];
+measure q[1] -> c[1];
+measure q[2] -> c[2];

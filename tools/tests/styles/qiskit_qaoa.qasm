@@ -1,0 +1,22 @@
+// In the form in which Qiskit's qasm2.dumps writes programs; written by hand from that form, and not its output.
+OPENQASM 2.0;
+include "qelib1.inc";
+qreg q[4];
+creg meas[4];
+h q[0];
+h q[1];
+h q[2];
+h q[3];
+rzz(1.23) q[0],q[1];
+rzz(1.23) q[1],q[2];
+rzz(1.23) q[2],q[3];
+rzz(1.23) q[0],q[3];
+rx(0.77) q[0];
+rx(0.77) q[1];
+rx(0.77) q[2];
+rx(0.77) q[3];
+barrier q[0],q[1],q[2],q[3];
+measure q[0] -> meas[0];
+measure q[1] -> meas[1];
+measure q[2] -> meas[2];
+measure q[3] -> meas[3];

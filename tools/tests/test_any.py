@@ -1,0 +1,297 @@
+import dataclasses
+import glob
+import json
+import math
+import os
+import re
+import sys
+
+from tool import TOP, ToolTest
+
+sys.path.insert(0, os.path.join(TOP, "python"))
+import drawn_programs
+import qasm
+import qroute
+import simulation
+
+BUILT = os.path.join(TOP, "out/qroute")
+DEVICES = ["ring_8", "ibm_qx5", "ibm_tokyo", "grid_8x8_directed", "ibm_eagle_127"]
+HEAD = 'OPENQASM 2.0;\ninclude "qelib1.inc";\n'
+# with QROUTE_TEST_ALL each drawn program is routed on all devices and not on one by turns
+ALL = bool(os.environ.get("QROUTE_TEST_ALL"))
+
+
+class AnyGates(ToolTest):
+    def setUp(self):
+        super().setUp()
+        if not os.access(os.environ.get("QROUTE", BUILT), os.X_OK):
+            self.skipTest("there is no built program")
+
+    def edges(self, name):
+        return {tuple(it[:2]) for it in qroute.Device.named(name).edges()}
+
+    def apart(self, statements, size, found, seed=0):
+        """How far what was written is from a source of so many wires, between the reported placements."""
+        dice = simulation.drawn(seed)
+        state = simulation.drawn_state(size, dice, 16 if size > 6 else None)
+        wanted = simulation.run(statements, state)
+        target = list(simulation.statements(qasm.read(found.text, qasm.MOST_ITEMS, whole=True)))
+        ends = simulation.run(target, simulation.placed(state, found.initial, size))
+        return simulation.difference(wanted, simulation.taken_back(ends, found.final, size), size, dice)
+
+    def on_edges(self, text, edges):
+        """Whether each gate on two qubits of a text is a CNOT along an edge."""
+        for step in qasm.read(text, qasm.MOST_ITEMS, whole=True).steps:
+            if step.kind == "gate" and len(step.wires) > 1:
+                self.assertEqual(step.name, "cx")
+                self.assertIn(tuple(step.wires), edges)
+
+
+class Drawn(AnyGates):
+    """Drawn programs against their simulation, which reads no text of the source."""
+
+    def test_routed(self):
+        edges = {it: self.edges(it) for it in DEVICES}
+        for seed in range(500):
+            drawn = drawn_programs.Drawn(seed)
+            for i, name in enumerate(DEVICES):
+                if not ALL and i != seed % len(DEVICES):
+                    continue
+                asked = {"keep_barriers": seed % 3 == 0, "clean": seed % 2 == 0, "trivial": seed % 7 == 0}
+                found = qroute.route(drawn.text, qroute.Device.named(name), any_gates=True, **asked)
+                self.on_edges(found.text, edges[name])
+                self.assertLess(self.apart(drawn.statements, drawn.size, found, seed), 1e-7, f"seed {seed} on {name}:\n{drawn.text}")
+
+    def test_on_their_own_wires(self):
+        for seed in range(500, 560):
+            drawn = drawn_programs.Drawn(seed, 5)
+            found = qroute.opt(drawn.text, any_gates=True, keep_barriers=seed % 2 == 0)
+            self.assertEqual(found.initial, tuple(range(drawn.size)))
+            self.assertLess(self.apart(drawn.statements, drawn.size, found, seed), 1e-7, f"seed {seed}:\n{drawn.text}")
+
+    def test_what_is_wrong_is_seen(self):
+        text = HEAD + "qreg q[3]; creg c[1]; h q[0]; rz(0.3) q[0]; cx q[0],q[2]; rx(0.2) q[2]; measure q[0] -> c[0]; if(c==1) x q[1]; ry(0.4) q[1];"
+        found = qroute.route(text, qroute.Device.named("line_5"), any_gates=True)
+        source = list(simulation.statements(qasm.read(text, whole=True)))
+        self.assertLess(self.apart(source, 3, found), 1e-9)
+        on = found.text.split("rx(0.2) q[")[1][0]
+        other = str((int(on) + 1) % 3)
+        for old, new in (
+            (f"rx(0.2) q[{on}]", f"rx(0.2) q[{other}]"),
+            (f"rx(0.2) q[{on}]", f"rx(0.2001) q[{on}]"),
+            ("c==1", "c==0"),
+            ("ry(0.4)", "ry(-0.4)"),
+        ):
+            self.assertIn(old, found.text)
+            wrong = dataclasses.replace(found, text=found.text.replace(old, new))
+            self.assertGreater(self.apart(source, 3, wrong), 1e-6, (old, new))
+        wrong = dataclasses.replace(found, final=(found.final[1], found.final[0], *found.final[2:]))
+        self.assertGreater(self.apart(source, 3, wrong), 1e-6)
+
+
+class Examples(AnyGates):
+    def test_exact_programs_come_out_as_without(self):
+        """Nothing is put back in a program that `qroute` takes: so what is written is what it writes."""
+        for path in sorted(glob.glob(f"{TOP}/examples/*.qasm") + glob.glob(f"{TOP}/examples/literature/*.qasm")):
+            with open(path, encoding="utf-8") as file:
+                text = file.read()
+            device = qroute.Device.named("ibm_eagle_127")
+            found = qroute.route(text, device, any_gates=True)
+            plain = qroute.route(text, device)
+            self.assertEqual((found.any_gates.put_back, found.any_gates.exact, found.any_gates.declared), ({}, (), ()), path)
+            self.assertEqual((found.text, found.report), (plain.text, plain.report), path)
+
+    def test_small_ones_are_simulated(self):
+        count = 0
+        for path in sorted(glob.glob(f"{TOP}/examples/*.qasm") + glob.glob(f"{TOP}/examples/literature/*.qasm")):
+            with open(path, encoding="utf-8") as file:
+                text = file.read()
+            program = qasm.read(text)
+            if len(program.wires) > 8 or len(program.steps) > 150:
+                continue
+            source = list(simulation.statements(program))
+            for name in DEVICES:
+                if len(program.wires) <= qroute.Device.named(name).qubits():
+                    found = qroute.route(text, qroute.Device.named(name), any_gates=True, keep_barriers=True)
+                    self.assertLess(self.apart(source, len(program.wires), found), 1e-7, f"{path} on {name}")
+                    count += 1
+        self.assertGreater(count, 50)
+
+
+class Styles(AnyGates):
+    """Files in the forms that Qiskit, pytket and Cirq write."""
+
+    def texts(self):
+        for path in sorted(glob.glob(f"{TOP}/tools/tests/styles/*.qasm")):
+            with open(path, encoding="utf-8") as file:
+                yield os.path.basename(path).removesuffix(".qasm"), file.read()
+
+    def test_read_routed_and_simulated(self):
+        names = []
+        for i, (name, text) in enumerate(self.texts()):
+            names.append(name)
+            self.assertRegex(text, "^// In the form in which .*; written by hand from that form, and not its output.\n")
+            program = qasm.read(text, whole=True, known=qroute.whole.declarations.TABLE)
+            # a line for each statement, which no gate's body has
+            bare = re.sub(r"gate [^}]*}|//.*", "", text)
+            lines = [it for it in bare.splitlines() if it.strip() and not re.match("OPENQASM|include|[qc]reg", it)]
+            self.assertEqual(len(program.steps), len(lines), name)
+            found = qroute.route(text, qroute.Device.named(DEVICES[i % len(DEVICES)]), any_gates=True, keep_barriers=i % 2 == 0)
+            source = list(simulation.statements(program))
+            self.assertLess(self.apart(source, len(program.wires), found), 1e-7, name)
+        self.assertEqual([sum(it.startswith(style) for it in names) for style in ("qiskit", "tket", "cirq")], [20, 15, 15])
+
+    def test_what_becomes_exact(self):
+        texts = dict(self.texts())
+        for name, put_back, exact in (
+            ("tket_exact_decimals", {}, 0),
+            ("tket_roots_of_x", {}, 0),
+            ("qiskit_grover_ccz", {}, 0),
+            ("qiskit_transpiled", {"rz": 2}, 1),
+            ("qiskit_qft_4", {"u1": 9}, 0),
+            ("cirq_powers", {"rz": 1}, 0),
+            ("tket_measured_twice", {"ry": 2, "measure": 1}, 0),
+        ):
+            told = qroute.opt(texts[name], any_gates=True).any_gates
+            self.assertEqual((told.put_back, len(told.exact)), (put_back, exact), name)
+
+
+class Results(AnyGates):
+    def test_what_is_told(self):
+        text = HEAD + (
+            "opaque wait(t) q;\nqreg q[2]; qreg r[1];\ncreg c[2];\nrz(0.785398163397448) q[0];\nrz(0.1) q[0];\n"
+            "barrier q; wait(100) r[0];\nreset r;\nbarrier q,r;\nmeasure q[0] -> c[1];\nif(c==2) x r[0];\necr q[0],q[1];\nmeasure r[0] -> c[0];\n"
+        )
+        found = qroute.route(text, qroute.Device.named("line_5"), any_gates=True, keep_barriers=True)
+        told = found.any_gates
+        self.assertEqual(told.put_back, {"rz": 1, "wait": 1, "reset": 1, "measure": 1, "x": 1})
+        self.assertEqual([(it.line, it.column, it.was, it.now) for it in told.exact], [(6, 1, "0.785398163397448", "pi/4")])
+        self.assertLess(told.exact[0].distance, 1e-14)
+        self.assertEqual(told.declared, ("ecr",))
+        self.assertEqual((found.barriers, len(found.between), len(found.parts)), (2, 2, 3))
+        self.assertEqual(sum(found.parts) % 8, found.phase)
+        self.assertIn("opaque wait(t) q;", found.text)
+        self.assertIn("Proved", told.proved)
+        barred = [step.wires for step in qasm.read(found.text, whole=True).steps if step.kind == "barrier"]
+        self.assertEqual(barred, [[found.between[0][it] for it in (0, 1)], [found.between[1][it] for it in (0, 1, 2)]])
+        # barriers that aren't kept are counted, and nothing is told of places between
+        found = qroute.route(text, qroute.Device.named("line_5"), any_gates=True)
+        self.assertEqual((found.barriers, found.between, found.parts, found.report["format"]), (2, None, None, 1))
+        self.assertNotIn("barrier", found.text)
+
+    def test_no_angle_is_within_what_is_no_number(self):
+        text = HEAD + "qreg q[1];\nrx(0.3) q[0];\n"
+        self.assertEqual(qroute.opt(text, any_gates=True, within=math.nan).text, text)
+
+    def test_near_angles_are_left_if_asked(self):
+        text = HEAD + "qreg q[1];\nrx(0.7853981633) q[0];\nrx(0.785398) q[0];\n"
+        self.assertEqual(qroute.opt(text, any_gates=True).any_gates.put_back, {"rx": 1})
+        self.assertEqual(qroute.opt(text, any_gates=True, within=0).any_gates.put_back, {"rx": 2})
+        found = qroute.opt(text, any_gates=True, within=1e-5)
+        self.assertEqual((found.any_gates.put_back, len(found.any_gates.exact)), ({}, 2))
+
+    def test_gates_are_put_back_as_they_are_spelled(self):
+        text = HEAD + "qreg q[1]; u3( 0.1 , sin( pi/3 ) /*".replace("/*", ",") + " -1.5e-3 ) q[0];\nU(1,2,3) q[0]; p(2e-5) q[0];\n"
+        found = qroute.opt(text, any_gates=True)
+        self.assertEqual(found.text.splitlines()[3:], ["u3(0.1,sin(pi/3),-1.5e-3) q[0];", "U(1,2,3) q[0];", "p(2.0e-5) q[0];"])
+
+    def test_few_parts(self):
+        """Gates that are put back side by side share a barrier, and one that follows by a CNOT needs another."""
+        text = HEAD + "qreg q[4]; rz(0.1) q[0]; h q[1]; rz(0.2) q[1]; rx(0.1) q[0]; cx q[2],q[3]; rz(0.3) q[3]; cx q[0],q[1]; rz(0.4) q[1];"
+        self.assertEqual(qroute.opt(text, any_gates=True).any_gates.barriers, 2)
+
+    def test_faults(self):
+        for text, line, column, said in (
+            ("qreg q[2];\n  rx(0.1 q[0];\n", 4, 10, "'q' where ) is wanted"),
+            ("qreg q[2];\nh q[2];\n", 4, 7, "q has no index 2"),
+            ("qreg q[2];\nwhat q[0];\n", 4, 1, "no gate what"),
+            ("qreg q[2]; creg c[1];\nif(q==1) h q[0];\n", 4, 4, "no classical register q"),
+            ("opaque two a,b;\nqreg q[2];\ntwo q[0],q[1];\n", 5, 1, "the opaque gate two is on 2 wires"),
+            ("qreg q[1];\nqreg q[2];\n", 4, 6, "the name q is taken"),
+            ("gate g a { rx(ln(0-1)) a; }\nqreg q[1];\ng q[0];\n", 5, 1, "an angle that has no value"),
+            ("qreg q[1];\nu2(1, 1/0) q[0];\n", 4, 7, "an angle that has no value"),
+            ("qreg q[1];\nrx(1e400) q[0];\n", 4, 4, "an angle that has no value"),
+            ("gate g(pi) a { rx(pi) a; }\n", 3, 8, "the name pi is a word of the language"),
+            ("gate g(t,t) a { rx(t) a; }\n", 3, 10, "the name t is taken"),
+            ("gate g(t) a,t { rx(t) a; }\n", 3, 13, "the name t is taken"),
+            ("opaque sin a;\n", 3, 8, "the name sin is a word of the language"),
+            ("creg if[2];\n", 3, 6, "the name if is a word of the language"),
+            ("qreg r[1]; p(0.3) r[0]; opaque p(t) a;\np(0.3) r[0];\n", 4, 1, "the opaque gate p has the name of another gate"),
+            ("qreg q[1]; // é\nrx(0.1) q[0]; é\n", 4, 15, "no token begins with 'Ã'"),
+        ):
+            with self.assertRaises(qroute.Unreadable) as caught:
+                qroute.opt(HEAD + text, any_gates=True)
+            fault = caught.exception
+            self.assertEqual((fault.line, fault.column, str(fault).split(": ", 1)[1]), (line, column, said), text)
+        for more in ({"trace": True}, {"trace": True, "clean": True}):
+            with self.assertRaises(ValueError):
+                qroute.route(HEAD, qroute.Device.named("line_5"), any_gates=True, **more)
+        with self.assertRaises(ValueError):
+            qroute.opt(HEAD, any_gates=True, spares=1)
+
+    def test_opaque_gates_with_names_of_the_tables(self):
+        """What is written includes the tables, so an opaque `h` would be two gates there."""
+        with self.assertRaisesRegex(qroute.Unreadable, "line 2, column 1: the opaque gate h has the name of another gate"):
+            qroute.opt("OPENQASM 2.0; opaque h a; qreg r[1];\nh r[0];", any_gates=True)
+        found = qroute.opt(HEAD + "opaque sx a; qreg r[1]; sx r[0];", any_gates=True)
+        self.assertEqual(found.text, HEAD + "opaque sx a;\nqreg q[1];\nsx q[0];\n")
+
+    def test_opaque_gates_with_the_name_of_the_register(self):
+        text = HEAD + "opaque q a; opaque q_(t,l) a; qreg r[1]; creg q__[1]; q r[0]; h r[0]; q_(1,2) r[0]; measure r[0] -> q__[0];"
+        found = qroute.opt(text, any_gates=True)
+        lines = "opaque q a;|opaque q_(t,l) a;|qreg q___[1];|creg q__[1];|q q___[0];|h q___[0];|q_(1,2) q___[0];|measure q___[0] -> q__[0];|"
+        self.assertEqual(found.text, HEAD + lines.replace("|", "\n"))
+
+    def test_declarations_with_comments(self):
+        """A declaration is handed on or put back on one line: a comment in it would hide what comes after."""
+        text = HEAD + "gate one(l) a // x;\n { // y\n u1(l) a; h a; } opaque two // z;\n a;\nqreg q[1]; one(pi) q[0]; two q[0];"
+        found = qroute.opt(text, any_gates=True)
+        self.assertEqual(found.text, HEAD + "opaque two a;\nqreg q[1];\nz q[0];\nh q[0];\ntwo q[0];\n")
+
+    def test_declarations_with_capital_names(self):
+        found = qroute.opt(HEAD + "gate one(T) Q { u1(T) Q; } qreg q[1]; one(pi) q[0];", any_gates=True)
+        self.assertEqual(found.text, HEAD + "qreg q[1];\nz q[0];\n")
+
+    def test_refusals_are_placed_in_the_source(self):
+        text = HEAD + "qreg q[2];\ncreg c[1];\nrx(0.1) q[0];\n\n  h q[0];\n" + "gate g a,b { cx a,b; cx b,a; }\n" * 0
+        with self.assertRaises(qroute.DeviceRefused):
+            qroute.route(text, qroute.Device.of([], 1), any_gates=True)
+        declared = "gate a0 x,y { cx x,y; cx y,x; }\n"
+        for i in range(1, 16):
+            declared += f"gate a{i} x,y {{ a{i - 1} x,y; a{i - 1} x,y; }}\n"
+        many = HEAD + declared + "qreg q[2];\nrx(0.1) q[0];\na14 q[0],q[1];\n\n  a14 q[1],q[0]; h q[0];\n"
+        with self.assertRaises(qroute.QrouteError) as caught:
+            qroute.opt(many, any_gates=True)
+        line = many[: many.index("  a14")].count("\n") + 1
+        self.assertIn(f"line {line}, ", str(caught.exception))
+
+    def test_success_on_a_device_with_costs(self):
+        device = qroute.Device.of([(0, 1, 1000), (1, 2, 500)], both=True)
+        found = qroute.route(HEAD + "qreg q[2]; h q[0]; cx q[0],q[1]; t q[0]; rz(0.1) q[1];", device, True, any_gates=True)
+        self.assertEqual((found.cost, found.metrics.cx), (1000, 1))
+        self.assertAlmostEqual(found.metrics.success, math.exp(-0.01), 12)
+
+
+class Tool(AnyGates):
+    def test_as_the_module_does(self):
+        text = HEAD + "qreg q[3];\ncreg c[1];\nrzz(0.3) q[0],q[2];\nrx(1.5707963267948966) q[1];\nreset q[0];\nmeasure q[2] -> c[0];\n"
+        device = os.path.join(TOP, "devices/line_5.toml")
+        status, out, err = self.run_tool("any", "route", "--device", device, given=text)
+        found = qroute.route(text, qroute.Device.named("line_5"), any_gates=True)
+        self.assertEqual((status, out), (0, found.text))
+        *lines, report = err.splitlines()
+        self.assertEqual(json.loads(report), found.report)
+        self.assertIn("any: 6:1: 1.5707963267948966 is now pi/2, 0.0e+00 apart", lines)
+        self.assertIn("any: declared: rzz", lines)
+        self.assertIn("any: put back: 1 reset, 1 u1", lines)
+        status, out, _ = self.run_tool("any", "opt", "--keep-barriers", given=text)
+        self.assertEqual((status, out), (0, qroute.opt(text, any_gates=True, keep_barriers=True).text))
+
+    def test_faults(self):
+        path = os.path.join(TOP, "devices/line_5.toml")
+        says = "any: line 3, column 1: no gate what\n"
+        self.assertEqual(self.run_tool("any", "opt", given=HEAD + "what q;"), (3, "", says))
+        status, out, err = self.run_tool("any", "route", "--device", path, given=HEAD + "qreg q[6];\nrx(1) q;\n")
+        self.assertEqual((status, out, err), (4, "", "any: TooFewQubits: the device has 5 qubits, and the program 6\n"))
+        status, out, err = self.run_tool("any", "route", "--device", self.room + "/none", given=HEAD)
+        self.assertEqual((status, out, err), (2, "", f"any: {self.room}/none: No such file or directory\n"))
