@@ -5,7 +5,7 @@ import sys
 
 from tool import TOP, ToolTest
 
-COPIED = ["tools", "docs", "devices", "python", "LICENSE", "NOTICE", "VERSION"]
+COPIED = ["tools", "docs", "devices", "python", "README.md", "CHANGELOG.md", "LICENSE", "NOTICE", "VERSION"]
 
 
 class Install(ToolTest):
@@ -31,7 +31,10 @@ class Install(ToolTest):
         return ran.returncode, ran.stdout, ran.stderr
 
     def files(self):
-        return sorted(os.path.join(folder, it) for folder, _, names in os.walk(self.prefix) for it in names)
+        """All that is there but folders; a link to one is no folder."""
+        inside = [(folder, it) for folder, folders, names in os.walk(self.prefix) for it in folders + names]
+        paths = sorted(os.path.join(*it) for it in inside)
+        return [it for it in paths if os.path.islink(it) or not os.path.isdir(it)]
 
     def test_puts_and_takes_away(self):
         own = self.file("prefix/share/man/man1/other.1", "mine")
@@ -56,8 +59,33 @@ class Install(ToolTest):
         script = "import qroute; print(qroute.program(), qroute.Device.named('ibm_tokyo').name)"
         env = {"PYTHONPATH": site, "PATH": os.environ["PATH"]}
         ran = subprocess.run([sys.executable, "-c", script], capture_output=True, text=True, env=env, cwd=self.room)
-        wanted = f"{self.prefix}/bin/qroute {self.prefix}/share/qroute/devices/ibm_tokyo.toml\n"
+        wanted = f"{self.prefix}/lib/qroute/qroute {self.prefix}/share/qroute/devices/ibm_tokyo.toml\n"
         self.assertEqual((ran.stdout, ran.stderr), (wanted, ""))
+
+    def test_help_leads_to_the_manual(self):
+        self.install(self.prefix)
+        os.symlink(os.path.join(self.prefix, "bin/qroute"), os.path.join(self.room, "linked"))
+        manual = os.path.join(self.prefix, "share/man/man1/qroute.1")
+        for command in (os.path.join(self.prefix, "bin/qroute"), os.path.join(self.room, "linked")):
+            for words, says in ((["--help"], True), ([], True), (["opt", "--help"], False)):
+                ran = subprocess.run([command, *words], capture_output=True, text=True)
+                # what the program answers is as it was
+                self.assertEqual((ran.returncode, ran.stdout.split()), (0, ["it", "runs", *words]))
+                self.assertEqual(ran.stderr, f"qroute: the manual is `man {manual}`\n" if says else "")
+
+    def test_tools_are_put_too(self):
+        self.install(self.prefix)
+        env = {"PATH": f"{self.prefix}/bin:{os.environ['PATH']}"}
+
+        def run(name, *words, given=""):
+            return subprocess.run([name, *words], input=given, capture_output=True, text=True, env=env, cwd=self.room, timeout=60)
+
+        fault = '{"code":12,"fault":"Syntax","place":3,"status":3}'
+        self.assertIn("this doesn't fit here", run("qroute-explain", given=fault).stdout)
+        self.assertIn("[0, 1],", run("qroute-device", given="[[0, 1]]").stdout)
+        for name in ("qroute-draw", "qroute-batch", "qroute-check-small"):
+            self.assertEqual(run(name, "--help").returncode, 0, name)
+        self.assertFalse(os.path.exists(os.path.join(self.prefix, "bin/qroute-mutate")))
 
     def test_no_program(self):
         self.program("exit 70")
