@@ -3,12 +3,14 @@
     <!-- made: NAME -->
     <!-- /made -->
 
-is written by `tools/check-docs --mend`. Of the part `claims` the last cells are written by hand, and stay with their crate.
+is written by `tools/check-docs --mend`. Of the part `claims` all cells but the first are written by hand, and stay with their crate; of
+the part `edits` the last cells are what `tools/mutate --mend` found, and stay with their edit.
 """
 
 import os
 import re
 
+import edits
 import reach
 import sources
 
@@ -24,36 +26,29 @@ def clause_list(function):
     return ", ".join(f"`{it}`" for it in function.clauses if it) + more
 
 
+def said_of(function):
+    """The first sentence of what is said of a function, as a cell, without the marks of links."""
+    return cell(re.sub(r"\[(`[^`]*`)\](\([^)]*\))?", r"\1", sources.doc_sentence(function.file, function.line)))
+
+
 def clauses(crate):
-    """The public calls of a crate with their clauses."""
+    """The public calls of a crate, what each gives, and its clauses."""
     lines = []
     listed = sources.public_functions(crate)
-    named = [it for it in listed if any(it.clauses)]
+    # a clause of these names alone says which value a call gives, and nothing of when
+    named = [it for it in listed if set(it.clauses) - {"", "value", "no_faults"}]
     if named:
-        lines += ["| call | its clauses |", "|---|---|"]
-        lines += [f"| {call_name(it)} | {clause_list(it)} |" for it in named]
+        lines += ["| call | gives | its clauses |", "|---|---|---|"]
+        lines += [f"| {call_name(it)} | {said_of(it)} | {clause_list(it)} |" for it in named]
     promises = sources.promises(crate)
     if promises:
         lines += [""] if lines else []
         lines += ["| what its passes and rules promise by the trait's clauses | |", "|---|---|"]
         lines += [f"| `{it.owner}`, `{it.trait}`: `{it.name}` | `{it.says}` |" for it in promises]
-    rest = [call_name(it) for it in listed if not any(it.clauses)]
+    rest = [call_name(it) for it in listed if it not in named]
     if rest:
-        lines += ["", f"{'Besides these, calls' if named else 'Calls'} whose clauses have no name: {', '.join(rest)}."]
-    lines += edits(crate)
+        lines += ["", f"{'Besides these, calls' if named else 'Calls'} whose contract is one equation or has no names: {', '.join(rest)}."]
     return "\n".join(lines).strip("\n")
-
-
-def edits(crate):
-    """The edits of a crate of which `tools/mutate` found what they say."""
-    says = {}
-    for it in sources.edit_rows():
-        if (it.crate, it.role, it.proved) == (crate, "says", "yes") and it.edit in sources.edits(crate):
-            says.setdefault(it.edit, []).append(it.said)
-    if not says:
-        return []
-    lines = ["", "| edit of the code that the prover must refuse | proved without |", "|---|---|"]
-    return lines + [f"| `{name}` | {', '.join(listed)} |" for name, listed in sorted(says.items())]
 
 
 def cell(text):
@@ -66,10 +61,10 @@ def row(cells):
     return "|" + "".join(f" {it} |" if it else " |" for it in cells)
 
 
-def by_room(columns, cells):
+def by_room(columns, cells, rooms):
     """A table with a row for each crate, room by room."""
     lines = [row(columns), "|" + "---|" * len(columns)]
-    for room, listed in sources.rooms().items():
+    for room, listed in rooms.items():
         lines.append(row([f"**{room}**"] + [""] * (len(columns) - 1)))
         lines += [row([f"`{crate}`", *cells(crate)]) for crate in listed]
     return "\n".join(lines)
@@ -84,53 +79,40 @@ def crates():
         listed = [f"`{it}`" + (" (in tests)" if it in tests else "") for it in below[crate]]
         return ", ".join(listed), cell(sources.crate_sentence(crate))
 
-    return by_room(["crate", "stands on", "what it is"], cells)
-
-
-def rooms():
-    """The crates of each room."""
-    lines = ["| room | its crates |", "|---|---|"]
-    return "\n".join(lines + [row([room, ", ".join(f"`{it}`" for it in listed)]) for room, listed in sources.rooms().items()])
+    return by_room(["crate", "stands on", "what it is"], cells, sources.rooms())
 
 
 def written_cells(text):
-    """The cells behind the second one of each crate's row."""
+    """The cells after the first one of each crate's row."""
     found = {}
     for line in text.splitlines():
         cells = [it.strip() for it in re.split(r"(?<!\\)\|", line)[1:-1]]
         if cells and re.fullmatch(r"`\w+`", cells[0]):
-            found[cells[0].strip("`")] = cells[2:]
+            found[cells[0].strip("`")] = cells[1:]
     return found
 
 
 def claims(old):
-    """What each crate is, and what is proved of it and what isn't: these cells are those of the old text."""
+    """What is proved of each crate of the product and what isn't: these cells are those of the old text."""
     written = written_cells(old)
-    columns = ["crate", "what it is", "what is proved, by `call`: `clause`", "what isn't"]
-    return by_room(columns, lambda crate: [cell(sources.crate_sentence(crate)), *written.get(crate, ["", ""])])
-
-
-def laws():
-    """The laws: public functions of modules `laws`, with the first sentence of what is said of each."""
-    lines = ["| law | crate | what it says |", "|---|---|---|"]
-    for it in sources.functions():
-        if it.module == "laws" and it.is_public:
-            lines.append(f"| `{it.name}` | `{it.crate}` | {cell(sources.doc_sentence(it.file, it.line))} |")
-    return "\n".join(lines)
+    columns = ["crate", "what is proved, by `call`: `clause`", "what isn't"]
+    return by_room(columns, lambda crate: written.get(crate, ["", ""]), sources.product())
 
 
 def reading():
     """What has to be read, in one sentence."""
     files, lines = reach.sizes(reach.reached())
     return (
-        f"Who wants to believe it reads that contract and {files} short files of definitions, {lines} lines in all;"
-        " [docs/CLAIMS.md](docs/CLAIMS.md) lists them from the ground up."
+        f"To check what is claimed, read that contract and {files} short files of definitions, {lines} lines in all:"
+        " [docs/CLAIMS.md](docs/CLAIMS.md) lists them from the ground up, and how few each claim needs."
     )
 
 
-# what README.md shows of docs/RESULTS.md
-SHOWN = ["tof_10", "barenco_tof_10", "mod5_4", "vbe_adder_3", "gf2_16_mult"]
-ROUTED = ["tof_10", "barenco_tof_10", "vbe_adder_3", "cuccaro_adder_8", "hidden_shift_20"]
+# what README.md shows of docs/RESULTS.md and docs/PERFORMANCE.md
+SHOWN = ["tof_10", "barenco_tof_10", "vbe_adder_3", "gf2_16_mult"]
+AT_A_GLANCE = ["gf2_16_mult", "barenco_tof_10", "tof_10"]
+ROUTED = ["tof_10", "barenco_tof_10", "vbe_adder_3"]
+FAST = ["`check` | 65,536 on 20", "`opt` | 65,536 on 20", "`route`, grid of 64", "`route --trace`, grid", "`verify`"]
 
 
 def result_rows(kind):
@@ -147,21 +129,41 @@ def results():
     for name in SHOWN:
         row = rows[name]
         lines.append(f"| `{name}` | {row[2]} → {row[3]} | {row[5]} | {row[8]} → {row[9]} | {row[11]} |")
-    swaps = {row[0]: row[3] for row in result_rows("route") if row[1] == "ibm_tokyo"}
-    listed = ", ".join(f"{swaps[name]} for `{name}`" for name in ROUTED)
-    return "\n".join([*lines, "", f"Swaps that `route` puts in on IBM's Tokyo: {listed}."])
+    return "\n".join(lines)
+
+
+def fast():
+    """Some rows of the first table of docs/PERFORMANCE.md."""
+    with open(os.path.join(sources.TOP, "docs/PERFORMANCE.md"), encoding="utf-8") as file:
+        lines = file.read().splitlines()
+    first = next(i for i, line in enumerate(lines) if line.startswith("| command |"))
+    return [*lines[first : first + 2], *(next(it for it in lines if it.startswith(f"| {start}")) for start in FAST)]
+
+
+def glance():
+    """The results in three lines: T gates, swaps, time."""
+    rows = {row[0]: row for row in result_rows("opt")}
+    gates = ", ".join(f"`{name}` {rows[name][8]} → {rows[name][9]} (VOQC: {rows[name][11]})" for name in AT_A_GLANCE)
+    rows = {row[0]: row for row in result_rows("route") if row[1] == "ibm_tokyo"}
+    swaps = ", ".join(f"`{name}` {rows[name][3]} (from the trivial layout {rows[name][4]})" for name in ROUTED)
+    times = [[cell.strip() for cell in line.strip("|").split("|")] for line in fast()[2:]]
+    return (
+        f"- **T gates**: {gates}.\n- **Swaps** on IBM's Tokyo: {swaps}.\n"
+        f"- **Time** for 65,536 gates: `opt` {times[1][2]} s, `route` on a grid of 64 qubits {times[2][2]} s, on one core."
+    )
 
 
 def part(name, old):
     """What a part says, whose text was another; None for one that nothing makes."""
     whole = {
         "crates": crates,
-        "rooms": rooms,
         "claims": lambda: claims(old),
+        "edits": lambda: edits.table_of(edits.rows_of(old)),
         "definitions": lambda: reach.table(reach.by_claim()),
-        "laws": laws,
         "reading": reading,
         "results": results,
+        "fast": lambda: "\n".join(fast()),
+        "glance": glance,
     }
     if name in whole:
         return whole[name]()

@@ -1,6 +1,7 @@
 """Which definitions a contract reaches: see `tools/definitions`."""
 
 import dataclasses
+import functools
 import glob
 import os
 import re
@@ -42,7 +43,7 @@ CLAIMS = [
     Claim(
         "headline",
         "the headline alone: both of these, the reads, parts and the report line",
-        {"qroute_top.specs.Delivered": "Makes", "qroute_top.specs.InParts": "told_parts"},
+        {"qroute_top.specs.Delivered": "Makes", "circuit_target.specs.InParts": "told_parts"},
     ),
     Claim("settled", "that what `opt` writes is settled", {"routed_parts.specs.Settled": "IsSettled"}),
     Claim(
@@ -101,6 +102,7 @@ def part_names(part):
     return found
 
 
+@functools.cache
 def file_of(path, top):
     """A file of specs/, read."""
     with open(os.path.join(top, path), encoding="utf-8") as file:
@@ -192,7 +194,7 @@ class Reach:
 
     def take_type(self, crate, modules, name):
         """Takes a type of the code in, and those of its parts."""
-        path = file_of_type(crate, modules, name, self.top)
+        path = file_of_type(crate, tuple(modules), name, self.top)
         if path is None or (path, name) in self.types:
             return
         self.types.add((path, name))
@@ -223,6 +225,7 @@ class Reach:
                 self.take(modules[first], rest.split(".")[0], wanted_by=here)
 
 
+@functools.cache
 def declaration(path, name, top):
     """The lines of a type's declaration, and the words that its file takes from elsewhere: (path of modules, name there)."""
     with open(os.path.join(top, path), encoding="utf-8") as file:
@@ -246,6 +249,7 @@ def declaration(path, name, top):
     return found, taken
 
 
+@functools.cache
 def file_of_type(crate, modules, name, top):
     """The file that declares a type: that of its module, or any of the crate's."""
     places = [f"crates/{crate}/src/{'/'.join(modules)}.rt"] if modules else [f"crates/{crate}/src/lib.rt"]

@@ -1,7 +1,7 @@
 """Traces: lines that say, step by step, why one program realises another; and a check of them.
 
 `of_text` finds the lines of a trace in a program's text, `lines_of` in a file of its own. `checked` says what they prove, or
-the first line that doesn't apply, and why. It is written from the definition in docs/SPECIFICATION.md ('Traces'), one method
+the first line that doesn't apply, and why. It is written from the definition in docs/REWRITING.md ('Traces'), one method
 for each word that a line begins with, and shares nothing with the program.
 """
 

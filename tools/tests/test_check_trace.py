@@ -8,6 +8,7 @@ import sys
 from tool import TOP, ToolTest
 
 sys.path.insert(0, os.path.join(TOP, "tools", "lib"))
+import built
 import gates
 import traces
 
@@ -133,7 +134,7 @@ TEXTS = {
         "no, line 5: `end 0` doesn't apply: gate 1 of the target is P 1 1, and C 0 1 was appended",
     ),
 }  # fmt: skip
-BUILT = os.environ.get("QROUTE", os.path.join(TOP, "out/qroute"))
+BUILT = built.program()
 
 
 def program(size, body):
@@ -262,7 +263,7 @@ class CheckTrace(ToolTest):
 
     def test_what_route_writes(self):
         """The traces of the examples on two devices, where there is a program that writes them."""
-        if not os.access(BUILT, os.X_OK):
+        if BUILT is None:
             self.skipTest("there is no built program")
         for path in sorted(glob.glob(os.path.join(TOP, "examples/*.qasm"))):
             for device in ("ibm_tokyo", "ibm_qx5"):

@@ -85,24 +85,23 @@ outside_io:
 # the rest
 qroute_top: low outside_io
 qroute: qroute_top
+# tests
+low_tests: low
 """
 README = """# It
 
 Read `low/specs/Words.antt`, as a whole.
 
 <!-- made: claims -->
-| `qroute` | | it returns | |
-| `low` | what it was | `two_is_even`: `even` | that `IsEven` is so |
-| `outside_io` | | `read`: `bound` | |
-| `qroute_top` | | `run`: `headline`, `calm` | |
+| `qroute` | it returns | |
+| `low` | `two_is_even`: `even` | that `IsEven` is so |
+| `outside_io` | `read`: `bound` | |
+| `qroute_top` | `run`: `headline`, `calm` | |
 <!-- /made -->
 """
 ARCHITECTURE = """# Architecture
 
 <!-- made: crates -->
-<!-- /made -->
-
-<!-- made: rooms -->
 <!-- /made -->
 """
 
@@ -112,7 +111,7 @@ def parts(*names):
 
 
 CLAIMS = f"""# Claims
-{parts("definitions", "laws")}
+{parts("definitions")}
 ## Crate by crate
 
 ### The ground
@@ -145,14 +144,16 @@ class Documents(ToolTest):
             "crates/outside_io/src/lib.rt": OUTSIDE_LIB,
             "crates/qroute_top/src/lib.rt": TOP_LIB,
             "crates/qroute/src/main.rt": "//! The program.\n",
+            "crates/low_tests/src/lib.rt": "//! Tests of `low`.\n",
             "README.md": README,
             "docs/ARCHITECTURE.md": ARCHITECTURE,
             "docs/CLAIMS.md": CLAIMS,
         }.items():
             self.file(name, text)
 
-    def script(self, name, *words, err=""):
-        ran = subprocess.run([os.path.join(self.room, "tools", name), *words], capture_output=True, text=True, timeout=60)
+    def script(self, name, *words, err="", **more):
+        env = {name: it for name, it in os.environ.items() if name != "QROUTE"} | more
+        ran = subprocess.run([os.path.join(self.room, "tools", name), *words], capture_output=True, text=True, timeout=60, env=env)
         self.assertEqual(ran.stderr, err)
         return ran.returncode, ran.stdout
 
@@ -188,8 +189,9 @@ class Documents(ToolTest):
         self.assertIn("docs/CLAIMS.md:1: a part is stale: clauses of low", self.found())
         self.assertEqual(self.script("check-docs", "--mend")[1].splitlines()[-1], "nothing found")
         text = self.text("docs/CLAIMS.md")
-        self.assertIn("| `run` | `headline`, `calm` |", text)
-        self.assertIn("| `two_is_even` | `low` | Two is even |", text)
+        self.assertIn("| `run` | Runs | `headline`, `calm` |", text)
+        self.assertIn("| `Source::read` | Reads | `bound` |", text)
+        self.assertIn("| `two_is_even` | Two is even | `even` |", text)
         self.assertEqual(self.found(), ["nothing found"])
 
     def test_tables_of_crates(self):
@@ -206,17 +208,14 @@ class Documents(ToolTest):
                 "| **the rest** | | |",
                 "| `qroute_top` | `low`, `outside_io` | The top call, `run`, of two lines |",
                 "| `qroute` | `qroute_top` | The program |",
-                "| room | its crates |",
-                "|---|---|",
-                "| the ground | `low`, `outside_io` |",
-                "| the rest | `qroute_top`, `qroute` |",
+                "| **tests** | | |",
+                "| `low_tests` | `low` | Tests of `low` |",
             ],
         )
-        # what is written by hand stays with its crate
+        # what is written by hand stays with its crate, and crates of tests have no row
         rows = [line for line in self.text("README.md").splitlines() if line.startswith("|")]
-        low = "| `low` | Numbers: even \\| ones | `two_is_even`: `even` | that `IsEven` is so |"
-        self.assertEqual(rows[2:4], ["| **the ground** | | | |", low])
-        self.assertEqual(rows[-1], "| `qroute` | The program | it returns | |")
+        self.assertEqual(rows[2:4], ["| **the ground** | | |", "| `low` | `two_is_even`: `even` | that `IsEven` is so |"])
+        self.assertEqual(rows[-1], "| `qroute` | it returns | |")
 
     def test_what_only_tests_stand_on(self):
         inside = "#[cfg(test)]\nmod tests {\n    use itoa::{Buffer};\n}\n"
@@ -243,12 +242,13 @@ class Documents(ToolTest):
         for name, old, new, wanted in (
             ("README.md", "Words.antt`", "Word.antt`", "README.md:3: no file low/specs/Word.antt"),
             ("README.md", ", as a whole.", ". It is short.", "README.md:3: more than one sentence on a line"),
-            ("README.md", "as a whole", "as `whole_thing`", "README.md:3: `whole_thing` stands nowhere"),
+            ("README.md", "as a whole", "as `whole_thing`", "README.md:3: `whole_thing` is declared nowhere"),
             ("README.md", "`even`", "`odd`", "README.md:9: two_is_even has no clause odd"),
             ("README.md", "| it returns |", "| |", "README.md:5: nothing says what is proved of qroute"),
-            ("README.md", "| `low` | Num", "| `lower` | Num", "README.md:1: a part is stale: claims"),
-            ("README.md", "made: claims", "made: rooms", "README.md:1: no part claims"),
-            ("docs/ARCHITECTURE.md", "made: rooms", "made: crates", "docs/ARCHITECTURE.md:1: no part rooms"),
+            ("README.md", "| it returns |", f"| {20 * 'it '}returns |", "README.md:5: 21 words on qroute, and at most 20 may be"),
+            ("README.md", "| `low` | `two", "| `lower` | `two", "README.md:1: a part is stale: claims"),
+            ("README.md", "made: claims", "made: reading", "README.md:1: no part claims"),
+            ("docs/ARCHITECTURE.md", "made: crates", "made: reading", "docs/ARCHITECTURE.md:1: no part crates"),
             ("docs/ARCHITECTURE.md", "`low`, `outside_io` | T", "`low` | T", "docs/ARCHITECTURE.md:1: a part is stale: crates"),
             ("docs/CLAIMS.md", "clauses of qroute -", "clauses of low -", "docs/CLAIMS.md:1: no part clauses of qroute"),
             ("crates/outside_io/src/lib.rt", "//! Traits.", "//! Three traits.", "docs/ARCHITECTURE.md:1: a part is stale: crates"),
@@ -258,6 +258,57 @@ class Documents(ToolTest):
             self.assertIn(wanted, self.found())
             self.file(name, before)
         self.assertEqual(self.found(), ["nothing found"])
+
+    def test_planted_untruths(self):
+        """Each is told, and alone: what a check of documents that passes has been shown to find."""
+        self.file("crates/low/must-fail/odd.edit", "file: src/laws.rt\nold: {}\nnew: {{}}\n")
+        self.file(
+            "README.md",
+            f"{README}\nThe clause `bound` of `Source` says it, `half` and `two_is_even` are of `low`, and {chr(96)}bin/run{chr(96)} is no document's.\n"
+            "No chain has more than three crates.\n[Definitions](docs/CLAIMS.md#crate-by-crate) stand there.\n\n"
+            "| `unused` | at most | name | where |\n|---|---|---|---|\n| it | 3 | `unused` | `low/specs/Words.antt` |\n",
+        )
+        self.file("docs/CLAIMS.md", CLAIMS.replace("#### `low`\n", "#### `low`\n\nIts law is `two_is_even`, of the definition `IsEven`.\n") + parts("edits"))
+        self.script("check-docs", "--mend")
+        self.change("docs/CLAIMS.md", "| `odd` | not tried |", "| `odd` | `even` of `two_is_even` |")
+        self.assertEqual(self.found(), ["nothing found"])
+        plain = "| `unused` | at most | name | where |"
+        for name, old, new, wanted in (
+            # a clause that was renamed, in the sources
+            ("crates/outside_io/src/lib.rt", "ensures bound", "ensures most", "`bound` is no member of `Source`"),
+            ("crates/low/src/laws.rt", "ensures even", "ensures halved", "two_is_even has no clause even"),
+            # a wrong count, and a figure that was changed
+            ("README.md", "than three crates", "than four crates", "it says four, and there are three"),
+            ("README.md", "| it | 3 |", "| it | 4 |", "`unused` is no 4 in low/specs/Words.antt"),
+            ("crates/low/specs/Words.antt", "unused = 3", "unused = 5", "`unused` is no 3 in low/specs/Words.antt"),
+            # a file that is gone, and a definition, a function and a heading with another name
+            ("README.md", "`low/specs/Words.antt`, as", "`low/specs/Even.antt`, as", "no file low/specs/Even.antt"),
+            ("crates/low/specs/Ground.antt", "abbrev pub half", "abbrev pub halved", "`half` is declared nowhere"),
+            ("docs/CLAIMS.md", "Its law is `two_is_even`", "Its law is `two_is_odd`", "`two_is_odd` is declared nowhere"),
+            ("README.md", "#crate-by-crate", "#room-by-room", "no heading #room-by-room in docs/CLAIMS.md"),
+            # what another crate declares, above this one
+            ("docs/CLAIMS.md", "the definition `IsEven`", "the call `run`", "`run` is declared by qroute_top, and not by low or below it"),
+            # a word of a comment alone, and a clause that is none
+            ("README.md", plain, plain.replace("`unused`", "`returns`"), "`returns` is declared nowhere"),
+            ("README.md", "clause `bound`", "clause `half`", "`half` is no member of `Source`"),
+            # an edit that another clause would refuse, that is gone, or that is new
+            ("docs/CLAIMS.md", "`even` of `two_is_even` |", "`odd` of `two_is_even` |", "odd: two_is_even has no clause odd"),
+            ("docs/CLAIMS.md", "| `odd` | `even`", "| `old` | `even`", "a part is stale: edits"),
+            ("README.md", "<!-- made: claims -->", "<!-- made: claim -->", "a part is stale: claim (nothing makes it)"),
+        ):
+            before = self.text(name)
+            self.change(name, old, new)
+            found = self.found()
+            self.assertTrue(any(wanted in it for it in found), (wanted, found))
+            self.file(name, before)
+        self.assertEqual(self.found(), ["nothing found"])
+
+    def test_words_that_are_defined_twice(self):
+        self.script("check-docs", "--mend")
+        self.file("crates/outside_io/specs/Others.antt", "-- Others.\n--   twice\nabbrev pub twice : ℕ\ntwice = 2\n")
+        self.assertEqual(self.found(), ["nothing found"])
+        self.change("tools/check-docs", "MOST_TWICE = 149", "MOST_TWICE = 0")
+        self.assertEqual(self.found(), ["specs/: 1 words are defined in two or more files, and at most 0 were: among them twice"])
 
     def test_order_of_crates(self):
         self.script("check-docs", "--mend")
@@ -309,8 +360,9 @@ class Documents(ToolTest):
         self.assertEqual(self.found(), wanted)
 
     def test_transcripts(self):
-        self.file("qroute", "#!/bin/sh\n[ $1 = what ] && echo no command >&2\necho program $1\n")
-        os.chmod(os.path.join(self.room, "qroute"), 0o755)
+        program = "#!/bin/sh\n[ $1 = what ] && echo no command >&2\necho program $1\n"
+        for path in (self.file("qroute", "#!/bin/sh\n"), self.file("out/qroute", program), self.file("own/qroute", program.replace("no", "own"))):
+            os.chmod(path, 0o755)
         for name in ("examples/a", "devices/a", "bench/a", "docs/made.svg"):
             self.file(name, "<x y='1.2'/>\n")
         body = "$ ./qroute opt\nprogram opt\n$ ./qroute what\nno command\nprogram what\n$ echo \"<x y='1.4'/>\" > docs/made.svg\n"
@@ -323,6 +375,8 @@ class Documents(ToolTest):
         self.assertIn("README.md:12: what comes out is\n", out)
         self.assertIn("docs/made.svg isn't what is written\n", out)
         self.assertEqual(self.script("check-transcripts"), (0, "nothing differs in 1 transcripts\n"))
+        # another program, which says `own command`
+        self.assertEqual(self.script("check-transcripts", QROUTE=os.path.join(self.room, "own/qroute"))[0], 1)
 
     def test_a_build_is_told_and_files_are_looked_at_before(self):
         self.file("qroute", "#!/bin/sh\necho building >&2\nexit 70\n")

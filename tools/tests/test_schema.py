@@ -2,8 +2,12 @@ import glob
 import json
 import os
 import subprocess
+import sys
 
 from tool import TOP, ToolTest
+
+sys.path.insert(0, os.path.join(TOP, "tools", "lib"))
+import built
 
 REPORT = {
     "barriers": 0,
@@ -36,7 +40,7 @@ FAULTS = [
     {"code": 73, "fault": "TooManySpares", "qubits": 2, "spares": 255, "status": 3},
 ]
 KINDS = {"integer": int, "string": str, "array": list, "object": dict}
-BUILT = os.environ.get("QROUTE", os.path.join(TOP, "out/qroute"))
+BUILT = built.program()
 
 
 def flaws(value, schema, whole):
@@ -128,7 +132,7 @@ class Schema(ToolTest):
     def test_codes(self):
         """Each key that the page of the manual gives a fault is known."""
         told = []
-        for path in sorted(glob.glob(os.path.join(TOP, "crates/program_tests/src/*_tests.rt"))):
+        for path in sorted(glob.glob(os.path.join(TOP, "cases/*.txt"))):
             with open(path, encoding="utf-8") as file:
                 told += [json.loads(it) for it in file.read().split("\n") if it.startswith('{"') and it.endswith("}")]
         self.assertGreater(len(told), 5)
@@ -136,7 +140,7 @@ class Schema(ToolTest):
             self.assertEqual(self.flaws(line), [], line)
 
     def test_examples(self):
-        if not os.access(BUILT, os.X_OK):
+        if BUILT is None:
             self.skipTest("there is no built program")
         device = os.path.join(TOP, "devices/ibm_tokyo.toml")
         for path in sorted(glob.glob(os.path.join(TOP, "examples/*.qasm"))):
