@@ -1,34 +1,83 @@
 //! Gates of a circuit, their counts, and edits of a copy.
 
 use crate::circuits::has_gates;
-use circuit_list::Gate;
+use circuit_list::{Circuit, Gate};
+use std::alloc::{AllocError, Global};
 use std::test::Fail;
 use test_circuits::circuit_of_text;
 
 const GATES: &str = "h.0 1.2 c02 2.1 7.1 x.1";
 
+/// Whether a circuit has these counts.
+fn is_counted(circuit: &Circuit) -> bool {
+    circuit.wires() == 3
+        && circuit.len() == 6
+        && circuit.count_t() == 2
+        && circuit.count_cx() == 1
+        && circuit.count_h() == 1
+}
+
 #[test]
 fn counts_its_gates(rt: HostRuntime) -> Result<(), Fail> {
     let circuit = circuit_of_text(rt.alloc(), 3, GATES)?.ok_or("no circuit")?;
-    assert!(rt; circuit.wires() == 3 && circuit.len() == 6);
-    assert!(rt; circuit.count_t() == 2 && circuit.count_cx() == 1 && circuit.count_h() == 1);
+    assert!(rt; is_counted(&circuit));
     Ok(())
 }
 
-/// A copy is edited, and the circuit stays.
+/// Whether a circuit on three wires has the gates of a text, and so many.
+fn is_of(alloc: Global, circuit: &Circuit, text: &str, gates: usize) -> Result<bool, AllocError> {
+    Ok(has_gates(alloc, circuit, text)? && circuit.len() == gates && circuit.wires() == 3)
+}
+
 #[test]
-fn edits_a_copy(rt: HostRuntime) -> Result<(), Fail> {
+fn copies_a_circuit(rt: HostRuntime) -> Result<(), Fail> {
     let circuit = circuit_of_text(rt.alloc(), 3, GATES)?.ok_or("no circuit")?;
+    assert!(rt; is_of(rt.alloc(), &circuit.copy()?, GATES, 6)?);
+    Ok(())
+}
+
+/// Takes the second gate out, if there is one.
+fn take_out_second(circuit: &mut Circuit) {
+    if circuit.len() > 1 {
+        circuit.remove(1);
+    }
+}
+
+/// Puts X on the third wire in the place of the second gate, if there are both.
+fn put_second(circuit: &mut Circuit) {
+    if circuit.len() > 1 && circuit.wires() == 3 {
+        circuit.replace(1, Gate::X { q: 2 });
+    }
+}
+
+/// Whether the second gate goes out of a copy.
+fn is_removed(alloc: Global, circuit: &Circuit) -> Result<bool, AllocError> {
     let mut copy = circuit.copy()?;
-    let is_copy = has_gates(rt.alloc(), &copy, GATES)?;
-    assert!(rt; is_copy && copy.len() == 6 && copy.wires() == 3);
-    copy.remove(1);
-    let is_removed = has_gates(rt.alloc(), &copy, "h.0 c02 2.1 7.1 x.1")?;
-    assert!(rt; is_removed && copy.len() == 5 && copy.wires() == 3);
-    copy.replace(1, Gate::X { q: 2 });
-    let is_replaced = has_gates(rt.alloc(), &copy, "h.0 x.2 2.1 7.1 x.1")?;
-    assert!(rt; is_replaced && copy.len() == 5);
-    assert!(rt; copy.count_cx() == 0 && circuit.count_cx() == 1);
+    take_out_second(&mut copy);
+    is_of(alloc, &copy, "h.0 c02 2.1 7.1 x.1", 5)
+}
+
+/// The same, and whether X comes in the place of the gate that is the second then; the circuit stays.
+fn is_replaced(alloc: Global, circuit: &Circuit) -> Result<bool, AllocError> {
+    let mut copy = circuit.copy()?;
+    take_out_second(&mut copy);
+    put_second(&mut copy);
+    Ok(is_of(alloc, &copy, "h.0 x.2 2.1 7.1 x.1", 5)?
+        && copy.count_cx() == 0
+        && circuit.count_cx() == 1)
+}
+
+#[test]
+fn removes_from_a_copy(rt: HostRuntime) -> Result<(), Fail> {
+    let circuit = circuit_of_text(rt.alloc(), 3, GATES)?.ok_or("no circuit")?;
+    assert!(rt; is_removed(rt.alloc(), &circuit)?);
+    Ok(())
+}
+
+#[test]
+fn replaces_in_a_copy(rt: HostRuntime) -> Result<(), Fail> {
+    let circuit = circuit_of_text(rt.alloc(), 3, GATES)?.ok_or("no circuit")?;
+    assert!(rt; is_replaced(rt.alloc(), &circuit)?);
     Ok(())
 }
 

@@ -1,11 +1,11 @@
-//! Texts, their tokens and values, worked by hand.
+//! Texts, their tokens and values, worked by hand. Texts without tokens are in `cases/tokens.txt`.
 
 ghost use Rattle.std.specs.Prelude.{◌<◌, ◌^◌, length};
 ghost use Rattle.qasm_lexer.specs.Tokens.{IsTokenOf};
 
-use crate::rows::{number, number_of, sides, word};
+use crate::rows::{number_of, sides, word};
 use angle_fraction::{Frac, lowest};
-use qasm_lexer::{Kind, LexFault, Token, lex, value};
+use qasm_lexer::{Kind, Token, lex, value};
 use std::alloc::Global;
 use std::test::Fail;
 
@@ -71,64 +71,6 @@ pi/ //x => word:0-2 sign:2-3
 fn tokens_of_texts(rt: HostRuntime) -> Result<(), Fail> {
     'rows: for row in TOKENS.split("\n\n") {
         assert!(rt; has_tokens(rt.alloc(), row), "{row}");
-    }
-    Ok(())
-}
-
-/// Whether a fault is that of two words.
-fn is_fault(fault: LexFault, wanted: &str) -> bool {
-    match fault {
-        LexFault::BadByte { place } => word(wanted, 0) == "BadByte" && place == number(wanted, 1),
-        LexFault::Number { place } => word(wanted, 0) == "Number" && place == number(wanted, 1),
-        LexFault::NoMemory => false,
-    }
-}
-
-/// Whether a text has the fault of its row.
-fn has_fault(alloc: Global, row: &str) -> bool {
-    let (text, wanted) = sides(row);
-    let bytes = text.as_bytes();
-    if bytes.len() > 1000 {
-        return false;
-    }
-    match lex(alloc, bytes) {
-        Ok(_) => false,
-        Err(fault) => is_fault(fault, wanted),
-    }
-}
-
-/// Texts with their faults: a form feed, a mark of the order of bytes and open texts among them.
-const FAULTS: &str = "\
-1E5 => BadByte 1
-
-q\x0c => BadByte 1
-
-\u{feff}q => BadByte 0
-
-x \"ab => BadByte 2
-
-x \"a\nb\" => BadByte 2
-
-a=b => BadByte 1
-
-- > => BadByte 2
-
-CXx => BadByte 0
-
-0 . 1 => BadByte 2
-
-\x20 4611686018427387905 => Number 2
-
-0.00000000000000000001 => Number 0
-
-1.e99999999999999999999 = => Number 0
-
-= 4611686018427387905 => BadByte 0";
-
-#[test]
-fn faults_of_texts(rt: HostRuntime) -> Result<(), Fail> {
-    'rows: for row in FAULTS.split("\n\n") {
-        assert!(rt; has_fault(rt.alloc(), row), "{row}");
     }
     Ok(())
 }

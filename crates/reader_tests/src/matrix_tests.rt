@@ -1,7 +1,6 @@
 //! Each gate of the tables, with each multiple of pi/4 for each parameter, against its matrix. The matrices are those
 //! of the textbooks; the power of w is worked out by floating numbers.
 
-use crate::check_tests::behind_head;
 use crate::inline_tests::inlined;
 use crate::rows::{number, word};
 use gate_expand::Ops;
@@ -134,10 +133,9 @@ fn is_matrix(alloc: Global, gate: &str, wires: usize, matrix: Matrix) -> Result<
         _ => "q[0],q[1],q[2]",
     };
     let body = format!(in alloc; "qreg q[3]; {gate} {qubits};")?;
-    let text = behind_head(alloc, body.as_str())?;
-    match inlined(alloc, text.as_bytes()) {
-        Some(Ok(ops)) => agrees(alloc, &ops, wires, matrix),
-        _ => Ok(false),
+    match inlined(alloc, body.as_str()) {
+        Some(ops) => agrees(alloc, &ops, wires, matrix),
+        None => Ok(false),
     }
 }
 

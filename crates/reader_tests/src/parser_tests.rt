@@ -1,41 +1,27 @@
-//! Texts and their trees, worked by hand.
+//! Texts and their trees, worked by hand. Texts without trees are in `cases/tokens.txt`.
 
 ghost use Rattle.std.specs.Prelude.{◌<◌, ◌^◌};
 
-use crate::rows::{field, number, sides, word};
+use crate::rows::sides;
 use angle_fraction::Frac;
 use qasm_lexer::lex;
-use qasm_parser::{Binary, Expr, Name, ParseFault, Program, Stmt, parse};
+use qasm_parser::{Binary, Expr, Name, Program, Stmt, parse};
 use std::alloc::{AllocError, Global};
 use std::test::Fail;
 
-/// The tree of a text; none where it has no tokens.
-fn tree_of(alloc: Global, text: &[u8]) -> Result<Option<Result<Program, ParseFault>>, AllocError> {
+/// The tree of a text; none where it has no tokens or no tree.
+fn tree_of(alloc: Global, text: &[u8]) -> Option<Program> {
     if text.len() > 10_000_000 {
-        return Ok(None);
+        return None;
     }
-    match lex(alloc, text) {
-        Ok(tokens) => Ok(Some(parse(alloc, text, &tokens))),
-        Err(_) => Ok(None),
-    }
-}
-
-/// The fault of a text that has one.
-fn fault_of(alloc: Global, text: &[u8]) -> Result<Option<ParseFault>, AllocError> {
-    match tree_of(alloc, text)? {
-        Some(Ok(_)) => Ok(None),
-        Some(Err(fault)) => Ok(Some(fault)),
-        None => Ok(None),
-    }
+    let tokens = lex(alloc, text).ok()?;
+    parse(alloc, text, &tokens).ok()
 }
 
 /// How many statements a text spells.
-fn statements_of(alloc: Global, text: &[u8]) -> Result<Option<usize>, AllocError> {
-    match tree_of(alloc, text)? {
-        Some(Ok(program)) => Ok(Some(program.list.len())),
-        Some(Err(_)) => Ok(None),
-        None => Ok(None),
-    }
+fn statements_of(alloc: Global, text: &[u8]) -> Option<usize> {
+    let program = tree_of(alloc, text)?;
+    Some(program.list.len())
 }
 
 fn sign_of(sign: Binary) -> u8 {
@@ -98,24 +84,34 @@ fn write_tree(out: &mut Vec<u8>, tree: &Expr) -> Result<(), AllocError> {
     }
 }
 
-/// The angles of the first statement behind the header, an application, each before a `;`.
-fn angles_of(alloc: Global, text: &[u8]) -> Result<Vec<u8>, AllocError> {
+/// Expressions, each before a `;`.
+fn told(alloc: Global, angles: &[Expr]) -> Result<Vec<u8>, AllocError> {
     let mut out = Vec::new(alloc);
-    if let Some(Ok(program)) = tree_of(alloc, text)? {
-        if let Some(Stmt::Apply(apply)) = program.list.first() {
-            for angle in apply.angles.iter() {
-                write_tree(&mut out, angle)?;
-                out.push(b';')?;
-            }
-        }
+    'angles: for angle in angles {
+        write_tree(&mut out, angle)?;
+        out.push(b';')?;
     }
     Ok(out)
 }
 
-/// Whether the angles of a row's text are its trees.
+/// Whether a statement is an application with angles of these trees.
+fn has_trees(alloc: Global, statement: &Stmt, trees: &str) -> Result<bool, AllocError> {
+    match statement {
+        Stmt::Apply(apply) => Ok(told(alloc, &apply.angles)?.as_slice() == trees.as_bytes()),
+        _ => Ok(false),
+    }
+}
+
+/// Whether the first statement behind the header has the angles of a row.
 fn is_tree(alloc: Global, row: &str) -> Result<bool, AllocError> {
     let (text, trees) = sides(row);
-    Ok(angles_of(alloc, text.as_bytes())?.as_slice() == trees.as_bytes())
+    match tree_of(alloc, text.as_bytes()) {
+        Some(program) => match program.list.first() {
+            Some(statement) => has_trees(alloc, statement, trees),
+            None => Ok(false),
+        },
+        None => Ok(false),
+    }
 }
 
 const EXPRESSIONS: &str = "\
@@ -134,125 +130,6 @@ fn expressions(rt: HostRuntime) -> Result<(), Fail> {
     'rows: for row in EXPRESSIONS.split('\n') {
         assert!(rt; is_tree(rt.alloc(), row)?, "{row}");
     }
-    Ok(())
-}
-
-/// Whether a text has the fault of two words, or none.
-fn has_fault(alloc: Global, text: &[u8], wanted: &str) -> Result<bool, AllocError> {
-    let (name, at) = (word(wanted, 0), number(wanted, 1));
-    Ok(match fault_of(alloc, text)? {
-        None => name == "none",
-        Some(ParseFault::Syntax { place }) => name == "Syntax" && place == at,
-        Some(ParseFault::Version { place }) => name == "Version" && place == at,
-        Some(ParseFault::Depth { place }) => name == "Depth" && place == at,
-        Some(ParseFault::NoMemory) => false,
-    })
-}
-
-fn is_refused(alloc: Global, row: &str) -> Result<bool, AllocError> {
-    let (text, wanted) = sides(row);
-    has_fault(alloc, text.as_bytes(), wanted)
-}
-
-/// Texts with their faults; the last five are the end of the text, behind a comment too, the first of two, and a sign.
-const FAULTS: &str = "\
-OPENQASM 2.0;\nqreg q[1] => Syntax 23
-
-OPENQASM 3.0; => Version 9
-
-OPENQASM 2; => Syntax 9
-
-OPENQASM 2.0;qreg q[1.0]; => Syntax 20
-
-OPENQASM 2.0;u1(1e5) q; => Syntax 17
-
-OPENQASM 2.0;U() q[0]; => Syntax 15
-
-OPENQASM 2.0;CX() a,b; => Syntax 15
-
-OPENQASM 2.0;barrier; => Syntax 20
-
-OPENQASM 2.0;x a x b; => Syntax 17
-
-OPENQASM 2.0;gate g a { h a[0]; } => Syntax 27
-
-OPENQASM 2.0;gate g a { measure a -> c; } => Syntax 24
-
-OPENQASM 2.0;if(c==1) barrier q; => Syntax 22
-
-OPENQASM 2.0;t q[0]]; => Syntax 19
-
-- => Syntax 0
-
-OPENQASM 2.0;h q[0] // end => Syntax 26
-
-OPENQASM 2.0;h q[;x ]; => Syntax 17
-
-OPENQASM 2.0;u1(2*) q; => Syntax 18";
-
-#[test]
-fn faults(rt: HostRuntime) -> Result<(), Fail> {
-    'rows: for row in FAULTS.split("\n\n") {
-        assert!(rt; is_refused(rt.alloc(), row)?, "{row}");
-    }
-    Ok(())
-}
-
-/// A header, `u1(`, so many times a text, a middle and so many times another text, and a qubit.
-fn nested(
-    alloc: Global,
-    count: usize,
-    front: &[u8],
-    middle: &[u8],
-    back: &[u8],
-) -> Result<Vec<u8>, AllocError> {
-    let mut text = Vec::new(alloc);
-    text.extend_from_slice(b"OPENQASM 2.0;u1(")?;
-    'front: for _ in 0..count {
-        text.extend_from_slice(front)?;
-    }
-    text.extend_from_slice(middle)?;
-    'back: for _ in 0..count {
-        text.extend_from_slice(back)?;
-    }
-    text.extend_from_slice(b") q;")?;
-    Ok(text)
-}
-
-/// Whether a nest around pi has the fault of a row.
-fn is_deep(alloc: Global, row: &str) -> Result<bool, AllocError> {
-    let (shape, wanted) = sides(row);
-    let count = number(field(shape, 0), 0).min(100) as usize;
-    let front = field(shape, 1);
-    // a minus sign is written otherwise, since `-` stands for nothing
-    let front = if front == "minus" { "-" } else { front };
-    let back = field(shape, 2);
-    let text = nested(alloc, count, front.as_bytes(), b"pi", back.as_bytes())?;
-    has_fault(alloc, &text, wanted)
-}
-
-/// How deep a nest is, what stands in front of it so often, and behind it, with its fault.
-const NESTS: &str = "\
-63 | ( | ) => none
-64 | ( | ) => Depth 16
-63 | minus | - => none
-64 | minus | - => Depth 16
-63 | - | +1 => none
-64 | - | +1 => Depth 16";
-
-#[test]
-fn nests(rt: HostRuntime) -> Result<(), Fail> {
-    'rows: for row in NESTS.split('\n') {
-        assert!(rt; is_deep(rt.alloc(), row)?, "{row}");
-    }
-    Ok(())
-}
-
-/// No stack is needed for what is open, and each symbol is read once.
-#[test]
-fn a_million_open_parentheses(rt: HostRuntime) -> Result<(), Fail> {
-    let open = nested(rt.alloc(), 1_000_000, b"(", b"", b"")?;
-    assert!(rt; has_fault(rt.alloc(), &open, "Syntax 1000016")?);
     Ok(())
 }
 
@@ -294,11 +171,6 @@ gate syndrome d1,d2,d3,a1,a2 { cx d1,a1; cx d2,a1; cx d2,a2; cx d3,a2; }
 x q[0]; barrier q; syndrome q[0],q[1],q[2],a[0],a[1]; measure a -> syn;
 if(syn==1) x q[0]; if(syn==2) x q[2]; if(syn==3) x q[1]; measure q -> c;";
 
-/// Whether a text spells so many statements.
-fn is_counted(alloc: Global, text: &[u8], count: usize) -> Result<bool, AllocError> {
-    Ok(statements_of(alloc, text)? == Some(count))
-}
-
 /// Each statement that the programs above lack, and a header alone.
 const OTHERS: &[u8] =
     b"OPENQASM 2.0;opaque o(a,b) q;gate g() a{barrier a;}gate k(t) a{U(t,0,0) a;}h() q[0];reset q;";
@@ -315,7 +187,7 @@ fn programs(rt: HostRuntime) -> Result<(), Fail> {
         (OTHERS, 5),
     ];
     'rows: for (text, count) in rows {
-        assert!(rt; is_counted(rt.alloc(), text, count)?, "{count}");
+        assert!(rt; statements_of(rt.alloc(), text) == Some(count), "{count}");
     }
     Ok(())
 }
