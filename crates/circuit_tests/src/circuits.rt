@@ -2,8 +2,7 @@
 
 use circuit_list::{Circuit, Gate, Slot};
 use std::alloc::{AllocError, Global};
-use std::test::Fail;
-use test_circuits::{gates_of, gates_of_text};
+use test_circuits::{gates_of, gates_of_text, is_fine};
 
 /// Whether a circuit has the gates of a text.
 pub fn has_gates(alloc: Global, circuit: &Circuit, text: &str) -> Result<bool, AllocError> {
@@ -20,15 +19,29 @@ pub fn slot_at(circuit: &Circuit, place: u64) -> Option<Slot> {
     }
 }
 
-/// The slots of so many gates that are put in one by one.
-pub fn first_slots(alloc: Global, count: usize) -> Result<Vec<Slot>, Fail> {
-    let mut circuit = Circuit::empty(alloc, 1)?;
-    let mut slots = Vec::new(alloc);
+/// Puts a gate behind the others, if it has its wires.
+pub fn put(circuit: &mut Circuit, gate: Gate) -> Result<(), AllocError> {
+    if is_fine(circuit.wires(), gate) {
+        circuit.push(gate)?;
+    }
+    Ok(())
+}
+
+/// Puts so many gates in one by one, and notes their slots.
+fn note(circuit: &mut Circuit, slots: &mut Vec<Slot>, count: usize) -> Result<(), AllocError> {
     'pushes: for place in 0..count {
-        circuit.push(Gate::X { q: 0 })?;
+        put(circuit, Gate::X { q: 0 })?;
         if place < circuit.len() {
             slots.push(circuit.slot(place))?;
         }
     }
+    Ok(())
+}
+
+/// The slots of so many gates that are put in one by one.
+pub fn first_slots(alloc: Global, count: usize) -> Result<Vec<Slot>, AllocError> {
+    let mut circuit = Circuit::empty(alloc, 1)?;
+    let mut slots = Vec::new(alloc);
+    note(&mut circuit, &mut slots, count)?;
     Ok(slots)
 }

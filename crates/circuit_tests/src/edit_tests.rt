@@ -62,9 +62,11 @@ fn is_replaced(alloc: Global, circuit: &Circuit) -> Result<bool, AllocError> {
     let mut copy = circuit.copy()?;
     take_out_second(&mut copy);
     put_second(&mut copy);
-    Ok(is_of(alloc, &copy, "h.0 x.2 2.1 7.1 x.1", 5)?
-        && copy.count_cx() == 0
-        && circuit.count_cx() == 1)
+    Ok(
+        is_of(alloc, &copy, "h.0 x.2 2.1 7.1 x.1", 5)?
+            && copy.count_cx() == 0
+            && circuit.count_cx() == 1,
+    )
 }
 
 #[test]

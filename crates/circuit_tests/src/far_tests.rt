@@ -1,23 +1,27 @@
 //! Gates far apart, with gates or with empty slots between them.
 
-use crate::circuits::{first_slots, has_gates, slot_at};
+use crate::circuits::{first_slots, has_gates, put, slot_at};
 use circuit_list::{Circuit, Gate, Slot};
-use std::alloc::Global;
+use std::alloc::{AllocError, Global};
 use std::test::Fail;
 use test_rows::number;
 
 /// H on wire 1, 300 times X on wire 0, H on wire 1 and X on wire 0; linked after the first gate, or not.
-fn far_apart(alloc: Global, is_linked: bool) -> Result<Circuit, Fail> {
-    let mut circuit = Circuit::empty(alloc, 2)?;
-    circuit.push(Gate::H { q: 1 })?;
+fn fill(circuit: &mut Circuit, is_linked: bool) -> Result<(), AllocError> {
+    put(circuit, Gate::H { q: 1 })?;
     if is_linked {
         circuit.link()?;
     }
     'pushes: for _ in 0..300 {
-        circuit.push(Gate::X { q: 0 })?;
+        put(circuit, Gate::X { q: 0 })?;
     }
-    circuit.push(Gate::H { q: 1 })?;
-    circuit.push(Gate::X { q: 0 })?;
+    put(circuit, Gate::H { q: 1 })?;
+    put(circuit, Gate::X { q: 0 })
+}
+
+fn far_apart(alloc: Global, is_linked: bool) -> Result<Circuit, AllocError> {
+    let mut circuit = Circuit::empty(alloc, 2)?;
+    fill(&mut circuit, is_linked)?;
     Ok(circuit)
 }
 
@@ -45,7 +49,7 @@ fn finds_gates_far_away(rt: HostRuntime) -> Result<(), Fail> {
 }
 
 /// The same with all but the first and the last X taken out.
-fn hollow(alloc: Global, is_linked: bool) -> Result<Circuit, Fail> {
+fn hollow(alloc: Global, is_linked: bool) -> Result<Circuit, AllocError> {
     let mut circuit = far_apart(alloc, is_linked)?;
     'removals: for _ in 0..299 {
         if circuit.len() > 2 {

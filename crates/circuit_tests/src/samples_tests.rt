@@ -1,6 +1,6 @@
 //! Texts and their gates, and circuits that are told apart.
 
-use circuit_list::Gate;
+use circuit_list::{Circuit, Gate};
 use std::alloc::{AllocError, Global};
 use std::test::Fail;
 use test_circuits::{Kind, Random, circuit_of_text, gates_of, gates_of_text, is_turned};
@@ -31,15 +31,21 @@ fn no_gates_by_their_texts(rt: HostRuntime) -> Result<(), Fail> {
     Ok(())
 }
 
-/// Whether a row's second circuit is its first up to the row's turn, or isn't, as the row says.
+/// Whether a circuit is another up to the row's turn, or isn't, as the row says.
+fn is_so(alloc: Global, before: &Circuit, after: &Circuit, row: &str) -> Result<bool, AllocError> {
+    let turn = field(row, 2).parse::<u8>().unwrap_or(77);
+    Ok(is_turned(alloc, before, after, turn)? == (field(row, 3) == "same"))
+}
+
+/// Whether a row's second circuit is its first in this way.
 fn is_turned_so(alloc: Global, row: &str) -> Result<bool, AllocError> {
-    let before = circuit_of_text(alloc, 3, field(row, 0))?;
-    let after = circuit_of_text(alloc, 3, field(row, 1))?;
-    let (Some(before), Some(after)) = (before, after) else {
+    let Some(before) = circuit_of_text(alloc, 3, field(row, 0))? else {
         return Ok(false);
     };
-    let turn = field(row, 2).parse::<u8>().unwrap_or(77);
-    Ok(is_turned(alloc, &before, &after, turn)? == (field(row, 3) == "same"))
+    match circuit_of_text(alloc, 3, field(row, 1))? {
+        Some(after) => is_so(alloc, &before, &after, row),
+        None => Ok(false),
+    }
 }
 
 const TURNS: &str = "\

@@ -7,6 +7,7 @@ ghost use Rattle.circuit_list.specs.Slots.{IsLive, IsNextOn, NoneBehind, is_on_a
 
 use crate::circuits::has_gates;
 use circuit_list::{Circuit, Slot};
+use std::alloc::{AllocError, Global};
 use std::test::Fail;
 use test_circuits::circuit_of_text;
 
@@ -67,14 +68,22 @@ fn take_out(circuit: &mut Circuit, place: usize) -> bool {
     take_out_pair(circuit, slot, wire)
 }
 
+/// Whether the counts along the first gate's wires are right, a pair goes out, and then no other is there.
+fn is_walked(alloc: Global, circuit: &mut Circuit) -> Result<bool, AllocError> {
+    Ok(
+        counted(circuit, 0) == (4, 2)
+            && take_out(circuit, 2)
+            && has_gates(alloc, circuit, "c02 h.1 c12 1.0")?
+            && circuit.len() == 4
+            && !take_out(circuit, 3)
+            && circuit.len() == 4,
+    )
+}
+
 #[test]
 fn walks_along_a_wire(rt: HostRuntime) -> Result<(), Fail> {
     let circuit = circuit_of_text(rt.alloc(), 3, "c02 h.1 h.0 c12 h.0 1.0")?;
     let mut circuit = circuit.ok_or("no circuit")?;
-    assert!(rt; counted(&circuit, 0) == (4, 2));
-    assert!(rt; take_out(&mut circuit, 2));
-    let is_taken = has_gates(rt.alloc(), &circuit, "c02 h.1 c12 1.0")?;
-    assert!(rt; is_taken && circuit.len() == 4);
-    assert!(rt; !take_out(&mut circuit, 3) && circuit.len() == 4);
+    assert!(rt; is_walked(rt.alloc(), &mut circuit)?);
     Ok(())
 }
