@@ -3,11 +3,11 @@
 use crate::plain::walked;
 use circuit_list::{Circuit, Gate};
 use gf2_linear::Row;
-use phase_poly::{ResynthPass, layers, poly, resynth};
+use phase_poly::{Poly, ResynthPass, layers, poly, resynth};
 use rewrite_pass::{Pass, Trace, Traced};
 use std::alloc::{AllocError, Global};
 use std::test::Fail;
-use test_circuits::{circuit_of_text, gates_of, gates_of_text, is_fine};
+use test_circuits::{circuit_of, circuit_of_text, gates_of, gates_of_text, is_fine};
 use test_rows::{field, is_line, small};
 
 /// Whether the layers of a row's gates on one wire are the row's: its gates, and the wires of its H, in brackets.
@@ -36,17 +36,26 @@ fn layers_by_hand(rt: HostRuntime) -> Result<(), Fail> {
     Ok(())
 }
 
-/// The sum of both wires on wire 1, where it turns by 1.
+/// Whether a polynomial on two wires has one sum, of both, on wire 1, where it turns by 1.
+fn is_both(sum: &Poly, both: &Row) -> bool {
+    if sum.map().wires() != 2 || sum.terms().len() != 1 {
+        return false;
+    }
+    sum.map().row(0).equals(&Row::unit(0))
+        && sum.map().row(1).equals(both)
+        && sum.flips().is_empty()
+        && sum.constant() == 0
+        && sum.terms()[0].0.equals(both)
+        && sum.terms()[0].1 == 1
+}
+
 #[test]
 fn polynomial(rt: HostRuntime) -> Result<(), Fail> {
     let list = [Gate::Cx { c: 0, t: 1 }, Gate::P { k: 1, q: 1 }];
-    let sum = poly(rt.alloc(), 2, list.as_slice())?;
     let mut both = Row::unit(0);
     both.flip(1);
-    assert!(rt; sum.map().wires() == 2 && sum.terms().len() == 1);
-    assert!(rt; sum.map().row(0).equals(&Row::unit(0)) && sum.map().row(1).equals(&both));
-    assert!(rt; sum.flips().is_empty() && sum.constant() == 0);
-    assert!(rt; sum.terms()[0].0.equals(&both) && sum.terms()[0].1 == 1);
+    let sum = poly(rt.alloc(), 2, list.as_slice())?;
+    assert!(rt; is_both(&sum, &both));
     Ok(())
 }
 
@@ -73,17 +82,25 @@ fn flipped_phase(rt: HostRuntime) -> Result<(), Fail> {
     Ok(())
 }
 
+const FOUR: [Gate; 4] = [
+    Gate::Cx { c: 63, t: 64 },
+    Gate::Cx { c: 64, t: 255 },
+    Gate::Cx { c: 63, t: 64 },
+    Gate::Cx { c: 64, t: 255 },
+];
+
+/// Whether a circuit becomes one CNOT.
+fn is_one(alloc: Global, body: Circuit) -> Result<bool, AllocError> {
+    let passed = ResynthPass.run(alloc, body)?;
+    let gates = gates_of(alloc, &passed.body)?;
+    Ok(gates.as_slice() == [Gate::Cx { c: 63, t: 255 }].as_slice() && passed.turn == 0)
+}
+
 /// Four CNOTs that are one, far apart on many wires.
 #[test]
 fn four_to_one(rt: HostRuntime) -> Result<(), Fail> {
-    let mut body = Circuit::empty(rt.alloc(), 256)?;
-    body.push(Gate::Cx { c: 63, t: 64 })?;
-    body.push(Gate::Cx { c: 64, t: 255 })?;
-    body.push(Gate::Cx { c: 63, t: 64 })?;
-    body.push(Gate::Cx { c: 64, t: 255 })?;
-    let passed = ResynthPass.run(rt.alloc(), body)?;
-    let gates = gates_of(rt.alloc(), &passed.body)?;
-    assert!(rt; gates.as_slice() == [Gate::Cx { c: 63, t: 255 }].as_slice() && passed.turn == 0);
+    let body = circuit_of(rt.alloc(), 256, FOUR.as_slice())?.ok_or("no circuit")?;
+    assert!(rt; is_one(rt.alloc(), body)?);
     Ok(())
 }
 
@@ -149,6 +166,25 @@ fn tells_one_step(rt: HostRuntime) -> Result<(), Fail> {
     Ok(())
 }
 
+/// The gate of a drawn number, most often a CNOT, on some wires.
+fn gate_of(state: u32, wires: u32) -> Gate
+    requires { 0 < wires }
+{
+    let q = (state >> 8 & 31) % wires;
+    match state >> 28 {
+        0 => Gate::H { q },
+        1 => Gate::X { q },
+        2 | 3 | 4 | 5 => Gate::P {
+            k: (state >> 18 & 7) as u8,
+            q,
+        },
+        _ => Gate::Cx {
+            c: q,
+            t: (state >> 13 & 31) % wires,
+        },
+    }
+}
+
 /// A drawn circuit on 2 to 5 wires, most of it CNOTs, with an H now and then.
 fn drawn(alloc: Global, seed: u32) -> Result<Circuit, AllocError> {
     let wires = 2 + seed % 4;
@@ -156,17 +192,7 @@ fn drawn(alloc: Global, seed: u32) -> Result<Circuit, AllocError> {
     let mut state = seed;
     for _ in 0..24 {
         state = state.wrapping_mul(1_664_525).wrapping_add(1_013_904_223);
-        let q = (state >> 8 & 31) % wires;
-        let t = (state >> 13 & 31) % wires;
-        let gate = match state >> 28 {
-            0 => Gate::H { q },
-            1 => Gate::X { q },
-            2 | 3 | 4 | 5 => Gate::P {
-                k: (state >> 18 & 7) as u8,
-                q,
-            },
-            _ => Gate::Cx { c: q, t },
-        };
+        let gate = gate_of(state, wires);
         if is_fine(body.wires(), gate) {
             body.push(gate)?;
         }
@@ -174,18 +200,28 @@ fn drawn(alloc: Global, seed: u32) -> Result<Circuit, AllocError> {
     Ok(body)
 }
 
+/// The turn of a circuit that becomes these gates by the pass; none if it becomes others.
+fn turn_to(alloc: Global, body: Circuit, gates: &[Gate]) -> Result<Option<u8>, AllocError> {
+    let passed = ResynthPass.run(alloc, body)?;
+    let is_same = gates_of(alloc, &passed.body)?.as_slice() == gates;
+    Ok(if is_same { Some(passed.turn) } else { None })
+}
+
+/// The same with a trace.
+fn traced_to(alloc: Global, body: Circuit, gates: &[Gate]) -> Result<Option<u8>, AllocError> {
+    let mut trace = Trace::start(alloc);
+    let passed = ResynthPass.run_traced(alloc, body, &mut trace)?;
+    let is_same = gates_of(alloc, &passed.body)?.as_slice() == gates;
+    Ok(if is_same { Some(passed.turn) } else { None })
+}
+
 /// Whether the pass gives what the written walk gives, and gives the same with a trace, for the circuit that is drawn from a seed.
 fn is_walked(alloc: Global, seed: u32) -> Result<bool, AllocError> {
     let body = drawn(alloc, seed)?;
     let expected = walked(alloc, &body)?;
-    let mut trace = Trace::start(alloc);
-    let traced = ResynthPass.run_traced(alloc, body.copy()?, &mut trace)?;
-    let passed = ResynthPass.run(alloc, body)?;
-    Ok(
-        gates_of(alloc, &passed.body)? == expected
-            && gates_of(alloc, &traced.body)? == expected
-            && traced.turn == passed.turn,
-    )
+    let traced = traced_to(alloc, body.copy()?, &expected)?;
+    let turn = turn_to(alloc, body, &expected)?;
+    Ok(turn.is_some() && turn == traced)
 }
 
 #[test]

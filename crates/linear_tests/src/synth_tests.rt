@@ -2,7 +2,7 @@
 
 use crate::rows::{added, drawn, pairs, rows_of};
 use cnot_synth::{synth, synth_between, synth_wide};
-use gf2_linear::{Row, additions, rank};
+use gf2_linear::{Matrix, Row, additions, rank};
 use std::alloc::{AllocError, Global};
 use std::test::Fail;
 use test_rows::{field, small};
@@ -34,31 +34,47 @@ fn the_same_pairs(rt: HostRuntime) -> Result<(), Fail> {
     Ok(())
 }
 
+/// Whether one matrix is brought to another by some pairs.
+fn is_between(alloc: Global, from: &Matrix, to: &Matrix, wanted: &str) -> Result<bool, AllocError> {
+    let Some(_from) = additions(alloc, from)? else {
+        return Ok(false);
+    };
+    let Some(_to) = additions(alloc, to)? else {
+        return Ok(false);
+    };
+    if from.wires() != to.wires() {
+        return Ok(false);
+    }
+    let found = synth_between(alloc, from, to)?;
+    Ok(found.as_slice() == pairs(alloc, wanted)?.as_slice())
+}
+
 /// From {0,3}, {0,1}, {0,1,2}, {3} to {0}, {1,2,3}, {0,2}, {2,3}, worked out by another program.
 #[test]
 fn between_matrices(rt: HostRuntime) -> Result<(), Fail> {
-    let alloc = rt.alloc();
-    let from = added(alloc, 4, "0.1,1.2,3.0")?;
-    let to = added(alloc, 4, "2.3,3.1,0.2")?;
-    let _from = additions(alloc, &from)?.ok_or("dependent")?;
-    let _to = additions(alloc, &to)?.ok_or("dependent")?;
-    assert!(rt; from.wires() == to.wires());
-    let found = synth_between(alloc, &from, &to)?;
-    let wanted = pairs(alloc, "3.2,3.1,3.0,2.3,1.3,1.2,2.1,0.2,0.1")?;
-    assert!(rt; found.as_slice() == wanted.as_slice());
+    let from = added(rt.alloc(), 4, "0.1,1.2,3.0")?;
+    let to = added(rt.alloc(), 4, "2.3,3.1,0.2")?;
+    let wanted = "3.2,3.1,3.0,2.3,1.3,1.2,2.1,0.2,0.1";
+    assert!(rt; is_between(rt.alloc(), &from, &to, wanted)?);
     Ok(())
+}
+
+/// Whether the bit of one wire comes to a spare.
+fn is_spread(alloc: Global) -> Result<bool, AllocError> {
+    let from = vec![in alloc; Row::unit(0), Row::empty()]?;
+    let to = vec![in alloc; Row::unit(0), Row::unit(0)]?;
+    let (from_rank, to_rank) = (rank(alloc, &from)?, rank(alloc, &to)?);
+    if from_rank != 1 || to_rank != 1 {
+        return Ok(false);
+    }
+    let pairs = synth_wide(alloc, &from, &to, 1)?;
+    Ok(pairs.as_slice() == [(0, 1)].as_slice())
 }
 
 /// One wire, whose bit a spare gets.
 #[test]
 fn onto_a_spare(rt: HostRuntime) -> Result<(), Fail> {
-    let alloc = rt.alloc();
-    let from = vec![in alloc; Row::unit(0), Row::empty()]?;
-    let to = vec![in alloc; Row::unit(0), Row::unit(0)]?;
-    let (from_rank, to_rank) = (rank(alloc, &from)?, rank(alloc, &to)?);
-    assert!(rt; from_rank == 1 && to_rank == 1);
-    let pairs = synth_wide(alloc, &from, &to, 1)?;
-    assert!(rt; pairs.as_slice() == [(0, 1)].as_slice());
+    assert!(rt; is_spread(rt.alloc())?);
     Ok(())
 }
 

@@ -8,8 +8,7 @@ use qasm_writer::output::{Output, Register};
 use qasm_writer::{PieceBuffer, program_text, write_program};
 use std::alloc::{AllocError, Global};
 use std::test::Fail;
-use test_circuits::is_fine;
-use test_rows::{field, number, small, word};
+use test_rows::{number, word};
 
 const HEAD: &str = "OPENQASM 2.0;\ninclude \"qelib1.inc\";\n";
 
@@ -53,13 +52,8 @@ fn writes_whole_pieces_and_the_rest(rt: HostRuntime) -> Result<(), Fail> {
     Ok(())
 }
 
-/// Whether so much of the text of a circuit comes to a sink as a row says.
-fn is_sent(
-    alloc: Global,
-    body: &Circuit,
-    buffer: &mut PieceBuffer,
-    row: &str,
-) -> Result<bool, AllocError> {
+/// Whether the text of a circuit is sent.
+fn sends(body: &Circuit, buffer: &mut PieceBuffer, sink: &mut MemSink) -> bool {
     let output = Output {
         body,
         registers: &[],
@@ -68,16 +62,25 @@ fn is_sent(
         barriers: &[],
         trace: b"",
     };
-    let text = program_text(alloc, &output)?;
+    write_program(&output, buffer, sink).is_ok()
+}
+
+/// Whether so much of the text of a circuit comes to a sink as a row says.
+fn is_sent(
+    alloc: Global,
+    body: &Circuit,
+    text: &[u8],
+    buffer: &mut PieceBuffer,
+    row: &str,
+) -> Result<bool, AllocError> {
     let held = number(row, 2) as usize;
     if held > text.len() {
         return Ok(false);
     }
     let failing = Vec::from_slice(alloc, &[number(row, 0)])?;
     let mut sink = MemSink::new(alloc, 20_000, 4_096, failing)?;
-    let is_written = write_program(&output, buffer, &mut sink).is_ok();
     Ok(
-        is_written == (word(row, 1) == "sent")
+        sends(body, buffer, &mut sink) == (word(row, 1) == "sent")
             && sink.as_slice() == &text[..held]
             && sink.calls() == number(row, 3),
     )
@@ -96,9 +99,13 @@ const SENDS: &str = "\
 #[test]
 fn sends_whole_pieces_and_the_rest(rt: HostRuntime) -> Result<(), Fail> {
     let body = long_body(rt.alloc())?;
+    let text = bare_text(rt.alloc(), &body, b"")?;
     let mut buffer = PieceBuffer::new(rt.alloc())?;
     'rows: for row in SENDS.split('\n') {
-        assert!(rt; is_sent(rt.alloc(), &body, &mut buffer, row)?, "{row}");
+        assert!(rt;
+            is_sent(rt.alloc(), &body, &text, &mut buffer, row)?,
+            "{row}"
+        );
     }
     Ok(())
 }
@@ -154,14 +161,14 @@ fn writes_parts_without_gates(rt: HostRuntime) -> Result<(), Fail> {
     Ok(())
 }
 
-#[test]
-fn writes_a_barrier_in_a_later_piece(rt: HostRuntime) -> Result<(), Fail> {
-    let alloc = rt.alloc();
-    let body = long_body(alloc)?;
+/// The text of the long circuit with a barrier before its last thirty gates, and a bit that reads a wire.
+fn later_text(alloc: Global, body: &Circuit) -> Result<Vec<u8>, AllocError>
+    requires { body.now.wires ≡ 12 }
+{
     let barriers = [Vec::from_slice(alloc, &[11, 0])?];
     let last = body.len().min(30);
     let output = Output {
-        body: &body,
+        body,
         registers: &[Register {
             name: b"q",
             size: 1,
@@ -171,16 +178,37 @@ fn writes_a_barrier_in_a_later_piece(rt: HostRuntime) -> Result<(), Fail> {
         barriers: &barriers,
         trace: b"",
     };
-    let text = program_text(alloc, &output)?;
-    let mut wanted = String::from_str(alloc, "qreg q_[12];\ncreg q[1];\n")?;
-    'before: for _ in 0..1_000 {
-        wanted.push_str("u1(3*pi/4) q_[11];\n")?;
+    program_text(alloc, &output)
+}
+
+/// A gate's line, so many times.
+fn write_gates(lines: &mut String, gates: usize) -> Result<(), AllocError> {
+    'gates: for _ in 0..gates {
+        lines.push_str("u1(3*pi/4) q_[11];\n")?;
     }
-    wanted.push_str("barrier q_[11],q_[0];\n")?;
-    'after: for _ in 0..30 {
-        wanted.push_str("u1(3*pi/4) q_[11];\n")?;
-    }
-    wanted.push_str("measure q_[11] -> q[0];\n")?;
-    assert!(rt; is_program(alloc, &text, wanted.as_str())?);
+    Ok(())
+}
+
+/// The lines of that text.
+fn write_later(lines: &mut String) -> Result<(), AllocError> {
+    lines.push_str("qreg q_[12];\ncreg q[1];\n")?;
+    write_gates(lines, 1_000)?;
+    lines.push_str("barrier q_[11],q_[0];\n")?;
+    write_gates(lines, 30)?;
+    lines.push_str("measure q_[11] -> q[0];\n")
+}
+
+/// Whether a text has these lines.
+fn is_later(alloc: Global, text: &[u8]) -> Result<bool, AllocError> {
+    let mut lines = String::new(alloc);
+    write_later(&mut lines)?;
+    is_program(alloc, text, lines.as_str())
+}
+
+#[test]
+fn writes_a_barrier_in_a_later_piece(rt: HostRuntime) -> Result<(), Fail> {
+    let body = long_body(rt.alloc())?;
+    let text = later_text(rt.alloc(), &body)?;
+    assert!(rt; is_later(rt.alloc(), &text)?);
     Ok(())
 }

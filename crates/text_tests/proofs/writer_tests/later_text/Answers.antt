@@ -4,13 +4,13 @@ use Rattle.gate_inline.specs.Registers.{IsFree}
 use Rattle.qasm_check.specs.declared.register.ClassicalRegister.{ClassicalRegister}
 use Rattle.qasm_writer.proofs.RowLaws.{no_table_name}
 use Rattle.qasm_writer.proofs.WordLaws.{IsName-underscores}
-use Rattle.text_tests.proofs.writer_tests.writes_a_barrier_in_a_later_piece.Goals as goal
+use Rattle.text_tests.proofs.writer_tests.later_text.Goals as goal
 
 one_free : (r : ClassicalRegister) → IsFree r → All IsFree (r ∷ [])
 one_free r h = All-from_recursion IsFree (r ∷ []) (h, tt)
 
 pub program_text-requires : goal.program_text-requires
-program_text-requires g c = record {
+program_text-requires c = record {
   output =
       record {
         registers = record {

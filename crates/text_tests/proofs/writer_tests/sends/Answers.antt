@@ -1,10 +1,10 @@
 use Rattle.std.proofs.Common.{[], refl, lit≤, rules}
 use Rattle.std.proofs.lemmas.List.Elements.{All-from_recursion}
 use Rattle.gate_inline.specs.Registers.{IsFree}
-use Rattle.text_tests.proofs.writer_tests.is_sent.Goals as goal
+use Rattle.text_tests.proofs.writer_tests.sends.Goals as goal
 
-pub program_text-requires : goal.program_text-requires
-program_text-requires c = record {
+pub write_program-requires : goal.write_program-requires
+write_program-requires c = record {
   output =
       record {
         registers = record {
