@@ -14,7 +14,9 @@ fn tree_of(alloc: Global, text: &[u8]) -> Option<Program> {
     if text.len() > 10_000_000 {
         return None;
     }
-    let tokens = lex(alloc, text).ok()?;
+    let Ok(tokens) = lex(alloc, text) else {
+        return None;
+    };
     parse(alloc, text, &tokens).ok()
 }
 
