@@ -51,3 +51,31 @@ pub fn is_line(bytes: &[u8], line: &str) -> bool {
         None => false,
     }
 }
+
+/// Why a table fails.
+#[derive(Debug, Drop)]
+pub enum Wrong {
+    /// This row isn't as it should be.
+    Row(&'static str),
+    /// There wasn't enough memory for this row, or it had another error.
+    Error(&'static str),
+}
+
+/// Whether a function says of each row of a table that it is right. Rows stand apart by a text.
+pub fn each_row<E: Drop, F: Fn(Global, &str) -> Result<bool, E>>(
+    alloc: Global,
+    table: &'static str,
+    between: &str,
+    is_right: F,
+) -> Result<(), Wrong>
+    requires { F.IsAlwaysCallable is_right }
+{
+    'rows: for row in table.split(between) {
+        match is_right(alloc, row) {
+            Ok(true) => {}
+            Ok(false) => return Err(Wrong::Row(row)),
+            Err(_) => return Err(Wrong::Error(row)),
+        }
+    }
+    Ok(())
+}

@@ -1,14 +1,8 @@
-//! Tests of `trace_check`, `route_trace` and `trace_verdict`: worked traces, and what is told of each.
+//! Tests of `trace_verdict`: what no run of the program shows of a trace.
 //!
-//! Each test function is proved too, so they stand in a crate of their own: the crates below aren't proved again with them. What a test
-//! asserts is dear, so it asserts one bool a row, and what the bool says stands in small functions. Rows are lines of a text.
+//! The worked traces stand in `cases/steps.txt` and `cases/traces.txt`, as runs of `verify` and of `route --trace`. Those tell the
+//! power of w alone, and end each line of a trace with a line break.
 #![tactic(auto)]
 
-#[cfg(test)]
-mod check_tests;
-#[cfg(test)]
-mod routed_tests;
-#[cfg(test)]
-mod rows;
 #[cfg(test)]
 mod verdict_tests;
