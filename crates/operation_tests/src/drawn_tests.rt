@@ -53,7 +53,10 @@ fn programs(rt: HostRuntime) -> Result<(), Wrong> {
 
 /// The gate of a number that is drawn, as `specs/Program.antt` of `bench_program` has them, on two wires or more.
 fn kind(number: u32) -> &'static str {
-    word("u204. u001. u007. u002. u404. cx cx cx", (number % 8) as usize)
+    word(
+        "u204. u001. u007. u002. u404. cx cx cx",
+        (number % 8) as usize,
+    )
 }
 
 /// Whether a word is the CNOT of three numbers that are drawn: its kind, its control, and the steps to its target.

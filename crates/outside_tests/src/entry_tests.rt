@@ -3,7 +3,7 @@
 use route_report::{Counts, Entry, check_line, entry_line, verdict_line};
 use std::alloc::{AllocError, Global};
 use std::test::Fail;
-use test_rows::{is_line, number, small, word};
+use test_rows::{Wrong, each_row, is_line, number, small, word};
 
 /// Whether the second line of a row tells the counts of the first.
 fn is_count(alloc: Global, row: &str) -> Result<bool, AllocError> {
@@ -29,11 +29,8 @@ const COUNTS: &str = r#"1 2 1 3 2 1
 {"barriers":18446744073709551615,"bits":1024,"cx":0,"format":1,"operations":65536,"qubits":64,"t":65536}"#;
 
 #[test]
-fn writes_the_check_lines(rt: HostRuntime) -> Result<(), Fail> {
-    'rows: for row in COUNTS.split("\n\n") {
-        assert!(rt; is_count(rt.alloc(), row)?, "{row}");
-    }
-    Ok(())
+fn writes_the_check_lines(rt: HostRuntime) -> Result<(), Wrong> {
+    each_row(rt.alloc(), COUNTS, "\n\n", is_count)
 }
 
 /// The number of a row at an index, of 128 bits.
@@ -59,11 +56,8 @@ const ENTRIES: &str = "\
 1329227995784915872903807060280344576 -1329227995784915872903807060280344576 0 7 60";
 
 #[test]
-fn writes_the_entry_lines(rt: HostRuntime) -> Result<(), Fail> {
-    'rows: for row in ENTRIES.split('\n') {
-        assert!(rt; is_entry(rt.alloc(), row)?, "{row}");
-    }
-    Ok(())
+fn writes_the_entry_lines(rt: HostRuntime) -> Result<(), Wrong> {
+    each_row(rt.alloc(), ENTRIES, "\n", is_entry)
 }
 
 #[test]

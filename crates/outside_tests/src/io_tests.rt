@@ -6,7 +6,7 @@ use outside_io::{
 };
 use std::alloc::{AllocError, Global};
 use std::test::Fail;
-use test_rows::{number, word};
+use test_rows::{Wrong, each_row, number, word};
 
 /// The name of a fault of the input.
 fn input_fault(fault: &InputFault) -> &'static str {
@@ -60,11 +60,8 @@ abc 1 4 9 Failed 4 0
 abc 1 5 9 =abc 4 0";
 
 #[test]
-fn reads_all_or_says_why(rt: HostRuntime) -> Result<(), Fail> {
-    'rows: for row in READS.split('\n') {
-        assert!(rt; reads(rt.alloc(), row)?, "{row}");
-    }
-    Ok(())
+fn reads_all_or_says_why(rt: HostRuntime) -> Result<(), Wrong> {
+    each_row(rt.alloc(), READS, "\n", reads)
 }
 
 #[test]
@@ -117,11 +114,8 @@ const SENDS: &str = "\
 5 99 2 fails abcde 2";
 
 #[test]
-fn sends_all_or_a_prefix(rt: HostRuntime) -> Result<(), Fail> {
-    'rows: for row in SENDS.split('\n') {
-        assert!(rt; sends(rt.alloc(), row)?, "{row}");
-    }
-    Ok(())
+fn sends_all_or_a_prefix(rt: HostRuntime) -> Result<(), Wrong> {
+    each_row(rt.alloc(), SENDS, "\n", sends)
 }
 
 /// Whether a sink tells these bytes, and whether it is flushed.
@@ -187,11 +181,8 @@ c 5 0 Absent
 a 4 0 TooLong";
 
 #[test]
-fn loads_a_text_or_says_why(rt: HostRuntime) -> Result<(), Fail> {
-    'rows: for row in LOADS.split('\n') {
-        assert!(rt; loads(rt.alloc(), row)?, "{row}");
-    }
-    Ok(())
+fn loads_a_text_or_says_why(rt: HostRuntime) -> Result<(), Wrong> {
+    each_row(rt.alloc(), LOADS, "\n", loads)
 }
 
 #[test]

@@ -9,8 +9,6 @@ mod device_tests;
 #[cfg(test)]
 mod entry_tests;
 #[cfg(test)]
-mod fault_tests;
-#[cfg(test)]
 mod io_tests;
 #[cfg(test)]
 mod report_tests;

@@ -2,8 +2,7 @@
 
 use route_report::{Parts, Report, Wires, report_line};
 use std::alloc::{AllocError, Global};
-use std::test::Fail;
-use test_rows::{is_line, numbers};
+use test_rows::{Wrong, each_row, is_line, numbers};
 
 /// What follows a key in a row.
 fn value<'a>(row: &'a str, key: &str) -> Option<&'a str> {
@@ -150,9 +149,6 @@ barriers:1 cost:8 cx_after:4 cx_before:1 device:2 last:1,0 initial:0,1 between:1
 {"barriers":1,"between":[[1,0]],"cost":8,"cx_after":4,"cx_before":1,"device":2,"final":[1,0],"format":3,"initial":[0,1],"parts":[4,5],"phase":1,"qubits":2,"swaps":1,"t_after":0,"t_before":0}"#;
 
 #[test]
-fn writes_the_worked_lines(rt: HostRuntime) -> Result<(), Fail> {
-    'rows: for row in REPORTS.split("\n\n") {
-        assert!(rt; is_told(rt.alloc(), row)?, "{row}");
-    }
-    Ok(())
+fn writes_the_worked_lines(rt: HostRuntime) -> Result<(), Wrong> {
+    each_row(rt.alloc(), REPORTS, "\n\n", is_told)
 }

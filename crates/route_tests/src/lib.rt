@@ -1,7 +1,7 @@
 //! Tests of `placement`, `coupling_map` and `sabre_route`: worked circuits and devices, and the router against the plain machine.
 //!
-//! Each test function is proved too, so they stand in a crate of their own: these crates are proved once. What a test asserts is
-//! dear, so it asserts one bool a row, and what the bool says stands in small functions. Rows are lines of a text.
+//! Each test function is proved too, so they stand in a crate of their own: these crates are proved once. A proof is
+//! long for each assert in a loop, so a test hands its rows and the function that judges one of them to `each_row`.
 #![tactic(auto)]
 
 #[cfg(test)]
@@ -14,5 +14,3 @@ mod placement_tests;
 mod plain;
 #[cfg(test)]
 mod router_tests;
-#[cfg(test)]
-mod rows;

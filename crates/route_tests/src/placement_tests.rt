@@ -1,9 +1,9 @@
 //! Exchanges by hand.
 
-use crate::rows::{number, word};
 use placement::Placement;
 use std::alloc::AllocError;
 use std::test::Fail;
+use test_rows::{small, word};
 
 /// The digit at a place, or one that no row has.
 fn digit(digits: &str, at: u32) -> u32 {
@@ -34,7 +34,7 @@ fn is_placed(placement: &Placement, row: &str) -> bool {
 
 /// Whether the exchange of a row leads where it says, and a copy is there too.
 fn exchanges(placement: &mut Placement, row: &str) -> Result<bool, AllocError> {
-    let (a, b) = (number(row, 0), number(row, 1));
+    let (a, b) = (small(row, 0), small(row, 1));
     if a >= placement.size() || b >= placement.size() {
         return Ok(false);
     }
