@@ -555,7 +555,7 @@ def opt(
     by side if that is possible; barriers can't be kept then (ValueError).
 
     With `any_gates` it takes any OpenQASM 2.0: other angles, `reset`, `if`, measurements anywhere, and the gates that exporters
-    write. Angles within `within` of a multiple of pi/4 become exact. Proved, part by part: the CNOTs, the Clifford+T gates, the
+    write. Angles within `within`, which is less than pi/8, of a multiple of pi/4 become exact. Proved, part by part: the CNOTs, the Clifford+T gates, the
     placements and the order on each qubit, of the program with barriers in place of its other gates; tested and not proved: that
     this is the source written out, and that each other gate is put back unchanged where its wire is. Spare wires don't go with it
     (ValueError).

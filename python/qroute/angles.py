@@ -17,6 +17,8 @@ from . import qasm
 WITHIN = 1e-9
 MOST = 64  # the largest multiple of pi/4 that a decimal is taken for
 
+MOST_WITHIN = math.pi / 8  # no angle is farther from a multiple of pi/4
+
 Angle = typing.Any  # a pair of fractions, a plain one and one of pi, or a float
 
 
@@ -31,6 +33,12 @@ class Change:
     distance: float
 
 
+def look_at_within(within: float) -> None:
+    """Raises ValueError if `within` is no distance that tells near angles from others."""
+    if not 0 <= within < MOST_WITHIN:
+        raise ValueError(f"within is {within}, and has to be at least 0 and less than pi/8, since no angle is farther from a multiple of pi/4")
+
+
 def nearest(angle: Angle, within: float = WITHIN) -> tuple[Angle, float]:
     """The multiple of pi/4 within so much of an angle that isn't one, and how far it is; else the angle itself, and 0."""
     if qasm.eighths(angle) is not None:
@@ -38,7 +46,7 @@ def nearest(angle: Angle, within: float = WITHIN) -> tuple[Angle, float]:
     value = qasm.as_float(angle)
     k = round(value / (math.pi / 4)) if abs(value) < 1e3 else MOST + 1
     distance = abs(value - k * math.pi / 4)
-    if not within > 0 or abs(k) > MOST or not distance <= within:
+    if within == 0 or abs(k) > MOST or distance > within:
         return angle, 0.0
     return (fractions.Fraction(0), fractions.Fraction(k, 4)), distance
 
@@ -72,10 +80,11 @@ class Places:
 def exact_angles(text: str, within: float = WITHIN) -> tuple[str, list[Change], list[str]]:
     """The program with such angles made exact, all else byte for byte; each change; and the angles that aren't multiples of pi/4.
 
-    An angle that depends on a gate's parameters stays. The text has a character for each byte (`qasm.text_of`).
+    An angle that depends on a gate's parameters stays. ValueError if `within` isn't from 0 to less than pi/8. The text has a character for each byte (`qasm.text_of`).
     """
     from . import declarations
 
+    look_at_within(within)
     reader = qasm.ProgramReader(text, qasm.MOST_ITEMS, True, declarations.TABLE)
     reader.all()
     places, changes, left, parts, end = Places(text), [], [], [], 0

@@ -27,6 +27,7 @@ import hashlib
 import importlib
 import inspect
 import json
+import math
 import os
 import pathlib
 import re
@@ -163,7 +164,7 @@ def do_lot(task: Task, lot: list[tuple[str, bytes]]) -> list[tuple[Row, str | No
 def programs_in(given: str | os.PathLike[str] | collections.abc.Iterable[str | os.PathLike[str]], out: pathlib.Path) -> dict[str, pathlib.Path]:
     """The path of each program by its name, in the order of names. Of a folder these are the files *.qasm below it, but for those
     of the folder that is written to, each with its path in the folder as its name; a file has its own name. Folders of such a
-    name are none, and links that lead nowhere are told when they are to be read.
+    name are none, and links that lead nowhere are told when they are to be read. A folder without a program is a fault.
     """
     listed = [given] if isinstance(given, (str, os.PathLike)) else list(given)
     found: dict[str, pathlib.Path] = {}
@@ -172,16 +173,25 @@ def programs_in(given: str | os.PathLike[str] | collections.abc.Iterable[str | o
         path.stat()
         if out in (path.resolve(), *path.resolve().parents):
             raise BatchFault(f"{printable(str(path))} is in the folder that is written to")
-        paths = sorted(path.rglob("*.qasm")) if path.is_dir() else [path]
+        paths = list(files_below(path, out)) if path.is_dir() else [path]
+        if not paths:
+            raise BatchFault(f"no file *.qasm is in {printable(str(path))}")
         for it in paths:
-            if it.is_dir() or (path.is_dir() and out in it.resolve().parents):
-                continue
             name = it.relative_to(path).as_posix() if path.is_dir() else it.name
             if found.setdefault(name, it) != it:
                 raise BatchFault(f"two programs have the name {printable(name)}: {found[name]} and {it}")
             if name == TABLE or re.fullmatch(r"rows-\d+-of-\d+\.(jsonl|log)|rows\.log|task\.json", name):
                 raise BatchFault(f"no program can have the name {name}, which is one of the folder's own")
+    if not found:
+        raise BatchFault("no programs are named")
     return dict(sorted(found.items()))
+
+
+def files_below(folder: pathlib.Path, out: pathlib.Path) -> collections.abc.Iterator[pathlib.Path]:
+    """The files *.qasm below a folder, in order, but for those of the folder that is written to."""
+    for path in sorted(folder.rglob("*.qasm")):
+        if not path.is_dir() and out not in path.resolve().parents:
+            yield path
 
 
 def shard_of(names: dict[str, pathlib.Path], shard: tuple[int, int] | None) -> dict[str, pathlib.Path]:
@@ -435,8 +445,8 @@ def batch(
     I-th on is run, so that N runs on any machines with the folders in common do all; after them a run without it does what is left
     and makes one table.
 
-    Raises `BatchFault` if the folder has what was asked otherwise, if two programs have one name, or while another run is at work
-    there; and `QrouteError` if no program can be run, or the device is refused.
+    Raises `BatchFault` if there is no program, if the folder has what was asked otherwise, if two programs have one name, or while
+    another run is at work there; and `QrouteError` if no program can be run, or the device is refused.
     """
     begun = time.monotonic()
     if command not in COMMANDS or (command == "route") != (device is not None):
@@ -477,13 +487,28 @@ def shard_words(text: str) -> tuple[int, int]:
     return int(found[1]), int(found[2])
 
 
+def positive(text: str) -> float:
+    """A number above 0."""
+    found = float(text)
+    if not 0 < found < math.inf:
+        raise argparse.ArgumentTypeError(f"{text} is no number above 0")
+    return found
+
+
+def count(text: str) -> int:
+    """A whole number above 0."""
+    if re.fullmatch(r"0*[1-9]\d{0,8}", text) is None:
+        raise argparse.ArgumentTypeError(f"{text} is no whole number above 0")
+    return int(text)
+
+
 def options_of(command: str) -> dict[str, type]:
-    """The options that the module's function of this name takes, with the type of each: bool, int or str."""
+    """The options that the module's function of this name takes, with the type of each: bool, int, float or str."""
     found = {}
     for name, it in inspect.signature(getattr(qroute, command)).parameters.items():
         if name not in ("text", "device", "timeout"):
             kind = str(it.annotation)
-            found[name] = bool if kind == "bool" else int if "int" in kind else str
+            found[name] = next((it for it in (bool, int, float) if it.__name__ in kind.split(" | ")), str)
     return found
 
 
@@ -501,9 +526,9 @@ def parser() -> argparse.ArgumentParser:
         sub.add_argument("programs", nargs="*", metavar="PROGRAM", help="a file, or a folder, whose files *.qasm are taken")
         sub.add_argument("-o", "--out", required=True, metavar="OUT", help="the folder to write to")
         sub.add_argument("--list", metavar="FILE", help="a file with a path on each line; - is standard input")
-        sub.add_argument("-j", "--jobs", type=int, metavar="N", help="processes at a time; as many as processors without it")
+        sub.add_argument("-j", "--jobs", type=count, metavar="N", help="processes at a time; as many as processors without it")
         sub.add_argument("--shard", type=shard_words, metavar="I/N", help="run each N-th program alone, from the I-th on")
-        sub.add_argument("--timeout", type=float, metavar="SECONDS", help="the most that one program may take")
+        sub.add_argument("--timeout", type=positive, metavar="SECONDS", help="the most that one program may take")
         sub.add_argument("--quiet", action="store_true", help="don't tell how far it is")
         sub.add_argument("--json", action="store_true", help="the summary as one line of JSON")
         if command == "route":
@@ -523,8 +548,6 @@ def asked_programs(asked: argparse.Namespace) -> list[str]:
     if asked.list is not None:
         text = sys.stdin.buffer.read() if asked.list == "-" else pathlib.Path(asked.list).read_bytes()
         listed += [os.fsdecode(it) for it in text.split(b"\n") if it]
-    if not listed:
-        raise BatchFault("no programs are named")
     return listed
 
 

@@ -421,6 +421,7 @@ def _made(
     run: collections.abc.Callable[[str], tuple[str, dict[str, typing.Any]]],
     tries: int | None,
 ) -> qroute.Result:
+    near.look_at_within(within)
     data = qroute.as_bytes(text)
     source = Whole(qasm.text_of(data), keep_barriers, within)
     handed = source.handed()

@@ -179,9 +179,19 @@ class Results(AnyGates):
         self.assertEqual((found.barriers, found.between, found.parts, found.report["format"]), (2, None, None, 1))
         self.assertNotIn("barrier", found.text)
 
-    def test_no_angle_is_within_what_is_no_number(self):
+    def test_within_what_angles_are_near(self):
+        """From pi/8 on each angle would be; a wrong one is refused before anything is read or written."""
         text = HEAD + "qreg q[1];\nrx(0.3) q[0];\n"
-        self.assertEqual(qroute.opt(text, any_gates=True, within=math.nan).text, text)
+        self.assertEqual(qroute.opt(text, any_gates=True, within=0.39).any_gates.put_back, {})
+        for within in (math.nan, math.inf, -1e-9, math.pi / 8):
+            with self.assertRaisesRegex(ValueError, "has to be at least 0 and less than pi/8"):
+                qroute.opt(text, any_gates=True, within=within)
+            with self.assertRaisesRegex(ValueError, "has to be at least 0 and less than pi/8"):
+                qroute.route(text, qroute.Device.named("line_5"), any_gates=True, within=within)
+            for words in (["any", "opt"], ["exact-angles"]):
+                status, out, err = self.run_tool(*words, f"--within={within}", given=text)
+                self.assertEqual((status, out), (2, ""))
+                self.assertIn(f"{words[0]}: error: within is {within}, and has to be", err)
 
     def test_near_angles_are_left_if_asked(self):
         text = HEAD + "qreg q[1];\nrx(0.7853981633) q[0];\nrx(0.785398) q[0];\n"

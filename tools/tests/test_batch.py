@@ -250,14 +250,23 @@ class Batch(BatchTest):
 
     def test_words(self):
         given = self.programs(a="// a")
+        os.mkdir(os.path.join(self.room, "empty"))
         for words, wanted in (
             ([given, "--shard", "3/2"], "3/2 is no I/N with I from 1 to N"),
             ([], "no programs are named"),
+            ([os.path.join(self.room, "empty")], f"no file *.qasm is in {self.room}/empty"),
+            ([given, os.path.join(self.room, "empty")], f"no file *.qasm is in {self.room}/empty"),
+            ([given, "--jobs", "0"], "0 is no whole number above 0"),
+            ([given, "--timeout", "nan"], "nan is no number above 0"),
+            ([given, "--any-gates", "--within", "inf"], "within is inf, and has to be at least 0"),
             ([os.path.join(self.room, "none.qasm")], "No such file"),
         ):
             status, _, err = self.batch(*words)
             self.assertEqual(status, 2)
             self.assertIn(wanted, err)
+        self.assertFalse(os.path.exists(self.out))
+        with self.assertRaisesRegex(batch.BatchFault, "no programs are named"):
+            batch.batch([], self.out)
         status, _, err = self.run_tool("batch", "route", given, "-o", self.out, "--device", "none")
         self.assertEqual((status, err[:22]), (2, "batch: no device none;"))
         # what no program could be run with is told once, before anything is written
@@ -270,7 +279,8 @@ class Batch(BatchTest):
         asked = batch.parser().parse_args(["route", "x", "-o", "y", "--device", "z", "--trivial", "--clean"])
         given = {key: it for key, it in vars(asked).items() if key.startswith("option ") and it}
         self.assertEqual(given, {"option trivial": True, "option clean": True})
-        self.assertEqual(batch.options_of("opt")["spares"], int)
+        kinds = batch.options_of("opt")
+        self.assertEqual([kinds[it] for it in ("keep_barriers", "spares", "within")], [bool, int, float])
         with mock.patch.object(qroute, "opt") as called:
             batch.Task("opt", None, {"spares": 2}).call(b"text")
         called.assert_called_once_with(b"text", spares=2)
