@@ -1,3 +1,4 @@
+import collections
 import json
 import math
 import xml.etree.ElementTree
@@ -51,6 +52,44 @@ class Draw(ToolTest):
         two = self.drawn(self.file("p.qasm", PROGRAM), "--columns", "2")
         self.assertGreater(float(one.get("width")), float(two.get("width")))
         self.assertGreater(float(two.get("height")), float(one.get("height")))
+
+    def drawn_gates(self, picture):
+        """How often each text stands in a picture, how many controls, and the wires of each CNOT: control and target, by their heights."""
+        texts = collections.Counter(self.texts(picture))
+        dots = [(float(it.get("cx")), float(it.get("cy"))) for it in picture.iter(f"{SVG}circle") if it.get("r") == "4"]
+        plus = {float(it.get("cx")): float(it.get("cy")) for it in picture.iter(f"{SVG}circle") if it.get("r") == "9"}
+        return texts, [(y, plus[x]) for x, y in sorted(dots)]
+
+    def test_expanded(self):
+        """A Toffoli gate is six CNOTs, four T, three inverses of it and two H, as qelib1.inc has it."""
+        path = self.file("p.qasm", PROGRAM)
+        texts, cnots = self.drawn_gates(self.drawn(path, "--expand"))
+        self.assertEqual([texts[it] for it in ("H", "T", "T†", "CCX")], [3, 5, 3, 0])
+        rows = sorted({it for pair in cnots for it in pair})
+        wires = [(rows.index(a), rows.index(b)) for a, b in cnots]
+        self.assertEqual(wires, [(0, 1), (1, 2), (0, 2), (1, 2), (0, 2), (0, 1), (0, 1)])
+        self.assertEqual(self.drawn_gates(self.drawn(path))[0]["T†"], 0)
+
+    def test_expanded_swaps_and_own_gates(self):
+        text = 'OPENQASM 2.0;\ninclude "qelib1.inc";\nopaque both a,b;\ngate two(t) a,b { swap b,a; rzz(t) a,b; }\n'
+        text += "qreg q[2];\ncreg c[1];\ntwo(0.3) q[0],q[1];\nboth q[0],q[1];\nif(c==1) cz q[0],q[1];\nsx q[0];\n"
+        picture = self.drawn(self.file("p.qasm", text), "--expand")
+        texts, cnots = self.drawn_gates(picture)
+        top, low = sorted(set(cnots[0]))
+        # a swap is three CNOTs, the middle one against the others, and has no crosses; an opaque gate, and one on a wire, stay
+        self.assertEqual(cnots, [(low, top), (top, low), (low, top), *[(top, low)] * 3])
+        self.assertEqual([texts[it] for it in ("P(0.3)", "both", "√X", "two", "c=1", "H")], [1, 1, 1, 0, 3, 2])
+        self.assertEqual([it for it in picture.iter(f"{SVG}line") if it.get("stroke-width") == "1.8"], [])
+
+    def test_expanded_source_beside_what_became_of_it(self):
+        """The counts of the title are those of the drawn gates then."""
+        told = {"device": 2, "final": [1, 0], "initial": [0, 1], "qubits": 2, "swaps": 1}
+        head = 'OPENQASM 2.0;\ninclude "qelib1.inc";\nqreg q[2];\n'
+        source = self.file("s.qasm", f"{head}swap q[0],q[1];\ncz q[0],q[1];\n")
+        target = self.file("t.qasm", f"{head}cx q[0],q[1];\ncx q[1],q[0];\ncx q[0],q[1];\n")
+        picture = self.drawn(source, target, "--report", self.file("r", json.dumps(told) + "\n"), "--expand", "--counts")
+        texts, cnots = self.drawn_gates(picture)
+        self.assertEqual((texts["s.qasm: 6 gates, 4 CNOTs, 0 T gates"], len(cnots), texts["H"]), (1, 4 + 3, 2))
 
     def test_a_report_and_a_device(self):
         told = {"device": 3, "final": [1, 0, 2], "initial": [0, 1, 2], "qubits": 2}
