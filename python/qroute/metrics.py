@@ -18,6 +18,7 @@ import qroute
 from . import declarations, qasm
 
 UNITS = 100_000  # a cost is -ln(1 - error) in units of 1/100,000
+MOST_COST = 1_000_000
 
 
 @dataclasses.dataclass(frozen=True)
@@ -112,6 +113,13 @@ def of_program(program: qasm.Program, success: float | None = None) -> Metrics:
             for it, count in ((depth, 1), (cx_depth, is_cx), (t_depth, is_odd)):
                 it.take(wires, int(count))
     return Metrics(gates, cx, t, depth.most(), cx_depth.most(), t_depth.most(), dict(sorted(names.items())), success)
+
+
+def cost_of(error: float) -> int:
+    """The cost in a device file of a CNOT with this rate of errors: -ln(1 - error) in units of 1/100,000, from 1 to 1,000,000."""
+    if error >= 1:
+        return MOST_COST
+    return max(1, min(MOST_COST, round(-math.log1p(-error) * UNITS)))
 
 
 def success_on(program: qasm.Program, device: qroute.Device) -> float | None:

@@ -29,22 +29,14 @@ from qiskit.transpiler.preset_passmanagers.plugin import PassManagerStagePlugin
 
 import qroute
 
+from .metrics import cost_of
+
 __all__ = ["OptimizationPlugin", "Optimize", "Route", "RoutingPlugin", "device_of", "opt_circuit", "route_circuit"]
 
-# A cost is -ln(1 - error) in these units, as tools/device has it.
-UNITS = 100_000
-MOST_COST = 1_000_000
 # A CNOT has the direction of its pair; one that is made of another gate of two qubits may have either.
 CNOT = "cx"
 # What the matrices of written gates have more than Qiskit's, as a power of exp(i pi/4); other written gates have the same.
 WRITTEN = {"h": 1, "x": 2}
-
-
-def cost_of(error: float) -> int:
-    """The cost of an edge whose CNOT has this rate of errors."""
-    if error >= 1:
-        return MOST_COST
-    return max(1, min(MOST_COST, round(-math.log1p(-error) * UNITS)))
 
 
 def rates_of(target: Target) -> dict[tuple[int, int], float | None]:

@@ -170,6 +170,26 @@ class Release(ToolTest):
         # what was there is there again
         self.assertEqual(os.listdir(os.path.join(self.top, "crates/qroute/out")), ["qroute"])
 
+    def test_a_program_that_was_built_apart(self):
+        """Another file with the same bytes is the second build; no other bytes, and not the program itself."""
+        self.launched()
+        with open(TRUE, "rb") as file:
+            text = file.read()
+        same, other = self.file("apart/same", text), self.file("apart/other", text + b"\n")
+        itself = os.path.join(self.top, "out/qroute")
+        for path, status, says in (
+            (other, 1, f"release: {other}, which was built apart, isn't the same program\n"),
+            (itself, 1, f"release: {itself} is the program itself, and not one that was built apart\n"),
+            (f"{self.room}/none", 2, f"release: {self.room}/none: No such file or directory\n"),
+        ):
+            self.assertEqual(self.release("--twice", path), (status, "", says))
+            self.assertFalse(os.path.exists(os.path.join(self.top, "release")))
+        status, _, err = self.release("--twice", same)
+        self.assertEqual((status, err), (0, ""))
+        page = self.made()["BUILT.md"].decode()
+        self.assertIn("built apart, in another checkout or on another machine, and was the same", page)
+        self.assertNotIn("compiled and linked twice", page)
+
     def test_the_sources_are_those_of_the_launcher(self):
         with open(os.path.join(TOP, "qroute"), encoding="utf-8") as file:
             launcher = file.read()

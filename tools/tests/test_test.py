@@ -52,6 +52,8 @@ class Test(ToolTest):
         self.assertIn("skipped: test_it.It.test_is_skipped: no reason", out)
         self.assertIn("failed: test_it.It.test_fails", out)
         self.assertEqual(self.run_test("it.It.test_passes")[0], 0)
+        self.assertEqual(self.run_test("--jobs", "1", "it.It.test_passes")[0], 0)
+        self.assertEqual(self.run_test("--jobs", "0", "it.It.test_passes")[0], 2)
         self.assertEqual(self.run_test("it.It.test_nosuch")[1][-1], "0 passed, 1 failed")
 
     def test_which_program(self):
