@@ -22,6 +22,7 @@ import collections.abc
 import concurrent.futures
 import contextlib
 import dataclasses
+import errno
 import fcntl
 import hashlib
 import importlib
@@ -559,6 +560,24 @@ def device_of(name: str) -> qroute.Device:
         raise BatchFault(fault.args[0]) from None
 
 
+def put(text: str) -> None:
+    """Writes to standard output past Python's buffer, so that nothing is left to fail at the end."""
+    if sys.stdout is None:
+        raise OSError(errno.EBADF, "it is closed", "standard output")
+    left = text.encode("utf-8", "surrogateescape")
+    try:
+        while left:
+            left = left[os.write(sys.stdout.fileno(), left) :]
+    except OSError as fault:
+        raise OSError(fault.errno, fault.strerror, "standard output") from None
+
+
+def reason(fault: Exception) -> str:
+    """What a fault is, in one line; one of the system has the name of its file or stream."""
+    parts = [fault.filename, fault.strerror] if isinstance(fault, OSError) else [fault]
+    return printable(": ".join(str(it) for it in parts if it is not None))
+
+
 def main(words: list[str] | None = None) -> int:
     """Runs a command line; its status."""
     asked = parser().parse_args(words)
@@ -576,10 +595,11 @@ def main(words: list[str] | None = None) -> int:
             timeout=asked.timeout,
             **options,
         )
+        put((json.dumps(dataclasses.asdict(summary)) if asked.json else summary.in_words()) + "\n")
     except (BatchFault, qroute.QrouteError, ValueError, OSError) as fault:
-        print(f"batch: {printable(str(fault))}", file=sys.stderr)
+        if sys.stderr is not None:
+            print(f"batch: {reason(fault)}", file=sys.stderr)
         return 2
-    print(json.dumps(dataclasses.asdict(summary)) if asked.json else summary.in_words())
     return 0 if summary.is_whole else 1
 
 

@@ -238,6 +238,16 @@ class Batch(BatchTest):
             self.assertEqual((status, out, err), (2, "", f"batch: {words[0]} is in the folder that is written to\n"))
         self.assertEqual(os.listdir(given), ["a.qasm"])
 
+    def test_a_summary_that_cannot_be_written(self):
+        """The programs are written all the same, and the next run has nothing to do."""
+        given = self.programs(a="// a")
+        script = '"$0" opt "$1" -o "$2" --quiet '
+        for redirected, says in ((">/dev/full", "No space left on device"), (">&-", "it is closed"), ("| :", "Broken pipe")):
+            words = ["bash", "-c", f"set -o pipefail; trap '' PIPE; {script}{redirected}", os.path.join(TOP, "tools/batch"), given, self.out]
+            ran = subprocess.run(words, capture_output=True, text=True, timeout=60)
+            self.assertEqual((ran.returncode, ran.stderr), (2, f"batch: standard output: {says}\n"), redirected)
+            self.assertEqual(len(self.rows()), 1)
+
     def test_a_folder_has_one_task(self):
         given = self.programs(a="// a")
         self.assertEqual(self.batch(given)[0], 0)
