@@ -26,6 +26,11 @@ def tools():
     return [it for it in names if it not in FOR_DEVELOPERS and it != "install"]
 
 
+def parts_of_tools():
+    """What the tools take from beside them."""
+    return [*found("tools/lib/*.py"), *found("tools/lib/*.html")]
+
+
 def module():
     """The files of the Python module."""
     return [*found("python/qroute/**/*.py"), "python/qroute/py.typed"]
@@ -51,7 +56,7 @@ def files(site):
         yield path, f"share/qroute/{os.path.basename(path)}", 0o644
     for name in tools():
         yield f"tools/{name}", f"share/qroute/tools/{name}", 0o755
-    for path in found("tools/lib/*.py"):
+    for path in parts_of_tools():
         if os.path.basename(path) not in FOR_RELEASES:
             yield path, f"share/qroute/{path}", 0o644
     for path in documents():

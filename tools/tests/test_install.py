@@ -1,3 +1,4 @@
+import json
 import os
 import shutil
 import subprocess
@@ -86,6 +87,14 @@ class Install(ToolTest):
         for name in ("qroute-draw", "qroute-batch", "qroute-check-small"):
             self.assertEqual(run(name, "--help").returncode, 0, name)
         self.assertFalse(os.path.exists(os.path.join(self.prefix, "bin/qroute-mutate")))
+        # a page takes a file that stands beside the tools
+        told = {"device": 2, "final": [0, 1], "format": 1, "initial": [0, 1], "phase": 0, "qubits": 2, "swaps": 0}
+        told |= {"barriers": 0, "cx_before": 1, "cx_after": 1, "t_before": 0, "t_after": 0}
+        program = self.file("p.qasm", 'OPENQASM 2.0;\ninclude "qelib1.inc";\nqreg q[2];\ncx q[0],q[1];\n')
+        report, device = self.file("r", json.dumps(told) + "\n"), self.file("d.toml", "qubits = 2\nedges = [[0, 1]]\n")
+        page = os.path.join(self.room, "page.html")
+        ran = run("qroute-page", program, program, "--report", report, "--device", device, "-o", page)
+        self.assertEqual((ran.returncode, ran.stderr, os.path.exists(page)), (0, "", True))
 
     def test_no_program(self):
         self.program("exit 70")
