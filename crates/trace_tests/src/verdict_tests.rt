@@ -8,6 +8,11 @@ const TWO_T: &[u8] = b"OPENQASM 2.0;\ninclude \"qelib1.inc\";\nqreg q[1];\nt q[0
 
 const ONE_S: &[u8] = b"OPENQASM 2.0;\ninclude \"qelib1.inc\";\nqreg q[1];\ns q[0];\n";
 
+/// Whether one wire is at qubit 0.
+fn are_first(qubits: &[u32]) -> bool {
+    qubits.len() == 1 && qubits.first() == Some(&0)
+}
+
 /// Whether a verdict is yes, with one wire at qubit 0 at first and at last, and without a turn.
 fn is_yes(verdict: &Verdict) -> bool {
     match verdict {
@@ -15,7 +20,7 @@ fn is_yes(verdict: &Verdict) -> bool {
             initial,
             last,
             phase,
-        } => initial.as_slice() == [0] && last.as_slice() == [0] && *phase == 0,
+        } => are_first(initial) && are_first(last) && *phase == 0,
         _ => false,
     }
 }
