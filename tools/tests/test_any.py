@@ -118,6 +118,32 @@ class Examples(AnyGates):
         self.assertGreater(count, 50)
 
 
+    def test_large_ones_are_simulated(self):
+        """All others but two, in whose states each of 2^24 terms, or of 2^64, comes up; numpy holds a million."""
+        if simulation.numpy is None or not ALL:
+            self.skipTest("numpy isn't installed" if ALL else "it takes minutes, so it runs with QROUTE_TEST_ALL alone")
+        left = set()
+        for path in sorted(glob.glob(f"{TOP}/examples/literature/*.qasm")):
+            program = qasm.read(qasm.text_in(path))
+            size, name = len(program.wires), os.path.basename(path).removesuffix(".qasm")
+            for device in [qroute.Device.named(it) for it in DEVICES] if size > 8 or len(program.steps) > 150 else []:
+                if size > device.qubits() or name in left:
+                    continue
+                found = qroute.route(qasm.text_in(path), device, any_gates=True)
+                dice = simulation.drawn(size)
+                state = {dice.getrandbits(size): 0.6, dice.getrandbits(size): 0.8j}
+                source, target = simulation.Terms(state, size), simulation.Terms(simulation.placed(state, found.initial, size), device.qubits())
+                try:
+                    reads = source.run(simulation.statements(program))
+                    ends = target.run(simulation.statements(qasm.read(found.text, qasm.MOST_ITEMS)))
+                except simulation.TooMany:
+                    left.add(name)
+                    continue
+                self.assertLess(source.apart(target, list(found.final[:size])), 1e-7, f"{name} on {device.name}")
+                self.assertEqual(ends, {bit: found.final[wire] for bit, wire in reads.items()}, f"{name} on {device.name}")
+        self.assertEqual(left, {"qft_cut_64", "surface_code_5"})
+
+
 class Styles(AnyGates):
     """Files in the forms that Qiskit, pytket and Cirq write."""
 
