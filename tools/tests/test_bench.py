@@ -56,6 +56,16 @@ class Bench(ToolTest):
         self.assertIn("wrong: opt on 64 wires, 65536 gates: status [1]\n", out)
         self.assertIn("wrong: verify, 20000 gates: status [1]\n", out)
 
+    def test_programs_a_second(self):
+        words = [os.path.join(TOP, "bench/batch"), os.environ.get("QROUTE", os.path.join(TOP, "out/qroute")), "--programs", "3", "--jobs", "1"]
+        if not os.access(words[1], os.X_OK):
+            self.skipTest("there is no built program")
+        ran = subprocess.run(words, capture_output=True, text=True, timeout=120)
+        self.assertEqual((ran.returncode, ran.stderr), (0, ""))
+        self.assertRegex(ran.stdout, r"^3 programs, 1 at a time: [\d.]+ s, \d+ a second\nprocessor time for each, in ms: [\d.]+, of which the program ")
+        ran = subprocess.run([words[0], "/bin/false", *words[2:]], capture_output=True, text=True, timeout=120)
+        self.assertEqual(ran.returncode, 1)
+
     def test_no_program(self):
         path = self.file("words", "no program")
         self.assertEqual(self.bench(path), (2, "", f"bench: {path} is no program\n"))
