@@ -1,5 +1,7 @@
 //! Layers, phase polynomials and resynthesis: worked lists, and a comparison with the written walk.
 
+ghost use Rattle.std.specs.Prelude.{◌<◌};
+
 use crate::plain::walked;
 use circuit_list::{Circuit, Gate};
 use gf2_linear::Row;
