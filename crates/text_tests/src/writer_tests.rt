@@ -137,27 +137,33 @@ fn writes_a_trace_behind_the_program(rt: HostRuntime) -> Result<(), Fail> {
     Ok(())
 }
 
-#[test]
-fn writes_parts_without_gates(rt: HostRuntime) -> Result<(), Fail> {
-    let alloc = rt.alloc();
-    let mut body = Circuit::empty(alloc, 2)?;
-    body.push(Gate::X { q: 0 })?;
+/// The text of a circuit on two wires, all of it in the second of four parts.
+fn parts_text(alloc: Global, body: &Circuit) -> Result<Vec<u8>, AllocError>
+    requires { body.now.wires ≡ 2 }
+{
     let barriers = [
         Vec::from_slice(alloc, &[0])?,
         Vec::from_slice(alloc, &[1, 0, 1])?,
         Vec::from_slice(alloc, &[1])?,
     ];
     let output = Output {
-        body: &body,
+        body,
         registers: &[],
         reads: &[],
         lengths: &[0, body.len(), 0, 0],
         barriers: &barriers,
         trace: b"",
     };
-    let text = program_text(alloc, &output)?;
+    program_text(alloc, &output)
+}
+
+#[test]
+fn writes_parts_without_gates(rt: HostRuntime) -> Result<(), Fail> {
+    let mut body = Circuit::empty(rt.alloc(), 2)?;
+    body.push(Gate::X { q: 0 })?;
+    let text = parts_text(rt.alloc(), &body)?;
     let lines = "qreg q[2];\nbarrier q[0];\nx q[0];\nbarrier q[1],q[0],q[1];\nbarrier q[1];\n";
-    assert!(rt; is_program(alloc, &text, lines)?);
+    assert!(rt; is_program(rt.alloc(), &text, lines)?);
     Ok(())
 }
 
