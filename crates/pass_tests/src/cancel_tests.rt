@@ -3,7 +3,7 @@
 ghost use Rattle.std.specs.Prelude.{◌<◌};
 
 use crate::passed::{makes, tells};
-use crate::rows::{lines_below, number};
+use crate::rows::{field, lines_below, number};
 use circuit_list::Gate;
 use commute_rules::{Cancel, cancels, commute};
 use gate_cancel::CancelPass;
@@ -14,7 +14,6 @@ use rotation_merge::MergePass;
 use std::alloc::{AllocError, Global};
 use std::test::Fail;
 use test_circuits::{Kind, Random, circuit_of, gates_of};
-use test_rows::{Wrong, each_row, field, small};
 use unitary_model::turn_sum;
 
 fn is_shortened(alloc: Global, row: &str) -> Result<bool, AllocError> {
@@ -31,22 +30,25 @@ fn is_shortened(alloc: Global, row: &str) -> Result<bool, AllocError> {
 
 /// Wires, gates, those that are left, and the turn; the last six pass gates that commute.
 const ROWS: &str = "\
-1|h.0 h.0||6
-1|x.0 x.0||4
-1|1.0 1.0|2.0|0
-1|1.0 7.0||0
-1|h.0 x.0 h.0|h.0 x.0 h.0|0
-1|1.0 h.0 h.0 1.0|2.0|6
-2|c01 1.0 c01|1.0|0
-3|c01 c02 1.0 c01|c02 1.0|0
-2|c01 1.1 c01|c01 1.1 c01|0
-2|x.1 c01 x.1|c01|4
-2|x.0 c01 x.0|x.0 c01 x.0|0
-2|c01 h.1 c01|c01 h.1 c01|0";
+1 | h.0 h.0 | - | 6
+1 | x.0 x.0 | - | 4
+1 | 1.0 1.0 | 2.0 | 0
+1 | 1.0 7.0 | - | 0
+1 | h.0 x.0 h.0 | h.0 x.0 h.0 | 0
+1 | 1.0 h.0 h.0 1.0 | 2.0 | 6
+2 | c01 1.0 c01 | 1.0 | 0
+3 | c01 c02 1.0 c01 | c02 1.0 | 0
+2 | c01 1.1 c01 | c01 1.1 c01 | 0
+2 | x.1 c01 x.1 | c01 | 4
+2 | x.0 c01 x.0 | x.0 c01 x.0 | 0
+2 | c01 h.1 c01 | c01 h.1 c01 | 0";
 
 #[test]
-fn rows_by_hand(rt: HostRuntime) -> Result<(), Wrong> {
-    each_row(rt.alloc(), ROWS, "\n", is_shortened)
+fn rows_by_hand(rt: HostRuntime) -> Result<(), Fail> {
+    'rows: for row in ROWS.split('\n') {
+        assert!(rt; is_shortened(rt.alloc(), row)?, "{row}");
+    }
+    Ok(())
 }
 
 /// Whether two ways to put the passes together tell the steps of a row.
@@ -60,19 +62,19 @@ fn is_told(alloc: Global, row: &str) -> Result<bool, AllocError> {
 
 /// Gates, the turn, and the steps. In the last row the phases go by their labels, and the CNOTs in the run after.
 const STEPS: &str = "\
-h.0 x.0 h.0|0
+h.0 x.0 h.0 | 0
 
-x.0 x.0|4
+x.0 x.0 | 4
 both 0 1
 
-1.0 h.0 h.0 1.0|6
+1.0 h.0 h.0 1.0 | 6
 both 1 2
 join 0 1
 
-c01 c02 1.0 c01|0
+c01 c02 1.0 c01 | 0
 both 0 3
 
-c01 1.1 c01 c10 7.0 c10|0
+c01 1.1 c01 c10 7.0 c10 | 0
 sums 4
 C 0 1
 C 0 1
@@ -83,8 +85,11 @@ both 0 1";
 
 /// What is put together tells the steps of its parts, and none of the run that takes no gate away.
 #[test]
-fn tells_its_steps(rt: HostRuntime) -> Result<(), Wrong> {
-    each_row(rt.alloc(), STEPS, "\n\n", is_told)
+fn tells_its_steps(rt: HostRuntime) -> Result<(), Fail> {
+    'rows: for row in STEPS.split("\n\n") {
+        assert!(rt; is_told(rt.alloc(), row)?, "{row}");
+    }
+    Ok(())
 }
 
 /// The next run takes the NOT past the CNOT, which makes one more of it, so its steps go.
@@ -282,19 +287,12 @@ fn cancels_alike(alloc: Global, gates: &[Gate]) -> Result<bool, AllocError> {
     makes_of_gates(alloc, gates, &plain, turn)
 }
 
-/// The same of a hundred lists that are drawn from a start.
-fn cancel_alike(alloc: Global, start: &str) -> Result<bool, AllocError> {
-    let mut random = Random::from_start(u64::from(small(start, 0)));
-    'circuits: for number in 0..100 {
-        let gates = drawn(alloc, &mut random, number)?;
-        if !cancels_alike(alloc, &gates)? {
-            return Ok(false);
-        }
-    }
-    Ok(true)
-}
-
 #[test]
-fn cancels_as_the_plain_walks_do(rt: HostRuntime) -> Result<(), Wrong> {
-    each_row(rt.alloc(), "1 2 3 4", " ", cancel_alike)
+fn cancels_as_the_plain_walks_do(rt: HostRuntime) -> Result<(), Fail> {
+    let mut random = Random::from_start(1);
+    'circuits: for number in 0..400 {
+        let gates = drawn(rt.alloc(), &mut random, number)?;
+        assert!(rt; cancels_alike(rt.alloc(), &gates)?, "{number}");
+    }
+    Ok(())
 }

@@ -4,13 +4,13 @@ ghost use Rattle.std.specs.Prelude.{◌≡◌};
 
 use crate::edits::make;
 use crate::passed::{are_same, has_gates, makes, tells};
-use crate::rows::{lines_below, number};
+use crate::rows::{field, lines_below, number};
 use circuit_list::Circuit;
 use hadamard_reduce::{HadamardPass, HadamardRules};
 use rewrite_pass::{Pass, Rule};
 use std::alloc::{AllocError, Global};
+use std::test::Fail;
 use test_circuits::{Kind, Random, circuit_of_text, is_turned};
-use test_rows::{Wrong, each_row, field, small};
 
 /// Whether the window of a row becomes its gates, with its turn, by which the matrix is turned.
 fn is_changed(alloc: Global, row: &str) -> Result<bool, AllocError> {
@@ -36,24 +36,27 @@ fn is_changed(alloc: Global, row: &str) -> Result<bool, AllocError> {
 
 /// Gates, the place where a window begins, what becomes of them, and the turn.
 const CHANGES: &str = "\
-h.0 2.0 h.0|0|6.0 h.0 6.0|6
-h.0 x.1 c12 2.0 h.1 h.0|0|6.0 x.1 c12 h.0 h.1 6.0|6
-h.1 6.1 h.1|0|2.1 h.1 2.1|0
-c12 h.2 h.0 6.2 c01 h.2|1|c12 2.2 h.0 h.2 c01 2.2|0
-h.0 4.0 h.0|0|x.0|0
-x.0 h.1 h.0 4.1 c02 h.1 1.1|1|x.0 h.0 x.1 c02 1.1|0
-h.2 x.2 h.2|0|4.2|4
-h.2 c01 x.2 c10 h.2|0|c01 4.2 c10|4
-h.0 h.1 c01 h.0 h.1|0|c10|4
-h.1 x.0 h.2 h.0 c01 x.2 h.1 h.0 x.1|0|x.0 h.2 c10 x.2 x.1|4
-h.1 2.1 c01 6.1 h.1|0|6.1 c01 2.1|6
-h.1 x.0 2.1 h.0 c01 h.0 6.1 x.2 h.1|0|x.0 6.1 h.0 c01 h.0 2.1 x.2|6
-h.1 6.1 c01 2.1 h.1|0|2.1 c01 6.1|6
-h.0 6.0 h.2 c20 h.2 2.0 h.0|0|2.0 h.2 c20 h.2 6.0|6";
+h.0 2.0 h.0 | 0 | 6.0 h.0 6.0 | 6
+h.0 x.1 c12 2.0 h.1 h.0 | 0 | 6.0 x.1 c12 h.0 h.1 6.0 | 6
+h.1 6.1 h.1 | 0 | 2.1 h.1 2.1 | 0
+c12 h.2 h.0 6.2 c01 h.2 | 1 | c12 2.2 h.0 h.2 c01 2.2 | 0
+h.0 4.0 h.0 | 0 | x.0 | 0
+x.0 h.1 h.0 4.1 c02 h.1 1.1 | 1 | x.0 h.0 x.1 c02 1.1 | 0
+h.2 x.2 h.2 | 0 | 4.2 | 4
+h.2 c01 x.2 c10 h.2 | 0 | c01 4.2 c10 | 4
+h.0 h.1 c01 h.0 h.1 | 0 | c10 | 4
+h.1 x.0 h.2 h.0 c01 x.2 h.1 h.0 x.1 | 0 | x.0 h.2 c10 x.2 x.1 | 4
+h.1 2.1 c01 6.1 h.1 | 0 | 6.1 c01 2.1 | 6
+h.1 x.0 2.1 h.0 c01 h.0 6.1 x.2 h.1 | 0 | x.0 6.1 h.0 c01 h.0 2.1 x.2 | 6
+h.1 6.1 c01 2.1 h.1 | 0 | 2.1 c01 6.1 | 6
+h.0 6.0 h.2 c20 h.2 2.0 h.0 | 0 | 2.0 h.2 c20 h.2 6.0 | 6";
 
 #[test]
-fn each_row_of_the_table(rt: HostRuntime) -> Result<(), Wrong> {
-    each_row(rt.alloc(), CHANGES, "\n", is_changed)
+fn each_row_of_the_table(rt: HostRuntime) -> Result<(), Fail> {
+    'rows: for row in CHANGES.split('\n') {
+        assert!(rt; is_changed(rt.alloc(), row)?, "{row}");
+    }
+    Ok(())
 }
 
 /// Whether no window begins at the place of a row.
@@ -67,28 +70,31 @@ fn is_none(alloc: Global, row: &str) -> Result<bool, AllocError> {
 
 /// Gates, and a place where no window begins.
 const NO_WINDOWS: &str = "\
-2.0|0
-h.0|0
-h.0 h.0|0
-h.0 2.0|0
-h.0 1.0 h.0|0
-h.0 1.0 2.0 h.0|0
-h.0 2.0 x.0 h.0|0
-h.0 2.0 c01 h.0|0
-h.0 4.1 h.0|0
-h.0 h.1 c01 h.0|0
-h.0 c01 h.0 h.1|0
-h.0 h.1 x.1 c01 h.0 h.1|0
-h.0 h.1 c01 x.0 h.0 h.1|0
-h.0 h.1 c01 h.0 h.1|1
-h.1 2.1 c01 2.1 h.1|0
-h.1 2.1 c10 6.1 h.1|0
-h.1 4.1 c01 4.1 h.1|0
-h.1 2.1 c01 x.1 6.1 h.1|0";
+2.0 | 0
+h.0 | 0
+h.0 h.0 | 0
+h.0 2.0 | 0
+h.0 1.0 h.0 | 0
+h.0 1.0 2.0 h.0 | 0
+h.0 2.0 x.0 h.0 | 0
+h.0 2.0 c01 h.0 | 0
+h.0 4.1 h.0 | 0
+h.0 h.1 c01 h.0 | 0
+h.0 c01 h.0 h.1 | 0
+h.0 h.1 x.1 c01 h.0 h.1 | 0
+h.0 h.1 c01 x.0 h.0 h.1 | 0
+h.0 h.1 c01 h.0 h.1 | 1
+h.1 2.1 c01 2.1 h.1 | 0
+h.1 2.1 c10 6.1 h.1 | 0
+h.1 4.1 c01 4.1 h.1 | 0
+h.1 2.1 c01 x.1 6.1 h.1 | 0";
 
 #[test]
-fn nothing_where_no_window_begins(rt: HostRuntime) -> Result<(), Wrong> {
-    each_row(rt.alloc(), NO_WINDOWS, "\n", is_none)
+fn nothing_where_no_window_begins(rt: HostRuntime) -> Result<(), Fail> {
+    'rows: for row in NO_WINDOWS.split('\n') {
+        assert!(rt; is_none(rt.alloc(), row)?, "{row}");
+    }
+    Ok(())
 }
 
 /// Whether the sweep of a row's gates gives its gates and its turn, and tells the lines below it.
@@ -103,25 +109,28 @@ fn is_swept(alloc: Global, row: &str) -> Result<bool, AllocError> {
 
 /// Gates, those that are left, the turn, and the steps.
 const SWEEPS: &str = "\
-||0
+- | - | 0
 
-h.0 1.0 h.0|h.0 1.0 h.0|0
+h.0 1.0 h.0 | h.0 1.0 h.0 | 0
 
-h.0 4.0 h.0 h.0 x.0 h.0|x.0 4.0|4
+h.0 4.0 h.0 h.0 x.0 h.0 | x.0 4.0 | 4
 rule 3 0
 rule 4 1
 
-h.0 h.0 4.0 h.0 h.0|4.0|4
+h.0 h.0 4.0 h.0 h.0 | 4.0 | 4
 rule 3 1
 rule 4 0
 
-h.1 2.1 c01 6.1 h.1 h.0 2.0 h.0|6.1 c01 2.1 6.0 h.0 6.0|4
+h.1 2.1 c01 6.1 h.1 h.0 2.0 h.0 | 6.1 c01 2.1 6.0 h.0 6.0 | 4
 rule 6 0
 rule 1 3";
 
 #[test]
-fn sweeps_all_windows_away(rt: HostRuntime) -> Result<(), Wrong> {
-    each_row(rt.alloc(), SWEEPS, "\n\n", is_swept)
+fn sweeps_all_windows_away(rt: HostRuntime) -> Result<(), Fail> {
+    'rows: for row in SWEEPS.split("\n\n") {
+        assert!(rt; is_swept(rt.alloc(), row)?, "{row}");
+    }
+    Ok(())
 }
 
 /// Walks over each place in order, at the same place again after a change, until a walk changes nothing. Their turn; none
@@ -202,40 +211,28 @@ const NESTED_KINDS: [Kind; 12] = [
     Kind::H,
 ];
 
-/// Whether fifty random circuits on three wires, drawn from a start, are swept as by the plain walks, and most of them are changed.
-fn sweep_alike(
-    alloc: Global,
-    start: &str,
-    kinds: &[Kind; 12],
-    gates: u32,
-) -> Result<bool, AllocError> {
-    let mut random = Random::from_start(u64::from(small(start, 0)));
-    let mut changed = 0;
-    'circuits: for _ in 0..50 {
-        let body = random.circuit(alloc, 3, kinds, gates)?;
-        if !sweeps_alike(alloc, body, &mut changed)? {
-            return Ok(false);
-        }
-    }
-    Ok(changed > 37)
-}
-
-fn swept(alloc: Global, start: &str) -> Result<bool, AllocError> {
-    sweep_alike(alloc, start, &KINDS, 80)
-}
-
-/// The list and the turn are those of the plain walks.
+/// Random circuits on three wires: the list and the turn are those of the plain walks.
 #[test]
-fn sweeps_as_the_plain_walks_do(rt: HostRuntime) -> Result<(), Wrong> {
-    each_row(rt.alloc(), "1 2 3 4", " ", swept)
-}
-
-fn nests_swept(alloc: Global, start: &str) -> Result<bool, AllocError> {
-    sweep_alike(alloc, start, &NESTED_KINDS, 60)
+fn sweeps_as_the_plain_walks_do(rt: HostRuntime) -> Result<(), Fail> {
+    let mut random = Random::from_start(1);
+    let mut changed = 0;
+    'circuits: for number in 0..200 {
+        let body = random.circuit(rt.alloc(), 3, &KINDS, 80)?;
+        assert!(rt; sweeps_alike(rt.alloc(), body, &mut changed)?, "{number}");
+    }
+    assert!(rt; changed > 150);
+    Ok(())
 }
 
 /// The same where windows lie in windows.
 #[test]
-fn sweeps_nests_as_the_plain_walks_do(rt: HostRuntime) -> Result<(), Wrong> {
-    each_row(rt.alloc(), "1 2 3 4", " ", nests_swept)
+fn sweeps_nests_as_the_plain_walks_do(rt: HostRuntime) -> Result<(), Fail> {
+    let mut random = Random::from_start(1);
+    let mut changed = 0;
+    'circuits: for number in 0..200 {
+        let body = random.circuit(rt.alloc(), 3, &NESTED_KINDS, 60)?;
+        assert!(rt; sweeps_alike(rt.alloc(), body, &mut changed)?, "{number}");
+    }
+    assert!(rt; changed > 150);
+    Ok(())
 }

@@ -5,11 +5,11 @@ ghost use Rattle.path_parity.specs.Sets.{IsLabel};
 ghost use Rattle.unitary_model.specs.OddPaths.{first_walk, walked_all};
 ghost use Rattle.unitary_model.specs.Operations.{WiresBelow};
 
+use crate::rows::field;
 use path_parity::{Label, labels_of, odd_paths};
 use std::alloc::{AllocError, Global};
 use std::test::Fail;
 use test_circuits::circuit_of_text;
-use test_rows::{Wrong, each_row, field};
 use unitary_model::Op;
 use unitary_reference::paths::odd_paths_of;
 
@@ -57,14 +57,17 @@ fn has_labels(alloc: Global, row: &str) -> Result<bool, AllocError> {
 /// Gates on three wires, the number of the labels, and the labels. Variables 0 to 2 are those of the wires, so the first H
 /// gives variable 3.
 const LABELS: &str = "\
-|0|
-1.0 h.0 h.0 1.0|2|0,1 0,16
-1.0 x.0 1.0|2|0,1 !0,1
-h.0 x.0 c01 1.1 c01 1.1|2|!0,10 0,2";
+- | 0 | -
+1.0 h.0 h.0 1.0 | 2 | 0,1 0,16
+1.0 x.0 1.0 | 2 | 0,1 !0,1
+h.0 x.0 c01 1.1 c01 1.1 | 2 | !0,10 0,2";
 
 #[test]
-fn labels_by_hand(rt: HostRuntime) -> Result<(), Wrong> {
-    each_row(rt.alloc(), LABELS, "\n", has_labels)
+fn labels_by_hand(rt: HostRuntime) -> Result<(), Fail> {
+    'rows: for row in LABELS.split('\n') {
+        assert!(rt; has_labels(rt.alloc(), row)?, "{row}");
+    }
+    Ok(())
 }
 
 /// A label of any words, to be written anew.
@@ -82,14 +85,17 @@ fn is_single(alloc: Global, row: &str) -> Result<bool, AllocError> {
 
 /// A variable and its words: 63 is the last of the word at place 0, and 64 the first of that at place 1.
 const SINGLES: &str = "\
-0|0,1
-63|0,9223372036854775808
-64|1,1
-18446744073709551615|288230376151711743,9223372036854775808";
+0 | 0,1
+63 | 0,9223372036854775808
+64 | 1,1
+18446744073709551615 | 288230376151711743,9223372036854775808";
 
 #[test]
-fn single_variables(rt: HostRuntime) -> Result<(), Wrong> {
-    each_row(rt.alloc(), SINGLES, "\n", is_single)
+fn single_variables(rt: HostRuntime) -> Result<(), Fail> {
+    'rows: for row in SINGLES.split('\n') {
+        assert!(rt; is_single(rt.alloc(), row)?, "{row}");
+    }
+    Ok(())
 }
 
 /// A label with one variable more, or one fewer.
@@ -155,23 +161,26 @@ fn adds_up(alloc: Global, row: &str) -> Result<bool, AllocError> {
 /// become 0 are cut off at both ends, and stay in the middle. Then sets of seven, eight, nine and seventeen words; and of nine
 /// that begin one place later.
 const SUMS: &str = "\
-||
-7,1,2||7,1,2
-0,1|3,256|0,1,0,0,256
-2,5,6|4,7|2,5,6,7
-2,5,6,7|3,5,3,9|2,5,3,4,9
-2,5,6,7|3,6|2,5,0,7
-2,5,6,7,9|2,5,6,1,9|4,6
-2,5,6|2,5,6,0,8|5,8
-3,1,2,3,4,5,6,7|3,64,64,64,64,64,64,64|3,65,66,67,68,69,70,71
-3,1,2,3,4,5,6,7,8|3,64,64,64,64,64,64,64,64|3,65,66,67,68,69,70,71,72
-3,1,2,3,4,5,6,7,8,9|3,64,64,64,64,64,64,64,64,64|3,65,66,67,68,69,70,71,72,73
-3,1,2,3,4,5,6,7,8,9,10,11,12,13,14,15,16,17|3,64,64,64,64,64,64,64,64,64,64,64,64,64,64,64,64,64|3,65,66,67,68,69,70,71,72,73,74,75,76,77,78,79,80,81
-3,1,2,3,4,5,6,7,8,9,10|4,64,64,64,64,64,64,64,64,64|3,1,66,67,68,69,70,71,72,73,74";
+- | - | -
+7,1,2 | - | 7,1,2
+0,1 | 3,256 | 0,1,0,0,256
+2,5,6 | 4,7 | 2,5,6,7
+2,5,6,7 | 3,5,3,9 | 2,5,3,4,9
+2,5,6,7 | 3,6 | 2,5,0,7
+2,5,6,7,9 | 2,5,6,1,9 | 4,6
+2,5,6 | 2,5,6,0,8 | 5,8
+3,1,2,3,4,5,6,7 | 3,64,64,64,64,64,64,64 | 3,65,66,67,68,69,70,71
+3,1,2,3,4,5,6,7,8 | 3,64,64,64,64,64,64,64,64 | 3,65,66,67,68,69,70,71,72
+3,1,2,3,4,5,6,7,8,9 | 3,64,64,64,64,64,64,64,64,64 | 3,65,66,67,68,69,70,71,72,73
+3,1,2,3,4,5,6,7,8,9,10,11,12,13,14,15,16,17 | 3,64,64,64,64,64,64,64,64,64,64,64,64,64,64,64,64,64 | 3,65,66,67,68,69,70,71,72,73,74,75,76,77,78,79,80,81
+3,1,2,3,4,5,6,7,8,9,10 | 4,64,64,64,64,64,64,64,64,64 | 3,1,66,67,68,69,70,71,72,73,74";
 
 #[test]
-fn sums_by_hand(rt: HostRuntime) -> Result<(), Wrong> {
-    each_row(rt.alloc(), SUMS, "\n", adds_up)
+fn sums_by_hand(rt: HostRuntime) -> Result<(), Fail> {
+    'rows: for row in SUMS.split('\n') {
+        assert!(rt; adds_up(rt.alloc(), row)?, "{row}");
+    }
+    Ok(())
 }
 
 /// Whether the gates of a row have so many odd path parities.
@@ -184,15 +193,18 @@ fn has_odd_paths(alloc: Global, row: &str) -> Result<bool, AllocError> {
 
 /// Gates on three wires, and how many odd path parities they have.
 const ODD_PATHS: &str = "\
-|0
-1.0 1.0|0
-1.0 h.0 h.0 1.0|2
-1.0 x.0 1.0|0
-1.1 c01 1.1 c01 1.1|1";
+- | 0
+1.0 1.0 | 0
+1.0 h.0 h.0 1.0 | 2
+1.0 x.0 1.0 | 0
+1.1 c01 1.1 c01 1.1 | 1";
 
 #[test]
-fn odd_paths_by_hand(rt: HostRuntime) -> Result<(), Wrong> {
-    each_row(rt.alloc(), ODD_PATHS, "\n", has_odd_paths)
+fn odd_paths_by_hand(rt: HostRuntime) -> Result<(), Fail> {
+    'rows: for row in ODD_PATHS.split('\n') {
+        assert!(rt; has_odd_paths(rt.alloc(), row)?, "{row}");
+    }
+    Ok(())
 }
 
 /// Whether a circuit on three wires and its operations have as many odd path parities as the slow program counts.

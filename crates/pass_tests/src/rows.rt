@@ -1,10 +1,14 @@
-//! Numbers and lines of a row.
+//! The fields of a row, which stand apart by ` | `.
 
-use test_rows::{field, small};
+/// The field at a place, nothing for `-`.
+pub fn field(row: &str, at: usize) -> &str {
+    let field = row.split(" | ").nth(at).unwrap_or("none");
+    if field == "-" { "" } else { field }
+}
 
-/// The number in the field at an index.
+/// The number at a place, or one that no row has.
 pub fn number(row: &str, at: usize) -> u32 {
-    small(field(row, at), 0)
+    field(row, at).parse::<u32>().unwrap_or(7777)
 }
 
 /// A row's first line, and the lines below it.

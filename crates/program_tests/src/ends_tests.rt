@@ -2,7 +2,7 @@
 
 use crate::runs_tests::{Case, Outcome, run_case};
 use std::alloc::{AllocError, Global};
-use test_rows::{Wrong, each_row};
+use std::test::Fail;
 
 const TWO: &[u8] = b"OPENQASM 2.0;\ninclude \"qelib1.inc\";\nqreg q[1]; t q[0]; t q[0];";
 
@@ -104,12 +104,11 @@ fn has_ends(row: &str, got: &Outcome) -> bool {
     let command = command_of(row);
     let is_out = (got.status == 0 || got.status == 8) && command != "check";
     let [_, _, _, report_fails] = fails_of(row);
-    let is_told = report_fails == 0 && !got.report.as_slice().is_empty();
+    let is_told = report_fails == 0 && !got.report.is_empty();
     let is_read = command != "bench" && command != "verify";
-    got.out.is_flushed() == is_out
-        && got.report.is_flushed() == is_told
-        && (is_read || got.input.calls() == 0)
-        && (!is_read || got.status != 0 || got.input.rest().is_empty())
+    got.flushed == (is_out, is_told)
+        && (is_read || got.calls == 0)
+        && (!is_read || got.status != 0 || got.left == 0)
 }
 
 /// Whether a run comes out as its row says.
@@ -163,6 +162,9 @@ qroute check; 0 0 1 2; 9999; 8; 0; report
 qroute; 1 1 1 0; 16; 2; 0; Words";
 
 #[test]
-fn fails_at_each_call(rt: HostRuntime) -> Result<(), Wrong> {
-    each_row(rt.alloc(), ROWS, "\n", ends_so)
+fn fails_at_each_call(rt: HostRuntime) -> Result<(), Fail> {
+    'rows: for row in ROWS.split('\n') {
+        assert!(rt; ends_so(rt.alloc(), row)?, "{row}");
+    }
+    Ok(())
 }

@@ -3,7 +3,6 @@
 use crate::runs_tests::{Case, HEAD, run_case};
 use std::alloc::{AllocError, Global};
 use std::test::Fail;
-use test_rows::{Wrong, each_row, small};
 
 /// A shelf with this device.
 fn shelf_with(device: &str) -> [(&str, &str); 3] {
@@ -35,13 +34,13 @@ fn keeps_piece(alloc: Global, text: &str, most: usize) -> Result<bool, AllocErro
     let whole = run_case(alloc, case)?;
     let fails = [0, 1, 2, 0];
     let got = run_case(alloc, Case { fails, ..case })?;
-    let told = str::from_utf8(whole.report.as_slice()).unwrap_or("");
+    let told = str::from_utf8(&whole.report).unwrap_or("");
     Ok(
         whole.status == 0
             && whole.out.as_slice() == text.as_bytes()
             && told.contains("\"t_after\":256,\"t_before\":256}")
             && got.status == 6
-            && got.out.as_slice().len() == 4096
+            && got.out.len() == 4096
             && whole.out.as_slice().starts_with(got.out.as_slice())
             && got.report.as_slice() == FAILED.as_bytes(),
     )
@@ -84,20 +83,7 @@ fn moves_bytes<'a>(alloc: Global, words: &'a str, text: &'a str) -> Result<bool,
     let want = run_case(alloc, case)?;
     let most = [1, 1, 1];
     let got = run_case(alloc, Case { most, ..case })?;
-    Ok(
-        got.status == want.status
-            && got.out.as_slice() == want.out.as_slice()
-            && got.report.as_slice() == want.report.as_slice(),
-    )
-}
-
-/// The same of three texts, by the words of a command.
-fn moves_all(alloc: Global, words: &str) -> Result<bool, AllocError> {
-    Ok(
-        moves_bytes(alloc, words, KINDS)?
-            && moves_bytes(alloc, words, HEAD)?
-            && moves_bytes(alloc, words, "OPENQASM")?,
-    )
+    Ok(got.status == want.status && got.out == want.out && got.report == want.report)
 }
 
 /// The words of each command.
@@ -110,13 +96,18 @@ qroute route --device d --trivial
 qroute bench --start 1 --gates 1 --device d";
 
 #[test]
-fn moves_one_byte_a_call(rt: HostRuntime) -> Result<(), Wrong> {
-    each_row(rt.alloc(), EACH, "\n", moves_all)
+fn moves_one_byte_a_call(rt: HostRuntime) -> Result<(), Fail> {
+    'commands: for words in EACH.split('\n') {
+        'texts: for text in [KINDS, HEAD, "OPENQASM"] {
+            assert!(rt; moves_bytes(rt.alloc(), words, text)?, "{words}: {text}");
+        }
+    }
+    Ok(())
 }
 
 /// Whether a text of so many spaces is refused, with so many of them left.
-fn leaves(alloc: Global, row: &str) -> Result<bool, AllocError> {
-    let text = vec![in alloc; b' '; (small(row, 0) as usize).min(5_000_000)]?;
+fn leaves(alloc: Global, len: usize, left: usize) -> Result<bool, AllocError> {
+    let text = vec![in alloc; b' '; len]?;
     let case = Case {
         words: "qroute opt",
         text: &text,
@@ -125,13 +116,16 @@ fn leaves(alloc: Global, row: &str) -> Result<bool, AllocError> {
         most: [64, 16, 9999],
     };
     let got = run_case(alloc, case)?;
-    Ok(got.status == 3 && got.input.rest().len() == small(row, 1) as usize)
+    Ok(got.status == 3 && got.left == left)
 }
 
-/// The input isn't read past the limit and one byte: how many there are, and how many are left.
+/// The input isn't read past the limit and one byte.
 #[test]
-fn leaves_what_is_too_long(rt: HostRuntime) -> Result<(), Wrong> {
-    each_row(rt.alloc(), "4194304 0\n4194305 0\n4194400 95", "\n", leaves)
+fn leaves_what_is_too_long(rt: HostRuntime) -> Result<(), Fail> {
+    'rows: for (len, left) in [(4_194_304, 0), (4_194_305, 0), (4_194_400, 95)] {
+        assert!(rt; leaves(rt.alloc(), len, left)?, "{len}");
+    }
+    Ok(())
 }
 
 const TOFFOLI: Case<'static> = Case {
@@ -155,7 +149,7 @@ fn keeps_prefix(alloc: Global, whole: &[u8], call: u64) -> Result<bool, AllocErr
     let got = run_case(alloc, Case { fails, ..TOFFOLI })?;
     Ok(
         got.status == 6
-            && got.out.as_slice().len() < whole.len()
+            && got.out.len() < whole.len()
             && whole.starts_with(got.out.as_slice())
             && got.report.as_slice() == FAILED.as_bytes(),
     )
@@ -167,7 +161,7 @@ fn keeps_what_came_of_a_trace(rt: HostRuntime) -> Result<(), Fail> {
     let whole = run_case(rt.alloc(), TOFFOLI)?;
     'calls: for call in 1..30u64 {
         assert!(rt;
-            whole.status == 0 && keeps_prefix(rt.alloc(), whole.out.as_slice(), call)?,
+            whole.status == 0 && keeps_prefix(rt.alloc(), &whole.out, call)?,
             "{call}"
         );
     }

@@ -20,44 +20,54 @@ pub struct Case<'a> {
     pub most: [usize; 3],
 }
 
-/// A status, and the ends of the run.
 #[derive(Drop)]
 pub struct Outcome {
     pub status: u8,
-    pub input: MemSource,
-    pub out: MemSink,
-    pub report: MemSink,
-}
-
-/// The ends of a case before its run.
-fn ends_of(alloc: Global, case: Case<'_>) -> Result<Outcome, AllocError> {
-    let [input_fails, _, out_fails, report_fails] = case.fails;
-    let [input_most, out_most, report_most] = case.most;
-    let input = source_of(alloc, case.text, input_most, input_fails)?;
-    let out = sink_of(alloc, out_most, out_fails)?;
-    let report = sink_of(alloc, report_most, report_fails)?;
-    Ok(Outcome {
-        status: 99,
-        input,
-        out,
-        report,
-    })
+    /// The calls on the input.
+    pub calls: u64,
+    /// The bytes of the input that weren't taken.
+    pub left: usize,
+    pub out: Vec<u8>,
+    pub report: Vec<u8>,
+    /// Whether the output is flushed, and whether the report is.
+    pub flushed: (bool, bool),
 }
 
 pub fn run_case(alloc: Global, case: Case<'_>) -> Result<Outcome, AllocError> {
-    let [_, shelf_fails, _, _] = case.fails;
+    let [input_fails, shelf_fails, out_fails, report_fails] = case.fails;
+    let [input_most, out_most, report_most] = case.most;
     let words = words_of(alloc, case.words)?;
+    let mut input = source_of(alloc, case.text, input_most, input_fails)?;
     let mut shelf = shelf_of(alloc, case.shelf, shelf_fails)?;
-    let mut ends = ends_of(alloc, case)?;
-    ends.status = run(
+    let mut out = sink_of(alloc, out_most, out_fails)?;
+    let mut report = sink_of(alloc, report_most, report_fails)?;
+    let status = run(
         alloc,
         words.as_slice(),
-        &mut ends.input,
+        &mut input,
         &mut shelf,
-        &mut ends.out,
-        &mut ends.report,
+        &mut out,
+        &mut report,
     );
-    Ok(ends)
+    outcome_of(alloc, status, &input, &out, &report)
+}
+
+/// What the ends of a run hold after it.
+fn outcome_of(
+    alloc: Global,
+    status: u8,
+    input: &MemSource,
+    out: &MemSink,
+    report: &MemSink,
+) -> Result<Outcome, AllocError> {
+    Ok(Outcome {
+        status,
+        calls: input.calls(),
+        left: input.rest().len(),
+        out: Vec::from_slice(alloc, out.as_slice())?,
+        report: Vec::from_slice(alloc, report.as_slice())?,
+        flushed: (out.is_flushed(), report.is_flushed()),
+    })
 }
 
 fn words_of<'a>(alloc: Global, line: &'a str) -> Result<Vec<&'a str>, AllocError> {

@@ -16,6 +16,7 @@ use rewrite_pass::Pass;
 use rotation_merge::MergePass;
 use std::alloc::{AllocError, Global};
 use std::test::Fail;
+use unitary_model::Op;
 
 /// What one more pass makes.
 fn after<P: Pass>(alloc: Global, before: Passed, pass: &P) -> Result<Passed, AllocError> {
@@ -105,35 +106,53 @@ fn drawn_ops(alloc: Global, start: u32, wires: u32) -> Result<Ops, AllocError>
     Ok(ops)
 }
 
-/// The program of the gates that the passes make one by one of others, and the turn as it is told.
-fn wanted(alloc: Global, before: Passed) -> Result<(String, String), AllocError> {
-    let rounded = rounds(alloc, before)?;
-    let Passed { body, turn } = settled(alloc, after(alloc, rounded, &ResynthPass)?)?;
-    let text = circuit_text(alloc, &body)?;
-    Ok((text, format!(in alloc; "\"phase\":{turn},")?))
+/// The text of a program whose gates are those that are drawn.
+fn text_of(alloc: Global, program: &Ops) -> Result<String, AllocError> {
+    let qubits = program.wires;
+    let mut text = format!(in alloc; "{HEAD}qreg q[{qubits}];\n")?;
+    'gates: for op in program.list.as_slice() {
+        match *op {
+            Op::Cx { c, t } => write!(text, "cx q[{c}],q[{t}];\n")?,
+            Op::U { a, b: _, c, q } => write!(text, "{} q[{q}];\n", name_of(a, c))?,
+        }
+    }
+    Ok(text)
 }
 
-/// Whether `opt` writes this program of another, and tells this turn.
-fn writes(alloc: Global, text: &str, want: &str, phase: &str) -> Result<bool, AllocError> {
-    let case = Case {
-        words: "qroute opt",
-        text: text.as_bytes(),
-        shelf: [("", ""), ("", ""), ("", "")],
-        fails: [0, 1, 0, 0],
-        most: [64, 16, 9999],
-    };
-    let got = run_case(alloc, case)?;
-    let told = str::from_utf8(got.report.as_slice()).unwrap_or("");
-    Ok(got.status == 0 && got.out.as_slice() == want.as_bytes() && told.contains(phase))
+/// The name of a drawn gate on one wire.
+fn name_of(a: u8, c: u8) -> &'static str {
+    match (a, c) {
+        (2, 4) => "h",
+        (4, 4) => "x",
+        (0, 1) => "t",
+        (0, 2) => "s",
+        (0, 7) => "tdg",
+        _ => "none",
+    }
 }
 
 /// Whether `opt` writes the gates that the passes make one by one of a drawn program, and tells their turn.
 fn keeps_order(alloc: Global, start: u32) -> Result<bool, AllocError> {
     let program = drawn_ops(alloc, start, start % 4 + 2)?;
-    let before = expand(alloc, &program)?;
-    let text = circuit_text(alloc, &before.body)?;
-    let (want, phase) = wanted(alloc, before)?;
-    writes(alloc, text.as_str(), want.as_str(), phase.as_str())
+    let rounded = rounds(alloc, expand(alloc, &program)?)?;
+    let Passed { body, turn } = settled(alloc, after(alloc, rounded, &ResynthPass)?)?;
+    let text = text_of(alloc, &program)?;
+    let case = Case {
+        words: "qroute opt",
+        text: text.as_str().as_bytes(),
+        shelf: [("", ""), ("", ""), ("", "")],
+        fails: [0, 1, 0, 0],
+        most: [64, 16, 9999],
+    };
+    let got = run_case(alloc, case)?;
+    let want = circuit_text(alloc, &body)?;
+    let phase = format!(in alloc; "\"phase\":{turn},")?;
+    let told = str::from_utf8(&got.report).unwrap_or("");
+    Ok(
+        got.status == 0
+            && got.out.as_slice() == want.as_str().as_bytes()
+            && told.contains(phase.as_str()),
+    )
 }
 
 /// Programs that are drawn for 2 to 5 wires: the gates and the turn are those of the passes one by one.
