@@ -183,6 +183,10 @@ fault_pieces (fault.TooFewQubits device qubits) =
 fault_pieces (fault.EdgeCost from to) =
     codes "{\"code\":57,\"fault\":\"EdgeCost\",\"from\":" ∷ decimal from
     ∷ codes ",\"status\":4,\"to\":" ∷ decimal to ∷ codes "}" ∷ []
+fault_pieces (fault.Initial device qubits) =
+    codes "{\"code\":58,\"device\":" ∷ decimal device
+    ∷ codes ",\"fault\":\"Initial\",\"qubits\":" ∷ decimal qubits
+    ∷ codes ",\"status\":4}" ∷ []
 fault_pieces (fault.WideProgram qubits) =
     codes "{\"code\":70,\"fault\":\"WideProgram\",\"qubits\":" ∷ decimal qubits
     ∷ codes ",\"status\":3}" ∷ []
@@ -226,6 +230,7 @@ fault_line-pieces (fault.SelfEdge qubit) = refl
 fault_line-pieces (fault.NotConnected from to) = refl
 fault_line-pieces (fault.TooFewQubits device qubits) = refl
 fault_line-pieces (fault.EdgeCost from to) = refl
+fault_line-pieces (fault.Initial device qubits) = refl
 fault_line-pieces (fault.WideProgram qubits) = refl
 fault_line-pieces (fault.ManyBranches branches) = refl
 fault_line-pieces (fault.BitsLength qubits) = refl

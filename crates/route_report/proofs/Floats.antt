@@ -81,6 +81,7 @@ has_float-fault (fault.SelfEdge qubit) = refl
 has_float-fault (fault.NotConnected from to) = refl
 has_float-fault (fault.TooFewQubits device qubits) = refl
 has_float-fault (fault.EdgeCost from to) = refl
+has_float-fault (fault.Initial device qubits) = refl
 has_float-fault (fault.WideProgram qubits) = refl
 has_float-fault (fault.ManyBranches branches) = refl
 has_float-fault (fault.BitsLength qubits) = refl

@@ -251,6 +251,10 @@ pub edge_cost : fault_line (fault.EdgeCost 0 1) ≡ codes "{\"code\":57,\"fault\
 unfolding serde_json_on_literals digits
 edge_cost = refl
 
+pub misplaced : fault_line (fault.Initial 5 4) ≡ codes "{\"code\":58,\"device\":5,\"fault\":\"Initial\",\"qubits\":4,\"status\":4}\n"
+unfolding serde_json_on_literals digits
+misplaced = refl
+
 pub wide_program : fault_line (fault.WideProgram 13) ≡ codes "{\"code\":70,\"fault\":\"WideProgram\",\"qubits\":13,\"status\":3}\n"
 unfolding serde_json_on_literals digits
 wide_program = refl

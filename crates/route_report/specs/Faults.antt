@@ -14,7 +14,7 @@ use Rattle.route_report.specs.declared.faults.Fault.TheVariants as fault
 use Rattle.route_report.specs.declared.faults.Side.{Side}
 use Rattle.route_report.specs.declared.faults.Side.TheVariants.{Source, Target}
 use Rattle.route_report.specs.Compact.{line, whole}
-use Rattle.route_report.specs.Refusals.{bits_length, edge_cost, many_branches, name_of, not_connected, self_edge, stops_with, too_few_qubits, too_many_spares, wide_program}
+use Rattle.route_report.specs.Refusals.{bits_length, edge_cost, initial, many_branches, name_of, not_connected, self_edge, stops_with, too_few_qubits, too_many_spares, wide_program}
 
 abbrev pub status_of : Fault → ℕ
 status_of fault.Words = 2
@@ -29,6 +29,7 @@ status_of (fault.SelfEdge qubit) = stops_with self_edge
 status_of (fault.NotConnected from to) = stops_with not_connected
 status_of (fault.TooFewQubits device qubits) = stops_with too_few_qubits
 status_of (fault.EdgeCost from to) = stops_with edge_cost
+status_of (fault.Initial device qubits) = stops_with initial
 status_of (fault.WideProgram qubits) = stops_with wide_program
 status_of (fault.ManyBranches branches) = stops_with many_branches
 status_of (fault.BitsLength qubits) = stops_with bits_length
@@ -102,6 +103,12 @@ fault_data (fault.EdgeCost from to) = object
     (member (codes "from") (whole from)
     (member (codes "status") (whole (stops_with edge_cost))
     (member (codes "to") (whole to) no_members)))))
+fault_data (fault.Initial device qubits) = object
+    (member (codes "code") (whole initial)
+    (member (codes "device") (whole device)
+    (member (codes "fault") (string (name_of initial))
+    (member (codes "qubits") (whole qubits)
+    (member (codes "status") (whole (stops_with initial)) no_members)))))
 fault_data (fault.WideProgram qubits) = object
     (member (codes "code") (whole wide_program)
     (member (codes "fault") (string (name_of wide_program))

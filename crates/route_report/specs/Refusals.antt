@@ -1,5 +1,5 @@
--- The refusals of a program's text, of a device's text and of a question on a program, by their codes.
---   self_edge, not_connected, too_few_qubits, edge_cost, wide_program, many_branches, bits_length, too_many_spares
+-- The refusals of a program's text, of a device's text, of a list of its qubits and of a question on a program, by their codes.
+--   self_edge, not_connected, too_few_qubits, edge_cost, initial, wide_program, many_branches, bits_length, too_many_spares
 --               the codes of the refusals that tell more than their code
 --   refusals    the table: code and name
 --   name_of     the name of a code ("Unknown" where the table has none)
@@ -18,6 +18,9 @@ too_few_qubits = 56
 
 abbrev pub edge_cost : ℕ
 edge_cost = 57
+
+abbrev pub initial : ℕ
+initial = 58
 
 abbrev pub wide_program : ℕ
 wide_program = 70
@@ -67,6 +70,7 @@ refusals =
     (55, codes "DeviceTooLong") ∷
     (too_few_qubits, codes "TooFewQubits") ∷
     (edge_cost, codes "EdgeCost") ∷
+    (initial, codes "Initial") ∷
     (60, codes "TextTooLong") ∷
     (wide_program, codes "WideProgram") ∷
     (many_branches, codes "ManyBranches") ∷
@@ -77,6 +81,6 @@ refusals =
 abbrev pub name_of : ℕ → List ℕ
 name_of code = option_map_or (λ row. row.1) (find (λ row. row.0 == code) refusals) (codes "Unknown")
 
--- those of a device's text have codes from 50 to 57
+-- those of a device's text and of a list of its qubits have codes from 50 to 58
 abbrev pub stops_with : ℕ → ℕ
-stops_with code = if nat_le 50 code && nat_le code 57 then 4 else 3
+stops_with code = if nat_le 50 code && nat_le code 58 then 4 else 3

@@ -7,7 +7,7 @@ ghost use Rattle.route_report.specs.Faults.{fault_data, outside_data, side_word,
 
 use crate::compact::with_member;
 use crate::refusals::{
-    BITS_LENGTH, EDGE_COST, MANY_BRANCHES, NOT_CONNECTED, SELF_EDGE, TOO_FEW_QUBITS,
+    BITS_LENGTH, EDGE_COST, INITIAL, MANY_BRANCHES, NOT_CONNECTED, SELF_EDGE, TOO_FEW_QUBITS,
     TOO_MANY_SPARES, WIDE_PROGRAM, refusal_name, refusal_status,
 };
 use serde_json::{Value, json};
@@ -67,6 +67,11 @@ pub enum Fault {
     EdgeCost {
         from: u32,
         to: u32,
+    },
+    /// The list of the qubits on which the wires are to begin doesn't fit the program and the device.
+    Initial {
+        device: u32,
+        qubits: u32,
     },
     /// The program has too many qubits for an entry of its unitary.
     WideProgram {
@@ -137,6 +142,7 @@ pub fn status(fault: &Fault) -> u8
         Fault::NotConnected { .. } => refusal_status(NOT_CONNECTED),
         Fault::TooFewQubits { .. } => refusal_status(TOO_FEW_QUBITS),
         Fault::EdgeCost { .. } => refusal_status(EDGE_COST),
+        Fault::Initial { .. } => refusal_status(INITIAL),
         Fault::WideProgram { .. } => refusal_status(WIDE_PROGRAM),
         Fault::ManyBranches { .. } => refusal_status(MANY_BRANCHES),
         Fault::BitsLength { .. } => refusal_status(BITS_LENGTH),
@@ -163,6 +169,7 @@ pub(crate) fn fault_value(alloc: Global, fault: &Fault) -> Result<Value, AllocEr
         Fault::NotConnected { from, to } => not_connected_value(alloc, from, to),
         Fault::TooFewQubits { device, qubits } => too_few_value(alloc, device, qubits),
         Fault::EdgeCost { from, to } => edge_cost_value(alloc, from, to),
+        Fault::Initial { device, qubits } => initial_value(alloc, device, qubits),
         Fault::WideProgram { qubits } => wide_value(alloc, qubits),
         Fault::ManyBranches { branches } => many_value(alloc, branches),
         Fault::BitsLength { qubits } => length_value(alloc, qubits),
@@ -227,6 +234,19 @@ fn too_few_value(alloc: Global, device: u32, qubits: u32) -> Result<Value, Alloc
     let (name, status) = (refusal_name(TOO_FEW_QUBITS), refusal_status(TOO_FEW_QUBITS));
     json!(in alloc; {
         "code": TOO_FEW_QUBITS,
+        "device": device,
+        "fault": name,
+        "qubits": qubits,
+        "status": status
+    })
+}
+
+fn initial_value(alloc: Global, device: u32, qubits: u32) -> Result<Value, AllocError>
+    ensures { IfOk result (λ v. view v ≡ fault_data (Fault.Initial device qubits)) }
+{
+    let (name, status) = (refusal_name(INITIAL), refusal_status(INITIAL));
+    json!(in alloc; {
+        "code": INITIAL,
         "device": device,
         "fault": name,
         "qubits": qubits,

@@ -1,4 +1,4 @@
-//! The refusals of a program's text, of a device's text and of a question on a program, by their codes.
+//! The refusals of a program's text, of a device's text, of a list of its qubits and of a question on a program, by their codes.
 
 ghost use Rattle.std.specs.Prelude.{◌≡◌};
 ghost use Rattle.route_report.specs.Refusals.{name_of, stops_with};
@@ -10,6 +10,8 @@ pub(crate) const NOT_CONNECTED: u8 = 54;
 pub(crate) const TOO_FEW_QUBITS: u8 = 56;
 
 pub(crate) const EDGE_COST: u8 = 57;
+
+pub(crate) const INITIAL: u8 = 58;
 
 pub(crate) const WIDE_PROGRAM: u8 = 70;
 
@@ -58,6 +60,7 @@ pub(crate) fn refusal_name(code: u8) -> &'static str
         55 => "DeviceTooLong",
         TOO_FEW_QUBITS => "TooFewQubits",
         EDGE_COST => "EdgeCost",
+        INITIAL => "Initial",
         60 => "TextTooLong",
         WIDE_PROGRAM => "WideProgram",
         MANY_BRANCHES => "ManyBranches",
@@ -67,12 +70,12 @@ pub(crate) fn refusal_name(code: u8) -> &'static str
     }
 }
 
-/// The status that a refusal ends with: 4 for a device's text, 3 for a program's.
+/// The status that a refusal ends with: 4 for a device's text or a list of its qubits, 3 for a program's.
 pub(crate) fn refusal_status(code: u8) -> u8
     ensures value { result ≡ stops_with code }
 {
     match code {
-        50..=57 => 4,
+        50..=58 => 4,
         _ => 3,
     }
 }
