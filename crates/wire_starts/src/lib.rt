@@ -1,0 +1,49 @@
+//! Where the wires of a program begin, where that is told.
+//!
+//! In goes the list of the qubits on which a program's wires are to begin, wire 0's first; out comes the placement of all wires of
+//! a device: the list, and behind it the qubits that are left, ascending, for the spare wires. Whether a list fits a program and a
+//! device is a word of `specs/Starts.antt`, which the caller tests.
+#![tactic(auto)]
+
+ghost use Rattle.std.specs.Prelude.{◌≡◌, ◌<◌, All, IfOk, false, length, nat_eq, true};
+ghost use Rattle.std.specs.List.{IsDistinct};
+ghost use Rattle.wire_starts.specs.Starts.{IsFitting, completed};
+
+use placement::Placement;
+use std::alloc::{AllocError, Global};
+
+/// The qubits of a list, and behind them those below `size` that aren't in it, ascending.
+#[tactic(auto, using(crate::proofs::StartLaws::completing))]
+fn completed_list(alloc: Global, list: &[u32], size: u32) -> Result<Vec<u32>, AllocError>
+    ensures { IfOk result (λ v. v.items ≡ completed size list.now) }
+{
+    let mut qubits = Vec::from_slice(alloc, list)?;
+    'qubits: for qubit in 0..size {
+        if !list.contains(&qubit) {
+            qubits.push(qubit)?;
+        }
+    }
+    Ok(qubits)
+}
+
+/// The placement that begins with a list of different qubits below `size`: the wires behind it stand on the qubits that are left,
+/// ascending.
+pub fn completed(alloc: Global, list: &[u32], size: u32) -> Result<Placement, AllocError>
+    requires distinct { IsDistinct nat_eq list.now }
+    requires within { All (λ q. q < size) list.now }
+    ensures value { IfOk result (λ p. p ≡ completed size list.now) }
+    ensures placed { IfOk result (λ p. length p ≡ size) }
+{
+    let qubits = completed_list(alloc, list, size)?;
+    let placement = Placement::of(alloc, &qubits)?;
+    Ok(placement.unwrap())
+}
+
+/// Whether a list has a qubit for each of the wires, and a device of `size` qubits has them.
+#[tactic(auto, using(crate::proofs::FitLaws::fitting))]
+pub fn is_fitting(list: &[u32], wires: u32, size: u32) -> bool
+    ensures yes { result ≡ true → IsFitting wires size list.now }
+    ensures no { result ≡ false → IsFitting wires size list.now → ⊥ }
+{
+    list.len() == wires as usize && list.iter().all(|qubit| *qubit < size)
+}
