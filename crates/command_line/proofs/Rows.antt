@@ -8,6 +8,7 @@
 --   of_route, of_route_..            `route` with its device
 --   of_route_trivial, of_trivial_..  `route` with its device and `--trivial`
 --   of_route_trace, of_trace_..      `route` with its device and `--trace`
+--   of_route_initial, of_initial_..  `route` with its device and `--initial`
 --   of_route_kept, of_route_clean, ..    `route` with its device and `--keep-barriers` or `--clean` or both
 --   of_bench, of_bench_..            `bench` with its start, gates and device
 --   of_amplitude, ..                 `amplitude` with its bits
@@ -131,43 +132,43 @@ pub of_opt_dashes_twice : (name : List ℕ) → command_of (name ∷ codes "opt"
 unfolding clap_on_literals
 of_opt_dashes_twice name = refl
 
-pub of_route : (name : List ℕ) → command_of (name ∷ codes "route" ∷ codes "--device" ∷ codes "d" ∷ []) ≡ Some (Route (codes "d") false false false false)
+pub of_route : (name : List ℕ) → command_of (name ∷ codes "route" ∷ codes "--device" ∷ codes "d" ∷ []) ≡ Some (Route (codes "d") false None false false false)
 unfolding clap_on_literals
 of_route name = refl
 
-pub of_route_equals : (name : List ℕ) → command_of (name ∷ codes "route" ∷ codes "--device=x" ∷ []) ≡ Some (Route (codes "x") false false false false)
+pub of_route_equals : (name : List ℕ) → command_of (name ∷ codes "route" ∷ codes "--device=x" ∷ []) ≡ Some (Route (codes "x") false None false false false)
 unfolding clap_on_literals
 of_route_equals name = refl
 
-pub of_route_dash : (name : List ℕ) → command_of (name ∷ codes "route" ∷ codes "--device" ∷ codes "-" ∷ []) ≡ Some (Route (codes "-") false false false false)
+pub of_route_dash : (name : List ℕ) → command_of (name ∷ codes "route" ∷ codes "--device" ∷ codes "-" ∷ []) ≡ Some (Route (codes "-") false None false false false)
 unfolding clap_on_literals
 of_route_dash name = refl
 
-pub of_route_equals_dashed : (name : List ℕ) → command_of (name ∷ codes "route" ∷ codes "--device=-x" ∷ []) ≡ Some (Route (codes "-x") false false false false)
+pub of_route_equals_dashed : (name : List ℕ) → command_of (name ∷ codes "route" ∷ codes "--device=-x" ∷ []) ≡ Some (Route (codes "-x") false None false false false)
 unfolding clap_on_literals
 of_route_equals_dashed name = refl
 
-pub of_route_equals_empty : (name : List ℕ) → command_of (name ∷ codes "route" ∷ codes "--device=" ∷ []) ≡ Some (Route [] false false false false)
+pub of_route_equals_empty : (name : List ℕ) → command_of (name ∷ codes "route" ∷ codes "--device=" ∷ []) ≡ Some (Route [] false None false false false)
 unfolding clap_on_literals
 of_route_equals_empty name = refl
 
-pub of_route_empty : (name : List ℕ) → command_of (name ∷ codes "route" ∷ codes "--device" ∷ [] ∷ []) ≡ Some (Route [] false false false false)
+pub of_route_empty : (name : List ℕ) → command_of (name ∷ codes "route" ∷ codes "--device" ∷ [] ∷ []) ≡ Some (Route [] false None false false false)
 unfolding clap_on_literals
 of_route_empty name = refl
 
-pub of_route_opt : (name : List ℕ) → command_of (name ∷ codes "route" ∷ codes "--device" ∷ codes "opt" ∷ []) ≡ Some (Route (codes "opt") false false false false)
+pub of_route_opt : (name : List ℕ) → command_of (name ∷ codes "route" ∷ codes "--device" ∷ codes "opt" ∷ []) ≡ Some (Route (codes "opt") false None false false false)
 unfolding clap_on_literals
 of_route_opt name = refl
 
-pub of_route_dashes : (name : List ℕ) → command_of (name ∷ codes "route" ∷ codes "--device" ∷ codes "d" ∷ codes "--" ∷ []) ≡ Some (Route (codes "d") false false false false)
+pub of_route_dashes : (name : List ℕ) → command_of (name ∷ codes "route" ∷ codes "--device" ∷ codes "d" ∷ codes "--" ∷ []) ≡ Some (Route (codes "d") false None false false false)
 unfolding clap_on_literals
 of_route_dashes name = refl
 
-pub of_route_trivial : (name : List ℕ) → command_of (name ∷ codes "route" ∷ codes "--device" ∷ codes "d" ∷ codes "--trivial" ∷ []) ≡ Some (Route (codes "d") true false false false)
+pub of_route_trivial : (name : List ℕ) → command_of (name ∷ codes "route" ∷ codes "--device" ∷ codes "d" ∷ codes "--trivial" ∷ []) ≡ Some (Route (codes "d") true None false false false)
 unfolding clap_on_literals
 of_route_trivial name = refl
 
-pub of_trivial_route : (name : List ℕ) → command_of (name ∷ codes "route" ∷ codes "--trivial" ∷ codes "--device" ∷ codes "d" ∷ []) ≡ Some (Route (codes "d") true false false false)
+pub of_trivial_route : (name : List ℕ) → command_of (name ∷ codes "route" ∷ codes "--trivial" ∷ codes "--device" ∷ codes "d" ∷ []) ≡ Some (Route (codes "d") true None false false false)
 unfolding clap_on_literals
 of_trivial_route name = refl
 
@@ -359,19 +360,19 @@ pub no_device_of_amplitude : (name : List ℕ) → command_of (name ∷ codes "a
 unfolding clap_on_literals
 no_device_of_amplitude name = refl
 
-pub of_route_trace : (name : List ℕ) → command_of (name ∷ codes "route" ∷ codes "--device" ∷ codes "d" ∷ codes "--trace" ∷ []) ≡ Some (Route (codes "d") false true false false)
+pub of_route_trace : (name : List ℕ) → command_of (name ∷ codes "route" ∷ codes "--device" ∷ codes "d" ∷ codes "--trace" ∷ []) ≡ Some (Route (codes "d") false None true false false)
 unfolding clap_on_literals
 of_route_trace name = refl
 
-pub of_trace_route : (name : List ℕ) → command_of (name ∷ codes "route" ∷ codes "--trace" ∷ codes "--device" ∷ codes "d" ∷ []) ≡ Some (Route (codes "d") false true false false)
+pub of_trace_route : (name : List ℕ) → command_of (name ∷ codes "route" ∷ codes "--trace" ∷ codes "--device" ∷ codes "d" ∷ []) ≡ Some (Route (codes "d") false None true false false)
 unfolding clap_on_literals
 of_trace_route name = refl
 
-pub of_trace_trivial : (name : List ℕ) → command_of (name ∷ codes "route" ∷ codes "--device" ∷ codes "d" ∷ codes "--trace" ∷ codes "--trivial" ∷ []) ≡ Some (Route (codes "d") true true false false)
+pub of_trace_trivial : (name : List ℕ) → command_of (name ∷ codes "route" ∷ codes "--device" ∷ codes "d" ∷ codes "--trace" ∷ codes "--trivial" ∷ []) ≡ Some (Route (codes "d") true None true false false)
 unfolding clap_on_literals
 of_trace_trivial name = refl
 
-pub of_trivial_trace : (name : List ℕ) → command_of (name ∷ codes "route" ∷ codes "--device" ∷ codes "d" ∷ codes "--trivial" ∷ codes "--trace" ∷ []) ≡ Some (Route (codes "d") true true false false)
+pub of_trivial_trace : (name : List ℕ) → command_of (name ∷ codes "route" ∷ codes "--device" ∷ codes "d" ∷ codes "--trivial" ∷ codes "--trace" ∷ []) ≡ Some (Route (codes "d") true None true false false)
 unfolding clap_on_literals
 of_trivial_trace name = refl
 
@@ -503,31 +504,31 @@ pub no_keep_before_opt : (name : List ℕ) → command_of (name ∷ codes "--kee
 unfolding clap_on_literals
 no_keep_before_opt name = refl
 
-pub of_route_kept : (name : List ℕ) → command_of (name ∷ codes "route" ∷ codes "--device" ∷ codes "d" ∷ codes "--keep-barriers" ∷ []) ≡ Some (Route (codes "d") false false true false)
+pub of_route_kept : (name : List ℕ) → command_of (name ∷ codes "route" ∷ codes "--device" ∷ codes "d" ∷ codes "--keep-barriers" ∷ []) ≡ Some (Route (codes "d") false None false true false)
 unfolding clap_on_literals
 of_route_kept name = refl
 
-pub of_route_clean : (name : List ℕ) → command_of (name ∷ codes "route" ∷ codes "--device" ∷ codes "d" ∷ codes "--clean" ∷ []) ≡ Some (Route (codes "d") false false false true)
+pub of_route_clean : (name : List ℕ) → command_of (name ∷ codes "route" ∷ codes "--device" ∷ codes "d" ∷ codes "--clean" ∷ []) ≡ Some (Route (codes "d") false None false false true)
 unfolding clap_on_literals
 of_route_clean name = refl
 
-pub of_route_kept_clean : (name : List ℕ) → command_of (name ∷ codes "route" ∷ codes "--device" ∷ codes "d" ∷ codes "--keep-barriers" ∷ codes "--clean" ∷ []) ≡ Some (Route (codes "d") false false true true)
+pub of_route_kept_clean : (name : List ℕ) → command_of (name ∷ codes "route" ∷ codes "--device" ∷ codes "d" ∷ codes "--keep-barriers" ∷ codes "--clean" ∷ []) ≡ Some (Route (codes "d") false None false true true)
 unfolding clap_on_literals
 of_route_kept_clean name = refl
 
-pub of_route_trivial_kept : (name : List ℕ) → command_of (name ∷ codes "route" ∷ codes "--device" ∷ codes "d" ∷ codes "--trivial" ∷ codes "--keep-barriers" ∷ []) ≡ Some (Route (codes "d") true false true false)
+pub of_route_trivial_kept : (name : List ℕ) → command_of (name ∷ codes "route" ∷ codes "--device" ∷ codes "d" ∷ codes "--trivial" ∷ codes "--keep-barriers" ∷ []) ≡ Some (Route (codes "d") true None false true false)
 unfolding clap_on_literals
 of_route_trivial_kept name = refl
 
-pub of_route_trivial_clean : (name : List ℕ) → command_of (name ∷ codes "route" ∷ codes "--device" ∷ codes "d" ∷ codes "--trivial" ∷ codes "--clean" ∷ []) ≡ Some (Route (codes "d") true false false true)
+pub of_route_trivial_clean : (name : List ℕ) → command_of (name ∷ codes "route" ∷ codes "--device" ∷ codes "d" ∷ codes "--trivial" ∷ codes "--clean" ∷ []) ≡ Some (Route (codes "d") true None false false true)
 unfolding clap_on_literals
 of_route_trivial_clean name = refl
 
-pub of_route_trivial_kept_clean : (name : List ℕ) → command_of (name ∷ codes "route" ∷ codes "--device" ∷ codes "d" ∷ codes "--trivial" ∷ codes "--keep-barriers" ∷ codes "--clean" ∷ []) ≡ Some (Route (codes "d") true false true true)
+pub of_route_trivial_kept_clean : (name : List ℕ) → command_of (name ∷ codes "route" ∷ codes "--device" ∷ codes "d" ∷ codes "--trivial" ∷ codes "--keep-barriers" ∷ codes "--clean" ∷ []) ≡ Some (Route (codes "d") true None false true true)
 unfolding clap_on_literals
 of_route_trivial_kept_clean name = refl
 
-pub of_clean_kept_route : (name : List ℕ) → command_of (name ∷ codes "route" ∷ codes "--clean" ∷ codes "--keep-barriers" ∷ codes "--device" ∷ codes "d" ∷ []) ≡ Some (Route (codes "d") false false true true)
+pub of_clean_kept_route : (name : List ℕ) → command_of (name ∷ codes "route" ∷ codes "--clean" ∷ codes "--keep-barriers" ∷ codes "--device" ∷ codes "d" ∷ []) ≡ Some (Route (codes "d") false None false true true)
 unfolding clap_on_literals
 of_clean_kept_route name = refl
 
@@ -682,3 +683,95 @@ no_spares_of_route name = refl
 pub no_spares_of_check : (name : List ℕ) → command_of (name ∷ codes "check" ∷ codes "--spares" ∷ codes "4" ∷ []) ≡ None
 unfolding clap_on_literals digits
 no_spares_of_check name = refl
+
+pub of_route_initial : (name : List ℕ) → command_of (name ∷ codes "route" ∷ codes "--device" ∷ codes "d" ∷ codes "--initial" ∷ codes "2,0,1" ∷ []) ≡ Some (Route (codes "d") false (Some (2 ∷ 0 ∷ 1 ∷ [])) false false false)
+unfolding clap_on_literals digits
+of_route_initial name = refl
+
+pub of_route_initial_equals : (name : List ℕ) → command_of (name ∷ codes "route" ∷ codes "--device" ∷ codes "d" ∷ codes "--initial=1,0" ∷ []) ≡ Some (Route (codes "d") false (Some (1 ∷ 0 ∷ [])) false false false)
+unfolding clap_on_literals digits
+of_route_initial_equals name = refl
+
+pub of_initial_route : (name : List ℕ) → command_of (name ∷ codes "route" ∷ codes "--initial" ∷ codes "3" ∷ codes "--device" ∷ codes "d" ∷ []) ≡ Some (Route (codes "d") false (Some (3 ∷ [])) false false false)
+unfolding clap_on_literals digits
+of_initial_route name = refl
+
+pub of_route_most_initial : (name : List ℕ) → command_of (name ∷ codes "route" ∷ codes "--device" ∷ codes "d" ∷ codes "--initial" ∷ codes "255,10" ∷ []) ≡ Some (Route (codes "d") false (Some (255 ∷ 10 ∷ [])) false false false)
+unfolding clap_on_literals digits
+of_route_most_initial name = refl
+
+pub of_route_initial_trace : (name : List ℕ) → command_of (name ∷ codes "route" ∷ codes "--device" ∷ codes "d" ∷ codes "--initial" ∷ codes "0" ∷ codes "--trace" ∷ []) ≡ Some (Route (codes "d") false (Some (0 ∷ [])) true false false)
+unfolding clap_on_literals digits
+of_route_initial_trace name = refl
+
+pub of_route_initial_kept_clean : (name : List ℕ) → command_of (name ∷ codes "route" ∷ codes "--device" ∷ codes "d" ∷ codes "--initial" ∷ codes "0,1" ∷ codes "--keep-barriers" ∷ codes "--clean" ∷ []) ≡ Some (Route (codes "d") false (Some (0 ∷ 1 ∷ [])) false true true)
+unfolding clap_on_literals digits
+of_route_initial_kept_clean name = refl
+
+pub no_initial_past_the_last : (name : List ℕ) → command_of (name ∷ codes "route" ∷ codes "--device" ∷ codes "d" ∷ codes "--initial" ∷ codes "0,256" ∷ []) ≡ None
+unfolding clap_on_literals digits
+no_initial_past_the_last name = refl
+
+pub no_initial_twice : (name : List ℕ) → command_of (name ∷ codes "route" ∷ codes "--device" ∷ codes "d" ∷ codes "--initial" ∷ codes "1,0,1" ∷ []) ≡ None
+unfolding clap_on_literals digits
+no_initial_twice name = refl
+
+pub no_empty_initial : (name : List ℕ) → command_of (name ∷ codes "route" ∷ codes "--device" ∷ codes "d" ∷ codes "--initial=" ∷ []) ≡ None
+unfolding clap_on_literals digits
+no_empty_initial name = refl
+
+pub no_comma_behind_initial : (name : List ℕ) → command_of (name ∷ codes "route" ∷ codes "--device" ∷ codes "d" ∷ codes "--initial" ∷ codes "0," ∷ []) ≡ None
+unfolding clap_on_literals digits
+no_comma_behind_initial name = refl
+
+pub no_comma_before_initial : (name : List ℕ) → command_of (name ∷ codes "route" ∷ codes "--device" ∷ codes "d" ∷ codes "--initial" ∷ codes ",0" ∷ []) ≡ None
+unfolding clap_on_literals digits
+no_comma_before_initial name = refl
+
+pub no_two_commas_of_initial : (name : List ℕ) → command_of (name ∷ codes "route" ∷ codes "--device" ∷ codes "d" ∷ codes "--initial" ∷ codes "0,,1" ∷ []) ≡ None
+unfolding clap_on_literals digits
+no_two_commas_of_initial name = refl
+
+pub no_leading_zero_of_initial : (name : List ℕ) → command_of (name ∷ codes "route" ∷ codes "--device" ∷ codes "d" ∷ codes "--initial" ∷ codes "0,01" ∷ []) ≡ None
+unfolding clap_on_literals digits
+no_leading_zero_of_initial name = refl
+
+pub no_plus_of_initial : (name : List ℕ) → command_of (name ∷ codes "route" ∷ codes "--device" ∷ codes "d" ∷ codes "--initial" ∷ codes "+1" ∷ []) ≡ None
+unfolding clap_on_literals digits
+no_plus_of_initial name = refl
+
+pub no_letter_as_initial : (name : List ℕ) → command_of (name ∷ codes "route" ∷ codes "--device" ∷ codes "d" ∷ codes "--initial" ∷ codes "0,x" ∷ []) ≡ None
+unfolding clap_on_literals digits
+no_letter_as_initial name = refl
+
+pub no_space_in_initial : (name : List ℕ) → command_of (name ∷ codes "route" ∷ codes "--device" ∷ codes "d" ∷ codes "--initial=0, 1" ∷ []) ≡ None
+unfolding clap_on_literals digits
+no_space_in_initial name = refl
+
+pub no_list_of_initial : (name : List ℕ) → command_of (name ∷ codes "route" ∷ codes "--device" ∷ codes "d" ∷ codes "--initial" ∷ []) ≡ None
+unfolding clap_on_literals digits
+no_list_of_initial name = refl
+
+pub no_second_initial : (name : List ℕ) → command_of (name ∷ codes "route" ∷ codes "--device" ∷ codes "d" ∷ codes "--initial" ∷ codes "0" ∷ codes "--initial" ∷ codes "0" ∷ []) ≡ None
+unfolding clap_on_literals digits
+no_second_initial name = refl
+
+pub no_initial_beside_trivial : (name : List ℕ) → command_of (name ∷ codes "route" ∷ codes "--device" ∷ codes "d" ∷ codes "--trivial" ∷ codes "--initial" ∷ codes "0" ∷ []) ≡ None
+unfolding clap_on_literals digits
+no_initial_beside_trivial name = refl
+
+pub no_trivial_beside_initial : (name : List ℕ) → command_of (name ∷ codes "route" ∷ codes "--device" ∷ codes "d" ∷ codes "--initial" ∷ codes "0" ∷ codes "--trivial" ∷ []) ≡ None
+unfolding clap_on_literals digits
+no_trivial_beside_initial name = refl
+
+pub no_abbreviated_initial : (name : List ℕ) → command_of (name ∷ codes "route" ∷ codes "--device" ∷ codes "d" ∷ codes "--init" ∷ codes "0" ∷ []) ≡ None
+unfolding clap_on_literals digits
+no_abbreviated_initial name = refl
+
+pub no_initial_of_opt : (name : List ℕ) → command_of (name ∷ codes "opt" ∷ codes "--initial" ∷ codes "0" ∷ []) ≡ None
+unfolding clap_on_literals digits
+no_initial_of_opt name = refl
+
+pub no_initial_of_bench : (name : List ℕ) → command_of (name ∷ codes "bench" ∷ codes "--start" ∷ codes "1" ∷ codes "--gates" ∷ codes "1" ∷ codes "--device" ∷ codes "d" ∷ codes "--initial" ∷ codes "0" ∷ []) ≡ None
+unfolding clap_on_literals digits
+no_initial_of_bench name = refl

@@ -7,6 +7,7 @@
 --   check_command       the subcommand `check`, which takes no argument
 --   stages_command      the subcommand `stages`, which takes `--spares`
 --   traced_command      the subcommand `route` with `--device`, `--trivial` and `--trace`
+--   placed_command      .. and with `--initial`
 --   route_command       .. and with `--keep-barriers` and `--clean`, so with all that it takes
 --   bench_command       the subcommand `bench`, which takes `--start`, `--gates` and `--device`
 --   amplitude_command   the subcommand `amplitude`, which takes `--from` and `--to`
@@ -21,7 +22,14 @@
 --   is_traced rows      whether `--trace` was matched
 --   is_kept rows        whether `--keep-barriers` was matched
 --   is_cleaned rows     whether `--clean` was matched
---   clashes rows        `--trace` was matched, and one of the two flags that have no trace
+--   clashes_with_trace rows   `--trace` was matched, and one of the two flags that have no trace
+--   has_initial rows    whether a text was matched behind `--initial`
+--   clashes rows        what has no trace was matched beside `--trace`, or `--initial` beside `--trivial`
+--   pieces text         the texts between the commas
+--   numbers_behind ns ts   the numbers up to 255 whose decimal digits the texts are, behind others; none where a text is no such
+--                       number, or one that stands before it
+--   qubits_of text      the list of qubits that the text spells: different ones, with commas between their numbers
+--   initial_of rows     the list behind `--initial`, `Some None` without one; none where the text spells none
 --   route_of rows       what `route` asks for, with what was matched
 --   number_of a b text  the number from a to b whose decimal digits the text is, none where there is none
 --   start_of rows       the number behind `--start`, 0 to 4294967295
@@ -39,11 +47,11 @@
 --   verify_of rows      what `verify` asks for, with what was matched
 --   meaning name rows   what the subcommand of this name asks for, with what it matched
 --   command_of words    the command that the words mean, the program's name first; none where they mean none
---   IsAllowed c         `bench` has 1 to 20000 gates, `route` no trace beside kept barriers or cleaning, and there are 1 to 255 spare
---                       wires where there are any
-use Rattle.std.specs.Prelude.{◌≡◌, ℕ, List, ◌==◌, ◌≤◌, ◌&&◌, ◌||◌, Bool, true, false, Option, Some, None, IfSome, if◌then◌else◌, codes, decimal, is_some, length, map, nat_le, option_map, option_and_then}
+--   IsAllowed c         `bench` has 1 to 20000 gates, `route` no trace beside kept barriers or cleaning and different qubits in
+--                       its list, and there are 1 to 255 spare wires where there are any
+use Rattle.std.specs.Prelude.{◌≡◌, ℕ, List, ◌==◌, ◌≤◌, ◌&&◌, ◌||◌, Bool, true, false, Option, Some, None, IfSome, if◌then◌else◌, [], ◌∷◌, ◌++◌, codes, decimal, is_some, length, map, nat_eq, nat_le, option_map, option_and_then}
 use Rattle.std.specs.Option.{option_map_or}
-use Rattle.std.specs.List.{list_all}
+use Rattle.std.specs.List.{IsDistinct, list_all, list_any, slice_split}
 use Rattle.std.specs.Str.{bytes_eq}
 use Rattle.std.specs.Str.Parse.{digits_value}
 use Rattle.clap.specs.Simple.{on_top}
@@ -91,8 +99,11 @@ abbrev pub traced_command : App
 traced_command = with_rule (with_rule (with_rule (new_app (codes "route")) (needed_option (codes "device"))) (flag (codes "trivial")))
     (flag (codes "trace"))
 
+abbrev pub placed_command : App
+placed_command = with_rule traced_command (optional (codes "initial"))
+
 abbrev pub route_command : App
-route_command = with_rule (with_rule traced_command (flag (codes "keep-barriers"))) (flag (codes "clean"))
+route_command = with_rule (with_rule placed_command (flag (codes "keep-barriers"))) (flag (codes "clean"))
 
 abbrev pub bench_command : App
 bench_command = with_rule (with_rule (with_rule (new_app (codes "bench")) (needed_option (codes "start"))) (needed_option (codes "gates")))
@@ -136,17 +147,40 @@ abbrev pub is_cleaned : List Row → Bool
 is_cleaned rows = is_given (codes "clean") rows
 
 -- a trace is of the whole program, as the router leaves it
-abbrev pub clashes : List Row → Bool
-clashes rows = is_traced rows && (is_kept rows || is_cleaned rows)
+abbrev pub clashes_with_trace : List Row → Bool
+clashes_with_trace rows = is_traced rows && (is_kept rows || is_cleaned rows)
 
-abbrev pub route_of : List Row → Option Command
-route_of rows = if clashes rows then None
-    else option_map (λ device. Route device (is_trivial rows) (is_traced rows) (is_kept rows) (is_cleaned rows)) (device_of rows)
+abbrev pub has_initial : List Row → Bool
+has_initial rows = is_some (first_of (codes "initial") rows)
+
+-- the wires begin in one way
+abbrev pub clashes : List Row → Bool
+clashes rows = clashes_with_trace rows || (is_trivial rows && has_initial rows)
 
 -- only the value of the digits can be this number, and its decimal digits have to be the text
 abbrev pub number_of : ℕ → ℕ → Text → Option ℕ
 number_of least most text = let n = digits_value 10 text in
     if bytes_eq text (decimal n) && (nat_le least n && nat_le n most) then Some n else None
+
+-- 44 is the comma
+abbrev pub pieces : Text → List Text
+pieces text = slice_split (λ c. c == 44) text
+
+abbrev pub numbers_behind : List ℕ → List Text → Option (List ℕ)
+numbers_behind ns [] = Some ns
+numbers_behind ns (t ∷ ts) = option_and_then (λ n. if list_any (λ q. nat_eq q n) ns then None else numbers_behind (ns ++ n ∷ []) ts)
+    (number_of 0 255 t)
+
+abbrev pub qubits_of : Text → Option (List ℕ)
+qubits_of text = numbers_behind [] (pieces text)
+
+abbrev pub initial_of : List Row → Option (Option (List ℕ))
+initial_of rows = option_map_or (λ t. option_map Some (qubits_of t)) (first_of (codes "initial") rows) (Some None)
+
+abbrev pub route_of : List Row → Option Command
+route_of rows = if clashes rows then None
+    else option_and_then (λ device. option_map (λ initial. Route device (is_trivial rows) initial (is_traced rows) (is_kept rows)
+    (is_cleaned rows)) (initial_of rows)) (device_of rows)
 
 abbrev pub start_of : List Row → Option ℕ
 start_of rows = option_and_then (number_of 0 4294967295) (first_of (codes "start") rows)
@@ -214,7 +248,8 @@ command_of words = if length (fault_of qroute_command words) == 0
 abbrev pub IsAllowed : Command → Type 0
 IsAllowed (Opt kept) = Unit {0}
 IsAllowed (OptWithSpares m) = (1 ≤ m) × (m ≤ 255)
-IsAllowed (Route device trivial trace kept clean) = trace ≡ true → (kept ≡ false) × (clean ≡ false)
+IsAllowed (Route device trivial initial trace kept clean) = (trace ≡ true → (kept ≡ false) × (clean ≡ false))
+    × IfSome initial (IsDistinct nat_eq)
 IsAllowed Check = Unit {0}
 IsAllowed (Stages o) = IfSome o (λ m. (1 ≤ m) × (m ≤ 255))
 IsAllowed (Amplitude from to) = Unit {0}

@@ -1,6 +1,7 @@
 -- What a command asks of its surroundings.
 --   reads_input c     it reads the program from the input
 --   device_name c     the name of the device that it loads, if it loads one
+--   initial_list c    the list of the qubits on which the wires begin, if it gives one
 --   writes_out c      it writes to the output
 --   writes_report c   it writes a line of its own to the report; faults are told there by every command
 --   keeps_barriers c  it keeps the program's barriers
@@ -15,7 +16,7 @@ use Rattle.command_line.specs.declared.commands.Command.TheVariants.{Opt, OptWit
 abbrev pub reads_input : Command → Bool
 reads_input (Opt kept) = true
 reads_input (OptWithSpares m) = true
-reads_input (Route name trivial trace kept clean) = true
+reads_input (Route name trivial initial trace kept clean) = true
 reads_input Check = true
 reads_input (Stages spares) = true
 reads_input (Bench start gates name) = false
@@ -25,17 +26,27 @@ reads_input (Verify source target) = false
 abbrev pub device_name : Command → Option (List ℕ)
 device_name (Opt kept) = None
 device_name (OptWithSpares m) = None
-device_name (Route name trivial trace kept clean) = Some name
+device_name (Route name trivial initial trace kept clean) = Some name
 device_name Check = None
 device_name (Stages spares) = None
 device_name (Bench start gates name) = Some name
 device_name (Amplitude from to) = None
 device_name (Verify source target) = None
 
+abbrev pub initial_list : Command → Option (List ℕ)
+initial_list (Opt kept) = None
+initial_list (OptWithSpares m) = None
+initial_list (Route name trivial initial trace kept clean) = initial
+initial_list Check = None
+initial_list (Stages spares) = None
+initial_list (Bench start gates name) = None
+initial_list (Amplitude from to) = None
+initial_list (Verify source target) = None
+
 abbrev pub writes_out : Command → Bool
 writes_out (Opt kept) = true
 writes_out (OptWithSpares m) = true
-writes_out (Route name trivial trace kept clean) = true
+writes_out (Route name trivial initial trace kept clean) = true
 writes_out Check = false
 writes_out (Stages spares) = true
 writes_out (Bench start gates name) = true
@@ -45,7 +56,7 @@ writes_out (Verify source target) = true
 abbrev pub writes_report : Command → Bool
 writes_report (Opt kept) = true
 writes_report (OptWithSpares m) = true
-writes_report (Route name trivial trace kept clean) = true
+writes_report (Route name trivial initial trace kept clean) = true
 writes_report Check = true
 writes_report (Stages spares) = false
 writes_report (Bench start gates name) = true
@@ -55,7 +66,7 @@ writes_report (Verify source target) = false
 abbrev pub keeps_barriers : Command → Bool
 keeps_barriers (Opt kept) = kept
 keeps_barriers (OptWithSpares m) = false
-keeps_barriers (Route name trivial trace kept clean) = kept
+keeps_barriers (Route name trivial initial trace kept clean) = kept
 keeps_barriers Check = false
 keeps_barriers (Stages spares) = false
 keeps_barriers (Bench start gates name) = false
@@ -69,7 +80,7 @@ pub data Question : Type 0 where
 abbrev pub question_of : Command → Option Question
 question_of (Opt kept) = None
 question_of (OptWithSpares m) = Some (Spares m)
-question_of (Route name trivial trace kept clean) = None
+question_of (Route name trivial initial trace kept clean) = None
 question_of Check = None
 question_of (Stages spares) = None
 question_of (Bench start gates name) = None
@@ -79,7 +90,7 @@ question_of (Verify source target) = None
 abbrev pub asked_texts : Command → Option (List ℕ × List ℕ)
 asked_texts (Opt kept) = None
 asked_texts (OptWithSpares m) = None
-asked_texts (Route name trivial trace kept clean) = None
+asked_texts (Route name trivial initial trace kept clean) = None
 asked_texts Check = None
 asked_texts (Stages spares) = None
 asked_texts (Bench start gates name) = None

@@ -2,6 +2,7 @@
 
 use crate::bits::BitList;
 use crate::name::Name;
+use crate::qubits::QubitList;
 use std::alloc::AllocError;
 use thiserror::Error;
 
@@ -24,6 +25,8 @@ pub enum Command {
         device: Name,
         /// Whether the wires begin on the qubits of their own numbers.
         trivial: bool,
+        /// The qubits on which the wires begin, if they are given: different ones, up to 255.
+        initial: Option<QubitList>,
         /// Whether the trace that shows it is written behind it.
         trace: bool,
         /// Whether the program's barriers are kept.

@@ -2,20 +2,22 @@
 //!
 //! The words of a command line go in, the program's name first; the command that they mean comes out. `clap` reads them: one
 //! level of subcommands, of which one has to be there, and no help. A number is its decimal digits alone, without a sign or a
-//! leading zero, and in the range of its option; bits are the digits 0 and 1, as many as there are. A trace is asked for
+//! leading zero, and in the range of its option; bits are the digits 0 and 1, as many as there are; a list of qubits is numbers
+//! up to 255 with commas between them, none of them twice. A trace is asked for
 //! neither beside kept barriers nor beside cleaning, and spare wires of `opt` not beside kept barriers. The contract of
 //! `command` says that the answer is the command of the words by `clap`'s own definitions, and that words are refused
 //! exactly where they mean none.
 
-ghost use Rattle.std.specs.Prelude.{◌≡◌, ◌==◌, IfOk, IsErrOf, Some, None, map, false, option_and_then};
-ghost use Rattle.std.specs.List.{list_all};
+ghost use Rattle.std.specs.Prelude.{◌≡◌, ◌==◌, [], IfOk, IfSome, IsErrOf, Some, None, map, false, nat_eq, option_and_then};
+ghost use Rattle.std.specs.List.{IsDistinct, list_all};
 ghost use Rattle.clap.specs.Words.{app_of, first_of, found_of, kind_of, rows_of, rule_of};
 ghost use Rattle.clap.specs.declared.builder.Command.TheViews.{out-Command as fields_of};
-ghost use Rattle.command_line.specs.Commands.{IsAllowed, amplitude_command, amplitude_of, bench_command, bench_of, bits_of, check_command, clashes, command_of, device_commands, entry_commands, flag, has_spares, is_bit, is_given, meaning, needed_option, number_of, opt_command, opt_of, optional, plain_commands, qroute_command, root_command, route_command, route_of, stages_command, stages_of, traced_command, verify_command, verify_of};
+ghost use Rattle.command_line.specs.Commands.{IsAllowed, amplitude_command, amplitude_of, bench_command, bench_of, bits_of, check_command, clashes, clashes_with_trace, command_of, device_commands, entry_commands, flag, has_initial, has_spares, initial_of, is_bit, is_given, meaning, needed_option, number_of, numbers_behind, opt_command, opt_of, optional, pieces, placed_command, plain_commands, qroute_command, qubits_of, root_command, route_command, route_of, stages_command, stages_of, traced_command, verify_command, verify_of};
 
 use crate::bits::BitList;
 use crate::commands::{self, WordsFault};
 use crate::name::Name;
+use crate::qubits::QubitList;
 use clap::error::ErrorKind;
 use clap::{Arg, ArgAction, ArgMatches, Command, Error};
 use std::alloc::{AllocError, Global};
@@ -94,12 +96,20 @@ fn traced_command<'a>(alloc: Global) -> Result<Command<'a>, AllocError>
         .arg(flag(alloc, "trace"))
 }
 
-/// `route`, which takes a device and four flags.
+/// `route` with a device, two flags, and a list of qubits where one is given.
+fn placed_command<'a>(alloc: Global) -> Result<Command<'a>, AllocError>
+    ensures command { IfOk result (λ c. app_of c ≡ placed_command) }
+    ensures local { IfOk result (λ c. (fields_of c).has_globals ≡ false) }
+{
+    traced_command(alloc)?.arg(optional(alloc, "initial"))
+}
+
+/// `route`, which takes a device, four flags, and a list of qubits where one is given.
 fn route_command<'a>(alloc: Global) -> Result<Command<'a>, AllocError>
     ensures command { IfOk result (λ c. app_of c ≡ route_command) }
     ensures local { IfOk result (λ c. (fields_of c).has_globals ≡ false) }
 {
-    traced_command(alloc)?
+    placed_command(alloc)?
         .arg(flag(alloc, "keep-barriers"))?
         .arg(flag(alloc, "clean"))
 }
@@ -193,10 +203,74 @@ fn is_given(matches: &ArgMatches<'_>, id: &str) -> bool
 }
 
 /// Whether a trace is asked for, and besides it what has none.
+fn clashes_with_trace(matches: &ArgMatches<'_>) -> bool
+    ensures { result ≡ clashes_with_trace (rows_of (found_of matches.now)) }
+{
+    is_given(matches, "trace") && (is_given(matches, "keep-barriers") || is_given(matches, "clean"))
+}
+
+/// Whether a list of qubits is given.
+fn has_initial(matches: &ArgMatches<'_>) -> bool
+    ensures { result ≡ has_initial (rows_of (found_of matches.now)) }
+{
+    matches.get_str("initial").is_some()
+}
+
+/// Whether what is asked for of `route` isn't to be had together.
 fn clashes(matches: &ArgMatches<'_>) -> bool
     ensures { result ≡ clashes (rows_of (found_of matches.now)) }
 {
-    is_given(matches, "trace") && (is_given(matches, "keep-barriers") || is_given(matches, "clean"))
+    clashes_with_trace(matches) || (is_given(matches, "trivial") && has_initial(matches))
+}
+
+/// The texts between the commas of a text.
+fn pieces<'a>(alloc: Global, text: &'a str) -> Result<Vec<&'a str>, AllocError>
+    ensures { IfOk result (λ v. map (λ t. t.now) v.items ≡ pieces text.now) }
+{
+    text.split(',').collect(alloc)
+}
+
+/// The different numbers up to 255 that some texts are.
+
+fn numbers(alloc: Global, texts: &[&str]) -> Result<Option<QubitList>, AllocError>
+    ensures value { IfOk result (λ o. o ≡ numbers_behind [] (map (λ t. t.now) texts.now)) }
+    ensures distinct { IfOk result (λ o. IfSome o (IsDistinct nat_eq)) }
+{
+    let mut list: Vec<u32> = Vec::new(alloc);
+    'texts: for text in texts {
+        let Some(qubit) = number(text, 0, 255) else {
+            return Ok(None);
+        };
+        if list.contains(&qubit) {
+            return Ok(None);
+        }
+        list.push(qubit)?;
+    }
+    Ok(Some(QubitList::new(list)))
+}
+
+/// The qubits whose list a text is.
+fn qubits(alloc: Global, text: &str) -> Result<Option<QubitList>, AllocError>
+    ensures value { IfOk result (λ o. o ≡ qubits_of text.now) }
+    ensures distinct { IfOk result (λ o. IfSome o (IsDistinct nat_eq)) }
+{
+    let pieces = pieces(alloc, text)?;
+    numbers(alloc, &pieces)
+}
+
+/// The qubits behind `--initial`, if there is one.
+fn initial_of(alloc: Global, matches: &ArgMatches<'_>) -> Result<Option<QubitList>, WordsFault>
+    ensures ok { IfOk result (λ o. initial_of (rows_of (found_of matches.now)) ≡ Some o) }
+    ensures bad { IsErrOf result WordsFault.BadWords → initial_of (rows_of (found_of matches.now)) ≡ None }
+    ensures distinct { IfOk result (λ o. IfSome o (IsDistinct nat_eq)) }
+{
+    let Some(text) = matches.get_str("initial") else {
+        return Ok(None);
+    };
+    match qubits(alloc, text)? {
+        None => Err(WordsFault::BadWords),
+        given => Ok(given),
+    }
 }
 
 /// What `route` with its matches asks for.
@@ -214,6 +288,7 @@ fn route_of(alloc: Global, matches: &ArgMatches<'_>) -> Result<commands::Command
     Ok(commands::Command::Route {
         device,
         trivial: is_given(matches, "trivial"),
+        initial: initial_of(alloc, matches)?,
         trace: is_given(matches, "trace"),
         keep_barriers: is_given(matches, "keep-barriers"),
         clean: is_given(matches, "clean"),
