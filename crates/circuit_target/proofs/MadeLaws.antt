@@ -218,18 +218,18 @@ legs-together keep clean d s rs ms t cut all bars a o routed fits wires last swa
     (omega (arith, fits, wires)) last (t_gates-legs d clean s.wires t.initial parts (gates_of rs) legs)
     (omega (arith, cx, swaps, parts-swaps s.cut.parts ms many, ap cx_count (targets-target s ms t many a.gates), ap cx_count (sources-source s ms many all)))
 
-pub Stands-routed : (keep trivial clean : Bool) (d : Coupling) (s : Program) (rs : List Rewritten) (ms : List PartTarget) (t : Target) → IsCut s.cut
+pub Stands-routed : (keep clean : Bool) (chosen : Option (List ℕ)) (d : Coupling) (s : Program) (rs : List Rewritten) (ms : List PartTarget) (t : Target) → IsCut s.cut
     → whole s.cut.parts ≡ s.ops → All (IsBar s.wires) s.cut.bars → IsAssembled keep s ms t → AllZip (λ us r. IsOptimised s.wires us r.passed) s.cut.parts rs
     → AllZip (λ us r. IfSome r.steps (HasSteps s.wires us r.passed)) s.cut.parts rs
     → (s.cut ≡ uncut s.ops) × (clean ≡ false) ⊎ All (λ r. r.steps ≡ None) rs → AreRoutedParts d clean t.initial rs ms → s.wires ≤ d.size
     → t.body.wires ≡ d.size → t.last ≡ last_of t.initial ms → t.swaps ≡ sum_by (λ (m : PartTarget). m.swaps) ms
-    → (trivial ≡ true → t.initial ≡ identity d.size) → (trivial ≡ false → IsLayout d (whole (gates_of rs)) t.initial)
+    → IfSome chosen (λ p. t.initial ≡ p) → (is_some chosen ≡ false → IsLayout d (whole (gates_of rs)) t.initial)
     → (k : ℕ) → IsDiameter d.size d.edges (cost d) k → t.cost ≡ told_cost d (ops t.body.gates)
     → (clean ≡ false → AreTraced d t.initial rs ms t.trace.items) → (All (λ r. r.steps ≡ None) rs → t.trace.items ≡ [])
     → length s.ops ≤ most_operations → All (IsFineOp s.wires) s.ops → t.spares ≡ None
-    → Stands s keep (are_told rs) (IsOnQubits d trivial clean s) t
-Stands-routed keep trivial clean d s rs ms t cut all bars a o steps which routed fits wires last swaps begins laid_out k diameter cost traced silent few fine alone =
-    Stands-legs keep (are_told rs) trivial clean d s ms (gates_of rs) t (legs-together keep clean d s rs ms t cut all bars a o routed fits wires last swaps)
+    → Stands s keep (are_told rs) (IsOnQubits d chosen clean s) t
+Stands-routed keep clean chosen d s rs ms t cut all bars a o steps which routed fits wires last swaps begins laid_out k diameter cost traced silent few fine alone =
+    Stands-legs keep (are_told rs) clean chosen d s ms (gates_of rs) t (legs-together keep clean d s rs ms t cut all bars a o routed fits wires last swaps)
     (AreLegs-routed d clean s.wires t.initial s.cut.parts rs ms fits o routed) wires swaps begins laid_out k diameter cost
     (λ told r. IsOwnTrace-parts d clean s rs ms t told o steps which routed traced silent few fine a.gates wires last a.turn r) alone
 
@@ -306,12 +306,12 @@ cost-few clean d s first rs ms gs k all o routed fits diameter short size few ga
     )
 
 -- ---- what is asked for
-pub Stands-asked : {E : Type 0} (d : Coupling) (s : Program) (x : Result Target E) (rs ss : List Rewritten) (keep trivial clean trace : Bool) → ss ≡ rs
+pub Stands-asked : {E : Type 0} (d : Coupling) (s : Program) (x : Result Target E) (rs ss : List Rewritten) (keep clean trace : Bool) (chosen : Option (List ℕ)) → ss ≡ rs
     → IsCut s.cut → AllZip (λ us r. IsOptimised s.wires us r.passed) s.cut.parts rs → All (λ r. is_some r.steps ≡ trace) rs
-    → IfOk x (Stands s keep (are_told ss) (IsOnQubits d trivial clean s)) → IfOk x (Stands s keep trace (IsOnQubits d trivial clean s))
-Stands-asked d s x rs ss keep trivial clean trace same cut o asked stands =
+    → IfOk x (Stands s keep (are_told ss) (IsOnQubits d chosen clean s)) → IfOk x (Stands s keep trace (IsOnQubits d chosen clean s))
+Stands-asked d s x rs ss keep clean trace chosen same cut o asked stands =
     let told : are_told ss ≡ trace = ap are_told same ∙ told_asked rs trace (some-rewritten s.wires s.cut rs cut o) asked in
-    subst (λ b. IfOk x (Stands s keep b (IsOnQubits d trivial clean s))) told stands
+    subst (λ b. IfOk x (Stands s keep b (IsOnQubits d chosen clean s))) told stands
 
 none_told : (o : Option (List Step)) → is_some o ≡ false → o ≡ None
 none_told None e = refl

@@ -5,7 +5,7 @@
 --   IsPutTogether          what is known of a source and of the parts that are written for it
 --   StandsFor-put_together, Stands-still, Stands-legs   then the target stands for the source
 use Rattle.std.proofs.Common.{◌≡◌, inl, inr, ℕ, ◌+◌, ◌*◌, ◌%◌, ◌<◌, ◌≤◌, Bool, true, false, List, ◌∷◌, None, All, length, map, refl, sym, ap, ◌∙◌, subst, []}
-use Rattle.std.specs.Prelude.{sum_by}
+use Rattle.std.specs.Prelude.{Option, IfSome, is_some, sum_by}
 use Rattle.std.specs.List.{AllByRecursion, AllZip}
 use Rattle.std.proofs.lemmas.List.{length-map}
 use Rattle.std.proofs.lemmas.List.Elements.{All-from_recursion, recursion_from_All}
@@ -187,13 +187,13 @@ Stands-still keep s ms t is still wires swaps initial last cost trace alone = re
     each [] f h = tt
     each (p ∷ ps) f h = (f p h.0, each ps f h.1)
 
-pub Stands-legs : (keep traced trivial clean : Bool) (d : Coupling) (s : Program) (ms : List PartTarget) (lists : List (List Gate)) (t : Target)
+pub Stands-legs : (keep traced clean : Bool) (chosen : Option (List ℕ)) (d : Coupling) (s : Program) (ms : List PartTarget) (lists : List (List Gate)) (t : Target)
     → IsPutTogether keep s ms t → AreLegs d clean s.wires t.initial (parts_of s.cut.parts ms) lists
-    → t.body.wires ≡ d.size → t.swaps ≡ sum_by (λ (m : PartTarget). m.swaps) ms → (trivial ≡ true → t.initial ≡ identity d.size)
-    → (trivial ≡ false → IsLayout d (whole lists) t.initial) → (k : ℕ) → IsDiameter d.size d.edges (cost d) k → t.cost ≡ told_cost d (ops t.body.gates)
+    → t.body.wires ≡ d.size → t.swaps ≡ sum_by (λ (m : PartTarget). m.swaps) ms → IfSome chosen (λ p. t.initial ≡ p)
+    → (is_some chosen ≡ false → IsLayout d (whole lists) t.initial) → (k : ℕ) → IsDiameter d.size d.edges (cost d) k → t.cost ≡ told_cost d (ops t.body.gates)
     → ((told : Report) → IsTold t told → IsOwnTrace traced s (target_program s t) told t.trace.items)
-    → t.spares ≡ None → Stands s keep traced (IsOnQubits d trivial clean s) t
-Stands-legs keep traced trivial clean d s ms lists t is legs wires swaps placed laid_out k diameter cost trace alone =
+    → t.spares ≡ None → Stands s keep traced (IsOnQubits d chosen clean s) t
+Stands-legs keep traced clean chosen d s ms lists t is legs wires swaps placed laid_out k diameter cost trace alone =
     let parts = parts_of s.cut.parts ms in
     let sum : t.swaps ≡ sum_by (λ (p : Part). p.swaps) parts = swaps ∙ sym (parts-swaps s.cut.parts ms is.many) in
     let targets_are = targets-target s ms t is.many is.assembled.gates in
@@ -204,7 +204,7 @@ Stands-legs keep traced trivial clean d s ms lists t is legs wires swaps placed 
       placed = λ told r. record {
         qubits = wires;
         edges = subst (FollowsEdges d.edges) targets_are (FollowsEdges-legs d clean s.wires t.initial parts lists legs);
-        placed = λ e. r.initial ∙ placed e ∙ sym (ap identity wires);
+        placed = subst (λ p. IfSome chosen (λ q. p ≡ q)) (sym r.initial) placed;
         runs = record {
           lists = lists;
           runs = subst (λ p. AreRuns d clean s.wires p parts lists) (sym r.initial) (AreRuns-legs d clean s.wires t.initial parts lists legs);

@@ -6,8 +6,9 @@
 --   IsOwnTrace traced source target told trace   where a trace is asked for, it proves that the target realises the source, from and
 --                               to the reported placements and up to the reported power; else it is empty
 --   IsInPlace source ..         no wire moves, and each part is settled
---   IsOnQubits device ..        the qubits are the device's, and what is written is the routing machine's run
-use Rattle.std.specs.Prelude.{◌≡◌, ℕ, ◌+◌, ◌*◌, ◌%◌, ◌≤◌, Bool, true, false, List, Option, None, All, map, option_map, slice_index, sum_by, []}
+--   IsOnQubits device chosen ..   the qubits are the device's, and what is written is the routing machine's run, from the chosen
+--                               placement on, if there is one
+use Rattle.std.specs.Prelude.{◌≡◌, ℕ, ◌+◌, ◌*◌, ◌%◌, ◌≤◌, Bool, true, false, List, Option, None, IfSome, All, is_some, map, option_map, slice_index, sum_by, []}
 use Rattle.std.specs.List.{AllByRecursion}
 use Rattle.coupling_map.specs.Coupling.{Coupling}
 use Rattle.coupling_map.specs.Edges.{FollowsEdges}
@@ -59,13 +60,13 @@ pub record IsInPlace (source target : Program) (parts : List Part) (told : Repor
   pub stay : AllByRecursion (λ p. p.last ≡ identity source.wires) parts
   pub settled : AllByRecursion (λ p. IsSettled source.wires p.target) parts
 
--- the qubits are a device's, each CNOT follows an edge, what is written for each part is the routing machine's run, cleaned where
--- `clean` says so, with few swaps, and where the device lists costs of edges, the line tells what the CNOTs cost
-pub record IsOnQubits (device : Coupling) (trivial clean : Bool) (source target : Program) (parts : List Part) (told : Report) : Type 0 where
+-- the qubits are a device's, the wires begin at the placement that is chosen, if one is, and else at the layout, each CNOT follows an
+-- edge, what is written for each part is the routing machine's run, cleaned where `clean` says so, with few swaps, and where the device lists costs of edges, the line tells what the CNOTs cost
+pub record IsOnQubits (device : Coupling) (chosen : Option (List ℕ)) (clean : Bool) (source target : Program) (parts : List Part) (told : Report) : Type 0 where
   pub qubits : target.wires ≡ device.size
   pub edges : FollowsEdges device.edges target.ops
-  pub placed : trivial ≡ true → told.initial ≡ identity target.wires
-  pub runs : AreMachineRuns device trivial clean source.wires told.initial parts
+  pub placed : IfSome chosen (λ p. told.initial ≡ p)
+  pub runs : AreMachineRuns device (is_some chosen) clean source.wires told.initial parts
   pub sum : told.swaps ≡ sum_by (λ p. p.swaps) parts
   pub swaps : HasFewSwaps device source.ops target.ops told.swaps
   pub cost : told.cost ≡ told_cost device target.ops

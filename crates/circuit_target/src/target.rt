@@ -200,24 +200,24 @@ fn layout_of(
     layout(alloc, &body, device)
 }
 
-/// The qubits on which the wires begin: those of the layout, or for a trivial placement those of their own numbers.
+/// The qubits on which the wires begin: those of the chosen placement, or else of the layout.
 fn first_placement(
     alloc: Global,
     wires: u32,
     rewritten: &[Rewritten],
     device: &Device,
-    trivial: bool,
+    chosen: Option<Placement>,
 ) -> Result<Placement, AllocError>
     requires each { All (λ r. r.passed.body.wires ≡ wires) rewritten.now }
     requires fits { wires ≤ device.now.size }
+    requires chosen { IfSome chosen (λ p. length p ≡ device.now.size) }
     ensures placed { IfOk result (λ p. length p ≡ device.now.size) }
-    ensures trivial { IfOk result (λ p. trivial ≡ true → p ≡ identity device.now.size) }
-    ensures laid_out { IfOk result (λ p. trivial ≡ false → IsLayout device.now (whole (gates_of rewritten.now)) p) }
+    ensures chosen { IfOk result (λ p. IfSome chosen (λ q. p ≡ q)) }
+    ensures laid_out { IfOk result (λ p. is_some chosen ≡ false → IsLayout device.now (whole (gates_of rewritten.now)) p) }
 {
-    if trivial {
-        Placement::identity(alloc, device.size())
-    } else {
-        layout_of(alloc, wires, rewritten, device)
+    match chosen {
+        Some(placement) => Ok(placement),
+        None => layout_of(alloc, wires, rewritten, device),
     }
 }
 
@@ -420,7 +420,7 @@ fn on_device<T: RunTraces>(
     source: &PartedProgram,
     rewritten: &[Rewritten],
     device: &Device,
-    trivial: bool,
+    chosen: Option<Placement>,
     keep: bool,
     clean: bool,
 ) -> Result<Target, AllocError>
@@ -428,7 +428,8 @@ fn on_device<T: RunTraces>(
     requires steps { AllZip (λ us r. IfSome r.steps (HasSteps source.now.wires us r.passed)) source.now.cut.parts rewritten.now }
     requires silent { (source.now.cut ≡ uncut source.now.ops) × (clean ≡ false) ⊎ All (λ r. r.steps ≡ None) rewritten.now }
     requires fits { source.now.wires ≤ device.now.size }
-    ensures stands { IfOk result (Stands source.now keep (are_told rewritten.now) (IsOnQubits device.now trivial clean source.now)) }
+    requires chosen { IfSome chosen (λ p. length p ≡ device.now.size) }
+    ensures stands { IfOk result (Stands source.now keep (are_told rewritten.now) (IsOnQubits device.now chosen clean source.now)) }
     ensures fit { IfOk result (IsFit source.now) }
 {
     source.facts();
@@ -436,7 +437,7 @@ fn on_device<T: RunTraces>(
     device.facts();
     let size = device.size();
     let _diameter = device.diameter();
-    let given = first_placement(alloc, source.wires(), rewritten, device, trivial)?;
+    let given = first_placement(alloc, source.wires(), rewritten, device, chosen)?;
     let initial = given.copy()?;
     let Legs { made, last, trace } = routed_parts(alloc, traces, rewritten, device, given, clean)?;
     let lengths = lengths_of(alloc, &made)?;
@@ -464,8 +465,6 @@ fn on_device<T: RunTraces>(
 /// What is asked of a program that is written on a device.
 #[derive(Clone, Copy, Debug)]
 pub struct Wishes {
-    /// The wires begin on the qubits of their own numbers.
-    pub trivial: bool,
     /// The trace that shows it is written behind it.
     pub trace: bool,
     /// The report tells of its parts, as its barriers are kept.
@@ -474,17 +473,20 @@ pub struct Wishes {
     pub clean: bool,
 }
 
-/// The circuit on the qubits of a device, after all passes, as it is asked for. Fails for want of memory alone.
+/// The circuit on the qubits of a device, after all passes, as it is asked for: the wires begin at the chosen placement, or else at
+/// the layout. Fails for want of memory alone.
 pub fn routed<T: RunTraces>(
     alloc: Global,
     traces: &T,
     source: &PartedProgram,
     device: &Device,
+    chosen: Option<Placement>,
     wishes: Wishes,
 ) -> Result<Target, AllocError>
     requires fits { source.now.wires ≤ device.now.size }
+    requires chosen { IfSome chosen (λ p. length p ≡ device.now.size) }
     requires traced { wishes.trace ≡ true → (source.now.cut ≡ uncut source.now.ops) × (wishes.clean ≡ false) }
-    ensures stands { IfOk result (Stands source.now wishes.keep wishes.trace (IsOnQubits device.now wishes.trivial wishes.clean source.now)) }
+    ensures stands { IfOk result (Stands source.now wishes.keep wishes.trace (IsOnQubits device.now chosen wishes.clean source.now)) }
     ensures fit { IfOk result (IsFit source.now) }
 {
     source.facts();
@@ -495,7 +497,7 @@ pub fn routed<T: RunTraces>(
         source,
         &rewritten,
         device,
-        wishes.trivial,
+        chosen,
         wishes.keep,
         wishes.clean,
     )

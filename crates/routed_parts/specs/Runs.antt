@@ -4,8 +4,8 @@
 --   IsMachineRun d clean n first p gates   the part is what is left of the machine's run on the device d over these settled gates on n
 --                                       wires, which stand for its source, from the placement `first` on
 --   AreRuns d clean n first parts lists each part is so, from where the last one ended
---   AreMachineRuns d trivial clean n first parts   they are so over some lists, and begin at the layout of all of them one after the
---                                       other, unless the placement is trivial
+--   AreMachineRuns d chosen clean n first parts   they are so over some lists, and begin at the layout of all of them one after the
+--                                       other, unless another placement is chosen
 --   HasFewSwaps d S us swaps            for each CNOT of S at most as many swaps as the qubits and the diameter, or twice as many as
 --                                       the qubits where costs are listed, so at most three times as many CNOTs more
 use Rattle.std.specs.Prelude.{◌≡◌, ℕ, ◌+◌, ◌*◌, ◌%◌, ◌≤◌, All, Bool, true, false, List, [], ◌∷◌}
@@ -49,10 +49,10 @@ AreRuns d clean n first [] [] = Unit {0}
 AreRuns d clean n first (p ∷ parts) (gates ∷ lists) = IsMachineRun d clean n first p gates × AreRuns d clean n p.last parts lists
 AreRuns d clean n first _ _ = ⊥
 
-pub record AreMachineRuns (d : Coupling) (trivial clean : Bool) (n : ℕ) (first : List ℕ) (parts : List Part) : Type 0 where
+pub record AreMachineRuns (d : Coupling) (chosen clean : Bool) (n : ℕ) (first : List ℕ) (parts : List Part) : Type 0 where
   pub lists : List (List Gate)
   pub runs : AreRuns d clean n first parts lists
-  pub laid_out : trivial ≡ false → IsLayout d (whole lists) first
+  pub laid_out : chosen ≡ false → IsLayout d (whole lists) first
 
 pub record HasFewSwaps (d : Coupling) (S us : List Op) (swaps : ℕ) : Type 0 where
   pub diameter : ℕ

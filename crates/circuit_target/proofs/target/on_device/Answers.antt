@@ -1,6 +1,6 @@
 -- What the machine writes for each part, from where the one before it ended.
 use Rattle.std.proofs.Common.{◌≡◌, ◌≤◌, ◌<◌, ◌%◌, ◌∙◌, All, None, ap, length, map, refl, subst, sym}
-use Rattle.std.specs.Prelude.{sum_by}
+use Rattle.std.specs.Prelude.{IfSome, sum_by}
 use Rattle.program_parts.specs.Cuts.{whole}
 use Rattle.sabre_route.specs.Routing.{IsLayout}
 use Rattle.circuit_target.specs.InParts.{placed_bars, told_parts}
@@ -158,8 +158,8 @@ returns g c =
     let ends : t.last ≡ last_of t.initial ms = e.last ∙ ap (λ p. last_of p ms) (sym begins) in
     let swaps : t.swaps ≡ sum_by (λ (m : PartTarget). m.swaps) ms = c.swaps_of-swaps.ensures.value ∙ ap (sum_by (λ m. m.swaps)) c.deref-3.ensures.value in
     record {
-      stands = Stands-routed c.args.keep c.args.trivial c.args.clean d s rs ms t f.cut f.parts f.bars made o c.requires.steps c.requires.silent routed
-          c.requires.fits wires ends swaps (λ x. begins ∙ c.in_ok-given.ensures.trivial x)
+      stands = Stands-routed c.args.keep c.args.clean c.args.chosen d s rs ms t f.cut f.parts f.bars made o c.requires.steps c.requires.silent routed
+          c.requires.fits wires ends swaps (subst (λ p. IfSome c.args.chosen (λ q. p ≡ q)) (sym begins) c.in_ok-given.ensures.chosen)
           (λ x. subst (IsLayout d (whole (gates_of rs))) (sym begins) (c.in_ok-given.ensures.laid_out x)) c.diameter-diameter.result
           c.diameter-diameter.ensures.diameter c.cost_of-cost.ensures.value
           (λ x. subst (λ p. AreTraced d p rs ms c.in_ok-made.field-0.trace.items) (sym begins) (e.told x)) e.silent f.operations_limit f.fine refl;
