@@ -7,9 +7,12 @@
 --   Answered, AnsweredInput   no refusal of a question applies
 --   Delivers-opt, Delivers-spared, Delivers-check, Delivers-stages, Delivers-entry, Delivers-routed, Delivers-drawn   from the parts of `decide` to what is delivered
 --   Delivers-verified, IsCause-claim   the same where `verify` is asked
+--   fits-within, allowed-distinct, allowed-traced   what is so of the list on which the wires begin, and of a trace
 --   stopped-..               what follows of a status after a stop
 --   planned-..               what follows where an answer was decided on
 use Rattle.std.proofs.Common.{◌≡◌, ◌⊎◌, inl, inr, ℕ, ◌≤◌, Bool, true, false, List, Option, Some, None, Result, Err, refl, sym, ap, ◌∙◌, arith, subst, is_some, []}
+use Rattle.std.specs.Prelude.{All, IfSome, ◌<◌, nat_eq}
+use Rattle.std.specs.List.{IsDistinct}
 use Rattle.outside_io.specs.Bytes.{Tells}
 use Rattle.outside_io.specs.Causes.{Rose}
 use Rattle.outside_io.specs.Shelf.{HasNoText, TellsText}
@@ -17,16 +20,16 @@ use Rattle.coupling_map.specs.Coupling.{Coupling}
 use Rattle.gate_inline.specs.Programs.{IsAccepted, IsWritten, Program, kept}
 use Rattle.program_reader.specs.Refusals.{IsRefusal}
 use Rattle.program_reader.specs.declared.refusal.ProgramRefusal.{ProgramRefusal}
-use Rattle.command_line.specs.Commands.{command_of}
-use Rattle.command_line.specs.Demands.{Entry, Question, Spares, asked_texts, device_name, keeps_barriers, question_of, reads_input, writes_out, writes_report}
+use Rattle.command_line.specs.Commands.{IsAllowed, command_of}
+use Rattle.command_line.specs.Demands.{Entry, Question, Spares, asked_texts, device_name, initial_list, keeps_barriers, question_of, reads_input, writes_out, writes_report}
 use Rattle.command_line.specs.declared.commands.Command.{Command}
 use Rattle.command_line.specs.declared.commands.Command.TheVariants.{Opt, OptWithSpares, Route, Check, Stages, Bench, Amplitude, Verify}
 use Rattle.route_report.specs.Lines.{check_line}
 use Rattle.qroute_top.specs.Claims.{AreTold, Compares, Ending, IsEnding, IsVerified, Proved, ending_status}
 use Rattle.qroute_top.specs.Causes.{Handed, claim_status, IsCause, IsDeviceCause, IsRefusedDevice, IsRefusedQuestion, IsRefusedSource, IsSourceCause, Reaches, Reads}
-use Rattle.qroute_top.specs.Delivered.{Content, Delivered, Delivers, IsAnswer, IsHad, IsOnDevice, IsStages, Rewrites, WritesWithSpares, counts_of, drawn_program}
+use Rattle.qroute_top.specs.Delivered.{Content, Delivered, Delivers, IsAnswer, IsHad, IsOnDevice, IsStages, Rewrites, WritesWithSpares, chosen_start, counts_of, drawn_program}
 use Rattle.circuit_target.specs.Standing.{IsInPlace, IsOnQubits}
-use Rattle.qroute_top.specs.Devices.{HasDevice, IsDevice, IsDeviceRefusal, HasSource}
+use Rattle.qroute_top.specs.Devices.{Fits, HasDevice, IsDevice, IsDeviceRefusal, HasSource}
 use Rattle.qroute_top.specs.Emitted.{IsEmitted, Sent}
 use Rattle.qroute_top.specs.Plans.{HasAnswer, IsAnswerOf}
 use Rattle.qroute_top.specs.Questions.{IsEntryText, IsQuestionRefusal}
@@ -144,25 +147,26 @@ asked_of_kept false (Some (Spares k)) p (question.ManyBranches n) u = u
 asked_of_kept false (Some (Spares k)) p (question.BitsLength n) u = u
 asked_of_kept false (Some (Spares k)) p (question.TooManySpares n m) u = u
 
--- the device of this name is reached, for a program with n wires
-abbrev pub ReachesFor : Handed → List ℕ → ℕ → Type 0
-ReachesFor h name n = (route : Reaches h name) × (n ≡ route.wires)
+-- the device of this name is reached, for a program with n wires and the list on which they begin, if one is given
+abbrev pub ReachesFor : Handed → List ℕ → ℕ → Option (List ℕ) → Type 0
+ReachesFor h name n initial = (route : Reaches h name) × (n ≡ route.wires) × (initial ≡ initial_list route.command)
 
-pub Reaches-read : (h : Handed) (c : Command) (name : List ℕ) (trivial traced keep clean : Bool) (new : Option (List ℕ)) (p : Program)
-    → command_of h.words ≡ Some c → c ≡ Route name trivial traced keep clean → HasRead keep h.input new p → ReachesFor h name p.wires
-Reaches-read h c name trivial traced keep clean new p asked is (t, q, taken, ok, same) = (
+pub Reaches-read : (h : Handed) (c : Command) (name : List ℕ) (trivial : Bool) (initial : Option (List ℕ)) (traced keep clean : Bool) (new : Option (List ℕ)) (p : Program)
+    → command_of h.words ≡ Some c → c ≡ Route name trivial initial traced keep clean → HasRead keep h.input new p → ReachesFor h name p.wires initial
+Reaches-read h c name trivial initial traced keep clean new p asked is (t, q, taken, ok, same) = (
   record {
-    command = Route name trivial traced keep clean;
+    command = Route name trivial initial traced keep clean;
     asked = asked ∙ ap (λ x. Some x) is;
     wants = refl;
     wires = p.wires;
     source = (t, q, Tells-taken h.input new t taken, ok, ap (λ (x : Program). x.wires) same ∙ kept_wires keep q);
   },
   refl,
+  refl,
 )
 
 pub Reaches-drawn : (h : Handed) (c : Command) (start gates : ℕ) (name : List ℕ) → command_of h.words ≡ Some c → c ≡ Bench start gates name
-    → ReachesFor h name 0
+    → ReachesFor h name 0 None
 Reaches-drawn h c start gates name asked is = (
   record {
     command = Bench start gates name;
@@ -172,16 +176,23 @@ Reaches-drawn h c start gates name asked is = (
     source = refl;
   },
   refl,
+  refl,
 )
 
-pub IsCause-device : (h : Handed) (name : List ℕ) (n : ℕ) (e : DeviceStop) → ReachesFor h name n
-    → IsDeviceCause (h.content name) n h.shelf_before h.shelf_after e → ((e ≡ device_stop.Failed → ⊥) → h.shelf_after ≡ h.shelf_before)
+pub IsCause-device : (h : Handed) (name : List ℕ) (n : ℕ) (initial : Option (List ℕ)) (e : DeviceStop) → ReachesFor h name n initial
+    → IsDeviceCause (h.content name) n initial h.shelf_before h.shelf_after e → ((e ≡ device_stop.Failed → ⊥) → h.shelf_after ≡ h.shelf_before)
     → IsCause h (device_stopped e)
-IsCause-device h name n device_stop.NoMemory route r calm = tt
-IsCause-device h name n device_stop.Failed route r calm = (name, route.0, r)
-IsCause-device h name n device_stop.Absent route r calm = (name, route.0, r, calm (λ f. cc))
-IsCause-device h name n (device_stop.Refused x) route r calm =
-    (name, route.0, subst (λ (m : ℕ). IsRefusedDevice (h.content name) m x) route.1 r, calm (λ f. cc))
+IsCause-device h name n initial device_stop.NoMemory route r calm = tt
+IsCause-device h name n initial device_stop.Failed route r calm = (name, route.0, r)
+IsCause-device h name n initial device_stop.Absent route r calm = (name, route.0, r, calm (λ f. cc))
+IsCause-device h name n initial (device_stop.Refused x) route r calm =
+    (
+      name,
+      route.0,
+      subst (λ o. IsRefusedDevice (h.content name) route.0.wires o x) route.2
+      (subst (λ (m : ℕ). IsRefusedDevice (h.content name) m initial x) route.1 r),
+      calm (λ f. cc),
+    )
 
 -- a question is reached with a program that was read
 pub IsCause-question : (h : Handed) (c d : Command) (q : Question) (new : Option (List ℕ)) (p : Program) (e : QuestionStop) → command_of h.words ≡ Some c
@@ -242,13 +253,13 @@ pub Delivers-entry : (words : List (List ℕ)) (content : Content) (c : Command)
 Delivers-entry words content c from to old new p text line asked is read answered told =
     delivers words content (Amplitude from to) old new p text line (asked ∙ ap (λ x. Some x) is) read answered told
 
-pub Delivers-routed : (words : List (List ℕ)) (content : Content) (c : Command) (name : List ℕ) (trivial traced keep clean : Bool) (old new : Option (List ℕ)) (p : Program)
+pub Delivers-routed : (words : List (List ℕ)) (content : Content) (c : Command) (name : List ℕ) (trivial : Bool) (initial : Option (List ℕ)) (traced keep clean : Bool) (old new : Option (List ℕ)) (p : Program)
     (d : Coupling) (n : ℕ) (text line : List ℕ)
-    → command_of words ≡ Some c → c ≡ Route name trivial traced keep clean → HasRead keep old new p
-    → (t : List ℕ) × TellsText (content name) t × IsDevice t d × (n ≤ d.size)
-    → Rewrites p keep traced (IsOnQubits d trivial clean p) text line → Delivers words content old new text line
-Delivers-routed words content c name trivial traced keep clean old new p d n text line asked is read loaded made =
-    delivers words content (Route name trivial traced keep clean) old new p text line (asked ∙ ap (λ x. Some x) is) read (λ r u. u) (record {
+    → command_of words ≡ Some c → c ≡ Route name trivial initial traced keep clean → HasRead keep old new p
+    → (t : List ℕ) × TellsText (content name) t × IsDevice t d × (n ≤ d.size) × Fits initial n d.size → n ≡ p.wires
+    → Rewrites p keep traced (IsOnQubits d (chosen_start trivial initial d.size) clean p) text line → Delivers words content old new text line
+Delivers-routed words content c name trivial initial traced keep clean old new p d n text line asked is read loaded wires made =
+    delivers words content (Route name trivial initial traced keep clean) old new p text line (asked ∙ ap (λ x. Some x) is) read (λ r u. u) (record {
       target = made.target;
       parts = made.parts;
       told = made.told;
@@ -261,16 +272,17 @@ Delivers-routed words content c name trivial traced keep clean old new p d n tex
         loaded = loaded.1;
         device = d;
         described = loaded.2;
+        fits = subst (λ (k : ℕ). Fits initial k d.size) wires loaded.4;
         routed = made.placed;
       };
     })
 
 pub Delivers-drawn : (words : List (List ℕ)) (content : Content) (c : Command) (start gates : ℕ) (name : List ℕ) (old new : Option (List ℕ)) (p : Program)
-    (d : Coupling) (n : ℕ) (text line : List ℕ)
+    (d : Coupling) (n : ℕ) (initial : Option (List ℕ)) (text line : List ℕ)
     → command_of words ≡ Some c → c ≡ Bench start gates name
-    → (t : List ℕ) × TellsText (content name) t × IsDevice t d × (n ≤ d.size)
-    → p ≡ drawn_program start gates d.size → Rewrites p false false (IsOnQubits d false false p) text line → Delivers words content old new text line
-Delivers-drawn words content c start gates name old new p d n text line asked is loaded drawn made =
+    → (t : List ℕ) × TellsText (content name) t × IsDevice t d × (n ≤ d.size) × Fits initial n d.size
+    → p ≡ drawn_program start gates d.size → Rewrites p false false (IsOnQubits d None false p) text line → Delivers words content old new text line
+Delivers-drawn words content c start gates name old new p d n initial text line asked is loaded drawn made =
     delivers words content (Bench start gates name) old new p text line (asked ∙ ap (λ x. Some x) is) tt (λ r u. u) (record {
       target = made.target;
       parts = made.parts;
@@ -285,6 +297,7 @@ Delivers-drawn words content c start gates name old new p d n text line asked is
           loaded = loaded.1;
           device = d;
           described = loaded.2;
+          fits = tt;
           routed = made.placed;
         },
         drawn ∙ ap (λ k. drawn_program start gates k) (sym made.placed.qubits),
@@ -313,7 +326,7 @@ IsCause-claim h c a b (stop.Claim y) asked is x = (a, b, record { command = Veri
 apart : (c : Command) (a b : List ℕ) → asked_texts c ≡ Some (a, b) → (reads_input c ≡ false) × (device_name c ≡ None)
 apart (Opt keep) a b e = cc
 apart (OptWithSpares m) a b e = cc
-apart (Route name trivial traced keep clean) a b e = cc
+apart (Route name trivial initial traced keep clean) a b e = cc
 apart Check a b e = cc
 apart (Stages spares) a b e = cc
 apart (Bench start gates name) a b e = cc
@@ -329,7 +342,7 @@ compares_reads h c a b x asked reads = let no = (apart c a b (compares_texts h c
 pub device_alone : (c : Command) (name : List ℕ) → device_name c ≡ Some name → asked_texts c ≡ None
 device_alone (Opt keep) name e = cc
 device_alone (OptWithSpares m) name e = cc
-device_alone (Route other trivial traced keep clean) name e = refl
+device_alone (Route other trivial initial traced keep clean) name e = refl
 device_alone Check name e = cc
 device_alone (Stages spares) name e = cc
 device_alone (Bench start gates other) name e = refl
@@ -460,6 +473,26 @@ had_needs once old new true keep n p (u, q, told, good, size) (t, x, taken, ok, 
     omega (arith, size, wires)
 had_needs once old new false keep n p none had = omega (arith, none)
 
+had_wires : MeansOnce → (old new : Option (List ℕ)) (b keep : Bool) (n : ℕ) (p : Program) → b ≡ true → HasSource b (λ t. old ≡ Some t) n → IsHad b keep old new p
+    → p.wires ≡ n
+had_wires once old new true keep n p reads (u, q, told, good, size) (t, x, taken, ok, is) =
+    let same = told_text old u t told (Tells-taken old new t taken) in
+    let here : IsAccepted u x = rw same at ok in
+    let one = once u x q (written_of u x here) (written_of u q good) in
+    ap (λ (y : Program). y.wires) is ∙ kept_wires keep x ∙ ap (λ (y : Program). y.wires) one ∙ sym size
+had_wires once old new false keep n p reads none had = cc
+
+-- a list that is given is one for a program that is read
+fits_needed : (c : Command) (n wires size : ℕ) → (reads_input c ≡ true → wires ≡ n) → Fits (initial_list c) wires size → Fits (initial_list c) n size
+fits_needed (Opt keep) n wires size same fits = tt
+fits_needed (OptWithSpares m) n wires size same fits = tt
+fits_needed (Route name trivial initial traced keep clean) n wires size same fits = subst (λ (k : ℕ). Fits initial k size) (same refl) fits
+fits_needed Check n wires size same fits = tt
+fits_needed (Stages spares) n wires size same fits = tt
+fits_needed (Bench start gates name) n wires size same fits = tt
+fits_needed (Amplitude from to) n wires size same fits = tt
+fits_needed (Verify a b) n wires size same fits = tt
+
 absent_or_told : (o : Option (Option (List ℕ))) (t : List ℕ) → o ≡ Some (Some t) → HasNoText o → ⊥
 absent_or_told None t e h = cc
 absent_or_told (Some x) t e h = cc
@@ -479,7 +512,7 @@ same_device name other o e f = cc
 unasked : (c : Command) (name : List ℕ) (p : Program) (r : QuestionRefusal) → device_name c ≡ Some name → IsQuestionRefusal (question_of c) p r → ⊥
 unasked (Opt keep) name p r wants u = u
 unasked (OptWithSpares m) name p r wants u = cc
-unasked (Route other trivial traced keep clean) name p r wants u = u
+unasked (Route other trivial initial traced keep clean) name p r wants u = u
 unasked Check name p r wants u = u
 unasked (Stages spares) name p r wants u = u
 unasked (Bench start gates other) name p r wants u = u
@@ -490,7 +523,7 @@ unasked (Verify a b) name p r wants u = u
 asking_reads : (c : Command) (p : Program) (r : QuestionRefusal) → IsQuestionRefusal (question_of c) p r → reads_input c ≡ true
 asking_reads (Opt keep) p r u = absurd u
 asking_reads (OptWithSpares m) p r u = refl
-asking_reads (Route other trivial traced keep clean) p r u = absurd u
+asking_reads (Route other trivial initial traced keep clean) p r u = absurd u
 asking_reads Check p r u = absurd u
 asking_reads (Stages spares) p r u = absurd u
 asking_reads (Bench start gates other) p r u = absurd u
@@ -568,13 +601,15 @@ stopped-refuses_question h (stop.Claim x) n a t p r c e asked told ok is calm =
 
 -- the text of the device that is asked for
 told_device : MeansOnce → (h : Handed) (c : Command) (name t : List ℕ) (q : ℕ) (r : DeviceRefusal) → IsCause h (stop.Device r) → IsAsked h c q
-    → device_name c ≡ Some name → h.content name ≡ Some (Some t) → IsDeviceRefusal t q r
+    → device_name c ≡ Some name → h.content name ≡ Some (Some t) → IsDeviceRefusal t q (initial_list c) r
 told_device once h c name t q r (other, route, (u, tells, refusal), calm) a wants here =
     let names = same_device name other (device_name c) wants (same_name h other c route a.asked) in
     let there : h.content other ≡ Some (Some t) = rw (← names) here in
     let same = device_text (h.content other) t u there tells in
-    let refused : IsDeviceRefusal t route.wires r = rw same at refusal in
-    subst (λ m. IsDeviceRefusal t m r) (reached_needs once h other c q route a.asked a.needs) refused
+    let refused : IsDeviceRefusal t route.wires (initial_list route.command) r = rw same at refusal in
+    let listed : IsDeviceRefusal t route.wires (initial_list c) r =
+        subst (λ x. IsDeviceRefusal t route.wires (initial_list x) r) (same_command h.words route.command c route.asked a.asked) refused in
+    subst (λ m. IsDeviceRefusal t m (initial_list c) r) (reached_needs once h other c q route a.asked a.needs) listed
 
 told_absent : (h : Handed) (c : Command) (name t : List ℕ) (q : ℕ) → IsCause h stop.Absent → IsAsked h c q → device_name c ≡ Some name
     → h.content name ≡ Some (Some t) → ⊥
@@ -600,14 +635,14 @@ absent_wants h c q (name, route, none, calm) a = (name, same_name h name c route
 device_wants : (h : Handed) (c : Command) (q : ℕ) (r : DeviceRefusal) → IsCause h (stop.Device r) → IsAsked h c q → (name : List ℕ) × (device_name c ≡ Some name)
 device_wants h c q r (name, route, refused, calm) a = (name, same_name h name c route a.asked)
 
-has_device : (content : Content) (o : Option (List ℕ)) (name : List ℕ) (n : ℕ) → HasDevice content o n → o ≡ Some name
-    → (text : List ℕ) × (d : Coupling) × (content name ≡ Some (Some text)) × IsDevice text d × (n ≤ d.size)
-has_device content None name n has e = cc
-has_device content (Some other) name n has e = let same : other ≡ name = cc in subst (λ x. HasDevice content (Some x) n) same has
+has_device : (content : Content) (o initial : Option (List ℕ)) (name : List ℕ) (n : ℕ) → HasDevice content o initial n → o ≡ Some name
+    → (text : List ℕ) × (d : Coupling) × (content name ≡ Some (Some text)) × IsDevice text d × (n ≤ d.size) × Fits initial n d.size
+has_device content None initial name n has e = cc
+has_device content (Some other) initial name n has e = let same : other ≡ name = cc in subst (λ x. HasDevice content (Some x) initial n) same has
 
 -- a command whose input is accepted and whose device, if it wants one, has room
 pub stopped-complete : NoRefusal → MeansOnce → (h : Handed) (s : Stop) (n : ℕ) (c : Command) (q : ℕ) → IsCause h s → Ends s n → IsAsked h c q
-    → HasDevice h.content (device_name c) q → (n ≡ 0) ⊎ (n ≡ 7)
+    → HasDevice h.content (device_name c) (initial_list c) q → (n ≡ 0) ⊎ (n ≡ 7)
 stopped-complete law once h s n c q w e a has = elim (by_stop s) [
   | inl absent ↦ absurd (not_absent (subst (IsCause h) absent w))
   | inr others ↦ elim others [
@@ -619,14 +654,14 @@ stopped-complete law once h s n c q w e a has = elim (by_stop s) [
     not_absent : IsCause h stop.Absent → ⊥
     not_absent x =
         let wants = absent_wants h c q x a in
-        let device = has_device h.content (device_name c) wants.0 q has wants.1 in
+        let device = has_device h.content (device_name c) (initial_list c) wants.0 q has wants.1 in
         told_absent h c wants.0 device.0 q x a wants.1 device.2
 
     not_refused : (r : DeviceRefusal) → IsCause h (stop.Device r) → ⊥
     not_refused r x =
         let wants = device_wants h c q r x a in
-        let device = has_device h.content (device_name c) wants.0 q has wants.1 in
-        IsDevice-refused device.0 device.1 q r device.3 device.4 (told_device once h c wants.0 device.0 q r x a wants.1 device.2)
+        let device = has_device h.content (device_name c) (initial_list c) wants.0 q has wants.1 in
+        IsDevice-refused device.0 device.1 q (initial_list c) r device.3 device.4 device.5 (told_device once h c wants.0 device.0 q r x a wants.1 device.2)
 
 -- a command on a device whose text is refused
 pub stopped-refuses_device : NoRefusal → (h : Handed) (s : Stop) (n : ℕ) (c : Command) (name t : List ℕ) (q : ℕ) → IsCause h s → Ends s n → IsAsked h c q
@@ -727,24 +762,24 @@ planned-refuses_question once words content old new w n text p r c delivers (inr
     (kept_question (keeps_barriers d.command) (question_of d.command) p r there)))
 
 -- what is delivered for a command that loads a device comes of the text of its device
-record IsFromDevice (content : Content) (name : List ℕ) (source : Program) (x l : List ℕ) : Type 0 where
+record IsFromDevice (content : Content) (name : List ℕ) (initial : Option (List ℕ)) (source : Program) (x l : List ℕ) : Type 0 where
   trivial : Bool
   traced : Bool
   keep : Bool
   clean : Bool
-  answer : Rewrites source keep traced (IsOnDevice content name trivial clean source) x l
+  answer : Rewrites source keep traced (IsOnDevice content name trivial initial clean source) x l
 
 answer_on : (content : Content) (name : List ℕ) (c : Command) (source : Program) (x l : List ℕ) → device_name c ≡ Some name → IsAnswer content c source x l
-    → IsFromDevice content name source x l
+    → IsFromDevice content name (initial_list c) source x l
 answer_on content name (Opt keep) source x l wants answer = cc
 answer_on content name (OptWithSpares m) source x l wants answer = cc
-answer_on content name (Route other trivial traced keep clean) source x l wants answer =
+answer_on content name (Route other trivial initial traced keep clean) source x l wants answer =
     let same : other ≡ name = cc in record {
       trivial = trivial;
       traced = traced;
       keep = keep;
       clean = clean;
-      answer = subst (λ y. Rewrites source keep traced (IsOnDevice content y trivial clean source) x l) same answer;
+      answer = subst (λ y. Rewrites source keep traced (IsOnDevice content y trivial initial clean source) x l) same answer;
     }
 answer_on content name Check source x l wants answer = cc
 answer_on content name (Stages spares) source x l wants answer = cc
@@ -764,12 +799,12 @@ answer_on content name (Bench start gates other) source x l wants answer =
         tells = answer.tells;
         alone = answer.alone;
         trace = answer.trace;
-        placed = subst (λ y. IsOnDevice content y false false source answer.target answer.parts answer.told) same answer.placed.0;
+        placed = subst (λ y. IsOnDevice content y false None false source answer.target answer.parts answer.told) same answer.placed.0;
       };
     }
 
 planned_on : (words : List (List ℕ)) (content : Content) (old new : Option (List ℕ)) (x l name : List ℕ) (c : Command) (d : Delivers words content old new x l)
-    → command_of words ≡ Some c → device_name c ≡ Some name → IsFromDevice content name d.source x l
+    → command_of words ≡ Some c → device_name c ≡ Some name → IsFromDevice content name (initial_list d.command) d.source x l
 planned_on words content old new x l name c d asked wants =
     let same = same_command words c d.command asked d.asked in
     answer_on content name d.command d.source x l (subst (λ y. device_name y ≡ Some name) same wants) d.answer
@@ -784,7 +819,7 @@ planned-absent words content old new w n name c delivers (inr (x, l, is)) asked 
 
 refused_or_routed : MeansOnce → (words : List (List ℕ)) (content : Content) (old new : Option (List ℕ)) (x l name : List ℕ) (c : Command) (t : List ℕ)
     (q : ℕ) (r : DeviceRefusal) → Delivers words content old new x l → command_of words ≡ Some c → device_name c ≡ Some name
-    → HasSource (reads_input c) (λ u. old ≡ Some u) q → content name ≡ Some (Some t) → IsDeviceRefusal t q r → ⊥
+    → HasSource (reads_input c) (λ u. old ≡ Some u) q → content name ≡ Some (Some t) → IsDeviceRefusal t q (initial_list c) r → ⊥
 refused_or_routed once words content old new x l name c t q r d asked wants needs here refusal =
     let on = planned_on words content old new x l name c d asked wants in
     let placed = on.answer.placed in
@@ -793,11 +828,15 @@ refused_or_routed once words content old new x l name c t q r d asked wants need
     let there = subst (λ y. HasSource (reads_input y) (λ u. old ≡ Some u) q) (same_command words c d.command asked d.asked) needs in
     let wires = had_needs once old new (reads_input d.command) (keeps_barriers d.command) q d.source there d.had in
     let fits : d.source.wires ≤ placed.device.size = rw (← placed.routed.qubits) on.answer.made.stands.unitary.fits in
-    IsDevice-refused t placed.device q r described (omega (arith, wires, fits)) refusal
+    let listed : IsDeviceRefusal t q (initial_list d.command) r =
+        subst (λ y. IsDeviceRefusal t q (initial_list y) r) (same_command words c d.command asked d.asked) refusal in
+    let room = fits_needed d.command q d.source.wires placed.device.size
+            (λ reads. had_wires once old new (reads_input d.command) (keeps_barriers d.command) q d.source reads there d.had) placed.fits in
+    IsDevice-refused t placed.device q (initial_list d.command) r described (omega (arith, wires, fits)) room listed
 
 pub planned-refuses_device : MeansOnce → (words : List (List ℕ)) (content : Content) (old new : Option (List ℕ)) (w : Answer) (n : ℕ) (name : List ℕ) (c : Command)
     (t : List ℕ) (q : ℕ) (r : DeviceRefusal) → DeliversAnswer words content old new w → Came w n → command_of words ≡ Some c
-    → device_name c ≡ Some name → HasSource (reads_input c) (λ u. old ≡ Some u) q → content name ≡ Some (Some t) → IsDeviceRefusal t q r
+    → device_name c ≡ Some name → HasSource (reads_input c) (λ u. old ≡ Some u) q → content name ≡ Some (Some t) → IsDeviceRefusal t q (initial_list c) r
     → (n ≡ 4) ⊎ (n ≡ 7)
 planned-refuses_device once words content old new w n name c t q r delivers (inl seven) asked wants needs here refusal = inr seven
 planned-refuses_device once words content old new w n name c t q r delivers (inr (x, l, is)) asked wants needs here refusal =
@@ -828,6 +867,19 @@ stopped-two stop.Absent n e two = absurd (grind arith)
 stopped-two (stop.Device r) n e two = absurd (grind arith)
 stopped-two (stop.Question r) n e two = absurd (grind arith)
 stopped-two (stop.Claim x) n e two = absurd (claim_late x n e (inl two))
+
+-- what a command line allows, and what a device has, for the list on which the wires begin
+pub fits-within : (initial : Option (List ℕ)) (n size k : ℕ) → Fits initial n size → k ≡ size → IfSome initial (All (λ q. q < k))
+fits-within None n size k fits same = tt
+fits-within (Some list) n size k fits same = subst (λ (m : ℕ). All (λ q. q < m) list) (sym same) fits.within
+
+pub allowed-distinct : (c : Command) (name : List ℕ) (trivial : Bool) (initial : Option (List ℕ)) (traced keep clean : Bool) → IsAllowed c
+    → c ≡ Route name trivial initial traced keep clean → IfSome initial (IsDistinct nat_eq)
+allowed-distinct c name trivial initial traced keep clean allowed is = (subst IsAllowed is allowed).1
+
+pub allowed-traced : (c : Command) (name : List ℕ) (trivial : Bool) (initial : Option (List ℕ)) (traced keep clean : Bool) → IsAllowed c
+    → c ≡ Route name trivial initial traced keep clean → traced ≡ true → (keep ≡ false) × (clean ≡ false)
+allowed-traced c name trivial initial traced keep clean allowed is = (subst IsAllowed is allowed).0
 
 pub ruleset decided = (IsCause-words, IsCause-source)
 
@@ -898,7 +950,7 @@ verified_of : (content : Content) (c : Command) (a b : List ℕ) (p : Program) (
     → IsVerified content a b x
 verified_of content (Opt keep) a b p x l e answer = cc
 verified_of content (OptWithSpares m) a b p x l e answer = cc
-verified_of content (Route name trivial traced keep clean) a b p x l e answer = cc
+verified_of content (Route name trivial initial traced keep clean) a b p x l e answer = cc
 verified_of content Check a b p x l e answer = cc
 verified_of content (Stages spares) a b p x l e answer = cc
 verified_of content (Bench start gates name) a b p x l e answer = cc
@@ -910,7 +962,7 @@ verified_of content (Verify c d) a b p x l e answer =
 verify_writes : (c : Command) (a b : List ℕ) → asked_texts c ≡ Some (a, b) → (writes_out c ≡ true) × (writes_report c ≡ false)
 verify_writes (Opt keep) a b e = cc
 verify_writes (OptWithSpares m) a b e = cc
-verify_writes (Route name trivial traced keep clean) a b e = cc
+verify_writes (Route name trivial initial traced keep clean) a b e = cc
 verify_writes Check a b e = cc
 verify_writes (Stages spares) a b e = cc
 verify_writes (Bench start gates name) a b e = cc

@@ -104,6 +104,7 @@ device_status (device.Fault (device_fault_is.SelfEdge qubit)) = refl
 device_status (device.Fault (device_fault_is.EdgeCost from to)) = refl
 device_status (device.Fault (device_fault_is.NotConnected from to)) = refl
 device_status (device.TooFewQubits size qubits) = refl
+device_status (device.Initial size qubits) = refl
 
 question_status : (r : QuestionRefusal) → status_of (question_fault r) ≡ 3
 question_status (question.WideProgram qubits) = refl

@@ -4,7 +4,7 @@
 --   Reaches h name        they mean a command that loads the device of this name; if it reads the input, that is accepted, as a
 --                         program with so many wires
 --   IsRefusedSource input r   the input has a text, the told one where one is told, and r is its first refusal
---   IsRefusedDevice ..    the same of the text of a device, for a program on n wires
+--   IsRefusedDevice ..    the same of the text of a device, for a program on n wires and the list on which they begin, if one is given
 --   IsRefusedQuestion ..  the input has an accepted text, and r is the first refusal of the question by its program
 --   IsClaimCause content a b before after x   why a claim on the texts of these names isn't proved
 --   IsCause h s           the stop s has its cause; want of memory is free
@@ -33,7 +33,7 @@ use Rattle.program_reader.specs.declared.refusal.ProgramRefusal.{ProgramRefusal}
 use Rattle.program_reader.specs.declared.refusal.ProgramRefusal.TheVariants as refusal
 use Rattle.command_line.specs.declared.commands.Command.{Command}
 use Rattle.command_line.specs.Commands.{command_of}
-use Rattle.command_line.specs.Demands.{Question, device_name, question_of, reads_input}
+use Rattle.command_line.specs.Demands.{Question, device_name, initial_list, question_of, reads_input}
 use Rattle.qroute_top.specs.declared.stops.DeviceRefusal.{DeviceRefusal}
 use Rattle.qroute_top.specs.declared.stops.DeviceRefusal.TheVariants as device
 use Rattle.qroute_top.specs.declared.stops.DeviceStop.{DeviceStop}
@@ -76,8 +76,8 @@ pub record Reaches (h : Handed) (name : List ℕ) : Type 0 where
 abbrev pub IsRefusedSource : Option (List ℕ) → ProgramRefusal → Type 0
 IsRefusedSource input r = (text : List ℕ) × Tells input text × IsRefusal text r
 
-abbrev pub IsRefusedDevice : Option (Option (List ℕ)) → ℕ → DeviceRefusal → Type 0
-IsRefusedDevice content n r = (text : List ℕ) × TellsText content text × IsDeviceRefusal text n r
+abbrev pub IsRefusedDevice : Option (Option (List ℕ)) → ℕ → Option (List ℕ) → DeviceRefusal → Type 0
+IsRefusedDevice content n initial r = (text : List ℕ) × TellsText content text × IsDeviceRefusal text n initial r
 
 abbrev pub IsRefusedQuestion : Option (List ℕ) → Option Question → QuestionRefusal → Type 0
 IsRefusedQuestion input q r = (text : List ℕ) × (p : Program) × Tells input text × IsAccepted text p × IsQuestionRefusal q p r
@@ -95,7 +95,7 @@ IsCause h stop.Input = Reads h × Rose h.faults_before h.faults_after
 IsCause h (stop.Program r) = Reads h × IsRefusedSource h.input r
 IsCause h stop.Shelf = (name : List ℕ) × Reaches h name × Rose h.shelf_before h.shelf_after
 IsCause h stop.Absent = (name : List ℕ) × Reaches h name × HasNoText (h.content name) × (h.shelf_after ≡ h.shelf_before)
-IsCause h (stop.Device r) = (name : List ℕ) × (asked : Reaches h name) × IsRefusedDevice (h.content name) asked.wires r
+IsCause h (stop.Device r) = (name : List ℕ) × (asked : Reaches h name) × IsRefusedDevice (h.content name) asked.wires (initial_list asked.command) r
     × (h.shelf_after ≡ h.shelf_before)
 IsCause h (stop.Claim x) = (a : List ℕ) × (b : List ℕ) × Compares h.words a b × IsClaimCause h.content a b h.shelf_before h.shelf_after x
 IsCause h (stop.Question r) = (asked : Reads h) × IsRefusedQuestion h.input (question_of asked.command) r
@@ -106,12 +106,12 @@ IsSourceCause input before after source_stop.NoMemory = ⊤
 IsSourceCause input before after source_stop.Failed = Rose before after
 IsSourceCause input before after (source_stop.Refused r) = IsRefusedSource input r
 
--- why the device isn't had, for a program on n wires
-abbrev pub IsDeviceCause : Option (Option (List ℕ)) → ℕ → ℕ → ℕ → DeviceStop → Type 0
-IsDeviceCause content n before after device_stop.NoMemory = ⊤
-IsDeviceCause content n before after device_stop.Failed = Rose before after
-IsDeviceCause content n before after device_stop.Absent = HasNoText content
-IsDeviceCause content n before after (device_stop.Refused r) = IsRefusedDevice content n r
+-- why the device isn't had, for a program on n wires and the list on which they begin, if one is given
+abbrev pub IsDeviceCause : Option (Option (List ℕ)) → ℕ → Option (List ℕ) → ℕ → ℕ → DeviceStop → Type 0
+IsDeviceCause content n initial before after device_stop.NoMemory = ⊤
+IsDeviceCause content n initial before after device_stop.Failed = Rose before after
+IsDeviceCause content n initial before after device_stop.Absent = HasNoText content
+IsDeviceCause content n initial before after (device_stop.Refused r) = IsRefusedDevice content n initial r
 
 abbrev pub refusal_fault : ProgramRefusal → Fault
 refusal_fault refusal.TooLong = fault.Plain 60
@@ -132,6 +132,7 @@ device_fault (device.Fault (device_fault_is.SelfEdge qubit)) = fault.SelfEdge qu
 device_fault (device.Fault (device_fault_is.EdgeCost from to)) = fault.EdgeCost from to
 device_fault (device.Fault (device_fault_is.NotConnected from to)) = fault.NotConnected from to
 device_fault (device.TooFewQubits size qubits) = fault.TooFewQubits size qubits
+device_fault (device.Initial size qubits) = fault.Initial size qubits
 
 abbrev pub question_fault : QuestionRefusal → Fault
 question_fault (question.WideProgram qubits) = fault.WideProgram qubits

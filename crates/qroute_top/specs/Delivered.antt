@@ -4,7 +4,10 @@
 --   Makes source target parts r ..    the text and the report line are right for a source: they are those of a target that stands for it
 --   Rewrites source keep traced P ..  there is such a target, with its trace; the line tells of its parts where barriers are kept;
 --                               and of its parts, qubits, placements and edges P holds
---   IsOnDevice                  this P for `route`, and part of it for `bench`: the device is that of a name; for `opt` it is IsInPlace
+--   chosen_start trivial initial size   where the wires begin on a device of this size, if that is told: with `trivial` each on the qubit
+--                               of its own number; at the list, completed by the qubits that are left, ascending, if one is given
+--   IsOnDevice                  this P for `route`, and part of it for `bench`: the device is that of a name, and the list fits, if one is
+--                               given; for `opt` it is IsInPlace
 --   WritesWithSpares source m ..  the text and the report line are right for a source with m spare wires: they are those of a target that
 --                               stands for it where the spares start at zero
 --   counts_of source            what `check` tells of a program
@@ -23,6 +26,8 @@ use Rattle.route_report.specs.declared.lines.Counts.{Counts}
 use Rattle.route_report.specs.declared.lines.Report.{Report}
 use Rattle.route_report.specs.Lines.{check_line, report_line}
 use Rattle.unitary_model.specs.Operations.{cx_count, t_count}
+use Rattle.unitary_model.specs.Placement.{identity}
+use Rattle.wire_starts.specs.Starts.{completed}
 use Rattle.bench_program.specs.Program.{drawn}
 use Rattle.gate_expand.specs.Expansion.{expanded}
 use Rattle.gate_inline.specs.Programs.{IsAccepted, IsWritten, Program, kept}
@@ -36,7 +41,7 @@ use Rattle.command_line.specs.declared.commands.Command.TheVariants.{Opt, OptWit
 use Rattle.command_line.specs.Commands.{command_of}
 use Rattle.command_line.specs.Demands.{keeps_barriers, question_of, reads_input}
 use Rattle.qroute_top.specs.Claims.{IsVerified}
-use Rattle.qroute_top.specs.Devices.{IsDevice}
+use Rattle.qroute_top.specs.Devices.{Fits, IsDevice}
 use Rattle.qroute_top.specs.Questions.{IsEntryText, IsQuestionRefusal}
 use Rattle.qroute_top.specs.declared.stops.QuestionRefusal.{QuestionRefusal}
 use Rattle.circuit_target.specs.InParts.{told_parts}
@@ -74,13 +79,19 @@ pub record Rewrites (source : Program) (keep traced : Bool) (IsPlaced : Program 
   pub trace : IsOwnTrace traced source target told (trace_of text)
   pub placed : IsPlaced target parts told
 
--- the device is the one that the shelf's text of this name describes
-pub record IsOnDevice (content : Content) (name : List ℕ) (trivial clean : Bool) (source target : Program) (parts : List Part) (told : Report) : Type 0 where
+abbrev pub chosen_start : Bool → Option (List ℕ) → ℕ → Option (List ℕ)
+chosen_start true initial size = Some (identity size)
+chosen_start false (Some list) size = Some (completed size list)
+chosen_start false None size = None
+
+-- the device is the one that the shelf's text of this name describes, and a list that is given has a qubit of it for each wire
+pub record IsOnDevice (content : Content) (name : List ℕ) (trivial : Bool) (initial : Option (List ℕ)) (clean : Bool) (source target : Program) (parts : List Part) (told : Report) : Type 0 where
   pub device_text : List ℕ
   pub loaded : TellsText (content name) device_text
   pub device : Coupling
   pub described : IsDevice device_text device
-  pub routed : IsOnQubits device trivial clean source target parts told
+  pub fits : Fits initial source.wires device.size
+  pub routed : IsOnQubits device (chosen_start trivial initial device.size) clean source target parts told
 
 pub record WritesWithSpares (source : Program) (m : ℕ) (text line : List ℕ) : Type 0 where
   pub target : Program
@@ -121,14 +132,14 @@ drawn_program start gates n = record {
 abbrev pub IsAnswer : Content → Command → Program → List ℕ → List ℕ → Type 0
 IsAnswer content (Opt keep) source text line = Rewrites source keep false (IsInPlace source) text line
 IsAnswer content (OptWithSpares m) source text line = WritesWithSpares source m text line
-IsAnswer content (Route name trivial traced keep clean) source text line =
-    Rewrites source keep traced (IsOnDevice content name trivial clean source) text line
+IsAnswer content (Route name trivial initial traced keep clean) source text line =
+    Rewrites source keep traced (IsOnDevice content name trivial initial clean source) text line
 IsAnswer content Check source text line = (text ≡ []) × (line ≡ check_line (counts_of source))
 IsAnswer content (Stages spares) source text line = IsStages source spares text × (line ≡ [])
 IsAnswer content (Amplitude from to) source text line = IsEntryText source.ops from to text × (line ≡ [])
 IsAnswer content (Verify a b) source text line = IsVerified content a b text × (line ≡ [])
 IsAnswer content (Bench start gates name) source text line = Rewrites source false false
-    (λ target parts told. IsOnDevice content name false false source target parts told × (source ≡ drawn_program start gates target.wires)) text line
+    (λ target parts told. IsOnDevice content name false None false source target parts told × (source ≡ drawn_program start gates target.wires)) text line
 
 abbrev pub IsHad : Bool → Bool → Option (List ℕ) → Option (List ℕ) → Program → Type 0
 IsHad true keep input after source = (text : List ℕ) × (p : Program) × TakesAll input after text × IsAccepted text p × (source ≡ kept keep p)

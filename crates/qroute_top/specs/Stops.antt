@@ -1,7 +1,8 @@
 -- Working form. Stops of one part as stops of a run.
 --   unread f             a fault of the reader, as a stop of reading
 --   unloaded f           why a text of the shelf isn't had, as a stop of the device
---   IsUndescribed text n e   why a text that isn't too long gives no device for a program on n wires
+--   IsUndescribed text n initial e   why a text that isn't too long gives no device for a program on n wires and the list on which they
+--                        begin, if one is given
 --   IsUnasked words s    why words give no command
 --   source_stopped e, device_stopped e, question_stopped e   a stop of reading, of the device, or of a question, as one of the run
 --   IsUnanswered q p e   why the question q on the program p isn't answered
@@ -69,11 +70,11 @@ unloaded text_fault.Absent = device_stop.Absent
 unloaded text_fault.TooLong = device_stop.Refused device.TooLong
 unloaded text_fault.NoMemory = device_stop.NoMemory
 
-abbrev pub IsUndescribed : List ℕ → ℕ → DeviceStop → Type 0
-IsUndescribed text n device_stop.NoMemory = ⊤
-IsUndescribed text n (device_stop.Refused r) = IsDeviceRefusal text n r
-IsUndescribed text n device_stop.Failed = ⊥
-IsUndescribed text n device_stop.Absent = ⊥
+abbrev pub IsUndescribed : List ℕ → ℕ → Option (List ℕ) → DeviceStop → Type 0
+IsUndescribed text n initial device_stop.NoMemory = ⊤
+IsUndescribed text n initial (device_stop.Refused r) = IsDeviceRefusal text n initial r
+IsUndescribed text n initial device_stop.Failed = ⊥
+IsUndescribed text n initial device_stop.Absent = ⊥
 
 abbrev pub IsUnasked : List (List ℕ) → Stop → Type 0
 IsUnasked words stop.NoMemory = ⊤

@@ -15,6 +15,7 @@ use crate::pipeline::{optimise, optimise_with_spares, route_on};
 use crate::plan::{Answer, check_answer, stage_answer};
 use crate::question::entry_answer;
 use crate::source::{drawn_source, read_source};
+use crate::start::chosen_start;
 use crate::stops::Stop;
 use circuit_target::Wishes;
 use command_line::commands::{Command, WordsFault};
@@ -89,19 +90,20 @@ pub fn decide<I: Input, F: Shelf>(
         Command::Route {
             device: name,
             trivial,
+            initial,
             trace,
             keep_barriers,
             clean,
         } => {
             let source = read_source(alloc, input, keep_barriers)?;
-            let device = load_device(alloc, shelf, &name, source.wires())?;
+            let device = load_device(alloc, shelf, &name, source.wires(), &initial)?;
+            let chosen = chosen_start(alloc, trivial, &initial, device.size())?;
             let wishes = Wishes {
-                trivial,
                 trace,
                 keep: keep_barriers,
                 clean,
             };
-            Ok(route_on(alloc, source, &device, wishes)?)
+            Ok(route_on(alloc, source, &device, chosen, wishes)?)
         }
         Command::Bench {
             start,
@@ -109,17 +111,17 @@ pub fn decide<I: Input, F: Shelf>(
             device: name,
         } => {
             // The program is made for the device, so any device has enough qubits.
-            let device = load_device(alloc, shelf, &name, 0)?;
+            let device = load_device(alloc, shelf, &name, 0, &None)?;
             // Its contract says how many qubits a device has.
             device.facts();
             let source = drawn_source(alloc, start, gates, device.size())?;
+            let chosen = None;
             let wishes = Wishes {
-                trivial: false,
                 trace: false,
                 keep: false,
                 clean: false,
             };
-            Ok(route_on(alloc, source, &device, wishes)?)
+            Ok(route_on(alloc, source, &device, chosen, wishes)?)
         }
         Command::Verify { source, target } => claim_answer(alloc, shelf, &source, &target),
     }

@@ -71,6 +71,7 @@ fn fault_of_device(refusal: DeviceRefusal) -> Fault
             Fault::NotConnected { from, to }
         }
         DeviceRefusal::TooFewQubits { device, qubits } => Fault::TooFewQubits { device, qubits },
+        DeviceRefusal::Initial { device, qubits } => Fault::Initial { device, qubits },
     }
 }
 

@@ -28,7 +28,7 @@ ghost use Rattle.route_report.specs.declared.faults.Side.TheVariants as Side;
 ghost use Rattle.program_reader.specs.Refusals.{IsRefusal};
 ghost use Rattle.program_reader.specs.declared.refusal.ProgramRefusal.{ProgramRefusal as Refused};
 ghost use Rattle.command_line.specs.Commands.{command_of};
-ghost use Rattle.command_line.specs.Demands.{asked_texts, device_name, question_of, reads_input, writes_out, writes_report};
+ghost use Rattle.command_line.specs.Demands.{asked_texts, device_name, initial_list, question_of, reads_input, writes_out, writes_report};
 ghost use Rattle.command_line.specs.declared.commands.Command.{Command as Asked};
 ghost use Rattle.qroute_top.specs.declared.stops.DeviceRefusal.{DeviceRefusal as RefusedDevice};
 ghost use Rattle.gate_inline.specs.Programs.{IsAccepted, Program};
@@ -40,7 +40,7 @@ ghost use Rattle.qroute_top.specs.Claims.{AreTold, Ending, IsEnding, IsTextRefus
 ghost use Rattle.qroute_top.specs.Delivered.{Delivered};
 
 pub use bench_program::made;
-pub use command_line::{bits, commands, name, words};
+pub use command_line::{bits, commands, name, qubits, words};
 use decision::decide;
 use delivery::{emit, tell};
 use outside_io::{Shelf, Sink, Source};
@@ -59,6 +59,7 @@ mod plan;
 mod question;
 mod source;
 mod spared;
+mod start;
 mod stops;
 
 /// Runs the command of the words: reads the input, or for `bench` draws a program, writes the program to `out` and the report
@@ -119,17 +120,18 @@ pub fn run<I: Source, F: Shelf, O: Sink, R: Sink>(
         → (reads_input c ≡ true → Rose (I.faults input.old) (I.faults input.new) → ⊥) → (Rose (F.faults shelf.old) (F.faults shelf.new) → ⊥)
         → F.content shelf.old name ≡ Some None → (result ≡ 9) ⊎ (result ≡ 7) }
 
-    // 4 exactly where the text of the device has a first refusal.
+    // 4 exactly where the text of the device has a first refusal, or the list of its qubits on which the wires are to begin.
     ensures refuses_device { (c : Asked) (name device_text : List ℕ) (n : ℕ) (r : RefusedDevice)
         → command_of (map (λ w. w.now) words.now) ≡ Some c → device_name c ≡ Some name
         → HasSource (reads_input c) (λ text. I.left input.old ≡ Some text) n
         → (reads_input c ≡ true → Rose (I.faults input.old) (I.faults input.new) → ⊥) → (Rose (F.faults shelf.old) (F.faults shelf.new) → ⊥)
-        → F.content shelf.old name ≡ Some (Some device_text) → IsDeviceRefusal device_text n r → (result ≡ 4) ⊎ (result ≡ 7) }
+        → F.content shelf.old name ≡ Some (Some device_text) → IsDeviceRefusal device_text n (initial_list c) r → (result ≡ 4) ⊎ (result ≡ 7) }
 
-    // A command whose input, where it reads one, is accepted, whose device, where it wants one, has a qubit for each wire, and
-    // whose question, where it asks one, isn't refused, ends well, or wants memory, unless a count of faults rose.
+    // A command whose input, where it reads one, is accepted, whose device, where it wants one, has a qubit for each wire, and whose
+    // list of the qubits on which these are to begin, if one is given, fits both, and whose question, where it asks one, isn't
+    // refused, ends well, or wants memory, unless a count of faults rose.
     ensures complete { (c : Asked) (n : ℕ) → command_of (map (λ w. w.now) words.now) ≡ Some c → asked_texts c ≡ None
-        → HasSource (reads_input c) (λ text. I.left input.old ≡ Some text) n → HasDevice (F.content shelf.old) (device_name c) n
+        → HasSource (reads_input c) (λ text. I.left input.old ≡ Some text) n → HasDevice (F.content shelf.old) (device_name c) (initial_list c) n
         → ((text : List ℕ) (p : Program) (r : RefusedQuestion) → I.left input.old ≡ Some text → IsAccepted text p
         → IsQuestionRefusal (question_of c) p r → ⊥)
         → (reads_input c ≡ true → Rose (I.faults input.old) (I.faults input.new) → ⊥)

@@ -1,6 +1,6 @@
 //! From a source to what a command has to write.
 
-ghost use Rattle.std.specs.Prelude.{◌≡◌, ◌≤◌, ℕ, List, Some, IfOk, IfErr, false, true};
+ghost use Rattle.std.specs.Prelude.{◌≡◌, ◌≤◌, ℕ, List, Some, IfOk, IfErr, IfSome, false, length, true};
 ghost use Rattle.command_line.specs.Demands.{Spares};
 ghost use Rattle.program_parts.specs.Cuts.{uncut};
 ghost use Rattle.circuit_target.specs.Standing.{IsInPlace, IsOnQubits};
@@ -17,6 +17,7 @@ use crate::stops::QuestionStop;
 use circuit_list::Circuit;
 use circuit_target::{PartedProgram, RunTraces, Wishes, in_place, routed};
 use coupling_map::Device;
+use placement::Placement;
 use program_reader::SourceProgram;
 use rewrite_pass::Trace;
 use route_trace::route_trace;
@@ -93,22 +94,24 @@ pub fn optimise_with_spares(
     Ok(answer_of(source, target))
 }
 
-/// Makes what is to be written for a source on the qubits of a device.
+/// Makes what is to be written for a source on the qubits of a device, from the chosen placement on, or else from the layout.
 #[tactic(auto, using(crate::proofs::PlanLaws::plans))]
 pub fn route_on(
     alloc: Global,
     source: SourceProgram,
     device: &Device,
+    chosen: Option<Placement>,
     wishes: Wishes,
 ) -> Result<Answer, AllocError>
     requires fits { source.wires ≤ device.now.size }
+    requires chosen { IfSome chosen (λ p. length p ≡ device.now.size) }
     requires traced { wishes.trace ≡ true → (source.cut ≡ uncut source.ops) × (wishes.clean ≡ false) }
     ensures made { IfOk result (λ w. (text line : List ℕ) → IsAnswerOf w text line →
-        Rewrites source wishes.keep wishes.trace (IsOnQubits device.now wishes.trivial wishes.clean source) text line) }
+        Rewrites source wishes.keep wishes.trace (IsOnQubits device.now chosen wishes.clean source) text line) }
     ensures writes { IfOk result (λ w. has_text w ≡ true) }
     ensures tells { IfOk result (λ w. has_line w ≡ true) }
     ensures fit { IfOk result IsFitAnswer }
 {
-    let target = routed(alloc, &RoutedTraces, &parted(&source), device, wishes)?;
+    let target = routed(alloc, &RoutedTraces, &parted(&source), device, chosen, wishes)?;
     Ok(answer_of(source, target))
 }

@@ -5,7 +5,7 @@ use program_reader::{ProgramFault, ProgramRefusal};
 use route_report::Side;
 use std::alloc::AllocError;
 
-/// Why a device text is refused.
+/// Why a device text, or what is asked of its device, is refused.
 #[derive(Clone, Copy, Debug, PartialEq, Eq)]
 pub enum DeviceRefusal {
     /// The text has more than 1,048,576 bytes.
@@ -14,6 +14,8 @@ pub enum DeviceRefusal {
     Fault(DeviceFault),
     /// The device has fewer qubits than the program.
     TooFewQubits { device: u32, qubits: u32 },
+    /// The list of the qubits on which the wires are to begin hasn't one for each of the program's, or one that the device lacks.
+    Initial { device: u32, qubits: u32 },
 }
 
 /// Why a question on a program is refused: that for an entry of its unitary, or whether there is room for spare wires.

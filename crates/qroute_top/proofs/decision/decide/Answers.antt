@@ -1,10 +1,11 @@
 -- Why the device isn't had, and what is delivered on one that is.
-use Rattle.std.proofs.Common.{refl, map, ap, ◌∙◌}
+use Rattle.std.proofs.Common.{refl, map, ap, subst, None, ◌∙◌}
 use Rattle.std.proofs.lemmas.Result.{err_from_is_err_and}
 use Rattle.command_line.specs.Demands.{Entry, Spares}
 use Rattle.command_line.specs.declared.commands.Command.TheVariants.{Amplitude, OptWithSpares}
 use Rattle.qroute_top.specs.Causes.{Handed}
-use Rattle.qroute_top.specs.Delivered.{drawn_program}
+use Rattle.circuit_target.specs.Standing.{IsOnQubits}
+use Rattle.qroute_top.specs.Delivered.{Rewrites, chosen_start, drawn_program}
 use Rattle.qroute_top.proofs.RunLaws.{Delivers-drawn, Delivers-entry, Delivers-routed, Delivers-spared, IsCause-device, IsCause-question, Reaches-drawn, Reaches-read, device_failed, handed}
 use Rattle.qroute_top.proofs.decision.decide.Goals as goal
 
@@ -14,11 +15,22 @@ returns-in_err-device-in-Route-clause-stop g c =
     let h : Handed = handed (map (λ w. w.now) c.args.words.now) (g.I.Source.left c.args.input.now) (g.I.Source.faults c.args.input.now)
     (g.I.Source.faults c.read_source-in-Route.new.input) (g.F.Shelf.content c.args.shelf.now) (g.F.Shelf.faults c.args.shelf.now)
     (g.F.Shelf.faults c.load_device.new.shelf) in
-    let reached = Reaches-read h c.in_ok-command.command c.in-Route.name c.in-Route.trivial c.in-Route.trace c.in-Route.keep_barriers c.in-Route.clean _ _ c.in_ok-command.ensures.ok c.in-Route.is
+    let reached = Reaches-read h c.in_ok-command.command c.in-Route.name c.in-Route.trivial c.in-Route.initial c.in-Route.trace c.in-Route.keep_barriers c.in-Route.clean _ _ c.in_ok-command.ensures.ok c.in-Route.is
     c.in_ok-source-in-Route.ensures.ok in
-    let it = IsCause-device h c.in-Route.name c.wires.result _ (reached.0, c.wires.ensures.value ∙ reached.1) c.in_err-device-in-Route.ensures.err
+    let it = IsCause-device h c.in-Route.name c.wires.result c.in-Route.initial _ (reached.0, c.wires.ensures.value ∙ reached.1, reached.2) c.in_err-device-in-Route.ensures.err
     (λ f. c.in_err-device-in-Route.ensures.calm (λ e. f (device_failed _ _ _ refl e))) in
     rw (p.1, p.2) it
+
+-- want of memory has no cause
+pub returns-in_err-chosen-in-Route-clause-stop : goal.returns-in_err-chosen-in-Route-clause-stop
+returns-in_err-chosen-in-Route-clause-stop g c =
+    let p = err_from_is_err_and c.from_residual-in_err-chosen-in-Route.result c.from_residual-in_err-chosen-in-Route.ensures.1 in
+    rw (p.1, p.2) tt
+
+pub returns-in_err-route_on-in-Route-clause-stop : goal.returns-in_err-route_on-in-Route-clause-stop
+returns-in_err-route_on-in-Route-clause-stop g c =
+    let p = err_from_is_err_and c.from_residual-in_err-route_on-in-Route.result c.from_residual-in_err-route_on-in-Route.ensures.1 in
+    rw (p.1, p.2) tt
 
 pub returns-in_err-device-in-Bench-clause-stop : goal.returns-in_err-device-in-Bench-clause-stop
 returns-in_err-device-in-Bench-clause-stop g c =
@@ -27,23 +39,26 @@ returns-in_err-device-in-Bench-clause-stop g c =
     (g.I.Source.faults c.args.input.now) (g.F.Shelf.content c.args.shelf.now) (g.F.Shelf.faults c.args.shelf.now)
     (g.F.Shelf.faults c.load_device-in-Bench.new.shelf) in
     let route = Reaches-drawn h c.in_ok-command.command c.in-Bench.start c.in-Bench.gates c.in-Bench.name c.in_ok-command.ensures.ok c.in-Bench.is in
-    let it = IsCause-device h c.in-Bench.name _ _ route c.in_err-device-in-Bench.ensures.err
+    let it = IsCause-device h c.in-Bench.name _ None _ route c.in_err-device-in-Bench.ensures.err
     (λ f. c.in_err-device-in-Bench.ensures.calm (λ e. f (device_failed _ _ _ refl e))) in
     rw (p.1, p.2) it
 
 pub returns-in_ok-route_on-in-Route-clause-made : goal.returns-in_ok-route_on-in-Route-clause-made
 returns-in_ok-route_on-in-Route-clause-made g c =
     λ text line is. Delivers-routed (map (λ w. w.now) c.args.words.now) (g.F.Shelf.content c.args.shelf.now) c.in_ok-command.command c.in-Route.name
-    c.in-Route.trivial c.in-Route.trace c.in-Route.keep_barriers c.in-Route.clean (g.I.Source.left c.args.input.now) (g.I.Source.left c.read_source-in-Route.new.input) c.in_ok-source-in-Route.source
+    c.in-Route.trivial c.in-Route.initial c.in-Route.trace c.in-Route.keep_barriers c.in-Route.clean (g.I.Source.left c.args.input.now) (g.I.Source.left c.read_source-in-Route.new.input) c.in_ok-source-in-Route.source
     c.in_ok-device-in-Route.device c.wires.result text line c.in_ok-command.ensures.ok c.in-Route.is
-    c.in_ok-source-in-Route.ensures.ok c.in_ok-device-in-Route.ensures.ok (c.in_ok-route_on-in-Route.ensures.made text line is)
+    c.in_ok-source-in-Route.ensures.ok c.in_ok-device-in-Route.ensures.ok c.wires.ensures.value
+    (subst (λ o. Rewrites c.in_ok-source-in-Route.source c.in-Route.keep_barriers c.in-Route.trace (IsOnQubits c.in_ok-device-in-Route.device o c.in-Route.clean
+    c.in_ok-source-in-Route.source) text line) (c.in_ok-chosen-in-Route.ensures.value ∙ ap (chosen_start c.in-Route.trivial c.in-Route.initial) c.size.ensures.size)
+    (c.in_ok-route_on-in-Route.ensures.made text line is))
 
 pub returns-in_ok-route_on-in-Bench-clause-made : goal.returns-in_ok-route_on-in-Bench-clause-made
 returns-in_ok-route_on-in-Bench-clause-made g c =
     λ text line is. Delivers-drawn (map (λ w. w.now) c.args.words.now) (g.F.Shelf.content c.args.shelf.now) c.in_ok-command.command c.in-Bench.start
     c.in-Bench.gates c.in-Bench.name (g.I.Source.left c.args.input.now) (g.I.Source.left c.args.input.now) c.in_ok-source-in-Bench.source
-    c.in_ok-device-in-Bench.device 0 text line c.in_ok-command.ensures.ok c.in-Bench.is c.in_ok-device-in-Bench.ensures.ok
-    (c.in_ok-source-in-Bench.ensures.drawn ∙ ap (λ k. drawn_program c.in-Bench.start c.in-Bench.gates k) c.size.ensures.size)
+    c.in_ok-device-in-Bench.device 0 None text line c.in_ok-command.ensures.ok c.in-Bench.is c.in_ok-device-in-Bench.ensures.ok
+    (c.in_ok-source-in-Bench.ensures.drawn ∙ ap (λ k. drawn_program c.in-Bench.start c.in-Bench.gates k) c.size-in-Bench.ensures.size)
     (c.in_ok-route_on-in-Bench.ensures.made text line is)
 
 pub returns-in_err-entry_answer-in-Amplitude-clause-stop : goal.returns-in_err-entry_answer-in-Amplitude-clause-stop
