@@ -63,7 +63,7 @@ HERE = pathlib.Path(__file__).resolve().parent
 
 # What each fault means, by its name in the fault line; braces hold keys of that line.
 SAYS = {
-    "Words": "the words mean no command, or `--trace` stands beside `--keep-barriers` or `--clean`, or `--spares` beside `--keep-barriers`; the manual, `man docs/qroute.1`, has them all",
+    "Words": "the words mean no command, or `--trace` stands beside `--keep-barriers` or `--clean`, or `--spares` beside `--keep-barriers`, or `--initial` beside `--trivial`; the manual, `man docs/qroute.1`, has them all",
     "Input": "the input failed, before its end was read",
     "Output": "the output failed: it holds some first part of the program",
     "Shelf": "a file that was named could not be read",
@@ -102,6 +102,7 @@ SAYS = {
     "EdgeCost": "the cost of the edge from qubit {from} to qubit {to} isn't from 1 to 1,000,000",
     "NotConnected": "there is no way from qubit {from} to qubit {to}",
     "TooFewQubits": "the device has {device} qubits, and the program {qubits}",
+    "Initial": "the list of qubits hasn't one for each of the program's {qubits}, or has one that the device, of {device}, lacks",
     "TextTooLong": "the program is longer than {most:,} bytes",
     "WideProgram": "amplitudes are those of at most 12 qubits, and the program has {qubits}",
     "ManyBranches": "amplitudes are those of at most 60 gates that branch, and the program has {branches}",
@@ -181,7 +182,7 @@ class NotShown(Fault):
 
 
 class DeviceRefused(Fault):
-    """The device was refused, or it has fewer qubits than the program."""
+    """The device was refused, or it has fewer qubits than the program, or the list of its qubits for the program's doesn't fit."""
 
 
 class StreamFault(Fault):
@@ -539,6 +540,11 @@ def spare_words(spares: int | None) -> list[str]:
     return [] if spares is None else ["--spares", str(spares)]
 
 
+def initial_words(initial: collections.abc.Iterable[int] | None) -> list[str]:
+    """The words of a command line by which the wires begin on these qubits."""
+    return [] if initial is None else [f"--initial={','.join(map(str, initial))}"]
+
+
 def opt(
     text: str | bytes,
     *,
@@ -578,6 +584,7 @@ def route(
     device: Device,
     trivial: bool = False,
     *,
+    initial: collections.abc.Iterable[int] | None = None,
     trace: bool = False,
     keep_barriers: bool = False,
     clean: bool = False,
@@ -585,7 +592,10 @@ def route(
     within: float = 1e-9,
     timeout: float | None = None,
 ) -> Result:
-    """The program on the qubits of a device; with `trivial` wire i begins on qubit i.
+    """The program on the qubits of a device; with `trivial` wire i begins on qubit i, with `initial` on the i-th of these.
+
+    `initial` has a qubit of the device for each of the program's, none twice; spare wires begin on those that are left, ascending.
+    It goes neither with `trivial` nor with `any_gates` (ValueError).
 
     With `trace` its text is followed by its trace. With `keep_barriers` its barriers are kept, as by `opt`, and with `clean` gates
     that cancel once they are routed are taken out; a trace can be asked for with neither of the two (ValueError).
@@ -599,6 +609,8 @@ def route(
     """
     if trace and (keep_barriers or clean or any_gates):
         raise ValueError("there are no traces of programs whose barriers are kept, that are cleaned, or that have any gates")
+    if initial is not None and (trivial or any_gates):
+        raise ValueError("a list of qubits stands neither beside `trivial` nor beside `any_gates`")
     if any_gates:
         asked: dict[str, typing.Any] = {"trivial": trivial, "keep_barriers": keep_barriers, "clean": clean, "within": within, "timeout": timeout}
         return whole.route(text, device, **asked)
@@ -606,7 +618,8 @@ def route(
         path = os.path.join(room, "device.toml")
         with open(path, "w", encoding="utf-8") as file:
             file.write(device.text)
-        words = ["route", "--device", path, *flags(trivial=trivial, trace=trace, keep_barriers=keep_barriers, clean=clean)]
+        words = ["route", "--device", path, *flags(trivial=trivial), *initial_words(initial)]
+        words += flags(trace=trace, keep_barriers=keep_barriers, clean=clean)
         return result(*run(words, as_bytes(text), timeout))
 
 

@@ -20,7 +20,10 @@ _qroute() {
             ;;
         stages) options=--spares ;;
         route)
-            options="--device --trivial"
+            options=--device
+            # the wires begin in one way
+            [[ " ${COMP_WORDS[*]:2} " == *" --initial "* ]] || options+=" --trivial"
+            [[ " ${COMP_WORDS[*]:2} " == *" --trivial "* ]] || options+=" --initial"
             # a trace stands with neither of the other two
             [[ " ${COMP_WORDS[*]:2} " == *" --keep-barriers "* || " ${COMP_WORDS[*]:2} " == *" --clean "* ]] || options+=" --trace"
             [[ " ${COMP_WORDS[*]:2} " == *" --trace "* ]] || options+=" --keep-barriers --clean"
@@ -30,7 +33,7 @@ _qroute() {
         bench) options="--start --gates --device" ;;
     esac
     case "$before" in
-        --start | --gates | --from | --to | --spares) return ;;
+        --start | --gates | --from | --to | --spares | --initial) return ;;
         --device) ending=toml ;;
         --source | --target) ending=qasm ;;
     esac

@@ -30,6 +30,7 @@ class Completions(unittest.TestCase):
         asked qroute opt --; asked qroute opt --keep-barriers --; asked qroute route --device d.toml --clean --
         asked qroute route --keep-barriers --device d.toml --
         asked qroute opt --spares 4 --; asked qroute opt --spares ''; asked qroute stages --; asked qroute stages --spares 4 --
+        asked qroute route --initial 0,1 --; asked qroute route --initial ''
         cd devices; asked qroute route --device =
         """
         *found, devices = said("bash", "-c", script).splitlines()
@@ -37,13 +38,13 @@ class Completions(unittest.TestCase):
         self.assertEqual(
             found,
             [
-                *("opt route verify check stages amplitude bench", "route", "--device --trivial --trace --keep-barriers --clean"),
+                *("opt route verify check stages amplitude bench", "route", "--device --trivial --initial --trace --keep-barriers --clean"),
                 *("--device --trace --keep-barriers --clean", "--keep-barriers --spares"),
-                *("devices/line_5.toml", "--trivial", "--source --target", "--target", "examples/bell.qasm", "", "examples/ghz.qasm"),
+                *("devices/line_5.toml", "--trivial --initial", "--source --target", "--target", "examples/bell.qasm", "", "examples/ghz.qasm"),
                 *("--start --gates --device", "--start --device", "", "devices/line_5.toml"),
-                *("devices/line_5.toml", "--trivial --trace --keep-barriers --clean", "", "--from --to", "--to"),
-                *("--keep-barriers --spares", "", "--trivial --keep-barriers", "--trivial --clean"),
-                *("", "", "--spares", ""),
+                *("devices/line_5.toml", "--trivial --initial --trace --keep-barriers --clean", "", "--from --to", "--to"),
+                *("--keep-barriers --spares", "", "--trivial --initial --keep-barriers", "--trivial --initial --clean"),
+                *("", "", "--spares", "", "--device --trace --keep-barriers --clean", ""),
             ],
         )
 
@@ -54,9 +55,10 @@ class Completions(unittest.TestCase):
             return [it.split("\t")[0] for it in out.splitlines()]
 
         self.assertEqual(sorted(asked("qroute ")), ["amplitude", "bench", "check", "opt", "route", "stages", "verify"])
-        self.assertEqual(sorted(asked("qroute route --")), ["--clean", "--device", "--keep-barriers", "--trace", "--trivial"])
-        self.assertEqual(sorted(asked("qroute route --device d.toml --trace --")), ["--device", "--trivial"])
-        self.assertEqual(sorted(asked("qroute route --device d.toml --clean --")), ["--device", "--keep-barriers", "--trivial"])
+        self.assertEqual(sorted(asked("qroute route --")), ["--clean", "--device", "--initial", "--keep-barriers", "--trace", "--trivial"])
+        self.assertEqual(sorted(asked("qroute route --device d.toml --trace --")), ["--device", "--initial", "--trivial"])
+        self.assertEqual(sorted(asked("qroute route --initial 0,1 --")), ["--clean", "--device", "--keep-barriers", "--trace"])
+        self.assertEqual(sorted(asked("qroute route --device d.toml --clean --")), ["--device", "--initial", "--keep-barriers", "--trivial"])
         self.assertEqual(sorted(asked("qroute opt --")), ["--keep-barriers", "--spares"])
         self.assertEqual(asked("qroute opt --spares 4 --"), [])
         self.assertEqual(asked("qroute opt --keep-barriers --"), [])

@@ -97,6 +97,21 @@ class Module(StoodIn):
             with self.assertRaises(ValueError):
                 qroute.route(SOURCE, device, trace=True, **more)
 
+    def test_initial(self):
+        self.answers(0, "written\n", REPORT)
+        device = qroute.Device.of([(0, 1), (2, 1)])
+        self.assertEqual(qroute.route(SOURCE, device, initial=[2, 0], trace=True).text, "written\n")
+        self.assertEqual(self.given("words").split()[3:], ["--initial=2,0", "--trace"])
+        qroute.route(SOURCE, device, initial=iter((1,)), keep_barriers=True, clean=True)
+        self.assertEqual(self.given("words").split()[3:], ["--initial=1", "--keep-barriers", "--clean"])
+        for more in ({"trivial": True}, {"any_gates": True}):
+            with self.assertRaises(ValueError):
+                qroute.route(SOURCE, device, initial=[2, 0], **more)
+        told = {"code": 58, "device": 3, "fault": "Initial", "qubits": 2, "status": 4}
+        fault = self.fault(qroute.DeviceRefused, 4, told, lambda: qroute.route(SOURCE, device, initial=[3, 0]))
+        self.assertEqual((fault.code, fault.told["device"]), (58, 3))
+        self.assertEqual(str(fault), "Initial: the list of qubits hasn't one for each of the program's 2, or has one that the device, of 3, lacks")
+
     def test_spares(self):
         told = {"format": 4, "device": 4, "qubits": 2, "spares": 2, "swaps": 0, "initial": [0, 1, 2, 3], "final": [0, 1, 2, 3]}
         self.answers(0, "written\n", REPORT | told)

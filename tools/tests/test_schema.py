@@ -34,6 +34,7 @@ FAULTS = [
     {"code": 60, "fault": "TextTooLong", "status": 3},
     {"code": 54, "fault": "NotConnected", "from": 0, "status": 4, "to": 1},
     {"code": 56, "device": 5, "fault": "TooFewQubits", "qubits": 6, "status": 4},
+    {"code": 58, "device": 5, "fault": "Initial", "qubits": 3, "status": 4},
     {"fault": "Trace", "line": 5, "status": 1},
     {"code": 12, "fault": "Syntax", "place": 32, "status": 3, "text": "source"},
     {"code": 60, "fault": "TextTooLong", "status": 3, "text": "target"},
