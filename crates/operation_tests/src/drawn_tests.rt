@@ -1,39 +1,40 @@
 //! Programs that are drawn against those that a program of its own computed.
 
 use bench_program::made;
-use gate_expand::Ops;
 use std::alloc::{AllocError, Global};
 use std::test::Fail;
-use test_rows::{field, small, word};
+use test_rows::{Wrong, each_row, field, small, word};
 use unitary_model::Op;
 
-/// The operations with their wires, as `u204.1 cx0.2 `.
-fn told(alloc: Global, program: &Ops) -> Result<String, AllocError> {
+/// Some operations with their wires, as `u204.1 cx0.2 `.
+fn told(alloc: Global, ops: &[Op]) -> Result<String, AllocError> {
     let mut text = String::new(alloc);
-    'ops: for op in program.list.as_slice() {
-        let word = match *op {
-            Op::U { a, b, c, q } => format!(in alloc; "u{a}{b}{c}.{q} ")?,
-            Op::Cx { c, t } => format!(in alloc; "cx{c}.{t} ")?,
-        };
-        text.push_str(word.as_str())?;
+    'ops: for op in ops {
+        match *op {
+            Op::U { a, b, c, q } => write!(text, "u{a}{b}{c}.{q} ")?,
+            Op::Cx { c, t } => write!(text, "cx{c}.{t} ")?,
+        }
     }
     Ok(text)
+}
+
+/// The operations of the program that is drawn from a start, if there is one.
+fn drawn(alloc: Global, start: u32, gates: u32, size: u32) -> Result<String, AllocError> {
+    if gates > 20_000 || size == 0 || size > 256 {
+        return String::from_str(alloc, "no program");
+    }
+    let program = made(alloc, start, gates, size)?;
+    if program.wires != size || !program.reads.as_slice().is_empty() {
+        return String::from_str(alloc, "other wires");
+    }
+    told(alloc, program.list.as_slice())
 }
 
 /// Whether the program of a row's start, gates and wires has the row's operations.
 fn is_drawn(alloc: Global, row: &str) -> Result<bool, AllocError> {
     let head = field(row, 0);
-    let (start, gates, size) = (small(head, 0), small(head, 1), small(head, 2));
-    if gates > 20_000 || size == 0 || size > 256 {
-        return Ok(false);
-    }
-    let program = made(alloc, start, gates, size)?;
-    let text = told(alloc, &program)?;
-    Ok(
-        text.as_str().strip_suffix(' ').unwrap_or("") == field(row, 1)
-            && program.wires == size
-            && program.reads.as_slice().is_empty(),
-    )
+    let text = drawn(alloc, small(head, 0), small(head, 1), small(head, 2))?;
+    Ok(text.as_str().strip_suffix(' ').unwrap_or("") == field(row, 1))
 }
 
 /// Start, gates and wires, and the operations, which a program of its own computed.
@@ -46,83 +47,46 @@ const PROGRAMS: &str = "\
 2 0 3|";
 
 #[test]
-fn programs(rt: HostRuntime) -> Result<(), Fail> {
-    'rows: for row in PROGRAMS.split('\n') {
-        assert!(rt; is_drawn(rt.alloc(), row)?, "{row}");
-    }
-    Ok(())
+fn programs(rt: HostRuntime) -> Result<(), Wrong> {
+    each_row(rt.alloc(), PROGRAMS, "\n", is_drawn)
 }
 
-/// The name of the gate of a number that is drawn, as `specs/Program.antt` of `bench_program` has them, on two wires or more.
+/// The gate of a number that is drawn, as `specs/Program.antt` of `bench_program` has them, on two wires or more.
 fn kind(number: u32) -> &'static str {
-    word("h t tdg s x cx cx cx", (number % 8) as usize)
+    word(
+        "u204. u001. u007. u002. u404. cx cx cx",
+        (number % 8) as usize,
+    )
 }
 
-/// The name of an operation, if it may be drawn.
-fn name(op: &Op) -> &'static str {
-    match *op {
-        Op::Cx { .. } => "cx",
-        Op::U {
-            a: 2,
-            b: 0,
-            c: 4,
-            ..
-        } => "h",
-        Op::U {
-            a: 0,
-            b: 0,
-            c: 1,
-            ..
-        } => "t",
-        Op::U {
-            a: 0,
-            b: 0,
-            c: 7,
-            ..
-        } => "tdg",
-        Op::U {
-            a: 0,
-            b: 0,
-            c: 2,
-            ..
-        } => "s",
-        Op::U {
-            a: 4,
-            b: 0,
-            c: 4,
-            ..
-        } => "x",
-        _ => "none",
-    }
-}
-
-/// Whether an operation is the CNOT of three numbers that are drawn: its kind, its control, and the steps to its target.
-fn is_first(op: &Op, row: &str, size: u32) -> bool {
+/// Whether a word is the CNOT of three numbers that are drawn: its kind, its control, and the steps to its target.
+fn is_first(told: &str, row: &str, size: u32) -> bool {
     let (control, steps) = (small(row, 2), small(row, 3));
-    match *op {
-        Op::Cx { c, t } => {
-            size > 1
-                && kind(small(row, 1)) == "cx"
-                && c == control % size
-                && t == c.wrapping_add(1).wrapping_add(steps % (size - 1)) % size
-        }
-        Op::U { .. } => false,
+    let Some((c, t)) = told.strip_prefix("cx").unwrap_or("").split_once('.') else {
+        return false;
+    };
+    if size < 2 || kind(small(row, 1)) != "cx" {
+        return false;
     }
+    let (c, t) = (small(c, 0), small(t, 0));
+    c == control % size && t == c.wrapping_add(1).wrapping_add(steps % (size - 1)) % size
 }
 
 /// Whether the first two gates from a row's start are those of the row's numbers: three for a CNOT, and the next gate's kind.
-fn is_of_draws(alloc: Global, row: &str, size: u32) -> Result<bool, AllocError> {
-    if size < 2 || size > 256 {
-        return Ok(false);
+fn is_on(alloc: Global, row: &str, size: u32) -> Result<bool, AllocError> {
+    let text = drawn(alloc, small(row, 0), 2, size)?;
+    let told = text.as_str();
+    Ok(is_first(word(told, 0), row, size) && word(told, 1).starts_with(kind(small(row, 4))))
+}
+
+/// The same on each of four numbers of wires.
+fn is_of_draws(alloc: Global, row: &str) -> Result<bool, AllocError> {
+    'sizes: for size in [256u32, 255, 253, 251] {
+        if !is_on(alloc, row, size)? {
+            return Ok(false);
+        }
     }
-    let program = made(alloc, small(row, 0), 2, size)?;
-    let Some((first, rest)) = program.list.as_slice().split_first() else {
-        return Ok(false);
-    };
-    let Some(second) = rest.first() else {
-        return Ok(false);
-    };
-    Ok(is_first(first, row, size) && name(second) == kind(small(row, 4)))
+    Ok(true)
 }
 
 /// A start, and the first four numbers that are drawn from it, which a program of its own computed.
@@ -134,29 +98,15 @@ const DRAWS: &str = "\
 
 /// By the wires of the first gate among 256, 255, 253 and 251, the second number is told from all others below 2^31.
 #[test]
-fn first_draws(rt: HostRuntime) -> Result<(), Fail> {
-    'rows: for row in DRAWS.split('\n') {
-        'sizes: for size in [256u32, 255, 253, 251] {
-            assert!(rt;
-                is_of_draws(rt.alloc(), row, size)?,
-                "{row} on {size} wires"
-            );
-        }
-    }
-    Ok(())
+fn first_draws(rt: HostRuntime) -> Result<(), Wrong> {
+    each_row(rt.alloc(), DRAWS, "\n", is_of_draws)
 }
 
 /// The last operation was computed by a program of its own.
 #[test]
 fn longest_program(rt: HostRuntime) -> Result<(), Fail> {
-    let program = made(rt.alloc(), 12, 20000, 64)?;
-    let list = program.list.as_slice();
-    let last = Op::U {
-        a: 4,
-        b: 0,
-        c: 4,
-        q: 5,
-    };
-    assert!(rt; list.len() == 20000 && list.last() == Some(&last));
+    let text = drawn(rt.alloc(), 12, 20000, 64)?;
+    let count = text.as_str().split(' ').count();
+    assert!(rt; count == 20001 && text.as_str().ends_with(" u404.5 "));
     Ok(())
 }

@@ -8,7 +8,7 @@ use gate_expand::{OpList, Ops, ReadList, expand};
 use std::alloc::{AllocError, Global};
 use std::test::Fail;
 use test_circuits::{are_turned, gates_of, gates_of_text, operations};
-use test_rows::{field, word};
+use test_rows::{Wrong, each_row, field, word};
 use unitary_model::Op;
 
 /// The circuit of one operation on three wires.
@@ -25,8 +25,8 @@ fn expanded(alloc: Global, op: Op) -> Result<Passed, AllocError>
 
 /// Whether a circuit on three wires has the gates of a text, and the turn.
 fn is_passed(alloc: Global, passed: &Passed, gates: &str, turn: u8) -> Result<bool, AllocError> {
-    let is_same = gates_of(alloc, &passed.body)? == gates_of_text(alloc, gates)?;
-    Ok(is_same && passed.turn == turn && passed.body.wires() == 3)
+    let is_right = passed.turn == turn && passed.body.wires() == 3;
+    Ok(is_right && gates_of(alloc, &passed.body)? == gates_of_text(alloc, gates)?)
 }
 
 /// The angle of a row at an index, or one that no row has.
@@ -61,11 +61,8 @@ const ROWS: &str = "\
 7 7 7|5.0 h.0 7.0 h.0 1.0|2";
 
 #[test]
-fn rows_by_hand(rt: HostRuntime) -> Result<(), Fail> {
-    'rows: for row in ROWS.split('\n') {
-        assert!(rt; is_expanded(rt.alloc(), row)?, "{row}");
-    }
-    Ok(())
+fn rows_by_hand(rt: HostRuntime) -> Result<(), Wrong> {
+    each_row(rt.alloc(), ROWS, "\n", is_expanded)
 }
 
 #[test]

@@ -1,12 +1,11 @@
-//! Tests of `unitary_reference`, `gate_expand`, `amplitude_exact` and `bench_program`: entries and counts by hand, the table of gates, and
-//! drawn programs.
+//! Tests of `unitary_reference`, `gate_expand` and `bench_program`: entries and counts by hand, the table of gates, and drawn programs.
+//!
+//! The entries that `amplitude_exact` computes stand in `cases/entries.txt`, as runs of `amplitude`.
 //!
 //! Each test function is proved too, so they are in a crate of their own: the crates below are proved once. A proof is long for
-//! each assert in a loop, and so a test has one: small functions judge a row of a text by a bool.
+//! each assert in a loop, so a test hands its rows and the function that judges one of them to `each_row`.
 #![tactic(auto)]
 
-#[cfg(test)]
-mod amplitude_tests;
 #[cfg(test)]
 mod drawn_tests;
 #[cfg(test)]

@@ -1,13 +1,15 @@
 //! Values by hand.
 
 ghost use Rattle.std.specs.Prelude.{◌^◌, ◌<◌, ◌≤◌};
-ghost use Rattle.unitary_model.specs.Operations.{weight, t_count, cx_count, WiresBelow};
+ghost use Rattle.unitary_model.specs.Operations.{t_count, cx_count, WiresBelow};
 ghost use Rattle.unitary_model.specs.OddPaths.{walked_all, first_walk};
 
 use gate_expand::{cx_count_of, t_count_of};
 use std::alloc::{AllocError, Global};
+use std::test::Fail;
+use test_circuits::entry;
+use test_rows::{Wrong, each_row, word};
 use unitary_model::Op;
-use unitary_reference::entries::amplitude_of;
 use unitary_reference::paths::odd_paths_of;
 
 const H: Op = Op::U {
@@ -47,60 +49,99 @@ const BELOW: Op = Op::U {
     q: 1,
 };
 
-fn entry(ops: &[Op], from: [bool; 2], to: [bool; 2]) -> (i64, i64, i64, i64)
-    requires operations_limit { weight ops.now ≤ 20 }
-{
-    let mut bits = from;
-    let value = amplitude_of(ops, &mut bits, &to);
-    (value.a, value.b, value.c, value.d)
+/// The operation of a letter, `u` being `ODD`.
+fn op_of(letter: u8) -> Op {
+    match letter {
+        b'h' => H,
+        b'x' => X,
+        b't' => T,
+        b'u' => ODD,
+        _ => CX,
+    }
 }
 
-// H is w times the usual matrix, X is w^2 times, and T is 1 and w; an entry is taken times
-// 2^weight. So H has 2 w / sqrt 2 = w sqrt 2 = 1 + w^2, and H H is w^2.
+/// The operations of some letters.
+fn ops_of(alloc: Global, letters: &str) -> Result<Vec<Op>, AllocError> {
+    let mut ops = Vec::new(alloc);
+    'letters: for letter in letters.as_bytes() {
+        ops.push(op_of(*letter))?;
+    }
+    Ok(ops)
+}
+
+/// Whether the entry of some operations from two bits to two bits is that of a row.
+fn has_entry(ops: &[Op], row: &str) -> bool {
+    let (from, to) = (word(row, 1).as_bytes(), word(row, 2).as_bytes());
+    let ([a, b], [c, d]) = (from, to) else {
+        return false;
+    };
+    if ops.len() > 20 {
+        return false;
+    }
+    let mut bits = [*a == b'1', *b == b'1'];
+    let value = entry(ops, &mut bits, &[*c == b'1', *d == b'1']);
+    signed(row, 3) == value.a
+        && signed(row, 4) == value.b
+        && signed(row, 5) == value.c
+        && signed(row, 6) == value.d
+}
+
+/// The number of a row at an index.
+fn signed(row: &str, at: usize) -> i64 {
+    word(row, at).parse::<i64>().unwrap_or(7777)
+}
+
+fn is_entry(alloc: Global, row: &str) -> Result<bool, AllocError> {
+    let ops = ops_of(alloc, word(row, 0))?;
+    Ok(has_entry(&ops, row))
+}
+
+/// Operations on two wires, by their letters, the bits from which and to which, and the four parts of the entry. H is w times the
+/// usual matrix, X is w^2 times, and T is 1 and w; an entry is taken times 2^weight. So H has 2 w / sqrt 2 = w sqrt 2 = 1 + w^2,
+/// and H H is w^2.
+const ENTRIES: &str = "\
+- 00 00 1 0 0 0
+- 00 10 0 0 0 0
+h 00 10 1 0 1 0
+h 10 10 -1 0 -1 0
+x 10 00 0 0 2 0
+x 10 10 0 0 0 0
+t 00 00 2 0 0 0
+t 10 10 0 2 0 0
+u 00 10 -1 1 0 0
+u 10 00 0 1 -1 0
+u 10 10 0 -1 -1 0
+c 10 11 1 0 0 0
+hh 10 10 0 0 4 0
+hh 00 10 0 0 0 0
+xx 00 00 -4 0 0 0
+hc 00 11 1 0 1 0
+hc 00 10 0 0 0 0";
+
 #[test]
-fn entries_by_hand(rt: HostRuntime) {
-    let (o, i) = ([false, false], [true, false]);
-    assert!(rt; entry(&[], o, o) == (1, 0, 0, 0));
-    assert!(rt; entry(&[], o, i) == (0, 0, 0, 0));
-    assert!(rt; entry(&[H], o, i) == (1, 0, 1, 0));
-    assert!(rt; entry(&[H], i, i) == (-1, 0, -1, 0));
-    assert!(rt; entry(&[X], i, o) == (0, 0, 2, 0));
-    assert!(rt; entry(&[X], i, i) == (0, 0, 0, 0));
-    assert!(rt; entry(&[T], o, o) == (2, 0, 0, 0));
-    assert!(rt; entry(&[T], i, i) == (0, 2, 0, 0));
-    assert!(rt; entry(&[ODD], o, i) == (-1, 1, 0, 0));
-    assert!(rt; entry(&[ODD], i, o) == (0, 1, -1, 0));
-    assert!(rt; entry(&[ODD], i, i) == (0, -1, -1, 0));
-    assert!(rt; entry(&[CX], i, [true, true]) == (1, 0, 0, 0));
-    assert!(rt; entry(&[H, H], i, i) == (0, 0, 4, 0));
-    assert!(rt; entry(&[H, H], o, i) == (0, 0, 0, 0));
-    assert!(rt; entry(&[X, X], o, o) == (-4, 0, 0, 0));
-    assert!(rt; entry(&[H, CX], o, [true, true]) == (1, 0, 1, 0));
-    assert!(rt; entry(&[H, CX], o, i) == (0, 0, 0, 0));
+fn entries_by_hand(rt: HostRuntime) -> Result<(), Wrong> {
+    each_row(rt.alloc(), ENTRIES, "\n", is_entry)
 }
 
-fn counts(alloc: Global, ops: &[Op]) -> Result<(u64, u64, usize), AllocError>
+/// Whether there are so many T gates, CNOTs and odd path parities.
+fn has_counts(alloc: Global, ops: &[Op], t: u64, cx: u64, odd: usize) -> Result<bool, AllocError>
     requires few_t { t_count ops.now < 2 ^ 64 }
     requires few_cx { cx_count ops.now < 2 ^ 64 }
     requires below { WiresBelow 2 ops.now }
     requires variables { (walked_all ops.now (first_walk 2)).unused ≤ 64 }
 {
-    Ok((
-        t_count_of(ops),
-        cx_count_of(ops),
-        odd_paths_of(alloc, 2, ops)?,
-    ))
+    Ok(t_count_of(ops) == t && cx_count_of(ops) == cx && odd_paths_of(alloc, 2, ops)? == odd)
 }
 
 // T T on one path is no T; T H H T is on two paths; of three T on the lower wire two are on its own
 // path, and the one between two CNOTs is on the sum of both.
 #[test]
-fn counts_by_hand(rt: HostRuntime) -> Result<(), AllocError> {
+fn counts_by_hand(rt: HostRuntime) -> Result<(), Fail> {
     let alloc = rt.alloc();
-    assert!(rt; counts(alloc, &[T, T])? == (2, 0, 0));
-    assert!(rt; counts(alloc, &[T, H, H, T])? == (2, 0, 2));
-    assert!(rt; counts(alloc, &[H, T])? == (1, 0, 1));
-    assert!(rt; counts(alloc, &[ODD])? == (2, 0, 2));
-    assert!(rt; counts(alloc, &[BELOW, CX, BELOW, CX, BELOW])? == (3, 2, 1));
+    assert!(rt; has_counts(alloc, &[T, T], 2, 0, 0)?);
+    assert!(rt; has_counts(alloc, &[T, H, H, T], 2, 0, 2)?);
+    assert!(rt; has_counts(alloc, &[H, T], 1, 0, 1)?);
+    assert!(rt; has_counts(alloc, &[ODD], 2, 0, 2)?);
+    assert!(rt; has_counts(alloc, &[BELOW, CX, BELOW, CX, BELOW], 3, 2, 1)?);
     Ok(())
 }
