@@ -119,29 +119,33 @@ class Examples(AnyGates):
 
 
     def test_large_ones_are_simulated(self):
-        """All others but two, in whose states each of 2^24 terms, or of 2^64, comes up; numpy holds a million."""
+        """The others, by turns on one of the devices: all but two, whose states have 2^24 terms or more; there is room for a million."""
         if simulation.numpy is None or not ALL:
             self.skipTest("numpy isn't installed" if ALL else "it takes minutes, so it runs with QROUTE_TEST_ALL alone")
         left = set()
-        for path in sorted(glob.glob(f"{TOP}/examples/literature/*.qasm")):
+        for turn, path in enumerate(sorted(glob.glob(f"{TOP}/examples/literature/*.qasm"))):
             program = qasm.read(qasm.text_in(path))
             size, name = len(program.wires), os.path.basename(path).removesuffix(".qasm")
-            for device in [qroute.Device.named(it) for it in DEVICES] if size > 8 or len(program.steps) > 150 else []:
-                if size > device.qubits() or name in left:
-                    continue
-                found = qroute.route(qasm.text_in(path), device, any_gates=True)
-                dice = simulation.drawn(size)
-                state = {dice.getrandbits(size): 0.6, dice.getrandbits(size): 0.8j}
-                source, target = simulation.Terms(state, size), simulation.Terms(simulation.placed(state, found.initial, size), device.qubits())
-                try:
-                    reads = source.run(simulation.statements(program))
-                    ends = target.run(simulation.statements(qasm.read(found.text, qasm.MOST_ITEMS)))
-                except simulation.TooMany:
-                    left.add(name)
-                    continue
-                self.assertLess(source.apart(target, list(found.final[:size])), 1e-7, f"{name} on {device.name}")
-                self.assertEqual(ends, {bit: found.final[wire] for bit, wire in reads.items()}, f"{name} on {device.name}")
+            if size <= 8 and len(program.steps) <= 150:
+                continue
+            devices = [it for it in map(qroute.Device.named, DEVICES) if size <= it.qubits()]
+            try:
+                self.compare_large(program, qasm.text_in(path), devices[turn % len(devices)], name)
+            except simulation.TooMany:
+                left.add(name)
         self.assertEqual(left, {"qft_cut_64", "surface_code_5"})
+
+    def compare_large(self, program, text, device, name):
+        """Simulates a program, and what becomes of it on a device, from a state of two terms."""
+        size = len(program.wires)
+        found = qroute.route(text, device, any_gates=True)
+        dice = simulation.drawn(size)
+        state = {dice.getrandbits(size): 0.6, dice.getrandbits(size): 0.8j}
+        source, target = simulation.Terms(state, size), simulation.Terms(simulation.placed(state, found.initial, size), device.qubits())
+        reads = source.run(simulation.statements(program))
+        ends = target.run(simulation.statements(qasm.read(found.text, qasm.MOST_ITEMS)))
+        self.assertLess(source.apart(target, list(found.final[:size])), 1e-7, f"{name} on {device.name}")
+        self.assertEqual(ends, {bit: found.final[wire] for bit, wire in reads.items()}, f"{name} on {device.name}")
 
 
 class Styles(AnyGates):
