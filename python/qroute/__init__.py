@@ -36,6 +36,7 @@ __all__ = [
     "Device",
     "DeviceRefused",
     "Fault",
+    "Layout",
     "Metrics",
     "NoCommand",
     "NoMemory",
@@ -52,6 +53,7 @@ __all__ = [
     "amplitude",
     "check",
     "opt",
+    "perfect_layout",
     "program",
     "route",
     "stages",
@@ -684,6 +686,7 @@ def amplitude(text: str | bytes, begins: str, ends: str, *, timeout: float | Non
     return a, b, c, d, e
 
 
-from . import metrics, whole  # at the end, since they stand on what is above
+from . import layouts, metrics, whole  # at the end, since they stand on what is above
+from .layouts import Layout, perfect_layout
 from .metrics import Metrics
 from .whole import AnyGates, Unreadable
