@@ -504,10 +504,13 @@ def count(text: str) -> int:
 
 
 def options_of(command: str) -> dict[str, type]:
-    """The options that the module's function of this name takes, with the type of each: bool, int, float or str."""
+    """The options that the module's function of this name takes, with the type of each: bool, int, float or str.
+
+    A list of qubits isn't one of them, since it is for programs of one size.
+    """
     found = {}
     for name, it in inspect.signature(getattr(qroute, command)).parameters.items():
-        if name not in ("text", "device", "timeout"):
+        if name not in ("text", "device", "initial", "timeout"):
             kind = str(it.annotation)
             found[name] = next((it for it in (bool, int, float) if it.__name__ in kind.split(" | ")), str)
     return found
