@@ -4,7 +4,7 @@
 --   cut-targets            the target's parts
 --   IsPutTogether          what is known of a source and of the parts that are written for it
 --   StandsFor-put_together, Stands-still, Stands-legs   then the target stands for the source
-use Rattle.std.proofs.Common.{◌≡◌, inl, inr, ℕ, ◌+◌, ◌*◌, ◌%◌, ◌<◌, ◌≤◌, Bool, true, false, List, ◌∷◌, None, All, length, map, refl, sym, ap, ◌∙◌, subst, []}
+use Rattle.std.proofs.Common.{◌≡◌, inl, inr, ℕ, ◌+◌, ◌*◌, ◌%◌, ◌≤◌, Bool, false, List, ◌∷◌, None, All, length, map, refl, sym, ap, ◌∙◌, subst, []}
 use Rattle.std.specs.Prelude.{Option, IfSome, is_some, sum_by}
 use Rattle.std.specs.List.{AllByRecursion, AllZip}
 use Rattle.std.proofs.lemmas.List.{length-map}

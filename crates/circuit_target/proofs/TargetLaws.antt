@@ -3,7 +3,7 @@
 --   IsOptimised-rewritten  expanded, and then rewritten to a settled circuit
 --   HasSteps-summed        .. with the steps that led there
 --   IsOwnTrace-run         the trace of the run proves what the target claims
-use Rattle.std.proofs.Common.{◌≡◌, ℕ, ◌+◌, ◌*◌, ◌%◌, ◌<◌, ◌≤◌, List, Option, None, Some, All, length, refl, sym, ◌∙◌, ap, subst, arith, is_some, []}
+use Rattle.std.proofs.Common.{◌≡◌, ℕ, ◌+◌, ◌%◌, ◌<◌, ◌≤◌, List, Option, None, Some, All, length, refl, sym, ◌∙◌, ap, subst, arith, is_some, []}
 use Rattle.std.specs.Prelude.{IfSome}
 use Rattle.circuit_list.specs.declared.Gate.{Gate}
 use Rattle.circuit_list.specs.Gates.{IsFine, ops}

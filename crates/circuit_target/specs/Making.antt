@@ -15,7 +15,7 @@
 --   lasts_but_one ms     where the wires stand at the end of each part but the last
 --   IsOnSize size m      the gates of a part are on so many qubits
 --   IsAssembled keep s ms t   the target is put together of what is written for the parts
-use Rattle.std.specs.Prelude.{◌≡◌, ℕ, ◌+◌, ◌*◌, ◌%◌, ◌<◌, ◌≤◌, Bool, false, List, ◌∷◌, All, IfSome, is_some, length, map, sum_by, []}
+use Rattle.std.specs.Prelude.{◌≡◌, ℕ, ◌+◌, ◌*◌, ◌%◌, ◌≤◌, Bool, false, List, ◌∷◌, All, IfSome, is_some, length, map, sum_by, []}
 use Rattle.circuit_list.specs.declared.Gate.{Gate}
 use Rattle.circuit_list.specs.Gates.{IsFine, ops}
 use Rattle.circuit_list.specs.declared.Passed.{Passed}

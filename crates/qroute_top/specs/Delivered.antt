@@ -18,7 +18,7 @@
 --                               is one part unless barriers are kept; a program that is drawn is told by the answer
 --   Delivers words content ..   the words mean a command, and the text and the line are its answer for such a program
 --   Delivered ..                some text and line are so, and this was done with them
-use Rattle.std.specs.Prelude.{◌≡◌, ℕ, ◌+◌, ◌*◌, ◌%◌, ◌≤◌, Bool, true, false, List, Option, None, Some, length, []}
+use Rattle.std.specs.Prelude.{◌≡◌, ℕ, Bool, true, false, List, Option, None, Some, length, []}
 use Rattle.outside_io.specs.Bytes.{TakesAll}
 use Rattle.outside_io.specs.Shelf.{TellsText}
 use Rattle.coupling_map.specs.Coupling.{Coupling}

@@ -8,7 +8,7 @@
 --   IsFitAnswer w          what is asked of an answer before it is done
 --   IsAnswerOf w ..          the text and the line that are right for an answer
 --   HasAnswer w Done       some text and line are right for the answer, and this was done with them
-use Rattle.std.specs.Prelude.{◌≡◌, ℕ, ◌<◌, ◌≤◌, Bool, true, false, List, []}
+use Rattle.std.specs.Prelude.{◌≡◌, ℕ, Bool, true, false, List, []}
 use Rattle.gate_inline.specs.Programs.{IsWritten, Program}
 use Rattle.route_report.specs.declared.lines.Report.{Report}
 use Rattle.route_report.specs.Lines.{report_line}

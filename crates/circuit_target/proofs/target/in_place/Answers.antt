@@ -1,5 +1,5 @@
 -- Wire for wire, part by part.
-use Rattle.std.proofs.Common.{◌≡◌, ◌≤◌, ◌<◌, ◌%◌, ◌∙◌, All, None, ap, length, map, refl, subst, sym}
+use Rattle.std.proofs.Common.{◌≤◌, ◌<◌, ◌%◌, ◌∙◌, All, None, ap, length, map, refl, subst, sym}
 use Rattle.std.proofs.lemmas.Slice.Zip.{AllZip-long}
 use Rattle.unitary_model.specs.Placement.{identity}
 use Rattle.circuit_target.specs.InParts.{placed_bars, told_parts}

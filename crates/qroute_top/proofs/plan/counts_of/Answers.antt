@@ -1,5 +1,5 @@
 -- The counts of one part more; all of them are few.
-use Rattle.std.proofs.Common.{◌≡◌, ◌+◌, ◌<◌, ◌≤◌, ◌∙◌, ap, arith, length, length-append}
+use Rattle.std.proofs.Common.{ap, arith, length, length-append}
 use Rattle.unitary_model.specs.Operations.{cx_count, t_count}
 use Rattle.unitary_model.proofs.Steps.{cx_count-append, t_count-append}
 use Rattle.qroute_top.proofs.PlanLaws.{counted-next, few_cx, few_cx_counts, few_t, few_t_counts}
