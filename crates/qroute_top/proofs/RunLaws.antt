@@ -185,14 +185,13 @@ pub IsCause-device : (h : Handed) (name : List ℕ) (n : ℕ) (initial : Option 
 IsCause-device h name n initial device_stop.NoMemory route r calm = tt
 IsCause-device h name n initial device_stop.Failed route r calm = (name, route.0, r)
 IsCause-device h name n initial device_stop.Absent route r calm = (name, route.0, r, calm (λ f. cc))
-IsCause-device h name n initial (device_stop.Refused x) route r calm =
-    (
-      name,
-      route.0,
-      subst (λ o. IsRefusedDevice (h.content name) route.0.wires o x) route.2
+IsCause-device h name n initial (device_stop.Refused x) route r calm = (
+  name,
+  route.0,
+  subst (λ o. IsRefusedDevice (h.content name) route.0.wires o x) route.2
       (subst (λ (m : ℕ). IsRefusedDevice (h.content name) m initial x) route.1 r),
-      calm (λ f. cc),
-    )
+  calm (λ f. cc),
+)
 
 -- a question is reached with a program that was read
 pub IsCause-question : (h : Handed) (c d : Command) (q : Question) (new : Option (List ℕ)) (p : Program) (e : QuestionStop) → command_of h.words ≡ Some c
@@ -608,7 +607,7 @@ told_device once h c name t q r (other, route, (u, tells, refusal), calm) a want
     let same = device_text (h.content other) t u there tells in
     let refused : IsDeviceRefusal t route.wires (initial_list route.command) r = rw same at refusal in
     let listed : IsDeviceRefusal t route.wires (initial_list c) r =
-        subst (λ x. IsDeviceRefusal t route.wires (initial_list x) r) (same_command h.words route.command c route.asked a.asked) refused in
+    subst (λ x. IsDeviceRefusal t route.wires (initial_list x) r) (same_command h.words route.command c route.asked a.asked) refused in
     subst (λ m. IsDeviceRefusal t m (initial_list c) r) (reached_needs once h other c q route a.asked a.needs) listed
 
 told_absent : (h : Handed) (c : Command) (name t : List ℕ) (q : ℕ) → IsCause h stop.Absent → IsAsked h c q → device_name c ≡ Some name
@@ -829,9 +828,9 @@ refused_or_routed once words content old new x l name c t q r d asked wants need
     let wires = had_needs once old new (reads_input d.command) (keeps_barriers d.command) q d.source there d.had in
     let fits : d.source.wires ≤ placed.device.size = rw (← placed.routed.qubits) on.answer.made.stands.unitary.fits in
     let listed : IsDeviceRefusal t q (initial_list d.command) r =
-        subst (λ y. IsDeviceRefusal t q (initial_list y) r) (same_command words c d.command asked d.asked) refusal in
+    subst (λ y. IsDeviceRefusal t q (initial_list y) r) (same_command words c d.command asked d.asked) refusal in
     let room = fits_needed d.command q d.source.wires placed.device.size
-            (λ reads. had_wires once old new (reads_input d.command) (keeps_barriers d.command) q d.source reads there d.had) placed.fits in
+    (λ reads. had_wires once old new (reads_input d.command) (keeps_barriers d.command) q d.source reads there d.had) placed.fits in
     IsDevice-refused t placed.device q (initial_list d.command) r described (omega (arith, wires, fits)) room listed
 
 pub planned-refuses_device : MeansOnce → (words : List (List ℕ)) (content : Content) (old new : Option (List ℕ)) (w : Answer) (n : ℕ) (name : List ℕ) (c : Command)

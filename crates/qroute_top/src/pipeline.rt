@@ -112,6 +112,13 @@ pub fn route_on(
     ensures tells { IfOk result (λ w. has_line w ≡ true) }
     ensures fit { IfOk result IsFitAnswer }
 {
-    let target = routed(alloc, &RoutedTraces, &parted(&source), device, chosen, wishes)?;
+    let target = routed(
+        alloc,
+        &RoutedTraces,
+        &parted(&source),
+        device,
+        chosen,
+        wishes,
+    )?;
     Ok(answer_of(source, target))
 }
