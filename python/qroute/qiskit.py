@@ -230,7 +230,7 @@ class Optimize(QroutePass):
         if self.router is None:
             found = answered(lambda: qroute.opt(qasm2.dumps(source), **options_for(dag, self.options)))
             return self.filled(dag, source, found, None)
-        options = options_for(dag, self.options) | {"trivial": True}
+        options: dict[str, typing.Any] = options_for(dag, self.options) | {"trivial": True}
         device = self.router.device
         found = answered(lambda: qroute.route(qasm2.dumps(source), device, **options))
         before, after = (found.cx_before, found.t_before), (found.cx_after, found.t_after)
