@@ -29,9 +29,12 @@ import importlib
 import inspect
 import json
 import math
+import multiprocessing
+import multiprocessing.connection
 import os
 import pathlib
 import re
+import shutil
 import signal
 import subprocess
 import sys
@@ -48,14 +51,29 @@ COMMANDS = ("opt", "route", "check")
 LOT = 25
 # How many lots wait at an executor whose width isn't known.
 LOTS_AT_ONCE = 64
+GOES_ON = "the rows that were made are kept, and the same line does what is left"
 # Statuses of refusals, which would come again; the others are of what happened to one run.
 REFUSED = (3, 4)
-TABLE = "rows.jsonl"
+# What the folder that is written to has beside programs: tables, logs, a file that is being written, and what was asked.
+ROWS = re.compile(r"rows(-\d+-of-\d+)?\.(jsonl|log|part)")
+OWN = re.compile(rf"{ROWS.pattern}|task\.json(\..*)?", re.DOTALL)
 Row = dict[str, typing.Any]
 
 
 class BatchFault(Exception):
     """The batch can't be run as it is asked for; nothing was done."""
+
+
+def sum_of_program() -> str:
+    """The sha256 of the program that is run; where that is a script which stands before it, as the command of an installation and the
+    launcher of a checkout, of both.
+    """
+    path = pathlib.Path(shutil.which(qroute.program()) or qroute.program()).resolve()
+    found = hashlib.sha256(path.read_bytes())
+    for behind in (path.parent.parent / "lib/qroute/qroute", path.parent / "out/qroute"):
+        if path.is_file() and behind.is_file() and path.read_bytes()[:2] == b"#!":
+            found.update(behind.read_bytes())
+    return found.hexdigest()
 
 
 @dataclasses.dataclass(frozen=True)
@@ -69,10 +87,8 @@ class Task:
     def told(self) -> Row:
         """What a folder keeps of the task, so that no other one is mixed with it."""
         device = hashlib.sha256(self.device.text.encode()).hexdigest() if self.device else None
-        with open(qroute.program(), "rb") as file:
-            program = hashlib.file_digest(file, "sha256").hexdigest()
         options = {key: it for key, it in self.options.items() if key != "timeout"}
-        return {"command": self.command, "options": options, "device": device, "program": program}
+        return {"command": self.command, "options": options, "device": device, "program": sum_of_program(), "module": qroute.__version__}
 
     def call(self, text: bytes) -> qroute.Result | qroute.Checked:
         """What the module answers for one program."""
@@ -150,7 +166,8 @@ def do_one(task: Task, name: str, text: bytes) -> tuple[Row, str | None]:
     row: Row = {"program": name, "sha256": hashlib.sha256(text).hexdigest()}
     try:
         found = task.call(text)
-    except (qroute.QrouteError, subprocess.TimeoutExpired) as fault:
+    except Exception as fault:
+        # whatever it is, of one program or of the machine that ran it, the others go on
         return row | fault_row(fault), None
     if isinstance(found, qroute.Result):
         return row | found.report, found.text
@@ -181,17 +198,21 @@ def programs_in(given: str | os.PathLike[str] | collections.abc.Iterable[str | o
             name = it.relative_to(path).as_posix() if path.is_dir() else it.name
             if found.setdefault(name, it) != it:
                 raise BatchFault(f"two programs have the name {printable(name)}: {found[name]} and {it}")
-            if name == TABLE or re.fullmatch(r"rows-\d+-of-\d+\.(jsonl|log)|rows\.log|task\.json", name):
-                raise BatchFault(f"no program can have the name {name}, which is one of the folder's own")
+            if OWN.fullmatch(name):
+                raise BatchFault(f"no program can have the name {printable(name)}, which is one of the folder's own")
+    for name in found:
+        for above in map(str, pathlib.PurePosixPath(name).parents):
+            if above in found or OWN.fullmatch(above):
+                raise BatchFault(f"{printable(name)} can't be written where {printable(above)} is a file")
     if not found:
         raise BatchFault("no programs are named")
     return dict(sorted(found.items()))
 
 
 def files_below(folder: pathlib.Path, out: pathlib.Path) -> collections.abc.Iterator[pathlib.Path]:
-    """The files *.qasm below a folder, in order, but for those of the folder that is written to."""
+    """The files *.qasm below a folder, in order, but for those of the folder that is written to; a pipe, which has no end, is none."""
     for path in sorted(folder.rglob("*.qasm")):
-        if not path.is_dir() and out not in path.resolve().parents:
+        if (path.is_file() or not path.exists()) and out not in path.resolve().parents:
             yield path
 
 
@@ -211,7 +232,31 @@ def whole_lines(path: pathlib.Path) -> list[str]:
         text = path.read_text(encoding="utf-8")
     except FileNotFoundError:
         return []
+    except UnicodeDecodeError:
+        raise BatchFault(f"{path} isn't as it was written; put it right, or take a new folder") from None
     return text.split("\n")[:-1]
+
+
+def object_of(text: str, path: pathlib.Path) -> Row:
+    """The object that a text of a file is."""
+    try:
+        found = json.loads(text)
+    except ValueError:
+        found = None
+    if not isinstance(found, dict):
+        raise BatchFault(f"{path} isn't as it was written; put it right, or take a new folder")
+    return found
+
+
+def lines_of(path: pathlib.Path) -> dict[str, str]:
+    """The lines of a table or a log by the names of their programs."""
+    found = {}
+    for number, line in enumerate(whole_lines(path), 1):
+        name = object_of(line, path).get("program")
+        if not isinstance(name, str):
+            raise BatchFault(f"line {number} of {path} is no row; take it out, and its program is run again")
+        found[name] = line
+    return found
 
 
 class Folder:
@@ -220,48 +265,62 @@ class Folder:
     def __init__(self, path: pathlib.Path, shard: tuple[int, int] | None) -> None:
         self.path = path
         stem = "rows" if shard is None else f"rows-{shard[0]}-of-{shard[1]}"
-        self.table, self.log = path / f"{stem}.jsonl", path / f"{stem}.log"
+        self.table, self.log, self.part = (path / f"{stem}.{it}" for it in ("jsonl", "log", "part"))
         self.is_whole = shard is None
         self.lines: dict[str, str] = {}
         self.merged: list[pathlib.Path] = []
 
-    def open(self, task: Row) -> typing.TextIO:
+    @contextlib.contextmanager
+    def open(self, task: Row) -> collections.abc.Iterator[typing.TextIO]:
         """The log, for this run alone; what is done so far is known then."""
         self.path.mkdir(parents=True, exist_ok=True)
-        self.hold_task(task)
-        log = self.log.open("a", encoding="utf-8")
-        self.lock(log)
-        # an end of a line that was never finished is cut off
-        log.truncate(sum(len(it.encode()) + 1 for it in whole_lines(self.log)))
-        for path in sorted(self.path.glob("rows*.jsonl")) + sorted(self.path.glob("rows*.log")):
-            if self.is_whole and path not in (self.table, self.log):
-                with path.open("a", encoding="utf-8") as other:
-                    self.lock(other)
-                self.merged.append(path)
-            for line in whole_lines(path):
-                self.lines[json.loads(line)["program"]] = line
-        return log
+        with self.hold_task(task), self.log.open("a", encoding="utf-8") as log:
+            self.lock(log)
+            # an end of a line that was never finished is cut off
+            log.truncate(sum(len(it.encode()) + 1 for it in whole_lines(self.log)))
+            for path in sorted(it for it in self.path.iterdir() if ROWS.fullmatch(it.name)):
+                if self.is_whole and path not in (self.table, self.log, self.part):
+                    self.merged.append(path)
+                if path.suffix != ".part":
+                    self.lines |= lines_of(path)
+            yield log
 
-    def lock(self, file: typing.TextIO) -> None:
+    def lock(self, file: typing.TextIO, how: int = fcntl.LOCK_EX) -> None:
         """Holds a file for as long as it is open."""
         try:
-            fcntl.flock(file, fcntl.LOCK_EX | fcntl.LOCK_NB)
-        except OSError:
+            fcntl.flock(file, how | fcntl.LOCK_NB)
+        except BlockingIOError:
             raise BatchFault(f"another run is at work in {self.path}: {pathlib.Path(file.name).name}") from None
 
-    def hold_task(self, task: Row) -> None:
-        """Writes down what is asked; refuses what was asked otherwise before."""
+    def hold_task(self, task: Row) -> typing.TextIO:
+        """Writes down what is asked; refuses what was asked otherwise before. While the file is open no other run is at work, but for
+        other parts of the same one.
+        """
         path = self.path / "task.json"
         text = json.dumps(task, sort_keys=True) + "\n"
+        if not path.exists():
+            # several runs may begin at once, and the first one to put it there has asked
+            part = self.path / f"task.json.{os.uname().nodename}.{os.getpid()}"
+            part.write_text(text, encoding="utf-8")
+            try:
+                os.link(part, path)
+            except FileExistsError:
+                pass
+            except OSError:
+                # a file system without links
+                os.replace(part, path)
+            part.unlink(missing_ok=True)
+        held = path.open("r+", encoding="utf-8")
         try:
-            before = json.loads(path.read_text(encoding="utf-8"))
-        except FileNotFoundError:
-            # several parts of a run may begin at once
-            replace(path, text, f".{os.uname().nodename}.{os.getpid()}.part")
-            return
-        differs = sorted(key for key in task if before.get(key) != json.loads(text)[key])
-        if differs:
-            raise BatchFault(f"{self.path} has what was written with another {' and '.join(differs)}; take a new folder, or remove it")
+            self.lock(held, fcntl.LOCK_EX if self.is_whole else fcntl.LOCK_SH)
+            before = object_of(held.read(), path)
+            differs = sorted(key for key in task if before.get(key) != json.loads(text)[key])
+            if differs:
+                raise BatchFault(f"{self.path} has what was written with another {' and '.join(differs)}; take a new folder, or remove it")
+        except BaseException:
+            held.close()
+            raise
+        return held
 
     def is_done(self, name: str, text: bytes) -> bool:
         """Whether a program with this text needs no further run."""
@@ -280,7 +339,7 @@ class Folder:
             if text is not None:
                 path = self.path / row["program"]
                 path.parent.mkdir(parents=True, exist_ok=True)
-                replace(path, text)
+                replace(path, text, self.part)
             self.lines[row["program"]] = json.dumps(row, separators=(",", ":"))
         log.write("".join(self.lines[row["program"]] + "\n" for row, _ in done))
         log.flush()
@@ -289,17 +348,21 @@ class Folder:
         """Writes the table, in the order of names, and takes the log away; a whole run takes in the tables of its parts."""
         own = self.lines
         if not self.is_whole:
-            mine = {json.loads(it)["program"] for path in (self.table, self.log) for it in whole_lines(path)}
+            mine = lines_of(self.table) | lines_of(self.log)
             own = {name: it for name, it in self.lines.items() if name in mine}
-        replace(self.table, "".join(f"{own[name]}\n" for name in sorted(own)))
+        replace(self.table, "".join(f"{own[name]}\n" for name in sorted(own)), self.part)
         for path in [self.log, *self.merged]:
             path.unlink()
 
 
-def replace(path: pathlib.Path, text: str, ending: str = ".part") -> None:
-    """Writes a file so that it is there as a whole or not at all; until then it has another ending."""
-    part = path.with_name(path.name + ending)
-    part.write_text(text, encoding="utf-8")
+def replace(path: pathlib.Path, text: str, part: pathlib.Path) -> None:
+    """Writes a file so that it is there as a whole or not at all; until then it is `part`."""
+    try:
+        part.write_text(text, encoding="utf-8")
+    except OSError as fault:
+        with contextlib.suppress(OSError):
+            part.unlink()
+        raise OSError(fault.errno, fault.strerror, str(path)) from None
     os.replace(part, path)
 
 
@@ -357,12 +420,12 @@ def answers(
     yield from (it.result() for it in concurrent.futures.as_completed(pending))
 
 
-def end_with(parent: int) -> None:
-    """Ends a process of the pool when the one that made it is gone, however that ended."""
+def end_with(parent: int, stop: multiprocessing.connection.Connection) -> None:
+    """Ends a process of the pool when the one that made it is gone, however that ended, or has said so by `stop`."""
 
     def watch() -> None:
-        while os.getppid() == parent:
-            time.sleep(0.5)
+        while os.getppid() == parent and not stop.poll(0.5):
+            pass
         os._exit(1)
 
     # a break of the terminal is for the one that hands out the work
@@ -372,12 +435,18 @@ def end_with(parent: int) -> None:
 
 @contextlib.contextmanager
 def pool(jobs: int) -> collections.abc.Iterator[concurrent.futures.Executor]:
-    """A pool of processes on this machine; after a fault what wasn't begun is left."""
-    found = concurrent.futures.ProcessPoolExecutor(jobs, initializer=end_with, initargs=(os.getpid(),))
-    try:
-        yield found
-    finally:
-        found.shutdown(cancel_futures=True)
+    """A pool of processes on this machine; after a fault, or a break of the terminal, they end at once, whatever they are at."""
+    stop, said = multiprocessing.Pipe(duplex=False)
+    with stop, said:
+        found = concurrent.futures.ProcessPoolExecutor(jobs, initializer=end_with, initargs=(os.getpid(), stop))
+        try:
+            yield found
+        except BaseException:
+            # each of them sees it, since none reads it
+            said.send_bytes(b"end")
+            raise
+        finally:
+            found.shutdown(cancel_futures=True)
 
 
 class Bar:
@@ -438,8 +507,9 @@ def batch(
     """Runs `opt`, `route` or `check` on each program, and writes the folder `out` with the written programs and the table.
 
     `programs` is a folder, whose files *.qasm count, or a list of files and folders. `options` are those of the module's function
-    of the same name. A program that is refused, or can't be read, has its row and stops nothing. What is done is not done again: a program is done if
-    its row is there, for the same text, and its written program too; one whose run failed for another reason is run again.
+    of the same name. A program that is refused, or can't be read, has its row and stops nothing. What is done is not done again: a
+    program is done if its row is there, for the same text, and its written program too; one whose run failed for another reason is
+    run again.
 
     The work is done by a pool of `jobs` processes, as many as there are processors; or by an `executor` of any kind that stands
     under `concurrent.futures.Executor`, as Dask's `Client.get_executor()`. With `shard=(I, N)` only each N-th program from the
@@ -447,7 +517,8 @@ def batch(
     and makes one table.
 
     Raises `BatchFault` if there is no program, if the folder has what was asked otherwise, if two programs have one name, or while
-    another run is at work there; and `QrouteError` if no program can be run, or the device is refused.
+    another run is at work there; and `QrouteError` if no program can be run, or the device is refused. What an executor raises, as
+    `BrokenExecutor` where a process of the pool was killed, comes through; what was done until then is kept.
     """
     begun = time.monotonic()
     if command not in COMMANDS or (command == "route") != (device is not None):
@@ -522,7 +593,7 @@ def parser() -> argparse.ArgumentParser:
         prog="batch",
         description="Runs qroute on many programs; what is done is not done again.",
         epilog="The folder OUT has the written programs and rows.jsonl, one line of JSON for each program. Status 0 if each program was"
-        " written, 1 if some weren't, 2 if the words are wrong or files can't be read or written.",
+        " written, 1 if some weren't, 2 if the words are wrong, files can't be read or written, or a process of the pool is killed.",
     )
     commands = found.add_subparsers(dest="command", required=True)
     for command in COMMANDS:
@@ -581,6 +652,13 @@ def reason(fault: Exception) -> str:
     return printable(": ".join(str(it) for it in parts if it is not None))
 
 
+def ended(says: str, status: int) -> int:
+    """Says why a command line ended; the status."""
+    if sys.stderr is not None:
+        print(f"batch: {says}", file=sys.stderr)
+    return status
+
+
 def main(words: list[str] | None = None) -> int:
     """Runs a command line; its status."""
     asked = parser().parse_args(words)
@@ -600,9 +678,11 @@ def main(words: list[str] | None = None) -> int:
         )
         put((json.dumps(dataclasses.asdict(summary)) if asked.json else summary.in_words()) + "\n")
     except (BatchFault, qroute.QrouteError, ValueError, OSError) as fault:
-        if sys.stderr is not None:
-            print(f"batch: {reason(fault)}", file=sys.stderr)
-        return 2
+        return ended(reason(fault), 2)
+    except concurrent.futures.BrokenExecutor:
+        return ended(f"a process of the pool was killed, by want of memory it may be; {GOES_ON}", 2)
+    except KeyboardInterrupt:
+        return ended(f"stopped; {GOES_ON}", 128 + signal.SIGINT)
     return 0 if summary.is_whole else 1
 
 

@@ -14,8 +14,8 @@ sys.path.insert(0, os.path.join(TOP, "python"))
 import qroute
 from qroute import batch
 
-# Stands for the program: counts its runs, refuses a text with `bad`, is killed by one with `killed` as long as there is no file
-# `well` beside it, and else writes the text back.
+# Stands for the program: counts its runs, refuses a text with `bad`, is killed by one with `killed`, and kills who runs it by one
+# with `parent`, as long as there is no file `well` beside it, and waits at one with `long`; else it writes the text back.
 STAND_IN = """#!/bin/sh
 room=${0%/*}
 read -r first
@@ -23,6 +23,8 @@ read -r second
 case $second in
 *bad*) echo '{"code":44,"fault":"AngleStep","statement":1,"status":3}' >&2; exit 3 ;;
 *killed*) [ -e "$room/well" ] || kill -9 $$ ;;
+*parent*) [ -e "$room/well" ] || kill -9 $PPID ;;
+*long*) [ -e "$room/well" ] || { : >"$room/waits"; sleep 60; } ;;
 esac
 [ -z "$second" ] || echo run >>"$room/runs"
 printf '%s\\n' "$first" "$second"
@@ -229,6 +231,148 @@ class Batch(BatchTest):
         self.file("programs/gone", f"{HEAD}// b\n")
         found = batch.batch(given, self.out, progress=False)
         self.assertEqual((found.programs, found.written, found.failed, found.done_before), (3, 3, {}, 2))
+
+    def test_a_name_with_another_program_s_ending(self):
+        """What is being written has no name that a program may have, and a name may be as long as the system takes it."""
+        longest = "n" * 250 + ".qasm"
+        paths = [self.file(it, f"{HEAD}// {it[0]}\n") for it in ("a.qasm.part", "a.qasm", longest)]
+        found = batch.batch(paths, self.out, lot=1, jobs=1, progress=False)
+        self.assertEqual((found.written, found.failed), (3, {}))
+        self.file("a.qasm", f"{HEAD}// another\n")
+        self.assertEqual(batch.batch(paths, self.out, progress=False).written, 3)
+        self.assertEqual(sorted(os.listdir(self.out)), ["a.qasm", "a.qasm.part", longest, "rows.jsonl", "task.json"])
+        self.assertEqual(self.text("out/a.qasm.part"), f"{HEAD}// a\n")
+        # another file that begins as a table does is none
+        paths.append(self.file("rows-of-mine.jsonl", f"{HEAD}// r\n"))
+        for _ in range(2):
+            self.assertEqual(batch.batch(paths, self.out, progress=False).written, 4)
+        self.assertEqual(self.text("out/rows-of-mine.jsonl"), f"{HEAD}// r\n")
+
+    def test_names_that_cannot_be_written(self):
+        self.file("programs/a.qasm/x.qasm", HEAD)
+        given = [os.path.join(self.room, "programs"), self.file("a.qasm", HEAD)]
+        own = [self.file(f"own/{it}", HEAD) for it in ("rows.part", "rows-1-of-2.log", "task.json.here")]
+        for paths, says in (
+            (given, "a.qasm/x.qasm can't be written where a.qasm is a file"),
+            *(([it], f"no program can have the name {os.path.basename(it)}, which is one of the folder's own") for it in own),
+        ):
+            self.assertEqual(self.batch(*paths), (2, "", f"batch: {says}\n"))
+        self.assertFalse(os.path.exists(self.out))
+
+    def test_a_pipe_is_no_program(self):
+        given = self.programs(a="// a")
+        os.mkfifo(os.path.join(given, "b.qasm"))
+        self.assertEqual(batch.batch(given, self.out, progress=False).programs, 1)
+
+    def test_whatever_a_run_raises(self):
+        """It is the row of one program, which is tried again the next time."""
+        given = self.programs(a="// a", b="// b")
+        opt = qroute.opt
+
+        def raises(text, **options):
+            if b"// b" in text:
+                raise OSError(28, "No space left on device")
+            return opt(text, **options)
+
+        with mock.patch.object(qroute, "opt", raises), futures.ThreadPoolExecutor(1) as executor:
+            found = batch.batch(given, self.out, executor=executor, progress=False)
+        self.assertEqual((found.written, found.failed), (1, {"OSError": ["b.qasm"]}))
+        self.assertEqual(self.rows()[1]["says"], "[Errno 28] No space left on device")
+        found = batch.batch(given, self.out, progress=False)
+        self.assertEqual((found.written, found.failed, found.done_before), (2, {}, 1))
+
+    def test_a_process_of_the_pool_that_is_killed(self):
+        given = self.programs(a="// a", b="parent")
+        status, out, err = self.batch(given, "--jobs", "1", "--quiet")
+        self.assertEqual((status, out), (2, ""))
+        self.assertRegex(err, "^batch: a process of the pool was killed, by want of memory it may be; .* does what is left\n$")
+        self.file("stand_in/well", "")
+        self.assertEqual(self.batch(given, "--quiet")[0], 0)
+        self.assertEqual(len(self.rows()), 2)
+
+    def test_a_break_of_the_terminal(self):
+        given = self.programs(a="long")
+        words = [os.path.join(TOP, "tools/batch"), "opt", given, "-o", self.out, "--quiet", "--jobs", "1"]
+        ran = subprocess.Popen(words, stdout=subprocess.PIPE, stderr=subprocess.PIPE, text=True, start_new_session=True)
+        while not os.path.exists(os.path.join(self.room, "stand_in/waits")):
+            time.sleep(0.01)
+        # nobody waits for the program that runs, which takes a minute
+        ran.send_signal(signal.SIGINT)
+        out, err = ran.communicate(timeout=30)
+        os.killpg(ran.pid, signal.SIGKILL)
+        self.assertEqual((ran.returncode, out), (130, ""))
+        self.assertEqual(err, "batch: stopped; the rows that were made are kept, and the same line does what is left\n")
+        self.file("stand_in/well", "")
+        self.assertEqual(self.batch(given, "--quiet")[0], 0)
+
+    def test_a_full_disk(self):
+        given = self.programs(a="// a")
+        os.mkdir(self.out)
+        os.symlink("/dev/full", os.path.join(self.out, "rows.part"))
+        self.assertEqual(self.batch(given), (2, "", f"batch: {self.out}/a.qasm: No space left on device\n"))
+        self.assertEqual(self.batch(given)[0], 0)
+        self.assertEqual(sorted(os.listdir(self.out)), ["a.qasm", "rows.jsonl", "task.json"])
+
+    def test_files_of_the_folder_that_are_damaged(self):
+        given = self.programs(a="// a")
+        batch.batch(given, self.out, progress=False)
+        kept = {it: self.text(f"out/{it}") for it in ("rows.jsonl", "task.json")}
+        row = kept["rows.jsonl"]
+        other = f"{self.out}/{{}} isn't as it was written; put it right, or take a new folder"
+        for name, text, says in (
+            ("rows.jsonl", row + "row\n", other),
+            ("rows.jsonl", row + "[]\n", other),
+            ("rows.jsonl", b"\xff\n", other),
+            ("rows.jsonl", row + "{}\n", f"line 2 of {self.out}/{{}} is no row; take it out, and its program is run again"),
+            ("task.json", "", other),
+            ("task.json", "[]\n", other),
+        ):
+            self.file(f"out/{name}", text)
+            self.assertEqual(self.batch(given), (2, "", f"batch: {says.format(name)}\n"), text)
+            self.file(f"out/{name}", kept[name])
+        # the end of a table that was cut is no row, and its program is run again
+        self.file("out/rows.jsonl", row[:-9])
+        self.runs()
+        self.assertEqual((self.batch(given)[0], self.runs(), self.text("out/rows.jsonl")), (0, 1, row))
+
+    def test_parts_and_the_whole_at_once(self):
+        """Parts may run beside each other, and nothing beside a whole run."""
+        given = self.many(4)
+        batch.batch(given, self.out, progress=False)
+        with open(os.path.join(self.out, "task.json"), "r+", encoding="utf-8") as task:
+            batch.fcntl.flock(task, batch.fcntl.LOCK_SH)
+            self.assertEqual(self.batch(given)[0], 2)
+            self.assertEqual(self.batch(given, "--shard", "1/2")[0], 0)
+            batch.fcntl.flock(task, batch.fcntl.LOCK_EX)
+            status, _, err = self.batch(given, "--shard", "1/2")
+        self.assertEqual((status, err), (2, f"batch: another run is at work in {self.out}: task.json\n"))
+
+    def test_another_program_behind_a_script(self):
+        """The command of an installation, and the launcher, are scripts that stay the same."""
+        for behind in ("lib/qroute/qroute", "bin/out/qroute"):
+            os.makedirs(os.path.dirname(os.path.join(self.room, behind)))
+        given = self.programs(a="// a")
+        script = self.file("bin/qroute", STAND_IN)
+        os.chmod(script, 0o755)
+        with mock.patch.dict(os.environ, {"QROUTE": script}):
+            sums = [batch.sum_of_program()]
+            for behind in ("lib/qroute/qroute", "bin/out/qroute"):
+                self.file(behind, "one")
+                sums.append(batch.sum_of_program())
+            self.assertEqual(len(set(sums)), 3)
+            self.assertEqual(self.batch(given)[0], 0)
+            self.file("lib/qroute/qroute", "another")
+            status, _, err = self.batch(given)
+            self.assertEqual((status, "was written with another program;" in err), (2, True))
+            wanted = batch.sum_of_program()
+        with mock.patch.dict(os.environ, {"QROUTE": "qroute", "PATH": f"{self.room}/bin:{os.environ['PATH']}"}):
+            self.assertEqual(batch.sum_of_program(), wanted)
+
+    def test_another_module(self):
+        given = self.programs(a="// a")
+        batch.batch(given, self.out, progress=False)
+        with mock.patch.object(qroute, "__version__", "0.0"), self.assertRaisesRegex(batch.BatchFault, "written with another module;"):
+            batch.batch(given, self.out, progress=False)
 
     def test_no_source_is_written_over(self):
         given = self.programs(a="// a")
