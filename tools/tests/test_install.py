@@ -56,12 +56,28 @@ class Install(ToolTest):
 
     def test_the_module_finds_the_program_and_the_devices(self):
         self.install(self.prefix)
-        site = os.path.join(self.prefix, f"lib/python{sys.version_info.major}.{sys.version_info.minor}/site-packages")
+        site = next(os.path.dirname(os.path.dirname(it)) for it in self.files() if it.endswith("-packages/qroute/__init__.py"))
         script = "import qroute; print(qroute.program(), qroute.Device.named('ibm_tokyo').name)"
         env = {"PYTHONPATH": site, "PATH": os.environ["PATH"]}
         ran = subprocess.run([sys.executable, "-c", script], capture_output=True, text=True, env=env, cwd=self.room)
         wanted = f"{self.prefix}/lib/qroute/qroute {self.prefix}/share/qroute/devices/ibm_tokyo.toml\n"
         self.assertEqual((ran.stdout, ran.stderr), (wanted, ""))
+
+    def test_debian_s_own_python_finds_the_module(self):
+        """Of the folders below /usr/local where it looks, one is that of the module, if that is the prefix."""
+        debian = "/usr/bin/python3"
+        found = subprocess.run([debian, "-c", "import sys; print(*sys.path)"], capture_output=True, text=True) if os.path.exists(debian) else None
+        if found is None or "/usr/local/lib" not in found.stdout:
+            self.skipTest("there is no Python of Debian")
+        subprocess.run([debian, os.path.join(self.top, "tools/install"), self.prefix], capture_output=True, check=True)
+        looks = [it.replace("/usr/local", self.prefix) for it in found.stdout.split() if it.startswith("/usr/local/")]
+        self.assertTrue(any(os.path.isfile(os.path.join(it, "qroute/__init__.py")) for it in looks), looks)
+        script = "import sys; sys.path[:0] = sys.argv[1:]; import qroute; print(qroute.program(), qroute.Device.named('ibm_tokyo').name)"
+        ran = subprocess.run([debian, "-B", "-c", script, *looks], capture_output=True, text=True, cwd=self.room, env={"PATH": os.environ["PATH"]})
+        wanted = f"{self.prefix}/lib/qroute/qroute {self.prefix}/share/qroute/devices/ibm_tokyo.toml\n"
+        self.assertEqual((ran.stdout, ran.stderr), (wanted, ""))
+        self.assertEqual(self.install("--remove", self.prefix)[0], 0)
+        self.assertEqual(self.files(), [])
 
     def test_help_leads_to_the_manual(self):
         self.install(self.prefix)
