@@ -153,6 +153,25 @@ class Release(ToolTest):
         self.assertEqual(self.release(), (1, "", "release: the clone has changes that no commit has\n"))
         self.assertFalse(os.path.exists(os.path.join(self.top, "release")))
 
+    def test_what_git_ignores_is_refused(self):
+        """Git tells no change of it, and the release would have it."""
+        self.launched()
+        self.file("checkout/.git/info/exclude", "mine*\n*~\n")
+        for name in ("devices/mine.toml", "python/qroute/mine.py", "tools/draw~", "docs/mine.md"):
+            path = self.file(f"checkout/{name}", "mine = 1\n")
+            self.assertEqual(self.release(), (1, "", f"release: no commit has {name}\n"))
+            os.remove(path)
+        # what isn't packed is nobody's matter
+        self.file("checkout/mine", "")
+        self.assertFalse(os.path.exists(os.path.join(self.top, "release")))
+        self.assertEqual(self.release()[0], 0)
+
+    def test_trying_wants_root(self):
+        script = "import os, runpy, sys; os.geteuid = lambda: 1000; sys.argv = sys.argv[1:]; runpy.run_path(sys.argv[0], run_name='__main__')"
+        words = [os.path.join(TOP, "tools/try-release"), self.room, "--root", self.room]
+        ran = subprocess.run([sys.executable, "-B", "-c", script, *words], capture_output=True, text=True)
+        self.assertEqual((ran.returncode, ran.stdout, ran.stderr), (2, "", "try-release: it has to be run by root, for chroot\n"))
+
     def test_the_program_of_the_gate(self):
         os.makedirs(os.path.join(self.top, "crates/qroute/out"))
         shutil.copy(TRUE, os.path.join(self.top, "crates/qroute/out/qroute"))
@@ -167,6 +186,7 @@ class Release(ToolTest):
         page = self.made()["BUILT.md"].decode()
         self.assertIn("kit of rt", page)
         self.assertIn("compiled and linked twice", page)
+        self.assertIn("\ntools/release --twice\n", page)
         # what was there is there again
         self.assertEqual(os.listdir(os.path.join(self.top, "crates/qroute/out")), ["qroute"])
 
@@ -188,6 +208,8 @@ class Release(ToolTest):
         self.assertEqual((status, err), (0, ""))
         page = self.made()["BUILT.md"].decode()
         self.assertIn("built apart, in another checkout or on another machine, and was the same", page)
+        # who calls what the page says gets the same page
+        self.assertIn("\ntools/release --twice PROGRAM\n", page)
         self.assertNotIn("compiled and linked twice", page)
 
     def test_the_sources_are_those_of_the_launcher(self):
