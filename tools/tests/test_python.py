@@ -409,6 +409,42 @@ class Built(ToolTest):
         # the seven parities of a Toffoli gate, on three wires
         self.assertEqual([(it.parities, it.blocks, it.rank) for it in qroute.stages(text)], [(7, 3, 3)])
 
+    def test_a_wheel_is_all_that_is_needed(self):
+        """In an environment of its own, in an empty folder, without QROUTE and with no `qroute` along PATH; and out again."""
+        venv = os.path.join(self.room, "a room/venv")
+        for words in (["venv", "--without-pip", venv], ["pip", "--python", os.path.join(venv, "bin/python"), "--version"]):
+            if subprocess.run([sys.executable, "-m", *words], capture_output=True).returncode != 0:
+                self.skipTest(f"there is no module {words[0]}, so nothing is installed")
+        program = os.path.realpath(os.environ.get("QROUTE", BUILT))
+        script = "import backend, sys; print(backend.build_wheel(sys.argv[1], {'program': sys.argv[2]}))"
+        words = [sys.executable, "-B", "-c", script, self.room, program]
+        wheel = subprocess.run(words, cwd=os.path.join(TOP, "python"), capture_output=True, text=True, check=True).stdout.strip()
+        self.assertRegex(wheel, r"^qroute-.*-py3-none-manylinux_2_\d+_x86_64\.whl$")
+        pip = [sys.executable, "-m", "pip", "--python", os.path.join(venv, "bin/python")]
+        ran = subprocess.run([*pip, "install", "--quiet", "--no-index", os.path.join(self.room, wheel)], capture_output=True, text=True)
+        self.assertEqual(ran.returncode, 0, ran.stderr)
+        empty = os.path.join(self.room, "empty")
+        os.mkdir(empty)
+
+        def run(*words, given=""):
+            ran = subprocess.run(words, input=given, capture_output=True, text=True, env={"PATH": "/usr/bin:/bin"}, cwd=empty, timeout=60)
+            self.assertEqual(ran.returncode, 0, ran.stderr)
+            return ran.stdout
+
+        text = 'OPENQASM 2.0; include "qelib1.inc"; qreg q[2]; t q[0]; t q[0]; cx q[0],q[1];'
+        asked = "import qroute, sys; print(qroute.route(sys.argv[1], qroute.Device.named('ibm_tokyo')).swaps, qroute.program())"
+        swaps, place = run(f"{venv}/bin/python", "-c", asked, text).strip().split(" ", 1)
+        self.assertEqual((swaps, os.path.commonpath([place, venv])), ("0", venv))
+        for words in ([f"{venv}/bin/qroute"], [f"{venv}/bin/python", "-m", "qroute"]):
+            self.assertIn("\ns q[0];\n", run(*words, "opt", given=text))
+        with open(os.path.join(empty, "a.qasm"), "w", encoding="utf-8") as file:
+            file.write(text)
+        self.assertIn("1 written", run(f"{venv}/bin/python", "-m", "qroute.batch", "opt", ".", "-o", "out"))
+        ran = subprocess.run([*pip, "uninstall", "--yes", "--quiet", "qroute"], capture_output=True, text=True)
+        self.assertEqual(ran.returncode, 0, ran.stderr)
+        left = [it for folder, folders, names in os.walk(venv) for it in folders + names if "qroute" in it]
+        self.assertEqual(left, [])
+
     def test_kept_barriers(self):
         with open(os.path.join(TOP, "examples/echo.qasm"), encoding="utf-8") as file:
             text = file.read()
