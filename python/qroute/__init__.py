@@ -296,7 +296,7 @@ class Device:
 
 def device_folders() -> list[pathlib.Path]:
     """Where device files may be."""
-    found = [pathlib.Path(os.environ["QROUTE_DEVICES"])] if "QROUTE_DEVICES" in os.environ else []
+    found = [pathlib.Path(asked)] if (asked := os.environ.get("QROUTE_DEVICES")) else []
     found += [HERE.parent.parent / "devices", HERE / "devices"]
     roots = [*prefixes(), pathlib.Path(sys.prefix)]
     try:

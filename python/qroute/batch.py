@@ -412,12 +412,17 @@ def answers(
 ) -> collections.abc.Iterator[list[tuple[Row, str | None]]]:
     """What an executor answers for each lot, as it comes; never more than so many lots are under way."""
     pending: set[concurrent.futures.Future[list[tuple[Row, str | None]]]] = set()
-    for lot in todo:
-        pending.add(executor.submit(do_lot, task, lot))
-        if len(pending) >= most:
-            done, pending = concurrent.futures.wait(pending, return_when=concurrent.futures.FIRST_COMPLETED)
-            yield from (it.result() for it in done)
-    yield from (it.result() for it in concurrent.futures.as_completed(pending))
+    try:
+        for lot in todo:
+            pending.add(executor.submit(do_lot, task, lot))
+            if len(pending) >= most:
+                done, pending = concurrent.futures.wait(pending, return_when=concurrent.futures.FIRST_COMPLETED)
+                yield from (it.result() for it in done)
+        yield from (it.result() for it in concurrent.futures.as_completed(pending))
+    finally:
+        # an executor of somebody else goes on, and needn't do what nobody waits for
+        for it in pending:
+            it.cancel()
 
 
 def end_with(parent: int, stop: multiprocessing.connection.Connection) -> None:

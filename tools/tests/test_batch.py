@@ -164,6 +164,27 @@ class Batch(BatchTest):
             found = batch.batch(self.many(30), self.out, executor=executor, lot=4, progress=False)
         self.assertEqual((found.written, len(found.refused["AngleStep"])), (27, 3))
 
+    def test_an_executor_that_dies(self):
+        """What it raises comes through, nothing is left for it to do, and what it did is kept."""
+
+        class Dying(futures.Executor):
+            asked = []
+
+            def submit(self, call, *words):
+                self.asked.append(futures.Future())
+                if len(self.asked) == 1:
+                    self.asked[0].set_result(call(*words))
+                if len(self.asked) == batch.LOTS_AT_ONCE + 1:
+                    self.asked[-1].set_exception(futures.BrokenExecutor("it is gone"))
+                return self.asked[-1]
+
+        given = self.many(batch.LOTS_AT_ONCE + 9)
+        with self.assertRaisesRegex(futures.BrokenExecutor, "it is gone"):
+            batch.batch(given, self.out, executor=Dying(), lot=1, progress=False)
+        self.assertEqual([it.done() for it in Dying.asked], [True] * (batch.LOTS_AT_ONCE + 1))
+        self.assertTrue(all(it.cancelled() for it in Dying.asked[1:-1]))
+        self.assertEqual(batch.batch(given, self.out, progress=False).done_before, 1)
+
     def test_dask(self):
         """A scheduler and two workers of their own processes, as on two machines."""
         python = next((it for it in PYTHONS if os.path.exists(it) and not subprocess.run([it, "-c", "import distributed"], capture_output=True).returncode), None)

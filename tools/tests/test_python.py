@@ -1,3 +1,4 @@
+import contextlib
 import doctest
 import json
 import os
@@ -240,8 +241,12 @@ class Module(StoodIn):
         for name in ("ibm", "../devices/ibm_tokyo"):
             with self.assertRaises(KeyError):
                 qroute.Device.named(name)
+        count = len(qroute.Device.names())
         path = self.file("devices/own.toml", "qubits = 1\nedges = []\n")
         self.assertEqual(qroute.Device.load(path).edges(), [])
+        # set to nothing it names no folder, as QROUTE set to nothing names no program
+        with mock.patch.dict(os.environ, {"QROUTE_DEVICES": ""}), contextlib.chdir(os.path.dirname(path)):
+            self.assertEqual(len(qroute.Device.names()), count)
         with mock.patch.dict(os.environ, {"QROUTE_DEVICES": os.path.dirname(path)}):
             self.assertEqual(qroute.Device.named("own").qubits(), 1)
 
@@ -376,6 +381,10 @@ class Wheel(StoodIn):
         ran = subprocess.run([python, "-m", "qroute", "opt"], input="", capture_output=True, text=True, env=env, cwd=self.room, timeout=60)
         self.assertEqual((ran.returncode, ran.stdout), (0, "by the command\n"))
         self.assertEqual(self.given("words"), "opt\n")
+        for asked, says in (("/", "/: Permission denied"), ("/none", "/none: No such file or directory")):
+            words = [python, "-m", "qroute", "opt"]
+            ran = subprocess.run(words, input="", capture_output=True, text=True, env=env | {"QROUTE": asked}, cwd=self.room, timeout=60)
+            self.assertEqual((ran.returncode, ran.stdout, ran.stderr), (70, "", f"qroute: {says}\n"))
 
 
 class Types(unittest.TestCase):
