@@ -259,6 +259,11 @@ def lines_of(path: pathlib.Path) -> dict[str, str]:
     return found
 
 
+def by_age(path: pathlib.Path) -> tuple[bool, bool, str]:
+    """Orders tables and logs so that later rows come after earlier ones: a log is later than a table, and a part than the whole."""
+    return path.suffix == ".log", path.stem != "rows", path.name
+
+
 class Folder:
     """What is in the folder that is written to: the rows that are done, and the log to which new ones are added."""
 
@@ -278,7 +283,7 @@ class Folder:
             self.lock(log)
             # an end of a line that was never finished is cut off
             log.truncate(sum(len(it.encode()) + 1 for it in whole_lines(self.log)))
-            for path in sorted(it for it in self.path.iterdir() if ROWS.fullmatch(it.name)):
+            for path in sorted((it for it in self.path.iterdir() if ROWS.fullmatch(it.name)), key=by_age):
                 if self.is_whole and path not in (self.table, self.log, self.part):
                     self.merged.append(path)
                 if path.suffix != ".part":

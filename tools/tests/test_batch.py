@@ -159,6 +159,21 @@ class Batch(BatchTest):
         self.assertEqual(self.text("out/rows.jsonl"), self.text("whole/rows.jsonl"))
         self.assertEqual([it for it in os.listdir(self.out) if it.startswith("rows")], ["rows.jsonl"])
 
+    def test_parts_after_the_whole(self):
+        """Their rows are the later ones, in tables and in logs."""
+        given = self.programs(a="// a", b="// b")
+        batch.batch(given, self.out, progress=False)
+        self.programs(a="// another a", b="// another b")
+        for which in (1, 2):
+            batch.batch(given, self.out, shard=(which, 2), progress=False)
+        # one of them as if it was killed before its table
+        os.rename(os.path.join(self.out, "rows-2-of-2.jsonl"), os.path.join(self.out, "rows-2-of-2.log"))
+        self.runs()
+        found = batch.batch(given, self.out, progress=False)
+        self.assertEqual((found.done_before, found.written, self.runs()), (2, 2, 0))
+        self.assertEqual(os.listdir(self.out).count("rows.jsonl"), 1)
+        self.assertEqual(self.written(), {it: f"{HEAD}// another {it[0]}\n" for it in ("a.qasm", "b.qasm")})
+
     def test_any_executor(self):
         with futures.ThreadPoolExecutor(2) as executor:
             found = batch.batch(self.many(30), self.out, executor=executor, lot=4, progress=False)
