@@ -430,12 +430,13 @@ def answers(
             it.cancel()
 
 
-def end_with(parent: int, stop: multiprocessing.connection.Connection) -> None:
-    """Ends a process of the pool when the one that made it is gone, however that ended, or has said so by `stop`."""
+def end_with(stop: multiprocessing.connection.Connection) -> None:
+    """Ends a process of the pool when the one that asked for it is gone, however that ended, or has said so by `stop`."""
+    asker = multiprocessing.parent_process()
 
     def watch() -> None:
-        while os.getppid() == parent and not stop.poll(0.5):
-            pass
+        # in later Pythons the asker isn't what the system takes for the parent
+        multiprocessing.connection.wait([stop] if asker is None else [stop, asker.sentinel])
         os._exit(1)
 
     # a break of the terminal is for the one that hands out the work
@@ -448,7 +449,7 @@ def pool(jobs: int) -> collections.abc.Iterator[concurrent.futures.Executor]:
     """A pool of processes on this machine; after a fault, or a break of the terminal, they end at once, whatever they are at."""
     stop, said = multiprocessing.Pipe(duplex=False)
     with stop, said:
-        found = concurrent.futures.ProcessPoolExecutor(jobs, initializer=end_with, initargs=(os.getpid(), stop))
+        found = concurrent.futures.ProcessPoolExecutor(jobs, initializer=end_with, initargs=(stop,))
         try:
             yield found
         except BaseException:

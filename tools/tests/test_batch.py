@@ -326,6 +326,17 @@ class Batch(BatchTest):
         self.assertEqual(self.batch(given, "--quiet")[0], 0)
         self.assertEqual(len(self.rows()), 2)
 
+    def test_ways_to_start_a_process(self):
+        """Later Pythons have another one than this."""
+        script = "import multiprocessing, sys; multiprocessing.set_start_method(sys.argv[1])\nfrom qroute import batch\n"
+        script += "print(batch.batch(sys.argv[2], sys.argv[3], jobs=2, lot=1, progress=False).written)\n"
+        given = self.programs(a="// a", b="// b", c="// c")
+        env = os.environ | {"PYTHONPATH": os.path.join(TOP, "python"), "PYTHONDONTWRITEBYTECODE": "1"}
+        for way in ("fork", "spawn", "forkserver"):
+            words = [sys.executable, "-c", script, way, given, os.path.join(self.room, way)]
+            ran = subprocess.run(words, env=env, capture_output=True, text=True, timeout=60)
+            self.assertEqual((ran.stdout, ran.returncode), ("3\n", 0), ran.stderr)
+
     def test_a_break_of_the_terminal(self):
         given = self.programs(a="long")
         words = [os.path.join(TOP, "tools/batch"), "opt", given, "-o", self.out, "--quiet", "--jobs", "1"]
