@@ -54,6 +54,17 @@ class Install(ToolTest):
         self.assertEqual(os.listdir(self.prefix), ["share"])
         self.assertEqual(self.install("--remove", self.prefix)[0], 1)
 
+    def test_what_python_has_compiled_is_taken_away(self):
+        self.install(self.prefix)
+        module = next(it for it in self.files() if it.endswith("-packages/qroute/__init__.py"))
+        env = {"PYTHONPATH": os.path.dirname(os.path.dirname(module)), "PATH": os.environ["PATH"]}
+        subprocess.run([sys.executable, "-c", "import qroute.batch"], env=env, cwd=self.room, check=True)
+        folder = os.path.join(os.path.dirname(module), "__pycache__")
+        self.assertGreater(len(os.listdir(folder)), 5)
+        own = self.file(os.path.join(folder, "mine.cpython-311.pyc"), "mine")
+        self.assertEqual(self.install("--remove", self.prefix)[0], 0)
+        self.assertEqual(self.files(), [own])
+
     def test_the_module_finds_the_program_and_the_devices(self):
         self.install(self.prefix)
         site = next(os.path.dirname(os.path.dirname(it)) for it in self.files() if it.endswith("-packages/qroute/__init__.py"))

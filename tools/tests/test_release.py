@@ -132,6 +132,11 @@ class Release(ToolTest):
         ran = subprocess.run([sys.executable, "-c", script], capture_output=True, text=True, env=env | {"PYTHONPATH": site})
         self.assertEqual(ran.stdout, f"{inside}/usr/lib/qroute/qroute 5\n", ran.stderr)
         subprocess.run(["dpkg-deb", "-e", path, os.path.join(self.room, "control")], check=True)
+        # the compiled module is taken away with the package
+        stub = self.file("stub/rm", '#!/bin/sh\necho "$@"\n')
+        os.chmod(stub, 0o755)
+        ran = subprocess.run([os.path.join(self.room, "control/prerm")], capture_output=True, text=True, env={"PATH": os.path.dirname(stub)})
+        self.assertEqual((ran.returncode, ran.stdout), (0, f"-rf {site.removeprefix(inside)}/qroute/__pycache__\n"))
         ran = subprocess.run(["md5sum", "--check", "--quiet", os.path.join(self.room, "control/md5sums")], capture_output=True, cwd=inside)
         self.assertEqual((ran.returncode, ran.stdout), (0, b""))
 
