@@ -20,6 +20,7 @@ from __future__ import annotations
 import collections.abc
 import dataclasses
 import json
+import operator
 import os
 import pathlib
 import re
@@ -65,7 +66,7 @@ HERE = pathlib.Path(__file__).resolve().parent
 
 # What each fault means, by its name in the fault line; braces hold keys of that line.
 SAYS = {
-    "Words": "the words mean no command, or `--trace` stands beside `--keep-barriers` or `--clean`, or `--spares` beside `--keep-barriers`, or `--initial` beside `--trivial`; the manual, `man docs/qroute.1`, has them all",
+    "Words": "the words mean no command, or `--trace` stands beside `--keep-barriers` or `--clean`, or `--spares` beside `--keep-barriers`, or `--initial` beside `--trivial`, or its list has a qubit twice, a number above 255, or more than digits and commas; the manual, `man docs/qroute.1`, has them all",
     "Input": "the input failed, before its end was read",
     "Output": "the output failed: it holds some first part of the program",
     "Shelf": "a file that was named could not be read",
@@ -104,7 +105,7 @@ SAYS = {
     "EdgeCost": "the cost of the edge from qubit {from} to qubit {to} isn't from 1 to 1,000,000",
     "NotConnected": "there is no way from qubit {from} to qubit {to}",
     "TooFewQubits": "the device has {device} qubits, and the program {qubits}",
-    "Initial": "the list of qubits hasn't one for each of the program's {qubits}, or has one that the device, of {device}, lacks",
+    "Initial": "the list of qubits has more or fewer than the program, which has {qubits}, or one that the device, which has {device}, lacks",
     "TextTooLong": "the program is longer than {most:,} bytes",
     "WideProgram": "amplitudes are those of at most 12 qubits, and the program has {qubits}",
     "ManyBranches": "amplitudes are those of at most 60 gates that branch, and the program has {branches}",
@@ -152,7 +153,7 @@ class Fault(QrouteError):
 
 
 class NoCommand(Fault):
-    """The words mean no command of this program: it is older than this module, or newer."""
+    """The words mean no command of this program: a number, or a list of qubits, isn't such as it takes, or it is older than this module, or newer."""
 
 
 class Refused(Fault):
@@ -543,8 +544,8 @@ def spare_words(spares: int | None) -> list[str]:
 
 
 def initial_words(initial: collections.abc.Iterable[int] | None) -> list[str]:
-    """The words of a command line by which the wires begin on these qubits."""
-    return [] if initial is None else [f"--initial={','.join(map(str, initial))}"]
+    """The words of a command line by which the wires begin on these qubits; TypeError if one is no whole number, as in a text."""
+    return [] if initial is None else [f"--initial={','.join(str(operator.index(it)) for it in initial)}"]
 
 
 def opt(
@@ -597,7 +598,8 @@ def route(
     """The program on the qubits of a device; with `trivial` wire i begins on qubit i, with `initial` on the i-th of these.
 
     `initial` has a qubit of the device for each of the program's, none twice; spare wires begin on those that are left, ascending.
-    It goes neither with `trivial` nor with `any_gates` (ValueError).
+    Another length, or a qubit that the device lacks, raises DeviceRefused; a qubit twice, or a number that isn't from 0 to 255,
+    NoCommand. It goes neither with `trivial` nor with `any_gates` (ValueError).
 
     With `trace` its text is followed by its trace. With `keep_barriers` its barriers are kept, as by `opt`, and with `clean` gates
     that cancel once they are routed are taken out; a trace can be asked for with neither of the two (ValueError).

@@ -140,8 +140,10 @@ def perfect_layout(
     proved of the search; a placement that it finds can be tried by `route`. Refusals of the program are raised as by `opt`.
 
     >>> text = 'OPENQASM 2.0; include "qelib1.inc"; qreg q[3]; cx q[0],q[2]; t q[2]; cx q[2],q[1];'
-    >>> perfect_layout(text, qroute.Device.of([(0, 1), (1, 2), (2, 3)], both=True)).placement
-    (0, 2, 1)
+    >>> device = qroute.Device.of([(0, 1), (1, 2), (2, 3)], both=True)
+    >>> found = perfect_layout(text, device)
+    >>> found.is_settled, qroute.route(text, device, initial=found.placement).swaps
+    (True, 0)
     """
     made = qroute.opt(text, keep_barriers=keep_barriers, timeout=timeout)
     wires = graph_of((int(it[1]), int(it[2])) for it in CX.finditer(made.text))

@@ -45,13 +45,13 @@ class Explain(ToolTest):
         self.assertEqual(out, f"{device}: TooFewQubits: the device has 4 qubits, and the program 5\n")
         line = '{"code":58,"device":4,"fault":"Initial","qubits":2,"status":4}'
         _, out, _ = self.explained(line, "p.qasm", "--device", device)
-        says = "the list of qubits hasn't one for each of the program's 2, or has one that the device, of 4, lacks"
+        says = "the list of qubits has more or fewer than the program, which has 2, or one that the device, which has 4, lacks"
         self.assertEqual(out, f"{device}: Initial: {says}\n")
 
     def test_other_lines_are_passed_over(self):
         status, out, _ = self.explained('qroute: built in 3 seconds\n{"fault":"Words","status":2}')
         self.assertEqual(status, 0)
-        self.assertEqual(out, "Words: the words mean no command, or `--trace` stands beside `--keep-barriers` or `--clean`, or `--spares` beside `--keep-barriers`, or `--initial` beside `--trivial`; the manual, `man docs/qroute.1`, has them all\n")
+        self.assertEqual(out, "Words: the words mean no command, or `--trace` stands beside `--keep-barriers` or `--clean`, or `--spares` beside `--keep-barriers`, or `--initial` beside `--trivial`, or its list has a qubit twice, a number above 255, or more than digits and commas; the manual, `man docs/qroute.1`, has them all\n")
         status, out, err = self.explained('{"format":1,"phase":0}')
         self.assertEqual((status, out), (1, ""))
         self.assertIn("no fault line", err)

@@ -43,6 +43,16 @@ SOURCE = 'OPENQASM 2.0;\ninclude "qelib1.inc"; // here; {\nqreg q[2];\n  gate g 
 BUILT = os.path.join(TOP, "out/qroute")
 
 
+class Whole:
+    """A whole number that is no int, as numpy's are."""
+
+    def __init__(self, number):
+        self.number = number
+
+    def __index__(self):
+        return self.number
+
+
 class StoodIn(ToolTest):
     """What a program that stands in for the real one answers and was given."""
 
@@ -105,13 +115,21 @@ class Module(StoodIn):
         self.assertEqual(self.given("words").split()[3:], ["--initial=2,0", "--trace"])
         qroute.route(SOURCE, device, initial=iter((1,)), keep_barriers=True, clean=True)
         self.assertEqual(self.given("words").split()[3:], ["--initial=1", "--keep-barriers", "--clean"])
+        # a text has no numbers, though its characters may be digits
+        for initial in ("10", ["1", "0"], [1.0, 0], [None]):
+            with self.assertRaises(TypeError):
+                qroute.route(SOURCE, device, initial=initial)
+        # whatever is a whole number is one, as those of numpy; which of them make a list is the program's to say
+        qroute.route(SOURCE, device, initial=(Whole(1), Whole(-2), True))
+        self.assertEqual(self.given("words").split()[3:], ["--initial=1,-2,1"])
+        self.fault(qroute.NoCommand, 2, {"fault": "Words", "status": 2}, lambda: qroute.route(SOURCE, device, initial=[0, 0]))
         for more in ({"trivial": True}, {"any_gates": True}):
             with self.assertRaises(ValueError):
                 qroute.route(SOURCE, device, initial=[2, 0], **more)
         told = {"code": 58, "device": 3, "fault": "Initial", "qubits": 2, "status": 4}
         fault = self.fault(qroute.DeviceRefused, 4, told, lambda: qroute.route(SOURCE, device, initial=[3, 0]))
         self.assertEqual((fault.code, fault.told["device"]), (58, 3))
-        self.assertEqual(str(fault), "Initial: the list of qubits hasn't one for each of the program's 2, or has one that the device, of 3, lacks")
+        self.assertEqual(str(fault), "Initial: the list of qubits has more or fewer than the program, which has 2, or one that the device, which has 3, lacks")
 
     def test_spares(self):
         told = {"format": 4, "device": 4, "qubits": 2, "spares": 2, "swaps": 0, "initial": [0, 1, 2, 3], "final": [0, 1, 2, 3]}
