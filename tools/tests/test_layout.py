@@ -85,8 +85,30 @@ class Layout(ToolTest):
                 self.assertEqual((status, out, err), (0, ",".join(map(str, placement)) + "\n", ""), text)
                 pairs = [(int(it[1]), int(it[2])) for it in layouts.CX.finditer(text)]
                 self.assertTrue(all(abs(placement[a] - placement[b]) == 1 for a, b in pairs), text)
+                routed = qroute.route(HEAD + text, qroute.Device(LINE_4), initial=placement)
+                self.assertEqual((routed.swaps, routed.initial[: len(placement)]), (0, placement), text)
                 # two that mirror each other are as good
                 self.assertIn(wanted, (out.strip(), ",".join(str(3 - it) for it in placement)) if pairs else (out.strip(),), text)
+
+    def test_a_ring(self):
+        ring = self.file("d.toml", f"qubits = 8\nedges = {[[it, (it + 1) % 8] for it in range(8)]}\n")
+        text = HEAD + "qreg a[2];\nqreg b[4];\nh a[0];\ncx a[0],a[1];\ncx a[1],b[0];\n" + "".join(f"cx b[{it}],b[{it + 1}];\n" for it in range(3))
+        status, out, err = self.run_tool("layout", self.file("p.qasm", text), "--device", ring)
+        self.assertEqual((status, err), (0, ""))
+        placement = [int(it) for it in out.split(",")]
+        self.assertEqual((len(placement), qroute.route(text, qroute.Device.load(ring), initial=placement).swaps), (6, 0))
+
+    def test_kept_barriers(self):
+        device = self.file("d.toml", LINE_4)
+        # without the barrier two CNOTs cancel; with it three wires are in a ring
+        path = self.file("p.qasm", HEAD + "qreg q[3];\ncx q[0],q[1];\ncx q[1],q[2];\nbarrier q;\ncx q[1],q[2];\ncx q[2],q[0];\n")
+        self.assertEqual(self.run_tool("layout", path, "--device", device)[0], 0)
+        self.assertEqual(self.run_tool("layout", path, "--device", device, "--keep-barriers")[:2], (1, ""))
+
+    def test_no_qubits(self):
+        path, device = self.file("p.qasm", HEAD), self.file("d.toml", LINE_4)
+        told = "layout: the program has no qubits, and a list has one at least\n"
+        self.assertEqual(self.run_tool("layout", path, "--device", device), (1, "", told))
 
     def test_no_placement_yet(self):
         path = self.file("p.qasm", HEAD + ROWS[1][0])

@@ -525,9 +525,10 @@ class Built(ToolTest):
         self.assertTrue(out.startswith("agrees on each of"), out + err)
 
     def test_examples_of_docstrings(self):
-        failed, tried = doctest.testmod(qroute)
-        self.assertEqual(failed, 0)
-        self.assertGreater(tried, 10)
+        for module, least in ((qroute, 10), (qroute.layouts, 3)):
+            failed, tried = doctest.testmod(module)
+            self.assertEqual(failed, 0)
+            self.assertGreater(tried, least)
 
     def test_faults(self):
         with self.assertRaises(qroute.Refused) as caught:
