@@ -28,7 +28,8 @@ class Layout:
     """What a search for a placement without a swap found.
 
     Entry i of `placement` is the qubit of wire i; it is None if none was found. `is_settled` is False if the limit on steps came
-    first, so that there may be one. `by` is what searched, `networkx` or `backtracking`.
+    first, so that there may be one. `by` is what searched, `networkx` or `backtracking`, or `count` if the device has fewer qubits
+    than the program.
     """
 
     placement: tuple[int, ...] | None
@@ -149,6 +150,6 @@ def perfect_layout(
     wires = graph_of((int(it[1]), int(it[2])) for it in CX.finditer(made.text))
     count = device.qubits()
     if made.qubits > count:
-        return Layout(None, True, "backtracking")
+        return Layout(None, True, "count")
     at, is_settled, by = searched(wires, graph_of(it[:2] for it in device.edges()), steps)
     return Layout(None if at is None else whole(at, made.qubits, count), is_settled, by)

@@ -79,7 +79,8 @@ class Layout(ToolTest):
             status, out, err = self.run_tool("layout", self.file("p.qasm", HEAD + text), "--device", device)
             if wanted is None:
                 self.assertEqual((status, out), (1, ""), text)
-                self.assertIn("there is no placement without a swap", err)
+                self.assertIn("there is no placement without a swap (by ", err)
+                self.assertEqual("(by count)" in err, "qreg q[5]" in text)
             else:
                 placement = qroute.perfect_layout(HEAD + text, qroute.Device(LINE_4)).placement
                 self.assertEqual((status, out, err), (0, ",".join(map(str, placement)) + "\n", ""), text)

@@ -145,6 +145,29 @@ class Program(ToolTest):
         with concurrent.futures.ThreadPoolExecutor(os.cpu_count()) as pool:
             self.assertGreater(sum(pool.map(self.routes, range(50))), 0)
 
+    def begins(self, device, program, more):
+        """From where a run began the same one begins again, but for the spare wires; own numbers are as `--trivial`."""
+        route = f"route --device {device} {more}"
+        status, out, report = self.ran(route, program)
+        told = json.loads(report)
+        count = told["qubits"]
+        listed = ",".join(str(it) for it in told["initial"][:count])
+        again = self.ran(f"{route} --initial {listed}", program)
+        self.assertEqual((status, again[:2]), (0, (0, out)), (listed, program))
+        first, second = ([it[:count] for it in (one["initial"], *one.get("between", []), one["final"])] for one in (told, json.loads(again[2])))
+        self.assertEqual(first, second, (listed, program))
+        self.is_trivial(device, program, more, count)
+
+    def is_trivial(self, device, program, more, count):
+        route, own = f"route --device {device} {more}", ",".join(str(it) for it in range(count))
+        self.assertEqual(self.ran(f"{route} --initial {own}", program), self.ran(f"{route} --trivial", program), program)
+
+    def test_where_wires_begin(self):
+        parted = "qreg q[3]; cx q[0],q[2]; barrier q; t q[1]; cx q[1],q[2]; cx q[0],q[1]; barrier q[0]; cx q[2],q[0];"
+        options = ("", "--clean", "--keep-barriers", "--keep-barriers --clean")
+        self.each(self.begins, [(device, it, more) for device in DEVICES for it in (*PROGRAMS, parted) for more in options])
+        self.each(self.is_trivial, [(device, it, "--trace", int(it[7])) for device in DEVICES for it in PROGRAMS])
+
     def test_another_program(self):
         """Output and report of drawn programs have the checksums that another program's have, made apart from the specification."""
         rows = (
