@@ -340,7 +340,9 @@ class Batch(BatchTest):
     def test_a_break_of_the_terminal(self):
         given = self.programs(a="long")
         words = [os.path.join(TOP, "tools/batch"), "opt", given, "-o", self.out, "--quiet", "--jobs", "1"]
-        ran = subprocess.Popen(words, stdout=subprocess.PIPE, stderr=subprocess.PIPE, text=True, start_new_session=True)
+        # where these tests run in the background, a break is ignored by all that they start
+        heeds = {"preexec_fn": lambda: signal.signal(signal.SIGINT, signal.SIG_DFL)}
+        ran = subprocess.Popen(words, stdout=subprocess.PIPE, stderr=subprocess.PIPE, text=True, start_new_session=True, **heeds)
         while not os.path.exists(os.path.join(self.room, "stand_in/waits")):
             time.sleep(0.01)
         # nobody waits for the program that runs, which takes a minute
