@@ -599,7 +599,7 @@ def route(
 
     `initial` has a qubit of the device for each of the program's, none twice; spare wires begin on those that are left, ascending.
     Another length, or a qubit that the device lacks, raises DeviceRefused; a qubit twice, or a number that isn't from 0 to 255,
-    NoCommand. It goes neither with `trivial` nor with `any_gates` (ValueError).
+    NoCommand. It doesn't go with `trivial` (ValueError).
 
     With `trace` its text is followed by its trace. With `keep_barriers` its barriers are kept, as by `opt`, and with `clean` gates
     that cancel once they are routed are taken out; a trace can be asked for with neither of the two (ValueError).
@@ -613,17 +613,16 @@ def route(
     """
     if trace and (keep_barriers or clean or any_gates):
         raise ValueError("there are no traces of programs whose barriers are kept, that are cleaned, or that have any gates")
-    if initial is not None and (trivial or any_gates):
-        raise ValueError("a list of qubits stands neither beside `trivial` nor beside `any_gates`")
+    if initial is not None and trivial:
+        raise ValueError("a list of qubits doesn't go with `trivial`")
+    begins = [*flags(trivial=trivial), *initial_words(initial)]
     if any_gates:
-        asked: dict[str, typing.Any] = {"trivial": trivial, "keep_barriers": keep_barriers, "clean": clean, "within": within, "timeout": timeout}
-        return whole.route(text, device, **asked)
+        return whole.route(text, device, begins, keep_barriers=keep_barriers, clean=clean, within=within, timeout=timeout)
     with tempfile.TemporaryDirectory() as room:
         path = os.path.join(room, "device.toml")
         with open(path, "w", encoding="utf-8") as file:
             file.write(device.text)
-        words = ["route", "--device", path, *flags(trivial=trivial), *initial_words(initial)]
-        words += flags(trace=trace, keep_barriers=keep_barriers, clean=clean)
+        words = ["route", "--device", path, *begins, *flags(trace=trace, keep_barriers=keep_barriers, clean=clean)]
         return result(*run(words, as_bytes(text), timeout))
 
 

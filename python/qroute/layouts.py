@@ -138,7 +138,8 @@ def perfect_layout(
     """Looks for a placement by which `route(text, device, initial=..)` needs no swap, in at most so many steps.
 
     The CNOTs are those of the program that `opt` writes, as `route` has them, with its barriers if they are kept. Nothing is
-    proved of the search; a placement that it finds can be tried by `route`. Refusals of the program are raised as by `opt`.
+    proved of the search; a placement that it finds can be tried by `route`. Refusals are raised as by `opt`, and then, of the
+    device, as by `route`.
 
     >>> text = 'OPENQASM 2.0; include "qelib1.inc"; qreg q[3]; cx q[0],q[2]; t q[2]; cx q[2],q[1];'
     >>> device = qroute.Device.of([(0, 1), (1, 2), (2, 3)], both=True)
@@ -147,6 +148,7 @@ def perfect_layout(
     (True, 0)
     """
     made = qroute.opt(text, keep_barriers=keep_barriers, timeout=timeout)
+    qroute.route("OPENQASM 2.0;", device, timeout=timeout)
     wires = graph_of((int(it[1]), int(it[2])) for it in CX.finditer(made.text))
     count = device.qubits()
     if made.qubits > count:

@@ -389,16 +389,16 @@ def opt(text: str | bytes, *, keep_barriers: bool, within: float, timeout: float
 def route(
     text: str | bytes,
     device: qroute.Device,
+    begins: list[str],
     *,
-    trivial: bool,
     keep_barriers: bool,
     clean: bool,
     within: float,
     timeout: float | None,
 ) -> qroute.Result:
-    """`qroute.route` of a program with any gates."""
-    tries = TRIES if not trivial and knows_tries() else None
-    flags = qroute.flags(trivial=trivial, keep_barriers=True, clean=clean) + (["--tries", str(tries)] if tries else [])
+    """`qroute.route` of a program with any gates; `begins` are the words that say where its wires begin, if they are told."""
+    tries = TRIES if not begins and knows_tries() else None
+    flags = begins + qroute.flags(keep_barriers=True, clean=clean) + (["--tries", str(tries)] if tries else [])
 
     def run(handed: str) -> tuple[str, dict[str, typing.Any]]:
         with tempfile.TemporaryDirectory() as room:

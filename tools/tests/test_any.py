@@ -3,6 +3,7 @@ import glob
 import json
 import math
 import os
+import random
 import re
 import sys
 
@@ -57,8 +58,12 @@ class Drawn(AnyGates):
             for i, name in enumerate(DEVICES):
                 if not ALL and i != seed % len(DEVICES):
                     continue
-                asked = {"keep_barriers": seed % 3 == 0, "clean": seed % 2 == 0, "trivial": seed % 7 == 0}
-                found = qroute.route(drawn.text, qroute.Device.named(name), any_gates=True, **asked)
+                device = qroute.Device.named(name)
+                begins = random.Random(seed).sample(range(device.qubits()), drawn.size) if seed % 7 == 1 and drawn.size else None
+                asked = {"keep_barriers": seed % 3 == 0, "clean": seed % 2 == 0, "trivial": seed % 7 == 0, "initial": begins}
+                found = qroute.route(drawn.text, device, any_gates=True, **asked)
+                if begins is not None:
+                    self.assertEqual(list(found.initial[: drawn.size]), begins)
                 self.on_edges(found.text, edges[name])
                 self.assertLess(self.apart(drawn.statements, drawn.size, found, seed), 1e-7, f"seed {seed} on {name}:\n{drawn.text}")
 

@@ -126,3 +126,16 @@ class Layout(ToolTest):
         self.assertEqual(self.run_tool("layout", none, "--device", device), (2, "", f"layout: {none}: No such file or directory\n"))
         self.assertEqual(self.run_tool("layout", path, "--device", none), (2, "", f"layout: {none}: No such file or directory\n"))
         self.assertEqual(self.run_tool("layout", path, "--device", device, "--steps", "0")[0], 2)
+
+    def test_devices_that_route_refuses(self):
+        """A placement on a device in two pieces could not be tried."""
+        program = HEAD + "qreg q[2];\ncx q[0],q[1];\n"
+        pieces = "qubits = 4\nedges = [[0, 1], [2, 3]]\n"
+        path, device = self.file("p.qasm", program), self.file("d.toml", pieces)
+        status, out, err = self.run_tool("layout", path, "--device", device)
+        self.assertEqual((status, out), (4, ""))
+        self.assertIn(f"layout: {device}: ", err)
+        for text, name in ((pieces, "NotConnected"), ("qubits = 4\n", "Shape"), ("qubits = 2\nedges = [[0, 2]]\n", "Range"), ("edges", "Text")):
+            with self.assertRaises(qroute.DeviceRefused) as caught:
+                qroute.perfect_layout(program, qroute.Device(text))
+            self.assertIn(name, str(caught.exception.told))

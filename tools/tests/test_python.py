@@ -123,9 +123,8 @@ class Module(StoodIn):
         qroute.route(SOURCE, device, initial=(Whole(1), Whole(-2), True))
         self.assertEqual(self.given("words").split()[3:], ["--initial=1,-2,1"])
         self.fault(qroute.NoCommand, 2, {"fault": "Words", "status": 2}, lambda: qroute.route(SOURCE, device, initial=[0, 0]))
-        for more in ({"trivial": True}, {"any_gates": True}):
-            with self.assertRaises(ValueError):
-                qroute.route(SOURCE, device, initial=[2, 0], **more)
+        with self.assertRaises(ValueError):
+            qroute.route(SOURCE, device, initial=[2, 0], trivial=True)
         told = {"code": 58, "device": 3, "fault": "Initial", "qubits": 2, "status": 4}
         fault = self.fault(qroute.DeviceRefused, 4, told, lambda: qroute.route(SOURCE, device, initial=[3, 0]))
         self.assertEqual((fault.code, fault.told["device"]), (58, 3))
