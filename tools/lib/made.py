@@ -100,11 +100,15 @@ def claims(old):
 
 
 def reading():
-    """What has to be read, in one sentence."""
-    files, lines = reach.sizes(reach.reached())
+    """What has to be read, in one sentence, and how much of it for the two claims that matter most."""
+    found = reach.by_claim()
+    sizes = {short: reach.sizes(it) for short, it in found.items()}
+    files, lines = sizes[reach.ALL]
+    parts = [f"{sizes[short][1]:,} {what}" for short, what in (("unitary", "say what a unitary is"), ("headline", "are the headline's")) if short in sizes]
     return (
-        f"To check what is claimed, read that contract and {files} short files of definitions, {lines} lines in all:"
-        " [docs/CLAIMS.md](docs/CLAIMS.md) lists them from the ground up, and how few each claim needs."
+        f"To check what is claimed, read that contract and {files} short files of definitions, {lines:,} lines in all"
+        + (f" ({', and '.join(parts)})" if parts else "")
+        + ": [docs/CLAIMS.md](docs/CLAIMS.md#what-must-be-believed) lists them from the ground up."
     )
 
 
