@@ -176,7 +176,7 @@ def part(name, old):
 
 
 def mended(text):
-    """The text with its parts made anew, and the names of those that were stale or that nothing makes."""
+    """The text with its parts made again, and the names of those that were stale or that nothing makes."""
     stale = []
 
     def made(match):

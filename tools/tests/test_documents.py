@@ -291,6 +291,7 @@ class Documents(ToolTest):
             # a word of a comment alone, and a clause that is none
             ("README.md", plain, plain.replace("`unused`", "`returns`"), "`returns` is declared nowhere"),
             ("README.md", "clause `bound`", "clause `half`", "`half` is no member of `Source`"),
+            ("README.md", "clause `bound` of `Source` says it", "clause `size` says it", "`size` is no clause"),
             # an edit that another clause would refuse, that is gone, or that is new
             ("docs/CLAIMS.md", "`even` of `two_is_even` |", "`odd` of `two_is_even` |", "odd: two_is_even has no clause odd"),
             ("docs/CLAIMS.md", "| `odd` | `even`", "| `old` | `even`", "a part is stale: edits"),
