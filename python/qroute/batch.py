@@ -65,7 +65,7 @@ class BatchFault(Exception):
 
 
 def sum_of_program() -> str:
-    """The sha256 of the program that is run; where that is a script which stands before it, as the command of an installation and the
+    """The sha256 of the program that is run; if that is a script which stands before it, as the command of an installation and the
     launcher of a checkout, of both.
     """
     path = pathlib.Path(shutil.which(qroute.program()) or qroute.program()).resolve()
@@ -529,7 +529,7 @@ def batch(
 
     Raises `BatchFault` if there is no program, if the folder has what was asked otherwise, if two programs have one name, or while
     another run is at work there; and `QrouteError` if no program can be run, or the device is refused. What an executor raises, as
-    `BrokenExecutor` where a process of the pool was killed, comes through; what was done until then is kept.
+    `BrokenExecutor` if a process of the pool was killed, comes through; what was done until then is kept.
     """
     begun = time.monotonic()
     if command not in COMMANDS or (command == "route") != (device is not None):

@@ -45,7 +45,7 @@ class Case:
     files: dict[str, bytes] = dataclasses.field(default_factory=dict)
     ends: dict[str, str] = dataclasses.field(default_factory=dict)
     status: int = 0
-    output: bytes | None = b""  # None where it isn't compared
+    output: bytes | None = b""  # None if it isn't compared
     report: bytes | None = b""
     pieces: list[bytes] = dataclasses.field(default_factory=list)
     most: int | None = None

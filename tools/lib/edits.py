@@ -10,7 +10,7 @@ import re
 
 import sources
 
-# what a proof file is told where it cites a name that an edit took away
+# what a proof file is told if it cites a name that an edit took away
 NAMES = re.compile(r"has no field|is not in scope|is no name|not found in|has no (name|part|definition)|was not admitted")
 ERROR = re.compile(r"(?:\./)?(proofs/(\S+)/\w+\.antt|\S+\.(?:antt|rt)):(\d+):\d+: error\S*:? (.*)")
 NOTE = re.compile(r"note: src/(\S+)\.rt:(\d+):\d+: it is not proved that (.*)")
@@ -79,7 +79,7 @@ def places_of(module: str, text: str) -> list[tuple[Place, int, int]]:
 
 
 def trait_of(line: str) -> str:
-    """The trait of a line that opens an `impl`, nothing where it is the type's own."""
+    """The trait of a line that opens an `impl`, nothing if it is the type's own."""
     while (bare := re.sub(r"<[^<>]*>", "", line)) != line:
         line = bare
     match = re.search(r"\bimpl (?:\w+::)*(\w+) for\b", line)

@@ -171,7 +171,7 @@ def basis(wires, index):
 
 
 def mixed(wires, spares=0):
-    """A superposition of all basis states with whole weights that look random, the same at each call; spare wires behind the
+    """A superposition of all basis states with whole weights that look random, the same at each call; spare wires after the
     others are at zero."""
     x = 1
     values = []
@@ -203,7 +203,7 @@ def each_scattered(size):
 
 
 def first_difference(left, right, turn):
-    """The first index at which the right state isn't w^turn times the left one; None where there is none."""
+    """The first index at which the right state isn't w^turn times the left one; None if there is none."""
     for i, (v, u) in enumerate(zip(left.values, right.values)):
         if rooted_often(turned(v, turn), right.halvings) != rooted_often(u, left.halvings):
             return i

@@ -63,7 +63,7 @@ def commute(one, other):
 
 
 def cancelled(one, other):
-    """What is left of two neighbours: `("both", turn)` where it is nothing, `("join", k)` where it is P(k), else None."""
+    """What is left of two neighbours: `("both", turn)` if it is nothing, `("join", k)` if it is P(k), else None."""
     if one[0] != other[0] or wires_of(one) != wires_of(other):
         return None
     if one[0] == "P":
@@ -73,7 +73,7 @@ def cancelled(one, other):
 
 
 def pair_left(gates):
-    """The places of two gates that cancel or merge past those between them; None where no two do."""
+    """The places of two gates that cancel or merge past those between them; None if no two do."""
     listed = Gates(gates)
     for place, gate in enumerate(gates):
         for other in listed.behind_it(place):
@@ -123,7 +123,7 @@ class Gates:
     """A list from which gates go. A gate has a slot, which stays its own; a place is the number of gates before it."""
 
     def __init__(self, gates):
-        self.gates = list(gates)  # by slot; None where it went
+        self.gates = list(gates)  # by slot; None if it went
         self.places = Places(len(self.gates))
         self.before, self.behind = {}, {}  # of a slot and one of its gate's wires, the nearest slots on that wire
         last = {}
@@ -141,7 +141,7 @@ class Gates:
         return [it for it in self.gates if it is not None]
 
     def follow(self, slot, wire, count):
-        """A slot and the next ones on a wire, so many in all, or fewer where the wire ends."""
+        """A slot and the next ones on a wire, so many in all, or fewer if the wire ends."""
         found = [slot]
         while len(found) < count and (found[-1], wire) in self.behind:
             found.append(self.behind[found[-1], wire])
@@ -156,7 +156,7 @@ class Gates:
                 slot = self.behind.get((slot, wire))
 
     def behind_it(self, slot):
-        """The slots behind one that are on a wire of its gate, in order."""
+        """The slots after one that are on a wire of its gate, in order."""
         near = {wire: self.behind.get((slot, wire)) for wire in wires_of(self.gates[slot])}
         while left := [it for it in near.values() if it is not None]:
             first = min(left)
@@ -193,7 +193,7 @@ class PathSum:
     counts: list  # for each wire how many H are on it
     sets: dict  # for each H, by its variable, the set before it
     last: list  # for each wire its last label, a set and a bit
-    totals: dict  # what stands on each set, modulo 8, where that isn't 0
+    totals: dict  # what stands on each set, modulo 8, if that isn't 0
     constant: int
 
 

@@ -1,10 +1,10 @@
 """Texts that take long to read or to rewrite, or much memory: the worst that are known, of each kind, made on the spot.
 
 `KINDS` lists them: what a text is called, the words of the command, the status that it must end with, what makes the program's
-text, and what makes the device's or the target's where there is one. Each text is as long as it may be, or has as many
-operations, but where time or what is written grows faster than the text: traces of H in turn with CNOTs, since for a `sums`
+text, and what makes the device's or the target's if there is one. Each text is as long as it may be, or has as many
+operations, except if time or what is written grows faster than the text: traces of H in turn with CNOTs, since for a `sums`
 each H takes as long as its label's row, and time grows with the square of the H on one wire; gates that double; gates in
-levels, of which there are three sizes; CNOTs with a barrier behind each; and texts under a long name, of which `route` writes
+levels, of which there are three sizes; CNOTs with a barrier after each; and texts under a long name, of which `route` writes
 gigabytes.
 """
 
@@ -91,7 +91,7 @@ def sums():
 
 
 def underscores(body):
-    """A program on a register w that is written with 1,024 underscores behind its name, since classical ones have all others."""
+    """A program on a register w that is written with 1,024 underscores after its name, since classical ones have all others."""
     return HEAD + "".join(f"creg q{'_' * i}[1];\n" for i in range(1_024)) + body
 
 
@@ -143,7 +143,7 @@ def layered(wires=64, cnots=1_000, layers=None):
 
 
 def barred(wires=16, operations=8_000):
-    """CNOTs drawn as in `mixed`, each with a barrier behind it."""
+    """CNOTs drawn as in `mixed`, each with a barrier after it."""
     return mixed(wires, ["cx"], operations).replace(";\ncx", ";\nbarrier q;\ncx")
 
 
@@ -190,7 +190,7 @@ def in_turn(pairs):
 
 
 def in_turn_target(pairs, is_again=False):
-    """What `route --trivial --trace` writes of them on a line: the NOT behind the first H, by a `sums` of all gates.
+    """What `route --trivial --trace` writes of them on a line: the NOT after the first H, by a `sums` of all gates.
 
     The same `sums` again and again, if told so, until the text is as long as it may be.
     """
@@ -219,13 +219,13 @@ def far_pairs(count, wires=256):
 
 
 def far_boths(count, wires=256):
-    """Nothing of them, by a trace that takes the first and the same behind the middle away, again and again."""
+    """Nothing of them, by a trace that takes the first and the same after the middle away, again and again."""
     boths = [f"both 0 {it}" for it in range(count // 2, 0, -1)]
     return HEAD + f"qreg q[{wires}];\n" + commented(["TRACE 1", *boths, *emitted(wires, 0)])
 
 
 def traced(lines, part, begins="", wires=1):
-    """A target of the greatest length, without gates, whose trace has these lines, and then so many parts behind a begin."""
+    """A target of the greatest length, without gates, whose trace has these lines, and then so many parts after a begin."""
     return filled(f"{HEAD}qreg q[{wires}];\n{commented(lines)}{begins}", part, most=MOST_TARGET)
 
 

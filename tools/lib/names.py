@@ -7,7 +7,7 @@ LANGUAGE = {"measure", "barrier", "reset", "U", "CX"}
 
 
 def unknown(text, number):
-    """The token of the first name that means nothing in a statement, counted from 1 behind the header; None where none is found."""
+    """The token of the first name that means nothing in a statement, counted from 1 after the header; None if none is found."""
     try:
         listed = list(statements(qasm.tokens(text)))
     except qasm.Fault:

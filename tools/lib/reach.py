@@ -315,7 +315,7 @@ def reached(top=sources.TOP):
 
 
 def in_order(found):
-    """The modules that are reached, each behind those that it needs, and otherwise as crates.txt has their crates."""
+    """The modules that are reached, each after those that it needs, and otherwise as crates.txt has their crates."""
     crates = list(sources.crates(found.top))
     order = sorted(found.parts, key=lambda it: (crates.index(it.split(".")[1]), it))
     done = []

@@ -51,7 +51,7 @@ def flaws(told):
 
 
 def flaws_of_spares(spares, told):
-    """What can't be of spare wires, which stand behind the source's, and of what stands beside them."""
+    """What can't be of spare wires, which stand after the source's, and of what stands beside them."""
     if not is_count(spares) or spares != told["device"] - told["qubits"] or not 0 < spares < 256:
         yield f"the report says spares {spares!r}, qubits {told['qubits']} and device {told['device']}"
     for key in ("initial", "final"):

@@ -47,7 +47,7 @@ def write(path, text):
 
 
 def say(text):
-    """A line on standard error, where there is one that takes it."""
+    """A line on standard error, if there is one that takes it."""
     try:
         if sys.stderr is not None:
             print(text, file=sys.stderr)
@@ -56,7 +56,7 @@ def say(text):
 
 
 def run(name, main):
-    """Ends a tool with the status of `main`; with 2, and one line of why, where a file or a stream fails."""
+    """Ends a tool with the status of `main`; with 2, and one line of why, if a file or a stream fails."""
     try:
         sys.exit(main())
     except OSError as fault:

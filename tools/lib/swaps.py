@@ -1,6 +1,6 @@
 """Swaps that a router wrote, found again in a program: three CNOTs on a pair of qubits with nothing of it between.
 
-Where an edge has one direction the one in the middle is turned round by H on both qubits, before it and after it.
+If an edge has one direction the one in the middle is reversed by H on both qubits, before it and after it.
 """
 
 import dataclasses

@@ -47,7 +47,7 @@ class Stop(Exception):
 
 @dataclasses.dataclass
 class Verdict:
-    """A trace's power, or the line at which it stops, what stands there (None where it is missing), and why it stops."""
+    """A trace's power, or the line at which it stops, what stands there (None if it is missing), and why it stops."""
 
     power: int | None = None
     line: int | None = None
@@ -121,8 +121,8 @@ class Check:
         self.qubits, operations = target
         self.target, self.target_turns = gate_lists.expanded(operations)
         self.written = []  # the gates that were appended
-        self.now = None  # behind `place` the qubit of each wire
-        self.power = None  # behind `end` what is proved
+        self.now = None  # after `place` the qubit of each wire
+        self.power = None  # after `end` what is proved
 
     def step(self):
         """The next line."""
@@ -182,7 +182,7 @@ class Check:
         self.turns += turn
 
     def turned(self, first, middle, new, turn):
-        """The edits of H, `middle`, H on one wire, and the turn; None where they don't stand there."""
+        """The edits of H, `middle`, H on one wire, and the turn; None if they don't stand there."""
         wire = self.gate(first)[-1]
         slots = self.list.follow(first, wire, 3)
         if [self.gate(it) for it in slots] != [("H", wire), (*middle, wire), ("H", wire)]:
@@ -254,7 +254,7 @@ class Check:
         return count
 
     def gate_of(self, index):
-        """The gate of a line behind `sums`."""
+        """The gate of a line after `sums`."""
         try:
             word, numbers = read(self.lines[index])
         except Stop:
@@ -271,7 +271,7 @@ class Check:
             raise Stop(f"its numbers aren't those below {self.qubits}, each once")
         self.now = list(qubits)
 
-    # lines behind `place`
+    # lines after `place`
 
     def first(self, i):
         """The slot of the gate at a place, no gate before it being on a wire of it."""
