@@ -1,4 +1,5 @@
 import os
+import re
 import shutil
 import subprocess
 
@@ -266,7 +267,7 @@ class Documents(ToolTest):
             "README.md",
             f"{README}\nThe clause `bound` of `Source` says it, `half` and `two_is_even` are of `low`, and {chr(96)}bin/run{chr(96)} is no document's.\n"
             "No chain has more than three crates.\n[Definitions](docs/CLAIMS.md#crate-by-crate) stand there.\n\n"
-            "| `unused` | at most | name | where |\n|---|---|---|---|\n| it | 3 | `unused` | `low/specs/Words.antt` |\n",
+            f"| `unused` | at most | name | where |\n|---|---|---|---|\n| it | 3 | `unused` | `low/specs/Words.antt` |\n{parts('reading')}",
         )
         self.file("docs/CLAIMS.md", CLAIMS.replace("#### `low`\n", "#### `low`\n\nIts law is `two_is_even`, of the definition `IsEven`.\n") + parts("edits"))
         self.script("check-docs", "--mend")
@@ -280,6 +281,7 @@ class Documents(ToolTest):
             # a wrong count, and a figure that was changed
             ("README.md", "than three crates", "than four crates", "it says four, and there are three"),
             ("README.md", "| it | 3 |", "| it | 4 |", "`unused` is no 4 in low/specs/Words.antt"),
+            ("README.md", "8 lines in all", "7 lines in all", "a part is stale: reading"),
             ("crates/low/specs/Words.antt", "unused = 3", "unused = 5", "`unused` is no 3 in low/specs/Words.antt"),
             # a file that is gone, and a definition, a function and a heading with another name
             ("README.md", "`low/specs/Words.antt`, as", "`low/specs/Even.antt`, as", "no file low/specs/Even.antt"),
@@ -308,8 +310,34 @@ class Documents(ToolTest):
         self.script("check-docs", "--mend")
         self.file("crates/outside_io/specs/Others.antt", "-- Others.\n--   twice\nabbrev pub twice : ℕ\ntwice = 2\n")
         self.assertEqual(self.found(), ["nothing found"])
-        self.change("tools/check-docs", "MOST_TWICE = 149", "MOST_TWICE = 0")
+        self.file("tools/check-docs", re.sub(r"(?m)^MOST_TWICE = \d+$", "MOST_TWICE = 0", self.text("tools/check-docs")))
         self.assertEqual(self.found(), ["specs/: 1 words are defined in two or more files, and at most 0 were: among them twice"])
+
+    def test_lengths(self):
+        self.script("check-docs", "--mend")
+        readme = self.text("README.md")
+        self.file("README.md", readme.replace("<!-- made: claims -->", f"{126 * chr(10)}## Crate by crate\n\n<!-- made: claims -->", 1))
+        self.assertEqual(self.found(), ["nothing found"])
+        self.file("README.md", readme.replace("<!-- made: claims -->", f"{127 * chr(10)}## Crate by crate\n\n<!-- made: claims -->", 1))
+        self.assertEqual(self.found(), ["README.md: 131 lines stand before its table of crates, and at most 130 may"])
+        self.file("README.md", readme)
+        self.file("docs/GUIDE.md", 6000 * "It is so.\n")
+        more = sum(len(self.text(it).splitlines()) for it in ("README.md", "docs/ARCHITECTURE.md", "docs/CLAIMS.md"))
+        self.assertEqual(self.found(), [f"documents: they have {6000 + more} lines together, and at most 6000 may be"])
+        self.file("docs/GUIDE.md", (6000 - more) * "It is so.\n")
+        self.file("docs/ROWS.md", 100 * "It is so.\n")
+        self.assertEqual(self.found(), ["nothing found"])
+
+    def test_wording(self):
+        self.script("check-docs", "--mend")
+        for said, wanted in (
+            ("Links are made anew.", ["README.md:3: anew: write again"]),
+            ("Want of memory is free.", ["README.md:3: want of memory: write out of memory"]),
+            ("Write 'again' (not 'anew').", ["nothing found"]),
+        ):
+            self.file("README.md", README.replace("Read `low/specs/Words.antt`, as a whole.", said))
+            self.script("check-docs", "--mend")
+            self.assertEqual(self.found(), wanted)
 
     def test_order_of_crates(self):
         self.script("check-docs", "--mend")
