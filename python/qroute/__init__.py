@@ -5,11 +5,11 @@
     print(result.text, result.swaps, result.initial, result.final)
 
 Nothing is rewritten here: each call runs the program once, hands it the text, and reads what it wrote. The program is the
-file that the environment's QROUTE names; else the one that the launcher of this checkout has built, the one in this package,
-as a wheel has it, or the one that was installed with this file; else `qroute` along PATH. A refusal, and every other end than
-a result, is an exception (`QrouteError`), which says in words what happened. The device files that come with `qroute` are
-those of the folder that the environment's QROUTE_DEVICES names, of this checkout, of this package, or of `share/qroute/devices`
-where it is installed.
+file that the environment's QROUTE names. Without it, it is the one that the launcher of this checkout has built, the one in
+this package, as a wheel has it, the one that was installed with this file, or `qroute` along PATH, in this order. A refusal,
+and every other end than a result, is an exception (`QrouteError`), which says in words what happened. The device files that
+come with `qroute` are those of the folder that the environment's QROUTE_DEVICES names, of this checkout, of this package, or
+of `share/qroute/devices` where it is installed.
 
 It needs Python 3.11 and no packages. `qroute.batch` runs many programs, and `qroute.qiskit` and `qroute.pytket` stand between
 this module and Qiskit or pytket; each has to be imported by its name. docs/PYTHON.md describes all of it.
@@ -336,7 +336,7 @@ class Result:
     unitary is the source's if they start at zero; nothing is said if they don't.
 
     If barriers are kept, entry j of `between` is the placement at barrier j, and entry j of `parts` the power of the part before
-    it; the last entry is that of the part after all barriers. Each part is its own source's, from the placement at which the one
+    it. The last power is that of the part after all barriers. Each part is its own source's, from the placement at which the one
     before ends. Both are None if barriers are left out.
 
     `any_gates` says what was put back, and what of it all is proved, if a program with any gates was asked for.
@@ -427,8 +427,8 @@ class Checked:
 class Verdict:
     """What `verify` finds of two texts; it counts as true exactly if the trace shows that the target is the source.
 
-    `phase` is then the power J for which the target's unitary is exp(i pi/4) to the power J times the source's, with the wires
-    on the qubits that the trace says. Otherwise `line` is the first line of the trace, from 1, that doesn't apply or is missing,
+    `phase` is then the power J: the target's unitary is exp(i pi/4) to the power J times the source's, with the wires on the
+    qubits that the trace says. Otherwise `line` is the first line of the trace, from 1, that doesn't apply or is missing,
     and `why` says so in words.
     """
 
@@ -560,14 +560,14 @@ def opt(
     """The program on its own qubits, with fewer gates if some are found.
 
     With `keep_barriers` its barriers outside of gates' bodies are kept, and what is between two is rewritten by itself.
-    With `spares`, from 1 to 255, that many wires follow its own, which start and end at zero, and T gates are in fewer blocks side
-    by side if that is possible; barriers can't be kept then (ValueError).
+    With `spares`, from 1 to 255, that many wires follow its own, which start and end at zero. T gates are in fewer blocks side by
+    side then, if that is possible; barriers can't be kept (ValueError).
 
     With `any_gates` it takes any OpenQASM 2.0: other angles, `reset`, `if`, measurements anywhere, and the gates that exporters
-    write. Angles within `within`, which is less than pi/8, of a multiple of pi/4 become exact. Proved, part by part: the CNOTs, the Clifford+T gates, the
-    placements and the order on each qubit, of the program with barriers in place of its other gates; tested and not proved: that
-    this is the source written out, and that each other gate is put back unchanged where its wire is. Spare wires don't go with it
-    (ValueError).
+    write. Angles within `within`, which is less than pi/8, of a multiple of pi/4 become exact. Proved, part by part, of the
+    program with barriers in place of its other gates: the CNOTs, the Clifford+T gates, the placements and the order on each
+    qubit. Tested and not proved: that this is the source written out, and that each other gate is put back unchanged where its
+    wire is. Spare wires don't go with it (ValueError).
 
     >>> found = opt('OPENQASM 2.0; include "qelib1.inc"; qreg q[1]; t q[0]; t q[0];')
     >>> found.text.splitlines()[3:], found.t_before, found.t_after
@@ -602,7 +602,7 @@ def route(
     NoCommand. It doesn't go with `trivial` (ValueError).
 
     With `trace` its text is followed by its trace. With `keep_barriers` its barriers are kept, as by `opt`, and with `clean` gates
-    that cancel once they are routed are taken out; a trace can be asked for with neither of the two (ValueError).
+    that cancel once they are routed are taken out. A trace can be asked for with neither of the two (ValueError).
 
     With `any_gates` it takes any OpenQASM 2.0, as `opt` says, which also has what is proved then; no trace can be asked for.
 
@@ -676,8 +676,9 @@ def stages(text: str | bytes, *, spares: int | None = None, timeout: float | Non
 
 
 def amplitude(text: str | bytes, begins: str, ends: str, *, timeout: float | None = None) -> tuple[int, int, int, int, int]:
-    """The entry of a program's unitary from one basis state to another, exactly: (a, b, c, d, e) for
-    (a + b w + c w^2 + d w^3) / 2^e with w = exp(i pi/4). A state is a text with a 0 or 1 for each wire, wire 0 first.
+    """The entry of a program's unitary from one basis state to another, exactly.
+
+    It is (a, b, c, d, e) for (a + b w + c w^2 + d w^3) / 2^e with w = exp(i pi/4). A state is a text with a 0 or 1 for each wire, wire 0 first.
 
     >>> amplitude('OPENQASM 2.0; include "qelib1.inc"; qreg q[2]; t q[1]; cx q[1],q[0];', "01", "11")
     (0, 1, 0, 0, 0)

@@ -9,7 +9,7 @@
 The folder has, for each program that was written, a file of its name, and `rows.jsonl`, one line of JSON for each program in
 the order of names: `program`, the sha256 of its text, and what the report tells, or `fault`, `status`, `says` and the place for
 one that was refused. The rows don't depend on when, where and in which order they were made. A written program is put in its
-place at once, as a whole, and its row comes after it; so a run that was stopped, in whatever way, goes on where it was.
+place at once, as a whole, and its row comes after it. So a run that was stopped, in whatever way, goes on where it was.
 
 The programs are read and written here. What runs elsewhere gets their texts and answers texts, so an executor of other machines
 needs this module and the program there, and no folder in common.
@@ -65,8 +65,7 @@ class BatchFault(Exception):
 
 
 def sum_of_program() -> str:
-    """The sha256 of the program that is run; if that is a script which stands before it, as the command of an installation and the
-    launcher of a checkout, of both.
+    """The sha256 of the program that is run; of both, if that is a script before it, as an installation's command or a launcher.
     """
     path = pathlib.Path(shutil.which(qroute.program()) or qroute.program()).resolve()
     found = hashlib.sha256(path.read_bytes())
@@ -181,8 +180,8 @@ def do_lot(task: Task, lot: list[tuple[str, bytes]]) -> list[tuple[Row, str | No
 
 def programs_in(given: str | os.PathLike[str] | collections.abc.Iterable[str | os.PathLike[str]], out: pathlib.Path) -> dict[str, pathlib.Path]:
     """The path of each program by its name, in the order of names. Of a folder these are the files *.qasm below it, but for those
-    of the folder that is written to, each with its path in the folder as its name; a file has its own name. Folders of such a
-    name are none, and links that lead nowhere are told when they are to be read. A folder without a program is a fault.
+    of the folder that is written to. Each has its path in the folder as its name, and a file has its own name. Folders of such
+    a name are none, and links that lead nowhere are told when they are to be read. A folder without a program is a fault.
     """
     listed = [given] if isinstance(given, (str, os.PathLike)) else list(given)
     found: dict[str, pathlib.Path] = {}
@@ -519,16 +518,16 @@ def batch(
 
     `programs` is a folder, whose files *.qasm count, or a list of files and folders. `options` are those of the module's function
     of the same name. A program that is refused, or can't be read, has its row and stops nothing. What is done is not done again: a
-    program is done if its row is there, for the same text, and its written program too; one whose run failed for another reason is
-    run again.
+    program is done if its row is there, for the same text, and its written program too. One whose run failed for another reason
+    is run again.
 
     The work is done by a pool of `jobs` processes, as many as there are processors; or by an `executor` of any kind that stands
     under `concurrent.futures.Executor`, as Dask's `Client.get_executor()`. With `shard=(I, N)` only each N-th program from the
-    I-th on is run, so that N runs on any machines with the folders in common do all; after them a run without it does what is left
-    and makes one table.
+    I-th on is run, so that N runs on any machines with the folders in common do all. After them a run without it does what is
+    left and makes one table.
 
     Raises `BatchFault` if there is no program, if the folder has what was asked otherwise, if two programs have one name, or while
-    another run is at work there; and `QrouteError` if no program can be run, or the device is refused. What an executor raises, as
+    another run is at work there. Raises `QrouteError` if no program can be run, or the device is refused. What an executor raises, as
     `BrokenExecutor` if a process of the pool was killed, comes through; what was done until then is kept.
     """
     begun = time.monotonic()

@@ -1,7 +1,7 @@
 """Placements without a swap: each two wires with a CNOT between them stand on neighbours.
 
-Whether there is one is the question whether the pairs of a program are a part of the device's graph, which takes long at worst:
-so a search ends after some steps. `networkx` looks for it if it is installed, else a search of this module.
+Whether there is one is the question whether the pairs of a program are a part of the device's graph, which takes long at worst.
+So a search ends after some steps. `networkx` looks for it if it is installed, else a search of this module.
 """
 
 from __future__ import annotations

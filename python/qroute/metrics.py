@@ -1,6 +1,6 @@
 """What a program costs: gates by name, depths, and on a device with costs the estimated success.
 
-A gate on more than one wire counts as its body has it, written out to CNOTs and gates on one wire; each of these takes one step
+A gate on more than one wire counts as its body has it, written out to CNOTs and gates on one wire. Each of these takes one step
 on its wires. A T gate is a gate on one wire with an odd multiple of pi/4 for its phase. A barrier lets nothing past on the wires
 that it names.
 """

@@ -3,8 +3,8 @@
 `read(text)` gives a `Program`: its wires and classical bits in order of declaration, and its steps, in which whole
 registers are written out. `operations(program)` gives the operations `("U", a, b, c, wire)`, with angles in units of pi/4
 below 8, and `("CX", control, target)`, with gates written out by their bodies. It reads more than `qroute` may read, and looks
-for no more faults than it needs to: what it can't make sense of, or is beyond the bounds below, is a `Fault` with an offset, or
-of angles and operations a ValueError.
+for no more faults than it needs to. What it can't make sense of, or is beyond the bounds below, is a `Fault` with an offset,
+or of angles and operations a ValueError.
 
 `read(text, whole=True)` reads the whole language: conditions, `reset`, opaque gates, gates after measurements, and angles
 without an exact value, each of which is a float then. It also looks whether a name is taken.

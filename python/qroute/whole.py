@@ -45,10 +45,10 @@ class Unreadable(qroute.QrouteError):
 class AnyGates:
     """What was done so that a program with any gates could be taken.
 
-    `put_back` counts the statements put back by name, at so many `barriers`; `exact` are the angles that were made exact;
-    `declared` the gates that the program applies and neither it nor the tables have; `tries` how many tries the router was
-    asked for, None if the program doesn't know that; `told` the report of the program with its barriers; `proved` says what
-    of the result is proved.
+    `put_back` counts the statements put back by name, at so many `barriers`. `exact` are the angles that were made exact, and
+    `declared` the gates that the program applies and neither it nor the tables have. `tries` is how many tries the router was
+    asked for, None if the program doesn't know that. `told` is the report of the program with its barriers, and `proved` says
+    what of the result is proved.
     """
 
     put_back: dict[str, int]
