@@ -263,10 +263,13 @@ class Documents(ToolTest):
     def test_planted_untruths(self):
         """Each is told, and alone: what a check of documents that passes has been shown to find."""
         self.file("crates/low/must-fail/odd.edit", "file: src/laws.rt\nold: {}\nnew: {{}}\n")
+        bounds = "-- Bounds.\n--   most_qubits, most_operations\nabbrev pub most_qubits : ℕ\nmost_qubits = 256\n"
+        self.file("crates/low/specs/Bounds.antt", f"{bounds}abbrev pub most_operations : ℕ\nmost_operations = 65536\n")
+        self.file("docs/it.1", "A program has at most 65,536 operations\n")
         self.file(
             "README.md",
             f"{README}\nThe clause `bound` of `Source` says it, `half` and `two_is_even` are of `low`, and {chr(96)}bin/run{chr(96)} is no document's.\n"
-            "No chain has more than three crates.\n[Definitions](docs/CLAIMS.md#crate-by-crate) stand there.\n\n"
+            "No chain has more than three crates.\nIt isn't for more than 256 qubits.\n[Definitions](docs/CLAIMS.md#crate-by-crate) stand there.\n\n"
             f"| `unused` | at most | name | where |\n|---|---|---|---|\n| it | 3 | `unused` | `low/specs/Words.antt` |\n{parts('reading')}",
         )
         self.file("docs/CLAIMS.md", CLAIMS.replace("#### `low`\n", "#### `low`\n\nIts law is `two_is_even`, of the definition `IsEven`.\n") + parts("edits"))
@@ -280,6 +283,9 @@ class Documents(ToolTest):
             ("crates/low/src/laws.rt", "ensures even", "ensures halved", "two_is_even has no clause even"),
             # a wrong count, and a figure that was changed
             ("README.md", "than three crates", "than four crates", "it says four, and there are three"),
+            ("README.md", "than 256 qubits", "than 255 qubits", "it says 255, and there are 256"),
+            ("docs/it.1", "65,536", "65,563", "it says 65,563, and there are 65,536"),
+            ("crates/low/specs/Bounds.antt", "most_qubits = 256", "most_qubits = 128", "it says 256, and there are 128"),
             ("README.md", "| it | 3 |", "| it | 4 |", "`unused` is no 4 in low/specs/Words.antt"),
             ("README.md", "8 lines in all", "7 lines in all", "a part is stale: reading"),
             ("crates/low/specs/Words.antt", "unused = 3", "unused = 5", "`unused` is no 3 in low/specs/Words.antt"),
@@ -304,6 +310,12 @@ class Documents(ToolTest):
             found = self.found()
             self.assertTrue(any(wanted in it for it in found), (wanted, found))
             self.file(name, before)
+        self.assertEqual(self.found(), ["nothing found"])
+        # a count or a limit is mended, in words if it is in words, and with the commas that it has
+        self.change("crates/low/specs/Bounds.antt", "most_qubits = 256", "most_qubits = 128")
+        self.change("README.md", "than three crates", "than four crates")
+        self.script("check-docs", "--mend")
+        self.assertIn("No chain has more than three crates.\nIt isn't for more than 128 qubits.\n", self.text("README.md"))
         self.assertEqual(self.found(), ["nothing found"])
 
     def test_words_that_are_defined_twice(self):
