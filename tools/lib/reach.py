@@ -355,6 +355,7 @@ def sizes(found):
     return len(found.parts), sum(lines_of(found, it)[0] for it in found.parts)
 
 
+@functools.cache
 def by_claim(top=sources.TOP):
     """What each claim reaches, under its short name; all that `run` promises comes last."""
     found = {}
