@@ -32,6 +32,7 @@ use Rattle.routed_parts.proofs.LegLaws.{AreRealised-legs, FollowsEdges-legs, cx-
 use Rattle.routed_parts.proofs.StillLaws.{AreRealised-still, cx-still, ends-still}
 use Rattle.sabre_route.specs.Measures.{bound, bound_by}
 use Rattle.sabre_route.specs.Routing.{IsLayout}
+use Rattle.sabre_route.specs.Ahead.{InOrder}
 use Rattle.sabre_route.specs.declared.router.Routed.{Routed}
 use Rattle.trace_text.specs.Texts.{ended, lines_of}
 use Rattle.unitary_model.specs.declared.Op.{Op}
@@ -223,7 +224,7 @@ pub Stands-routed : (keep clean : Bool) (chosen : Option (List ℕ)) (d : Coupli
     → AllZip (λ us r. IfSome r.steps (HasSteps s.wires us r.passed)) s.cut.parts rs
     → (s.cut ≡ uncut s.ops) × (clean ≡ false) ⊎ All (λ r. r.steps ≡ None) rs → AreRoutedParts d clean t.initial rs ms → s.wires ≤ d.size
     → t.body.wires ≡ d.size → t.last ≡ last_of t.initial ms → t.swaps ≡ sum_by (λ (m : PartTarget). m.swaps) ms
-    → IfSome chosen (λ p. t.initial ≡ p) → (is_some chosen ≡ false → IsLayout d (whole (gates_of rs)) t.initial)
+    → IfSome chosen (λ p. t.initial ≡ p) → (is_some chosen ≡ false → IsLayout InOrder d (whole (gates_of rs)) (identity d.size) t.initial)
     → (k : ℕ) → IsDiameter d.size d.edges (cost d) k → t.cost ≡ told_cost d (ops t.body.gates)
     → (clean ≡ false → AreTraced d t.initial rs ms t.trace.items) → (All (λ r. r.steps ≡ None) rs → t.trace.items ≡ [])
     → length s.ops ≤ most_operations → All (IsFineOp s.wires) s.ops → t.spares ≡ None

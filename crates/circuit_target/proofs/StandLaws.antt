@@ -26,6 +26,7 @@ use Rattle.routed_parts.specs.Runs.{AreRuns}
 use Rattle.routed_parts.proofs.LegLaws.{AreRuns-legs, FollowsEdges-legs, HasFewSwaps-legs}
 use Rattle.routed_parts.proofs.RunLaws.{IsLeg-run}
 use Rattle.sabre_route.specs.Routing.{IsLayout}
+use Rattle.sabre_route.specs.Ahead.{InOrder}
 use Rattle.unitary_model.specs.declared.Op.{Op}
 use Rattle.unitary_model.specs.Operations.{IsPlain, cx_count}
 use Rattle.unitary_model.specs.Placement.{identity}
@@ -190,7 +191,7 @@ Stands-still keep s ms t is still wires swaps initial last cost trace alone = re
 pub Stands-legs : (keep traced clean : Bool) (chosen : Option (List ℕ)) (d : Coupling) (s : Program) (ms : List PartTarget) (lists : List (List Gate)) (t : Target)
     → IsPutTogether keep s ms t → AreLegs d clean s.wires t.initial (parts_of s.cut.parts ms) lists
     → t.body.wires ≡ d.size → t.swaps ≡ sum_by (λ (m : PartTarget). m.swaps) ms → IfSome chosen (λ p. t.initial ≡ p)
-    → (is_some chosen ≡ false → IsLayout d (whole lists) t.initial) → (k : ℕ) → IsDiameter d.size d.edges (cost d) k → t.cost ≡ told_cost d (ops t.body.gates)
+    → (is_some chosen ≡ false → IsLayout InOrder d (whole lists) (identity d.size) t.initial) → (k : ℕ) → IsDiameter d.size d.edges (cost d) k → t.cost ≡ told_cost d (ops t.body.gates)
     → ((told : Report) → IsTold t told → IsOwnTrace traced s (target_program s t) told t.trace.items)
     → t.spares ≡ None → Stands s keep traced (IsOnQubits d chosen clean s) t
 Stands-legs keep traced clean chosen d s ms lists t is legs wires swaps placed laid_out k diameter cost trace alone =
@@ -208,7 +209,7 @@ Stands-legs keep traced clean chosen d s ms lists t is legs wires swaps placed l
         runs = record {
           lists = lists;
           runs = subst (λ p. AreRuns d clean s.wires p parts lists) (sym r.initial) (AreRuns-legs d clean s.wires t.initial parts lists legs);
-          laid_out = λ e. subst (IsLayout d (whole lists)) (sym r.initial) (laid_out e);
+          laid_out = λ e. subst (IsLayout InOrder d (whole lists) (identity d.size)) (sym r.initial) (laid_out e);
         };
         sum = r.swaps ∙ sum;
         swaps = rw (sources-source s ms is.many is.whole_source, targets_are, sym (r.swaps ∙ sum)) at few;

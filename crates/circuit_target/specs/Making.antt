@@ -30,6 +30,7 @@ use Rattle.program_parts.specs.Parts.{Part}
 use Rattle.rewrite_pass.specs.Traces.{AreSteps, Step}
 use Rattle.sabre_route.specs.Measures.{bound}
 use Rattle.sabre_route.specs.Routing.{IsRouted}
+use Rattle.sabre_route.specs.Ahead.{InOrder}
 use Rattle.sabre_route.specs.declared.router.Routed.{Routed}
 use Rattle.trace_check.specs.Proves.{Claim, Proves}
 use Rattle.unitary_model.specs.declared.Op.{Op}
@@ -44,7 +45,7 @@ use Rattle.circuit_target.specs.Targets.{IsOptimised}
 use Rattle.routed_parts.specs.Legs.{IsCleaned}
 
 pub record IsRunOf (d : Coupling) (n : ℕ) (gates : List Gate) (given : List ℕ) (r : Routed) : Type 0 where
-  pub run : IsRouted d gates given r
+  pub run : IsRouted InOrder d gates given r
   pub wires : r.body.wires ≡ d.size
   pub fine : All (IsFine d.size) r.body.gates
   pub placed : IsPlacement d.size r.last

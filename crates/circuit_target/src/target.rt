@@ -9,6 +9,7 @@ ghost use Rattle.trace_text.specs.Texts.{ended, lines_of};
 ghost use Rattle.unitary_model.specs.Placement.{IsPlacement, identity};
 ghost use Rattle.routed_parts.specs.Legs.{IsCleaned};
 ghost use Rattle.sabre_route.specs.Routing.{IsLayout};
+ghost use Rattle.sabre_route.specs.Ahead.{InOrder};
 ghost use Rattle.sabre_route.specs.Telling.{IsRoutedBy};
 ghost use Rattle.circuit_target.specs.Standing.{IsInPlace, IsOnQubits};
 ghost use Rattle.circuit_target.specs.Targets.{IsFit, Stands, HasSteps, IsOptimised};
@@ -190,14 +191,15 @@ fn layout_of(
     requires each { All (λ r. r.passed.body.wires ≡ wires) rewritten.now }
     requires fits { wires ≤ device.now.size }
     ensures placed { IfOk result (λ p. length p ≡ device.now.size) }
-    ensures laid_out { IfOk result (IsLayout device.now (whole (gates_of rewritten.now))) }
+    ensures laid_out { IfOk result (IsLayout InOrder device.now (whole (gates_of rewritten.now)) (identity device.now.size)) }
 {
     device.facts();
+    let identity = Placement::identity(alloc, device.size())?;
     if rewritten.len() == 1 {
-        return layout(alloc, &rewritten[0].passed.body, device);
+        return layout(alloc, &rewritten[0].passed.body, device, identity);
     }
     let body = joined(alloc, wires, rewritten)?;
-    layout(alloc, &body, device)
+    layout(alloc, &body, device, identity)
 }
 
 /// The qubits on which the wires begin: those of the chosen placement, or else of the layout.
@@ -213,7 +215,7 @@ fn first_placement(
     requires chosen { IfSome chosen (λ p. length p ≡ device.now.size) }
     ensures placed { IfOk result (λ p. length p ≡ device.now.size) }
     ensures chosen { IfOk result (λ p. IfSome chosen (λ q. p ≡ q)) }
-    ensures laid_out { IfOk result (λ p. is_some chosen ≡ false → IsLayout device.now (whole (gates_of rewritten.now)) p) }
+    ensures laid_out { IfOk result (λ p. is_some chosen ≡ false → IsLayout InOrder device.now (whole (gates_of rewritten.now)) (identity device.now.size) p) }
 {
     match chosen {
         Some(placement) => Ok(placement),
@@ -239,7 +241,7 @@ fn run_from(
     requires fits { circuit.now.wires ≤ device.now.size }
     requires placed { length given ≡ device.now.size }
     ensures run { IfOk result (λ r. IsRunOf device.now circuit.now.wires circuit.now.gates given r.routed) }
-    ensures events { IfOk result (λ r. traced ≡ true → IsRoutedBy device.now circuit.now.gates given r.routed r.events.items) }
+    ensures events { IfOk result (λ r. traced ≡ true → IsRoutedBy InOrder device.now circuit.now.gates given r.routed r.events.items) }
 {
     // Their contracts say that the gates are on these qubits, and that the wires stand on them.
     if traced {
@@ -271,7 +273,7 @@ fn trace_of_run<T: RunTraces>(
     requires placed { IsPlacement device.now.size given.now }
     requires turn { turn < 8 }
     requires events { is_some rewritten.now.steps ≡ true →
-        IsRoutedBy device.now rewritten.now.passed.body.gates given.now run.now.routed run.now.events.items }
+        IsRoutedBy InOrder device.now rewritten.now.passed.body.gates given.now run.now.routed run.now.events.items }
     ensures told { IfOk result (λ v. IfSome rewritten.now.steps (λ ss. IsRunTrace device.now rewritten.now.passed ss given.now
         run.now.routed turn v.items)) }
     ensures silent { IfOk result (λ v. rewritten.now.steps ≡ None → v.items ≡ []) }

@@ -13,6 +13,7 @@ pub trait RunTraces {
     ghost use Rattle.circuit_list.specs.Gates.{ops};
     ghost use Rattle.gate_expand.specs.Expansion.{IsFineOp, expanded, turn_of};
     ghost use Rattle.rewrite_pass.specs.Traces.{AreSteps};
+    ghost use Rattle.sabre_route.specs.Ahead.{Ahead};
     ghost use Rattle.sabre_route.specs.Telling.{IsRoutedBy};
     ghost use Rattle.trace_check.specs.Proves.{Claim, Proves};
     ghost use Rattle.trace_text.specs.Texts.{ended, lines_of};
@@ -31,7 +32,7 @@ pub trait RunTraces {
         routed: &Routed,
         turn: u8,
     ) -> Result<Vec<u8>, AllocError>
-        requires routed { IsRoutedBy device.now body.now.gates given.now routed.now events.now }
+        requires routed { (ahead : Ahead) × IsRoutedBy ahead device.now body.now.gates given.now routed.now events.now }
         requires placement { IsPlacement device.now.size given.now }
         requires fits { body.now.wires ≤ device.now.size }
         requires turn { turn < 8 }

@@ -16,6 +16,7 @@ use Rattle.circuit_list.specs.Gates.{first_wire, is_on, second_wire}
 use Rattle.circuit_list.specs.Slots.{is_on_at}
 use Rattle.coupling_map.specs.Coupling.{Coupling}
 use Rattle.coupling_map.specs.Walks.{is_edge, is_near}
+use Rattle.sabre_route.specs.Ahead.{Ahead}
 use Rattle.sabre_route.specs.Emission.{cx_gates, cx_turn, emitted, emitted_turn, low_order, swap_gates, swap_turn}
 use Rattle.sabre_route.specs.Machine.{Event, Emit as EmitEvent, Swap as SwapEvent, IsChosen, Run, State as Machine, emission, exchange}
 use Rattle.sabre_route.specs.Routing.{turned, written}
@@ -137,9 +138,9 @@ swap-run e es p q gs w t a b ls behind u le ha hb ne near r =
     one-swap e p q gs w t a b x y ls behind u le o.first o.second o.differ o.same (is_edge es y x) r
 
 -- ---- a run
-chosen-near : (d : Coupling) (s : Machine) (a b : ℕ) → IsChosen d s a b → IsTrue (is_near d.edges a b)
-chosen-near d s a b (inl h) = h.1.candidate.near
-chosen-near d s a b (inr h) = h.1.toward.near
+chosen-near : (ahead : Ahead) (d : Coupling) (s : Machine) (a b : ℕ) → IsChosen ahead d s a b → IsTrue (is_near d.edges a b)
+chosen-near ahead d s a b (inl h) = h.1.candidate.near
+chosen-near ahead d s a b (inr h) = h.1.toward.near
 
 mod-more : (k a b : ℕ) → ((k + a) % 8 + b) % 8 ≡ (k + (a + b)) % 8
 mod-more k a b = grind arith
@@ -150,15 +151,15 @@ grouped e p q gs w x y t a b ls behind u r =
     subst (λ (v : List Gate). Runs e (at p q gs v (((t + a) % 8 + b) % 8)) ls behind u) (sym (append_assoc w x y))
     (subst (λ (k : ℕ). Runs e (at p q gs (w ++ (x ++ y)) k) ls behind u) (sym (mod-more t a b)) r)
 
-pub events-run : (e : Claim) (d : Coupling) (s u : Machine) (xs : List Event) (p : List ℕ) (w : List Gate) (t : ℕ) (ls : List Line) (behind : List (List ℕ)) (z : State) → Near d → e.qubits ≡ d.size → d.size ≤ 2 ^ 32 → length s.rest ≤ 2 ^ 32 → t < 8 →
-    Run d s xs u → Runs e (at p u.placement u.rest (w ++ written d.edges s.placement xs) ((t + turned d.edges s.placement xs) % 8)) ls behind z →
+pub events-run : (ahead : Ahead) (e : Claim) (d : Coupling) (s u : Machine) (xs : List Event) (p : List ℕ) (w : List Gate) (t : ℕ) (ls : List Line) (behind : List (List ℕ)) (z : State) → Near d → e.qubits ≡ d.size → d.size ≤ 2 ^ 32 → length s.rest ≤ 2 ^ 32 → t < 8 →
+    Run ahead d s xs u → Runs e (at p u.placement u.rest (w ++ written d.edges s.placement xs) ((t + turned d.edges s.placement xs) % 8)) ls behind z →
     Runs e (at p s.placement s.rest w t) (event_lines d.edges s.placement s.rest (map told xs) ++ ls) behind z
 unfolding emission exchange
-events-run e d s u [] p w t ls behind z near eq le lr lt h r =
+events-run ahead e d s u [] p w t ls behind z near eq le lr lt h r =
     subst (λ (x : Machine). Runs e (at p x.placement x.rest w t) ls behind z) (sym h)
     (subst (λ (v : List Gate). Runs e (at p u.placement u.rest v t) ls behind z) (append-nil w)
     (subst (λ (k : ℕ). Runs e (at p u.placement u.rest (w ++ []) k) ls behind z) (same-turn t lt) r))
-events-run e d s u (EmitEvent j g ∷ xs) p w t ls behind z near eq le lr lt h r =
+events-run ahead e d s u (EmitEvent j g ∷ xs) p w t ls behind z near eq le lr lt h r =
     let es = d.edges in
     let q = s.placement in
     let m : Machine = emission s j g in
@@ -169,28 +170,28 @@ events-run e d s u (EmitEvent j g ∷ xs) p w t ls behind z near eq le lr lt h r
     let small : j < 2 ^ 32 = omega (arith, lr, slice_get_within s.rest j g can.there) in
     subst (λ (o : Option Gate). Runs e (at p q s.rest w t) (emitted_line es q o j ∷ rest) behind z) (sym can.there)
     (emit-run e es p q s.rest w t j g rest behind z lt small (free-first s.rest j g can.there can.first)
-    (events-run e d m u xs p (w ++ v) ((t + k) % 8) ls behind z near eq le (omega (arith, lr, remove-short s.rest j)) (omega arith)
-    (subst (λ (x : Machine). Run d x xs u) h.1.after h.2)
+    (events-run ahead e d m u xs p (w ++ v) ((t + k) % 8) ls behind z near eq le (omega (arith, lr, remove-short s.rest j)) (omega arith)
+    (subst (λ (x : Machine). Run ahead d x xs u) h.1.after h.2)
     (grouped e p u.placement u.rest w v (written es q xs) t k (turned es q xs) ls behind z r)))
-events-run e d s u (SwapEvent a b ∷ xs) p w t ls behind z near eq le lr lt h r =
+events-run ahead e d s u (SwapEvent a b ∷ xs) p w t ls behind z near eq le lr lt h r =
     let es = d.edges in
     let q : List ℕ = map (exchanged a b) s.placement in
     let m : Machine = exchange d.size s a b in
-    let n : IsTrue (is_near es a b) = chosen-near d s a b h.1.chosen in
+    let n : IsTrue (is_near es a b) = chosen-near ahead d s a b h.1.chosen in
     let on = near a b n in
     let v : List Gate = swap_gates es a b in
     let k : ℕ = swap_turn es a b in
     let rest : List Line = event_lines es q s.rest (map told xs) ++ ls in
     swap-run e es p s.placement s.rest w t a b rest behind z (omega (arith, eq, le)) (omega (arith, eq, on.0)) (omega (arith, eq, on.1)) on.2 n
-    (events-run e d m u xs p (w ++ v) ((t + k) % 8) ls behind z near eq le lr (omega arith)
-    (subst (λ (x : Machine). Run d x xs u) h.1.after h.2)
+    (events-run ahead e d m u xs p (w ++ v) ((t + k) % 8) ls behind z near eq le lr (omega arith)
+    (subst (λ (x : Machine). Run ahead d x xs u) h.1.after h.2)
     (grouped e p u.placement u.rest w v (written es q xs) t k (turned es q xs) ls behind z r))
 
-pub run-there : (d : Coupling) (s u : Machine) (xs : List Event) → Near d → Run d s xs u → AreThere d.size s.rest (map told xs)
+pub run-there : (ahead : Ahead) (d : Coupling) (s u : Machine) (xs : List Event) → Near d → Run ahead d s xs u → AreThere d.size s.rest (map told xs)
 unfolding emission exchange
-run-there d s u [] near h = tt
-run-there d s u (EmitEvent j g ∷ xs) near h =
-    (slice_get_within s.rest j g h.1.can.there, run-there d (emission s j g) u xs near (subst (λ (x : Machine). Run d x xs u) h.1.after h.2))
-run-there d s u (SwapEvent a b ∷ xs) near h =
-    let on = near a b (chosen-near d s a b h.1.chosen) in
-    ((on.0, on.1), run-there d (exchange d.size s a b) u xs near (subst (λ (x : Machine). Run d x xs u) h.1.after h.2))
+run-there ahead d s u [] near h = tt
+run-there ahead d s u (EmitEvent j g ∷ xs) near h =
+    (slice_get_within s.rest j g h.1.can.there, run-there ahead d (emission s j g) u xs near (subst (λ (x : Machine). Run ahead d x xs u) h.1.after h.2))
+run-there ahead d s u (SwapEvent a b ∷ xs) near h =
+    let on = near a b (chosen-near ahead d s a b h.1.chosen) in
+    ((on.0, on.1), run-there ahead d (exchange d.size s a b) u xs near (subst (λ (x : Machine). Run ahead d x xs u) h.1.after h.2))

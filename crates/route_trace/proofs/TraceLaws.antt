@@ -15,6 +15,7 @@ use Rattle.coupling_map.specs.Coupling.{Coupling}
 use Rattle.gate_expand.specs.Expansion.{IsFineOp, expanded, turn_of}
 use Rattle.rewrite_pass.specs.Traces.{Step, AreSteps}
 use Rattle.rewrite_pass.specs.TraceLines.{step_lines, steps_text, words}
+use Rattle.sabre_route.specs.Ahead.{Ahead}
 use Rattle.sabre_route.specs.declared.events.Event.{Event as Told}
 use Rattle.sabre_route.specs.declared.router.Routed.{Routed as Router}
 use Rattle.sabre_route.specs.Machine.{start}
@@ -110,10 +111,10 @@ end-run e p q w gs v target m t j fine none all goal same lt ends =
 below : (k : ℕ) → k % 8 < 8
 below k = omega arith
 
-trace-runs : (d : Coupling) (ss : List Step) (n m B : ℕ) (gs : List Gate) (given : List ℕ) (r : Router) (xs : List Told) (turn : ℕ) → Near d → d.size ≤ 2 ^ 32 → n ≤ d.size → IsPlacement d.size given → AllByRecursion (IsFine m) r.body.gates →
-    IsRoutedBy d gs given r xs → turn < 8 → length (steps_text ss) ≤ B → B < 2 ^ 32 → (e : Claim) (t : ℕ) → e.wires ≡ n → e.qubits ≡ d.size → length (expanded e.source) ≤ B → AreSteps e.wires (expanded e.source) ss gs t → e.target ≡ ops r.body.gates →
+trace-runs : (ahead : Ahead) (d : Coupling) (ss : List Step) (n m B : ℕ) (gs : List Gate) (given : List ℕ) (r : Router) (xs : List Told) (turn : ℕ) → Near d → d.size ≤ 2 ^ 32 → n ≤ d.size → IsPlacement d.size given → AllByRecursion (IsFine m) r.body.gates →
+    IsRoutedBy ahead d gs given r xs → turn < 8 → length (steps_text ss) ≤ B → B < 2 ^ 32 → (e : Claim) (t : ℕ) → e.wires ≡ n → e.qubits ≡ d.size → length (expanded e.source) ≤ B → AreSteps e.wires (expanded e.source) ss gs t → e.target ≡ ops r.body.gates →
     turn ≡ (turn_of e.source + (t + r.turn)) % 8 → Runs e Unread (trace_lines ss given (event_lines d.edges given gs xs) turn) [] (Proved given r.last turn)
-trace-runs d ss n m B gs given r xs turn near le fits placed fine h lt few lb e t wires qubits source steps target whole =
+trace-runs ahead d ss n m B gs given r xs turn near le fits placed fine h lt few lb e t wires qubits source steps target whole =
     let f : ℕ = turn_of e.source in
     let j : ℕ = (f + t) % 8 in
     let run = h.routed in
@@ -138,7 +139,7 @@ trace-runs d ss n m B gs given r xs turn near le fits placed fine h lt few lb e 
                   (
                     record { fits = omega (arith, wires, qubits, fits); placement = fit; after = refl },
                     subst (λ (ys : List Told). Runs e (at given given gs [] j) (event_lines es given gs ys ++ End turn ∷ []) [] z) (sym h.events)
-                        (events-run e d (start given gs) run.final run.events given [] j (End turn ∷ []) [] z near qubits le (omega (arith, size, lb)) (below (f + t)) run.run.steps last),
+                        (events-run ahead e d (start given gs) run.final run.events given [] j (End turn ∷ []) [] z near qubits le (omega (arith, size, lb)) (below (f + t)) run.run.steps last),
                   ),
                 ),
               )),
@@ -146,11 +147,11 @@ trace-runs d ss n m B gs given r xs turn near le fits placed fine h lt few lb e 
       ),
     )
 
-pub trace-proves : (d : Coupling) (ss : List Step) (n m : ℕ) (gs : List Gate) (given : List ℕ) (r : Router) (xs : List Told) (turn : ℕ) (text : List ℕ) → Near d → d.size ≤ 256 → n ≤ d.size → IsPlacement d.size given → All (IsFine m) r.body.gates →
-    IsRoutedBy d gs given r xs → turn < 8 → text ≡ ended (all_spelt (trace_lines ss given (event_lines d.edges given gs xs) turn)) → length text < 2 ^ 31 → (e : Claim) (t : ℕ) → e.wires ≡ n → e.qubits ≡ d.size → length e.source ≤ 65536 →
+pub trace-proves : (ahead : Ahead) (d : Coupling) (ss : List Step) (n m : ℕ) (gs : List Gate) (given : List ℕ) (r : Router) (xs : List Told) (turn : ℕ) (text : List ℕ) → Near d → d.size ≤ 256 → n ≤ d.size → IsPlacement d.size given → All (IsFine m) r.body.gates →
+    IsRoutedBy ahead d gs given r xs → turn < 8 → text ≡ ended (all_spelt (trace_lines ss given (event_lines d.edges given gs xs) turn)) → length text < 2 ^ 31 → (e : Claim) (t : ℕ) → e.wires ≡ n → e.qubits ≡ d.size → length e.source ≤ 65536 →
     All (IsFineOp e.wires) e.source → AreSteps e.wires (expanded e.source) ss gs t → e.target ≡ ops r.body.gates → turn ≡ (turn_of e.source + (t + r.turn)) % 8 → Proves e text given r.last turn
-trace-proves d ss n m gs given r xs turn text near le fits placed fine h lt same short e t wires qubits source ops-fine steps target whole =
+trace-proves ahead d ss n m gs given r xs turn text near le fits placed fine h lt same short e t wires qubits source ops-fine steps target whole =
     let ls : List Line = trace_lines ss given (event_lines d.edges given gs xs) turn in
-    let run = trace-runs d ss n m (2 ^ 31) gs given r xs turn near (omega (arith, le)) fits placed (recursion_from_All (IsFine m) r.body.gates fine) h lt
+    let run = trace-runs ahead d ss n m (2 ^ 31) gs given r xs turn near (omega (arith, le)) fits placed (recursion_from_All (IsFine m) r.body.gates fine) h lt
     (omega (arith, short, ap length same, steps-within ss given (event_lines d.edges given gs xs) turn)) (omega arith) e t wires qubits (omega (arith, source, length-expanded e.source)) steps target whole in
     record { lines = ls; text = ap lines_of same ∙ lines-ended (all_spelt ls) (spelt-plain ls (runs-small e Unread ls [] (Proved given r.last turn) run)); run = run }

@@ -16,6 +16,7 @@ ghost use Rattle.std.specs.Prelude.{◌≡◌, ℕ, ◌+◌, ◌%◌, ◌^◌, �
 ghost use Rattle.circuit_list.specs.Gates.{ops};
 ghost use Rattle.gate_expand.specs.Expansion.{IsFineOp, expanded, turn_of};
 ghost use Rattle.rewrite_pass.specs.Traces.{AreSteps};
+ghost use Rattle.sabre_route.specs.Ahead.{Ahead};
 ghost use Rattle.sabre_route.specs.Telling.{IsRoutedBy};
 ghost use Rattle.trace_check.specs.Lines.{all_spelt};
 ghost use Rattle.trace_check.specs.Proves.{Claim, Proves};
@@ -79,7 +80,7 @@ pub fn route_trace(
     routed: &Routed,
     turn: u8,
 ) -> Result<Vec<u8>, AllocError>
-    requires routed { IsRoutedBy device.now body.now.gates given.now routed.now events.now }
+    requires routed { (ahead : Ahead) × IsRoutedBy ahead device.now body.now.gates given.now routed.now events.now }
     requires placement { IsPlacement device.now.size given.now }
     requires fits { body.now.wires ≤ device.now.size }
     requires turn { turn < 8 }

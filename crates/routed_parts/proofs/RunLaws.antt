@@ -21,6 +21,7 @@ use Rattle.routed_parts.specs.Runs.{IsLeft}
 use Rattle.routed_parts.specs.Settled.{IsSettled}
 use Rattle.sabre_route.specs.Measures.{bound}
 use Rattle.sabre_route.specs.Routing.{IsRouted, turned}
+use Rattle.sabre_route.specs.Ahead.{InOrder}
 use Rattle.sabre_route.specs.declared.router.Routed.{Routed}
 use Rattle.unitary_model.specs.declared.Op.{Op}
 use Rattle.unitary_model.specs.Amplitude.{amplitude}
@@ -121,7 +122,7 @@ pub IsLeg-run : (d : Coupling) (clean : Bool) (n : ℕ) (first : List ℕ) (p : 
     (left : List Gate) (r : Routed) → All (IsFine n) gates → IsSettled n (ops gates)
     → Realises p.source n (ops gates) n (identity n) (identity n) turn
     → t_count (ops gates) ≤ odd_paths n p.source → cx_count (ops gates) ≤ cx_count p.source
-    → IsRouted d gates first r → Realises (ops gates) n (ops r.body.gates) d.size first r.last r.turn
+    → IsRouted InOrder d gates first r → Realises (ops gates) n (ops r.body.gates) d.size first r.last r.turn
     → FollowsEdges d.edges (ops r.body.gates) → t_count (ops r.body.gates) ≡ t_count (ops gates)
     → cx_count (ops r.body.gates) ≡ cx_count (ops gates) + 3 * r.swaps
     → ((m : ℕ) → IsDiameter d.size d.edges (cost d) m → r.swaps ≤ cx_count (ops gates) * bound d m)

@@ -5,7 +5,7 @@
 --                                       wires, which stand for its source, from the placement `first` on
 --   AreRuns d clean n first parts lists each part is so, from where the last one ended
 --   AreMachineRuns d chosen clean n first parts   they are so over some lists, and begin at the layout of all of them one after the
---                                       other, unless another placement is chosen
+--                                       other, looked for from the identity, unless another placement is chosen
 --   HasFewSwaps d S us swaps            for each CNOT of S at most as many swaps as the qubits and the diameter, or twice as many as
 --                                       the qubits where costs are listed, so at most three times as many CNOTs more
 use Rattle.std.specs.Prelude.{◌≡◌, ℕ, ◌+◌, ◌*◌, ◌%◌, ◌≤◌, All, Bool, true, false, List, [], ◌∷◌}
@@ -20,6 +20,7 @@ use Rattle.rewrite_pass.specs.Law.{KeepsCnots}
 use Rattle.sabre_route.specs.Machine.{Event, IsRun, State, start}
 use Rattle.sabre_route.specs.Measures.{bound}
 use Rattle.sabre_route.specs.Routing.{IsLayout, swap_count, turned, written}
+use Rattle.sabre_route.specs.Ahead.{InOrder}
 use Rattle.unitary_model.specs.declared.Op.{Op}
 use Rattle.unitary_model.specs.Operations.{cx_count}
 use Rattle.unitary_model.specs.Placement.{identity}
@@ -39,7 +40,7 @@ pub record IsMachineRun (d : Coupling) (clean : Bool) (n : ℕ) (first : List �
   pub stands : Realises p.source n (ops gates) n (identity n) (identity n) turn
   pub events : List Event
   pub end : State
-  pub run : IsRun d (start first gates) events end
+  pub run : IsRun InOrder d (start first gates) events end
   pub ends : p.last ≡ end.placement
   pub counts : p.swaps ≡ swap_count events
   pub left : IsLeft clean p (turn + turned d.edges first events) (written d.edges first events)
@@ -52,7 +53,7 @@ AreRuns d clean n first _ _ = ⊥
 pub record AreMachineRuns (d : Coupling) (chosen clean : Bool) (n : ℕ) (first : List ℕ) (parts : List Part) : Type 0 where
   pub lists : List (List Gate)
   pub runs : AreRuns d clean n first parts lists
-  pub laid_out : chosen ≡ false → IsLayout d (whole lists) first
+  pub laid_out : chosen ≡ false → IsLayout InOrder d (whole lists) (identity d.size) first
 
 pub record HasFewSwaps (d : Coupling) (S us : List Op) (swaps : ℕ) : Type 0 where
   pub diameter : ℕ

@@ -13,6 +13,7 @@ ghost use Rattle.routed_parts.specs.Legs.{AreLegs, IsCleaned, IsLeg, IsStill};
 ghost use Rattle.routed_parts.specs.Runs.{AreRuns, HasFewSwaps};
 ghost use Rattle.routed_parts.specs.Settled.{IsSettled};
 ghost use Rattle.sabre_route.specs.Routing.{IsRouted};
+ghost use Rattle.sabre_route.specs.Ahead.{InOrder};
 ghost use Rattle.sabre_route.specs.Measures.{bound};
 ghost use Rattle.sabre_route.specs.declared.router.Routed.{Routed};
 ghost use Rattle.unitary_model.specs.declared.Op.{Op};
@@ -50,7 +51,7 @@ pub fn run_is_leg()
     ensures leg { (d : Coupling) (clean : Bool) (n : ℕ) (first : List ℕ) (p : Part) (gates : List Gate) (turn k : ℕ) (left : List Gate) (r : Routed) →
         All (IsFine n) gates → IsSettled n (ops gates) → Realises p.source n (ops gates) n (identity n) (identity n) turn →
         t_count (ops gates) ≤ odd_paths n p.source → cx_count (ops gates) ≤ cx_count p.source →
-        IsRouted d gates first r → Realises (ops gates) n (ops r.body.gates) d.size first r.last r.turn →
+        IsRouted InOrder d gates first r → Realises (ops gates) n (ops r.body.gates) d.size first r.last r.turn →
         FollowsEdges d.edges (ops r.body.gates) → t_count (ops r.body.gates) ≡ t_count (ops gates) →
         cx_count (ops r.body.gates) ≡ cx_count (ops gates) + 3 * r.swaps →
         ((m : ℕ) → IsDiameter d.size d.edges (cost d) m → r.swaps ≤ cx_count (ops gates) * bound d m) →

@@ -10,6 +10,7 @@ use Rattle.std.proofs.lemmas.List.{map-append}
 use Rattle.std.specs.Option.{IfSome, is_some}
 use Rattle.circuit_list.specs.declared.Gate.{Gate}
 use Rattle.coupling_map.specs.Coupling.{Coupling}
+use Rattle.sabre_route.specs.Ahead.{Ahead}
 use Rattle.sabre_route.specs.declared.emission.Written.{Written}
 use Rattle.sabre_route.specs.declared.events.Event.{Event as Told}
 use Rattle.sabre_route.specs.declared.events.Event.TheVariants.{Emit as ToldEmit, Swap as ToldSwap}
@@ -48,9 +49,9 @@ telling-known b gs es t h = subst (λ (o : Option (List Gate)). IfSome o (λ xs.
 first-gate : (d : Coupling) (s u : State) (j : ℕ) (g : Gate) → IsEmission d s j g u → IsFirstGate s.rest j g
 first-gate d s u j g h = record { there = h.can.there; first = h.can.first }
 
-pub known-first : (d : Coupling) (s u : State) (g : Gate) (o : Option (List Gate)) → IfSome o (λ xs. xs ≡ s.rest) → IsMove d s (Emitted g) u → IfSome o (λ gs. (j : ℕ) × IsFirstGate gs j g)
-known-first d s u g None known h = tt
-known-first d s u g (Some xs) known h = (h.0, subst (λ (gs : List Gate). IsFirstGate gs h.0 g) (sym known) (first-gate d s u h.0 g h.1))
+pub known-first : (ahead : Ahead) (d : Coupling) (s u : State) (g : Gate) (o : Option (List Gate)) → IfSome o (λ xs. xs ≡ s.rest) → IsMove ahead d s (Emitted g) u → IfSome o (λ gs. (j : ℕ) × IsFirstGate gs j g)
+known-first ahead d s u g None known h = tt
+known-first ahead d s u g (Some xs) known h = (h.0, subst (λ (gs : List Gate). IsFirstGate gs h.0 g) (sym known) (first-gate d s u h.0 g h.1))
 
 told-more : (b : Bool) (es : List Event) (e : Event) → told_if b (es ++ e ∷ []) ≡ told_if b es ++ told_if b (e ∷ [])
 told-more true es e = map-append told es (e ∷ [])
@@ -76,9 +77,9 @@ telling-emitted d s u j g t v step h b es k =
         (left ∙ (λ z. Some (remove (rest z) (same z))), events ∙ (λ z. f z ++ ToldEmit (same z) ∷ []))
 
 -- ---- a swap
-telling-swapped : (d : Coupling) (s u : State) (a b : ℕ) (t v : Teller) → IsExchange d s a b u → HasSwapped a b t.left t.events.items v.left v.events.items
+telling-swapped : (ahead : Ahead) (d : Coupling) (s u : State) (a b : ℕ) (t v : Teller) → IsExchange ahead d s a b u → HasSwapped a b t.left t.events.items v.left v.events.items
     → (c : Bool) (es : List Event) → IsTelling c s.rest es t → IsTelling c u.rest (es ++ Swap a b ∷ []) v
-telling-swapped d s u a b t v step h c es k =
+telling-swapped ahead d s u a b t v step h c es k =
     let r = go c t.left t.events.items k.left k.events h in
     record {
       left = r.0 ∙ ap (left_if c) (sym (swapped-parts d.size s u a b step.after).rest);
@@ -93,51 +94,51 @@ telling-swapped d s u a b t v step h c es k =
     go true (Some gs) xs e f h = (h.0 ∙ e, h.1 ∙ ap (λ ys. ys ++ ToldSwap a b ∷ []) f)
 
 -- ---- a step
-pub emitted-told : (d : Coupling) (s u : State) (g : Gate) (old new : Written) (t v : Teller) → IsMove d s (Emitted g) u
-    → HasWritten (emitted d.edges s.placement g) (emitted_turn d.edges s.placement g) 0 old new → HasEmitted g t.left t.events.items v.left v.events.items → HasToldStep d s old t u new v
+pub emitted-told : (ahead : Ahead) (d : Coupling) (s u : State) (g : Gate) (old new : Written) (t v : Teller) → IsMove ahead d s (Emitted g) u
+    → HasWritten (emitted d.edges s.placement g) (emitted_turn d.edges s.placement g) 0 old new → HasEmitted g t.left t.events.items v.left v.events.items → HasToldStep ahead d s old t u new v
 unfolding emitted-stepped
-emitted-told d s u g old new t v h w e = record {
-  stepped = emitted-stepped d s u g old new h w;
+emitted-told ahead d s u g old new t v h w e = record {
+  stepped = emitted-stepped ahead d s u g old new h w;
   tells = telling-emitted d s u h.0 g t v h.1 e;
 }
 
-pub swapped-told : (d : Coupling) (s u : State) (a b : ℕ) (old new : Written) (t v : Teller) → IsExchange d s a b u
-    → HasWritten (swap_gates d.edges a b) (swap_turn d.edges a b) 1 old new → HasSwapped a b t.left t.events.items v.left v.events.items → HasToldStep d s old t u new v
+pub swapped-told : (ahead : Ahead) (d : Coupling) (s u : State) (a b : ℕ) (old new : Written) (t v : Teller) → IsExchange ahead d s a b u
+    → HasWritten (swap_gates d.edges a b) (swap_turn d.edges a b) 1 old new → HasSwapped a b t.left t.events.items v.left v.events.items → HasToldStep ahead d s old t u new v
 unfolding swapped-stepped
-swapped-told d s u a b old new t v h w e = record {
-  stepped = swapped-stepped d s u a b old new h w;
-  tells = telling-swapped d s u a b t v h e;
+swapped-told ahead d s u a b old new t v h w e = record {
+  stepped = swapped-stepped ahead d s u a b old new h w;
+  tells = telling-swapped ahead d s u a b t v h e;
 }
 
 -- ---- the machine underway
-pub told-run_start : (d : Coupling) (gs : List Gate) (given : List ℕ) (s : State) (w : Written) (t : Teller) → s ≡ start given gs → w.body.wires ≡ d.size → w.body.gates ≡ [] → w.swaps ≡ 0 → w.turn ≡ 0
-    → IfSome t.left (λ xs. xs ≡ gs) → t.events.items ≡ [] → IsToldRun (is_some t.left) d gs given s w t
+pub told-run_start : (ahead : Ahead) (d : Coupling) (gs : List Gate) (given : List ℕ) (s : State) (w : Written) (t : Teller) → s ≡ start given gs → w.body.wires ≡ d.size → w.body.gates ≡ [] → w.swaps ≡ 0 → w.turn ≡ 0
+    → IfSome t.left (λ xs. xs ≡ gs) → t.events.items ≡ [] → IsToldRun ahead (is_some t.left) d gs given s w t
 unfolding underway-start
-told-run_start d gs given s w t e wires gates swaps turn known untold = record {
-  underway = underway-start d gs given s w e wires gates swaps turn;
+told-run_start ahead d gs given s w t e wires gates swaps turn known untold = record {
+  underway = underway-start ahead d gs given s w e wires gates swaps turn;
   telling = subst (λ (xs : List Gate). IsTelling (is_some t.left) xs [] t) (sym (ap (λ (x : State). x.rest) e)) (telling-start gs t known untold);
 }
 
-pub told-run_stepped : (b : Bool) (d : Coupling) (gs : List Gate) (given : List ℕ) (s u : State) (old new : Written) (t v : Teller) → HasToldStep d s old t u new v
-    → IsToldRun b d gs given s old t → IsToldRun b d gs given u new v
+pub told-run_stepped : (ahead : Ahead) (b : Bool) (d : Coupling) (gs : List Gate) (given : List ℕ) (s u : State) (old new : Written) (t v : Teller) → HasToldStep ahead d s old t u new v
+    → IsToldRun ahead b d gs given s old t → IsToldRun ahead b d gs given u new v
 unfolding underway-stepped
-told-run_stepped b d gs given s u old new t v h r = record {
-  underway = underway-stepped d gs given s u old new h.stepped r.underway;
+told-run_stepped ahead b d gs given s u old new t v h r = record {
+  underway = underway-stepped ahead d gs given s u old new h.stepped r.underway;
   telling = h.tells b r.underway.events r.telling;
 }
 
 -- ---- the end
-routed-by : (b : Bool) (d : Coupling) (gs : List Gate) (given : List ℕ) (s : State) (w : Written) (t : Teller) (p : List ℕ) → IsToldRun b d gs given s w t → s.rest ≡ [] → p ≡ s.placement
-    → b ≡ true → IsRoutedBy d gs given (record { body = w.body; last = p; swaps = w.swaps; turn = w.turn }) t.events.items
+routed-by : (ahead : Ahead) (b : Bool) (d : Coupling) (gs : List Gate) (given : List ℕ) (s : State) (w : Written) (t : Teller) (p : List ℕ) → IsToldRun ahead b d gs given s w t → s.rest ≡ [] → p ≡ s.placement
+    → b ≡ true → IsRoutedBy ahead d gs given (record { body = w.body; last = p; swaps = w.swaps; turn = w.turn }) t.events.items
 unfolding routed-end
-routed-by b d gs given s w t p r none e asked = record {
-  routed = routed-end d gs given s w p r.underway none e;
+routed-by ahead b d gs given s w t p r none e asked = record {
+  routed = routed-end ahead d gs given s w p r.underway none e;
   events = r.telling.events ∙ ap (λ c. told_if c r.underway.events) asked;
 }
 
-pub routed-told : (d : Coupling) (gs : List Gate) (given : List ℕ) (s : State) (w : Written) (t : Teller) (p : List ℕ) (o : Option (List Gate)) → IfSome o (λ xs. xs ≡ gs)
-    → IsToldRun (is_some o) d gs given s w t → s.rest ≡ [] → p ≡ s.placement
-    → IfSome o (λ xs. IsRoutedBy d xs given (record { body = w.body; last = p; swaps = w.swaps; turn = w.turn }) t.events.items)
-routed-told d gs given s w t p None known r none e = tt
-routed-told d gs given s w t p (Some xs) known r none e =
-    subst (λ (ys : List Gate). IsRoutedBy d ys given (record { body = w.body; last = p; swaps = w.swaps; turn = w.turn }) t.events.items) (sym known) (routed-by true d gs given s w t p r none e refl)
+pub routed-told : (ahead : Ahead) (d : Coupling) (gs : List Gate) (given : List ℕ) (s : State) (w : Written) (t : Teller) (p : List ℕ) (o : Option (List Gate)) → IfSome o (λ xs. xs ≡ gs)
+    → IsToldRun ahead (is_some o) d gs given s w t → s.rest ≡ [] → p ≡ s.placement
+    → IfSome o (λ xs. IsRoutedBy ahead d xs given (record { body = w.body; last = p; swaps = w.swaps; turn = w.turn }) t.events.items)
+routed-told ahead d gs given s w t p None known r none e = tt
+routed-told ahead d gs given s w t p (Some xs) known r none e =
+    subst (λ (ys : List Gate). IsRoutedBy ahead d ys given (record { body = w.body; last = p; swaps = w.swaps; turn = w.turn }) t.events.items) (sym known) (routed-by ahead true d gs given s w t p r none e refl)

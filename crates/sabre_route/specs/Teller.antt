@@ -15,6 +15,7 @@ use Rattle.sabre_route.specs.declared.events.Event.TheVariants.{Emit as ToldEmit
 use Rattle.sabre_route.specs.declared.events.Teller.{Teller}
 use Rattle.sabre_route.specs.Left.{IsFirstGate}
 use Rattle.sabre_route.specs.Machine.{Event, State}
+use Rattle.sabre_route.specs.Ahead.{Ahead}
 use Rattle.sabre_route.specs.Telling.{told}
 use Rattle.sabre_route.specs.Underway.{HasStepped, IsUnderway}
 
@@ -36,10 +37,10 @@ pub record IsTelling (b : Bool) (gs : List Gate) (es : List Event) (t : Teller) 
   pub left : t.left ≡ left_if b gs
   pub events : t.events.items ≡ told_if b es
 
-pub record HasToldStep (d : Coupling) (s : State) (old : Written) (t : Teller) (u : State) (new : Written) (v : Teller) : Type 0 where
-  pub stepped : HasStepped d s old u new
+pub record HasToldStep (ahead : Ahead) (d : Coupling) (s : State) (old : Written) (t : Teller) (u : State) (new : Written) (v : Teller) : Type 0 where
+  pub stepped : HasStepped ahead d s old u new
   pub tells : (b : Bool) (es : List Event) → IsTelling b s.rest es t → IsTelling b u.rest (es ++ stepped.event ∷ []) v
 
-pub record IsToldRun (b : Bool) (d : Coupling) (gs : List Gate) (given : List ℕ) (s : State) (w : Written) (t : Teller) : Type 0 where
-  pub underway : IsUnderway d gs given s w
+pub record IsToldRun (ahead : Ahead) (b : Bool) (d : Coupling) (gs : List Gate) (given : List ℕ) (s : State) (w : Written) (t : Teller) : Type 0 where
+  pub underway : IsUnderway ahead d gs given s w
   pub telling : IsTelling b s.rest underway.events t

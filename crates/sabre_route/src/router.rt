@@ -9,6 +9,7 @@ ghost use Rattle.coupling_map.specs.Walks.{IsDiameter};
 ghost use Rattle.sabre_route.specs.Machine.{IsChosen, IsEmittable, IsWalk};
 ghost use Rattle.sabre_route.specs.Measures.{bound};
 ghost use Rattle.sabre_route.specs.Routing.{IsLayout, IsRouted};
+ghost use Rattle.sabre_route.specs.Ahead.{InOrder};
 ghost use Rattle.sabre_route.specs.Teller.{HasToldStep};
 ghost use Rattle.sabre_route.specs.Telling.{IsRoutedBy};
 ghost use Rattle.sabre_route.specs.Underway.{HasEnded, IsFitting, IsMove, IsRealising};
@@ -75,7 +76,7 @@ fn choose(scratch: &mut Scratch, state: &RouteState<'_>, device: &Device) -> (u3
     requires placed { length state.now.placement ≡ device.now.size }
     requires left { state.now.rest ≡ [] → ⊥ }
     requires stuck { (j : ℕ) (g : Gate) → IsEmittable device.now.edges state.now.placement state.now.rest j g → ⊥ }
-    ensures { IsChosen device.now state.now result.0 result.1 }
+    ensures { IsChosen InOrder device.now state.now result.0 result.1 }
 {
     if state.stalled() < device.size() {
         choose_swap_in(scratch, state, device)
@@ -92,7 +93,7 @@ fn step(
 ) -> Result<Move, AllocError>
     requires placed { length state.old.placement ≡ device.now.size }
     requires left { state.old.rest ≡ [] → ⊥ }
-    ensures { IfOk result (λ m. IsMove device.now state.old m state.new) }
+    ensures { IfOk result (λ m. IsMove InOrder device.now state.old m state.new) }
 {
     // Their contracts say that near qubits are qubits of the device.
     distances_on_device();
@@ -118,7 +119,7 @@ fn write_step(
     requires some { state.old.rest ≡ [] → ⊥ }
     requires fits { IsFitting device.now.size written.old }
     requires left { IfSome teller.old.left (λ gs. gs ≡ state.old.rest) }
-    ensures { OnOk result (HasToldStep device.now state.old written.old teller.old state.new written.new teller.new) }
+    ensures { OnOk result (HasToldStep InOrder device.now state.old written.old teller.old state.new written.new teller.new) }
 {
     // Their contracts say that near qubits are qubits of the device, and that the wires stand on
     // different qubits.
@@ -152,8 +153,8 @@ fn run(
     requires left { IfSome teller.left (λ gs. gs ≡ gates.now) }
     requires untold { teller.events.items ≡ [] }
     ensures wires { IfOk result (λ r. r.0.body.wires ≡ device.now.size) }
-    ensures run { IfOk result (λ r. IsRouted device.now gates.now given r.0) }
-    ensures events { IfSome teller.left (λ gs. IfOk result (λ r. IsRoutedBy device.now gs given r.0 r.1.items)) }
+    ensures run { IfOk result (λ r. IsRouted InOrder device.now gates.now given r.0) }
+    ensures events { IfSome teller.left (λ gs. IfOk result (λ r. IsRoutedBy InOrder device.now gs given r.0 r.1.items)) }
     ensures realises { IfOk result (λ r. IsRealising device.now wires gates.now given r.0) }
 {
     // Their contracts say what distances are, and that `given` is a placement.
@@ -189,7 +190,7 @@ fn settle(
     requires fits { wires ≤ device.now.size }
     requires placed { length given ≡ device.now.size }
     ensures placement { IfOk result (λ p. IsPlacement device.now.size p) }
-    ensures run { IfOk result (λ p. HasEnded device.now gates.now given p) }
+    ensures run { IfOk result (λ p. HasEnded InOrder device.now gates.now given p) }
 {
     // Their contracts say what distances are, and that `given` is a placement.
     distances_on_device();
@@ -218,7 +219,7 @@ pub fn route(
 ) -> Result<Routed, AllocError>
     requires fits { circuit.now.wires ≤ device.now.size }
     requires placed { length given ≡ device.now.size }
-    ensures run { IfOk result (λ r. IsRouted device.now circuit.now.gates given r) }
+    ensures run { IfOk result (λ r. IsRouted InOrder device.now circuit.now.gates given r) }
     ensures wires { IfOk result (λ r. r.body.wires ≡ device.now.size) }
     ensures realises { IfOk result (λ r.
         Realises (ops circuit.now.gates) circuit.now.wires (ops r.body.gates) device.now.size given r.last r.turn) }
@@ -254,8 +255,8 @@ pub fn route_traced(
 ) -> Result<(Routed, Vec<Event>), AllocError>
     requires fits { circuit.now.wires ≤ device.now.size }
     requires placed { length given ≡ device.now.size }
-    ensures events { IfOk result (λ r. IsRoutedBy device.now circuit.now.gates given r.0 r.1.items) }
-    ensures run { IfOk result (λ r. IsRouted device.now circuit.now.gates given r.0) }
+    ensures events { IfOk result (λ r. IsRoutedBy InOrder device.now circuit.now.gates given r.0 r.1.items) }
+    ensures run { IfOk result (λ r. IsRouted InOrder device.now circuit.now.gates given r.0) }
     ensures wires { IfOk result (λ r. r.0.body.wires ≡ device.now.size) }
     ensures realises { IfOk result (λ r.
         Realises (ops circuit.now.gates) circuit.now.wires (ops r.0.body.gates) device.now.size given r.0.last r.0.turn) }
@@ -279,18 +280,26 @@ pub fn route_traced(
     Ok((routed, events))
 }
 
-/// The placement at which to begin: where the machine ends over the circuit from the identity, and
+/// The placement at which to begin: where the machine ends over the circuit from the given placement, and
 /// from there over the circuit read backwards.
-pub fn layout(alloc: Global, circuit: &Circuit, device: &Device) -> Result<Placement, AllocError>
+///
+/// It asks for a qubit for each wire of the circuit, and for a placement of all qubits; want of memory is
+/// the only error.
+pub fn layout(
+    alloc: Global,
+    circuit: &Circuit,
+    device: &Device,
+    given: Placement,
+) -> Result<Placement, AllocError>
     requires fits { circuit.now.wires ≤ device.now.size }
-    ensures layout { IfOk result (λ p. IsLayout device.now circuit.now.gates p) }
+    requires placed { length given ≡ device.now.size }
+    ensures layout { IfOk result (λ p. IsLayout InOrder device.now circuit.now.gates given p) }
     ensures placement { IfOk result (λ p. IsPlacement device.now.size p) }
 {
     circuit.facts();
     let wires = circuit.wires();
     let mut gates = gates_of(alloc, circuit)?;
-    let identity = Placement::identity(alloc, device.size())?;
-    let there = settle(alloc, &gates, wires, device, identity)?;
+    let there = settle(alloc, &gates, wires, device, given)?;
     gates.reverse();
     settle(alloc, &gates, wires, device, there)
 }

@@ -10,14 +10,14 @@ pub text-requires-clause-there : goal.text-requires-clause-there
 text-requires-clause-there c =
     let d = c.args.device.now in
     let gs = c.args.body.now.gates in
-    let h = c.requires.routed in
+    let h = c.requires.routed.1 in
     subst (λ (ys : List Told). AreThere d.size gs ys) (sym h.events)
-    (run-there d (start c.args.given.now gs) h.routed.final h.routed.events (λ a b n. c.distances_on_device.ensures.near d a b c.facts.ensures.coupling n) h.routed.run.steps)
+    (run-there c.requires.routed.0 d (start c.args.given.now gs) h.routed.final h.routed.events (λ a b n. c.distances_on_device.ensures.near d a b c.facts.ensures.coupling n) h.routed.run.steps)
 
 pub returns-clause-proves : goal.returns-clause-proves
 returns-clause-proves c =
     let d = c.args.device.now in
     let coupling = c.facts.ensures.coupling in
-    trace-proves d c.args.steps.now c.args.body.now.wires _ c.args.body.now.gates c.args.given.now c.args.routed.now c.args.events.now c.args.turn c.in_ok-bytes.bytes.items
-    (λ a b n. c.distances_on_device.ensures.near d a b coupling n) coupling.graph.limited c.requires.fits c.requires.placement c.facts-2.ensures.fine c.requires.routed c.requires.turn c.in_ok-bytes.ensures.bytes
+    trace-proves c.requires.routed.0 d c.args.steps.now c.args.body.now.wires _ c.args.body.now.gates c.args.given.now c.args.routed.now c.args.events.now c.args.turn c.in_ok-bytes.bytes.items
+    (λ a b n. c.distances_on_device.ensures.near d a b coupling n) coupling.graph.limited c.requires.fits c.requires.placement c.facts-2.ensures.fine c.requires.routed.1 c.requires.turn c.in_ok-bytes.ensures.bytes
     (omega (arith, c.if-len-ge-MOST_TRACE_BYTES.false, c.len.ensures))

@@ -3,6 +3,8 @@ use Rattle.std.proofs.Common.{◌≡◌, ◌≤◌, ◌<◌, ◌%◌, ◌∙◌,
 use Rattle.std.specs.Prelude.{IfSome, sum_by}
 use Rattle.program_parts.specs.Cuts.{whole}
 use Rattle.sabre_route.specs.Routing.{IsLayout}
+use Rattle.unitary_model.specs.Placement.{identity}
+use Rattle.sabre_route.specs.Ahead.{InOrder}
 use Rattle.circuit_target.specs.InParts.{placed_bars, told_parts}
 use Rattle.circuit_target.specs.Making.{AreRoutedParts, AreTraced, IsAssembled, IsOnSize, gates_of, last_of, parts_of, turns_of}
 use Rattle.circuit_target.specs.declared.parts.PartTarget.{PartTarget}
@@ -160,7 +162,7 @@ returns g c =
     record {
       stands = Stands-routed c.args.keep c.args.clean c.args.chosen d s rs ms t f.cut f.parts f.bars made o c.requires.steps c.requires.silent routed
           c.requires.fits wires ends swaps (subst (λ p. IfSome c.args.chosen (λ q. p ≡ q)) (sym begins) c.in_ok-given.ensures.chosen)
-          (λ x. subst (IsLayout d (whole (gates_of rs))) (sym begins) (c.in_ok-given.ensures.laid_out x)) c.diameter-diameter.result
+          (λ x. subst (IsLayout InOrder d (whole (gates_of rs)) (identity d.size)) (sym begins) (c.in_ok-given.ensures.laid_out x)) c.diameter-diameter.result
           c.diameter-diameter.ensures.diameter c.cost_of-cost.ensures.value
           (λ x. subst (λ p. AreTraced d p rs ms c.in_ok-made.field-0.trace.items) (sym begins) (e.told x)) e.silent f.operations_limit f.fine refl;
       fit = IsFit-routed c.args.keep c.args.clean d s rs ms t f.cut f.parts f.bars made o routed c.requires.fits wires ends swaps

@@ -1,6 +1,7 @@
-use Rattle.std.proofs.Common.{ℕ, List, ap, length, sym, subst, take, arith}
+use Rattle.std.proofs.Common.{ℕ, List, ap, length, refl, sym, subst, take, arith}
 use Rattle.sabre_route.specs.Scores.{AreApart, AreFar, AreWithin, IsBestPair, placed}
-use Rattle.sabre_route.specs.Search.{front}
+use Rattle.sabre_route.specs.Ahead.{InOrder}
+use Rattle.sabre_route.specs.Search.{extended, front}
 use Rattle.sabre_route.proofs.FrontLaws.{surveyed}
 use Rattle.sabre_route.proofs.choice.choose_swap_in.Goals as goal
 
@@ -12,7 +13,7 @@ best_swap-requires-clause-front c =
 pub best_swap-requires-clause-extended : goal.best_swap-requires-clause-extended
 best_swap-requires-clause-extended c =
     subst (AreWithin c.args.device.now.size) (sym c.extended_qubits-extended_count.ensures.qubits)
-    (surveyed c.args.device.now c.args.state.now.placement _ c.args.state.now.rest c.requires.placed c.placement.ensures.value c.facts-2.ensures.placement c.front_qubits-front_count.ensures.fine c.requires.stuck c.requires.left).extended_within
+    (let s = surveyed c.args.device.now c.args.state.now.placement _ c.args.state.now.rest c.requires.placed c.placement.ensures.value c.facts-2.ensures.placement c.front_qubits-front_count.ensures.fine c.requires.stuck c.requires.left in s.extended_within (extended c.args.state.now.rest) s.in_order)
 
 pub best_swap-requires-clause-front_limit : goal.best_swap-requires-clause-front_limit
 best_swap-requires-clause-front_limit c =
@@ -50,10 +51,12 @@ best_swap-requires-clause-far c =
     (surveyed c.args.device.now c.args.state.now.placement _ c.args.state.now.rest c.requires.placed c.placement.ensures.value c.facts-2.ensures.placement c.front_qubits-front_count.ensures.fine c.requires.stuck c.requires.left).far
 
 pub returns : goal.returns
-returns c = record {
-  best =
-      (surveyed c.args.device.now c.args.state.now.placement _ c.args.state.now.rest c.requires.placed c.placement.ensures.value c.facts-2.ensures.placement c.front_qubits-front_count.ensures.fine c.requires.stuck c.requires.left).best c.best_swap.result.0 c.best_swap.result.1
-      (subst (λ (es : List (ℕ × ℕ)). IsBestPair c.args.device.now (placed c.args.state.now.placement (front c.args.state.now.rest)) es c.best_swap.result.0 c.best_swap.result.1) c.extended_qubits-extended_count.ensures.qubits
-      (subst (λ (fs : List (ℕ × ℕ)). IsBestPair c.args.device.now fs (take c.extended_qubits-extended_count.result c.extended_qubits-extended_count.new.into) c.best_swap.result.0 c.best_swap.result.1)
-      c.front_qubits-front_count.ensures.qubits c.best_swap.ensures.best));
-}
+returns c =
+    let s = surveyed c.args.device.now c.args.state.now.placement _ c.args.state.now.rest c.requires.placed c.placement.ensures.value c.facts-2.ensures.placement c.front_qubits-front_count.ensures.fine c.requires.stuck c.requires.left in
+    record {
+      best =
+          s.best InOrder (extended c.args.state.now.rest) c.best_swap.result.0 c.best_swap.result.1 s.in_order refl
+          (subst (λ (es : List (ℕ × ℕ)). IsBestPair c.args.device.now (placed c.args.state.now.placement (front c.args.state.now.rest)) es c.best_swap.result.0 c.best_swap.result.1) c.extended_qubits-extended_count.ensures.qubits
+          (subst (λ (fs : List (ℕ × ℕ)). IsBestPair c.args.device.now fs (take c.extended_qubits-extended_count.result c.extended_qubits-extended_count.new.into) c.best_swap.result.0 c.best_swap.result.1)
+          c.front_qubits-front_count.ensures.qubits c.best_swap.ensures.best));
+    }
