@@ -13,6 +13,9 @@ pub mod PairLaws
 pub mod SparseLaws
 pub mod CollectLaws
 pub mod NameLaws
+pub mod RenameLaws
+pub mod NamingLaws
+pub mod CountLaws
 pub mod WalkedLaws
 pub mod WalkLaws
 pub mod GateLaws

@@ -25,13 +25,14 @@ use Rattle.std.proofs.lemmas.List.{length-set, get_or-map}
 use Rattle.std.proofs.lemmas.Nat.{mod-mul-add, div-mul-add}
 use Rattle.circuit_list.specs.declared.Gate.TheVariants.{H, X, Cx}
 use Rattle.path_parity.specs.declared.label.Label.{Label}
-use Rattle.path_parity.specs.NamedSums.{Seen, seen_more, set_before}
+use Rattle.path_parity.specs.NamedSums.{seen_more, set_before}
 use Rattle.path_parity.specs.LabelWalks.{labels_of_list}
 use Rattle.path_parity.specs.PathSum.{label, with_label, add_labels, flipped, fresh}
 use Rattle.path_parity.specs.Sets.{IsLabel, label_of}
 use Rattle.path_parity.proofs.WalkLaws.{labels-set}
 use Rattle.trace_check.proofs.CollectLaws.{equal, own, same_row}
 use Rattle.trace_check.proofs.SparseLaws.{compact-same}
+use Rattle.trace_check.specs.Names.{counts}
 use Rattle.trace_check.specs.Sums.{AreRows, IsCompact, IsWalk, NamedWalk, Passes, befores, compact_set}
 
 -- ---- numbers
@@ -103,9 +104,6 @@ set-at (y ∷ ys) (suc q) x (suc p) h = set-at ys q x p (omega arith) ∙ (λ i.
   where
     same : (p q : ℕ) → nat_eq p q ≡ nat_eq (suc p) (suc q)
     same p q = grind (arith, nat_tests)
-
-abbrev pub counts : List ℕ → Seen
-counts seen = λ q. get_or seen q 0
 
 pub seen-set : (seen : List ℕ) (q : ℕ) → q < length seen → counts (set seen q (suc (get_or seen q 0))) ≡ seen_more (counts seen) q
 seen-set seen q h = fun_ext (λ p. set-at seen q (suc (get_or seen q 0)) p h ∙ go p (nat_eq p q) refl)
@@ -183,28 +181,28 @@ viewed n labels seen es = record { wires = n; labels = map label_of labels; seen
 pub label-here : (labels : List Label) (q : ℕ) (l : Label) → q < length labels → l ≡ get_or labels q l → label_of l ≡ labels_of_list (map label_of labels) q
 label-here labels q l lt e = ap label_of e ∙ sym (get_or-map label_of labels q l (label 0 false) lt)
 
-pub passes-x : (n : ℕ) (labels : List Label) (seen : List ℕ) (es : List (ℕ × Vec ℕ Global)) (q : ℕ) (l : Label) → q < length labels → label_of l ≡ flipped (labels_of_list (map label_of labels) q) →
-    Passes (X q) (viewed n labels seen es) (viewed n (set labels q l) seen es)
-passes-x n labels seen es q l lt e = record {
+pub passes-x : (n : ℕ) (r : ℕ → ℕ) (labels : List Label) (seen : List ℕ) (es : List (ℕ × Vec ℕ Global)) (q : ℕ) (l : Label) → q < length labels → label_of l ≡ flipped (labels_of_list (map label_of labels) q) →
+    Passes r (X q) (viewed n labels seen es) (viewed n (set labels q l) seen es)
+passes-x n r labels seen es q l lt e = record {
   wires = refl;
   labels = labels-set label_of labels q l lt ∙ ap (with_label (labels_of_list (map label_of labels)) q) e;
   seen = refl;
   sets = sym (append-nil (befores es));
 }
 
-pub passes-cx : (n : ℕ) (labels : List Label) (seen : List ℕ) (es : List (ℕ × Vec ℕ Global)) (c t : ℕ) (l : Label) → t < length labels →
-    label_of l ≡ add_labels (labels_of_list (map label_of labels) t) (labels_of_list (map label_of labels) c) → Passes (Cx c t) (viewed n labels seen es) (viewed n (set labels t l) seen es)
-passes-cx n labels seen es c t l lt e = record {
+pub passes-cx : (n : ℕ) (r : ℕ → ℕ) (labels : List Label) (seen : List ℕ) (es : List (ℕ × Vec ℕ Global)) (c t : ℕ) (l : Label) → t < length labels →
+    label_of l ≡ add_labels (labels_of_list (map label_of labels) t) (labels_of_list (map label_of labels) c) → Passes r (Cx c t) (viewed n labels seen es) (viewed n (set labels t l) seen es)
+passes-cx n r labels seen es c t l lt e = record {
   wires = refl;
   labels = labels-set label_of labels t l lt ∙ ap (with_label (labels_of_list (map label_of labels)) t) e;
   seen = refl;
   sets = sym (append-nil (befores es));
 }
 
-pub passes-h : (n : ℕ) (labels : List Label) (seen : List ℕ) (es : List (ℕ × Vec ℕ Global)) (q : ℕ) (l : Label) (row : Vec ℕ Global) → q < length labels → q < length seen →
-    label_of l ≡ fresh (suc (get_or seen q 0) * n + q) → compact_set row.items ≡ (labels_of_list (map label_of labels) q).variables →
-    Passes (H q) (viewed n labels seen es) (viewed n (set labels q l) (set seen q (suc (get_or seen q 0))) (es ++ (suc (get_or seen q 0) * n + q, row) ∷ []))
-passes-h n labels seen es q l row lt mt e f = record {
+pub passes-h : (n : ℕ) (r : ℕ → ℕ) (labels : List Label) (seen : List ℕ) (es : List (ℕ × Vec ℕ Global)) (q : ℕ) (l : Label) (row : Vec ℕ Global) → q < length labels → q < length seen →
+    label_of l ≡ fresh (r (suc (get_or seen q 0) * n + q)) → compact_set row.items ≡ (labels_of_list (map label_of labels) q).variables →
+    Passes r (H q) (viewed n labels seen es) (viewed n (set labels q l) (set seen q (suc (get_or seen q 0))) (es ++ (suc (get_or seen q 0) * n + q, row) ∷ []))
+passes-h n r labels seen es q l row lt mt e f = record {
   wires = refl;
   labels = labels-set label_of labels q l lt ∙ ap (with_label (labels_of_list (map label_of labels)) q) e;
   seen = seen-set seen q mt;

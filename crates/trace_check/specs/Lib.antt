@@ -6,5 +6,6 @@ pub mod Outcomes
 pub mod Spelling
 pub mod Progress
 pub mod Pairs
+pub mod Names
 pub mod Sums
 pub mod RuleWindows

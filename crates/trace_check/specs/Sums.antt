@@ -18,8 +18,8 @@
 --     AreRows es          the rows are those of sets
 --     IsWalk n labels seen es     the labels and the counts are those of n wires, the rows are those of sets, and no variable of an H
 --                         to come is among the entries
---     Passes g old new    a walk after gate g
---     IsWalked n gs sign old new w    the walk past all gates of a circuit, and what they added
+--     Passes r g old new  a walk after gate g, where r tells which variable stands for each named one
+--     IsWalked n r gs sign old new w  the walk past all gates of a circuit, and what they added
 --     IsSameWalk one two  the same H with the same sets, and the same labels
 use Rattle.std.specs.Prelude.{◌≡◌, ℕ, suc, ◌+◌, ◌-◌, ◌*◌, ◌/◌, ◌%◌, ◌^◌, ◌<◌, ◌≤◌, Bool, true, false, cond, not, List, [], ◌∷◌, ◌++◌, Vec, All, None, Some, count_by, length, get_or, nat_eq, nat_lt}
 use Rattle.std.specs.Cmp.Lexicographic.{pointwise}
@@ -28,9 +28,10 @@ use Rattle.std.specs.declared.alloc.Global.{Global}
 use Rattle.circuit_list.specs.declared.Gate.{Gate}
 use Rattle.path_parity.specs.declared.label.Label.{Label}
 use Rattle.path_parity.specs.LabelWalks.{labels_of_list}
-use Rattle.path_parity.specs.NamedSums.{Seen, constant_of, hadamard, hadamards, named_after, named_last, seen_after, set_before, terms, total, unseen}
+use Rattle.path_parity.specs.NamedSums.{Seen, hadamard, seen_after, set_before, total, unseen}
 use Rattle.path_parity.specs.PathSum.{PathLabel, Wires, own_labels}
 use Rattle.path_parity.specs.Sets.{IsLabel, IsPacked, set_of}
+use Rattle.trace_check.specs.Names.{after_by, constant_by, hadamards_by, last_by, terms_by}
 
 pub record Collected : Type 0 where
   pub sets : List (ℕ × ℕ)
@@ -115,9 +116,9 @@ pub record IsWalk (n : ℕ) (labels : List Label) (seen : List ℕ) (es : List (
   pub rows : AreRows es
   pub to_come : (q k : ℕ) → q < n → get_or seen q 0 ≤ k → set_before (suc k * n + q) (befores es) ≡ None
 
-pub record Passes (g : Gate) (old new : NamedWalk) : Type 0 where
+pub record Passes (r : ℕ → ℕ) (g : Gate) (old new : NamedWalk) : Type 0 where
   pub wires : new.wires ≡ old.wires
-  pub labels : labels_in new ≡ named_after old.wires g (labels_in old) (seen_in old)
+  pub labels : labels_in new ≡ after_by old.wires r g (labels_in old) (seen_in old)
   pub seen : seen_in new ≡ seen_after g (seen_in old)
   pub sets : new.sets ≡ old.sets ++ hadamard old.wires g (labels_in old) (seen_in old)
 
@@ -125,9 +126,9 @@ pub record IsSameWalk (one two : NamedWalk) : Type 0 where
   pub sets : (v : ℕ) → set_before v one.sets ≡ set_before v two.sets
   pub labels : (q : ℕ) → q < one.wires → labels_in one q ≡ labels_in two q
 
-pub record IsWalked (n : ℕ) (gs : List Gate) (sign : ℕ) (old new : Collected) (w : NamedWalk) : Type 0 where
+pub record IsWalked (n : ℕ) (r : ℕ → ℕ) (gs : List Gate) (sign : ℕ) (old new : Collected) (w : NamedWalk) : Type 0 where
   pub wires : w.wires ≡ n
-  pub labels : labels_in w ≡ named_last n gs (own_labels n) unseen
-  pub sets : w.sets ≡ hadamards n gs (own_labels n) unseen
-  pub totals : (m : ℕ) → total m new.sets % 8 ≡ (total m old.sets + sign * total m (terms n gs (own_labels n) unseen)) % 8
-  pub constant : new.constant % 8 ≡ (old.constant + sign * constant_of n gs) % 8
+  pub labels : labels_in w ≡ last_by n r gs (own_labels n) unseen
+  pub sets : w.sets ≡ hadamards_by n r gs (own_labels n) unseen
+  pub totals : (m : ℕ) → total m new.sets % 8 ≡ (total m old.sets + sign * total m (terms_by n r gs (own_labels n) unseen)) % 8
+  pub constant : new.constant % 8 ≡ (old.constant + sign * constant_by n r gs (own_labels n) unseen) % 8

@@ -10,6 +10,7 @@ mod checker;
 mod gates;
 pub mod laws;
 mod mark;
+mod names;
 mod numbers;
 mod pairs;
 mod routed;

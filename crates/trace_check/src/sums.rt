@@ -7,15 +7,17 @@ ghost use Rattle.circuit_list.specs.declared.Gate.TheVariants.{H};
 ghost use Rattle.std.specs.List.{IsDistinct};
 ghost use Rattle.std.specs.Map.{keys_of, lookup};
 ghost use Rattle.std.specs.Cmp.Lexicographic.{pointwise};
-ghost use Rattle.path_parity.specs.NamedSums.{SamePathSum, constant_at, set_before, term, total, unseen};
+ghost use Rattle.path_parity.specs.NamedSums.{SamePathSum, constant_at, set_before, total, unseen};
 ghost use Rattle.path_parity.specs.LabelWalks.{labels_of_list};
 ghost use Rattle.path_parity.specs.PathSum.{own_labels};
 ghost use Rattle.path_parity.specs.Sets.{IsLabel, IsPacked, label_of, set_of};
 ghost use Rattle.rewrite_pass.specs.Traces.{constants_turn};
+ghost use Rattle.trace_check.specs.Names.{number, term_by};
 ghost use Rattle.trace_check.specs.Sums.{Adds, AddsKnown, AreRows, IsSameWalk, IsWalked, Passes, befores, compact, is_sparse, labels_in, mark, seen_in, sparse};
 
+use crate::names::{first_counts, next_variable, note_names, number};
 use circuit_list::{Circuit, Gate};
-use indexmap::IndexMap;
+use indexmap::{IndexMap, IndexSet};
 use path_parity::Label;
 use std::alloc::{AllocError, Global};
 use std::marker::Model;
@@ -174,19 +176,22 @@ impl Walk {
     fn pass_hadamard(
         &mut self,
         alloc: Global,
+        names: &IndexSet<u64>,
         totals: &mut Totals,
         q: u32,
         sign: u8,
     ) -> Result<(), AllocError>
         requires { q < self.old.wires }
-        ensures passes { OnOk result (Passes (H q) self.old self.new) }
-        ensures adds { OnOk result (Adds sign (term self.old.wires (H q) (labels_in self.old) (seen_in self.old)) 0 totals.old totals.new) }
+        ensures passes { OnOk result (Passes (number self.old.wires names.now.keys) (H q) self.old self.new) }
+        ensures adds { OnOk result (Adds sign
+            (term_by self.old.wires (number self.old.wires names.now.keys) (H q) (labels_in self.old) (seen_in self.old)) 0 totals.old totals.new) }
     {
         let (seen, variable) = next_variable(self.seen[q as usize], self.wires, q)?;
+        let fresh = number(names, self.wires, variable)?;
         let label = &self.labels[q as usize];
         let bit = label.bit;
         let set = compact_row(alloc, &label.set)?;
-        self.spare.write_fresh(variable)?;
+        self.spare.write_fresh(fresh)?;
         totals.add_turn(alloc, &self.spare.set, bit, sign)?;
         self.sets.insert(variable, set)?;
         self.seen[q as usize] = seen;
@@ -199,17 +204,19 @@ impl Walk {
     fn pass(
         &mut self,
         alloc: Global,
+        names: &IndexSet<u64>,
         totals: &mut Totals,
         gate: Gate,
         sign: u8,
     ) -> Result<(), AllocError>
         requires { IsFine self.old.wires gate }
-        ensures passes { OnOk result (Passes gate self.old self.new) }
-        ensures adds { OnOk result (Adds sign (term self.old.wires gate (labels_in self.old) (seen_in self.old))
+        ensures passes { OnOk result (Passes (number self.old.wires names.now.keys) gate self.old self.new) }
+        ensures adds { OnOk result (Adds sign
+            (term_by self.old.wires (number self.old.wires names.now.keys) gate (labels_in self.old) (seen_in self.old))
             (constant_at gate (labels_in self.old)) totals.old totals.new) }
     {
         match gate {
-            Gate::H { q } => self.pass_hadamard(alloc, totals, q, sign)?,
+            Gate::H { q } => self.pass_hadamard(alloc, names, totals, q, sign)?,
             Gate::X { q } => {
                 self.labels[q as usize].bit = !self.labels[q as usize].bit;
                 totals.add_constant(2, sign);
@@ -244,35 +251,6 @@ fn first_labels(alloc: Global, wires: u32) -> Result<Vec<Label>, AllocError>
         labels.push(Label::fresh(alloc, q as u64)?)?;
     }
     Ok(labels)
-}
-
-/// No H on any wire.
-fn first_counts(alloc: Global, wires: u32) -> Result<Vec<u64>, AllocError>
-    ensures wires { IfOk result (λ v. length v.items ≡ wires) }
-    ensures none { IfOk result (λ v. (q : ℕ) → slice_index v.items q ≡ 0) }
-{
-    let mut seen = Vec::new(alloc);
-    'wires: for _ in 0..wires {
-        seen.push(0)?;
-    }
-    Ok(seen)
-}
-
-/// How many H stand on a wire with one more, and the variable of that one.
-fn next_variable(seen: u64, wires: u32, q: u32) -> Result<(u64, u64), AllocError>
-    ensures seen { IfOk result (λ r. r.0 ≡ suc seen) }
-    ensures variable { IfOk result (λ r. r.1 ≡ suc seen * wires + q) }
-{
-    let Some(next) = seen.checked_add(1) else {
-        return Err(AllocError);
-    };
-    let Some(rows) = next.checked_mul(u64::from(wires)) else {
-        return Err(AllocError);
-    };
-    let Some(variable) = rows.checked_add(u64::from(q)) else {
-        return Err(AllocError);
-    };
-    Ok((next, variable))
 }
 
 /// Whether two walks had the same sets before the same H.
@@ -377,12 +355,18 @@ fn signed(k: u8, sign: u8) -> u8
 }
 
 /// Walks along a whole circuit, and adds what its gates put on sets and on none, so many times the sign.
-fn walked(alloc: Global, totals: &mut Totals, body: &Circuit, sign: u8) -> Result<Walk, AllocError>
-    ensures { IfOk result (λ w. IsWalked body.now.wires body.now.gates sign totals.old totals.new w) }
+fn walked(
+    alloc: Global,
+    names: &IndexSet<u64>,
+    totals: &mut Totals,
+    body: &Circuit,
+    sign: u8,
+) -> Result<Walk, AllocError>
+    ensures { IfOk result (λ w. IsWalked body.now.wires (number body.now.wires names.now.keys) body.now.gates sign totals.old totals.new w) }
 {
     let mut walk = Walk::new(alloc, body.wires())?;
     'gates: for place in 0..body.len() {
-        walk.pass(alloc, totals, body.gate(place), sign)?;
+        walk.pass(alloc, names, totals, body.gate(place), sign)?;
     }
     Ok(walk)
 }
@@ -393,9 +377,17 @@ pub(crate) fn sums(alloc: Global, old: &Circuit, new: &Circuit) -> Result<Option
     ensures same { IfOk result (λ o. MatchOption o (SamePathSum old.now.wires old.now.gates new.now.gates → ⊥)
         (λ turn. SamePathSum old.now.wires old.now.gates new.now.gates × (turn ≡ constants_turn old.now.wires old.now.gates new.now.gates))) }
 {
+    old.facts();
+    new.facts();
+    let mut names = IndexSet::new(alloc);
+    let first = note_names(alloc, &mut names, old)?;
+    let second = note_names(alloc, &mut names, new)?;
+    if first != second {
+        return Ok(None);
+    }
     let mut totals = Totals::new(alloc);
-    let before = walked(alloc, &mut totals, old, 7)?;
-    let after = walked(alloc, &mut totals, new, 1)?;
+    let before = walked(alloc, &names, &mut totals, old, 7)?;
+    let after = walked(alloc, &names, &mut totals, new, 1)?;
     if before.is_same(&after) && totals.are_none() {
         return Ok(Some(totals.constant()));
     }

@@ -1,7 +1,7 @@
 -- One count more.
 use Rattle.std.proofs.Common.{[], ◌∷◌, length, get_or, ◌∙◌, ap, arith, length-append}
 use Rattle.trace_check.proofs.NameLaws.{none-push}
-use Rattle.trace_check.proofs.sums.first_counts.Goals as goal
+use Rattle.trace_check.proofs.names.first_counts.Goals as goal
 
 pub wires-preserved : goal.wires-preserved
 wires-preserved c = record {

@@ -1,6 +1,6 @@
 -- No H on any wire so far.
 use Rattle.std.proofs.Common.{◌≡◌, ℕ, length, slice_index}
-use Rattle.trace_check.proofs.sums.first_counts.Given as goal
+use Rattle.trace_check.proofs.names.first_counts.Given as goal
 
 abbrev pub invariant-wires : goal.invariant-wires
 invariant-wires l = record {
