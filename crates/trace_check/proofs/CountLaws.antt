@@ -16,7 +16,7 @@ use Rattle.circuit_list.specs.Gates.{IsFine}
 use Rattle.path_parity.specs.NamedSums.{Seen, hadamards, named_after, seen_after, seen_more, set_before, unseen, SamePathSum}
 use Rattle.path_parity.specs.PathSum.{Wires, own_labels}
 use Rattle.path_parity.proofs.LoopLaws.{drop-get}
-use Rattle.trace_check.specs.Names.{counts, seen_last, variable, variables}
+use Rattle.trace_check.specs.Names.{counts, seen_last, variable, variables_of}
 use Rattle.trace_check.proofs.CollectLaws.{equal}
 use Rattle.trace_check.proofs.NameLaws.{other_variable}
 
@@ -26,14 +26,14 @@ written-back xs ys n e le = ap (λ zs. take n (xs ++ zs)) (drop_of_length-le ys 
 
 -- ---- along a circuit
 pub noted-more : (n : ℕ) (gs : List Gate) (i : ℕ) (g : Gate) (names more all : List ℕ) (s u : Seen) → slice_get gs i ≡ Some g → u ≡ seen_after g s → more ≡ insert_all nat_eq names (variable n g s) →
-    insert_all nat_eq names (variables n (drop i gs) s) ≡ all → insert_all nat_eq more (variables n (drop (i + 1) gs) u) ≡ all
+    insert_all nat_eq names (variables_of n (drop i gs) s) ≡ all → insert_all nat_eq more (variables_of n (drop (i + 1) gs) u) ≡ all
 noted-more n gs i g names more all s u there e f h =
-    (λ j. insert_all nat_eq (f j) (variables n (drop (i + 1) gs) (e j)))
-    ∙ sym (fold-append (insert_key nat_eq) names (variable n g s) (variables n (drop (i + 1) gs) (seen_after g s)))
-    ∙ sym (λ j. insert_all nat_eq names (variables n (drop-get gs i g there j) s)) ∙ h
+    (λ j. insert_all nat_eq (f j) (variables_of n (drop (i + 1) gs) (e j)))
+    ∙ sym (fold-append (insert_key nat_eq) names (variable n g s) (variables_of n (drop (i + 1) gs) (seen_after g s)))
+    ∙ sym (λ j. insert_all nat_eq names (variables_of n (drop-get gs i g there j) s)) ∙ h
 
-pub noted-end : (n : ℕ) (gs : List Gate) (i : ℕ) (names all : List ℕ) (s : Seen) → length gs ≤ i → insert_all nat_eq names (variables n (drop i gs) s) ≡ all → names ≡ all
-noted-end n gs i names all s le h = sym (λ j. insert_all nat_eq names (variables n (drop_of_length-le gs le j) s)) ∙ h
+pub noted-end : (n : ℕ) (gs : List Gate) (i : ℕ) (names all : List ℕ) (s : Seen) → length gs ≤ i → insert_all nat_eq names (variables_of n (drop i gs) s) ≡ all → names ≡ all
+noted-end n gs i names all s le h = sym (λ j. insert_all nat_eq names (variables_of n (drop_of_length-le gs le j) s)) ∙ h
 
 pub seen-more : (gs : List Gate) (i : ℕ) (g : Gate) (s u all : Seen) → slice_get gs i ≡ Some g → u ≡ seen_after g s → seen_last (drop i gs) s ≡ all → seen_last (drop (i + 1) gs) u ≡ all
 seen-more gs i g s u all there e h = (λ j. seen_last (drop (i + 1) gs) (e j)) ∙ sym (λ j. seen_last (drop-get gs i g there j) s) ∙ h

@@ -15,7 +15,7 @@ use Rattle.circuit_list.specs.declared.Gate.TheVariants.{H, X, P, Cx}
 use Rattle.path_parity.specs.PathSum.{label, own_labels}
 use Rattle.path_parity.specs.NamedSums.{Seen, constant_of, next_variable, seen_after, unseen, SamePathSum}
 use Rattle.path_parity.proofs.NumberedLaws.{Renames, renamed, renamed-linear, renamed-own, renamed-zero}
-use Rattle.trace_check.specs.Names.{SameBy, constant_by, number, variables}
+use Rattle.trace_check.specs.Names.{SameBy, constant_by, number_by, variables_of}
 use Rattle.trace_check.proofs.CollectLaws.{equal, own}
 use Rattle.trace_check.proofs.RenameLaws.{Carries, carried_constant, constant-named, named-same, same-carried, same-named}
 
@@ -125,7 +125,7 @@ module _ (n : ℕ) (names : List ℕ) where
   back i = cond (nat_lt i n) i (get_or names (i - n) 0)
 
   abbrev forth : ℕ → ℕ
-  forth v = cond (nat_lt v n) v (number n names v)
+  forth v = cond (nat_lt v n) v (number_by n names v)
 
   abbrev name_of : ℕ → ℕ
   name_of = renamed (n + length names) back
@@ -133,24 +133,24 @@ module _ (n : ℕ) (names : List ℕ) where
   abbrev number_of : ℕ → ℕ
   number_of = renamed (suc (n + bound names)) forth
 
-  name-number : (v : ℕ) → list_any (nat_eq v) names ≡ true → name_of (2 ^ number n names v) ≡ 2 ^ v
+  name-number : (v : ℕ) → list_any (nat_eq v) names ≡ true → name_of (2 ^ number_by n names v) ≡ 2 ^ v
   name-number v h =
       let p : IsPlaced names v = placed names v h in
-      let index : number n names v - n ≡ position_or_len (nat_eq v) names = omega arith in
-      renamed-own (n + length names) (number n names v) back (omega (arith, p.within))
-      ∙ ap (λ k. 2 ^ k) ((λ i. cond (above (number n names v) n (omega arith) i) (number n names v) (get_or names (index i) 0)) ∙ p.there)
+      let index : number_by n names v - n ≡ position_or_len (nat_eq v) names = omega arith in
+      renamed-own (n + length names) (number_by n names v) back (omega (arith, p.within))
+      ∙ ap (λ k. 2 ^ k) ((λ i. cond (above (number_by n names v) n (omega arith) i) (number_by n names v) (get_or names (index i) 0)) ∙ p.there)
 
-  number-name : (v : ℕ) → n ≤ v → list_any (nat_eq v) names ≡ true → number_of (2 ^ v) ≡ 2 ^ number n names v
-  number-name v le h = renamed-own (suc (n + bound names)) v forth (omega (arith, bounded names v h)) ∙ ap (λ k. 2 ^ k) (λ i. cond (above v n le i) v (number n names v))
+  number-name : (v : ℕ) → n ≤ v → list_any (nat_eq v) names ≡ true → number_of (2 ^ v) ≡ 2 ^ number_by n names v
+  number-name v le h = renamed-own (suc (n + bound names)) v forth (omega (arith, bounded names v h)) ∙ ap (λ k. 2 ^ k) (λ i. cond (above v n le i) v (number_by n names v))
 
-  carries-names : (vs : List ℕ) → AreNamed names vs → Carries (number n names) (λ v. v) name_of vs
+  carries-names : (vs : List ℕ) → AreNamed names vs → Carries (number_by n names) (λ v. v) name_of vs
   carries-names [] h = tt
   carries-names (v ∷ vs) h = (name-number v h.0, carries-names vs h.1)
 
   behind : (a q : ℕ) → n ≤ suc a * n + q
   behind a q = omega arith
 
-  carries-numbers : (gs : List Gate) (s : Seen) → AreNamed names (variables n gs s) → Carries (λ v. v) (number n names) number_of (variables n gs s)
+  carries-numbers : (gs : List Gate) (s : Seen) → AreNamed names (variables_of n gs s) → Carries (λ v. v) (number_by n names) number_of (variables_of n gs s)
   carries-numbers [] s h = tt
   carries-numbers (H q ∷ gs) s h = (number-name (next_variable n s q) (behind (s q) q) h.0, carries-numbers gs (seen_after (H q) s) h.1)
   carries-numbers (X q ∷ gs) s h = carries-numbers gs s h
@@ -161,13 +161,13 @@ module _ (n : ℕ) (names : List ℕ) where
   own-name = own-renamed (n + length names) n back (omega arith) (λ i lt j. cond (below i n lt j) i (get_or names (i - n) 0))
 
   own-number : Renames number_of (own_labels n) (own_labels n)
-  own-number = own-renamed (suc (n + bound names)) n forth (omega arith) (λ i lt j. cond (below i n lt j) i (number n names i))
+  own-number = own-renamed (suc (n + bound names)) n forth (omega arith) (λ i lt j. cond (below i n lt j) i (number_by n names i))
 
-  pub sums-by : (A B : List Gate) → AreNamed names (variables n A unseen) → AreNamed names (variables n B unseen) → SameBy n (number n names) A B → SamePathSum n A B
-  sums-by A B a b same = same-named n A B (same-carried n (number n names) (λ v. v) name_of (renamed-linear (n + length names) back) A B (carries-names (variables n A unseen) a) (carries-names (variables n B unseen) b) own-name same)
+  pub sums-by : (A B : List Gate) → AreNamed names (variables_of n A unseen) → AreNamed names (variables_of n B unseen) → SameBy n (number_by n names) A B → SamePathSum n A B
+  sums-by A B a b same = same-named n A B (same-carried n (number_by n names) (λ v. v) name_of (renamed-linear (n + length names) back) A B (carries-names (variables_of n A unseen) a) (carries-names (variables_of n B unseen) b) own-name same)
 
-  pub by-sums : (A B : List Gate) → AreNamed names (variables n A unseen) → AreNamed names (variables n B unseen) → SamePathSum n A B → SameBy n (number n names) A B
-  by-sums A B a b same = same-carried n (λ v. v) (number n names) number_of (renamed-linear (suc (n + bound names)) forth) A B (carries-numbers A unseen a) (carries-numbers B unseen b) own-number (named-same n A B same)
+  pub by-sums : (A B : List Gate) → AreNamed names (variables_of n A unseen) → AreNamed names (variables_of n B unseen) → SamePathSum n A B → SameBy n (number_by n names) A B
+  by-sums A B a b same = same-carried n (λ v. v) (number_by n names) number_of (renamed-linear (suc (n + bound names)) forth) A B (carries-numbers A unseen a) (carries-numbers B unseen b) own-number (named-same n A B same)
 
-  pub constant-by : (A : List Gate) → AreNamed names (variables n A unseen) → constant_by n (number n names) A (own_labels n) unseen ≡ constant_of n A
-  constant-by A a = sym (carried_constant n (number n names) (λ v. v) name_of (renamed-linear (n + length names) back) A (own_labels n) (own_labels n) unseen (carries-names (variables n A unseen) a) own-name) ∙ constant-named n A (own_labels n) unseen
+  pub constant-by : (A : List Gate) → AreNamed names (variables_of n A unseen) → constant_by n (number_by n names) A (own_labels n) unseen ≡ constant_of n A
+  constant-by A a = sym (carried_constant n (number_by n names) (λ v. v) name_of (renamed-linear (n + length names) back) A (own_labels n) (own_labels n) unseen (carries-names (variables_of n A unseen) a) own-name) ∙ constant-named n A (own_labels n) unseen

@@ -13,7 +13,7 @@ use Rattle.path_parity.specs.OddLabels.{IsLinear}
 use Rattle.path_parity.specs.NamedSums.{Seen, constant, constant_at, hadamard, hadamards, named_after, named_last, next_variable, seen_after, set_before, term, terms, total, unseen, SamePathSum}
 use Rattle.path_parity.proofs.NumberedLaws.{Renames, mapped, total-mapped}
 use Rattle.path_parity.proofs.Totals.{by_totals}
-use Rattle.trace_check.specs.Names.{SameBy, after_by, constant_by, hadamards_by, last_by, term_by, terms_by, variable, variables}
+use Rattle.trace_check.specs.Names.{SameBy, after_by, constant_by, hadamards_by, last_by, term_by, terms_by, variable, variables_of}
 
 abbrev pub Carries : (ℕ → ℕ) → (ℕ → ℕ) → (ℕ → ℕ) → List ℕ → Type 0
 Carries r p f [] = Unit {0}
@@ -76,30 +76,30 @@ module _ (n : ℕ) (r p f : ℕ → ℕ) (lin : IsLinear f) where
   constant_at-carried (Cx a t) w v h = refl
 
   -- ---- all gates
-  carried_last : (gs : List Gate) (w v : Wires) (s : Seen) → Carries r p f (variables n gs s) → Renames f w v → Renames f (last_by n r gs w s) (last_by n p gs v s)
+  carried_last : (gs : List Gate) (w v : Wires) (s : Seen) → Carries r p f (variables_of n gs s) → Renames f w v → Renames f (last_by n r gs w s) (last_by n p gs v s)
   carried_last [] w v s c h = h
-  carried_last (g ∷ gs) w v s c h = let vs : List ℕ = variables n gs (seen_after g s) in
+  carried_last (g ∷ gs) w v s c h = let vs : List ℕ = variables_of n gs (seen_after g s) in
       carried_last gs (after_by n r g w s) (after_by n p g v s) (seen_after g s) (rest-carried g vs s c) (after-carried g vs w v s c h)
 
-  carried_sets : (gs : List Gate) (w v : Wires) (s : Seen) → Carries r p f (variables n gs s) → Renames f w v → hadamards_by n p gs v s ≡ sets_mapped f (hadamards_by n r gs w s)
+  carried_sets : (gs : List Gate) (w v : Wires) (s : Seen) → Carries r p f (variables_of n gs s) → Renames f w v → hadamards_by n p gs v s ≡ sets_mapped f (hadamards_by n r gs w s)
   carried_sets [] w v s c h = refl
-  carried_sets (g ∷ gs) w v s c h = let vs : List ℕ = variables n gs (seen_after g s) in
+  carried_sets (g ∷ gs) w v s c h = let vs : List ℕ = variables_of n gs (seen_after g s) in
       set-carried g w v s (hadamards_by n r gs (after_by n r g w s) (seen_after g s)) (hadamards_by n p gs (after_by n p g v s) (seen_after g s)) h
       (carried_sets gs (after_by n r g w s) (after_by n p g v s) (seen_after g s) (rest-carried g vs s c) (after-carried g vs w v s c h))
 
-  carried_terms : (gs : List Gate) (w v : Wires) (s : Seen) → Carries r p f (variables n gs s) → Renames f w v → terms_by n p gs v s ≡ mapped f (terms_by n r gs w s)
+  carried_terms : (gs : List Gate) (w v : Wires) (s : Seen) → Carries r p f (variables_of n gs s) → Renames f w v → terms_by n p gs v s ≡ mapped f (terms_by n r gs w s)
   carried_terms [] w v s c h = refl
-  carried_terms (g ∷ gs) w v s c h = let vs : List ℕ = variables n gs (seen_after g s) in
+  carried_terms (g ∷ gs) w v s c h = let vs : List ℕ = variables_of n gs (seen_after g s) in
       term-carried g vs w v s (terms_by n r gs (after_by n r g w s) (seen_after g s)) (terms_by n p gs (after_by n p g v s) (seen_after g s)) c h
       (carried_terms gs (after_by n r g w s) (after_by n p g v s) (seen_after g s) (rest-carried g vs s c) (after-carried g vs w v s c h))
 
-  pub carried_constant : (gs : List Gate) (w v : Wires) (s : Seen) → Carries r p f (variables n gs s) → Renames f w v → constant_by n p gs v s ≡ constant_by n r gs w s
+  pub carried_constant : (gs : List Gate) (w v : Wires) (s : Seen) → Carries r p f (variables_of n gs s) → Renames f w v → constant_by n p gs v s ≡ constant_by n r gs w s
   carried_constant [] w v s c h = refl
-  carried_constant (g ∷ gs) w v s c h = let vs : List ℕ = variables n gs (seen_after g s) in
+  carried_constant (g ∷ gs) w v s c h = let vs : List ℕ = variables_of n gs (seen_after g s) in
       λ i. constant_at-carried g w v h i + carried_constant gs (after_by n r g w s) (after_by n p g v s) (seen_after g s) (rest-carried g vs s c) (after-carried g vs w v s c h) i
 
   -- ---- two circuits
-  pub same-carried : (A B : List Gate) → Carries r p f (variables n A unseen) → Carries r p f (variables n B unseen) → Renames f (own_labels n) (own_labels n) → SameBy n r A B → SameBy n p A B
+  pub same-carried : (A B : List Gate) → Carries r p f (variables_of n A unseen) → Carries r p f (variables_of n B unseen) → Renames f (own_labels n) (own_labels n) → SameBy n r A B → SameBy n p A B
   same-carried A B a b own same = record {
     sets = λ v. ap (set_before v) (carried_sets B w w unseen b own) ∙ set_before-mapped v f (hadamards_by n r B w unseen) ∙ ap (option_map f) (same.sets v)
         ∙ sym (set_before-mapped v f (hadamards_by n r A w unseen)) ∙ sym (ap (set_before v) (carried_sets A w w unseen a own));

@@ -12,7 +12,7 @@ use Rattle.path_parity.specs.PathSum.{Wires, own_labels}
 use Rattle.path_parity.proofs.LoopLaws.{drop-get}
 use Rattle.rewrite_pass.specs.Traces.{constants_turn}
 use Rattle.trace_check.proofs.NamingLaws.{AreNamed, by-sums, constant-by, sums-by}
-use Rattle.trace_check.specs.Names.{SameBy, after_by, constant_by, hadamards_by, last_by, number, term_by, terms_by, variables}
+use Rattle.trace_check.specs.Names.{SameBy, after_by, constant_by, hadamards_by, last_by, number_by, term_by, terms_by, variables_of}
 use Rattle.trace_check.specs.Sums.{Adds, Collected, IsSameWalk, IsWalked, NamedWalk, Passes, labels_in, seen_in}
 
 pub total-append : (m : ℕ) (xs ys : List (ℕ × ℕ)) → total m (xs ++ ys) ≡ total m xs + total m ys
@@ -81,13 +81,13 @@ underway-end n r gs i sign none t w le h =
     last x a y b e f = omega (arith, ap (λ k. sign * k) e, f)
 
 -- ---- two walks
-module _ (n : ℕ) (names : List ℕ) (A B : List Gate) (namedA : AreNamed names (variables n A unseen)) (namedB : AreNamed names (variables n B unseen)) (none one two : Collected) (a b : NamedWalk)
-    (blank : none.sets ≡ []) (zero : none.constant ≡ 0) (first : IsWalked n (number n names) A 7 none one a) (second : IsWalked n (number n names) B 1 one two b) where
+module _ (n : ℕ) (names : List ℕ) (A B : List Gate) (namedA : AreNamed names (variables_of n A unseen)) (namedB : AreNamed names (variables_of n B unseen)) (none one two : Collected) (a b : NamedWalk)
+    (blank : none.sets ≡ []) (zero : none.constant ≡ 0) (first : IsWalked n (number_by n names) A 7 none one a) (second : IsWalked n (number_by n names) B 1 one two b) where
   abbrev termsA : List (ℕ × ℕ)
-  termsA = terms_by n (number n names) A (own_labels n) unseen
+  termsA = terms_by n (number_by n names) A (own_labels n) unseen
 
   abbrev termsB : List (ℕ × ℕ)
-  termsB = terms_by n (number n names) B (own_labels n) unseen
+  termsB = terms_by n (number_by n names) B (own_labels n) unseen
 
   balance : (m : ℕ) → total m two.sets % 8 ≡ (7 * total m termsA + total m termsB) % 8
   balance m = go (total m none.sets) (total m one.sets) (total m two.sets) (total m termsA) (total m termsB) (ap (total m) blank) (first.totals m) (second.totals m)
@@ -106,13 +106,13 @@ module _ (n : ℕ) (names : List ℕ) (A B : List Gate) (namedA : AreNamed names
       go y p q e f = omega arith
 
   pub sums-same : SamePathSum n A B → IsSameWalk a b
-  sums-same same = let h : SameBy n (number n names) A B = by-sums n names A B namedA namedB same in record {
+  sums-same same = let h : SameBy n (number_by n names) A B = by-sums n names A B namedA namedB same in record {
     sets = λ v. ap (set_before v) first.sets ∙ sym (h.sets v) ∙ ap (set_before v) (sym second.sets);
     labels = λ q lt. (λ i. first.labels i q) ∙ sym (h.last q (omega (arith, first.wires))) ∙ sym (λ i. second.labels i q);
   }
 
   pub sums-even : SamePathSum n A B → (m : ℕ) → total m two.sets % 8 ≡ 0
-  sums-even same m = let h : SameBy n (number n names) A B = by-sums n names A B namedA namedB same in go (total m two.sets) (total m termsA) (total m termsB) (balance m) (h.totals m)
+  sums-even same m = let h : SameBy n (number_by n names) A B = by-sums n names A B namedA namedB same in go (total m two.sets) (total m termsA) (total m termsB) (balance m) (h.totals m)
     where
       go : (y p q : ℕ) → y % 8 ≡ (7 * p + q) % 8 → q % 8 ≡ p % 8 → y % 8 ≡ 0
       go y p q e f = omega arith

@@ -1,10 +1,10 @@
 -- Working form. Path sums in variables that are numbered as they come up. Each variable of an H has its name, which is that of a
 -- path sum with named variables, and names stand in a list.
 --     counts xs               a list of how many H stand before, for all wires
---     variable n g s          the variable of a gate that is an H, by its name, and none of another gate;  variables n gs s: those of
+--     variable n g s          the variable of a gate that is an H, by its name, and none of another gate;  variables_of n gs s: those of
 --                             the H of a list, in order
 --     seen_last gs s          how many H stand on each wire behind a list
---     number n names v        the number of a variable: those of the n wires come first, and then the names in order
+--     number_by n names v     the number of a variable: those of the n wires come first, and then the names in order
 --     after_by n r g w s      the labels after gate g, where r tells which variable stands for each named one, and w are those before
 --     last_by n r gs w s      the labels after a list of gates
 --     hadamards_by n r gs w s     the H of a list, each as its name and the set of the label before it
@@ -27,16 +27,16 @@ variable n (X q) s = []
 variable n (P k q) s = []
 variable n (Cx c t) s = []
 
-abbrev pub variables : ℕ → List Gate → Seen → List ℕ
-variables n [] s = []
-variables n (g ∷ gs) s = variable n g s ++ variables n gs (seen_after g s)
+abbrev pub variables_of : ℕ → List Gate → Seen → List ℕ
+variables_of n [] s = []
+variables_of n (g ∷ gs) s = variable n g s ++ variables_of n gs (seen_after g s)
 
 abbrev pub seen_last : List Gate → Seen → Seen
 seen_last [] s = s
 seen_last (g ∷ gs) s = seen_last gs (seen_after g s)
 
 abbrev pub number : ℕ → List ℕ → ℕ → ℕ
-number n names v = n + position_or_len (nat_eq v) names
+number_by n names v = n + position_or_len (nat_eq v) names
 
 abbrev pub after_by : ℕ → (ℕ → ℕ) → Gate → Wires → Seen → Wires
 after_by n r (H q) w s = with_label w q (fresh (r (next_variable n s q)))

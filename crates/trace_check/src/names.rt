@@ -1,10 +1,10 @@
-//! The variables of two circuits' H, numbered as they come up.
+//! The variables_of of two circuits' H, numbered as they come up.
 
 ghost use Rattle.std.specs.Prelude.{◌≡◌, ◌<◌, ◌+◌, ◌*◌, ℕ, suc, [], ◌∷◌, IfOk, OnOk, length, nat_eq, slice_index};
 ghost use Rattle.circuit_list.specs.Gates.{IsFine};
 ghost use Rattle.indexmap.specs.IndexSet.{insert_all};
 ghost use Rattle.path_parity.specs.NamedSums.{seen_after, unseen};
-ghost use Rattle.trace_check.specs.Names.{counts, number, seen_last, variable, variables};
+ghost use Rattle.trace_check.specs.Names.{counts, number_by, seen_last, variable, variables_of};
 
 use circuit_list::{Circuit, Gate};
 use indexmap::IndexSet;
@@ -41,7 +41,7 @@ pub(crate) fn next_variable(seen: u64, wires: u32, q: u32) -> Result<(u64, u64),
 
 /// The number of an H's variable: the first numbers are those of the wires, and then come the names in order, and what is none.
 pub(crate) fn number(names: &IndexSet<u64>, wires: u32, variable: u64) -> Result<u64, AllocError>
-    ensures { IfOk result (λ u. u ≡ number wires names.now.keys variable) }
+    ensures { IfOk result (λ u. u ≡ number_by wires names.now.keys variable) }
 {
     let place = names.get_index_of(&variable).unwrap_or(names.len());
     match u64::from(wires).checked_add(place as u64) {
@@ -73,7 +73,7 @@ fn note_name(
     Ok(())
 }
 
-/// Puts the variables of a circuit's H behind the names, those that aren't there, and tells how many H stand on each wire.
+/// Puts the variables_of of a circuit's H behind the names, those that aren't there, and tells how many H stand on each wire.
 pub(crate) fn note_names(
     alloc: Global,
     names: &mut IndexSet<u64>,
@@ -81,7 +81,7 @@ pub(crate) fn note_names(
 ) -> Result<Vec<u64>, AllocError>
     ensures wires { IfOk result (λ v. length v.items ≡ body.now.wires) }
     ensures seen { IfOk result (λ v. counts v.items ≡ seen_last body.now.gates unseen) }
-    ensures names { OnOk result (names.new.keys ≡ insert_all nat_eq names.old.keys (variables body.now.wires body.now.gates unseen)) }
+    ensures names { OnOk result (names.new.keys ≡ insert_all nat_eq names.old.keys (variables_of body.now.wires body.now.gates unseen)) }
 {
     let mut seen = first_counts(alloc, body.wires())?;
     'gates: for place in 0..body.len() {

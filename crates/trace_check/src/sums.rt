@@ -12,7 +12,7 @@ ghost use Rattle.path_parity.specs.LabelWalks.{labels_of_list};
 ghost use Rattle.path_parity.specs.PathSum.{own_labels};
 ghost use Rattle.path_parity.specs.Sets.{IsLabel, IsPacked, label_of, set_of};
 ghost use Rattle.rewrite_pass.specs.Traces.{constants_turn};
-ghost use Rattle.trace_check.specs.Names.{number, term_by};
+ghost use Rattle.trace_check.specs.Names.{number_by, term_by};
 ghost use Rattle.trace_check.specs.Sums.{Adds, AddsKnown, AreRows, IsSameWalk, IsWalked, Passes, befores, compact, is_sparse, labels_in, mark, seen_in, sparse};
 
 use crate::names::{first_counts, next_variable, note_names, number};
@@ -26,7 +26,7 @@ use std::mem::swap;
 /// What stands before a sparse row: no row of a set begins with it.
 const MARK: u64 = u64::MAX;
 
-/// What stands on each set of variables, the set by its compact row, and on none, both modulo 8.
+/// What stands on each set of variables_of, the set by its compact row, and on none, both modulo 8.
 #[derive(Drop)]
 struct Totals {
     sets: IndexMap<Vec<u64>, u8>,
@@ -182,9 +182,9 @@ impl Walk {
         sign: u8,
     ) -> Result<(), AllocError>
         requires { q < self.old.wires }
-        ensures passes { OnOk result (Passes (number self.old.wires names.now.keys) (H q) self.old self.new) }
+        ensures passes { OnOk result (Passes (number_by self.old.wires names.now.keys) (H q) self.old self.new) }
         ensures adds { OnOk result (Adds sign
-            (term_by self.old.wires (number self.old.wires names.now.keys) (H q) (labels_in self.old) (seen_in self.old)) 0 totals.old totals.new) }
+            (term_by self.old.wires (number_by self.old.wires names.now.keys) (H q) (labels_in self.old) (seen_in self.old)) 0 totals.old totals.new) }
     {
         let (seen, variable) = next_variable(self.seen[q as usize], self.wires, q)?;
         let fresh = number(names, self.wires, variable)?;
@@ -210,9 +210,9 @@ impl Walk {
         sign: u8,
     ) -> Result<(), AllocError>
         requires { IsFine self.old.wires gate }
-        ensures passes { OnOk result (Passes (number self.old.wires names.now.keys) gate self.old self.new) }
+        ensures passes { OnOk result (Passes (number_by self.old.wires names.now.keys) gate self.old self.new) }
         ensures adds { OnOk result (Adds sign
-            (term_by self.old.wires (number self.old.wires names.now.keys) gate (labels_in self.old) (seen_in self.old))
+            (term_by self.old.wires (number_by self.old.wires names.now.keys) gate (labels_in self.old) (seen_in self.old))
             (constant_at gate (labels_in self.old)) totals.old totals.new) }
     {
         match gate {
@@ -362,7 +362,7 @@ fn walked(
     body: &Circuit,
     sign: u8,
 ) -> Result<Walk, AllocError>
-    ensures { IfOk result (λ w. IsWalked body.now.wires (number body.now.wires names.now.keys) body.now.gates sign totals.old totals.new w) }
+    ensures { IfOk result (λ w. IsWalked body.now.wires (number_by body.now.wires names.now.keys) body.now.gates sign totals.old totals.new w) }
 {
     let mut walk = Walk::new(alloc, body.wires())?;
     'gates: for place in 0..body.len() {

@@ -4,7 +4,7 @@ use Rattle.std.specs.Prelude.{nat_eq}
 use Rattle.std.proofs.Math.Path.{fun_ext}
 use Rattle.indexmap.specs.IndexSet.{insert_all}
 use Rattle.path_parity.specs.NamedSums.{seen_after, unseen}
-use Rattle.trace_check.specs.Names.{counts, seen_last, variable, variables}
+use Rattle.trace_check.specs.Names.{counts, seen_last, variable, variables_of}
 use Rattle.trace_check.proofs.CountLaws.{noted-end, noted-more, seen-end, seen-more, written-back}
 use Rattle.trace_check.proofs.names.note_names.Goals as goal
 
@@ -14,7 +14,7 @@ gates-init c =
     record {
       wires = c.in_ok-seen.ensures.wires ∙ c.wires.ensures.wires;
       seen = ap (seen_last c.args.body.now.gates) none;
-      names = ap (λ s. insert_all nat_eq c.args.names.now.keys (variables c.args.body.now.wires c.args.body.now.gates s)) none;
+      names = ap (λ s. insert_all nat_eq c.args.names.now.keys (variables_of c.args.body.now.wires c.args.body.now.gates s)) none;
     }
 
 pub gates-preserved : goal.gates-preserved
@@ -31,7 +31,7 @@ gates-preserved c =
     record {
       wires = ap length back ∙ long ∙ c.gates.invariant.wires;
       seen = seen-more gs c.gates.place g (counts c.gates.seen.items) (counts after) (seen_last gs unseen) c.gate.ensures.there seen c.gates.invariant.seen;
-      names = noted-more n gs c.gates.place g c.gates.names.keys c.note_name.new.names.keys (insert_all nat_eq c.args.names.now.keys (variables n gs unseen)) (counts c.gates.seen.items) (counts after)
+      names = noted-more n gs c.gates.place g c.gates.names.keys c.note_name.new.names.keys (insert_all nat_eq c.args.names.now.keys (variables_of n gs unseen)) (counts c.gates.seen.items) (counts after)
           c.gate.ensures.there seen (c.in_ok-note_name.ensures.names ∙ (λ i. insert_all nat_eq c.gates.names.keys (variable (c.wires-in-gates.ensures.wires i) g (counts (here i))))) c.gates.invariant.names;
     }
 
@@ -39,4 +39,4 @@ pub returns-clause-seen : goal.returns-clause-seen
 returns-clause-seen c = seen-end c.args.body.now.gates c.gates.place (counts c.gates.seen.items) (seen_last c.args.body.now.gates unseen) (omega arith) c.gates.invariant.seen
 
 pub returns-clause-names : goal.returns-clause-names
-returns-clause-names c = noted-end c.args.body.now.wires c.args.body.now.gates c.gates.place c.gates.names.keys (insert_all nat_eq c.args.names.now.keys (variables c.args.body.now.wires c.args.body.now.gates unseen)) (counts c.gates.seen.items) (omega arith) c.gates.invariant.names
+returns-clause-names c = noted-end c.args.body.now.wires c.args.body.now.gates c.gates.place c.gates.names.keys (insert_all nat_eq c.args.names.now.keys (variables_of c.args.body.now.wires c.args.body.now.gates unseen)) (counts c.gates.seen.items) (omega arith) c.gates.invariant.names

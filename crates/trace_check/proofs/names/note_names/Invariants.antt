@@ -3,12 +3,12 @@ use Rattle.std.proofs.Common.{◌≡◌, drop, length}
 use Rattle.std.specs.Prelude.{nat_eq}
 use Rattle.indexmap.specs.IndexSet.{insert_all}
 use Rattle.path_parity.specs.NamedSums.{unseen}
-use Rattle.trace_check.specs.Names.{counts, seen_last, variables}
+use Rattle.trace_check.specs.Names.{counts, seen_last, variables_of}
 use Rattle.trace_check.proofs.names.note_names.Given as goal
 
 abbrev pub invariant-gates : goal.invariant-gates
 invariant-gates l = record {
   wires : length l.seen.items ≡ l.body.wires;
   seen : seen_last (drop l.place l.body.gates) (counts l.seen.items) ≡ seen_last l.body.gates unseen;
-  names : insert_all nat_eq l.names.keys (variables l.body.wires (drop l.place l.body.gates) (counts l.seen.items)) ≡ insert_all nat_eq l.initial.names.keys (variables l.body.wires l.body.gates unseen);
+  names : insert_all nat_eq l.names.keys (variables_of l.body.wires (drop l.place l.body.gates) (counts l.seen.items)) ≡ insert_all nat_eq l.initial.names.keys (variables_of l.body.wires l.body.gates unseen);
 }

@@ -5,7 +5,7 @@ use Rattle.std.specs.Cmp.Lexicographic.{bytes_decides}
 use Rattle.circuit_list.specs.Gates.{IsFine}
 use Rattle.indexmap.specs.IndexSet.{insert_all}
 use Rattle.path_parity.specs.NamedSums.{unseen}
-use Rattle.trace_check.specs.Names.{number, variables}
+use Rattle.trace_check.specs.Names.{number_by, variables_of}
 use Rattle.trace_check.specs.Sums.{IsWalked}
 use Rattle.trace_check.proofs.CountLaws.{same-counts}
 use Rattle.trace_check.proofs.NamingLaws.{named-both}
@@ -24,9 +24,9 @@ returns-then-are_none c =
     let a = c.in_ok-before.before in
     let b = c.in_ok-after.after in
     let names = c.note_names-2.new.names.keys in
-    let more : names ≡ insert_all nat_eq c.note_names.new.names.keys (variables n B unseen) = c.in_ok-second.ensures.names ∙ (λ i. insert_all nat_eq c.note_names.new.names.keys (variables (sym c.requires.wires i) B unseen)) in
-    let named = named-both c.new-names.result.keys c.note_names.new.names.keys names (variables n A unseen) (variables n B unseen) c.in_ok-first.ensures.names more in
-    let second : IsWalked n (number n names) B 1 one two b = subst (λ k. IsWalked k (number k names) B 1 one two b) (sym c.requires.wires) c.in_ok-after.ensures in
+    let more : names ≡ insert_all nat_eq c.note_names.new.names.keys (variables_of n B unseen) = c.in_ok-second.ensures.names ∙ (λ i. insert_all nat_eq c.note_names.new.names.keys (variables_of (sym c.requires.wires i) B unseen)) in
+    let named = named-both c.new-names.result.keys c.note_names.new.names.keys names (variables_of n A unseen) (variables_of n B unseen) c.in_ok-first.ensures.names more in
+    let second : IsWalked n (number_by n names) B 1 one two b = subst (λ k. IsWalked k (number_by k names) B 1 one two b) (sym c.requires.wires) c.in_ok-after.ensures in
     record {
       same = (
         same-sums n names A B named.0 named.1 none one two a b c.new-totals.ensures.sets c.new-totals.ensures.constant c.in_ok-before.ensures second (c.is_same.ensures.0 c.if-is_same.true) (c.are_none.ensures.0 c.if-are_none.true),
@@ -45,9 +45,9 @@ returns c =
     let a = c.in_ok-before.before in
     let b = c.in_ok-after.after in
     let names = c.note_names-2.new.names.keys in
-    let more : names ≡ insert_all nat_eq c.note_names.new.names.keys (variables n B unseen) = c.in_ok-second.ensures.names ∙ (λ i. insert_all nat_eq c.note_names.new.names.keys (variables (sym c.requires.wires i) B unseen)) in
-    let named = named-both c.new-names.result.keys c.note_names.new.names.keys names (variables n A unseen) (variables n B unseen) c.in_ok-first.ensures.names more in
-    let second : IsWalked n (number n names) B 1 one two b = subst (λ k. IsWalked k (number k names) B 1 one two b) (sym c.requires.wires) c.in_ok-after.ensures in
+    let more : names ≡ insert_all nat_eq c.note_names.new.names.keys (variables_of n B unseen) = c.in_ok-second.ensures.names ∙ (λ i. insert_all nat_eq c.note_names.new.names.keys (variables_of (sym c.requires.wires i) B unseen)) in
+    let named = named-both c.new-names.result.keys c.note_names.new.names.keys names (variables_of n A unseen) (variables_of n B unseen) c.in_ok-first.ensures.names more in
+    let second : IsWalked n (number_by n names) B 1 one two b = subst (λ k. IsWalked k (number_by k names) B 1 one two b) (sym c.requires.wires) c.in_ok-after.ensures in
     record {
       same = λ h. elim c.else-is_same.branch [
         | else-is_same-via-then-is_same+else-are_none w ↦

@@ -10,7 +10,7 @@ use Rattle.path_parity.specs.LabelWalks.{labels_of_list}
 use Rattle.path_parity.specs.NamedSums.{set_before}
 use Rattle.path_parity.specs.PathSum.{PathLabel, fresh}
 use Rattle.path_parity.specs.Sets.{IsLabel, IsPacked, label_of, set_of}
-use Rattle.trace_check.specs.Names.{number}
+use Rattle.trace_check.specs.Names.{number_by}
 use Rattle.trace_check.specs.Sums.{IsCompact, IsWalk, NamedWalk, Passes, befores, compact_set}
 use Rattle.trace_check.proofs.NameLaws.{IsWalk-had, absent, count-here, label-here, passes-h, viewed}
 use Rattle.trace_check.proofs.SparseLaws.{compact_set-compact}
@@ -69,8 +69,8 @@ returns-clause-passes c =
     let same_set : compact_set row.items ≡ (labels_of_list (map label_of a.labels.items) q).variables =
     ap compact_set c.in_ok-set.ensures ∙ compact_set-compact c.deref.result.now packed ∙ ap set_of c.deref.ensures.value ∙ ap (λ (l : PathLabel). l.variables) before in
     let names = c.args.names.now.keys in
-    subst (λ (old : NamedWalk). Passes (number old.wires names) (H q) old (viewed a.wires (set a.labels.items q c.swap.new.x) (set a.seen.items q c.in_ok-seen.seen) c.insert.new.self.entries)) c.self.view_is
-    (subst (λ es. Passes (number a.wires names) (H q) (viewed a.wires a.labels.items a.seen.items a.sets.entries) (viewed a.wires (set a.labels.items q c.swap.new.x) (set a.seen.items q c.in_ok-seen.seen) es)) (sym grown)
-    (subst (λ k. Passes (number a.wires names) (H q) (viewed a.wires a.labels.items a.seen.items a.sets.entries) (viewed a.wires (set a.labels.items q c.swap.new.x) (set a.seen.items q k) (a.sets.entries ++ (suc (get_or a.seen.items q 0) * a.wires + q, row) ∷ []))) (sym seen)
-    (passes-h a.wires (number a.wires names) a.labels.items a.seen.items a.sets.entries q c.swap.new.x row at counted
-    (ap label_of c.swap.ensures.x_after ∙ c.in_ok-write_fresh.ensures.label ∙ ap fresh (c.in_ok-fresh.ensures ∙ ap (number a.wires names) variable)) same_set)))
+    subst (λ (old : NamedWalk). Passes (number_by old.wires names) (H q) old (viewed a.wires (set a.labels.items q c.swap.new.x) (set a.seen.items q c.in_ok-seen.seen) c.insert.new.self.entries)) c.self.view_is
+    (subst (λ es. Passes (number_by a.wires names) (H q) (viewed a.wires a.labels.items a.seen.items a.sets.entries) (viewed a.wires (set a.labels.items q c.swap.new.x) (set a.seen.items q c.in_ok-seen.seen) es)) (sym grown)
+    (subst (λ k. Passes (number_by a.wires names) (H q) (viewed a.wires a.labels.items a.seen.items a.sets.entries) (viewed a.wires (set a.labels.items q c.swap.new.x) (set a.seen.items q k) (a.sets.entries ++ (suc (get_or a.seen.items q 0) * a.wires + q, row) ∷ []))) (sym seen)
+    (passes-h a.wires (number_by a.wires names) a.labels.items a.seen.items a.sets.entries q c.swap.new.x row at counted
+    (ap label_of c.swap.ensures.x_after ∙ c.in_ok-write_fresh.ensures.label ∙ ap fresh (c.in_ok-fresh.ensures ∙ ap (number_by a.wires names) variable)) same_set)))
