@@ -35,7 +35,7 @@ abbrev pub seen_last : List Gate → Seen → Seen
 seen_last [] s = s
 seen_last (g ∷ gs) s = seen_last gs (seen_after g s)
 
-abbrev pub number : ℕ → List ℕ → ℕ → ℕ
+abbrev pub number_by : ℕ → List ℕ → ℕ → ℕ
 number_by n names v = n + position_or_len (nat_eq v) names
 
 abbrev pub after_by : ℕ → (ℕ → ℕ) → Gate → Wires → Seen → Wires
