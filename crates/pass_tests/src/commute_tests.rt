@@ -1,11 +1,10 @@
 //! Rows worked by hand.
 
-use crate::rows::field;
 use circuit_list::Gate;
 use commute_rules::{Cancel, cancels, commute};
 use std::alloc::{AllocError, Global};
-use std::test::Fail;
 use test_circuits::gates_of_text;
+use test_rows::{Wrong, each_row, field};
 
 /// The two gates of a row, if they are two.
 fn pair(alloc: Global, row: &str) -> Result<Option<(Gate, Gate)>, AllocError> {
@@ -27,30 +26,27 @@ fn is_commuting(alloc: Global, row: &str) -> Result<bool, AllocError> {
 
 /// Two gates, and whether they commute.
 const PAIRS: &str = "\
-h.0 h.1 | yes
-h.0 1.1 | yes
-h.0 c12 | yes
-x.0 x.0 | yes
-1.0 1.0 | yes
-1.0 c01 | yes
-x.1 c01 | yes
-c01 c02 | yes
-c02 c12 | yes
-h.0 h.0 | no
-h.0 x.0 | no
-h.0 1.0 | no
-x.0 1.0 | no
-1.1 c01 | no
-x.0 c01 | no
-h.1 c01 | no
-c01 c10 | no";
+h.0 h.1|yes
+h.0 1.1|yes
+h.0 c12|yes
+x.0 x.0|yes
+1.0 1.0|yes
+1.0 c01|yes
+x.1 c01|yes
+c01 c02|yes
+c02 c12|yes
+h.0 h.0|no
+h.0 x.0|no
+h.0 1.0|no
+x.0 1.0|no
+1.1 c01|no
+x.0 c01|no
+h.1 c01|no
+c01 c10|no";
 
 #[test]
-fn commutes_by_the_table(rt: HostRuntime) -> Result<(), Fail> {
-    'rows: for row in PAIRS.split('\n') {
-        assert!(rt; is_commuting(rt.alloc(), row)?, "{row}");
-    }
-    Ok(())
+fn commutes_by_the_table(rt: HostRuntime) -> Result<(), Wrong> {
+    each_row(rt.alloc(), PAIRS, "\n", is_commuting)
 }
 
 /// The number behind a word, or one that no row has.
@@ -79,23 +75,20 @@ fn is_cancelled(alloc: Global, row: &str) -> Result<bool, AllocError> {
 
 /// Two gates, and what they are together: both gone with a turn, or merged to a phase.
 const NEIGHBOURS: &str = "\
-h.0 h.0 | both 6
-x.0 x.0 | both 4
-c01 c01 | both 0
-1.0 1.0 | merge 2
-1.0 7.0 | both 0
-5.0 6.0 | merge 3
-h.0 h.1 | no
-x.0 x.1 | no
-1.0 1.1 | no
-h.0 x.0 | no
-c01 c10 | no
-c01 c02 | no";
+h.0 h.0|both 6
+x.0 x.0|both 4
+c01 c01|both 0
+1.0 1.0|merge 2
+1.0 7.0|both 0
+5.0 6.0|merge 3
+h.0 h.1|no
+x.0 x.1|no
+1.0 1.1|no
+h.0 x.0|no
+c01 c10|no
+c01 c02|no";
 
 #[test]
-fn cancels_by_the_table(rt: HostRuntime) -> Result<(), Fail> {
-    'rows: for row in NEIGHBOURS.split('\n') {
-        assert!(rt; is_cancelled(rt.alloc(), row)?, "{row}");
-    }
-    Ok(())
+fn cancels_by_the_table(rt: HostRuntime) -> Result<(), Wrong> {
+    each_row(rt.alloc(), NEIGHBOURS, "\n", is_cancelled)
 }

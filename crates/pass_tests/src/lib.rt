@@ -1,8 +1,8 @@
-//! Tests of `path_parity`, `commute_rules`, `rewrite_pass` and the passes: rows by hand, and random circuits against plain walks
-//! and entries of matrices.
+//! Tests of `path_parity`, `commute_rules`, `rewrite_pass` and the passes: rows by hand.
 //!
-//! Each test function is proved too, so they stand in a crate of their own: these crates are proved once. What a test asserts is
-//! dear, so it asserts one bool a row, and what the bool says stands in small functions. Rows are lines of a text.
+//! Each test function is proved too, so they stand in a crate of their own: these crates are proved once. A proof is long for each
+//! assert in a loop, so a test hands its rows, the lines of a text, and the function that judges one of them to `each_row`.
+//! What all passes make of drawn programs is compared with plain ones by runs of the program, in `tools/tests/test_passes.py`.
 #![tactic(auto)]
 
 #[cfg(test)]

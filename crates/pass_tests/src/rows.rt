@@ -1,14 +1,10 @@
-//! The fields of a row, which stand apart by ` | `.
+//! Numbers and lines of a row.
 
-/// The field at a place, nothing for `-`.
-pub fn field(row: &str, at: usize) -> &str {
-    let field = row.split(" | ").nth(at).unwrap_or("none");
-    if field == "-" { "" } else { field }
-}
+use test_rows::{field, is_line, small};
 
-/// The number at a place, or one that no row has.
+/// The number in the field at an index.
 pub fn number(row: &str, at: usize) -> u32 {
-    field(row, at).parse::<u32>().unwrap_or(7777)
+    small(field(row, at), 0)
 }
 
 /// A row's first line, and the lines below it.
@@ -18,8 +14,5 @@ pub fn lines_below(row: &str) -> (&str, &str) {
 
 /// Whether bytes are these lines, each with its break.
 pub fn are_lines(bytes: &[u8], lines: &str) -> bool {
-    match bytes.split_last() {
-        Some((last, rest)) => *last == b'\n' && rest == lines.as_bytes(),
-        None => lines.is_empty(),
-    }
+    is_line(bytes, lines) || (bytes.is_empty() && lines.is_empty())
 }

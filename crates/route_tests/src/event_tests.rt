@@ -1,25 +1,46 @@
-//! The events that the router tells: worked rows, and a plain replay of them.
+//! The events that the router tells, by hand. What it writes of drawn circuits, and its events, are compared with a plain routing
+//! machine in `tools/tests/test_routing.py`, and from a given placement there is a row in `cases/initial.txt`.
 
-use crate::plain::Plain;
-use crate::router_tests::{KINDS, exchanged, routes_alike};
 use circuit_list::Circuit;
 use coupling_map::{Device, DeviceError, read_device};
 use placement::Placement;
 use sabre_route::{Event, route_traced};
 use std::alloc::{AllocError, Global};
-use test_circuits::{Random, circuit_of_text, gates_of};
-use test_rows::{Wrong, each_row, field, small};
+use test_circuits::circuit_of_text;
+use test_rows::{Wrong, each_row, field, small, word};
 
-/// Some events, each behind a space, as ` e1` and ` s0,1`.
-fn shown(alloc: Global, events: &[Event]) -> Result<String, AllocError> {
-    let mut text = String::new(alloc);
-    'events: for event in events {
-        match *event {
-            Event::Emit { place } => write!(text, " e{place}")?,
-            Event::Swap { a, b } => write!(text, " s{a},{b}")?,
+/// The number of a text, or one that no row has.
+fn number_of(text: &str) -> u32 {
+    text.parse::<u32>().unwrap_or(7777)
+}
+
+/// Whether an event is that of a word, as `e1` or `s0,1`.
+fn is_event(event: &Event, word: &str) -> bool {
+    match *event {
+        Event::Emit { place } => {
+            place == number_of(word.strip_prefix('e').unwrap_or("none")) as usize
+        }
+        Event::Swap { a, b } => {
+            let pair = word.strip_prefix('s').unwrap_or("none");
+            let (first, second) = pair.split_once(',').unwrap_or(("", ""));
+            a == number_of(first) && b == number_of(second)
         }
     }
-    Ok(text)
+}
+
+/// Whether events are those of some words.
+fn are_events(events: &[Event], words: &str) -> bool {
+    'events: for (at, event) in events.iter().enumerate() {
+        if !is_event(event, word(words, at)) {
+            return false;
+        }
+    }
+    let count = if words.is_empty() {
+        0
+    } else {
+        words.split(' ').count()
+    };
+    events.len() == count
 }
 
 /// Whether the events of a circuit on a device, from the identity on, are these.
@@ -34,8 +55,7 @@ fn tells(
         return Ok(false);
     }
     let (_routed, events) = route_traced(alloc, circuit, device, given)?;
-    let told = shown(alloc, &events)?;
-    Ok(told.as_str().strip_prefix(' ').unwrap_or("") == wanted)
+    Ok(are_events(&events, wanted))
 }
 
 fn is_told(alloc: Global, row: &str) -> Result<bool, DeviceError> {
@@ -49,7 +69,8 @@ fn is_told(alloc: Global, row: &str) -> Result<bool, DeviceError> {
 
 /// Wires, gates, and events on the device below; a colon is wire 10. Places are counted among the gates that are left; the lesser
 /// qubit of the best swap is told first, whichever way its CNOTs go; a walk's swap is told from where it goes: in the fourth row the
-/// thirteenth.
+/// thirteenth. In the last row all CNOTs are on one wire, so all of the extended set are on its qubit; its events are those of the
+/// plain routing machine.
 const EVENTS: &str = "\
 3|c02 h.1 x.2|e1 s0,1 e0 e0
 qubits = 3
@@ -69,74 +90,15 @@ edges = [[0,1],[1,2],[2,3],[3,4],[4,5],[5,6],[6,7],[7,8],[8,9],[9,10],[10,11]]
 
 2||
 qubits = 2
-edges = [[0, 1]]";
+edges = [[0, 1]]
+
+5|c04 c03 c02 c01 c04 c03 c02 c01 c04 c03 c02 c01 c04 c03 c02 c01 c04 c03 c02 c01 c04 c03 c02 c01 c04|\
+s0,1 s1,2 s3,4 e0 s3,4 e0 e0 s0,1 e0 s3,4 e0 s3,4 e0 s0,1 e0 s0,1 e0 s3,4 e0 s3,4 e0 s0,1 e0 s0,1 e0 s3,4 e0 s3,4 e0 \
+s0,1 e0 s0,1 e0 s3,4 e0 s3,4 e0 s0,1 e0 s0,1 e0 s3,4 e0 s3,4 e0 s0,1 e0 s0,1 e0 s2,3 e0
+qubits = 5
+edges = [[0, 1], [1, 2], [2, 3], [3, 4]]";
 
 #[test]
 fn tells_worked_rows(rt: HostRuntime) -> Result<(), Wrong> {
     each_row(rt.alloc(), EVENTS, "\n\n", is_told)
-}
-
-/// Whether a plain replay of the told events gives what the router writes, and the router the same without telling.
-fn replays_alike(
-    alloc: Global,
-    device: &Device,
-    circuit: &Circuit,
-    given: Placement,
-) -> Result<bool, AllocError> {
-    if given.size() != device.size() || circuit.wires() > device.size() {
-        return Ok(false);
-    }
-    let gates = gates_of(alloc, circuit)?;
-    let mut plain = Plain::start(alloc, &gates, given.qubits())?;
-    let (routed, events) = route_traced(alloc, circuit, device, given)?;
-    Ok(plain.replay(device, &events)? && plain.wrote(alloc, &routed)?)
-}
-
-/// Whether the events of a drawn circuit are replayed.
-fn agree(
-    alloc: Global,
-    device: &Device,
-    random: &mut Random,
-    number: u32,
-) -> Result<bool, AllocError> {
-    // it says how many wires are the most
-    device.facts();
-    let size = device.size();
-    if size < 2 {
-        return Ok(false);
-    }
-    let circuit = random.circuit(alloc, size, &KINDS, 60)?;
-    let given = exchanged(alloc, size, number)?;
-    Ok(
-        replays_alike(alloc, device, &circuit, given)?
-            && routes_alike(alloc, device, &circuit, exchanged(alloc, size, number)?)?,
-    )
-}
-
-/// The same of twenty circuits on the device of a text.
-fn agree_on(alloc: Global, text: &str) -> Result<bool, DeviceError> {
-    let device = read_device(alloc, text.as_bytes())?;
-    let mut random = Random::from_start(2);
-    'circuits: for number in 0..20u32 {
-        if !agree(alloc, &device, &mut random, number)? {
-            return Ok(false);
-        }
-    }
-    Ok(true)
-}
-
-const DEVICES: &str = "\
-qubits = 6
-edges = [[0, 1], [2, 1], [2, 3], [4, 3], [4, 5], [5, 0]]
-
-qubits = 5
-edges = [[0, 1], [0, 2], [0, 3], [0, 4]]
-
-format = 2
-qubits = 5
-edges = [[0, 1, 1], [1, 2, 9], [2, 3, 2], [3, 4, 40], [4, 0, 3]]";
-
-#[test]
-fn tells_what_a_plain_replay_writes(rt: HostRuntime) -> Result<(), Wrong> {
-    each_row(rt.alloc(), DEVICES, "\n\n", agree_on)
 }

@@ -1,7 +1,9 @@
-//! Tests of `placement`, `coupling_map` and `sabre_route`: worked circuits and devices, and the router against the plain machine.
+//! Tests of `placement`, `coupling_map` and `sabre_route`: worked devices, exchanges and events.
 //!
 //! Each test function is proved too, so they stand in a crate of their own: these crates are proved once. A proof is
 //! long for each assert in a loop, so a test hands its rows and the function that judges one of them to `each_row`.
+//! What a run of the program shows is not here: `cases/route.txt` and `cases/initial.txt` have worked routes, and
+//! `tools/tests/test_routing.py` compares routes of drawn circuits with a plain routing machine.
 #![tactic(auto)]
 
 #[cfg(test)]
@@ -10,7 +12,3 @@ mod device_tests;
 mod event_tests;
 #[cfg(test)]
 mod placement_tests;
-#[cfg(test)]
-mod plain;
-#[cfg(test)]
-mod router_tests;

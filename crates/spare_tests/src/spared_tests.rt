@@ -5,8 +5,8 @@ ghost use Rattle.std.specs.Prelude.{◌≡◌};
 use circuit_list::{Circuit, Gate};
 use spare_layers::with_spares;
 use std::alloc::{AllocError, Global};
-use std::test::Fail;
 use test_circuits::{Kind, Random, circuit_of_text, gates_of, gates_of_text};
+use test_rows::{Wrong, each_row, field, small};
 
 /// The gates of a circuit, those with spares, and the turn.
 #[derive(Drop)]
@@ -17,7 +17,7 @@ struct Spared {
 }
 
 /// Those of the circuit of a text on three wires, if it is one.
-fn of_text(alloc: Global, text: &str, spares: u8) -> Result<Option<Spared>, AllocError> {
+fn of_text(alloc: Global, text: &str, spares: u32) -> Result<Option<Spared>, AllocError> {
     let Some(body) = circuit_of_text(alloc, 3, text)? else {
         return Ok(None);
     };
@@ -26,11 +26,11 @@ fn of_text(alloc: Global, text: &str, spares: u8) -> Result<Option<Spared>, Allo
 }
 
 /// Those of a circuit.
-fn made(alloc: Global, body: &Circuit, spares: u8) -> Result<Spared, AllocError>
+fn made(alloc: Global, body: &Circuit, spares: u32) -> Result<Spared, AllocError>
     requires { body.now.wires ≡ 3 }
 {
     let before = gates_of(alloc, body)?;
-    let passed = with_spares(alloc, spares as u32 % 100, body)?;
+    let passed = with_spares(alloc, spares % 100, body)?;
     let after = gates_of(alloc, &passed.body)?;
     Ok(Spared {
         before,
@@ -95,36 +95,39 @@ fn blocks(gates: &[Gate]) -> u32 {
 /// it is, with phases at five places.
 const SEVEN_SUMS: &str = "1.0 1.1 1.2 c01 7.1 c12 1.2 c01 c12 7.2 c12 c02 7.2 x.1 c02";
 
-/// Whether the gates of the seven sums do the same with so many spares, in so many blocks.
-fn is_spared(alloc: Global, spares: u8, count: u32) -> Result<bool, AllocError> {
-    match of_text(alloc, SEVEN_SUMS, spares)? {
-        Some(lists) => Ok(is_same(&lists) && blocks(&lists.after) == count),
+/// Whether the gates of the seven sums do the same with the spares of a row, in as many blocks as it says.
+fn is_spared(alloc: Global, row: &str) -> Result<bool, AllocError> {
+    match of_text(alloc, SEVEN_SUMS, small(row, 0))? {
+        Some(lists) => Ok(is_same(&lists) && blocks(&lists.after) == small(row, 1)),
         None => Ok(false),
     }
 }
 
 #[test]
-fn seven_sums(rt: HostRuntime) -> Result<(), Fail> {
-    'rows: for (spares, count) in [(4u8, 1u32), (3, 2), (0, 5)] {
-        assert!(rt;
-            is_spared(rt.alloc(), spares, count)?,
-            "with {spares} spares"
-        );
+fn seven_sums(rt: HostRuntime) -> Result<(), Wrong> {
+    each_row(rt.alloc(), "4 1|3 2|0 5", "|", is_spared)
+}
+
+/// Whether the gates of a row become its others with four spares, and turn nothing.
+fn is_kept(alloc: Global, row: &str) -> Result<bool, AllocError> {
+    let expected = gates_of_text(alloc, field(row, 1))?;
+    match of_text(alloc, field(row, 0), 4)? {
+        Some(lists) => Ok(lists.after.as_slice() == expected.as_slice() && lists.turn == 0),
+        None => Ok(false),
     }
-    Ok(())
 }
 
 /// A layer with one sum needs no spare: it stays, with its H after the gates that they don't stop.
 #[test]
-fn kept_layers(rt: HostRuntime) -> Result<(), Fail> {
-    let lists = of_text(rt.alloc(), "1.0 c01 h.1 1.1 x.2", 4)?.ok_or("no circuit")?;
-    let expected = gates_of_text(rt.alloc(), "1.0 c01 x.2 h.1 1.1")?;
-    assert!(rt; lists.after.as_slice() == expected.as_slice() && lists.turn == 0);
-    Ok(())
+fn kept_layers(rt: HostRuntime) -> Result<(), Wrong> {
+    let row = "1.0 c01 h.1 1.1 x.2|1.0 c01 x.2 h.1 1.1";
+    each_row(rt.alloc(), row, "\n", is_kept)
 }
 
-/// Whether forty drawn circuits without H do the same on the bits with so many spares.
-fn are_same(alloc: Global, random: &mut Random, spares: u8) -> Result<bool, AllocError> {
+/// Whether forty drawn circuits without H, from a start, do the same on the bits with as many spares.
+fn are_same(alloc: Global, start: &str) -> Result<bool, AllocError> {
+    let spares = small(start, 0);
+    let mut random = Random::from_start(u64::from(spares));
     for _ in 0..40 {
         let body = random.circuit(alloc, 3, &[Kind::P, Kind::Cx, Kind::P, Kind::X], 24)?;
         if !is_same(&made(alloc, &body, spares)?) {
@@ -135,13 +138,6 @@ fn are_same(alloc: Global, random: &mut Random, spares: u8) -> Result<bool, Allo
 }
 
 #[test]
-fn drawn_circuits(rt: HostRuntime) -> Result<(), Fail> {
-    let mut random = Random::from_start(7);
-    'spares: for spares in 1u8..5 {
-        assert!(rt;
-            are_same(rt.alloc(), &mut random, spares)?,
-            "with {spares} spares"
-        );
-    }
-    Ok(())
+fn drawn_circuits(rt: HostRuntime) -> Result<(), Wrong> {
+    each_row(rt.alloc(), "1 2 3 4", " ", are_same)
 }
