@@ -1,9 +1,9 @@
-//! Ends of the system, call by call: devices and files.
+//! Ends of the system, call by call: devices and files, and a writer that takes every byte and then can't flush them.
 
 use outside_io::{
     DirShelf, Failed, LoadFault, Shelf, Sink, Source, StdSink, StdSource, read_all, send,
 };
-use std::io::Read;
+use std::io::{Read, Write};
 use std::test::Fail;
 use std::{fs, io};
 
@@ -48,6 +48,25 @@ fn writes_devices(rt: HostRuntime) -> Result<(), Fail> {
     send(&mut StdSink::new(rt.stderr()), b"".as_slice())?;
     assert!(rt; is_full && is_sent);
     Ok(())
+}
+
+#[derive(Drop)]
+struct Unflushed;
+
+impl Write for Unflushed {
+    fn write(&mut self, buf: &[u8]) -> io::Result<usize> {
+        Ok(buf.len())
+    }
+
+    fn flush(&mut self) -> io::Result<()> {
+        Err(io::Error::from(io::ErrorKind::Other))
+    }
+}
+
+/// What is sent is flushed through the object of the system too. Standard output itself keeps nothing back, so no run could show it.
+#[test]
+fn tells_a_flush_that_fails(rt: HostRuntime) {
+    assert!(rt; !sends(&mut StdSink::new(Unflushed)));
 }
 
 /// The name of an answer to a load.
