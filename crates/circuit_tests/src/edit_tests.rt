@@ -3,10 +3,8 @@
 use crate::circuits::has_gates;
 use circuit_list::{Circuit, Gate};
 use std::alloc::{AllocError, Global};
-use std::test::Fail;
 use test_circuits::circuit_of_text;
-
-const GATES: &str = "h.0 1.2 c02 2.1 7.1 x.1";
+use test_rows::{Wrong, each_row};
 
 /// Whether a circuit has these counts.
 fn is_counted(circuit: &Circuit) -> bool {
@@ -17,23 +15,9 @@ fn is_counted(circuit: &Circuit) -> bool {
         && circuit.count_h() == 1
 }
 
-#[test]
-fn counts_its_gates(rt: HostRuntime) -> Result<(), Fail> {
-    let circuit = circuit_of_text(rt.alloc(), 3, GATES)?.ok_or("no circuit")?;
-    assert!(rt; is_counted(&circuit));
-    Ok(())
-}
-
 /// Whether a circuit on three wires has the gates of a text, and so many.
 fn is_of(alloc: Global, circuit: &Circuit, text: &str, gates: usize) -> Result<bool, AllocError> {
     Ok(has_gates(alloc, circuit, text)? && circuit.len() == gates && circuit.wires() == 3)
-}
-
-#[test]
-fn copies_a_circuit(rt: HostRuntime) -> Result<(), Fail> {
-    let circuit = circuit_of_text(rt.alloc(), 3, GATES)?.ok_or("no circuit")?;
-    assert!(rt; is_of(rt.alloc(), &circuit.copy()?, GATES, 6)?);
-    Ok(())
 }
 
 /// Takes the second gate out, if there is one.
@@ -69,18 +53,22 @@ fn is_replaced(alloc: Global, circuit: &Circuit) -> Result<bool, AllocError> {
     )
 }
 
-#[test]
-fn removes_from_a_copy(rt: HostRuntime) -> Result<(), Fail> {
-    let circuit = circuit_of_text(rt.alloc(), 3, GATES)?.ok_or("no circuit")?;
-    assert!(rt; is_removed(rt.alloc(), &circuit)?);
-    Ok(())
+/// Whether a circuit of some gates is counted, copied, and edited in copies of it.
+fn is_edited(alloc: Global, gates: &str) -> Result<bool, AllocError> {
+    let Some(circuit) = circuit_of_text(alloc, 3, gates)? else {
+        return Ok(false);
+    };
+    Ok(
+        is_counted(&circuit)
+            && is_of(alloc, &circuit.copy()?, gates, 6)?
+            && is_removed(alloc, &circuit)?
+            && is_replaced(alloc, &circuit)?,
+    )
 }
 
 #[test]
-fn replaces_in_a_copy(rt: HostRuntime) -> Result<(), Fail> {
-    let circuit = circuit_of_text(rt.alloc(), 3, GATES)?.ok_or("no circuit")?;
-    assert!(rt; is_replaced(rt.alloc(), &circuit)?);
-    Ok(())
+fn counts_copies_and_edits(rt: HostRuntime) -> Result<(), Wrong> {
+    each_row(rt.alloc(), "h.0 1.2 c02 2.1 7.1 x.1", "\n", is_edited)
 }
 
 #[test]

@@ -3,8 +3,7 @@
 use crate::circuits::{first_slots, has_gates, put, slot_at};
 use circuit_list::{Circuit, Gate, Slot};
 use std::alloc::{AllocError, Global};
-use std::test::Fail;
-use test_rows::number;
+use test_rows::{Wrong, each_row, number};
 
 /// H on wire 1, 300 times X on wire 0, H on wire 1 and X on wire 0; linked after the first gate, or not.
 fn fill(circuit: &mut Circuit, is_linked: bool) -> Result<(), AllocError> {
@@ -40,12 +39,13 @@ fn is_found(circuit: &Circuit) -> bool {
         && circuit.prev_on(far, far_wire) == Some(first)
 }
 
+fn are_found(alloc: Global, how: &str) -> Result<bool, AllocError> {
+    Ok(is_found(&far_apart(alloc, how == "linked")?))
+}
+
 #[test]
-fn finds_gates_far_away(rt: HostRuntime) -> Result<(), Fail> {
-    'links: for is_linked in [false, true] {
-        assert!(rt; is_found(&far_apart(rt.alloc(), is_linked)?), "{is_linked}");
-    }
-    Ok(())
+fn finds_gates_far_away(rt: HostRuntime) -> Result<(), Wrong> {
+    each_row(rt.alloc(), "linked free", " ", are_found)
 }
 
 /// The same with all but the first and the last X taken out.
@@ -71,16 +71,14 @@ fn is_closed(circuit: &Circuit, slots: &[Slot]) -> bool {
         && circuit.before(far) == Some(second)
 }
 
+fn are_closed(alloc: Global, how: &str) -> Result<bool, AllocError> {
+    let slots = first_slots(alloc, 302)?;
+    Ok(is_closed(&hollow(alloc, how == "linked")?, &slots))
+}
+
 #[test]
-fn tells_gates_past_empty_slots(rt: HostRuntime) -> Result<(), Fail> {
-    let slots = first_slots(rt.alloc(), 302)?;
-    'links: for is_linked in [false, true] {
-        assert!(rt;
-            is_closed(&hollow(rt.alloc(), is_linked)?, &slots),
-            "{is_linked}"
-        );
-    }
-    Ok(())
+fn tells_gates_past_empty_slots(rt: HostRuntime) -> Result<(), Wrong> {
+    each_row(rt.alloc(), "linked free", " ", are_closed)
 }
 
 /// Whether the first gate from a slot on is at the place that a row has for it.
@@ -100,25 +98,37 @@ const FROM: &str = "\
 303 -
 69999 -";
 
-#[test]
-fn finds_gates_past_empty_slots(rt: HostRuntime) -> Result<(), Fail> {
-    let slots = first_slots(rt.alloc(), 70_000)?;
-    'links: for is_linked in [false, true] {
-        let circuit = hollow(rt.alloc(), is_linked)?;
-        'rows: for row in FROM.split('\n') {
-            assert!(rt; is_first_from(&circuit, &slots, row), "{row}");
+/// Whether that is so of each row.
+fn are_first_from(alloc: Global, how: &str) -> Result<bool, AllocError> {
+    let slots = first_slots(alloc, 70_000)?;
+    let circuit = hollow(alloc, how == "linked")?;
+    'rows: for row in FROM.split('\n') {
+        if !is_first_from(&circuit, &slots, row) {
+            return Ok(false);
         }
     }
-    Ok(())
+    Ok(true)
 }
 
 #[test]
-fn drops_empty_slots(rt: HostRuntime) -> Result<(), Fail> {
-    let slots = first_slots(rt.alloc(), 4)?;
-    let mut circuit = hollow(rt.alloc(), true)?;
+fn finds_gates_past_empty_slots(rt: HostRuntime) -> Result<(), Wrong> {
+    each_row(rt.alloc(), "linked free", " ", are_first_from)
+}
+
+/// Whether the gates that are left are those of a text once empty slots are dropped, the last with the last of as many slots.
+fn is_compact(alloc: Global, gates: &str) -> Result<bool, AllocError> {
+    let slots = first_slots(alloc, 4)?;
+    let mut circuit = hollow(alloc, true)?;
     circuit.compact()?;
-    let is_same = has_gates(rt.alloc(), &circuit, "h.1 x.0 h.1 x.0")?;
-    assert!(rt; is_same && circuit.len() == 4 && circuit.wires() == 2);
-    assert!(rt; slot_at(&circuit, 3) == slots.last().copied());
-    Ok(())
+    Ok(
+        has_gates(alloc, &circuit, gates)?
+            && circuit.len() == 4
+            && circuit.wires() == 2
+            && slot_at(&circuit, 3) == slots.last().copied(),
+    )
+}
+
+#[test]
+fn drops_empty_slots(rt: HostRuntime) -> Result<(), Wrong> {
+    each_row(rt.alloc(), "h.1 x.0 h.1 x.0", "\n", is_compact)
 }

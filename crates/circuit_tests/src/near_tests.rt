@@ -2,9 +2,9 @@
 
 use crate::circuits::slot_at;
 use circuit_list::{Circuit, Gate};
-use std::test::Fail;
+use std::alloc::{AllocError, Global};
 use test_circuits::{circuit_of, circuit_of_text};
-use test_rows::{number, word};
+use test_rows::{Wrong, each_row, field, number, word};
 
 /// Whether the next and the last gate on a wire are those of a row: the place of a gate, which of its wires, and the places of
 /// the next and of the last gate on it.
@@ -28,18 +28,14 @@ fn is_near(circuit: &Circuit, row: &str) -> bool {
     }
 }
 
-const NEAR: &str = "\
-0 first 1 -
-1 second 2 -
-2 first - 1";
-
-#[test]
-fn finds_the_next_gate_on_a_wire(rt: HostRuntime) -> Result<(), Fail> {
-    let circuit = circuit_of_text(rt.alloc(), 2, "h.0 c01 1.1")?.ok_or("no circuit")?;
-    'rows: for row in NEAR.split('\n') {
-        assert!(rt; is_near(&circuit, row), "{row}");
+/// The same of some rows.
+fn are_near(circuit: &Circuit, rows: &str) -> bool {
+    'rows: for row in rows.split(',') {
+        if !is_near(circuit, row) {
+            return false;
+        }
     }
-    Ok(())
+    true
 }
 
 /// Takes the second of three gates out, and tells whether the third is now the second, under its slot.
@@ -52,12 +48,22 @@ fn closes(circuit: &mut Circuit) -> bool {
     slot_at(circuit, 1) == Some(third) && circuit.len() == 2
 }
 
+/// Whether three gates on two wires have the rows of a case, and those that are left after a removal have its last rows.
+fn is_linked(alloc: Global, case: &str) -> Result<bool, AllocError> {
+    let Some(mut circuit) = circuit_of_text(alloc, 2, field(case, 0))? else {
+        return Ok(false);
+    };
+    Ok(
+        are_near(&circuit, field(case, 1))
+            && closes(&mut circuit)
+            && are_near(&circuit, field(case, 2)),
+    )
+}
+
 #[test]
-fn finds_none_after_a_removal(rt: HostRuntime) -> Result<(), Fail> {
-    let mut circuit = circuit_of_text(rt.alloc(), 2, "h.0 c01 1.1")?.ok_or("no circuit")?;
-    assert!(rt; closes(&mut circuit));
-    assert!(rt; is_near(&circuit, "0 first - -") && is_near(&circuit, "1 first - -"));
-    Ok(())
+fn finds_the_next_gate_on_a_wire(rt: HostRuntime) -> Result<(), Wrong> {
+    let case = "h.0 c01 1.1|0 first 1 -,1 second 2 -,2 first - 1|0 first - -,1 first - -";
+    each_row(rt.alloc(), case, "\n", is_linked)
 }
 
 const FAR_WIRES: [Gate; 6] = [
@@ -69,6 +75,14 @@ const FAR_WIRES: [Gate; 6] = [
     Gate::Cx { c: 65, t: 129 },
 ];
 
+/// Whether the next gates of a row are told apart.
+fn is_apart(alloc: Global, row: &str) -> Result<bool, AllocError> {
+    match circuit_of(alloc, 256, FAR_WIRES.as_slice())? {
+        Some(circuit) => Ok(is_near(&circuit, row)),
+        None => Ok(false),
+    }
+}
+
 const NEAR_OF_FAR_WIRES: &str = "\
 0 first 4 -
 0 second 3 -
@@ -78,10 +92,6 @@ const NEAR_OF_FAR_WIRES: &str = "\
 
 /// Wires that differ by a multiple of 64 are told apart.
 #[test]
-fn tells_wires_of_one_bit_apart(rt: HostRuntime) -> Result<(), Fail> {
-    let circuit = circuit_of(rt.alloc(), 256, FAR_WIRES.as_slice())?.ok_or("no circuit")?;
-    'rows: for row in NEAR_OF_FAR_WIRES.split('\n') {
-        assert!(rt; is_near(&circuit, row), "{row}");
-    }
-    Ok(())
+fn tells_wires_of_one_bit_apart(rt: HostRuntime) -> Result<(), Wrong> {
+    each_row(rt.alloc(), NEAR_OF_FAR_WIRES, "\n", is_apart)
 }

@@ -5,7 +5,8 @@ ghost use Rattle.circuit_list.specs.Gates.{IsFine};
 
 use crate::circuits::first_slots;
 use circuit_list::{Circuit, Gate, Slot};
-use std::test::Fail;
+use std::alloc::{AllocError, Global};
+use test_rows::{Wrong, each_row, small};
 
 /// Numbers that look random, the same at each run.
 #[derive(Drop)]
@@ -120,7 +121,7 @@ impl Plain {
 }
 
 /// One edit of both, each kind as often as the others, but for more pushes.
-fn edit(circuit: &mut Circuit, plain: &mut Plain, random: &mut Random) -> Result<(), Fail>
+fn edit(circuit: &mut Circuit, plain: &mut Plain, random: &mut Random) -> Result<(), AllocError>
     requires { circuit.old.wires ≡ 256 }
     ensures { circuit.new.wires ≡ 256 }
 {
@@ -207,21 +208,19 @@ fn agrees(circuit: &Circuit, plain: &Plain, slots: &[Slot], random: &mut Random)
     }
 }
 
-/// Five kinds of edits on eight of 256 wires, more than a thousand of each, with empty slots dropped now and then, and after each of
-/// them the answers at a drawn place. The circuit is linked at a drawn moment, in the middle third, and no longer linked from one in
-/// the last.
-#[test]
-fn answers_as_a_plain_list_does(rt: HostRuntime) -> Result<(), Fail> {
-    let slots = first_slots(rt.alloc(), 7_100)?;
+/// Whether all answers are those of a plain list, after each of so many edits. The circuit is linked at a drawn moment, in the middle
+/// third, and no longer linked from one in the last.
+fn answers_alike(alloc: Global, edits: &str) -> Result<bool, AllocError> {
+    let slots = first_slots(alloc, 7_100)?;
     let mut random = Random { state: 1 };
-    let mut circuit = Circuit::empty(rt.alloc(), 256)?;
+    let mut circuit = Circuit::empty(alloc, 256)?;
     let mut plain = Plain {
-        gates: Vec::new(rt.alloc()),
-        slots: Vec::new(rt.alloc()),
+        gates: Vec::new(alloc),
+        slots: Vec::new(alloc),
     };
     let moment = 2400 + random.below(2200);
     let end = 4700 + random.below(2200);
-    'steps: for step in 0..7000 {
+    'steps: for step in 0..small(edits, 0) as usize {
         if step == moment {
             circuit.link()?;
         }
@@ -233,7 +232,16 @@ fn answers_as_a_plain_list_does(rt: HostRuntime) -> Result<(), Fail> {
             circuit.compact()?;
             plain.compact(&slots);
         }
-        assert!(rt; agrees(&circuit, &plain, &slots, &mut random), "{step}");
+        if !agrees(&circuit, &plain, &slots, &mut random) {
+            return Ok(false);
+        }
     }
-    Ok(())
+    Ok(true)
+}
+
+/// Five kinds of edits on eight of 256 wires, more than a thousand of each, with empty slots dropped now and then, and after each of
+/// them the answers at a drawn place.
+#[test]
+fn answers_as_a_plain_list_does(rt: HostRuntime) -> Result<(), Wrong> {
+    each_row(rt.alloc(), "7000", "\n", answers_alike)
 }

@@ -2,9 +2,8 @@
 
 use circuit_list::{Circuit, Gate};
 use std::alloc::{AllocError, Global};
-use std::test::Fail;
 use test_circuits::{Kind, Random, circuit_of_text, gates_of, gates_of_text, is_turned};
-use test_rows::{field, small, word};
+use test_rows::{Wrong, each_row, field, small, word};
 
 const FOUR_GATES: [Gate; 4] = [
     Gate::H { q: 0 },
@@ -13,22 +12,27 @@ const FOUR_GATES: [Gate; 4] = [
     Gate::Cx { c: 1, t: 0 },
 ];
 
+fn are_four_gates(alloc: Global, text: &str) -> Result<bool, AllocError> {
+    match circuit_of_text(alloc, 3, text)? {
+        Some(body) => Ok(gates_of(alloc, &body)?.as_slice() == FOUR_GATES.as_slice()),
+        None => Ok(false),
+    }
+}
+
 #[test]
-fn gates_by_their_texts(rt: HostRuntime) -> Result<(), Fail> {
-    let body = circuit_of_text(rt.alloc(), 3, "h.0 x.2 7.1 c10")?.ok_or("no circuit")?;
-    let gates = gates_of(rt.alloc(), &body)?;
-    assert!(rt; gates.as_slice() == FOUR_GATES.as_slice());
-    Ok(())
+fn gates_by_their_texts(rt: HostRuntime) -> Result<(), Wrong> {
+    each_row(rt.alloc(), "h.0 x.2 7.1 c10", "\n", are_four_gates)
+}
+
+fn is_no_circuit(alloc: Global, text: &str) -> Result<bool, AllocError> {
+    Ok(circuit_of_text(alloc, 3, text)?.is_none())
 }
 
 const NO_CIRCUITS: &str = "h.3|x.0 x.3|0.0|8.0|c11|c31|c03|y.0";
 
 #[test]
-fn no_gates_by_their_texts(rt: HostRuntime) -> Result<(), Fail> {
-    'texts: for text in NO_CIRCUITS.split('|') {
-        assert!(rt; circuit_of_text(rt.alloc(), 3, text)?.is_none(), "{text}");
-    }
-    Ok(())
+fn no_gates_by_their_texts(rt: HostRuntime) -> Result<(), Wrong> {
+    each_row(rt.alloc(), NO_CIRCUITS, "|", is_no_circuit)
 }
 
 /// Whether a circuit is another up to the row's turn, or isn't, as the row says.
@@ -61,11 +65,8 @@ h.0 h.1 c01 h.0 h.1|c10|4|same
 c02 c02||0|same";
 
 #[test]
-fn turns_by_hand(rt: HostRuntime) -> Result<(), Fail> {
-    'rows: for row in TURNS.split('\n') {
-        assert!(rt; is_turned_so(rt.alloc(), row)?, "{row}");
-    }
-    Ok(())
+fn turns_by_hand(rt: HostRuntime) -> Result<(), Wrong> {
+    each_row(rt.alloc(), TURNS, "\n", is_turned_so)
 }
 
 /// Whether a random circuit of a row's wires and gates is told to be itself, or isn't, as the row says.
@@ -86,11 +87,8 @@ const LIMITS: &str = "\
 4 5 other";
 
 #[test]
-fn tells_no_long_circuits_and_no_other_wires(rt: HostRuntime) -> Result<(), Fail> {
-    'rows: for row in LIMITS.split('\n') {
-        assert!(rt; is_told(rt.alloc(), row)?, "{row}");
-    }
-    Ok(())
+fn tells_no_long_circuits_and_no_other_wires(rt: HostRuntime) -> Result<(), Wrong> {
+    each_row(rt.alloc(), LIMITS, "\n", is_told)
 }
 
 const KINDS: [Kind; 6] = [Kind::H, Kind::X, Kind::P, Kind::S, Kind::InverseS, Kind::Cx];
@@ -112,9 +110,6 @@ const RANDOM: &str = "\
 7 2|c01 x.1 6.1 x.0 x.0 6.1 6.1 2.1 c01 6.1 c01 c01 6.0 4.1";
 
 #[test]
-fn random_circuits_by_their_texts(rt: HostRuntime) -> Result<(), Fail> {
-    'rows: for row in RANDOM.split('\n') {
-        assert!(rt; is_random(rt.alloc(), row)?, "{row}");
-    }
-    Ok(())
+fn random_circuits_by_their_texts(rt: HostRuntime) -> Result<(), Wrong> {
+    each_row(rt.alloc(), RANDOM, "\n", is_random)
 }

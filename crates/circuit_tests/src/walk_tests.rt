@@ -8,8 +8,8 @@ ghost use Rattle.circuit_list.specs.Slots.{IsLive, IsNextOn, NoneBehind, is_on_a
 use crate::circuits::has_gates;
 use circuit_list::{Circuit, Slot};
 use std::alloc::{AllocError, Global};
-use std::test::Fail;
 use test_circuits::circuit_of_text;
+use test_rows::{Wrong, each_row};
 
 /// The number of gates on a wire from a gate on it on, by a walk along the wire.
 fn gates_on(circuit: &Circuit, start: Slot, wire: u32) -> usize
@@ -80,10 +80,14 @@ fn is_walked(alloc: Global, circuit: &mut Circuit) -> Result<bool, AllocError> {
     )
 }
 
+fn are_walked(alloc: Global, gates: &str) -> Result<bool, AllocError> {
+    match circuit_of_text(alloc, 3, gates)? {
+        Some(mut circuit) => is_walked(alloc, &mut circuit),
+        None => Ok(false),
+    }
+}
+
 #[test]
-fn walks_along_a_wire(rt: HostRuntime) -> Result<(), Fail> {
-    let circuit = circuit_of_text(rt.alloc(), 3, "c02 h.1 h.0 c12 h.0 1.0")?;
-    let mut circuit = circuit.ok_or("no circuit")?;
-    assert!(rt; is_walked(rt.alloc(), &mut circuit)?);
-    Ok(())
+fn walks_along_a_wire(rt: HostRuntime) -> Result<(), Wrong> {
+    each_row(rt.alloc(), "c02 h.1 h.0 c12 h.0 1.0", "\n", are_walked)
 }
