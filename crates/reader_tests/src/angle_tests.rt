@@ -1,8 +1,8 @@
 //! Small cases of each rule, worked by hand.
 
-use crate::rows::{number, word};
 use angle_fraction::{Angle, AngleFault, Frac, add, div, eighths, lowest, mul, neg, pow, sub};
-use std::test::Fail;
+use std::alloc::{AllocError, Global};
+use test_rows::{Wrong, each_row, small, word};
 
 /// The number of a text, or one that no row has.
 fn large(text: &str) -> i128 {
@@ -55,10 +55,10 @@ fn is_found(found: Result<Angle, AngleFault>, wanted: &str) -> bool {
     }
 }
 
-fn is_row(row: &str) -> bool {
+fn is_row(_alloc: Global, row: &str) -> Result<bool, AllocError> {
     match (angle(word(row, 1)), angle(word(row, 2))) {
-        (Some(a), Some(b)) => is_found(found(word(row, 0), &a, &b), word(row, 3)),
-        _ => false,
+        (Some(a), Some(b)) => Ok(is_found(found(word(row, 0), &a, &b), word(row, 3))),
+        _ => Ok(false),
     }
 }
 
@@ -95,20 +95,17 @@ pow 2,0 63,0 Range
 pow 3/2,0 4611686018427387904,0 Range";
 
 #[test]
-fn sums_products_and_powers(rt: HostRuntime) -> Result<(), Fail> {
-    'rows: for row in RULES.split('\n') {
-        assert!(rt; is_row(row), "{row}");
-    }
-    Ok(())
+fn sums_products_and_powers(rt: HostRuntime) -> Result<(), Wrong> {
+    each_row(rt.alloc(), RULES, "\n", is_row)
 }
 
-fn has_eighths(row: &str) -> bool {
+fn has_eighths(_alloc: Global, row: &str) -> Result<bool, AllocError> {
     let Some(angle) = angle(word(row, 0)) else {
-        return false;
+        return Ok(false);
     };
     match eighths(&angle) {
-        Some(found) => u32::from(found) == number(row, 1),
-        None => word(row, 1) == "none",
+        Some(found) => Ok(u32::from(found) == small(row, 1)),
+        None => Ok(word(row, 1) == "none"),
     }
 }
 
@@ -130,9 +127,6 @@ const EIGHTHS: &str = "\
 0,4611686018427387904 0";
 
 #[test]
-fn eighths_of_turns(rt: HostRuntime) -> Result<(), Fail> {
-    'rows: for row in EIGHTHS.split('\n') {
-        assert!(rt; has_eighths(row), "{row}");
-    }
-    Ok(())
+fn eighths_of_turns(rt: HostRuntime) -> Result<(), Wrong> {
+    each_row(rt.alloc(), EIGHTHS, "\n", has_eighths)
 }

@@ -7,11 +7,11 @@ use crate::rows::sides;
 use gate_expand::Ops;
 use gate_inline::{Split, inline, inline_parts};
 use std::alloc::{AllocError, Global};
-use std::test::Fail;
+use test_rows::{Wrong, each_row, small};
 use unitary_model::Op;
 
 /// What the program behind the two first lines is inlined to; none where it is refused.
-pub fn inlined(alloc: Global, body: &str) -> Option<Ops> {
+fn inlined(alloc: Global, body: &str) -> Option<Ops> {
     let checked = checked(alloc, body)?;
     inline(alloc, &checked).ok()
 }
@@ -141,11 +141,8 @@ gate none(k) a { } gate once(k) a { none(k+k) a; U(0,0,0) a; } gate twice(k) a {
 gate none(k) a { } gate once(k) a { U(0,0,0) a; none(k+k) a; } gate twice(k) a { once(k) a; once(k-1) a; } qreg q[1]; twice(1) q[0]; => 000.0 000.0 |";
 
 #[test]
-fn operations_by_hand(rt: HostRuntime) -> Result<(), Fail> {
-    'rows: for row in OPERATIONS.split('\n') {
-        assert!(rt; is_inlined(rt.alloc(), row)?, "{row}");
-    }
-    Ok(())
+fn operations_by_hand(rt: HostRuntime) -> Result<(), Wrong> {
+    each_row(rt.alloc(), OPERATIONS, "\n", is_inlined)
 }
 
 fn is_split(alloc: Global, row: &str) -> Result<bool, AllocError> {
@@ -176,11 +173,8 @@ qreg q[2]; creg c[2]; h q[0]; measure q[0]->c[1]; barrier q; h q[1]; => 204.0 <0
 qreg q[2]; creg c[2]; barrier q; measure q -> c; barrier q[0]; measure q[1] -> c[0]; => <0 1> <0> | 1 1";
 
 #[test]
-fn parts_by_hand(rt: HostRuntime) -> Result<(), Fail> {
-    'rows: for row in PARTS.split('\n') {
-        assert!(rt; is_split(rt.alloc(), row)?, "{row}");
-    }
-    Ok(())
+fn parts_by_hand(rt: HostRuntime) -> Result<(), Wrong> {
+    each_row(rt.alloc(), PARTS, "\n", is_split)
 }
 
 /// Gates of which each applies the one before twice, so that the last is 2^16 operations, as many as a program may have.
@@ -191,17 +185,18 @@ gate g8 a { g7 a; g7 a; } gate g9 a { g8 a; g8 a; } gate g10 a { g9 a; g9 a; } g
 gate g12 a { g11 a; g11 a; } gate g13 a { g12 a; g12 a; } gate g14 a { g13 a; g13 a; } \
 gate g15 a { g14 a; g14 a; } gate g16 a { g15 a; g15 a; } qreg q[1]; g16 q[0];";
 
-/// How many operations the only part has; none if there are more parts.
-fn only_part(parts: &[Vec<Op>]) -> Option<usize> {
-    match parts {
-        [part] => Some(part.len()),
-        _ => None,
+/// Whether there is one part, with so many operations.
+fn has_most(alloc: Global, count: &str) -> Result<bool, AllocError> {
+    match inlined_parts(alloc, MOST) {
+        Some(split) => match split.parts.as_slice() {
+            [part] => Ok(part.len() == small(count, 0) as usize),
+            _ => Ok(false),
+        },
+        None => Ok(false),
     }
 }
 
 #[test]
-fn as_many_operations_as_may_be(rt: HostRuntime) -> Result<(), Fail> {
-    let split = inlined_parts(rt.alloc(), MOST).ok_or("refused")?;
-    assert!(rt; only_part(&split.parts) == Some(65_536));
-    Ok(())
+fn as_many_operations_as_may_be(rt: HostRuntime) -> Result<(), Wrong> {
+    each_row(rt.alloc(), "65536", "\n", has_most)
 }

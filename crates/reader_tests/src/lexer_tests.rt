@@ -3,11 +3,11 @@
 ghost use Rattle.std.specs.Prelude.{◌<◌, ◌^◌, length};
 ghost use Rattle.qasm_lexer.specs.Tokens.{IsTokenOf};
 
-use crate::rows::{number_of, sides, word};
+use crate::rows::{number_of, sides};
 use angle_fraction::{Frac, lowest};
 use qasm_lexer::{Kind, Token, lex, value};
-use std::alloc::Global;
-use std::test::Fail;
+use std::alloc::{AllocError, Global};
+use test_rows::{Wrong, each_row, word};
 
 /// The name of a kind.
 fn name(kind: Kind) -> &'static str {
@@ -34,19 +34,19 @@ fn are_tokens(tokens: &[Token], wanted: &str) -> bool {
             return false;
         }
     }
-    word(wanted, tokens.len()) == "none"
+    wanted.split(' ').count() == tokens.len()
 }
 
 /// Whether a text has the tokens of its row.
-fn has_tokens(alloc: Global, row: &str) -> bool {
+fn has_tokens(alloc: Global, row: &str) -> Result<bool, AllocError> {
     let (text, wanted) = sides(row);
     let bytes = text.as_bytes();
     if bytes.len() > 1000 {
-        return false;
+        return Ok(false);
     }
     match lex(alloc, bytes) {
-        Ok(tokens) => are_tokens(&tokens, wanted),
-        Err(_) => false,
+        Ok(tokens) => Ok(are_tokens(&tokens, wanted)),
+        Err(_) => Ok(false),
     }
 }
 
@@ -68,11 +68,8 @@ pi/ //x => word:0-2 sign:2-3
 (000120,00.) => sign:0-1 whole:1-2 whole:2-3 whole:3-4 whole:4-7 sign:7-8 real:8-11 sign:11-12";
 
 #[test]
-fn tokens_of_texts(rt: HostRuntime) -> Result<(), Fail> {
-    'rows: for row in TOKENS.split("\n\n") {
-        assert!(rt; has_tokens(rt.alloc(), row), "{row}");
-    }
-    Ok(())
+fn tokens_of_texts(rt: HostRuntime) -> Result<(), Wrong> {
+    each_row(rt.alloc(), TOKENS, "\n\n", has_tokens)
 }
 
 /// The value of a token that is a number.
@@ -107,18 +104,18 @@ fn large(text: &str) -> i128 {
 }
 
 /// Whether a number has the value of its row.
-fn has_value(alloc: Global, row: &str) -> bool {
+fn has_value(alloc: Global, row: &str) -> Result<bool, AllocError> {
     let (text, wanted) = sides(row);
     let den = large(word(wanted, 1));
     if den <= 0 {
-        return false;
+        return Ok(false);
     }
     match (
         value_of(alloc, text.as_bytes()),
         lowest(large(word(wanted, 0)), den),
     ) {
-        (Some(found), Ok(value)) => found == value,
-        _ => false,
+        (Some(found), Ok(value)) => Ok(found == value),
+        _ => Ok(false),
     }
 }
 
@@ -142,9 +139,6 @@ const VALUES: &str = "\
 0.00000000000000000021684043449710088680149056017398834228515625 => 1 4611686018427387904";
 
 #[test]
-fn values_of_numbers(rt: HostRuntime) -> Result<(), Fail> {
-    'rows: for row in VALUES.split('\n') {
-        assert!(rt; has_value(rt.alloc(), row), "{row}");
-    }
-    Ok(())
+fn values_of_numbers(rt: HostRuntime) -> Result<(), Wrong> {
+    each_row(rt.alloc(), VALUES, "\n", has_value)
 }

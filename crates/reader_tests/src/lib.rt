@@ -1,8 +1,9 @@
 //! Tests of the reader, stage by stage: `angle_fraction`, `qasm_lexer`, `gate_library`, `qasm_parser`, `qasm_check` and
 //! `gate_inline`.
 //!
-//! Each test function is proved too, so they stand in a crate of their own: these crates are proved once. What a test asserts is
-//! dear, so it asserts one bool a row, and what the bool says stands in small functions. Rows are lines of a text.
+//! Each test function is proved too, so they stand in a crate of their own: these crates are proved once. A proof is long for each
+//! assert in a loop, so a test hands its rows, the lines of a text, and the function that judges one of them to `each_row`.
+//! The gates of the tables are compared with their matrices by runs of the program, in `tools/tests/test_gates.py`.
 #![tactic(auto)]
 
 #[cfg(test)]
@@ -15,8 +16,6 @@ mod inline_tests;
 mod lexer_tests;
 #[cfg(test)]
 mod library_tests;
-#[cfg(test)]
-mod matrix_tests;
 #[cfg(test)]
 mod parser_tests;
 #[cfg(test)]

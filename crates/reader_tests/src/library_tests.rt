@@ -1,13 +1,12 @@
 //! The gate tables against the listing, and names at their borders.
 
-use crate::rows::{field, number, word};
 use angle_fraction::Binary;
 use gate_library::{
     BoundGate, Formula, Item, gates, is_in_table, is_standard, names_repeat, own_number,
     standard_names,
 };
 use std::alloc::{AllocError, Global};
-use std::test::Fail;
+use test_rows::{Wrong, each_row, field, number, small, word};
 
 /// The name of an index in a list of names of one letter.
 fn letter(names: &[u8], index: usize) -> u8 {
@@ -58,37 +57,37 @@ fn write_angle(text: &mut Vec<u8>, params: &[u8], angle: &Formula) -> Result<(),
     }
 }
 
-/// Each gate of the tables as a listing has it: its name, parameters, qubits and body.
+/// Each gate of the tables as a listing has it: its number, name, parameters, qubits and body.
 const TABLES: &str = "\
-u3 | t,p,l | q | U(t,p,l) q;
-u2 | p,l | q | U(pi/2,p,l) q;
-u1 | l | q | U(0,0,l) q;
-cx | - | c,t | CX c,t;
-id | - | a | U(0,0,0) a;
-x | - | a | u3(pi,0,pi) a;
-y | - | a | u3(pi,pi/2,pi/2) a;
-z | - | a | u1(pi) a;
-h | - | a | u2(0,pi) a;
-s | - | a | u1(pi/2) a;
-sdg | - | a | u1(-pi/2) a;
-t | - | a | u1(pi/4) a;
-tdg | - | a | u1(-pi/4) a;
-rx | t | a | u3(t,-pi/2,pi/2) a;
-ry | t | a | u3(t,0,0) a;
-rz | p | a | u1(p) a;
-cz | - | a,b | h b; cx a,b; h b;
-cy | - | a,b | sdg b; cx a,b; s b;
-ch | - | a,b | h b; sdg b; cx a,b; h b; t b; cx a,b; t b; h b; s b; x b; s a;
-ccx | - | a,b,c | h c; cx b,c; tdg c; cx a,c; t c; cx b,c; tdg c; cx a,c; t b; t c; h c; cx a,b; t a; tdg b; cx a,b;
-crz | l | a,b | u1(l/2) b; cx a,b; u1(-l/2) b; cx a,b;
-cu1 | l | a,b | u1(l/2) a; cx a,b; u1(-l/2) b; cx a,b; u1(l/2) b;
-u | t,p,l | q | U(t,p,l) q;
-p | l | q | U(0,0,l) q;
-cp | l | a,b | u1(l/2) a; cx a,b; u1(-l/2) b; cx a,b; u1(l/2) b;
-swap | - | a,b | cx a,b; cx b,a; cx a,b;
-cswap | - | a,b,c | cx c,b; ccx a,b,c; cx c,b;
-sx | - | a | sdg a; h a; sdg a;
-sxdg | - | a | s a; h a; s a;";
+2|u3|t,p,l|q|U(t,p,l) q;
+3|u2|p,l|q|U(pi/2,p,l) q;
+4|u1|l|q|U(0,0,l) q;
+5|cx||c,t|CX c,t;
+6|id||a|U(0,0,0) a;
+7|x||a|u3(pi,0,pi) a;
+8|y||a|u3(pi,pi/2,pi/2) a;
+9|z||a|u1(pi) a;
+10|h||a|u2(0,pi) a;
+11|s||a|u1(pi/2) a;
+12|sdg||a|u1(-pi/2) a;
+13|t||a|u1(pi/4) a;
+14|tdg||a|u1(-pi/4) a;
+15|rx|t|a|u3(t,-pi/2,pi/2) a;
+16|ry|t|a|u3(t,0,0) a;
+17|rz|p|a|u1(p) a;
+18|cz||a,b|h b; cx a,b; h b;
+19|cy||a,b|sdg b; cx a,b; s b;
+20|ch||a,b|h b; sdg b; cx a,b; h b; t b; cx a,b; t b; h b; s b; x b; s a;
+21|ccx||a,b,c|h c; cx b,c; tdg c; cx a,c; t c; cx b,c; tdg c; cx a,c; t b; t c; h c; cx a,b; t a; tdg b; cx a,b;
+22|crz|l|a,b|u1(l/2) b; cx a,b; u1(-l/2) b; cx a,b;
+23|cu1|l|a,b|u1(l/2) a; cx a,b; u1(-l/2) b; cx a,b; u1(l/2) b;
+24|u|t,p,l|q|U(t,p,l) q;
+25|p|l|q|U(0,0,l) q;
+26|cp|l|a,b|u1(l/2) a; cx a,b; u1(-l/2) b; cx a,b; u1(l/2) b;
+27|swap||a,b|cx a,b; cx b,a; cx a,b;
+28|cswap||a,b,c|cx c,b; ccx a,b,c; cx c,b;
+29|sx||a|sdg a; h a; sdg a;
+30|sxdg||a|s a; h a; s a;";
 
 /// The name that stands for a gate of this number behind an include, among those of the rows.
 fn gate_name(number: usize) -> &'static str {
@@ -99,7 +98,7 @@ fn gate_name(number: usize) -> &'static str {
     if number == 1 {
         "CX"
     } else {
-        field(row.unwrap_or("?"), 0)
+        field(row.unwrap_or("?"), 1)
     }
 }
 
@@ -170,7 +169,7 @@ fn names_in(field: &str) -> usize {
 
 /// Whether a gate is that of its row.
 fn is_spelt(alloc: Global, gate: &BoundGate, row: &str) -> Result<bool, AllocError> {
-    let (listed, wires) = (field(row, 1), field(row, 2));
+    let (listed, wires) = (field(row, 2), field(row, 3));
     let BoundGate::Composed {
         params,
         qubits,
@@ -183,41 +182,32 @@ fn is_spelt(alloc: Global, gate: &BoundGate, row: &str) -> Result<bool, AllocErr
     Ok(
         *params == names_in(listed)
             && *qubits == names_in(wires)
-            && text.as_slice() == field(row, 3).as_bytes(),
+            && text.as_slice() == field(row, 4).as_bytes(),
     )
 }
 
 /// Whether the gate of a row stands at its place, by its number and among the standard names.
-fn is_listed(
-    alloc: Global,
-    gates: &[BoundGate],
-    index: usize,
-    row: &str,
-) -> Result<bool, AllocError> {
-    let (name, place) = (field(row, 0), index.saturating_add(2));
+fn is_listed(alloc: Global, row: &str) -> Result<bool, AllocError> {
+    let (place, name) = (small(field(row, 0), 0) as usize, field(row, 1));
+    let gates = gates(alloc)?;
     let Some(gate) = gates.get(place) else {
         return Ok(false);
     };
     Ok(
         own_number(true, name.as_bytes()) == Some(place)
-            && is_standard_at(index, name)
+            && is_standard_at(place.saturating_sub(2), name)
             && is_spelt(alloc, gate, row)?,
     )
 }
 
 #[test]
-fn tables(rt: HostRuntime) -> Result<(), Fail> {
-    let gates = gates(rt.alloc())?;
-    assert!(rt; gates.len() == 31 && standard_names().len() == 22);
-    'rows: for (index, row) in TABLES.split('\n').enumerate() {
-        assert!(rt; is_listed(rt.alloc(), &gates, index, row)?, "{row}");
-    }
-    Ok(())
+fn tables(rt: HostRuntime) -> Result<(), Wrong> {
+    each_row(rt.alloc(), TABLES, "\n", is_listed)
 }
 
-fn is_named(row: &str) -> bool {
-    let name = field(word(row, 2), 0).as_bytes();
-    is_in_table(name) == (word(row, 0) == "yes") && is_standard(name) == (word(row, 1) == "yes")
+fn is_named(_alloc: Global, row: &str) -> Result<bool, AllocError> {
+    let name = word(row, 2).as_bytes();
+    Ok(is_in_table(name) == (word(row, 0) == "yes") && is_standard(name) == (word(row, 1) == "yes"))
 }
 
 /// Whether the tables have a name, whether the first of them has it, and the name; the last one is empty.
@@ -233,17 +223,14 @@ no no CU1
 no no -";
 
 #[test]
-fn names(rt: HostRuntime) -> Result<(), Fail> {
-    'rows: for row in NAMES.split('\n') {
-        assert!(rt; is_named(row), "{row}");
-    }
-    Ok(())
+fn names(rt: HostRuntime) -> Result<(), Wrong> {
+    each_row(rt.alloc(), NAMES, "\n", is_named)
 }
 
-fn is_own(row: &str) -> bool {
+fn is_own(_alloc: Global, row: &str) -> Result<bool, AllocError> {
     match own_number(word(row, 0) == "include", word(row, 1).as_bytes()) {
-        Some(found) => found as u64 == u64::from(number(row, 2)),
-        None => word(row, 2) == "none",
+        Some(found) => Ok(found as u64 == number(row, 2)),
+        None => Ok(word(row, 2) == "none"),
     }
 }
 
@@ -257,28 +244,26 @@ include sxdg 30
 include nosuch none";
 
 #[test]
-fn own_numbers(rt: HostRuntime) -> Result<(), Fail> {
-    'rows: for row in OWN_NUMBERS.split('\n') {
-        assert!(rt; is_own(row), "{row}");
-    }
-    Ok(())
+fn own_numbers(rt: HostRuntime) -> Result<(), Wrong> {
+    each_row(rt.alloc(), OWN_NUMBERS, "\n", is_own)
 }
 
-/// Whether gates 2 and 30 are what they are.
-fn are_shaped(gates: &[BoundGate]) -> bool {
+/// Whether the tables have so many gates and standard names, and gates 2 and 30 are what they are.
+fn are_shaped(alloc: Global, row: &str) -> Result<bool, AllocError> {
+    let gates = gates(alloc)?;
+    let is_counted = gates.len() as u64 == number(row, 0)
+        && standard_names().len() as u64 == number(row, 1);
     match (gates.get(2), gates.get(30)) {
-        (Some(first), Some(last)) => {
-            first.params() == 3 && last.qubits() == 1 && !last.is_opaque()
-        }
-        _ => false,
+        (Some(first), Some(last)) => Ok(
+            is_counted && first.params() == 3 && last.qubits() == 1 && !last.is_opaque(),
+        ),
+        _ => Ok(false),
     }
 }
 
 #[test]
-fn shapes(rt: HostRuntime) -> Result<(), Fail> {
-    let gates = gates(rt.alloc())?;
-    assert!(rt; are_shaped(&gates));
-    Ok(())
+fn shapes(rt: HostRuntime) -> Result<(), Wrong> {
+    each_row(rt.alloc(), "31 22", "\n", are_shaped)
 }
 
 /// Whether one of the letters of a row stands twice exactly where the row says so.
@@ -316,9 +301,6 @@ abcdefghijk no
 abcdefghijka yes";
 
 #[test]
-fn repeated_names(rt: HostRuntime) -> Result<(), Fail> {
-    'rows: for row in REPEATS.split('\n') {
-        assert!(rt; repeats(rt.alloc(), row)?, "{row}");
-    }
-    Ok(())
+fn repeated_names(rt: HostRuntime) -> Result<(), Wrong> {
+    each_row(rt.alloc(), REPEATS, "\n", repeats)
 }

@@ -7,7 +7,7 @@ use angle_fraction::Frac;
 use qasm_lexer::lex;
 use qasm_parser::{Binary, Expr, Name, Program, Stmt, parse};
 use std::alloc::{AllocError, Global};
-use std::test::Fail;
+use test_rows::{Wrong, each_row, small};
 
 /// The tree of a text; none where it has no tokens or no tree.
 fn tree_of(alloc: Global, text: &[u8]) -> Option<Program> {
@@ -18,12 +18,6 @@ fn tree_of(alloc: Global, text: &[u8]) -> Option<Program> {
         return None;
     };
     parse(alloc, text, &tokens).ok()
-}
-
-/// How many statements a text spells.
-fn statements_of(alloc: Global, text: &[u8]) -> Option<usize> {
-    let program = tree_of(alloc, text)?;
-    Some(program.list.len())
 }
 
 fn sign_of(sign: Binary) -> u8 {
@@ -128,15 +122,16 @@ OPENQASM 2.0;u1(sin(1)*(2-3)) q; => * f1 (- 2 3);
 OPENQASM 2.0;U(1,2.0,-(pi)) q; => 1;2;~(p);";
 
 #[test]
-fn expressions(rt: HostRuntime) -> Result<(), Fail> {
-    'rows: for row in EXPRESSIONS.split('\n') {
-        assert!(rt; is_tree(rt.alloc(), row)?, "{row}");
-    }
-    Ok(())
+fn expressions(rt: HostRuntime) -> Result<(), Wrong> {
+    each_row(rt.alloc(), EXPRESSIONS, "\n", is_tree)
 }
 
-/// Quantum ripple-carry adder from Cuccaro et al., as Cross et al. 2017 write it.
-const ADDER: &[u8] = b"OPENQASM 2.0; include \"qelib1.inc\";
+/// Programs, each below the number of its statements: the quantum ripple-carry adder from Cuccaro et al., as Cross et al. 2017 write
+/// it, and from the same paper the quantum Fourier transform, the inverse transform and measurement, teleportation without the
+/// conditional corrections, and the syndrome measurement of a repetition code; a header alone; and each statement that these lack.
+const PROGRAMS: &str = "\
+24
+OPENQASM 2.0; include \"qelib1.inc\";
 gate majority a,b,c { cx c,b; cx c,a; ccx a,b,c; }
 gate unmaj a,b,c { ccx a,b,c; cx c,a; cx a,b; }
 qreg cin[1]; qreg a[4]; qreg b[4]; qreg cout[1]; creg ans[5];
@@ -146,69 +141,67 @@ x b; // b = 1111
 majority cin[0],b[0],a[0]; majority a[0],b[1],a[1]; majority a[1],b[2],a[2]; majority a[2],b[3],a[3];
 cx a[3],cout[0];
 unmaj a[2],b[3],a[3]; unmaj a[1],b[2],a[2]; unmaj a[0],b[1],a[1]; unmaj cin[0],b[0],a[0];
-measure b[0] -> ans[0]; measure b[1] -> ans[1]; measure b[2] -> ans[2]; measure b[3] -> ans[3]; measure cout[0] -> ans[4];";
+measure b[0] -> ans[0]; measure b[1] -> ans[1]; measure b[2] -> ans[2]; measure b[3] -> ans[3]; measure cout[0] -> ans[4];
 
-/// Quantum Fourier transform, from the same paper.
-const TRANSFORM: &[u8] = b"OPENQASM 2.0; include \"qelib1.inc\"; qreg q[4]; creg c[4];
+17
+OPENQASM 2.0; include \"qelib1.inc\"; qreg q[4]; creg c[4];
 x q[0]; x q[2]; barrier q; h q[0]; cu1(pi/2) q[1],q[0]; h q[1]; cu1(pi/4) q[2],q[0]; cu1(pi/2) q[2],q[1]; h q[2];
-cu1(pi/8) q[3],q[0]; cu1(pi/4) q[3],q[1]; cu1(pi/2) q[3],q[2]; h q[3]; measure q -> c;";
+cu1(pi/8) q[3],q[0]; cu1(pi/4) q[3],q[1]; cu1(pi/2) q[3],q[2]; h q[3]; measure q -> c;
 
-/// Inverse transform and measurement.
-const INVERSE: &[u8] = b"OPENQASM 2.0; include \"qelib1.inc\"; qreg q[4]; creg c[4]; h q; barrier q;
+24
+OPENQASM 2.0; include \"qelib1.inc\"; qreg q[4]; creg c[4]; h q; barrier q;
 h q[0]; measure q[0] -> c[0]; if(c==1) u1(pi/2) q[1]; h q[1]; measure q[1] -> c[1];
 if(c==1) u1(pi/4) q[2]; if(c==2) u1(pi/2) q[2]; if(c==3) u1(pi/2+pi/4) q[2]; h q[2]; measure q[2] -> c[2];
 if(c==1) u1(pi/8) q[3]; if(c==2) u1(pi/4) q[3]; if(c==3) u1(pi/4+pi/8) q[3]; if(c==4) u1(pi/2) q[3];
-if(c==5) u1(pi/2+pi/8) q[3]; if(c==6) u1(pi/2+pi/4) q[3]; if(c==7) u1(pi/2+pi/4+pi/8) q[3]; h q[3]; measure q[3] -> c[3];";
+if(c==5) u1(pi/2+pi/8) q[3]; if(c==6) u1(pi/2+pi/4) q[3]; if(c==7) u1(pi/2+pi/4+pi/8) q[3]; h q[3]; measure q[3] -> c[3];
 
-/// Teleportation without the conditional corrections.
-const TELEPORT: &[u8] =
-    b"OPENQASM 2.0; include \"qelib1.inc\"; qreg q[3]; creg c0[1]; creg c1[1]; creg c2[1];
+16
+OPENQASM 2.0; include \"qelib1.inc\"; qreg q[3]; creg c0[1]; creg c1[1]; creg c2[1];
 gate post q { } u3(0.3,0.2,0.1) q[0]; h q[1]; cx q[1],q[2]; barrier q; cx q[0],q[1]; h q[0];
-measure q[0] -> c0[0]; measure q[1] -> c1[0]; post q[2]; measure q[2] -> c2[0];";
+measure q[0] -> c0[0]; measure q[1] -> c1[0]; post q[2]; measure q[2] -> c2[0];
 
-/// Repetition code syndrome measurement.
-const SYNDROME: &[u8] =
-    b"OPENQASM 2.0; include \"qelib1.inc\"; qreg q[3]; qreg a[2]; creg c[3]; creg syn[2];
+14
+OPENQASM 2.0; include \"qelib1.inc\"; qreg q[3]; qreg a[2]; creg c[3]; creg syn[2];
 gate syndrome d1,d2,d3,a1,a2 { cx d1,a1; cx d2,a1; cx d2,a2; cx d3,a2; }
 x q[0]; barrier q; syndrome q[0],q[1],q[2],a[0],a[1]; measure a -> syn;
-if(syn==1) x q[0]; if(syn==2) x q[2]; if(syn==3) x q[1]; measure q -> c;";
+if(syn==1) x q[0]; if(syn==2) x q[2]; if(syn==3) x q[1]; measure q -> c;
 
-/// Each statement that the programs above lack, and a header alone.
-const OTHERS: &[u8] =
-    b"OPENQASM 2.0;opaque o(a,b) q;gate g() a{barrier a;}gate k(t) a{U(t,0,0) a;}h() q[0];reset q;";
+0
+OPENQASM 2.0;
 
-#[test]
-fn programs(rt: HostRuntime) -> Result<(), Fail> {
-    let rows = [
-        (ADDER, 24),
-        (TRANSFORM, 17),
-        (INVERSE, 24),
-        (TELEPORT, 16),
-        (SYNDROME, 14),
-        (b"OPENQASM 2.0;".as_slice(), 0),
-        (OTHERS, 5),
-    ];
-    'rows: for (text, count) in rows {
-        assert!(rt; statements_of(rt.alloc(), text) == Some(count), "{count}");
+5
+OPENQASM 2.0;opaque o(a,b) q;gate g() a{barrier a;}gate k(t) a{U(t,0,0) a;}h() q[0];reset q;";
+
+/// Whether the text below the first line of a row spells as many statements as this line says.
+fn has_statements(alloc: Global, row: &str) -> Result<bool, AllocError> {
+    let (count, text) = row.split_once('\n').unwrap_or((row, ""));
+    match tree_of(alloc, text.as_bytes()) {
+        Some(program) => Ok(program.list.len() == small(count, 0) as usize),
+        None => Ok(false),
     }
-    Ok(())
 }
 
+#[test]
+fn programs(rt: HostRuntime) -> Result<(), Wrong> {
+    each_row(rt.alloc(), PROGRAMS, "\n\n", has_statements)
+}
+
+const LETTERS: &[u8] = b"abcdefghijklmnopqrstuvwxyz";
+
 /// Whether a name of so many letters is kept.
-fn is_name(alloc: Global, letters: &[u8], count: usize) -> Result<bool, AllocError> {
-    if count > letters.len() {
+fn is_name(alloc: Global, count: &str) -> Result<bool, AllocError> {
+    let count = small(count, 0) as usize;
+    if count > LETTERS.len() {
         return Ok(false);
     }
-    let name = Name::copied(alloc, &letters[..count])?;
-    Ok(name.as_bytes() == &letters[..count])
+    let name = Name::copied(alloc, &LETTERS[..count])?;
+    Ok(name.as_bytes() == &LETTERS[..count])
 }
 
 /// Names of 0 to 25 bytes: one of 22 lies in the value, and one of 23 in memory of its own.
+const LENGTHS: &str = "0 1 2 3 4 5 6 7 8 9 10 11 12 13 14 15 16 17 18 19 20 21 22 23 24 25";
+
 #[test]
-fn names(rt: HostRuntime) -> Result<(), Fail> {
-    let letters = b"abcdefghijklmnopqrstuvwxyz";
-    'counts: for count in 0..26 {
-        assert!(rt; is_name(rt.alloc(), letters, count)?, "{count}");
-    }
-    Ok(())
+fn names(rt: HostRuntime) -> Result<(), Wrong> {
+    each_row(rt.alloc(), LENGTHS, " ", is_name)
 }
