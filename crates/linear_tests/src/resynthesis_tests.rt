@@ -1,41 +1,45 @@
-//! Layers, phase polynomials and resynthesis: worked lists, and a comparison with the written walk.
+//! Layers, phase polynomials and resynthesis: worked lists. What is made of drawn ones is in `tools/tests/test_passes.py`.
 
-ghost use Rattle.std.specs.Prelude.{◌<◌};
-
-use crate::plain::walked;
-use circuit_list::{Circuit, Gate};
+use crate::rows::row;
+use circuit_list::{Gate, Passed};
 use gf2_linear::Row;
-use phase_poly::{Poly, ResynthPass, layers, poly, resynth};
+use phase_poly::{Layer, Poly, ResynthPass, layers, poly, resynth};
 use rewrite_pass::{Pass, Trace, Traced};
 use std::alloc::{AllocError, Global};
-use std::test::Fail;
-use test_circuits::{circuit_of, circuit_of_text, gates_of, gates_of_text, is_fine};
-use test_rows::{field, is_line, small};
+use test_circuits::{circuit_of, circuit_of_text, gates_of, gates_of_text};
+use test_rows::{Wrong, each_row, field, is_line, numbers, small};
 
-/// Whether the layers of a row's gates on one wire are the row's: its gates, and the wires of its H, in brackets.
+/// Whether a layer has the gates of a word, and behind a colon the wires of its H.
+fn is_layer(alloc: Global, layer: &Layer, wanted: &str) -> Result<bool, AllocError> {
+    let (gates, wires) = wanted.split_once(':').unwrap_or(("", "7777"));
+    Ok(
+        layer.gates() == gates_of_text(alloc, gates)?.as_slice()
+            && layer.hadamards() == numbers(alloc, wires)?.as_slice(),
+    )
+}
+
+/// Whether the layers of a row's gates on one wire are the row's.
 fn are_layers(alloc: Global, row: &str) -> Result<bool, AllocError> {
     let Some(body) = circuit_of_text(alloc, 1, field(row, 0))? else {
         return Ok(false);
     };
-    let mut text = String::new(alloc);
-    'layers: for layer in &layers(alloc, &body)? {
-        let told = format!(in alloc; "{:?} {:?}.", layer.gates(), layer.hadamards())?;
-        text.push_str(told.as_str())?;
+    let layers = layers(alloc, &body)?;
+    'layers: for (at, layer) in layers.iter().enumerate() {
+        if !is_layer(alloc, layer, field(row, at.saturating_add(1)))? {
+            return Ok(false);
+        }
     }
-    Ok(text.as_str() == field(row, 1))
+    Ok(layers.len().saturating_add(1) == row.split('|').count())
 }
 
 /// T and then H on one wire is one layer; H twice is two layers without other gates.
 const LAYERS: &str = "\
-1.0 h.0|[P { k: 1, q: 0 }] [0].
-h.0 h.0|[] [0].[] [0].";
+1.0 h.0|1.0:0
+h.0 h.0|:0|:0";
 
 #[test]
-fn layers_by_hand(rt: HostRuntime) -> Result<(), Fail> {
-    'rows: for row in LAYERS.split('\n') {
-        assert!(rt; are_layers(rt.alloc(), row)?, "{row}");
-    }
-    Ok(())
+fn layers_by_hand(rt: HostRuntime) -> Result<(), Wrong> {
+    each_row(rt.alloc(), LAYERS, "\n", are_layers)
 }
 
 /// Whether a polynomial on two wires has one sum, of both, on wire 1, where it turns by 1.
@@ -51,37 +55,36 @@ fn is_both(sum: &Poly, both: &Row) -> bool {
         && sum.terms()[0].1 == 1
 }
 
-#[test]
-fn polynomial(rt: HostRuntime) -> Result<(), Fail> {
+fn is_polynomial(alloc: Global, wires: &str) -> Result<bool, AllocError> {
     let list = [Gate::Cx { c: 0, t: 1 }, Gate::P { k: 1, q: 1 }];
-    let mut both = Row::unit(0);
-    both.flip(1);
-    let sum = poly(rt.alloc(), 2, list.as_slice())?;
-    assert!(rt; is_both(&sum, &both));
-    Ok(())
+    let sum = poly(alloc, 2, list.as_slice())?;
+    Ok(is_both(&sum, &row(alloc, wires)?))
 }
 
-/// A CNOT twice is nothing.
 #[test]
-fn cnot_twice(rt: HostRuntime) -> Result<(), Fail> {
-    let list = [Gate::Cx { c: 0, t: 1 }, Gate::Cx { c: 0, t: 1 }];
-    let built = resynth(rt.alloc(), 2, list.as_slice())?;
-    assert!(rt; built.list.is_empty() && built.turn == 0);
-    Ok(())
+fn polynomial(rt: HostRuntime) -> Result<(), Wrong> {
+    each_row(rt.alloc(), "0,1", "\n", is_polynomial)
 }
 
-/// A flipped phase, by hand: the sum of both wires turns by -2, both wires are flipped, and the turn is 4 - 4.
-#[test]
-fn flipped_phase(rt: HostRuntime) -> Result<(), Fail> {
-    let list = [
+/// Whether a CNOT twice is nothing, and the layer of a flipped phase becomes these gates.
+fn is_resynthesised(alloc: Global, gates: &str) -> Result<bool, AllocError> {
+    let twice = [Gate::Cx { c: 0, t: 1 }, Gate::Cx { c: 0, t: 1 }];
+    let none = resynth(alloc, 2, twice.as_slice())?;
+    let flipped = [
         Gate::X { q: 0 },
         Gate::Cx { c: 0, t: 1 },
         Gate::P { k: 2, q: 1 },
     ];
-    let built = resynth(rt.alloc(), 2, list.as_slice())?;
-    let wanted = gates_of_text(rt.alloc(), "c10 6.0 c10 c01 x.0 x.1")?;
-    assert!(rt; built.list.as_slice() == wanted.as_slice() && built.turn == 0);
-    Ok(())
+    let built = resynth(alloc, 2, flipped.as_slice())?;
+    let is_built = built.list.as_slice() == gates_of_text(alloc, gates)?.as_slice();
+    Ok(none.list.is_empty() && none.turn == 0 && is_built && built.turn == 0)
+}
+
+/// A flipped phase, by hand: the sum of both wires turns by -2, both wires are flipped, and the turn is 4 - 4.
+#[test]
+fn flipped_phase_and_cnot_twice(rt: HostRuntime) -> Result<(), Wrong> {
+    let gates = "c10 6.0 c10 c01 x.0 x.1";
+    each_row(rt.alloc(), gates, "\n", is_resynthesised)
 }
 
 const FOUR: [Gate; 4] = [
@@ -91,8 +94,11 @@ const FOUR: [Gate; 4] = [
     Gate::Cx { c: 64, t: 255 },
 ];
 
-/// Whether a circuit becomes one CNOT.
-fn is_one(alloc: Global, body: Circuit) -> Result<bool, AllocError> {
+/// Whether four CNOTs on so many wires become one.
+fn is_one(alloc: Global, wires: &str) -> Result<bool, AllocError> {
+    let Some(body) = circuit_of(alloc, small(wires, 0), FOUR.as_slice())? else {
+        return Ok(false);
+    };
     let passed = ResynthPass.run(alloc, body)?;
     let gates = gates_of(alloc, &passed.body)?;
     Ok(gates.as_slice() == [Gate::Cx { c: 63, t: 255 }].as_slice() && passed.turn == 0)
@@ -100,10 +106,14 @@ fn is_one(alloc: Global, body: Circuit) -> Result<bool, AllocError> {
 
 /// Four CNOTs that are one, far apart on many wires.
 #[test]
-fn four_to_one(rt: HostRuntime) -> Result<(), Fail> {
-    let body = circuit_of(rt.alloc(), 256, FOUR.as_slice())?.ok_or("no circuit")?;
-    assert!(rt; is_one(rt.alloc(), body)?);
-    Ok(())
+fn four_to_one(rt: HostRuntime) -> Result<(), Wrong> {
+    each_row(rt.alloc(), "256", "\n", is_one)
+}
+
+/// Whether a result has the gates of a text.
+fn has_gates(alloc: Global, passed: &Passed, gates: &str) -> Result<bool, AllocError> {
+    let found = gates_of(alloc, &passed.body)?;
+    Ok(found.as_slice() == gates_of_text(alloc, gates)?.as_slice())
 }
 
 /// Whether the gates of a row, on its wires, become the row's by the pass, with turn 0.
@@ -112,8 +122,7 @@ fn is_passed(alloc: Global, row: &str) -> Result<bool, AllocError> {
         return Ok(false);
     };
     let passed = ResynthPass.run(alloc, body)?;
-    let is_same = gates_of(alloc, &passed.body)? == gates_of_text(alloc, field(row, 2))?;
-    Ok(is_same && passed.turn == 0)
+    Ok(has_gates(alloc, &passed, field(row, 2))? && passed.turn == 0)
 }
 
 /// A circuit of which no layer is replaced comes back in its own order. In the second row the first layer has one CNOT in the place
@@ -123,11 +132,8 @@ const PASSES: &str = "\
 3|c01 c12 c01 c12 h.1 h.0 c01 1.1 c01|c02 h.0 h.1 c01 1.1 c01";
 
 #[test]
-fn keeps_a_layer_at_equal_cnots(rt: HostRuntime) -> Result<(), Fail> {
-    'rows: for row in PASSES.split('\n') {
-        assert!(rt; is_passed(rt.alloc(), row)?, "{row}");
-    }
-    Ok(())
+fn keeps_a_layer_at_equal_cnots(rt: HostRuntime) -> Result<(), Wrong> {
+    each_row(rt.alloc(), PASSES, "\n", is_passed)
 }
 
 /// Whether the first line of a case, gates on three wires and a turn, is told by the lines that follow.
@@ -161,75 +167,6 @@ P 1 1
 h.1 h.0 c01|0";
 
 #[test]
-fn tells_one_step(rt: HostRuntime) -> Result<(), Fail> {
-    'cases: for case in TOLD.split("\n\n") {
-        assert!(rt; is_told(rt.alloc(), case)?, "{case}");
-    }
-    Ok(())
-}
-
-/// The gate of a drawn number, most often a CNOT, on some wires.
-fn gate_of(state: u32, wires: u32) -> Gate
-    requires { 0 < wires }
-{
-    let q = (state >> 8 & 31) % wires;
-    match state >> 28 {
-        0 => Gate::H { q },
-        1 => Gate::X { q },
-        2 | 3 | 4 | 5 => Gate::P {
-            k: (state >> 18 & 7) as u8,
-            q,
-        },
-        _ => Gate::Cx {
-            c: q,
-            t: (state >> 13 & 31) % wires,
-        },
-    }
-}
-
-/// A drawn circuit on 2 to 5 wires, most of it CNOTs, with an H now and then.
-fn drawn(alloc: Global, seed: u32) -> Result<Circuit, AllocError> {
-    let wires = 2 + seed % 4;
-    let mut body = Circuit::empty(alloc, wires)?;
-    let mut state = seed;
-    for _ in 0..24 {
-        state = state.wrapping_mul(1_664_525).wrapping_add(1_013_904_223);
-        let gate = gate_of(state, wires);
-        if is_fine(body.wires(), gate) {
-            body.push(gate)?;
-        }
-    }
-    Ok(body)
-}
-
-/// The turn of a circuit that becomes these gates by the pass; none if it becomes others.
-fn turn_to(alloc: Global, body: Circuit, gates: &[Gate]) -> Result<Option<u8>, AllocError> {
-    let passed = ResynthPass.run(alloc, body)?;
-    let is_same = gates_of(alloc, &passed.body)?.as_slice() == gates;
-    Ok(if is_same { Some(passed.turn) } else { None })
-}
-
-/// The same with a trace.
-fn traced_to(alloc: Global, body: Circuit, gates: &[Gate]) -> Result<Option<u8>, AllocError> {
-    let mut trace = Trace::start(alloc);
-    let passed = ResynthPass.run_traced(alloc, body, &mut trace)?;
-    let is_same = gates_of(alloc, &passed.body)?.as_slice() == gates;
-    Ok(if is_same { Some(passed.turn) } else { None })
-}
-
-/// Whether the pass gives what the written walk gives, and gives the same with a trace, for the circuit that is drawn from a seed.
-fn is_walked(alloc: Global, seed: u32) -> Result<bool, AllocError> {
-    let body = drawn(alloc, seed)?;
-    let expected = walked(alloc, &body)?;
-    let traced = traced_to(alloc, body.copy()?, &expected)?;
-    let turn = turn_to(alloc, body, &expected)?;
-    Ok(turn.is_some() && turn == traced)
-}
-
-#[test]
-fn as_the_written_walk(rt: HostRuntime) -> Result<(), Fail> {
-    'seeds: for seed in 0..64u32 {
-        assert!(rt; is_walked(rt.alloc(), seed)?, "{seed}");
-    }
-    Ok(())
+fn tells_one_step(rt: HostRuntime) -> Result<(), Wrong> {
+    each_row(rt.alloc(), TOLD, "\n\n", is_told)
 }

@@ -1,4 +1,4 @@
-//! Rows by their wires, rows of three wires by numbers, and drawn numbers.
+//! Rows by their wires, and rows of three wires by numbers.
 
 ghost use Rattle.std.specs.Prelude.{◌<◌, ◌^◌, All, IfOk};
 
@@ -64,7 +64,7 @@ pub fn pairs(alloc: Global, word: &str) -> Result<Vec<(u32, u32)>, AllocError> {
 }
 
 /// The row of three wires whose bits a number spells.
-pub fn row_of(mask: u32) -> Row
+fn row_of(mask: u32) -> Row
     ensures small { result < 2 ^ 3 }
 {
     let mut row = Row::empty();
@@ -85,13 +85,4 @@ pub fn rows_of(alloc: Global, masks: &[u32]) -> Result<Vec<Row>, AllocError>
         rows.push(row_of(*mask))?;
     }
     Ok(rows)
-}
-
-/// The next number of Marsaglia's xorshift generator.
-pub fn drawn(number: u32) -> u32 {
-    let mut next = number;
-    next ^= next << 13;
-    next ^= next >> 17;
-    next ^= next << 5;
-    next
 }

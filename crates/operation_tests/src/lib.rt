@@ -1,4 +1,5 @@
-//! Tests of `unitary_reference`, `gate_expand` and `bench_program`: entries and counts by hand, the table of gates, and drawn programs.
+//! Tests of `unitary_reference`, `path_parity`, `gate_expand` and `bench_program`: entries, counts, labels and odd path parities by hand,
+//! the table of gates, and drawn programs.
 //!
 //! The entries that `amplitude_exact` computes stand in `cases/entries.txt`, as runs of `amplitude`.
 //!
@@ -10,5 +11,7 @@
 mod drawn_tests;
 #[cfg(test)]
 mod expand_tests;
+#[cfg(test)]
+mod parity_tests;
 #[cfg(test)]
 mod plain_tests;

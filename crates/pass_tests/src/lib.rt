@@ -1,4 +1,4 @@
-//! Tests of `path_parity`, `commute_rules`, `rewrite_pass` and the passes: rows by hand.
+//! Tests of `commute_rules`, `rewrite_pass` and the passes: rows by hand.
 //!
 //! Each test function is proved too, so they stand in a crate of their own: these crates are proved once. A proof is long for each
 //! assert in a loop, so a test hands its rows, the lines of a text, and the function that judges one of them to `each_row`.
@@ -17,8 +17,6 @@ mod hadamard_tests;
 mod merge_tests;
 #[cfg(test)]
 mod not_tests;
-#[cfg(test)]
-mod parity_tests;
 #[cfg(test)]
 mod passed;
 #[cfg(test)]

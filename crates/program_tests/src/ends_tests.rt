@@ -2,21 +2,29 @@
 
 use crate::runs_tests::{Case, Outcome, run_case};
 use std::alloc::{AllocError, Global};
-use std::test::Fail;
+use test_rows::{Wrong, each_row};
 
 const TWO: &[u8] = b"OPENQASM 2.0;\ninclude \"qelib1.inc\";\nqreg q[1]; t q[0]; t q[0];";
 
-const SHELF: [(&str, &str); 3] = [
-    ("d", "qubits = 1\nedges = []\n"),
-    (
-        "s",
-        "OPENQASM 2.0;\ninclude \"qelib1.inc\";\nqreg q[1]; t q[0]; t q[0];\n",
-    ),
-    (
-        "t",
-        "OPENQASM 2.0;\ninclude \"qelib1.inc\";\nqreg q[1]; s q[0];\n//!TRACE 1\n//!join 0 1\n//!place 0\n//!emit 0\n//!end 0\n",
-    ),
-];
+/// A device, and a source and a target with its trace.
+const SHELF: &str = "\
+d
+qubits = 1
+edges = []
+===s
+OPENQASM 2.0;
+include \"qelib1.inc\";
+qreg q[1]; t q[0]; t q[0];
+===t
+OPENQASM 2.0;
+include \"qelib1.inc\";
+qreg q[1]; s q[0];
+//!TRACE 1
+//!join 0 1
+//!place 0
+//!emit 0
+//!end 0
+";
 
 const SMALLER: &str = "OPENQASM 2.0;\ninclude \"qelib1.inc\";\nqreg q[1];\ns q[0];\n";
 
@@ -104,11 +112,12 @@ fn has_ends(row: &str, got: &Outcome) -> bool {
     let command = command_of(row);
     let is_out = (got.status == 0 || got.status == 8) && command != "check";
     let [_, _, _, report_fails] = fails_of(row);
-    let is_told = report_fails == 0 && !got.report.is_empty();
+    let is_told = report_fails == 0 && !got.report.as_slice().is_empty();
     let is_read = command != "bench" && command != "verify";
-    got.flushed == (is_out, is_told)
-        && (is_read || got.calls == 0)
-        && (!is_read || got.status != 0 || got.left == 0)
+    got.out.is_flushed() == is_out
+        && got.report.is_flushed() == is_told
+        && (is_read || got.input.calls() == 0)
+        && (!is_read || got.status != 0 || got.input.rest().is_empty())
 }
 
 /// Whether a run comes out as its row says.
@@ -162,9 +171,6 @@ qroute check; 0 0 1 2; 9999; 8; 0; report
 qroute; 1 1 1 0; 16; 2; 0; Words";
 
 #[test]
-fn fails_at_each_call(rt: HostRuntime) -> Result<(), Fail> {
-    'rows: for row in ROWS.split('\n') {
-        assert!(rt; ends_so(rt.alloc(), row)?, "{row}");
-    }
-    Ok(())
+fn fails_at_each_call(rt: HostRuntime) -> Result<(), Wrong> {
+    each_row(rt.alloc(), ROWS, "\n", ends_so)
 }

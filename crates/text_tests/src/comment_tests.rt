@@ -1,33 +1,29 @@
 //! Traces in comments, and the lines of a text.
 
 use std::alloc::{AllocError, Global};
-use std::test::Fail;
+use test_rows::{Wrong, each_row};
 use trace_text::{first_line, trace_of};
 
-/// Whether a text has this trace.
-fn is_trace(alloc: Global, text: &str, trace: &str) -> Result<bool, AllocError> {
+/// Whether a row's text has its trace.
+fn is_trace(alloc: Global, row: &str) -> Result<bool, AllocError> {
+    let (text, trace) = row.split_once(" => ").unwrap_or((row, "none"));
     Ok(trace_of(alloc, text.as_bytes())?.as_slice() == trace.as_bytes())
 }
 
-/// Texts and their traces.
-const TRACES: [(&str, &str); 9] = [
-    ("", ""),
-    ("// no trace\nqreg q[1];\n", ""),
-    ("h q[0]; //! behind a statement\n", ""),
-    ("//!TRACE 1\nh q[0];\n//!rule 3 0\n", "TRACE 1\nrule 3 0\n"),
-    ("\n//!\n\n//! two words\n", "\n two words\n"),
-    ("//!first\n//!last", "first\nlast\n"),
-    (" //!with a blank before\n\t//!and a tab\n", ""),
-    ("//!kept\r\n//! !\n", "kept\r\n !\n"),
-    ("//\n/!\n/ /!\n//!//!\n", "//!\n"),
-];
+/// Texts and their traces. Rows stand apart by a line of dots.
+const TRACES: &str = " => \
+\n....\n// no trace\nqreg q[1];\n => \
+\n....\nh q[0]; //! behind a statement\n => \
+\n....\n//!TRACE 1\nh q[0];\n//!rule 3 0\n => TRACE 1\nrule 3 0\n\
+\n....\n\n//!\n\n//! two words\n => \n two words\n\
+\n....\n//!first\n//!last => first\nlast\n\
+\n....\n //!with a blank before\n\t//!and a tab\n => \
+\n....\n//!kept\r\n//! !\n => kept\r\n !\n\
+\n....\n//\n/!\n/ /!\n//!//!\n => //!\n";
 
 #[test]
-fn gives_the_trace(rt: HostRuntime) -> Result<(), Fail> {
-    'rows: for (text, trace) in TRACES {
-        assert!(rt; is_trace(rt.alloc(), text, trace)?, "{text}");
-    }
-    Ok(())
+fn gives_the_trace(rt: HostRuntime) -> Result<(), Wrong> {
+    each_row(rt.alloc(), TRACES, "\n....\n", is_trace)
 }
 
 /// Whether a text has this first line, and this rest.

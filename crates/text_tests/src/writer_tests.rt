@@ -7,8 +7,7 @@ use outside_io::MemSink;
 use qasm_writer::output::{Output, Register};
 use qasm_writer::{PieceBuffer, program_text, write_program};
 use std::alloc::{AllocError, Global};
-use std::test::Fail;
-use test_rows::{number, word};
+use test_rows::{Wrong, each_row, field, number, small, word};
 
 const HEAD: &str = "OPENQASM 2.0;\ninclude \"qelib1.inc\";\n";
 
@@ -43,15 +42,6 @@ fn long_body(alloc: Global) -> Result<Circuit, AllocError>
     Ok(body)
 }
 
-/// The header, and 18 bytes for each gate.
-#[test]
-fn writes_whole_pieces_and_the_rest(rt: HostRuntime) -> Result<(), Fail> {
-    let body = long_body(rt.alloc())?;
-    let text = bare_text(rt.alloc(), &body, b"")?;
-    assert!(rt; text.len() == 48 + 18 * 1_030);
-    Ok(())
-}
-
 /// Whether the text of a circuit is sent.
 fn sends(body: &Circuit, buffer: &mut PieceBuffer, sink: &mut MemSink) -> bool {
     let output = Output {
@@ -66,24 +56,31 @@ fn sends(body: &Circuit, buffer: &mut PieceBuffer, sink: &mut MemSink) -> bool {
 }
 
 /// Whether so much of the text of a circuit comes to a sink as a row says.
-fn is_sent(
-    alloc: Global,
-    body: &Circuit,
-    text: &[u8],
-    buffer: &mut PieceBuffer,
-    row: &str,
-) -> Result<bool, AllocError> {
+fn is_sent(alloc: Global, body: &Circuit, text: &[u8], row: &str) -> Result<bool, AllocError> {
     let held = number(row, 2) as usize;
     if held > text.len() {
         return Ok(false);
     }
     let failing = Vec::from_slice(alloc, &[number(row, 0)])?;
     let mut sink = MemSink::new(alloc, 20_000, 4_096, failing)?;
+    let mut buffer = PieceBuffer::new(alloc)?;
+    let is_whole = sends(body, &mut buffer, &mut sink) == (word(row, 1) == "sent");
+    // again with the same buffer, to a sink that takes all
+    let mut all = MemSink::new(alloc, 20_000, 20_000, Vec::new(alloc))?;
     Ok(
-        sends(body, buffer, &mut sink) == (word(row, 1) == "sent")
+        is_whole
             && sink.as_slice() == &text[..held]
-            && sink.calls() == number(row, 3),
+            && sink.calls() == number(row, 3)
+            && sends(body, &mut buffer, &mut all)
+            && all.as_slice() == text,
     )
+}
+
+/// The same of the long circuit, whose text is the header, and 18 bytes for each gate.
+fn is_long_sent(alloc: Global, row: &str) -> Result<bool, AllocError> {
+    let body = long_body(alloc)?;
+    let text = bare_text(alloc, &body, b"")?;
+    Ok(text.len() == 48 + 18 * 1_030 && is_sent(alloc, &body, &text, row)?)
 }
 
 /// Failing call, whether all was sent, bytes that came, calls.
@@ -97,44 +94,30 @@ const SENDS: &str = "\
 6 sent 18588 5";
 
 #[test]
-fn sends_whole_pieces_and_the_rest(rt: HostRuntime) -> Result<(), Fail> {
-    let body = long_body(rt.alloc())?;
-    let text = bare_text(rt.alloc(), &body, b"")?;
-    let mut buffer = PieceBuffer::new(rt.alloc())?;
-    'rows: for row in SENDS.split('\n') {
-        assert!(rt;
-            is_sent(rt.alloc(), &body, &text, &mut buffer, row)?,
-            "{row}"
-        );
-    }
-    Ok(())
+fn sends_whole_pieces_and_the_rest(rt: HostRuntime) -> Result<(), Wrong> {
+    each_row(rt.alloc(), SENDS, "\n", is_long_sent)
 }
 
-/// Traces, and their comments.
-const TRACES: [(&str, &str); 5] = [
-    ("", ""),
-    ("TRACE 1\nend 0 0\n", "//!TRACE 1\n//!end 0 0\n"),
-    ("one\n\nthree\n", "//!one\n//!\n//!three\n"),
-    ("one\ntwo", "//!one\n//!two\n"),
-    ("\r\n//!\"{\t\n", "//!\r\n//!//!\"{\t\n"),
-];
-
-/// Whether a trace is written as these comments after a program.
-fn is_commented(alloc: Global, trace: &str, comments: &str) -> Result<bool, AllocError> {
+/// Whether the trace of a row is written as its comments after a program.
+fn is_commented(alloc: Global, row: &str) -> Result<bool, AllocError> {
     let mut body = Circuit::empty(alloc, 1)?;
     body.push(Gate::X { q: 0 })?;
-    let text = bare_text(alloc, &body, trace.as_bytes())?;
+    let text = bare_text(alloc, &body, field(row, 0).as_bytes())?;
     let mut lines = String::from_str(alloc, "qreg q[1];\nx q[0];\n")?;
-    lines.push_str(comments)?;
+    lines.push_str(field(row, 1))?;
     is_program(alloc, &text, lines.as_str())
 }
 
+/// Traces, and their comments. Rows stand apart by a line of dots.
+const TRACES: &str = "|\
+\n....\nTRACE 1\nend 0 0\n|//!TRACE 1\n//!end 0 0\n\
+\n....\none\n\nthree\n|//!one\n//!\n//!three\n\
+\n....\none\ntwo|//!one\n//!two\n\
+\n....\n\r\n//!\"{\t\n|//!\r\n//!//!\"{\t\n";
+
 #[test]
-fn writes_a_trace_behind_the_program(rt: HostRuntime) -> Result<(), Fail> {
-    'rows: for (trace, comments) in TRACES {
-        assert!(rt; is_commented(rt.alloc(), trace, comments)?, "{trace}");
-    }
-    Ok(())
+fn writes_a_trace_behind_the_program(rt: HostRuntime) -> Result<(), Wrong> {
+    each_row(rt.alloc(), TRACES, "\n....\n", is_commented)
 }
 
 /// The text of a circuit on two wires, all of it in the second of four parts.
@@ -157,14 +140,17 @@ fn parts_text(alloc: Global, body: &Circuit) -> Result<Vec<u8>, AllocError>
     program_text(alloc, &output)
 }
 
-#[test]
-fn writes_parts_without_gates(rt: HostRuntime) -> Result<(), Fail> {
-    let mut body = Circuit::empty(rt.alloc(), 2)?;
+fn are_parts(alloc: Global, lines: &str) -> Result<bool, AllocError> {
+    let mut body = Circuit::empty(alloc, 2)?;
     body.push(Gate::X { q: 0 })?;
-    let text = parts_text(rt.alloc(), &body)?;
+    let text = parts_text(alloc, &body)?;
+    is_program(alloc, &text, lines)
+}
+
+#[test]
+fn writes_parts_without_gates(rt: HostRuntime) -> Result<(), Wrong> {
     let lines = "qreg q[2];\nbarrier q[0];\nx q[0];\nbarrier q[1],q[0],q[1];\nbarrier q[1];\n";
-    assert!(rt; is_program(rt.alloc(), &text, lines)?);
-    Ok(())
+    each_row(rt.alloc(), lines, "\n\n", are_parts)
 }
 
 /// The text of the long circuit with a barrier before its last thirty gates, and a bit that reads a wire.
@@ -204,17 +190,16 @@ fn write_later(lines: &mut String) -> Result<(), AllocError> {
     lines.push_str("measure q_[11] -> q[0];\n")
 }
 
-/// Whether a text has these lines.
-fn is_later(alloc: Global, text: &[u8]) -> Result<bool, AllocError> {
+/// Whether that text has these lines, if its long circuit has so many gates.
+fn is_later(alloc: Global, gates: &str) -> Result<bool, AllocError> {
+    let body = long_body(alloc)?;
+    let text = later_text(alloc, &body)?;
     let mut lines = String::new(alloc);
     write_later(&mut lines)?;
-    is_program(alloc, text, lines.as_str())
+    Ok(body.len() == small(gates, 0) as usize && is_program(alloc, &text, lines.as_str())?)
 }
 
 #[test]
-fn writes_a_barrier_in_a_later_piece(rt: HostRuntime) -> Result<(), Fail> {
-    let body = long_body(rt.alloc())?;
-    let text = later_text(rt.alloc(), &body)?;
-    assert!(rt; is_later(rt.alloc(), &text)?);
-    Ok(())
+fn writes_a_barrier_in_a_later_piece(rt: HostRuntime) -> Result<(), Wrong> {
+    each_row(rt.alloc(), "1030", "\n", is_later)
 }
