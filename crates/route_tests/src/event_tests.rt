@@ -33,7 +33,7 @@ fn tells(
     if given.size() != device.size() || circuit.wires() > device.size() {
         return Ok(false);
     }
-    let (_routed, events) = route_traced(alloc, circuit, device, given)?;
+    let (_routed, events) = route_traced(alloc, circuit, device, given, &mut None)?;
     let told = shown(alloc, &events)?;
     Ok(told.as_str().strip_prefix(' ').unwrap_or("") == wanted)
 }
@@ -88,7 +88,7 @@ fn replays_alike(
     }
     let gates = gates_of(alloc, circuit)?;
     let mut plain = Plain::start(alloc, &gates, given.qubits())?;
-    let (routed, events) = route_traced(alloc, circuit, device, given)?;
+    let (routed, events) = route_traced(alloc, circuit, device, given, &mut None)?;
     Ok(plain.replay(device, &events)? && plain.wrote(alloc, &routed)?)
 }
 
