@@ -200,8 +200,8 @@ pub met-once : (most : ℕ) (waits : ℕ → ℕ → Type 0) (unbound : ℕ → 
 met-once most waits unbound old new some less h k =
     same_lists old new (omega (arith, same_length old new (both most waits unbound old new some less h k (length old)).0, same_length new old (both most waits unbound old new some less h k (length new)).1))
     (λ i d lt.
-        let s = (both most waits unbound old new some less h k (length old)).0 i lt lt in
-        get_or_default old i d (0, 0) lt ∙ sym s.1 ∙ get_or_default new i (0, 0) d s.0)
+    let s = (both most waits unbound old new some less h k (length old)).0 i lt lt in
+    get_or_default old i d (0, 0) lt ∙ sym s.1 ∙ get_or_default new i (0, 0) d s.0)
 
 pub along-once : (most : ℕ) (gs : List Gate) (m : ℕ) (es fs : List (ℕ × ℕ)) → 0 < most → IsAlong most gs m es → IsAlong most gs m fs → es ≡ fs
 along-once most gs m es fs some (old, h, e) (new, k, f) =

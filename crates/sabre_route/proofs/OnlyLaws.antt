@@ -184,13 +184,12 @@ only-taken gs following j g h e =
     let at = only-at gs j g h.there e in
     let i = length (cx_only (take j gs)) in
     let within = slice_get_within (cx_only gs) i g at.0 in
-    let both = only-append gs following in
-    (
+    let both = only-append gs following in (
       i,
       record {
         there = ap (λ (xs : List Gate). slice_get xs i) both ∙ get-append (cx_only gs) (cx_only following) i g at.0;
         first = ap (λ (xs : List Gate). not (list_any (shares g) xs)) (ap (take i) both ∙ take-append-le i (cx_only gs) (cx_only following) (omega (arith, within)) ∙ at.2)
-        ∙ ap not (any-only (shares g) (take j gs) (unfree (list_any (shares g) (take j gs)) refl));
+            ∙ ap not (any-only (shares g) (take j gs) (unfree (list_any (shares g) (take j gs)) refl));
       },
       only-append (remove gs j) following ∙ ap (λ xs. xs ++ cx_only following) at.1 ∙ sym (remove-append_left (cx_only gs) (cx_only following) i within) ∙ ap (λ xs. remove xs i) (sym both),
     )

@@ -86,8 +86,7 @@ among-left gs heads later m e look few cut = record {
     back : (y x : ℕ) → WaitsFor (rest heads gs) y x → (b : ℕ) × (a : ℕ) × Waits gs heads b a × (index_of heads gs b ≡ y) × (index_of heads gs a ≡ x)
     back y x w =
         let b = place-of gs heads y w.other w.here in
-        let a = place-of gs heads x w.one w.there in
-        (
+        let a = place-of gs heads x w.one w.there in (
           b.0,
           a.0,
           record {
@@ -164,6 +163,6 @@ along-left gs heads later m e first count places look few cut h = (
   renamed (index_of heads gs) h.met,
   met-renamed most_extended (IsLeftAt gs heads) (index_of heads gs) (Waits gs heads) (Unbound gs heads e) (WaitsFor (rest heads gs)) (IsUnbound (rest heads gs) m) h.met (among-left gs heads later m e look few cut) h.are_met,
   ap (pairs_at gs) (sym h.are)
-  ∙ sym (pairs-left gs heads (map (λ p. p.1) (behind h.met)) (behind-each (IsLeftAt gs heads) h.met (λ i lt. each-left gs heads e h.met look.are_heads (entry h.met i).0 (entry h.met i).1 (h.are_met.released i lt))))
-  ∙ ap (pairs_at (rest heads gs)) (sym (places-renamed (index_of heads gs) h.met)),
+      ∙ sym (pairs-left gs heads (map (λ p. p.1) (behind h.met)) (behind-each (IsLeftAt gs heads) h.met (λ i lt. each-left gs heads e h.met look.are_heads (entry h.met i).0 (entry h.met i).1 (h.are_met.released i lt))))
+      ∙ ap (pairs_at (rest heads gs)) (sym (places-renamed (index_of heads gs) h.met)),
 )

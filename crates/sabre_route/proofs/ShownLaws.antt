@@ -151,8 +151,7 @@ shown-set gs heads read later o q layer begun reach places count limit xs h same
     let cut = cut-at heads gs m (omega (arith, le, ap length left)) in
     let f = followed heads cut.0 (length layer) (shown-begun gs heads read later o q layer m cut.0 begun reach limit h e cut.1 same back begin limited) in
     let js = drop (length layer) (take count places) in
-    let shape : take (count - length layer) (drop (length layer) places) ≡ js = part places (length layer) count in
-    (
+    let shape : take (count - length layer) (drop (length layer) places) ≡ js = part places (length layer) count in (
       pairs_at gs js,
       subst (λ (ys : List Gate). IsAlong most_extended ys m (pairs_at gs js)) left (along-left gs heads later m cut.0 (length layer) count places h.lookout (omega (arith, le, ap length left)) cut.1 f),
       subst (λ (n : ℕ). AreWithin n (pairs_at gs js)) (wires-of gs heads later o q h) (All-from_recursion _ (pairs_at gs js) (pairs-within (length heads) gs js h.lookout.fine)),

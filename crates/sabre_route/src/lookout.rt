@@ -251,12 +251,7 @@ fn follow_all(
 }
 
 /// Notes the places of the front layer's CNOTs, which are the first on the wires that stand on their controls.
-fn begin(
-    heads: &[usize],
-    placement: &Placement,
-    layer: &[(u32, u32)],
-    places: &mut [usize],
-)
+fn begin(heads: &[usize], placement: &Placement, layer: &[(u32, u32)], places: &mut [usize])
     requires there { All (λ p. (p.0 < length placement.now) × (position_of p.0 placement.now < length heads.now)) layer.now }
     requires room { length layer.now ≤ length places.old }
     ensures begun { take (length layer.now) places.new ≡ map (λ p. slice_index heads.now (position_of p.0 placement.now)) layer.now }

@@ -1,4 +1,4 @@
-use Rattle.std.proofs.Common.{ℕ, List, Option, length, subst, sym}
+use Rattle.std.proofs.Common.{ℕ, List, Option, length, subst, sym, take}
 use Rattle.sabre_route.specs.Ahead.{IsSeen, Outlook}
 use Rattle.sabre_route.specs.Looking.{IsLayer, IsSet}
 use Rattle.sabre_route.proofs.SeenLaws.{seen-along, seen-front, seen-ordered}
@@ -20,7 +20,8 @@ returns-in-None-clause-set c = λ ahead h.
 
 pub returns-in-Some-clause-set : goal.returns-in-Some-clause-set
 returns-in-Some-clause-set c = λ ahead h.
+    let xs = take c.extended_qubits-in-Some.result c.extended_qubits-in-Some.new.into in
     let q = c.args.state.now.placement in
     let gs = c.args.state.now.rest in
-    seen-along c.args.device.now.edges q ahead c.in-Some.lookout (length q) gs c.args.layer.now _ (subst (λ (o : Option Outlook). IsSeen ahead o (length q) gs) c.in-Some.is h) c.requires.stuck c.requires.layer
-    (subst (λ (p : List ℕ). IsSet c.in-Some.lookout p c.args.layer.now _) c.placement.ensures.value c.extended_qubits-in-Some.ensures.set)
+    seen-along c.args.device.now.edges q ahead c.in-Some.lookout (length q) gs c.args.layer.now xs (subst (λ (o : Option Outlook). IsSeen ahead o (length q) gs) c.in-Some.is h) c.requires.stuck c.requires.layer
+    (subst (λ (p : List ℕ). IsSet c.in-Some.lookout p c.args.layer.now xs) c.placement.ensures.value c.extended_qubits-in-Some.ensures.set)
