@@ -6,7 +6,8 @@
 --   further-more        a longer list with one more of them
 --   met-once           two such lists are the same
 --   along-once, extended-once     so there is one extended set
-use Rattle.std.proofs.Common.{◌≡◌, ℕ, zero, suc, ◌<◌, ◌≤◌, ◌⊎◌, inl, inr, Bool, true, false, cond, List, [], ◌∷◌, ◌++◌, length, map, nat_lt, refl, sym, ◌∙◌, ap, subst, arith}
+use Rattle.std.proofs.Common.{◌≡◌, ℕ, zero, suc, ◌+◌, ◌<◌, ◌≤◌, ◌⊎◌, inl, inr, Bool, true, false, cond, List, [], ◌∷◌, ◌++◌, length, map, nat_lt, slice_index_or, refl, sym, ◌∙◌, ap, subst, arith}
+use Rattle.std.specs.List.{filter}
 use Rattle.std.proofs.lemmas.Bool.{cases_eq, cases_lt}
 use Rattle.std.proofs.lemmas.Bool.Decides.{nat_tests}
 use Rattle.std.proofs.lemmas.List.{get_or_default, same_lists}
@@ -26,9 +27,10 @@ before-same : (p q : ℕ × ℕ) → p ≡ q → IsBefore p q → ⊥
 before-same p q e h = let k = subst (λ (r : ℕ × ℕ). IsBefore r q) e h in before-never q.0 q.1 q.0 q.1 k k
 
 -- ---- the time of a release is at most the number
-early : (most : ℕ) (waits : ℕ → ℕ → Type 0) (unbound : ℕ → Type 0) (met : List (ℕ × ℕ)) → ((b a : ℕ) → waits b a → a < b) → AreMet most waits unbound met
+early : (waits : ℕ → ℕ → Type 0) (unbound : ℕ → Type 0) (met : List (ℕ × ℕ)) → ((b a : ℕ) → waits b a → a < b)
+    → ((i j : ℕ) → i < j → j < length met → IsBefore (nth_met met i) (nth_met met j)) → ((i : ℕ) → i < length met → IsReleasedAt waits unbound met (nth_met met i).0 (nth_met met i).1)
     → (n i : ℕ) → ((k : ℕ) → k < length met → (nth_met met k).1 < n → (nth_met met k).0 ≤ k) → i < length met → (nth_met met i).1 ≤ n → (nth_met met i).0 ≤ i
-early most waits unbound met less h n i sooner lt le = go (nth_met met i).0 refl (h.released i lt)
+early waits unbound met less ordered released n i sooner lt le = go (nth_met met i).0 refl (released i lt)
   where
     apart : (k : ℕ) → k < length met → (nth_met met k).0 ≤ k → (nth_met met i).0 ≡ suc k → IsBefore (nth_met met i) (nth_met met k) → (nth_met met i).0 ≤ i
     apart k within low e (inl f) = absurd (omega (arith, e, low, f))
@@ -36,7 +38,7 @@ early most waits unbound met less h n i sooner lt le = go (nth_met met i).0 refl
 
     other : (k : ℕ) → k < length met → (nth_met met k).0 ≤ k → (nth_met met i).0 ≡ suc k → i ≤ k → (i ≡ k) ⊎ (i ≡ k → ⊥) → (nth_met met i).0 ≤ i
     other k within low e ge (inl f) = absurd (omega (arith, e, low, ap (λ (j : ℕ). (nth_met met j).0) f))
-    other k within low e ge (inr ne) = apart k within low e (h.ordered i k (omega arith) within)
+    other k within low e ge (inr ne) = apart k within low e (ordered i k (omega arith) within)
 
     later : (k : ℕ) → k < length met → (nth_met met k).0 ≤ k → (nth_met met i).0 ≡ suc k → (k < i) ⊎ (i ≤ k) → (nth_met met i).0 ≤ i
     later k within low e (inl lt) = omega (arith, e)
@@ -46,10 +48,11 @@ early most waits unbound met less h n i sooner lt le = go (nth_met met i).0 refl
     go zero e r = omega (arith, e)
     go (suc k) e r = later k r.0.2.0 (sooner k r.0.2.0 (omega (arith, le, less _ _ r.0.1, r.0.2.1))) e (cases_lt k i)
 
-pub met-early : (most : ℕ) (waits : ℕ → ℕ → Type 0) (unbound : ℕ → Type 0) (met : List (ℕ × ℕ)) → ((b a : ℕ) → waits b a → a < b) → AreMet most waits unbound met
+pub met-early : (waits : ℕ → ℕ → Type 0) (unbound : ℕ → Type 0) (met : List (ℕ × ℕ)) → ((b a : ℕ) → waits b a → a < b)
+    → ((i j : ℕ) → i < j → j < length met → IsBefore (nth_met met i) (nth_met met j)) → ((i : ℕ) → i < length met → IsReleasedAt waits unbound met (nth_met met i).0 (nth_met met i).1)
     → (n i : ℕ) → i < length met → (nth_met met i).1 ≤ n → (nth_met met i).0 ≤ i
-met-early most waits unbound met less h zero i lt le = early most waits unbound met less h 0 i (λ k within low. absurd (omega (arith, low))) lt le
-met-early most waits unbound met less h (suc n) i lt le = early most waits unbound met less h (suc n) i (λ k within low. met-early most waits unbound met less h n k within (omega (arith, low))) lt le
+met-early waits unbound met less ordered released zero i lt le = early waits unbound met less ordered released 0 i (λ k within low. absurd (omega (arith, low))) lt le
+met-early waits unbound met less ordered released (suc n) i lt le = early waits unbound met less ordered released (suc n) i (λ k within low. met-early waits unbound met less ordered released n k within (omega (arith, low))) lt le
 
 -- ---- lists with the same first entries
 abbrev pub AreSame : List (ℕ × ℕ) → List (ℕ × ℕ) → ℕ → Type 0
@@ -118,7 +121,7 @@ record AreTwo (most : ℕ) (waits : ℕ → ℕ → Type 0) (unbound : ℕ → T
 
 -- an nth_met of the new list at number i isn't before the old one's
 not_before : (most : ℕ) (waits : ℕ → ℕ → Type 0) (unbound : ℕ → Type 0) (old new : List (ℕ × ℕ)) (i : ℕ) → AreTwo most waits unbound old new i → i < length old → i < length new → IsBefore (nth_met new i) (nth_met old i) → ⊥
-not_before most waits unbound old new i h in_old in_new before = go (h.old_met.others t b (released-carried waits unbound new old i t b h.back (met-early most waits unbound new h.less h.new_met b i in_new (omega arith)) (h.new_met.released i in_new)))
+not_before most waits unbound old new i h in_old in_new before = go (h.old_met.others t b (released-carried waits unbound new old i t b h.back (met-early waits unbound new h.less h.new_met.ordered h.new_met.released b i in_new (omega arith)) (h.new_met.released i in_new)))
   where
     t : ℕ
     t = (nth_met new i).0
@@ -136,7 +139,7 @@ not_before most waits unbound old new i h in_old in_new before = go (h.old_met.o
         at (inr le) (inr ne) = before-never _ _ _ _ before (subst (λ (p : ℕ × ℕ). IsBefore (nth_met old i) p) is (h.old_met.ordered i j (omega arith) within))
 
 half : (most : ℕ) (waits : ℕ → ℕ → Type 0) (unbound : ℕ → Type 0) (old new : List (ℕ × ℕ)) (i : ℕ) → AreTwo most waits unbound old new i → i < length old → (i < length new) × (nth_met new i ≡ nth_met old i)
-half most waits unbound old new i h lt = go (h.new_met.others t b (released-carried waits unbound old new i t b h.onward (met-early most waits unbound old h.less h.old_met b i lt (omega arith)) (h.old_met.released i lt)))
+half most waits unbound old new i h lt = go (h.new_met.others t b (released-carried waits unbound old new i t b h.onward (met-early waits unbound old h.less h.old_met.ordered h.old_met.released b i lt (omega arith)) (h.old_met.released i lt)))
   where
     t : ℕ
     t = (nth_met old i).0
