@@ -1,6 +1,6 @@
 -- CNOTs are met along dependences as if they were emitted one by one.
 --   shares-wire, wire-shares     two gates share a wire
---   left-wire, wire-left         a gate is left where no head of its wires is further it
+--   left-wire, wire-left         a gate is left where no head of its wires is after it
 --   reached-first        a gate is first on its wires where both heads are at its place
 --   first-kept           what is first on its wires stays so while others are passed
 --   passed-looking       a gate that was met is passed

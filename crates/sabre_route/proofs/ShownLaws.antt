@@ -104,7 +104,7 @@ layer-met gs heads read later o q layer places h l same begin =
     begun-there gs heads cut.0 (length layer) (length layer) (length layer + most_extended) places heads
     (shown-begun gs heads read later o q layer l.many cut.0 places heads (length layer + most_extended) h l.is cut.1 same refl begin refl)
 
--- ---- the part further it
+-- ---- the part after it
 part : (js : List ℕ) (i j : ℕ) → take (j - i) (drop i js) ≡ drop i (take j js)
 part js i j = between_is js i j
 
