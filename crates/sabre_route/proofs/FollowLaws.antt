@@ -3,26 +3,25 @@
 --   following-done       all were followed, or there are enough
 --   cut-at               the place before which the first m gates that are left stand
 --   following-begun      the front layer is met
-use Rattle.std.proofs.Common.{◌≡◌, ℕ, zero, suc, ◌+◌, ◌<◌, ◌≤◌, ◌⊎◌, inl, inr, Bool, true, false, cond, All, List, [], ◌∷◌, ◌++◌, Some, drop, get_or, length, map, nat_lt, slice_get, slice_index, take, refl, sym, ◌∙◌, ap, subst, arith, zero-add}
+use Rattle.std.proofs.Common.{◌≡◌, ℕ, zero, suc, ◌+◌, ◌<◌, ◌≤◌, ◌⊎◌, inl, inr, Bool, true, false, cond, All, List, [], ◌∷◌, ◌++◌, Some, drop, get_or, length, map, nat_lt, slice_get, slice_index, take, refl, sym, ◌∙◌, ap, subst, arith}
 use Rattle.std.specs.List.{AllByRecursion}
 use Rattle.std.proofs.lemmas.Bool.{cases_lt}
 use Rattle.std.proofs.lemmas.Bool.Decides.{nat_tests}
 use Rattle.std.proofs.lemmas.List.Elements.{All-take, recursion_from_All}
-use Rattle.std.proofs.lemmas.List.{drop-map, get_or-map, get_or_default, length-drop, length-map, length-take, take_all}
+use Rattle.std.proofs.lemmas.List.{drop-map, length-drop, length-map, length-take}
 use Rattle.std.proofs.lemmas.Option.{get_or_from_slice_get, slice_get_within}
 use Rattle.circuit_list.specs.declared.Gate.{Gate}
 use Rattle.circuit_list.specs.declared.Gate.TheVariants.{H, X, P, Cx}
-use Rattle.circuit_list.specs.Gates.{first_wire, is_cx, second_wire, IsFine}
-use Rattle.sabre_route.specs.Dependences.{behind, entry, AreMet, IsBefore, IsNumber, IsReleased}
+use Rattle.circuit_list.specs.Gates.{first_wire, is_cx, IsFine}
+use Rattle.sabre_route.specs.Dependences.{behind, entry, IsBefore, IsReleased}
 use Rattle.sabre_route.specs.Front.{is_left, rest, rest_by, AreHeads, IsFirst}
 use Rattle.sabre_route.specs.Kept.{is_at_head, places_by}
-use Rattle.sabre_route.specs.Looking.{HasFollowed, IsFollowing, IsGone, IsLookout, IsLooking, IsOnTheWay, IsWalked, Unbound, Waits}
+use Rattle.sabre_route.specs.Looking.{HasFollowed, IsFollowing, IsLookout, IsLooking, IsWalked, Unbound, Waits}
 use Rattle.sabre_route.specs.Search.{front, gate_pairs, most_extended, pairs_at}
 use Rattle.sabre_route.proofs.LookLaws.{gate-at}
 use Rattle.sabre_route.proofs.MetLaws.{walked-done}
-use Rattle.sabre_route.proofs.NextLaws.{fine_at, slice_get-once}
 use Rattle.sabre_route.proofs.PairLaws.{ready-front}
-use Rattle.sabre_route.proofs.PassedLaws.{index_of, at_head-first, first-at_head, ready-ascend, ready-first, ready-in}
+use Rattle.sabre_route.proofs.PassedLaws.{index_of, at_head-first, ready-ascend, ready-first, ready-in}
 use Rattle.sabre_route.proofs.RestLaws.{rest_by-place, rest_by-take, StandsAt}
 
 -- ---- those behind

@@ -6,18 +6,17 @@
 --   passed-looking       a gate that was met is passed
 --   IsChild, IsAfter, child-released, released-child     what is released by it
 --   looking-met, looking-past, looking-full   one more is met, or isn't
-use Rattle.std.proofs.Common.{◌≡◌, ◌≢◌, ℕ, zero, suc, ◌+◌, ◌<◌, ◌≤◌, ◌⊎◌, inl, inr, ◌||◌, Bool, not, true, false, All, List, [], ◌∷◌, ◌++◌, Some, length, map, nat_eq, nat_lt, set, slice_get, slice_index, take, refl, sym, ◌∙◌, ap, subst, arith}
+use Rattle.std.proofs.Common.{◌≡◌, ◌≢◌, ℕ, zero, suc, ◌<◌, ◌≤◌, ◌⊎◌, inl, inr, ◌||◌, Bool, not, true, false, All, List, [], ◌∷◌, Some, length, nat_eq, nat_lt, slice_get, slice_index, refl, sym, ◌∙◌, ap, subst, arith}
 use Rattle.std.proofs.lemmas.Bool.{cases_eq, cases_lt, or_cases, or_right}
 use Rattle.std.proofs.lemmas.Bool.Decides.{nat_tests}
-use Rattle.std.proofs.lemmas.List.{length-append, map-append}
 use Rattle.std.proofs.lemmas.Option.{slice_get_within}
 use Rattle.circuit_list.specs.declared.Gate.{Gate}
 use Rattle.circuit_list.specs.declared.Gate.TheVariants.{H, X, P, Cx}
 use Rattle.circuit_list.specs.Gates.{first_wire, is_on, second_wire, IsFine}
-use Rattle.sabre_route.specs.Dependences.{entry, IsBefore, IsReleased, WaitsFor}
+use Rattle.sabre_route.specs.Dependences.{entry, IsBefore, IsReleased}
 use Rattle.sabre_route.specs.Front.{is_left, AreHeads, HasPassed, IsFirst, IsNext}
-use Rattle.sabre_route.specs.Looking.{IsGone, IsLooking, IsWalked, Unbound, Waits}
-use Rattle.sabre_route.specs.Search.{most_extended, shares}
+use Rattle.sabre_route.specs.Looking.{IsGone, IsLooking, Unbound, Waits}
+use Rattle.sabre_route.specs.Search.{shares}
 use Rattle.sabre_route.proofs.DependenceLaws.{met-early}
 use Rattle.sabre_route.proofs.MetLaws.{numbers-apart, released-once}
 use Rattle.sabre_route.proofs.NextLaws.{first_below, fine_at, heads-passed, left-first, left-other, left-passed, second_below, slice_get-once}

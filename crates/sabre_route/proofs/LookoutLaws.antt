@@ -5,11 +5,11 @@
 --   emitting             .. as the calls tell it
 --   emitted-kept, emitted-past
 --   chained-made         at the beginning all are left
-use Rattle.std.proofs.Common.{◌≡◌, ℕ, suc, ◌+◌, ◌<◌, ◌≤◌, ◌++◌, Bool, true, false, All, List, Some, drop, get_or, length, remove, set, slice_get, slice_index, slice_index_or, take, refl, sym, ◌∙◌, ap, subst, arith, add-one, zero-add}
+use Rattle.std.proofs.Common.{◌≡◌, ℕ, suc, ◌+◌, ◌<◌, ◌++◌, Bool, true, All, List, Some, drop, get_or, length, remove, set, slice_get, slice_index, slice_index_or, take, sym, ◌∙◌, ap, subst, arith, add-one, zero-add}
 use Rattle.std.proofs.Math.Seq.{take-append_seam}
-use Rattle.std.proofs.lemmas.List.{get_or_default, length-set}
+use Rattle.std.proofs.lemmas.List.{get_or_default}
 use Rattle.std.proofs.lemmas.List.Elements.{filter_passes}
-use Rattle.std.proofs.lemmas.Option.{get_or_from_slice_get, slice_get_within}
+use Rattle.std.proofs.lemmas.Option.{get_or_from_slice_get}
 use Rattle.circuit_list.specs.declared.Gate.{Gate}
 use Rattle.circuit_list.specs.Gates.{first_wire, is_cx, second_wire, IsFine}
 use Rattle.sabre_route.specs.Ahead.{cx_only, Outlook}

@@ -3,9 +3,9 @@
 --   after-looking        a gate was passed
 --   meeting-met          a place is looked at: one more is met, or none
 --   meeting-done         both places were looked at
-use Rattle.std.proofs.Common.{◌≡◌, ℕ, zero, suc, ◌+◌, ◌<◌, ◌≤◌, ◌⊎◌, inl, inr, All, List, [], ◌∷◌, ◌++◌, Some, get_or, length, map, set, slice_get, slice_index, take, refl, sym, ◌∙◌, ap, subst, arith, add-one}
+use Rattle.std.proofs.Common.{◌≡◌, ℕ, suc, ◌+◌, ◌<◌, ◌≤◌, ◌⊎◌, inl, inr, All, List, [], ◌∷◌, ◌++◌, Some, get_or, length, map, set, slice_get, slice_index, take, refl, sym, ◌∙◌, ap, subst, arith}
 use Rattle.std.proofs.lemmas.Bool.{cases_eq, cases_lt}
-use Rattle.std.proofs.lemmas.List.{get_or-map, get_or-take, get_or_append_left, get_or_push, length-append, length-map, length-take, map-append, take_more_set}
+use Rattle.std.proofs.lemmas.List.{get_or-map, get_or-take, get_or_append_left, get_or_push, length-append, map-append, take_more_set}
 use Rattle.circuit_list.specs.declared.Gate.{Gate}
 use Rattle.circuit_list.specs.Gates.{first_wire, second_wire, IsFine}
 use Rattle.sabre_route.specs.Dependences.{entry, IsBefore, IsReleased}

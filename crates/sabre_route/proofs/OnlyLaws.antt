@@ -4,11 +4,11 @@
 --   only-single          a gate on one wire is none of them
 --   only-taken           a CNOT that is first on its wires is first among them, and so it is taken
 --   seen-past            the gates that are left go on, and a lookout with them
-use Rattle.std.proofs.Common.{◌≡◌, ℕ, zero, suc, ◌+◌, ◌<◌, ◌≤◌, ◌⊎◌, inl, inr, ◌||◌, Bool, not, true, false, cond, List, [], ◌∷◌, ◌++◌, Option, None, Some, length, remove, slice_get, take, refl, sym, ◌∙◌, ap, subst, arith, append-nil, append_assoc}
-use Rattle.std.specs.List.{filter, list_any}
+use Rattle.std.proofs.Common.{◌≡◌, ℕ, zero, suc, ◌⊎◌, inl, inr, ◌||◌, Bool, not, true, false, cond, List, [], ◌∷◌, ◌++◌, Some, length, remove, slice_get, take, refl, sym, ◌∙◌, ap, subst, arith, append-nil, append_assoc}
+use Rattle.std.specs.List.{list_any}
 use Rattle.std.proofs.Math.Seq.{take-append_seam}
 use Rattle.std.proofs.lemmas.Bool.{or_cases, or_right}
-use Rattle.std.proofs.lemmas.List.{length-append, take-append-le}
+use Rattle.std.proofs.lemmas.List.{take-append-le}
 use Rattle.std.proofs.lemmas.List.Edits.{remove-append_left}
 use Rattle.std.proofs.lemmas.List.Elements.{filter-append}
 use Rattle.std.proofs.lemmas.List.Folds.{list_any-append}
@@ -16,13 +16,11 @@ use Rattle.std.proofs.lemmas.Option.{slice_get_within}
 use Rattle.circuit_list.specs.declared.Gate.{Gate}
 use Rattle.circuit_list.specs.declared.Gate.TheVariants.{H, X, P, Cx}
 use Rattle.circuit_list.specs.Gates.{is_cx}
-use Rattle.sabre_route.specs.Ahead.{cx_only, Ahead, Along, InOrder, IsSeen, Outlook}
+use Rattle.sabre_route.specs.Ahead.{cx_only}
 use Rattle.sabre_route.specs.Left.{IsFirstGate}
-use Rattle.sabre_route.specs.Looking.{CanPass, IsPast}
 use Rattle.sabre_route.specs.Machine.{IsEmittable}
 use Rattle.sabre_route.specs.Search.{cnots, front, is_free, shares}
 use Rattle.sabre_route.proofs.BoundLaws.{single-near}
-use Rattle.sabre_route.proofs.LeftLaws.{first-one}
 use Rattle.sabre_route.proofs.LookLaws.{shares-wire, wire-shares, IsWire}
 
 -- ---- lists of tests

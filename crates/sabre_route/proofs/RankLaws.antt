@@ -2,21 +2,20 @@
 --   rank-rises         of two gates that are left, the later stands later among those left
 --   among-left         what waits among all waits among those left
 --   along-left         so the extended set is the one of those that are left
-use Rattle.std.proofs.Common.{◌≡◌, ℕ, suc, ◌+◌, ◌<◌, ◌≤◌, ◌⊎◌, inl, inr, true, false, Bool, All, List, [], ◌∷◌, ◌++◌, Some, cond, drop, get_or, length, map, nat_lt, slice_get, slice_index, take, zero, refl, sym, ◌∙◌, ap, subst, arith, zero-add}
+use Rattle.std.proofs.Common.{◌≡◌, ℕ, suc, ◌<◌, ◌≤◌, ◌⊎◌, inl, inr, true, false, Bool, List, [], ◌∷◌, ◌++◌, Some, cond, drop, length, map, nat_lt, slice_get, slice_index, take, zero, refl, sym, ◌∙◌, ap, subst, arith, zero-add}
 use Rattle.std.specs.List.{AllByRecursion}
 use Rattle.std.proofs.lemmas.Bool.{cases_lt}
 use Rattle.std.proofs.lemmas.Option.{get_or_from_slice_get, slice_get_within}
 use Rattle.circuit_list.specs.declared.Gate.{Gate}
 use Rattle.circuit_list.specs.declared.Gate.TheVariants.{H}
-use Rattle.circuit_list.specs.Gates.{IsFine}
-use Rattle.sabre_route.specs.Dependences.{behind, entry, AreMet, IsAlong, IsReleased, IsUnbound, WaitsFor}
+use Rattle.sabre_route.specs.Dependences.{behind, entry, IsAlong, IsReleased, IsUnbound, WaitsFor}
 use Rattle.sabre_route.specs.Front.{is_left, rest, rest_by, AreHeads, IsFirst}
 use Rattle.sabre_route.specs.Looking.{HasFollowed, IsLookout, Unbound, Waits}
 use Rattle.sabre_route.specs.Search.{gate_pairs, most_extended, pairs_at}
-use Rattle.sabre_route.proofs.FollowLaws.{get-take, take-get, IsCut}
-use Rattle.sabre_route.proofs.LookLaws.{first-wire, gate-at, head-there, left-wire, reached-first, unbound-free, waiter-left, waits-less, wire-below, wire-left, wire-shares, IsWire}
+use Rattle.sabre_route.proofs.FollowLaws.{take-get, IsCut}
+use Rattle.sabre_route.proofs.LookLaws.{gate-at, head-there, left-wire, reached-first, unbound-free, waiter-left, wire-below, wire-left, wire-shares, IsWire}
 use Rattle.sabre_route.proofs.MetLaws.{met-renamed, places-renamed, renamed, IsRenaming}
-use Rattle.sabre_route.proofs.NextLaws.{left-first, slice_get-once}
+use Rattle.sabre_route.proofs.NextLaws.{left-first}
 use Rattle.sabre_route.proofs.PassedLaws.{index_of}
 use Rattle.sabre_route.proofs.RestLaws.{rank-le, rest_by-at, rest_by-place, StandsAt}
 

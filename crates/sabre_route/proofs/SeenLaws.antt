@@ -4,7 +4,7 @@
 --   seen-ordered      .. in program order
 --   seen-can, seen-past     a gate that is emitted is passed by it
 --   emission-can, emission-seen, exchange-seen     .. as the calls tell it
-use Rattle.std.proofs.Common.{◌≡◌, ℕ, ◌<◌, ◌≤◌, Bool, true, false, All, List, ◌++◌, Option, None, Some, length, remove, slice_get, take, refl, sym, ◌∙◌, ap, subst, arith}
+use Rattle.std.proofs.Common.{◌≡◌, ℕ, ◌<◌, ◌≤◌, Bool, true, false, All, List, ◌++◌, Option, None, Some, length, remove, take, refl, sym, ◌∙◌, ap, subst, arith}
 use Rattle.std.specs.Option.{IfSome}
 use Rattle.std.proofs.Math.Seq.{take-append_seam}
 use Rattle.std.proofs.lemmas.List.{length-append}
@@ -12,7 +12,7 @@ use Rattle.std.proofs.lemmas.List.Elements.{All-from_recursion, All-weaker, recu
 use Rattle.circuit_list.specs.declared.Gate.{Gate}
 use Rattle.circuit_list.specs.Gates.{is_cx, IsFine}
 use Rattle.coupling_map.specs.Coupling.{Coupling}
-use Rattle.sabre_route.specs.Ahead.{cx_only, Ahead, Along, InOrder, IsBestSwap, IsExtended, IsSeen, Outlook}
+use Rattle.sabre_route.specs.Ahead.{cx_only, Ahead, Along, InOrder, IsBestSwap, IsSeen, Outlook}
 use Rattle.sabre_route.specs.Dependences.{IsAlong}
 use Rattle.sabre_route.specs.Left.{IsFirstGate}
 use Rattle.sabre_route.specs.Looking.{CanPass, IsAheadOn, IsLayer, IsPassedBy, IsPast, IsSet}

@@ -4,10 +4,10 @@
 --   shown-begun          the front layer is met
 --   begun-there, shown-places, shown-room     its places, and those behind
 --   shown-set            what is written is the extended set
-use Rattle.std.proofs.Common.{◌≡◌, ℕ, suc, ◌+◌, ◌-◌, ◌<◌, ◌≤◌, ◌⊎◌, inl, inr, All, List, [], ◌∷◌, ◌++◌, Some, drop, get_or, length, map, min, slice_get, slice_index, take, refl, sym, ◌∙◌, ap, subst, arith}
+use Rattle.std.proofs.Common.{◌≡◌, ℕ, suc, ◌+◌, ◌-◌, ◌<◌, ◌≤◌, ◌⊎◌, inl, inr, All, List, [], ◌∷◌, ◌++◌, drop, get_or, length, map, slice_index, take, refl, sym, ◌∙◌, ap, subst, arith}
 use Rattle.std.specs.List.{AllByRecursion}
 use Rattle.std.proofs.lemmas.Bool.{cases_lt}
-use Rattle.std.proofs.lemmas.List.{get_or_past, length-append, length-drop, length-take}
+use Rattle.std.proofs.lemmas.List.{get_or_past, length-append, length-take}
 use Rattle.std.proofs.lemmas.List.Elements.{All-drop, All-from_recursion, All-take, recursion_from_All}
 use Rattle.std.proofs.lemmas.Option.{slice_get-get_or}
 use Rattle.std.proofs.lemmas.Slice.{between_is}
@@ -17,7 +17,7 @@ use Rattle.circuit_list.specs.Gates.{IsFine}
 use Rattle.unitary_model.specs.Placement.{IsPlacement, position_of}
 use Rattle.sabre_route.specs.Ahead.{Outlook}
 use Rattle.sabre_route.specs.Dependences.{entry, IsAlong}
-use Rattle.sabre_route.specs.Front.{is_left, rest, IsFirst}
+use Rattle.sabre_route.specs.Front.{is_left, rest}
 use Rattle.sabre_route.specs.Looking.{HasFollowed, IsFollowing, IsLayer, IsLookout, IsSet}
 use Rattle.sabre_route.specs.Scores.{placed, AreWithin}
 use Rattle.sabre_route.specs.Search.{front, gate_pairs, most_extended, pairs_at}

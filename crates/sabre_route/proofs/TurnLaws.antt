@@ -2,17 +2,15 @@
 --   met-kept, met-there, met-few     what looking at a place keeps
 --   passed-way           the gate is passed
 --   turned-one, turned-two     the places behind it are looked at, where they are one or two
-use Rattle.std.proofs.Common.{◌≡◌, ◌≢◌, ℕ, suc, ◌+◌, ◌<◌, ◌≤◌, ◌⊎◌, inl, inr, All, List, [], ◌∷◌, ◌++◌, Some, get_or, length, map, max, min, set, slice_get, slice_index_or, take, refl, sym, ◌∙◌, ap, subst, arith}
+use Rattle.std.proofs.Common.{◌≡◌, ◌≢◌, ℕ, suc, ◌+◌, ◌<◌, ◌≤◌, ◌⊎◌, inl, inr, All, List, [], ◌∷◌, Some, get_or, length, max, min, slice_get, slice_index_or, take, refl, sym, ◌∙◌, ap, subst, arith}
 use Rattle.std.proofs.lemmas.Bool.{cases_lt}
 use Rattle.std.proofs.lemmas.List.{get_or-set_other, length-set, take_more_set}
 use Rattle.std.proofs.lemmas.List.Elements.{All-append, All-cons, All-nil}
 use Rattle.circuit_list.specs.declared.Gate.{Gate}
-use Rattle.circuit_list.specs.Gates.{first_wire, second_wire, IsFine}
 use Rattle.sabre_route.specs.Dependences.{entry}
-use Rattle.sabre_route.specs.Front.{AreHeads, HasPassed, IsFirst}
+use Rattle.sabre_route.specs.Front.{HasPassed}
 use Rattle.sabre_route.specs.Kept.{AreLinks}
 use Rattle.sabre_route.specs.Looking.{HasMet, IsFollowing, IsLooking, IsOnTheWay}
-use Rattle.sabre_route.specs.Search.{most_extended}
 use Rattle.sabre_route.proofs.LookLaws.{passed-looking, passed-next}
 use Rattle.sabre_route.proofs.MeetLaws.{meeting-done, meeting-met, place-entry, IsFollowed}
 

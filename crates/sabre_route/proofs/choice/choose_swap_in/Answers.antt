@@ -1,4 +1,4 @@
-use Rattle.std.proofs.Common.{ℕ, ap, length, subst, sym, arith}
+use Rattle.std.proofs.Common.{ap, length, subst, sym, arith}
 use Rattle.sabre_route.specs.Scores.{AreApart, AreFar, AreWithin}
 use Rattle.sabre_route.proofs.FrontLaws.{surveyed}
 use Rattle.sabre_route.proofs.SeenLaws.{ahead-best, ahead-few, ahead-within, seen-sized}

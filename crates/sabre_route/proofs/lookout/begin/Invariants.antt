@@ -1,4 +1,4 @@
-use Rattle.std.proofs.Common.{◌≡◌, ℕ, length, map, slice_index, take}
+use Rattle.std.proofs.Common.{◌≡◌, length, map, slice_index, take}
 use Rattle.unitary_model.specs.Placement.{position_of}
 use Rattle.sabre_route.proofs.lookout.begin.Given as goal
 

@@ -1,4 +1,4 @@
-use Rattle.std.proofs.Common.{◌≡◌, ℕ, ◌+◌, inl, inr, List, refl, subst, suc, add-one, arith}
+use Rattle.std.proofs.Common.{◌≡◌, ℕ, ◌+◌, inl, inr, refl, subst, suc, arith}
 use Rattle.sabre_route.specs.Looking.{IsFollowing}
 use Rattle.sabre_route.proofs.FollowLaws.{following-done}
 use Rattle.sabre_route.proofs.lookout.follow_all.Goals as goal

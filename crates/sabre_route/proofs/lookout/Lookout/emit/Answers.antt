@@ -1,4 +1,4 @@
-use Rattle.std.proofs.Common.{◌∙◌, ap, length, subst, sym, arith}
+use Rattle.std.proofs.Common.{ap, length, subst, sym, arith}
 use Rattle.sabre_route.specs.Looking.{IsLookout}
 use Rattle.sabre_route.proofs.LookoutLaws.{emitted-on, emitted-past, emitting, emitting-place, written-back}
 use Rattle.sabre_route.proofs.lookout.Lookout.emit.Goals as goal
