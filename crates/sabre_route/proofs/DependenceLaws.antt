@@ -11,7 +11,7 @@ use Rattle.std.proofs.lemmas.Bool.{cases_eq, cases_lt}
 use Rattle.std.proofs.lemmas.Bool.Decides.{nat_tests}
 use Rattle.std.proofs.lemmas.List.{get_or_default, same_lists}
 use Rattle.circuit_list.specs.declared.Gate.{Gate}
-use Rattle.sabre_route.specs.Dependences.{behind, entry, AreMet, IsAlong, IsBefore, IsNumber, IsReleased, IsUnbound, WaitsFor}
+use Rattle.sabre_route.specs.Dependences.{behind, release_at, AreMet, IsAlong, IsBefore, IsMetAt, IsReleasedAt, IsUnbound, WaitsFor}
 use Rattle.sabre_route.specs.Ahead.{cx_only, Ahead, Along, InOrder, IsExtended}
 use Rattle.sabre_route.specs.Search.{pairs_at}
 
@@ -27,44 +27,44 @@ before-same p q e h = let k = subst (λ (r : ℕ × ℕ). IsBefore r q) e h in b
 
 -- ---- the time of a release is at most the number
 early : (waits : ℕ → ℕ → Type 0) (unbound : ℕ → Type 0) (met : List (ℕ × ℕ)) → ((b a : ℕ) → waits b a → a < b)
-    → ((i j : ℕ) → i < j → j < length met → IsBefore (entry met i) (entry met j)) → ((i : ℕ) → i < length met → IsReleased waits unbound met (entry met i).0 (entry met i).1)
-    → (n i : ℕ) → ((k : ℕ) → k < length met → (entry met k).1 < n → (entry met k).0 ≤ k) → i < length met → (entry met i).1 ≤ n → (entry met i).0 ≤ i
-early waits unbound met less ordered released n i sooner lt le = go (entry met i).0 refl (released i lt)
+    → ((i j : ℕ) → i < j → j < length met → IsBefore (release_at met i) (release_at met j)) → ((i : ℕ) → i < length met → IsReleasedAt waits unbound met (release_at met i).0 (release_at met i).1)
+    → (n i : ℕ) → ((k : ℕ) → k < length met → (release_at met k).1 < n → (release_at met k).0 ≤ k) → i < length met → (release_at met i).1 ≤ n → (release_at met i).0 ≤ i
+early waits unbound met less ordered released n i sooner lt le = go (release_at met i).0 refl (released i lt)
   where
-    apart : (k : ℕ) → k < length met → (entry met k).0 ≤ k → (entry met i).0 ≡ suc k → IsBefore (entry met i) (entry met k) → (entry met i).0 ≤ i
+    apart : (k : ℕ) → k < length met → (release_at met k).0 ≤ k → (release_at met i).0 ≡ suc k → IsBefore (release_at met i) (release_at met k) → (release_at met i).0 ≤ i
     apart k within low e (inl f) = absurd (omega (arith, e, low, f))
     apart k within low e (inr f) = absurd (omega (arith, e, low, f.0))
 
-    other : (k : ℕ) → k < length met → (entry met k).0 ≤ k → (entry met i).0 ≡ suc k → i ≤ k → (i ≡ k) ⊎ (i ≡ k → ⊥) → (entry met i).0 ≤ i
-    other k within low e ge (inl f) = absurd (omega (arith, e, low, ap (λ (j : ℕ). (entry met j).0) f))
+    other : (k : ℕ) → k < length met → (release_at met k).0 ≤ k → (release_at met i).0 ≡ suc k → i ≤ k → (i ≡ k) ⊎ (i ≡ k → ⊥) → (release_at met i).0 ≤ i
+    other k within low e ge (inl f) = absurd (omega (arith, e, low, ap (λ (j : ℕ). (release_at met j).0) f))
     other k within low e ge (inr ne) = apart k within low e (ordered i k (omega arith) within)
 
-    later : (k : ℕ) → k < length met → (entry met k).0 ≤ k → (entry met i).0 ≡ suc k → (k < i) ⊎ (i ≤ k) → (entry met i).0 ≤ i
+    later : (k : ℕ) → k < length met → (release_at met k).0 ≤ k → (release_at met i).0 ≡ suc k → (k < i) ⊎ (i ≤ k) → (release_at met i).0 ≤ i
     later k within low e (inl lt) = omega (arith, e)
     later k within low e (inr ge) = other k within low e ge (cases_eq i k)
 
-    go : (t : ℕ) → (entry met i).0 ≡ t → IsReleased waits unbound met t (entry met i).1 → (entry met i).0 ≤ i
+    go : (t : ℕ) → (release_at met i).0 ≡ t → IsReleasedAt waits unbound met t (release_at met i).1 → (release_at met i).0 ≤ i
     go zero e r = omega (arith, e)
     go (suc k) e r = later k r.0.2.0 (sooner k r.0.2.0 (omega (arith, le, less _ _ r.0.1, r.0.2.1))) e (cases_lt k i)
 
 pub met-early : (waits : ℕ → ℕ → Type 0) (unbound : ℕ → Type 0) (met : List (ℕ × ℕ)) → ((b a : ℕ) → waits b a → a < b)
-    → ((i j : ℕ) → i < j → j < length met → IsBefore (entry met i) (entry met j)) → ((i : ℕ) → i < length met → IsReleased waits unbound met (entry met i).0 (entry met i).1)
-    → (n i : ℕ) → i < length met → (entry met i).1 ≤ n → (entry met i).0 ≤ i
+    → ((i j : ℕ) → i < j → j < length met → IsBefore (release_at met i) (release_at met j)) → ((i : ℕ) → i < length met → IsReleasedAt waits unbound met (release_at met i).0 (release_at met i).1)
+    → (n i : ℕ) → i < length met → (release_at met i).1 ≤ n → (release_at met i).0 ≤ i
 met-early waits unbound met less ordered released zero i lt le = early waits unbound met less ordered released 0 i (λ k within low. absurd (omega (arith, low))) lt le
 met-early waits unbound met less ordered released (suc n) i lt le = early waits unbound met less ordered released (suc n) i (λ k within low. met-early waits unbound met less ordered released n k within (omega (arith, low))) lt le
 
 -- ---- lists with the same first entries
 abbrev pub AreSame : List (ℕ × ℕ) → List (ℕ × ℕ) → ℕ → Type 0
-AreSame old new n = (i : ℕ) → i < n → i < length old → (i < length new) × (entry new i ≡ entry old i)
+AreSame old new n = (i : ℕ) → i < n → i < length old → (i < length new) × (release_at new i ≡ release_at old i)
 
-pub released-carried : (waits : ℕ → ℕ → Type 0) (unbound : ℕ → Type 0) (old new : List (ℕ × ℕ)) (n t b : ℕ) → AreSame old new n → t ≤ n → IsReleased waits unbound old t b → IsReleased waits unbound new t b
+pub released-carried : (waits : ℕ → ℕ → Type 0) (unbound : ℕ → Type 0) (old new : List (ℕ × ℕ)) (n t b : ℕ) → AreSame old new n → t ≤ n → IsReleasedAt waits unbound old t b → IsReleasedAt waits unbound new t b
 released-carried waits unbound old new n zero b same le h = h
 released-carried waits unbound old new n (suc k) b same le h = (
   (h.0.0, h.0.1, carried k h.0.0 (omega arith) h.0.2),
   λ a w. let r = h.1 a w in (r.0, r.1, carried r.0 a (omega (arith, r.1)) r.2),
 )
   where
-    carried : (i a : ℕ) → i < n → IsNumber old i a → IsNumber new i a
+    carried : (i a : ℕ) → i < n → IsMetAt old i a → IsMetAt new i a
     carried i a lt x = let s = same i lt x.0 in (s.0, ap (λ (p : ℕ × ℕ). p.1) s.1 ∙ x.1)
 
 -- ---- those behind
@@ -80,11 +80,11 @@ behind-here p met lt =
     let e : nat_lt 0 p.0 ≡ true = grind (arith, nat_tests) in
     ap (λ (b : Bool). length (cond b (p ∷ behind met) (behind met))) e
 
-pub behind-some : (met : List (ℕ × ℕ)) → 0 < length (behind met) → (i : ℕ) × (i < length met) × (0 < (entry met i).0)
+pub behind-some : (met : List (ℕ × ℕ)) → 0 < length (behind met) → (i : ℕ) × (i < length met) × (0 < (release_at met i).0)
 behind-some [] lt = absurd (omega arith)
 behind-some (p ∷ met) lt = go (cases_lt 0 p.0) (behind-some met)
   where
-    go : (0 < p.0) ⊎ (p.0 ≤ 0) → (0 < length (behind met) → (i : ℕ) × (i < length met) × (0 < (entry met i).0)) → (i : ℕ) × (i < length (p ∷ met)) × (0 < (entry (p ∷ met) i).0)
+    go : (0 < p.0) ⊎ (p.0 ≤ 0) → (0 < length (behind met) → (i : ℕ) × (i < length met) × (0 < (release_at met i).0)) → (i : ℕ) × (i < length (p ∷ met)) × (0 < (release_at (p ∷ met) i).0)
     go (inl here) more = (0, omega arith, here)
     go (inr none) more =
         let e : nat_lt 0 p.0 ≡ false = grind (arith, nat_tests) in
@@ -92,12 +92,12 @@ behind-some (p ∷ met) lt = go (cases_lt 0 p.0) (behind-some met)
         let r = more (omega (arith, lt, same)) in
         (suc r.0, omega (arith, r.1), r.2)
 
-behind-there : (met : List (ℕ × ℕ)) (i : ℕ) → i < length met → 0 < (entry met i).0 → 0 < length (behind met)
+behind-there : (met : List (ℕ × ℕ)) (i : ℕ) → i < length met → 0 < (release_at met i).0 → 0 < length (behind met)
 behind-there [] i lt h = absurd (omega arith)
 behind-there (p ∷ met) zero lt h = omega (arith, behind-here p met h)
 behind-there (p ∷ met) (suc i) lt h = omega (arith, behind-cons p met, behind-there met i (omega arith) h)
 
-pub behind-more : (old new : List (ℕ × ℕ)) (i : ℕ) → AreSame old new (length old) → length old ≤ i → i < length new → 0 < (entry new i).0 → length (behind old) < length (behind new)
+pub behind-more : (old new : List (ℕ × ℕ)) (i : ℕ) → AreSame old new (length old) → length old ≤ i → i < length new → 0 < (release_at new i).0 → length (behind old) < length (behind new)
 behind-more [] new i same le lt h = behind-there new i lt h
 behind-more (p ∷ old) [] i same le lt h = absurd (omega arith)
 behind-more (p ∷ old) (q ∷ new) zero same le lt h = absurd (omega arith)
@@ -118,46 +118,46 @@ record AreTwo (most : ℕ) (waits : ℕ → ℕ → Type 0) (unbound : ℕ → T
   onward : AreSame old new i
   back : AreSame new old i
 
--- an entry of the new list at number i isn't before the old one's
-not_before : (most : ℕ) (waits : ℕ → ℕ → Type 0) (unbound : ℕ → Type 0) (old new : List (ℕ × ℕ)) (i : ℕ) → AreTwo most waits unbound old new i → i < length old → i < length new → IsBefore (entry new i) (entry old i) → ⊥
+-- an release_at of the new list at number i isn't before the old one's
+not_before : (most : ℕ) (waits : ℕ → ℕ → Type 0) (unbound : ℕ → Type 0) (old new : List (ℕ × ℕ)) (i : ℕ) → AreTwo most waits unbound old new i → i < length old → i < length new → IsBefore (release_at new i) (release_at old i) → ⊥
 not_before most waits unbound old new i h in_old in_new before = go (h.old_met.others t b (released-carried waits unbound new old i t b h.back (met-early waits unbound new h.less h.new_met.ordered h.new_met.released b i in_new (omega arith)) (h.new_met.released i in_new)))
   where
     t : ℕ
-    t = (entry new i).0
+    t = (release_at new i).0
 
     b : ℕ
-    b = (entry new i).1
+    b = (release_at new i).1
 
-    go : ((j : ℕ) × (j < length old) × (entry old j ≡ (t, b))) ⊎ ((most ≤ length (behind old)) × ((j : ℕ) → j < length old → IsBefore (entry old j) (t, b))) → ⊥
+    go : ((j : ℕ) × (j < length old) × (release_at old j ≡ (t, b))) ⊎ ((most ≤ length (behind old)) × ((j : ℕ) → j < length old → IsBefore (release_at old j) (t, b))) → ⊥
     go (inr full) = before-never _ _ _ _ before (full.1 i in_old)
     go (inl (j, within, is)) = at (cases_lt j i) (cases_eq j i)
       where
         at : (j < i) ⊎ (i ≤ j) → (j ≡ i) ⊎ (j ≡ i → ⊥) → ⊥
-        at (inl lt) e = let s = h.onward j lt within in before-same (entry new j) (entry new i) (s.1 ∙ is) (h.new_met.ordered j i lt in_new)
-        at (inr le) (inl e) = before-same (entry new i) (entry old i) (sym is ∙ ap (entry old) e) before
-        at (inr le) (inr ne) = before-never _ _ _ _ before (subst (λ (p : ℕ × ℕ). IsBefore (entry old i) p) is (h.old_met.ordered i j (omega arith) within))
+        at (inl lt) e = let s = h.onward j lt within in before-same (release_at new j) (release_at new i) (s.1 ∙ is) (h.new_met.ordered j i lt in_new)
+        at (inr le) (inl e) = before-same (release_at new i) (release_at old i) (sym is ∙ ap (release_at old) e) before
+        at (inr le) (inr ne) = before-never _ _ _ _ before (subst (λ (p : ℕ × ℕ). IsBefore (release_at old i) p) is (h.old_met.ordered i j (omega arith) within))
 
-half : (most : ℕ) (waits : ℕ → ℕ → Type 0) (unbound : ℕ → Type 0) (old new : List (ℕ × ℕ)) (i : ℕ) → AreTwo most waits unbound old new i → i < length old → (i < length new) × (entry new i ≡ entry old i)
+half : (most : ℕ) (waits : ℕ → ℕ → Type 0) (unbound : ℕ → Type 0) (old new : List (ℕ × ℕ)) (i : ℕ) → AreTwo most waits unbound old new i → i < length old → (i < length new) × (release_at new i ≡ release_at old i)
 half most waits unbound old new i h lt = go (h.new_met.others t b (released-carried waits unbound old new i t b h.onward (met-early waits unbound old h.less h.old_met.ordered h.old_met.released b i lt (omega arith)) (h.old_met.released i lt)))
   where
     t : ℕ
-    t = (entry old i).0
+    t = (release_at old i).0
 
     b : ℕ
-    b = (entry old i).1
+    b = (release_at old i).1
 
-    go : ((j : ℕ) × (j < length new) × (entry new j ≡ (t, b))) ⊎ ((most ≤ length (behind new)) × ((j : ℕ) → j < length new → IsBefore (entry new j) (t, b))) → (i < length new) × (entry new i ≡ entry old i)
+    go : ((j : ℕ) × (j < length new) × (release_at new j ≡ (t, b))) ⊎ ((most ≤ length (behind new)) × ((j : ℕ) → j < length new → IsBefore (release_at new j) (t, b))) → (i < length new) × (release_at new i ≡ release_at old i)
     go (inl (j, within, is)) = at (cases_lt j i) (cases_eq j i)
       where
-        at : (j < i) ⊎ (i ≤ j) → (j ≡ i) ⊎ (j ≡ i → ⊥) → (i < length new) × (entry new i ≡ entry old i)
-        at (inl less) e = let s = h.back j less within in absurd (before-same (entry old j) (entry old i) (s.1 ∙ is) (h.old_met.ordered j i less lt))
-        at (inr le) (inl e) = (subst (λ (k : ℕ). k < length new) e within, ap (entry new) (sym e) ∙ is)
+        at : (j < i) ⊎ (i ≤ j) → (j ≡ i) ⊎ (j ≡ i → ⊥) → (i < length new) × (release_at new i ≡ release_at old i)
+        at (inl less) e = let s = h.back j less within in absurd (before-same (release_at old j) (release_at old i) (s.1 ∙ is) (h.old_met.ordered j i less lt))
+        at (inr le) (inl e) = (subst (λ (k : ℕ). k < length new) e within, ap (release_at new) (sym e) ∙ is)
         at (inr le) (inr ne) =
             let in_new : i < length new = omega (arith, within) in
-            absurd (not_before most waits unbound old new i h lt in_new (subst (λ (p : ℕ × ℕ). IsBefore (entry new i) p) is (h.new_met.ordered i j (omega arith) within)))
+            absurd (not_before most waits unbound old new i h lt in_new (subst (λ (p : ℕ × ℕ). IsBefore (release_at new i) p) is (h.new_met.ordered i j (omega arith) within)))
     go (inr (full, all)) = at (cases_lt i (length new))
       where
-        at : (i < length new) ⊎ (length new ≤ i) → (i < length new) × (entry new i ≡ entry old i)
+        at : (i < length new) ⊎ (length new ≤ i) → (i < length new) × (release_at new i ≡ release_at old i)
         at (inl in_new) = absurd (not_before most waits unbound old new i h lt in_new (all i in_new))
         at (inr le) = absurd (time (cases_lt 0 t))
           where
@@ -169,7 +169,7 @@ half most waits unbound old new i h lt = go (h.new_met.others t b (released-carr
                 let one = behind-some new (omega (arith, full, h.some)) in
                 first (all one.0 one.1)
               where
-                first : IsBefore (entry new (behind-some new (omega (arith, full, h.some))).0) (t, b) → ⊥
+                first : IsBefore (release_at new (behind-some new (omega (arith, full, h.some))).0) (t, b) → ⊥
                 first (inl f) = omega (arith, f, none)
                 first (inr f) = omega (arith, f.0, none, (behind-some new (omega (arith, full, h.some))).2)
 
@@ -181,11 +181,11 @@ both most waits unbound old new some less h k (suc n) =
     let here = half most waits unbound new old n (record { some = some; less = less; old_met = k; new_met = h; onward = r.1; back = r.0 }) in
     (more old new n r.0 there, more new old n r.1 here)
   where
-    more : (xs ys : List (ℕ × ℕ)) (n : ℕ) → AreSame xs ys n → (n < length xs → (n < length ys) × (entry ys n ≡ entry xs n)) → AreSame xs ys (suc n)
+    more : (xs ys : List (ℕ × ℕ)) (n : ℕ) → AreSame xs ys n → (n < length xs → (n < length ys) × (release_at ys n ≡ release_at xs n)) → AreSame xs ys (suc n)
     more xs ys n same last i lt within = at (cases_eq i n)
       where
-        at : (i ≡ n) ⊎ (i ≡ n → ⊥) → (i < length ys) × (entry ys i ≡ entry xs i)
-        at (inl e) = subst (λ (k : ℕ). (k < length ys) × (entry ys k ≡ entry xs k)) (sym e) (last (subst (λ (k : ℕ). k < length xs) e within))
+        at : (i ≡ n) ⊎ (i ≡ n → ⊥) → (i < length ys) × (release_at ys i ≡ release_at xs i)
+        at (inl e) = subst (λ (k : ℕ). (k < length ys) × (release_at ys k ≡ release_at xs k)) (sym e) (last (subst (λ (k : ℕ). k < length xs) e within))
         at (inr ne) = same i (omega arith) within
 
 same_length : (old new : List (ℕ × ℕ)) → AreSame old new (length old) → length old ≤ length new

@@ -13,10 +13,10 @@ use Rattle.std.proofs.lemmas.Option.{get_or_from_slice_get, slice_get_within}
 use Rattle.circuit_list.specs.declared.Gate.{Gate}
 use Rattle.circuit_list.specs.declared.Gate.TheVariants.{H, X, P, Cx}
 use Rattle.circuit_list.specs.Gates.{first_wire, is_cx, IsFine}
-use Rattle.sabre_route.specs.Dependences.{behind, entry, IsBefore, IsReleased}
+use Rattle.sabre_route.specs.Dependences.{behind, release_at, IsBefore, IsReleasedAt}
 use Rattle.sabre_route.specs.Front.{is_left, rest, rest_by, AreHeads, IsFirst}
 use Rattle.sabre_route.specs.Kept.{is_at_head, places_by}
-use Rattle.sabre_route.specs.Looking.{HasFollowed, IsFollowing, IsLookout, IsLooking, IsWalked, Unbound, Waits}
+use Rattle.sabre_route.specs.Looking.{HasFollowed, IsFollowing, IsLookout, IsLooking, IsMetBefore, Unbound, Waits}
 use Rattle.sabre_route.specs.Search.{front, gate_pairs, most_extended, pairs_at}
 use Rattle.sabre_route.proofs.LookLaws.{gate-at}
 use Rattle.sabre_route.proofs.MetLaws.{walked-done}
@@ -35,11 +35,11 @@ behind-some p met lt =
     let f : nat_lt 0 p.0 ≡ true = grind (arith, nat_tests) in
     ap (λ (b : Bool). cond b (p ∷ behind met) (behind met)) f
 
-behind-all : (met : List (ℕ × ℕ)) → ((k : ℕ) → k < length met → 0 < (entry met k).0) → behind met ≡ met
+behind-all : (met : List (ℕ × ℕ)) → ((k : ℕ) → k < length met → 0 < (release_at met k).0) → behind met ≡ met
 behind-all [] h = refl
 behind-all (p ∷ met) h = behind-some p met (h 0 (omega arith)) ∙ ap (λ (xs : List (ℕ × ℕ)). p ∷ xs) (behind-all met (λ k lt. h (suc k) (omega arith)))
 
-pub behind-drop : (met : List (ℕ × ℕ)) (first : ℕ) → first ≤ length met → ((k : ℕ) → k < first → (entry met k).0 ≡ 0) → ((k : ℕ) → first ≤ k → k < length met → 0 < (entry met k).0) → behind met ≡ drop first met
+pub behind-drop : (met : List (ℕ × ℕ)) (first : ℕ) → first ≤ length met → ((k : ℕ) → k < first → (release_at met k).0 ≡ 0) → ((k : ℕ) → first ≤ k → k < length met → 0 < (release_at met k).0) → behind met ≡ drop first met
 behind-drop met zero le none some = behind-all met (λ k lt. some k (omega arith) lt)
 behind-drop [] (suc first) le none some = refl
 behind-drop (p ∷ met) (suc first) le none some =
@@ -63,7 +63,7 @@ following-done gs heads e first next count limit places reach h end = record {
     size : length (behind l.met) + first ≡ count
     size = omega (arith, ap length same, length-drop first l.met, l.long, l.begun)
 
-    never : next ≡ count → (h.way.time ≡ suc next) × (h.way.place ≡ 0) → (t b : ℕ) → (IsBefore (t, b) (h.way.time, h.way.place) → ⊥) → IsReleased (Waits gs heads) (Unbound gs heads e) l.met t b → ⊥
+    never : next ≡ count → (h.way.time ≡ suc next) × (h.way.place ≡ 0) → (t b : ℕ) → (IsBefore (t, b) (h.way.time, h.way.place) → ⊥) → IsReleasedAt (Waits gs heads) (Unbound gs heads e) l.met t b → ⊥
     never e at zero b late r = late (inl (omega (arith, at.0)))
     never e at (suc k) b late r = go (cases_lt (suc k) h.way.time)
       where
@@ -71,12 +71,12 @@ following-done gs heads e first next count limit places reach h end = record {
         go (inl lt) = late (inl lt)
         go (inr le) = omega (arith, le, at.0, e, r.0.2.0, l.long)
 
-    over : (count ≤ next) ⊎ (limit ≤ count) → (most_extended ≤ length (behind l.met)) ⊎ ((t b : ℕ) → (IsBefore (t, b) (h.way.time, h.way.place) → ⊥) → IsReleased (Waits gs heads) (Unbound gs heads e) l.met t b → ⊥)
+    over : (count ≤ next) ⊎ (limit ≤ count) → (most_extended ≤ length (behind l.met)) ⊎ ((t b : ℕ) → (IsBefore (t, b) (h.way.time, h.way.place) → ⊥) → IsReleasedAt (Waits gs heads) (Unbound gs heads e) l.met t b → ⊥)
     over (inr full) = inl (omega (arith, full, h.limited, size))
     over (inl le) = go (cases_lt count (first + most_extended))
       where
         go : (count < first + most_extended) ⊎ (first + most_extended ≤ count)
-            → (most_extended ≤ length (behind l.met)) ⊎ ((t b : ℕ) → (IsBefore (t, b) (h.way.time, h.way.place) → ⊥) → IsReleased (Waits gs heads) (Unbound gs heads e) l.met t b → ⊥)
+            → (most_extended ≤ length (behind l.met)) ⊎ ((t b : ℕ) → (IsBefore (t, b) (h.way.time, h.way.place) → ⊥) → IsReleasedAt (Waits gs heads) (Unbound gs heads e) l.met t b → ⊥)
         go (inl lt) = inr (never (omega (arith, le, l.within)) (h.way.goes_on lt))
         go (inr ge) = inl (omega (arith, ge, size))
 
@@ -146,7 +146,7 @@ headed-pairs gs heads (j ∷ js) ((c, t, e, at), more) =
 timed : List ℕ → List (ℕ × ℕ)
 timed js = map (λ j. (0, j)) js
 
-timed-entry : (js : List ℕ) (k : ℕ) → k < length (timed js) → entry (timed js) k ≡ (0, slice_index js k)
+timed-entry : (js : List ℕ) (k : ℕ) → k < length (timed js) → release_at (timed js) k ≡ (0, slice_index js k)
 unfolding timed
 timed-entry [] k lt = absurd (omega arith)
 timed-entry (j ∷ js) zero lt = refl
@@ -163,20 +163,20 @@ places-timed [] = refl
 places-timed (j ∷ js) = ap (λ ks. j ∷ ks) (places-timed js)
 
 -- those that are released at the beginning
-walked-begun : (gs : List Gate) (heads ready : List ℕ) (e : ℕ) → ready ≡ places_by (is_at_head heads) 0 (take e gs) → IsWalked (Waits gs heads) (Unbound gs heads e) (timed ready) 1 0
+walked-begun : (gs : List Gate) (heads ready : List ℕ) (e : ℕ) → ready ≡ places_by (is_at_head heads) 0 (take e gs) → IsMetBefore (Waits gs heads) (Unbound gs heads e) (timed ready) 1 0
 walked-begun gs heads ready e same = record {
   ordered = λ i j lt within.
-      subst (λ (p : ℕ × ℕ). IsBefore p (entry (timed ready) j)) (sym (timed-entry ready i (omega arith)))
+      subst (λ (p : ℕ × ℕ). IsBefore p (release_at (timed ready) j)) (sym (timed-entry ready i (omega arith)))
       (subst (λ (p : ℕ × ℕ). IsBefore (0, slice_index ready i) p) (sym (timed-entry ready j within)) (inr (refl, ready-ascend (take e gs) heads ready i j same lt (omega (arith, within, length-timed ready)))));
   earlier = λ i within. subst (λ (p : ℕ × ℕ). IsBefore p (1, 0)) (sym (timed-entry ready i within)) (inl (omega arith));
-  released = λ i within. subst (λ (p : ℕ × ℕ). IsReleased (Waits gs heads) (Unbound gs heads e) (timed ready) p.0 p.1) (sym (timed-entry ready i within)) (unbound i (omega (arith, within, length-timed ready)));
+  released = λ i within. subst (λ (p : ℕ × ℕ). IsReleasedAt (Waits gs heads) (Unbound gs heads e) (timed ready) p.0 p.1) (sym (timed-entry ready i within)) (unbound i (omega (arith, within, length-timed ready)));
   all = λ t b before r. found t b before r;
 }
   where
     unbound : (i : ℕ) → i < length ready → Unbound gs heads e (slice_index ready i)
     unbound i lt = first-take gs heads e (slice_index ready i) (ready-first (take e gs) heads ready i same lt)
 
-    found : (t b : ℕ) → IsBefore (t, b) (1, 0) → IsReleased (Waits gs heads) (Unbound gs heads e) (timed ready) t b → (i : ℕ) × (i < length (timed ready)) × (entry (timed ready) i ≡ (t, b))
+    found : (t b : ℕ) → IsBefore (t, b) (1, 0) → IsReleasedAt (Waits gs heads) (Unbound gs heads e) (timed ready) t b → (i : ℕ) × (i < length (timed ready)) × (release_at (timed ready) i ≡ (t, b))
     found (suc t) b (inl lt) r = absurd (omega (arith, lt))
     found t b (inr (f, lt)) r = absurd (omega (arith, lt))
     found zero b (inl lt) r =

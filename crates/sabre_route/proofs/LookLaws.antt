@@ -13,7 +13,7 @@ use Rattle.std.proofs.lemmas.Option.{slice_get_within}
 use Rattle.circuit_list.specs.declared.Gate.{Gate}
 use Rattle.circuit_list.specs.declared.Gate.TheVariants.{H, X, P, Cx}
 use Rattle.circuit_list.specs.Gates.{first_wire, is_on, second_wire, IsFine}
-use Rattle.sabre_route.specs.Dependences.{entry, IsBefore, IsReleased}
+use Rattle.sabre_route.specs.Dependences.{release_at, IsBefore, IsReleasedAt}
 use Rattle.sabre_route.specs.Front.{is_left, AreHeads, HasPassed, IsFirst, IsNext}
 use Rattle.sabre_route.specs.Looking.{IsGone, IsLooking, Unbound, Waits}
 use Rattle.sabre_route.specs.Search.{shares}
@@ -176,7 +176,7 @@ first-kept gs j g old new b at here h ne first =
 
 -- ---- the look
 pub passed-looking : (n : ℕ) (gs : List Gate) (heads : List ℕ) (e first next count : ℕ) (places reach after : List ℕ) (time place : ℕ) (g : Gate) → n ≡ length heads → AreHeads n gs heads
-    → (h : IsLooking gs heads e first next count places reach time place) → next < count → slice_get gs (entry h.met next).1 ≡ Some g → HasPassed gs (entry h.met next).1 g reach after
+    → (h : IsLooking gs heads e first next count places reach time place) → next < count → slice_get gs (release_at h.met next).1 ≡ Some g → HasPassed gs (release_at h.met next).1 g reach after
     → IsLooking gs heads e first (suc next) count places after time place
 passed-looking n gs heads e first next count places reach after time place g en are h lt at p = record {
   met = h.met;
@@ -191,31 +191,31 @@ passed-looking n gs heads e first next count places reach after time place g en 
   within = omega arith;
   gone = λ k l. gone k l (cases_eq k next);
   gone_back = λ b r. back b r (cases_eq b x);
-  pending = λ k le l. first-kept gs x g reach after (entry h.met k).1 at here p (apart k le l) (h.pending k (omega arith) l);
+  pending = λ k le l. first-kept gs x g reach after (release_at h.met k).1 at here p (apart k le l) (h.pending k (omega arith) l);
   still = λ b y d r. still b y d r (cases_eq b x);
 }
   where
     x : ℕ
-    x = (entry h.met next).1
+    x = (release_at h.met next).1
 
     here : IsFirst gs reach x
     here = h.pending next (omega arith) lt
 
-    apart : (k : ℕ) → suc next ≤ k → k < count → (entry h.met k).1 ≢ x
+    apart : (k : ℕ) → suc next ≤ k → k < count → (release_at h.met k).1 ≢ x
     apart k le l same =
         numbers-apart (Waits gs heads) (Unbound gs heads e) h.met time place (waits-less gs heads) (λ b a u w. unbound-free n gs heads e b a are u w) h.walked next k (omega arith) (omega (arith, l, h.long)) (sym same)
 
-    gone : (k : ℕ) → k < suc next → (k ≡ next) ⊎ (k ≡ next → ⊥) → IsGone gs heads after (entry h.met k).1
+    gone : (k : ℕ) → k < suc next → (k ≡ next) ⊎ (k ≡ next → ⊥) → IsGone gs heads after (release_at h.met k).1
     gone k l (inl same) =
-        subst (λ i. IsGone gs heads after (entry h.met i).1) (sym same)
+        subst (λ i. IsGone gs heads after (release_at h.met i).1) (sym same)
         (g, at, h.still x g at (left-first gs x g reach at here), left-passed gs x g reach after p)
-    gone k l (inr ne) = let o = h.gone k (omega arith) in (o.0, o.1, o.2, other (entry h.met k).1 o.0 o.1 o.3 (cases_eq (entry h.met k).1 x))
+    gone k l (inr ne) = let o = h.gone k (omega arith) in (o.0, o.1, o.2, other (release_at h.met k).1 o.0 o.1 o.3 (cases_eq (release_at h.met k).1 x))
       where
         other : (b : ℕ) (y : Gate) → slice_get gs b ≡ Some y → is_left reach b y ≡ false → (b ≡ x) ⊎ (b ≡ x → ⊥) → is_left after b y ≡ false
         other b y d r (inl same) = subst (λ (i : ℕ). is_left after i y ≡ false) (sym same) (subst (λ z. is_left after x z ≡ false) (slice_get-once gs x g y at (ap (slice_get gs) (sym same) ∙ d)) (left-passed gs x g reach after p))
         other b y d r (inr differ) = sym (left-other gs x g (length heads) reach after at h.reach_heads here p b y d differ) ∙ r
 
-    back : (b : ℕ) → IsGone gs heads after b → (b ≡ x) ⊎ (b ≡ x → ⊥) → (k : ℕ) × (k < suc next) × ((entry h.met k).1 ≡ b)
+    back : (b : ℕ) → IsGone gs heads after b → (b ≡ x) ⊎ (b ≡ x → ⊥) → (k : ℕ) × (k < suc next) × ((release_at h.met k).1 ≡ b)
     back b r (inl same) = (next, omega arith, sym same)
     back b r (inr differ) =
         let o = h.gone_back b (r.0, r.1, r.2, left-other gs x g (length heads) reach after at h.reach_heads here p b r.0 r.1 differ ∙ r.3) in
@@ -239,12 +239,12 @@ pub record IsAfter (gs : List Gate) (heads : List ℕ) (e first next count : ℕ
   pub fine : All (IsFine (length heads)) gs
   pub are_heads : AreHeads (length heads) gs heads
   pub reach_heads : AreHeads (length heads) gs reach
-  pub ordered : (i j : ℕ) → i < j → j < length met → IsBefore (entry met i) (entry met j)
-  pub released : (i : ℕ) → i < length met → IsReleased (Waits gs heads) (Unbound gs heads e) met (entry met i).0 (entry met i).1
+  pub ordered : (i j : ℕ) → i < j → j < length met → IsBefore (release_at met i) (release_at met j)
+  pub released : (i : ℕ) → i < length met → IsReleasedAt (Waits gs heads) (Unbound gs heads e) met (release_at met i).0 (release_at met i).1
   pub within : next < length met
-  pub here : (entry met next).1 ≡ x
-  pub gone : (k : ℕ) → k < suc next → IsGone gs heads reach (entry met k).1
-  pub gone_back : (b : ℕ) → IsGone gs heads reach b → (k : ℕ) × (k < suc next) × ((entry met k).1 ≡ b)
+  pub here : (release_at met next).1 ≡ x
+  pub gone : (k : ℕ) → k < suc next → IsGone gs heads reach (release_at met k).1
+  pub gone_back : (b : ℕ) → IsGone gs heads reach b → (k : ℕ) × (k < suc next) × ((release_at met k).1 ≡ b)
   pub still : (b : ℕ) (g : Gate) → slice_get gs b ≡ Some g → is_left reach b g ≡ true → is_left heads b g ≡ true
   pub gate : Gate
   pub there : slice_get gs x ≡ Some gate
@@ -254,7 +254,7 @@ pub record IsAfter (gs : List Gate) (heads : List ℕ) (e first next count : ℕ
 
 -- all that a child waits for is gone
 waiting-gone : (gs : List Gate) (heads : List ℕ) (e first next count : ℕ) (places reach : List ℕ) (met : List (ℕ × ℕ)) (x : ℕ) (later : ℕ × ℕ) → IsAfter gs heads e first next count places reach met x later
-    → (b a : ℕ) → IsFirst gs reach b → Waits gs heads b a → (i : ℕ) × (i ≤ next) × (i < length met) × ((entry met i).1 ≡ a)
+    → (b a : ℕ) → IsFirst gs reach b → Waits gs heads b a → (i : ℕ) × (i ≤ next) × (i < length met) × ((release_at met i).1 ≡ a)
 waiting-gone gs heads e first next count places reach met x later h b a at w =
     let s = shares-wire w.waits.one w.waits.other w.waits.shared in
     let ahead : a < slice_index reach s.0 = omega (arith, w.waits.earlier, first-wire gs reach b w.waits.other at w.waits.here s.0 s.2) in
@@ -263,7 +263,7 @@ waiting-gone gs heads e first next count places reach met x later h b a at w =
     (k.0, omega (arith, k.1), omega (arith, k.1, h.within), k.2)
 
 pub child-released : (gs : List Gate) (heads : List ℕ) (e first next count : ℕ) (places reach : List ℕ) (met : List (ℕ × ℕ)) (x : ℕ) (later : ℕ × ℕ) → IsAfter gs heads e first next count places reach met x later
-    → (b : ℕ) → IsChild gs reach later b → IsReleased (Waits gs heads) (Unbound gs heads e) met (suc next) b
+    → (b : ℕ) → IsChild gs reach later b → IsReleasedAt (Waits gs heads) (Unbound gs heads e) met (suc next) b
 child-released gs heads e first next count places reach met x later h b c = (
   (x, waits c.next, (h.within, h.here)),
   λ a w. let k = waiting-gone gs heads e first next count places reach met x later h b a c.first w in (k.0, k.1, (k.2, k.3)),
@@ -298,7 +298,7 @@ child-released gs heads e first next count places reach met x later h b c = (
     waits (inr same) = by (second_wire h.gate) later.1 (inr refl) h.on_second same
 
 pub released-child : (gs : List Gate) (heads : List ℕ) (e first next count : ℕ) (places reach : List ℕ) (met : List (ℕ × ℕ)) (x : ℕ) (later : ℕ × ℕ) → IsAfter gs heads e first next count places reach met x later
-    → (b : ℕ) → IsReleased (Waits gs heads) (Unbound gs heads e) met (suc next) b → IsChild gs reach later b
+    → (b : ℕ) → IsReleasedAt (Waits gs heads) (Unbound gs heads e) met (suc next) b → IsChild gs reach later b
 released-child gs heads e first next count places reach met x later h b r = record {
   first = at;
   next = go x_wire.0 x_wire.1 x_wire.2;
@@ -328,9 +328,9 @@ released-child gs heads e first next count places reach met x later h b r = reco
     not_gone false f =
         let k = h.gone_back b (y, w.waits.here, left, f) in
         let in_met : k.0 < length met = omega (arith, k.1, h.within) in
-        let low : (entry met k.0).0 ≤ k.0 = met-early (Waits gs heads) (Unbound gs heads e) met (waits-less gs heads) h.ordered h.released (entry met k.0).1 k.0 in_met (omega arith) in
-        absurd (released-once (Waits gs heads) (Unbound gs heads e) met (waits-less gs heads) free h.ordered h.released b (entry met k.0).0 (suc next) b (omega arith)
-        (subst (IsReleased (Waits gs heads) (Unbound gs heads e) met (entry met k.0).0) k.2 (h.released k.0 in_met)) r (omega (arith, low, k.1)))
+        let low : (release_at met k.0).0 ≤ k.0 = met-early (Waits gs heads) (Unbound gs heads e) met (waits-less gs heads) h.ordered h.released (release_at met k.0).1 k.0 in_met (omega arith) in
+        absurd (released-once (Waits gs heads) (Unbound gs heads e) met (waits-less gs heads) free h.ordered h.released b (release_at met k.0).0 (suc next) b (omega arith)
+        (subst (IsReleasedAt (Waits gs heads) (Unbound gs heads e) met (release_at met k.0).0) k.2 (h.released k.0 in_met)) r (omega (arith, low, k.1)))
 
     -- none is left before it on its wires
     none_before : (v : ℕ) → IsWire y v → slice_index reach v < b → ⊥

@@ -8,15 +8,15 @@ use Rattle.std.proofs.lemmas.Bool.{cases_eq, cases_lt}
 use Rattle.std.proofs.lemmas.List.{get_or-map, get_or-take, get_or_append_left, get_or_push, length-append, map-append, take_more_set}
 use Rattle.circuit_list.specs.declared.Gate.{Gate}
 use Rattle.circuit_list.specs.Gates.{first_wire, second_wire, IsFine}
-use Rattle.sabre_route.specs.Dependences.{entry, IsBefore, IsReleased}
+use Rattle.sabre_route.specs.Dependences.{release_at, IsBefore, IsReleasedAt}
 use Rattle.sabre_route.specs.Front.{AreHeads, IsFirst, IsNext}
-use Rattle.sabre_route.specs.Looking.{HasMet, IsGone, IsLooking, IsOnTheWay, IsWalked, Unbound, Waits}
+use Rattle.sabre_route.specs.Looking.{HasMet, IsGone, IsLooking, IsOnTheWay, IsMetBefore, Unbound, Waits}
 use Rattle.sabre_route.specs.Search.{most_extended}
 use Rattle.sabre_route.proofs.LookLaws.{child-released, released-child, IsAfter, IsChild, IsWire}
 use Rattle.sabre_route.proofs.MetLaws.{walked-met, walked-past}
 
 -- place k is that of number k
-pub place-entry : (places : List ℕ) (met : List (ℕ × ℕ)) (count k : ℕ) → take count places ≡ map (λ p. p.1) met → k < count → k < length met → get_or places k 0 ≡ (entry met k).1
+pub place-entry : (places : List ℕ) (met : List (ℕ × ℕ)) (count k : ℕ) → take count places ≡ map (λ p. p.1) met → k < count → k < length met → get_or places k 0 ≡ (release_at met k).1
 place-entry places met count k are lt within =
     sym (get_or-take count places k 0 lt) ∙ ap (λ js. get_or js k 0) are ∙ get_or-map (λ (p : ℕ × ℕ). p.1) met k (0, 0) 0 within
 
@@ -50,12 +50,12 @@ after-looking gs heads e first next count places reach time place x later fine a
 
 -- up to a place no child stands in between
 walked-children : (gs : List Gate) (heads : List ℕ) (e first next count : ℕ) (places reach : List ℕ) (met : List (ℕ × ℕ)) (x : ℕ) (later : ℕ × ℕ) (p t b : ℕ) → IsAfter gs heads e first next count places reach met x later
-    → IsWalked (Waits gs heads) (Unbound gs heads e) met (suc next) p → (IsBefore (t, b) (suc next, p) → ⊥) → ((s a : ℕ) → IsBefore (s, a) (t, b) → s ≤ suc next)
-    → ((a : ℕ) → p ≤ a → IsBefore (suc next, a) (t, b) → IsChild gs reach later a → ⊥) → IsWalked (Waits gs heads) (Unbound gs heads e) met t b
+    → IsMetBefore (Waits gs heads) (Unbound gs heads e) met (suc next) p → (IsBefore (t, b) (suc next, p) → ⊥) → ((s a : ℕ) → IsBefore (s, a) (t, b) → s ≤ suc next)
+    → ((a : ℕ) → p ≤ a → IsBefore (suc next, a) (t, b) → IsChild gs reach later a → ⊥) → IsMetBefore (Waits gs heads) (Unbound gs heads e) met t b
 walked-children gs heads e first next count places reach met x later p t b h w after few none =
     walked-past (Waits gs heads) (Unbound gs heads e) met (suc next) p t b w after (λ s a never before r. go s a never before r (cases_lt s (suc next)) (cases_lt a p))
   where
-    go : (s a : ℕ) → (IsBefore (s, a) (suc next, p) → ⊥) → IsBefore (s, a) (t, b) → IsReleased (Waits gs heads) (Unbound gs heads e) met s a → (s < suc next) ⊎ (suc next ≤ s) → (a < p) ⊎ (p ≤ a) → ⊥
+    go : (s a : ℕ) → (IsBefore (s, a) (suc next, p) → ⊥) → IsBefore (s, a) (t, b) → IsReleasedAt (Waits gs heads) (Unbound gs heads e) met s a → (s < suc next) ⊎ (suc next ≤ s) → (a < p) ⊎ (p ≤ a) → ⊥
     go s a never before r (inl lt) c = never (inl lt)
     go s a never before r (inr le) c = here (omega (arith, le, few s a before)) c
       where
@@ -63,7 +63,7 @@ walked-children gs heads e first next count places reach met x later p t b h w a
         here same (inl lt) = never (inr (same, lt))
         here same (inr ge) =
             none a ge (subst (λ (i : ℕ). IsBefore (i, a) (t, b)) same before)
-            (released-child gs heads e first next count places reach met x later h a (subst (λ (i : ℕ). IsReleased (Waits gs heads) (Unbound gs heads e) met i a) same r))
+            (released-child gs heads e first next count places reach met x later h a (subst (λ (i : ℕ). IsReleasedAt (Waits gs heads) (Unbound gs heads e) met i a) same r))
 
 looking-at : (gs : List Gate) (heads : List ℕ) (e first next count : ℕ) (places reach : List ℕ) (time place t p : ℕ) → time ≡ t → place ≡ p → IsLooking gs heads e first next count places reach time place
     → IsLooking gs heads e first next count places reach t p
@@ -71,7 +71,7 @@ looking-at gs heads e first next count places reach time place t p et ep h =
     subst (λ (i : ℕ). IsLooking gs heads e first next count places reach i p) et (subst (λ (i : ℕ). IsLooking gs heads e first next count places reach time i) ep h)
 
 looking-past : (gs : List Gate) (heads : List ℕ) (e first next count : ℕ) (places reach : List ℕ) (time place t b : ℕ) → (h : IsLooking gs heads e first next count places reach time place)
-    → IsWalked (Waits gs heads) (Unbound gs heads e) h.met t b → IsLooking gs heads e first next count places reach t b
+    → IsMetBefore (Waits gs heads) (Unbound gs heads e) h.met t b → IsLooking gs heads e first next count places reach t b
 looking-past gs heads e first next count places reach time place t b h w = record {
   met = h.met;
   walked = w;
@@ -91,7 +91,7 @@ looking-past gs heads e first next count places reach time place t b h w = recor
 
 -- one more is met
 looking-met : (gs : List Gate) (heads : List ℕ) (e first next count : ℕ) (places reach : List ℕ) (b : ℕ) → (h : IsLooking gs heads e first (suc next) count places reach (suc next) b)
-    → IsReleased (Waits gs heads) (Unbound gs heads e) h.met (suc next) b → IsFirst gs reach b → count < first + most_extended → count < length places
+    → IsReleasedAt (Waits gs heads) (Unbound gs heads e) h.met (suc next) b → IsFirst gs reach b → count < first + most_extended → count < length places
     → IsLooking gs heads e first (suc next) (count + 1) (set places count b) reach (suc next) (suc b)
 looking-met gs heads e first next count places reach b h r at lt room = record {
   met = more;
@@ -113,17 +113,17 @@ looking-met gs heads e first next count places reach b h r at lt room = record {
     more : List (ℕ × ℕ)
     more = h.met ++ (suc next, b) ∷ []
 
-    old : (i : ℕ) → i < length h.met → entry more i ≡ entry h.met i
+    old : (i : ℕ) → i < length h.met → release_at more i ≡ release_at h.met i
     old i l = get_or_append_left h.met ((suc next, b) ∷ []) (0, 0) i l
 
-    new : (i : ℕ) → count ≡ i → entry more i ≡ (suc next, b)
+    new : (i : ℕ) → count ≡ i → release_at more i ≡ (suc next, b)
     new i same = get_or_push h.met (suc next, b) (0, 0) i (h.long ∙ same)
 
-    behind : (k : ℕ) → first ≤ k → k < count + 1 → (k < count) ⊎ (count ≤ k) → 0 < (entry more k).0
+    behind : (k : ℕ) → first ≤ k → k < count + 1 → (k < count) ⊎ (count ≤ k) → 0 < (release_at more k).0
     behind k le l (inl below) = omega (arith, ap (λ (p : ℕ × ℕ). p.0) (old k (omega (arith, below, h.long))), h.behind_first k le below)
     behind k le l (inr above) = omega (arith, ap (λ (p : ℕ × ℕ). p.0) (new k (omega (arith, above, l))))
 
-    waiting : (k : ℕ) → suc next ≤ k → k < count + 1 → (k < count) ⊎ (count ≤ k) → IsFirst gs reach (entry more k).1
+    waiting : (k : ℕ) → suc next ≤ k → k < count + 1 → (k < count) ⊎ (count ≤ k) → IsFirst gs reach (release_at more k).1
     waiting k le l (inl below) = subst (λ (p : ℕ × ℕ). IsFirst gs reach p.1) (sym (old k (omega (arith, below, h.long)))) (h.pending k le below)
     waiting k le l (inr above) = subst (λ (p : ℕ × ℕ). IsFirst gs reach p.1) (sym (new k (omega (arith, above, l)))) at
 

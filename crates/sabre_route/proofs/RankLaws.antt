@@ -8,7 +8,7 @@ use Rattle.std.proofs.lemmas.Bool.{cases_lt}
 use Rattle.std.proofs.lemmas.Option.{get_or_from_slice_get, slice_get_within}
 use Rattle.circuit_list.specs.declared.Gate.{Gate}
 use Rattle.circuit_list.specs.declared.Gate.TheVariants.{H}
-use Rattle.sabre_route.specs.Dependences.{behind, entry, IsAlong, IsReleased, IsUnbound, WaitsFor}
+use Rattle.sabre_route.specs.Dependences.{behind, release_at, IsAlong, IsReleasedAt, IsUnbound, WaitsFor}
 use Rattle.sabre_route.specs.Front.{is_left, rest, rest_by, AreHeads, IsFirst}
 use Rattle.sabre_route.specs.Looking.{HasFollowed, IsLookout, Unbound, Waits}
 use Rattle.sabre_route.specs.Search.{gate_pairs, most_extended, pairs_at}
@@ -144,11 +144,11 @@ pairs-left gs heads (j ∷ js) h =
     λ z. gate_pairs ((there ∙ sym here) z) ++ pairs-left gs heads js h.1 z
 
 -- those met are left
-each-left : (gs : List Gate) (heads : List ℕ) (e : ℕ) (met : List (ℕ × ℕ)) → AreHeads (length heads) gs heads → (t b : ℕ) → IsReleased (Waits gs heads) (Unbound gs heads e) met t b → IsLeftAt gs heads b
+each-left : (gs : List Gate) (heads : List ℕ) (e : ℕ) (met : List (ℕ × ℕ)) → AreHeads (length heads) gs heads → (t b : ℕ) → IsReleasedAt (Waits gs heads) (Unbound gs heads e) met t b → IsLeftAt gs heads b
 each-left gs heads e met are zero b u = let g = gate-at gs b u.1.within in (g.0, g.1, left-first gs b g.0 heads g.1 u.1)
 each-left gs heads e met are (suc k) b r = (r.0.1.waits.other, r.0.1.waits.here, waiter-left (length heads) gs heads b r.0.0 are r.0.1)
 
-behind-each : (Q : ℕ → Type 0) (met : List (ℕ × ℕ)) → ((i : ℕ) → i < length met → Q (entry met i).1) → AllByRecursion Q (map (λ p. p.1) (behind met))
+behind-each : (Q : ℕ → Type 0) (met : List (ℕ × ℕ)) → ((i : ℕ) → i < length met → Q (release_at met i).1) → AllByRecursion Q (map (λ p. p.1) (behind met))
 behind-each Q [] h = tt
 behind-each Q (p ∷ met) h = go (nat_lt 0 p.0) (h 0 (omega arith)) (behind-each Q met (λ i lt. h (suc i) (omega arith)))
   where
@@ -162,6 +162,6 @@ along-left gs heads later m e first count places look few cut h = (
   renamed (index_of heads gs) h.met,
   met-renamed most_extended (IsLeftAt gs heads) (index_of heads gs) (Waits gs heads) (Unbound gs heads e) (WaitsFor (rest heads gs)) (IsUnbound (rest heads gs) m) h.met (among-left gs heads later m e look few cut) h.are_met,
   ap (pairs_at gs) (sym h.are)
-      ∙ sym (pairs-left gs heads (map (λ p. p.1) (behind h.met)) (behind-each (IsLeftAt gs heads) h.met (λ i lt. each-left gs heads e h.met look.are_heads (entry h.met i).0 (entry h.met i).1 (h.are_met.released i lt))))
+      ∙ sym (pairs-left gs heads (map (λ p. p.1) (behind h.met)) (behind-each (IsLeftAt gs heads) h.met (λ i lt. each-left gs heads e h.met look.are_heads (release_at h.met i).0 (release_at h.met i).1 (h.are_met.released i lt))))
       ∙ ap (pairs_at (rest heads gs)) (sym (places-renamed (index_of heads gs) h.met)),
 )

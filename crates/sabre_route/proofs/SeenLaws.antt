@@ -12,10 +12,10 @@ use Rattle.std.proofs.lemmas.List.Elements.{All-from_recursion, All-weaker, recu
 use Rattle.circuit_list.specs.declared.Gate.{Gate}
 use Rattle.circuit_list.specs.Gates.{is_cx, IsFine}
 use Rattle.coupling_map.specs.Coupling.{Coupling}
-use Rattle.sabre_route.specs.Ahead.{cx_only, Ahead, Along, InOrder, IsBestSwap, IsSeen, Outlook}
+use Rattle.sabre_route.specs.Ahead.{cx_only, Ahead, Along, InOrder, IsBestSwap, IsLookoutOver, Outlook}
 use Rattle.sabre_route.specs.Dependences.{IsAlong}
 use Rattle.sabre_route.specs.Left.{IsFirstGate}
-use Rattle.sabre_route.specs.Looking.{CanPass, IsAheadOn, IsLayer, IsPassedBy, IsPast, IsSet}
+use Rattle.sabre_route.specs.Looking.{CanPass, IsAheadOn, IsLayer, IsPassedBy, IsPast, IsWrittenSet}
 use Rattle.sabre_route.specs.Machine.{State, exchange, IsEmission, IsEmittable}
 use Rattle.sabre_route.specs.Scores.{placed, AreWithin, IsBestPair}
 use Rattle.sabre_route.specs.Search.{extended, front, most_extended}
@@ -27,20 +27,20 @@ use Rattle.sabre_route.proofs.OnlyLaws.{front-only, only-append, only-single, on
 only-front_part : (gs following left : List Gate) → left ≡ cx_only (gs ++ following) → take (length (cx_only gs)) left ≡ cx_only gs
 only-front_part gs following left e = ap (take (length (cx_only gs))) (e ∙ only-append gs following) ∙ take-append_seam (cx_only gs) (cx_only following)
 
-along-front : (es : List (ℕ × ℕ)) (q : List ℕ) (following : List Gate) (o : Outlook) (n : ℕ) (gs : List Gate) (layer : List (ℕ × ℕ)) → IsSeen (Along following) (Some o) n gs → ((j : ℕ) (g : Gate) → IsEmittable es q gs j g → ⊥)
+along-front : (es : List (ℕ × ℕ)) (q : List ℕ) (following : List Gate) (o : Outlook) (n : ℕ) (gs : List Gate) (layer : List (ℕ × ℕ)) → IsLookoutOver (Along following) (Some o) n gs → ((j : ℕ) (g : Gate) → IsEmittable es q gs j g → ⊥)
     → layer ≡ placed q (front gs) → (length (cx_only gs) ≤ length o.left) × (layer ≡ placed q (front (take (length (cx_only gs)) o.left)))
 along-front es q following o n gs layer h stuck e = (
   omega (arith, ap length (h.1 ∙ only-append gs following), length-append (cx_only gs) (cx_only following)),
   e ∙ ap (placed q) (front-only es q gs stuck ∙ ap front (sym (only-front_part gs following o.left h.1))),
 )
 
-pub seen-front : (es : List (ℕ × ℕ)) (q : List ℕ) (ahead : Ahead) (o : Outlook) (n : ℕ) (gs : List Gate) (layer : List (ℕ × ℕ)) → IsSeen ahead (Some o) n gs → ((j : ℕ) (g : Gate) → IsEmittable es q gs j g → ⊥) → layer ≡ placed q (front gs)
+pub seen-front : (es : List (ℕ × ℕ)) (q : List ℕ) (ahead : Ahead) (o : Outlook) (n : ℕ) (gs : List Gate) (layer : List (ℕ × ℕ)) → IsLookoutOver ahead (Some o) n gs → ((j : ℕ) (g : Gate) → IsEmittable es q gs j g → ⊥) → layer ≡ placed q (front gs)
     → IsLayer o q layer
 seen-front es q InOrder o n gs layer h stuck e = absurd h
 seen-front es q (Along following) o n gs layer h stuck e = let l = along-front es q following o n gs layer h stuck e in record { many = length (cx_only gs); within = l.0; is = l.1 }
 
-pub seen-along : (es : List (ℕ × ℕ)) (q : List ℕ) (ahead : Ahead) (o : Outlook) (n : ℕ) (gs : List Gate) (layer xs : List (ℕ × ℕ)) → IsSeen ahead (Some o) n gs → ((j : ℕ) (g : Gate) → IsEmittable es q gs j g → ⊥) → layer ≡ placed q (front gs)
-    → IsSet o q layer xs → IsAheadOn ahead n q gs xs
+pub seen-along : (es : List (ℕ × ℕ)) (q : List ℕ) (ahead : Ahead) (o : Outlook) (n : ℕ) (gs : List Gate) (layer xs : List (ℕ × ℕ)) → IsLookoutOver ahead (Some o) n gs → ((j : ℕ) (g : Gate) → IsEmittable es q gs j g → ⊥) → layer ≡ placed q (front gs)
+    → IsWrittenSet o q layer xs → IsAheadOn ahead n q gs xs
 seen-along es q InOrder o n gs layer xs h stuck e set = absurd h
 seen-along es q (Along following) o n gs layer xs h stuck e set =
     let l = along-front es q following o n gs layer h stuck e in
@@ -53,7 +53,7 @@ seen-along es q (Along following) o n gs layer xs h stuck e set =
       placed_at = s.4;
     }
 
-pub seen-can : (ahead : Ahead) (o : Option Outlook) (n : ℕ) (gs : List Gate) (j : ℕ) (g : Gate) → IsSeen ahead o n gs → IsFirstGate gs j g → IfSome o (λ x. CanPass (is_cx g) g x.left)
+pub seen-can : (ahead : Ahead) (o : Option Outlook) (n : ℕ) (gs : List Gate) (j : ℕ) (g : Gate) → IsLookoutOver ahead o n gs → IsFirstGate gs j g → IfSome o (λ x. CanPass (is_cx g) g x.left)
 seen-can ahead None n gs j g h first = tt
 seen-can InOrder (Some o) n gs j g h first = absurd h
 seen-can (Along following) (Some o) n gs j g h first = go (is_cx g) refl
@@ -62,12 +62,12 @@ seen-can (Along following) (Some o) n gs j g h first = go (is_cx g) refl
     go false e = tt
     go true e = let t = only-taken gs following j g first e in (t.0, subst (λ (xs : List Gate). IsFirstGate xs t.0 g) (sym h.1) t.1)
 
-pub seen-past : (ahead : Ahead) (o p : Option Outlook) (n : ℕ) (gs : List Gate) (j : ℕ) (g : Gate) → IsSeen ahead o n gs → IsFirstGate gs j g → IsPassedBy g o p → IsSeen ahead p n (remove gs j)
-seen-past InOrder None p n gs j g h first past = subst (λ (x : Option Outlook). IsSeen InOrder x n (remove gs j)) (sym past) tt
+pub seen-past : (ahead : Ahead) (o p : Option Outlook) (n : ℕ) (gs : List Gate) (j : ℕ) (g : Gate) → IsLookoutOver ahead o n gs → IsFirstGate gs j g → IsPassedBy g o p → IsLookoutOver ahead p n (remove gs j)
+seen-past InOrder None p n gs j g h first past = subst (λ (x : Option Outlook). IsLookoutOver InOrder x n (remove gs j)) (sym past) tt
 seen-past InOrder (Some o) p n gs j g h first past = absurd h
 seen-past (Along following) None p n gs j g h first past = absurd h
 seen-past (Along following) (Some o) p n gs j g h first (new, is, wires, past) =
-    subst (λ (x : Option Outlook). IsSeen (Along following) x n (remove gs j)) (sym is) (omega (arith, h.0, wires), go (is_cx g) refl past)
+    subst (λ (x : Option Outlook). IsLookoutOver (Along following) x n (remove gs j)) (sym is) (omega (arith, h.0, wires), go (is_cx g) refl past)
   where
     go : (b : Bool) → is_cx g ≡ b → IsPast b g o.left new.left → new.left ≡ cx_only (remove gs j ++ following)
     go false e same = same ∙ h.1 ∙ only-append gs following ∙ ap (λ xs. xs ++ cx_only following) (sym (only-single gs j g first.there e)) ∙ sym (only-append (remove gs j) following)
@@ -77,7 +77,7 @@ seen-past (Along following) (Some o) p n gs j g h first (new, is, wires, past) =
         taken ∙ (λ z. remove (h.1 z) (k z)) ∙ sym t.2
 
 -- in program order
-pub seen-ordered : (ahead : Ahead) (n : ℕ) (q : List ℕ) (gs : List Gate) (xs : List (ℕ × ℕ)) → IsSeen ahead None n gs → All (IsFine n) gs → xs ≡ placed q (extended gs) → IsAheadOn ahead n q gs xs
+pub seen-ordered : (ahead : Ahead) (n : ℕ) (q : List ℕ) (gs : List Gate) (xs : List (ℕ × ℕ)) → IsLookoutOver ahead None n gs → All (IsFine n) gs → xs ≡ placed q (extended gs) → IsAheadOn ahead n q gs xs
 seen-ordered InOrder n q gs xs h fine e = record {
   set = extended gs;
   extended = refl;
@@ -88,22 +88,22 @@ seen-ordered InOrder n q gs xs h fine e = record {
 seen-ordered (Along following) n q gs xs h fine e = absurd h
 
 -- ---- as the calls tell it
-pub seen-sized : (ahead : Ahead) (o : Option Outlook) (n m : ℕ) (gs : List Gate) → n ≡ m → IsSeen ahead o n gs → IsSeen ahead o m gs
-seen-sized ahead o n m gs e h = subst (λ (k : ℕ). IsSeen ahead o k gs) e h
+pub seen-sized : (ahead : Ahead) (o : Option Outlook) (n m : ℕ) (gs : List Gate) → n ≡ m → IsLookoutOver ahead o n gs → IsLookoutOver ahead o m gs
+seen-sized ahead o n m gs e h = subst (λ (k : ℕ). IsLookoutOver ahead o k gs) e h
 
 first-gate : (d : Coupling) (s u : State) (j : ℕ) (g : Gate) → IsEmission d s j g u → IsFirstGate s.rest j g
 first-gate d s u j g h = record { there = h.can.there; first = h.can.first }
 
 -- what is asked of a lookout, and what it is afterwards
-pub emission-can : (ahead : Ahead) (o : Option Outlook) (d : Coupling) (s u : State) (j : ℕ) (g : Gate) → IsSeen ahead o d.size s.rest → IsEmission d s j g u → IfSome o (λ x. CanPass (is_cx g) g x.left)
+pub emission-can : (ahead : Ahead) (o : Option Outlook) (d : Coupling) (s u : State) (j : ℕ) (g : Gate) → IsLookoutOver ahead o d.size s.rest → IsEmission d s j g u → IfSome o (λ x. CanPass (is_cx g) g x.left)
 emission-can ahead o d s u j g h e = seen-can ahead o d.size s.rest j g h (first-gate d s u j g e)
 
-pub emission-seen : (ahead : Ahead) (o p : Option Outlook) (d : Coupling) (s u : State) (j : ℕ) (g : Gate) → IsSeen ahead o d.size s.rest → IsEmission d s j g u → IsPassedBy g o p → IsSeen ahead p d.size u.rest
+pub emission-seen : (ahead : Ahead) (o p : Option Outlook) (d : Coupling) (s u : State) (j : ℕ) (g : Gate) → IsLookoutOver ahead o d.size s.rest → IsEmission d s j g u → IsPassedBy g o p → IsLookoutOver ahead p d.size u.rest
 emission-seen ahead o p d s u j g h e past =
-    subst (λ (xs : List Gate). IsSeen ahead p d.size xs) (sym (emitted-parts s u j g e.after).rest) (seen-past ahead o p d.size s.rest j g h (first-gate d s u j g e) past)
+    subst (λ (xs : List Gate). IsLookoutOver ahead p d.size xs) (sym (emitted-parts s u j g e.after).rest) (seen-past ahead o p d.size s.rest j g h (first-gate d s u j g e) past)
 
-pub exchange-seen : (ahead : Ahead) (o : Option Outlook) (n m : ℕ) (s u : State) (a b : ℕ) → u ≡ exchange m s a b → IsSeen ahead o n s.rest → IsSeen ahead o n u.rest
-exchange-seen ahead o n m s u a b e h = subst (λ (xs : List Gate). IsSeen ahead o n xs) (sym (swapped-parts m s u a b e).rest) h
+pub exchange-seen : (ahead : Ahead) (o : Option Outlook) (n m : ℕ) (s u : State) (a b : ℕ) → u ≡ exchange m s a b → IsLookoutOver ahead o n s.rest → IsLookoutOver ahead o n u.rest
+exchange-seen ahead o n m s u a b e h = subst (λ (xs : List Gate). IsLookoutOver ahead o n xs) (sym (swapped-parts m s u a b e).rest) h
 
 -- ---- the choice
 ahead-wires : (ahead : Ahead) (d : Coupling) (n : ℕ) (q : List ℕ) (gs : List Gate) (xs : List (ℕ × ℕ)) → n ≡ d.size → (h : IsAheadOn ahead n q gs xs) → AreWires d.size h.set

@@ -16,9 +16,9 @@ use Rattle.circuit_list.specs.declared.Gate.TheVariants.{H, X, P, Cx}
 use Rattle.circuit_list.specs.Gates.{IsFine}
 use Rattle.unitary_model.specs.Placement.{IsPlacement, position_of}
 use Rattle.sabre_route.specs.Ahead.{Outlook}
-use Rattle.sabre_route.specs.Dependences.{entry, IsAlong}
+use Rattle.sabre_route.specs.Dependences.{release_at, IsAlong}
 use Rattle.sabre_route.specs.Front.{is_left, rest}
-use Rattle.sabre_route.specs.Looking.{HasFollowed, IsFollowing, IsLayer, IsLookout, IsSet}
+use Rattle.sabre_route.specs.Looking.{HasFollowed, IsFollowing, IsLayer, IsLookout, IsWrittenSet}
 use Rattle.sabre_route.specs.Scores.{placed, AreWithin}
 use Rattle.sabre_route.specs.Search.{front, gate_pairs, most_extended, pairs_at}
 use Rattle.sabre_route.proofs.FollowLaws.{cut-at, following-begun, IsCut}
@@ -86,7 +86,7 @@ shown-begun gs heads read later o q layer m e places reach limit h is cut same b
     size : length layer ≡ length ps
     size = ap length is ∙ length-placed q ps
 
-each-entry : (Q : ℕ → Type 0) (met : List (ℕ × ℕ)) → ((k : ℕ) → k < length met → Q (entry met k).1) → AllByRecursion Q (map (λ p. p.1) met)
+each-entry : (Q : ℕ → Type 0) (met : List (ℕ × ℕ)) → ((k : ℕ) → k < length met → Q (release_at met k).1) → AllByRecursion Q (map (λ p. p.1) met)
 each-entry Q [] h = tt
 each-entry Q (p ∷ met) h = (h 0 (omega arith), each-entry Q met (λ k lt. h (suc k) (omega arith)))
 
@@ -145,7 +145,7 @@ pairs-within n gs (j ∷ js) fine = append-each (λ p. (p.0 < n) × (p.1 < n)) (
 pub shown-set : (gs : List Gate) (heads read : List ℕ) (later : List (ℕ × ℕ)) (o : Outlook) (q : List ℕ) (layer : List (ℕ × ℕ)) (begun reach places : List ℕ) (count limit : ℕ) (xs : List (ℕ × ℕ)) → IsCalled gs heads later o q
     → read ≡ heads → reach ≡ heads → take (length layer) begun ≡ map (λ p. slice_index read (position_of p.0 q)) layer → limit ≡ length layer + most_extended → count ≤ limit
     → ((hs : List ℕ) (e first : ℕ) → IsFollowing gs hs e first 0 (length layer) limit begun reach → HasFollowed gs hs e first count places)
-    → xs ≡ placed q (pairs_at gs (take (count - length layer) (drop (length layer) places))) → IsSet o q layer xs
+    → xs ≡ placed q (pairs_at gs (take (count - length layer) (drop (length layer) places))) → IsWrittenSet o q layer xs
 shown-set gs heads read later o q layer begun reach places count limit xs h same back begin limited few followed is = λ m le e.
     let left = left-of gs heads later o q h in
     let cut = cut-at heads gs m (omega (arith, le, ap length left)) in

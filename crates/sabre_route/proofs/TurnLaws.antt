@@ -7,7 +7,7 @@ use Rattle.std.proofs.lemmas.Bool.{cases_lt}
 use Rattle.std.proofs.lemmas.List.{get_or-set_other, length-set, take_more_set}
 use Rattle.std.proofs.lemmas.List.Elements.{All-append, All-cons, All-nil}
 use Rattle.circuit_list.specs.declared.Gate.{Gate}
-use Rattle.sabre_route.specs.Dependences.{entry}
+use Rattle.sabre_route.specs.Dependences.{release_at}
 use Rattle.sabre_route.specs.Front.{HasPassed}
 use Rattle.sabre_route.specs.Kept.{AreLinks}
 use Rattle.sabre_route.specs.Looking.{HasMet, IsFollowing, IsLooking, IsOnTheWay}
@@ -67,7 +67,7 @@ passed-way gs heads later e first next count limit place places reach after t lt
     l : IsLooking gs heads e first next count places reach h.way.time h.way.place
     l = h.way.looking
 
-    same : (entry l.met next).1 ≡ place
+    same : (release_at l.met next).1 ≡ place
     same = sym (place-entry places l.met count next l.are lt (omega (arith, lt, l.long))) ∙ at
 
 low-one : (x y : ℕ) → (min x y ≡ x) ⊎ (min x y ≡ y)

@@ -4,7 +4,7 @@
 --                             the first 20 that are met along dependences from the front layer on, also among gates that follow
 --   IsExtended ahead gs es    es is the extended set
 --   Outlook                   the number of wires of a lookout, and the CNOTs that are left in it
---   IsSeen ahead o n gs       lookout o, if the set is that along dependences, is over the gates gs and those that follow, on n wires at most
+--   IsLookoutOver ahead o n gs       lookout o, if the set is that along dependences, is over the gates gs and those that follow, on n wires at most
 --   IsBestSwap ahead d q gs a b     the candidate with the least (score, a, b)
 use Rattle.std.specs.Prelude.{◌≡◌, ℕ, ◌≤◌, ◌++◌, List, Option, None, Some, filter, length}
 use Rattle.circuit_list.specs.declared.Gate.{Gate}
@@ -34,8 +34,8 @@ pub record Outlook : Type 0 where
   pub wires : ℕ
   pub left : List Gate
 
-abbrev pub IsSeen : Ahead → Option Outlook → ℕ → List Gate → Type 0
-IsSeen InOrder None n gs = Unit {0}
-IsSeen InOrder (Some o) n gs = ⊥
-IsSeen (Along following) None n gs = ⊥
-IsSeen (Along following) (Some o) n gs = (o.wires ≤ n) × (o.left ≡ cx_only (gs ++ following))
+abbrev pub IsLookoutOver : Ahead → Option Outlook → ℕ → List Gate → Type 0
+IsLookoutOver InOrder None n gs = Unit {0}
+IsLookoutOver InOrder (Some o) n gs = ⊥
+IsLookoutOver (Along following) None n gs = ⊥
+IsLookoutOver (Along following) (Some o) n gs = (o.wires ≤ n) × (o.left ≡ cx_only (gs ++ following))

@@ -4,20 +4,20 @@
 --   IsLookout, IsChained     what a lookout and chains keep
 --   Waits gs heads b a       CNOT b waits for CNOT a, which is left
 --   Unbound gs heads e b     CNOT b is left, stands before place e and waits for none
---   IsWalked waits unbound met t b     those met are the ones released before (t, b)
+--   IsMetBefore waits unbound met t b     those met are the ones released before (t, b)
 --   IsGone gs heads reach b  CNOT b was left by `heads`, and isn't by `reach`
 --   IsLooking                `count` places are of those met, the first of them at time 0; those before number `next` are passed
 --   IsOnTheWay               .. and those met are all that were released before a time and a place, unless there are enough
 --   IsFollowing, HasFollowed .. with what is known of all gates, and at the end
 --   IsOnward                 the loop that follows those met
---   IsLayer o q layer        a front layer of the first CNOTs of a lookout, on the qubits of the placement q;  IsSet: its extended set
+--   IsLayer o q layer        a front layer of the first CNOTs of a lookout, on the qubits of the placement q;  IsWrittenSet: its extended set
 --   IsAheadOn ahead n q gs xs    xs is the extended set, on the qubits of the placement q
 --   HasMet                   place b was looked at: one more is met there, or none
 use Rattle.std.specs.Prelude.{◌≡◌, ℕ, suc, ◌+◌, ◌<◌, ◌≤◌, ◌⊎◌, All, Bool, true, false, List, Option, None, Some, drop, length, map, remove, set, slice_get, take}
 use Rattle.circuit_list.specs.declared.Gate.{Gate}
 use Rattle.circuit_list.specs.Gates.{IsFine, is_cx}
 use Rattle.sabre_route.specs.Ahead.{Ahead, IsExtended, Outlook}
-use Rattle.sabre_route.specs.Dependences.{behind, entry, AreMet, IsAlong, IsBefore, IsReleased, WaitsFor}
+use Rattle.sabre_route.specs.Dependences.{behind, release_at, AreMet, IsAlong, IsBefore, IsReleasedAt, WaitsFor}
 use Rattle.sabre_route.specs.Front.{is_left, rest, AreHeads, IsFirst}
 use Rattle.sabre_route.specs.Kept.{AreLinks}
 use Rattle.sabre_route.specs.Left.{IsFirstGate}
@@ -53,29 +53,29 @@ pub record Waits (gs : List Gate) (heads : List ℕ) (b a : ℕ) : Type 0 where
 abbrev pub Unbound : List Gate → List ℕ → ℕ → ℕ → Type 0
 Unbound gs heads e b = (b < e) × IsFirst gs heads b
 
-pub record IsWalked (waits : ℕ → ℕ → Type 0) (unbound : ℕ → Type 0) (met : List (ℕ × ℕ)) (time place : ℕ) : Type 0 where
-  pub ordered : (i j : ℕ) → i < j → j < length met → IsBefore (entry met i) (entry met j)
-  pub earlier : (i : ℕ) → i < length met → IsBefore (entry met i) (time, place)
-  pub released : (i : ℕ) → i < length met → IsReleased waits unbound met (entry met i).0 (entry met i).1
-  pub all : (t b : ℕ) → IsBefore (t, b) (time, place) → IsReleased waits unbound met t b → (i : ℕ) × (i < length met) × (entry met i ≡ (t, b))
+pub record IsMetBefore (waits : ℕ → ℕ → Type 0) (unbound : ℕ → Type 0) (met : List (ℕ × ℕ)) (time place : ℕ) : Type 0 where
+  pub ordered : (i j : ℕ) → i < j → j < length met → IsBefore (release_at met i) (release_at met j)
+  pub earlier : (i : ℕ) → i < length met → IsBefore (release_at met i) (time, place)
+  pub released : (i : ℕ) → i < length met → IsReleasedAt waits unbound met (release_at met i).0 (release_at met i).1
+  pub all : (t b : ℕ) → IsBefore (t, b) (time, place) → IsReleasedAt waits unbound met t b → (i : ℕ) × (i < length met) × (release_at met i ≡ (t, b))
 
 abbrev pub IsGone : List Gate → List ℕ → List ℕ → ℕ → Type 0
 IsGone gs heads reach b = (g : Gate) × (slice_get gs b ≡ Some g) × (is_left heads b g ≡ true) × (is_left reach b g ≡ false)
 
 pub record IsLooking (gs : List Gate) (heads : List ℕ) (e first next count : ℕ) (places reach : List ℕ) (time place : ℕ) : Type 0 where
   pub met : List (ℕ × ℕ)
-  pub walked : IsWalked (Waits gs heads) (Unbound gs heads e) met time place
+  pub walked : IsMetBefore (Waits gs heads) (Unbound gs heads e) met time place
   pub are : take count places ≡ map (λ p. p.1) met
   pub long : length met ≡ count
   pub begun : first ≤ count
-  pub at_first : (k : ℕ) → k < first → (entry met k).0 ≡ 0
-  pub behind_first : (k : ℕ) → first ≤ k → k < count → 0 < (entry met k).0
+  pub at_first : (k : ℕ) → k < first → (release_at met k).0 ≡ 0
+  pub behind_first : (k : ℕ) → first ≤ k → k < count → 0 < (release_at met k).0
   pub few : count ≤ first + most_extended
   pub reach_heads : AreHeads (length heads) gs reach
   pub within : next ≤ count
-  pub gone : (k : ℕ) → k < next → IsGone gs heads reach (entry met k).1
-  pub gone_back : (b : ℕ) → IsGone gs heads reach b → (k : ℕ) × (k < next) × ((entry met k).1 ≡ b)
-  pub pending : (k : ℕ) → next ≤ k → k < count → IsFirst gs reach (entry met k).1
+  pub gone : (k : ℕ) → k < next → IsGone gs heads reach (release_at met k).1
+  pub gone_back : (b : ℕ) → IsGone gs heads reach b → (k : ℕ) × (k < next) × ((release_at met k).1 ≡ b)
+  pub pending : (k : ℕ) → next ≤ k → k < count → IsFirst gs reach (release_at met k).1
   pub still : (b : ℕ) (g : Gate) → slice_get gs b ≡ Some g → is_left reach b g ≡ true → is_left heads b g ≡ true
 
 pub record IsOnTheWay (gs : List Gate) (heads : List ℕ) (e first next count : ℕ) (places reach : List ℕ) (then from : ℕ) : Type 0 where
@@ -104,8 +104,8 @@ pub record IsLayer (o : Outlook) (q : List ℕ) (layer : List (ℕ × ℕ)) : Ty
   pub within : many ≤ length o.left
   pub is : layer ≡ placed q (front (take many o.left))
 
-abbrev pub IsSet : Outlook → List ℕ → List (ℕ × ℕ) → List (ℕ × ℕ) → Type 0
-IsSet o q layer xs = (m : ℕ) → m ≤ length o.left → layer ≡ placed q (front (take m o.left))
+abbrev pub IsWrittenSet : Outlook → List ℕ → List (ℕ × ℕ) → List (ℕ × ℕ) → Type 0
+IsWrittenSet o q layer xs = (m : ℕ) → m ≤ length o.left → layer ≡ placed q (front (take m o.left))
     → (es : List (ℕ × ℕ)) × IsAlong most_extended o.left m es × AreWithin o.wires es × (length es ≤ most_extended) × (xs ≡ placed q es)
 
 pub record IsAheadOn (ahead : Ahead) (n : ℕ) (q : List ℕ) (gs : List Gate) (xs : List (ℕ × ℕ)) : Type 0 where

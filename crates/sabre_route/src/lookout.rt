@@ -11,7 +11,7 @@ ghost use Rattle.unitary_model.specs.Placement.{position_of};
 ghost use Rattle.sabre_route.specs.Ahead.{cx_only};
 ghost use Rattle.sabre_route.specs.Front.{HasPassed, IsFirst};
 ghost use Rattle.sabre_route.specs.Kept.{AreLinks};
-ghost use Rattle.sabre_route.specs.Looking.{CanPass, HasFollowed, HasMet, IsFollowing, IsLayer, IsPassedBy, IsPast, IsSet};
+ghost use Rattle.sabre_route.specs.Looking.{CanPass, HasFollowed, HasMet, IsFollowing, IsLayer, IsPassedBy, IsPast, IsWrittenSet};
 ghost use Rattle.sabre_route.specs.Search.{most_extended};
 
 use crate::best::QUBITS;
@@ -290,7 +290,7 @@ impl<'a> Lookout<'a> {
         requires room { most_extended ≤ length into.old }
         ensures long { length into.new ≡ length into.old }
         ensures within { result ≤ length into.new }
-        ensures set { IsSet self.now placement.now layer.now (take result into.new) }
+        ensures set { IsWrittenSet self.now placement.now layer.now (take result into.new) }
     {
         // Its contract says that the wires stand on different qubits.
         placement.facts();

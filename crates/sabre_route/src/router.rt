@@ -9,7 +9,7 @@ ghost use Rattle.coupling_map.specs.Walks.{IsDiameter};
 ghost use Rattle.sabre_route.specs.Machine.{IsChosen, IsEmittable, IsWalk};
 ghost use Rattle.sabre_route.specs.Measures.{bound};
 ghost use Rattle.sabre_route.specs.Routing.{IsLayout, IsRouted};
-ghost use Rattle.sabre_route.specs.Ahead.{Ahead, IsSeen};
+ghost use Rattle.sabre_route.specs.Ahead.{Ahead, IsLookoutOver};
 ghost use Rattle.sabre_route.specs.Teller.{HasToldStep};
 ghost use Rattle.sabre_route.specs.Telling.{IsRoutedBy};
 ghost use Rattle.sabre_route.specs.Underway.{HasEnded, IsFitting, IsMove, IsRealising};
@@ -82,8 +82,8 @@ fn choose(
     requires placed { length state.now.placement ≡ device.now.size }
     requires left { state.now.rest ≡ [] → ⊥ }
     requires stuck { (j : ℕ) (g : Gate) → IsEmittable device.now.edges state.now.placement state.now.rest j g → ⊥ }
-    requires seen { (ahead : Ahead) × IsSeen ahead lookout.now device.now.size state.now.rest }
-    ensures chosen { (ahead : Ahead) → IsSeen ahead lookout.now device.now.size state.now.rest →
+    requires seen { (ahead : Ahead) × IsLookoutOver ahead lookout.now device.now.size state.now.rest }
+    ensures chosen { (ahead : Ahead) → IsLookoutOver ahead lookout.now device.now.size state.now.rest →
         IsChosen ahead device.now state.now result.0 result.1 }
 {
     if state.stalled() < device.size() {
@@ -102,9 +102,9 @@ fn step(
 ) -> Result<Move, AllocError>
     requires placed { length state.old.placement ≡ device.now.size }
     requires left { state.old.rest ≡ [] → ⊥ }
-    requires seen { (ahead : Ahead) × IsSeen ahead lookout.old device.now.size state.old.rest }
-    ensures moved { IfOk result (λ m. (ahead : Ahead) → IsSeen ahead lookout.old device.now.size state.old.rest →
-        IsMove ahead device.now state.old m state.new × IsSeen ahead lookout.new device.now.size state.new.rest) }
+    requires seen { (ahead : Ahead) × IsLookoutOver ahead lookout.old device.now.size state.old.rest }
+    ensures moved { IfOk result (λ m. (ahead : Ahead) → IsLookoutOver ahead lookout.old device.now.size state.old.rest →
+        IsMove ahead device.now state.old m state.new × IsLookoutOver ahead lookout.new device.now.size state.new.rest) }
 {
     // Their contracts say that near qubits are qubits of the device.
     distances_on_device();
@@ -132,10 +132,10 @@ fn write_step(
     requires some { state.old.rest ≡ [] → ⊥ }
     requires fits { IsFitting device.now.size written.old }
     requires left { IfSome teller.old.left (λ gs. gs ≡ state.old.rest) }
-    requires seen { (ahead : Ahead) × IsSeen ahead lookout.old device.now.size state.old.rest }
-    ensures stepped { OnOk result ((ahead : Ahead) → IsSeen ahead lookout.old device.now.size state.old.rest →
+    requires seen { (ahead : Ahead) × IsLookoutOver ahead lookout.old device.now.size state.old.rest }
+    ensures stepped { OnOk result ((ahead : Ahead) → IsLookoutOver ahead lookout.old device.now.size state.old.rest →
         HasToldStep ahead device.now state.old written.old teller.old state.new written.new teller.new ×
-        IsSeen ahead lookout.new device.now.size state.new.rest) }
+        IsLookoutOver ahead lookout.new device.now.size state.new.rest) }
 {
     // Their contracts say that near qubits are qubits of the device, and that the wires stand on
     // different qubits.
@@ -169,11 +169,11 @@ fn run(
     requires placed { length given ≡ device.now.size }
     requires left { IfSome teller.left (λ gs. gs ≡ gates.now) }
     requires untold { teller.events.items ≡ [] }
-    requires seen { (ahead : Ahead) × IsSeen ahead lookout.old device.now.size gates.now }
+    requires seen { (ahead : Ahead) × IsLookoutOver ahead lookout.old device.now.size gates.now }
     ensures wires { IfOk result (λ r. r.0.body.wires ≡ device.now.size) }
-    ensures run { IfOk result (λ r. (ahead : Ahead) → IsSeen ahead lookout.old device.now.size gates.now →
-        IsRouted ahead device.now gates.now given r.0 × IsSeen ahead lookout.new device.now.size []) }
-    ensures events { IfSome teller.left (λ gs. IfOk result (λ r. (ahead : Ahead) → IsSeen ahead lookout.old device.now.size gates.now →
+    ensures run { IfOk result (λ r. (ahead : Ahead) → IsLookoutOver ahead lookout.old device.now.size gates.now →
+        IsRouted ahead device.now gates.now given r.0 × IsLookoutOver ahead lookout.new device.now.size []) }
+    ensures events { IfSome teller.left (λ gs. IfOk result (λ r. (ahead : Ahead) → IsLookoutOver ahead lookout.old device.now.size gates.now →
         IsRoutedBy ahead device.now gs given r.0 r.1.items)) }
     ensures realises { IfOk result (λ r. IsRealising device.now wires gates.now given r.0) }
 {
@@ -217,9 +217,9 @@ fn settle(
     requires fine { All (IsFine wires) gates.now }
     requires fits { wires ≤ device.now.size }
     requires placed { length given ≡ device.now.size }
-    requires seen { (ahead : Ahead) × IsSeen ahead lookout.old device.now.size gates.now }
+    requires seen { (ahead : Ahead) × IsLookoutOver ahead lookout.old device.now.size gates.now }
     ensures placement { IfOk result (λ p. IsPlacement device.now.size p) }
-    ensures run { IfOk result (λ p. (ahead : Ahead) → IsSeen ahead lookout.old device.now.size gates.now →
+    ensures run { IfOk result (λ p. (ahead : Ahead) → IsLookoutOver ahead lookout.old device.now.size gates.now →
         HasEnded ahead device.now gates.now given p) }
 {
     // Their contracts say what distances are, and that `given` is a placement.
@@ -250,9 +250,9 @@ pub fn route(
 ) -> Result<Routed, AllocError>
     requires fits { circuit.now.wires ≤ device.now.size }
     requires placed { length given ≡ device.now.size }
-    requires seen { (ahead : Ahead) × IsSeen ahead lookout.old device.now.size circuit.now.gates }
-    ensures run { IfOk result (λ r. (ahead : Ahead) → IsSeen ahead lookout.old device.now.size circuit.now.gates →
-        IsRouted ahead device.now circuit.now.gates given r × IsSeen ahead lookout.new device.now.size []) }
+    requires seen { (ahead : Ahead) × IsLookoutOver ahead lookout.old device.now.size circuit.now.gates }
+    ensures run { IfOk result (λ r. (ahead : Ahead) → IsLookoutOver ahead lookout.old device.now.size circuit.now.gates →
+        IsRouted ahead device.now circuit.now.gates given r × IsLookoutOver ahead lookout.new device.now.size []) }
     ensures wires { IfOk result (λ r. r.body.wires ≡ device.now.size) }
     ensures realises { IfOk result (λ r.
         Realises (ops circuit.now.gates) circuit.now.wires (ops r.body.gates) device.now.size given r.last r.turn) }
@@ -289,11 +289,11 @@ pub fn route_traced(
 ) -> Result<(Routed, Vec<Event>), AllocError>
     requires fits { circuit.now.wires ≤ device.now.size }
     requires placed { length given ≡ device.now.size }
-    requires seen { (ahead : Ahead) × IsSeen ahead lookout.old device.now.size circuit.now.gates }
-    ensures events { IfOk result (λ r. (ahead : Ahead) → IsSeen ahead lookout.old device.now.size circuit.now.gates →
+    requires seen { (ahead : Ahead) × IsLookoutOver ahead lookout.old device.now.size circuit.now.gates }
+    ensures events { IfOk result (λ r. (ahead : Ahead) → IsLookoutOver ahead lookout.old device.now.size circuit.now.gates →
         IsRoutedBy ahead device.now circuit.now.gates given r.0 r.1.items) }
-    ensures run { IfOk result (λ r. (ahead : Ahead) → IsSeen ahead lookout.old device.now.size circuit.now.gates →
-        IsRouted ahead device.now circuit.now.gates given r.0 × IsSeen ahead lookout.new device.now.size []) }
+    ensures run { IfOk result (λ r. (ahead : Ahead) → IsLookoutOver ahead lookout.old device.now.size circuit.now.gates →
+        IsRouted ahead device.now circuit.now.gates given r.0 × IsLookoutOver ahead lookout.new device.now.size []) }
     ensures wires { IfOk result (λ r. r.0.body.wires ≡ device.now.size) }
     ensures realises { IfOk result (λ r.
         Realises (ops circuit.now.gates) circuit.now.wires (ops r.0.body.gates) device.now.size given r.0.last r.0.turn) }
@@ -332,10 +332,10 @@ pub fn layout(
 ) -> Result<Placement, AllocError>
     requires fits { circuit.now.wires ≤ device.now.size }
     requires placed { length given ≡ device.now.size }
-    requires seen { (ahead : Ahead) × IsSeen ahead out.old device.now.size circuit.now.gates ×
-        IsSeen ahead back.old device.now.size (reverse circuit.now.gates) }
-    ensures layout { IfOk result (λ p. (ahead : Ahead) → IsSeen ahead out.old device.now.size circuit.now.gates →
-        IsSeen ahead back.old device.now.size (reverse circuit.now.gates) → IsLayout ahead device.now circuit.now.gates given p) }
+    requires seen { (ahead : Ahead) × IsLookoutOver ahead out.old device.now.size circuit.now.gates ×
+        IsLookoutOver ahead back.old device.now.size (reverse circuit.now.gates) }
+    ensures layout { IfOk result (λ p. (ahead : Ahead) → IsLookoutOver ahead out.old device.now.size circuit.now.gates →
+        IsLookoutOver ahead back.old device.now.size (reverse circuit.now.gates) → IsLayout ahead device.now circuit.now.gates given p) }
     ensures placement { IfOk result (λ p. IsPlacement device.now.size p) }
 {
     circuit.facts();

@@ -1,6 +1,6 @@
 use Rattle.std.proofs.Common.{◌≡◌, ℕ, ◌∙◌, Option, None, Some, ap, length, refl, subst, sym}
 use Rattle.circuit_list.specs.declared.Gate.{Gate}
-use Rattle.sabre_route.specs.Ahead.{IsSeen}
+use Rattle.sabre_route.specs.Ahead.{IsLookoutOver}
 use Rattle.sabre_route.specs.Machine.{State, exchange, IsChosen, IsEmission, IsEmittable}
 use Rattle.sabre_route.proofs.SeenLaws.{emission-can, emission-seen, exchange-seen}
 use Rattle.sabre_route.proofs.router.step.Goals as goal
@@ -31,7 +31,7 @@ returns c =
       moved = λ ahead h. (
         record {
           stuck = e.1;
-          chosen = subst (λ (x : State). IsChosen ahead d x c.choose-a.result.0 c.choose-a.result.1) e.0 (c.choose-a.ensures.chosen ahead (subst (λ (x : State). IsSeen ahead c.args.lookout.now d.size x.rest) (sym e.0) h));
+          chosen = subst (λ (x : State). IsChosen ahead d x c.choose-a.result.0 c.choose-a.result.1) e.0 (c.choose-a.ensures.chosen ahead (subst (λ (x : State). IsLookoutOver ahead c.args.lookout.now d.size x.rest) (sym e.0) h));
           after = after;
         },
         exchange-seen ahead c.args.lookout.now d.size d.size s c.swap.new.self c.choose-a.result.0 c.choose-a.result.1 after h,
