@@ -181,6 +181,23 @@ fn joined(alloc: Global, wires: u32, rewritten: &[Rewritten]) -> Result<Circuit,
     Ok(body)
 }
 
+/// The layout of a circuit, looked for from a placement, where swaps are judged in program order.
+fn in_order_layout(
+    alloc: Global,
+    circuit: &Circuit,
+    device: &Device,
+    given: Placement,
+) -> Result<Placement, AllocError>
+    requires fits { circuit.now.wires ≤ device.now.size }
+    requires placed { length given ≡ device.now.size }
+    ensures layout { IfOk result (IsLayout InOrder device.now circuit.now.gates given) }
+    ensures placement { IfOk result (λ p. IsPlacement device.now.size p) }
+{
+    let mut out = None;
+    let mut back = None;
+    layout(alloc, circuit, device, given, &mut out, &mut back)
+}
+
 /// The layout of the gates of all parts, one after the other.
 fn layout_of(
     alloc: Global,
@@ -196,10 +213,10 @@ fn layout_of(
     device.facts();
     let identity = Placement::identity(alloc, device.size())?;
     if rewritten.len() == 1 {
-        return layout(alloc, &rewritten[0].passed.body, device, identity);
+        return in_order_layout(alloc, &rewritten[0].passed.body, device, identity);
     }
     let body = joined(alloc, wires, rewritten)?;
-    layout(alloc, &body, device, identity)
+    in_order_layout(alloc, &body, device, identity)
 }
 
 /// The qubits on which the wires begin: those of the chosen placement, or else of the layout.
@@ -243,14 +260,15 @@ fn run_from(
     ensures run { IfOk result (λ r. IsRunOf device.now circuit.now.wires circuit.now.gates given r.routed) }
     ensures events { IfOk result (λ r. traced ≡ true → IsRoutedBy InOrder device.now circuit.now.gates given r.routed r.events.items) }
 {
+    let mut in_order = None;
     // Their contracts say that the gates are on these qubits, and that the wires stand on them.
     if traced {
-        let (routed, events) = route_traced(alloc, circuit, device, given)?;
+        let (routed, events) = route_traced(alloc, circuit, device, given, &mut in_order)?;
         routed.body.facts();
         routed.last.facts();
         return Ok(Run { routed, events });
     }
-    let routed = route(alloc, circuit, device, given)?;
+    let routed = route(alloc, circuit, device, given, &mut in_order)?;
     routed.body.facts();
     routed.last.facts();
     Ok(Run {

@@ -54,7 +54,7 @@ fn tells(
     if given.size() != device.size() || circuit.wires() > device.size() {
         return Ok(false);
     }
-    let (_routed, events) = route_traced(alloc, circuit, device, given)?;
+    let (_routed, events) = route_traced(alloc, circuit, device, given, &mut None)?;
     Ok(are_events(&events, wanted))
 }
 

@@ -4,7 +4,7 @@
 --   known-first             so an emitted gate is first on its wires there
 --   emitted-told, swapped-told     a step, what is written and what is told of it
 --   told-run_start, told-run_stepped     the machine underway
---   routed-told             the machine ended, where its events were told
+--   routed-told_each        the machine ended, where its events were told, for each kind of extended set that was seen
 use Rattle.std.proofs.Common.{◌≡◌, ℕ, Bool, true, false, List, [], ◌∷◌, ◌++◌, Option, None, Some, remove, refl, sym, ◌∙◌, ap, subst}
 use Rattle.std.proofs.lemmas.List.{map-append}
 use Rattle.std.specs.Option.{IfSome, is_some}
@@ -136,9 +136,9 @@ routed-by ahead b d gs given s w t p r none e asked = record {
   events = r.telling.events ∙ ap (λ c. told_if c r.underway.events) asked;
 }
 
-pub routed-told : (ahead : Ahead) (d : Coupling) (gs : List Gate) (given : List ℕ) (s : State) (w : Written) (t : Teller) (p : List ℕ) (o : Option (List Gate)) → IfSome o (λ xs. xs ≡ gs)
-    → IsToldRun ahead (is_some o) d gs given s w t → s.rest ≡ [] → p ≡ s.placement
-    → IfSome o (λ xs. IsRoutedBy ahead d xs given (record { body = w.body; last = p; swaps = w.swaps; turn = w.turn }) t.events.items)
-routed-told ahead d gs given s w t p None known r none e = tt
-routed-told ahead d gs given s w t p (Some xs) known r none e =
-    subst (λ (ys : List Gate). IsRoutedBy ahead d ys given (record { body = w.body; last = p; swaps = w.swaps; turn = w.turn }) t.events.items) (sym known) (routed-by ahead true d gs given s w t p r none e refl)
+pub routed-told_each : (S : Ahead → Type 0) (d : Coupling) (gs : List Gate) (given : List ℕ) (s : State) (w : Written) (t : Teller) (p : List ℕ) (o : Option (List Gate)) → IfSome o (λ xs. xs ≡ gs)
+    → ((ahead : Ahead) → S ahead → IsToldRun ahead (is_some o) d gs given s w t) → s.rest ≡ [] → p ≡ s.placement
+    → IfSome o (λ xs. (ahead : Ahead) → S ahead → IsRoutedBy ahead d xs given (record { body = w.body; last = p; swaps = w.swaps; turn = w.turn }) t.events.items)
+routed-told_each S d gs given s w t p None known r none e = tt
+routed-told_each S d gs given s w t p (Some xs) known r none e =
+    λ ahead h. subst (λ (ys : List Gate). IsRoutedBy ahead d ys given (record { body = w.body; last = p; swaps = w.swaps; turn = w.turn }) t.events.items) (sym known) (routed-by ahead true d gs given s w t p (r ahead h) none e refl)

@@ -1,6 +1,6 @@
 //! The routing machine's run, and the layout that two of its runs find.
 
-ghost use Rattle.std.specs.Prelude.{◌≡◌, ℕ, [], ◌+◌, ◌*◌, ◌≤◌, All, IfOk, IfSome, OnOk, length};
+ghost use Rattle.std.specs.Prelude.{◌≡◌, ℕ, [], ◌+◌, ◌*◌, ◌≤◌, All, IfOk, IfSome, OnOk, length, reverse};
 ghost use Rattle.circuit_list.specs.declared.Gate.{Gate};
 ghost use Rattle.circuit_list.specs.Gates.{IsFine, ops};
 ghost use Rattle.coupling_map.specs.Coupling.{cost};
@@ -9,7 +9,7 @@ ghost use Rattle.coupling_map.specs.Walks.{IsDiameter};
 ghost use Rattle.sabre_route.specs.Machine.{IsChosen, IsEmittable, IsWalk};
 ghost use Rattle.sabre_route.specs.Measures.{bound};
 ghost use Rattle.sabre_route.specs.Routing.{IsLayout, IsRouted};
-ghost use Rattle.sabre_route.specs.Ahead.{InOrder};
+ghost use Rattle.sabre_route.specs.Ahead.{Ahead, IsLookoutOver};
 ghost use Rattle.sabre_route.specs.Teller.{HasToldStep};
 ghost use Rattle.sabre_route.specs.Telling.{IsRoutedBy};
 ghost use Rattle.sabre_route.specs.Underway.{HasEnded, IsFitting, IsMove, IsRealising};
@@ -23,6 +23,7 @@ use crate::emission::Written;
 use crate::events::{Event, Teller};
 use crate::laws::few_swaps;
 use crate::links::gates_of;
+use crate::lookout::{Lookout, pass_by};
 use crate::state::RouteState;
 use circuit_list::{Circuit, Gate};
 use coupling_map::Device;
@@ -72,14 +73,21 @@ fn choose_walk(state: &RouteState<'_>, device: &Device) -> (u32, u32)
 /// The two qubits that the machine swaps where no gate can be emitted.
 ///
 /// The scratch is for the qubits of the front layer, so that a run makes it once.
-fn choose(scratch: &mut Scratch, state: &RouteState<'_>, device: &Device) -> (u32, u32)
+fn choose(
+    scratch: &mut Scratch,
+    lookout: &Option<Lookout<'_>>,
+    state: &RouteState<'_>,
+    device: &Device,
+) -> (u32, u32)
     requires placed { length state.now.placement ≡ device.now.size }
     requires left { state.now.rest ≡ [] → ⊥ }
     requires stuck { (j : ℕ) (g : Gate) → IsEmittable device.now.edges state.now.placement state.now.rest j g → ⊥ }
-    ensures { IsChosen InOrder device.now state.now result.0 result.1 }
+    requires seen { (ahead : Ahead) × IsLookoutOver ahead lookout.now device.now.size state.now.rest }
+    ensures chosen { (ahead : Ahead) → IsLookoutOver ahead lookout.now device.now.size state.now.rest →
+        IsChosen ahead device.now state.now result.0 result.1 }
 {
     if state.stalled() < device.size() {
-        choose_swap_in(scratch, state, device)
+        choose_swap_in(scratch, lookout, state, device)
     } else {
         choose_walk(state, device)
     }
@@ -88,20 +96,24 @@ fn choose(scratch: &mut Scratch, state: &RouteState<'_>, device: &Device) -> (u3
 /// One step of the machine, and what it does.
 fn step(
     scratch: &mut Scratch,
+    lookout: &mut Option<Lookout<'_>>,
     state: &mut RouteState<'_>,
     device: &Device,
 ) -> Result<Move, AllocError>
     requires placed { length state.old.placement ≡ device.now.size }
     requires left { state.old.rest ≡ [] → ⊥ }
-    ensures { IfOk result (λ m. IsMove InOrder device.now state.old m state.new) }
+    requires seen { (ahead : Ahead) × IsLookoutOver ahead lookout.old device.now.size state.old.rest }
+    ensures moved { IfOk result (λ m. (ahead : Ahead) → IsLookoutOver ahead lookout.old device.now.size state.old.rest →
+        IsMove ahead device.now state.old m state.new × IsLookoutOver ahead lookout.new device.now.size state.new.rest) }
 {
     // Their contracts say that near qubits are qubits of the device.
     distances_on_device();
     device.facts();
     if let Some(gate) = state.emit_earliest(device)? {
+        pass_by(lookout, gate);
         return Ok(Move::Emitted(gate));
     }
-    let (a, b) = choose(scratch, state, device);
+    let (a, b) = choose(scratch, lookout, state, device);
     state.swap(a, b);
     Ok(Move::Swapped(a, b))
 }
@@ -109,6 +121,7 @@ fn step(
 /// One step of the machine, and what it does is written, and told where the teller tells.
 fn write_step(
     scratch: &mut Scratch,
+    lookout: &mut Option<Lookout<'_>>,
     state: &mut RouteState<'_>,
     device: &Device,
     written: &mut Written,
@@ -119,14 +132,17 @@ fn write_step(
     requires some { state.old.rest ≡ [] → ⊥ }
     requires fits { IsFitting device.now.size written.old }
     requires left { IfSome teller.old.left (λ gs. gs ≡ state.old.rest) }
-    ensures { OnOk result (HasToldStep InOrder device.now state.old written.old teller.old state.new written.new teller.new) }
+    requires seen { (ahead : Ahead) × IsLookoutOver ahead lookout.old device.now.size state.old.rest }
+    ensures stepped { OnOk result ((ahead : Ahead) → IsLookoutOver ahead lookout.old device.now.size state.old.rest →
+        HasToldStep ahead device.now state.old written.old teller.old state.new written.new teller.new ×
+        IsLookoutOver ahead lookout.new device.now.size state.new.rest) }
 {
     // Their contracts say that near qubits are qubits of the device, and that the wires stand on
     // different qubits.
     distances_on_device();
     device.facts();
     state.placement().facts();
-    match step(scratch, state, device)? {
+    match step(scratch, lookout, state, device)? {
         Move::Emitted(gate) => {
             teller.emit(gate)?;
             written.write_gate(device, state.placement(), gate)
@@ -145,6 +161,7 @@ fn run(
     wires: u32,
     device: &Device,
     given: Placement,
+    lookout: &mut Option<Lookout<'_>>,
     teller: Teller,
 ) -> Result<(Routed, Vec<Event>), AllocError>
     requires fine { All (IsFine wires) gates.now }
@@ -152,9 +169,12 @@ fn run(
     requires placed { length given ≡ device.now.size }
     requires left { IfSome teller.left (λ gs. gs ≡ gates.now) }
     requires untold { teller.events.items ≡ [] }
+    requires seen { (ahead : Ahead) × IsLookoutOver ahead lookout.old device.now.size gates.now }
     ensures wires { IfOk result (λ r. r.0.body.wires ≡ device.now.size) }
-    ensures run { IfOk result (λ r. IsRouted InOrder device.now gates.now given r.0) }
-    ensures events { IfSome teller.left (λ gs. IfOk result (λ r. IsRoutedBy InOrder device.now gs given r.0 r.1.items)) }
+    ensures run { IfOk result (λ r. (ahead : Ahead) → IsLookoutOver ahead lookout.old device.now.size gates.now →
+        IsRouted ahead device.now gates.now given r.0 × IsLookoutOver ahead lookout.new device.now.size []) }
+    ensures events { IfSome teller.left (λ gs. IfOk result (λ r. (ahead : Ahead) → IsLookoutOver ahead lookout.old device.now.size gates.now →
+        IsRoutedBy ahead device.now gs given r.0 r.1.items)) }
     ensures realises { IfOk result (λ r. IsRealising device.now wires gates.now given r.0) }
 {
     // Their contracts say what distances are, and that `given` is a placement.
@@ -166,7 +186,14 @@ fn run(
     let mut teller = teller;
     let mut scratch = [(0, 0); QUBITS];
     'steps: while !state.is_done() {
-        write_step(&mut scratch, &mut state, device, &mut written, &mut teller)?;
+        write_step(
+            &mut scratch,
+            lookout,
+            &mut state,
+            device,
+            &mut written,
+            &mut teller,
+        )?;
     }
     let Written { body, swaps, turn } = written;
     let routed = Routed {
@@ -185,12 +212,15 @@ fn settle(
     wires: u32,
     device: &Device,
     given: Placement,
+    lookout: &mut Option<Lookout<'_>>,
 ) -> Result<Placement, AllocError>
     requires fine { All (IsFine wires) gates.now }
     requires fits { wires ≤ device.now.size }
     requires placed { length given ≡ device.now.size }
+    requires seen { (ahead : Ahead) × IsLookoutOver ahead lookout.old device.now.size gates.now }
     ensures placement { IfOk result (λ p. IsPlacement device.now.size p) }
-    ensures run { IfOk result (λ p. HasEnded InOrder device.now gates.now given p) }
+    ensures run { IfOk result (λ p. (ahead : Ahead) → IsLookoutOver ahead lookout.old device.now.size gates.now →
+        HasEnded ahead device.now gates.now given p) }
 {
     // Their contracts say what distances are, and that `given` is a placement.
     distances_on_device();
@@ -199,7 +229,7 @@ fn settle(
     let mut state = RouteState::start(alloc, gates, wires, given)?;
     let mut scratch = [(0, 0); QUBITS];
     'steps: while !state.is_done() {
-        let _move = step(&mut scratch, &mut state, device)?;
+        let _move = step(&mut scratch, lookout, &mut state, device)?;
     }
     let placement = state.into_placement();
     // Its contract says that it is a placement.
@@ -216,10 +246,13 @@ pub fn route(
     circuit: &Circuit,
     device: &Device,
     given: Placement,
+    lookout: &mut Option<Lookout<'_>>,
 ) -> Result<Routed, AllocError>
     requires fits { circuit.now.wires ≤ device.now.size }
     requires placed { length given ≡ device.now.size }
-    ensures run { IfOk result (λ r. IsRouted InOrder device.now circuit.now.gates given r) }
+    requires seen { (ahead : Ahead) × IsLookoutOver ahead lookout.old device.now.size circuit.now.gates }
+    ensures run { IfOk result (λ r. (ahead : Ahead) → IsLookoutOver ahead lookout.old device.now.size circuit.now.gates →
+        IsRouted ahead device.now circuit.now.gates given r × IsLookoutOver ahead lookout.new device.now.size []) }
     ensures wires { IfOk result (λ r. r.body.wires ≡ device.now.size) }
     ensures realises { IfOk result (λ r.
         Realises (ops circuit.now.gates) circuit.now.wires (ops r.body.gates) device.now.size given r.last r.turn) }
@@ -239,7 +272,7 @@ pub fn route(
     let wires = circuit.wires();
     let gates = gates_of(alloc, circuit)?;
     let teller = Teller::silent(alloc);
-    let (routed, _events) = run(alloc, &gates, wires, device, given, teller)?;
+    let (routed, _events) = run(alloc, &gates, wires, device, given, lookout, teller)?;
     Ok(routed)
 }
 
@@ -252,11 +285,15 @@ pub fn route_traced(
     circuit: &Circuit,
     device: &Device,
     given: Placement,
+    lookout: &mut Option<Lookout<'_>>,
 ) -> Result<(Routed, Vec<Event>), AllocError>
     requires fits { circuit.now.wires ≤ device.now.size }
     requires placed { length given ≡ device.now.size }
-    ensures events { IfOk result (λ r. IsRoutedBy InOrder device.now circuit.now.gates given r.0 r.1.items) }
-    ensures run { IfOk result (λ r. IsRouted InOrder device.now circuit.now.gates given r.0) }
+    requires seen { (ahead : Ahead) × IsLookoutOver ahead lookout.old device.now.size circuit.now.gates }
+    ensures events { IfOk result (λ r. (ahead : Ahead) → IsLookoutOver ahead lookout.old device.now.size circuit.now.gates →
+        IsRoutedBy ahead device.now circuit.now.gates given r.0 r.1.items) }
+    ensures run { IfOk result (λ r. (ahead : Ahead) → IsLookoutOver ahead lookout.old device.now.size circuit.now.gates →
+        IsRouted ahead device.now circuit.now.gates given r.0 × IsLookoutOver ahead lookout.new device.now.size []) }
     ensures wires { IfOk result (λ r. r.0.body.wires ≡ device.now.size) }
     ensures realises { IfOk result (λ r.
         Realises (ops circuit.now.gates) circuit.now.wires (ops r.0.body.gates) device.now.size given r.0.last r.0.turn) }
@@ -276,7 +313,7 @@ pub fn route_traced(
     let wires = circuit.wires();
     let gates = gates_of(alloc, circuit)?;
     let teller = Teller::telling(alloc, circuit)?;
-    let (routed, events) = run(alloc, &gates, wires, device, given, teller)?;
+    let (routed, events) = run(alloc, &gates, wires, device, given, lookout, teller)?;
     Ok((routed, events))
 }
 
@@ -290,16 +327,21 @@ pub fn layout(
     circuit: &Circuit,
     device: &Device,
     given: Placement,
+    out: &mut Option<Lookout<'_>>,
+    back: &mut Option<Lookout<'_>>,
 ) -> Result<Placement, AllocError>
     requires fits { circuit.now.wires ≤ device.now.size }
     requires placed { length given ≡ device.now.size }
-    ensures layout { IfOk result (λ p. IsLayout InOrder device.now circuit.now.gates given p) }
+    requires seen { (ahead : Ahead) × IsLookoutOver ahead out.old device.now.size circuit.now.gates ×
+        IsLookoutOver ahead back.old device.now.size (reverse circuit.now.gates) }
+    ensures layout { IfOk result (λ p. (ahead : Ahead) → IsLookoutOver ahead out.old device.now.size circuit.now.gates →
+        IsLookoutOver ahead back.old device.now.size (reverse circuit.now.gates) → IsLayout ahead device.now circuit.now.gates given p) }
     ensures placement { IfOk result (λ p. IsPlacement device.now.size p) }
 {
     circuit.facts();
     let wires = circuit.wires();
     let mut gates = gates_of(alloc, circuit)?;
-    let there = settle(alloc, &gates, wires, device, given)?;
+    let there = settle(alloc, &gates, wires, device, given, out)?;
     gates.reverse();
-    settle(alloc, &gates, wires, device, there)
+    settle(alloc, &gates, wires, device, there, back)
 }
