@@ -9,6 +9,7 @@
 --   of_route_trivial, of_trivial_..  `route` with its device and `--trivial`
 --   of_route_trace, of_trace_..      `route` with its device and `--trace`
 --   of_route_initial, of_initial_..  `route` with its device and `--initial`
+--   of_route_tries, of_tries_..      `route` with its device and `--tries`
 --   of_route_kept, of_route_clean, ..    `route` with its device and `--keep-barriers` or `--clean` or both
 --   of_bench, of_bench_..            `bench` with its start, gates and device
 --   of_amplitude, ..                 `amplitude` with its bits
@@ -18,6 +19,7 @@ use Rattle.std.proofs.Common.{◌≡◌, ℕ, List, [], ◌∷◌, Some, None, r
 use Rattle.std.specs.Fmt.{digits}
 use Rattle.clap.proofs.OnLiterals.{clap_on_literals}
 use Rattle.command_line.specs.Commands.{command_of}
+use Rattle.command_line.specs.declared.commands.Begin.TheVariants.{Trivial, Listed, Tries}
 use Rattle.command_line.specs.declared.commands.Command.TheVariants.{Opt, OptWithSpares, Route, Check, Stages, Bench, Amplitude, Verify}
 
 pub of_opt : (name : List ℕ) → command_of (name ∷ codes "opt" ∷ []) ≡ Some (Opt false)
@@ -132,43 +134,43 @@ pub of_opt_dashes_twice : (name : List ℕ) → command_of (name ∷ codes "opt"
 unfolding clap_on_literals
 of_opt_dashes_twice name = refl
 
-pub of_route : (name : List ℕ) → command_of (name ∷ codes "route" ∷ codes "--device" ∷ codes "d" ∷ []) ≡ Some (Route (codes "d") false None false false false)
+pub of_route : (name : List ℕ) → command_of (name ∷ codes "route" ∷ codes "--device" ∷ codes "d" ∷ []) ≡ Some (Route (codes "d") (Tries 1) false false false)
 unfolding clap_on_literals
 of_route name = refl
 
-pub of_route_equals : (name : List ℕ) → command_of (name ∷ codes "route" ∷ codes "--device=x" ∷ []) ≡ Some (Route (codes "x") false None false false false)
+pub of_route_equals : (name : List ℕ) → command_of (name ∷ codes "route" ∷ codes "--device=x" ∷ []) ≡ Some (Route (codes "x") (Tries 1) false false false)
 unfolding clap_on_literals
 of_route_equals name = refl
 
-pub of_route_dash : (name : List ℕ) → command_of (name ∷ codes "route" ∷ codes "--device" ∷ codes "-" ∷ []) ≡ Some (Route (codes "-") false None false false false)
+pub of_route_dash : (name : List ℕ) → command_of (name ∷ codes "route" ∷ codes "--device" ∷ codes "-" ∷ []) ≡ Some (Route (codes "-") (Tries 1) false false false)
 unfolding clap_on_literals
 of_route_dash name = refl
 
-pub of_route_equals_dashed : (name : List ℕ) → command_of (name ∷ codes "route" ∷ codes "--device=-x" ∷ []) ≡ Some (Route (codes "-x") false None false false false)
+pub of_route_equals_dashed : (name : List ℕ) → command_of (name ∷ codes "route" ∷ codes "--device=-x" ∷ []) ≡ Some (Route (codes "-x") (Tries 1) false false false)
 unfolding clap_on_literals
 of_route_equals_dashed name = refl
 
-pub of_route_equals_empty : (name : List ℕ) → command_of (name ∷ codes "route" ∷ codes "--device=" ∷ []) ≡ Some (Route [] false None false false false)
+pub of_route_equals_empty : (name : List ℕ) → command_of (name ∷ codes "route" ∷ codes "--device=" ∷ []) ≡ Some (Route [] (Tries 1) false false false)
 unfolding clap_on_literals
 of_route_equals_empty name = refl
 
-pub of_route_empty : (name : List ℕ) → command_of (name ∷ codes "route" ∷ codes "--device" ∷ [] ∷ []) ≡ Some (Route [] false None false false false)
+pub of_route_empty : (name : List ℕ) → command_of (name ∷ codes "route" ∷ codes "--device" ∷ [] ∷ []) ≡ Some (Route [] (Tries 1) false false false)
 unfolding clap_on_literals
 of_route_empty name = refl
 
-pub of_route_opt : (name : List ℕ) → command_of (name ∷ codes "route" ∷ codes "--device" ∷ codes "opt" ∷ []) ≡ Some (Route (codes "opt") false None false false false)
+pub of_route_opt : (name : List ℕ) → command_of (name ∷ codes "route" ∷ codes "--device" ∷ codes "opt" ∷ []) ≡ Some (Route (codes "opt") (Tries 1) false false false)
 unfolding clap_on_literals
 of_route_opt name = refl
 
-pub of_route_dashes : (name : List ℕ) → command_of (name ∷ codes "route" ∷ codes "--device" ∷ codes "d" ∷ codes "--" ∷ []) ≡ Some (Route (codes "d") false None false false false)
+pub of_route_dashes : (name : List ℕ) → command_of (name ∷ codes "route" ∷ codes "--device" ∷ codes "d" ∷ codes "--" ∷ []) ≡ Some (Route (codes "d") (Tries 1) false false false)
 unfolding clap_on_literals
 of_route_dashes name = refl
 
-pub of_route_trivial : (name : List ℕ) → command_of (name ∷ codes "route" ∷ codes "--device" ∷ codes "d" ∷ codes "--trivial" ∷ []) ≡ Some (Route (codes "d") true None false false false)
+pub of_route_trivial : (name : List ℕ) → command_of (name ∷ codes "route" ∷ codes "--device" ∷ codes "d" ∷ codes "--trivial" ∷ []) ≡ Some (Route (codes "d") Trivial false false false)
 unfolding clap_on_literals
 of_route_trivial name = refl
 
-pub of_trivial_route : (name : List ℕ) → command_of (name ∷ codes "route" ∷ codes "--trivial" ∷ codes "--device" ∷ codes "d" ∷ []) ≡ Some (Route (codes "d") true None false false false)
+pub of_trivial_route : (name : List ℕ) → command_of (name ∷ codes "route" ∷ codes "--trivial" ∷ codes "--device" ∷ codes "d" ∷ []) ≡ Some (Route (codes "d") Trivial false false false)
 unfolding clap_on_literals
 of_trivial_route name = refl
 
@@ -360,19 +362,19 @@ pub no_device_of_amplitude : (name : List ℕ) → command_of (name ∷ codes "a
 unfolding clap_on_literals
 no_device_of_amplitude name = refl
 
-pub of_route_trace : (name : List ℕ) → command_of (name ∷ codes "route" ∷ codes "--device" ∷ codes "d" ∷ codes "--trace" ∷ []) ≡ Some (Route (codes "d") false None true false false)
+pub of_route_trace : (name : List ℕ) → command_of (name ∷ codes "route" ∷ codes "--device" ∷ codes "d" ∷ codes "--trace" ∷ []) ≡ Some (Route (codes "d") (Tries 1) true false false)
 unfolding clap_on_literals
 of_route_trace name = refl
 
-pub of_trace_route : (name : List ℕ) → command_of (name ∷ codes "route" ∷ codes "--trace" ∷ codes "--device" ∷ codes "d" ∷ []) ≡ Some (Route (codes "d") false None true false false)
+pub of_trace_route : (name : List ℕ) → command_of (name ∷ codes "route" ∷ codes "--trace" ∷ codes "--device" ∷ codes "d" ∷ []) ≡ Some (Route (codes "d") (Tries 1) true false false)
 unfolding clap_on_literals
 of_trace_route name = refl
 
-pub of_trace_trivial : (name : List ℕ) → command_of (name ∷ codes "route" ∷ codes "--device" ∷ codes "d" ∷ codes "--trace" ∷ codes "--trivial" ∷ []) ≡ Some (Route (codes "d") true None true false false)
+pub of_trace_trivial : (name : List ℕ) → command_of (name ∷ codes "route" ∷ codes "--device" ∷ codes "d" ∷ codes "--trace" ∷ codes "--trivial" ∷ []) ≡ Some (Route (codes "d") Trivial true false false)
 unfolding clap_on_literals
 of_trace_trivial name = refl
 
-pub of_trivial_trace : (name : List ℕ) → command_of (name ∷ codes "route" ∷ codes "--device" ∷ codes "d" ∷ codes "--trivial" ∷ codes "--trace" ∷ []) ≡ Some (Route (codes "d") true None true false false)
+pub of_trivial_trace : (name : List ℕ) → command_of (name ∷ codes "route" ∷ codes "--device" ∷ codes "d" ∷ codes "--trivial" ∷ codes "--trace" ∷ []) ≡ Some (Route (codes "d") Trivial true false false)
 unfolding clap_on_literals
 of_trivial_trace name = refl
 
@@ -504,31 +506,31 @@ pub no_keep_before_opt : (name : List ℕ) → command_of (name ∷ codes "--kee
 unfolding clap_on_literals
 no_keep_before_opt name = refl
 
-pub of_route_kept : (name : List ℕ) → command_of (name ∷ codes "route" ∷ codes "--device" ∷ codes "d" ∷ codes "--keep-barriers" ∷ []) ≡ Some (Route (codes "d") false None false true false)
+pub of_route_kept : (name : List ℕ) → command_of (name ∷ codes "route" ∷ codes "--device" ∷ codes "d" ∷ codes "--keep-barriers" ∷ []) ≡ Some (Route (codes "d") (Tries 1) false true false)
 unfolding clap_on_literals
 of_route_kept name = refl
 
-pub of_route_clean : (name : List ℕ) → command_of (name ∷ codes "route" ∷ codes "--device" ∷ codes "d" ∷ codes "--clean" ∷ []) ≡ Some (Route (codes "d") false None false false true)
+pub of_route_clean : (name : List ℕ) → command_of (name ∷ codes "route" ∷ codes "--device" ∷ codes "d" ∷ codes "--clean" ∷ []) ≡ Some (Route (codes "d") (Tries 1) false false true)
 unfolding clap_on_literals
 of_route_clean name = refl
 
-pub of_route_kept_clean : (name : List ℕ) → command_of (name ∷ codes "route" ∷ codes "--device" ∷ codes "d" ∷ codes "--keep-barriers" ∷ codes "--clean" ∷ []) ≡ Some (Route (codes "d") false None false true true)
+pub of_route_kept_clean : (name : List ℕ) → command_of (name ∷ codes "route" ∷ codes "--device" ∷ codes "d" ∷ codes "--keep-barriers" ∷ codes "--clean" ∷ []) ≡ Some (Route (codes "d") (Tries 1) false true true)
 unfolding clap_on_literals
 of_route_kept_clean name = refl
 
-pub of_route_trivial_kept : (name : List ℕ) → command_of (name ∷ codes "route" ∷ codes "--device" ∷ codes "d" ∷ codes "--trivial" ∷ codes "--keep-barriers" ∷ []) ≡ Some (Route (codes "d") true None false true false)
+pub of_route_trivial_kept : (name : List ℕ) → command_of (name ∷ codes "route" ∷ codes "--device" ∷ codes "d" ∷ codes "--trivial" ∷ codes "--keep-barriers" ∷ []) ≡ Some (Route (codes "d") Trivial false true false)
 unfolding clap_on_literals
 of_route_trivial_kept name = refl
 
-pub of_route_trivial_clean : (name : List ℕ) → command_of (name ∷ codes "route" ∷ codes "--device" ∷ codes "d" ∷ codes "--trivial" ∷ codes "--clean" ∷ []) ≡ Some (Route (codes "d") true None false false true)
+pub of_route_trivial_clean : (name : List ℕ) → command_of (name ∷ codes "route" ∷ codes "--device" ∷ codes "d" ∷ codes "--trivial" ∷ codes "--clean" ∷ []) ≡ Some (Route (codes "d") Trivial false false true)
 unfolding clap_on_literals
 of_route_trivial_clean name = refl
 
-pub of_route_trivial_kept_clean : (name : List ℕ) → command_of (name ∷ codes "route" ∷ codes "--device" ∷ codes "d" ∷ codes "--trivial" ∷ codes "--keep-barriers" ∷ codes "--clean" ∷ []) ≡ Some (Route (codes "d") true None false true true)
+pub of_route_trivial_kept_clean : (name : List ℕ) → command_of (name ∷ codes "route" ∷ codes "--device" ∷ codes "d" ∷ codes "--trivial" ∷ codes "--keep-barriers" ∷ codes "--clean" ∷ []) ≡ Some (Route (codes "d") Trivial false true true)
 unfolding clap_on_literals
 of_route_trivial_kept_clean name = refl
 
-pub of_clean_kept_route : (name : List ℕ) → command_of (name ∷ codes "route" ∷ codes "--clean" ∷ codes "--keep-barriers" ∷ codes "--device" ∷ codes "d" ∷ []) ≡ Some (Route (codes "d") false None false true true)
+pub of_clean_kept_route : (name : List ℕ) → command_of (name ∷ codes "route" ∷ codes "--clean" ∷ codes "--keep-barriers" ∷ codes "--device" ∷ codes "d" ∷ []) ≡ Some (Route (codes "d") (Tries 1) false true true)
 unfolding clap_on_literals
 of_clean_kept_route name = refl
 
@@ -684,27 +686,27 @@ pub no_spares_of_check : (name : List ℕ) → command_of (name ∷ codes "check
 unfolding clap_on_literals digits
 no_spares_of_check name = refl
 
-pub of_route_initial : (name : List ℕ) → command_of (name ∷ codes "route" ∷ codes "--device" ∷ codes "d" ∷ codes "--initial" ∷ codes "2,0,1" ∷ []) ≡ Some (Route (codes "d") false (Some (2 ∷ 0 ∷ 1 ∷ [])) false false false)
+pub of_route_initial : (name : List ℕ) → command_of (name ∷ codes "route" ∷ codes "--device" ∷ codes "d" ∷ codes "--initial" ∷ codes "2,0,1" ∷ []) ≡ Some (Route (codes "d") (Listed (2 ∷ 0 ∷ 1 ∷ [])) false false false)
 unfolding clap_on_literals digits
 of_route_initial name = refl
 
-pub of_route_initial_equals : (name : List ℕ) → command_of (name ∷ codes "route" ∷ codes "--device" ∷ codes "d" ∷ codes "--initial=1,0" ∷ []) ≡ Some (Route (codes "d") false (Some (1 ∷ 0 ∷ [])) false false false)
+pub of_route_initial_equals : (name : List ℕ) → command_of (name ∷ codes "route" ∷ codes "--device" ∷ codes "d" ∷ codes "--initial=1,0" ∷ []) ≡ Some (Route (codes "d") (Listed (1 ∷ 0 ∷ [])) false false false)
 unfolding clap_on_literals digits
 of_route_initial_equals name = refl
 
-pub of_initial_route : (name : List ℕ) → command_of (name ∷ codes "route" ∷ codes "--initial" ∷ codes "3" ∷ codes "--device" ∷ codes "d" ∷ []) ≡ Some (Route (codes "d") false (Some (3 ∷ [])) false false false)
+pub of_initial_route : (name : List ℕ) → command_of (name ∷ codes "route" ∷ codes "--initial" ∷ codes "3" ∷ codes "--device" ∷ codes "d" ∷ []) ≡ Some (Route (codes "d") (Listed (3 ∷ [])) false false false)
 unfolding clap_on_literals digits
 of_initial_route name = refl
 
-pub of_route_most_initial : (name : List ℕ) → command_of (name ∷ codes "route" ∷ codes "--device" ∷ codes "d" ∷ codes "--initial" ∷ codes "255,10" ∷ []) ≡ Some (Route (codes "d") false (Some (255 ∷ 10 ∷ [])) false false false)
+pub of_route_most_initial : (name : List ℕ) → command_of (name ∷ codes "route" ∷ codes "--device" ∷ codes "d" ∷ codes "--initial" ∷ codes "255,10" ∷ []) ≡ Some (Route (codes "d") (Listed (255 ∷ 10 ∷ [])) false false false)
 unfolding clap_on_literals digits
 of_route_most_initial name = refl
 
-pub of_route_initial_trace : (name : List ℕ) → command_of (name ∷ codes "route" ∷ codes "--device" ∷ codes "d" ∷ codes "--initial" ∷ codes "0" ∷ codes "--trace" ∷ []) ≡ Some (Route (codes "d") false (Some (0 ∷ [])) true false false)
+pub of_route_initial_trace : (name : List ℕ) → command_of (name ∷ codes "route" ∷ codes "--device" ∷ codes "d" ∷ codes "--initial" ∷ codes "0" ∷ codes "--trace" ∷ []) ≡ Some (Route (codes "d") (Listed (0 ∷ [])) true false false)
 unfolding clap_on_literals digits
 of_route_initial_trace name = refl
 
-pub of_route_initial_kept_clean : (name : List ℕ) → command_of (name ∷ codes "route" ∷ codes "--device" ∷ codes "d" ∷ codes "--initial" ∷ codes "0,1" ∷ codes "--keep-barriers" ∷ codes "--clean" ∷ []) ≡ Some (Route (codes "d") false (Some (0 ∷ 1 ∷ [])) false true true)
+pub of_route_initial_kept_clean : (name : List ℕ) → command_of (name ∷ codes "route" ∷ codes "--device" ∷ codes "d" ∷ codes "--initial" ∷ codes "0,1" ∷ codes "--keep-barriers" ∷ codes "--clean" ∷ []) ≡ Some (Route (codes "d") (Listed (0 ∷ 1 ∷ [])) false true true)
 unfolding clap_on_literals digits
 of_route_initial_kept_clean name = refl
 
@@ -775,3 +777,103 @@ no_initial_of_opt name = refl
 pub no_initial_of_bench : (name : List ℕ) → command_of (name ∷ codes "bench" ∷ codes "--start" ∷ codes "1" ∷ codes "--gates" ∷ codes "1" ∷ codes "--device" ∷ codes "d" ∷ codes "--initial" ∷ codes "0" ∷ []) ≡ None
 unfolding clap_on_literals digits
 no_initial_of_bench name = refl
+
+pub of_route_tries : (name : List ℕ) → command_of (name ∷ codes "route" ∷ codes "--device" ∷ codes "d" ∷ codes "--tries" ∷ codes "20" ∷ []) ≡ Some (Route (codes "d") (Tries 20) false false false)
+unfolding clap_on_literals digits
+of_route_tries name = refl
+
+pub of_route_tries_equals : (name : List ℕ) → command_of (name ∷ codes "route" ∷ codes "--device" ∷ codes "d" ∷ codes "--tries=2" ∷ []) ≡ Some (Route (codes "d") (Tries 2) false false false)
+unfolding clap_on_literals digits
+of_route_tries_equals name = refl
+
+pub of_tries_route : (name : List ℕ) → command_of (name ∷ codes "route" ∷ codes "--tries" ∷ codes "7" ∷ codes "--device" ∷ codes "d" ∷ []) ≡ Some (Route (codes "d") (Tries 7) false false false)
+unfolding clap_on_literals digits
+of_tries_route name = refl
+
+pub of_route_one_try : (name : List ℕ) → command_of (name ∷ codes "route" ∷ codes "--device" ∷ codes "d" ∷ codes "--tries" ∷ codes "1" ∷ []) ≡ Some (Route (codes "d") (Tries 1) false false false)
+unfolding clap_on_literals digits
+of_route_one_try name = refl
+
+pub of_route_most_tries : (name : List ℕ) → command_of (name ∷ codes "route" ∷ codes "--device" ∷ codes "d" ∷ codes "--tries" ∷ codes "256" ∷ []) ≡ Some (Route (codes "d") (Tries 256) false false false)
+unfolding clap_on_literals digits
+of_route_most_tries name = refl
+
+pub of_route_tries_trace : (name : List ℕ) → command_of (name ∷ codes "route" ∷ codes "--device" ∷ codes "d" ∷ codes "--tries" ∷ codes "3" ∷ codes "--trace" ∷ []) ≡ Some (Route (codes "d") (Tries 3) true false false)
+unfolding clap_on_literals digits
+of_route_tries_trace name = refl
+
+pub of_route_tries_kept_clean : (name : List ℕ) → command_of (name ∷ codes "route" ∷ codes "--device" ∷ codes "d" ∷ codes "--tries" ∷ codes "3" ∷ codes "--keep-barriers" ∷ codes "--clean" ∷ []) ≡ Some (Route (codes "d") (Tries 3) false true true)
+unfolding clap_on_literals digits
+of_route_tries_kept_clean name = refl
+
+pub no_zero_tries : (name : List ℕ) → command_of (name ∷ codes "route" ∷ codes "--device" ∷ codes "d" ∷ codes "--tries" ∷ codes "0" ∷ []) ≡ None
+unfolding clap_on_literals digits
+no_zero_tries name = refl
+
+pub no_try_past_the_last : (name : List ℕ) → command_of (name ∷ codes "route" ∷ codes "--device" ∷ codes "d" ∷ codes "--tries" ∷ codes "257" ∷ []) ≡ None
+unfolding clap_on_literals digits
+no_try_past_the_last name = refl
+
+pub no_leading_zero_of_tries : (name : List ℕ) → command_of (name ∷ codes "route" ∷ codes "--device" ∷ codes "d" ∷ codes "--tries" ∷ codes "01" ∷ []) ≡ None
+unfolding clap_on_literals digits
+no_leading_zero_of_tries name = refl
+
+pub no_plus_of_tries : (name : List ℕ) → command_of (name ∷ codes "route" ∷ codes "--device" ∷ codes "d" ∷ codes "--tries" ∷ codes "+1" ∷ []) ≡ None
+unfolding clap_on_literals digits
+no_plus_of_tries name = refl
+
+pub no_letter_as_tries : (name : List ℕ) → command_of (name ∷ codes "route" ∷ codes "--device" ∷ codes "d" ∷ codes "--tries" ∷ codes "x" ∷ []) ≡ None
+unfolding clap_on_literals digits
+no_letter_as_tries name = refl
+
+pub no_list_of_tries : (name : List ℕ) → command_of (name ∷ codes "route" ∷ codes "--device" ∷ codes "d" ∷ codes "--tries" ∷ codes "1,2" ∷ []) ≡ None
+unfolding clap_on_literals digits
+no_list_of_tries name = refl
+
+pub no_empty_tries : (name : List ℕ) → command_of (name ∷ codes "route" ∷ codes "--device" ∷ codes "d" ∷ codes "--tries=" ∷ []) ≡ None
+unfolding clap_on_literals digits
+no_empty_tries name = refl
+
+pub no_number_of_tries : (name : List ℕ) → command_of (name ∷ codes "route" ∷ codes "--device" ∷ codes "d" ∷ codes "--tries" ∷ []) ≡ None
+unfolding clap_on_literals digits
+no_number_of_tries name = refl
+
+pub no_second_tries : (name : List ℕ) → command_of (name ∷ codes "route" ∷ codes "--device" ∷ codes "d" ∷ codes "--tries" ∷ codes "1" ∷ codes "--tries" ∷ codes "1" ∷ []) ≡ None
+unfolding clap_on_literals digits
+no_second_tries name = refl
+
+pub no_tries_beside_trivial : (name : List ℕ) → command_of (name ∷ codes "route" ∷ codes "--device" ∷ codes "d" ∷ codes "--trivial" ∷ codes "--tries" ∷ codes "1" ∷ []) ≡ None
+unfolding clap_on_literals digits
+no_tries_beside_trivial name = refl
+
+pub no_trivial_beside_tries : (name : List ℕ) → command_of (name ∷ codes "route" ∷ codes "--device" ∷ codes "d" ∷ codes "--tries" ∷ codes "1" ∷ codes "--trivial" ∷ []) ≡ None
+unfolding clap_on_literals digits
+no_trivial_beside_tries name = refl
+
+pub no_tries_beside_initial : (name : List ℕ) → command_of (name ∷ codes "route" ∷ codes "--device" ∷ codes "d" ∷ codes "--initial" ∷ codes "0" ∷ codes "--tries" ∷ codes "1" ∷ []) ≡ None
+unfolding clap_on_literals digits
+no_tries_beside_initial name = refl
+
+pub no_initial_beside_tries : (name : List ℕ) → command_of (name ∷ codes "route" ∷ codes "--device" ∷ codes "d" ∷ codes "--tries" ∷ codes "1" ∷ codes "--initial" ∷ codes "0" ∷ []) ≡ None
+unfolding clap_on_literals digits
+no_initial_beside_tries name = refl
+
+pub no_tries_beside_both : (name : List ℕ) → command_of (name ∷ codes "route" ∷ codes "--device" ∷ codes "d" ∷ codes "--tries" ∷ codes "1" ∷ codes "--initial" ∷ codes "0" ∷ codes "--trivial" ∷ []) ≡ None
+unfolding clap_on_literals digits
+no_tries_beside_both name = refl
+
+pub no_abbreviated_tries : (name : List ℕ) → command_of (name ∷ codes "route" ∷ codes "--device" ∷ codes "d" ∷ codes "--try" ∷ codes "1" ∷ []) ≡ None
+unfolding clap_on_literals digits
+no_abbreviated_tries name = refl
+
+pub no_device_but_tries : (name : List ℕ) → command_of (name ∷ codes "route" ∷ codes "--tries" ∷ codes "1" ∷ []) ≡ None
+unfolding clap_on_literals digits
+no_device_but_tries name = refl
+
+pub no_tries_of_opt : (name : List ℕ) → command_of (name ∷ codes "opt" ∷ codes "--tries" ∷ codes "1" ∷ []) ≡ None
+unfolding clap_on_literals digits
+no_tries_of_opt name = refl
+
+pub no_tries_of_bench : (name : List ℕ) → command_of (name ∷ codes "bench" ∷ codes "--start" ∷ codes "1" ∷ codes "--gates" ∷ codes "1" ∷ codes "--device" ∷ codes "d" ∷ codes "--tries" ∷ codes "1" ∷ []) ≡ None
+unfolding clap_on_literals digits
+no_tries_of_bench name = refl

@@ -7,7 +7,7 @@
 --   check_command       the subcommand `check`, which takes no argument
 --   stages_command      the subcommand `stages`, which takes `--spares`
 --   traced_command      the subcommand `route` with `--device`, `--trivial` and `--trace`
---   placed_command      .. and with `--initial`
+--   placed_command      .. and with `--initial` and `--tries`
 --   route_command       .. and with `--keep-barriers` and `--clean`, so with all that it takes
 --   bench_command       the subcommand `bench`, which takes `--start`, `--gates` and `--device`
 --   amplitude_command   the subcommand `amplitude`, which takes `--from` and `--to`
@@ -24,12 +24,17 @@
 --   is_cleaned rows     whether `--clean` was matched
 --   clashes_with_trace rows   `--trace` was matched, and one of the two flags that have no trace
 --   has_initial rows    whether a text was matched behind `--initial`
---   clashes rows        what has no trace was matched beside `--trace`, or `--initial` beside `--trivial`
+--   has_tries rows      whether a text was matched behind `--tries`
+--   begins_twice rows   two of `--trivial`, `--initial` and `--tries` were matched
+--   clashes rows        what has no trace was matched beside `--trace`, or the wires begin in two ways
 --   pieces text         the texts between the commas
 --   numbers_behind ns ts   the numbers up to 255 whose decimal digits the texts are, behind others; none where a text is no such
 --                       number, or one that stands before it
 --   qubits_of text      the list of qubits that the text spells: different ones, with commas between their numbers
---   initial_of rows     the list behind `--initial`, `Some None` without one; none where the text spells none
+--   initial_of rows     the list behind `--initial`, none where the text spells none
+--   tries_of rows       the number behind `--tries`, 1 to 256
+--   begin_of rows       where the wires begin: as one of the three options says, or at one try; none where its text spells no list
+--                       or number
 --   route_of rows       what `route` asks for, with what was matched
 --   number_of a b text  the number from a to b whose decimal digits the text is, none where there is none
 --   start_of rows       the number behind `--start`, 0 to 4294967295
@@ -47,8 +52,9 @@
 --   verify_of rows      what `verify` asks for, with what was matched
 --   meaning name rows   what the subcommand of this name asks for, with what it matched
 --   command_of words    the command that the words mean, the program's name first; none where they mean none
---   IsAllowed c         `bench` has 1 to 20000 gates, `route` no trace beside kept barriers or cleaning and different qubits in
---                       its list, and there are 1 to 255 spare wires where there are any
+--   IsBeginAllowed b    a list has different qubits, and there are 1 to 256 tries
+--   IsAllowed c         `bench` has 1 to 20000 gates, `route` no trace beside kept barriers or cleaning and begins as it may, and
+--                       there are 1 to 255 spare wires where there are any
 use Rattle.std.specs.Prelude.{◌≡◌, ℕ, List, ◌==◌, ◌≤◌, ◌&&◌, ◌||◌, Bool, true, false, Option, Some, None, IfSome, if◌then◌else◌, [], ◌∷◌, ◌++◌, codes, decimal, is_some, length, map, nat_eq, nat_le, option_map, option_and_then}
 use Rattle.std.specs.Option.{option_map_or}
 use Rattle.std.specs.List.{IsDistinct, list_all, list_any, slice_split}
@@ -57,6 +63,8 @@ use Rattle.std.specs.Str.Parse.{digits_value}
 use Rattle.clap.specs.Simple.{on_top}
 use Rattle.clap.specs.Words.{App, Row, Rule, Text, fault_of, first_of, new_app, new_rule, subcommand_of, with_rule, with_subcommand}
 use Rattle.clap.specs.declared.builder.action.ArgAction.TheVariants.{Set, SetTrue}
+use Rattle.command_line.specs.declared.commands.Begin.{Begin}
+use Rattle.command_line.specs.declared.commands.Begin.TheVariants.{Trivial, Listed, Tries}
 use Rattle.command_line.specs.declared.commands.Command.{Command}
 use Rattle.command_line.specs.declared.commands.Command.TheVariants.{Opt, OptWithSpares, Route, Check, Stages, Bench, Amplitude, Verify}
 
@@ -100,7 +108,7 @@ traced_command = with_rule (with_rule (with_rule (new_app (codes "route")) (need
     (flag (codes "trace"))
 
 abbrev pub placed_command : App
-placed_command = with_rule traced_command (optional (codes "initial"))
+placed_command = with_rule (with_rule traced_command (optional (codes "initial"))) (optional (codes "tries"))
 
 abbrev pub route_command : App
 route_command = with_rule (with_rule placed_command (flag (codes "keep-barriers"))) (flag (codes "clean"))
@@ -153,9 +161,15 @@ clashes_with_trace rows = is_traced rows && (is_kept rows || is_cleaned rows)
 abbrev pub has_initial : List Row → Bool
 has_initial rows = is_some (first_of (codes "initial") rows)
 
+abbrev pub has_tries : List Row → Bool
+has_tries rows = is_some (first_of (codes "tries") rows)
+
+abbrev pub begins_twice : List Row → Bool
+begins_twice rows = (is_trivial rows && (has_initial rows || has_tries rows)) || (has_initial rows && has_tries rows)
+
 -- the wires begin in one way
 abbrev pub clashes : List Row → Bool
-clashes rows = clashes_with_trace rows || (is_trivial rows && has_initial rows)
+clashes rows = clashes_with_trace rows || begins_twice rows
 
 -- only the value of the digits can be this number, and its decimal digits have to be the text
 abbrev pub number_of : ℕ → ℕ → Text → Option ℕ
@@ -174,13 +188,21 @@ numbers_behind ns (t ∷ ts) = option_and_then (λ n. if list_any (λ q. nat_eq 
 abbrev pub qubits_of : Text → Option (List ℕ)
 qubits_of text = numbers_behind [] (pieces text)
 
-abbrev pub initial_of : List Row → Option (Option (List ℕ))
-initial_of rows = option_map_or (λ t. option_map Some (qubits_of t)) (first_of (codes "initial") rows) (Some None)
+abbrev pub initial_of : List Row → Option (List ℕ)
+initial_of rows = option_and_then qubits_of (first_of (codes "initial") rows)
+
+abbrev pub tries_of : List Row → Option ℕ
+tries_of rows = option_and_then (number_of 1 256) (first_of (codes "tries") rows)
+
+abbrev pub begin_of : List Row → Option Begin
+begin_of rows = if is_trivial rows then Some Trivial
+    else (if has_initial rows then option_map Listed (initial_of rows)
+    else (if has_tries rows then option_map Tries (tries_of rows) else Some (Tries 1)))
 
 abbrev pub route_of : List Row → Option Command
 route_of rows = if clashes rows then None
-    else option_and_then (λ device. option_map (λ initial. Route device (is_trivial rows) initial (is_traced rows) (is_kept rows)
-    (is_cleaned rows)) (initial_of rows)) (device_of rows)
+    else option_and_then (λ device. option_map (λ begin. Route device begin (is_traced rows) (is_kept rows) (is_cleaned rows))
+    (begin_of rows)) (device_of rows)
 
 abbrev pub start_of : List Row → Option ℕ
 start_of rows = option_and_then (number_of 0 4294967295) (first_of (codes "start") rows)
@@ -245,11 +267,15 @@ abbrev pub command_of : List Text → Option Command
 command_of words = if length (fault_of qroute_command words) == 0
     then option_and_then (λ s. meaning s.0 s.1) (subcommand_of qroute_command words) else None
 
+abbrev pub IsBeginAllowed : Begin → Type 0
+IsBeginAllowed Trivial = Unit {0}
+IsBeginAllowed (Listed list) = IsDistinct nat_eq list
+IsBeginAllowed (Tries k) = (1 ≤ k) × (k ≤ 256)
+
 abbrev pub IsAllowed : Command → Type 0
 IsAllowed (Opt kept) = Unit {0}
 IsAllowed (OptWithSpares m) = (1 ≤ m) × (m ≤ 255)
-IsAllowed (Route device trivial initial trace kept clean) = (trace ≡ true → (kept ≡ false) × (clean ≡ false))
-    × IfSome initial (IsDistinct nat_eq)
+IsAllowed (Route device begin trace kept clean) = (trace ≡ true → (kept ≡ false) × (clean ≡ false)) × IsBeginAllowed begin
 IsAllowed Check = Unit {0}
 IsAllowed (Stages o) = IfSome o (λ m. (1 ≤ m) × (m ≤ 255))
 IsAllowed (Amplitude from to) = Unit {0}

@@ -1,6 +1,7 @@
 -- What a command asks of its surroundings.
 --   reads_input c     it reads the program from the input
 --   device_name c     the name of the device that it loads, if it loads one
+--   told_list b       the list of the qubits on which the wires begin, if it is one that says where
 --   initial_list c    the list of the qubits on which the wires begin, if it gives one
 --   writes_out c      it writes to the output
 --   writes_report c   it writes a line of its own to the report; faults are told there by every command
@@ -10,13 +11,15 @@
 --   question_of c     the question that it asks on its program, if it asks one
 --   asked_texts c     the names of the two texts that it verifies a trace against, the source's and the target's, if it verifies one
 use Rattle.std.specs.Prelude.{ℕ, Bool, true, false, List, Option, Some, None}
+use Rattle.command_line.specs.declared.commands.Begin.{Begin}
+use Rattle.command_line.specs.declared.commands.Begin.TheVariants.{Trivial, Listed, Tries}
 use Rattle.command_line.specs.declared.commands.Command.{Command}
 use Rattle.command_line.specs.declared.commands.Command.TheVariants.{Opt, OptWithSpares, Route, Check, Stages, Bench, Amplitude, Verify}
 
 abbrev pub reads_input : Command → Bool
 reads_input (Opt kept) = true
 reads_input (OptWithSpares m) = true
-reads_input (Route name trivial initial trace kept clean) = true
+reads_input (Route name begin trace kept clean) = true
 reads_input Check = true
 reads_input (Stages spares) = true
 reads_input (Bench start gates name) = false
@@ -26,17 +29,22 @@ reads_input (Verify source target) = false
 abbrev pub device_name : Command → Option (List ℕ)
 device_name (Opt kept) = None
 device_name (OptWithSpares m) = None
-device_name (Route name trivial initial trace kept clean) = Some name
+device_name (Route name begin trace kept clean) = Some name
 device_name Check = None
 device_name (Stages spares) = None
 device_name (Bench start gates name) = Some name
 device_name (Amplitude from to) = None
 device_name (Verify source target) = None
 
+abbrev pub told_list : Begin → Option (List ℕ)
+told_list Trivial = None
+told_list (Listed qubits) = Some qubits
+told_list (Tries k) = None
+
 abbrev pub initial_list : Command → Option (List ℕ)
 initial_list (Opt kept) = None
 initial_list (OptWithSpares m) = None
-initial_list (Route name trivial initial trace kept clean) = initial
+initial_list (Route name begin trace kept clean) = told_list begin
 initial_list Check = None
 initial_list (Stages spares) = None
 initial_list (Bench start gates name) = None
@@ -46,7 +54,7 @@ initial_list (Verify source target) = None
 abbrev pub writes_out : Command → Bool
 writes_out (Opt kept) = true
 writes_out (OptWithSpares m) = true
-writes_out (Route name trivial initial trace kept clean) = true
+writes_out (Route name begin trace kept clean) = true
 writes_out Check = false
 writes_out (Stages spares) = true
 writes_out (Bench start gates name) = true
@@ -56,7 +64,7 @@ writes_out (Verify source target) = true
 abbrev pub writes_report : Command → Bool
 writes_report (Opt kept) = true
 writes_report (OptWithSpares m) = true
-writes_report (Route name trivial initial trace kept clean) = true
+writes_report (Route name begin trace kept clean) = true
 writes_report Check = true
 writes_report (Stages spares) = false
 writes_report (Bench start gates name) = true
@@ -66,7 +74,7 @@ writes_report (Verify source target) = false
 abbrev pub keeps_barriers : Command → Bool
 keeps_barriers (Opt kept) = kept
 keeps_barriers (OptWithSpares m) = false
-keeps_barriers (Route name trivial initial trace kept clean) = kept
+keeps_barriers (Route name begin trace kept clean) = kept
 keeps_barriers Check = false
 keeps_barriers (Stages spares) = false
 keeps_barriers (Bench start gates name) = false
@@ -80,7 +88,7 @@ pub data Question : Type 0 where
 abbrev pub question_of : Command → Option Question
 question_of (Opt kept) = None
 question_of (OptWithSpares m) = Some (Spares m)
-question_of (Route name trivial initial trace kept clean) = None
+question_of (Route name begin trace kept clean) = None
 question_of Check = None
 question_of (Stages spares) = None
 question_of (Bench start gates name) = None
@@ -90,7 +98,7 @@ question_of (Verify source target) = None
 abbrev pub asked_texts : Command → Option (List ℕ × List ℕ)
 asked_texts (Opt kept) = None
 asked_texts (OptWithSpares m) = None
-asked_texts (Route name trivial initial trace kept clean) = None
+asked_texts (Route name begin trace kept clean) = None
 asked_texts Check = None
 asked_texts (Stages spares) = None
 asked_texts (Bench start gates name) = None

@@ -6,6 +6,17 @@ use crate::qubits::QubitList;
 use std::alloc::AllocError;
 use thiserror::Error;
 
+/// Where the wires begin on a device.
+#[derive(Debug, Drop, PartialEq, Eq)]
+pub enum Begin {
+    /// Each on the qubit of its own number (`--trivial`).
+    Trivial,
+    /// On these qubits: different ones, up to 255 (`--initial`).
+    Listed(QubitList),
+    /// Where the best of so many tries begins, 1 to 256 (`--tries`; 1 where nothing is told).
+    Tries(u32),
+}
+
 /// What the words ask for.
 #[derive(Debug, Drop, PartialEq, Eq)]
 pub enum Command {
@@ -23,10 +34,8 @@ pub enum Command {
     Route {
         /// The name of the device text.
         device: Name,
-        /// Whether the wires begin on the qubits of their own numbers.
-        trivial: bool,
-        /// The qubits on which the wires begin, if they are given: different ones, up to 255.
-        initial: Option<QubitList>,
+        /// Where the wires begin.
+        begin: Begin,
         /// Whether the trace that shows it is written behind it.
         trace: bool,
         /// Whether the program's barriers are kept.

@@ -3,7 +3,8 @@
 //! The words of a command line go in, the program's name first; the command that they mean comes out. `clap` reads them: one
 //! level of subcommands, of which one has to be there, and no help. A number is its decimal digits alone, without a sign or a
 //! leading zero, and in the range of its option; bits are the digits 0 and 1, as many as there are; a list of qubits is numbers
-//! up to 255 with commas between them, none of them twice. A trace is asked for
+//! up to 255 with commas between them, none of them twice. The wires of `route` begin in one way, so of `--trivial`, `--initial`
+//! and `--tries` at most one is given. A trace is asked for
 //! neither beside kept barriers nor beside cleaning, and spare wires of `opt` not beside kept barriers. The contract of
 //! `command` says that the answer is the command of the words by `clap`'s own definitions, and that words are refused
 //! exactly where they mean none.
@@ -12,10 +13,10 @@ ghost use Rattle.std.specs.Prelude.{◌≡◌, ◌==◌, [], IfOk, IfSome, IsErr
 ghost use Rattle.std.specs.List.{IsDistinct, list_all};
 ghost use Rattle.clap.specs.Words.{app_of, first_of, found_of, kind_of, rows_of, rule_of};
 ghost use Rattle.clap.specs.declared.builder.Command.TheViews.{out-Command as fields_of};
-ghost use Rattle.command_line.specs.Commands.{IsAllowed, amplitude_command, amplitude_of, bench_command, bench_of, bits_of, check_command, clashes, clashes_with_trace, command_of, device_commands, entry_commands, flag, has_initial, has_spares, initial_of, is_bit, is_given, meaning, needed_option, number_of, numbers_behind, opt_command, opt_of, optional, pieces, placed_command, plain_commands, qroute_command, qubits_of, root_command, route_command, route_of, stages_command, stages_of, traced_command, verify_command, verify_of};
+ghost use Rattle.command_line.specs.Commands.{IsAllowed, IsBeginAllowed, amplitude_command, amplitude_of, begin_of, begins_twice, bench_command, bench_of, bits_of, check_command, clashes, clashes_with_trace, command_of, device_commands, entry_commands, flag, has_initial, has_spares, has_tries, initial_of, is_bit, is_given, meaning, needed_option, number_of, numbers_behind, opt_command, opt_of, optional, pieces, placed_command, plain_commands, qroute_command, qubits_of, root_command, route_command, route_of, stages_command, stages_of, traced_command, verify_command, verify_of};
 
 use crate::bits::BitList;
-use crate::commands::{self, WordsFault};
+use crate::commands::{self, Begin, WordsFault};
 use crate::name::Name;
 use crate::qubits::QubitList;
 use clap::error::ErrorKind;
@@ -96,15 +97,17 @@ fn traced_command<'a>(alloc: Global) -> Result<Command<'a>, AllocError>
         .arg(flag(alloc, "trace"))
 }
 
-/// `route` with a device, two flags, and a list of qubits where one is given.
+/// `route` with a device, two flags, and a list of qubits and a number of tries where they are given.
 fn placed_command<'a>(alloc: Global) -> Result<Command<'a>, AllocError>
     ensures command { IfOk result (λ c. app_of c ≡ placed_command) }
     ensures local { IfOk result (λ c. (fields_of c).has_globals ≡ false) }
 {
-    traced_command(alloc)?.arg(optional(alloc, "initial"))
+    traced_command(alloc)?
+        .arg(optional(alloc, "initial"))?
+        .arg(optional(alloc, "tries"))
 }
 
-/// `route`, which takes a device, four flags, and a list of qubits where one is given.
+/// `route`, which takes a device, four flags, and a list of qubits and a number of tries where they are given.
 fn route_command<'a>(alloc: Global) -> Result<Command<'a>, AllocError>
     ensures command { IfOk result (λ c. app_of c ≡ route_command) }
     ensures local { IfOk result (λ c. (fields_of c).has_globals ≡ false) }
@@ -216,11 +219,26 @@ fn has_initial(matches: &ArgMatches<'_>) -> bool
     matches.get_str("initial").is_some()
 }
 
+/// Whether a number of tries is given.
+fn has_tries(matches: &ArgMatches<'_>) -> bool
+    ensures { result ≡ has_tries (rows_of (found_of matches.now)) }
+{
+    matches.get_str("tries").is_some()
+}
+
+/// Whether the wires are to begin in more than one way.
+fn begins_twice(matches: &ArgMatches<'_>) -> bool
+    ensures { result ≡ begins_twice (rows_of (found_of matches.now)) }
+{
+    (is_given(matches, "trivial") && (has_initial(matches) || has_tries(matches)))
+        || (has_initial(matches) && has_tries(matches))
+}
+
 /// Whether what is asked for of `route` isn't to be had together.
 fn clashes(matches: &ArgMatches<'_>) -> bool
     ensures { result ≡ clashes (rows_of (found_of matches.now)) }
 {
-    clashes_with_trace(matches) || (is_given(matches, "trivial") && has_initial(matches))
+    clashes_with_trace(matches) || begins_twice(matches)
 }
 
 /// The texts between the commas of a text.
@@ -231,7 +249,6 @@ fn pieces<'a>(alloc: Global, text: &'a str) -> Result<Vec<&'a str>, AllocError>
 }
 
 /// The different numbers up to 255 that some texts are.
-
 fn numbers(alloc: Global, texts: &[&str]) -> Result<Option<QubitList>, AllocError>
     ensures value { IfOk result (λ o. o ≡ numbers_behind [] (map (λ t. t.now) texts.now)) }
     ensures distinct { IfOk result (λ o. IfSome o (IsDistinct nat_eq)) }
@@ -258,19 +275,39 @@ fn qubits(alloc: Global, text: &str) -> Result<Option<QubitList>, AllocError>
     numbers(alloc, &pieces)
 }
 
-/// The qubits behind `--initial`, if there is one.
-fn initial_of(alloc: Global, matches: &ArgMatches<'_>) -> Result<Option<QubitList>, WordsFault>
-    ensures ok { IfOk result (λ o. initial_of (rows_of (found_of matches.now)) ≡ Some o) }
-    ensures bad { IsErrOf result WordsFault.BadWords → initial_of (rows_of (found_of matches.now)) ≡ None }
+/// The qubits behind `--initial`.
+fn initial_of(alloc: Global, matches: &ArgMatches<'_>) -> Result<Option<QubitList>, AllocError>
+    ensures value { IfOk result (λ o. o ≡ initial_of (rows_of (found_of matches.now))) }
     ensures distinct { IfOk result (λ o. IfSome o (IsDistinct nat_eq)) }
 {
-    let Some(text) = matches.get_str("initial") else {
-        return Ok(None);
-    };
-    match qubits(alloc, text)? {
-        None => Err(WordsFault::BadWords),
-        given => Ok(given),
+    match matches.get_str("initial") {
+        None => Ok(None),
+        Some(text) => Ok(qubits(alloc, text)?),
     }
+}
+
+/// Where the wires begin.
+fn begin_of(alloc: Global, matches: &ArgMatches<'_>) -> Result<Begin, WordsFault>
+    ensures ok { IfOk result (λ b. begin_of (rows_of (found_of matches.now)) ≡ Some b) }
+    ensures bad { IsErrOf result WordsFault.BadWords → begin_of (rows_of (found_of matches.now)) ≡ None }
+    ensures allowed { IfOk result IsBeginAllowed }
+{
+    if is_given(matches, "trivial") {
+        return Ok(Begin::Trivial);
+    }
+    if has_initial(matches) {
+        return match initial_of(alloc, matches)? {
+            None => Err(WordsFault::BadWords),
+            Some(list) => Ok(Begin::Listed(list)),
+        };
+    }
+    if has_tries(matches) {
+        return match number_behind(matches, "tries", 1, 256) {
+            None => Err(WordsFault::BadWords),
+            Some(tries) => Ok(Begin::Tries(tries)),
+        };
+    }
+    Ok(Begin::Tries(1))
 }
 
 /// What `route` with its matches asks for.
@@ -287,8 +324,7 @@ fn route_of(alloc: Global, matches: &ArgMatches<'_>) -> Result<commands::Command
     };
     Ok(commands::Command::Route {
         device,
-        trivial: is_given(matches, "trivial"),
-        initial: initial_of(alloc, matches)?,
+        begin: begin_of(alloc, matches)?,
         trace: is_given(matches, "trace"),
         keep_barriers: is_given(matches, "keep-barriers"),
         clean: is_given(matches, "clean"),

@@ -1,5 +1,5 @@
 -- One text more: a number that isn't there before.
-use Rattle.std.proofs.Common.{◌≡◌, [], false, map, subst, sym, ap, ◌∙◌}
+use Rattle.std.proofs.Common.{◌≡◌, false, map, subst, sym, ap, ◌∙◌}
 use Rattle.std.specs.Prelude.{nat_eq}
 use Rattle.std.specs.List.{IsDistinct, list_any}
 use Rattle.command_line.specs.Commands.{numbers_behind}
