@@ -28,9 +28,10 @@
 --   begins_twice rows   two of `--trivial`, `--initial` and `--tries` were matched
 --   clashes rows        what has no trace was matched beside `--trace`, or the wires begin in two ways
 --   pieces text         the texts between the commas
---   numbers_behind ns ts   the numbers up to 255 whose decimal digits the texts are, behind others; none where a text is no such
---                       number, or one that stands before it
---   qubits_of text      the list of qubits that the text spells: different ones, with commas between their numbers
+--   numbers_in ts       the numbers up to 255 whose decimal digits the texts are; none where a text is no such number
+--   are_different ns    no number stands there twice
+--   if_different ns     the numbers where they are different, else none
+--   qubits_of text      the list of qubits that the text spells: different ones, with commas between their numbers; else none
 --   initial_of rows     the list behind `--initial`, none where the text spells none
 --   tries_of rows       the number behind `--tries`, 1 to 256
 --   begin_of rows       where the wires begin: as one of the three options says, or at one try; none where its text spells no list
@@ -55,7 +56,7 @@
 --   IsBeginAllowed b    a list has different qubits, and there are 1 to 256 tries
 --   IsAllowed c         `bench` has 1 to 20000 gates, `route` no trace beside kept barriers or cleaning and begins as it may, and
 --                       there are 1 to 255 spare wires where there are any
-use Rattle.std.specs.Prelude.{◌≡◌, ℕ, List, ◌==◌, ◌≤◌, ◌&&◌, ◌||◌, Bool, true, false, Option, Some, None, IfSome, if◌then◌else◌, [], ◌∷◌, ◌++◌, codes, decimal, is_some, length, map, nat_eq, nat_le, option_map, option_and_then}
+use Rattle.std.specs.Prelude.{◌≡◌, ℕ, List, ◌==◌, ◌≤◌, ◌&&◌, ◌||◌, Bool, true, false, Option, Some, None, IfSome, if◌then◌else◌, [], ◌∷◌, codes, decimal, is_some, length, map, nat_eq, nat_le, not, option_map, option_and_then}
 use Rattle.std.specs.Option.{option_map_or}
 use Rattle.std.specs.List.{IsDistinct, list_all, list_any, slice_split}
 use Rattle.std.specs.Str.{bytes_eq}
@@ -180,13 +181,19 @@ number_of least most text = let n = digits_value 10 text in
 abbrev pub pieces : Text → List Text
 pieces text = slice_split (λ c. c == 44) text
 
-abbrev pub numbers_behind : List ℕ → List Text → Option (List ℕ)
-numbers_behind ns [] = Some ns
-numbers_behind ns (t ∷ ts) = option_and_then (λ n. if list_any (λ q. nat_eq q n) ns then None else numbers_behind (ns ++ n ∷ []) ts)
-    (number_of 0 255 t)
+abbrev pub numbers_in : List Text → Option (List ℕ)
+numbers_in [] = Some []
+numbers_in (t ∷ ts) = option_and_then (λ n. option_map (λ ns. n ∷ ns) (numbers_in ts)) (number_of 0 255 t)
+
+abbrev pub are_different : List ℕ → Bool
+are_different [] = true
+are_different (n ∷ ns) = not (list_any (nat_eq n) ns) && are_different ns
+
+abbrev pub if_different : List ℕ → Option (List ℕ)
+if_different ns = if are_different ns then Some ns else None
 
 abbrev pub qubits_of : Text → Option (List ℕ)
-qubits_of text = numbers_behind [] (pieces text)
+qubits_of text = option_and_then if_different (numbers_in (pieces text))
 
 abbrev pub initial_of : List Row → Option (List ℕ)
 initial_of rows = option_and_then qubits_of (first_of (codes "initial") rows)
