@@ -66,7 +66,7 @@ HERE = pathlib.Path(__file__).resolve().parent
 
 # What each fault means, by its name in the fault line; braces hold keys of that line.
 SAYS = {
-    "Words": "the words mean no command, or `--trace` stands beside `--keep-barriers` or `--clean`, or `--spares` beside `--keep-barriers`, or `--initial` beside `--trivial`, or its list has a qubit twice, a number above 255, or more than digits and commas; the manual, `man docs/qroute.1`, has them all",
+    "Words": "the words mean no command, or `--trace` stands beside `--keep-barriers` or `--clean`, or `--spares` beside `--keep-barriers`, or two of `--trivial`, `--initial` and `--tries` stand together, or the list of `--initial` has a qubit twice, a number above 255, or more than digits and commas, or `--tries` has no number from 1 to 256; the manual, `man docs/qroute.1`, has them all",
     "Input": "the input failed, before its end was read",
     "Output": "the output failed: it holds some first part of the program",
     "Shelf": "a file that was named could not be read",

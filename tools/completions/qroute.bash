@@ -22,8 +22,9 @@ _qroute() {
         route)
             options=--device
             # the wires begin in one way
-            [[ " ${COMP_WORDS[*]:2} " == *" --initial "* ]] || options+=" --trivial"
-            [[ " ${COMP_WORDS[*]:2} " == *" --trivial "* ]] || options+=" --initial"
+            [[ " ${COMP_WORDS[*]:2} " == *" --initial "* || " ${COMP_WORDS[*]:2} " == *" --tries "* ]] || options+=" --trivial"
+            [[ " ${COMP_WORDS[*]:2} " == *" --trivial "* || " ${COMP_WORDS[*]:2} " == *" --tries "* ]] || options+=" --initial"
+            [[ " ${COMP_WORDS[*]:2} " == *" --trivial "* || " ${COMP_WORDS[*]:2} " == *" --initial "* ]] || options+=" --tries"
             # a trace stands with neither of the other two
             [[ " ${COMP_WORDS[*]:2} " == *" --keep-barriers "* || " ${COMP_WORDS[*]:2} " == *" --clean "* ]] || options+=" --trace"
             [[ " ${COMP_WORDS[*]:2} " == *" --trace "* ]] || options+=" --keep-barriers --clean"
@@ -33,7 +34,7 @@ _qroute() {
         bench) options="--start --gates --device" ;;
     esac
     case "$before" in
-        --start | --gates | --from | --to | --spares | --initial) return ;;
+        --start | --gates | --from | --to | --spares | --initial | --tries) return ;;
         --device) ending=toml ;;
         --source | --target) ending=qasm ;;
     esac

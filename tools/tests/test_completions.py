@@ -31,6 +31,7 @@ class Completions(unittest.TestCase):
         asked qroute route --keep-barriers --device d.toml --
         asked qroute opt --spares 4 --; asked qroute opt --spares ''; asked qroute stages --; asked qroute stages --spares 4 --
         asked qroute route --initial 0,1 --; asked qroute route --initial ''
+        asked qroute route --tries 4 --; asked qroute route --tries ''
         cd devices; asked qroute route --device =
         """
         *found, devices = said("bash", "-c", script).splitlines()
@@ -38,13 +39,14 @@ class Completions(unittest.TestCase):
         self.assertEqual(
             found,
             [
-                *("opt route verify check stages amplitude bench", "route", "--device --trivial --initial --trace --keep-barriers --clean"),
+                *("opt route verify check stages amplitude bench", "route", "--device --trivial --initial --tries --trace --keep-barriers --clean"),
                 *("--device --trace --keep-barriers --clean", "--keep-barriers --spares"),
-                *("devices/line_5.toml", "--trivial --initial", "--source --target", "--target", "examples/bell.qasm", "", "examples/ghz.qasm"),
+                *("devices/line_5.toml", "--trivial --initial --tries", "--source --target", "--target", "examples/bell.qasm", "", "examples/ghz.qasm"),
                 *("--start --gates --device", "--start --device", "", "devices/line_5.toml"),
-                *("devices/line_5.toml", "--trivial --initial --trace --keep-barriers --clean", "", "--from --to", "--to"),
-                *("--keep-barriers --spares", "", "--trivial --initial --keep-barriers", "--trivial --initial --clean"),
+                *("devices/line_5.toml", "--trivial --initial --tries --trace --keep-barriers --clean", "", "--from --to", "--to"),
+                *("--keep-barriers --spares", "", "--trivial --initial --tries --keep-barriers", "--trivial --initial --tries --clean"),
                 *("", "", "--spares", "", "--device --trace --keep-barriers --clean", ""),
+                *("--device --trace --keep-barriers --clean", ""),
             ],
         )
 
@@ -55,10 +57,11 @@ class Completions(unittest.TestCase):
             return [it.split("\t")[0] for it in out.splitlines()]
 
         self.assertEqual(sorted(asked("qroute ")), ["amplitude", "bench", "check", "opt", "route", "stages", "verify"])
-        self.assertEqual(sorted(asked("qroute route --")), ["--clean", "--device", "--initial", "--keep-barriers", "--trace", "--trivial"])
-        self.assertEqual(sorted(asked("qroute route --device d.toml --trace --")), ["--device", "--initial", "--trivial"])
+        self.assertEqual(sorted(asked("qroute route --")), ["--clean", "--device", "--initial", "--keep-barriers", "--trace", "--tries", "--trivial"])
+        self.assertEqual(sorted(asked("qroute route --device d.toml --trace --")), ["--device", "--initial", "--tries", "--trivial"])
         self.assertEqual(sorted(asked("qroute route --initial 0,1 --")), ["--clean", "--device", "--keep-barriers", "--trace"])
-        self.assertEqual(sorted(asked("qroute route --device d.toml --clean --")), ["--device", "--initial", "--keep-barriers", "--trivial"])
+        self.assertEqual(sorted(asked("qroute route --tries 4 --")), ["--clean", "--device", "--keep-barriers", "--trace"])
+        self.assertEqual(sorted(asked("qroute route --device d.toml --clean --")), ["--device", "--initial", "--keep-barriers", "--tries", "--trivial"])
         self.assertEqual(sorted(asked("qroute opt --")), ["--keep-barriers", "--spares"])
         self.assertEqual(asked("qroute opt --spares 4 --"), [])
         self.assertEqual(asked("qroute opt --keep-barriers --"), [])
