@@ -18,7 +18,7 @@ use Rattle.coupling_map.specs.Costs.{most_cost}
 use Rattle.coupling_map.specs.Edges.{FollowsEdge, FollowsEdges}
 use Rattle.coupling_map.specs.Walks.{is_edge, is_near}
 use Rattle.unitary_model.specs.Operations.{cx_count}
-use Rattle.circuit_target.specs.Costs.{cx_cost, op_cost, told_by}
+use Rattle.routed_parts.specs.Costs.{cx_cost, op_cost, told_by}
 
 pub edge-near : (es : List (ℕ × ℕ)) (a b : ℕ) → is_edge es a b ≡ true → IsTrue (is_near es a b)
 unfolding is_near

@@ -4,3 +4,4 @@ pub mod PartLaws
 pub mod StandLaws
 pub mod FitLaws
 pub mod MadeLaws
+pub mod TryingLaws

@@ -31,8 +31,7 @@ use Rattle.route_report.specs.declared.lines.Report.{Report}
 use Rattle.routed_parts.proofs.LegLaws.{AreRealised-legs, FollowsEdges-legs, cx-legs, few-swaps, t_gates-legs}
 use Rattle.routed_parts.proofs.StillLaws.{AreRealised-still, cx-still, ends-still}
 use Rattle.sabre_route.specs.Measures.{bound, bound_by}
-use Rattle.sabre_route.specs.Routing.{IsLayout}
-use Rattle.sabre_route.specs.Ahead.{InOrder}
+use Rattle.sabre_route.specs.Ahead.{Ahead}
 use Rattle.sabre_route.specs.declared.router.Routed.{Routed}
 use Rattle.trace_text.specs.Texts.{ended, lines_of}
 use Rattle.unitary_model.specs.declared.Op.{Op}
@@ -40,16 +39,19 @@ use Rattle.unitary_model.specs.declared.Op.TheVariants.{U, Cx as OpCx}
 use Rattle.unitary_model.specs.Operations.{cx_count}
 use Rattle.unitary_model.specs.Placement.{identity}
 use Rattle.unitary_model.proofs.PlacementLaws.{identity_placement}
-use Rattle.circuit_target.specs.Costs.{told_cost}
+use Rattle.routed_parts.specs.Costs.{told_cost}
+use Rattle.routed_parts.specs.Tries.{ahead_of}
+use Rattle.wire_starts.specs.declared.Starts.{Starts}
 use Rattle.circuit_target.specs.Standing.{IsInPlace, IsOnQubits, IsOwnTrace}
 use Rattle.circuit_target.specs.Targets.{IsFit, Stands, target_program, HasSteps, IsOptimised, IsTold}
-use Rattle.circuit_target.specs.Making.{AreRoutedParts, AreTraced, IsAssembled, IsOnSize, IsPlacedPart, IsRoutedPart, IsRunTrace, are_told, gates_of, last_of, parts_of, turns_of}
+use Rattle.circuit_target.specs.Making.{AreRoutedParts, AreTraced, AreWritten, IsAssembled, IsOnSize, IsPlacedPart, IsRoutedPart, IsRunTrace, are_told, gates_of, last_of, parts_of, turns_of}
 use Rattle.circuit_target.specs.declared.parts.PartTarget.{PartTarget}
 use Rattle.circuit_target.specs.declared.passes.Rewritten.{Rewritten}
 use Rattle.circuit_target.specs.declared.target.Target.{Target}
 use Rattle.circuit_target.proofs.FitLaws.{IsFit-parts, IsPutTogether-parts, weaken}
 use Rattle.circuit_target.proofs.PartLaws.{AreRouted-long, parts-ends, parts-swaps, some-rewritten, told_asked}
-use Rattle.circuit_target.proofs.StandLaws.{AreLegs-routed, AreStill-placed, IsPutTogether, Stands-legs, Stands-still, sources-source, targets-gates, targets-target}
+use Rattle.circuit_target.specs.Trying.{IsRoute}
+use Rattle.circuit_target.proofs.StandLaws.{AreLegs-routed, AreRouted-parts, AreStill-placed, IsPutTogether, Stands-legs, Stands-still, sources-source, targets-gates, targets-target}
 use Rattle.circuit_target.proofs.TargetLaws.{IsOwnTrace-run}
 
 -- ---- each part
@@ -60,12 +62,17 @@ zip-each [] (y ∷ ys) f h = absurd h
 zip-each (x ∷ xs) [] f h = absurd h
 zip-each (x ∷ xs) (y ∷ ys) f h = (f x y h.0, zip-each xs ys f h.1)
 
-pub each-routed : {P : PartTarget → Type 0} (d : Coupling) (clean : Bool) (given : List ℕ) (rs : List Rewritten) (ms : List PartTarget)
-    → ((given : List ℕ) (r : Rewritten) (m : PartTarget) → IsRoutedPart d clean given r m → P m) → AreRoutedParts d clean given rs ms → AllByRecursion P ms
-each-routed d clean given [] [] f h = tt
-each-routed d clean given [] (m ∷ ms) f h = absurd h
-each-routed d clean given (r ∷ rs) [] f h = absurd h
-each-routed d clean given (r ∷ rs) (m ∷ ms) f h = (f given r m h.0, each-routed d clean m.last rs ms f h.1)
+pub each-routed : (P : PartTarget → Type 0) (d : Coupling) (clean : Bool) (given : List ℕ) (ws : List Rewritten) (ms : List PartTarget)
+    → ((ahead : Ahead) (given : List ℕ) (w : Rewritten) (r : Routed) (m : PartTarget) → IsRoutedPart ahead d clean given w r m → P m)
+    → AreWritten d clean given ws ms → AllByRecursion P ms
+each-routed P d clean given ws ms f h = each given ws h.routed ms h.parts
+  where
+    each : (given : List ℕ) (ws : List Rewritten) (rs : List Routed) (ms : List PartTarget) → AreRoutedParts d h.along clean given ws rs ms → AllByRecursion P ms
+    each given ws rs [] is = tt
+    each given [] [] (m ∷ ms) is = absurd is
+    each given [] (r ∷ rs) (m ∷ ms) is = absurd is
+    each given (w ∷ ws) [] (m ∷ ms) is = absurd is
+    each given (w ∷ ws) (r ∷ rs) (m ∷ ms) is = (f (ahead_of h.along (whole (gates_of ws))) given w r m is.0, each r.last ws rs ms is.1)
 
 -- ---- the trace
 trace-of_part : (d : Coupling) (n : ℕ) (S : List Op) (o : Option (List Step)) (c : Passed) (given : List ℕ) (m : PartTarget) (s t : Program) (told : Report)
@@ -81,24 +88,30 @@ trace-of_part d n S (Some ss) c given m s t told trace steps (x, run, last, gate
 
 trace-one : (d : Coupling) (clean : Bool) (s : Program) (rs : List Rewritten) (ms : List PartTarget) (t : Target) (told : Report)
     → AllZip (λ us r. IsOptimised s.wires us r.passed) (s.ops ∷ []) rs → AllZip (λ us r. IfSome r.steps (HasSteps s.wires us r.passed)) (s.ops ∷ []) rs
-    → AreRoutedParts d clean t.initial rs ms → AreTraced d t.initial rs ms t.trace.items → (All (λ r. r.steps ≡ None) rs → t.trace.items ≡ [])
+    → AreWritten d clean t.initial rs ms → AreTraced d t.initial rs ms t.trace.items → (All (λ r. r.steps ≡ None) rs → t.trace.items ≡ [])
     → length s.ops ≤ most_operations → All (IsFineOp s.wires) s.ops → t.body.gates ≡ whole (map (λ m. m.body.gates) ms) → t.body.wires ≡ d.size
     → t.last ≡ last_of t.initial ms → t.turn ≡ turns_of ms % 8 → IsTold t told → IsOwnTrace (are_told rs) s (target_program s t) told t.trace.items
 trace-one d clean s [] ms t told o steps routed traced silent few fine gates wires last turn r = absurd o
 trace-one d clean s (q ∷ p ∷ rs) ms t told o steps routed traced silent few fine gates wires last turn r = absurd o.1
-trace-one d clean s (q ∷ []) [] t told o steps routed traced silent few fine gates wires last turn r = absurd routed
-trace-one d clean s (q ∷ []) (m ∷ n ∷ ms) t told o steps routed traced silent few fine gates wires last turn r = absurd routed.1
+trace-one d clean s (q ∷ []) [] t told o steps routed traced silent few fine gates wires last turn r =
+    let long = AreRouted-long d clean t.initial (q ∷ []) [] routed in absurd (cc)
+trace-one d clean s (q ∷ []) (m ∷ n ∷ ms) t told o steps routed traced silent few fine gates wires last turn r =
+    let long = AreRouted-long d clean t.initial (q ∷ []) (m ∷ n ∷ ms) routed in absurd (cc)
 trace-one d clean s (q ∷ []) (m ∷ []) t told o steps routed traced silent few fine gates wires last turn r =
+    let each = each-routed (λ k. k.turn < 8) d clean t.initial (q ∷ []) (m ∷ []) (λ ahead p w x k is. below k _ is.sum) routed in
     trace-of_part d s.wires s.ops q.steps q.passed t.initial m s (target_program s t) told t.trace.items steps.0 traced
     (λ none. silent (All-cons (λ r. r.steps ≡ None) q [] none (All-nil (λ r. r.steps ≡ None)))) o.0.wires few fine refl refl
-    (ap ops (gates ∙ append-nil m.body.gates)) wires r.initial (r.last ∙ last) (r.phase ∙ turn ∙ one m routed.0)
+    (ap ops (gates ∙ append-nil m.body.gates)) wires r.initial (r.last ∙ last) (r.phase ∙ turn ∙ one m each.0)
   where
-    one : (k : PartTarget) → IsRoutedPart d clean t.initial q k → turns_of (k ∷ []) % 8 ≡ k.turn
-    one k is = let sum = is.sum in omega (arith, sum, sum_by-cons (λ (m : PartTarget). m.turn) k [])
+    below : (k : PartTarget) (j : ℕ) → k.turn ≡ j % 8 → k.turn < 8
+    below k j e = omega (arith, e)
+
+    one : (k : PartTarget) → k.turn < 8 → turns_of (k ∷ []) % 8 ≡ k.turn
+    one k less = omega (arith, less, sum_by-cons (λ (m : PartTarget). m.turn) k [])
 
 pub IsOwnTrace-parts : (d : Coupling) (clean : Bool) (s : Program) (rs : List Rewritten) (ms : List PartTarget) (t : Target) (told : Report)
     → AllZip (λ us r. IsOptimised s.wires us r.passed) s.cut.parts rs → AllZip (λ us r. IfSome r.steps (HasSteps s.wires us r.passed)) s.cut.parts rs
-    → (s.cut ≡ uncut s.ops) × (clean ≡ false) ⊎ All (λ r. r.steps ≡ None) rs → AreRoutedParts d clean t.initial rs ms
+    → (s.cut ≡ uncut s.ops) × (clean ≡ false) ⊎ All (λ r. r.steps ≡ None) rs → AreWritten d clean t.initial rs ms
     → (clean ≡ false → AreTraced d t.initial rs ms t.trace.items) → (All (λ r. r.steps ≡ None) rs → t.trace.items ≡ [])
     → length s.ops ≤ most_operations → All (IsFineOp s.wires) s.ops → t.body.gates ≡ whole (map (λ m. m.body.gates) ms) → t.body.wires ≡ d.size
     → t.last ≡ last_of t.initial ms → t.turn ≡ turns_of ms % 8 → IsTold t told → IsOwnTrace (are_told rs) s (target_program s t) told t.trace.items
@@ -174,69 +187,74 @@ optimised-fits n size uss rs fits h = All-from_recursion (λ r. r.passed.body.wi
     below r e = omega (arith, e, fits)
 
 pub wide-routed : (d : Coupling) (clean : Bool) (n : ℕ) (given : List ℕ) (rs : List Rewritten) (ms : List PartTarget) → n ≤ d.size
-    → AreRoutedParts d clean given rs ms → All (λ m. n ≤ length m.last) ms
+    → AreWritten d clean given rs ms → All (λ m. n ≤ length m.last) ms
 wide-routed d clean n given rs ms fits h =
-    All-from_recursion (λ m. n ≤ length m.last) ms (each-routed d clean given rs ms (λ p r m is. wide m (ap length is.last ∙ is.run.placed.long)) h)
+    All-from_recursion (λ m. n ≤ length m.last) ms (each-routed (λ m. n ≤ length m.last) d clean given rs ms (λ ahead p w r m is. wide m (ap length is.last ∙ is.run.placed.long)) h)
   where
     wide : (m : PartTarget) → length m.last ≡ d.size → n ≤ length m.last
     wide m e = omega (arith, e, fits)
 
-pub turns-routed : (d : Coupling) (clean : Bool) (given : List ℕ) (rs : List Rewritten) (ms : List PartTarget) → AreRoutedParts d clean given rs ms
+pub turns-routed : (d : Coupling) (clean : Bool) (given : List ℕ) (rs : List Rewritten) (ms : List PartTarget) → AreWritten d clean given rs ms
     → All (λ m. m.turn < 8) ms
-turns-routed d clean given rs ms h = All-from_recursion (λ m. m.turn < 8) ms (each-routed d clean given rs ms (λ p r m is. below m _ is.sum) h)
+turns-routed d clean given rs ms h = All-from_recursion (λ m. m.turn < 8) ms (each-routed (λ m. m.turn < 8) d clean given rs ms (λ ahead p w r m is. below m _ is.sum) h)
   where
     below : (m : PartTarget) (k : ℕ) → m.turn ≡ k % 8 → m.turn < 8
     below m k e = omega (arith, e)
 
-pub sizes-routed : (d : Coupling) (clean : Bool) (given : List ℕ) (rs : List Rewritten) (ms : List PartTarget) → AreRoutedParts d clean given rs ms
+pub sizes-routed : (d : Coupling) (clean : Bool) (given : List ℕ) (rs : List Rewritten) (ms : List PartTarget) → AreWritten d clean given rs ms
     → All (IsOnSize d.size) ms
-sizes-routed d clean given rs ms h = All-from_recursion (IsOnSize d.size) ms (each-routed d clean given rs ms (λ p r m is. is.wires) h)
+sizes-routed d clean given rs ms h = All-from_recursion (IsOnSize d.size) ms (each-routed (IsOnSize d.size) d clean given rs ms (λ ahead p w r m is. is.wires) h)
 
-pub last-long : (d : Coupling) (clean : Bool) (given : List ℕ) (rs : List Rewritten) (ms : List PartTarget) → AreRoutedParts d clean given rs ms
+pub last-long : (d : Coupling) (clean : Bool) (given : List ℕ) (ws : List Rewritten) (ms : List PartTarget) → AreWritten d clean given ws ms
     → length given ≡ d.size → length (last_of given ms) ≡ d.size
-last-long d clean given [] [] h long = long
-last-long d clean given [] (m ∷ ms) h long = absurd h
-last-long d clean given (r ∷ rs) [] h long = absurd h
-last-long d clean given (r ∷ rs) (m ∷ ms) h long = last-long d clean m.last rs ms h.1 (ap length h.0.last ∙ h.0.run.placed.long)
+last-long d clean given ws ms h long =
+    ends given ms (each-routed (λ m. length m.last ≡ d.size) d clean given ws ms (λ ahead p w r m is. ap length is.last ∙ is.run.placed.long) h) long
+  where
+    ends : (p : List ℕ) (ns : List PartTarget) → AllByRecursion (λ (m : PartTarget). length m.last ≡ d.size) ns → length p ≡ d.size
+        → length (last_of p ns) ≡ d.size
+    ends p [] all is = is
+    ends p (n ∷ ns) all is = ends n.last ns all.1 all.0
 
 pub as-many : (d : Coupling) (clean : Bool) (s : Program) (first : List ℕ) (rs : List Rewritten) (ms : List PartTarget)
-    → AllZip (λ us r. IsOptimised s.wires us r.passed) s.cut.parts rs → AreRoutedParts d clean first rs ms → length s.cut.parts ≡ length ms
+    → AllZip (λ us r. IsOptimised s.wires us r.passed) s.cut.parts rs → AreWritten d clean first rs ms → length s.cut.parts ≡ length ms
 as-many d clean s first rs ms o routed =
     sym (AllZip-long (λ us r. IsOptimised s.wires us r.passed) s.cut.parts rs o) ∙ AreRouted-long d clean first rs ms routed
 
 legs-together : (keep clean : Bool) (d : Coupling) (s : Program) (rs : List Rewritten) (ms : List PartTarget) (t : Target) → IsCut s.cut
     → whole s.cut.parts ≡ s.ops → All (IsBar s.wires) s.cut.bars → IsAssembled keep s ms t → AllZip (λ us r. IsOptimised s.wires us r.passed) s.cut.parts rs
-    → AreRoutedParts d clean t.initial rs ms → s.wires ≤ d.size → t.body.wires ≡ d.size → t.last ≡ last_of t.initial ms
+    → AreWritten d clean t.initial rs ms → s.wires ≤ d.size → t.body.wires ≡ d.size → t.last ≡ last_of t.initial ms
     → t.swaps ≡ sum_by (λ (m : PartTarget). m.swaps) ms → IsPutTogether keep s ms t
 legs-together keep clean d s rs ms t cut all bars a o routed fits wires last swaps =
     let parts = parts_of s.cut.parts ms in
     let legs = AreLegs-routed d clean s.wires t.initial s.cut.parts rs ms fits o routed in
     let many = as-many d clean s t.initial rs ms o routed in
-    let cx = cx-legs d clean s.wires t.initial parts (gates_of rs) legs in
+    let cx = cx-legs d clean s.wires t.initial parts (gates_of rs) routed.routed legs in
     IsPutTogether-parts keep s ms t cut all bars a many
-    (each-routed d clean t.initial rs ms (λ given r m h. subst (λ (k : ℕ). All (IsFine k) m.body.gates) (sym wires) h.fine) routed)
-    (subst (λ (k : ℕ). AreRealised s.wires k t.initial parts) (sym wires) (AreRealised-legs d clean s.wires t.initial parts (gates_of rs) legs))
-    (omega (arith, fits, wires)) last (t_gates-legs d clean s.wires t.initial parts (gates_of rs) legs)
+    (each-routed (λ m. All (IsFine t.body.wires) m.body.gates) d clean t.initial rs ms (λ ahead given w r m h. subst (λ (k : ℕ). All (IsFine k) m.body.gates) (sym wires) h.fine) routed)
+    (subst (λ (k : ℕ). AreRealised s.wires k t.initial parts) (sym wires) (AreRealised-legs d clean s.wires t.initial parts (gates_of rs) routed.routed legs))
+    (omega (arith, fits, wires)) last (t_gates-legs d clean s.wires t.initial parts (gates_of rs) routed.routed legs)
     (omega (arith, cx, swaps, parts-swaps s.cut.parts ms many, ap cx_count (targets-target s ms t many a.gates), ap cx_count (sources-source s ms many all)))
 
-pub Stands-routed : (keep clean : Bool) (chosen : Option (List ℕ)) (d : Coupling) (s : Program) (rs : List Rewritten) (ms : List PartTarget) (t : Target) → IsCut s.cut
+pub Stands-routed : (keep clean : Bool) (starts : Starts) (d : Coupling) (s : Program) (rs : List Rewritten) (ms : List PartTarget) (t : Target) → IsCut s.cut
     → whole s.cut.parts ≡ s.ops → All (IsBar s.wires) s.cut.bars → IsAssembled keep s ms t → AllZip (λ us r. IsOptimised s.wires us r.passed) s.cut.parts rs
     → AllZip (λ us r. IfSome r.steps (HasSteps s.wires us r.passed)) s.cut.parts rs
-    → (s.cut ≡ uncut s.ops) × (clean ≡ false) ⊎ All (λ r. r.steps ≡ None) rs → AreRoutedParts d clean t.initial rs ms → s.wires ≤ d.size
+    → (s.cut ≡ uncut s.ops) × (clean ≡ false) ⊎ All (λ r. r.steps ≡ None) rs → IsRoute d starts clean rs t.initial ms → s.wires ≤ d.size
     → t.body.wires ≡ d.size → t.last ≡ last_of t.initial ms → t.swaps ≡ sum_by (λ (m : PartTarget). m.swaps) ms
-    → IfSome chosen (λ p. t.initial ≡ p) → (is_some chosen ≡ false → IsLayout InOrder d (whole (gates_of rs)) (identity d.size) t.initial)
     → (k : ℕ) → IsDiameter d.size d.edges (cost d) k → t.cost ≡ told_cost d (ops t.body.gates)
     → (clean ≡ false → AreTraced d t.initial rs ms t.trace.items) → (All (λ r. r.steps ≡ None) rs → t.trace.items ≡ [])
     → length s.ops ≤ most_operations → All (IsFineOp s.wires) s.ops → t.spares ≡ None
-    → Stands s keep (are_told rs) (IsOnQubits d chosen clean s) t
-Stands-routed keep clean chosen d s rs ms t cut all bars a o steps which routed fits wires last swaps begins laid_out k diameter cost traced silent few fine alone =
-    Stands-legs keep (are_told rs) clean chosen d s ms (gates_of rs) t (legs-together keep clean d s rs ms t cut all bars a o routed fits wires last swaps)
-    (AreLegs-routed d clean s.wires t.initial s.cut.parts rs ms fits o routed) wires swaps begins laid_out k diameter cost
+    → Stands s keep (are_told rs) (IsOnQubits d starts clean s) t
+Stands-routed keep clean starts d s rs ms t cut all bars a o steps which route fits wires last swaps k diameter cost traced silent few fine alone =
+    let routed = route.written in
+    let taken = route.begun routed.routed (AreRouted-parts d routed.along clean t.initial rs routed.routed ms routed.parts) in
+    Stands-legs keep (are_told rs) clean starts d s ms (gates_of rs) routed.routed t
+    (legs-together keep clean d s rs ms t cut all bars a o routed fits wires last swaps)
+    (AreLegs-routed d clean s.wires t.initial s.cut.parts rs ms fits o routed) wires swaps taken k diameter cost
     (λ told r. IsOwnTrace-parts d clean s rs ms t told o steps which routed traced silent few fine a.gates wires last a.turn r) alone
 
 pub IsFit-routed : (keep clean : Bool) (d : Coupling) (s : Program) (rs : List Rewritten) (ms : List PartTarget) (t : Target) → IsCut s.cut
     → whole s.cut.parts ≡ s.ops → All (IsBar s.wires) s.cut.bars → IsAssembled keep s ms t → AllZip (λ us r. IsOptimised s.wires us r.passed) s.cut.parts rs
-    → AreRoutedParts d clean t.initial rs ms → s.wires ≤ d.size → t.body.wires ≡ d.size → t.last ≡ last_of t.initial ms
+    → AreWritten d clean t.initial rs ms → s.wires ≤ d.size → t.body.wires ≡ d.size → t.last ≡ last_of t.initial ms
     → t.swaps ≡ sum_by (λ (m : PartTarget). m.swaps) ms → length t.initial ≡ d.size → ended (lines_of t.trace.items) ≡ t.trace.items → IsFit s t
 IsFit-routed keep clean d s rs ms t cut all bars a o routed fits wires last swaps long lines =
     let is = legs-together keep clean d s rs ms t cut all bars a o routed fits wires last swaps in
@@ -244,17 +262,17 @@ IsFit-routed keep clean d s rs ms t cut all bars a o routed fits wires last swap
     (ap length last ∙ last-long d clean t.initial rs ms routed long ∙ sym wires) lines
 
 -- ---- what calls ask
-few_cx : (us : List Op) → cx_count us ≤ length us
+pub few_cx : (us : List Op) → cx_count us ≤ length us
 few_cx [] = omega arith
 few_cx (OpCx c t ∷ us) = let more = few_cx us in omega (arith, more)
 few_cx (U a b c q ∷ us) = let more = few_cx us in omega (arith, more)
 
-bound-few : (o : Option (List ℕ)) (n k : ℕ) → n ≤ 256 → (o ≡ None → k < n) → bound_by o n k ≤ 512
+pub bound-few : (o : Option (List ℕ)) (n k : ℕ) → n ≤ 256 → (o ≡ None → k < n) → bound_by o n k ≤ 512
 bound-few None n k few short = let here = short refl in omega (arith, few, here)
 bound-few (Some cs) n k few short = omega (arith, few)
 
 few-routed : (clean : Bool) (d : Coupling) (s : Program) (first : List ℕ) (rs : List Rewritten) (ms : List PartTarget) (k : ℕ) → whole s.cut.parts ≡ s.ops
-    → AllZip (λ us r. IsOptimised s.wires us r.passed) s.cut.parts rs → AreRoutedParts d clean first rs ms → s.wires ≤ d.size
+    → AllZip (λ us r. IsOptimised s.wires us r.passed) s.cut.parts rs → AreWritten d clean first rs ms → s.wires ≤ d.size
     → IsDiameter d.size d.edges (cost d) k → (d.costs ≡ None → k < d.size) → d.size ≤ 256 → length s.ops ≤ most_operations
     → sum_by (λ (m : PartTarget). m.swaps) ms ≤ 33554432
 few-routed clean d s first rs ms k all o routed fits diameter short size few =
@@ -264,12 +282,12 @@ few-routed clean d s first rs ms k all o routed fits diameter short size few =
     let cx = few_cx s.ops in
     let n = cx_count (sources parts) in
     let same : n ≡ cx_count s.ops = ap cx_count (sources-source s ms many all) in
-    let is = few-swaps d clean s.wires first parts (gates_of rs) k legs diameter in
+    let is = few-swaps d clean s.wires first parts (gates_of rs) routed.routed k legs diameter in
     let most : n * bound d k ≤ 65536 * 512 = mul-le n (bound d k) 65536 512 (omega (arith, same, cx, few)) (bound-few d.costs d.size k size short) in
     omega (arith, is, most, parts-swaps s.cut.parts ms many)
 
 pub swaps-few : (clean : Bool) (d : Coupling) (s : Program) (first : List ℕ) (rs : List Rewritten) (ms : List PartTarget) (k : ℕ) → whole s.cut.parts ≡ s.ops
-    → AllZip (λ us r. IsOptimised s.wires us r.passed) s.cut.parts rs → AreRoutedParts d clean first rs ms → s.wires ≤ d.size
+    → AllZip (λ us r. IsOptimised s.wires us r.passed) s.cut.parts rs → AreWritten d clean first rs ms → s.wires ≤ d.size
     → IsDiameter d.size d.edges (cost d) k → (d.costs ≡ None → k < d.size) → d.size ≤ 256 → length s.ops ≤ most_operations
     → sum_by (λ (m : PartTarget). m.swaps) ms < 18446744073709551616
 swaps-few clean d s first rs ms k all o routed fits diameter short size few =
@@ -277,15 +295,15 @@ swaps-few clean d s first rs ms k all o routed fits diameter short size few =
     omega (arith, most)
 
 pub edges-followed : (clean : Bool) (d : Coupling) (s : Program) (first : List ℕ) (rs : List Rewritten) (ms : List PartTarget) (gs : List Gate)
-    → AllZip (λ us r. IsOptimised s.wires us r.passed) s.cut.parts rs → AreRoutedParts d clean first rs ms → s.wires ≤ d.size
+    → AllZip (λ us r. IsOptimised s.wires us r.passed) s.cut.parts rs → AreWritten d clean first rs ms → s.wires ≤ d.size
     → gs ≡ whole (map (λ m. m.body.gates) ms) → FollowsEdges d.edges (ops gs)
 edges-followed clean d s first rs ms gs o routed fits gates =
     let parts = parts_of s.cut.parts ms in
     subst (FollowsEdges d.edges) (targets-gates s ms gs (as-many d clean s first rs ms o routed) gates)
-    (FollowsEdges-legs d clean s.wires first parts (gates_of rs) (AreLegs-routed d clean s.wires first s.cut.parts rs ms fits o routed))
+    (FollowsEdges-legs d clean s.wires first parts (gates_of rs) routed.routed (AreLegs-routed d clean s.wires first s.cut.parts rs ms fits o routed))
 
 pub cost-few : (clean : Bool) (d : Coupling) (s : Program) (first : List ℕ) (rs : List Rewritten) (ms : List PartTarget) (gs : List Gate) (k : ℕ)
-    → whole s.cut.parts ≡ s.ops → AllZip (λ us r. IsOptimised s.wires us r.passed) s.cut.parts rs → AreRoutedParts d clean first rs ms → s.wires ≤ d.size
+    → whole s.cut.parts ≡ s.ops → AllZip (λ us r. IsOptimised s.wires us r.passed) s.cut.parts rs → AreWritten d clean first rs ms → s.wires ≤ d.size
     → IsDiameter d.size d.edges (cost d) k → (d.costs ≡ None → k < d.size) → d.size ≤ 256 → length s.ops ≤ most_operations
     → gs ≡ whole (map (λ m. m.body.gates) ms) → cx_count (ops gs) ≤ 4294967296
 cost-few clean d s first rs ms gs k all o routed fits diameter short size few gates =
@@ -294,7 +312,7 @@ cost-few clean d s first rs ms gs k all o routed fits diameter short size few ga
     let legs = AreLegs-routed d clean s.wires first s.cut.parts rs ms fits o routed in
     let cx = few_cx s.ops in
     let most = few-routed clean d s first rs ms k all o routed fits diameter short size few in
-    let is = cx-legs d clean s.wires first parts (gates_of rs) legs in
+    let is = cx-legs d clean s.wires first parts (gates_of rs) routed.routed legs in
     omega (
       arith,
       is,
@@ -307,12 +325,12 @@ cost-few clean d s first rs ms gs k all o routed fits diameter short size few ga
     )
 
 -- ---- what is asked for
-pub Stands-asked : {E : Type 0} (d : Coupling) (s : Program) (x : Result Target E) (rs ss : List Rewritten) (keep clean trace : Bool) (chosen : Option (List ℕ)) → ss ≡ rs
+pub Stands-asked : {E : Type 0} (d : Coupling) (s : Program) (x : Result Target E) (rs ss : List Rewritten) (keep clean trace : Bool) (starts : Starts) → ss ≡ rs
     → IsCut s.cut → AllZip (λ us r. IsOptimised s.wires us r.passed) s.cut.parts rs → All (λ r. is_some r.steps ≡ trace) rs
-    → IfOk x (Stands s keep (are_told ss) (IsOnQubits d chosen clean s)) → IfOk x (Stands s keep trace (IsOnQubits d chosen clean s))
-Stands-asked d s x rs ss keep clean trace chosen same cut o asked stands =
+    → IfOk x (Stands s keep (are_told ss) (IsOnQubits d starts clean s)) → IfOk x (Stands s keep trace (IsOnQubits d starts clean s))
+Stands-asked d s x rs ss keep clean trace starts same cut o asked stands =
     let told : are_told ss ≡ trace = ap are_told same ∙ told_asked rs trace (some-rewritten s.wires s.cut rs cut o) asked in
-    subst (λ b. IfOk x (Stands s keep b (IsOnQubits d chosen clean s))) told stands
+    subst (λ b. IfOk x (Stands s keep b (IsOnQubits d starts clean s))) told stands
 
 none_told : (o : Option (List Step)) → is_some o ≡ false → o ≡ None
 none_told None e = refl

@@ -1,6 +1,6 @@
 -- Parts of a source with what is written for them.
 --   parts-sources, parts-targets, parts-powers, parts-swaps, parts-ends, parts-told   their operations, and what is told of them
---   AreRouted-more, last_of-more   one part more that was routed
+--   AreRouted-long, last_of-more   how many parts were routed, and where one more ends
 --   whole-more             the gates of one part more
 --   placed-more, placed-all, lasts-taken   what their barriers are, and where the wires stand between them
 --   AreTraced-more, trace-first   the trace of one part more, and of the first
@@ -20,11 +20,12 @@ use Rattle.gate_expand.specs.Expansion.{IsFineOp}
 use Rattle.gate_expand.specs.declared.source.Ops.{Ops}
 use Rattle.gate_inline.specs.Programs.{Program}
 use Rattle.program_parts.specs.Parts.{Part, ends, powers}
+use Rattle.sabre_route.specs.declared.router.Routed.{Routed}
 use Rattle.unitary_model.specs.declared.Op.{Op}
 use Rattle.program_parts.specs.Cuts.{Cut, IsCut, whole}
 use Rattle.program_parts.proofs.CutLaws.{whole-append, whole-one}
 use Rattle.circuit_target.specs.InParts.{between, placed_bars}
-use Rattle.circuit_target.specs.Making.{AreRoutedParts, AreTraced, IsRoutedPart, IsTraceOf, are_told, gates_of, last_of, lasts_but_one, part_of, parts_of, turns_of}
+use Rattle.circuit_target.specs.Making.{AreRoutedParts, AreTraced, AreWritten, IsTraceOf, are_told, gates_of, last_of, lasts_but_one, part_of, parts_of, turns_of}
 use Rattle.circuit_target.specs.Targets.{IsOptimised}
 use Rattle.circuit_target.specs.declared.parts.PartTarget.{PartTarget}
 use Rattle.circuit_target.specs.declared.passes.Rewritten.{Rewritten}
@@ -83,23 +84,21 @@ parts-between (us ∷ vs ∷ uss) (m ∷ []) e = absurd (cc)
 parts-between (us ∷ vs ∷ uss) (m ∷ k ∷ ms) e =
     ap (λ (zs : List (List ℕ)). m.last ∷ zs) (parts-between (vs ∷ uss) (k ∷ ms) (shorter us (vs ∷ uss) m (k ∷ ms) e))
 
-pub AreRouted-more : (d : Coupling) (clean : Bool) (given : List ℕ) (rs : List Rewritten) (ms : List PartTarget) (r : Rewritten) (m : PartTarget)
-    → AreRoutedParts d clean given rs ms → IsRoutedPart d clean (last_of given ms) r m → AreRoutedParts d clean given (rs ++ r ∷ []) (ms ++ m ∷ [])
-AreRouted-more d clean given [] [] r m h is = (is, tt)
-AreRouted-more d clean given [] (n ∷ ms) r m h is = absurd h
-AreRouted-more d clean given (q ∷ rs) [] r m h is = absurd h
-AreRouted-more d clean given (q ∷ rs) (n ∷ ms) r m h is = (h.0, AreRouted-more d clean n.last rs ms r m h.1 is)
-
 pub last_of-more : (given : List ℕ) (ms : List PartTarget) (m : PartTarget) → last_of given (ms ++ m ∷ []) ≡ m.last
 last_of-more given [] m = refl
 last_of-more given (n ∷ ms) m = last_of-more n.last ms m
 
-pub AreRouted-long : (d : Coupling) (clean : Bool) (given : List ℕ) (rs : List Rewritten) (ms : List PartTarget) → AreRoutedParts d clean given rs ms
-    → length rs ≡ length ms
-AreRouted-long d clean given [] [] h = refl
-AreRouted-long d clean given [] (m ∷ ms) h = absurd h
-AreRouted-long d clean given (r ∷ rs) [] h = absurd h
-AreRouted-long d clean given (r ∷ rs) (m ∷ ms) h = ap suc (AreRouted-long d clean m.last rs ms h.1)
+pub AreRouted-long : (d : Coupling) (clean : Bool) (given : List ℕ) (ws : List Rewritten) (ms : List PartTarget) → AreWritten d clean given ws ms
+    → length ws ≡ length ms
+AreRouted-long d clean given ws ms h = long given ws h.routed ms h.parts
+  where
+    long : (given : List ℕ) (ws : List Rewritten) (rs : List Routed) (ms : List PartTarget) → AreRoutedParts d h.along clean given ws rs ms → length ws ≡ length ms
+    long given [] [] [] is = refl
+    long given [] [] (m ∷ ms) is = absurd is
+    long given [] (r ∷ rs) ms is = absurd is
+    long given (w ∷ ws) [] ms is = absurd is
+    long given (w ∷ ws) (r ∷ rs) [] is = absurd is
+    long given (w ∷ ws) (r ∷ rs) (m ∷ ms) is = ap suc (long r.last ws rs ms is.1)
 
 -- ---- one more
 pub whole-more : (ms : List PartTarget) (k : ℕ) (m : PartTarget) → k < length ms → m ≡ get_or ms k m
@@ -214,14 +213,14 @@ part-of_source s os k o lists all fine wires lt is =
     (same, subst (λ n. All (IsFineOp n) o.list) (sym same) (All-from_recursion (IsFineOp s.wires) o.list each))
 
 -- the trace of the first part begins where the first one begins
-pub trace-first : (d : Coupling) (clean : Bool) (given now : List ℕ) (rs : List Rewritten) (ms : List PartTarget) (r : Rewritten) (m : PartTarget)
-    (trace : List ℕ) → AreRoutedParts d clean given rs ms → now ≡ last_of given ms → IsTraceOf d now r m trace → rs ≡ [] → IsTraceOf d given r m trace
-trace-first d clean given now rs ms r m trace h is told none = subst (λ g. IsTraceOf d g r m trace) (is ∙ nothing rs ms h none) told
+pub trace-first : (d : Coupling) (given now : List ℕ) (ws : List Rewritten) (ms : List PartTarget) (w : Rewritten) (m : PartTarget)
+    (trace : List ℕ) → length ws ≡ length ms → now ≡ last_of given ms → IsTraceOf d now w m trace → ws ≡ [] → IsTraceOf d given w m trace
+trace-first d given now ws ms w m trace long is told none = subst (λ g. IsTraceOf d g w m trace) (is ∙ nothing ws ms long none) told
   where
-    nothing : (rs : List Rewritten) (ms : List PartTarget) → AreRoutedParts d clean given rs ms → rs ≡ [] → last_of given ms ≡ given
-    nothing [] [] h e = refl
-    nothing [] (n ∷ ns) h e = absurd h
-    nothing (q ∷ qs) ns h e = cc
+    nothing : (ws : List Rewritten) (ms : List PartTarget) → length ws ≡ length ms → ws ≡ [] → last_of given ms ≡ given
+    nothing [] [] long e = refl
+    nothing [] (n ∷ ns) long e = absurd (cc)
+    nothing (q ∷ qs) ns long e = cc
 
 pub told_asked : (rs : List Rewritten) (b : Bool) → (rs ≡ [] → ⊥) → All (λ r. is_some r.steps ≡ b) rs → are_told rs ≡ b
 told_asked [] b some h = absurd (some refl)

@@ -1,13 +1,15 @@
 -- A target that is put together of its parts stands for the source.
 --   AreStill-placed        what is written for parts on their own wires
 --   AreLegs-routed         .. and on the qubits of a device
+--   AreRouted-parts        the runs of which they are left
 --   cut-targets            the target's parts
 --   IsPutTogether          what is known of a source and of the parts that are written for it
 --   StandsFor-put_together, Stands-still, Stands-legs   then the target stands for the source
-use Rattle.std.proofs.Common.{◌≡◌, inl, inr, ℕ, ◌+◌, ◌*◌, ◌%◌, ◌≤◌, Bool, false, List, ◌∷◌, None, All, length, map, refl, sym, ap, ◌∙◌, subst, []}
-use Rattle.std.specs.Prelude.{Option, IfSome, is_some, sum_by}
+use Rattle.std.proofs.Common.{◌≡◌, inl, inr, ℕ, ◌+◌, ◌*◌, ◌%◌, ◌<◌, ◌≤◌, Bool, false, List, ◌∷◌, None, All, length, map, refl, sym, ap, ◌∙◌, subst, [], arith}
+use Rattle.std.specs.Prelude.{Option, sum_by}
 use Rattle.std.specs.List.{AllByRecursion, AllZip}
 use Rattle.std.proofs.lemmas.List.{length-map}
+use Rattle.std.proofs.lemmas.List.Sums.{sum_by-cons}
 use Rattle.std.proofs.lemmas.List.Elements.{All-from_recursion, recursion_from_All}
 use Rattle.circuit_list.specs.declared.Gate.{Gate}
 use Rattle.circuit_list.specs.declared.Gate.TheVariants.{H, X, P, Cx}
@@ -22,21 +24,24 @@ use Rattle.program_parts.proofs.CutLaws.{chopped-whole, sources-whole, targets-w
 use Rattle.program_parts.proofs.PartsLaws.{AreRealised-whole}
 use Rattle.route_report.specs.declared.lines.Report.{Report}
 use Rattle.routed_parts.specs.Legs.{AreLegs, IsLeg, IsStill}
-use Rattle.routed_parts.specs.Runs.{AreRuns}
-use Rattle.routed_parts.proofs.LegLaws.{AreRuns-legs, FollowsEdges-legs, HasFewSwaps-legs}
+use Rattle.routed_parts.specs.Runs.{AreOfRuns, HasNoMoreSwaps}
+use Rattle.routed_parts.specs.Tries.{AreRouted, IsTaken, ahead_of, weight, weight_by}
+use Rattle.routed_parts.proofs.LegLaws.{AreOfRuns-legs, FollowsEdges-legs, HasFewSwaps-legs}
 use Rattle.routed_parts.proofs.RunLaws.{IsLeg-run}
-use Rattle.sabre_route.specs.Routing.{IsLayout}
-use Rattle.sabre_route.specs.Ahead.{InOrder}
+use Rattle.sabre_route.specs.Ahead.{Ahead}
+use Rattle.sabre_route.specs.declared.router.Routed.{Routed}
+use Rattle.wire_starts.specs.declared.Starts.{Starts}
+use Rattle.wire_starts.specs.declared.Starts.TheVariants.{Given, Tries}
 use Rattle.unitary_model.specs.declared.Op.{Op}
 use Rattle.unitary_model.specs.Operations.{IsPlain, cx_count}
 use Rattle.unitary_model.specs.Placement.{identity}
 use Rattle.unitary_model.specs.Realises.{Realises}
 use Rattle.unitary_model.proofs.RealisesLaws.{Realises_same}
-use Rattle.circuit_target.specs.Costs.{told_cost}
+use Rattle.routed_parts.specs.Costs.{cx_cost, told_cost}
 use Rattle.circuit_target.specs.Standing.{IsInPlace, IsOnQubits, IsOwnTrace, StandsFor, placed_read}
 use Rattle.circuit_target.specs.InParts.{HasFewTs}
 use Rattle.circuit_target.specs.Targets.{Stands, target_program, IsOptimised, IsTold}
-use Rattle.circuit_target.specs.Making.{AreRoutedParts, IsAssembled, IsPlacedPart, IsRoutedPart, gates_of, last_of, part_of, parts_of}
+use Rattle.circuit_target.specs.Making.{AreRoutedParts, AreWritten, IsAssembled, IsPlacedPart, IsRoutedPart, gates_of, last_of, part_of, parts_of}
 use Rattle.circuit_target.specs.declared.parts.PartTarget.{PartTarget}
 use Rattle.circuit_target.specs.declared.passes.Rewritten.{Rewritten}
 use Rattle.circuit_target.specs.declared.target.Target.{Target}
@@ -71,24 +76,70 @@ AreStill-placed n (us ∷ uss) [] h = absurd h
 AreStill-placed n (us ∷ uss) (m ∷ ms) h = (IsStill-placed n us m h.0, AreStill-placed n uss ms h.1)
 
 -- ---- on the qubits of a device
-IsLeg-routed : (d : Coupling) (clean : Bool) (n : ℕ) (given : List ℕ) (us : List Op) (r : Rewritten) (m : PartTarget) → n ≤ d.size
-    → IsOptimised n us r.passed → IsRoutedPart d clean given r m → IsLeg d clean n given (part_of us m) r.passed.body.gates
-IsLeg-routed d clean n given us r m fits o is =
+IsLeg-routed : (ahead : Ahead) (d : Coupling) (clean : Bool) (n : ℕ) (given : List ℕ) (us : List Op) (w : Rewritten) (r : Routed) (m : PartTarget) → n ≤ d.size
+    → IsOptimised n us w.passed → IsRoutedPart ahead d clean given w r m → IsLeg d clean n given (part_of us m) w.passed.body.gates r
+IsLeg-routed ahead d clean n given us w r m fits o is =
     let run = is.run in
-    IsLeg-run d clean n given (part_of us m) r.passed.body.gates r.passed.turn is.turn m.body.gates is.routed o.fine o.settled
-    (Realises_same us (ops r.passed.body.gates) n r.passed.turn o.below o.same) o.t_gates o.cx_gates run.run
-    (subst (λ (k : ℕ). Realises (ops r.passed.body.gates) k (ops is.routed.body.gates) d.size given is.routed.last is.routed.turn) o.wires run.realises)
+    IsLeg-run d clean n given (part_of us m) w.passed.body.gates w.passed.turn is.turn m.body.gates r o.fine o.settled
+    (Realises_same us (ops w.passed.body.gates) n w.passed.turn o.below o.same) o.t_gates o.cx_gates
+    (subst (λ (k : ℕ). Realises (ops w.passed.body.gates) k (ops r.body.gates) d.size given r.last r.turn) o.wires run.realises)
     run.edges run.t_gates run.cx_gates run.few_swaps is.left refl is.last is.swaps is.sum
 
-pub AreLegs-routed : (d : Coupling) (clean : Bool) (n : ℕ) (given : List ℕ) (uss : List (List Op)) (rs : List Rewritten) (ms : List PartTarget) → n ≤ d.size
-    → AllZip (λ us r. IsOptimised n us r.passed) uss rs → AreRoutedParts d clean given rs ms → AreLegs d clean n given (parts_of uss ms) (gates_of rs)
-AreLegs-routed d clean n given [] [] [] fits o h = tt
-AreLegs-routed d clean n given [] [] (m ∷ ms) fits o h = absurd h
-AreLegs-routed d clean n given [] (r ∷ rs) ms fits o h = absurd o
-AreLegs-routed d clean n given (us ∷ uss) [] ms fits o h = absurd o
-AreLegs-routed d clean n given (us ∷ uss) (r ∷ rs) [] fits o h = absurd h
-AreLegs-routed d clean n given (us ∷ uss) (r ∷ rs) (m ∷ ms) fits o h =
-    (IsLeg-routed d clean n given us r m fits o.0 h.0, AreLegs-routed d clean n m.last uss rs ms fits o.1 h.1)
+legs-routed : (d : Coupling) (along clean : Bool) (n : ℕ) (given : List ℕ) (uss : List (List Op)) (ws : List Rewritten) (rs : List Routed) (ms : List PartTarget)
+    → n ≤ d.size → AllZip (λ us w. IsOptimised n us w.passed) uss ws → AreRoutedParts d along clean given ws rs ms
+    → AreLegs d clean n given (parts_of uss ms) (gates_of ws) rs
+legs-routed d along clean n given [] [] [] [] fits o h = tt
+legs-routed d along clean n given [] [] [] (m ∷ ms) fits o h = absurd h
+legs-routed d along clean n given [] [] (r ∷ rs) ms fits o h = absurd h
+legs-routed d along clean n given [] (w ∷ ws) rs ms fits o h = absurd o
+legs-routed d along clean n given (us ∷ uss) [] rs ms fits o h = absurd o
+legs-routed d along clean n given (us ∷ uss) (w ∷ ws) [] ms fits o h = absurd h
+legs-routed d along clean n given (us ∷ uss) (w ∷ ws) (r ∷ rs) [] fits o h = absurd h
+legs-routed d along clean n given (us ∷ uss) (w ∷ ws) (r ∷ rs) (m ∷ ms) fits o h =
+    let rest = legs-routed d along clean n r.last uss ws rs ms fits o.1 h.1 in
+    (IsLeg-routed (ahead_of along (whole (gates_of ws))) d clean n given us w r m fits o.0 h.0,
+    subst (λ (p : List ℕ). AreLegs d clean n p (parts_of uss ms) (gates_of ws) rs) (sym h.0.last) rest)
+
+pub AreLegs-routed : (d : Coupling) (clean : Bool) (n : ℕ) (given : List ℕ) (uss : List (List Op)) (ws : List Rewritten) (ms : List PartTarget) → n ≤ d.size
+    → AllZip (λ us w. IsOptimised n us w.passed) uss ws → (h : AreWritten d clean given ws ms)
+    → AreLegs d clean n given (parts_of uss ms) (gates_of ws) h.routed
+AreLegs-routed d clean n given uss ws ms fits o h = legs-routed d h.along clean n given uss ws h.routed ms fits o h.parts
+
+pub AreRouted-parts : (d : Coupling) (along clean : Bool) (given : List ℕ) (ws : List Rewritten) (rs : List Routed) (ms : List PartTarget)
+    → AreRoutedParts d along clean given ws rs ms → AreRouted d along given (gates_of ws) rs
+AreRouted-parts d along clean given [] [] ms h = tt
+AreRouted-parts d along clean given [] (r ∷ rs) ms h = absurd h
+AreRouted-parts d along clean given (w ∷ ws) [] ms h = absurd h
+AreRouted-parts d along clean given (w ∷ ws) (r ∷ rs) [] h = absurd h
+AreRouted-parts d along clean given (w ∷ ws) (r ∷ rs) (m ∷ ms) h = (h.0.run.run, AreRouted-parts d along clean r.last ws rs ms h.1)
+
+-- the parts of a run have its swaps
+swaps-of_runs : (clean : Bool) (n : ℕ) (parts : List Part) (lists : List (List Gate)) (rs : List Routed) → AreOfRuns clean n parts lists rs
+    → sum_by (λ (p : Part). p.swaps) parts ≡ sum_by (λ (r : Routed). r.swaps) rs
+swaps-of_runs clean n [] [] [] h = refl
+swaps-of_runs clean n [] [] (r ∷ rs) h = absurd h
+swaps-of_runs clean n [] (gates ∷ lists) rs h = absurd h
+swaps-of_runs clean n (p ∷ parts) [] rs h = absurd h
+swaps-of_runs clean n (p ∷ parts) (gates ∷ lists) [] h = absurd h
+swaps-of_runs clean n (p ∷ parts) (gates ∷ lists) (r ∷ rs) h =
+    sum_by-cons (λ (p : Part). p.swaps) p parts ∙ (λ i. h.0.counts i + swaps-of_runs clean n parts lists rs h.1 i)
+    ∙ sym (sum_by-cons (λ (r : Routed). r.swaps) r rs)
+
+no_more : (d : Coupling) (starts : Starts) (clean : Bool) (n : ℕ) (first : List ℕ) (parts : List Part) (lists : List (List Gate)) (rs : List Routed)
+    → AreOfRuns clean n parts lists rs → IsTaken d starts lists first rs → HasNoMoreSwaps d starts lists parts
+no_more d (Given q) clean n first parts lists rs left taken = tt
+no_more d (Tries k) clean n first parts lists rs left taken = λ q xs plain other.
+    let some : 0 < k = above taken.number taken.among in
+    let least : weight d rs ≤ weight d xs = taken.least 0 q xs some other in
+    lesser (swaps-of_runs clean n parts lists rs left) (subst (λ (o : Option (List ℕ)). weight_by o (sum_by (λ (r : Routed). r.swaps) rs)
+    (sum_by (λ (r : Routed). cx_cost d (ops r.body.gates)) rs) ≤ weight_by o (sum_by (λ (r : Routed). r.swaps) xs)
+    (sum_by (λ (r : Routed). cx_cost d (ops r.body.gates)) xs)) plain least)
+  where
+    above : (j : ℕ) → j < k → 0 < k
+    above j lt = omega (arith, lt)
+
+    lesser : {a b c : ℕ} → a ≡ b → b ≤ c → a ≤ c
+    lesser e le = omega (arith, e, le)
 
 -- ---- all parts together
 joined_ops : (ms : List PartTarget) → whole (map (λ m. ops m.body.gates) ms) ≡ ops (whole (map (λ m. m.body.gates) ms))
@@ -188,28 +239,30 @@ Stands-still keep s ms t is still wires swaps initial last cost trace alone = re
     each [] f h = tt
     each (p ∷ ps) f h = (f p h.0, each ps f h.1)
 
-pub Stands-legs : (keep traced clean : Bool) (chosen : Option (List ℕ)) (d : Coupling) (s : Program) (ms : List PartTarget) (lists : List (List Gate)) (t : Target)
-    → IsPutTogether keep s ms t → AreLegs d clean s.wires t.initial (parts_of s.cut.parts ms) lists
-    → t.body.wires ≡ d.size → t.swaps ≡ sum_by (λ (m : PartTarget). m.swaps) ms → IfSome chosen (λ p. t.initial ≡ p)
-    → (is_some chosen ≡ false → IsLayout InOrder d (whole lists) (identity d.size) t.initial) → (k : ℕ) → IsDiameter d.size d.edges (cost d) k → t.cost ≡ told_cost d (ops t.body.gates)
+pub Stands-legs : (keep traced clean : Bool) (starts : Starts) (d : Coupling) (s : Program) (ms : List PartTarget) (lists : List (List Gate)) (rs : List Routed)
+    (t : Target) → IsPutTogether keep s ms t → AreLegs d clean s.wires t.initial (parts_of s.cut.parts ms) lists rs
+    → t.body.wires ≡ d.size → t.swaps ≡ sum_by (λ (m : PartTarget). m.swaps) ms → IsTaken d starts lists t.initial rs
+    → (k : ℕ) → IsDiameter d.size d.edges (cost d) k → t.cost ≡ told_cost d (ops t.body.gates)
     → ((told : Report) → IsTold t told → IsOwnTrace traced s (target_program s t) told t.trace.items)
-    → t.spares ≡ None → Stands s keep traced (IsOnQubits d chosen clean s) t
-Stands-legs keep traced clean chosen d s ms lists t is legs wires swaps placed laid_out k diameter cost trace alone =
+    → t.spares ≡ None → Stands s keep traced (IsOnQubits d starts clean s) t
+Stands-legs keep traced clean starts d s ms lists rs t is legs wires swaps taken k diameter cost trace alone =
     let parts = parts_of s.cut.parts ms in
     let sum : t.swaps ≡ sum_by (λ (p : Part). p.swaps) parts = swaps ∙ sym (parts-swaps s.cut.parts ms is.many) in
     let targets_are = targets-target s ms t is.many is.assembled.gates in
-    let few = HasFewSwaps-legs d clean s.wires t.initial parts lists k legs diameter in
+    let few = HasFewSwaps-legs d clean s.wires t.initial parts lists rs k legs diameter in
+    let left = AreOfRuns-legs d clean s.wires t.initial parts lists rs legs in
     record {
       parts = parts;
       stands = λ told r. StandsFor-put_together keep s ms t told is r;
       placed = λ told r. record {
         qubits = wires;
-        edges = subst (FollowsEdges d.edges) targets_are (FollowsEdges-legs d clean s.wires t.initial parts lists legs);
-        placed = subst (λ p. IfSome chosen (λ q. p ≡ q)) (sym r.initial) placed;
+        edges = subst (FollowsEdges d.edges) targets_are (FollowsEdges-legs d clean s.wires t.initial parts lists rs legs);
         runs = record {
           lists = lists;
-          runs = subst (λ p. AreRuns d clean s.wires p parts lists) (sym r.initial) (AreRuns-legs d clean s.wires t.initial parts lists legs);
-          laid_out = λ e. subst (IsLayout InOrder d (whole lists) (identity d.size)) (sym r.initial) (laid_out e);
+          routed = rs;
+          taken = subst (λ p. IsTaken d starts lists p rs) (sym r.initial) taken;
+          left = left;
+          no_more_swaps = no_more d starts clean s.wires t.initial parts lists rs left taken;
         };
         sum = r.swaps ∙ sum;
         swaps = rw (sources-source s ms is.many is.whole_source, targets_are, sym (r.swaps ∙ sum)) at few;

@@ -1,11 +1,12 @@
 -- Working form. What is made of the parts of a source, one by one.
---   IsRunOf d c given r  what holds of a run of the routing machine over the circuit c
+--   IsRunOf ahead d n gates given r   what holds of a run of the routing machine over gates on n wires
 --   IsRunTrace d c ss given r j trace   the trace proves each claim from a source whose gates the steps lead from, to the operations
 --                        of the run r over the circuit c, up to the turn j
 --   IsPlacedPart n us m  what is written for the part us of a source on its own wires
---   IsRoutedPart d clean given r m   what is written for a part, which was rewritten to r, on the qubits of a device: what is left of the
---                        machine's run
---   AreRoutedParts ..         the same of all parts, each from where the one before it ended
+--   IsRoutedPart ahead d clean given w r m   what is written for a part, which was rewritten to w, on the qubits of a device: what is
+--                        left of the machine's run r;  IsWrittenPart: .. of some run
+--   AreRoutedParts d along clean given ws rs ms   the same of all parts, each from where the one before it ended
+--   AreWritten d clean given ws ms   .. for some runs, along dependences or not
 --   last_of given ms     where the wires end
 --   IsTraceOf d given r m trace   where steps are told of a part, the trace is that of its run;  AreTraced: where it is the only part
 --   are_told rs          whether steps are told
@@ -30,7 +31,7 @@ use Rattle.program_parts.specs.Parts.{Part}
 use Rattle.rewrite_pass.specs.Traces.{AreSteps, Step}
 use Rattle.sabre_route.specs.Measures.{bound}
 use Rattle.sabre_route.specs.Routing.{IsRouted}
-use Rattle.sabre_route.specs.Ahead.{InOrder}
+use Rattle.sabre_route.specs.Ahead.{Ahead}
 use Rattle.sabre_route.specs.declared.router.Routed.{Routed}
 use Rattle.trace_check.specs.Proves.{Claim, Proves}
 use Rattle.unitary_model.specs.declared.Op.{Op}
@@ -43,9 +44,13 @@ use Rattle.circuit_target.specs.declared.target.Target.{Target}
 use Rattle.circuit_target.specs.InParts.{placed_bars, told_parts}
 use Rattle.circuit_target.specs.Targets.{IsOptimised}
 use Rattle.routed_parts.specs.Legs.{IsCleaned}
+use Rattle.routed_parts.specs.Tries.{ahead_of}
 
-pub record IsRunOf (d : Coupling) (n : ℕ) (gates : List Gate) (given : List ℕ) (r : Routed) : Type 0 where
-  pub run : IsRouted InOrder d gates given r
+abbrev pub gates_of : List Rewritten → List (List Gate)
+gates_of rs = map (λ r. r.passed.body.gates) rs
+
+pub record IsRunOf (ahead : Ahead) (d : Coupling) (n : ℕ) (gates : List Gate) (given : List ℕ) (r : Routed) : Type 0 where
+  pub run : IsRouted ahead d gates given r
   pub wires : r.body.wires ≡ d.size
   pub fine : All (IsFine d.size) r.body.gates
   pub placed : IsPlacement d.size r.last
@@ -65,21 +70,30 @@ pub record IsPlacedPart (n : ℕ) (us : List Op) (m : PartTarget) : Type 0 where
   pub last : m.last ≡ identity n
   pub swaps : m.swaps ≡ 0
 
-pub record IsRoutedPart (d : Coupling) (clean : Bool) (given : List ℕ) (r : Rewritten) (m : PartTarget) : Type 0 where
-  pub routed : Routed
-  pub run : IsRunOf d r.passed.body.wires r.passed.body.gates given routed
-  pub last : m.last ≡ routed.last
-  pub swaps : m.swaps ≡ routed.swaps
+pub record IsRoutedPart (ahead : Ahead) (d : Coupling) (clean : Bool) (given : List ℕ) (w : Rewritten) (r : Routed) (m : PartTarget) : Type 0 where
+  pub run : IsRunOf ahead d w.passed.body.wires w.passed.body.gates given r
+  pub last : m.last ≡ r.last
+  pub swaps : m.swaps ≡ r.swaps
   pub wires : m.body.wires ≡ d.size
   pub fine : All (IsFine d.size) m.body.gates
   pub turn : ℕ
-  pub left : IsCleaned clean d.size routed.body.gates m.body.gates turn
-  pub sum : m.turn ≡ ((r.passed.turn + routed.turn) % 8 + turn) % 8
+  pub left : IsCleaned clean d.size r.body.gates m.body.gates turn
+  pub sum : m.turn ≡ ((w.passed.turn + r.turn) % 8 + turn) % 8
 
-abbrev pub AreRoutedParts : Coupling → Bool → List ℕ → List Rewritten → List PartTarget → Type 0
-AreRoutedParts d clean given [] [] = Unit {0}
-AreRoutedParts d clean given (r ∷ rs) (m ∷ ms) = IsRoutedPart d clean given r m × AreRoutedParts d clean m.last rs ms
-AreRoutedParts d clean given _ _ = ⊥
+pub record IsWrittenPart (ahead : Ahead) (d : Coupling) (clean : Bool) (given : List ℕ) (w : Rewritten) (m : PartTarget) : Type 0 where
+  pub routed : Routed
+  pub part : IsRoutedPart ahead d clean given w routed m
+
+abbrev pub AreRoutedParts : Coupling → Bool → Bool → List ℕ → List Rewritten → List Routed → List PartTarget → Type 0
+AreRoutedParts d along clean given [] [] [] = Unit {0}
+AreRoutedParts d along clean given (w ∷ ws) (r ∷ rs) (m ∷ ms) =
+    IsRoutedPart (ahead_of along (whole (gates_of ws))) d clean given w r m × AreRoutedParts d along clean r.last ws rs ms
+AreRoutedParts d along clean given _ _ _ = ⊥
+
+pub record AreWritten (d : Coupling) (clean : Bool) (given : List ℕ) (ws : List Rewritten) (ms : List PartTarget) : Type 0 where
+  pub along : Bool
+  pub routed : List Routed
+  pub parts : AreRoutedParts d along clean given ws routed ms
 
 abbrev pub last_of : List ℕ → List PartTarget → List ℕ
 last_of given [] = given
@@ -96,9 +110,6 @@ AreTraced d given _ _ trace = Unit {0}
 abbrev pub are_told : List Rewritten → Bool
 are_told [] = false
 are_told (r ∷ rs) = is_some r.steps
-
-abbrev pub gates_of : List Rewritten → List (List Gate)
-gates_of rs = map (λ r. r.passed.body.gates) rs
 
 abbrev pub part_of : List Op → PartTarget → Part
 part_of us m = record { source = us; target = ops m.body.gates; last = m.last; power = m.turn; swaps = m.swaps }

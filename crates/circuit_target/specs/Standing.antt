@@ -6,9 +6,9 @@
 --   IsOwnTrace traced source target told trace   where a trace is asked for, it proves that the target realises the source, from and
 --                               to the reported placements and up to the reported power; else it is empty
 --   IsInPlace source ..         no wire moves, and each part is settled
---   IsOnQubits device chosen ..   the qubits are the device's, and what is written is the routing machine's run, from the chosen
---                               placement on, if there is one
-use Rattle.std.specs.Prelude.{◌≡◌, ℕ, ◌+◌, ◌*◌, ◌%◌, ◌≤◌, Bool, true, false, List, Option, None, IfSome, All, is_some, map, option_map, slice_index, sum_by, []}
+--   IsOnQubits device starts ..   the qubits are the device's, and what is written is what is left of the routing
+--                               machine's run, from a given placement on or the best of so many tries
+use Rattle.std.specs.Prelude.{◌≡◌, ℕ, ◌+◌, ◌*◌, ◌%◌, ◌≤◌, Bool, true, false, List, Option, None, All, map, option_map, slice_index, sum_by, []}
 use Rattle.std.specs.List.{AllByRecursion}
 use Rattle.coupling_map.specs.Coupling.{Coupling}
 use Rattle.coupling_map.specs.Edges.{FollowsEdges}
@@ -21,7 +21,8 @@ use Rattle.trace_check.specs.Proves.{Claim, Proves}
 use Rattle.unitary_model.specs.Operations.{IsPlain, cx_count}
 use Rattle.unitary_model.specs.Placement.{identity}
 use Rattle.unitary_model.specs.Realises.{Realises}
-use Rattle.circuit_target.specs.Costs.{told_cost}
+use Rattle.wire_starts.specs.declared.Starts.{Starts}
+use Rattle.routed_parts.specs.Costs.{told_cost}
 use Rattle.circuit_target.specs.InParts.{AreMade, HasFewTs}
 
 abbrev pub claim_of : Program → Program → Claim
@@ -60,13 +61,13 @@ pub record IsInPlace (source target : Program) (parts : List Part) (told : Repor
   pub stay : AllByRecursion (λ p. p.last ≡ identity source.wires) parts
   pub settled : AllByRecursion (λ p. IsSettled source.wires p.target) parts
 
--- the qubits are a device's, the wires begin at the placement that is chosen, if one is, and else at the layout, each CNOT follows an
--- edge, what is written for each part is the routing machine's run, cleaned where `clean` says so, with few swaps, and where the device lists costs of edges, the line tells what the CNOTs cost
-pub record IsOnQubits (device : Coupling) (chosen : Option (List ℕ)) (clean : Bool) (source target : Program) (parts : List Part) (told : Report) : Type 0 where
+-- the qubits are a device's, each CNOT follows an edge, what is written for each part is what is left of the routing machine's run,
+-- from where `starts` says or with the best of so many tries, cleaned if `clean` says so, with few swaps, and if the device lists costs
+-- of edges, the line tells what the CNOTs cost
+pub record IsOnQubits (device : Coupling) (starts : Starts) (clean : Bool) (source target : Program) (parts : List Part) (told : Report) : Type 0 where
   pub qubits : target.wires ≡ device.size
   pub edges : FollowsEdges device.edges target.ops
-  pub placed : IfSome chosen (λ p. told.initial ≡ p)
-  pub runs : AreMachineRuns device (is_some chosen) clean source.wires told.initial parts
+  pub runs : AreMachineRuns device starts clean source.wires told.initial parts
   pub sum : told.swaps ≡ sum_by (λ p. p.swaps) parts
   pub swaps : HasFewSwaps device source.ops target.ops told.swaps
   pub cost : told.cost ≡ told_cost device target.ops

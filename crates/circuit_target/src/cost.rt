@@ -1,11 +1,11 @@
 //! What the CNOTs of a circuit cost on a device.
 
-ghost use Rattle.std.specs.Prelude.{◌≡◌, ◌*◌, ◌≤◌, ◌∷◌, []};
+ghost use Rattle.std.specs.Prelude.{◌≡◌, ◌*◌, ◌≤◌, ◌∷◌, IfSome, []};
 ghost use Rattle.circuit_list.specs.Gates.{op_of, ops};
 ghost use Rattle.coupling_map.specs.Coupling.{format_of};
 ghost use Rattle.coupling_map.specs.Edges.{FollowsEdge, FollowsEdges};
 ghost use Rattle.unitary_model.specs.Operations.{cx_count};
-ghost use Rattle.circuit_target.specs.Costs.{cx_cost, op_cost, told_cost};
+ghost use Rattle.routed_parts.specs.Costs.{cx_cost, op_cost, told_cost};
 
 use circuit_list::{Circuit, Gate};
 use coupling_map::Device;
@@ -28,7 +28,8 @@ fn gate_cost(device: &Device, gate: Gate) -> u64
 fn sum_of_costs(device: &Device, body: &Circuit) -> u64
     requires edges { FollowsEdges device.now.edges (ops body.now.gates) }
     requires cx_limit { cx_count (ops body.now.gates) ≤ 4294967296 }
-    ensures { result ≡ cx_cost device.now (ops body.now.gates) }
+    ensures exact { result ≡ cx_cost device.now (ops body.now.gates) }
+    ensures limited { result ≤ cx_count (ops body.now.gates) * 1000000 }
 {
     let mut sum = 0;
     'places: for place in 0..body.len() {
@@ -43,6 +44,7 @@ pub fn cost_of(device: &Device, body: &Circuit) -> Option<u64>
     requires edges { FollowsEdges device.now.edges (ops body.now.gates) }
     requires cx_limit { format_of device.now.costs ≡ 2 → cx_count (ops body.now.gates) ≤ 4294967296 }
     ensures value { result ≡ told_cost device.now (ops body.now.gates) }
+    ensures limited { IfSome result (λ k. k ≤ cx_count (ops body.now.gates) * 1000000) }
 {
     if device.format() == 2 {
         Some(sum_of_costs(device, body))

@@ -8,12 +8,15 @@ ghost use Rattle.program_parts.specs.Cuts.{uncut, whole};
 ghost use Rattle.trace_text.specs.Texts.{ended, lines_of};
 ghost use Rattle.unitary_model.specs.Placement.{IsPlacement, identity};
 ghost use Rattle.routed_parts.specs.Legs.{IsCleaned};
-ghost use Rattle.sabre_route.specs.Routing.{IsLayout};
-ghost use Rattle.sabre_route.specs.Ahead.{InOrder};
+ghost use Rattle.sabre_route.specs.Ahead.{Ahead, IsLookoutOver};
 ghost use Rattle.sabre_route.specs.Telling.{IsRoutedBy};
 ghost use Rattle.circuit_target.specs.Standing.{IsInPlace, IsOnQubits};
 ghost use Rattle.circuit_target.specs.Targets.{IsFit, Stands, HasSteps, IsOptimised};
-ghost use Rattle.circuit_target.specs.Making.{AreRoutedParts, AreTraced, IsPlacedPart, IsRoutedPart, IsRunOf, IsRunTrace, IsTraceOf, are_told, gates_of, last_of};
+ghost use Rattle.circuit_target.specs.Making.{AreTraced, AreWritten, IsPlacedPart, IsRunOf, IsRunTrace, IsTraceOf, IsWrittenPart, are_told, gates_of, last_of};
+ghost use Rattle.circuit_target.specs.Trying.{IsLookingOver, IsRoute};
+ghost use Rattle.circuit_list.specs.Gates.{ops};
+ghost use Rattle.unitary_model.specs.Operations.{cx_count};
+ghost use Rattle.wire_starts.specs.Starts.{AreStarts};
 
 use crate::cost::cost_of;
 use crate::parted::PartedProgram;
@@ -22,6 +25,7 @@ use crate::parts::{
 };
 use crate::passes::{Rewritten, rewrite};
 use crate::traces::RunTraces;
+use crate::tries::{Begun, begin, chains_of, lookout_of};
 use circuit_list::{Circuit, Passed};
 use coupling_map::Device;
 use gate_cancel::CancelPass;
@@ -29,9 +33,10 @@ use gate_expand::{Ops, expand};
 use placement::Placement;
 use rewrite_pass::Pass;
 use route_report::{Parts, Wires};
-use sabre_route::{Event, Routed, layout, route, route_traced};
+use sabre_route::{Event, Lookout, Routed, route, route_traced};
 use std::alloc::{AllocError, Global};
 use unitary_model::turn_sum;
+use wire_starts::Starts;
 
 /// A circuit that stands for a source.
 #[derive(Drop)]
@@ -181,65 +186,6 @@ fn joined(alloc: Global, wires: u32, rewritten: &[Rewritten]) -> Result<Circuit,
     Ok(body)
 }
 
-/// The layout of a circuit, looked for from a placement, where swaps are judged in program order.
-fn in_order_layout(
-    alloc: Global,
-    circuit: &Circuit,
-    device: &Device,
-    given: Placement,
-) -> Result<Placement, AllocError>
-    requires fits { circuit.now.wires ≤ device.now.size }
-    requires placed { length given ≡ device.now.size }
-    ensures layout { IfOk result (IsLayout InOrder device.now circuit.now.gates given) }
-    ensures placement { IfOk result (λ p. IsPlacement device.now.size p) }
-{
-    let mut out = None;
-    let mut back = None;
-    layout(alloc, circuit, device, given, &mut out, &mut back)
-}
-
-/// The layout of the gates of all parts, one after the other.
-fn layout_of(
-    alloc: Global,
-    wires: u32,
-    rewritten: &[Rewritten],
-    device: &Device,
-) -> Result<Placement, AllocError>
-    requires each { All (λ r. r.passed.body.wires ≡ wires) rewritten.now }
-    requires fits { wires ≤ device.now.size }
-    ensures placed { IfOk result (λ p. length p ≡ device.now.size) }
-    ensures laid_out { IfOk result (IsLayout InOrder device.now (whole (gates_of rewritten.now)) (identity device.now.size)) }
-{
-    device.facts();
-    let identity = Placement::identity(alloc, device.size())?;
-    if rewritten.len() == 1 {
-        return in_order_layout(alloc, &rewritten[0].passed.body, device, identity);
-    }
-    let body = joined(alloc, wires, rewritten)?;
-    in_order_layout(alloc, &body, device, identity)
-}
-
-/// The qubits on which the wires begin: those of the chosen placement, or else of the layout.
-fn first_placement(
-    alloc: Global,
-    wires: u32,
-    rewritten: &[Rewritten],
-    device: &Device,
-    chosen: Option<Placement>,
-) -> Result<Placement, AllocError>
-    requires each { All (λ r. r.passed.body.wires ≡ wires) rewritten.now }
-    requires fits { wires ≤ device.now.size }
-    requires chosen { IfSome chosen (λ p. length p ≡ device.now.size) }
-    ensures placed { IfOk result (λ p. length p ≡ device.now.size) }
-    ensures chosen { IfOk result (λ p. IfSome chosen (λ q. p ≡ q)) }
-    ensures laid_out { IfOk result (λ p. is_some chosen ≡ false → IsLayout InOrder device.now (whole (gates_of rewritten.now)) (identity device.now.size) p) }
-{
-    match chosen {
-        Some(placement) => Ok(placement),
-        None => layout_of(alloc, wires, rewritten, device),
-    }
-}
-
 /// The routing machine's run over a circuit, with its events where they are asked for.
 #[derive(Drop)]
 struct Run {
@@ -247,28 +193,31 @@ struct Run {
     events: Vec<Event>,
 }
 
-/// The run from the given placement on.
+/// The run from the given placement on, along dependences if there is a lookout.
 fn run_from(
     alloc: Global,
     circuit: &Circuit,
     device: &Device,
     given: Placement,
     traced: bool,
+    lookout: &mut Option<Lookout<'_>>,
 ) -> Result<Run, AllocError>
     requires fits { circuit.now.wires ≤ device.now.size }
     requires placed { length given ≡ device.now.size }
-    ensures run { IfOk result (λ r. IsRunOf device.now circuit.now.wires circuit.now.gates given r.routed) }
-    ensures events { IfOk result (λ r. traced ≡ true → IsRoutedBy InOrder device.now circuit.now.gates given r.routed r.events.items) }
+    requires seen { (ahead : Ahead) × IsLookoutOver ahead lookout.old device.now.size circuit.now.gates }
+    ensures run { IfOk result (λ r. (ahead : Ahead) → IsLookoutOver ahead lookout.old device.now.size circuit.now.gates →
+        IsRunOf ahead device.now circuit.now.wires circuit.now.gates given r.routed × IsLookoutOver ahead lookout.new device.now.size []) }
+    ensures events { IfOk result (λ r. (ahead : Ahead) → IsLookoutOver ahead lookout.old device.now.size circuit.now.gates →
+        traced ≡ true → IsRoutedBy ahead device.now circuit.now.gates given r.routed r.events.items) }
 {
-    let mut in_order = None;
     // Their contracts say that the gates are on these qubits, and that the wires stand on them.
     if traced {
-        let (routed, events) = route_traced(alloc, circuit, device, given, &mut in_order)?;
+        let (routed, events) = route_traced(alloc, circuit, device, given, lookout)?;
         routed.body.facts();
         routed.last.facts();
         return Ok(Run { routed, events });
     }
-    let routed = route(alloc, circuit, device, given, &mut in_order)?;
+    let routed = route(alloc, circuit, device, given, lookout)?;
     routed.body.facts();
     routed.last.facts();
     Ok(Run {
@@ -291,7 +240,7 @@ fn trace_of_run<T: RunTraces>(
     requires placed { IsPlacement device.now.size given.now }
     requires turn { turn < 8 }
     requires events { is_some rewritten.now.steps ≡ true →
-        IsRoutedBy InOrder device.now rewritten.now.passed.body.gates given.now run.now.routed run.now.events.items }
+        (ahead : Ahead) × IsRoutedBy ahead device.now rewritten.now.passed.body.gates given.now run.now.routed run.now.events.items }
     ensures told { IfOk result (λ v. IfSome rewritten.now.steps (λ ss. IsRunTrace device.now rewritten.now.passed ss given.now
         run.now.routed turn v.items)) }
     ensures silent { IfOk result (λ v. rewritten.now.steps ≡ None → v.items ≡ []) }
@@ -340,12 +289,15 @@ fn routed_part<T: RunTraces>(
     rewritten: &Rewritten,
     device: &Device,
     given: Placement,
+    lookout: &mut Option<Lookout<'_>>,
     clean: bool,
 ) -> Result<Leg, AllocError>
     requires turn { rewritten.now.passed.turn < 8 }
     requires fits { rewritten.now.passed.body.wires ≤ device.now.size }
     requires placed { length given ≡ device.now.size }
-    ensures routed { IfOk result (λ l. IsRoutedPart device.now clean given rewritten.now l.made) }
+    requires seen { (ahead : Ahead) × IsLookoutOver ahead lookout.old device.now.size rewritten.now.passed.body.gates }
+    ensures routed { IfOk result (λ l. (ahead : Ahead) → IsLookoutOver ahead lookout.old device.now.size rewritten.now.passed.body.gates →
+        IsWrittenPart ahead device.now clean given rewritten.now l.made × IsLookoutOver ahead lookout.new device.now.size []) }
     ensures last { IfOk result (λ l. l.last ≡ l.made.last) }
     ensures told { IfOk result (λ l. clean ≡ false → IsTraceOf device.now given rewritten.now l.made l.trace.items) }
     ensures silent { IfOk result (λ l. rewritten.now.steps ≡ None → l.trace.items ≡ []) }
@@ -357,13 +309,8 @@ fn routed_part<T: RunTraces>(
     device.facts();
     given.facts();
     let initial = qubits_of(alloc, &given)?;
-    let run = run_from(
-        alloc,
-        &passed.body,
-        device,
-        given,
-        rewritten.steps.is_some(),
-    )?;
+    let traced = rewritten.steps.is_some();
+    let run = run_from(alloc, &passed.body, device, given, traced, lookout)?;
     let turn = turn_sum(passed.turn, run.routed.turn);
     let trace = trace_of_run(
         alloc,
@@ -398,19 +345,22 @@ struct Legs {
     trace: Vec<u8>,
 }
 
-/// All parts on the qubits of a device, each from where the one before it ended.
+/// All parts on the qubits of a device, each from where the one before it ended, along the dependences of all that is left if there
+/// is a lookout.
 fn routed_parts<T: RunTraces>(
     alloc: Global,
     traces: &T,
     rewritten: &[Rewritten],
     device: &Device,
     given: Placement,
+    lookout: &mut Option<Lookout<'_>>,
     clean: bool,
 ) -> Result<Legs, AllocError>
     requires turns { All (λ r. r.passed.turn < 8) rewritten.now }
     requires fits { All (λ r. r.passed.body.wires ≤ device.now.size) rewritten.now }
     requires placed { length given ≡ device.now.size }
-    ensures routed { IfOk result (λ l. AreRoutedParts device.now clean given rewritten.now l.made.items) }
+    requires seen { IsLookingOver lookout.old device.now.size (whole (gates_of rewritten.now)) }
+    ensures routed { IfOk result (λ l. (w : AreWritten device.now clean given rewritten.now l.made.items) × (w.along ≡ is_some lookout.old)) }
     ensures last { IfOk result (λ l. l.last ≡ last_of given l.made.items) }
     ensures told { IfOk result (λ l. clean ≡ false → AreTraced device.now given rewritten.now l.made.items l.trace.items) }
     ensures silent { IfOk result (λ l. All (λ r. r.steps ≡ None) rewritten.now → l.trace.items ≡ []) }
@@ -420,7 +370,7 @@ fn routed_parts<T: RunTraces>(
     let mut trace = Vec::new(alloc);
     let mut now = given;
     'parts: for part in rewritten {
-        let leg = routed_part(alloc, traces, part, device, now, clean)?;
+        let leg = routed_part(alloc, traces, part, device, now, lookout, clean)?;
         made.push(leg.made)?;
         trace = leg.trace;
         now = leg.last;
@@ -432,6 +382,83 @@ fn routed_parts<T: RunTraces>(
     })
 }
 
+/// All parts on the qubits of a device, where their wires begin, and where they end.
+#[derive(Drop)]
+struct Route {
+    initial: Placement,
+    legs: Legs,
+}
+
+/// The parts, of which `body` has all gates, on the qubits of a device: from the given placement on, or the best of so many tries.
+fn routed_from<T: RunTraces>(
+    alloc: Global,
+    traces: &T,
+    rewritten: &[Rewritten],
+    body: &Circuit,
+    device: &Device,
+    starts: Starts,
+    clean: bool,
+) -> Result<Route, AllocError>
+    requires gates { body.now.gates ≡ whole (gates_of rewritten.now) }
+    requires turns { All (λ r. r.passed.turn < 8) rewritten.now }
+    requires each { All (λ r. r.passed.body.wires ≤ device.now.size) rewritten.now }
+    requires few { cx_count (ops body.now.gates) ≤ 65536 }
+    requires fits { body.now.wires ≤ device.now.size }
+    requires starts { AreStarts device.now.size starts }
+    ensures routed { IfOk result (λ r. IsRoute device.now starts clean rewritten.now r.initial r.legs.made.items) }
+    ensures placed { IfOk result (λ r. length r.initial ≡ device.now.size) }
+    ensures last { IfOk result (λ r. r.legs.last ≡ last_of r.initial r.legs.made.items) }
+    ensures told { IfOk result (λ r. clean ≡ false → AreTraced device.now r.initial rewritten.now r.legs.made.items r.legs.trace.items) }
+    ensures silent { IfOk result (λ r. All (λ w. w.steps ≡ None) rewritten.now → r.legs.trace.items ≡ []) }
+    ensures lines { IfOk result (λ r. ended (lines_of r.legs.trace.items) ≡ r.legs.trace.items) }
+{
+    let chains = chains_of(alloc, body, &starts)?;
+    let Begun { placement, along } = begin(alloc, rewritten, body, device, starts, &chains)?;
+    let initial = placement.copy()?;
+    let mut lookout = lookout_of(alloc, &chains.out, along)?;
+    let legs = routed_parts(
+        alloc,
+        traces,
+        rewritten,
+        device,
+        placement,
+        &mut lookout,
+        clean,
+    )?;
+    Ok(Route { initial, legs })
+}
+
+/// The same; all gates are those of the one part, or are put together.
+fn routed_over<T: RunTraces>(
+    alloc: Global,
+    traces: &T,
+    wires: u32,
+    rewritten: &[Rewritten],
+    device: &Device,
+    starts: Starts,
+    clean: bool,
+) -> Result<Route, AllocError>
+    requires each { All (λ r. r.passed.body.wires ≡ wires) rewritten.now }
+    requires turns { All (λ r. r.passed.turn < 8) rewritten.now }
+    requires few { cx_count (ops (whole (gates_of rewritten.now))) ≤ 65536 }
+    requires fits { wires ≤ device.now.size }
+    requires starts { AreStarts device.now.size starts }
+    ensures routed { IfOk result (λ r. IsRoute device.now starts clean rewritten.now r.initial r.legs.made.items) }
+    ensures placed { IfOk result (λ r. length r.initial ≡ device.now.size) }
+    ensures last { IfOk result (λ r. r.legs.last ≡ last_of r.initial r.legs.made.items) }
+    ensures told { IfOk result (λ r. clean ≡ false → AreTraced device.now r.initial rewritten.now r.legs.made.items r.legs.trace.items) }
+    ensures silent { IfOk result (λ r. All (λ w. w.steps ≡ None) rewritten.now → r.legs.trace.items ≡ []) }
+    ensures lines { IfOk result (λ r. ended (lines_of r.legs.trace.items) ≡ r.legs.trace.items) }
+{
+    device.facts();
+    if rewritten.len() == 1 {
+        let body = &rewritten[0].passed.body;
+        return routed_from(alloc, traces, rewritten, body, device, starts, clean);
+    }
+    let body = joined(alloc, wires, rewritten)?;
+    routed_from(alloc, traces, rewritten, &body, device, starts, clean)
+}
+
 /// The circuit on the qubits of a device: for each part the routing machine's run, from where the one before it ended. The trace
 /// is told where the steps before it are, which is for a source that is one part.
 fn on_device<T: RunTraces>(
@@ -440,7 +467,7 @@ fn on_device<T: RunTraces>(
     source: &PartedProgram,
     rewritten: &[Rewritten],
     device: &Device,
-    chosen: Option<Placement>,
+    starts: Starts,
     keep: bool,
     clean: bool,
 ) -> Result<Target, AllocError>
@@ -448,8 +475,8 @@ fn on_device<T: RunTraces>(
     requires steps { AllZip (λ us r. IfSome r.steps (HasSteps source.now.wires us r.passed)) source.now.cut.parts rewritten.now }
     requires silent { (source.now.cut ≡ uncut source.now.ops) × (clean ≡ false) ⊎ All (λ r. r.steps ≡ None) rewritten.now }
     requires fits { source.now.wires ≤ device.now.size }
-    requires chosen { IfSome chosen (λ p. length p ≡ device.now.size) }
-    ensures stands { IfOk result (Stands source.now keep (are_told rewritten.now) (IsOnQubits device.now chosen clean source.now)) }
+    requires starts { AreStarts device.now.size starts }
+    ensures stands { IfOk result (Stands source.now keep (are_told rewritten.now) (IsOnQubits device.now starts clean source.now)) }
     ensures fit { IfOk result (IsFit source.now) }
 {
     source.facts();
@@ -457,9 +484,9 @@ fn on_device<T: RunTraces>(
     device.facts();
     let size = device.size();
     let _diameter = device.diameter();
-    let given = first_placement(alloc, source.wires(), rewritten, device, chosen)?;
-    let initial = given.copy()?;
-    let Legs { made, last, trace } = routed_parts(alloc, traces, rewritten, device, given, clean)?;
+    let wires = source.wires();
+    let Route { initial, legs } = routed_over(alloc, traces, wires, rewritten, device, starts, clean)?;
+    let Legs { made, last, trace } = legs;
     let lengths = lengths_of(alloc, &made)?;
     let barriers = placed_bars(alloc, source, &made)?;
     let swaps = swaps_of(&made);
@@ -493,20 +520,20 @@ pub struct Wishes {
     pub clean: bool,
 }
 
-/// The circuit on the qubits of a device, after all passes, as it is asked for: the wires begin at the chosen placement, or else at
-/// the layout. Fails for want of memory alone.
+/// The circuit on the qubits of a device, after all passes, as it is asked for: the wires begin at the placement that is given, or
+/// else the best of so many tries is taken. Fails for want of memory alone.
 pub fn routed<T: RunTraces>(
     alloc: Global,
     traces: &T,
     source: &PartedProgram,
     device: &Device,
-    chosen: Option<Placement>,
+    starts: Starts,
     wishes: Wishes,
 ) -> Result<Target, AllocError>
     requires fits { source.now.wires ≤ device.now.size }
-    requires chosen { IfSome chosen (λ p. length p ≡ device.now.size) }
+    requires starts { AreStarts device.now.size starts }
     requires traced { wishes.trace ≡ true → (source.now.cut ≡ uncut source.now.ops) × (wishes.clean ≡ false) }
-    ensures stands { IfOk result (Stands source.now wishes.keep wishes.trace (IsOnQubits device.now chosen wishes.clean source.now)) }
+    ensures stands { IfOk result (Stands source.now wishes.keep wishes.trace (IsOnQubits device.now starts wishes.clean source.now)) }
     ensures fit { IfOk result (IsFit source.now) }
 {
     source.facts();
@@ -517,7 +544,7 @@ pub fn routed<T: RunTraces>(
         source,
         &rewritten,
         device,
-        chosen,
+        starts,
         wishes.keep,
         wishes.clean,
     )

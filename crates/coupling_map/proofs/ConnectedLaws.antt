@@ -6,6 +6,7 @@
 --   few-without_costs, one-without_costs      distances on a device without costs
 --   diameter-without_costs                    .. and the greatest of them
 --   device-few, -one     what `dist` is there
+--   device-hops, hops-few   there are hops from each qubit to each, fewer than there are qubits, whatever the costs are
 use Rattle.std.proofs.Common.{◌≡◌, ◌≢◌, ℕ, suc, ◌+◌, ◌*◌, ◌<◌, ◌≤◌, ◌||◌, Bool, true, false, List, [], ◌∷◌, None, All, length, nat_eq, refl, sym, ap, ◌∙◌, subst, arith, inl, inr}
 use Rattle.std.specs.Prelude.{◌↔◌, IsTrue}
 use Rattle.std.specs.List.{list_any, AllByRecursion, IsDistinct}
@@ -15,7 +16,7 @@ use Rattle.std.proofs.lemmas.Bool.Decides.{nat_tests}
 use Rattle.std.proofs.lemmas.Map.Steps.{length-le_from_distinct_below}
 use Rattle.coupling_map.specs.Costs.{most_cost, cost_of}
 use Rattle.coupling_map.specs.Coupling.{Coupling, cost, dist, IsCoupling}
-use Rattle.coupling_map.specs.Walks.{cheapest, distance, is_near, walk_cost, IsDiameter, IsDistance, IsWalk}
+use Rattle.coupling_map.specs.Walks.{cheapest, distance, is_near, walk_cost, IsDiameter, IsDistance, IsHops, IsWalk}
 use Rattle.coupling_map.proofs.Limits.{one_limited}
 use Rattle.coupling_map.proofs.CostLaws.{cost-limited, cost-positive, cost-symmetric}
 use Rattle.coupling_map.proofs.CouplingLaws.{not_near_itself, one-distance, zero-distance}
@@ -161,3 +162,21 @@ device-few d a b h n la lb = few-without_costs d a b _ h n la lb (device-exact d
 
 pub device-one : (d : Coupling) (a b : ℕ) → IsCoupling d → d.costs ≡ None → a < d.size → b < d.size → (dist d a b ≡ 1) ↔ IsTrue (is_near d.edges a b)
 device-one d a b h n la lb = one-without_costs d a b _ h n (device-exact d a b h la lb)
+
+-- ---- near pairs alone, whatever they cost
+bare : Coupling → Coupling
+bare d = record { size = d.size; edges = d.edges; costs = None }
+
+bare-device : (d : Coupling) → IsCoupling d → IsCoupling (bare d)
+unfolding bare
+bare-device d h = record { graph = h.graph; connected = h.connected; costs = tt }
+
+pub device-hops : (d : Coupling) (a b : ℕ) → IsCoupling d → a < d.size → b < d.size → (k : ℕ) × (k < d.size) × IsHops d.edges a b k
+unfolding bare
+device-hops d a b h la lb =
+    let g = bare-device d h in
+    (dist (bare d) a b, device-few (bare d) a b g refl la lb, device-exact (bare d) a b g la lb)
+
+pub hops-few : (d : Coupling) (a b k : ℕ) → IsCoupling d → a < d.size → b < d.size → IsHops d.edges a b k → k < d.size
+unfolding bare
+hops-few d a b k h la lb e = few-without_costs (bare d) a b k (bare-device d h) refl la lb e

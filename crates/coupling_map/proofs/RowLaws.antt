@@ -3,6 +3,7 @@
 --   IsReached-row       what a walk leads to was reached
 --   IsJoined-row        a walk leads to what was reached
 --   IsLeastApart-row    the first that was not reached
+--   IsHops-row          the numbers of a row of near pairs, whatever they cost
 --   AreDistances-none, -more, -by   the table of no row, and of one more; by other costs
 use Rattle.std.proofs.Common.{◌≡◌, ℕ, ◌+◌, ◌*◌, ◌<◌, ◌≤◌, Bool, true, false, cond, List, [], ◌∷◌, ◌++◌, Option, Some, None, length, map, get_or, refl, sym, ap, ◌∙◌, subst, arith, inl, inr}
 use Rattle.std.specs.Prelude.{All, IsSome, IsTrue, is_none, nat_lt, position, unwrap_or}
@@ -14,12 +15,12 @@ use Rattle.std.proofs.lemmas.List.Quantifiers.{position-Some}
 use Rattle.std.proofs.lemmas.Bool.{cases_eq}
 use Rattle.std.proofs.lemmas.List.Elements.{All-nil, All-append, All-map}
 use Rattle.std.proofs.lemmas.Nat.{mul-add-lt}
-use Rattle.coupling_map.specs.Walks.{is_near, walk_cost, IsWalk, IsJoined, IsDistance, IsLeastApart}
+use Rattle.coupling_map.specs.Walks.{is_near, walk_cost, IsWalk, IsJoined, IsDistance, IsHops, IsLeastApart}
 use Rattle.coupling_map.specs.Costs.{most_cost}
 use Rattle.coupling_map.specs.Coupling.{IsGraph}
 use Rattle.coupling_map.specs.Tables.{AreDistances}
 use Rattle.coupling_map.specs.Search.{distance_in, IsReached, IsRow}
-use Rattle.coupling_map.proofs.WalkLaws.{near_back, is_near-below, IsDistance-by, IsWalk-joined}
+use Rattle.coupling_map.proofs.WalkLaws.{near_back, is_near-below, IsDistance-by, IsDistance-symmetric, IsWalk-joined}
 
 same_Some : {A : Type 0} (o : Option A) (x y : A) → o ≡ Some x → o ≡ Some y → x ≡ y
 same_Some o x y e f = cc
@@ -101,6 +102,15 @@ pub some_all : (n : ℕ) (es : List (ℕ × ℕ)) (w : ℕ → ℕ → ℕ) (top
 some_all n es w top s row graph h ls all k d l =
     let r = reached_all n es w top s row graph h ls all k (omega (arith, l, h.long)) in
     subst (λ (o : Option ℕ). IsSome o) (sym (get_or_default row k d None l ∙ r.1)) refl
+
+pub IsHops-row : (n : ℕ) (es : List (ℕ × ℕ)) (top s : ℕ) (row : List (Option ℕ)) → IsGraph n es → IsRow n es (λ x y. 1) top s row → s < n
+    → ((b : ℕ) → b < n → IsJoined es 0 b) → (q : ℕ) → q < n → IsHops es s q (get_or (map (λ o. unwrap_or o 0) row) q 0)
+IsHops-row n es top s row graph h ls all q lq =
+    let k = reached_all n es (λ x y. 1) top s row graph h ls all q lq in
+    let read : get_or (map (λ o. unwrap_or o 0) row) q 0 ≡ k.0 =
+    get_or-map (λ (o : Option ℕ). unwrap_or o 0) row q None 0 (omega (arith, lq, h.long)) ∙ ap (λ (o : Option ℕ). unwrap_or o 0) k.1 in
+    subst (IsDistance es (λ x y. 1) s q) (sym read)
+    (IsDistance-symmetric es (λ x y. 1) (λ a b t. refl) q s k.0 (IsDistance-row n es (λ x y. 1) top s row graph h q k.0 k.1))
 
 -- ---- the table of all rows
 

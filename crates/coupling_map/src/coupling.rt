@@ -1,18 +1,18 @@
 //! The device: its edges, its distances, and how it is read.
 
-ghost use Rattle.std.specs.Prelude.{◌≡◌, ◌≢◌, ◌+◌, ◌*◌, ◌<◌, ◌≤◌, ◌↔◌, IfErr, IfOk, IsTrue, None, option_map};
+ghost use Rattle.std.specs.Prelude.{◌≡◌, ◌≢◌, ℕ, ◌+◌, ◌*◌, ◌<◌, ◌≤◌, ◌↔◌, IfErr, IfOk, IsTrue, None, length, option_map, slice_index};
 ghost use Rattle.coupling_map.specs.Costs.{AreCosts, most_cost};
 ghost use Rattle.coupling_map.specs.Coupling.{IsCoupling, IsGraph, IsNeighbours, IsToward, cost, format_of};
 ghost use Rattle.coupling_map.specs.Refusals.{IsCause, IsGraphCause};
 ghost use Rattle.coupling_map.specs.Text.{graph, Says};
-ghost use Rattle.coupling_map.specs.Walks.{is_edge, is_near, IsDiameter, IsDistance};
+ghost use Rattle.coupling_map.specs.Walks.{is_edge, is_near, IsDiameter, IsDistance, IsHops};
 
-use crate::edge_costs::{Cost, EdgeCosts, edge_costs};
+use crate::edge_costs::{Cost, EdgeCosts, UnitCost, edge_costs};
 use crate::faults::DeviceError;
 use crate::graph::{Graph, neighbour_lists, place};
-use crate::search::{check_connected, distance_table, greatest};
+use crate::search::{append_row, check_connected, distance_table, distances_from, greatest};
 use crate::text::{Listed, edges_of_table, read_table};
-use std::alloc::Global;
+use std::alloc::{AllocError, Global};
 use std::marker::Model;
 
 /// A connected device: its qubits 0 to N - 1, its edges, and the distances of all pairs. What holds of each,
@@ -141,6 +141,19 @@ impl Device {
         ensures hops_limit { self.now.costs ≡ None → result < self.now.size }
     {
         u64::from(self.diameter)
+    }
+
+    /// How many near pairs a shortest walk from `from` to each qubit has; costs don't count.
+    pub fn hops_from(&self, alloc: Global, from: u32) -> Result<Vec<u32>, AllocError>
+        requires within { from < self.now.size }
+        ensures long { IfOk result (λ v. length v.items ≡ self.now.size) }
+        ensures hops { IfOk result (λ v. (q : ℕ) → q < self.now.size → IsHops self.now.edges from q (slice_index v.items q)) }
+        ensures hops_limit { IfOk result (λ v. (q : ℕ) → q < self.now.size → slice_index v.items q < self.now.size) }
+    {
+        let row = distances_from(alloc, &self.graph, &self.neighbours, &UnitCost, from)?;
+        let mut hops = Vec::new(alloc);
+        append_row(&mut hops, &row)?;
+        Ok(hops)
     }
 }
 

@@ -5,7 +5,7 @@ ghost use Rattle.coupling_map.specs.Costs.{most_cost};
 ghost use Rattle.coupling_map.specs.Coupling.{Coupling, IsCoupling, cost, dist};
 ghost use Rattle.coupling_map.specs.Refusals.{IsDeviceFault};
 ghost use Rattle.coupling_map.specs.Text.{graph, Says};
-ghost use Rattle.coupling_map.specs.Walks.{is_near, IsDistance};
+ghost use Rattle.coupling_map.specs.Walks.{is_near, IsDistance, IsHops};
 ghost use Rattle.coupling_map.specs.declared.faults.DeviceFault.{DeviceFault as Fault};
 
 /// Two qubits have one distance at most.
@@ -35,6 +35,11 @@ pub fn distances_on_device()
 pub fn distances_without_costs()
     ensures short { (d : Coupling) (a b : ℕ) → IsCoupling d → d.costs ≡ None → a < d.size → b < d.size → dist d a b < d.size }
     ensures one { (d : Coupling) (a b : ℕ) → IsCoupling d → d.costs ≡ None → a < d.size → b < d.size → (dist d a b ≡ 1) ↔ IsTrue (is_near d.edges a b) }
+{}
+
+/// On a device a number of near pairs leads from each qubit to each, less than the number of qubits.
+pub fn hops_exist()
+    ensures exist { (d : Coupling) (a b : ℕ) → IsCoupling d → a < d.size → b < d.size → (k : ℕ) × (k < d.size) × IsHops d.edges a b k }
 {}
 
 /// A text has one refusal at most, with its qubits.

@@ -4,8 +4,8 @@
 --   Makes source target parts r ..    the text and the report line are right for a source: they are those of a target that stands for it
 --   Rewrites source keep traced P ..  there is such a target, with its trace; the line tells of its parts where barriers are kept;
 --                               and of its parts, qubits, placements and edges P holds
---   chosen_start trivial initial size   where the wires begin on a device of this size, if that is told: with `trivial` each on the qubit
---                               of its own number; at the list, completed by the qubits that are left, ascending, if one is given
+--   starts_of begin size        where the runs begin on a device of this size: with `--trivial` each wire on the qubit of its own number;
+--                               at the list, completed by the qubits that are left, ascending; or at the best of so many tries
 --   IsOnDevice                  this P for `route`, and part of it for `bench`: the device is that of a name, and the list fits, if one is
 --                               given; for `opt` it is IsInPlace
 --   WritesWithSpares source m ..  the text and the report line are right for a source with m spare wires: they are those of a target that
@@ -28,6 +28,8 @@ use Rattle.route_report.specs.Lines.{check_line, report_line}
 use Rattle.unitary_model.specs.Operations.{cx_count, t_count}
 use Rattle.unitary_model.specs.Placement.{identity}
 use Rattle.wire_starts.specs.Starts.{completed}
+use Rattle.wire_starts.specs.declared.Starts.{Starts}
+use Rattle.wire_starts.specs.declared.Starts.TheVariants.{Given, Tries as Best}
 use Rattle.bench_program.specs.Program.{drawn}
 use Rattle.gate_expand.specs.Expansion.{expanded}
 use Rattle.gate_inline.specs.Programs.{IsAccepted, IsWritten, Program, kept}
@@ -36,10 +38,12 @@ use Rattle.circuit_layers.specs.Layers.{layers_of}
 use Rattle.program_parts.specs.Cuts.{uncut}
 use Rattle.program_parts.specs.Parts.{Part}
 use Rattle.trace_text.specs.Texts.{trace_of}
+use Rattle.command_line.specs.declared.commands.Begin.{Begin}
+use Rattle.command_line.specs.declared.commands.Begin.TheVariants.{Trivial, Listed, Tries}
 use Rattle.command_line.specs.declared.commands.Command.{Command}
 use Rattle.command_line.specs.declared.commands.Command.TheVariants.{Opt, OptWithSpares, Route, Check, Stages, Bench, Amplitude, Verify}
 use Rattle.command_line.specs.Commands.{command_of}
-use Rattle.command_line.specs.Demands.{keeps_barriers, question_of, reads_input}
+use Rattle.command_line.specs.Demands.{keeps_barriers, question_of, reads_input, told_list}
 use Rattle.qroute_top.specs.Claims.{IsVerified}
 use Rattle.qroute_top.specs.Devices.{Fits, IsDevice}
 use Rattle.qroute_top.specs.Questions.{IsEntryText, IsQuestionRefusal}
@@ -79,19 +83,19 @@ pub record Rewrites (source : Program) (keep traced : Bool) (IsPlaced : Program 
   pub trace : IsOwnTrace traced source target told (trace_of text)
   pub placed : IsPlaced target parts told
 
-abbrev pub chosen_start : Bool → Option (List ℕ) → ℕ → Option (List ℕ)
-chosen_start true initial size = Some (identity size)
-chosen_start false (Some list) size = Some (completed size list)
-chosen_start false None size = None
+abbrev pub starts_of : Begin → ℕ → Starts
+starts_of Trivial size = Given (identity size)
+starts_of (Listed list) size = Given (completed size list)
+starts_of (Tries k) size = Best k
 
 -- the device is the one that the shelf's text of this name describes, and a list that is given has a qubit of it for each wire
-pub record IsOnDevice (content : Content) (name : List ℕ) (trivial : Bool) (initial : Option (List ℕ)) (clean : Bool) (source target : Program) (parts : List Part) (told : Report) : Type 0 where
+pub record IsOnDevice (content : Content) (name : List ℕ) (begin : Begin) (clean : Bool) (source target : Program) (parts : List Part) (told : Report) : Type 0 where
   pub device_text : List ℕ
   pub loaded : TellsText (content name) device_text
   pub device : Coupling
   pub described : IsDevice device_text device
-  pub fits : Fits initial source.wires device.size
-  pub routed : IsOnQubits device (chosen_start trivial initial device.size) clean source target parts told
+  pub fits : Fits (told_list begin) source.wires device.size
+  pub routed : IsOnQubits device (starts_of begin device.size) clean source target parts told
 
 pub record WritesWithSpares (source : Program) (m : ℕ) (text line : List ℕ) : Type 0 where
   pub target : Program
@@ -132,14 +136,14 @@ drawn_program start gates n = record {
 abbrev pub IsAnswer : Content → Command → Program → List ℕ → List ℕ → Type 0
 IsAnswer content (Opt keep) source text line = Rewrites source keep false (IsInPlace source) text line
 IsAnswer content (OptWithSpares m) source text line = WritesWithSpares source m text line
-IsAnswer content (Route name trivial initial traced keep clean) source text line =
-    Rewrites source keep traced (IsOnDevice content name trivial initial clean source) text line
+IsAnswer content (Route name begin traced keep clean) source text line =
+    Rewrites source keep traced (IsOnDevice content name begin clean source) text line
 IsAnswer content Check source text line = (text ≡ []) × (line ≡ check_line (counts_of source))
 IsAnswer content (Stages spares) source text line = IsStages source spares text × (line ≡ [])
 IsAnswer content (Amplitude from to) source text line = IsEntryText source.ops from to text × (line ≡ [])
 IsAnswer content (Verify a b) source text line = IsVerified content a b text × (line ≡ [])
 IsAnswer content (Bench start gates name) source text line = Rewrites source false false
-    (λ target parts told. IsOnDevice content name false None false source target parts told × (source ≡ drawn_program start gates target.wires)) text line
+    (λ target parts told. IsOnDevice content name (Tries 1) false source target parts told × (source ≡ drawn_program start gates target.wires)) text line
 
 abbrev pub IsHad : Bool → Bool → Option (List ℕ) → Option (List ℕ) → Program → Type 0
 IsHad true keep input after source = (text : List ℕ) × (p : Program) × TakesAll input after text × IsAccepted text p × (source ≡ kept keep p)

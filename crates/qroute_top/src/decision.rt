@@ -15,13 +15,14 @@ use crate::pipeline::{optimise, optimise_with_spares, route_on};
 use crate::plan::{Answer, check_answer, stage_answer};
 use crate::question::entry_answer;
 use crate::source::{drawn_source, read_source};
-use crate::start::chosen_start;
+use crate::start::starts_of;
 use crate::stops::Stop;
 use circuit_target::Wishes;
-use command_line::commands::{Command, WordsFault};
+use command_line::commands::{Begin, Command, WordsFault};
 use command_line::words::command;
 use outside_io::{Shelf, Source as Input};
 use std::alloc::Global;
+use wire_starts::Starts;
 
 /// The command of the words.
 fn asked(alloc: Global, words: &[&str]) -> Result<Command, Stop>
@@ -89,21 +90,20 @@ pub fn decide<I: Input, F: Shelf>(
         }
         Command::Route {
             device: name,
-            trivial,
-            initial,
+            begin,
             trace,
             keep_barriers,
             clean,
         } => {
             let source = read_source(alloc, input, keep_barriers)?;
-            let device = load_device(alloc, shelf, &name, source.wires(), &initial)?;
-            let chosen = chosen_start(alloc, trivial, &initial, device.size())?;
+            let device = load_device(alloc, shelf, &name, source.wires(), &begin)?;
+            let starts = starts_of(alloc, &begin, device.size())?;
             let wishes = Wishes {
                 trace,
                 keep: keep_barriers,
                 clean,
             };
-            Ok(route_on(alloc, source, &device, chosen, wishes)?)
+            Ok(route_on(alloc, source, &device, starts, wishes)?)
         }
         Command::Bench {
             start,
@@ -111,17 +111,17 @@ pub fn decide<I: Input, F: Shelf>(
             device: name,
         } => {
             // The program is made for the device, so any device has enough qubits.
-            let device = load_device(alloc, shelf, &name, 0, &None)?;
+            let device = load_device(alloc, shelf, &name, 0, &Begin::Tries(1))?;
             // Its contract says how many qubits a device has.
             device.facts();
             let source = drawn_source(alloc, start, gates, device.size())?;
-            let chosen = None;
+            let starts = Starts::Tries(1);
             let wishes = Wishes {
                 trace: false,
                 keep: false,
                 clean: false,
             };
-            Ok(route_on(alloc, source, &device, chosen, wishes)?)
+            Ok(route_on(alloc, source, &device, starts, wishes)?)
         }
         Command::Verify { source, target } => claim_answer(alloc, shelf, &source, &target),
     }

@@ -1,14 +1,15 @@
 //! The device of a name: its text from the shelf, with a qubit for each wire of the program, and those of a list that is given.
 
 ghost use Rattle.std.specs.Prelude.{◌≡◌, ◌≤◌, ◌<◌, ℕ, List, Err, IfErr, IfOk, false, length, true};
+ghost use Rattle.command_line.specs.Demands.{told_list};
 ghost use Rattle.outside_io.specs.Shelf.{TellsText};
 ghost use Rattle.qroute_top.specs.Causes.{IsDeviceCause};
 ghost use Rattle.qroute_top.specs.Devices.{Fits, IsDevice, most_device_bytes};
 ghost use Rattle.qroute_top.specs.Stops.{IsUndescribed, unloaded};
 
 use crate::stops::{DeviceRefusal, DeviceStop};
+use command_line::commands::Begin;
 use command_line::name::Name;
-use command_line::qubits::QubitList;
 use coupling_map::{Device, DeviceError, read_device};
 use outside_io::{Shelf, TextFault, load_text};
 use std::alloc::Global;
@@ -30,13 +31,13 @@ fn stop_of(fault: TextFault) -> DeviceStop
 }
 
 /// Whether the list of the qubits on which the wires begin, if one is given, fits them and a device of this size.
-fn has_room(initial: &Option<QubitList>, wires: u32, size: u32) -> bool
-    ensures yes { result ≡ true → Fits initial.now wires size }
-    ensures no { result ≡ false → Fits initial.now wires size → ⊥ }
+fn has_room(begin: &Begin, wires: u32, size: u32) -> bool
+    ensures yes { result ≡ true → Fits (told_list begin.now) wires size }
+    ensures no { result ≡ false → Fits (told_list begin.now) wires size → ⊥ }
 {
-    match initial {
-        None => true,
-        Some(list) => is_fitting(list.as_slice(), wires, size),
+    match begin {
+        Begin::Listed(list) => is_fitting(list.as_slice(), wires, size),
+        _ => true,
     }
 }
 
@@ -45,11 +46,11 @@ fn device_of(
     alloc: Global,
     text: &[u8],
     wires: u32,
-    initial: &Option<QubitList>,
+    begin: &Begin,
 ) -> Result<Device, DeviceStop>
     requires { length text.now ≤ most_device_bytes }
-    ensures ok { IfOk result (λ d. IsDevice text.now d × (wires ≤ d.size) × Fits initial.now wires d.size) }
-    ensures err { IfErr result (IsUndescribed text.now wires initial.now) }
+    ensures ok { IfOk result (λ d. IsDevice text.now d × (wires ≤ d.size) × Fits (told_list begin.now) wires d.size) }
+    ensures err { IfErr result (IsUndescribed text.now wires (told_list begin.now)) }
 {
     match read_device(alloc, text) {
         Err(DeviceError::NoMemory) => Err(DeviceStop::NoMemory),
@@ -62,7 +63,7 @@ fn device_of(
                     qubits: wires,
                 }));
             }
-            if !has_room(initial, wires, size) {
+            if !has_room(begin, wires, size) {
                 return Err(DeviceStop::Refused(DeviceRefusal::Initial {
                     device: size,
                     qubits: wires,
@@ -80,16 +81,16 @@ pub fn load_device<F: Shelf>(
     shelf: &mut F,
     name: &Name,
     wires: u32,
-    initial: &Option<QubitList>,
+    begin: &Begin,
 ) -> Result<Device, DeviceStop>
-    ensures ok { IfOk result (λ d. (text : List ℕ) × TellsText (F.content shelf.old name.now) text × IsDevice text d × (wires ≤ d.size) × Fits initial.now wires d.size) }
-    ensures err { IfErr result (IsDeviceCause (F.content shelf.old name.now) wires initial.now (F.faults shelf.old) (F.faults shelf.new)) }
+    ensures ok { IfOk result (λ d. (text : List ℕ) × TellsText (F.content shelf.old name.now) text × IsDevice text d × (wires ≤ d.size) × Fits (told_list begin.now) wires d.size) }
+    ensures err { IfErr result (IsDeviceCause (F.content shelf.old name.now) wires (told_list begin.now) (F.faults shelf.old) (F.faults shelf.new)) }
     ensures keeps { (other : List ℕ) → F.content shelf.new other ≡ F.content shelf.old other }
     ensures grows { F.faults shelf.old ≤ F.faults shelf.new }
     ensures calm { (result ≡ Err DeviceStop.Failed → ⊥) → F.faults shelf.new ≡ F.faults shelf.old }
 {
     match load_text(alloc, shelf, name.as_str(), MOST_DEVICE_BYTES) {
         Err(fault) => Err(stop_of(fault)),
-        Ok(text) => device_of(alloc, &text, wires, initial),
+        Ok(text) => device_of(alloc, &text, wires, begin),
     }
 }

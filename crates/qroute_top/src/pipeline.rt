@@ -1,6 +1,6 @@
 //! From a source to what a command has to write.
 
-ghost use Rattle.std.specs.Prelude.{◌≡◌, ◌≤◌, ℕ, List, Some, IfOk, IfErr, IfSome, false, length, true};
+ghost use Rattle.std.specs.Prelude.{◌≡◌, ◌≤◌, ℕ, List, Some, IfOk, IfErr, false, true};
 ghost use Rattle.command_line.specs.Demands.{Spares};
 ghost use Rattle.program_parts.specs.Cuts.{uncut};
 ghost use Rattle.circuit_target.specs.Standing.{IsInPlace, IsOnQubits};
@@ -8,6 +8,7 @@ ghost use Rattle.qroute_top.specs.Delivered.{Rewrites, WritesWithSpares};
 ghost use Rattle.qroute_top.specs.Plans.{IsFitAnswer, IsAnswerOf, has_line, has_text};
 ghost use Rattle.qroute_top.specs.Questions.{IsQuestionRefusal};
 ghost use Rattle.qroute_top.specs.Stops.{IsUnanswered};
+ghost use Rattle.wire_starts.specs.Starts.{AreStarts};
 ghost use Rattle.qroute_top.specs.declared.stops.QuestionRefusal.{QuestionRefusal as RefusedQuestion};
 
 use crate::plan::{Answer, answer_of};
@@ -17,12 +18,12 @@ use crate::stops::QuestionStop;
 use circuit_list::Circuit;
 use circuit_target::{PartedProgram, RunTraces, Wishes, in_place, routed};
 use coupling_map::Device;
-use placement::Placement;
 use program_reader::SourceProgram;
 use rewrite_pass::Trace;
 use route_trace::route_trace;
 use sabre_route::{Event, Routed};
 use std::alloc::{AllocError, Global};
+use wire_starts::Starts;
 
 /// A source, as it is handed on.
 fn parted(source: &SourceProgram) -> PartedProgram<'_>
@@ -94,20 +95,21 @@ pub fn optimise_with_spares(
     Ok(answer_of(source, target))
 }
 
-/// Makes what is to be written for a source on the qubits of a device, from the chosen placement on, or else from the layout.
+/// Makes what is to be written for a source on the qubits of a device, from the placement that is given on, or the best of so many
+/// tries.
 #[tactic(auto, using(crate::proofs::PlanLaws::plans))]
 pub fn route_on(
     alloc: Global,
     source: SourceProgram,
     device: &Device,
-    chosen: Option<Placement>,
+    starts: Starts,
     wishes: Wishes,
 ) -> Result<Answer, AllocError>
     requires fits { source.wires ≤ device.now.size }
-    requires chosen { IfSome chosen (λ p. length p ≡ device.now.size) }
+    requires starts { AreStarts device.now.size starts }
     requires traced { wishes.trace ≡ true → (source.cut ≡ uncut source.ops) × (wishes.clean ≡ false) }
     ensures made { IfOk result (λ w. (text line : List ℕ) → IsAnswerOf w text line →
-        Rewrites source wishes.keep wishes.trace (IsOnQubits device.now chosen wishes.clean source) text line) }
+        Rewrites source wishes.keep wishes.trace (IsOnQubits device.now starts wishes.clean source) text line) }
     ensures writes { IfOk result (λ w. has_text w ≡ true) }
     ensures tells { IfOk result (λ w. has_line w ≡ true) }
     ensures fit { IfOk result IsFitAnswer }
@@ -117,7 +119,7 @@ pub fn route_on(
         &RoutedTraces,
         &parted(&source),
         device,
-        chosen,
+        starts,
         wishes,
     )?;
     Ok(answer_of(source, target))

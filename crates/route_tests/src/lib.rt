@@ -1,4 +1,4 @@
-//! Tests of `placement`, `coupling_map` and `sabre_route`: worked devices, exchanges and events.
+//! Tests of `placement`, `coupling_map`, `wire_starts` and `sabre_route`: worked devices, exchanges, starts and events.
 //!
 //! Each test function is proved too, so they stand in a crate of their own: these crates are proved once. A proof is
 //! long for each assert in a loop, so a test hands its rows and the function that judges one of them to `each_row`.
@@ -12,3 +12,5 @@ mod device_tests;
 mod event_tests;
 #[cfg(test)]
 mod placement_tests;
+#[cfg(test)]
+mod start_tests;

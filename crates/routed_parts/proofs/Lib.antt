@@ -1,3 +1,4 @@
 pub mod StillLaws
 pub mod LegLaws
 pub mod RunLaws
+pub mod TryLaws

@@ -20,8 +20,6 @@ use Rattle.routed_parts.specs.Legs.{IsCleaned, IsLeg}
 use Rattle.routed_parts.specs.Runs.{IsLeft}
 use Rattle.routed_parts.specs.Settled.{IsSettled}
 use Rattle.sabre_route.specs.Measures.{bound}
-use Rattle.sabre_route.specs.Routing.{IsRouted, turned}
-use Rattle.sabre_route.specs.Ahead.{InOrder}
 use Rattle.sabre_route.specs.declared.router.Routed.{Routed}
 use Rattle.unitary_model.specs.declared.Op.{Op}
 use Rattle.unitary_model.specs.Amplitude.{amplitude}
@@ -81,14 +79,13 @@ FollowsEdges-kept es old new keeps h =
         All-contains (λ (g : Gate). FollowsEdge es (op_of g)) old (Cx c t) before (keeps c t has)
 
 -- ---- what is left, as it is or cleaned
-left-run : (clean : Bool) (d : Coupling) (p : Part) (ws left : List Gate) (a t k m : ℕ) → IsCleaned clean d.size ws left k
-    → p.target ≡ ops left → t ≡ m % 8 → p.power ≡ ((a + t) % 8 + k) % 8 → IsLeft clean p (a + m) ws
-left-run false d p ws left a t k m cleaned target turn power =
-    (target ∙ ap ops cleaned.0, whole p.power a t k m cleaned.1 turn power)
+left-run : (clean : Bool) (d : Coupling) (p : Part) (ws left : List Gate) (a t k : ℕ) → IsCleaned clean d.size ws left k
+    → p.target ≡ ops left → p.power ≡ ((a + t) % 8 + k) % 8 → IsLeft clean p (a + t) ws
+left-run false d p ws left a t k cleaned target power = (target ∙ ap ops cleaned.0, same p.power (a + t) k cleaned.1 power)
   where
-    whole : (q a t k m : ℕ) → k ≡ 0 → t ≡ m % 8 → q ≡ ((a + t) % 8 + k) % 8 → q ≡ (a + m) % 8
-    whole q a t k m e f g = omega (arith, e, f, g)
-left-run true d p ws left a t k m cleaned target turn power = (left, target, cleaned.1, cleaned.2, cleaned.0.cx_gates)
+    same : (q m k : ℕ) → k ≡ 0 → q ≡ (m % 8 + k) % 8 → q ≡ m % 8
+    same q m k e f = omega (arith, e, f)
+left-run true d p ws left a t k cleaned target power = (left, target, cleaned.1, cleaned.2, cleaned.0.cx_gates)
 
 realises-left : (clean : Bool) (S : List Op) (n size : ℕ) (first last : List ℕ) (ws left : List Gate) (j k : ℕ)
     → IsCleaned clean size ws left k → Realises S n (ops ws) size first last j
@@ -122,13 +119,13 @@ pub IsLeg-run : (d : Coupling) (clean : Bool) (n : ℕ) (first : List ℕ) (p : 
     (left : List Gate) (r : Routed) → All (IsFine n) gates → IsSettled n (ops gates)
     → Realises p.source n (ops gates) n (identity n) (identity n) turn
     → t_count (ops gates) ≤ odd_paths n p.source → cx_count (ops gates) ≤ cx_count p.source
-    → IsRouted InOrder d gates first r → Realises (ops gates) n (ops r.body.gates) d.size first r.last r.turn
+    → Realises (ops gates) n (ops r.body.gates) d.size first r.last r.turn
     → FollowsEdges d.edges (ops r.body.gates) → t_count (ops r.body.gates) ≡ t_count (ops gates)
     → cx_count (ops r.body.gates) ≡ cx_count (ops gates) + 3 * r.swaps
     → ((m : ℕ) → IsDiameter d.size d.edges (cost d) m → r.swaps ≤ cx_count (ops gates) * bound d m)
     → IsCleaned clean d.size r.body.gates left k → p.target ≡ ops left → p.last ≡ r.last → p.swaps ≡ r.swaps → p.power ≡ ((turn + r.turn) % 8 + k) % 8
-    → IsLeg d clean n first p gates
-IsLeg-run d clean n first p gates turn k left r fine settled stands t_gates cx_gates routed realises edges
+    → IsLeg d clean n first p gates r
+IsLeg-run d clean n first p gates turn k left r fine settled stands t_gates cx_gates realises edges
     same_t more_cx few cleaned target last swaps power =
     let ws = r.body.gates in
     let chain = Realises_chain p.source (ops gates) (ops ws) n d.size first r.last turn r.turn stands realises in
@@ -137,18 +134,14 @@ IsLeg-run d clean n first p gates turn k left r fine settled stands t_gates cx_g
     let fewer_t = t_gates-left clean d.size ws left k cleaned in
     let fewer_cx = cx-left clean d.size ws left k cleaned in
     record {
-      run = record {
+      left = record {
         turn = turn;
         fine = fine;
         settled = settled;
         stands = stands;
-        events = routed.events;
-        end = routed.final;
-        run = routed.run;
-        ends = last ∙ routed.last;
-        counts = swaps ∙ routed.swaps;
-        left = subst (λ (gs : List Gate). IsLeft clean p (turn + turned d.edges first routed.events) gs) routed.body
-            (left-run clean d p ws left turn r.turn k (turned d.edges first routed.events) cleaned target routed.turn power);
+        ends = last;
+        counts = swaps;
+        left = left-run clean d p ws left turn r.turn k cleaned target power;
       };
       realised = rw (target, last, power) left_chain;
       edges = subst (λ (us : List Op). FollowsEdges d.edges us) (sym target) left_edges;

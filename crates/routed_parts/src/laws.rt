@@ -4,16 +4,15 @@ ghost use Rattle.std.specs.Prelude.{◌≡◌, ℕ, ◌+◌, ◌*◌, ◌%◌, �
 ghost use Rattle.std.specs.List.{AllByRecursion};
 ghost use Rattle.circuit_list.specs.declared.Gate.{Gate};
 ghost use Rattle.circuit_list.specs.Gates.{IsFine, ops};
-ghost use Rattle.coupling_map.specs.Coupling.{Coupling, cost};
+ghost use Rattle.coupling_map.specs.Coupling.{Coupling, IsCoupling, cost};
 ghost use Rattle.coupling_map.specs.Edges.{FollowsEdges};
 ghost use Rattle.coupling_map.specs.Walks.{IsDiameter};
 ghost use Rattle.program_parts.specs.Parts.{AreRealised, Part, ends, sources, targets};
 ghost use Rattle.rewrite_pass.specs.Law.{KeepsCnots};
 ghost use Rattle.routed_parts.specs.Legs.{AreLegs, IsCleaned, IsLeg, IsStill};
-ghost use Rattle.routed_parts.specs.Runs.{AreRuns, HasFewSwaps};
+ghost use Rattle.routed_parts.specs.Runs.{AreOfRuns, HasFewSwaps};
+ghost use Rattle.routed_parts.specs.Tries.{AreRouted, IsTry, weight};
 ghost use Rattle.routed_parts.specs.Settled.{IsSettled};
-ghost use Rattle.sabre_route.specs.Routing.{IsRouted};
-ghost use Rattle.sabre_route.specs.Ahead.{InOrder};
 ghost use Rattle.sabre_route.specs.Measures.{bound};
 ghost use Rattle.sabre_route.specs.declared.router.Routed.{Routed};
 ghost use Rattle.unitary_model.specs.declared.Op.{Op};
@@ -21,6 +20,9 @@ ghost use Rattle.unitary_model.specs.OddPaths.{odd_paths};
 ghost use Rattle.unitary_model.specs.Operations.{cx_count, t_count};
 ghost use Rattle.unitary_model.specs.Placement.{identity};
 ghost use Rattle.unitary_model.specs.Realises.{Realises};
+
+use sabre_route::laws::one_run;
+use wire_starts::laws::start_is_one;
 
 /// Parts of which no wire moves are realised one after the other, and end where they began.
 pub fn still_parts()
@@ -31,18 +33,18 @@ pub fn still_parts()
 
 /// Parts that the routing machine writes one after the other are realised so, follow the device's edges, and have few swaps.
 pub fn legs_together()
-    ensures realised { (d : Coupling) (clean : Bool) (n : ℕ) (first : List ℕ) (parts : List Part) (lists : List (List Gate)) →
-        AreLegs d clean n first parts lists → AreRealised n d.size first parts }
-    ensures runs { (d : Coupling) (clean : Bool) (n : ℕ) (first : List ℕ) (parts : List Part) (lists : List (List Gate)) →
-        AreLegs d clean n first parts lists → AreRuns d clean n first parts lists }
-    ensures edges { (d : Coupling) (clean : Bool) (n : ℕ) (first : List ℕ) (parts : List Part) (lists : List (List Gate)) →
-        AreLegs d clean n first parts lists → FollowsEdges d.edges (targets parts) }
-    ensures t_gates { (d : Coupling) (clean : Bool) (n : ℕ) (first : List ℕ) (parts : List Part) (lists : List (List Gate)) →
-        AreLegs d clean n first parts lists → AllByRecursion (λ p. t_count p.target ≤ odd_paths n p.source) parts }
-    ensures cx_gates { (d : Coupling) (clean : Bool) (n : ℕ) (first : List ℕ) (parts : List Part) (lists : List (List Gate)) →
-        AreLegs d clean n first parts lists → cx_count (targets parts) ≤ cx_count (sources parts) + 3 * sum_by (λ p. p.swaps) parts }
-    ensures swaps { (d : Coupling) (clean : Bool) (n : ℕ) (first : List ℕ) (parts : List Part) (lists : List (List Gate)) (k : ℕ) →
-        AreLegs d clean n first parts lists → IsDiameter d.size d.edges (cost d) k →
+    ensures realised { (d : Coupling) (clean : Bool) (n : ℕ) (first : List ℕ) (parts : List Part) (lists : List (List Gate)) (rs : List Routed) →
+        AreLegs d clean n first parts lists rs → AreRealised n d.size first parts }
+    ensures left { (d : Coupling) (clean : Bool) (n : ℕ) (first : List ℕ) (parts : List Part) (lists : List (List Gate)) (rs : List Routed) →
+        AreLegs d clean n first parts lists rs → AreOfRuns clean n parts lists rs }
+    ensures edges { (d : Coupling) (clean : Bool) (n : ℕ) (first : List ℕ) (parts : List Part) (lists : List (List Gate)) (rs : List Routed) →
+        AreLegs d clean n first parts lists rs → FollowsEdges d.edges (targets parts) }
+    ensures t_gates { (d : Coupling) (clean : Bool) (n : ℕ) (first : List ℕ) (parts : List Part) (lists : List (List Gate)) (rs : List Routed) →
+        AreLegs d clean n first parts lists rs → AllByRecursion (λ p. t_count p.target ≤ odd_paths n p.source) parts }
+    ensures cx_gates { (d : Coupling) (clean : Bool) (n : ℕ) (first : List ℕ) (parts : List Part) (lists : List (List Gate)) (rs : List Routed) →
+        AreLegs d clean n first parts lists rs → cx_count (targets parts) ≤ cx_count (sources parts) + 3 * sum_by (λ p. p.swaps) parts }
+    ensures swaps { (d : Coupling) (clean : Bool) (n : ℕ) (first : List ℕ) (parts : List Part) (lists : List (List Gate)) (rs : List Routed) (k : ℕ) →
+        AreLegs d clean n first parts lists rs → IsDiameter d.size d.edges (cost d) k →
         HasFewSwaps d (sources parts) (targets parts) (sum_by (λ p. p.swaps) parts) }
 {}
 
@@ -51,13 +53,24 @@ pub fn run_is_leg()
     ensures leg { (d : Coupling) (clean : Bool) (n : ℕ) (first : List ℕ) (p : Part) (gates : List Gate) (turn k : ℕ) (left : List Gate) (r : Routed) →
         All (IsFine n) gates → IsSettled n (ops gates) → Realises p.source n (ops gates) n (identity n) (identity n) turn →
         t_count (ops gates) ≤ odd_paths n p.source → cx_count (ops gates) ≤ cx_count p.source →
-        IsRouted InOrder d gates first r → Realises (ops gates) n (ops r.body.gates) d.size first r.last r.turn →
+        Realises (ops gates) n (ops r.body.gates) d.size first r.last r.turn →
         FollowsEdges d.edges (ops r.body.gates) → t_count (ops r.body.gates) ≡ t_count (ops gates) →
         cx_count (ops r.body.gates) ≡ cx_count (ops gates) + 3 * r.swaps →
         ((m : ℕ) → IsDiameter d.size d.edges (cost d) m → r.swaps ≤ cx_count (ops gates) * bound d m) →
         IsCleaned clean d.size r.body.gates left k → p.target ≡ ops left → p.last ≡ r.last → p.swaps ≡ r.swaps → p.power ≡ ((turn + r.turn) % 8 + k) % 8 →
-        IsLeg d clean n first p gates }
+        IsLeg d clean n first p gates r }
 {}
+
+/// All runs of one try from one placement weigh the same, and so do all runs of one try: there is one start, one layout and one run.
+pub fn tries_are_one()
+    ensures runs { (d : Coupling) (along : Bool) (first : List ℕ) (lists : List (List Gate)) (rs xs : List Routed) →
+        AreRouted d along first lists rs → AreRouted d along first lists xs → weight d rs ≡ weight d xs }
+    ensures tries { (d : Coupling) (lists : List (List Gate)) (k : ℕ) (p q : List ℕ) (rs xs : List Routed) →
+        IsCoupling d → IsTry d lists k p rs → IsTry d lists k q xs → weight d rs ≡ weight d xs }
+{
+    one_run();
+    start_is_one();
+}
 
 /// Gates whose CNOTs are all among those of others follow the edges that those follow: so it is after each pass that keeps them.
 pub fn kept_pairs_follow_edges()

@@ -1,2 +1,4 @@
 pub mod StartLaws
 pub mod FitLaws
+pub mod FirstLaws
+pub mod OnceLaws

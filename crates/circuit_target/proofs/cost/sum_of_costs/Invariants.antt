@@ -2,7 +2,7 @@
 use Rattle.std.proofs.Common.{◌≡◌, ◌+◌, ◌*◌, ◌≤◌, drop}
 use Rattle.circuit_list.specs.Gates.{ops}
 use Rattle.unitary_model.specs.Operations.{cx_count}
-use Rattle.circuit_target.specs.Costs.{cx_cost}
+use Rattle.routed_parts.specs.Costs.{cx_cost}
 use Rattle.circuit_target.proofs.cost.sum_of_costs.Given as goal
 
 abbrev pub invariant-places : goal.invariant-places

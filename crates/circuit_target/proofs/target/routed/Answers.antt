@@ -10,7 +10,7 @@ pub returns-clause-stands : goal.returns-clause-stands
 returns-clause-stands g c =
     let r = c.in_ok-rewritten.ensures in
     Stands-asked c.args.device.now c.args.source.now c.on_device.result c.in_ok-rewritten.rewritten.items c.deref.result.now c.args.wishes.keep
-    c.args.wishes.clean c.args.wishes.trace c.args.chosen c.deref.ensures.value c.facts.ensures.cut r.optimised r.asked c.on_device.ensures.stands
+    c.args.wishes.clean c.args.wishes.trace c.args.starts c.deref.ensures.value c.facts.ensures.cut r.optimised r.asked c.on_device.ensures.stands
 
 pub returns-clause-fit : goal.returns-clause-fit
 returns-clause-fit g c = c.on_device.ensures.fit

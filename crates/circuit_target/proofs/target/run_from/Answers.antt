@@ -1,13 +1,12 @@
--- A run for which no lookout is handed in judges swaps in program order.
+-- What the run is, and what it leaves to the lookout.
 use Rattle.std.proofs.Common.{rules}
-use Rattle.sabre_route.specs.Ahead.{InOrder}
 use Rattle.circuit_target.proofs.target.run_from.Goals as goal
 
 pub returns-then-traced-clause-run : goal.returns-then-traced-clause-run
-returns-then-traced-clause-run c =
+returns-then-traced-clause-run c = λ ahead h.
     let e = c.in_ok-routed.ensures in
-    record {
-      run = (e.run InOrder tt).0;
+    (record {
+      run = (e.run ahead h).0;
       wires = e.wires;
       fine = search rules;
       placed = search rules;
@@ -16,16 +15,16 @@ returns-then-traced-clause-run c =
       t_gates = e.t_count;
       cx_gates = e.cx_count;
       few_swaps = e.few_swaps;
-    }
+    }, (e.run ahead h).1)
 
 pub returns-then-traced-clause-events : goal.returns-then-traced-clause-events
-returns-then-traced-clause-events c = λ asked. c.in_ok-routed.ensures.events InOrder tt
+returns-then-traced-clause-events c = λ ahead h asked. c.in_ok-routed.ensures.events ahead h
 
 pub returns-clause-run : goal.returns-clause-run
-returns-clause-run c =
+returns-clause-run c = λ ahead h.
     let e = c.in_ok-routed-2.ensures in
-    record {
-      run = (e.run InOrder tt).0;
+    (record {
+      run = (e.run ahead h).0;
       wires = e.wires;
       fine = search rules;
       placed = search rules;
@@ -34,4 +33,4 @@ returns-clause-run c =
       t_gates = e.t_count;
       cx_gates = e.cx_count;
       few_swaps = e.few_swaps;
-    }
+    }, (e.run ahead h).1)

@@ -1,0 +1,61 @@
+-- One try more.
+use Rattle.std.proofs.Common.{◌≡◌, ◌+◌, ◌≤◌, ◌∙◌, ap, arith, length, subst, sym}
+use Rattle.circuit_target.specs.Making.{gates_of}
+use Rattle.circuit_target.specs.Trying.{IsBest}
+use Rattle.circuit_target.specs.declared.tries.Weighed.{Weighed}
+use Rattle.circuit_target.proofs.TryingLaws.{IsBest-first, IsBest-kept, IsBest-next}
+use Rattle.circuit_target.proofs.tries.best_try.Goals as goal
+use Rattle.circuit_target.proofs.tries.best_try.Goals.{then-next-best, else-next-best}
+
+pub tries-init : goal.tries-init
+tries-init c =
+    let d = c.args.device.now in
+    let lists = gates_of c.args.rewritten.now in
+    let b = c.in_ok-best.best in
+    let e = c.in_ok-best.ensures in
+    record {
+      best = subst (λ k. IsBest d 1 lists k b.layout b.weight) (sym e.number)
+          (IsBest-first d lists b.layout b.weight (λ k q t rs xs f g. c.tries_are_one.ensures.tries d lists k q t rs xs c.facts.ensures.coupling f g) e.weighed);
+      placed = e.placed;
+      within = c.requires.some;
+    }
+
+pub tries-preserved : goal.tries-preserved
+tries-preserved c =
+    let d = c.args.device.now in
+    let lists = gates_of c.args.rewritten.now in
+    let n = c.tries.number in
+    let b = c.tries.best in
+    let x = c.in_ok-next.next in
+    let e = c.in_ok-next.ensures in
+    let inv = c.tries.invariant in
+    let on = c.tries-test.true in
+    elim c.if-next-best.branch [
+      | then-next-best w ↦
+        record {
+          best = subst (λ y. IsBest d (n + 1) lists y.number y.layout y.weight) (sym w.best-is)
+              (subst (λ k. IsBest d (n + 1) lists k x.layout x.weight) (sym e.number)
+              (IsBest-next d lists n b.number b.layout x.layout b.weight x.weight
+              (λ k q t rs xs f g. c.tries_are_one.ensures.tries d lists k q t rs xs c.facts.ensures.coupling f g) inv.best e.weighed w.if-next-best.true));
+          placed = ap (λ y. length y.layout) w.best-is ∙ e.placed;
+          within = omega (arith, on);
+        }
+      | else-next-best w ↦
+        record {
+          best = subst (λ y. IsBest d (n + 1) lists y.number y.layout y.weight) (sym w.best-is)
+              (IsBest-kept d lists n b.number b.layout x.layout b.weight x.weight
+              (λ k q t rs xs f g. c.tries_are_one.ensures.tries d lists k q t rs xs c.facts.ensures.coupling f g) inv.best e.weighed w.if-next-best.false);
+          placed = ap (λ y. length y.layout) w.best-is ∙ inv.placed;
+          within = omega (arith, on);
+        }
+    ]
+
+pub returns-clause-best : goal.returns-clause-best
+returns-clause-best c =
+    let b = c.tries.best in
+    let end = c.tries-test.false in
+    let within = c.tries.invariant.within in
+    subst (λ n. IsBest c.args.device.now n (gates_of c.args.rewritten.now) b.number b.layout b.weight) (omega (arith, end, within)) c.tries.invariant.best
+
+pub returns-clause-placed : goal.returns-clause-placed
+returns-clause-placed c = c.tries.invariant.placed
