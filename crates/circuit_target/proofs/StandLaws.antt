@@ -25,7 +25,7 @@ use Rattle.program_parts.proofs.PartsLaws.{AreRealised-whole}
 use Rattle.route_report.specs.declared.lines.Report.{Report}
 use Rattle.routed_parts.specs.Legs.{AreLegs, IsLeg, IsStill}
 use Rattle.routed_parts.specs.Runs.{AreOfRuns, HasNoMoreSwaps}
-use Rattle.routed_parts.specs.Tries.{AreRouted, IsTaken, ahead_of, weight, weight_by}
+use Rattle.routed_parts.specs.Tries.{AreRouted, IsTaken, ahead_of, expense, expense_by}
 use Rattle.routed_parts.proofs.LegLaws.{AreOfRuns-legs, FollowsEdges-legs, HasFewSwaps-legs}
 use Rattle.routed_parts.proofs.RunLaws.{IsLeg-run}
 use Rattle.sabre_route.specs.Ahead.{Ahead}
@@ -96,9 +96,10 @@ legs-routed d along clean n given (us ∷ uss) [] rs ms fits o h = absurd o
 legs-routed d along clean n given (us ∷ uss) (w ∷ ws) [] ms fits o h = absurd h
 legs-routed d along clean n given (us ∷ uss) (w ∷ ws) (r ∷ rs) [] fits o h = absurd h
 legs-routed d along clean n given (us ∷ uss) (w ∷ ws) (r ∷ rs) (m ∷ ms) fits o h =
-    let rest = legs-routed d along clean n r.last uss ws rs ms fits o.1 h.1 in
-    (IsLeg-routed (ahead_of along (whole (gates_of ws))) d clean n given us w r m fits o.0 h.0,
-    subst (λ (p : List ℕ). AreLegs d clean n p (parts_of uss ms) (gates_of ws) rs) (sym h.0.last) rest)
+    let rest = legs-routed d along clean n r.last uss ws rs ms fits o.1 h.1 in (
+      IsLeg-routed (ahead_of along (whole (gates_of ws))) d clean n given us w r m fits o.0 h.0,
+      subst (λ (p : List ℕ). AreLegs d clean n p (parts_of uss ms) (gates_of ws) rs) (sym h.0.last) rest,
+    )
 
 pub AreLegs-routed : (d : Coupling) (clean : Bool) (n : ℕ) (given : List ℕ) (uss : List (List Op)) (ws : List Rewritten) (ms : List PartTarget) → n ≤ d.size
     → AllZip (λ us w. IsOptimised n us w.passed) uss ws → (h : AreWritten d clean given ws ms)
@@ -130,9 +131,9 @@ no_more : (d : Coupling) (starts : Starts) (clean : Bool) (n : ℕ) (first : Lis
 no_more d (Given q) clean n first parts lists rs left taken = tt
 no_more d (Tries k) clean n first parts lists rs left taken = λ q xs plain other.
     let some : 0 < k = above taken.number taken.among in
-    let least : weight d rs ≤ weight d xs = taken.least 0 q xs some other in
-    lesser (swaps-of_runs clean n parts lists rs left) (subst (λ (o : Option (List ℕ)). weight_by o (sum_by (λ (r : Routed). r.swaps) rs)
-    (sum_by (λ (r : Routed). cx_cost d (ops r.body.gates)) rs) ≤ weight_by o (sum_by (λ (r : Routed). r.swaps) xs)
+    let least : expense d rs ≤ expense d xs = taken.least 0 q xs some other in
+    lesser (swaps-of_runs clean n parts lists rs left) (subst (λ (o : Option (List ℕ)). expense_by o (sum_by (λ (r : Routed). r.swaps) rs)
+    (sum_by (λ (r : Routed). cx_cost d (ops r.body.gates)) rs) ≤ expense_by o (sum_by (λ (r : Routed). r.swaps) xs)
     (sum_by (λ (r : Routed). cx_cost d (ops r.body.gates)) xs)) plain least)
   where
     above : (j : ℕ) → j < k → 0 < k

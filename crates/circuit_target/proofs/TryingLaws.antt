@@ -1,15 +1,14 @@
--- Tries: what is left to a lookout, what runs weigh, and which try is best.
+-- Tries: what is left to a lookout, the expense of runs, and which try is best.
 --   drop-part              a part, and those behind it
---   chains-out, chains-back   a lookout over all chains of a program
---   looking-over, looking-on  .. as a run takes it, and as it leaves it
---   Ahead-runs             runs through the parts from a place on
---   runs-more, parts-more  .. with one part more before them
---   weight-more, weight-limited   what one run more weighs
---   IsBest-first, IsBest-next     one try more
+--   looking-over, looking-on   a lookout as a run takes it, and as it leaves it
+--   chained, chained-over  .. that was made of chains
+--   runs-more, runs-all, parts-more, parts-all   runs through the first parts, with one part more, and through all
+--   expense-more, expense-nothing, run-expense   the expense of one run more, of none, and at most
+--   IsBestOf-first, IsBestOf-next, IsBestOf-kept   one try more
 --   HasBegun-one, HasBegun-best   the runs from the layout of the best try are those that are taken
---   cx-few                 the CNOTs of all parts that were rewritten
-use Rattle.std.proofs.Common.{◌≡◌, ℕ, zero, suc, ◌+◌, ◌*◌, ◌<◌, ◌≤◌, ◌⊎◌, inl, inr, Bool, true, false, List, [], ◌∷◌, ◌++◌, Option, None, Some, append_assoc, append-nil, drop, get_or, is_some, length, map, refl, sym, subst, ap, ◌∙◌, arith}
-use Rattle.std.specs.Prelude.{reverse, sum_by}
+--   cx-part, cx-optimised  the CNOTs of parts that were rewritten
+use Rattle.std.proofs.Common.{◌≡◌, ℕ, zero, suc, ◌+◌, ◌*◌, ◌<◌, ◌≤◌, ◌⊎◌, inl, inr, Bool, true, false, List, [], ◌∷◌, ◌++◌, Option, None, Some, append_assoc, append-nil, drop, get_or, is_some, length, refl, sym, subst, ap, ◌∙◌, arith}
+use Rattle.std.specs.Prelude.{sum_by}
 use Rattle.std.specs.List.{AllZip}
 use Rattle.std.proofs.Math.Nat.{eq-or-lt_of_le}
 use Rattle.std.proofs.lemmas.List.{drop_more}
@@ -20,18 +19,17 @@ use Rattle.circuit_list.specs.Gates.{op_of, ops}
 use Rattle.coupling_map.specs.Coupling.{Coupling}
 use Rattle.program_parts.specs.Cuts.{whole}
 use Rattle.routed_parts.specs.Costs.{cx_cost}
-use Rattle.routed_parts.specs.Tries.{AreRouted, IsBestTry, IsTaken, IsTry, ahead_of, is_odd, weight, weight_by}
+use Rattle.routed_parts.specs.Tries.{AreRouted, IsTry, ahead_of, is_along, expense, expense_by}
 use Rattle.sabre_route.specs.Ahead.{IsLookoutOver, Outlook, cx_only}
 use Rattle.sabre_route.specs.Routing.{IsRouted}
 use Rattle.sabre_route.specs.declared.router.Routed.{Routed}
 use Rattle.unitary_model.specs.declared.Op.{Op}
 use Rattle.unitary_model.specs.Operations.{cx_count}
 use Rattle.unitary_model.proofs.Steps.{cx_count-append}
-use Rattle.wire_starts.specs.declared.Starts.{Starts}
-use Rattle.wire_starts.specs.declared.Starts.TheVariants.{Given, Tries}
+use Rattle.wire_starts.specs.declared.Starts.TheVariants.{Tries}
 use Rattle.circuit_target.specs.Making.{AreRoutedParts, IsRoutedPart, gates_of}
 use Rattle.circuit_target.specs.Targets.{IsOptimised}
-use Rattle.circuit_target.specs.Trying.{HasBegun, HasChains, IsBest, IsLaidOut, IsLookingOver, IsWeighed}
+use Rattle.circuit_target.specs.Trying.{HasBegun, IsBestOf, IsLaidOut, IsLookingOver, IsTried}
 use Rattle.circuit_target.specs.declared.parts.PartTarget.{PartTarget}
 use Rattle.circuit_target.specs.declared.passes.Rewritten.{Rewritten}
 
@@ -116,65 +114,65 @@ parts-all d along clean given now ws i rs ms le before =
     (subst (AreRoutedParts d along clean given ws (rs ++ [])) (append-nil ms)
     (before.onward [] [] (subst (λ (vs : List Rewritten). AreRoutedParts d along clean now vs [] []) (sym (dropped ws i le)) tt)))
 
--- ---- weights
-pub weight-more : (d : Coupling) (rs : List Routed) (r : Routed) → weight d (rs ++ r ∷ []) ≡ weight d rs + weight d (r ∷ [])
-weight-more d rs r = go d.costs
+-- ---- expenses
+pub expense-more : (d : Coupling) (rs : List Routed) (r : Routed) → expense d (rs ++ r ∷ []) ≡ expense d rs + expense d (r ∷ [])
+expense-more d rs r = go d.costs
   where
-    go : (o : Option (List ℕ)) → weight_by o (sum_by (λ (x : Routed). x.swaps) (rs ++ r ∷ [])) (sum_by (λ (x : Routed). cx_cost d (ops x.body.gates)) (rs ++ r ∷ []))
-        ≡ weight_by o (sum_by (λ (x : Routed). x.swaps) rs) (sum_by (λ (x : Routed). cx_cost d (ops x.body.gates)) rs)
-        + weight_by o (sum_by (λ (x : Routed). x.swaps) (r ∷ [])) (sum_by (λ (x : Routed). cx_cost d (ops x.body.gates)) (r ∷ []))
+    go : (o : Option (List ℕ)) → expense_by o (sum_by (λ (x : Routed). x.swaps) (rs ++ r ∷ [])) (sum_by (λ (x : Routed). cx_cost d (ops x.body.gates)) (rs ++ r ∷ []))
+        ≡ expense_by o (sum_by (λ (x : Routed). x.swaps) rs) (sum_by (λ (x : Routed). cx_cost d (ops x.body.gates)) rs)
+        + expense_by o (sum_by (λ (x : Routed). x.swaps) (r ∷ [])) (sum_by (λ (x : Routed). cx_cost d (ops x.body.gates)) (r ∷ []))
     go None = sum_by-append (λ (x : Routed). x.swaps) rs (r ∷ [])
     go (Some cs) = sum_by-append (λ (x : Routed). cx_cost d (ops x.body.gates)) rs (r ∷ [])
 
-pub weight-nothing : (d : Coupling) → weight d [] ≡ 0
-weight-nothing d = go d.costs
+pub expense-nothing : (d : Coupling) → expense d [] ≡ 0
+expense-nothing d = go d.costs
   where
-    go : (o : Option (List ℕ)) → weight_by o 0 0 ≡ 0
+    go : (o : Option (List ℕ)) → expense_by o 0 0 ≡ 0
     go None = refl
     go (Some cs) = refl
 
--- the CNOTs of a run over some gates, and what it weighs at most
-pub record Weighs (gs : List Gate) (r : Routed) : Type 0 where
+-- the CNOTs of a run over some gates, and what it spent at most
+pub record IsLimited (gs : List Gate) (r : Routed) : Type 0 where
   pub cx : cx_count (ops r.body.gates) ≤ cx_count (ops gs) * 1537
   pub most : r.swaps + cx_count (ops r.body.gates) * 1000000 ≤ cx_count (ops gs) * 2000000000
 
-pub run-weighs : (gs : List Gate) (r : Routed) (b : ℕ) → b ≤ 512 → cx_count (ops r.body.gates) ≡ cx_count (ops gs) + 3 * r.swaps
-    → r.swaps ≤ cx_count (ops gs) * b → Weighs gs r
-run-weighs gs r b few cx swaps =
+pub run-expense : (gs : List Gate) (r : Routed) (b : ℕ) → b ≤ 512 → cx_count (ops r.body.gates) ≡ cx_count (ops gs) + 3 * r.swaps
+    → r.swaps ≤ cx_count (ops gs) * b → IsLimited gs r
+run-expense gs r b few cx swaps =
     let n = cx_count (ops gs) in
     let most : n * b ≤ n * 512 = mul-le n b n 512 (omega arith) few in
     record { cx = omega (arith, cx, swaps, most); most = omega (arith, cx, swaps, most) }
 
 -- ---- the best of several tries
-pub IsBest-first : (d : Coupling) (lists : List (List Gate)) (p : List ℕ) (w : ℕ)
-    → ((k : ℕ) (q t : List ℕ) (rs xs : List Routed) → IsTry d lists k q rs → IsTry d lists k t xs → weight d rs ≡ weight d xs)
-    → IsWeighed d lists 0 p w → IsBest d 1 lists 0 p w
-IsBest-first d lists p w one is = record {
+pub IsBestOf-first : (d : Coupling) (lists : List (List Gate)) (p : List ℕ) (w : ℕ)
+    → ((k : ℕ) (q t : List ℕ) (rs xs : List Routed) → IsTry d lists k q rs → IsTry d lists k t xs → expense d rs ≡ expense d xs)
+    → IsTried d lists 0 p w → IsBestOf d 1 lists 0 p w
+IsBestOf-first d lists p w one is = record {
   among = omega arith;
-  weighed = is;
+  tried = is;
   least = λ m q xs lt other. same m q xs lt other;
   first_of_equals = λ m q xs lt other. absurd (omega (arith, lt));
 }
   where
-    same : (m : ℕ) (q : List ℕ) (xs : List Routed) → m < 1 → IsTry d lists m q xs → w ≤ weight d xs
-    same zero q xs lt other = let e = one 0 p q is.routed xs is.made other in omega (arith, is.weighs, e)
+    same : (m : ℕ) (q : List ℕ) (xs : List Routed) → m < 1 → IsTry d lists m q xs → w ≤ expense d xs
+    same zero q xs lt other = let e = one 0 p q is.routed xs is.made other in omega (arith, is.spent, e)
     same (suc m) q xs lt other = absurd (omega (arith, lt))
 
 -- of one try more, the lighter one
-pub IsBest-next : (d : Coupling) (lists : List (List Gate)) (n k : ℕ) (p q : List ℕ) (w v : ℕ)
-    → ((k : ℕ) (q t : List ℕ) (rs xs : List Routed) → IsTry d lists k q rs → IsTry d lists k t xs → weight d rs ≡ weight d xs)
-    → IsBest d n lists k p w → IsWeighed d lists n q v → v < w → IsBest d (n + 1) lists n q v
-IsBest-next d lists n k p q w v one best is less = record {
+pub IsBestOf-next : (d : Coupling) (lists : List (List Gate)) (n k : ℕ) (p q : List ℕ) (w v : ℕ)
+    → ((k : ℕ) (q t : List ℕ) (rs xs : List Routed) → IsTry d lists k q rs → IsTry d lists k t xs → expense d rs ≡ expense d xs)
+    → IsBestOf d n lists k p w → IsTried d lists n q v → v < w → IsBestOf d (n + 1) lists n q v
+IsBestOf-next d lists n k p q w v one best is less = record {
   among = omega arith;
-  weighed = is;
+  tried = is;
   least = λ m t xs lt other. all m t xs lt other;
   first_of_equals = λ m t xs lt other. let le = best.least m t xs lt other in omega (arith, less, le);
 }
   where
-    at : (m : ℕ) (t : List ℕ) (xs : List Routed) → m ≡ n → IsTry d lists m t xs → v ≤ weight d xs
-    at m t xs e other = let same = one n q t is.routed xs is.made (subst (λ j. IsTry d lists j t xs) e other) in omega (arith, is.weighs, same)
+    at : (m : ℕ) (t : List ℕ) (xs : List Routed) → m ≡ n → IsTry d lists m t xs → v ≤ expense d xs
+    at m t xs e other = let same = one n q t is.routed xs is.made (subst (λ j. IsTry d lists j t xs) e other) in omega (arith, is.spent, same)
 
-    all : (m : ℕ) (t : List ℕ) (xs : List Routed) → m < n + 1 → IsTry d lists m t xs → v ≤ weight d xs
+    all : (m : ℕ) (t : List ℕ) (xs : List Routed) → m < n + 1 → IsTry d lists m t xs → v ≤ expense d xs
     all m t xs lt other = elim (split m lt) [
       | inr before ↦ let le = best.least m t xs before other in omega (arith, less, le)
       | inl e ↦ at m t xs e other
@@ -183,20 +181,20 @@ IsBest-next d lists n k p q w v one best is less = record {
         split : (m : ℕ) → m < n + 1 → (m ≡ n) ⊎ (m < n)
         split m lt = eq-or-lt_of_le (omega (arith, lt))
 
-pub IsBest-kept : (d : Coupling) (lists : List (List Gate)) (n k : ℕ) (p q : List ℕ) (w v : ℕ)
-    → ((k : ℕ) (q t : List ℕ) (rs xs : List Routed) → IsTry d lists k q rs → IsTry d lists k t xs → weight d rs ≡ weight d xs)
-    → IsBest d n lists k p w → IsWeighed d lists n q v → w ≤ v → IsBest d (n + 1) lists k p w
-IsBest-kept d lists n k p q w v one best is le = record {
+pub IsBestOf-kept : (d : Coupling) (lists : List (List Gate)) (n k : ℕ) (p q : List ℕ) (w v : ℕ)
+    → ((k : ℕ) (q t : List ℕ) (rs xs : List Routed) → IsTry d lists k q rs → IsTry d lists k t xs → expense d rs ≡ expense d xs)
+    → IsBestOf d n lists k p w → IsTried d lists n q v → w ≤ v → IsBestOf d (n + 1) lists k p w
+IsBestOf-kept d lists n k p q w v one best is le = record {
   among = let lt = best.among in omega (arith, lt);
-  weighed = best.weighed;
+  tried = best.tried;
   least = λ m t xs lt other. all m t xs lt other;
   first_of_equals = best.first_of_equals;
 }
   where
-    at : (m : ℕ) (t : List ℕ) (xs : List Routed) → m ≡ n → IsTry d lists m t xs → w ≤ weight d xs
-    at m t xs e other = let same = one n q t is.routed xs is.made (subst (λ j. IsTry d lists j t xs) e other) in omega (arith, is.weighs, same, le)
+    at : (m : ℕ) (t : List ℕ) (xs : List Routed) → m ≡ n → IsTry d lists m t xs → w ≤ expense d xs
+    at m t xs e other = let same = one n q t is.routed xs is.made (subst (λ j. IsTry d lists j t xs) e other) in omega (arith, is.spent, same, le)
 
-    all : (m : ℕ) (t : List ℕ) (xs : List Routed) → m < n + 1 → IsTry d lists m t xs → w ≤ weight d xs
+    all : (m : ℕ) (t : List ℕ) (xs : List Routed) → m < n + 1 → IsTry d lists m t xs → w ≤ expense d xs
     all m t xs lt other = elim (split m lt) [
       | inr before ↦ best.least m t xs before other
       | inl e ↦ at m t xs e other
@@ -207,11 +205,11 @@ IsBest-kept d lists n k p q w v one best is le = record {
 
 -- the runs from the layout of the best try are its runs
 pub HasBegun-best : (d : Coupling) (lists : List (List Gate)) (n k : ℕ) (p : List ℕ) (w : ℕ)
-    → ((along : Bool) (first : List ℕ) (rs xs : List Routed) → AreRouted d along first lists rs → AreRouted d along first lists xs → weight d rs ≡ weight d xs)
-    → IsBest d n lists k p w → HasBegun d (Tries n) lists p (is_odd k)
+    → ((along : Bool) (first : List ℕ) (rs xs : List Routed) → AreRouted d along first lists rs → AreRouted d along first lists xs → expense d rs ≡ expense d xs)
+    → IsBestOf d n lists k p w → HasBegun d (Tries n) lists p (is_along k)
 HasBegun-best d lists n k p w one best = λ rs routed.
-    let made = best.weighed.made in
-    let same : weight d rs ≡ w = one (is_odd k) p rs best.weighed.routed routed made.routed ∙ sym best.weighed.weighs in
+    let made = best.tried.made in
+    let same : expense d rs ≡ w = one (is_along k) p rs best.tried.routed routed made.routed ∙ sym best.tried.spent in
     record {
       number = k;
       among = best.among;
@@ -222,7 +220,7 @@ HasBegun-best d lists n k p w one best = λ rs routed.
 
 -- of one try there is nothing to compare
 pub HasBegun-one : (d : Coupling) (lists : List (List Gate)) (p : List ℕ)
-    → ((k : ℕ) (q t : List ℕ) (rs xs : List Routed) → IsTry d lists k q rs → IsTry d lists k t xs → weight d rs ≡ weight d xs)
+    → ((k : ℕ) (q t : List ℕ) (rs xs : List Routed) → IsTry d lists k q rs → IsTry d lists k t xs → expense d rs ≡ expense d xs)
     → IsLaidOut d (whole lists) 0 p → HasBegun d (Tries 1) lists p false
 HasBegun-one d lists p one laid = λ rs routed.
     let made : IsTry d lists 0 p rs = record { start = laid.start; starts = laid.starts; laid_out = laid.laid_out; routed = routed } in
@@ -234,7 +232,7 @@ HasBegun-one d lists p one laid = λ rs routed.
       first_of_equals = λ m q xs lt other. absurd (omega (arith, lt));
     }
   where
-    same : (rs : List Routed) → IsTry d lists 0 p rs → (m : ℕ) (q : List ℕ) (xs : List Routed) → m < 1 → IsTry d lists m q xs → weight d rs ≤ weight d xs
+    same : (rs : List Routed) → IsTry d lists 0 p rs → (m : ℕ) (q : List ℕ) (xs : List Routed) → m < 1 → IsTry d lists m q xs → expense d rs ≤ expense d xs
     same rs made zero q xs lt other = let e = one 0 p q rs xs made other in omega (arith, e)
     same rs made (suc m) q xs lt other = absurd (omega (arith, lt))
 

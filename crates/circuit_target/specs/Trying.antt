@@ -3,20 +3,19 @@
 --   HasChains n gs out back   the chains of gates on n wires are there, as they stand and backwards
 --   IsLookingOver o n gs      to a lookout, if there is one, the CNOTs of these gates are left
 --   IsLaidOut d gs k p        the layout that try k looks for
---   IsWeight d along given ws w     what the runs over circuits weigh, each from where the one before it ended
---   IsWeighed d lists k p w   what the runs of try k weigh, whose layout is p
---   IsBest d tries lists k p w      .. where it is the best of so many
+--   IsExpense d along given ws w   the expense of runs over circuits, each from where the one before it ended
+--   IsTried d lists k p w     the expense of try k, whose layout is p
+--   IsBestOf d tries lists k p w   .. where it is the best of so many
 --   HasBegun d starts lists p along   the runs from there on are those that are taken
 --   IsRoute d starts clean ws p ms    what is written for all parts is what is left of the runs that are taken
-use Rattle.std.specs.Prelude.{◌≡◌, ℕ, ◌<◌, ◌≤◌, Bool, false, List, [], ◌∷◌, Option, None, Some, nat_lt, reverse}
+use Rattle.std.specs.Prelude.{◌≡◌, ℕ, ◌<◌, ◌≤◌, Bool, false, List, [], Option, None, Some, nat_lt, reverse}
 use Rattle.circuit_list.specs.declared.Gate.{Gate}
 use Rattle.coupling_map.specs.Coupling.{Coupling}
-use Rattle.program_parts.specs.Cuts.{whole}
-use Rattle.routed_parts.specs.Tries.{AreRouted, IsTaken, IsTry, ahead_of, is_odd, weight}
+use Rattle.routed_parts.specs.Tries.{AreRouted, IsTaken, IsTry, ahead_of, is_along, expense}
 use Rattle.sabre_route.specs.Ahead.{Outlook, cx_only}
 use Rattle.sabre_route.specs.Routing.{IsLayout}
 use Rattle.sabre_route.specs.declared.router.Routed.{Routed}
-use Rattle.wire_starts.specs.Starts.{IsStart}
+use Rattle.wire_starts.specs.Starts.{IsTryStart}
 use Rattle.wire_starts.specs.declared.Starts.{Starts}
 use Rattle.wire_starts.specs.declared.Starts.TheVariants.{Given, Tries}
 use Rattle.circuit_target.specs.declared.passes.Rewritten.{Rewritten}
@@ -37,24 +36,24 @@ IsLookingOver (Some o) n gs = (o.wires ≤ n) × (o.left ≡ cx_only gs)
 
 pub record IsLaidOut (d : Coupling) (gs : List Gate) (k : ℕ) (p : List ℕ) : Type 0 where
   pub start : List ℕ
-  pub starts : IsStart d k start
-  pub laid_out : IsLayout (ahead_of (is_odd k) []) d gs start p
+  pub starts : IsTryStart d k start
+  pub laid_out : IsLayout (ahead_of (is_along k) []) d gs start p
 
-pub record IsWeight (d : Coupling) (along : Bool) (given : List ℕ) (ws : List Rewritten) (w : ℕ) : Type 0 where
+pub record IsExpense (d : Coupling) (along : Bool) (given : List ℕ) (ws : List Rewritten) (w : ℕ) : Type 0 where
   pub routed : List Routed
   pub runs : AreRouted d along given (gates_of ws) routed
-  pub weighs : w ≡ weight d routed
+  pub spent : w ≡ expense d routed
 
-pub record IsWeighed (d : Coupling) (lists : List (List Gate)) (k : ℕ) (p : List ℕ) (w : ℕ) : Type 0 where
+pub record IsTried (d : Coupling) (lists : List (List Gate)) (k : ℕ) (p : List ℕ) (w : ℕ) : Type 0 where
   pub routed : List Routed
   pub made : IsTry d lists k p routed
-  pub weighs : w ≡ weight d routed
+  pub spent : w ≡ expense d routed
 
-pub record IsBest (d : Coupling) (tries : ℕ) (lists : List (List Gate)) (k : ℕ) (p : List ℕ) (w : ℕ) : Type 0 where
+pub record IsBestOf (d : Coupling) (tries : ℕ) (lists : List (List Gate)) (k : ℕ) (p : List ℕ) (w : ℕ) : Type 0 where
   pub among : k < tries
-  pub weighed : IsWeighed d lists k p w
-  pub least : (m : ℕ) (q : List ℕ) (xs : List Routed) → m < tries → IsTry d lists m q xs → w ≤ weight d xs
-  pub first_of_equals : (m : ℕ) (q : List ℕ) (xs : List Routed) → m < k → IsTry d lists m q xs → w < weight d xs
+  pub tried : IsTried d lists k p w
+  pub least : (m : ℕ) (q : List ℕ) (xs : List Routed) → m < tries → IsTry d lists m q xs → w ≤ expense d xs
+  pub first_of_equals : (m : ℕ) (q : List ℕ) (xs : List Routed) → m < k → IsTry d lists m q xs → w < expense d xs
 
 abbrev pub HasBegun : Coupling → Starts → List (List Gate) → List ℕ → Bool → Type 0
 HasBegun d starts lists p along = (rs : List Routed) → AreRouted d along p lists rs → IsTaken d starts lists p rs

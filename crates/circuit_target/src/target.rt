@@ -485,7 +485,9 @@ fn on_device<T: RunTraces>(
     let size = device.size();
     let _diameter = device.diameter();
     let wires = source.wires();
-    let Route { initial, legs } = routed_over(alloc, traces, wires, rewritten, device, starts, clean)?;
+    let Route { initial, legs } = routed_over(
+        alloc, traces, wires, rewritten, device, starts, clean,
+    )?;
     let Legs { made, last, trace } = legs;
     let lengths = lengths_of(alloc, &made)?;
     let barriers = placed_bars(alloc, source, &made)?;

@@ -4,11 +4,11 @@ ghost use Rattle.std.specs.Prelude.{◌≡◌, ◌+◌, ◌*◌, ◌≤◌, ◌�
 ghost use Rattle.circuit_list.specs.Gates.{ops};
 ghost use Rattle.coupling_map.specs.Edges.{FollowsEdges};
 ghost use Rattle.program_parts.specs.Cuts.{whole};
-ghost use Rattle.routed_parts.specs.Tries.{is_odd, weight};
+ghost use Rattle.routed_parts.specs.Tries.{is_along, expense};
 ghost use Rattle.sabre_route.specs.Ahead.{cx_only};
 ghost use Rattle.unitary_model.specs.Operations.{cx_count};
 ghost use Rattle.circuit_target.specs.Making.{gates_of};
-ghost use Rattle.circuit_target.specs.Trying.{HasBegun, HasChains, IsBest, IsLaidOut, IsLookingOver, IsWeighed, IsWeight, looks_along};
+ghost use Rattle.circuit_target.specs.Trying.{HasBegun, HasChains, IsBestOf, IsLaidOut, IsLookingOver, IsTried, IsExpense, looks_along};
 ghost use Rattle.wire_starts.specs.Starts.{AreStarts};
 
 use crate::cost::cost_of;
@@ -35,12 +35,12 @@ pub struct Begun {
     pub along: bool,
 }
 
-/// A try that was weighed.
+/// A try that was made.
 #[derive(Drop)]
-struct Weighed {
+struct Tried {
     number: u32,
     layout: Placement,
-    weight: u64,
+    expense: u64,
 }
 
 /// Whether some try judges swaps along dependences.
@@ -99,7 +99,7 @@ fn layout_from(
 ) -> Result<Placement, AllocError>
     requires fits { body.now.wires ≤ device.now.size }
     requires limit { number ≤ 256 }
-    requires chains { is_odd number ≡ true → HasChains body.now.wires body.now.gates chains.now.out chains.now.back }
+    requires chains { is_along number ≡ true → HasChains body.now.wires body.now.gates chains.now.out chains.now.back }
     ensures placed { IfOk result (λ p. length p ≡ device.now.size) }
     ensures laid_out { IfOk result (IsLaidOut device.now body.now.gates number) }
 {
@@ -113,11 +113,11 @@ fn layout_from(
     Ok(laid_out)
 }
 
-/// What a run weighs: what its CNOTs cost, if the device lists costs, or else its swaps.
-fn weight_of(device: &Device, routed: &Routed) -> u64
+/// The expense of a run: what its CNOTs cost, if the device lists costs, or else its swaps.
+fn expense_of(device: &Device, routed: &Routed) -> u64
     requires edges { FollowsEdges device.now.edges (ops routed.now.body.gates) }
     requires cx_limit { cx_count (ops routed.now.body.gates) ≤ 4294967296 }
-    ensures value { result ≡ weight device.now (routed.now ∷ []) }
+    ensures value { result ≡ expense device.now (routed.now ∷ []) }
     ensures limited { result ≤ routed.now.swaps + cx_count (ops routed.now.body.gates) * 1000000 }
 {
     match cost_of(device, &routed.body) {
@@ -126,8 +126,8 @@ fn weight_of(device: &Device, routed: &Routed) -> u64
     }
 }
 
-/// What the runs through all parts weigh, from a placement on.
-fn weigh(
+/// The expense of the runs through all parts, from a placement on.
+fn expense_from(
     alloc: Global,
     rewritten: &[Rewritten],
     device: &Device,
@@ -138,7 +138,7 @@ fn weigh(
     requires few { cx_count (ops (whole (gates_of rewritten.now))) ≤ 65536 }
     requires placed { length given ≡ device.now.size }
     requires seen { IsLookingOver lookout.old device.now.size (whole (gates_of rewritten.now)) }
-    ensures weight { IfOk result (IsWeight device.now (is_some lookout.old) given rewritten.now) }
+    ensures expense { IfOk result (IsExpense device.now (is_some lookout.old) given rewritten.now) }
 {
     // Their contracts say how many qubits a device has at most, and that it has a diameter.
     device.facts();
@@ -147,43 +147,43 @@ fn weigh(
     let mut now = given;
     'parts: for part in rewritten {
         let routed = route(alloc, &part.passed.body, device, now, lookout)?;
-        sum += weight_of(device, &routed);
+        sum += expense_of(device, &routed);
         now = routed.last;
     }
     Ok(sum)
 }
 
-/// The try of this number, weighed.
-fn weigh_try(
+/// The try of this number.
+fn make_try(
     alloc: Global,
     rewritten: &[Rewritten],
     body: &Circuit,
     device: &Device,
     number: u32,
     chains: &AllChains,
-) -> Result<Weighed, AllocError>
+) -> Result<Tried, AllocError>
     requires gates { body.now.gates ≡ whole (gates_of rewritten.now) }
     requires each { All (λ r. r.passed.body.wires ≤ device.now.size) rewritten.now }
     requires few { cx_count (ops body.now.gates) ≤ 65536 }
     requires fits { body.now.wires ≤ device.now.size }
     requires limit { number ≤ 256 }
-    requires chains { is_odd number ≡ true → HasChains body.now.wires body.now.gates chains.now.out chains.now.back }
-    ensures weighed { IfOk result (λ w. IsWeighed device.now (gates_of rewritten.now) number w.layout w.weight) }
+    requires chains { is_along number ≡ true → HasChains body.now.wires body.now.gates chains.now.out chains.now.back }
+    ensures tried { IfOk result (λ w. IsTried device.now (gates_of rewritten.now) number w.layout w.expense) }
     ensures number { IfOk result (λ w. w.number ≡ number) }
     ensures placed { IfOk result (λ w. length w.layout ≡ device.now.size) }
 {
     let layout = layout_from(alloc, body, device, number, chains)?;
     let given = layout.copy()?;
     let mut lookout = lookout_of(alloc, &chains.out, number % 2 == 1)?;
-    let weight = weigh(alloc, rewritten, device, given, &mut lookout)?;
-    Ok(Weighed {
+    let expense = expense_from(alloc, rewritten, device, given, &mut lookout)?;
+    Ok(Tried {
         number,
         layout,
-        weight,
+        expense,
     })
 }
 
-/// The best of so many tries: the one of the least weight, of equals the first.
+/// The best of so many tries: the one of the least expense, of equals the first.
 fn best_try(
     alloc: Global,
     rewritten: &[Rewritten],
@@ -191,7 +191,7 @@ fn best_try(
     device: &Device,
     tries: u32,
     chains: &AllChains,
-) -> Result<Weighed, AllocError>
+) -> Result<Tried, AllocError>
     requires gates { body.now.gates ≡ whole (gates_of rewritten.now) }
     requires each { All (λ r. r.passed.body.wires ≤ device.now.size) rewritten.now }
     requires few { cx_count (ops body.now.gates) ≤ 65536 }
@@ -199,15 +199,15 @@ fn best_try(
     requires some { 1 ≤ tries }
     requires limit { tries ≤ 256 }
     requires chains { HasChains body.now.wires body.now.gates chains.now.out chains.now.back }
-    ensures best { IfOk result (λ w. IsBest device.now tries (gates_of rewritten.now) w.number w.layout w.weight) }
+    ensures best { IfOk result (λ w. IsBestOf device.now tries (gates_of rewritten.now) w.number w.layout w.expense) }
     ensures placed { IfOk result (λ w. length w.layout ≡ device.now.size) }
 {
     device.facts();
     tries_are_one();
-    let mut best = weigh_try(alloc, rewritten, body, device, 0, chains)?;
+    let mut best = make_try(alloc, rewritten, body, device, 0, chains)?;
     'tries: for number in 1..tries {
-        let next = weigh_try(alloc, rewritten, body, device, number, chains)?;
-        if next.weight < best.weight {
+        let next = make_try(alloc, rewritten, body, device, number, chains)?;
+        if next.expense < best.expense {
             best = next;
         }
     }

@@ -42,12 +42,7 @@ fn has_room(begin: &Begin, wires: u32, size: u32) -> bool
 }
 
 /// The device of a text, with at least `wires` qubits, and those of a list that is given.
-fn device_of(
-    alloc: Global,
-    text: &[u8],
-    wires: u32,
-    begin: &Begin,
-) -> Result<Device, DeviceStop>
+fn device_of(alloc: Global, text: &[u8], wires: u32, begin: &Begin) -> Result<Device, DeviceStop>
     requires { length text.now ≤ most_device_bytes }
     ensures ok { IfOk result (λ d. IsDevice text.now d × (wires ≤ d.size) × Fits (told_list begin.now) wires d.size) }
     ensures err { IfErr result (IsUndescribed text.now wires (told_list begin.now)) }

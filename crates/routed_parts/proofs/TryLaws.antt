@@ -1,8 +1,8 @@
--- Of one try there is one run, so all that are its weigh the same.
+-- Of one try there is one run, so it has one expense.
 --   OneRun, OneStart     the laws that this rests on
 --   routed-one           runs over the same gates from the same placement write the same
---   runs-one, tries-one  runs through all parts weigh the same, and so do those of one try
-use Rattle.std.proofs.Common.{◌≡◌, ℕ, ◌+◌, Bool, List, [], ◌∷◌, Option, None, Some, refl, sym, subst, ap, ◌∙◌}
+--   runs-one, tries-one  runs through all parts have one expense, and so have those of one try
+use Rattle.std.proofs.Common.{◌≡◌, ℕ, ◌+◌, Bool, List, [], ◌∷◌, refl, sym, subst, ap, ◌∙◌}
 use Rattle.std.specs.Prelude.{reverse, sum_by}
 use Rattle.std.proofs.lemmas.List.Sums.{sum_by-cons}
 use Rattle.circuit_list.specs.declared.Gate.{Gate}
@@ -13,16 +13,16 @@ use Rattle.sabre_route.specs.Ahead.{Ahead}
 use Rattle.sabre_route.specs.Machine.{Event, IsRun, State, start}
 use Rattle.sabre_route.specs.Routing.{IsLayout, IsRouted, swap_count, written}
 use Rattle.sabre_route.specs.declared.router.Routed.{Routed}
-use Rattle.wire_starts.specs.Starts.{IsStart}
+use Rattle.wire_starts.specs.Starts.{IsTryStart}
 use Rattle.routed_parts.specs.Costs.{cx_cost}
-use Rattle.routed_parts.specs.Tries.{AreRouted, IsTry, ahead_of, is_odd, weight, weight_by}
+use Rattle.routed_parts.specs.Tries.{AreRouted, IsTry, ahead_of, is_along, expense, expense_by}
 
 pub record OneRun : Type 0 where
   pub events : (ahead : Ahead) (d : Coupling) (s u v : State) (es fs : List Event) → IsRun ahead d s es u → IsRun ahead d s fs v → es ≡ fs
   pub end : (ahead : Ahead) (d : Coupling) (s u v : State) (es fs : List Event) → IsRun ahead d s es u → IsRun ahead d s fs v → u ≡ v
 
 abbrev pub OneStart : Type 0
-OneStart = (d : Coupling) (k : ℕ) (p q : List ℕ) → IsCoupling d → IsStart d k p → IsStart d k q → p ≡ q
+OneStart = (d : Coupling) (k : ℕ) (p q : List ℕ) → IsCoupling d → IsTryStart d k p → IsTryStart d k q → p ≡ q
 
 pub record AreAlike (r x : Routed) : Type 0 where
   pub body : r.body.gates ≡ x.body.gates
@@ -51,13 +51,13 @@ sums-one one f like d along first (gs ∷ lists) (r ∷ rs) [] g h = absurd h
 sums-one one f like d along first (gs ∷ lists) (r ∷ rs) (x ∷ xs) g h =
     let same = routed-one one (ahead_of along (whole lists)) d gs first r x g.0 h.0 in
     let rest = sums-one one f like d along r.last lists rs xs g.1
-        (subst (λ (p : List ℕ). AreRouted d along p lists xs) (sym same.last) h.1) in
+    (subst (λ (p : List ℕ). AreRouted d along p lists xs) (sym same.last) h.1) in
     sum_by-cons f r rs ∙ (λ i. like r x same i + rest i) ∙ sym (sum_by-cons f x xs)
 
 pub runs-one : OneRun → (d : Coupling) (along : Bool) (first : List ℕ) (lists : List (List Gate)) (rs xs : List Routed)
-    → AreRouted d along first lists rs → AreRouted d along first lists xs → weight d rs ≡ weight d xs
+    → AreRouted d along first lists rs → AreRouted d along first lists xs → expense d rs ≡ expense d xs
 runs-one one d along first lists rs xs g h =
-    (λ i. weight_by d.costs (swaps i) (costs i))
+    (λ i. expense_by d.costs (swaps i) (costs i))
   where
     swaps : sum_by (λ (r : Routed). r.swaps) rs ≡ sum_by (λ (r : Routed). r.swaps) xs
     swaps = sums-one one (λ r. r.swaps) (λ r x same. same.swaps) d along first lists rs xs g h
@@ -73,10 +73,10 @@ layouts-one one ahead d gs s p q f g =
     f.ends ∙ ap (λ (u : State). u.placement) home ∙ sym g.ends
 
 pub tries-one : OneRun → OneStart → (d : Coupling) (lists : List (List Gate)) (k : ℕ) (p q : List ℕ) (rs xs : List Routed)
-    → IsCoupling d → IsTry d lists k p rs → IsTry d lists k q xs → weight d rs ≡ weight d xs
+    → IsCoupling d → IsTry d lists k p rs → IsTry d lists k q xs → expense d rs ≡ expense d xs
 tries-one one starts d lists k p q rs xs is f g =
-    let ahead = ahead_of (is_odd k) [] in
+    let ahead = ahead_of (is_along k) [] in
     let begin : f.start ≡ g.start = starts d k f.start g.start is f.starts g.starts in
     let laid = subst (λ (s : List ℕ). IsLayout ahead d (whole lists) s q) (sym begin) g.laid_out in
     let same : p ≡ q = layouts-one one ahead d (whole lists) f.start p q f.laid_out laid in
-    runs-one one d (is_odd k) p lists rs xs f.routed (subst (λ (s : List ℕ). AreRouted d (is_odd k) s lists xs) (sym same) g.routed)
+    runs-one one d (is_along k) p lists rs xs f.routed (subst (λ (s : List ℕ). AreRouted d (is_along k) s lists xs) (sym same) g.routed)

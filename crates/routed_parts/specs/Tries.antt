@@ -1,11 +1,10 @@
 -- Runs of the routing machine through all parts of a program, and the best of several tries.
---   is_odd k                  a number is odd
+--   is_along k                try k judges swaps along dependences: those of odd numbers do
 --   ahead_of along following  swaps are judged along dependences, also among the gates that follow, or in program order
 --   AreRouted d along first lists rs   the machine's runs over lists of gates, each from where the one before it ended
---   IsTry d lists k first rs  .. of try k: from the layout of all lists, one after the other, that is looked for from start k; swaps
---                             are judged along dependences if k is odd
---   weight d rs               what tries are compared by: what the CNOTs cost if the device lists costs, else the number of swaps
---   IsBestTry d tries lists first rs   of so many tries the one of the least weight, the first of equals
+--   IsTry d lists k first rs  .. of try k: from the layout of all lists, one after the other, that is looked for from start k
+--   expense d rs              what tries are compared by, expense_by: what the CNOTs cost if the device lists costs, else the swaps
+--   IsBestTry d tries lists first rs   of so many tries the one of the least expense, of equals the first
 --   IsTaken d starts lists first rs    the runs that are taken: those from the given placement on, or those of the best try
 use Rattle.std.specs.Prelude.{◌≡◌, ℕ, ◌%◌, ◌<◌, ◌≤◌, ◌==◌, Bool, true, false, List, [], ◌∷◌, Option, None, Some, sum_by}
 use Rattle.circuit_list.specs.declared.Gate.{Gate}
@@ -15,13 +14,13 @@ use Rattle.program_parts.specs.Cuts.{whole}
 use Rattle.sabre_route.specs.Ahead.{Ahead, Along, InOrder}
 use Rattle.sabre_route.specs.Routing.{IsLayout, IsRouted}
 use Rattle.sabre_route.specs.declared.router.Routed.{Routed}
-use Rattle.wire_starts.specs.Starts.{IsStart}
+use Rattle.wire_starts.specs.Starts.{IsTryStart}
 use Rattle.wire_starts.specs.declared.Starts.{Starts}
 use Rattle.wire_starts.specs.declared.Starts.TheVariants.{Given, Tries}
 use Rattle.routed_parts.specs.Costs.{cx_cost}
 
-abbrev pub is_odd : ℕ → Bool
-is_odd k = k % 2 == 1
+abbrev pub is_along : ℕ → Bool
+is_along k = k % 2 == 1
 
 abbrev pub ahead_of : Bool → List Gate → Ahead
 ahead_of false following = InOrder
@@ -35,23 +34,23 @@ AreRouted d along first _ _ = ⊥
 
 pub record IsTry (d : Coupling) (lists : List (List Gate)) (k : ℕ) (first : List ℕ) (rs : List Routed) : Type 0 where
   pub start : List ℕ
-  pub starts : IsStart d k start
-  pub laid_out : IsLayout (ahead_of (is_odd k) []) d (whole lists) start first
-  pub routed : AreRouted d (is_odd k) first lists rs
+  pub starts : IsTryStart d k start
+  pub laid_out : IsLayout (ahead_of (is_along k) []) d (whole lists) start first
+  pub routed : AreRouted d (is_along k) first lists rs
 
-abbrev pub weight_by : Option (List ℕ) → ℕ → ℕ → ℕ
-weight_by None swaps cost = swaps
-weight_by (Some cs) swaps cost = cost
+abbrev pub expense_by : Option (List ℕ) → ℕ → ℕ → ℕ
+expense_by None swaps cost = swaps
+expense_by (Some cs) swaps cost = cost
 
-abbrev pub weight : Coupling → List Routed → ℕ
-weight d rs = weight_by d.costs (sum_by (λ r. r.swaps) rs) (sum_by (λ r. cx_cost d (ops r.body.gates)) rs)
+abbrev pub expense : Coupling → List Routed → ℕ
+expense d rs = expense_by d.costs (sum_by (λ r. r.swaps) rs) (sum_by (λ r. cx_cost d (ops r.body.gates)) rs)
 
 pub record IsBestTry (d : Coupling) (tries : ℕ) (lists : List (List Gate)) (first : List ℕ) (rs : List Routed) : Type 0 where
   pub number : ℕ
   pub among : number < tries
   pub made : IsTry d lists number first rs
-  pub least : (k : ℕ) (q : List ℕ) (xs : List Routed) → k < tries → IsTry d lists k q xs → weight d rs ≤ weight d xs
-  pub first_of_equals : (k : ℕ) (q : List ℕ) (xs : List Routed) → k < number → IsTry d lists k q xs → weight d rs < weight d xs
+  pub least : (k : ℕ) (q : List ℕ) (xs : List Routed) → k < tries → IsTry d lists k q xs → expense d rs ≤ expense d xs
+  pub first_of_equals : (k : ℕ) (q : List ℕ) (xs : List Routed) → k < number → IsTry d lists k q xs → expense d rs < expense d xs
 
 abbrev pub IsTaken : Coupling → Starts → List (List Gate) → List ℕ → List Routed → Type 0
 IsTaken d (Given q) lists first rs = (first ≡ q) × AreRouted d false first lists rs

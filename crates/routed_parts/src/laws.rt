@@ -11,7 +11,7 @@ ghost use Rattle.program_parts.specs.Parts.{AreRealised, Part, ends, sources, ta
 ghost use Rattle.rewrite_pass.specs.Law.{KeepsCnots};
 ghost use Rattle.routed_parts.specs.Legs.{AreLegs, IsCleaned, IsLeg, IsStill};
 ghost use Rattle.routed_parts.specs.Runs.{AreOfRuns, HasFewSwaps};
-ghost use Rattle.routed_parts.specs.Tries.{AreRouted, IsTry, weight};
+ghost use Rattle.routed_parts.specs.Tries.{AreRouted, IsTry, expense};
 ghost use Rattle.routed_parts.specs.Settled.{IsSettled};
 ghost use Rattle.sabre_route.specs.Measures.{bound};
 ghost use Rattle.sabre_route.specs.declared.router.Routed.{Routed};
@@ -61,12 +61,12 @@ pub fn run_is_leg()
         IsLeg d clean n first p gates r }
 {}
 
-/// All runs of one try from one placement weigh the same, and so do all runs of one try: there is one start, one layout and one run.
+/// All runs of one try from one placement expense_from the same, and so do all runs of one try: there is one start, one layout and one run.
 pub fn tries_are_one()
     ensures runs { (d : Coupling) (along : Bool) (first : List ℕ) (lists : List (List Gate)) (rs xs : List Routed) →
-        AreRouted d along first lists rs → AreRouted d along first lists xs → weight d rs ≡ weight d xs }
+        AreRouted d along first lists rs → AreRouted d along first lists xs → expense d rs ≡ expense d xs }
     ensures tries { (d : Coupling) (lists : List (List Gate)) (k : ℕ) (p q : List ℕ) (rs xs : List Routed) →
-        IsCoupling d → IsTry d lists k p rs → IsTry d lists k q xs → weight d rs ≡ weight d xs }
+        IsCoupling d → IsTry d lists k p rs → IsTry d lists k q xs → expense d rs ≡ expense d xs }
 {
     one_run();
     start_is_one();

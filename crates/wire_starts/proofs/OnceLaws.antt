@@ -7,7 +7,7 @@ use Rattle.std.proofs.lemmas.List.{ext_get_or}
 use Rattle.unitary_model.specs.Placement.{position_of}
 use Rattle.coupling_map.specs.Coupling.{Coupling, IsCoupling}
 use Rattle.coupling_map.specs.Walks.{IsHops}
-use Rattle.wire_starts.specs.Starts.{IsAround, IsStart}
+use Rattle.wire_starts.specs.Starts.{IsNearestFirst, IsTryStart}
 
 -- p comes before q around c
 abbrev IsSooner : List (ℕ × ℕ) → ℕ → ℕ → ℕ → Type 0
@@ -24,7 +24,7 @@ module _ (es : List (ℕ × ℕ)) (n c : ℕ) (one : (a b j k : ℕ) → IsHops 
       ]
 
   -- the entries of two lists that are so ordered: what was before agrees
-  not-sooner : (p q : List ℕ) (i : ℕ) → IsAround es n c p → IsAround es n c q → i < n → ((j : ℕ) → j < i → get_or p j 0 ≡ get_or q j 0)
+  not-sooner : (p q : List ℕ) (i : ℕ) → IsNearestFirst es n c p → IsNearestFirst es n c q → i < n → ((j : ℕ) → j < i → get_or p j 0 ≡ get_or q j 0)
       → IsSooner es c (get_or p i 0) (get_or q i 0) → ⊥
   not-sooner p q i hp hq l same s = elim (cases_lt m i) [
     | inl lt ↦ twice (get_or p m 0) (same m lt ∙ at) (λ h k eh ek. hp.ordered m i h k lt l eh ek)
@@ -85,7 +85,7 @@ module _ (es : List (ℕ × ℕ)) (n c : ℕ) (one : (a b j k : ℕ) → IsHops 
       eb : (k : ℕ) → IsHops es c q k → b.0 ≡ k
       eb k ek = one c q b.0 k b.2 ek
 
-  agree : (p q : List ℕ) → IsAround es n c p → IsAround es n c q → (k j : ℕ) → j < k → j < n → get_or p j 0 ≡ get_or q j 0
+  agree : (p q : List ℕ) → IsNearestFirst es n c p → IsNearestFirst es n c q → (k j : ℕ) → j < k → j < n → get_or p j 0 ≡ get_or q j 0
   agree p q hp hq zero j l lj = absurd (omega (arith, l))
   agree p q hp hq (suc k) j l lj = elim (cases_eq j k) [
     | inr ne ↦ agree p q hp hq k j (omega (arith, l, ne)) lj
@@ -98,12 +98,12 @@ module _ (es : List (ℕ × ℕ)) (n c : ℕ) (one : (a b j k : ℕ) → IsHops 
     ]
   ]
 
-  around-one : (p q : List ℕ) → IsAround es n c p → IsAround es n c q → p ≡ q
+  around-one : (p q : List ℕ) → IsNearestFirst es n c p → IsNearestFirst es n c q → p ≡ q
   around-one p q hp hq = ext_get_or 0 p q (hp.placed.long ∙ sym hq.placed.long) (λ j l. agree p q hp hq n j (omega (arith, l, hp.placed.long)) (omega (arith, l, hp.placed.long)))
 
 pub start-one : ((es : List (ℕ × ℕ)) (a b j k : ℕ) → IsHops es a b j → IsHops es a b k → j ≡ k)
     → ((d : Coupling) (a b : ℕ) → IsCoupling d → a < d.size → b < d.size → (k : ℕ) × (k < d.size) × IsHops d.edges a b k)
-    → (d : Coupling) (k : ℕ) (p q : List ℕ) → IsCoupling d → IsStart d k p → IsStart d k q → p ≡ q
+    → (d : Coupling) (k : ℕ) (p q : List ℕ) → IsCoupling d → IsTryStart d k p → IsTryStart d k q → p ≡ q
 start-one one there d zero p q h a b = a ∙ sym b
 start-one one there d (suc k) p q h a b =
     let lc = mod-lt (7 * k) h.graph.positive in

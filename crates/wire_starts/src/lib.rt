@@ -8,7 +8,7 @@
 
 ghost use Rattle.std.specs.Prelude.{◌≡◌, ◌<◌, All, IfOk, false, length, nat_eq, true};
 ghost use Rattle.std.specs.List.{IsDistinct};
-ghost use Rattle.wire_starts.specs.Starts.{IsFitting, IsStart, completed};
+ghost use Rattle.wire_starts.specs.Starts.{IsFitting, IsTryStart, completed};
 
 pub mod laws;
 mod nearest;
@@ -68,7 +68,7 @@ pub fn is_fitting(list: &[u32], wires: u32, size: u32) -> bool
 /// Start 0 is the identity. From 1 on it is all qubits, those with fewer near pairs from qubit 7 (`number` - 1) mod N first, and of
 /// as many the lesser; costs don't count.
 pub fn start(alloc: Global, device: &Device, number: u32) -> Result<Placement, AllocError>
-    ensures start { IfOk result (λ p. IsStart device.now number p) }
+    ensures start { IfOk result (λ p. IsTryStart device.now number p) }
     ensures placed { IfOk result (λ p. length p ≡ device.now.size) }
 {
     // Its contract says that there is a qubit.

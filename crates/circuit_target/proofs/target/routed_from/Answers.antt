@@ -1,7 +1,7 @@
 -- What is written is what is left of the runs that are taken.
-use Rattle.std.proofs.Common.{◌≡◌, ◌∙◌, is_some, subst, sym}
+use Rattle.std.proofs.Common.{◌∙◌, subst, sym}
 use Rattle.circuit_target.specs.Making.{gates_of}
-use Rattle.circuit_target.specs.Trying.{HasBegun, IsLookingOver, IsRoute}
+use Rattle.circuit_target.specs.Trying.{HasBegun, IsRoute}
 use Rattle.circuit_target.proofs.TryingLaws.{chained}
 use Rattle.circuit_target.proofs.target.routed_from.Goals as goal
 
@@ -13,7 +13,7 @@ returns-clause-routed g c =
     let e = c.in_ok-lookout.ensures in
     let w = c.in_ok-legs.ensures.routed in
     let same = (chained b.along c.in_ok-lookout.lookout c.in_ok-chains.chains.out c.args.body.now.wires d.size c.args.body.now.gates
-        c.requires.fits e.none e.some (λ x. (c.in_ok-chains.ensures.ok (c.in_ok-placement.ensures.along x)).there)).0 in
+    c.requires.fits e.none e.some (λ x. (c.in_ok-chains.ensures.ok (c.in_ok-placement.ensures.along x)).there)).0 in
     subst (λ p. IsRoute d c.args.starts c.args.clean ws p c.in_ok-legs.legs.made.items) (sym c.in_ok-initial.ensures.ok)
     (record {
       written = w.0;

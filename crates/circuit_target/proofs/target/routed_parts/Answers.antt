@@ -1,5 +1,5 @@
 -- One part more, from where the one before it ended.
-use Rattle.std.proofs.Common.{◌≡◌, ◌+◌, ◌++◌, ◌∙◌, ◌∷◌, None, ap, arith, drop, is_some, length, refl, rules, subst, sym, take, []}
+use Rattle.std.proofs.Common.{◌≡◌, ◌+◌, ◌++◌, ◌∙◌, ◌∷◌, None, ap, drop, is_some, length, refl, rules, subst, sym, take, []}
 use Rattle.std.proofs.lemmas.List.{length-append}
 use Rattle.program_parts.specs.Cuts.{whole}
 use Rattle.routed_parts.specs.Tries.{ahead_of}
@@ -34,9 +34,11 @@ routed_part-requires-clause-seen g c =
     let i = c.parts.part-index in
     let part = c.part-item.result in
     let left = whole (gates_of (drop (i + 1) ws)) in
-    let gates = gates-part ws i part c.parts-test.true c.part-item.is in
-    (ahead_of (is_some c.parts.lookout) left, looking-over c.parts.lookout c.args.device.now.size part.passed.body.gates left
-    (subst (IsLookingOver c.parts.lookout c.args.device.now.size) gates c.parts.invariant.looking))
+    let gates = gates-part ws i part c.parts-test.true c.part-item.is in (
+      ahead_of (is_some c.parts.lookout) left,
+      looking-over c.parts.lookout c.args.device.now.size part.passed.body.gates left
+          (subst (IsLookingOver c.parts.lookout c.args.device.now.size) gates c.parts.invariant.looking),
+    )
 
 pub parts-preserved : goal.parts-preserved
 parts-preserved g c =
@@ -52,22 +54,24 @@ parts-preserved g c =
     let left = whole (gates_of (drop (i + 1) ws)) in
     let gates = gates-part ws i w c.parts-test.true c.part-item.is in
     let seen : IsLookoutOver (ahead_of along left) c.parts.lookout d.size w.passed.body.gates =
-        subst (λ b. IsLookoutOver (ahead_of b left) c.parts.lookout d.size w.passed.body.gates) inv.same
-        (looking-over c.parts.lookout d.size w.passed.body.gates left (subst (IsLookingOver c.parts.lookout d.size) gates inv.looking)) in
+    subst (λ b. IsLookoutOver (ahead_of b left) c.parts.lookout d.size w.passed.body.gates) inv.same
+    (looking-over c.parts.lookout d.size w.passed.body.gates left (subst (IsLookingOver c.parts.lookout d.size) gates inv.looking)) in
     let made = e.routed (ahead_of along left) seen in
     let part = made.0 in
     let on = looking-on along c.routed_part.new.lookout d.size left made.1 in
     let next : take (i + 1) ws ≡ take i ws ++ w ∷ [] = take-next ws i w c.parts-test.true c.part-item.is in
     let pushed : c.push.new.self.items ≡ ms ++ leg.made ∷ [] = c.in_ok-push.ensures.items in
     let more = parts-more d along c.args.clean c.args.given c.parts.now ws i inv.parts.0 ms w part.routed leg.made c.parts-test.true c.part-item.is
-        inv.parts.1 part.part in
+    inv.parts.1 part.part in
     let ends = e.last ∙ part.part.last in
     let long = length-append (take i ws) (w ∷ []) in
     let longer = length-append ms (leg.made ∷ []) in
     record {
-      parts = (inv.parts.0 ++ part.routed ∷ [],
-          subst (λ ns. PartsBefore d along c.args.clean c.args.given leg.last ws (i + 1) (inv.parts.0 ++ part.routed ∷ []) ns) (sym pushed)
-          (subst (λ p. PartsBefore d along c.args.clean c.args.given p ws (i + 1) (inv.parts.0 ++ part.routed ∷ []) (ms ++ leg.made ∷ [])) (sym ends) more));
+      parts = (
+        inv.parts.0 ++ part.routed ∷ [],
+        subst (λ ns. PartsBefore d along c.args.clean c.args.given leg.last ws (i + 1) (inv.parts.0 ++ part.routed ∷ []) ns) (sym pushed)
+            (subst (λ p. PartsBefore d along c.args.clean c.args.given p ws (i + 1) (inv.parts.0 ++ part.routed ∷ []) (ms ++ leg.made ∷ [])) (sym ends) more),
+      );
       same = on.0;
       looking = on.1;
       now = e.last ∙ sym (last_of-more c.args.given ms leg.made) ∙ ap (last_of c.args.given) (sym pushed);
@@ -85,13 +89,15 @@ pub returns-clause-routed : goal.returns-clause-routed
 returns-clause-routed g c =
     let inv = c.parts.invariant in
     let d = c.args.device.now in
-    let along = is_some c.args.lookout.now in
-    (record {
-      along = along;
-      routed = inv.parts.0;
-      parts = parts-all d along c.args.clean c.args.given c.parts.now c.args.rewritten.now c.parts.part-index inv.parts.0 c.parts.made.items
-          c.parts-test.false inv.parts.1;
-    }, refl)
+    let along = is_some c.args.lookout.now in (
+      record {
+        along = along;
+        routed = inv.parts.0;
+        parts = parts-all d along c.args.clean c.args.given c.parts.now c.args.rewritten.now c.parts.part-index inv.parts.0 c.parts.made.items
+            c.parts-test.false inv.parts.1;
+      },
+      refl,
+    )
 
 pub returns-clause-last : goal.returns-clause-last
 returns-clause-last g c = c.parts.invariant.now

@@ -1,6 +1,6 @@
 -- The runs from there on are those that are taken.
-use Rattle.std.proofs.Common.{◌≡◌, ◌∙◌, ap, false, subst, sym}
-use Rattle.routed_parts.specs.Tries.{is_odd}
+use Rattle.std.proofs.Common.{◌∙◌, ap, false, subst, sym}
+use Rattle.routed_parts.specs.Tries.{is_along}
 use Rattle.wire_starts.specs.declared.Starts.TheVariants.{Tries}
 use Rattle.circuit_target.specs.Making.{gates_of}
 use Rattle.circuit_target.specs.Trying.{HasBegun, IsLaidOut}
@@ -21,6 +21,6 @@ returns-in_ok-best-in-Tries-clause-begun c =
     let d = c.args.device.now in
     let lists = gates_of c.args.rewritten.now in
     let b = c.in_ok-best-in-Tries.best in
-    subst (λ s. HasBegun d s lists b.layout (is_odd b.number)) (sym c.in-Tries.is)
-    (HasBegun-best d lists c.in-Tries.tries b.number b.layout b.weight (λ along first rs xs f g. c.tries_are_one.ensures.runs d along first lists rs xs f g)
+    subst (λ s. HasBegun d s lists b.layout (is_along b.number)) (sym c.in-Tries.is)
+    (HasBegun-best d lists c.in-Tries.tries b.number b.layout b.expense (λ along first rs xs f g. c.tries_are_one.ensures.runs d along first lists rs xs f g)
     c.in_ok-best-in-Tries.ensures.best)

@@ -1,9 +1,8 @@
 -- One try more.
-use Rattle.std.proofs.Common.{◌≡◌, ◌+◌, ◌≤◌, ◌∙◌, ap, arith, length, subst, sym}
+use Rattle.std.proofs.Common.{◌+◌, ◌∙◌, ap, arith, length, subst, sym}
 use Rattle.circuit_target.specs.Making.{gates_of}
-use Rattle.circuit_target.specs.Trying.{IsBest}
-use Rattle.circuit_target.specs.declared.tries.Weighed.{Weighed}
-use Rattle.circuit_target.proofs.TryingLaws.{IsBest-first, IsBest-kept, IsBest-next}
+use Rattle.circuit_target.specs.Trying.{IsBestOf}
+use Rattle.circuit_target.proofs.TryingLaws.{IsBestOf-first, IsBestOf-kept, IsBestOf-next}
 use Rattle.circuit_target.proofs.tries.best_try.Goals as goal
 use Rattle.circuit_target.proofs.tries.best_try.Goals.{then-next-best, else-next-best}
 
@@ -14,8 +13,8 @@ tries-init c =
     let b = c.in_ok-best.best in
     let e = c.in_ok-best.ensures in
     record {
-      best = subst (λ k. IsBest d 1 lists k b.layout b.weight) (sym e.number)
-          (IsBest-first d lists b.layout b.weight (λ k q t rs xs f g. c.tries_are_one.ensures.tries d lists k q t rs xs c.facts.ensures.coupling f g) e.weighed);
+      best = subst (λ k. IsBestOf d 1 lists k b.layout b.expense) (sym e.number)
+          (IsBestOf-first d lists b.layout b.expense (λ k q t rs xs f g. c.tries_are_one.ensures.tries d lists k q t rs xs c.facts.ensures.coupling f g) e.tried);
       placed = e.placed;
       within = c.requires.some;
     }
@@ -32,22 +31,22 @@ tries-preserved c =
     let on = c.tries-test.true in
     elim c.if-next-best.branch [
       | then-next-best w ↦
-        record {
-          best = subst (λ y. IsBest d (n + 1) lists y.number y.layout y.weight) (sym w.best-is)
-              (subst (λ k. IsBest d (n + 1) lists k x.layout x.weight) (sym e.number)
-              (IsBest-next d lists n b.number b.layout x.layout b.weight x.weight
-              (λ k q t rs xs f g. c.tries_are_one.ensures.tries d lists k q t rs xs c.facts.ensures.coupling f g) inv.best e.weighed w.if-next-best.true));
-          placed = ap (λ y. length y.layout) w.best-is ∙ e.placed;
-          within = omega (arith, on);
-        }
+          record {
+            best = subst (λ y. IsBestOf d (n + 1) lists y.number y.layout y.expense) (sym w.best-is)
+                (subst (λ k. IsBestOf d (n + 1) lists k x.layout x.expense) (sym e.number)
+                (IsBestOf-next d lists n b.number b.layout x.layout b.expense x.expense
+                (λ k q t rs xs f g. c.tries_are_one.ensures.tries d lists k q t rs xs c.facts.ensures.coupling f g) inv.best e.tried w.if-next-best.true));
+            placed = ap (λ y. length y.layout) w.best-is ∙ e.placed;
+            within = omega (arith, on);
+          }
       | else-next-best w ↦
-        record {
-          best = subst (λ y. IsBest d (n + 1) lists y.number y.layout y.weight) (sym w.best-is)
-              (IsBest-kept d lists n b.number b.layout x.layout b.weight x.weight
-              (λ k q t rs xs f g. c.tries_are_one.ensures.tries d lists k q t rs xs c.facts.ensures.coupling f g) inv.best e.weighed w.if-next-best.false);
-          placed = ap (λ y. length y.layout) w.best-is ∙ inv.placed;
-          within = omega (arith, on);
-        }
+          record {
+            best = subst (λ y. IsBestOf d (n + 1) lists y.number y.layout y.expense) (sym w.best-is)
+                (IsBestOf-kept d lists n b.number b.layout x.layout b.expense x.expense
+                (λ k q t rs xs f g. c.tries_are_one.ensures.tries d lists k q t rs xs c.facts.ensures.coupling f g) inv.best e.tried w.if-next-best.false);
+            placed = ap (λ y. length y.layout) w.best-is ∙ inv.placed;
+            within = omega (arith, on);
+          }
     ]
 
 pub returns-clause-best : goal.returns-clause-best
@@ -55,7 +54,7 @@ returns-clause-best c =
     let b = c.tries.best in
     let end = c.tries-test.false in
     let within = c.tries.invariant.within in
-    subst (λ n. IsBest c.args.device.now n (gates_of c.args.rewritten.now) b.number b.layout b.weight) (omega (arith, end, within)) c.tries.invariant.best
+    subst (λ n. IsBestOf c.args.device.now n (gates_of c.args.rewritten.now) b.number b.layout b.expense) (omega (arith, end, within)) c.tries.invariant.best
 
 pub returns-clause-placed : goal.returns-clause-placed
 returns-clause-placed c = c.tries.invariant.placed

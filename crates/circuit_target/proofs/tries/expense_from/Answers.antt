@@ -1,5 +1,5 @@
 -- One part more.
-use Rattle.std.proofs.Common.{◌≡◌, ◌+◌, ◌++◌, ◌∷◌, ◌∙◌, [], arith, ap, drop, is_some, refl, rules, subst, sym}
+use Rattle.std.proofs.Common.{◌+◌, ◌++◌, ◌∷◌, ◌∙◌, [], arith, drop, is_some, refl, rules, subst, sym}
 use Rattle.program_parts.specs.Cuts.{whole}
 use Rattle.routed_parts.specs.Tries.{ahead_of}
 use Rattle.sabre_route.specs.Ahead.{IsLookoutOver}
@@ -7,8 +7,8 @@ use Rattle.sabre_route.specs.Measures.{bound}
 use Rattle.circuit_target.specs.Making.{gates_of}
 use Rattle.circuit_target.specs.Trying.{IsLookingOver}
 use Rattle.circuit_target.proofs.MadeLaws.{bound-few}
-use Rattle.circuit_target.proofs.TryingLaws.{Weighs, cx-part, gates-part, looking-on, looking-over, run-weighs, runs-all, runs-more, weight-more, weight-nothing}
-use Rattle.circuit_target.proofs.tries.weigh.Goals as goal
+use Rattle.circuit_target.proofs.TryingLaws.{cx-part, gates-part, looking-on, looking-over, run-expense, runs-all, runs-more, expense-more, expense-nothing}
+use Rattle.circuit_target.proofs.tries.expense_from.Goals as goal
 
 pub parts-init : goal.parts-init
 parts-init c =
@@ -17,7 +17,7 @@ parts-init c =
       placed = c.requires.placed;
       same = refl;
       looking = c.requires.seen;
-      runs = ([], record { onward = λ xs h. h }, sym (weight-nothing c.args.device.now));
+      runs = ([], record { onward = λ xs h. h }, sym (expense-nothing c.args.device.now));
       few = omega (arith, few);
     }
 
@@ -30,18 +30,20 @@ route-requires-clause-seen c =
     let i = c.parts.part-index in
     let part = c.part-item.result in
     let left = whole (gates_of (drop (i + 1) ws)) in
-    let gates = gates-part ws i part c.parts-test.true c.part-item.is in
-    (ahead_of (is_some c.parts.lookout) left, looking-over c.parts.lookout c.args.device.now.size part.passed.body.gates left
-    (subst (IsLookingOver c.parts.lookout c.args.device.now.size) gates c.parts.invariant.looking))
+    let gates = gates-part ws i part c.parts-test.true c.part-item.is in (
+      ahead_of (is_some c.parts.lookout) left,
+      looking-over c.parts.lookout c.args.device.now.size part.passed.body.gates left
+          (subst (IsLookingOver c.parts.lookout c.args.device.now.size) gates c.parts.invariant.looking),
+    )
 
-pub weight_of-sum-requires-clause-cx_limit : goal.weight_of-sum-requires-clause-cx_limit
-weight_of-sum-requires-clause-cx_limit c =
+pub expense_of-sum-requires-clause-cx_limit : goal.expense_of-sum-requires-clause-cx_limit
+expense_of-sum-requires-clause-cx_limit c =
     let d = c.args.device.now in
     let k = c.diameter-diameter.result in
     let e = c.in_ok-routed.ensures in
-    let w = run-weighs c.part-item.result.passed.body.gates c.in_ok-routed.routed (bound d k)
-        (bound-few d.costs d.size k c.facts.ensures.coupling.graph.limited c.diameter-diameter.ensures.hops_limit)
-        e.cx_count (e.few_swaps k c.diameter-diameter.ensures.diameter) in
+    let w = run-expense c.part-item.result.passed.body.gates c.in_ok-routed.routed (bound d k)
+    (bound-few d.costs d.size k c.facts.ensures.coupling.graph.limited c.diameter-diameter.ensures.hops_limit)
+    e.cx_count (e.few_swaps k c.diameter-diameter.ensures.diameter) in
     let cx = cx-part c.args.rewritten.now c.parts.part-index c.part-item.result c.parts-test.true c.part-item.is in
     omega (arith, w.cx, cx, c.parts.invariant.few)
 
@@ -50,11 +52,11 @@ overflow_add-sum c =
     let d = c.args.device.now in
     let k = c.diameter-diameter.result in
     let e = c.in_ok-routed.ensures in
-    let w = run-weighs c.part-item.result.passed.body.gates c.in_ok-routed.routed (bound d k)
-        (bound-few d.costs d.size k c.facts.ensures.coupling.graph.limited c.diameter-diameter.ensures.hops_limit)
-        e.cx_count (e.few_swaps k c.diameter-diameter.ensures.diameter) in
+    let w = run-expense c.part-item.result.passed.body.gates c.in_ok-routed.routed (bound d k)
+    (bound-few d.costs d.size k c.facts.ensures.coupling.graph.limited c.diameter-diameter.ensures.hops_limit)
+    e.cx_count (e.few_swaps k c.diameter-diameter.ensures.diameter) in
     let cx = cx-part c.args.rewritten.now c.parts.part-index c.part-item.result c.parts-test.true c.part-item.is in
-    omega (arith, w.most, c.weight_of-sum.ensures.limited, cx, c.parts.invariant.few)
+    omega (arith, w.most, c.expense_of-sum.ensures.limited, cx, c.parts.invariant.few)
 
 pub parts-preserved : goal.parts-preserved
 parts-preserved c =
@@ -69,32 +71,35 @@ parts-preserved c =
     let e = c.in_ok-routed.ensures in
     let gates = gates-part ws i part c.parts-test.true c.part-item.is in
     let seen : IsLookoutOver (ahead_of along left) c.parts.lookout d.size part.passed.body.gates =
-        subst (λ b. IsLookoutOver (ahead_of b left) c.parts.lookout d.size part.passed.body.gates) inv.same
-        (looking-over c.parts.lookout d.size part.passed.body.gates left (subst (IsLookingOver c.parts.lookout d.size) gates inv.looking)) in
+    subst (λ b. IsLookoutOver (ahead_of b left) c.parts.lookout d.size part.passed.body.gates) inv.same
+    (looking-over c.parts.lookout d.size part.passed.body.gates left (subst (IsLookingOver c.parts.lookout d.size) gates inv.looking)) in
     let ran = e.run (ahead_of along left) seen in
     let on = looking-on along c.route.new.lookout d.size left ran.1 in
     let k = c.diameter-diameter.result in
-    let w = run-weighs part.passed.body.gates r (bound d k)
-        (bound-few d.costs d.size k c.facts.ensures.coupling.graph.limited c.diameter-diameter.ensures.hops_limit)
-        e.cx_count (e.few_swaps k c.diameter-diameter.ensures.diameter) in
+    let w = run-expense part.passed.body.gates r (bound d k)
+    (bound-few d.costs d.size k c.facts.ensures.coupling.graph.limited c.diameter-diameter.ensures.hops_limit)
+    e.cx_count (e.few_swaps k c.diameter-diameter.ensures.diameter) in
     let cx = cx-part ws i part c.parts-test.true c.part-item.is in
     record {
       placed = search rules;
       same = on.0;
       looking = on.1;
-      runs = (inv.runs.0 ++ r ∷ [], runs-more d along c.args.given c.parts.now ws i inv.runs.0 part r c.parts-test.true c.part-item.is inv.runs.1 ran.0,
-          (λ j. inv.runs.2 j + c.weight_of-sum.ensures.value j) ∙ sym (weight-more d inv.runs.0 r));
-      few = omega (arith, w.most, c.weight_of-sum.ensures.limited, cx, inv.few);
+      runs = (
+        inv.runs.0 ++ r ∷ [],
+        runs-more d along c.args.given c.parts.now ws i inv.runs.0 part r c.parts-test.true c.part-item.is inv.runs.1 ran.0,
+        (λ j. inv.runs.2 j + c.expense_of-sum.ensures.value j) ∙ sym (expense-more d inv.runs.0 r),
+      );
+      few = omega (arith, w.most, c.expense_of-sum.ensures.limited, cx, inv.few);
     }
 
 pub returns : goal.returns
 returns c =
     let inv = c.parts.invariant in
     record {
-      weight = record {
+      expense = record {
         routed = inv.runs.0;
         runs = runs-all c.args.device.now (is_some c.args.lookout.now) c.args.given c.parts.now c.args.rewritten.now c.parts.part-index inv.runs.0
             c.parts-test.false inv.runs.1;
-        weighs = inv.runs.2;
+        spent = inv.runs.2;
       };
     }
