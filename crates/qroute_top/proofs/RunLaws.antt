@@ -7,12 +7,11 @@
 --   Answered, AnsweredInput   no refusal of a question applies
 --   Delivers-opt, Delivers-spared, Delivers-check, Delivers-stages, Delivers-entry, Delivers-routed, Delivers-drawn   from the parts of `decide` to what is delivered
 --   Delivers-verified, IsCause-claim   the same where `verify` is asked
---   fits-within, allowed-distinct, allowed-traced   what is so of the list on which the wires begin, and of a trace
+--   fits-within, allowed-begin, allowed-traced   what is so of the list on which the wires begin, and of a trace
 --   stopped-..               what follows of a status after a stop
 --   planned-..               what follows where an answer was decided on
 use Rattle.std.proofs.Common.{◌≡◌, ◌⊎◌, inl, inr, ℕ, ◌≤◌, Bool, true, false, List, Option, Some, None, Result, Err, refl, sym, ap, ◌∙◌, arith, subst, is_some, []}
 use Rattle.std.specs.Prelude.{All, IfSome, ◌<◌, nat_eq}
-use Rattle.std.specs.List.{IsDistinct}
 use Rattle.outside_io.specs.Bytes.{Tells}
 use Rattle.outside_io.specs.Causes.{Rose}
 use Rattle.outside_io.specs.Shelf.{HasNoText, TellsText}
@@ -20,14 +19,17 @@ use Rattle.coupling_map.specs.Coupling.{Coupling}
 use Rattle.gate_inline.specs.Programs.{IsAccepted, IsWritten, Program, kept}
 use Rattle.program_reader.specs.Refusals.{IsRefusal}
 use Rattle.program_reader.specs.declared.refusal.ProgramRefusal.{ProgramRefusal}
-use Rattle.command_line.specs.Commands.{IsAllowed, command_of}
-use Rattle.command_line.specs.Demands.{Entry, Question, Spares, asked_texts, device_name, initial_list, keeps_barriers, question_of, reads_input, writes_out, writes_report}
+use Rattle.command_line.specs.Commands.{IsAllowed, IsBeginAllowed, command_of}
+use Rattle.command_line.specs.Demands.{Entry, Question, Spares, asked_texts, device_name, initial_list, keeps_barriers, question_of, reads_input, told_list, writes_out, writes_report}
+use Rattle.command_line.specs.declared.commands.Begin.{Begin}
+use Rattle.command_line.specs.declared.commands.Begin.TheVariants.{Tries}
+use Rattle.wire_starts.specs.declared.Starts.TheVariants.{Tries as Best}
 use Rattle.command_line.specs.declared.commands.Command.{Command}
 use Rattle.command_line.specs.declared.commands.Command.TheVariants.{Opt, OptWithSpares, Route, Check, Stages, Bench, Amplitude, Verify}
 use Rattle.route_report.specs.Lines.{check_line}
 use Rattle.qroute_top.specs.Claims.{AreTold, Compares, Ending, IsEnding, IsVerified, Proved, ending_status}
 use Rattle.qroute_top.specs.Causes.{Handed, claim_status, IsCause, IsDeviceCause, IsRefusedDevice, IsRefusedQuestion, IsRefusedSource, IsSourceCause, Reaches, Reads}
-use Rattle.qroute_top.specs.Delivered.{Content, Delivered, Delivers, IsAnswer, IsHad, IsOnDevice, IsStages, Rewrites, WritesWithSpares, chosen_start, counts_of, drawn_program}
+use Rattle.qroute_top.specs.Delivered.{Content, Delivered, Delivers, IsAnswer, IsHad, IsOnDevice, IsStages, Rewrites, WritesWithSpares, counts_of, drawn_program, starts_of}
 use Rattle.circuit_target.specs.Standing.{IsInPlace, IsOnQubits}
 use Rattle.qroute_top.specs.Devices.{Fits, HasDevice, IsDevice, IsDeviceRefusal, HasSource}
 use Rattle.qroute_top.specs.Emitted.{IsEmitted, Sent}
@@ -151,11 +153,11 @@ asked_of_kept false (Some (Spares k)) p (question.TooManySpares n m) u = u
 abbrev pub ReachesFor : Handed → List ℕ → ℕ → Option (List ℕ) → Type 0
 ReachesFor h name n initial = (route : Reaches h name) × (n ≡ route.wires) × (initial ≡ initial_list route.command)
 
-pub Reaches-read : (h : Handed) (c : Command) (name : List ℕ) (trivial : Bool) (initial : Option (List ℕ)) (traced keep clean : Bool) (new : Option (List ℕ)) (p : Program)
-    → command_of h.words ≡ Some c → c ≡ Route name trivial initial traced keep clean → HasRead keep h.input new p → ReachesFor h name p.wires initial
-Reaches-read h c name trivial initial traced keep clean new p asked is (t, q, taken, ok, same) = (
+pub Reaches-read : (h : Handed) (c : Command) (name : List ℕ) (begin : Begin) (traced keep clean : Bool) (new : Option (List ℕ)) (p : Program)
+    → command_of h.words ≡ Some c → c ≡ Route name begin traced keep clean → HasRead keep h.input new p → ReachesFor h name p.wires (told_list begin)
+Reaches-read h c name begin traced keep clean new p asked is (t, q, taken, ok, same) = (
   record {
-    command = Route name trivial initial traced keep clean;
+    command = Route name begin traced keep clean;
     asked = asked ∙ ap (λ x. Some x) is;
     wants = refl;
     wires = p.wires;
@@ -252,13 +254,13 @@ pub Delivers-entry : (words : List (List ℕ)) (content : Content) (c : Command)
 Delivers-entry words content c from to old new p text line asked is read answered told =
     delivers words content (Amplitude from to) old new p text line (asked ∙ ap (λ x. Some x) is) read answered told
 
-pub Delivers-routed : (words : List (List ℕ)) (content : Content) (c : Command) (name : List ℕ) (trivial : Bool) (initial : Option (List ℕ)) (traced keep clean : Bool) (old new : Option (List ℕ)) (p : Program)
+pub Delivers-routed : (words : List (List ℕ)) (content : Content) (c : Command) (name : List ℕ) (begin : Begin) (traced keep clean : Bool) (old new : Option (List ℕ)) (p : Program)
     (d : Coupling) (n : ℕ) (text line : List ℕ)
-    → command_of words ≡ Some c → c ≡ Route name trivial initial traced keep clean → HasRead keep old new p
-    → (t : List ℕ) × TellsText (content name) t × IsDevice t d × (n ≤ d.size) × Fits initial n d.size → n ≡ p.wires
-    → Rewrites p keep traced (IsOnQubits d (chosen_start trivial initial d.size) clean p) text line → Delivers words content old new text line
-Delivers-routed words content c name trivial initial traced keep clean old new p d n text line asked is read loaded wires made =
-    delivers words content (Route name trivial initial traced keep clean) old new p text line (asked ∙ ap (λ x. Some x) is) read (λ r u. u) (record {
+    → command_of words ≡ Some c → c ≡ Route name begin traced keep clean → HasRead keep old new p
+    → (t : List ℕ) × TellsText (content name) t × IsDevice t d × (n ≤ d.size) × Fits (told_list begin) n d.size → n ≡ p.wires
+    → Rewrites p keep traced (IsOnQubits d (starts_of begin d.size) clean p) text line → Delivers words content old new text line
+Delivers-routed words content c name begin traced keep clean old new p d n text line asked is read loaded wires made =
+    delivers words content (Route name begin traced keep clean) old new p text line (asked ∙ ap (λ x. Some x) is) read (λ r u. u) (record {
       target = made.target;
       parts = made.parts;
       told = made.told;
@@ -271,7 +273,7 @@ Delivers-routed words content c name trivial initial traced keep clean old new p
         loaded = loaded.1;
         device = d;
         described = loaded.2;
-        fits = subst (λ (k : ℕ). Fits initial k d.size) wires loaded.4;
+        fits = subst (λ (k : ℕ). Fits (told_list begin) k d.size) wires loaded.4;
         routed = made.placed;
       };
     })
@@ -280,7 +282,7 @@ pub Delivers-drawn : (words : List (List ℕ)) (content : Content) (c : Command)
     (d : Coupling) (n : ℕ) (initial : Option (List ℕ)) (text line : List ℕ)
     → command_of words ≡ Some c → c ≡ Bench start gates name
     → (t : List ℕ) × TellsText (content name) t × IsDevice t d × (n ≤ d.size) × Fits initial n d.size
-    → p ≡ drawn_program start gates d.size → Rewrites p false false (IsOnQubits d None false p) text line → Delivers words content old new text line
+    → p ≡ drawn_program start gates d.size → Rewrites p false false (IsOnQubits d (Best 1) false p) text line → Delivers words content old new text line
 Delivers-drawn words content c start gates name old new p d n initial text line asked is loaded drawn made =
     delivers words content (Bench start gates name) old new p text line (asked ∙ ap (λ x. Some x) is) tt (λ r u. u) (record {
       target = made.target;
@@ -325,7 +327,7 @@ IsCause-claim h c a b (stop.Claim y) asked is x = (a, b, record { command = Veri
 apart : (c : Command) (a b : List ℕ) → asked_texts c ≡ Some (a, b) → (reads_input c ≡ false) × (device_name c ≡ None)
 apart (Opt keep) a b e = cc
 apart (OptWithSpares m) a b e = cc
-apart (Route name trivial initial traced keep clean) a b e = cc
+apart (Route name begin traced keep clean) a b e = cc
 apart Check a b e = cc
 apart (Stages spares) a b e = cc
 apart (Bench start gates name) a b e = cc
@@ -341,7 +343,7 @@ compares_reads h c a b x asked reads = let no = (apart c a b (compares_texts h c
 pub device_alone : (c : Command) (name : List ℕ) → device_name c ≡ Some name → asked_texts c ≡ None
 device_alone (Opt keep) name e = cc
 device_alone (OptWithSpares m) name e = cc
-device_alone (Route other trivial initial traced keep clean) name e = refl
+device_alone (Route other begin traced keep clean) name e = refl
 device_alone Check name e = cc
 device_alone (Stages spares) name e = cc
 device_alone (Bench start gates other) name e = refl
@@ -485,7 +487,7 @@ had_wires once old new false keep n p reads none had = cc
 fits_needed : (c : Command) (n wires size : ℕ) → (reads_input c ≡ true → wires ≡ n) → Fits (initial_list c) wires size → Fits (initial_list c) n size
 fits_needed (Opt keep) n wires size same fits = tt
 fits_needed (OptWithSpares m) n wires size same fits = tt
-fits_needed (Route name trivial initial traced keep clean) n wires size same fits = subst (λ (k : ℕ). Fits initial k size) (same refl) fits
+fits_needed (Route name begin traced keep clean) n wires size same fits = subst (λ (k : ℕ). Fits (told_list begin) k size) (same refl) fits
 fits_needed Check n wires size same fits = tt
 fits_needed (Stages spares) n wires size same fits = tt
 fits_needed (Bench start gates name) n wires size same fits = tt
@@ -511,7 +513,7 @@ same_device name other o e f = cc
 unasked : (c : Command) (name : List ℕ) (p : Program) (r : QuestionRefusal) → device_name c ≡ Some name → IsQuestionRefusal (question_of c) p r → ⊥
 unasked (Opt keep) name p r wants u = u
 unasked (OptWithSpares m) name p r wants u = cc
-unasked (Route other trivial initial traced keep clean) name p r wants u = u
+unasked (Route other begin traced keep clean) name p r wants u = u
 unasked Check name p r wants u = u
 unasked (Stages spares) name p r wants u = u
 unasked (Bench start gates other) name p r wants u = u
@@ -522,7 +524,7 @@ unasked (Verify a b) name p r wants u = u
 asking_reads : (c : Command) (p : Program) (r : QuestionRefusal) → IsQuestionRefusal (question_of c) p r → reads_input c ≡ true
 asking_reads (Opt keep) p r u = absurd u
 asking_reads (OptWithSpares m) p r u = refl
-asking_reads (Route other trivial initial traced keep clean) p r u = absurd u
+asking_reads (Route other begin traced keep clean) p r u = absurd u
 asking_reads Check p r u = absurd u
 asking_reads (Stages spares) p r u = absurd u
 asking_reads (Bench start gates other) p r u = absurd u
@@ -762,23 +764,25 @@ planned-refuses_question once words content old new w n text p r c delivers (inr
 
 -- what is delivered for a command that loads a device comes of the text of its device
 record IsFromDevice (content : Content) (name : List ℕ) (initial : Option (List ℕ)) (source : Program) (x l : List ℕ) : Type 0 where
-  trivial : Bool
+  begin : Begin
+  listed : told_list begin ≡ initial
   traced : Bool
   keep : Bool
   clean : Bool
-  answer : Rewrites source keep traced (IsOnDevice content name trivial initial clean source) x l
+  answer : Rewrites source keep traced (IsOnDevice content name begin clean source) x l
 
 answer_on : (content : Content) (name : List ℕ) (c : Command) (source : Program) (x l : List ℕ) → device_name c ≡ Some name → IsAnswer content c source x l
     → IsFromDevice content name (initial_list c) source x l
 answer_on content name (Opt keep) source x l wants answer = cc
 answer_on content name (OptWithSpares m) source x l wants answer = cc
-answer_on content name (Route other trivial initial traced keep clean) source x l wants answer =
+answer_on content name (Route other begin traced keep clean) source x l wants answer =
     let same : other ≡ name = cc in record {
-      trivial = trivial;
+      begin = begin;
+      listed = refl;
       traced = traced;
       keep = keep;
       clean = clean;
-      answer = subst (λ y. Rewrites source keep traced (IsOnDevice content y trivial initial clean source) x l) same answer;
+      answer = subst (λ y. Rewrites source keep traced (IsOnDevice content y begin clean source) x l) same answer;
     }
 answer_on content name Check source x l wants answer = cc
 answer_on content name (Stages spares) source x l wants answer = cc
@@ -786,7 +790,8 @@ answer_on content name (Amplitude from to) source x l wants answer = cc
 answer_on content name (Verify a b) source x l wants answer = cc
 answer_on content name (Bench start gates other) source x l wants answer =
     let same : other ≡ name = cc in record {
-      trivial = false;
+      begin = Tries 1;
+      listed = refl;
       traced = false;
       keep = false;
       clean = false;
@@ -798,7 +803,7 @@ answer_on content name (Bench start gates other) source x l wants answer =
         tells = answer.tells;
         alone = answer.alone;
         trace = answer.trace;
-        placed = subst (λ y. IsOnDevice content y false None false source answer.target answer.parts answer.told) same answer.placed.0;
+        placed = subst (λ y. IsOnDevice content y (Tries 1) false source answer.target answer.parts answer.told) same answer.placed.0;
       };
     }
 
@@ -830,7 +835,8 @@ refused_or_routed once words content old new x l name c t q r d asked wants need
     let listed : IsDeviceRefusal t q (initial_list d.command) r =
     subst (λ y. IsDeviceRefusal t q (initial_list y) r) (same_command words c d.command asked d.asked) refusal in
     let room = fits_needed d.command q d.source.wires placed.device.size
-    (λ reads. had_wires once old new (reads_input d.command) (keeps_barriers d.command) q d.source reads there d.had) placed.fits in
+    (λ reads. had_wires once old new (reads_input d.command) (keeps_barriers d.command) q d.source reads there d.had)
+    (subst (λ o. Fits o d.source.wires placed.device.size) on.listed placed.fits) in
     IsDevice-refused t placed.device q (initial_list d.command) r described (omega (arith, wires, fits)) room listed
 
 pub planned-refuses_device : MeansOnce → (words : List (List ℕ)) (content : Content) (old new : Option (List ℕ)) (w : Answer) (n : ℕ) (name : List ℕ) (c : Command)
@@ -872,13 +878,13 @@ pub fits-within : (initial : Option (List ℕ)) (n size k : ℕ) → Fits initia
 fits-within None n size k fits same = tt
 fits-within (Some list) n size k fits same = subst (λ (m : ℕ). All (λ q. q < m) list) (sym same) fits.within
 
-pub allowed-distinct : (c : Command) (name : List ℕ) (trivial : Bool) (initial : Option (List ℕ)) (traced keep clean : Bool) → IsAllowed c
-    → c ≡ Route name trivial initial traced keep clean → IfSome initial (IsDistinct nat_eq)
-allowed-distinct c name trivial initial traced keep clean allowed is = (subst IsAllowed is allowed).1
+pub allowed-begin : (c : Command) (name : List ℕ) (begin : Begin) (traced keep clean : Bool) → IsAllowed c
+    → c ≡ Route name begin traced keep clean → IsBeginAllowed begin
+allowed-begin c name begin traced keep clean allowed is = (subst IsAllowed is allowed).1
 
-pub allowed-traced : (c : Command) (name : List ℕ) (trivial : Bool) (initial : Option (List ℕ)) (traced keep clean : Bool) → IsAllowed c
-    → c ≡ Route name trivial initial traced keep clean → traced ≡ true → (keep ≡ false) × (clean ≡ false)
-allowed-traced c name trivial initial traced keep clean allowed is = (subst IsAllowed is allowed).0
+pub allowed-traced : (c : Command) (name : List ℕ) (begin : Begin) (traced keep clean : Bool) → IsAllowed c
+    → c ≡ Route name begin traced keep clean → traced ≡ true → (keep ≡ false) × (clean ≡ false)
+allowed-traced c name begin traced keep clean allowed is = (subst IsAllowed is allowed).0
 
 pub ruleset decided = (IsCause-words, IsCause-source)
 
@@ -949,7 +955,7 @@ verified_of : (content : Content) (c : Command) (a b : List ℕ) (p : Program) (
     → IsVerified content a b x
 verified_of content (Opt keep) a b p x l e answer = cc
 verified_of content (OptWithSpares m) a b p x l e answer = cc
-verified_of content (Route name trivial initial traced keep clean) a b p x l e answer = cc
+verified_of content (Route name begin traced keep clean) a b p x l e answer = cc
 verified_of content Check a b p x l e answer = cc
 verified_of content (Stages spares) a b p x l e answer = cc
 verified_of content (Bench start gates name) a b p x l e answer = cc
@@ -961,7 +967,7 @@ verified_of content (Verify c d) a b p x l e answer =
 verify_writes : (c : Command) (a b : List ℕ) → asked_texts c ≡ Some (a, b) → (writes_out c ≡ true) × (writes_report c ≡ false)
 verify_writes (Opt keep) a b e = cc
 verify_writes (OptWithSpares m) a b e = cc
-verify_writes (Route name trivial initial traced keep clean) a b e = cc
+verify_writes (Route name begin traced keep clean) a b e = cc
 verify_writes Check a b e = cc
 verify_writes (Stages spares) a b e = cc
 verify_writes (Bench start gates name) a b e = cc

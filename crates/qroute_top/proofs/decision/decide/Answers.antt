@@ -1,11 +1,11 @@
 -- Why the device isn't had, and what is delivered on one that is.
 use Rattle.std.proofs.Common.{refl, map, ap, subst, None, ◌∙◌}
 use Rattle.std.proofs.lemmas.Result.{err_from_is_err_and}
-use Rattle.command_line.specs.Demands.{Entry, Spares}
+use Rattle.command_line.specs.Demands.{Entry, Spares, told_list}
 use Rattle.command_line.specs.declared.commands.Command.TheVariants.{Amplitude, OptWithSpares}
 use Rattle.qroute_top.specs.Causes.{Handed}
 use Rattle.circuit_target.specs.Standing.{IsOnQubits}
-use Rattle.qroute_top.specs.Delivered.{Rewrites, chosen_start, drawn_program}
+use Rattle.qroute_top.specs.Delivered.{Rewrites, drawn_program, starts_of}
 use Rattle.qroute_top.proofs.RunLaws.{Delivers-drawn, Delivers-entry, Delivers-routed, Delivers-spared, IsCause-device, IsCause-question, Reaches-drawn, Reaches-read, device_failed, handed}
 use Rattle.qroute_top.proofs.decision.decide.Goals as goal
 
@@ -15,16 +15,16 @@ returns-in_err-device-in-Route-clause-stop g c =
     let h : Handed = handed (map (λ w. w.now) c.args.words.now) (g.I.Source.left c.args.input.now) (g.I.Source.faults c.args.input.now)
     (g.I.Source.faults c.read_source-in-Route.new.input) (g.F.Shelf.content c.args.shelf.now) (g.F.Shelf.faults c.args.shelf.now)
     (g.F.Shelf.faults c.load_device.new.shelf) in
-    let reached = Reaches-read h c.in_ok-command.command c.in-Route.name c.in-Route.trivial c.in-Route.initial c.in-Route.trace c.in-Route.keep_barriers c.in-Route.clean _ _ c.in_ok-command.ensures.ok c.in-Route.is
+    let reached = Reaches-read h c.in_ok-command.command c.in-Route.name c.in-Route.begin c.in-Route.trace c.in-Route.keep_barriers c.in-Route.clean _ _ c.in_ok-command.ensures.ok c.in-Route.is
     c.in_ok-source-in-Route.ensures.ok in
-    let it = IsCause-device h c.in-Route.name c.wires.result c.in-Route.initial _ (reached.0, c.wires.ensures.value ∙ reached.1, reached.2) c.in_err-device-in-Route.ensures.err
+    let it = IsCause-device h c.in-Route.name c.wires.result (told_list c.in-Route.begin) _ (reached.0, c.wires.ensures.value ∙ reached.1, reached.2) c.in_err-device-in-Route.ensures.err
     (λ f. c.in_err-device-in-Route.ensures.calm (λ e. f (device_failed _ _ _ refl e))) in
     rw (p.1, p.2) it
 
 -- want of memory has no cause
-pub returns-in_err-chosen-in-Route-clause-stop : goal.returns-in_err-chosen-in-Route-clause-stop
-returns-in_err-chosen-in-Route-clause-stop g c =
-    let p = err_from_is_err_and c.from_residual-in_err-chosen-in-Route.result c.from_residual-in_err-chosen-in-Route.ensures.1 in
+pub returns-in_err-starts-in-Route-clause-stop : goal.returns-in_err-starts-in-Route-clause-stop
+returns-in_err-starts-in-Route-clause-stop g c =
+    let p = err_from_is_err_and c.from_residual-in_err-starts-in-Route.result c.from_residual-in_err-starts-in-Route.ensures.1 in
     rw (p.1, p.2) tt
 
 pub returns-in_err-route_on-in-Route-clause-stop : goal.returns-in_err-route_on-in-Route-clause-stop
@@ -46,11 +46,11 @@ returns-in_err-device-in-Bench-clause-stop g c =
 pub returns-in_ok-route_on-in-Route-clause-made : goal.returns-in_ok-route_on-in-Route-clause-made
 returns-in_ok-route_on-in-Route-clause-made g c =
     λ text line is. Delivers-routed (map (λ w. w.now) c.args.words.now) (g.F.Shelf.content c.args.shelf.now) c.in_ok-command.command c.in-Route.name
-    c.in-Route.trivial c.in-Route.initial c.in-Route.trace c.in-Route.keep_barriers c.in-Route.clean (g.I.Source.left c.args.input.now) (g.I.Source.left c.read_source-in-Route.new.input) c.in_ok-source-in-Route.source
+    c.in-Route.begin c.in-Route.trace c.in-Route.keep_barriers c.in-Route.clean (g.I.Source.left c.args.input.now) (g.I.Source.left c.read_source-in-Route.new.input) c.in_ok-source-in-Route.source
     c.in_ok-device-in-Route.device c.wires.result text line c.in_ok-command.ensures.ok c.in-Route.is
     c.in_ok-source-in-Route.ensures.ok c.in_ok-device-in-Route.ensures.ok c.wires.ensures.value
     (subst (λ o. Rewrites c.in_ok-source-in-Route.source c.in-Route.keep_barriers c.in-Route.trace (IsOnQubits c.in_ok-device-in-Route.device o c.in-Route.clean
-    c.in_ok-source-in-Route.source) text line) (c.in_ok-chosen-in-Route.ensures.value ∙ ap (chosen_start c.in-Route.trivial c.in-Route.initial) c.size.ensures.size)
+    c.in_ok-source-in-Route.source) text line) (c.in_ok-starts-in-Route.ensures.value ∙ ap (starts_of c.in-Route.begin) c.size.ensures.size)
     (c.in_ok-route_on-in-Route.ensures.made text line is))
 
 pub returns-in_ok-route_on-in-Bench-clause-made : goal.returns-in_ok-route_on-in-Bench-clause-made
