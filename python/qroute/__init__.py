@@ -63,6 +63,7 @@ __all__ = [
 __version__ = "0.10.0"
 
 HERE = pathlib.Path(__file__).resolve().parent
+MOST_TRIES = 256
 
 # What each fault means, by its name in the fault line; braces hold keys of that line.
 SAYS = {
@@ -548,6 +549,15 @@ def initial_words(initial: collections.abc.Iterable[int] | None) -> list[str]:
     return [] if initial is None else [f"--initial={','.join(str(operator.index(it)) for it in initial)}"]
 
 
+def tries_words(tries: int | None) -> list[str]:
+    """The words that ask for the best of so many tries; TypeError if it is no whole number, ValueError if it isn't from 1 to 256."""
+    if tries is None:
+        return []
+    if not 1 <= operator.index(tries) <= MOST_TRIES:
+        raise ValueError(f"tries are from 1 to {MOST_TRIES}, and not {tries}")
+    return ["--tries", str(operator.index(tries))]
+
+
 def opt(
     text: str | bytes,
     *,
@@ -588,6 +598,7 @@ def route(
     trivial: bool = False,
     *,
     initial: collections.abc.Iterable[int] | None = None,
+    tries: int | None = None,
     trace: bool = False,
     keep_barriers: bool = False,
     clean: bool = False,
@@ -601,10 +612,15 @@ def route(
     Another length, or a qubit that the device lacks, raises DeviceRefused; a qubit twice, or a number that isn't from 0 to 255,
     NoCommand. It doesn't go with `trivial` (ValueError).
 
+    With `tries`, from 1 to 256, the program is routed that often, from other places each time, and the first of the results with the
+    fewest swaps is taken, or on a device with costs the one whose CNOTs cost least. It goes with neither `trivial` nor `initial`
+    (ValueError).
+
     With `trace` its text is followed by its trace. With `keep_barriers` its barriers are kept, as by `opt`, and with `clean` gates
     that cancel once they are routed are taken out. A trace can be asked for with neither of the two (ValueError).
 
-    With `any_gates` it takes any OpenQASM 2.0, as `opt` says, which also has what is proved then; no trace can be asked for.
+    With `any_gates` it takes any OpenQASM 2.0, as `opt` says, which also has what is proved then; no trace can be asked for. It makes
+    20 tries then, unless it is told how many, or where the wires begin.
 
     >>> text = 'OPENQASM 2.0; include "qelib1.inc"; qreg q[3]; creg c[1]; ccx q[0],q[1],q[2]; measure q[2] -> c[0];'
     >>> found = route(text, Device.named("ibm_tokyo"))
@@ -616,13 +632,16 @@ def route(
     if initial is not None and trivial:
         raise ValueError("a list of qubits doesn't go with `trivial`")
     begins = [*flags(trivial=trivial), *initial_words(initial)]
+    searches = tries_words(tries)
+    if begins and searches:
+        raise ValueError("tries look for where the wires begin, so they go with neither `trivial` nor a list of qubits")
     if any_gates:
-        return whole.route(text, device, begins, keep_barriers=keep_barriers, clean=clean, within=within, timeout=timeout)
+        return whole.route(text, device, begins, tries, keep_barriers=keep_barriers, clean=clean, within=within, timeout=timeout)
     with tempfile.TemporaryDirectory() as room:
         path = os.path.join(room, "device.toml")
         with open(path, "w", encoding="utf-8") as file:
             file.write(device.text)
-        words = ["route", "--device", path, *begins, *flags(trace=trace, keep_barriers=keep_barriers, clean=clean)]
+        words = ["route", "--device", path, *begins, *searches, *flags(trace=trace, keep_barriers=keep_barriers, clean=clean)]
         return result(*run(words, as_bytes(text), timeout))
 
 

@@ -390,6 +390,7 @@ def route(
     text: str | bytes,
     device: qroute.Device,
     begins: list[str],
+    tries: int | None,
     *,
     keep_barriers: bool,
     clean: bool,
@@ -397,8 +398,9 @@ def route(
     timeout: float | None,
 ) -> qroute.Result:
     """`qroute.route` of a program with any gates; `begins` are the words that say where its wires begin, if they are told."""
-    tries = TRIES if not begins and knows_tries() else None
-    flags = begins + qroute.flags(keep_barriers=True, clean=clean) + (["--tries", str(tries)] if tries else [])
+    if tries is None and not begins and knows_tries():
+        tries = TRIES
+    flags = begins + qroute.tries_words(tries) + qroute.flags(keep_barriers=True, clean=clean)
 
     def run(handed: str) -> tuple[str, dict[str, typing.Any]]:
         with tempfile.TemporaryDirectory() as room:

@@ -1,4 +1,6 @@
-"""Gates H, X, P and CNOT: drawn, written as a program, and read again from one that the program wrote."""
+"""Gates H, X, P and CNOT, and barriers: drawn, written as a program, and read again from one that the program wrote."""
+
+import re
 
 import gates
 import qasm
@@ -35,6 +37,8 @@ def line_of(gate):
             return f"cx q[{control}],q[{target}];\n"
         case "P", k, wire:
             return f"{PHASES[k - 1]} q[{wire}];\n"
+        case "barrier", *wires:
+            return f"barrier {','.join(f'q[{it}]' for it in wires)};\n"
         case name, wire:
             return f"{name.lower()} q[{wire}];\n"
 
@@ -49,3 +53,9 @@ def gates_in(text):
     found, turn = gates.expanded(operations)
     assert turn == 0, text
     return found
+
+
+def parts_in(text, wires):
+    """The gates of a written program, those between barriers apart."""
+    first, *others = re.split(rb"^barrier .*\n", text, flags=re.MULTILINE)
+    return [gates_in(first), *(gates_in(text_of(wires, []) + it) for it in others)]

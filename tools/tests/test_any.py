@@ -101,8 +101,8 @@ class Examples(AnyGates):
             with open(path, encoding="utf-8") as file:
                 text = file.read()
             device = qroute.Device.named("ibm_eagle_127")
-            found = qroute.route(text, device, any_gates=True)
-            plain = qroute.route(text, device)
+            found = qroute.route(text, device, any_gates=True, tries=2)
+            plain = qroute.route(text, device, tries=2)
             self.assertEqual((found.any_gates.put_back, found.any_gates.exact, found.any_gates.declared), ({}, (), ()), path)
             self.assertEqual((found.text, found.report), (plain.text, plain.report), path)
 
@@ -310,6 +310,17 @@ class Results(AnyGates):
         line = many[: many.index("  a14")].count("\n") + 1
         self.assertIn(f"line {line}, ", str(caught.exception))
 
+    def test_tries(self):
+        """20 are made unless it is told how many, or where the wires begin. The second one looks beyond the gate that is put back."""
+        text = HEAD + "qreg q[4]; cx q[2],q[3]; cx q[0],q[2]; rz(0.1) q[2]; cx q[1],q[2];"
+        device = qroute.Device.of([(0, 1), (1, 2), (2, 3)], both=True)
+        for asked, told, swaps in (({"tries": 1}, 1, 2), ({"tries": 2}, 2, 1), ({"trivial": True}, None, 2), ({"initial": [0, 1, 2, 3]}, None, 2)):
+            found = qroute.route(text, device, any_gates=True, **asked)
+            self.assertEqual((found.any_gates.tries, found.swaps), (told, swaps), asked)
+        found = qroute.route(text, device, any_gates=True)
+        self.assertEqual((found.any_gates.tries, found.text), (20, qroute.route(text, device, any_gates=True, tries=20).text))
+        self.assertLessEqual(found.swaps, 1)
+
     def test_success_on_a_device_with_costs(self):
         device = qroute.Device.of([(0, 1, 1000), (1, 2, 500)], both=True)
         found = qroute.route(HEAD + "qreg q[2]; h q[0]; cx q[0],q[1]; t q[0]; rz(0.1) q[1];", device, True, any_gates=True)
@@ -331,6 +342,8 @@ class Tool(AnyGates):
         self.assertIn("any: put back: 1 reset, 1 u1", lines)
         status, out, _ = self.run_tool("any", "opt", "--keep-barriers", given=text)
         self.assertEqual((status, out), (0, qroute.opt(text, any_gates=True, keep_barriers=True).text))
+        status, out, _ = self.run_tool("any", "route", "--device", device, "--tries", "3", given=text)
+        self.assertEqual((status, out), (0, qroute.route(text, qroute.Device.named("line_5"), any_gates=True, tries=3).text))
 
     def test_faults(self):
         path = os.path.join(TOP, "devices/line_5.toml")
@@ -340,3 +353,10 @@ class Tool(AnyGates):
         self.assertEqual((status, out, err), (4, "", "any: TooFewQubits: the device has 5 qubits, and the program 6\n"))
         status, out, err = self.run_tool("any", "route", "--device", self.room + "/none", given=HEAD)
         self.assertEqual((status, out, err), (2, "", f"any: {self.room}/none: No such file or directory\n"))
+        for words in (
+            *(["opt", *it] for it in (["--tries", "2"], ["--clean"], ["--trivial"], ["--initial", "0"])),
+            *(["route", "--device", path, *it] for it in (["--tries", "0"], ["--tries", "257"], ["--tries=-1"], ["--tries", "2.0"])),
+            *(["route", "--device", path, "--tries", "2", *it] for it in (["--trivial"], ["--initial", "0"])),
+        ):
+            status, out, _ = self.run_tool("any", *words, given=HEAD)
+            self.assertEqual((status, out), (2, ""), words)

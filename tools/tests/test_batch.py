@@ -479,9 +479,9 @@ class Batch(BatchTest):
         self.assertFalse(os.path.exists(self.out))
 
     def test_options_are_those_of_the_module(self):
-        asked = batch.parser().parse_args(["route", "x", "-o", "y", "--device", "z", "--trivial", "--clean"])
+        asked = batch.parser().parse_args(["route", "x", "-o", "y", "--device", "z", "--tries", "20", "--clean"])
         given = {key: it for key, it in vars(asked).items() if key.startswith("option ") and it}
-        self.assertEqual(given, {"option trivial": True, "option clean": True})
+        self.assertEqual(given, {"option tries": 20, "option clean": True})
         kinds = batch.options_of("opt")
         self.assertEqual([kinds[it] for it in ("keep_barriers", "spares", "within")], [bool, int, float])
         with mock.patch.object(qroute, "opt") as called:

@@ -9,6 +9,7 @@ import exact
 import qasm
 
 FOLDER = os.path.join(TOP, "examples/literature")
+SABRE = os.path.join(TOP, "examples/sabre")
 # the powers of x in the polynomials whose roots the fields of gf2_*_mult are made with
 POLYNOMIALS = {
     4: (4, 1, 0),
@@ -71,7 +72,7 @@ class Literature(ToolTest):
         return self.random.getrandbits(size)
 
     def test_each_tells_its_source(self):
-        for name in os.listdir(FOLDER):
+        for name in [*os.listdir(FOLDER), *(f"../sabre/{it}" for it in os.listdir(SABRE))]:
             with open(os.path.join(FOLDER, name), encoding="utf-8") as file:
                 head = "".join(line for line in file if line.startswith("//"))
             self.assertRegex(head, r"(19|20)\d\d\.\n$", name)
@@ -134,3 +135,16 @@ class Literature(ToolTest):
         for n in (6, 10):
             left = [i for i, it in enumerate(self.ends(f"hidden_shift_{n}", 0).values) if it != exact.ZERO]
             self.assertEqual(left, [self.first_nots(f"hidden_shift_{n}", "cz")])
+
+    def has_cnots(self, name, wanted):
+        """Whether a program of examples/sabre has these CNOTs, and besides these H and phases of pi/4 alone."""
+        found = qasm.operations(program(f"../sabre/{name}"))
+        self.assertEqual([it[1:] for it in found if it[0] == "CX"], wanted, name)
+        # by the angles of U in units of pi/4: T, its inverse, H
+        self.assertLessEqual({it[1:4] for it in found if it[0] == "U"}, {(0, 0, 1), (0, 0, 7), (2, 0, 4)}, name)
+
+    def test_programs_of_sabre(self):
+        for n in (10, 13, 16, 20):
+            self.has_cnots(f"qft_{n}", [(j, i) for i in range(n) for j in range(i + 1, n) for _ in range(2)])
+        for n in (10, 13, 16):
+            self.has_cnots(f"ising_{n}", 5 * [(i, i + 1) for first in (0, 1) for i in range(first, n - 1, 2) for _ in range(2)])

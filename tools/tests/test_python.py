@@ -1,6 +1,7 @@
 import contextlib
 import doctest
 import json
+import operator
 import os
 import shutil
 import subprocess
@@ -129,6 +130,28 @@ class Module(StoodIn):
         fault = self.fault(qroute.DeviceRefused, 4, told, lambda: qroute.route(SOURCE, device, initial=[3, 0]))
         self.assertEqual((fault.code, fault.told["device"]), (58, 3))
         self.assertEqual(str(fault), "Initial: the list of qubits has more or fewer than the program, which has 2, or one that the device, which has 3, lacks")
+
+    def test_tries(self):
+        self.answers(0, "written\n", REPORT)
+        device = qroute.Device.of([(0, 1), (2, 1)])
+        for tries in (1, 256, Whole(20)):
+            self.assertEqual(qroute.route(SOURCE, device, tries=tries, trace=True).text, "written\n")
+            self.assertEqual(self.given("words").split()[3:], ["--tries", str(operator.index(tries)), "--trace"])
+        qroute.route(SOURCE, device, tries=2, keep_barriers=True, clean=True)
+        self.assertEqual(self.given("words").split()[3:], ["--tries", "2", "--keep-barriers", "--clean"])
+        os.remove(os.path.join(self.room, "words"))
+        for tries in ("2", 2.0, [2]):
+            with self.assertRaises(TypeError):
+                qroute.route(SOURCE, device, tries=tries)
+        for tries in (0, -1, 257, Whole(1000)):
+            with self.assertRaisesRegex(ValueError, "from 1 to 256"):
+                qroute.route(SOURCE, device, tries=tries)
+        for begins in ({"trivial": True}, {"initial": [2, 0]}):
+            for any_gates in (False, True):
+                with self.assertRaisesRegex(ValueError, "neither"):
+                    qroute.route(SOURCE, device, tries=2, any_gates=any_gates, **begins)
+        # nothing was run for these
+        self.assertFalse(os.path.exists(os.path.join(self.room, "words")))
 
     def test_spares(self):
         told = {"format": 4, "device": 4, "qubits": 2, "spares": 2, "swaps": 0, "initial": [0, 1, 2, 3], "final": [0, 1, 2, 3]}
