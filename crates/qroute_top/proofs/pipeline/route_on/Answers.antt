@@ -10,7 +10,7 @@ use Rattle.qroute_top.proofs.pipeline.route_on.Goals as goal
 pub routed-requires : goal.routed-requires
 routed-requires c = record {
   fits = subst (λ (s : Program). s.wires ≤ c.args.device.now.size) (sym c.parted.ensures.value) c.requires.fits;
-  chosen = c.requires.chosen;
+  starts = c.requires.starts;
   traced = subst (λ (s : Program). c.args.wishes.trace ≡ true → (s.cut ≡ uncut s.ops) × (c.args.wishes.clean ≡ false)) (sym c.parted.ensures.value) c.requires.traced;
 }
 
@@ -19,6 +19,6 @@ answer_of-requires c = record { fit = subst (λ (s : Program). IsFit s c.in_ok-t
 
 pub returns-clause-made : goal.returns-clause-made
 returns-clause-made c = λ text line is. Rewrites-planned c.args.source c.in_ok-target.target _ _ _ text line
-    (subst (λ (s : Program). Stands s c.args.wishes.keep c.args.wishes.trace (IsOnQubits c.args.device.now c.args.chosen c.args.wishes.clean s)
+    (subst (λ (s : Program). Stands s c.args.wishes.keep c.args.wishes.trace (IsOnQubits c.args.device.now c.args.starts c.args.wishes.clean s)
     c.in_ok-target.target) c.parted.ensures.value c.in_ok-target.ensures.stands)
     (c.answer_of.ensures.planned text line is)
