@@ -115,7 +115,8 @@ def reading():
 # what README.md shows of docs/RESULTS.md and docs/PERFORMANCE.md
 SHOWN = ["tof_10", "barenco_tof_10", "vbe_adder_3", "gf2_16_mult"]
 AT_A_GLANCE = ["gf2_16_mult", "barenco_tof_10", "tof_10"]
-ROUTED = ["tof_10", "barenco_tof_10", "vbe_adder_3"]
+BY_SABRE = ["qft_10", "qft_13", "qft_16", "qft_20"]
+ROUTED = ["tof_10", "barenco_tof_10"]
 FAST = ["`check` | 65,536 on 20", "`opt` | 65,536 on 20", "`route`, grid of 64", "`route --trace`, grid", "`verify`"]
 
 
@@ -149,10 +150,12 @@ def glance():
     rows = {row[0]: row for row in result_rows("opt")}
     gates = ", ".join(f"`{name}` {rows[name][8]} → {rows[name][9]} (VOQC: {rows[name][11]})" for name in AT_A_GLANCE)
     rows = {row[0]: row for row in result_rows("route") if row[1] == "ibm_tokyo"}
-    swaps = ", ".join(f"`{name}` {rows[name][3]} (from the trivial layout {rows[name][4]})" for name in ROUTED)
+    swaps = ", ".join(f"`{name}` {rows[name][5]} (one try: {rows[name][3]})" for name in ROUTED)
+    others = ", ".join(f"`{name}` {rows[name][5]} (SABRE: {rows[name][7]})" for name in BY_SABRE)
     times = [[cell.strip() for cell in line.strip("|").split("|")] for line in fast()[2:]]
     return (
-        f"- **T gates**: {gates}.\n- **Swaps** on IBM's Tokyo: {swaps}.\n"
+        f"- **T gates**: {gates}.\n"
+        f"- **Swaps** on IBM's Tokyo by `--tries 20`: {swaps}; with each phase pi/4 in place of its own {others}.\n"
         f"- **Time** for 65,536 gates: `opt` {times[1][2]} s, `route` on a grid of 64 qubits {times[2][2]} s, on one core."
     )
 
