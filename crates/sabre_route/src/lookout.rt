@@ -83,6 +83,23 @@ fn cnots_among(alloc: Global, gates: &[Gate]) -> Result<Vec<Gate>, AllocError>
     Ok(cnots)
 }
 
+/// Room for looks along dependences: how far each wire has come, and the places of the CNOTs that are met. A run makes it once.
+#[derive(Drop)]
+pub struct Room {
+    reach: [usize; QUBITS],
+    places: [usize; MOST_MET],
+}
+
+impl Room {
+    /// Room for any look.
+    pub fn new() -> Room {
+        Room {
+            reach: [0; QUBITS],
+            places: [0; MOST_MET],
+        }
+    }
+}
+
 /// The chains of some gates.
 fn chained(alloc: Global, gates: &[Gate], wires: u32) -> Result<Chains, AllocError>
     requires fine { All (IsFine wires) gates.now }
@@ -281,6 +298,7 @@ impl<'a> Lookout<'a> {
         &self,
         placement: &Placement,
         layer: &[(u32, u32)],
+        room: &mut Room,
         into: &mut [(u32, u32)],
     ) -> usize
         requires fits { self.now.wires ≤ length placement.now }
@@ -294,11 +312,11 @@ impl<'a> Lookout<'a> {
     {
         // Its contract says that the wires stand on different qubits.
         placement.facts();
-        let mut room = [0; QUBITS];
-        let reach = &mut room[..self.heads.len()];
+        let places = &mut room.places[..];
+        let reach = &mut room.reach[..];
+        let reach = &mut reach[..self.heads.len()];
         reach.copy_from_slice(self.heads.as_slice());
-        let mut places = [0; MOST_MET];
-        begin(self.heads.as_slice(), placement, layer, &mut places);
+        begin(self.heads.as_slice(), placement, layer, places);
         let first = layer.len();
         let count = follow_all(
             self.cnots,
@@ -306,7 +324,7 @@ impl<'a> Lookout<'a> {
             first + MOST_EXTENDED,
             first,
             reach,
-            &mut places,
+            places,
         );
         write_pairs(placement, self.cnots, &places[first..count], into)
     }

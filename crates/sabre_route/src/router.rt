@@ -17,7 +17,6 @@ ghost use Rattle.unitary_model.specs.Operations.{cx_count, t_count};
 ghost use Rattle.unitary_model.specs.Placement.{IsPlacement};
 ghost use Rattle.unitary_model.specs.Realises.{Realises};
 
-use crate::best::QUBITS;
 use crate::choice::{Scratch, choose_swap_in};
 use crate::emission::Written;
 use crate::events::{Event, Teller};
@@ -72,7 +71,7 @@ fn choose_walk(state: &RouteState<'_>, device: &Device) -> (u32, u32)
 
 /// The two qubits that the machine swaps where no gate can be emitted.
 ///
-/// The scratch is for the qubits of the front layer, so that a run makes it once.
+/// The scratch is room that a run makes once.
 fn choose(
     scratch: &mut Scratch,
     lookout: &Option<Lookout<'_>>,
@@ -184,7 +183,7 @@ fn run(
     let mut state = RouteState::start(alloc, gates, wires, given)?;
     let mut written = Written::nothing(alloc, device.size())?;
     let mut teller = teller;
-    let mut scratch = [(0, 0); QUBITS];
+    let mut scratch = Scratch::new();
     'steps: while !state.is_done() {
         write_step(
             &mut scratch,
@@ -227,7 +226,7 @@ fn settle(
     device.facts();
     given.facts();
     let mut state = RouteState::start(alloc, gates, wires, given)?;
-    let mut scratch = [(0, 0); QUBITS];
+    let mut scratch = Scratch::new();
     'steps: while !state.is_done() {
         let _move = step(&mut scratch, lookout, &mut state, device)?;
     }
