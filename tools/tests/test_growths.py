@@ -59,5 +59,5 @@ class Growths(ToolTest):
             self.skipTest("there is no built program")
         status, out, err = self.run_tool("refuse-growths", program, timeout=1200)
         self.assertEqual((status, err), (0, ""), out)
-        self.assertEqual(len(out.splitlines()), 18)
+        self.assertEqual(len(out.splitlines()), 19)
         self.assertIn("opt: status 0, ", out)
