@@ -1,4 +1,5 @@
 import os
+import re
 import shutil
 import subprocess
 import sys
@@ -176,21 +177,44 @@ class Mutate(ToolTest):
         self.assertEqual((status, self.number_of_checks()), (1, 0))
 
     def test_the_table(self):
-        table = "<!-- made: edits -->\n| edits | refused by |\n|---|---|\n| **`low`** at `12345678` | |\n| `four` | old |\n| `gone` | `x` of `y` |\n"
-        self.file("docs/CLAIMS.md", f"# Claims\n\n{table}| **`high`** at `12345678` | |\n| `more`, `much` | `kept` of `it` |\n<!-- /made -->\n\nEnd.\n")
+        head = "| crate | edits tried | refused by | not shown |\n|---|---|---|---|\n"
+        kept = "| `high` | 2 at `12345678`, `87654321`{} | `it`: `kept` (`more`, `much`) | |\n"
+        self.file("docs/CLAIMS.md", f"# Claims\n\n<!-- made: edits -->\n{head}{kept.format('')}<!-- /made -->\n\nEnd.\n")
         self.edit("more", "//! High.", "//! Higher.", crate="high")
         self.edit("much", "//! High.", "//! Highest.", crate="high")
         self.edit("never", "//! High.", "//! Lower.", crate="high")
         self.edit("four", "    2", "    4")
         self.edit("nothing", "    LIMIT", "    3")
+        self.edit("one_always", "return n;", "return 1;", "must-fail")
+        self.edit("sum", "half + 1", "half + 1 $")
         for words in (["git", "init", "-q"], ["git", "add", "-A"], ["git", "-c", "user.name=a", "-c", "user.email=a", "commit", "-qm", "All"]):
             subprocess.run(words, cwd=self.room, check=True)
         at = subprocess.run(["git", "rev-parse", "--short=8", "HEAD"], cwd=self.room, capture_output=True, text=True, check=True).stdout.strip()
         self.mutate("--mend", "--joined", "low")
+        refused = "`two`: `even` (`four`); `Evens::next`: within (`one_always`)"
+        made = rf"\| `low` \| 4 at `{at}`, `(\w{{8}})` \| {re.escape(refused)} \| `nothing`, `sum` \(can't be made\) \|\n"
+        changed = re.escape(kept.format("; changed since, 3 now"))
+        self.assertRegex(self.claims(), rf"^# Claims\n\n<!-- made: edits -->\n{re.escape(head)}{made}{changed}<!-- /made -->\n\nEnd.\n$")
+        # a sum that is the tree's again, and edits that changed after they were tried, as they are read and made again
+        summed = re.search(made, self.claims()).group(1)
+        self.file("docs/CLAIMS.md", self.claims().replace("| 4 at", "| 5 at"))
+        self.edit("nothing", "    LIMIT", "    LIMIT + 3")
+        self.mutate("--mend", "--joined", "high")
+        self.assertIn(f"| `low` | 5 at `{at}`, `{summed}`; changed since, 4 now | {refused} | `nothing`,", self.claims())
+        self.edit("nothing", "    LIMIT", "    3")
+        self.mutate("--mend", "--joined", "high")
+        self.assertIn(f"| `low` | 4 at `{at}`, `{summed}` | {refused} | `nothing`,", self.claims())
+
+    def test_a_row_of_many_edits_does_not_name_them(self):
+        for i in range(8):
+            self.edit(f"a_name_of_some_length_with_the_number_{i}", "    2", "    4" if i % 2 else "    5")
+        self.edit("one_always", "return n;", "return 1;")
+        self.mutate("--mend", "--joined", "low")
+        self.assertIn(" | `two`: `small`, `even`; `Evens::next`: within | |\n", self.claims())
+
+    def claims(self):
         with open(os.path.join(self.room, "docs/CLAIMS.md"), encoding="utf-8") as file:
-            text = file.read()
-        mended = table.replace("12345678", at).replace("old", "`even` of `two`").replace("| `gone` | `x` of `y` |", "| `nothing` | not shown |")
-        self.assertEqual(text, f"# Claims\n\n{mended}| **`high`** at `12345678` | |\n| `more`, `much` | `kept` of `it` |\n| `never` | not tried |\n<!-- /made -->\n\nEnd.\n")
+            return file.read()
 
     def test_all_crates(self):
         self.edit("four", "    2", "    4")
@@ -202,6 +226,9 @@ class Mutate(ToolTest):
         self.assertTrue(lines[-1].startswith("2 edits, 1 shown, 2 checks, "))
 
     def test_words(self):
+        self.edit("four", "    2", "    4")
         for words in ([], ["low"], ["--joined"], ["--joined", "lower"], ["--all", "low"], ["--all", "--jobs", "0"], ["--all", "--more"], ["--joined", "low", "six"]):
             self.assertEqual(self.mutate(*words)[0], 2, words)
+        # a row is of all edits
+        self.assertEqual(self.mutate("--joined", "low", "four", "--mend")[0], 2)
         self.assertEqual(self.mutate("--help")[0], 0)
