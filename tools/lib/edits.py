@@ -13,6 +13,8 @@ import sources
 
 # what a proof file is told if it cites a name that an edit took away
 NAMES = re.compile(r"has no field|is not in scope|is no name|not found in|has no (name|part|definition)|was not admitted")
+# what is said of those that stand on a lemma that was refused
+HANGING = re.compile(r"\d+ declarations? that depends? on .* not checked: (.*)")
 ERROR = re.compile(r"(?:\./)?(proofs/(\S+)/\w+\.antt|\S+\.(?:antt|rt)):(\d+):\d+: error\S*:? (.*)")
 NOTE = re.compile(r"note: src/(\S+)\.rt:(\d+):\d+: it is not proved that (.*)")
 
@@ -187,11 +189,17 @@ class Refusal:
 
     goals: list[str] = dataclasses.field(default_factory=list)
     by_name: bool = True  # whether nothing but names that are gone is told
+    hanging: list[str] = dataclasses.field(default_factory=list)  # goals that weren't judged, since they stand on what was refused
+    told: str = ""  # what its own line says
 
     def add(self, goal: str, by_name: bool) -> None:
         if goal and goal not in self.goals:
             self.goals.append(goal)
         self.by_name = self.by_name and by_name
+
+    def hangs(self) -> bool:
+        """Whether no goal was refused itself, and some weren't judged."""
+        return bool(self.hanging and not self.goals)
 
 
 def refusals(crate: str, said: str, code: dict[str, str]) -> tuple[dict[str, Refusal], dict[str, Refusal]]:
@@ -207,7 +215,11 @@ def refusals(crate: str, said: str, code: dict[str, str]) -> tuple[dict[str, Ref
         if match := ERROR.match(line):
             goal = re.match(r"`([^`]+)`:", match.group(4))
             by_name = bool(NAMES.search(re.sub(r"`[^`]*`", "", match.group(4))))
-            if match.group(2):
+            if hanging := HANGING.match(match.group(4)):
+                if match.group(2):
+                    listed = re.sub(r" \([^)]*\)", "", hanging.group(1)).split(", ")
+                    functions.setdefault(match.group(2).replace("/", "::"), Refusal()).hanging += listed
+            elif match.group(2):
                 functions.setdefault(match.group(2).replace("/", "::"), Refusal()).add(goal.group(1) if goal else "", by_name)
             else:
                 files.setdefault(match.group(1), Refusal()).add(match.group(4)[:120], by_name)
@@ -224,17 +236,19 @@ def refusals(crate: str, said: str, code: dict[str, str]) -> tuple[dict[str, Ref
 
 def add_told(functions: dict[str, Refusal], path: str, told: str) -> None:
     """Notes what the line of a function itself tells."""
-    if told.startswith(": it calls"):
+    if told.startswith(": it calls") or re.search(r"a call of `[^`]*`, which has no proof", told):
         return
     refusal = functions.setdefault(path, Refusal())
+    refusal.told = told.removeprefix(": ")
     if "did not prove" in told:
         for goal in re.findall(r"`([^`]+)`", told.split("did not prove")[1].split(";")[0]):
             refusal.add(goal, False)
 
 
 def refusal_at(functions: dict[str, Refusal], module: str, line: int, text: str) -> Refusal:
-    """The refusal of the function that holds a line."""
-    found = place_at("" if module in ("lib", "main") else module, text, line)
+    """The refusal of the function that holds a line, or that begins below it if its attributes do."""
+    module = "" if module in ("lib", "main") else module
+    found = place_at(module, text, line) or next((it for it in places_of(module, text) if it[1] > line), None)
     if found is None:
         return functions.setdefault(f"{module}, line {line + 1}", Refusal())
     place = found[0]
@@ -287,28 +301,34 @@ def judged(checked: Checked, group: list[Edit], said: str) -> tuple[dict[str, Ve
     """The verdict on each edit of a group, and what was refused and is none's."""
     functions, files = refusals(checked.crate, said, checked.code)
     own = {it.name: {path: one for path, one in functions.items() if any(place.is_named(path) for place in it.functions)} for it in group}
-    left = {path: one for path, one in functions.items() if not any(path in it for it in own.values())}
+    left = {path: one for path, one in functions.items() if one.hangs() or not any(path in it for it in own.values())}
     verdicts = {}
     for edit in group:
-        # what stands in no function is refused wherever it is relied on
-        more = (left, files) if edit.words else ({}, {})
-        verdicts[edit.name] = verdict_of(checked, own[edit.name] | more[0], more[1])
-        if edit.words:
+        mine = own[edit.name]
+        if edit.words or len(group) == 1 and not any(it.goals for it in mine.values()):
+            # what stands in no function is refused wherever it is relied on
+            verdicts[edit.name] = verdict_of(checked, mine | left, files)
             left, files = {}, {}
+        else:
+            # what hangs is refused by the edit of what it stands on
+            verdicts[edit.name] = verdict_of(checked, {path: one for path, one in mine.items() if not one.hangs()}, {})
     return verdicts, [str(told(checked, *it)) for it in left.items()] + [str(told_of_file(*it)) for it in files.items()]
 
 
 def verdict_of(checked: Checked, own: dict[str, Refusal], files: dict[str, Refusal]) -> Verdict:
-    if not own:
-        return Verdict("shown", tuple(told_of_file(*it) for it in files.items())) if files else Verdict("not shown")
-    by_name = all(it.by_name and it.goals for it in own.values())
-    return Verdict("shown by a name alone" if by_name else "shown", tuple(told(checked, *it) for it in own.items()))
+    """The verdict by functions, or if none has a goal by files; what says nothing of a goal shows nothing."""
+    named = {path: one for path, one in own.items() if one.goals or one.hanging}
+    if named or files:
+        judging = [it for it in (*named.values(), *files.values()) if it.goals]
+        by = [told(checked, *it) for it in named.items()] or [told_of_file(*it) for it in files.items()]
+        return Verdict("shown by a name alone" if judging and all(it.by_name for it in judging) else "shown", tuple(by))
+    return Verdict("not shown", why="; ".join(f"`{checked.place(path) or path}` is refused at no goal: {one.told[:160]}" for path, one in own.items()))
 
 
 def told(checked: Checked, path: str, refusal: Refusal) -> Refused:
     """The clauses of a refused function that its goals stand for, or else the goals."""
     place = checked.place(path)
-    said = dict.fromkeys(meant(it, checked.clauses[place] if place else []) for it in refusal.goals)
+    said = dict.fromkeys(meant(it, checked.clauses[place] if place else []) for it in refusal.goals + refusal.hanging)
     return Refused(str(place or path), tuple(said))
 
 

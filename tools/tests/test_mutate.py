@@ -34,6 +34,10 @@ impl Next for Even {
 }
 
 impl Evens {
+    /// The least.
+    #[tactic(
+        auto,
+    )]
     fn next(&self) -> u8
         ensures least { result ≡ 2 }
     {
@@ -52,12 +56,18 @@ SAYS = {
     "LIMIT + 0": "fn low::three: no proof: expected answers in ./proofs/three/Answers.antt; `search` did not prove `returns`",
     "u8 = 4;": "fn low::three: no proof: `search` did not prove `returns`\nfn low::uses: no proof: it calls `low::three`, which is not proved",
     "half + 2": "fn low::EvenNext::next: no proof: `search` did not prove `returns-clause-twice`",
-    "return 1;": "note: src/lib.rt:31:9: it is not proved that the invariant holds (`walk-preserved`)\nfn low::Evens::next: no proof: `search` did not prove `walk-preserved`",
+    "return 1;": "note: src/lib.rt:35:9: it is not proved that the invariant holds (`walk-preserved`)\nfn low::Evens::next: no proof: `search` did not prove `walk-preserved`",
+    "return 2;": "note: src/lib.rt:29:5: it is not proved that what it ensures holds (`returns-then`)\nfn low::Evens::next: no proof: `search` did not prove `returns-then`",
+    "return 0;": "fn low::Evens::next: no proof: expected `next_spec` in ./proofs/Evens/next/Proof.antt; the borrow checker does not cover it yet",
+    "half + 3": "fn low::EvenNext::next: no proof: the borrow checker's part is not made yet: a call of `low::Evens::next`, which has no proof",
+    "sum 3": "./proofs/Sums.antt:7:1: error: `sum-one`: terms differ\n./proofs/Sums.antt:9:5: error: 1 declaration that depends on `sum-one`, which was rejected, was not checked: sums\n"
+    "./proofs/two/Answers.antt:3:1: error: 2 declarations that depend on `sums`, which was not admitted, were not checked: small, returns-clause-even (via small)\n"
+    "fn low::two: not proved",
     "return n + 0;": "./proofs/Evens/next/Answers.antt:3:1: error: `returns`: `c.n` has no field `is`\nfn low::Evens::next: not proved",
 }
 RT = """#!{python}
-import sys
-text = open("src/lib.rt").read()
+import glob, sys
+text = "".join(open(it).read() for it in ["src/lib.rt", *glob.glob("specs/*")])
 open(sys.argv[sys.argv.index("--stage-times") + 1], "w").write("stage session 2.0 1\\n" + "stage offers 1.25 1\\n" * ("    4\\n" in text))
 open("{log}", "a").write("check\\n")
 if "$" in text:
@@ -153,6 +163,27 @@ class Mutate(ToolTest):
     def test_a_name_that_is_gone_shows_little(self):
         self.edit("sum", "return n;", "return n + 0;")
         self.assertEqual(self.mutate("--joined", "low")[:2], (1, ["sum: shown by a name alone: `least` of `Evens::next`"]))
+
+    def test_what_stands_on_a_refused_lemma(self):
+        """The clause is refused of an edit outside of functions, and isn't judged of one in the function beside it."""
+        self.file("crates/low/specs/Sums.antt", "sum 2\n")
+        self.edit("three", "sum 2", "sum 3", file="specs/Sums.antt")
+        self.edit("two_and_nothing", "    2", "    2 + 0")
+        status, verdicts, _ = self.mutate("--joined", "low")
+        self.assertEqual(verdicts, ["three: shown: within, `small`, `even` of `two`", "two_and_nothing: not shown"])
+        self.assertEqual((status, self.number_of_checks()), (1, 2))
+
+    def test_a_refusal_without_a_goal_shows_nothing(self):
+        self.edit("nought", "return n;", "return 0;")
+        self.edit("half", "half + 1", "half + 3")
+        status, verdicts, _ = self.mutate("--joined", "low")
+        why = "`Evens::next` is refused at no goal: expected `next_spec` in ./proofs/Evens/next/Proof.antt; the borrow checker does not cover it yet"
+        self.assertEqual(verdicts, ["half: not shown", f"nought: not shown: {why}"])
+        self.assertEqual((status, self.number_of_checks()), (1, 3))
+
+    def test_a_goal_at_the_attributes_of_a_function(self):
+        self.edit("two", "return n;", "return 2;")
+        self.assertEqual(self.mutate("--joined", "low")[:2], (0, ["two: shown: `least` of `Evens::next`"]))
 
     def test_a_body_that_cannot_be_read_goes_alone(self):
         self.edit("four", "    2", "    4")
