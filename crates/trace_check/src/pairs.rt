@@ -90,7 +90,8 @@ pub(crate) fn both(body: &mut Circuit, first: usize, second: usize) -> Option<u8
         (λ turn. IsBothStep first second body.old.gates body.new.gates turn) }
     ensures same { MatchOption result (body.new.gates ≡ body.old.gates) (λ turn. turn < 8) }
 {
-    match together(body, first, second) {
+    let pair = together(body, first, second);
+    match pair {
         Cancel::Both { turn } => {
             body.remove(second);
             body.remove(first);

@@ -74,3 +74,6 @@ pub returns-clause-none : goal.returns-clause-none
 returns-clause-none c e =
     c.in_ok-witness.ensures.other (λ q. absurd (omega (arith, c.len.ensures, e, q)))
     ∙ c.rows.invariant.0.none (sym c.in_ok-blocks.ensures.count ∙ sym c.in_ok-blocks.blocks.ok.0 ∙ e)
+
+pub returns-clause-ascending : goal.returns-clause-ascending
+returns-clause-ascending c = c.in_ok-blocks.ensures.ascending
