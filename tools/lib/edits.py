@@ -5,6 +5,7 @@ Nothing here runs a check; `tools/mutate` does.
 """
 
 import dataclasses
+import hashlib
 import os
 import re
 
@@ -12,6 +13,8 @@ import sources
 
 # what a proof file is told if it cites a name that an edit took away
 NAMES = re.compile(r"has no field|is not in scope|is no name|not found in|has no (name|part|definition)|was not admitted")
+# what is said of those that stand on a lemma that was refused
+HANGING = re.compile(r"\d+ declarations? that depends? on .* not checked: (.*)")
 ERROR = re.compile(r"(?:\./)?(proofs/(\S+)/\w+\.antt|\S+\.(?:antt|rt)):(\d+):\d+: error\S*:? (.*)")
 NOTE = re.compile(r"note: src/(\S+)\.rt:(\d+):\d+: it is not proved that (.*)")
 
@@ -186,11 +189,17 @@ class Refusal:
 
     goals: list[str] = dataclasses.field(default_factory=list)
     by_name: bool = True  # whether nothing but names that are gone is told
+    hanging: list[str] = dataclasses.field(default_factory=list)  # goals that weren't judged, since they stand on what was refused
+    told: str = ""  # what its own line says
 
     def add(self, goal: str, by_name: bool) -> None:
         if goal and goal not in self.goals:
             self.goals.append(goal)
         self.by_name = self.by_name and by_name
+
+    def hangs(self) -> bool:
+        """Whether no goal was refused itself, and some weren't judged."""
+        return bool(self.hanging and not self.goals)
 
 
 def refusals(crate: str, said: str, code: dict[str, str]) -> tuple[dict[str, Refusal], dict[str, Refusal]]:
@@ -206,7 +215,11 @@ def refusals(crate: str, said: str, code: dict[str, str]) -> tuple[dict[str, Ref
         if match := ERROR.match(line):
             goal = re.match(r"`([^`]+)`:", match.group(4))
             by_name = bool(NAMES.search(re.sub(r"`[^`]*`", "", match.group(4))))
-            if match.group(2):
+            if hanging := HANGING.match(match.group(4)):
+                if match.group(2):
+                    listed = re.sub(r" \([^)]*\)", "", hanging.group(1)).split(", ")
+                    functions.setdefault(match.group(2).replace("/", "::"), Refusal()).hanging += listed
+            elif match.group(2):
                 functions.setdefault(match.group(2).replace("/", "::"), Refusal()).add(goal.group(1) if goal else "", by_name)
             else:
                 files.setdefault(match.group(1), Refusal()).add(match.group(4)[:120], by_name)
@@ -223,17 +236,19 @@ def refusals(crate: str, said: str, code: dict[str, str]) -> tuple[dict[str, Ref
 
 def add_told(functions: dict[str, Refusal], path: str, told: str) -> None:
     """Notes what the line of a function itself tells."""
-    if told.startswith(": it calls"):
+    if told.startswith(": it calls") or re.search(r"a call of `[^`]*`, which has no proof", told):
         return
     refusal = functions.setdefault(path, Refusal())
+    refusal.told = told.removeprefix(": ")
     if "did not prove" in told:
         for goal in re.findall(r"`([^`]+)`", told.split("did not prove")[1].split(";")[0]):
             refusal.add(goal, False)
 
 
 def refusal_at(functions: dict[str, Refusal], module: str, line: int, text: str) -> Refusal:
-    """The refusal of the function that holds a line."""
-    found = place_at("" if module in ("lib", "main") else module, text, line)
+    """The refusal of the function that holds a line, or that begins below it if its attributes do."""
+    module = "" if module in ("lib", "main") else module
+    found = place_at(module, text, line) or next((it for it in places_of(module, text) if it[1] > line), None)
     if found is None:
         return functions.setdefault(f"{module}, line {line + 1}", Refusal())
     place = found[0]
@@ -241,15 +256,32 @@ def refusal_at(functions: dict[str, Refusal], module: str, line: int, text: str)
     return functions.setdefault(path, Refusal())
 
 
-@dataclasses.dataclass
-class Verdict:
-    """What came of an edit: shown, shown by a name alone, not shown, or can't be made; and by what."""
+@dataclasses.dataclass(frozen=True)
+class Refused:
+    """What refuses an edit: a function and those of its clauses and goals that aren't proved, or a file of none and what is said of it."""
 
-    kind: str
-    by: str = ""
+    where: str
+    said: tuple[str, ...]
+    is_file: bool = False
 
     def __str__(self) -> str:
-        return f"{self.kind}: {self.by}" if self.by else self.kind
+        if self.is_file:
+            return f"{self.where}: {', '.join(self.said)}"
+        more = f" and {len(self.said) - 4} more" if len(self.said) > 4 else ""
+        return f"{', '.join(self.said[:4]) or 'no goal is named'}{more} of `{self.where}`"
+
+
+@dataclasses.dataclass
+class Verdict:
+    """What came of an edit: shown, shown by a name alone, not shown, or can't be made; by what, or why."""
+
+    kind: str
+    by: tuple[Refused, ...] = ()
+    why: str = ""
+
+    def __str__(self) -> str:
+        told = "; ".join(map(str, self.by)) or self.why
+        return f"{self.kind}: {told}" if told else self.kind
 
 
 @dataclasses.dataclass
@@ -269,38 +301,48 @@ def judged(checked: Checked, group: list[Edit], said: str) -> tuple[dict[str, Ve
     """The verdict on each edit of a group, and what was refused and is none's."""
     functions, files = refusals(checked.crate, said, checked.code)
     own = {it.name: {path: one for path, one in functions.items() if any(place.is_named(path) for place in it.functions)} for it in group}
-    left = {path: one for path, one in functions.items() if not any(path in it for it in own.values())}
+    left = {path: one for path, one in functions.items() if one.hangs() or not any(path in it for it in own.values())}
     verdicts = {}
     for edit in group:
-        # what stands in no function is refused wherever it is relied on
-        more = (left, files) if edit.words else ({}, {})
-        verdicts[edit.name] = verdict_of(checked, own[edit.name] | more[0], more[1])
-        if edit.words:
+        mine = own[edit.name]
+        if edit.words or len(group) == 1 and not any(it.goals for it in mine.values()):
+            # what stands in no function is refused wherever it is relied on
+            verdicts[edit.name] = verdict_of(checked, mine | left, files)
             left, files = {}, {}
-    return verdicts, [told(checked, *it) for it in left.items()] + [f"{path}: {one.goals[0]}" for path, one in files.items() if one.goals]
+        else:
+            # what hangs is refused by the edit of what it stands on
+            verdicts[edit.name] = verdict_of(checked, {path: one for path, one in mine.items() if not one.hangs()}, {})
+    return verdicts, [str(told(checked, *it)) for it in left.items()] + [str(told_of_file(*it)) for it in files.items()]
 
 
 def verdict_of(checked: Checked, own: dict[str, Refusal], files: dict[str, Refusal]) -> Verdict:
-    if not own:
-        return Verdict("shown", "; ".join(f"{path}: {one.goals[0]}" for path, one in files.items())) if files else Verdict("not shown")
-    by_name = all(it.by_name and it.goals for it in own.values())
-    return Verdict("shown by a name alone" if by_name else "shown", "; ".join(told(checked, *it) for it in own.items()))
+    """The verdict by functions, or if none has a goal by files; what says nothing of a goal shows nothing."""
+    named = {path: one for path, one in own.items() if one.goals or one.hanging}
+    if named or files:
+        judging = [it for it in (*named.values(), *files.values()) if it.goals]
+        by = [told(checked, *it) for it in named.items()] or [told_of_file(*it) for it in files.items()]
+        return Verdict("shown by a name alone" if judging and all(it.by_name for it in judging) else "shown", tuple(by))
+    return Verdict("not shown", why="; ".join(f"`{checked.place(path) or path}` is refused at no goal: {one.told[:160]}" for path, one in own.items()))
 
 
-def told(checked: Checked, path: str, refusal: Refusal) -> str:
+def told(checked: Checked, path: str, refusal: Refusal) -> Refused:
     """The clauses of a refused function that its goals stand for, or else the goals."""
     place = checked.place(path)
-    said = list(dict.fromkeys(meant(it, checked.clauses[place] if place else []) for it in refusal.goals))
-    shown = ", ".join(said[:4]) + (f" and {len(said) - 4} more" if len(said) > 4 else "")
-    return f"{shown or 'no goal is named'} of `{place or path}`"
+    said = dict.fromkeys(meant(it, checked.clauses[place] if place else []) for it in refusal.goals + refusal.hanging)
+    return Refused(str(place or path), tuple(said))
+
+
+def told_of_file(path: str, refusal: Refusal) -> Refused:
+    """What is said of a file that is of no function."""
+    return Refused(path, tuple(refusal.goals[:1]), is_file=True)
 
 
 def meant(goal: str, clauses: list[str]) -> str:
-    """What a goal stands for: a clause by its label, the only clause of a function, or what the function needs within."""
+    """What a goal stands for: a clause by its label, the only clause of a function or of its trait, or what the function needs within."""
     if match := re.search(r"-clause-(\w+)", goal):
         return f"`{match.group(1)}`"
     if re.match(r"returns\b", goal):
-        return f"`{clauses[0]}`" if len(clauses) == 1 and clauses[0] else "the clause" if clauses == [""] else f"`{goal}`"
+        return f"`{clauses[0]}`" if len(clauses) == 1 and clauses[0] else "the clause" if clauses in ([""], []) else f"`{goal}`"
     return f"within, `{goal}`"
 
 
@@ -309,34 +351,86 @@ def is_judged(said: str) -> bool:
     return re.search(r"^logic=", said, re.MULTILINE) is not None
 
 
-# The table of docs/CLAIMS.md: for each crate the commit that its edits were tried at, and what refuses which of them.
+# The table of docs/CLAIMS.md: for each crate at which commit its edits were tried, and what refuses them.
 
-Rows = dict[str, tuple[str, dict[str, str]]]
-EDIT_ROW = re.compile(r"\| (`\w+`(?:, `\w+`)*) \| (.*) \|$")
-
-
-def rows_of(table: str) -> Rows:
-    """What a table has."""
-    found: Rows = {}
-    crate = ""
-    for line in table.splitlines():
-        if match := re.match(r"\| \*\*`(\w+)`\*\*(?: at `(\w+)`)? \| \|$", line):
-            crate = match.group(1)
-            found[crate] = (match.group(2) or "", {})
-        elif (match := EDIT_ROW.match(line)) and crate:
-            found[crate][1].update((name, match.group(2)) for name in re.findall(r"`(\w+)`", match.group(1)))
-    return found
+# the longest row that names the edits behind what refuses them
+READABLE = 300
 
 
-def table_of(rows: Rows, top: str = sources.TOP) -> str:
-    """The table of all edits that there are, those that the same refuses in one row; `not tried` if the rows have nothing of one."""
-    lines = ["| edits | refused by |", "|---|---|"]
+@dataclasses.dataclass
+class Row:
+    """A crate's row: the commit and the sum of its edits when they were tried, how many they were, and its cells."""
+
+    commit: str
+    sum: str
+    number: int
+    by: str  # what refuses them
+    rest: str  # those that aren't shown
+
+
+def sum_of(crate: str, top: str = sources.TOP) -> str:
+    """A sum over the names and the texts of a crate's edits, by which a row tells whether they changed."""
+    texts = [f"{name}\n{read(os.path.join(top, path))}" for name, path in sources.edit_paths(crate, top).items()]
+    return hashlib.sha256("\0".join(texts).encode()).hexdigest()[:8]
+
+
+def row_of(crate: str, commit: str, summed: str, verdicts: dict[str, Verdict]) -> Row:
+    """The row of what came of all edits of a crate."""
+    rest = [f"`{name}`" + ("" if it.kind == "not shown" else f" ({it.kind})") for name, it in verdicts.items() if it.kind != "shown"]
+    row = Row(commit, summed, len(verdicts), "", ", ".join(rest))
+    for is_named in (True, False):
+        row.by = refused_by(verdicts, is_named)
+        if len(line_of(crate, row, row.number, summed)) <= READABLE:
+            break
+    return row
+
+
+def refused_by(verdicts: dict[str, Verdict], is_named: bool) -> str:
+    """The functions that refuse edits, each with its clauses, and the edits behind each clause if they are named."""
+    found: dict[str, dict[str, list[str]]] = {}
+    for name, verdict in verdicts.items():
+        for one in verdict.by if verdict.kind == "shown" else ():
+            # of a goal within a function it is enough that it is one
+            said = dict.fromkeys(it.split(", `")[0] for it in one.said if not one.is_file)
+            for it in said or ["a goal"]:
+                found.setdefault(f"`{one.where}`", {}).setdefault(it, []).append(f"`{name}`")
+    alike: dict[str, list[str]] = {}  # functions and files of which the same is to be said
+    for where, clauses in found.items():
+        alike.setdefault(clauses_of(clauses) if is_named else ", ".join(clauses), []).append(where)
+    return "; ".join(f"{', '.join(those)}: {told}" for told, those in alike.items())
+
+
+def clauses_of(clauses: dict[str, list[str]]) -> str:
+    """Clauses with the edits that they refuse, those of the same edits together."""
+    alike: dict[str, list[str]] = {}
+    for it, names in clauses.items():
+        alike.setdefault(", ".join(names), []).append(it)
+    return ", ".join(f"{', '.join(those)} ({names})" for names, those in alike.items())
+
+
+def line_of(crate: str, row: Row, number: int, summed: str) -> str:
+    """The line of a row, if a crate has so many edits of this sum."""
+    tried = f"{row.number} at `{row.commit}`, `{row.sum}`" + ("" if row.sum == summed else f"; changed since, {number} now")
+    return "|" + "".join(f" {it} |" if it else " |" for it in (f"`{crate}`", tried, row.by, row.rest))
+
+
+ROW = re.compile(r"\| `(\w+)` \| (\d+) at `(\w+)`, `(\w+)`.*? \|(?: (\S.*?))? \|(?: (\S.*?))? \|$")
+
+
+def rows_of(table: str) -> dict[str, Row]:
+    """What a table has of crates whose edits were tried."""
+    found = (ROW.match(line) for line in table.splitlines())
+    return {it.group(1): Row(it.group(3), it.group(4), int(it.group(2)), it.group(5) or "", it.group(6) or "") for it in found if it}
+
+
+def table_of(rows: dict[str, Row], top: str = sources.TOP) -> str:
+    """The table of all crates that have edits; what the rows have nothing of wasn't tried."""
+    lines = ["| crate | edits tried | refused by | not shown |", "|---|---|---|---|"]
     for crate in sources.crates(top):
-        commit, listed = rows.get(crate, ("", {}))
-        if names := sources.edits(crate, top):
-            lines.append(f"| **`{crate}`**" + (f" at `{commit}`" if commit else "") + " | |")
-            refused: dict[str, list[str]] = {}
-            for name in names:
-                refused.setdefault(listed.get(name, "not tried"), []).append(f"`{name}`")
-            lines += [f"| {', '.join(those)} | {by} |" for by, those in refused.items()]
+        if number := len(sources.edits(crate, top)):
+            summed = sum_of(crate, top)
+            row = rows.get(crate)
+            if row and row.sum == summed:
+                row = dataclasses.replace(row, number=number)
+            lines.append(line_of(crate, row, number, summed) if row else f"| `{crate}` | none of {number} | | |")
     return "\n".join(lines)

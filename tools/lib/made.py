@@ -4,7 +4,7 @@
     <!-- /made -->
 
 is written by `tools/check-docs --mend`. Of the part `claims` all cells but the first are written by hand, and stay with their crate; of
-the part `edits` the last cells are what `tools/mutate --mend` found, and stay with their edit.
+the part `edits` a crate's cells are what `tools/mutate --mend` found, and stay until it tries the crate's edits again.
 """
 
 import os

@@ -1,3 +1,4 @@
+import hashlib
 import os
 import re
 import shutil
@@ -172,6 +173,11 @@ class Documents(ToolTest):
     def found(self):
         return self.script("check-docs")[1].splitlines()
 
+    def sum_of(self, path):
+        """The sum of a crate's only edit."""
+        name = os.path.splitext(os.path.basename(path))[0]
+        return hashlib.sha256(f"{name}\n{self.text(path)}".encode()).hexdigest()[:8]
+
     def test_definitions(self):
         out = self.script("definitions")[1]
         rows = [line for line in out.splitlines() if line.startswith("| 1 ") or line.startswith("| 2 ")]
@@ -263,6 +269,8 @@ class Documents(ToolTest):
     def test_planted_untruths(self):
         """Each is told, and alone: what a check of documents that passes has been shown to find."""
         self.file("crates/low/must-fail/odd.edit", "file: src/laws.rt\nold: {}\nnew: {{}}\n")
+        self.file("crates/qroute_top/src/end.rt", "//! An end.\n\nimpl Source for End {\n    fn read(&mut self) -> u8 {\n        0\n    }\n}\n")
+        self.file("crates/qroute_top/more-edits/one.edit", "file: src/end.rt\nold: 0\nnew: 1\n")
         bounds = "-- Bounds.\n--   most_qubits, most_operations\nabbrev pub most_qubits : ℕ\nmost_qubits = 256\n"
         self.file("crates/low/specs/Bounds.antt", f"{bounds}abbrev pub most_operations : ℕ\nmost_operations = 65536\n")
         self.file("docs/it.1", "A program has at most 65,536 operations\n")
@@ -274,7 +282,14 @@ class Documents(ToolTest):
         )
         self.file("docs/CLAIMS.md", CLAIMS.replace("#### `low`\n", "#### `low`\n\nIts law is `two_is_even`, of the definition `IsEven`.\n") + parts("edits"))
         self.script("check-docs", "--mend")
-        self.change("docs/CLAIMS.md", "| `odd` | not tried |", "| `odd` | `even` of `two_is_even` |")
+        self.change("docs/CLAIMS.md", "| `low` | none of 1 | | |", "| `low` | 1 at `12345678`, `12345678` | `two_is_even`: `even` (`odd`) | |")
+        self.assertIn("docs/CLAIMS.md:1: a part is stale: edits", self.found())
+        self.script("check-docs", "--mend")
+        row = "| `low` | 1 at `12345678`, `12345678`; changed since, 1 now | `two_is_even`: `even` (`odd`) | |"
+        self.assertIn(row, self.text("docs/CLAIMS.md"))
+        self.change("docs/CLAIMS.md", "`12345678`; changed since, 1 now", f"`{self.sum_of('crates/low/must-fail/odd.edit')}`")
+        summed = self.sum_of("crates/qroute_top/more-edits/one.edit")
+        self.change("docs/CLAIMS.md", "`qroute_top` | none of 1 | |", f"`qroute_top` | 1 at `12345678`, `{summed}` | `End::read`: within, `bound` (`one`) |")
         self.assertEqual(self.found(), ["nothing found"])
         plain = "| `unused` | at most | name | where |"
         for name, old, new, wanted in (
@@ -300,9 +315,14 @@ class Documents(ToolTest):
             ("README.md", plain, plain.replace("`unused`", "`returns`"), "`returns` is declared nowhere"),
             ("README.md", "clause `bound`", "clause `half`", "`half` is no member of `Source`"),
             ("README.md", "clause `bound` of `Source` says it", "clause `size` says it", "`size` is no clause"),
-            # an edit that another clause would refuse, that is gone, or that is new
-            ("docs/CLAIMS.md", "`even` of `two_is_even` |", "`odd` of `two_is_even` |", "odd: two_is_even has no clause odd"),
-            ("docs/CLAIMS.md", "| `odd` | `even`", "| `old` | `even`", "a part is stale: edits"),
+            # an edit that another clause or function would refuse, that is gone, that changed, or that is not counted
+            ("docs/CLAIMS.md", "`two_is_even`: `even` (", "`two_is_even`: `odd` (", "two_is_even has no clause odd"),
+            ("docs/CLAIMS.md", "`two_is_even`: `even` (", "`run`: `even` (", "low has no function run"),
+            ("docs/CLAIMS.md", "within, `bound` (", "within, `calm` (", "read has no clause calm"),
+            ("docs/CLAIMS.md", "(`odd`)", "(`old`)", "low has no edit old"),
+            ("docs/CLAIMS.md", "(`odd`) | |", "| `old` (can't be made) |", "low has no edit old"),
+            ("docs/CLAIMS.md", "| 1 at", "| 2 at", "a part is stale: edits"),
+            ("crates/low/must-fail/odd.edit", "new: {{}}", "new: {}", "a part is stale: edits"),
             ("README.md", "<!-- made: claims -->", "<!-- made: claim -->", "a part is stale: claim (nothing makes it)"),
         ):
             before = self.text(name)

@@ -1,4 +1,5 @@
 import os
+import re
 import shutil
 import subprocess
 import sys
@@ -33,6 +34,10 @@ impl Next for Even {
 }
 
 impl Evens {
+    /// The least.
+    #[tactic(
+        auto,
+    )]
     fn next(&self) -> u8
         ensures least { result ≡ 2 }
     {
@@ -51,12 +56,18 @@ SAYS = {
     "LIMIT + 0": "fn low::three: no proof: expected answers in ./proofs/three/Answers.antt; `search` did not prove `returns`",
     "u8 = 4;": "fn low::three: no proof: `search` did not prove `returns`\nfn low::uses: no proof: it calls `low::three`, which is not proved",
     "half + 2": "fn low::EvenNext::next: no proof: `search` did not prove `returns-clause-twice`",
-    "return 1;": "note: src/lib.rt:31:9: it is not proved that the invariant holds (`walk-preserved`)\nfn low::Evens::next: no proof: `search` did not prove `walk-preserved`",
+    "return 1;": "note: src/lib.rt:35:9: it is not proved that the invariant holds (`walk-preserved`)\nfn low::Evens::next: no proof: `search` did not prove `walk-preserved`",
+    "return 2;": "note: src/lib.rt:29:5: it is not proved that what it ensures holds (`returns-then`)\nfn low::Evens::next: no proof: `search` did not prove `returns-then`",
+    "return 0;": "fn low::Evens::next: no proof: expected `next_spec` in ./proofs/Evens/next/Proof.antt; the borrow checker does not cover it yet",
+    "half + 3": "fn low::EvenNext::next: no proof: the borrow checker's part is not made yet: a call of `low::Evens::next`, which has no proof",
+    "sum 3": "./proofs/Sums.antt:7:1: error: `sum-one`: terms differ\n./proofs/Sums.antt:9:5: error: 1 declaration that depends on `sum-one`, which was rejected, was not checked: sums\n"
+    "./proofs/two/Answers.antt:3:1: error: 2 declarations that depend on `sums`, which was not admitted, were not checked: small, returns-clause-even (via small)\n"
+    "fn low::two: not proved",
     "return n + 0;": "./proofs/Evens/next/Answers.antt:3:1: error: `returns`: `c.n` has no field `is`\nfn low::Evens::next: not proved",
 }
 RT = """#!{python}
-import sys
-text = open("src/lib.rt").read()
+import glob, sys
+text = "".join(open(it).read() for it in ["src/lib.rt", *glob.glob("specs/*")])
 open(sys.argv[sys.argv.index("--stage-times") + 1], "w").write("stage session 2.0 1\\n" + "stage offers 1.25 1\\n" * ("    4\\n" in text))
 open("{log}", "a").write("check\\n")
 if "$" in text:
@@ -153,6 +164,27 @@ class Mutate(ToolTest):
         self.edit("sum", "return n;", "return n + 0;")
         self.assertEqual(self.mutate("--joined", "low")[:2], (1, ["sum: shown by a name alone: `least` of `Evens::next`"]))
 
+    def test_what_stands_on_a_refused_lemma(self):
+        """The clause is refused of an edit outside of functions, and isn't judged of one in the function beside it."""
+        self.file("crates/low/specs/Sums.antt", "sum 2\n")
+        self.edit("three", "sum 2", "sum 3", file="specs/Sums.antt")
+        self.edit("two_and_nothing", "    2", "    2 + 0")
+        status, verdicts, _ = self.mutate("--joined", "low")
+        self.assertEqual(verdicts, ["three: shown: within, `small`, `even` of `two`", "two_and_nothing: not shown"])
+        self.assertEqual((status, self.number_of_checks()), (1, 2))
+
+    def test_a_refusal_without_a_goal_shows_nothing(self):
+        self.edit("nought", "return n;", "return 0;")
+        self.edit("half", "half + 1", "half + 3")
+        status, verdicts, _ = self.mutate("--joined", "low")
+        why = "`Evens::next` is refused at no goal: expected `next_spec` in ./proofs/Evens/next/Proof.antt; the borrow checker does not cover it yet"
+        self.assertEqual(verdicts, ["half: not shown", f"nought: not shown: {why}"])
+        self.assertEqual((status, self.number_of_checks()), (1, 3))
+
+    def test_a_goal_at_the_attributes_of_a_function(self):
+        self.edit("two", "return n;", "return 2;")
+        self.assertEqual(self.mutate("--joined", "low")[:2], (0, ["two: shown: `least` of `Evens::next`"]))
+
     def test_a_body_that_cannot_be_read_goes_alone(self):
         self.edit("four", "    2", "    4")
         self.edit("unread", "    LIMIT", "    LIMIT $")
@@ -176,21 +208,44 @@ class Mutate(ToolTest):
         self.assertEqual((status, self.number_of_checks()), (1, 0))
 
     def test_the_table(self):
-        table = "<!-- made: edits -->\n| edits | refused by |\n|---|---|\n| **`low`** at `12345678` | |\n| `four` | old |\n| `gone` | `x` of `y` |\n"
-        self.file("docs/CLAIMS.md", f"# Claims\n\n{table}| **`high`** at `12345678` | |\n| `more`, `much` | `kept` of `it` |\n<!-- /made -->\n\nEnd.\n")
+        head = "| crate | edits tried | refused by | not shown |\n|---|---|---|---|\n"
+        kept = "| `high` | 2 at `12345678`, `87654321`{} | `it`: `kept` (`more`, `much`) | |\n"
+        self.file("docs/CLAIMS.md", f"# Claims\n\n<!-- made: edits -->\n{head}{kept.format('')}<!-- /made -->\n\nEnd.\n")
         self.edit("more", "//! High.", "//! Higher.", crate="high")
         self.edit("much", "//! High.", "//! Highest.", crate="high")
         self.edit("never", "//! High.", "//! Lower.", crate="high")
         self.edit("four", "    2", "    4")
         self.edit("nothing", "    LIMIT", "    3")
+        self.edit("one_always", "return n;", "return 1;", "must-fail")
+        self.edit("sum", "half + 1", "half + 1 $")
         for words in (["git", "init", "-q"], ["git", "add", "-A"], ["git", "-c", "user.name=a", "-c", "user.email=a", "commit", "-qm", "All"]):
             subprocess.run(words, cwd=self.room, check=True)
         at = subprocess.run(["git", "rev-parse", "--short=8", "HEAD"], cwd=self.room, capture_output=True, text=True, check=True).stdout.strip()
         self.mutate("--mend", "--joined", "low")
+        refused = "`two`: `even` (`four`); `Evens::next`: within (`one_always`)"
+        made = rf"\| `low` \| 4 at `{at}`, `(\w{{8}})` \| {re.escape(refused)} \| `nothing`, `sum` \(can't be made\) \|\n"
+        changed = re.escape(kept.format("; changed since, 3 now"))
+        self.assertRegex(self.claims(), rf"^# Claims\n\n<!-- made: edits -->\n{re.escape(head)}{made}{changed}<!-- /made -->\n\nEnd.\n$")
+        # a sum that is the tree's again, and edits that changed after they were tried, as they are read and made again
+        summed = re.search(made, self.claims()).group(1)
+        self.file("docs/CLAIMS.md", self.claims().replace("| 4 at", "| 5 at"))
+        self.edit("nothing", "    LIMIT", "    LIMIT + 3")
+        self.mutate("--mend", "--joined", "high")
+        self.assertIn(f"| `low` | 5 at `{at}`, `{summed}`; changed since, 4 now | {refused} | `nothing`,", self.claims())
+        self.edit("nothing", "    LIMIT", "    3")
+        self.mutate("--mend", "--joined", "high")
+        self.assertIn(f"| `low` | 4 at `{at}`, `{summed}` | {refused} | `nothing`,", self.claims())
+
+    def test_a_row_of_many_edits_does_not_name_them(self):
+        for i in range(8):
+            self.edit(f"a_name_of_some_length_with_the_number_{i}", "    2", "    4" if i % 2 else "    5")
+        self.edit("one_always", "return n;", "return 1;")
+        self.mutate("--mend", "--joined", "low")
+        self.assertIn(" | `two`: `small`, `even`; `Evens::next`: within | |\n", self.claims())
+
+    def claims(self):
         with open(os.path.join(self.room, "docs/CLAIMS.md"), encoding="utf-8") as file:
-            text = file.read()
-        mended = table.replace("12345678", at).replace("old", "`even` of `two`").replace("| `gone` | `x` of `y` |", "| `nothing` | not shown |")
-        self.assertEqual(text, f"# Claims\n\n{mended}| **`high`** at `12345678` | |\n| `more`, `much` | `kept` of `it` |\n| `never` | not tried |\n<!-- /made -->\n\nEnd.\n")
+            return file.read()
 
     def test_all_crates(self):
         self.edit("four", "    2", "    4")
@@ -202,6 +257,9 @@ class Mutate(ToolTest):
         self.assertTrue(lines[-1].startswith("2 edits, 1 shown, 2 checks, "))
 
     def test_words(self):
+        self.edit("four", "    2", "    4")
         for words in ([], ["low"], ["--joined"], ["--joined", "lower"], ["--all", "low"], ["--all", "--jobs", "0"], ["--all", "--more"], ["--joined", "low", "six"]):
             self.assertEqual(self.mutate(*words)[0], 2, words)
+        # a row is of all edits
+        self.assertEqual(self.mutate("--joined", "low", "four", "--mend")[0], 2)
         self.assertEqual(self.mutate("--help")[0], 0)
