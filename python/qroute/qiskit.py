@@ -147,10 +147,10 @@ def options_for(dag: DAGCircuit, options: dict[str, typing.Any]) -> dict[str, ty
 
 
 def answered(call: collections.abc.Callable[[], qroute.Result]) -> qroute.Result:
-    """What the module answers; what it refuses as Qiskit's exception."""
+    """What the module answers; what it refuses, options that don't go together among it, as Qiskit's exception."""
     try:
         return call()
-    except (qroute.Refused, qroute.DeviceRefused, qroute.NoMemory) as fault:
+    except (qroute.Refused, qroute.DeviceRefused, qroute.NoMemory, ValueError) as fault:
         raise TranspilerError(f"qroute: {fault}") from fault
 
 

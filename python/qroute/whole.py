@@ -11,11 +11,9 @@ from __future__ import annotations
 import collections
 import collections.abc
 import dataclasses
-import functools
 import heapq
 import os
 import re
-import subprocess
 import tempfile
 import typing
 
@@ -366,21 +364,6 @@ def undoes_itself(cnots: list[list[int]]) -> bool:
     return all(row == {wire} for wire, row in rows.items())
 
 
-@functools.cache
-def _knows(path: str, changed: float, words: tuple[str, ...]) -> bool:
-    ran = subprocess.run([path, *words], stdin=subprocess.DEVNULL, capture_output=True, timeout=60)
-    return ran.returncode not in (2, 70)
-
-
-def knows_tries() -> bool:
-    """Whether the program that is run takes `route --tries`: words that it doesn't know end with status 2, others don't."""
-    path = qroute.program()
-    try:
-        return _knows(path, os.path.getmtime(path), ("route", "--device", os.devnull, "--tries", "1"))
-    except (OSError, subprocess.SubprocessError):
-        return False
-
-
 def opt(text: str | bytes, *, keep_barriers: bool, within: float, timeout: float | None) -> qroute.Result:
     """`qroute.opt` of a program with any gates."""
     return _made(text, keep_barriers, within, lambda handed: _run(["opt", "--keep-barriers"], handed, timeout), None)
@@ -398,7 +381,7 @@ def route(
     timeout: float | None,
 ) -> qroute.Result:
     """`qroute.route` of a program with any gates; `begins` are the words that say where its wires begin, if they are told."""
-    if tries is None and not begins and knows_tries():
+    if tries is None and not begins:
         tries = TRIES
     flags = begins + qroute.tries_words(tries) + qroute.flags(keep_barriers=True, clean=clean)
 

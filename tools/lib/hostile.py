@@ -68,6 +68,16 @@ def angles_apart(start="0", levels=18, terms=900):
     return HEAD + "\n".join(lines) + f"\nqreg q[1]; g{levels}({start}) q[0];"
 
 
+def applied(terms=4_096, calls=12_000, part="p", over="", is_kept=False):
+    """A gate at as many angles as told, of which each is a sum of so many parts; under an operation or of none."""
+    body, count = part, 1
+    while count < terms:
+        more = min(8, -(-terms // count))
+        body, count = f"({'+'.join([body] * more)})", count * more
+    gate = f"gate g(p) a {{ U(0*({body}),0,0) a; }}\n" if is_kept else f"gate e(p) a {{ }}\ngate g(p) a {{ e({body}) a; }}\n"
+    return HEAD + gate + "qreg q[1];\n" + "".join(f"g({i + 1}{over}) q[0];\n" for i in range(calls))
+
+
 def broad(others=128):
     """A gate without a body on many qubits and on a register, at an angle that is a fraction."""
     names = ",".join(f"a{i}" for i in range(others + 1))
@@ -112,6 +122,23 @@ def levels(count):
     return PAIR + down * count + up * count
 
 
+def all_sums(wires):
+    """One layer that has every sum of so many wires with a T gate, and one of another wire: no block more is found for that one."""
+    lines = [f"t q[{wires}];"]
+    for last in range(wires):
+        lines.append(f"t q[{last}];")
+        for i in range(1, 1 << last):
+            lines += [f"cx q[{(i & -i).bit_length() - 1}],q[{last}];", f"t q[{last}];"]
+        if last:
+            lines.append(f"cx q[{last - 1}],q[{last}];")
+    return HEAD + f"qreg q[{wires + 1}];\n" + "\n".join(lines) + "\n"
+
+
+def odd_angles(wires=12):
+    """As many U as may be, each with three angles that are odd multiples of pi/4 or pi itself."""
+    return HEAD + f"qreg q[{wires}];\n" + "".join(f"U(pi,5*pi/4,pi/4) q[{i % wires}];\n" for i in range(MOST_OPERATIONS))
+
+
 def nested():
     """All cancels, from the middle on."""
     count = MOST_OPERATIONS // 4
@@ -145,6 +172,11 @@ def layered(wires=64, cnots=1_000, layers=None):
 def barred(wires=16, operations=8_000):
     """CNOTs drawn as in `mixed`, each with a barrier after it."""
     return mixed(wires, ["cx"], operations).replace(";\ncx", ";\nbarrier q;\ncx")
+
+
+def wide_barriers(gates, wires=256):
+    """So many T gates, each with a barrier on all wires after it."""
+    return HEAD + f"qreg q[{wires}];\n" + "".join(f"t q[{i % wires}];barrier q;" for i in range(gates))
 
 
 def there_and_back(wires=64):
@@ -224,6 +256,16 @@ def far_boths(count, wires=256):
     return HEAD + f"qreg q[{wires}];\n" + commented(["TRACE 1", *boths, *emitted(wires, 0)])
 
 
+def dense_sums(pairs):
+    """A `sums` whose H have sets of all variables before, which stand nowhere in the source."""
+    return PAIR + commented(["TRACE 1", f"sums {3 * pairs}", *["H 0", "C 0 1", "P 1 1"] * pairs, "place 0 1", "end 0"])
+
+
+def empty_sums(count, wires=256):
+    """No gates, by a trace that says so again and again."""
+    return HEAD + f"qreg q[{wires}];\n" + commented(["TRACE 1", *["sums 0"] * count, *emitted(wires, 0)])
+
+
 def traced(lines, part, begins="", wires=1):
     """A target of the greatest length, without gates, whose trace has these lines, and then so many parts after a begin."""
     return filled(f"{HEAD}qreg q[{wires}];\n{commented(lines)}{begins}", part, most=MOST_TARGET)
@@ -244,6 +286,8 @@ KINDS = [
     Kind("barriers", OPT, 0, lambda: filled(ONE, "barrier q;\n")),
     Kind("barriers that are kept", KEPT, 0, lambda: filled(ONE, "barrier q;\n")),
     Kind("barriers that are kept, a gate behind each", KEPT, 0, lambda: filled(ONE, "barrier q;t q;", most=MOST_OPERATIONS * 14)),
+    Kind("barriers on 256 wires that are kept", KEPT, 0, lambda: filled(f"{HEAD}qreg q[256];\n", "barrier q;")),
+    Kind("the same, a gate on one wire behind each", KEPT, 0, lambda: wide_barriers(MOST_OPERATIONS)),
     Kind("CNOTs on a line of 16, a barrier behind each", (*ROUTE, "--keep-barriers"), 0, barred, lambda: line(16)),
     Kind("a comment", OPT, 0, lambda: filled(ONE + "t q[0]; //", "/")),
     Kind("digits", CHECK, 0, lambda: filled(ONE + "u1(0.", "0", ") q[0];")),
@@ -257,6 +301,10 @@ KINDS = [
     Kind("gates that double", CHECK, 3, doublings),
     Kind("gates that double, each angle another", CHECK, 0, angles_apart),
     Kind("gates that double, each angle another, and a half", CHECK, 0, lambda: angles_apart("1/2")),
+    Kind("a long sum at many angles", CHECK, 0, applied),
+    Kind("a long sum of halves at many angles", CHECK, 0, lambda: applied(part="p/2", over="/3")),
+    Kind("a long sum of squares at many angles", CHECK, 0, lambda: applied(part="p*p")),
+    Kind("a long sum under an operation", CHECK, 0, lambda: applied(is_kept=True)),
     Kind("a gate on 129 operands", CHECK, 0, broad),
     Kind("1,024 underscores", OPT, 0, lambda: few_underscores(MOST_OPERATIONS)),
     Kind("1,024 underscores", ROUTE, 0, lambda: few_underscores(MOST_OPERATIONS // 4), lambda: line(64)),
@@ -266,6 +314,10 @@ KINDS = [
     Kind("8,000 gates in levels", OPT, 0, lambda: levels(1_000)),
     Kind("32,000 gates in levels", OPT, 0, lambda: levels(4_000)),
     Kind("65,528 gates in levels", OPT, 0, lambda: levels(8_191)),
+    Kind("16,000 gates in levels, traced", (*ROUTE, "--trivial", "--trace"), 0, lambda: levels(2_000), lambda: device(2, [(0, 1), (1, 0)])),
+    Kind("all sums of 12 wires, and one outside", STAGES, 0, lambda: all_sums(12)),
+    Kind("all sums of 14 wires, and one outside", OPT, 0, lambda: all_sums(14)),
+    Kind("odd angles on 12 wires", ("amplitude", "--from", "0" * 12, "--to", "0" * 12), 0, odd_angles),
     Kind("CNOTs and T gates", OPT, 0, lambda: mixed(64, ["cx", "t"])),
     Kind("CNOTs and T gates", STAGES, 0, lambda: mixed(64, ["cx", "t"])),
     Kind("H, CNOTs and T gates", STAGES, 0, lambda: mixed(64, ["cx", "cx", "t", "h"])),
@@ -286,6 +338,8 @@ KINDS = [
     Kind("the same, its one step again and again", VERIFY, 0, lambda: in_turn(2_000), target=lambda: in_turn_target(2_000, True)),
     Kind("a trace of joins far apart", VERIFY, 0, lambda: phases(MOST_OPERATIONS), target=lambda: far_joins(MOST_OPERATIONS)),
     Kind("a trace of pairs far apart", VERIFY, 0, lambda: far_pairs(MOST_OPERATIONS), target=lambda: far_boths(MOST_OPERATIONS)),
+    Kind("a trace of 400,000 sums of nothing", VERIFY, 0, lambda: f"{HEAD}qreg q[256];\n", target=lambda: empty_sums(400_000)),
+    Kind("a trace of dense sums", VERIFY, 1, lambda: PAIR, target=lambda: dense_sums(min(100_000, MOST_TARGET // 26))),
     Kind("a trace that never applies", VERIFY, 1, lambda: ONE, target=lambda: traced(["TRACE 1"], "//!rule 1 0\n")),
     Kind("a trace of empty lines", VERIFY, 1, lambda: ONE, target=lambda: traced([], "//!\n")),
     Kind("a trace of one line", VERIFY, 1, lambda: ONE, target=lambda: traced([], "9", begins="//!")),

@@ -191,6 +191,7 @@ class Bench(ToolTest):
                 (hostile.in_turn(3), hostile.in_turn_target(3, True), "yes 6"),
                 (hostile.phases(10), hostile.far_joins(10), "yes 0"),
                 (hostile.far_pairs(20, 4), hostile.far_boths(20, 4), "yes 0"),
+                (hostile.HEAD + "qreg q[4];\n", hostile.empty_sums(3, 4), "yes 0"),
             ):
                 self.assertEqual(checked(source, target), wanted)
             for it in hostile.KINDS:
