@@ -182,6 +182,8 @@ class Page(OfAProgram):
         broken = self.file("broken.qasm", HEAD + "qreg q[1];\nh q[0]\n")
         words[1] = broken
         self.assertEqual(self.run_tool(*words), (1, "", f"page: {broken}:5:1: the text ends where ; is wanted\n"))
+        words[1] = broken = self.file("broken.qasm", HEAD + "gate g(t) a { rx(1/t) a; }\nqreg q[1];\ng(0) q[0];\n")
+        self.assertEqual(self.run_tool(*words), (1, "", f"page: {broken}:5:1: an angle that has no value\n"))
         self.assertFalse(os.path.exists(page))
 
 
