@@ -145,6 +145,12 @@ class Page(OfAProgram):
         self.assertIsNone(re.search(r"(?:src|href)\s*=|url\(|@import|fetch\(", text))
         self.assertEqual(re.findall(r"https?://[^\"]*", text), ["http://www.w3.org/2000/svg"])
 
+    def test_opaque_gates_are_put_back(self):
+        page, _ = self.made(HEAD + "opaque wait a; qreg q[1]; t q[0]; wait q[0];", "line_5", any_gates=True)
+        text, data = self.data(page)
+        self.assertIn("Here 1 statement was put back.", text)
+        self.assertEqual([kind for kind, _, _ in data["moments"]], ["gate", "other"])
+
     def test_what_is_proved(self):
         """The plain sentence only for a source that `qroute` by itself takes, and a target that it writes."""
         head = HEAD + "qreg q[2]; creg c[1]; "
@@ -152,6 +158,7 @@ class Page(OfAProgram):
         for text, said, count in (
             ("h q[0]; cx q[0],q[1]; measure q[0] -> c[0];", plain, None),
             ("h q[0]; measure q[0] -> c[0]; h q[0]; measure q[0] -> c[0];", whole, 1),
+            ("s q[0]; t q[0];", plain, None),
             ("h q[0]; measure q[0] -> c[0]; h q[0];", whole, 1),
             ("measure q[0] -> c[0]; measure q[1] -> c[0];", whole, 1),
             ("measure q[0] -> c[0]; if(c==1) h q[1]; reset q[0];", whole, 3),
