@@ -270,8 +270,11 @@ class Device:
 
     @classmethod
     def load(cls, path: str | os.PathLike[str]) -> Device:
-        """The device of a file."""
-        return cls(pathlib.Path(path).read_text(encoding="utf-8"), os.fspath(path))
+        """The device of a file; DeviceRefused if it isn't UTF-8, and an OSError if it can't be read."""
+        try:
+            return cls(pathlib.Path(path).read_text(encoding="utf-8"), os.fspath(path))
+        except UnicodeDecodeError:
+            raise DeviceRefused({"fault": "DeviceText"}, 4, f"{os.fspath(path)}: ") from None
 
     @classmethod
     def named(cls, name: str) -> Device:
@@ -511,8 +514,10 @@ def run(
     except OSError as fault:
         raise NoProgram(f"{path}: {fault.strerror}") from fault
     told = lines_of(ran.stderr)
-    if ran.returncode == 0:
+    if ran.returncode == 0 and ran.stdout.isascii():
         return ran.stdout.decode("ascii"), told
+    if ran.returncode == 0:
+        raise NoProgram(f"{path} is no `qroute`: what it writes isn't ASCII")
     if ran.returncode == 70 or ran.returncode < 0:
         raise NoProgram(f"{path} ended with {ran.returncode}: {ran.stderr.decode('utf-8', 'replace').strip()[-500:]}")
     if ran.returncode == 3:
@@ -529,7 +534,19 @@ def as_tuples(told: typing.Any) -> typing.Any:
     return tuple(map(as_tuples, told)) if isinstance(told, list) else told
 
 
+# The fields of a result that each report has.
+ALWAYS_TOLD = [it.name for it in dataclasses.fields(Result) if it.name != "text" and it.default is it.default_factory is dataclasses.MISSING]
+
+
+def look_at_report(told: dict[str, typing.Any], *keys: str) -> None:
+    """Raises NoProgram if the report lacks one of these: whatever was run, it wasn't `qroute`."""
+    for key in keys:
+        if key not in told:
+            raise NoProgram(f"{program()} is no `qroute`, or another version of it: its report has no {key}")
+
+
 def result(written: str, told: dict[str, typing.Any]) -> Result:
+    look_at_report(told, *ALWAYS_TOLD)
     values = {it.name: as_tuples(told[it.name]) for it in dataclasses.fields(Result) if it.name in told}
     return Result(text=written, report=told, **values)
 
@@ -573,11 +590,11 @@ def opt(
     With `spares`, from 1 to 255, that many wires follow its own, which start and end at zero. T gates are in fewer blocks side by
     side then, if that is possible; barriers can't be kept (ValueError).
 
-    With `any_gates` it takes any OpenQASM 2.0: other angles, `reset`, `if`, measurements anywhere, and the gates that exporters
-    write. Angles within `within`, which is less than pi/8, of a multiple of pi/4 become exact. Proved, part by part, of the
-    program with barriers in place of its other gates: the CNOTs, the Clifford+T gates, the placements and the order on each
-    qubit. Tested and not proved: that this is the source written out, and that each other gate is put back unchanged where its
-    wire is. Spare wires don't go with it (ValueError).
+    With `any_gates` it takes any gates of OpenQASM 2.0, within the same bounds: other angles, `reset`, `if`, measurements
+    anywhere, and the gates that exporters write. Angles within `within`, which is less than pi/8, of a multiple of pi/4 become
+    exact. Proved, part by part, of the program with barriers in place of its other gates: the CNOTs, the Clifford+T gates, the
+    placements and the order on each qubit. Tested and not proved: that this is the source written out, with those angles made
+    exact, and that each other gate is put back unchanged where its wire is. Spare wires don't go with it (ValueError).
 
     >>> found = opt('OPENQASM 2.0; include "qelib1.inc"; qreg q[1]; t q[0]; t q[0];')
     >>> found.text.splitlines()[3:], found.t_before, found.t_after
@@ -619,7 +636,7 @@ def route(
     With `trace` its text is followed by its trace. With `keep_barriers` its barriers are kept, as by `opt`, and with `clean` gates
     that cancel once they are routed are taken out. A trace can be asked for with neither of the two (ValueError).
 
-    With `any_gates` it takes any OpenQASM 2.0, as `opt` says, which also has what is proved then; no trace can be asked for. It makes
+    With `any_gates` it takes any gates, as `opt` says, which also has what is proved then; no trace can be asked for. It makes
     20 tries then, unless it is told how many, or where the wires begin.
 
     >>> text = 'OPENQASM 2.0; include "qelib1.inc"; qreg q[3]; creg c[1]; ccx q[0],q[1],q[2]; measure q[2] -> c[0];'
@@ -679,6 +696,7 @@ def check(text: str | bytes, *, timeout: float | None = None) -> Checked:
     Checked(qubits=3, bits=2, operations=15, cx=6, t=7, barriers=0)
     """
     _, told = run(["check"], as_bytes(text), timeout)
+    look_at_report(told, *(it.name for it in dataclasses.fields(Checked)))
     return Checked(**{it.name: told[it.name] for it in dataclasses.fields(Checked)})
 
 

@@ -1,7 +1,8 @@
 """Angles near multiples of pi/4, and how angles are spelled.
 
 Exporters write pi/4 as 0.785398163397448; `qroute` takes exact angles alone. `exact_angles(text)` makes those exact that are
-within 1e-9 of a multiple, and tells each.
+within 1e-9 of a multiple, and tells each. Only angles of the tables' own gates and of exporters' gates (`declarations.TABLE`)
+become exact: a program's own gate may multiply what it is given.
 """
 
 from __future__ import annotations
@@ -80,20 +81,24 @@ class Places:
 def exact_angles(text: str, within: float = WITHIN) -> tuple[str, list[Change], list[str]]:
     """The program with such angles made exact, all else byte for byte; each change; and the angles that aren't multiples of pi/4.
 
-    An angle that depends on a gate's parameters stays. ValueError if `within` isn't from 0 to less than pi/8. The text has a character for each byte (`qasm.text_of`).
+    An angle of one of the program's own gates, or that depends on a gate's parameters, stays. ValueError if `within` isn't from 0
+    to less than pi/8. The text has a character for each byte (`qasm.text_of`).
     """
     from . import declarations
 
     look_at_within(within)
     reader = qasm.ProgramReader(text, qasm.MOST_ITEMS, True, declarations.TABLE)
-    reader.all()
+    borrowed = list(reader.all().borrowed.values())
     places, changes, left, parts, end = Places(text), [], [], [], 0
-    for begins, ends, expression in reader.angles:
+    for begins, ends, expression, gate in reader.angles:
         try:
             value = expression.value({})
-        except ValueError:
+        except (KeyError, ValueError):
             continue
-        found, distance = nearest(value, within)
+        if gate.is_opaque:
+            continue  # what it takes may be no angles
+        is_of_tables = qasm.is_of_tables(gate) or any(it is gate for it in borrowed)
+        found, distance = nearest(value, within) if is_of_tables else (value, 0.0)
         if found is not value:
             changes.append(Change(*places.of(begins), text[begins:ends], spelled(found), distance))
             parts += [text[end:begins], spelled(found)]

@@ -84,13 +84,13 @@ def is_t(gate: qasm.Gate, angles: list[typing.Any]) -> bool:
 
 
 def of(text: str, cost: int | None = None) -> Metrics:
-    """The metrics of a program's text; `cost` is the sum of what its CNOTs cost on its device."""
+    """The metrics of a program's text; `cost` is the sum of what its CNOTs cost on its device. A qasm.Fault if it can't be read."""
     program = qasm.read(text, most=qasm.MOST_ITEMS, whole=True, known=declarations.TABLE)
     return of_program(program, None if cost is None else math.exp(-cost / UNITS))
 
 
 def of_program(program: qasm.Program, success: float | None = None) -> Metrics:
-    """The metrics of a program that was read."""
+    """The metrics of a program that was read; a qasm.Fault if an angle of a body has no value."""
     depth, cx_depth, t_depth = (Depth(len(program.wires)) for _ in range(3))
     names: dict[str, int] = {}
     gates = cx = t = 0
@@ -106,7 +106,8 @@ def of_program(program: qasm.Program, success: float | None = None) -> Metrics:
         key = (id(step.gate), *step.angles)
         if key not in known:
             parts = written_out(step.gate, step.angles, list(range(len(step.wires))))
-            known[key] = [(on, gate is qasm.CX, len(on) == 1 and is_t(gate, values)) for gate, values, on in parts]
+            with qasm.placed(step.offset):
+                known[key] = [(on, gate is qasm.CX, len(on) == 1 and is_t(gate, values)) for gate, values, on in parts]
         for on, is_cx, is_odd in known[key]:
             wires = [step.wires[it] for it in on]
             gates, cx, t = gates + 1, cx + is_cx, t + is_odd
@@ -125,7 +126,7 @@ def cost_of(error: float) -> int:
 def success_on(program: qasm.Program, device: qroute.Device) -> float | None:
     """What the CNOTs of a program on a device's qubits succeed with together, by the costs of its edges; None without costs.
 
-    A pair of qubits costs what its cheapest edge costs. A KeyError for a CNOT on no edge.
+    A pair of qubits costs what its cheapest edge costs. A KeyError for a CNOT on no edge, a qasm.Fault for an angle without a value.
     """
     table = tomllib.loads(device.text)
     if table.get("format", 1) != 2:
@@ -137,6 +138,7 @@ def success_on(program: qasm.Program, device: qroute.Device) -> float | None:
     total = 0
     for step in program.steps:
         if step.kind == "gate":
-            for gate, _, wires in written_out(step.gate, step.angles, step.wires):
-                total += costs[frozenset(wires)] if gate is qasm.CX else 0
+            with qasm.placed(step.offset):
+                pieces = list(written_out(step.gate, step.angles, step.wires))
+            total += sum(costs[frozenset(wires)] for gate, _, wires in pieces if gate is qasm.CX)
     return math.exp(-total / UNITS)

@@ -7,9 +7,10 @@ for no more faults than it needs to. What it can't make sense of, or is beyond t
 or of angles and operations a ValueError.
 
 `read(text, whole=True)` reads the whole language: conditions, `reset`, opaque gates, gates after measurements, and angles
-without an exact value, each of which is a float then. It also looks whether a name is taken.
+without an exact value, each of which is a float then. It also looks whether a name is taken, and skips a byte order mark.
 """
 
+import contextlib
 import dataclasses
 import fractions
 import math
@@ -24,6 +25,9 @@ MOST_DEPTH = 64
 MOST_PART = 2**62  # of a number in lowest terms
 MOST_OPERATIONS = 65_536
 MOST_ITEMS = 1_048_576  # operations, and gates that are written out by others on the way
+MOST_DIGITS = 4_300  # of a number that an `if` compares with: Python reads no more
+
+MARK = "\xef\xbb\xbf"  # a byte order mark, a character for each of its bytes
 
 TOKEN = re.compile(
     r"""(?P<blank>(?:[ \t\r\n]|//[^\n]*)+)
@@ -166,7 +170,9 @@ def text_in(path):
 def tokens(text, whole=False):
     """The tokens of a text; with `whole` a number may have an exponent without a point, which its token has then."""
     found = []
-    offset = 0
+    if text.startswith(MARK) and not whole:
+        raise Fault("the text begins with a byte order mark, which `qroute` doesn't read", 0)
+    offset = len(MARK) if text.startswith(MARK) else 0
     while offset < len(text):
         match = TOKEN.match(text, offset)
         if whole and match is not None and match.lastgroup == "whole" and (bare := BARE.match(text, offset)):
@@ -340,10 +346,11 @@ class Reader:
     def __init__(self, text, whole=False):
         self.list = tokens(text, whole)
         self.text = text
-        self.angles = []  # with `whole`, each expression with the offsets at which it begins and ends
+        self.angles = []  # with `whole`, each expression with the offsets at which it begins and ends, and its gate
         self.at = 0
         self.end = len(text)
         self.level = 0
+        self.params = ()  # of the gate that is declared
         self.whole = whole
 
     def peek(self):
@@ -369,6 +376,14 @@ class Reader:
             self.at -= 1
             self.fail("a number with a part above 2^62")
         return found
+
+    def compared(self):
+        """The whole number that a condition compares with, of any size."""
+        text = self.take(kind="whole")
+        if len(text) > MOST_DIGITS:
+            self.at -= 1
+            self.fail(f"a number of more than {MOST_DIGITS:,} digits")
+        return int(text)
 
     def constant(self, text):
         """The angle that a number is."""
@@ -449,18 +464,25 @@ class Reader:
         name = self.take(kind="word")
         if name == "pi":
             return Expression(1, lambda env: PI)
+        if name in FUNCTIONS:
+            return self.called(name)
+        if name not in self.params:
+            self.at -= 1
+            self.fail(f"{name} is no number here (bind the parameter first)")
+        return Expression(1, lambda env: env[name])
+
+    def called(self, name):
+        """A function of the language; without `whole` it has no value."""
+        self.take("(")
+        part = self.expression()
+        self.take(")")
+        if self.whole:
+            return self.deeper(part.depth, lambda env: in_floats(CALLED[name], part.value(env)))
 
         def none(env):
             raise ValueError(f"{name} has no exact value here")
 
-        if name in FUNCTIONS:
-            self.take("(")
-            part = self.expression()
-            self.take(")")
-            if self.whole:
-                return self.deeper(part.depth, lambda env: in_floats(CALLED[name], part.value(env)))
-            return self.deeper(part.depth, none)
-        return Expression(1, lambda env: env[name] if name in env else none(env))
+        return self.deeper(part.depth, none)
 
     def ruled(self, rule):
         """A rule for exact angles, or for any."""
@@ -479,25 +501,26 @@ class Reader:
         if depth > MOST_DEPTH:
             self.fail(f"an expression deeper than {MOST_DEPTH}")
 
-    def expressions(self):
+    def expressions(self, gate):
+        """The angles of a gate."""
         if not self.skips("("):
             return []
         if self.skips(")"):
             return []
-        found = [self.angle()]
+        found = [self.angle(gate)]
         while self.skips(","):
-            found.append(self.angle())
+            found.append(self.angle(gate))
         self.take(")")
         return found
 
-    def angle(self):
-        """An expression that is a whole angle."""
+    def angle(self, gate):
+        """An expression that is a whole angle of a gate."""
         begins = self.at
         found = self.expression()
         if self.whole:
             last = self.list[self.at - 1].offset
             end = BARE.match(self.text, last) or TOKEN.match(self.text, last)
-            self.angles.append((self.list[begins].offset, end.end() if end else last, found))
+            self.angles.append((self.list[begins].offset, end.end() if end else last, found, gate))
         return found
 
 
@@ -570,7 +593,7 @@ class ProgramReader(Reader):
             self.at -= 1
             self.fail(f"no classical register {name}")
         self.take("==")
-        value = int(self.number(self.take(kind="whole")))
+        value = self.compared()
         self.take(")")
         if self.peek() in ("include", "qreg", "creg", "gate", "barrier", "opaque"):
             self.fail(f"{self.peek()} under an `if`")
@@ -620,7 +643,8 @@ class ProgramReader(Reader):
             is_taken = is_taken or (self.is_included and name in library() and name not in LATER)
         if is_taken and self.whole:
             self.at -= 1
-            self.fail(f"the name {name} is taken")
+            is_hidden = is_register and name in library() and not self.is_included
+            self.fail(f"the name {name} is taken{': the tables are always included' if is_hidden else ''}")
 
     def register(self, known, numbered):
         name = self.take(kind="word")
@@ -664,8 +688,10 @@ class ProgramReader(Reader):
         qubits = self.own_names(params)
         self.take("{")
         body = []
+        self.params = params
         while not self.skips("}"):
             body += self.line_of_body(qubits)
+        self.params = ()
         self.declare(gate_of(params, qubits, body, name, self.said()))
 
     def declare(self, gate):
@@ -680,7 +706,7 @@ class ProgramReader(Reader):
             self.take(";")
             return []
         gate = self.gate_of_name()
-        angles = self.expressions()
+        angles = self.expressions(gate)
         places = self.names()
         for it in places:
             if it not in qubits:
@@ -745,10 +771,10 @@ class ProgramReader(Reader):
         # each once, in the order in which they are named
         self.step("barrier", "barrier", [], list(dict.fromkeys(wires)))
 
-    def values(self):
+    def values(self, gate):
         """The angles that a gate is applied with."""
         found = []
-        for i, it in enumerate(expressions := self.expressions()):
+        for i, it in enumerate(expressions := self.expressions(gate)):
             try:
                 found.append(it.value({}))
             except ValueError as fault:
@@ -761,7 +787,7 @@ class ProgramReader(Reader):
         name, begins = self.peek(), self.at
         gate = self.gate_of_name()
         seen = len(self.angles)
-        angles = self.values()
+        angles = self.values(gate)
         if gate.is_opaque:
             del self.angles[seen:]  # what it takes may be no angles
         said = "".join(it.text for it in self.list[begins : self.at])
@@ -788,6 +814,11 @@ def library():
     return _LIBRARY
 
 
+def is_of_tables(gate):
+    """Whether a gate is `U`, `CX` or one of the library, and none of the program's own."""
+    return library().get(gate.name) is gate
+
+
 _KNOWN = {}
 
 
@@ -806,6 +837,15 @@ def read(text, most=MOST_OPERATIONS, whole=False, known=None):
     With `whole` it is one of the whole language, and `known` has declarations by name for names that the tables lack.
     """
     return ProgramReader(text, most, whole, known).all()
+
+
+@contextlib.contextmanager
+def placed(offset):
+    """Makes a Fault at this offset of what has no value."""
+    try:
+        yield
+    except ValueError as fault:
+        raise Fault(str(fault), offset) from None
 
 
 def applied(gate, angles, wires):

@@ -8,7 +8,11 @@ Written for the documented interface of Qiskit 1.0 and later, and tried with a s
 wasn't run with Qiskit itself. Only this file imports Qiskit, so whoever doesn't import it needs none.
 
 A circuit that `qroute` refuses, for an angle that is no multiple of pi/4 say, raises a TranspilerError with the reason. Barriers
-of a circuit are kept. The global phase is Qiskit's, exactly, as long as each gate's matrix is known to both.
+of a circuit are kept. The global phase is Qiskit's, exactly, as long as each gate's matrix is known to both; with `any_gates` it
+isn't set.
+
+Conditions go by text alone, by `qroute.route` and `qroute.opt`: Qiskit 2 has no `c_if`, and `qasm2.dumps` refuses an `if_else` with
+an exception of its own.
 """
 
 from __future__ import annotations
@@ -95,8 +99,11 @@ def plain(dag: DAGCircuit) -> QuantumCircuit:
 
 
 def refilled(empty: QuantumCircuit, text: str) -> DAGCircuit:
-    """A circuit without operations, with those of a text: qubit i is the text's i-th, and so is each bit."""
-    read = qasm2.loads(text)
+    """A circuit without operations, with those of a text: qubit i is the text's i-th, and so is each bit.
+
+    Gates that are put back may be p, u, sx and others that `qelib1.inc` lacks for Qiskit's reader, so it is told of them.
+    """
+    read = qasm2.loads(text, custom_instructions=qasm2.LEGACY_CUSTOM_INSTRUCTIONS)
     for it in read.data:
         qubits = [empty.qubits[read.find_bit(bit).index] for bit in it.qubits]
         empty.append(it.operation, qubits, [empty.clbits[read.find_bit(bit).index] for bit in it.clbits])
@@ -150,7 +157,7 @@ def answered(call: collections.abc.Callable[[], qroute.Result]) -> qroute.Result
     """What the module answers; what it refuses, options that don't go together among it, as Qiskit's exception."""
     try:
         return call()
-    except (qroute.Refused, qroute.DeviceRefused, qroute.NoMemory, ValueError) as fault:
+    except (qroute.Refused, qroute.DeviceRefused, qroute.NoMemory, qroute.Unreadable, ValueError) as fault:
         raise TranspilerError(f"qroute: {fault}") from fault
 
 

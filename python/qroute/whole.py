@@ -24,8 +24,8 @@ from . import declarations, qasm
 
 PROVED = (
     "Proved, part by part: the CNOTs, the Clifford+T gates, the placements and the order on each qubit, of the program with barriers "
-    "in place of its other gates; tested and not proved: that this is the source written out, and that each other gate is put back "
-    "unchanged where its wire is."
+    "in place of its other gates; tested and not proved: that this is the source written out, with angles near a multiple of pi/4 made "
+    "exact as `exact` tells, and that each other gate is put back unchanged where its wire is."
 )
 TRIES = 20
 
@@ -82,7 +82,7 @@ class Whole:
         self.text = text
         self.within = within
         self.places = near.Places(text)
-        self.exact: list[near.Change] = []
+        self.exact: dict[near.Change, None] = {}  # each once, in the order of the text
         try:
             self.program = qasm.read(text, whole=True, known=declarations.TABLE)
         except qasm.Fault as fault:
@@ -168,22 +168,26 @@ class Whole:
         elif gate.is_opaque:
             said = step.said if gate is step.gate else called(gate, angles)
             self.add(Statement(gate.name, said, wires, step.offset, False, gate=gate))
-        elif gate is qasm.U or qasm.library().get(gate.name) is gate:
+        elif qasm.is_of_tables(gate):
             return self.take(gate, angles, wires, step.offset)
         else:
             return False
         return True
 
     def take(self, gate: qasm.Gate, angles: list[typing.Any], wires: list[int], offset: int, said: str = "") -> bool:
-        """Adds a gate of the tables, or one that may be handed on by name, if it is exact, or on one wire and the tables' own."""
-        settled = [near.nearest(it, self.within) for it in angles]
+        """Adds a gate of the tables, or one that may be handed on by name, if it is exact, or on one wire and the tables' own.
+
+        Near angles of the tables' own gates and of exporters' are made exact; one of the program's own may multiply what it is given.
+        """
+        is_own = not qasm.is_of_tables(gate) and id(gate) not in self.known
+        settled = [(it, 0.0) if is_own else near.nearest(it, self.within) for it in angles]
         values = [it for it, _ in settled]
         if self.is_exact(gate, values):
             self.tell(offset, angles, settled)
             is_as_said = said and all(one is other for one, other in zip(angles, values))
             self.add(Statement(gate.name, said if is_as_said else called(gate, values), wires, offset, True, gate=gate))
             return True
-        if len(wires) == 1 and (gate is qasm.U or qasm.library().get(gate.name) is gate):
+        if len(wires) == 1 and qasm.is_of_tables(gate):
             self.add(Statement(gate.name, said or called(gate, angles), wires, offset, False))
             return True
         return False
@@ -192,7 +196,7 @@ class Whole:
         """Notes the angles that were made exact."""
         for old, (new, distance) in zip(angles, settled):
             if new is not old:
-                self.exact.append(near.Change(*self.places.of(offset), near.spelled(old), near.spelled(new), distance))
+                self.exact[near.Change(*self.places.of(offset), near.spelled(old), near.spelled(new), distance)] = None
 
     def is_exact(self, gate: qasm.Gate, angles: list[typing.Any]) -> bool:
         """Whether a gate with these angles has multiples of pi/4 alone when it is written out."""
@@ -414,6 +418,7 @@ def _made(
         written, told = run(handed.text)
     except qroute.Refused as fault:
         raise _moved(fault, handed, data) from None
+    qroute.look_at_report(told, "between", "parts", "barriers")
     found = [it for _, group in handed.put_back for it in group]
     any_gates = AnyGates(
         put_back=dict(collections.Counter(it.name for it in found if it.name != "barrier")),
@@ -445,7 +450,9 @@ def _put_back(written: str, told: dict[str, typing.Any], handed: Handed, opaque:
         own = next(it for it in (register + "_" * i for i in range(len(taken) + 1)) if it not in taken)
         lines = [re.sub(rf"\b{register}\[", f"{own}[", line) for line in lines]
         register = own
-    waiting = iter(zip(handed.put_back, told["between"], strict=True))
+    if len(told["between"]) != len(handed.put_back):
+        raise qroute.QrouteError(f"the report tells of {len(told['between'])} barriers, and {len(handed.put_back)} were asked for")
+    waiting = iter(zip(handed.put_back, told["between"]))
     found = []
     for line in lines:
         if not line.startswith("barrier "):

@@ -35,8 +35,14 @@ def format_of(told):
     return 4 if "spares" in told else 3 if "parts" in told else 2 if "cost" in told else 1
 
 
-def flaws(told):
-    """What of a report's wires and parts can't be."""
+def flaws(told, needed=()):
+    """What of a report's swaps, cost, wires and parts can't be; it has to have what is needed."""
+    for key in ("swaps", "cost"):
+        if key in told and not is_count(told[key]):
+            yield f"the report says {key} {told[key]!r}, which is no number"
+    for key in needed:
+        if key not in told:
+            yield f"the report has no {key}"
     qubits, device = told.get("qubits"), told.get("device")
     if not is_count(qubits) or not is_count(device) or qubits > device:
         yield f"the report says qubits {qubits!r} and device {device!r}"

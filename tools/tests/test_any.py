@@ -97,7 +97,7 @@ class Drawn(AnyGates):
 class Examples(AnyGates):
     def test_exact_programs_come_out_as_without(self):
         """Nothing is put back in a program that `qroute` takes: so what is written is what it writes."""
-        for path in sorted(glob.glob(f"{TOP}/examples/*.qasm") + glob.glob(f"{TOP}/examples/literature/*.qasm")):
+        for path in sorted(glob.glob(f"{TOP}/examples/**/*.qasm", recursive=True)):
             with open(path, encoding="utf-8") as file:
                 text = file.read()
             device = qroute.Device.named("ibm_eagle_127")
@@ -122,16 +122,22 @@ class Examples(AnyGates):
                     count += 1
         self.assertGreater(count, 50)
 
+    def test_two_of_the_router_s_paper_are_simulated(self):
+        """The others of the folder are larger, and are simulated with the large ones."""
+        for name, on in (("qft_10", "ibm_tokyo"), ("ising_10", "ibm_qx5")):
+            text = qasm.text_in(f"{TOP}/examples/sabre/{name}.qasm")
+            found = qroute.route(text, qroute.Device.named(on), any_gates=True)
+            self.assertLess(self.apart(list(simulation.statements(qasm.read(text))), 10, found), 1e-7, f"{name} on {on}")
 
     def test_large_ones_are_simulated(self):
-        """The others, by turns on one of the devices: all but two, whose states have 2^24 terms or more; there is room for a million."""
+        """The others, by turns on one of the devices: all but three, whose states have 2^20 terms or more; there is room for a million."""
         if simulation.numpy is None or not ALL:
             self.skipTest("numpy isn't installed" if ALL else "it takes minutes, so it runs with QROUTE_TEST_ALL alone")
         left = set()
-        for turn, path in enumerate(sorted(glob.glob(f"{TOP}/examples/literature/*.qasm"))):
+        for turn, path in enumerate(sorted(glob.glob(f"{TOP}/examples/literature/*.qasm")) + sorted(glob.glob(f"{TOP}/examples/sabre/*.qasm"))):
             program = qasm.read(qasm.text_in(path))
             size, name = len(program.wires), os.path.basename(path).removesuffix(".qasm")
-            if size <= 8 and len(program.steps) <= 150:
+            if size <= 8 and len(program.steps) <= 150 or name == "qft_20":
                 continue
             devices = [it for it in map(qroute.Device.named, DEVICES) if size <= it.qubits()]
             try:
@@ -235,6 +241,51 @@ class Results(AnyGates):
         found = qroute.opt(text, any_gates=True, within=1e-5)
         self.assertEqual((found.any_gates.put_back, len(found.any_gates.exact)), ({}, 2))
 
+    def test_near_angles_of_own_gates(self):
+        """A program's own gate may multiply what it is given, so it is written out first: then the angles of the tables' gates are near."""
+        own = "gate g(t) a { u1(1000000000*t) a; } gate f(s) a { g(s/10) a; h a; g(0.0000000001) a; } gate u(t) a { u1(t*1000000000) a; }\n"
+        for applied, put_back, exact in (
+            ("g(0.0000000001) q[0];", {"u1": 1}, []),
+            ("f(0.000000001) q[0];", {"u1": 2}, []),
+            ("u(0.0000000001) q[0];", {"u1": 1}, []),
+            ("g(0.00000000078539816339744831) q[0];", {}, [("0.7853981633974483", "pi/4")]),
+            ("g(pi/4000000000) q[0];", {}, []),
+            ("rzz(0.7853981633) q[0],q[1];", {}, [("0.7853981633", "pi/4")]),
+        ):
+            text = f"{HEAD}{own}qreg q[2]; h q[0]; {applied} h q[0];"
+            found = qroute.opt(text, any_gates=True)
+            told = found.any_gates
+            self.assertEqual((told.put_back, [(it.was, it.now) for it in told.exact]), (put_back, exact), applied)
+            source = list(simulation.statements(qasm.read(text, whole=True, known=qroute.whole.declarations.TABLE)))
+            self.assertLess(self.apart(source, 2, found), 1e-9, applied)
+
+    def test_near_angles_are_told_once_a_statement(self):
+        text = HEAD + "qreg q[3]; rz(0.7853981633) q; rz(0.7853981633) q[0];"
+        told = qroute.opt(text, any_gates=True).any_gates.exact
+        self.assertEqual([(it.line, it.column, it.was) for it in told], [(3, 12, "0.7853981633"), (3, 32, "0.7853981633")])
+        found = qroute.opt(text, any_gates=True).any_gates.proved
+        self.assertIn("with angles near a multiple of pi/4 made exact as `exact` tells", found)
+
+    def test_large_conditions(self):
+        """A condition may compare with a number of any size, and it is put back with the same one."""
+        for value in (2**64 - 1, 2**70, 10**308):
+            found = qroute.opt(HEAD + f"qreg q[1]; creg c[70]; if(c=={value}) h q[0];", any_gates=True)
+            self.assertIn(f"if(c=={value}) h q[0];", found.text)
+        with self.assertRaisesRegex(qroute.Unreadable, "line 3, column 32: a number of more than 4,300 digits"):
+            qroute.opt(HEAD + f"qreg q[1]; creg c[70];   if(c=={'9' * 4301}) h q[0];", any_gates=True)
+
+    def test_a_byte_order_mark_is_skipped(self):
+        found = qroute.opt("\ufeff" + HEAD + "qreg q[1]; rx(0.1) q[0];", any_gates=True)
+        self.assertEqual(found.text, HEAD + "qreg q[1];\nrx(0.1) q[0];\n")
+        with self.assertRaisesRegex(qasm.Fault, "begins with a byte order mark"):
+            qasm.read(qasm.text_of(b"\xef\xbb\xbf" + HEAD.encode()))
+
+    def test_cnots_under_conditions_count(self):
+        """A CNOT under an `if` is written with two, unless the CNOTs of its gate undo each other."""
+        for applied, count in (("cx q[0],q[1]", 2), ("cz q[0],q[1]", 2), ("crz(0.1) q[0],q[1]", 2), ("swap q[0],q[1]", 6), ("t q[0]", 0)):
+            found = qroute.opt(HEAD + f"qreg q[2]; creg c[1]; if(c==1) {applied};", any_gates=True)
+            self.assertEqual((found.cx_before, found.t_before), (count, 0), applied)
+
     def test_gates_are_put_back_as_they_are_spelled(self):
         text = HEAD + "qreg q[1]; u3( 0.1 , sin( pi/3 ) /*".replace("/*", ",") + " -1.5e-3 ) q[0];\nU(1,2,3) q[0]; p(2e-5) q[0];\n"
         found = qroute.opt(text, any_gates=True)
@@ -254,6 +305,9 @@ class Results(AnyGates):
             ("opaque two a,b;\nqreg q[2];\ntwo q[0],q[1];\n", 5, 1, "the opaque gate two is on 2 wires"),
             ("qreg q[1];\nqreg q[2];\n", 4, 6, "the name q is taken"),
             ("gate g a { rx(ln(0-1)) a; }\nqreg q[1];\ng q[0];\n", 5, 1, "an angle that has no value"),
+            ("gate g(t) a { rx(1/t) a; }\nqreg q[1];\ng(0) q[0];\n", 5, 1, "an angle that has no value"),
+            ("gate g a { rx(pei) a; }\nqreg q[1];\ng q[0];\n", 3, 15, "pei is no number here (bind the parameter first)"),
+            ("qreg q[1];\nrx(2*theta) q[0];\n", 4, 6, "theta is no number here (bind the parameter first)"),
             ("qreg q[1];\nu2(1, 1/0) q[0];\n", 4, 7, "an angle that has no value"),
             ("qreg q[1];\nrx(1e400) q[0];\n", 4, 4, "an angle that has no value"),
             ("gate g(pi) a { rx(pi) a; }\n", 3, 8, "the name pi is a word of the language"),
@@ -273,6 +327,10 @@ class Results(AnyGates):
                 qroute.route(HEAD, qroute.Device.named("line_5"), any_gates=True, **more)
         with self.assertRaises(ValueError):
             qroute.opt(HEAD, any_gates=True, spares=1)
+
+    def test_the_tables_are_always_included(self):
+        with self.assertRaisesRegex(qroute.Unreadable, "line 1, column 20: the name h is taken: the tables are always included"):
+            qroute.opt("OPENQASM 2.0; creg h[2];", any_gates=True)
 
     def test_opaque_gates_with_names_of_the_tables(self):
         """What is written includes the tables, so an opaque `h` would be two gates there."""
@@ -353,6 +411,13 @@ class Tool(AnyGates):
         self.assertEqual((status, out, err), (4, "", "any: TooFewQubits: the device has 5 qubits, and the program 6\n"))
         status, out, err = self.run_tool("any", "route", "--device", self.room + "/none", given=HEAD)
         self.assertEqual((status, out, err), (2, "", f"any: {self.room}/none: No such file or directory\n"))
+        none = self.file("none.toml", b"qubits = 2 # \xff\n")
+        status, out, err = self.run_tool("any", "route", "--device", none, given=HEAD)
+        self.assertEqual((status, out, err), (4, "", f"any: {none}: DeviceText: the device file isn't TOML in UTF-8\n"))
+        for words in (["opt"], ["route", "--device", path]):
+            status, out, err = self.run_tool("any", *words, given=HEAD, env=os.environ | {"QROUTE": "/bin/true"})
+            self.assertEqual((status, out), (2, ""))
+            self.assertEqual(err, "any: /bin/true is no `qroute`, or another version of it: its report has no between\n")
         for words in (
             *(["opt", *it] for it in (["--tries", "2"], ["--clean"], ["--trivial"], ["--initial", "0"])),
             *(["route", "--device", path, *it] for it in (["--tries", "0"], ["--tries", "257"], ["--tries=-1"], ["--tries", "2.0"])),

@@ -211,6 +211,11 @@ class Draw(ToolTest):
         few = self.file("p.qasm", 'OPENQASM 2.0;\ninclude "qelib1.inc";\nqreg q[3];\ncx q[0];\n')
         self.assertEqual(self.run_tool("draw", few), (1, "", f"draw: {few}:4: the gate takes 0 angles and 2 wires\n"))
 
+    def test_bodies_without_a_value(self):
+        path = self.file("p.qasm", 'OPENQASM 2.0;\ninclude "qelib1.inc";\ngate g(t) a,b { rx(1/t) a; }\nqreg q[2];\ng(0) q[0],q[1];\n')
+        says = f"draw: {path}:5: an angle that has no value\n"
+        self.assertEqual(self.run_tool("draw", path, "--expand"), (1, "", says))
+
     def test_devices_and_reports_that_cannot_be_drawn(self):
         program = self.file("p.qasm", PROGRAM)
         for text, said in (

@@ -40,6 +40,17 @@ class ExactAngles(ToolTest):
         self.assertEqual((status, out), (1, text.replace("1.5707963267948966", "pi/2")))
         self.assertEqual(err.splitlines()[1], "1 angles made exact; 1 others aren't multiples of pi/4: 0.1 (1)")
 
+    def test_angles_of_own_gates_are_left(self):
+        """A program's own gate may multiply what it is given, where it is applied and in a body; exporters' gates don't."""
+        own = "gate g(t) a { u1(1000000000*t) a; } gate f(s) a { g(0.0000000001) a; rz(s+1e-12) a; }\n"
+        text = f"{HEAD}{own}gate p(t) a {{ u1(1e9*t) a; }}\nqreg q[2];\ng(0.0000000001) q[0]; f(1e-12) q[0]; p(1e-11) q[1];\n"
+        status, out, err = self.run_tool("exact-angles", given=text)
+        self.assertEqual((status, out), (1, text))
+        self.assertIn("0 angles made exact; 4 others aren't multiples of pi/4", err)
+        text = f"{HEAD}opaque wait(t) a;\ngate w a {{ wait(1e-12) a; }}\nqreg q[2];\nrzz(0.7853981633) q[0],q[1];\n"
+        status, out, _ = self.run_tool("exact-angles", given=text)
+        self.assertEqual((status, out), (0, text.replace("0.7853981633", "pi/4")))
+
     def test_faults(self):
         text = f"{HEAD}qreg q[1];\nrz(0.1 q[0];\n"
         self.assertEqual(self.run_tool("exact-angles", given=text), (3, "", "exact-angles: 4:8: 'q' where ) is wanted\n"))

@@ -52,5 +52,12 @@ class Metrics(ToolTest):
     def test_faults(self):
         path = self.file("p.qasm", HEAD + "qreg q[1];\nh q[1];\n")
         self.assertEqual(self.run_tool("metrics", path), (1, "", f"metrics: {path}:4:7: q has no index 1\n"))
+        for text, place, said, counted in (
+            ("gate g a { rx(pei) a; } qreg q[1];\ng q[0];\n", "3:15", "pei is no number here (bind the parameter first)", None),
+            ("gate g(t) a,b { rx(1/t) a; } qreg q[2];\n g(0) q[0],q[1];\n", "4:2", "an angle that has no value", "a division by 0"),
+        ):
+            path = self.file("p.qasm", HEAD + text)
+            self.assertEqual(self.run_tool("metrics", path), (1, "", f"metrics: {path}:{place}: {said}\n"))
+            self.assertEqual(self.run_tool("compare-counts", path), (2, "", f"compare-counts: {path}:{place}: {counted or said}\n"))
         none = self.room + "/none"
         self.assertEqual(self.run_tool("metrics", none), (2, "", f"metrics: {none}: No such file or directory\n"))

@@ -140,10 +140,36 @@ class Page(OfAProgram):
         self.assertEqual((kinds.count("swap"), kinds.count("other"), kinds.count("measure")), (found.swaps, 1, 1))
         self.assertEqual(kinds.count("cx") + 3 * found.swaps, found.cx_after)
         self.assertEqual((data["wires"], data["final"]), ([f"mine[{i}]" for i in range(3)], list(found.final[:3])))
-        self.assertIn("Here 1 statements were put back.", text)
+        self.assertIn("Here 1 statement was put back.", text)
         self.assertIn(f"<tr><th>CNOTs<td>7<td>{found.cx_after}", text)
         self.assertIsNone(re.search(r"(?:src|href)\s*=|url\(|@import|fetch\(", text))
         self.assertEqual(re.findall(r"https?://[^\"]*", text), ["http://www.w3.org/2000/svg"])
+
+    def test_opaque_gates_are_put_back(self):
+        page, _ = self.made(HEAD + "opaque wait a; qreg q[1]; t q[0]; wait q[0];", "line_5", any_gates=True)
+        text, data = self.data(page)
+        self.assertIn("Here 1 statement was put back.", text)
+        self.assertEqual([kind for kind, _, _ in data["moments"]], ["gate", "other"])
+
+    def test_what_is_proved(self):
+        """The plain sentence only for a source that `qroute` by itself takes, and a target that it writes."""
+        head = HEAD + "qreg q[2]; creg c[1]; "
+        plain, whole = "Proved: the written program is the unitary of the source", "Proved, part by part: the CNOTs"
+        for text, said, count in (
+            ("h q[0]; cx q[0],q[1]; measure q[0] -> c[0];", plain, None),
+            ("h q[0]; measure q[0] -> c[0]; h q[0]; measure q[0] -> c[0];", whole, 1),
+            ("s q[0]; t q[0];", plain, None),
+            ("h q[0]; measure q[0] -> c[0]; h q[0];", whole, 1),
+            ("measure q[0] -> c[0]; measure q[1] -> c[0];", whole, 1),
+            ("measure q[0] -> c[0]; if(c==1) h q[1]; reset q[0];", whole, 3),
+            ("rz(0.7853981633) q[0]; cx q[0],q[1];", whole, None),
+            ("rzz(pi/2) q[0],q[1];", whole, None),
+            ("rx(0.1) q[0]; cx q[0],q[1]; barrier q; t q[0];", whole, 1),
+        ):
+            page, _ = self.made(head + text, "line_5", any_gates=True)
+            found = self.data(page)[0]
+            self.assertEqual([it for it in (plain, whole) if it in found], [said], text)
+            self.assertEqual(re.findall(r"Here (\d+) statements? w", found), [] if count is None else [str(count)], text)
 
     def test_names_are_no_markup(self):
         page, _ = self.made(HEAD + "qreg q[1];\nh q[0];\n", "line_5")
@@ -163,7 +189,22 @@ class Page(OfAProgram):
         broken = self.file("broken.qasm", HEAD + "qreg q[1];\nh q[0]\n")
         words[1] = broken
         self.assertEqual(self.run_tool(*words), (1, "", f"page: {broken}:5:1: the text ends where ; is wanted\n"))
+        words[1] = broken = self.file("broken.qasm", HEAD + "gate g(t) a { rx(1/t) a; }\nqreg q[1];\ng(0) q[0];\n")
+        self.assertEqual(self.run_tool(*words), (1, "", f"page: {broken}:5:1: an angle that has no value\n"))
         self.assertFalse(os.path.exists(page))
+
+
+    def test_reports_that_cannot_be(self):
+        page, found = self.made(HEAD + "qreg q[1];\nh q[0];\n", "line_5")
+        words = ["page", *(os.path.join(self.room, it) for it in ("source.qasm", "target.qasm")), "--device", os.path.join(TOP, "devices/line_5.toml")]
+        for told, said in (
+            ({"swaps": None}, "the report has no swaps"),
+            ({"swaps": "1"}, "the report says swaps '1', which is no number"),
+            ({"cost": "a"}, "the report says cost 'a', which is no number"),
+        ):
+            told = {key: it for key, it in (found.report | told).items() if it is not None}
+            report = self.file("report", json.dumps(told) + "\n")
+            self.assertEqual(self.run_tool(*words, "--report", report, "-o", page), (1, "", f"page: {report}: {said}\n"))
 
 
 class InABrowser(OfAProgram):

@@ -290,6 +290,23 @@ class Module(StoodIn):
         with mock.patch.dict(os.environ, {"QROUTE_DEVICES": os.path.dirname(path)}):
             self.assertEqual(qroute.Device.named("own").qubits(), 1)
 
+    def test_devices_that_are_no_utf_8(self):
+        path = self.file("broken.toml", b"qubits = 2 # \xff\n")
+        with self.assertRaises(qroute.DeviceRefused) as caught:
+            qroute.Device.load(path)
+        self.assertEqual((caught.exception.name, caught.exception.status), ("DeviceText", 4))
+
+    def test_a_program_that_is_not_this_one(self):
+        """It ends well, and what it tells is no report."""
+        text = 'OPENQASM 2.0; include "qelib1.inc";'
+        calls = [lambda: qroute.opt(text), lambda: qroute.check(text), lambda: qroute.opt(text, any_gates=True)]
+        for path in ("/bin/true", self.file("other", "#!/bin/sh\nprintf 'caf\\303\\251'\n")):
+            os.chmod(path, 0o755) if path != "/bin/true" else None
+            with mock.patch.dict(os.environ, {"QROUTE": path}):
+                for call in calls:
+                    with self.assertRaisesRegex(qroute.NoProgram, f"{path} is no `qroute`"):
+                        call()
+
     def test_one_version(self):
         with open(os.path.join(TOP, "VERSION"), encoding="utf-8") as file:
             self.assertEqual(file.read().strip(), qroute.__version__)
@@ -326,6 +343,19 @@ class Module(StoodIn):
         for name in ("qroute.Result.undo", "qroute.Device.of"):
             found = [it for it in doctest.DocTestFinder().find(qroute, "qroute") if it.name == name]
             self.assertEqual([(doctest.DocTestRunner().run(it).failed, bool(it.examples)) for it in found], [(0, True)])
+
+    def test_faults_of_a_table(self):
+        """No device of a name is told before the table; a file that can't be read is in it."""
+        words = [os.path.join(TOP, "python/route_table.py"), os.path.join(TOP, "examples/bell.qasm"), self.room + "/none.qasm", "--device"]
+        ran = subprocess.run([*words, "nope"], capture_output=True, text=True)
+        self.assertEqual((ran.returncode, ran.stdout), (2, ""))
+        self.assertIn("route_table.py: error: no device nope; there are ", ran.stderr)
+        broken = self.file("broken.toml", b"\xff\n")
+        ran = subprocess.run([*words, broken], capture_output=True, text=True)
+        self.assertEqual((ran.returncode, ran.stderr), (0, ""))
+        _, one, two = ran.stdout.splitlines()
+        self.assertIn(f"{broken}: DeviceText: the device file isn't TOML in UTF-8", one)
+        self.assertIn(f"{self.room}/none.qasm: No such file or directory", two)
 
     def test_a_table(self):
         self.answers(0, 'OPENQASM 2.0;\ninclude "qelib1.inc";\nqreg q[2];\nt q[0];\ncx q[0],q[1];\nh q[1];\n', REPORT)

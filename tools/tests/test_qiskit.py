@@ -34,10 +34,10 @@ def circuit_of(gates, qubits=3, bits=0):
     found = qiskit.QuantumCircuit(qubits, bits) if bits else qiskit.QuantumCircuit(qubits)
     for name, *words in gates:
         if not IS_REAL:
-            count = 1 if name == "rz" else len(words)
+            count = 1 if name in ("rz", "p") else len(words)
             found.gate(name, *words[:count], params=[it * math.pi for it in words[count:]])
-        elif name == "rz":
-            found.rz(words[1] * math.pi, words[0])
+        elif name in ("rz", "p"):
+            getattr(found, name)(words[1] * math.pi, words[0])
         else:
             getattr(found, name)(*words)
     for i in range(bits):
@@ -155,6 +155,35 @@ class Qiskit(unittest.TestCase):
         self.assertEqual([it.operation.name for it in routed.data if it.operation.name != "cx"], ["t", "barrier", "t"])
         bare = bridge.route_circuit(source, CouplingMap(LINE), keep_barriers=False)
         self.assertNotIn("barrier", bare.count_ops())
+
+    def test_any_gates(self):
+        """A gate that is put back comes by its name, which Qiskit's reader has to be told of; the global phase isn't set."""
+        source = circuit_of([("h", 0), ("p", 0, 0.3 / math.pi), ("sx", 1), ("cx", 0, 2), ("p", 2, 0.25)])
+        for routed in (bridge.route_circuit(source, CouplingMap(LINE), any_gates=True), bridge.opt_circuit(source, any_gates=True)):
+            self.assertEqual(routed.count_ops()["p"], 1)
+            layout = routed.layout
+            begins, ends = (layout.initial_index_layout()[:3], layout.final_index_layout()) if layout else (range(3), range(3))
+            apart = set()
+            for state in range(8):
+                wanted = {placed(x, ends): it for x, it in run(source, state).items()}
+                found = run(routed, placed(state, begins))
+                self.assertEqual(wanted.keys(), found.keys())
+                apart |= {complex(round((it / found[x]).real, 9), round((it / found[x]).imag, 9)) for x, it in wanted.items()}
+            self.assertEqual(len(apart), 1)
+
+    def test_what_any_gates_refuse(self):
+        def unreadable():
+            raise qroute.Unreadable("no gate what", "what q;", 0)
+
+        with self.assertRaisesRegex(TranspilerError, "line 1, column 1: no gate what"):
+            bridge.answered(unreadable)
+
+    @unittest.skipIf(IS_REAL, "a condition of Qiskit is made in another way")
+    def test_conditions_go_by_text_alone(self):
+        source = circuit_of([("h", 0)], bits=1)
+        source.gate("if_else", 1)
+        with self.assertRaises(qiskit.qasm2.QASM2ExportError):
+            bridge.route_circuit(source, CouplingMap(LINE), any_gates=True)
 
     def test_refusals(self):
         with self.assertRaises(TranspilerError) as caught:

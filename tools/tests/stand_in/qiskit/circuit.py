@@ -81,6 +81,8 @@ class Gate:
         if self.name == "rz":
             half = self.params[0] / 2
             return [[cmath.exp(-1j * half), 0], [0, cmath.exp(1j * half)]]
+        if self.name == "p":
+            return diagonal(self.params[0])
         return FIXED[self.name][1]
 
 
