@@ -10,22 +10,21 @@
 //! [`queue`] has them: the walks that follow visit these alone, and a last one looks at every place again.
 #![tactic(auto)]
 
-mod log;
 mod queue;
 mod reduction;
 mod search;
 mod walk;
 
-ghost use Rattle.std.specs.Prelude.{◌≡◌, IfOk};
+ghost use Rattle.std.specs.Prelude.{◌≡◌, IfOk, OnOk, true};
 ghost use Rattle.commute_rules.specs.Reducible.{NoReducible};
 ghost use Rattle.gate_cancel.specs.Reductions.{IsCancelled};
+ghost use Rattle.rewrite_pass.specs.Law.{IsRewriting, IsSmallerOrSame, KeepsCnots};
+ghost use Rattle.rewrite_pass.specs.Traces.{AreSteps};
 
 use circuit_list::{Circuit, Passed};
-use log::Log;
 use queue::Queue;
-use rewrite_pass::{KeepsPairs, Pass, Shrinks, Trace, Traced};
+use rewrite_pass::{KeepsPairs, Pass, Rewriting, Shrinks, Trace, Traced};
 use std::alloc::{AllocError, Global};
-use unitary_model::turn_sum;
 use walk::{walk_all, walk_queue};
 
 /// Cancels and merges gates past the gates that they commute with, until no reducible pair is left (Nam et al. 2018,
@@ -45,7 +44,8 @@ impl Pass for CancelPass {
     ghost kept = { λ n old new. KeepsCnots old new × IsSmallerOrSame old new };
 
     fn run(&self, alloc: Global, body: Circuit) -> Result<Passed, AllocError> {
-        cancelled(alloc, body, &mut Log::new(alloc, false))
+        let (passed, _steps) = cancelled(alloc, body, false)?;
+        Ok(passed)
     }
 }
 
@@ -56,32 +56,40 @@ impl Traced for CancelPass {
         body: Circuit,
         trace: &mut Trace,
     ) -> Result<Passed, AllocError> {
-        let mut log = Log::new(alloc, true);
-        let passed = cancelled(alloc, body, &mut log)?;
-        trace.append(&mut log.trace)?;
+        let (passed, mut steps) = cancelled(alloc, body, true)?;
+        trace.append(&mut steps)?;
         Ok(passed)
     }
 }
 
-/// What [`CancelPass`] gives, with its steps in the log.
-fn cancelled(alloc: Global, body: Circuit, log: &mut Log) -> Result<Passed, AllocError>
-    ensures wires { IfOk result (λ p. p.body.wires ≡ body.wires) }
-    ensures none { IfOk result (λ p. NoReducible p.body.gates) }
-    ensures cancelled { IfOk result (λ p. IsCancelled body.wires body.gates p.body.gates p.turn log.old log.new) }
+/// What [`CancelPass`] gives, and the steps that led to it, if they are told.
+fn cancelled(alloc: Global, body: Circuit, told: bool) -> Result<(Passed, Trace), AllocError>
+    ensures wires { IfOk result (λ r. r.0.body.wires ≡ body.wires) }
+    ensures law { IfOk result (λ r. IsRewriting body.wires body.gates r.0.body.gates r.0.turn) }
+    ensures none { IfOk result (λ r. NoReducible r.0.body.gates) }
+    ensures kept { IfOk result (λ r. KeepsCnots body.gates r.0.body.gates × IsSmallerOrSame body.gates r.0.body.gates) }
+    ensures steps { IfOk result (λ r. told ≡ true → AreSteps body.wires body.gates r.1 r.0.body.gates r.0.turn) }
 {
-    let mut body = body;
-    let mut queue = Queue::new(alloc, body.wires())?;
-    let mut turn = 0;
-    body.link()?;
+    let mut circuit = Rewriting::new(alloc, body, told);
+    cancel_all(alloc, &mut circuit)?;
+    Ok(circuit.finish())
+}
+
+/// Cancels and merges until no reducible pair is left.
+fn cancel_all(alloc: Global, circuit: &mut Rewriting) -> Result<(), AllocError>
+    ensures none { OnOk result (NoReducible circuit.new.body.gates) }
+    ensures cancelled { OnOk result (IsCancelled circuit.old circuit.new) }
+{
+    let mut queue = Queue::new(alloc, circuit.body().wires())?;
+    circuit.link()?;
     'walks: loop {
-        let Some(more) = walk_all(&mut body, &mut queue, log)? else {
+        if !walk_all(circuit, &mut queue)? {
             // no slot is kept anywhere now, and `compact` would make the links anew, which few passes ask for
-            body.unlink();
-            body.compact()?;
-            return Ok(Passed { body, turn });
-        };
-        let rest = walk_queue(alloc, &mut body, &mut queue, log)?;
-        turn = turn_sum(turn, turn_sum(more, rest));
+            circuit.unlink();
+            circuit.compact()?;
+            return Ok(());
+        }
+        walk_queue(alloc, circuit, &mut queue)?;
     }
 }
 

@@ -11,3 +11,4 @@ pub mod PairLaws
 pub mod TraceLaws
 pub mod AlikeLaws
 pub mod TracedLaws
+pub mod DerivationLaws

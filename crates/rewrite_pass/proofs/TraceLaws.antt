@@ -3,7 +3,8 @@
 --     changed_alike           changes that say the same of each place
 --     rule_step               a change that says of each place what a window's edits do is the step of the window's rule
 --     swap                    two gates that are taken, in either order
---     window_kept             a window that is changed
+--     window_made             a window that is changed
+--     rule_made, both_made, join_made     what a step makes that changes a few gates is a rewriting;  sums_kept: the amplitudes alone
 --     step_kept, steps_kept   a step, and steps one after the other
 use Rattle.std.proofs.Common.{◌≡◌, ◌≢◌, ◌⊎◌, inl, inr, ℕ, ◌+◌, ◌-◌, ◌%◌, ◌<◌, Bool, true, false, cond, List, [], ◌∷◌, ◌++◌, length, refl, sym, subst, ◌∙◌, ap, arith, Option, None, Some, All, set}
 use Rattle.std.specs.Prelude.{nat_eq}
@@ -37,6 +38,11 @@ pub record Kept (n : ℕ) (old new : List Gate) (t : ℕ) : Type 0 where
   pub same : SameUpTo t n (ops old) (ops new)
   pub fine : AllByRecursion (IsFine n) new
 
+-- with all that a rewriting keeps
+pub record Made (n : ℕ) (old new : List Gate) (t : ℕ) : Type 0 where
+  pub law : IsRewriting n old new t
+  pub fine : AllByRecursion (IsFine n) new
+
 -- ---- changes that say the same of each place
 pub changed_alike : (c d : Change) (i : ℕ) (gs : List Gate) → ((k : ℕ) → put_at c.edits c.count k ≡ put_at d.edits d.count k) → changed_from c i gs ≡ changed_from d i gs
 changed_alike c d i [] h = refl
@@ -51,12 +57,11 @@ rule_step gs i c w told turn = record {
   turn = turn;
 }
 
-edited-kept : (n : ℕ) (gs : List Gate) (c : Change) (es : List Edit) → All (IsFine n) gs → Lawful n gs c → ((k : ℕ) → put_at c.edits c.count k ≡ put_at es (length es) k) → Kept n gs (edited es gs) c.turn
-edited-kept n gs c es all h told =
+edited-made : (n : ℕ) (gs : List Gate) (c : Change) (es : List Edit) → All (IsFine n) gs → Lawful n gs c → ((k : ℕ) → put_at c.edits c.count k ≡ put_at es (length es) k) → Made n gs (edited es gs) c.turn
+edited-made n gs c es all h told =
     let same : changed c gs ≡ edited es gs = changed_alike c (record { edits = es; count = length es; turn = 0 }) 0 gs told in
     record {
-      below = h.law.below;
-      same = subst (λ xs. SameUpTo c.turn n (ops gs) (ops xs)) same h.law.same;
+      law = subst (λ xs. IsRewriting n gs xs c.turn) same h.law;
       fine = subst (AllByRecursion (IsFine n)) same (recursion_from_All (IsFine n) (changed c gs) (changed_fine n gs c h.change all));
     }
 
@@ -237,49 +242,57 @@ turned_at mid gs i w = record { first = w.first; second = w.second; third = w.th
 conjugated_at : (k : ℕ) (gs : List Gate) (i : ℕ) → (k ≡ 2) ⊎ (k ≡ 6) → (w : IsConjugated k gs i) → IsConjugatedAt k gs w.t i w.a w.b w.e
 conjugated_at k gs i p w = record { c = w.c; m = w.m; phase = p; first = w.first; second = w.second; third = w.third; fourth = w.fourth; fifth = w.fifth }
 
-pub window_kept : (n : ℕ) (gs : List Gate) (i : ℕ) (w : IsWindow gs i) → All (IsFine n) gs → Kept n gs (edited (edits_of gs i w) gs) (turn_of gs i w)
-window_kept n gs i (HadSHad w) all = edited-kept n gs (three_edits (placed i (P 6 w.q)) (placed w.j (H w.q)) (placed w.k (P 6 w.q)) 6) (edits_of gs i (HadSHad w)) all (turned_s n gs w.q i w.j w.k all (turned_at (P 2) gs i w)) (λ k. refl)
-window_kept n gs i (HadSdgHad w) all = edited-kept n gs (three_edits (placed i (P 2 w.q)) (placed w.j (H w.q)) (placed w.k (P 2 w.q)) 0) (edits_of gs i (HadSdgHad w)) all (turned_sdg n gs w.q i w.j w.k all (turned_at (P 6) gs i w)) (λ k. refl)
-window_kept n gs i (HadZHad w) all = edited-kept n gs (three_edits (taken i) (placed w.j (X w.q)) (taken w.k) 0) (edits_of gs i (HadZHad w)) all (turned_z n gs w.q i w.j w.k all (turned_at (P 4) gs i w)) (λ k. refl)
-window_kept n gs i (HadXHad w) all = edited-kept n gs (three_edits (taken i) (placed w.j (P 4 w.q)) (taken w.k) 4) (edits_of gs i (HadXHad w)) all (turned_not n gs w.q i w.j w.k all (turned_at X gs i w)) (λ k. refl)
-window_kept n gs i (FourHads w) all =
+pub window_made : (n : ℕ) (gs : List Gate) (i : ℕ) (w : IsWindow gs i) → All (IsFine n) gs → Made n gs (edited (edits_of gs i w) gs) (turn_of gs i w)
+window_made n gs i (HadSHad w) all = edited-made n gs (three_edits (placed i (P 6 w.q)) (placed w.j (H w.q)) (placed w.k (P 6 w.q)) 6) (edits_of gs i (HadSHad w)) all (turned_s n gs w.q i w.j w.k all (turned_at (P 2) gs i w)) (λ k. refl)
+window_made n gs i (HadSdgHad w) all = edited-made n gs (three_edits (placed i (P 2 w.q)) (placed w.j (H w.q)) (placed w.k (P 2 w.q)) 0) (edits_of gs i (HadSdgHad w)) all (turned_sdg n gs w.q i w.j w.k all (turned_at (P 6) gs i w)) (λ k. refl)
+window_made n gs i (HadZHad w) all = edited-made n gs (three_edits (taken i) (placed w.j (X w.q)) (taken w.k) 0) (edits_of gs i (HadZHad w)) all (turned_z n gs w.q i w.j w.k all (turned_at (P 4) gs i w)) (λ k. refl)
+window_made n gs i (HadXHad w) all = edited-made n gs (three_edits (taken i) (placed w.j (P 4 w.q)) (taken w.k) 4) (edits_of gs i (HadXHad w)) all (turned_not n gs w.q i w.j w.k all (turned_at X gs i w)) (λ k. refl)
+window_made n gs i (FourHads w) all =
     let s = surrounded gs i w (fine_at n gs w.m (Cx w.c w.t) all w.middle_control.there).1.1 in
-    edited-kept n gs (surrounded_change s.a w.c w.t s.b w.m s.u s.v) (edits_of gs i (FourHads w)) all (surrounded_law n gs w.c w.t s.a s.b w.m s.u s.v all s.window) s.told
-window_kept n gs i (SCxSdg w) all = edited-kept n gs (conjugated_change i 2 w.t w.a w.b w.e) (edits_of gs i (SCxSdg w)) all (conjugated_law n gs 2 w.t i w.a w.b w.e all (conjugated_at 2 gs i (inl refl) w)) (λ k. refl)
-window_kept n gs i (SdgCxS w) all = edited-kept n gs (conjugated_change i 6 w.t w.a w.b w.e) (edits_of gs i (SdgCxS w)) all (conjugated_law n gs 6 w.t i w.a w.b w.e all (conjugated_at 6 gs i (inr refl) w)) (λ k. refl)
+    edited-made n gs (surrounded_change s.a w.c w.t s.b w.m s.u s.v) (edits_of gs i (FourHads w)) all (surrounded_law n gs w.c w.t s.a s.b w.m s.u s.v all s.window) s.told
+window_made n gs i (SCxSdg w) all = edited-made n gs (conjugated_change i 2 w.t w.a w.b w.e) (edits_of gs i (SCxSdg w)) all (conjugated_law n gs 2 w.t i w.a w.b w.e all (conjugated_at 2 gs i (inl refl) w)) (λ k. refl)
+window_made n gs i (SdgCxS w) all = edited-made n gs (conjugated_change i 6 w.t w.a w.b w.e) (edits_of gs i (SdgCxS w)) all (conjugated_law n gs 6 w.t i w.a w.b w.e all (conjugated_at 6 gs i (inr refl) w)) (λ k. refl)
 
 -- ---- steps
-by_law : (n : ℕ) (old new : List Gate) (t : ℕ) → AllByRecursion (IsFine n) new → IsRewriting n old new t → Kept n old new t
-by_law n old new t fine h = record { below = h.below; same = h.same; fine = fine }
+kept_of : (n : ℕ) (old new : List Gate) (t : ℕ) → Made n old new t → Kept n old new t
+kept_of n old new t m = record { below = m.law.below; same = m.law.same; fine = m.fine }
 
 same_kept : (n : ℕ) (old new other : List Gate) (t u : ℕ) → new ≡ other → t ≡ u → Kept n old other u → Kept n old new t
 same_kept n old new other t u e f h = subst (λ k. Kept n old new k) (sym f) (subst (λ xs. Kept n old xs u) (sym e) h)
 
-rule_kept : (n k i : ℕ) (old new : List Gate) (t : ℕ) → AllByRecursion (IsFine n) old → IsRuleStep k i old new t → Kept n old new t
-rule_kept n k i old new t fine h = same_kept n old new (edited (edits_of old i h.window) old) t (turn_of old i h.window) h.gates h.turn
-    (window_kept n old i h.window (All-from_recursion (IsFine n) old fine))
+same_made : (n : ℕ) (old new other : List Gate) (t u : ℕ) → new ≡ other → t ≡ u → Made n old other u → Made n old new t
+same_made n old new other t u e f h = subst (λ k. Made n old new k) (sym f) (subst (λ xs. Made n old xs u) (sym e) h)
 
-both_kept : (n i j : ℕ) (old new : List Gate) (t : ℕ) → AllByRecursion (IsFine n) old → IsBothStep i j old new t → Kept n old new t
-both_kept n i j old new t fine h =
+pub rule_made : (n k i : ℕ) (old new : List Gate) (t : ℕ) → All (IsFine n) old → IsRuleStep k i old new t → Made n old new t
+rule_made n k i old new t fine h = same_made n old new (edited (edits_of old i h.window) old) t (turn_of old i h.window) h.gates h.turn (window_made n old i h.window fine)
+
+pub both_made : (n i j : ℕ) (old new : List Gate) (t : ℕ) → All (IsFine n) old → IsBothStep i j old new t → Made n old new t
+both_made n i j old new t fine h =
     let p = h.pair in
+    let r = recursion_from_All (IsFine n) old fine in
     let rest : List Gate = remove (remove old j) i in
-    let fine' : AllByRecursion (IsFine n) rest = all_remove (IsFine n) (remove old j) i (all_remove (IsFine n) old j fine) in
-    same_kept n old new rest t t h.gates refl
-    (by_law n old rest t fine' (Step-IsRewriting n old rest t (All-from_recursion (IsFine n) old fine) (All-from_recursion (IsFine n) rest fine') (cancel_below p.first p.second t h.cancel)
-    (pair_gone n p.first p.second old i j t fine p.at_first p.at_second p.before h.cancel (λ k b l m e. p.commute k b l m e))))
+    let fine' : AllByRecursion (IsFine n) rest = all_remove (IsFine n) (remove old j) i (all_remove (IsFine n) old j r) in
+    same_made n old new rest t t h.gates refl (record {
+      law = Step-IsRewriting n old rest t fine (All-from_recursion (IsFine n) rest fine') (cancel_below p.first p.second t h.cancel)
+          (pair_gone n p.first p.second old i j t r p.at_first p.at_second p.before h.cancel (λ k b l m e. p.commute k b l m e));
+      fine = fine';
+    })
 
-join_kept : (n i j : ℕ) (old new : List Gate) (t : ℕ) → AllByRecursion (IsFine n) old → IsJoinStep i j old new t → Kept n old new t
-join_kept n i j old new t fine h =
+pub join_made : (n i j : ℕ) (old new : List Gate) (t : ℕ) → All (IsFine n) old → IsJoinStep i j old new t → Made n old new t
+join_made n i j old new t fine h =
     let p = h.pair in
+    let r = recursion_from_All (IsFine n) old fine in
     let g : Gate = with_phase h.k p.first in
     let rest : List Gate = remove (set old i g) j in
-    let f : IsFine n p.first = fine_at n old i p.first (All-from_recursion (IsFine n) old fine) p.at_first in
-    let fine' : AllByRecursion (IsFine n) rest = all_remove (IsFine n) (set old i g) j (all_set (IsFine n) old i g (merge_fine n p.first p.second h.k h.merge f) fine) in
-    same_kept n old new rest t 0 h.gates h.turn
-    (by_law n old rest 0 fine' (Step-IsRewriting n old rest 0 (All-from_recursion (IsFine n) old fine) (All-from_recursion (IsFine n) rest fine') (omega arith)
-    (pair_merged n h.k p.first p.second old i j fine p.at_first p.at_second p.before h.merge (λ k b l m e. p.commute k b l m e))))
+    let f : IsFine n p.first = fine_at n old i p.first fine p.at_first in
+    let fine' : AllByRecursion (IsFine n) rest = all_remove (IsFine n) (set old i g) j (all_set (IsFine n) old i g (merge_fine n p.first p.second h.k h.merge f) r) in
+    same_made n old new rest t 0 h.gates h.turn (record {
+      law = Step-IsRewriting n old rest 0 fine (All-from_recursion (IsFine n) rest fine') (omega arith)
+          (pair_merged n h.k p.first p.second old i j r p.at_first p.at_second p.before h.merge (λ k b l m e. p.commute k b l m e));
+      fine = fine';
+    })
 
-sums_kept : (n : ℕ) (gates old new : List Gate) (t : ℕ) → AllByRecursion (IsFine n) old → IsSumsStep n gates old new t → Kept n old new t
+pub sums_kept : (n : ℕ) (gates old new : List Gate) (t : ℕ) → AllByRecursion (IsFine n) old → IsSumsStep n gates old new t → Kept n old new t
 sums_kept n gates old new t fine h =
     let fine' : AllByRecursion (IsFine n) gates = recursion_from_All (IsFine n) gates h.fine in
     let t' : ℕ = constants_turn n old gates in
@@ -293,9 +306,9 @@ sums_kept n gates old new t fine h =
     turned a b = omega arith
 
 pub step_kept : (n : ℕ) (old : List Gate) (s : Step) (new : List Gate) (t : ℕ) → AllByRecursion (IsFine n) old → IsStep n old s new t → Kept n old new t
-step_kept n old (Rule k i) new t fine h = rule_kept n k i old new t fine h
-step_kept n old (Both i j) new t fine h = both_kept n i j old new t fine h
-step_kept n old (Join i j) new t fine h = join_kept n i j old new t fine h
+step_kept n old (Rule k i) new t fine h = kept_of n old new t (rule_made n k i old new t (All-from_recursion (IsFine n) old fine) h)
+step_kept n old (Both i j) new t fine h = kept_of n old new t (both_made n i j old new t (All-from_recursion (IsFine n) old fine) h)
+step_kept n old (Join i j) new t fine h = kept_of n old new t (join_made n i j old new t (All-from_recursion (IsFine n) old fine) h)
 step_kept n old (Sums gates) new t fine h = sums_kept n gates old new t fine h
 
 pub Kept_refl : (n : ℕ) (gs : List Gate) → AllByRecursion (IsFine n) gs → Kept n gs gs 0

@@ -16,8 +16,10 @@
 mod combine;
 mod gates;
 mod lines;
+mod log;
 mod make;
 mod pass;
+mod rewriting;
 mod rule;
 mod sweep;
 mod trace;
@@ -27,6 +29,7 @@ mod wires;
 
 pub use combine::{Round, Settle, Then, WhileSmaller};
 pub use pass::{KeepsPairs, MayStay, Pass, Shrinks};
+pub use rewriting::Rewriting;
 pub use rule::{Change, Edit, NumberedRule, Rule};
 pub use sweep::Sweep;
 pub use trace::{Trace, TraceStep};
