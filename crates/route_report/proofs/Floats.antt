@@ -1,7 +1,6 @@
 -- No line has a float, so its text is exact.
 --   items_have_float-wholes  an array of whole numbers has none
---   items_have_float-lists   nor has an array of such arrays
---   has_float-report         nor has a report
+--   has_float-unplaced       nor has a report without the placements between its parts
 --   has_float-check          nor have the numbers of a check
 --   has_float-fault          nor has a fault
 --   floats                   all of them, for the check to use
@@ -15,55 +14,28 @@ use Rattle.route_report.specs.declared.faults.Fault.{Fault}
 use Rattle.route_report.specs.declared.faults.Fault.TheVariants as fault
 use Rattle.route_report.specs.Compact.{whole, wholes}
 use Rattle.route_report.specs.Faults.{fault_data}
-use Rattle.route_report.specs.Lines.{check_data, count_members, middle_members, report_data, with_between, with_cost, with_powers, with_spares}
+use Rattle.route_report.specs.Lines.{check_data, count_members, middle_members, with_cost, with_powers, with_spares}
 use Rattle.route_report.specs.Parts.{ToldParts}
+use Rattle.route_report.specs.Unplaced.{unplaced_data}
 
 items_have_float-wholes : (ns : List ℕ) → items_have_float (items_of (map whole ns)) ≡ false
 items_have_float-wholes [] = refl
 items_have_float-wholes (n ∷ ns) = items_have_float-wholes ns
 
-items_have_float-lists : (nss : List (List ℕ)) → items_have_float (items_of (map wholes nss)) ≡ false
-items_have_float-lists [] = refl
-items_have_float-lists (ns ∷ nss) = rw (items_have_float-wholes ns) (items_have_float-lists nss)
-
-pub has_float-report : (r : Report) → has_float (report_data r) ≡ false
-has_float-report r = go r.parts r.cost r.spares
+pub has_float-unplaced : (r : Report) → has_float (unplaced_data r) ≡ false
+has_float-unplaced r = go r.parts r.cost r.spares
   where
     go : (o : Option ToldParts) (c s : Option ℕ) → has_float (object (member (codes "barriers") (whole r.barriers)
-        (with_between o (with_cost c (middle_members r (with_powers o (member (codes "phase") (whole r.phase)
-        (member (codes "qubits") (whole r.qubits) (with_spares s (count_members r)))))))))) ≡ false
+        (with_cost c (middle_members r (with_powers o (member (codes "phase") (whole r.phase)
+        (member (codes "qubits") (whole r.qubits) (with_spares s (count_members r))))))))) ≡ false
     go None None None = rw (items_have_float-wholes r.last, items_have_float-wholes r.initial) refl
     go None None (Some spares) = rw (items_have_float-wholes r.last, items_have_float-wholes r.initial) refl
     go None (Some cost) None = rw (items_have_float-wholes r.last, items_have_float-wholes r.initial) refl
     go None (Some cost) (Some spares) = rw (items_have_float-wholes r.last, items_have_float-wholes r.initial) refl
-    go (Some p) None None =
-        rw (
-          items_have_float-lists p.between,
-          items_have_float-wholes r.last,
-          items_have_float-wholes r.initial,
-          items_have_float-wholes p.powers,
-        ) refl
-    go (Some p) None (Some spares) =
-        rw (
-          items_have_float-lists p.between,
-          items_have_float-wholes r.last,
-          items_have_float-wholes r.initial,
-          items_have_float-wholes p.powers,
-        ) refl
-    go (Some p) (Some cost) None =
-        rw (
-          items_have_float-lists p.between,
-          items_have_float-wholes r.last,
-          items_have_float-wholes r.initial,
-          items_have_float-wholes p.powers,
-        ) refl
-    go (Some p) (Some cost) (Some spares) =
-        rw (
-          items_have_float-lists p.between,
-          items_have_float-wholes r.last,
-          items_have_float-wholes r.initial,
-          items_have_float-wholes p.powers,
-        ) refl
+    go (Some p) None None = rw (items_have_float-wholes r.last, items_have_float-wholes r.initial, items_have_float-wholes p.powers) refl
+    go (Some p) None (Some spares) = rw (items_have_float-wholes r.last, items_have_float-wholes r.initial, items_have_float-wholes p.powers) refl
+    go (Some p) (Some cost) None = rw (items_have_float-wholes r.last, items_have_float-wholes r.initial, items_have_float-wholes p.powers) refl
+    go (Some p) (Some cost) (Some spares) = rw (items_have_float-wholes r.last, items_have_float-wholes r.initial, items_have_float-wholes p.powers) refl
 
 pub has_float-check : (c : Counts) → has_float (check_data c) ≡ false
 has_float-check c = refl
@@ -91,4 +63,4 @@ has_float-fault (fault.TextPlace code place side) = refl
 has_float-fault (fault.TextStatement code statement side) = refl
 has_float-fault (fault.Trace at_line) = refl
 
-pub ruleset floats = (has_float-report, has_float-check, has_float-fault)
+pub ruleset floats = (has_float-unplaced, has_float-check, has_float-fault)

@@ -1,15 +1,16 @@
 -- What isn't always told, put into the object of a report.
 --   costless-put     the object without costs and parts is that without spare wires too, with the spare wires put in
 --   partless-put     the object without parts is that without costs, with the costs put in
---   report_data-put  the object of a report is that without parts, with the placements between parts and the powers put in
+--   unplaced-put     the object without the placements between parts is that without parts, with the powers put in
 use Rattle.std.proofs.Common.{◌≡◌, ℕ, Some, codes, refl, sym, ap, ◌∙◌}
 use Rattle.std.specs.Prelude.{Option, None}
 use Rattle.serde_json.proofs.OnLiterals.{serde_json_on_literals}
 use Rattle.serde_json.specs.Data.{Data, Members, member, object, put}
 use Rattle.route_report.specs.declared.lines.Report.{Report}
-use Rattle.route_report.specs.Compact.{lists, whole, wholes}
-use Rattle.route_report.specs.Lines.{count_members, last_members, middle_members, report_data, with_between, with_cost, with_powers, with_spares}
+use Rattle.route_report.specs.Compact.{whole, wholes}
+use Rattle.route_report.specs.Lines.{count_members, last_members, middle_members, with_cost, with_powers, with_spares}
 use Rattle.route_report.specs.Parts.{ToldParts}
+use Rattle.route_report.specs.Unplaced.{unplaced_data}
 
 pub costless-put : (r : Report) (k : ℕ) (d v : Data) → r.spares ≡ Some k → d ≡ whole k
     → v ≡ object (put (codes "spares") d (member (codes "barriers") (whole r.barriers) (middle_members r
@@ -32,20 +33,16 @@ partless-put r k d v is e h =
     ∙ ap (λ x. object (put (codes "cost") x (member (codes "barriers") (whole r.barriers) (middle_members r (last_members r))))) e
     ∙ (λ i. object (member (codes "barriers") (whole r.barriers) (with_cost (sym is i) (middle_members r (last_members r)))))
 
--- both, into an object with costs or without
-both-put : (r : Report) (p : ToldParts) (cost : Option ℕ)
-    → put (codes "parts") (wholes p.powers) (put (codes "between") (lists p.between)
-    (member (codes "barriers") (whole r.barriers) (with_cost cost (middle_members r (last_members r)))))
-    ≡ member (codes "barriers") (whole r.barriers) (with_between (Some p) (with_cost cost
-    (middle_members r (with_powers (Some p) (last_members r)))))
+powers-put : (r : Report) (p : ToldParts) (cost : Option ℕ)
+    → put (codes "parts") (wholes p.powers) (member (codes "barriers") (whole r.barriers) (with_cost cost (middle_members r (last_members r))))
+    ≡ member (codes "barriers") (whole r.barriers) (with_cost cost (middle_members r (with_powers (Some p) (last_members r))))
 unfolding serde_json_on_literals
-both-put r p None = refl
-both-put r p (Some cost) = refl
+powers-put r p None = refl
+powers-put r p (Some cost) = refl
 
-pub report_data-put : (r : Report) (p : ToldParts) (v : Data) → r.parts ≡ Some p
-    → v ≡ object (put (codes "parts") (wholes p.powers) (put (codes "between") (lists p.between)
-    (member (codes "barriers") (whole r.barriers) (with_cost r.cost (middle_members r (last_members r))))))
-    → v ≡ report_data r
-report_data-put r p v is h = h ∙ ap object (both-put r p r.cost)
-    ∙ (λ i. object (member (codes "barriers") (whole r.barriers) (with_between (sym is i) (with_cost r.cost
-    (middle_members r (with_powers (sym is i) (last_members r)))))))
+pub unplaced-put : (r : Report) (p : ToldParts) (v : Data) → r.parts ≡ Some p
+    → v ≡ object (put (codes "parts") (wholes p.powers) (member (codes "barriers") (whole r.barriers) (with_cost r.cost (middle_members r (last_members r)))))
+    → v ≡ unplaced_data r
+unplaced-put r p v is h =
+    h ∙ ap object (powers-put r p r.cost)
+    ∙ (λ i. object (member (codes "barriers") (whole r.barriers) (with_cost r.cost (middle_members r (with_powers (sym is i) (last_members r))))))

@@ -6,3 +6,6 @@ pub mod Lines
 pub mod Faults
 pub mod Entries
 pub mod Verdicts
+-- ---- working forms
+pub mod Held
+pub mod Unplaced

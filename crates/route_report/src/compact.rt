@@ -4,9 +4,8 @@ ghost use Rattle.std.specs.Prelude.{◌≡◌, IfOk, false};
 ghost use Rattle.serde_json.specs.Data.{Members, object, put};
 ghost use Rattle.serde_json.specs.View.{view};
 ghost use Rattle.serde_json.specs.Written.{has_float};
-ghost use Rattle.route_report.specs.Compact.{line, lists, wholes};
+ghost use Rattle.route_report.specs.Compact.{line, wholes};
 
-use crate::wires::Wires;
 use serde_json::Value;
 use std::alloc::{AllocError, Global};
 
@@ -28,17 +27,6 @@ pub(crate) fn power_array(alloc: Global, powers: &[u8]) -> Result<Value, AllocEr
     let mut list = Vec::with_capacity(alloc, powers.len())?;
     'powers: for power in powers {
         list.push(Value::from(*power))?;
-    }
-    Ok(Value::Array(list))
-}
-
-/// An array of placements, each an array of whole numbers.
-pub(crate) fn placement_array(alloc: Global, placements: &[Wires]) -> Result<Value, AllocError>
-    ensures ok { IfOk result (λ v. view v ≡ lists placements.now) }
-{
-    let mut list = Vec::with_capacity(alloc, placements.len())?;
-    'placements: for placement in placements {
-        list.push(number_array(alloc, placement.as_slice())?)?;
     }
     Ok(Value::Array(list))
 }

@@ -11,12 +11,14 @@ ghost use Rattle.std.specs.Prelude.{◌≡◌, IfOk};
 ghost use Rattle.route_report.specs.Faults.{fault_line};
 ghost use Rattle.route_report.specs.Lines.{check_line, report_line};
 
+use placements::with_placements;
 use std::alloc::{AllocError, Global};
 
 mod compact;
 pub mod entries;
 pub mod faults;
 pub mod lines;
+mod placements;
 mod refusals;
 pub mod verdicts;
 pub mod wires;
@@ -32,8 +34,12 @@ pub use wires::Wires;
 pub fn report_line(alloc: Global, report: &Report) -> Result<Vec<u8>, AllocError>
     ensures ok { IfOk result (λ v. v.items ≡ report_line report.now) }
 {
-    let value = lines::report_value(alloc, report)?;
-    compact::value_line(alloc, &value)
+    let value = lines::unplaced_value(alloc, report)?;
+    let line = compact::value_line(alloc, &value)?;
+    match &report.parts {
+        None => Ok(line),
+        Some(parts) => Ok(with_placements(alloc, &line, report, parts)?),
+    }
 }
 
 /// The bytes of the check line; `Err` for want of memory alone.

@@ -3,10 +3,11 @@
 ghost use Rattle.std.specs.Prelude.{◌≡◌, IfOk, codes};
 ghost use Rattle.serde_json.specs.View.{view};
 ghost use Rattle.serde_json.specs.Data.{Members, member, object, put};
-ghost use Rattle.route_report.specs.Compact.{lists, whole, wholes};
-ghost use Rattle.route_report.specs.Lines.{check_data, count_members, format_of, last_members, middle_members, report_data, with_cost};
+ghost use Rattle.route_report.specs.Compact.{whole, wholes};
+ghost use Rattle.route_report.specs.Lines.{check_data, count_members, format_of, last_members, middle_members, with_cost};
+ghost use Rattle.route_report.specs.Unplaced.{unplaced_data};
 
-use crate::compact::{number_array, placement_array, power_array, with_member};
+use crate::compact::{number_array, power_array, with_member};
 use crate::wires::Wires;
 use serde_json::{Value, json};
 use std::alloc::{AllocError, Global};
@@ -142,25 +143,23 @@ fn partless_value(alloc: Global, report: &Report) -> Result<Value, AllocError>
     }
 }
 
-/// An object with the placements between parts and the powers of the parts.
-fn with_parts(alloc: Global, value: Value, parts: &Parts) -> Result<Value, AllocError>
+/// An object with the powers of the parts.
+fn with_powers(alloc: Global, value: Value, parts: &Parts) -> Result<Value, AllocError>
     ensures { IfOk result (λ v. (ms : Members) → view value ≡ object ms
-        → view v ≡ object (put (codes "parts") (wholes parts.now.powers) (put (codes "between") (lists parts.now.between) ms))) }
+        → view v ≡ object (put (codes "parts") (wholes parts.now.powers) ms)) }
 {
-    let between = placement_array(alloc, parts.between.as_slice())?;
     let powers = power_array(alloc, parts.powers.as_slice())?;
-    let placed = with_member(alloc, value, "between", between)?;
-    with_member(alloc, placed, "parts", powers)
+    with_member(alloc, value, "parts", powers)
 }
 
-/// The JSON object of a report.
-pub(crate) fn report_value(alloc: Global, report: &Report) -> Result<Value, AllocError>
-    ensures ok { IfOk result (λ v. view v ≡ report_data report.now) }
+/// The JSON object of a report, but for the placements between its parts.
+pub(crate) fn unplaced_value(alloc: Global, report: &Report) -> Result<Value, AllocError>
+    ensures ok { IfOk result (λ v. view v ≡ unplaced_data report.now) }
 {
     let value = partless_value(alloc, report)?;
     match &report.parts {
         None => Ok(value),
-        Some(parts) => Ok(with_parts(alloc, value, parts)?),
+        Some(parts) => Ok(with_powers(alloc, value, parts)?),
     }
 }
 

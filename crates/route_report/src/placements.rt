@@ -1,0 +1,114 @@
+//! The placements between parts, put into a line byte by byte. As values they would take as much room a number as a placement
+//! takes a wire ten times.
+
+ghost use Rattle.std.specs.Prelude.{◌≡◌, ◌++◌, IfOk, OnOk, Some, codes, decimal};
+ghost use Rattle.serde_json.specs.Written.{comma_if, compact_text};
+ghost use Rattle.route_report.specs.Compact.{line, lists, wholes};
+ghost use Rattle.route_report.specs.Lines.{report_line};
+ghost use Rattle.route_report.specs.Unplaced.{unplaced_data};
+
+use crate::lines::{Parts, Report};
+use crate::wires::Wires;
+use itoa::Buffer;
+use std::alloc::{AllocError, Global};
+
+/// A comma, if something stands before it.
+fn push_comma(bytes: &mut Vec<u8>, later: bool) -> Result<(), AllocError>
+    ensures { OnOk result (bytes.new.items ≡ bytes.old.items ++ comma_if later) }
+{
+    if !later {
+        return Ok(());
+    }
+    bytes.push(b',')?;
+    Ok(())
+}
+
+/// A number, behind a comma if one stands before it.
+fn push_number(bytes: &mut Vec<u8>, later: bool, number: u32) -> Result<(), AllocError>
+    ensures { OnOk result (bytes.new.items ≡ bytes.old.items ++ (comma_if later ++ decimal number)) }
+{
+    push_comma(bytes, later)?;
+    let mut buffer = Buffer::new();
+    bytes.extend_from_slice(buffer.format(number).as_bytes())?;
+    Ok(())
+}
+
+/// An array of whole numbers.
+#[tactic(auto, using(crate::proofs::PlacementLaws::pushes))]
+fn push_numbers(bytes: &mut Vec<u8>, numbers: &[u32]) -> Result<(), AllocError>
+    ensures { OnOk result (bytes.new.items ≡ bytes.old.items ++ compact_text (wholes numbers.now)) }
+{
+    bytes.push(b'[')?;
+    let mut later = false;
+    'numbers: for number in numbers {
+        push_number(bytes, later, *number)?;
+        later = true;
+    }
+    bytes.push(b']')?;
+    Ok(())
+}
+
+/// A placement, behind a comma if one stands before it.
+fn push_placement(bytes: &mut Vec<u8>, later: bool, placement: &Wires) -> Result<(), AllocError>
+    ensures { OnOk result (bytes.new.items ≡ bytes.old.items ++ (comma_if later ++ compact_text (wholes placement.now))) }
+{
+    push_comma(bytes, later)?;
+    push_numbers(bytes, placement.as_slice())
+}
+
+/// An array of placements, each an array of whole numbers.
+#[tactic(auto, using(crate::proofs::PlacementLaws::pushes))]
+fn push_placements(bytes: &mut Vec<u8>, placements: &[Wires]) -> Result<(), AllocError>
+    ensures { OnOk result (bytes.new.items ≡ bytes.old.items ++ compact_text (lists placements.now)) }
+{
+    bytes.push(b'[')?;
+    let mut later = false;
+    'placements: for placement in placements {
+        push_placement(bytes, later, placement)?;
+        later = true;
+    }
+    bytes.push(b']')?;
+    Ok(())
+}
+
+/// Room for so many placements and some bytes more. A number below 1,000 and its comma take four bytes.
+fn room_for(placements: &[Wires], more: usize) -> usize {
+    match placements.first() {
+        None => more,
+        Some(first) => {
+            let each = first.as_slice().len().saturating_mul(4).saturating_add(3);
+            placements.len().saturating_mul(each).saturating_add(more)
+        }
+    }
+}
+
+/// The beginning of a report line, up to the number of barriers.
+fn push_barriers(bytes: &mut Vec<u8>, barriers: u64) -> Result<(), AllocError>
+    ensures { OnOk result (bytes.new.items ≡ bytes.old.items ++ (codes "{\"barriers\":" ++ decimal barriers)) }
+{
+    bytes.extend_from_slice(b"{\"barriers\":")?;
+    let mut buffer = Buffer::new();
+    bytes.extend_from_slice(buffer.format(barriers).as_bytes())?;
+    Ok(())
+}
+
+/// The line of a report of parts, made of its line without the placements between them: these come behind the number of barriers.
+pub(crate) fn with_placements(
+    alloc: Global,
+    text: &[u8],
+    report: &Report,
+    parts: &Parts,
+) -> Result<Vec<u8>, AllocError>
+    requires text { text.now ≡ line (unplaced_data report.now) }
+    requires parts { report.now.parts ≡ Some parts.now }
+    ensures ok { IfOk result (λ v. v.items ≡ report_line report.now) }
+{
+    let placements = parts.between.as_slice();
+    let mut bytes = Vec::with_capacity(alloc, room_for(placements, text.len()))?;
+    push_barriers(&mut bytes, report.barriers)?;
+    let (_head, rest) = text.split_at(bytes.len());
+    bytes.extend_from_slice(b",\"between\":")?;
+    push_placements(&mut bytes, placements)?;
+    bytes.extend_from_slice(rest)?;
+    Ok(bytes)
+}
