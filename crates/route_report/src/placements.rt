@@ -1,5 +1,5 @@
-//! The placements between parts, put into a line byte by byte. As values they would take as much room a number as a placement
-//! takes a wire ten times.
+//! The placements between parts, put into a line byte by byte. As JSON values, of some 32 bytes a number, they would take many
+//! times their text.
 
 ghost use Rattle.std.specs.Prelude.{◌≡◌, ◌++◌, IfOk, OnOk, Some, codes, decimal};
 ghost use Rattle.serde_json.specs.Written.{comma_if, compact_text};
