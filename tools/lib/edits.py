@@ -4,6 +4,7 @@ An edit is a file of `must-fail/` or `more-edits/` of a crate, as `rt must-fail`
 Nothing here runs a check; `tools/mutate` does.
 """
 
+import collections.abc
 import dataclasses
 import hashlib
 import os
@@ -353,7 +354,7 @@ def is_judged(said: str) -> bool:
 
 # The table of docs/CLAIMS.md: for each crate at which commit its edits were tried, and what refuses them.
 
-# the longest row that names the edits behind what refuses them
+# the longest row that names all edits behind what refuses them; those of the gate are always named
 READABLE = 300
 
 
@@ -374,29 +375,27 @@ def sum_of(crate: str, top: str = sources.TOP) -> str:
     return hashlib.sha256("\0".join(texts).encode()).hexdigest()[:8]
 
 
-def row_of(crate: str, commit: str, summed: str, verdicts: dict[str, Verdict]) -> Row:
-    """The row of what came of all edits of a crate."""
+def row_of(crate: str, commit: str, summed: str, verdicts: dict[str, Verdict], gates_own: collections.abc.Container[str] = ()) -> Row:
+    """The row of what came of all edits of a crate, some of which are the gate's own."""
     rest = [f"`{name}`" + ("" if it.kind == "not shown" else f" ({it.kind})") for name, it in verdicts.items() if it.kind != "shown"]
-    row = Row(commit, summed, len(verdicts), "", ", ".join(rest))
-    for is_named in (True, False):
-        row.by = refused_by(verdicts, is_named)
-        if len(line_of(crate, row, row.number, summed)) <= READABLE:
-            break
+    row = Row(commit, summed, len(verdicts), refused_by(verdicts, verdicts), ", ".join(rest))
+    if len(line_of(crate, row, row.number, summed)) > READABLE:
+        row.by = refused_by(verdicts, gates_own)
     return row
 
 
-def refused_by(verdicts: dict[str, Verdict], is_named: bool) -> str:
-    """The functions that refuse edits, each with its clauses, and the edits behind each clause if they are named."""
+def refused_by(verdicts: dict[str, Verdict], named: collections.abc.Container[str]) -> str:
+    """The functions that refuse edits, each with its clauses, and behind each clause the edits that are to be named."""
     found: dict[str, dict[str, list[str]]] = {}
     for name, verdict in verdicts.items():
         for one in verdict.by if verdict.kind == "shown" else ():
             # of a goal within a function it is enough that it is one
             said = dict.fromkeys(it.split(", `")[0] for it in one.said if not one.is_file)
             for it in said or ["a goal"]:
-                found.setdefault(f"`{one.where}`", {}).setdefault(it, []).append(f"`{name}`")
+                found.setdefault(f"`{one.where}`", {}).setdefault(it, []).append(name)
     alike: dict[str, list[str]] = {}  # functions and files of which the same is to be said
     for where, clauses in found.items():
-        alike.setdefault(clauses_of(clauses) if is_named else ", ".join(clauses), []).append(where)
+        alike.setdefault(clauses_of({it: [name for name in names if name in named] for it, names in clauses.items()}), []).append(where)
     return "; ".join(f"{', '.join(those)}: {told}" for told, those in alike.items())
 
 
@@ -404,8 +403,8 @@ def clauses_of(clauses: dict[str, list[str]]) -> str:
     """Clauses with the edits that they refuse, those of the same edits together."""
     alike: dict[str, list[str]] = {}
     for it, names in clauses.items():
-        alike.setdefault(", ".join(names), []).append(it)
-    return ", ".join(f"{', '.join(those)} ({names})" for names, those in alike.items())
+        alike.setdefault(", ".join(f"`{name}`" for name in names), []).append(it)
+    return ", ".join(", ".join(those) + (f" ({names})" if names else "") for names, those in alike.items())
 
 
 def line_of(crate: str, row: Row, number: int, summed: str) -> str:

@@ -242,6 +242,11 @@ def edit_paths(crate, top=TOP):
     return {os.path.basename(it)[: -len(".edit")]: it for it in sorted(found, key=os.path.basename)}
 
 
+def gate_edits(crate, top=TOP):
+    """The names of the edits that the gate tries."""
+    return [name for name, path in edit_paths(crate, top).items() if "/must-fail/" in path]
+
+
 def edits(crate, top=TOP):
     """The names of the edits that must be refused."""
     return list(edit_paths(crate, top))

@@ -243,6 +243,13 @@ class Mutate(ToolTest):
         self.mutate("--mend", "--joined", "low")
         self.assertIn(" | `two`: `small`, `even`; `Evens::next`: within | |\n", self.claims())
 
+    def test_a_row_of_many_edits_names_those_of_the_gate(self):
+        for i in range(8):
+            self.edit(f"a_name_of_some_length_with_the_number_{i}", "    2", "    4" if i % 2 else "    5")
+        self.edit("one_always", "return n;", "return 1;", "must-fail")
+        self.mutate("--mend", "--joined", "low")
+        self.assertIn(" | `two`: `small`, `even`; `Evens::next`: within (`one_always`) | |\n", self.claims())
+
     def claims(self):
         with open(os.path.join(self.room, "docs/CLAIMS.md"), encoding="utf-8") as file:
             return file.read()
