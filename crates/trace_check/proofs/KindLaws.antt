@@ -13,10 +13,11 @@ use Rattle.rewrite_pass.specs.Traces.{Rule, Both, Join, Sums}
 use Rattle.rewrite_pass.specs.TraceLines.{gate_line, words}
 use Rattle.trace_check.specs.declared.words.Word.{Word}
 use Rattle.trace_check.specs.declared.words.Word.TheVariants as word
-use Rattle.trace_check.specs.Lines.{Line, Heading, Rewrite, Place, Emit, Back, Swap, Turn, End, IsSmall, numbers_of, spelt}
-use Rattle.trace_check.specs.Proves.{Applies, Claim, IsStuck, State}
+use Rattle.trace_check.specs.Before.{Line, Heading, Rewrite, Place, Emit, Back, Swap, Turn, End, IsSmall, numbers_of, spelt}
+use Rattle.trace_check.specs.Proves.{Claim}
+use Rattle.trace_check.specs.Before.{Applies, IsStuck, State}
 use Rattle.trace_check.specs.Spelling.{AreSmall, HasNoSpace, spelling}
-use Rattle.trace_check.proofs.SpellingLaws.{first-small, first-spelt, first_numbers, line-plain, line_from, line-read, line_gates, line_word, same_bytes, words-unique}
+use Rattle.trace_check.proofs.BeforeSpelling.{first-small, first-spelt, first_numbers, line-plain, line_from, line-read, line_gates, line_word, same_bytes, words-unique}
 
 abbrev pub kind_of : Line → Word
 kind_of Heading = word.Trace

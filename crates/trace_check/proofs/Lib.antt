@@ -22,3 +22,9 @@ pub mod GateLaws
 pub mod StepLaws
 pub mod EditLaws
 pub mod RuleLaws
+pub mod BeforeSpelling
+pub mod PartLaws
+pub mod EditionLaws
+pub mod Examples
+pub mod ElideLaws
+pub mod BackLaws

@@ -24,17 +24,18 @@ use Rattle.rewrite_pass.specs.Traces.{Step, Rule, Both, Join, Sums, IsStep, cons
 use Rattle.rewrite_pass.specs.TraceLines.{gate_line, gate_numbers, words}
 use Rattle.trace_check.specs.declared.words.Word.{Word}
 use Rattle.trace_check.specs.declared.words.Word.TheVariants as word
-use Rattle.trace_check.specs.Lines.{Line, Heading, Rewrite, Place, Emit, Back, Swap, Turn, End, IsSmall, numbers_of, spelt}
+use Rattle.trace_check.specs.Before.{Line, Heading, Rewrite, Place, Emit, Back, Swap, Turn, End, IsSmall, numbers_of, spelt}
 use Rattle.trace_text.specs.Texts.{lines_of}
 use Rattle.trace_check.specs.Progress.{Blocked, Came, Leads, reached, step_of}
-use Rattle.trace_check.specs.Proves.{Applies, Claim, IsStuck, Placed, Rewritten, Routed, State, StopsAt, Unread}
+use Rattle.trace_check.specs.Proves.{Claim, Placed}
+use Rattle.trace_check.specs.Before.{Applies, IsStuck, Rewritten, Routed, State, StopsAt, Unread}
 use Rattle.unitary_model.specs.Placement.{IsPlacement}
 use Rattle.trace_check.specs.Spelling.{AreSmall, spelling}
 use Rattle.trace_check.proofs.GateLaws.{fine-small}
 use Rattle.trace_check.proofs.KindLaws.{kind_of, stuck-numbers}
 use Rattle.trace_check.proofs.ProgressLaws.{came-more, came-start, came-stops}
 use Rattle.trace_check.proofs.RoutedLaws.{made, small-line}
-use Rattle.trace_check.proofs.SpellingLaws.{first_numbers, gates-unique, line_gates}
+use Rattle.trace_check.proofs.BeforeSpelling.{first_numbers, gates-unique, line_gates}
 
 -- ---- steps with two numbers
 pub step-spelt : (w : Word) (i j : ℕ) (p : Step) → step_of w i j ≡ Some p → spelt (Rewrite p) ≡ words (spelling w) (i ∷ j ∷ []) ∷ []

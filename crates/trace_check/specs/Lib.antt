@@ -9,3 +9,4 @@ pub mod Pairs
 pub mod Names
 pub mod Sums
 pub mod RuleWindows
+pub mod Before

@@ -21,9 +21,10 @@ use Rattle.circuit_list.specs.declared.Passed.{Passed}
 use Rattle.gate_expand.specs.Expansion.{expanded, turn_of}
 use Rattle.rewrite_pass.specs.Traces.{Step, Rule, Both, Join}
 use Rattle.rewrite_pass.specs.TraceLines.{words}
-use Rattle.trace_check.specs.Lines.{IsSmall, Line, all_spelt, spelt}
+use Rattle.trace_check.specs.Before.{IsSmall, Line, all_spelt, spelt}
 use Rattle.trace_text.specs.Texts.{lines_of}
-use Rattle.trace_check.specs.Proves.{Applies, Claim, IsStuck, Placed, Rewritten, Routed, Runs, State, Unread}
+use Rattle.trace_check.specs.Proves.{Claim, Placed}
+use Rattle.trace_check.specs.Before.{Applies, IsStuck, Rewritten, Routed, Runs, State, Unread}
 use Rattle.trace_check.specs.Spelling.{spelling}
 use Rattle.trace_check.specs.declared.words.Word.{Word}
 use Rattle.trace_check.specs.declared.words.Word.TheVariants as word

@@ -28,7 +28,8 @@ ghost use Rattle.rewrite_pass.specs.Traces.{IsStep, Step};
 ghost use Rattle.trace_text.specs.Texts.{lines_of};
 ghost use Rattle.trace_check.specs.Outcomes.{IsOutcome, claim};
 ghost use Rattle.trace_check.specs.Progress.{Blocked, Came, IsRouting, Leads, placed, reached, step_of};
-ghost use Rattle.trace_check.specs.Proves.{Claim, IsStuck, Routed, StopsAt, Unread};
+ghost use Rattle.trace_check.specs.Proves.{Claim};
+ghost use Rattle.trace_check.specs.Before.{IsStuck, Routed, StopsAt, Unread};
 ghost use Rattle.trace_check.specs.Spelling.{spelling};
 ghost use Rattle.trace_check.specs.declared.words.Word.TheVariants as kind;
 

@@ -5,7 +5,8 @@ ghost use Rattle.circuit_list.specs.declared.Gate.{Gate};
 ghost use Rattle.trace_text.specs.Texts.{lines_of};
 ghost use Rattle.trace_check.specs.Outcomes.{IsOutcome};
 ghost use Rattle.trace_check.specs.Progress.{Came, Ends, Halts, KeepsGoal, IsRouting, IsWritten, Moves, placed};
-ghost use Rattle.trace_check.specs.Proves.{Claim, Routed};
+ghost use Rattle.trace_check.specs.Proves.{Claim};
+ghost use Rattle.trace_check.specs.Before.{Routed};
 ghost use Rattle.trace_check.specs.declared.words.Word.TheVariants as kind;
 
 use crate::checker::Outcome;

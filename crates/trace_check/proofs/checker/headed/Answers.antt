@@ -1,7 +1,7 @@
 use Rattle.std.proofs.Common.{◌≡◌, ◌∙◌, ℕ, List, ◌∷◌, ap, refl, rules, subst, sym}
 use Rattle.rewrite_pass.specs.TraceLines.{words}
 use Rattle.trace_text.specs.Texts.{lines_of}
-use Rattle.trace_check.specs.Proves.{IsStuck, Unread}
+use Rattle.trace_check.specs.Before.{IsStuck, Unread}
 use Rattle.trace_check.specs.Spelling.{spelling}
 use Rattle.trace_check.specs.declared.words.Word.TheVariants as kind
 use Rattle.trace_check.proofs.KindLaws.{stuck-unread}

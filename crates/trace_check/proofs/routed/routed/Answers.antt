@@ -3,7 +3,8 @@ use Rattle.std.specs.Prelude.{codes}
 use Rattle.rewrite_pass.specs.TraceLines.{words}
 use Rattle.trace_text.specs.Texts.{lines_of}
 use Rattle.trace_check.specs.Progress.{Halts, Moves, placed}
-use Rattle.trace_check.specs.Proves.{IsStuck, Placed, Proves, Routed}
+use Rattle.trace_check.specs.Proves.{Placed}
+use Rattle.trace_check.specs.Before.{IsStuck, Proves, Routed}
 use Rattle.trace_check.specs.Spelling.{AreSmall, spelling}
 use Rattle.trace_check.specs.declared.words.Word.TheVariants as kind
 use Rattle.trace_check.proofs.KindLaws.{stuck-nothing, stuck-unread}
