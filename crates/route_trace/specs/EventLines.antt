@@ -16,7 +16,7 @@ use Rattle.rewrite_pass.specs.Traces.{Step}
 use Rattle.sabre_route.specs.Emission.{low_order}
 use Rattle.sabre_route.specs.declared.events.Event.{Event as Told}
 use Rattle.sabre_route.specs.declared.events.Event.TheVariants.{Emit as ToldEmit, Swap as ToldSwap}
-use Rattle.trace_check.specs.Before.{Line, Heading, Rewrite, Place, Emit, Back, Swap, Turn, End}
+use Rattle.trace_check.specs.Lines.{Line, Heading, Rewrite, Place, Emit, Back, Swap, Turn, End}
 use Rattle.unitary_model.specs.Placement.{exchanged}
 use Rattle.route_trace.specs.declared.replay.EventLine.{EventLine}
 use Rattle.route_trace.specs.declared.replay.EventLine.TheVariants as made
@@ -65,4 +65,4 @@ AreThere n gs [] = Unit {0}
 AreThere n gs (x ∷ xs) = IsThere n gs x × AreThere n (left_by gs x) xs
 
 abbrev pub trace_lines : List Step → List ℕ → List Line → ℕ → List Line
-trace_lines ss p ls j = Heading ∷ map (λ s. Rewrite s) ss ++ (Place p ∷ (ls ++ End j ∷ []))
+trace_lines ss p ls j = Heading 1 ∷ map (λ s. Rewrite s) ss ++ (Place p ∷ (ls ++ End j ∷ []))

@@ -1,7 +1,6 @@
 use Rattle.std.proofs.Common.{◌++◌, List, slice_index, refl}
 use Rattle.circuit_list.specs.declared.Gate.{Gate}
-use Rattle.trace_check.specs.Proves.{turned_cx}
-use Rattle.trace_check.specs.Before.{Routed}
+use Rattle.trace_check.specs.Proves.{Routed, turned_cx}
 use Rattle.trace_check.specs.Progress.{placed}
 use Rattle.trace_check.proofs.RoutedLaws.{numbers-small, backs-goes, backs-halts, stuck-backs}
 use Rattle.trace_check.proofs.routed.backs.Goals as goal
@@ -16,4 +15,4 @@ pub returns-in-Some-clause-not : goal.returns-in-Some-clause-not
 returns-in-Some-clause-not c = λ n written. backs-halts (placed c.args.state.now written) c.args.numbers.now c.in-Some.place (numbers-small c.args.numbers.now c.type_inv.numbers) c.in-Some.ensures.found (c.back.ensures.not n).0
 
 pub returns-in-None-clause-not : goal.returns-in-None-clause-not
-returns-in-None-clause-not c = λ n written e behind q. stuck-backs e (Routed (placed c.args.state.now written)) c.args.numbers.now behind (numbers-small c.args.numbers.now c.type_inv.numbers) c.in-None.ensures.found
+returns-in-None-clause-not c = λ n written e v behind q. stuck-backs e v (Routed (placed c.args.state.now written)) c.args.numbers.now behind (numbers-small c.args.numbers.now c.type_inv.numbers) c.in-None.ensures.found
