@@ -30,6 +30,14 @@ WORDS = {
     "turn": (BEHIND, 2),
     "end": (BEHIND, 1),
 }
+# the lines that came with the second edition
+LATER = {
+    "part": (ABOVE, 3),
+    "goal": (ABOVE, 1),
+    "meet": (ABOVE, 0),
+    "elide": (BEHIND, 1),
+}
+EDITIONS = {1: WORDS, 2: WORDS | LATER}
 # H, a gate, H on one wire: the gate between, what comes in place of the three, and the turn
 TURNED = {
     1: (("P", 2), [("P", 6), ("H",), ("P", 6)], 6),
@@ -43,6 +51,15 @@ CONJUGATED = {6: 2, 7: 6}
 
 class Stop(Exception):
     """Why a line doesn't apply."""
+
+
+@dataclasses.dataclass
+class Held:
+    """What is held while a goal is rewritten: the gates before it with their turns, and the goal's gates as they were given."""
+
+    gates: list
+    turns: int
+    goal: list
 
 
 @dataclasses.dataclass
@@ -115,6 +132,8 @@ class Check:
     def __init__(self, source, target, lines):
         self.lines = lines
         self.done = 0  # as many lines applied
+        self.words = None  # those of the trace's edition, which its first line names
+        self.held = None  # after `goal` what is held
         self.wires, operations = source
         listed, self.turns = gate_lists.expanded(operations)
         self.list = gate_lists.Gates(listed)
@@ -127,21 +146,25 @@ class Check:
     def step(self):
         """The next line."""
         if self.done == len(self.lines):
-            raise Stop(f"the trace ends before `{'end' if self.done else 'TRACE 1'}`")
+            missing = "`meet`" if self.held else "`end`" if self.done else "`TRACE 1` or `TRACE 2`"
+            raise Stop(f"the trace ends before {missing}")
         word, numbers = read(self.lines[self.done])
         if self.done == 0 or word == "TRACE":
-            if self.done or (word, numbers) != ("TRACE", [1]):
-                raise Stop("the first line, and no other, is `TRACE 1`")
+            if self.done or word != "TRACE" or numbers not in ([1], [2]):
+                raise Stop("the first line, and no other, is `TRACE 1` or `TRACE 2`")
+            self.words = EDITIONS[numbers[0]]
             self.done = 1
             return
-        if word not in WORDS:
+        if word not in self.words:
+            if word in LATER:
+                raise Stop(f"`{word}` is a line of `TRACE 2`, and the first line is `TRACE 1`")
             raise Stop(f"no line of a trace begins with `{word}`")
-        where, count = WORDS[word]
+        where, count = self.words[word]
         if (where == ABOVE) != (self.now is None):
             raise Stop(f"`{word}` stands {where}" if word != "place" else "`place` stands once")
         if count not in (None, len(numbers)):
-            raise Stop(f"`{word}` has {count} number{'s' if count > 1 else ''}")
-        # `sums` takes the lines of its gates besides
+            raise Stop(f"`{word}` has {count or 'no'} number{'' if count == 1 else 's'}")
+        # `sums`, `part` and `goal` take the lines of their gates besides
         more = getattr(self, word)(*numbers)
         self.done += 1 + (more or 0)
 
@@ -240,21 +263,60 @@ class Check:
         self.list.take(second)
 
     def sums(self, count):
+        new = self.gates_behind(count)
+        self.turns += self.turn_to(self.list.listed(), new, "the list")
+        self.list = gate_lists.Gates(new)
+        return count
+
+    def part(self, i, j, count):
+        if i > j:
+            raise Stop(f"place {j} is before place {i}")
+        if j > len(self.list):
+            raise Stop(f"there is no place {j - 1} in a list of length {len(self.list)}")
+        new = self.gates_behind(count)
+        old = self.list.listed()
+        self.turns += self.turn_to(old[i:j], new, f"places {i} to {j - 1}" if i < j else "no gates")
+        self.list = gate_lists.Gates(old[:i] + new + old[j:])
+        return count
+
+    def goal(self, count):
+        if self.held is not None:
+            raise Stop("a goal is sought already, until `meet`")
+        new = self.gates_behind(count)
+        self.held = Held(self.list.listed(), self.turns, new)
+        self.list, self.turns = gate_lists.Gates(new), 0
+        return count
+
+    def meet(self):
+        if self.held is None:
+            raise Stop("no goal is sought")
+        found = self.list.listed()
+        for i, (one, other) in enumerate(zip(found, self.held.gates)):
+            if one != other:
+                raise Stop(f"{gate_lists.shown(one)} stands at place {i} of the goal, and {gate_lists.shown(other)} is held there")
+        if len(found) != len(self.held.gates):
+            raise Stop(f"the goal has become {len(found)} gates, and {len(self.held.gates)} are held")
+        self.list, self.turns = gate_lists.Gates(self.held.goal), self.held.turns - self.turns
+        self.held = None
+
+    def turn_to(self, old, new, what):
+        """The turn from gates to others with the same path sum."""
+        bits = {}
+        before = gate_lists.path_sum(self.wires, old, bits)
+        its = gate_lists.path_sum(self.wires, new, bits)
+        for why in gate_lists.differences(before, its, bits):
+            raise Stop(f"its gates haven't the path sum of {what}: {why}")
+        return its.constant - before.constant
+
+    def gates_behind(self, count):
+        """The gates of so many lines after this one."""
         begins = self.done + 1
         if begins + count > len(self.lines):
             raise Stop(f"fewer lines stand behind it, {len(self.lines) - begins}")
-        new = [self.gate_of(it) for it in range(begins, begins + count)]
-        bits = {}
-        old = gate_lists.path_sum(self.wires, self.list.listed(), bits)
-        its = gate_lists.path_sum(self.wires, new, bits)
-        for why in gate_lists.differences(old, its, bits):
-            raise Stop(f"its gates haven't the path sum of the list: {why}")
-        self.list = gate_lists.Gates(new)
-        self.turns += its.constant - old.constant
-        return count
+        return [self.gate_of(it) for it in range(begins, begins + count)]
 
     def gate_of(self, index):
-        """The gate of a line after `sums`."""
+        """The gate of a line after `sums`, `part` or `goal`."""
         try:
             word, numbers = read(self.lines[index])
         except Stop:
@@ -265,6 +327,8 @@ class Check:
         return gate
 
     def place(self, *qubits):
+        if self.held is not None:
+            raise Stop("a goal is sought, until `meet`")
         if self.wires > self.qubits:
             raise Stop(f"{self.wires} wires of the source don't fit on the qubits of the target ({self.qubits})")
         if sorted(qubits) != list(range(self.qubits)):
@@ -293,6 +357,21 @@ class Check:
         _, control, target = self.list.take(slot)
         self.written += turned_cnot(self.now[control], self.now[target])
         self.turns += 4
+
+    def elide(self, i):
+        slots = [self.first(i)]
+        if self.gate(slots[0])[0] != "C":
+            raise Stop(f"{self.at(slots[0])} is no CNOT")
+        _, control, target = self.gate(slots[0])
+        for wanted in (("C", target, control), ("C", control, target)):
+            found = {self.list.behind.get((slots[-1], wire)) for wire in (control, target)}
+            slot = found.pop()
+            if found or slot is None or self.gate(slot) != wanted:
+                raise Stop(f"{self.at(slots[-1])} hasn't {gate_lists.shown(wanted)} next to it on both wires")
+            slots.append(slot)
+        for slot in slots:
+            self.list.take(slot)
+        self.exchange(self.now[control], self.now[target])
 
     def exchange(self, u, v):
         if u == v or max(u, v) >= self.qubits:

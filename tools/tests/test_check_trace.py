@@ -15,7 +15,7 @@ import traces
 HEAD = 'OPENQASM 2.0;\ninclude "qelib1.inc";\n'
 AROUND = "h q[0]; h q[1]; "
 
-# wires and body of the source, qubits and body of the target, the lines behind `TRACE 1`, the power
+# wires and body of the source, qubits and body of the target, the lines behind the first, the power
 RIGHT = {
     "two T are an S": (1, "t q[0]; t q[0];", 1, "s q[0];", "join 0 1|place 0|emit 0|end 0", 0),
     "two H go": (1, "h q[0]; h q[0];", 1, "", "both 0 1|place 0|end 6", 6),
@@ -56,6 +56,26 @@ RIGHT = {
     ),
     # the expansion of a U with an odd first angle takes turn 2, on both sides
     "turns of both texts": (1, "ry(pi/4) q[0];", 1, "ry(pi/4) q[0];", "place 0|" + "emit 0|" * 5 + "end 0", 0),
+    # lines that came with `TRACE 2`
+    "Z as H X H": (1, "z q[0];", 1, "h q[0]; x q[0]; h q[0];", "goal 3|H 0|X 0|H 0|rule 4 0|meet|place 0|emit 0|emit 0|emit 0|end 4", 4),
+    "CZ turned round": (
+        2, "cz q[0],q[1];", 2, "cz q[1],q[0];",
+        "goal 7|H 0|H 0|H 1|C 0 1|H 1|H 0|H 0|both 0 1|both 3 4|meet|rule 5 1|place 0 1|emit 0|emit 0|emit 0|end 0", 0,
+    ),
+    "a swap that is left out": (2, "cx q[0],q[1]; cx q[1],q[0]; cx q[0],q[1];", 2, "", "place 0 1|elide 0|end 0", 0),
+    "one with gates between": (
+        3, "cx q[0],q[1]; t q[2]; cx q[1],q[0]; h q[2]; cx q[0],q[1]; s q[0];", 3, "s q[1]; t q[2]; h q[2];",
+        "place 0 1 2|elide 0|emit 2|emit 0|emit 0|end 0", 0,
+    ),
+    "one on other qubits": (2, "cx q[0],q[1]; cx q[1],q[0]; cx q[0],q[1]; t q[1];", 3, "t q[2];", "place 2 0 1|elide 0|emit 0|end 0", 0),
+    "two T as a part": (1, "h q[0]; t q[0]; t q[0]; h q[0];", 1, "h q[0]; s q[0]; h q[0];", "part 1 3 1|P 2 0|place 0|emit 0|emit 0|emit 0|end 0", 0),
+    "a part with a turn": (1, "h q[0]; x q[0]; t q[0]; x q[0];", 1, "h q[0]; tdg q[0];", "part 1 4 1|P 7 0|place 0|emit 0|emit 0|end 3", 3),
+    "a part of no gates": (
+        2, "t q[0];", 2, "t q[0]; cx q[0],q[1]; cx q[0],q[1];", "part 1 1 2|C 0 1|C 0 1|place 0 1|emit 0|emit 0|emit 0|end 0", 0,
+    ),
+    "a part of a goal": (
+        1, "tdg q[0];", 1, "x q[0]; t q[0]; x q[0];", "goal 3|X 0|P 1 0|X 0|part 0 3 1|P 7 0|meet|place 0|emit 0|emit 0|emit 0|end 5", 5,
+    ),
 }  # fmt: skip
 
 # of one of these: the line that is exchanged for others, the line that is told, and why
@@ -72,7 +92,7 @@ WRONG = [
     ("two T are an S", "join 0 1", "join 0", 2, "`join` has 2 numbers"),
     ("two T are an S", "join 0 1", "join 0 1|join 0 1", 3, "there is no place 1 in a list of length 1"),
     ("two T are an S", "join 0 1", "emit 0", 2, "`emit` stands behind `place`"),
-    ("two T are an S", "join 0 1", "TRACE 1", 2, "the first line, and no other, is `TRACE 1`"),
+    ("two T are an S", "join 0 1", "TRACE 1", 2, "the first line, and no other, is `TRACE 1` or `TRACE 2`"),
     ("two T are an S", "join 0 1", "merge 0 1", 2, "no line of a trace begins with `merge`"),
     ("two T are an S", "place 0", "place 0|place 0", 4, "`place` stands once"),
     ("two T are an S", "place 0", "place 1", 3, "its numbers aren't those below 1, each once"),
@@ -110,6 +130,32 @@ WRONG = [
     ("a swap turned round", "turn 0 1", "swap 0 1", 5, "gate 2 of the target is H 1, and C 1 0 was appended"),
     ("a swap turned round", "emit 0", None, 4, "the list isn't empty: it begins with P 1 0 at place 0"),
     ("turns of both texts", "emit 0|emit 0|emit 0|emit 0|emit 0", "emit 0|emit 0|emit 0|emit 0", 7, "the list isn't empty: it begins with P 2 0 at place 0"),
+    ("Z as H X H", "rule 4 0", None, 6, "H 0 stands at place 0 of the goal, and P 4 0 is held there"),
+    ("Z as H X H", "end 4", "end 0", 12, "all turns together are 4"),
+    ("Z as H X H", "goal 3", "goal 2", 5, "no line of a trace begins with `H`"),
+    ("Z as H X H", "goal 3", "goal", 2, "`goal` has 1 number"),
+    ("Z as H X H", "meet", None, 7, "a goal is sought, until `meet`"),
+    ("Z as H X H", "meet", "goal 0|meet", 7, "a goal is sought already, until `meet`"),
+    ("Z as H X H", "meet", "meet|meet", 8, "no goal is sought"),
+    ("Z as H X H", "meet", "meet 0", 7, "`meet` has no numbers"),
+    ("Z as H X H", "place 0", "place 0|meet", 9, "`meet` stands above `place`"),
+    ("CZ turned round", "both 3 4", None, 11, "the goal has become 5 gates, and 3 are held"),
+    ("a swap that is left out", "elide 0", "elide 1", 3, "C 1 0 at place 1 has C 0 1 at place 0 before it, on wire 1"),
+    ("a swap that is left out", "elide 0", "emit 0|elide 0", 4, "C 0 1 at place 1 hasn't C 1 0 next to it on both wires"),
+    ("a swap that is left out", "elide 0", "elide 0|elide 0", 4, "there is no place 0 in a list of length 0"),
+    ("a swap that is left out", "place 0 1|elide 0", "elide 0|place 0 1", 2, "`elide` stands behind `place`"),
+    ("one with gates between", "elide 0", "elide 2", 3, "C 1 0 at place 2 has C 0 1 at place 0 before it, on wire 1"),
+    ("one with gates between", "elide 0", "emit 1|elide 1", 4, "C 1 0 at place 1 has C 0 1 at place 0 before it, on wire 1"),
+    ("one on other qubits", "place 2 0 1", "place 0 2 1", 5, "gate 1 of the target is P 1 2, and P 1 0 was appended"),
+    ("two T as a part", "part 1 3 1", "part 1 2 1", 2, "its gates haven't the path sum of places 1 to 1: phases of 2 on wire 0 in place of 1"),
+    ("two T as a part", "part 1 3 1", "part 0 3 1", 2, "its gates haven't the path sum of places 0 to 2: 0 H on wire 0 in place of 1"),
+    ("two T as a part", "part 1 3 1", "part 1 5 1", 2, "there is no place 4 in a list of length 4"),
+    ("two T as a part", "part 1 3 1", "part 3 1 1", 2, "place 1 is before place 3"),
+    ("two T as a part", "part 1 3 1", "part 1 3", 2, "`part` has 3 numbers"),
+    ("two T as a part", "P 2 0", "P 2 1", 2, "line 3, `P 2 1`, is no gate on wires below 1"),
+    ("a part with a turn", "end 3", "end 0", 7, "all turns together are 3"),
+    ("a part of no gates", "C 0 1|C 0 1", "C 0 1|C 1 0", 2, "its gates haven't the path sum of no gates: "),
+    ("a part of a goal", "end 5", "end 3", 13, "all turns together are 5"),
 ]  # fmt: skip
 
 
@@ -142,6 +188,12 @@ def program(size, body):
     return HEAD + register + body + "\n"
 
 
+def headed(behind):
+    """Some lines with the first line of their edition."""
+    later = any(it.split(" ")[0] in traces.LATER for it in behind.split("|"))
+    return f"TRACE {2 if later else 1}|{behind}"
+
+
 def commented(lines):
     return "".join(f"//!{it}\n" for it in lines)
 
@@ -163,20 +215,31 @@ class CheckTrace(ToolTest):
     def test_right_rows(self):
         for name, row in RIGHT.items():
             with self.subTest(name):
-                self.assertEqual(self.said_of(name, ["TRACE 1", *row[4].split("|")]), f"yes {row[5]}")
+                self.assertEqual(self.said_of(name, headed(row[4]).split("|")), f"yes {row[5]}")
+                # the second edition has the lines of the first
+                self.assertEqual(self.said_of(name, ["TRACE 2", *row[4].split("|")]), f"yes {row[5]}")
 
     def test_wrong_rows(self):
         for name, old, new, line, why in WRONG:
             with self.subTest(name=name, new=new):
-                behind = f"|{RIGHT[name][4]}|"
-                self.assertIn(f"|{old}|", behind)
-                lines = f"TRACE 1{behind.replace(f'|{old}|', f'|{new}|' if new else '|', 1)}".strip("|").split("|")
+                right = f"{headed(RIGHT[name][4])}|"
+                self.assertIn(f"|{old}|", right)
+                lines = right.replace(f"|{old}|", f"|{new}|" if new else "|", 1).strip("|").split("|")
                 stood = f"`{lines[line - 1]}` doesn't apply: " if line <= len(lines) else ""
-                self.assertEqual(self.said_of(name, lines), f"no, line {line}: {stood}{why}")
+                said = self.said_of(name, lines)
+                self.assertEqual(said[: len(said) if why[-1] != " " else said.index(why) + len(why)], f"no, line {line}: {stood}{why}")
+
+    def test_lines_of_the_second_edition(self):
+        for name, row in RIGHT.items():
+            words = [it.split(" ")[0] for it in row[4].split("|")]
+            later = [it for it in words if it in traces.LATER]
+            if later:
+                says = f"no, line {words.index(later[0]) + 2}: "
+                self.assertEqual(self.said_of(name, ["TRACE 1", *row[4].split("|")])[: len(says)], says, name)
 
     def test_each_line_is_needed(self):
         for name, row in RIGHT.items():
-            lines = ["TRACE 1", *row[4].split("|")]
+            lines = headed(row[4]).split("|")
             for i, line in enumerate(lines):
                 with self.subTest(name=name, line=line):
                     self.assertEqual(self.said_of(name, lines[:i] + lines[i + 1 :])[:9], "no, line ")
@@ -216,7 +279,7 @@ class CheckTrace(ToolTest):
     def test_what_is_a_line(self):
         lines = ["TRACE 1", "join 0 1", "place 0", "emit 0", "end 0"]
         for i, other in (
-            (0, "trace 1"), (0, "TRACE 2"), (0, "TRACE 01"), (0, " TRACE 1"), (0, "TRACE 1 "), (0, "TRACE"), (0, ""),
+            (0, "trace 1"), (0, "TRACE 3"), (0, "TRACE 0"), (0, "TRACE 01"), (0, " TRACE 1"), (0, "TRACE 1 "), (0, "TRACE"), (0, ""),
             (1, "join  0 1"), (1, "join 0\t1"), (1, "join 0 +1"), (1, "join 0 01"), (1, "join 0 1\r"), (1, "join -0 1"),
             (1, "join 0 4294967296"), (1, "join 0 0x1"), (1, "join0 1"), (1, "join 0 1."), (1, "\x00"), (1, "join 0 \xb2"),
             (1, "rule 0 0"), (1, "rule 4294967295 4294967295"), (1, "sums 4294967295"), (1, "join 0 " + "1" * 5000),
@@ -234,14 +297,14 @@ class CheckTrace(ToolTest):
         around = "// no line\n" + found.replace("//!place", "// //!no\n //!no\n\n//! ".rstrip("! ") + "\n//!place")
         for text in (head + found, head + found[:-1], found + head, head + around, head.replace("s q", f"\n{found}s q")):
             self.assertEqual(self.checked(source, text), (0, "yes 0\n", ""), text)
-        self.assertEqual(self.checked(source, head)[:2], (1, "no, line 1: the trace ends before `TRACE 1`\n"))
+        self.assertEqual(self.checked(source, head)[:2], (1, "no, line 1: the trace ends before `TRACE 1` or `TRACE 2`\n"))
         self.assertEqual(self.checked(source, head + found.replace("//!j", " //!j"))[1][:11], "no, line 4:")
         self.assertEqual(self.checked(source, head + found.replace("\n", "\r\n"))[1][:11], "no, line 1:")
         # a file of its own, whatever the text holds
         own = "".join(f"{it}\n" for it in lines)
         self.assertEqual(self.checked(source, head, own), (0, "yes 0\n", ""))
         self.assertEqual(self.checked(source, head + "//!TRACE 2\n", own[:-1]), (0, "yes 0\n", ""))
-        self.assertEqual(self.checked(source, head + found, "")[1], "no, line 1: the trace ends before `TRACE 1`\n")
+        self.assertEqual(self.checked(source, head + found, "")[1], "no, line 1: the trace ends before `TRACE 1` or `TRACE 2`\n")
         self.assertEqual(self.checked(source, head + found, "\n")[1][:14], "no, line 1: ``")
 
     def test_fewer_qubits_than_wires(self):

@@ -111,21 +111,21 @@ turned-twice : (j f r t : ℕ) → t ≡ (f + r) % 8 → (j + t) % 8 ≡ ((j + f
 turned-twice j f r t e = omega arith
 
 pub steps-run : (e : Claim) (B : ℕ) (old new : List Gate) (ss : List Step) (j t : ℕ) (ls : List Line) (behind : List (List ℕ)) (u : State) → e.wires ≤ 2 ^ 32 → B < 2 ^ 32 → length old ≤ B → length (steps_text ss) ≤ B → j < 8 →
-    AreSteps e.wires old ss new t → (length new ≤ B → Runs e (Rewritten new ((j + t) % 8)) ls behind u) → Runs e (Rewritten old j) (map (λ s. Rewrite s) ss ++ ls) behind u
+    AreSteps e.wires old ss new t → (length new ≤ B → Runs e 1 (Rewritten new ((j + t) % 8)) ls behind u) → Runs e 1 (Rewritten old j) (map (λ s. Rewrite s) ss ++ ls) behind u
 steps-run e B old new [] j t ls behind u ln lb lo ll lj h r =
-    subst (λ (gs : List Gate). Runs e (Rewritten gs j) ls behind u) h.0
-    (subst (λ (k : ℕ). Runs e (Rewritten new k) ls behind u) (none-turned j t lj h.1) (r (omega (arith, lo, ap length h.0))))
+    subst (λ (gs : List Gate). Runs e 1 (Rewritten gs j) ls behind u) h.0
+    (subst (λ (k : ℕ). Runs e 1 (Rewritten new k) ls behind u) (none-turned j t lj h.1) (r (omega (arith, lo, ap length h.0))))
 steps-run e B old new (s ∷ ss) j t ls behind u ln lb lo ll lj h r =
     let m = h.0 in
     let k = steps-length s ss in
     let z = step-sized e.wires B old m.gates s m.first ln lb lo (omega (arith, ll, k)) h.1.0 in (
       Rewritten m.gates ((j + m.first) % 8),
       (
-        All-from_recursion (λ k. k < 2 ^ 32) (step_numbers s) z.small,
+        (All-from_recursion (λ k. k < 2 ^ 32) (step_numbers s) z.small, tt),
         (
           record { gates = m.gates; turn = m.first; step = h.1.0; after = refl },
           steps-run e B m.gates new ss ((j + m.first) % 8) m.rest ls behind u ln lb z.size (omega (arith, ll, k)) (omega arith) h.1.1.0
-              (λ le. subst (λ (k : ℕ). Runs e (Rewritten new k) ls behind u) (turned-twice j m.first m.rest t h.1.1.1) (r le)),
+              (λ le. subst (λ (k : ℕ). Runs e 1 (Rewritten new k) ls behind u) (turned-twice j m.first m.rest t h.1.1.1) (r le)),
         ),
       ),
     )

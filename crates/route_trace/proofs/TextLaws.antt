@@ -15,7 +15,7 @@ use Rattle.circuit_list.specs.declared.Gate.{Gate}
 use Rattle.circuit_list.specs.declared.Gate.TheVariants.{H, X, P, Cx}
 use Rattle.rewrite_pass.specs.Traces.{Rule, Both, Join, Sums}
 use Rattle.rewrite_pass.specs.TraceLines.{gate_line, gate_numbers, words}
-use Rattle.trace_check.specs.Lines.{Line, Heading, Rewrite, Place, Emit, Back, Swap, Turn, End, IsSmall, all_spelt, numbers_of, spelt}
+use Rattle.trace_check.specs.Lines.{Line, Heading, Rewrite, Part, Goal, Meet, Place, Emit, Back, Elide, Swap, Turn, End, IsSmall, all_spelt, numbers_of, spelt}
 use Rattle.trace_check.proofs.SpellingLaws.{Small, small-split}
 use Rattle.trace_text.specs.Texts.{begun, ended, lines_of}
 
@@ -107,14 +107,18 @@ gates-plain [] h = tt
 gates-plain (g ∷ gs) h = let s = small-split (gate_numbers g) (flat_map gate_numbers gs) h in (gate-plain g s.0, gates-plain gs s.1)
 
 plain : (l : Line) → Small (numbers_of l) → NoBreaks (spelt l)
-plain Heading h = (words-plain (codes "TRACE") (1 ∷ []) (five 84 82 65 67 69 (omega arith) (omega arith) (omega arith) (omega arith) (omega arith)) (omega arith, tt), tt)
+plain (Heading v) h = (words-plain (codes "TRACE") (v ∷ []) (five 84 82 65 67 69 (omega arith) (omega arith) (omega arith) (omega arith) (omega arith)) h, tt)
 plain (Rewrite (Rule k i)) h = (words-plain (codes "rule") (k ∷ i ∷ []) (four 114 117 108 101 (omega arith) (omega arith) (omega arith) (omega arith)) h, tt)
 plain (Rewrite (Both i j)) h = (words-plain (codes "both") (i ∷ j ∷ []) (four 98 111 116 104 (omega arith) (omega arith) (omega arith) (omega arith)) h, tt)
 plain (Rewrite (Join i j)) h = (words-plain (codes "join") (i ∷ j ∷ []) (four 106 111 105 110 (omega arith) (omega arith) (omega arith) (omega arith)) h, tt)
 plain (Rewrite (Sums gates)) h = (words-plain (codes "sums") (length gates ∷ []) (four 115 117 109 115 (omega arith) (omega arith) (omega arith) (omega arith)) (h.0, tt), gates-plain gates h.1)
+plain (Part i j gates) h = (words-plain (codes "part") (i ∷ j ∷ length gates ∷ []) (four 112 97 114 116 (omega arith) (omega arith) (omega arith) (omega arith)) (h.0, (h.1.0, (h.1.1.0, tt))), gates-plain gates h.1.1.1)
+plain (Goal gates) h = (words-plain (codes "goal") (length gates ∷ []) (four 103 111 97 108 (omega arith) (omega arith) (omega arith) (omega arith)) (h.0, tt), gates-plain gates h.1)
+plain Meet h = (words-plain (codes "meet") [] (four 109 101 101 116 (omega arith) (omega arith) (omega arith) (omega arith)) tt, tt)
 plain (Place p) h = (words-plain (codes "place") p (five 112 108 97 99 101 (omega arith) (omega arith) (omega arith) (omega arith) (omega arith)) h, tt)
 plain (Emit i) h = (words-plain (codes "emit") (i ∷ []) (four 101 109 105 116 (omega arith) (omega arith) (omega arith) (omega arith)) h, tt)
 plain (Back i) h = (words-plain (codes "back") (i ∷ []) (four 98 97 99 107 (omega arith) (omega arith) (omega arith) (omega arith)) h, tt)
+plain (Elide i) h = (words-plain (codes "elide") (i ∷ []) (five 101 108 105 100 101 (omega arith) (omega arith) (omega arith) (omega arith) (omega arith)) h, tt)
 plain (Swap u v) h = (words-plain (codes "swap") (u ∷ v ∷ []) (four 115 119 97 112 (omega arith) (omega arith) (omega arith) (omega arith)) h, tt)
 plain (Turn u v) h = (words-plain (codes "turn") (u ∷ v ∷ []) (four 116 117 114 110 (omega arith) (omega arith) (omega arith) (omega arith)) h, tt)
 plain (End j) h = (words-plain (codes "end") (j ∷ []) (three 101 110 100 (omega arith) (omega arith) (omega arith)) h, tt)

@@ -4,7 +4,7 @@
 --     end-run             its last line
 --     trace-runs          its lines lead from nothing to all that is claimed
 --     trace-proves        it proves the claim
-use Rattle.std.proofs.Common.{◌≡◌, ℕ, suc, ◌+◌, ◌-◌, ◌%◌, ◌^◌, ◌<◌, ◌≤◌, List, [], ◌∷◌, ◌++◌, All, length, map, refl, sym, ◌∙◌, ap, subst, arith, append_assoc, append-nil, slice_index}
+use Rattle.std.proofs.Common.{◌≡◌, ℕ, suc, ◌+◌, ◌-◌, ◌%◌, ◌^◌, ◌<◌, ◌≤◌, inl, List, [], ◌∷◌, ◌++◌, All, length, map, refl, sym, ◌∙◌, ap, subst, arith, append_assoc, append-nil, slice_index}
 use Rattle.std.specs.Prelude.{codes}
 use Rattle.std.specs.List.{AllByRecursion, flat_map}
 use Rattle.std.proofs.lemmas.List.{length-append}
@@ -21,7 +21,8 @@ use Rattle.sabre_route.specs.declared.router.Routed.{Routed as Router}
 use Rattle.sabre_route.specs.Machine.{start}
 use Rattle.sabre_route.specs.Routing.{turned, written}
 use Rattle.sabre_route.specs.Telling.{IsRoutedBy}
-use Rattle.trace_check.specs.Lines.{Line, Rewrite, Place, End, IsSmall, all_spelt, spelt}
+use Rattle.trace_check.specs.Lines.{Line, Rewrite, Place, End, IsSmall, all_spelt, edition_of, spelt}
+use Rattle.trace_check.proofs.StepLaws.{edition-named}
 use Rattle.trace_check.specs.Proves.{Claim, Proved, Proves, Rewritten, Runs, State, Unread}
 use Rattle.trace_text.specs.Texts.{ended, lines_of}
 use Rattle.unitary_model.specs.Placement.{IsPlacement}
@@ -72,9 +73,9 @@ steps-within ss p ls j =
     omega (arith, ap length (bytes-of ss p ls j), length-append head (steps_text ss ++ rest), length-append (steps_text ss) rest)
 
 -- ---- lines are small
-runs-small : (e : Claim) (s : State) (ls : List Line) (behind : List (List ℕ)) (u : State) → Runs e s ls behind u → AllByRecursion IsSmall ls
+runs-small : (e : Claim) (s : State) (ls : List Line) (behind : List (List ℕ)) (u : State) → Runs e 1 s ls behind u → AllByRecursion IsSmall ls
 runs-small e s [] behind u h = tt
-runs-small e s (l ∷ ls) behind u h = (h.1.0, runs-small e h.0 ls behind u h.1.1.1)
+runs-small e s (l ∷ ls) behind u h = (h.1.0.0, runs-small e h.0 ls behind u h.1.1.1)
 
 entries-small : (p : List ℕ) → ((i : ℕ) → i < length p → slice_index p i < 2 ^ 32) → AllByRecursion (λ k. k < 2 ^ 32) p
 entries-small [] h = tt
@@ -88,12 +89,12 @@ whole-turn : (f t r c j : ℕ) → c ≡ r % 8 → j ≡ (f + (t + c)) % 8 → (
 whole-turn f t r c j e h = omega arith
 
 end-run : (e : Claim) (p q w : List ℕ) (gs v target : List Gate) (m t j : ℕ) → AllByRecursion (IsFine m) target → gs ≡ [] → v ≡ target → e.target ≡ ops target → t ≡ j → j < 8 → q ≡ w →
-    Runs e (at p q gs v t) (End j ∷ []) [] (Proved p w j)
+    Runs e 1 (at p q gs v t) (End j ∷ []) [] (Proved p w j)
 end-run e p q w gs v target m t j fine none all goal same lt ends =
     let zero : turn_of e.target ≡ 0 = ap turn_of goal ∙ turn-ops target in (
       Proved p q j,
       (
-        All-from_recursion (λ k. k < 2 ^ 32) (j ∷ []) (omega (arith, lt), tt),
+        (All-from_recursion (λ k. k < 2 ^ 32) (j ∷ []) (omega (arith, lt), tt), tt),
         (
           record {
             last = refl;
@@ -113,7 +114,7 @@ below k = omega arith
 
 trace-runs : (ahead : Ahead) (d : Coupling) (ss : List Step) (n m B : ℕ) (gs : List Gate) (given : List ℕ) (r : Router) (xs : List Told) (turn : ℕ) → Near d → d.size ≤ 2 ^ 32 → n ≤ d.size → IsPlacement d.size given → AllByRecursion (IsFine m) r.body.gates →
     IsRoutedBy ahead d gs given r xs → turn < 8 → length (steps_text ss) ≤ B → B < 2 ^ 32 → (e : Claim) (t : ℕ) → e.wires ≡ n → e.qubits ≡ d.size → length (expanded e.source) ≤ B → AreSteps e.wires (expanded e.source) ss gs t → e.target ≡ ops r.body.gates →
-    turn ≡ (turn_of e.source + (t + r.turn)) % 8 → Runs e Unread (trace_lines ss given (event_lines d.edges given gs xs) turn) [] (Proved given r.last turn)
+    turn ≡ (turn_of e.source + (t + r.turn)) % 8 → Runs e 1 Unread (trace_lines ss given (event_lines d.edges given gs xs) turn) [] (Proved given r.last turn)
 trace-runs ahead d ss n m B gs given r xs turn near le fits placed fine h lt few lb e t wires qubits source steps target whole =
     let f : ℕ = turn_of e.source in
     let j : ℕ = (f + t) % 8 in
@@ -124,21 +125,21 @@ trace-runs ahead d ss n m B gs given r xs turn near le fits placed fine h lt few
     let more : ℕ = (j + turned es given run.events) % 8 in
     let small : AllByRecursion (λ k. k < 2 ^ 32) given = entries-small given (λ i l. omega (arith, le, placed.within i (omega (arith, l, placed.long)))) in
     let fit : IsPlacement e.qubits given = subst (λ (k : ℕ). IsPlacement k given) (sym qubits) placed in
-    let last : Runs e (at given run.final.placement run.final.rest ([] ++ written es given run.events) more) (End turn ∷ []) [] z =
+    let last : Runs e 1 (at given run.final.placement run.final.rest ([] ++ written es given run.events) more) (End turn ∷ []) [] z =
     end-run e given run.final.placement r.last run.final.rest (written es given run.events) r.body.gates m more turn fine run.run.ends (sym run.body) target (whole-turn f t (turned es given run.events) r.turn turn run.turn whole) lt (sym run.last) in (
       Rewritten (expanded e.source) f,
       (
-        All-from_recursion (λ k. k < 2 ^ 32) [] tt,
+        (All-from_recursion (λ k. k < 2 ^ 32) (1 ∷ []) (omega arith, tt), refl),
         (
           refl,
           steps-run e B (expanded e.source) gs ss f t (Place given ∷ (ls ++ End turn ∷ [])) [] z (omega (arith, wires, fits, le)) lb source few (omega arith) steps
               (λ size. (
                 at given given gs [] j,
                 (
-                  All-from_recursion (λ k. k < 2 ^ 32) given small,
+                  (All-from_recursion (λ k. k < 2 ^ 32) given small, tt),
                   (
                     record { fits = omega (arith, wires, qubits, fits); placement = fit; after = refl },
-                    subst (λ (ys : List Told). Runs e (at given given gs [] j) (event_lines es given gs ys ++ End turn ∷ []) [] z) (sym h.events)
+                    subst (λ (ys : List Told). Runs e 1 (at given given gs [] j) (event_lines es given gs ys ++ End turn ∷ []) [] z) (sym h.events)
                         (events-run ahead e d (start given gs) run.final run.events given [] j (End turn ∷ []) [] z near qubits le (omega (arith, size, lb)) (below (f + t)) run.run.steps last),
                   ),
                 ),
@@ -154,4 +155,7 @@ trace-proves ahead d ss n m gs given r xs turn text near le fits placed fine h l
     let ls : List Line = trace_lines ss given (event_lines d.edges given gs xs) turn in
     let run = trace-runs ahead d ss n m (2 ^ 31) gs given r xs turn near (omega (arith, le)) fits placed (recursion_from_All (IsFine m) r.body.gates fine) h lt
     (omega (arith, short, ap length same, steps-within ss given (event_lines d.edges given gs xs) turn)) (omega arith) e t wires qubits (omega (arith, source, length-expanded e.source)) steps target whole in
-    record { lines = ls; text = ap lines_of same ∙ lines-ended (all_spelt ls) (spelt-plain ls (runs-small e Unread ls [] (Proved given r.last turn) run)); run = run }
+    let lines : lines_of text ≡ all_spelt ls = ap lines_of same ∙ lines-ended (all_spelt ls) (spelt-plain ls (runs-small e Unread ls [] (Proved given r.last turn) run)) in
+    let rest : List Line = map (λ s. Rewrite s) ss ++ (Place given ∷ (event_lines d.edges given gs xs ++ End turn ∷ [])) in
+    let named : edition_of (lines_of text) ≡ 1 = ap edition_of lines ∙ edition-named 1 (all_spelt rest) (inl refl) in
+    record { lines = ls; text = lines; run = subst (λ v. Runs e v Unread ls [] (Proved given r.last turn)) (sym named) run }

@@ -65,4 +65,4 @@ AreThere n gs [] = Unit {0}
 AreThere n gs (x ∷ xs) = IsThere n gs x × AreThere n (left_by gs x) xs
 
 abbrev pub trace_lines : List Step → List ℕ → List Line → ℕ → List Line
-trace_lines ss p ls j = Heading ∷ map (λ s. Rewrite s) ss ++ (Place p ∷ (ls ++ End j ∷ []))
+trace_lines ss p ls j = Heading 1 ∷ map (λ s. Rewrite s) ss ++ (Place p ∷ (ls ++ End j ∷ []))

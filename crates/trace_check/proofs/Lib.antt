@@ -22,3 +22,10 @@ pub mod GateLaws
 pub mod StepLaws
 pub mod EditLaws
 pub mod RuleLaws
+pub mod PartLaws
+pub mod EditionLaws
+pub mod Examples
+pub mod ElideLaws
+pub mod BackLaws
+pub mod GoalLaws
+pub mod PartStepLaws

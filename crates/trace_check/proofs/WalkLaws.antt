@@ -20,7 +20,7 @@ use Rattle.trace_check.specs.Lines.{Line, End, spelt}
 use Rattle.trace_text.specs.Texts.{begun, lines_of}
 use Rattle.trace_check.specs.Progress.{Came, Ends, Goes}
 use Rattle.trace_check.specs.Proves.{Applies, Claim, IsEnd, IsStuck, Placed, Proved, Proves, Routed, State, StopsAt}
-use Rattle.trace_check.specs.Spelling.{AreSmall, spelling}
+use Rattle.trace_check.specs.Spelling.{AreSmall, IsWordIn, spelling}
 use Rattle.trace_check.proofs.KindLaws.{stuck-line}
 use Rattle.trace_check.proofs.ProgressLaws.{came-more, came-proves, came-stops}
 use Rattle.trace_check.proofs.SpellingLaws.{line_gates, with_one}
@@ -47,35 +47,35 @@ at_end e s (j ∷ []) behind l rest new none read back a =
     none j new refl (subst (λ r. IsEnd e s j r new) (sym b) (subst (λ m. Applies e (Routed s) m rest new) same a))
 at_end e s (j ∷ (k ∷ ks)) behind l rest new none read back a = absurd (cc)
 
-pub stuck-end : (e : Claim) (s : Placed) (ks : List ℕ) (behind : List (List ℕ)) → AreSmall ks → ((j : ℕ) (new : State) → ks ≡ j ∷ [] → IsEnd e s j behind new → ⊥) →
-    IsStuck e (Routed s) (words (codes "end") ks ∷ behind)
-stuck-end e s ks behind small none =
-    stuck-line e (Routed s) word.End ks behind small (λ l rest new kind read back a. at_end e s ks behind l rest new none read back a)
+pub stuck-end : (e : Claim) (v : ℕ) (s : Placed) (ks : List ℕ) (behind : List (List ℕ)) → AreSmall ks → ((j : ℕ) (new : State) → ks ≡ j ∷ [] → IsEnd e s j behind new → ⊥) →
+    IsStuck e v (Routed s) (words (codes "end") ks ∷ behind)
+stuck-end e v s ks behind small none =
+    stuck-line e v (Routed s) word.End ks behind small (λ l rest new kind read back a. at_end e s ks behind l rest new none read back a)
 
-pub stuck-before : (e : Claim) (s : Placed) (ks text : List ℕ) → AreSmall ks → 0 < length text → IsStuck e (Routed s) (words (codes "end") ks ∷ lines_of text)
-stuck-before e s ks text small lt = stuck-end e s ks (lines_of text) small (λ j new is a. let none = no_lines text a.last in absurd (omega (arith, none, lt)))
+pub stuck-before : (e : Claim) (v : ℕ) (s : Placed) (ks text : List ℕ) → AreSmall ks → 0 < length text → IsStuck e v (Routed s) (words (codes "end") ks ∷ lines_of text)
+stuck-before e v s ks text small lt = stuck-end e v s ks (lines_of text) small (λ j new is a. let none = no_lines text a.last in absurd (omega (arith, none, lt)))
 
-pub stuck-unequal : (e : Claim) (s : Placed) (goal : Passed) (ks : List ℕ) (behind : List (List ℕ)) → Ends e goal → AreSmall ks →
-    (ks ≡ (s.turn + (8 - goal.turn)) % 8 ∷ [] → s.rest ≡ [] → s.written ≡ goal.body.gates → ⊥) → IsStuck e (Routed s) (words (codes "end") ks ∷ behind)
-stuck-unequal e s goal ks behind g small none =
-    stuck-end e s ks behind small (λ j new is a. none (is ∙ ap (λ k. k ∷ []) (a.turn ∙ ap (λ t. (s.turn + (8 - t)) % 8) g.turn)) a.empty (a.written ∙ g.gates))
+pub stuck-unequal : (e : Claim) (v : ℕ) (s : Placed) (goal : Passed) (ks : List ℕ) (behind : List (List ℕ)) → Ends e goal → AreSmall ks →
+    (ks ≡ (s.turn + (8 - goal.turn)) % 8 ∷ [] → s.rest ≡ [] → s.written ≡ goal.body.gates → ⊥) → IsStuck e v (Routed s) (words (codes "end") ks ∷ behind)
+stuck-unequal e v s goal ks behind g small none =
+    stuck-end e v s ks behind small (λ j new is a. none (is ∙ ap (λ k. k ∷ []) (a.turn ∙ ap (λ t. (s.turn + (8 - t)) % 8) g.turn)) a.empty (a.written ∙ g.gates))
 
 -- ---- line by line
-pub routed-more : (e : Claim) (trace : List ℕ) (s t : Placed) (w : Word) (ks : List ℕ) (behind lines : List (List ℕ)) (m : ℕ) → e.qubits ≡ length s.now → Goes w ks s t → lines ≡ words (spelling w) ks ∷ behind →
-    Came e trace (Routed s) lines m → Came e trace (Routed t) behind (m + 1)
-routed-more e trace s t w ks behind lines m q goes is c =
-    let h = goes e behind q in
-    let first : Came e trace (Routed s) (spelt h.0 ++ behind) m = subst (λ x. Came e trace (Routed s) x m) (is ∙ ap (λ x. x ++ behind) (sym h.1.1.0)) c in
-    subst (λ k. Came e trace (Routed t) behind (m + k)) (ap length h.1.1.0) (came-more e trace (Routed s) (Routed t) h.0 behind m first h.1.0 h.1.1.1)
+pub routed-more : (e : Claim) (v : ℕ) (trace : List ℕ) (s t : Placed) (w : Word) (ks : List ℕ) (behind lines : List (List ℕ)) (m : ℕ) → IsWordIn v w → e.qubits ≡ length s.now → Goes w ks s t →
+    lines ≡ words (spelling w) ks ∷ behind → Came e v trace (Routed s) lines m → Came e v trace (Routed t) behind (m + 1)
+routed-more e v trace s t w ks behind lines m i q goes is c =
+    let h = goes e v behind i q in
+    let first : Came e v trace (Routed s) (spelt h.0 ++ behind) m = subst (λ x. Came e v trace (Routed s) x m) (is ∙ ap (λ x. x ++ behind) (sym h.1.1.0)) c in
+    subst (λ k. Came e v trace (Routed t) behind (m + k)) (ap length h.1.1.0) (came-more e v trace (Routed s) (Routed t) h.0 behind m first h.1.0 h.1.1.1)
 
-pub routed-stops : (e : Claim) (trace : List ℕ) (s : Placed) (lines : List (List ℕ)) (m line : ℕ) → Came e trace (Routed s) lines m → line ≡ m + 1 → IsStuck e (Routed s) lines → StopsAt e trace line
-routed-stops e trace s lines m line c is stuck = subst (StopsAt e trace) (sym is) (came-stops e trace (Routed s) lines m c tt stuck)
+pub routed-stops : (e : Claim) (v : ℕ) (trace : List ℕ) (s : Placed) (lines : List (List ℕ)) (m line : ℕ) → Came e v trace (Routed s) lines m → line ≡ m + 1 → IsStuck e v (Routed s) lines → StopsAt e trace line
+routed-stops e v trace s lines m line c is stuck = subst (StopsAt e trace) (sym is) (came-stops e v trace (Routed s) lines m c tt stuck)
 
-pub routed-proves : (e : Claim) (trace : List ℕ) (s : Placed) (goal : Passed) (ks : List ℕ) (lines : List (List ℕ)) (m : ℕ) → Ends e goal → lines ≡ words (codes "end") ks ∷ [] →
-    ks ≡ (s.turn + (8 - goal.turn)) % 8 ∷ [] → s.rest ≡ [] → s.written ≡ goal.body.gates → Came e trace (Routed s) lines m → Proves e trace s.first s.now ((s.turn + (8 - goal.turn)) % 8)
-routed-proves e trace s goal ks lines m g is numbers empty written c =
-    came-proves e trace s.first s.now j (m + 1)
-    (came-more e trace (Routed s) (Proved s.first s.now j) (End j) [] m (subst (λ x. Came e trace (Routed s) x m) (is ∙ ap (λ k. words (codes "end") k ∷ []) numbers) c) small
+pub routed-proves : (e : Claim) (v : ℕ) (trace : List ℕ) (s : Placed) (goal : Passed) (ks : List ℕ) (lines : List (List ℕ)) (m : ℕ) → Ends e goal → lines ≡ words (codes "end") ks ∷ [] →
+    ks ≡ (s.turn + (8 - goal.turn)) % 8 ∷ [] → s.rest ≡ [] → s.written ≡ goal.body.gates → Came e v trace (Routed s) lines m → Proves e trace s.first s.now ((s.turn + (8 - goal.turn)) % 8)
+routed-proves e v trace s goal ks lines m g is numbers empty written c =
+    came-proves e v trace s.first s.now j (m + 1)
+    (came-more e v trace (Routed s) (Proved s.first s.now j) (End j) [] m (subst (λ x. Came e v trace (Routed s) x m) (is ∙ ap (λ k. words (codes "end") k ∷ []) numbers) c) (small, tt)
     (record { last = refl; empty = empty; written = written ∙ sym g.gates; turn = ap (λ t. (s.turn + (8 - t)) % 8) (sym g.turn); after = refl }))
   where
     j : ℕ

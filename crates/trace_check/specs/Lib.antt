@@ -6,6 +6,8 @@ pub mod Outcomes
 pub mod Spelling
 pub mod Progress
 pub mod Pairs
+pub mod Elides
 pub mod Names
 pub mod Sums
 pub mod RuleWindows
+pub mod Before

@@ -4,16 +4,20 @@
 --                             beginnings where it is None
 --     Grows goal j gates k    so it is with these gates more
 --     placed s w              what the lines behind `place` work on, where the gates w were appended
---     Came e trace s behind n the first n lines of the trace lead to the state s, and the lines `behind` are left
+--     Came e v trace s behind n       the first n lines of the trace, which is of edition v, lead to the state s, and the lines `behind`
+--                             are left
 --     IsRouting s             what the lines behind `place` work on is fit
 --     KeepsGoal s t              from s to t the first placement and the numbers of wires and qubits stay, and what is fit stays fit
---     Goes w ks s t           a line of the word w and the numbers ks applies, and leads from s to t
+--     Goes w ks s t           a line of the word w and the numbers ks applies in each edition that has the word, and leads from s to t
 --     Moves goal w ks s t     so it does whatever was appended before, and what was is known as before
 --     Halts w ks s            no such line applies
 --     step_of w i j           the step of a line of the word w and the numbers i and j
---     reached s               gates that are rewritten, with their turn
---     Leads s t ls behind     the first of the lines ls apply, and lead from s to t, and the lines `behind` are left
---     Blocked s ls            no line applies that the first of the lines ls spell
+--     reached h s             gates that are rewritten, with their turn, where h is what a `goal` holds, if there is one
+--     IsHeld n h              what is held is on n wires, and its turn is below 8
+--     Turns w h s g t ls behind       where edition v has the word w, the first of the lines ls apply, and lead from s, with h held, to t,
+--                             with g held, and the lines `behind` are left
+--     Leads w s t ls behind   so it is, and what is held stays
+--     Stands h s ls           no line applies that the first of the lines ls spell, where h is held;  Blocked s ls: whatever is held
 --     Ends e goal             the gates and the turn of the target are those
 use Rattle.std.specs.Prelude.{◌≡◌, ℕ, ◌<◌, ◌≤◌, List, [], ◌∷◌, ◌++◌, Option, Some, None, length, take}
 use Rattle.circuit_list.specs.declared.Gate.{Gate}
@@ -21,10 +25,11 @@ use Rattle.circuit_list.specs.declared.Passed.{Passed}
 use Rattle.gate_expand.specs.Expansion.{expanded, turn_of}
 use Rattle.rewrite_pass.specs.Traces.{Step, Rule, Both, Join}
 use Rattle.rewrite_pass.specs.TraceLines.{words}
-use Rattle.trace_check.specs.Lines.{IsSmall, Line, all_spelt, spelt}
+use Rattle.trace_check.specs.Lines.{IsLine, Line, all_spelt, edition_of, spelt}
 use Rattle.trace_text.specs.Texts.{lines_of}
-use Rattle.trace_check.specs.Proves.{Applies, Claim, IsStuck, Placed, Rewritten, Routed, Runs, State, Unread}
-use Rattle.trace_check.specs.Spelling.{spelling}
+use Rattle.trace_check.specs.Proves.{Applies, Claim, IsStuck, Placed, Rewritten, Routed, Runs, Seeking, State, Unread}
+use Rattle.trace_check.specs.Spelling.{IsWordIn, spelling}
+use Rattle.trace_check.specs.declared.goals.Held.{Held}
 use Rattle.trace_check.specs.declared.words.Word.{Word}
 use Rattle.trace_check.specs.declared.words.Word.TheVariants as word
 use Rattle.trace_check.specs.declared.routing.Routing.{Routing}
@@ -39,10 +44,11 @@ Grows goal old gates new = (written : List Gate) → IsWritten goal old written 
 abbrev pub placed : Routing → List Gate → Placed
 placed s written = record { first = s.first.items; now = s.now; rest = s.rest.gates; written = written; turn = s.turn }
 
-pub record Came (e : Claim) (trace : List ℕ) (s : State) (behind : List (List ℕ)) (n : ℕ) : Type 0 where
+pub record Came (e : Claim) (v : ℕ) (trace : List ℕ) (s : State) (behind : List (List ℕ)) (n : ℕ) : Type 0 where
+  pub edition : edition_of (lines_of trace) ≡ v
   pub done : List Line
   pub text : lines_of trace ≡ all_spelt done ++ behind
-  pub run : Runs e Unread done behind s
+  pub run : Runs e v Unread done behind s
   pub count : n ≡ length (all_spelt done)
 
 pub record IsRouting (s : Routing) : Type 0 where
@@ -55,15 +61,15 @@ pub record KeepsGoal (s t : Routing) : Type 0 where
   pub fit : IsRouting t
 
 abbrev pub Goes : Word → List ℕ → Placed → Placed → Type 0
-Goes w ks s t = (e : Claim) (behind : List (List ℕ)) → e.qubits ≡ length s.now →
-    (l : Line) × (IsSmall l × ((spelt l ≡ words (spelling w) ks ∷ []) × Applies e (Routed s) l behind (Routed t)))
+Goes w ks s t = (e : Claim) (v : ℕ) (behind : List (List ℕ)) → IsWordIn v w → e.qubits ≡ length s.now →
+    (l : Line) × (IsLine v l × ((spelt l ≡ words (spelling w) ks ∷ []) × Applies e (Routed s) l behind (Routed t)))
 
 abbrev pub Moves : List Gate → Word → List ℕ → Routing → Routing → Type 0
 Moves goal w ks s t = (old : List Gate) → IsWritten goal s.agreed old →
     (new : List Gate) × (IsWritten goal t.agreed new × Goes w ks (placed s old) (placed t new))
 
 abbrev pub Halts : Word → List ℕ → Placed → Type 0
-Halts w ks s = (e : Claim) (behind : List (List ℕ)) → e.qubits ≡ length s.now → IsStuck e (Routed s) (words (spelling w) ks ∷ behind)
+Halts w ks s = (e : Claim) (v : ℕ) (behind : List (List ℕ)) → e.qubits ≡ length s.now → IsStuck e v (Routed s) (words (spelling w) ks ∷ behind)
 
 abbrev pub step_of : Word → ℕ → ℕ → Option Step
 step_of word.Rule i j = Some (Rule i j)
@@ -71,15 +77,26 @@ step_of word.Both i j = Some (Both i j)
 step_of word.Join i j = Some (Join i j)
 step_of _ i j = None
 
-abbrev pub reached : Passed → State
-reached s = Rewritten s.body.gates s.turn
+abbrev pub reached : Option Held → Passed → State
+reached None s = Rewritten s.body.gates s.turn
+reached (Some h) s = Seeking (record { held = h.body.gates; turn = h.turn; goal = h.goal.gates; gates = s.body.gates; since = s.turn })
 
-abbrev pub Leads : Passed → Passed → List (List ℕ) → List (List ℕ) → Type 0
-Leads s t ls behind = (e : Claim) → e.wires ≡ s.body.wires →
-    (l : Line) × (IsSmall l × ((ls ≡ spelt l ++ behind) × Applies e (reached s) l behind (reached t)))
+abbrev pub IsHeld : ℕ → Option Held → Type 0
+IsHeld n None = Unit {0}
+IsHeld n (Some h) = (h.body.wires ≡ n) × (h.goal.wires ≡ n) × (h.turn < 8)
+
+abbrev pub Turns : Word → Option Held → Passed → Option Held → Passed → List (List ℕ) → List (List ℕ) → Type 0
+Turns w h s g t ls behind = (e : Claim) (v : ℕ) → IsWordIn v w → e.wires ≡ s.body.wires →
+    (l : Line) × (IsLine v l × ((ls ≡ spelt l ++ behind) × Applies e (reached h s) l behind (reached g t)))
+
+abbrev pub Leads : Word → Passed → Passed → List (List ℕ) → List (List ℕ) → Type 0
+Leads w s t ls behind = (h : Option Held) → Turns w h s h t ls behind
+
+abbrev pub Stands : Option Held → Passed → List (List ℕ) → Type 0
+Stands h s ls = (e : Claim) (v : ℕ) → e.wires ≡ s.body.wires → IsStuck e v (reached h s) ls
 
 abbrev pub Blocked : Passed → List (List ℕ) → Type 0
-Blocked s ls = (e : Claim) → e.wires ≡ s.body.wires → IsStuck e (reached s) ls
+Blocked s ls = (h : Option Held) → Stands h s ls
 
 pub record Ends (e : Claim) (goal : Passed) : Type 0 where
   pub gates : expanded e.target ≡ goal.body.gates

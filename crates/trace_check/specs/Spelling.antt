@@ -1,11 +1,12 @@
 -- Working form.
 -- The words of a trace, as the code has them.
 --     spelling w          the bytes of a word
+--     IsWordIn v w        edition v has the word w
 --     gate_word g         the bytes of the word of a gate
 --     HasNoSpace l        no byte of l is a space
 --     piece_size l        how many bytes stand before the first space of l;  piece l: these bytes
 --     AreSmall ks         the numbers ks are below 2^32
-use Rattle.std.specs.Prelude.{◌≢◌, ℕ, ◌^◌, ◌<◌, List, codes, nat_eq, not, take}
+use Rattle.std.specs.Prelude.{◌≢◌, ℕ, ◌^◌, ◌<◌, ◌≤◌, List, codes, nat_eq, not, take}
 use Rattle.std.specs.List.{AllByRecursion, prefix_len}
 use Rattle.circuit_list.specs.declared.Gate.{Gate}
 use Rattle.circuit_list.specs.declared.Gate.TheVariants.{H, X, P, Cx}
@@ -18,12 +19,23 @@ spelling word.Rule = codes "rule"
 spelling word.Both = codes "both"
 spelling word.Join = codes "join"
 spelling word.Sums = codes "sums"
+spelling word.Part = codes "part"
+spelling word.Goal = codes "goal"
+spelling word.Meet = codes "meet"
 spelling word.Place = codes "place"
 spelling word.Emit = codes "emit"
 spelling word.Back = codes "back"
+spelling word.Elide = codes "elide"
 spelling word.Swap = codes "swap"
 spelling word.Turn = codes "turn"
 spelling word.End = codes "end"
+
+abbrev pub IsWordIn : ℕ → Word → Type 0
+IsWordIn v word.Part = 2 ≤ v
+IsWordIn v word.Goal = 2 ≤ v
+IsWordIn v word.Meet = 2 ≤ v
+IsWordIn v word.Elide = 2 ≤ v
+IsWordIn v _ = Unit {0}
 
 abbrev pub gate_word : Gate → List ℕ
 gate_word (H q) = codes "H"

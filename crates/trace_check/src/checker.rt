@@ -7,6 +7,7 @@ ghost use Rattle.std.specs.Prelude.{
   ◌^◌,
   ◌<◌,
   ◌≤◌,
+  ◌⊎◌,
   ◌∷◌,
   [],
   List,
@@ -14,6 +15,7 @@ ghost use Rattle.std.specs.Prelude.{
   IfOk,
   IfSome,
   MatchOption,
+  None,
   Some,
   codes,
   false,
@@ -27,14 +29,18 @@ ghost use Rattle.rewrite_pass.specs.TraceLines.{words};
 ghost use Rattle.rewrite_pass.specs.Traces.{IsStep, Step};
 ghost use Rattle.trace_text.specs.Texts.{lines_of};
 ghost use Rattle.trace_check.specs.Outcomes.{IsOutcome, claim};
-ghost use Rattle.trace_check.specs.Progress.{Blocked, Came, IsRouting, Leads, placed, reached, step_of};
+ghost use Rattle.trace_check.specs.Lines.{edition_of};
+ghost use Rattle.trace_check.specs.Progress.{Blocked, Came, IsHeld, IsRouting, Leads, Stands, Turns, placed, reached, step_of};
 ghost use Rattle.trace_check.specs.Proves.{Claim, IsStuck, Routed, StopsAt, Unread};
 ghost use Rattle.trace_check.specs.Spelling.{spelling};
 ghost use Rattle.trace_check.specs.declared.words.Word.TheVariants as kind;
 
+use crate::editions::{edition_from, read_line};
 use crate::gates::read_gates;
+use crate::goals::{Held, aim, meet};
 use crate::mark::Mark;
 use crate::pairs::{both, join};
+use crate::parts::replaced_part;
 use crate::routed::routed;
 use crate::routing::Routing;
 use crate::sums::sums;
@@ -73,13 +79,16 @@ pub fn check(alloc: Global, source: &Ops, target: &Ops, trace: &[u8]) -> Result<
     ensures ok { IfOk result (IsOutcome (claim source.now target.now) trace.now) }
 {
     let mut numbers = Vec::new(alloc);
-    let Some(text) = headed(trace, &mut numbers)? else {
+    let Some(head) = headed(trace, &mut numbers)? else {
         return Ok(Outcome::Stopped { line: 1 });
     };
-    let start = Mark { text, line: 2 };
+    let start = Mark {
+        text: head.text,
+        line: 2,
+    };
     let mut state = expand(alloc, source)?;
     state.body.link()?;
-    let reached = rewritten(alloc, start, &mut state, &mut numbers)?;
+    let reached = rewritten(alloc, head.edition, start, &mut state, &mut numbers)?;
     let (text, line) = (reached.mark.text, reached.mark.line);
     if !reached.placed {
         return Ok(Outcome::Stopped { line });
@@ -88,14 +97,22 @@ pub fn check(alloc: Global, source: &Ops, target: &Ops, trace: &[u8]) -> Result<
     let Some(routing) = placing(alloc, state, goal.body.wires(), &numbers)? else {
         return Ok(Outcome::Stopped { line: line - 1 });
     };
-    routed(alloc, text, line, routing, &goal, &mut numbers)
+    routed(alloc, head.edition, text, line, routing, &goal, &mut numbers)
 }
 
-/// The text behind the first line, if that begins a trace.
-fn headed<'a>(text: &'a [u8], numbers: &mut Vec<u32>) -> Result<Option<&'a [u8]>, AllocError>
-    ensures lines { IfOk result (λ o. MatchOption o ((e : Claim) → IsStuck e Unread (lines_of text.now))
-        (λ t. lines_of text.now ≡ words (codes "TRACE") (1 ∷ []) ∷ lines_of t.now)) }
-    ensures shorter { IfOk result (λ o. IfSome o (λ t. length t.now < length text.now)) }
+/// The first line of a trace: its edition, and the text behind it.
+#[derive(Clone, Copy, Debug)]
+struct Head<'a> {
+    edition: u32,
+    text: &'a [u8],
+}
+
+/// The first line of a text, if that begins a trace.
+fn headed<'a>(text: &'a [u8], numbers: &mut Vec<u32>) -> Result<Option<Head<'a>>, AllocError>
+    ensures lines { IfOk result (λ o. MatchOption o ((e : Claim) → IsStuck e (edition_of (lines_of text.now)) Unread (lines_of text.now))
+        (λ h. lines_of text.now ≡ words (codes "TRACE") (h.edition ∷ []) ∷ lines_of h.text.now)) }
+    ensures edition { IfOk result (λ o. IfSome o (λ h. (h.edition ≡ 1) ⊎ (h.edition ≡ 2))) }
+    ensures shorter { IfOk result (λ o. IfSome o (λ h. length h.text.now < length text.now)) }
 {
     let Some((line, behind)) = first_line(text) else {
         return Ok(None);
@@ -103,21 +120,16 @@ fn headed<'a>(text: &'a [u8], numbers: &mut Vec<u32>) -> Result<Option<&'a [u8]>
     let Some(word) = read_words(line, numbers)? else {
         return Ok(None);
     };
-    if word == Word::Trace && is_one(numbers) {
-        Ok(Some(behind))
-    } else {
-        Ok(None)
+    known_small(numbers);
+    if word != Word::Trace {
+        return Ok(None);
     }
-}
-
-/// Whether some numbers are the number 1 alone.
-fn is_one(numbers: &[u32]) -> bool
-    ensures yes { result ≡ true → numbers.now ≡ 1 ∷ [] }
-    ensures no { result ≡ false → numbers.now ≡ 1 ∷ [] → ⊥ }
-{
-    match one(numbers) {
-        Some(number) => number == 1,
-        None => false,
+    match edition_from(numbers) {
+        Some(edition) => Ok(Some(Head {
+            edition,
+            text: behind,
+        })),
+        None => Ok(None),
     }
 }
 
@@ -131,6 +143,7 @@ struct Reached<'a> {
 /// Goes along the lines that rewrite.
 fn rewritten<'a>(
     alloc: Global,
+    edition: u32,
     start: Mark<'a>,
     state: &mut Passed,
     numbers: &mut Vec<u32>,
@@ -142,29 +155,33 @@ fn rewritten<'a>(
     ensures short { IfOk result (λ r. r.mark.line + length r.mark.text.now < 2 ^ 32) }
     ensures later { IfOk result (λ r. start.entry.line ≤ r.mark.line) }
     ensures place { IfOk result (λ r. r.placed ≡ true → (e : Claim) (trace : List ℕ) (n : ℕ) → e.wires ≡ state.old.body.wires →
-        Came e trace (reached state.old) (lines_of start.entry.text.now) n → start.entry.line ≡ n + 1 →
-        (m : ℕ) × (Came e trace (reached state.new) (words (codes "place") numbers.new.items ∷ lines_of r.mark.text.now) m
+        Came e edition trace (reached None state.old) (lines_of start.entry.text.now) n → start.entry.line ≡ n + 1 →
+        (m : ℕ) × (Came e edition trace (reached None state.new) (words (codes "place") numbers.new.items ∷ lines_of r.mark.text.now) m
         × (r.mark.line ≡ m + 2))) }
     ensures stops { IfOk result (λ r. r.placed ≡ false → (e : Claim) (trace : List ℕ) (n : ℕ) → e.wires ≡ state.old.body.wires →
-        Came e trace (reached state.old) (lines_of start.entry.text.now) n → start.entry.line ≡ n + 1 →
+        Came e edition trace (reached None state.old) (lines_of start.entry.text.now) n → start.entry.line ≡ n + 1 →
         StopsAt e trace r.mark.line) }
 {
     let mut mark = start;
+    let mut held = None;
     'lines: while let Some((line, text)) = first_line(mark.text) {
         let behind = Mark {
             text,
             line: mark.line + 1,
         };
-        let Some(word) = read_words(line, numbers)? else {
+        let Some(word) = read_line(line, edition, numbers)? else {
             break 'lines;
         };
         if word == Word::Place {
+            if held.is_some() {
+                break 'lines;
+            }
             return Ok(Reached {
                 placed: true,
                 mark: behind,
             });
         }
-        let Some(next) = changed(alloc, behind, state, word, numbers)? else {
+        let Some(next) = moved(alloc, behind, state, &mut held, word, numbers)? else {
             break 'lines;
         };
         mark = next;
@@ -175,6 +192,45 @@ fn rewritten<'a>(
     })
 }
 
+/// Does what a line before `place` says, and goes past the gates that are listed with it. None where it doesn't apply.
+fn moved<'a>(
+    alloc: Global,
+    mark: Mark<'a>,
+    state: &mut Passed,
+    held: &mut Option<Held>,
+    word: Word,
+    numbers: &mut Vec<u32>,
+) -> Result<Option<Mark<'a>>, AllocError>
+    requires on { word ≡ kind.Place → ⊥ }
+    requires turn { state.old.turn < 8 }
+    requires held { IsHeld state.old.body.wires held.old }
+    requires short { mark.line + length mark.text.now < 2 ^ 32 }
+    ensures wires { state.new.body.wires ≡ state.old.body.wires }
+    ensures turn { state.new.turn < 8 }
+    ensures held { IsHeld state.old.body.wires held.new }
+    ensures shorter { IfOk result (λ o. IfSome o (λ m. length m.text.now ≤ length mark.entry.text.now)) }
+    ensures short { IfOk result (λ o. IfSome o (λ m. m.line + length m.text.now ≤ mark.entry.line + length mark.entry.text.now)) }
+    ensures later { IfOk result (λ o. IfSome o (λ m. mark.entry.line ≤ m.line)) }
+    ensures counted { IfOk result (λ o. IfSome o
+        (λ m. m.line + length (lines_of m.text.now) ≡ mark.entry.line + length (lines_of mark.entry.text.now))) }
+    ensures step { IfOk result
+        (λ o. MatchOption o (Stands held.old state.old (words (spelling word) numbers.old.items ∷ lines_of mark.entry.text.now))
+        (λ m. Turns word held.old state.old held.new state.new (words (spelling word) numbers.old.items ∷ lines_of mark.entry.text.now)
+        (lines_of m.text.now))) }
+{
+    if word == Word::Goal {
+        return aim(alloc, mark, state, held, numbers);
+    }
+    if word == Word::Meet {
+        return if meet(state, held, numbers)? {
+            Ok(Some(mark))
+        } else {
+            Ok(None)
+        };
+    }
+    changed(alloc, mark, state, word, numbers)
+}
+
 /// Makes the step of a line behind which a walk is, and goes past the gates that are listed with it. None where it doesn't apply.
 fn changed<'a>(
     alloc: Global,
@@ -183,7 +239,9 @@ fn changed<'a>(
     word: Word,
     numbers: &mut Vec<u32>,
 ) -> Result<Option<Mark<'a>>, AllocError>
-    requires on { word ≡ kind.Place → ⊥ }
+    requires place { word ≡ kind.Place → ⊥ }
+    requires goal { word ≡ kind.Goal → ⊥ }
+    requires meet { word ≡ kind.Meet → ⊥ }
     requires turn { state.old.turn < 8 }
     requires short { mark.line + length mark.text.now < 2 ^ 32 }
     ensures wires { state.new.body.wires ≡ state.old.body.wires }
@@ -195,11 +253,14 @@ fn changed<'a>(
         (λ m. m.line + length (lines_of m.text.now) ≡ mark.entry.line + length (lines_of mark.entry.text.now))) }
     ensures step { IfOk result
         (λ o. MatchOption o (Blocked state.old (words (spelling word) numbers.old.items ∷ lines_of mark.entry.text.now))
-        (λ m. Leads state.old state.new (words (spelling word) numbers.old.items ∷ lines_of mark.entry.text.now)
+        (λ m. Leads word state.old state.new (words (spelling word) numbers.old.items ∷ lines_of mark.entry.text.now)
         (lines_of m.text.now))) }
 {
     if word == Word::Sums {
         return replaced(alloc, mark, state, numbers);
+    }
+    if word == Word::Part {
+        return replaced_part(alloc, mark, state, numbers);
     }
     if rewrites(state, word, numbers) {
         Ok(Some(mark))
@@ -211,12 +272,15 @@ fn changed<'a>(
 /// Makes the step of a line `rule`, `both` or `join`. False where it doesn't apply.
 fn rewrites(state: &mut Passed, word: Word, numbers: &[u32]) -> bool
     requires place { word ≡ kind.Place → ⊥ }
+    requires goal { word ≡ kind.Goal → ⊥ }
+    requires meet { word ≡ kind.Meet → ⊥ }
     requires sums { word ≡ kind.Sums → ⊥ }
+    requires part { word ≡ kind.Part → ⊥ }
     requires turn { state.old.turn < 8 }
     ensures wires { state.new.body.wires ≡ state.old.body.wires }
     ensures turn { state.new.turn < 8 }
     ensures applies { result ≡ true → (behind : List (List ℕ)) →
-        Leads state.old state.new (words (spelling word) numbers.now ∷ behind) behind }
+        Leads word state.old state.new (words (spelling word) numbers.now ∷ behind) behind }
     ensures not { result ≡ false → (behind : List (List ℕ)) → Blocked state.old (words (spelling word) numbers.now ∷ behind) }
 {
     let Some((first, second)) = two(numbers) else {
@@ -252,9 +316,13 @@ fn step(body: &mut Circuit, word: Word, first: u32, second: u32) -> Option<u8>
         }
         Word::Trace
         | Word::Sums
+        | Word::Part
+        | Word::Goal
+        | Word::Meet
         | Word::Place
         | Word::Emit
         | Word::Back
+        | Word::Elide
         | Word::Swap
         | Word::Turn
         | Word::End => None,
@@ -279,7 +347,7 @@ fn replaced<'a>(
         (λ m. m.line + length (lines_of m.text.now) ≡ mark.entry.line + length (lines_of mark.entry.text.now))) }
     ensures step { IfOk result
         (λ o. MatchOption o (Blocked state.old (words (codes "sums") numbers.old.items ∷ lines_of mark.entry.text.now))
-        (λ m. Leads state.old state.new (words (codes "sums") numbers.old.items ∷ lines_of mark.entry.text.now)
+        (λ m. Leads kind.Sums state.old state.new (words (codes "sums") numbers.old.items ∷ lines_of mark.entry.text.now)
         (lines_of m.text.now))) }
 {
     known_small(numbers);
@@ -313,12 +381,12 @@ fn placing(
 ) -> Result<Option<Routing>, AllocError>
     requires turn { state.turn < 8 }
     ensures fit { IfOk result (λ o. IfSome o (λ r. IsRouting r × (length r.now ≡ qubits) × (r.agreed ≡ Some 0))) }
-    ensures place { IfOk result (λ o. MatchOption o ((e : Claim) (behind : List (List ℕ)) → e.wires ≡ state.body.wires →
+    ensures place { IfOk result (λ o. MatchOption o ((e : Claim) (v : ℕ) (behind : List (List ℕ)) → e.wires ≡ state.body.wires →
         e.qubits ≡ qubits →
-        IsStuck e (reached state) (words (codes "place") numbers.now ∷ behind))
-        (λ r. (e : Claim) (trace : List ℕ) (behind : List (List ℕ)) (n : ℕ) → e.wires ≡ state.body.wires → e.qubits ≡ qubits →
-        Came e trace (reached state) (words (codes "place") numbers.now ∷ behind) n →
-        Came e trace (Routed (placed r [])) behind (n + 1))) }
+        IsStuck e v (reached None state) (words (codes "place") numbers.now ∷ behind))
+        (λ r. (e : Claim) (v : ℕ) (trace : List ℕ) (behind : List (List ℕ)) (n : ℕ) → e.wires ≡ state.body.wires → e.qubits ≡ qubits →
+        Came e v trace (reached None state) (words (codes "place") numbers.now ∷ behind) n →
+        Came e v trace (Routed (placed r [])) behind (n + 1))) }
 {
     if numbers.len() != qubits as usize || state.body.wires() > qubits {
         return Ok(None);

@@ -7,12 +7,16 @@
 #![tactic(auto)]
 
 mod checker;
+mod editions;
+mod elides;
 mod gates;
+mod goals;
 pub mod laws;
 mod mark;
 mod names;
 mod numbers;
 mod pairs;
+mod parts;
 mod routed;
 mod routing;
 mod sums;

@@ -9,8 +9,10 @@ ghost use Rattle.trace_check.specs.Proves.{Claim, Routed};
 ghost use Rattle.trace_check.specs.declared.words.Word.TheVariants as kind;
 
 use crate::checker::Outcome;
+use crate::editions::read_line;
+use crate::elides::elide;
 use crate::routing::{Routing, back, emit, swap, turn};
-use crate::words::{Word, one, read_words, two};
+use crate::words::{Word, one, two};
 use circuit_list::{Circuit, Passed};
 use std::alloc::{AllocError, Global};
 use trace_text::first_line;
@@ -38,6 +40,19 @@ fn backs(state: &mut Routing, goal: &Circuit, numbers: &[u32]) -> bool
 {
     match one(numbers) {
         Some(place) => back(state, goal, place as usize),
+        None => false,
+    }
+}
+
+/// The line `elide`. False where it doesn't apply.
+fn elides(state: &mut Routing, numbers: &[u32]) -> bool
+    requires { IsRouting state.old }
+    ensures kept { KeepsGoal state.old state.new }
+    ensures applies { result ≡ true → (goal : List Gate) → Moves goal kind.Elide numbers.now state.old state.new }
+    ensures not { result ≡ false → (written : List Gate) → Halts kind.Elide numbers.now (placed state.old written) }
+{
+    match one(numbers) {
+        Some(place) => elide(state, place as usize),
         None => false,
     }
 }
@@ -79,10 +94,19 @@ fn routes(state: &mut Routing, goal: &Circuit, word: Word, numbers: &[u32]) -> b
     match word {
         Word::Emit => emits(state, goal, numbers),
         Word::Back => backs(state, goal, numbers),
+        Word::Elide => elides(state, numbers),
         Word::Swap => swaps(state, goal, numbers),
         Word::Turn => turns(state, goal, numbers),
-        Word::Trace | Word::Rule | Word::Both | Word::Join | Word::Sums | Word::Place | Word::End =>
-            false,
+        Word::Trace
+        | Word::Rule
+        | Word::Both
+        | Word::Join
+        | Word::Sums
+        | Word::Part
+        | Word::Goal
+        | Word::Meet
+        | Word::Place
+        | Word::End => false,
     }
 }
 
@@ -126,6 +150,7 @@ fn ends(state: &Routing, goal: &Passed, numbers: &[u32]) -> bool
 /// Goes along the lines behind `place`, and tells what the trace says.
 pub(crate) fn routed(
     alloc: Global,
+    edition: u32,
     text: &[u8],
     line: u32,
     mut state: Routing,
@@ -136,13 +161,13 @@ pub(crate) fn routed(
     requires goal { goal.now.turn < 8 }
     requires lines { line + length text.now < 2 ^ 32 }
     ensures ok { IfOk result (λ o. (e : Claim) (trace : List ℕ) (n : ℕ) (written : List Gate) → e.qubits ≡ length state.now → Ends e goal.now →
-        IsWritten goal.now.body.gates state.agreed written → Came e trace (Routed (placed state written)) (lines_of text.now) n →
+        IsWritten goal.now.body.gates state.agreed written → Came e edition trace (Routed (placed state written)) (lines_of text.now) n →
         line ≡ n + 1 → IsOutcome e trace o) }
 {
     let mut number = line;
     let mut rest = text;
     'lines: while let Some((first, behind)) = first_line(rest) {
-        let Some(word) = read_words(first, numbers)? else {
+        let Some(word) = read_line(first, edition, numbers)? else {
             break 'lines;
         };
         if word == Word::End {

@@ -3,7 +3,7 @@
 ghost use Rattle.std.specs.Prelude.{◌≡◌, ℕ, ◌^◌, ◌<◌, ◌≤◌, ◌∷◌, List, [], IfOk, MatchOption, decimal, drop, length, nat_eq, not};
 ghost use Rattle.std.specs.List.{prefix_len};
 ghost use Rattle.rewrite_pass.specs.TraceLines.{words};
-ghost use Rattle.trace_check.specs.Spelling.{AreSmall, HasNoSpace, piece, piece_size, spelling};
+ghost use Rattle.trace_check.specs.Spelling.{AreSmall, HasNoSpace, IsWordIn, piece, piece_size, spelling};
 ghost use Rattle.trace_check.specs.declared.words.Word.{Word};
 
 use crate::numbers::number;
@@ -17,9 +17,13 @@ pub(crate) enum Word {
     Both,
     Join,
     Sums,
+    Part,
+    Goal,
+    Meet,
     Place,
     Emit,
     Back,
+    Elide,
     Swap,
     Turn,
     End,
@@ -61,6 +65,25 @@ fn word_of(bytes: &[u8]) -> Option<Word>
     }
     if bytes == b"TRACE".as_slice() {
         return Some(Word::Trace);
+    }
+    later_word_of(bytes)
+}
+
+/// The word that came with the second edition and that some bytes spell.
+fn later_word_of(bytes: &[u8]) -> Option<Word>
+    ensures { MatchOption result ((w : Word) → (IsWordIn 1 w → ⊥) → bytes.now ≡ spelling w → ⊥) (λ w. bytes.now ≡ spelling w) }
+{
+    if bytes == b"part".as_slice() {
+        return Some(Word::Part);
+    }
+    if bytes == b"goal".as_slice() {
+        return Some(Word::Goal);
+    }
+    if bytes == b"meet".as_slice() {
+        return Some(Word::Meet);
+    }
+    if bytes == b"elide".as_slice() {
+        return Some(Word::Elide);
     }
     None
 }
@@ -144,6 +167,17 @@ pub(crate) fn two(numbers: &[u32]) -> Option<(u32, u32)>
 {
     if numbers.len() == 2 {
         Some((numbers[0], numbers[1]))
+    } else {
+        None
+    }
+}
+
+/// The numbers of a list of three.
+pub(crate) fn three(numbers: &[u32]) -> Option<(u32, u32, u32)>
+    ensures found { MatchOption result ((i j k : ℕ) → numbers.now ≡ i ∷ j ∷ k ∷ [] → ⊥) (λ p. numbers.now ≡ p.0 ∷ p.1 ∷ p.2 ∷ []) }
+{
+    if numbers.len() == 3 {
+        Some((numbers[0], numbers[1], numbers[2]))
     } else {
         None
     }

@@ -12,10 +12,18 @@ returns-then-eq-clause-step c =
     let ks : List ℕ = c.args.numbers.now.items in
     let lines : List (List ℕ) = lines_of c.args.mark.text.now in
     let word : c.args.word ≡ kind.Sums = search rules in
-    subst (λ w. IfOk c.replaced.result (λ o. MatchOption o (Blocked c.args.state.now (words (spelling w) ks ∷ lines)) (λ (m : Mark). Leads c.args.state.now c.replaced.new.state (words (spelling w) ks ∷ lines) (lines_of m.text.now))))
+    subst (λ w. IfOk c.replaced.result (λ o. MatchOption o (Blocked c.args.state.now (words (spelling w) ks ∷ lines)) (λ (m : Mark). Leads w c.args.state.now c.replaced.new.state (words (spelling w) ks ∷ lines) (lines_of m.text.now))))
     (sym word) c.replaced.ensures.step
+
+pub returns-then-eq-2-clause-step : goal.returns-then-eq-2-clause-step
+returns-then-eq-2-clause-step c =
+    let ks : List ℕ = c.args.numbers.now.items in
+    let lines : List (List ℕ) = lines_of c.args.mark.text.now in
+    let word : c.args.word ≡ kind.Part = search rules in
+    subst (λ w. IfOk c.replaced_part.result (λ o. MatchOption o (Blocked c.args.state.now (words (spelling w) ks ∷ lines)) (λ (m : Mark). Leads w c.args.state.now c.replaced_part.new.state (words (spelling w) ks ∷ lines) (lines_of m.text.now))))
+    (sym word) c.replaced_part.ensures.step
 
 pub returns-then-rewrites-clause-step : goal.returns-then-rewrites-clause-step
 returns-then-rewrites-clause-step c =
     let lines : List (List ℕ) = lines_of c.args.mark.text.now in
-    subst (λ l. Leads c.args.state.now c.rewrites.new.state (words (spelling c.args.word) l ∷ lines) lines) c.deref.ensures.value (c.if-rewrites.ensures.applies refl lines)
+    subst (λ l. Leads c.args.word c.args.state.now c.rewrites.new.state (words (spelling c.args.word) l ∷ lines) lines) c.deref.ensures.value (c.if-rewrites.ensures.applies refl lines)

@@ -1,4 +1,4 @@
-use Rattle.std.proofs.Common.{◌≡◌, ◌∙◌, ℕ, ◌+◌, ◌-◌, List, [], ◌∷◌, arith, refl, subst, sym}
+use Rattle.std.proofs.Common.{◌≡◌, ◌∙◌, ℕ, ◌+◌, ◌-◌, List, [], ◌∷◌, None, arith, refl, subst, sym}
 use Rattle.std.specs.Prelude.{codes}
 use Rattle.circuit_list.specs.declared.Passed.{Passed}
 use Rattle.rewrite_pass.specs.TraceLines.{words}
@@ -18,9 +18,11 @@ returns-then-not-reached c = record {
       let e : Claim = claim c.args.source.now c.args.target.now in
       let trace : List ℕ = c.args.trace.now in
       let s : Passed = record { body = c.link.new.self; turn = c.in_ok-state.state.turn } in
-      let lines : lines_of trace ≡ words (codes "TRACE") (1 ∷ []) ∷ lines_of c.in-Some.text.now = some-of _ c.in_ok-text.field-0 c.in-Some.text _ c.in-Some.is c.in_ok-text.ensures.lines in
-      let came : Came e trace (reached s) (lines_of c.in-Some.text.now) 1 =
-      came-heading e trace s (lines_of c.in-Some.text.now) ((λ i. (c.link.ensures.same i).gates) ∙ c.in_ok-state.ensures.gates) c.in_ok-state.ensures.turn lines in
+      let v : ℕ = c.in-Some.head.edition in
+      let lines : lines_of trace ≡ words (codes "TRACE") (v ∷ []) ∷ lines_of c.in-Some.head.text.now = some-of _ c.in_ok-head.field-0 c.in-Some.head _ c.in-Some.is c.in_ok-head.ensures.lines in
+      let named = if-some c.in_ok-head.field-0 c.in-Some.head _ c.in-Some.is c.in_ok-head.ensures.edition in
+      let came : Came e v trace (reached None s) (lines_of c.in-Some.head.text.now) 1 =
+      came-heading e v trace s (lines_of c.in-Some.head.text.now) named ((λ i. (c.link.ensures.same i).gates) ∙ c.in_ok-state.ensures.gates) c.in_ok-state.ensures.turn lines in
       let wires : e.wires ≡ s.body.wires = sym ((λ i. (c.link.ensures.same i).wires) ∙ c.in_ok-state.ensures.wires) in
       c.in_ok-reached.ensures.stops c.if-not-reached.true e trace 1 wires came refl;
 }
@@ -33,17 +35,19 @@ returns-in_default-2 c = record {
       let s : Passed = record { body = c.link.new.self; turn = c.in_ok-state.state.turn } in
       let t : Passed = c.rewritten.new.state in
       let behind : List (List ℕ) = lines_of c.in_ok-reached.reached.mark.text.now in
-      let lines : lines_of trace ≡ words (codes "TRACE") (1 ∷ []) ∷ lines_of c.in-Some.text.now = some-of _ c.in_ok-text.field-0 c.in-Some.text _ c.in-Some.is c.in_ok-text.ensures.lines in
-      let came : Came e trace (reached s) (lines_of c.in-Some.text.now) 1 =
-      came-heading e trace s (lines_of c.in-Some.text.now) ((λ i. (c.link.ensures.same i).gates) ∙ c.in_ok-state.ensures.gates) c.in_ok-state.ensures.turn lines in
+      let v : ℕ = c.in-Some.head.edition in
+      let lines : lines_of trace ≡ words (codes "TRACE") (v ∷ []) ∷ lines_of c.in-Some.head.text.now = some-of _ c.in_ok-head.field-0 c.in-Some.head _ c.in-Some.is c.in_ok-head.ensures.lines in
+      let named = if-some c.in_ok-head.field-0 c.in-Some.head _ c.in-Some.is c.in_ok-head.ensures.edition in
+      let came : Came e v trace (reached None s) (lines_of c.in-Some.head.text.now) 1 =
+      came-heading e v trace s (lines_of c.in-Some.head.text.now) named ((λ i. (c.link.ensures.same i).gates) ∙ c.in_ok-state.ensures.gates) c.in_ok-state.ensures.turn lines in
       let wires : e.wires ≡ s.body.wires = sym ((λ i. (c.link.ensures.same i).wires) ∙ c.in_ok-state.ensures.wires) in
       let h = c.in_ok-reached.ensures.place c.if-not-reached.false e trace 1 wires came refl in
       let qubits : e.qubits ≡ c.wires.result = sym (c.wires.ensures.wires ∙ c.in_ok-goal.ensures.wires) in
       let none = none-of _ c.in_ok-routing.field-0 _ c.in_default-2.is c.in_ok-routing.ensures.place in
-      let stuck : IsStuck e (reached t) (words (codes "place") c.rewritten.new.numbers.items ∷ behind) =
-      subst (λ l. IsStuck e (reached t) (words (codes "place") l ∷ behind)) c.deref.ensures.value (none e behind (wires ∙ sym c.in_ok-reached.ensures.wires) qubits) in
+      let stuck : IsStuck e v (reached None t) (words (codes "place") c.rewritten.new.numbers.items ∷ behind) =
+      subst (λ l. IsStuck e v (reached None t) (words (codes "place") l ∷ behind)) c.deref.ensures.value (none e v behind (wires ∙ sym c.in_ok-reached.ensures.wires) qubits) in
       let line : h.0 + 1 ≡ c.in_ok-reached.reached.mark.line - 1 = omega (arith, h.1.1) in
-      subst (StopsAt e trace) line (came-stops e trace (reached t) (words (codes "place") c.rewritten.new.numbers.items ∷ behind) h.0 h.1.0 tt stuck);
+      subst (StopsAt e trace) line (came-stops e v trace (reached None t) (words (codes "place") c.rewritten.new.numbers.items ∷ behind) h.0 h.1.0 tt stuck);
 }
 
 pub returns : goal.returns
@@ -54,17 +58,19 @@ returns c = record {
       let s : Passed = record { body = c.link.new.self; turn = c.in_ok-state.state.turn } in
       let t : Passed = c.rewritten.new.state in
       let behind : List (List ℕ) = lines_of c.in_ok-reached.reached.mark.text.now in
-      let lines : lines_of trace ≡ words (codes "TRACE") (1 ∷ []) ∷ lines_of c.in-Some.text.now = some-of _ c.in_ok-text.field-0 c.in-Some.text _ c.in-Some.is c.in_ok-text.ensures.lines in
-      let came : Came e trace (reached s) (lines_of c.in-Some.text.now) 1 =
-      came-heading e trace s (lines_of c.in-Some.text.now) ((λ i. (c.link.ensures.same i).gates) ∙ c.in_ok-state.ensures.gates) c.in_ok-state.ensures.turn lines in
+      let v : ℕ = c.in-Some.head.edition in
+      let lines : lines_of trace ≡ words (codes "TRACE") (v ∷ []) ∷ lines_of c.in-Some.head.text.now = some-of _ c.in_ok-head.field-0 c.in-Some.head _ c.in-Some.is c.in_ok-head.ensures.lines in
+      let named = if-some c.in_ok-head.field-0 c.in-Some.head _ c.in-Some.is c.in_ok-head.ensures.edition in
+      let came : Came e v trace (reached None s) (lines_of c.in-Some.head.text.now) 1 =
+      came-heading e v trace s (lines_of c.in-Some.head.text.now) named ((λ i. (c.link.ensures.same i).gates) ∙ c.in_ok-state.ensures.gates) c.in_ok-state.ensures.turn lines in
       let wires : e.wires ≡ s.body.wires = sym ((λ i. (c.link.ensures.same i).wires) ∙ c.in_ok-state.ensures.wires) in
       let h = c.in_ok-reached.ensures.place c.if-not-reached.false e trace 1 wires came refl in
       let qubits : e.qubits ≡ c.wires.result = sym (c.wires.ensures.wires ∙ c.in_ok-goal.ensures.wires) in
       let fit = if-some c.in_ok-routing.field-0 c.in-Some-2.routing _ c.in-Some-2.is c.in_ok-routing.ensures.fit in
       let place = some-of _ c.in_ok-routing.field-0 c.in-Some-2.routing _ c.in-Some-2.is c.in_ok-routing.ensures.place in
       let ends : Ends e c.in_ok-goal.goal = record { gates = sym c.in_ok-goal.ensures.gates; turn = sym c.in_ok-goal.ensures.turn } in
-      let before : Came e trace (reached t) (words (codes "place") c.deref.result.now ∷ behind) h.0 = subst (λ l. Came e trace (reached t) (words (codes "place") l ∷ behind) h.0) (sym c.deref.ensures.value) h.1.0 in
-      let after = place e trace behind h.0 (wires ∙ sym c.in_ok-reached.ensures.wires) qubits before in
+      let before : Came e v trace (reached None t) (words (codes "place") c.deref.result.now ∷ behind) h.0 = subst (λ l. Came e v trace (reached None t) (words (codes "place") l ∷ behind) h.0) (sym c.deref.ensures.value) h.1.0 in
+      let after = place e v trace behind h.0 (wires ∙ sym c.in_ok-reached.ensures.wires) qubits before in
       let line : c.in_ok-reached.reached.mark.line ≡ h.0 + 1 + 1 = omega (arith, h.1.1) in
       let start : IsWritten c.in_ok-goal.goal.body.gates c.in-Some-2.routing.agreed [] = subst (λ k. IsWritten c.in_ok-goal.goal.body.gates k []) (sym fit.2) (omega arith, refl) in
       IfOk-map c.routed.result _ (IsOutcome e trace) c.routed.ensures.ok (λ o p. p e trace (h.0 + 1) [] (qubits ∙ sym fit.1) ends start after line);

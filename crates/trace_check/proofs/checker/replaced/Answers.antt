@@ -6,6 +6,7 @@ use Rattle.rewrite_pass.specs.TraceLines.{words}
 use Rattle.trace_text.specs.Texts.{lines_of}
 use Rattle.trace_check.specs.Progress.{Leads}
 use Rattle.trace_check.specs.Spelling.{AreSmall}
+use Rattle.trace_check.specs.declared.words.Word.TheVariants as word
 use Rattle.trace_check.proofs.StepLaws.{blocked-sums, no-count, no-gates, no-sum, sums-leads}
 use Rattle.trace_check.proofs.WordLaws.{none-of, some-of}
 use Rattle.trace_check.proofs.checker.replaced.Goals as goal
@@ -53,6 +54,6 @@ returns-clause-step c =
     let wires : c.in-Some-2.listed.body.wires ≡ s.body.wires = h.0 ∙ c.wires.ensures.wires in
     let fine : All (IsFine s.body.wires) c.in-Some-2.listed.body.gates = subst (λ n. All (IsFine n) c.in-Some-2.listed.body.gates) wires c.facts-2.ensures.fine in
     let same = some-of _ c.in_ok-turn.field-0 c.in-Some-3.turn _ c.in-Some-3.is c.in_ok-turn.ensures.same in
-    subst (λ b. Leads s (record { body = b; turn = c.turn_sum-state.result }) (words (codes "sums") ks ∷ lines) behind) (sym c.link.ensures.same)
+    subst (λ b. Leads word.Sums s (record { body = b; turn = c.turn_sum-state.result }) (words (codes "sums") ks ∷ lines) behind) (sym c.link.ensures.same)
     (sums-leads ks c.in-Some.count s (record { body = c.in-Some-2.listed.body; turn = c.turn_sum-state.result }) c.in-Some-3.turn lines behind small count c.facts.ensures.wires_limit fine h.1.0 h.1.1 same.0 same.1
     c.turn_sum-state.ensures.sum)

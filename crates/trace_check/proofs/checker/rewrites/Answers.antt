@@ -6,7 +6,7 @@ use Rattle.trace_check.proofs.checker.rewrites.Goals as goal
 pub returns-in_default-clause-not : goal.returns-in_default-clause-not
 returns-in_default-clause-not c = λ n behind.
     let ks : List ℕ = c.args.numbers.now in
-    blocked-step c.args.word ks c.args.state.now behind (numbers-small ks c.type_inv.numbers) c.requires.place c.requires.sums (no-numbers c.args.word ks c.args.state.now c.in_default.ensures.found)
+    blocked-step c.args.word ks c.args.state.now behind (numbers-small ks c.type_inv.numbers) (record { place = c.requires.place; goal = c.requires.goal; meet = c.requires.meet }) c.requires.sums c.requires.part (no-numbers c.args.word ks c.args.state.now c.in_default.ensures.found)
 
 pub returns-in-Some-step-clause-applies : goal.returns-in-Some-step-clause-applies
 returns-in-Some-step-clause-applies c = λ y behind.
@@ -18,5 +18,5 @@ returns-in-Some-step-clause-applies c = λ y behind.
 pub returns-in-None-clause-not : goal.returns-in-None-clause-not
 returns-in-None-clause-not c = λ n behind.
     let ks : List ℕ = c.args.numbers.now in
-    blocked-step c.args.word ks c.args.state.now behind (numbers-small ks c.type_inv.numbers) c.requires.place c.requires.sums
+    blocked-step c.args.word ks c.args.state.now behind (numbers-small ks c.type_inv.numbers) (record { place = c.requires.place; goal = c.requires.goal; meet = c.requires.meet }) c.requires.sums c.requires.part
     (no-change c.args.word ks c.in-Some.first c.in-Some.second c.args.state.now c.in-Some.ensures.found c.in-None.ensures.step)

@@ -11,8 +11,8 @@ invariant-lines l = record {
   qubits : length l.state.now ≡ length l.fn.state.now;
   few : l.number + length l.rest < 2 ^ 32;
   came : (e : Claim) (trace : List ℕ) (n : ℕ) (old : List Gate) → e.qubits ≡ length l.fn.state.now → Ends e l.goal → IsWritten l.goal.body.gates l.fn.state.agreed old →
-      Came e trace (Routed (placed l.fn.state old)) (lines_of l.fn.text) n → l.fn.line ≡ n + 1 →
-      (m : ℕ) × ((written : List Gate) × (IsWritten l.goal.body.gates l.state.agreed written × (Came e trace (Routed (placed l.state written)) (lines_of l.rest) m × (l.number ≡ m + 1))));
+      Came e l.fn.edition trace (Routed (placed l.fn.state old)) (lines_of l.fn.text) n → l.fn.line ≡ n + 1 →
+      (m : ℕ) × ((written : List Gate) × (IsWritten l.goal.body.gates l.state.agreed written × (Came e l.fn.edition trace (Routed (placed l.state written)) (lines_of l.rest) m × (l.number ≡ m + 1))));
 }
 
 abbrev pub decreases-lines : goal.decreases-lines

@@ -8,6 +8,9 @@ returns-in-Emit-clause-applies c = subst (λ w. c.emits.result ≡ true → Move
 pub returns-in-Back-clause-applies : goal.returns-in-Back-clause-applies
 returns-in-Back-clause-applies c = subst (λ w. c.backs.result ≡ true → Moves c.args.goal.now.gates w c.args.numbers.now c.args.state.now c.backs.new.state) (sym c.in-Back.is) c.backs.ensures.applies
 
+pub returns-in-Elide-clause-applies : goal.returns-in-Elide-clause-applies
+returns-in-Elide-clause-applies c = λ y. subst (λ w. Moves c.args.goal.now.gates w c.args.numbers.now c.args.state.now c.elides.new.state) (sym c.in-Elide.is) (c.elides.ensures.applies y c.args.goal.now.gates)
+
 pub returns-in-Swap-clause-applies : goal.returns-in-Swap-clause-applies
 returns-in-Swap-clause-applies c = subst (λ w. c.swaps.result ≡ true → Moves c.args.goal.now.gates w c.args.numbers.now c.args.state.now c.swaps.new.state) (sym c.in-Swap.is) c.swaps.ensures.applies
 
