@@ -1,4 +1,5 @@
--- Working form. The wires of a list, which is its own or one that copies have too.
+-- Working form.
+--     wires_in h    the wires of a list, which is its own or one that copies have too
 use Rattle.std.specs.Prelude.{ℕ, List}
 use Rattle.route_report.specs.declared.wires.Held.{Held}
 use Rattle.route_report.specs.declared.wires.Held.TheVariants.{Own, Shared}

@@ -1,4 +1,5 @@
--- Working form. A report as an object, but for the placements between its parts.
+-- Working form.
+--     unplaced_data r    a report as an object, but for the placements between its parts
 use Rattle.std.specs.Prelude.{codes}
 use Rattle.serde_json.specs.Data.{Data, member, object}
 use Rattle.route_report.specs.declared.lines.Report.{Report}

@@ -23,7 +23,6 @@ pub mod StepLaws
 pub mod EditLaws
 pub mod RuleLaws
 pub mod PartLaws
-pub mod EditionLaws
 pub mod Examples
 pub mod ElideLaws
 pub mod BackLaws

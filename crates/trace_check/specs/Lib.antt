@@ -10,4 +10,3 @@ pub mod Elides
 pub mod Names
 pub mod Sums
 pub mod RuleWindows
-pub mod Before
