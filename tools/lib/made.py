@@ -71,7 +71,7 @@ def by_room(columns, cells, rooms):
 
 
 def crates():
-    """What each crate stands on, and what it is."""
+    """What each crate of the product stands on, and what it is."""
     below = sources.crates()
 
     def cells(crate):
@@ -79,7 +79,7 @@ def crates():
         listed = [f"`{it}`" + (" (in tests)" if it in tests else "") for it in below[crate]]
         return ", ".join(listed), cell(sources.crate_sentence(crate))
 
-    return by_room(["crate", "stands on", "what it is"], cells, sources.rooms())
+    return by_room(["crate", "stands on", "what it is"], cells, sources.product())
 
 
 def written_cells(text):

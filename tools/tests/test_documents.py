@@ -215,11 +215,9 @@ class Documents(ToolTest):
                 "| **the rest** | | |",
                 "| `qroute_top` | `low`, `outside_io` | The top call, `run`, of two lines |",
                 "| `qroute` | `qroute_top` | The program |",
-                "| **tests** | | |",
-                "| `low_tests` | `low` | Tests of `low` |",
             ],
         )
-        # what is written by hand stays with its crate, and crates of tests have no row
+        # what is written by hand stays with its crate; crates of tests have no row in either
         rows = [line for line in self.text("README.md").splitlines() if line.startswith("|")]
         self.assertEqual(rows[2:4], ["| **the ground** | | |", "| `low` | `two_is_even`: `even` | that `IsEven` is so |"])
         self.assertEqual(rows[-1], "| `qroute` | it returns | |")

@@ -20,7 +20,7 @@ use Rattle.rewrite_pass.specs.TraceLines.{gate_line, gate_numbers, words}
 use Rattle.trace_check.specs.declared.goals.Held.{Held}
 use Rattle.trace_check.specs.declared.words.Word.TheVariants as word
 use Rattle.trace_check.specs.Lines.{Line, Rewrite, Part, Goal, Meet, Place, IsSmall}
-use Rattle.trace_check.specs.Progress.{Stands, Turns, reached}
+use Rattle.trace_check.specs.Progress.{BlockedWith, LeadsOn, reached}
 use Rattle.trace_check.specs.Proves.{Applies, Claim, Rewritten, Seeking, State}
 use Rattle.trace_check.specs.Spelling.{AreSmall}
 use Rattle.trace_check.proofs.GateLaws.{fine-small}
@@ -30,7 +30,7 @@ use Rattle.trace_check.proofs.SpellingLaws.{first_numbers, line_gates}
 -- ---- the line `goal`
 pub goal-turns : (ks : List ℕ) (count : ℕ) (s t : Passed) (h : Held) (lines behind : List (List ℕ)) → AreSmall ks → ks ≡ count ∷ [] → s.body.wires ≤ most_wires → All (IsFine s.body.wires) t.body.gates →
     length t.body.gates ≡ count → lines ≡ map gate_line t.body.gates ++ behind → h.body.gates ≡ s.body.gates → h.turn ≡ s.turn → h.goal.gates ≡ t.body.gates → t.turn ≡ 0 →
-    Turns word.Goal None s (Some h) t (words (codes "goal") ks ∷ lines) behind
+    LeadsOn word.Goal None s (Some h) t (words (codes "goal") ks ∷ lines) behind
 goal-turns ks count s t h lines behind small is few fine long all a b c d = λ e v i q. (
   Goal t.body.gates,
   (
@@ -72,7 +72,7 @@ no_goal e (Some h) ks s lines rest new q none (Part i j gs) hl kind is left a = 
 no_goal e (Some h) ks s lines rest new q none Meet hl kind is left a = absurd (cc)
 no_goal e (Some h) ks s lines rest new q none _ hl kind is left a = a
 
-pub stands-goal : (h : Option Held) (ks : List ℕ) (s : Passed) (lines : List (List ℕ)) → AreSmall ks → NoGoal h ks s lines → Stands h s (words (codes "goal") ks ∷ lines)
+pub stands-goal : (h : Option Held) (ks : List ℕ) (s : Passed) (lines : List (List ℕ)) → AreSmall ks → NoGoal h ks s lines → BlockedWith h s (words (codes "goal") ks ∷ lines)
 stands-goal h ks s lines small none = λ e v q.
     stuck-numbers e v (reached h s) word.Goal ks lines small (λ l rest new hl kind is left a. no_goal e h ks s lines rest new q none l hl.0 kind is left a)
 
@@ -93,7 +93,7 @@ no-goal_gates h ks count s lines e none = λ gs rest n is fine small left. let l
 
 -- ---- the line `meet`
 pub meet-turns : (ks : List ℕ) (s t : Passed) (h : Held) (behind : List (List ℕ)) → ks ≡ [] → s.body.gates ≡ h.body.gates → t.body.gates ≡ h.goal.gates → t.turn ≡ (h.turn + (8 - s.turn)) % 8 →
-    Turns word.Meet (Some h) s None t (words (codes "meet") ks ∷ behind) behind
+    LeadsOn word.Meet (Some h) s None t (words (codes "meet") ks ∷ behind) behind
 meet-turns ks s t h behind is met goal turn = λ e v i q. (
   Meet,
   ((All-from_recursion (λ k. k < 2 ^ 32) [] tt, i), ((λ z. words (codes "meet") (is z) ∷ behind), record { met = met; after = (λ z. Rewritten (goal z) (turn z)) })),
@@ -120,7 +120,7 @@ no_meet e None ks s rest new none (Goal gs) kind is a = absurd (cc)
 no_meet e None ks s rest new none (Place p) kind is a = absurd (cc)
 no_meet e None ks s rest new none _ kind is a = a
 
-pub stands-meet : (o : Option Held) (ks : List ℕ) (s : Passed) (behind : List (List ℕ)) → AreSmall ks → NoMeet o ks s → Stands o s (words (codes "meet") ks ∷ behind)
+pub stands-meet : (o : Option Held) (ks : List ℕ) (s : Passed) (behind : List (List ℕ)) → AreSmall ks → NoMeet o ks s → BlockedWith o s (words (codes "meet") ks ∷ behind)
 stands-meet o ks s behind small none = λ e v q. stuck-numbers e v (reached o s) word.Meet ks behind small (λ l rest new hl kind is left a. no_meet e o ks s rest new none l kind is a)
 
 -- ---- for the code

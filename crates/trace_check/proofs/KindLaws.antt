@@ -13,7 +13,7 @@ use Rattle.rewrite_pass.specs.Traces.{Rule, Both, Join, Sums}
 use Rattle.rewrite_pass.specs.TraceLines.{gate_line, words}
 use Rattle.trace_check.specs.declared.words.Word.{Word}
 use Rattle.trace_check.specs.declared.words.Word.TheVariants as word
-use Rattle.trace_check.specs.Lines.{Line, Heading, Rewrite, Part, Goal, Meet, Place, Emit, Back, Elide, Swap, Turn, End, IsIn, IsLine, IsSmall, numbers_of, spelt}
+use Rattle.trace_check.specs.Lines.{Line, Heading, Rewrite, Part, Goal, Meet, Place, Emit, Back, Elide, Swap, Turn, End, IsIn, IsLineIn, IsSmall, numbers_of, spelt}
 use Rattle.trace_check.specs.Proves.{Applies, Claim, IsStuck, State}
 use Rattle.trace_check.specs.Spelling.{AreSmall, HasNoSpace, IsWordIn, spelling}
 use Rattle.trace_check.proofs.SpellingLaws.{first-small, first-spelt, first_numbers, line-plain, line_from, line-read, line_gates, line_word, same_bytes, words-unique}
@@ -145,7 +145,7 @@ stuck-line e v s w ks behind small none l rest new is hl a =
     none l rest new f.kind f.read f.left a
 
 pub stuck-numbers : (e : Claim) (v : ℕ) (s : State) (w : Word) (ks : List ℕ) (behind : List (List ℕ)) → AreSmall ks →
-    ((l : Line) (rest : List (List ℕ)) (new : State) → IsLine v l → kind_of l ≡ w → ks ≡ first_numbers l → behind ≡ map gate_line (line_gates l) ++ rest → Applies e s l rest new → ⊥) →
+    ((l : Line) (rest : List (List ℕ)) (new : State) → IsLineIn v l → kind_of l ≡ w → ks ≡ first_numbers l → behind ≡ map gate_line (line_gates l) ++ rest → Applies e s l rest new → ⊥) →
     IsStuck e v s (words (spelling w) ks ∷ behind)
 stuck-numbers e v s w ks behind small none l rest new is hl a =
     let f = first_same w ks behind rest l small hl.0 is in

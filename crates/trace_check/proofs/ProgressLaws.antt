@@ -7,7 +7,7 @@
 --     stuck-unread        the first line that is left is no word with numbers
 use Rattle.std.proofs.Common.{◌≡◌, ℕ, ◌+◌, List, [], ◌∷◌, ◌++◌, length, refl, sym, subst, ◌∙◌, ap, append_assoc, append-nil}
 use Rattle.std.proofs.lemmas.List.{length-append}
-use Rattle.trace_check.specs.Lines.{IsLine, Line, all_spelt, edition_of, spelt}
+use Rattle.trace_check.specs.Lines.{IsLineIn, Line, all_spelt, edition_of, spelt}
 use Rattle.trace_text.specs.Texts.{lines_of}
 use Rattle.trace_check.specs.Proves.{Applies, Claim, IsOpen, IsStuck, Proved, Proves, Runs, State, StopsAt, Unread}
 use Rattle.trace_check.specs.Progress.{Came}
@@ -27,7 +27,7 @@ runs-append e v s m (l ∷ ls) ms behind u a b =
 pub came-start : (e : Claim) (v : ℕ) (trace : List ℕ) → edition_of (lines_of trace) ≡ v → Came e v trace Unread (lines_of trace) 0
 came-start e v trace edition = record { edition = edition; done = []; text = refl; run = refl; count = refl }
 
-pub came-more : (e : Claim) (v : ℕ) (trace : List ℕ) (s u : State) (l : Line) (rest : List (List ℕ)) (n : ℕ) → Came e v trace s (spelt l ++ rest) n → IsLine v l → Applies e s l rest u →
+pub came-more : (e : Claim) (v : ℕ) (trace : List ℕ) (s u : State) (l : Line) (rest : List (List ℕ)) (n : ℕ) → Came e v trace s (spelt l ++ rest) n → IsLineIn v l → Applies e s l rest u →
     Came e v trace u rest (n + length (spelt l))
 came-more e v trace s u l rest n c small a = record {
   edition = c.edition;

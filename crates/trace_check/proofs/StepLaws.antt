@@ -32,9 +32,9 @@ use Rattle.rewrite_pass.specs.TraceLines.{gate_line, gate_numbers, words}
 use Rattle.trace_check.specs.declared.goals.Held.{Held}
 use Rattle.trace_check.specs.declared.words.Word.{Word}
 use Rattle.trace_check.specs.declared.words.Word.TheVariants as word
-use Rattle.trace_check.specs.Lines.{Line, Heading, Rewrite, Part, Goal, Meet, Place, IsIn, IsLine, IsSmall, edition_of, numbers_of, spelt}
+use Rattle.trace_check.specs.Lines.{Line, Heading, Rewrite, Part, Goal, Meet, Place, IsIn, IsLineIn, IsSmall, edition_of, numbers_of, spelt}
 use Rattle.trace_text.specs.Texts.{lines_of}
-use Rattle.trace_check.specs.Progress.{Blocked, Came, Leads, Stands, Turns, reached, step_of}
+use Rattle.trace_check.specs.Progress.{Blocked, Came, Leads, BlockedWith, LeadsOn, reached, step_of}
 use Rattle.trace_check.specs.Proves.{Applies, Changes, Claim, IsOpen, IsStuck, Placed, Rewritten, Routed, Seeking, State, StopsAt, Unread}
 use Rattle.unitary_model.specs.Placement.{IsPlacement}
 use Rattle.trace_check.specs.Spelling.{AreSmall, IsWordIn, spelling}
@@ -270,7 +270,7 @@ none_held e h s rest new (Part i j gs) kind a = absurd (cc)
 none_held e h s rest new Meet kind a = absurd (cc)
 none_held e h s rest new _ kind a = a
 
-pub stuck-held : (o : Option Held) (s : Passed) (ks : List ℕ) (behind : List (List ℕ)) → is_some o ≡ true → AreSmall ks → Stands o s (words (codes "place") ks ∷ behind)
+pub stuck-held : (o : Option Held) (s : Passed) (ks : List ℕ) (behind : List (List ℕ)) → is_some o ≡ true → AreSmall ks → BlockedWith o s (words (codes "place") ks ∷ behind)
 stuck-held None s ks behind held small = absurd (cc)
 stuck-held (Some h) s ks behind held small = λ e v q. stuck-numbers e v (reached (Some h) s) word.Place ks behind small (λ l rest new hl kind is left a. none_held e h s rest new l kind a)
 
@@ -281,7 +281,7 @@ came-place e v trace s p ks behind n small fits placement first now rest written
 
 -- ---- line by line
 pub came-turns : (e : Claim) (v : ℕ) (trace : List ℕ) (w : Word) (h : Option Held) (s : Passed) (g : Option Held) (t : Passed) (lines behind : List (List ℕ)) (n from to : ℕ) → IsWordIn v w → e.wires ≡ s.body.wires →
-    Turns w h s g t lines behind → Came e v trace (reached h s) lines n → from ≡ n + 1 → to + length behind ≡ from + length lines → (m : ℕ) × (Came e v trace (reached g t) behind m × (to ≡ m + 1))
+    LeadsOn w h s g t lines behind → Came e v trace (reached h s) lines n → from ≡ n + 1 → to + length behind ≡ from + length lines → (m : ℕ) × (Came e v trace (reached g t) behind m × (to ≡ m + 1))
 came-turns e v trace w h s g t lines behind n from to i q turns c at counted =
     let r = turns e v i q in
     let first : Came e v trace (reached h s) (spelt r.0 ++ behind) n = subst (λ x. Came e v trace (reached h s) x n) r.1.1.0 c in

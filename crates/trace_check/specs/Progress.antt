@@ -1,6 +1,6 @@
 -- Working form.
 -- How far a checker has come along a trace.
---     IsWritten goal k w      the gates w were appended: the first k of the target's where k is a number, and none of the target's
+--     IsAppended goal k w      the gates w were appended: the first k of the target's where k is a number, and none of the target's
 --                             beginnings where it is None
 --     Grows goal j gates k    so it is with these gates more
 --     placed s w              what the lines behind `place` work on, where the gates w were appended
@@ -13,11 +13,11 @@
 --     Halts w ks s            no such line applies
 --     step_of w i j           the step of a line of the word w and the numbers i and j
 --     reached h s             gates that are rewritten, with their turn, where h is what a `goal` holds, if there is one
---     IsHeld n h              what is held is on n wires, and its turn is below 8
---     Turns w h s g t ls behind       where edition v has the word w, the first of the lines ls apply, and lead from s, with h held, to t,
+--     IsHeldFit n h              what is held is on n wires, and its turn is below 8
+--     LeadsOn w h s g t ls behind       where edition v has the word w, the first of the lines ls apply, and lead from s, with h held, to t,
 --                             with g held, and the lines `behind` are left
 --     Leads w s t ls behind   so it is, and what is held stays
---     Stands h s ls           no line applies that the first of the lines ls spell, where h is held;  Blocked s ls: whatever is held
+--     BlockedWith h s ls           no line applies that the first of the lines ls spell, where h is held;  Blocked s ls: whatever is held
 --     Ends e goal             the gates and the turn of the target are those
 use Rattle.std.specs.Prelude.{◌≡◌, ℕ, ◌<◌, ◌≤◌, List, [], ◌∷◌, ◌++◌, Option, Some, None, length, take}
 use Rattle.circuit_list.specs.declared.Gate.{Gate}
@@ -25,7 +25,7 @@ use Rattle.circuit_list.specs.declared.Passed.{Passed}
 use Rattle.gate_expand.specs.Expansion.{expanded, turn_of}
 use Rattle.rewrite_pass.specs.Traces.{Step, Rule, Both, Join}
 use Rattle.rewrite_pass.specs.TraceLines.{words}
-use Rattle.trace_check.specs.Lines.{IsLine, Line, all_spelt, edition_of, spelt}
+use Rattle.trace_check.specs.Lines.{IsLineIn, Line, all_spelt, edition_of, spelt}
 use Rattle.trace_text.specs.Texts.{lines_of}
 use Rattle.trace_check.specs.Proves.{Applies, Claim, IsStuck, Placed, Rewritten, Routed, Runs, Seeking, State, Unread}
 use Rattle.trace_check.specs.Spelling.{IsWordIn, spelling}
@@ -34,12 +34,12 @@ use Rattle.trace_check.specs.declared.words.Word.{Word}
 use Rattle.trace_check.specs.declared.words.Word.TheVariants as word
 use Rattle.trace_check.specs.declared.routing.Routing.{Routing}
 
-abbrev pub IsWritten : List Gate → Option ℕ → List Gate → Type 0
-IsWritten goal None written = (more : List Gate) → written ++ more ≡ goal → ⊥
-IsWritten goal (Some k) written = (k ≤ length goal) × (written ≡ take k goal)
+abbrev pub IsAppended : List Gate → Option ℕ → List Gate → Type 0
+IsAppended goal None written = (more : List Gate) → written ++ more ≡ goal → ⊥
+IsAppended goal (Some k) written = (k ≤ length goal) × (written ≡ take k goal)
 
 abbrev pub Grows : List Gate → Option ℕ → List Gate → Option ℕ → Type 0
-Grows goal old gates new = (written : List Gate) → IsWritten goal old written → IsWritten goal new (written ++ gates)
+Grows goal old gates new = (written : List Gate) → IsAppended goal old written → IsAppended goal new (written ++ gates)
 
 abbrev pub placed : Routing → List Gate → Placed
 placed s written = record { first = s.first.items; now = s.now; rest = s.rest.gates; written = written; turn = s.turn }
@@ -62,11 +62,11 @@ pub record KeepsGoal (s t : Routing) : Type 0 where
 
 abbrev pub Goes : Word → List ℕ → Placed → Placed → Type 0
 Goes w ks s t = (e : Claim) (v : ℕ) (behind : List (List ℕ)) → IsWordIn v w → e.qubits ≡ length s.now →
-    (l : Line) × (IsLine v l × ((spelt l ≡ words (spelling w) ks ∷ []) × Applies e (Routed s) l behind (Routed t)))
+    (l : Line) × (IsLineIn v l × ((spelt l ≡ words (spelling w) ks ∷ []) × Applies e (Routed s) l behind (Routed t)))
 
 abbrev pub Moves : List Gate → Word → List ℕ → Routing → Routing → Type 0
-Moves goal w ks s t = (old : List Gate) → IsWritten goal s.agreed old →
-    (new : List Gate) × (IsWritten goal t.agreed new × Goes w ks (placed s old) (placed t new))
+Moves goal w ks s t = (old : List Gate) → IsAppended goal s.agreed old →
+    (new : List Gate) × (IsAppended goal t.agreed new × Goes w ks (placed s old) (placed t new))
 
 abbrev pub Halts : Word → List ℕ → Placed → Type 0
 Halts w ks s = (e : Claim) (v : ℕ) (behind : List (List ℕ)) → e.qubits ≡ length s.now → IsStuck e v (Routed s) (words (spelling w) ks ∷ behind)
@@ -81,22 +81,22 @@ abbrev pub reached : Option Held → Passed → State
 reached None s = Rewritten s.body.gates s.turn
 reached (Some h) s = Seeking (record { held = h.body.gates; turn = h.turn; goal = h.goal.gates; gates = s.body.gates; since = s.turn })
 
-abbrev pub IsHeld : ℕ → Option Held → Type 0
-IsHeld n None = Unit {0}
-IsHeld n (Some h) = (h.body.wires ≡ n) × (h.goal.wires ≡ n) × (h.turn < 8)
+abbrev pub IsHeldFit : ℕ → Option Held → Type 0
+IsHeldFit n None = Unit {0}
+IsHeldFit n (Some h) = (h.body.wires ≡ n) × (h.goal.wires ≡ n) × (h.turn < 8)
 
-abbrev pub Turns : Word → Option Held → Passed → Option Held → Passed → List (List ℕ) → List (List ℕ) → Type 0
-Turns w h s g t ls behind = (e : Claim) (v : ℕ) → IsWordIn v w → e.wires ≡ s.body.wires →
-    (l : Line) × (IsLine v l × ((ls ≡ spelt l ++ behind) × Applies e (reached h s) l behind (reached g t)))
+abbrev pub LeadsOn : Word → Option Held → Passed → Option Held → Passed → List (List ℕ) → List (List ℕ) → Type 0
+LeadsOn w h s g t ls behind = (e : Claim) (v : ℕ) → IsWordIn v w → e.wires ≡ s.body.wires →
+    (l : Line) × (IsLineIn v l × ((ls ≡ spelt l ++ behind) × Applies e (reached h s) l behind (reached g t)))
 
 abbrev pub Leads : Word → Passed → Passed → List (List ℕ) → List (List ℕ) → Type 0
-Leads w s t ls behind = (h : Option Held) → Turns w h s h t ls behind
+Leads w s t ls behind = (h : Option Held) → LeadsOn w h s h t ls behind
 
-abbrev pub Stands : Option Held → Passed → List (List ℕ) → Type 0
-Stands h s ls = (e : Claim) (v : ℕ) → e.wires ≡ s.body.wires → IsStuck e v (reached h s) ls
+abbrev pub BlockedWith : Option Held → Passed → List (List ℕ) → Type 0
+BlockedWith h s ls = (e : Claim) (v : ℕ) → e.wires ≡ s.body.wires → IsStuck e v (reached h s) ls
 
 abbrev pub Blocked : Passed → List (List ℕ) → Type 0
-Blocked s ls = (h : Option Held) → Stands h s ls
+Blocked s ls = (h : Option Held) → BlockedWith h s ls
 
 pub record Ends (e : Claim) (goal : Passed) : Type 0 where
   pub gates : expanded e.target ≡ goal.body.gates

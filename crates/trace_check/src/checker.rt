@@ -30,7 +30,7 @@ ghost use Rattle.rewrite_pass.specs.Traces.{IsStep, Step};
 ghost use Rattle.trace_text.specs.Texts.{lines_of};
 ghost use Rattle.trace_check.specs.Outcomes.{IsOutcome, claim};
 ghost use Rattle.trace_check.specs.Lines.{edition_of};
-ghost use Rattle.trace_check.specs.Progress.{Blocked, Came, IsHeld, IsRouting, Leads, Stands, Turns, placed, reached, step_of};
+ghost use Rattle.trace_check.specs.Progress.{Blocked, Came, IsHeldFit, IsRouting, Leads, BlockedWith, LeadsOn, placed, reached, step_of};
 ghost use Rattle.trace_check.specs.Proves.{Claim, IsStuck, Routed, StopsAt, Unread};
 ghost use Rattle.trace_check.specs.Spelling.{spelling};
 ghost use Rattle.trace_check.specs.declared.words.Word.TheVariants as kind;
@@ -203,19 +203,19 @@ fn moved<'a>(
 ) -> Result<Option<Mark<'a>>, AllocError>
     requires on { word ≡ kind.Place → ⊥ }
     requires turn { state.old.turn < 8 }
-    requires held { IsHeld state.old.body.wires held.old }
+    requires held { IsHeldFit state.old.body.wires held.old }
     requires short { mark.line + length mark.text.now < 2 ^ 32 }
     ensures wires { state.new.body.wires ≡ state.old.body.wires }
     ensures turn { state.new.turn < 8 }
-    ensures held { IsHeld state.old.body.wires held.new }
+    ensures held { IsHeldFit state.old.body.wires held.new }
     ensures shorter { IfOk result (λ o. IfSome o (λ m. length m.text.now ≤ length mark.entry.text.now)) }
     ensures short { IfOk result (λ o. IfSome o (λ m. m.line + length m.text.now ≤ mark.entry.line + length mark.entry.text.now)) }
     ensures later { IfOk result (λ o. IfSome o (λ m. mark.entry.line ≤ m.line)) }
     ensures counted { IfOk result (λ o. IfSome o
         (λ m. m.line + length (lines_of m.text.now) ≡ mark.entry.line + length (lines_of mark.entry.text.now))) }
     ensures step { IfOk result
-        (λ o. MatchOption o (Stands held.old state.old (words (spelling word) numbers.old.items ∷ lines_of mark.entry.text.now))
-        (λ m. Turns word held.old state.old held.new state.new (words (spelling word) numbers.old.items ∷ lines_of mark.entry.text.now)
+        (λ o. MatchOption o (BlockedWith held.old state.old (words (spelling word) numbers.old.items ∷ lines_of mark.entry.text.now))
+        (λ m. LeadsOn word held.old state.old held.new state.new (words (spelling word) numbers.old.items ∷ lines_of mark.entry.text.now)
         (lines_of m.text.now))) }
 {
     if word == Word::Goal {

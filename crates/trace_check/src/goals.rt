@@ -3,7 +3,7 @@
 ghost use Rattle.std.specs.Prelude.{◌≡◌, ℕ, ◌+◌, ◌^◌, ◌<◌, ◌≤◌, ◌∷◌, List, IfOk, IfSome, MatchOption, None, Some, codes, false, length, take, true};
 ghost use Rattle.rewrite_pass.specs.TraceLines.{words};
 ghost use Rattle.trace_text.specs.Texts.{lines_of};
-ghost use Rattle.trace_check.specs.Progress.{IsHeld, Stands, Turns};
+ghost use Rattle.trace_check.specs.Progress.{IsHeldFit, BlockedWith, LeadsOn};
 ghost use Rattle.trace_check.specs.declared.words.Word.TheVariants as kind;
 
 use crate::gates::read_gates;
@@ -33,19 +33,19 @@ pub(crate) fn aim<'a>(
     numbers: &mut Vec<u32>,
 ) -> Result<Option<Mark<'a>>, AllocError>
     requires turn { state.old.turn < 8 }
-    requires held { IsHeld state.old.body.wires held.old }
+    requires held { IsHeldFit state.old.body.wires held.old }
     requires short { mark.line + length mark.text.now < 2 ^ 32 }
     ensures wires { state.new.body.wires ≡ state.old.body.wires }
     ensures turn { state.new.turn < 8 }
-    ensures held { IsHeld state.old.body.wires held.new }
+    ensures held { IsHeldFit state.old.body.wires held.new }
     ensures shorter { IfOk result (λ o. IfSome o (λ m. length m.text.now ≤ length mark.entry.text.now)) }
     ensures short { IfOk result (λ o. IfSome o (λ m. m.line + length m.text.now ≤ mark.entry.line + length mark.entry.text.now)) }
     ensures later { IfOk result (λ o. IfSome o (λ m. mark.entry.line ≤ m.line)) }
     ensures counted { IfOk result (λ o. IfSome o
         (λ m. m.line + length (lines_of m.text.now) ≡ mark.entry.line + length (lines_of mark.entry.text.now))) }
     ensures step { IfOk result
-        (λ o. MatchOption o (Stands held.old state.old (words (codes "goal") numbers.old.items ∷ lines_of mark.entry.text.now))
-        (λ m. Turns kind.Goal held.old state.old held.new state.new
+        (λ o. MatchOption o (BlockedWith held.old state.old (words (codes "goal") numbers.old.items ∷ lines_of mark.entry.text.now))
+        (λ m. LeadsOn kind.Goal held.old state.old held.new state.new
         (words (codes "goal") numbers.old.items ∷ lines_of mark.entry.text.now) (lines_of m.text.now))) }
 {
     known_small(numbers);
@@ -98,14 +98,14 @@ pub(crate) fn meet(
     numbers: &[u32],
 ) -> Result<bool, AllocError>
     requires turn { state.old.turn < 8 }
-    requires held { IsHeld state.old.body.wires held.old }
+    requires held { IsHeldFit state.old.body.wires held.old }
     ensures wires { state.new.body.wires ≡ state.old.body.wires }
     ensures turn { state.new.turn < 8 }
-    ensures held { IsHeld state.old.body.wires held.new }
+    ensures held { IsHeldFit state.old.body.wires held.new }
     ensures met { IfOk result (λ b. b ≡ true → (behind : List (List ℕ)) →
-        Turns kind.Meet held.old state.old held.new state.new (words (codes "meet") numbers.now ∷ behind) behind) }
+        LeadsOn kind.Meet held.old state.old held.new state.new (words (codes "meet") numbers.now ∷ behind) behind) }
     ensures not { IfOk result (λ b. b ≡ false → (behind : List (List ℕ)) →
-        Stands held.old state.old (words (codes "meet") numbers.now ∷ behind)) }
+        BlockedWith held.old state.old (words (codes "meet") numbers.now ∷ behind)) }
 {
     if !numbers.is_empty() {
         return Ok(false);

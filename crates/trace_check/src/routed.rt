@@ -4,7 +4,7 @@ ghost use Rattle.std.specs.Prelude.{◌≡◌, ℕ, ◌+◌, ◌-◌, ◌%◌, �
 ghost use Rattle.circuit_list.specs.declared.Gate.{Gate};
 ghost use Rattle.trace_text.specs.Texts.{lines_of};
 ghost use Rattle.trace_check.specs.Outcomes.{IsOutcome};
-ghost use Rattle.trace_check.specs.Progress.{Came, Ends, Halts, KeepsGoal, IsRouting, IsWritten, Moves, placed};
+ghost use Rattle.trace_check.specs.Progress.{Came, Ends, Halts, KeepsGoal, IsRouting, IsAppended, Moves, placed};
 ghost use Rattle.trace_check.specs.Proves.{Claim, Routed};
 ghost use Rattle.trace_check.specs.declared.words.Word.TheVariants as kind;
 
@@ -161,7 +161,7 @@ pub(crate) fn routed(
     requires goal { goal.now.turn < 8 }
     requires lines { line + length text.now < 2 ^ 32 }
     ensures ok { IfOk result (λ o. (e : Claim) (trace : List ℕ) (n : ℕ) (written : List Gate) → e.qubits ≡ length state.now → Ends e goal.now →
-        IsWritten goal.now.body.gates state.agreed written → Came e edition trace (Routed (placed state written)) (lines_of text.now) n →
+        IsAppended goal.now.body.gates state.agreed written → Came e edition trace (Routed (placed state written)) (lines_of text.now) n →
         line ≡ n + 1 → IsOutcome e trace o) }
 {
     let mut number = line;

@@ -185,7 +185,7 @@ fn surrounded_at(body: &Circuit, place: usize, q: u32) -> Option<Around>
     })
 }
 
-/// Turns such a CNOT round, and takes the four H away.
+/// LeadsOn such a CNOT round, and takes the four H away.
 fn turn_around(body: &mut Circuit, place: usize, q: u32) -> bool
     requires first { At body.old.gates place (Gate.H q) }
     ensures wires { body.new.wires ≡ body.old.wires }

@@ -4,7 +4,7 @@ use Rattle.circuit_list.specs.declared.Passed.{Passed}
 use Rattle.rewrite_pass.specs.TraceLines.{words}
 use Rattle.trace_text.specs.Texts.{lines_of}
 use Rattle.trace_check.specs.Outcomes.{IsOutcome, claim}
-use Rattle.trace_check.specs.Progress.{Came, Ends, IsWritten, reached}
+use Rattle.trace_check.specs.Progress.{Came, Ends, IsAppended, reached}
 use Rattle.trace_check.specs.Proves.{Claim, IsStuck, StopsAt}
 use Rattle.trace_check.proofs.ProgressLaws.{came-stops}
 use Rattle.trace_check.proofs.RoutedLaws.{IfOk-map}
@@ -72,6 +72,6 @@ returns c = record {
       let before : Came e v trace (reached None t) (words (codes "place") c.deref.result.now ∷ behind) h.0 = subst (λ l. Came e v trace (reached None t) (words (codes "place") l ∷ behind) h.0) (sym c.deref.ensures.value) h.1.0 in
       let after = place e v trace behind h.0 (wires ∙ sym c.in_ok-reached.ensures.wires) qubits before in
       let line : c.in_ok-reached.reached.mark.line ≡ h.0 + 1 + 1 = omega (arith, h.1.1) in
-      let start : IsWritten c.in_ok-goal.goal.body.gates c.in-Some-2.routing.agreed [] = subst (λ k. IsWritten c.in_ok-goal.goal.body.gates k []) (sym fit.2) (omega arith, refl) in
+      let start : IsAppended c.in_ok-goal.goal.body.gates c.in-Some-2.routing.agreed [] = subst (λ k. IsAppended c.in_ok-goal.goal.body.gates k []) (sym fit.2) (omega arith, refl) in
       IfOk-map c.routed.result _ (IsOutcome e trace) c.routed.ensures.ok (λ o p. p e trace (h.0 + 1) [] (qubits ∙ sym fit.1) ends start after line);
 }

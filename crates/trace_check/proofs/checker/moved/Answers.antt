@@ -1,7 +1,7 @@
 use Rattle.std.proofs.Common.{◌≡◌, ℕ, List, ◌∷◌, IfOk, MatchOption, refl, rules, subst, sym}
 use Rattle.rewrite_pass.specs.TraceLines.{words}
 use Rattle.trace_text.specs.Texts.{lines_of}
-use Rattle.trace_check.specs.Progress.{Stands, Turns}
+use Rattle.trace_check.specs.Progress.{BlockedWith, LeadsOn}
 use Rattle.trace_check.specs.Spelling.{spelling}
 use Rattle.trace_check.specs.declared.mark.Mark.{Mark}
 use Rattle.trace_check.specs.declared.words.Word.TheVariants as kind
@@ -12,5 +12,5 @@ returns-then-eq-clause-step c =
     let ks : List ℕ = c.args.numbers.now.items in
     let lines : List (List ℕ) = lines_of c.args.mark.text.now in
     let word : c.args.word ≡ kind.Goal = search rules in
-    subst (λ w. IfOk c.aim.result (λ o. MatchOption o (Stands c.args.held.now c.args.state.now (words (spelling w) ks ∷ lines)) (λ (m : Mark). Turns w c.args.held.now c.args.state.now c.aim.new.held c.aim.new.state (words (spelling w) ks ∷ lines) (lines_of m.text.now))))
+    subst (λ w. IfOk c.aim.result (λ o. MatchOption o (BlockedWith c.args.held.now c.args.state.now (words (spelling w) ks ∷ lines)) (λ (m : Mark). LeadsOn w c.args.held.now c.args.state.now c.aim.new.held c.aim.new.state (words (spelling w) ks ∷ lines) (lines_of m.text.now))))
     (sym word) c.aim.ensures.step

@@ -3,7 +3,7 @@ use Rattle.std.specs.Prelude.{codes}
 use Rattle.circuit_list.specs.declared.Passed.{Passed}
 use Rattle.rewrite_pass.specs.TraceLines.{words}
 use Rattle.trace_text.specs.Texts.{lines_of}
-use Rattle.trace_check.specs.Progress.{Came, IsHeld, Stands, Turns, reached}
+use Rattle.trace_check.specs.Progress.{Came, IsHeldFit, BlockedWith, LeadsOn, reached}
 use Rattle.trace_check.specs.Proves.{IsStuck}
 use Rattle.trace_check.specs.Spelling.{AreSmall, spelling}
 use Rattle.trace_check.specs.declared.goals.Held.{Held}
@@ -39,7 +39,7 @@ lines-preserved c =
     let read = some-of _ c.in_ok-word.field-0 c.in-Some-2.word _ c.in-Some-2.is c.in_ok-word.ensures.ok in
     let lines : lines_of c.lines.mark.text.now ≡ words (spelling c.in-Some-2.word) ks ∷ lines_of c.in-Some.text.now = c.in-Some.ensures.lines ∙ ap (λ l. l ∷ lines_of c.in-Some.text.now) read.1 in
     let step = some-of _ c.in_ok-next.field-0 m _ c.in-Some-3.is c.in_ok-next.ensures.step in
-    let turns : Turns c.in-Some-2.word old s new t (lines_of c.lines.mark.text.now) (lines_of m.text.now) = subst (λ x. Turns c.in-Some-2.word old s new t x (lines_of m.text.now)) (sym lines) step in
+    let turns : LeadsOn c.in-Some-2.word old s new t (lines_of c.lines.mark.text.now) (lines_of m.text.now) = subst (λ x. LeadsOn c.in-Some-2.word old s new t x (lines_of m.text.now)) (sym lines) step in
     let short = if-some c.in_ok-next.field-0 m _ c.in-Some-3.is c.in_ok-next.ensures.short in
     let later = if-some c.in_ok-next.field-0 m _ c.in-Some-3.is c.in_ok-next.ensures.later in
     let counted = if-some c.in_ok-next.field-0 m _ c.in-Some-3.is c.in_ok-next.ensures.counted in
@@ -49,7 +49,7 @@ lines-preserved c =
       turn = c.in_ok-next.ensures.turn;
       short = omega (arith, short, c.in-Some.ensures.shorter, c.lines.invariant.short);
       later = omega (arith, later, c.lines.invariant.later);
-      held = subst (λ n. IsHeld n new) (sym c.in_ok-next.ensures.wires) c.in_ok-next.ensures.held;
+      held = subst (λ n. IsHeldFit n new) (sym c.in_ok-next.ensures.wires) c.in_ok-next.ensures.held;
       came = λ e trace n q k is.
           let h = c.lines.invariant.came e trace n q k is in
           came-turns e c.args.edition trace c.in-Some-2.word old s new t (lines_of c.lines.mark.text.now) (lines_of m.text.now) h.0 c.lines.mark.line m.line read.0 (q ∙ sym c.lines.invariant.wires) turns h.1.0 h.1.1 all;
@@ -79,7 +79,7 @@ returns-clause-stops c = λ y e trace n q k is.
           let ks : List ℕ = w.read_line.new.numbers.items in
           let first : w.in-Some.line.now ≡ words (spelling w.in-Some-2.word) ks = (some-of _ w.in_ok-word.field-0 w.in-Some-2.word _ w.in-Some-2.is w.in_ok-word.ensures.ok).1 in
           let lines : lines_of c.lines.mark.text.now ≡ words (spelling w.in-Some-2.word) ks ∷ lines_of w.in-Some.text.now = w.in-Some.ensures.lines ∙ ap (λ l. l ∷ lines_of w.in-Some.text.now) first in
-          let stands : Stands old s (words (spelling w.in-Some-2.word) ks ∷ lines_of w.in-Some.text.now) = none-of _ w.in_ok-next.field-0 _ w.in_default-3.is w.in_ok-next.ensures.step in
+          let stands : BlockedWith old s (words (spelling w.in-Some-2.word) ks ∷ lines_of w.in-Some.text.now) = none-of _ w.in_ok-next.field-0 _ w.in_default-3.is w.in_ok-next.ensures.step in
           subst (IsStuck e v (reached old s)) (sym lines) (stands e v wires)
       | in_default w ↦ subst (IsStuck e v (reached old s)) (sym w.in_default.ensures.lines) (stuck-nothing e v (reached old s))
     ])

@@ -5,7 +5,7 @@ use Rattle.circuit_list.specs.Gates.{IsFine}
 use Rattle.circuit_list.specs.declared.Passed.{Passed}
 use Rattle.rewrite_pass.specs.TraceLines.{words}
 use Rattle.trace_text.specs.Texts.{lines_of}
-use Rattle.trace_check.specs.Progress.{Turns}
+use Rattle.trace_check.specs.Progress.{LeadsOn}
 use Rattle.trace_check.specs.declared.goals.Held.{Held}
 use Rattle.trace_check.specs.declared.words.Word.TheVariants as kind
 use Rattle.trace_check.specs.Spelling.{AreSmall}
@@ -52,7 +52,7 @@ returns-clause-step c =
     let fine : All (IsFine s.body.wires) gates = subst (λ n. All (IsFine n) gates) wires c.facts-2.ensures.fine in
     let held : Held = record { body = c.replace.result; turn = s.turn; goal = c.in_ok-goal.goal } in
     let none : c.args.held.now ≡ None = none-held c.args.held.now (sym c.is_some.ensures ∙ c.if-is_some.false) in
-    subst (λ o. Turns kind.Goal o s (Some held) (record { body = c.replace.new.dest; turn = 0 }) given behind) (sym none)
-    (subst (λ b. Turns kind.Goal None s (Some held) (record { body = b; turn = 0 }) given behind) (sym (c.replace.ensures.after ∙ c.link.ensures.same))
+    subst (λ o. LeadsOn kind.Goal o s (Some held) (record { body = c.replace.new.dest; turn = 0 }) given behind) (sym none)
+    (subst (λ b. LeadsOn kind.Goal None s (Some held) (record { body = b; turn = 0 }) given behind) (sym (c.replace.ensures.after ∙ c.link.ensures.same))
     (goal-turns ks c.in-Some.count s (record { body = c.in-Some-2.listed.body; turn = 0 }) held lines behind small count c.facts.ensures.wires_limit fine h.1.0 h.1.1 (λ i. (c.replace.ensures.value i).gates) refl
     (λ i. (c.in_ok-goal.ensures.ok i).gates) refl))

@@ -2,7 +2,7 @@ use Rattle.std.proofs.Common.{◌≡◌, ◌∙◌, ◌+◌, ◌-◌, ◌%◌, �
 use Rattle.std.specs.Prelude.{codes}
 use Rattle.circuit_list.specs.declared.Passed.{Passed}
 use Rattle.rewrite_pass.specs.TraceLines.{words}
-use Rattle.trace_check.specs.Progress.{Turns}
+use Rattle.trace_check.specs.Progress.{LeadsOn}
 use Rattle.trace_check.specs.declared.goals.Held.{Held}
 use Rattle.trace_check.specs.declared.words.Word.TheVariants as kind
 use Rattle.trace_check.proofs.GoalLaws.{meet-turns, no_numbers, stands-meet}
@@ -25,6 +25,6 @@ returns-clause-met c = λ y behind.
     let held : c.args.held.now ≡ Some old = sym c.take.ensures.value ∙ c.in-Some.is in
     let empty : ks ≡ [] = no_numbers c.is_empty.result ks c.is_empty.ensures c.if-not-is_empty.false in
     let turn : c.turn_sum-state.result ≡ (old.turn + (8 - s.turn)) % 8 = omega (arith, c.turn_sum-state.ensures.sum) in
-    subst (λ o. Turns kind.Meet o s c.take.new.self t (words (codes "meet") ks ∷ behind) behind) (sym held)
-    (subst (λ o. Turns kind.Meet (Some old) s o t (words (codes "meet") ks ∷ behind) behind) (sym c.take.ensures.after)
+    subst (λ o. LeadsOn kind.Meet o s c.take.new.self t (words (codes "meet") ks ∷ behind) behind) (sym held)
+    (subst (λ o. LeadsOn kind.Meet (Some old) s o t (words (codes "meet") ks ∷ behind) behind) (sym c.take.ensures.after)
     (meet-turns ks s t old behind empty (c.same_gates.ensures.yes c.if-not-same_gates.false) (λ i. (c.link.ensures.same i).gates) turn))
