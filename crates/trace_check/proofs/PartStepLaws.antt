@@ -1,8 +1,8 @@
 -- The line `part`.
 --     part-leads          a line `part` that applies
 --     NoPart, blocked-part            one that doesn't;  no-three, no-order, no-part_gates, no-part_sum: why
---     part_of-front, part_of-back     the gates before a place, and those from a place on
---     part_of-more        one gate more
+--     slice_of-front, slice_of-back     the gates before a place, and those from a place on
+--     slice_of-more        one gate more
 --     put-start, put-more     gates are written over those from a place on, one by one
 --     cut-start, cut-more     gates are taken out from a place on
 --     cut-put             both
@@ -26,7 +26,7 @@ use Rattle.rewrite_pass.proofs.ListLaws.{take-next}
 use Rattle.trace_check.specs.declared.words.Word.TheVariants as word
 use Rattle.trace_check.specs.Lines.{Line, Rewrite, Part, IsSmall}
 use Rattle.trace_check.specs.Progress.{Blocked, Leads, reached}
-use Rattle.trace_check.specs.Proves.{part_of}
+use Rattle.trace_check.specs.Proves.{slice_of}
 use Rattle.trace_check.specs.Spelling.{AreSmall}
 use Rattle.trace_check.proofs.GateLaws.{fine-small}
 use Rattle.trace_check.proofs.KindLaws.{kind_of, stuck-numbers}
@@ -34,8 +34,8 @@ use Rattle.trace_check.proofs.SpellingLaws.{first_numbers, gates-unique, line_ga
 use Rattle.trace_check.proofs.StepLaws.{Changed, IsRewriting, changed-by, leads-by}
 
 pub part-leads : (ks : List ℕ) (i j count : ℕ) (gates : List Gate) (s t : Passed) (turn : ℕ) (lines behind : List (List ℕ)) → AreSmall ks → ks ≡ i ∷ j ∷ count ∷ [] → s.body.wires ≤ most_wires →
-    All (IsFine s.body.wires) gates → length gates ≡ count → lines ≡ map gate_line gates ++ behind → i ≤ j → j ≤ length s.body.gates → SamePathSum s.body.wires (part_of s.body.gates i j) gates →
-    turn ≡ constants_turn s.body.wires (part_of s.body.gates i j) gates → t.body.gates ≡ take i s.body.gates ++ (gates ++ drop j s.body.gates) → t.turn ≡ (s.turn + turn) % 8 →
+    All (IsFine s.body.wires) gates → length gates ≡ count → lines ≡ map gate_line gates ++ behind → i ≤ j → j ≤ length s.body.gates → SamePathSum s.body.wires (slice_of s.body.gates i j) gates →
+    turn ≡ constants_turn s.body.wires (slice_of s.body.gates i j) gates → t.body.gates ≡ take i s.body.gates ++ (gates ++ drop j s.body.gates) → t.turn ≡ (s.turn + turn) % 8 →
     Leads word.Part s t (words (codes "part") ks ∷ lines) behind
 part-leads ks i j count gates s t turn lines behind small is few fine long all ordered within same constants becomes sum =
     leads-by word.Part s t (Part i j gates) turn (words (codes "part") ks ∷ lines) behind refl
@@ -51,7 +51,7 @@ part-leads ks i j count gates s t turn lines behind small is few fine long all o
 -- no gates are listed that have the path sum of the part
 abbrev pub NoPart : List ℕ → Passed → List (List ℕ) → Type 0
 NoPart ks s lines = (i j : ℕ) (gs : List Gate) (rest : List (List ℕ)) → ks ≡ i ∷ j ∷ length gs ∷ [] → i ≤ j → j ≤ length s.body.gates → All (IsFine s.body.wires) gs → AreSmall (flat_map gate_numbers gs) →
-    lines ≡ map gate_line gs ++ rest → SamePathSum s.body.wires (part_of s.body.gates i j) gs → ⊥
+    lines ≡ map gate_line gs ++ rest → SamePathSum s.body.wires (slice_of s.body.gates i j) gs → ⊥
 
 not_part : (p : Step) → kind_of (Rewrite p) ≡ word.Part → ⊥
 not_part (Rule k i) e = cc
@@ -63,7 +63,7 @@ no_part : (n : ℕ) (ks : List ℕ) (s : Passed) (lines rest : List (List ℕ)) 
     lines ≡ map gate_line (line_gates l) ++ rest → Changed n s.body.gates l → ⊥
 no_part n ks s lines rest q none (Part i j gs) hl kind is left c =
     let small = recursion_from_All (λ k. k < 2 ^ 32) (i ∷ j ∷ length gs ∷ flat_map gate_numbers gs) hl in
-    none i j gs rest is c.step.ordered c.step.within (subst (λ m. All (IsFine m) gs) q c.step.fine) small.1.1.1 left (subst (λ m. SamePathSum m (part_of s.body.gates i j) gs) q c.step.same)
+    none i j gs rest is c.step.ordered c.step.within (subst (λ m. All (IsFine m) gs) q c.step.fine) small.1.1.1 left (subst (λ m. SamePathSum m (slice_of s.body.gates i j) gs) q c.step.same)
 no_part n ks s lines rest q none (Rewrite p) hl kind is left c = not_part p kind
 no_part n ks s lines rest q none _ hl kind is left c = c.step
 
@@ -99,30 +99,30 @@ no-part_gates ks i j count s lines e none = λ a b gs rest is ordered within fin
     none gs rest t.third fine small left
 
 pub no-part_sum : (ks : List ℕ) (i j count : ℕ) (s : Passed) (lines behind : List (List ℕ)) (hs : List Gate) → ks ≡ i ∷ j ∷ count ∷ [] → s.body.wires ≤ most_wires → All (IsFine s.body.wires) hs → length hs ≡ count →
-    lines ≡ map gate_line hs ++ behind → (SamePathSum s.body.wires (part_of s.body.gates i j) hs → ⊥) → NoPart ks s lines
+    lines ≡ map gate_line hs ++ behind → (SamePathSum s.body.wires (slice_of s.body.gates i j) hs → ⊥) → NoPart ks s lines
 no-part_sum ks i j count s lines behind hs e few fine long all none = λ a b gs rest is ordered within fg small left same.
     let t = threes ks a b (length gs) i j count is e in
     let u = gates-unique gs hs rest behind small (fine-small s.body.wires few hs (recursion_from_All (IsFine s.body.wires) hs fine)) (t.third ∙ sym long) (sym left ∙ all) in
-    none (subst (λ x. SamePathSum s.body.wires (part_of s.body.gates i j) x) u.gates (subst (λ m. SamePathSum s.body.wires (part_of s.body.gates m j) gs) t.first (subst (λ m. SamePathSum s.body.wires (part_of s.body.gates a m) gs) t.second same)))
+    none (subst (λ x. SamePathSum s.body.wires (slice_of s.body.gates i j) x) u.gates (subst (λ m. SamePathSum s.body.wires (slice_of s.body.gates m j) gs) t.first (subst (λ m. SamePathSum s.body.wires (slice_of s.body.gates a m) gs) t.second same)))
 
 -- ---- parts
-pub part_of-front : (gs : List Gate) (i : ℕ) → part_of gs 0 i ≡ take i gs
-part_of-front gs i = ap (λ n. take n gs) (less i)
+pub slice_of-front : (gs : List Gate) (i : ℕ) → slice_of gs 0 i ≡ take i gs
+slice_of-front gs i = ap (λ n. take n gs) (less i)
   where
     less : (i : ℕ) → i - 0 ≡ i
     less i = omega arith
 
-pub part_of-none : (gs : List Gate) (i : ℕ) → part_of gs i i ≡ []
-part_of-none gs i = ap (λ n. take n (drop i gs)) (less i)
+pub slice_of-none : (gs : List Gate) (i : ℕ) → slice_of gs i i ≡ []
+slice_of-none gs i = ap (λ n. take n (drop i gs)) (less i)
   where
     less : (i : ℕ) → i - i ≡ 0
     less i = omega arith
 
-pub part_of-back : (gs : List Gate) (i : ℕ) → part_of gs i (length gs) ≡ drop i gs
-part_of-back gs i = take_all (length gs - i) (drop i gs) (omega (arith, length-drop i gs))
+pub slice_of-back : (gs : List Gate) (i : ℕ) → slice_of gs i (length gs) ≡ drop i gs
+slice_of-back gs i = take_all (length gs - i) (drop i gs) (omega (arith, length-drop i gs))
 
-pub part_of-more : (gs : List Gate) (i k : ℕ) (g : Gate) → i ≤ k → slice_get gs k ≡ Some g → part_of gs i (k + 1) ≡ part_of gs i k ++ g ∷ []
-part_of-more gs i k g le there =
+pub slice_of-more : (gs : List Gate) (i k : ℕ) (g : Gate) → i ≤ k → slice_get gs k ≡ Some g → slice_of gs i (k + 1) ≡ slice_of gs i k ++ g ∷ []
+slice_of-more gs i k g le there =
     ap (λ n. take n (drop i gs)) (more i k le)
     ∙ take_more (drop i gs) (k - i) g (omega (arith, le, length-drop i gs, slice_get_within gs k g there))
     ∙ ap (λ h. take (k - i) (drop i gs) ++ h ∷ []) (get_or-drop i gs (k - i) g ∙ ap (λ m. get_or gs m g) (around i k le) ∙ get_or_from_slice_get gs k g g there)

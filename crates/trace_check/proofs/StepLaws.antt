@@ -34,7 +34,7 @@ use Rattle.trace_check.specs.declared.words.Word.{Word}
 use Rattle.trace_check.specs.declared.words.Word.TheVariants as word
 use Rattle.trace_check.specs.Lines.{Line, Heading, Rewrite, Part, Goal, Meet, Place, IsIn, IsLineIn, IsSmall, edition_of, numbers_of, spelt}
 use Rattle.trace_text.specs.Texts.{lines_of}
-use Rattle.trace_check.specs.Progress.{Blocked, Came, Leads, BlockedWith, LeadsOn, reached, step_of}
+use Rattle.trace_check.specs.Progress.{Blocked, Came, Leads, BlockedWith, LeadsOn, reached, step_named}
 use Rattle.trace_check.specs.Proves.{Applies, Changes, Claim, IsOpen, IsStuck, Placed, Rewritten, Routed, Seeking, State, StopsAt, Unread}
 use Rattle.unitary_model.specs.Placement.{IsPlacement}
 use Rattle.trace_check.specs.Spelling.{AreSmall, IsWordIn, spelling}
@@ -96,47 +96,47 @@ leads-by w s t l turn lines behind kind small is c sum = λ h e v i q.
     (l, ((small, line_in s.body.wires v s.body.gates t.body.gates turn l c (subst (IsWordIn v) (sym kind) i)), (is, changes-applies e h s t l turn behind d sum)))
 
 -- ---- steps with two numbers
-step-kind : (w : Word) (i j : ℕ) (p : Step) → step_of w i j ≡ Some p → kind_of (Rewrite p) ≡ w
+step-kind : (w : Word) (i j : ℕ) (p : Step) → step_named w i j ≡ Some p → kind_of (Rewrite p) ≡ w
 step-kind word.Rule i j p e = ap (λ q. kind_of (Rewrite q)) (sym (same_Some (Rule i j) p e))
 step-kind word.Both i j p e = ap (λ q. kind_of (Rewrite q)) (sym (same_Some (Both i j) p e))
 step-kind word.Join i j p e = ap (λ q. kind_of (Rewrite q)) (sym (same_Some (Join i j) p e))
 step-kind _ i j p e = absurd (cc)
 
-pub step-spelt : (w : Word) (i j : ℕ) (p : Step) → step_of w i j ≡ Some p → spelt (Rewrite p) ≡ words (spelling w) (i ∷ j ∷ []) ∷ []
+pub step-spelt : (w : Word) (i j : ℕ) (p : Step) → step_named w i j ≡ Some p → spelt (Rewrite p) ≡ words (spelling w) (i ∷ j ∷ []) ∷ []
 step-spelt word.Rule i j p e = ap (λ q. spelt (Rewrite q)) (sym (same_Some (Rule i j) p e))
 step-spelt word.Both i j p e = ap (λ q. spelt (Rewrite q)) (sym (same_Some (Both i j) p e))
 step-spelt word.Join i j p e = ap (λ q. spelt (Rewrite q)) (sym (same_Some (Join i j) p e))
 step-spelt _ i j p e = absurd (cc)
 
-pub step-numbers : (w : Word) (i j : ℕ) (p : Step) → step_of w i j ≡ Some p → i ∷ j ∷ [] ≡ numbers_of (Rewrite p)
+pub step-numbers : (w : Word) (i j : ℕ) (p : Step) → step_named w i j ≡ Some p → i ∷ j ∷ [] ≡ numbers_of (Rewrite p)
 step-numbers word.Rule i j p e = ap (λ q. numbers_of (Rewrite q)) (same_Some (Rule i j) p e)
 step-numbers word.Both i j p e = ap (λ q. numbers_of (Rewrite q)) (same_Some (Both i j) p e)
 step-numbers word.Join i j p e = ap (λ q. numbers_of (Rewrite q)) (same_Some (Join i j) p e)
 step-numbers _ i j p e = absurd (cc)
 
-pub step-leads : (w : Word) (ks : List ℕ) (i j : ℕ) (s t : Passed) (p : Step) (turn : ℕ) (behind : List (List ℕ)) → AreSmall ks → ks ≡ i ∷ j ∷ [] → step_of w i j ≡ Some p →
+pub step-leads : (w : Word) (ks : List ℕ) (i j : ℕ) (s t : Passed) (p : Step) (turn : ℕ) (behind : List (List ℕ)) → AreSmall ks → ks ≡ i ∷ j ∷ [] → step_named w i j ≡ Some p →
     IsStep s.body.wires s.body.gates p t.body.gates turn → t.turn ≡ (s.turn + turn) % 8 → Leads w s t (words (spelling w) ks ∷ behind) behind
 step-leads w ks i j s t p turn behind small is f step sum =
     leads-by w s t (Rewrite p) turn (words (spelling w) ks ∷ behind) behind (step-kind w i j p f) (small-line ks (numbers_of (Rewrite p)) small (is ∙ step-numbers w i j p f))
     (ap (λ k. words (spelling w) k ∷ behind) is ∙ ap (λ x. x ++ behind) (sym (step-spelt w i j p f))) step sum
 
-pub step-found : (w : Word) (i j n : ℕ) (old new : List Gate) (q : Step) (o : Option ℕ) → step_of w i j ≡ Some q →
+pub step-found : (w : Word) (i j n : ℕ) (old new : List Gate) (q : Step) (o : Option ℕ) → step_named w i j ≡ Some q →
     MatchOption o ((gates : List Gate) (turn : ℕ) → IsStep n old q gates turn → ⊥) (λ turn. IsStep n old q new turn) →
-    MatchOption o ((p : Step) (gates : List Gate) (turn : ℕ) → step_of w i j ≡ Some p → IsStep n old p gates turn → ⊥) (λ turn. (p : Step) × ((step_of w i j ≡ Some p) × IsStep n old p new turn))
+    MatchOption o ((p : Step) (gates : List Gate) (turn : ℕ) → step_named w i j ≡ Some p → IsStep n old p gates turn → ⊥) (λ turn. (p : Step) × ((step_named w i j ≡ Some p) × IsStep n old p new turn))
 step-found w i j n old new q None f h = λ p gates turn g step. h gates turn (subst (λ r. IsStep n old r gates turn) (same_Some p q (sym g ∙ f)) step)
 step-found w i j n old new q (Some t) f h = (q, (f, h))
 
 -- no step of these numbers is there
 abbrev pub NoStep : Word → List ℕ → Passed → Type 0
-NoStep w ks s = (i j : ℕ) (p : Step) (gates : List Gate) (turn : ℕ) → ks ≡ i ∷ j ∷ [] → step_of w i j ≡ Some p → IsStep s.body.wires s.body.gates p gates turn → ⊥
+NoStep w ks s = (i j : ℕ) (p : Step) (gates : List Gate) (turn : ℕ) → ks ≡ i ∷ j ∷ [] → step_named w i j ≡ Some p → IsStep s.body.wires s.body.gates p gates turn → ⊥
 
 no_step : (n : ℕ) (w : Word) (ks : List ℕ) (s : Passed) → n ≡ s.body.wires → w ≢ word.Sums → w ≢ word.Part → NoStep w ks s → (l : Line) → kind_of l ≡ w → ks ≡ first_numbers l → Changed n s.body.gates l → ⊥
 no_step n w ks s q ns np none (Rewrite (Rule k i)) kind is c =
-    none k i (Rule k i) c.gates c.turn is (ap (λ v. step_of v k i) (sym kind)) (subst (λ m. IsStep m s.body.gates (Rule k i) c.gates c.turn) q c.step)
+    none k i (Rule k i) c.gates c.turn is (ap (λ v. step_named v k i) (sym kind)) (subst (λ m. IsStep m s.body.gates (Rule k i) c.gates c.turn) q c.step)
 no_step n w ks s q ns np none (Rewrite (Both i j)) kind is c =
-    none i j (Both i j) c.gates c.turn is (ap (λ v. step_of v i j) (sym kind)) (subst (λ m. IsStep m s.body.gates (Both i j) c.gates c.turn) q c.step)
+    none i j (Both i j) c.gates c.turn is (ap (λ v. step_named v i j) (sym kind)) (subst (λ m. IsStep m s.body.gates (Both i j) c.gates c.turn) q c.step)
 no_step n w ks s q ns np none (Rewrite (Join i j)) kind is c =
-    none i j (Join i j) c.gates c.turn is (ap (λ v. step_of v i j) (sym kind)) (subst (λ m. IsStep m s.body.gates (Join i j) c.gates c.turn) q c.step)
+    none i j (Join i j) c.gates c.turn is (ap (λ v. step_named v i j) (sym kind)) (subst (λ m. IsStep m s.body.gates (Join i j) c.gates c.turn) q c.step)
 no_step n w ks s q ns np none (Rewrite (Sums gs)) kind is c = ns (sym kind)
 no_step n w ks s q ns np none (Part i j gs) kind is c = np (sym kind)
 no_step n w ks s q ns np none _ kind is c = c.step
@@ -148,11 +148,11 @@ blocked-step w ks s behind small rw ns np none = λ h e v q.
 pub no-numbers : (w : Word) (ks : List ℕ) (s : Passed) → ((i j : ℕ) → ks ≡ i ∷ j ∷ [] → ⊥) → NoStep w ks s
 no-numbers w ks s none = λ i j p gates turn is f step. none i j is
 
-pub no-change : (w : Word) (ks : List ℕ) (i j : ℕ) (s : Passed) → ks ≡ i ∷ j ∷ [] → ((p : Step) (gates : List Gate) (turn : ℕ) → step_of w i j ≡ Some p → IsStep s.body.wires s.body.gates p gates turn → ⊥) → NoStep w ks s
+pub no-change : (w : Word) (ks : List ℕ) (i j : ℕ) (s : Passed) → ks ≡ i ∷ j ∷ [] → ((p : Step) (gates : List Gate) (turn : ℕ) → step_named w i j ≡ Some p → IsStep s.body.wires s.body.gates p gates turn → ⊥) → NoStep w ks s
 no-change w ks i j s e none = λ k m p gates turn is f step.
     let a : i ≡ k = cc in
     let b : j ≡ m = cc in
-    none p gates turn ((λ z. step_of w (a z) (b z)) ∙ f) step
+    none p gates turn ((λ z. step_named w (a z) (b z)) ∙ f) step
 
 -- ---- the line `sums`
 pub sums-leads : (ks : List ℕ) (count : ℕ) (s t : Passed) (turn : ℕ) (lines behind : List (List ℕ)) → AreSmall ks → ks ≡ count ∷ [] → s.body.wires ≤ most_wires → All (IsFine s.body.wires) t.body.gates →

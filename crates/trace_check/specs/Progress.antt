@@ -11,7 +11,7 @@
 --     Goes w ks s t           a line of the word w and the numbers ks applies in each edition that has the word, and leads from s to t
 --     Moves goal w ks s t     so it does whatever was appended before, and what was is known as before
 --     Halts w ks s            no such line applies
---     step_of w i j           the step of a line of the word w and the numbers i and j
+--     step_named w i j           the step of a line of the word w and the numbers i and j
 --     reached h s             gates that are rewritten, with their turn, where h is what a `goal` holds, if there is one
 --     IsHeldFit n h              what is held is on n wires, and its turn is below 8
 --     LeadsOn w h s g t ls behind       where edition v has the word w, the first of the lines ls apply, and lead from s, with h held, to t,
@@ -71,11 +71,11 @@ Moves goal w ks s t = (old : List Gate) → IsAppended goal s.agreed old →
 abbrev pub Halts : Word → List ℕ → Placed → Type 0
 Halts w ks s = (e : Claim) (v : ℕ) (behind : List (List ℕ)) → e.qubits ≡ length s.now → IsStuck e v (Routed s) (words (spelling w) ks ∷ behind)
 
-abbrev pub step_of : Word → ℕ → ℕ → Option Step
-step_of word.Rule i j = Some (Rule i j)
-step_of word.Both i j = Some (Both i j)
-step_of word.Join i j = Some (Join i j)
-step_of _ i j = None
+abbrev pub step_named : Word → ℕ → ℕ → Option Step
+step_named word.Rule i j = Some (Rule i j)
+step_named word.Both i j = Some (Both i j)
+step_named word.Join i j = Some (Join i j)
+step_named _ i j = None
 
 abbrev pub reached : Option Held → Passed → State
 reached None s = Rewritten s.body.gates s.turn

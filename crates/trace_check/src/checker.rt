@@ -30,7 +30,7 @@ ghost use Rattle.rewrite_pass.specs.Traces.{IsStep, Step};
 ghost use Rattle.trace_text.specs.Texts.{lines_of};
 ghost use Rattle.trace_check.specs.Outcomes.{IsOutcome, claim};
 ghost use Rattle.trace_check.specs.Lines.{edition_of};
-ghost use Rattle.trace_check.specs.Progress.{Blocked, Came, IsHeldFit, IsRouting, Leads, BlockedWith, LeadsOn, placed, reached, step_of};
+ghost use Rattle.trace_check.specs.Progress.{Blocked, Came, IsHeldFit, IsRouting, Leads, BlockedWith, LeadsOn, placed, reached, step_named};
 ghost use Rattle.trace_check.specs.Proves.{Claim, IsStuck, Routed, StopsAt, Unread};
 ghost use Rattle.trace_check.specs.Spelling.{spelling};
 ghost use Rattle.trace_check.specs.declared.words.Word.TheVariants as kind;
@@ -299,9 +299,9 @@ fn rewrites(state: &mut Passed, word: Word, numbers: &[u32]) -> bool
 fn step(body: &mut Circuit, word: Word, first: u32, second: u32) -> Option<u8>
     ensures wires { body.new.wires ≡ body.old.wires }
     ensures turn { IfSome result (λ turn. turn < 8) }
-    ensures step { MatchOption result ((p : Step) (gates : List Gate) (turn : ℕ) → step_of word first second ≡ Some p →
+    ensures step { MatchOption result ((p : Step) (gates : List Gate) (turn : ℕ) → step_named word first second ≡ Some p →
         IsStep body.old.wires body.old.gates p gates turn → ⊥)
-        (λ turn. (p : Step) × ((step_of word first second ≡ Some p)
+        (λ turn. (p : Step) × ((step_named word first second ≡ Some p)
         × IsStep body.old.wires body.old.gates p body.new.gates turn)) }
 {
     match word {

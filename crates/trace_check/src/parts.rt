@@ -4,7 +4,7 @@ ghost use Rattle.std.specs.Prelude.{◌≡◌, ℕ, ◌+◌, ◌^◌, ◌<◌, �
 ghost use Rattle.rewrite_pass.specs.TraceLines.{words};
 ghost use Rattle.trace_text.specs.Texts.{lines_of};
 ghost use Rattle.trace_check.specs.Progress.{Blocked, Leads};
-ghost use Rattle.trace_check.specs.Proves.{part_of};
+ghost use Rattle.trace_check.specs.Proves.{slice_of};
 ghost use Rattle.trace_check.specs.declared.words.Word.TheVariants as kind;
 
 use crate::gates::read_gates;
@@ -26,7 +26,7 @@ fn push_part(
     requires ordered { first ≤ end }
     requires within { end ≤ length from.now.gates }
     ensures wires { to.new.wires ≡ to.old.wires }
-    ensures gates { OnOk result (to.new.gates ≡ to.old.gates ++ part_of from.now.gates first end) }
+    ensures gates { OnOk result (to.new.gates ≡ to.old.gates ++ slice_of from.now.gates first end) }
 {
     'gates: for place in first..end {
         to.push(from.gate(place))?;
@@ -39,7 +39,7 @@ fn part(alloc: Global, body: &Circuit, first: usize, end: usize) -> Result<Circu
     requires ordered { first ≤ end }
     requires within { end ≤ length body.now.gates }
     ensures wires { IfOk result (λ c. c.wires ≡ body.now.wires) }
-    ensures gates { IfOk result (λ c. c.gates ≡ part_of body.now.gates first end) }
+    ensures gates { IfOk result (λ c. c.gates ≡ slice_of body.now.gates first end) }
 {
     body.facts();
     let mut made = Circuit::empty(alloc, body.wires())?;

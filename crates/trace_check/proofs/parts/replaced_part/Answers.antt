@@ -6,7 +6,7 @@ use Rattle.path_parity.specs.NamedSums.{SamePathSum}
 use Rattle.rewrite_pass.specs.Traces.{constants_turn}
 use Rattle.trace_text.specs.Texts.{lines_of}
 use Rattle.trace_check.specs.Spelling.{AreSmall}
-use Rattle.trace_check.specs.Proves.{part_of}
+use Rattle.trace_check.specs.Proves.{slice_of}
 use Rattle.trace_check.proofs.PartStepLaws.{blocked-part, no-order, no-part_gates, no-part_sum, no-three, part-leads}
 use Rattle.trace_check.proofs.WordLaws.{none-of, some-of}
 use Rattle.trace_check.proofs.parts.replaced_part.Goals as goal
@@ -73,7 +73,7 @@ returns-clause-step c =
     let fine : All (IsFine s.body.wires) gates = subst (λ n. All (IsFine n) gates) wires c.facts-2.ensures.fine in
     let i : ℕ = c.in-Some.from in
     let j : ℕ = c.in-Some.to in
-    let part : List Gate = part_of s.body.gates i j in
+    let part : List Gate = slice_of s.body.gates i j in
     let same = some-of _ c.in_ok-turn.field-0 c.in-Some-3.turn _ c.in-Some-3.is c.in_ok-turn.ensures.same in
     let old : SamePathSum s.body.wires part gates = subst (λ p. SamePathSum s.body.wires p gates) c.in_ok-old.ensures.gates (subst (λ n. SamePathSum n c.in_ok-old.old.gates gates) c.in_ok-old.ensures.wires same.0) in
     let turn : c.in-Some-3.turn ≡ constants_turn s.body.wires part gates = same.1 ∙ (λ z. constants_turn (c.in_ok-old.ensures.wires z) (c.in_ok-old.ensures.gates z) gates) in
