@@ -25,7 +25,7 @@ use Rattle.program_parts.proofs.PartsLaws.{AreRealised-whole}
 use Rattle.route_report.specs.declared.lines.Report.{Report}
 use Rattle.routed_parts.specs.Legs.{AreLegs, IsLeg, IsStill}
 use Rattle.routed_parts.specs.Runs.{AreOfRuns, HasNoMoreSwaps}
-use Rattle.routed_parts.specs.Tries.{AreRouted, IsTaken, ahead_of, expense, expense_by}
+use Rattle.routed_parts.specs.Tries.{AreRouted, IsTaken, IsTry, ahead_of, expense, expense_by}
 use Rattle.routed_parts.proofs.LegLaws.{AreOfRuns-legs, FollowsEdges-legs, HasFewSwaps-legs}
 use Rattle.routed_parts.proofs.RunLaws.{IsLeg-run}
 use Rattle.sabre_route.specs.Ahead.{Ahead}
@@ -41,6 +41,7 @@ use Rattle.routed_parts.specs.Costs.{cx_cost, told_cost}
 use Rattle.circuit_target.specs.Standing.{IsInPlace, IsOnQubits, IsOwnTrace, StandsFor, placed_read}
 use Rattle.circuit_target.specs.InParts.{HasFewTs}
 use Rattle.circuit_target.specs.Targets.{Stands, target_program, IsOptimised, IsTold}
+use Rattle.circuit_target.specs.Trying.{HasFirst}
 use Rattle.circuit_target.specs.Making.{AreRoutedParts, AreWritten, IsAssembled, IsPlacedPart, IsRoutedPart, gates_of, last_of, part_of, parts_of}
 use Rattle.circuit_target.specs.declared.parts.PartTarget.{PartTarget}
 use Rattle.circuit_target.specs.declared.passes.Rewritten.{Rewritten}
@@ -127,17 +128,27 @@ swaps-of_runs clean n (p ∷ parts) (gates ∷ lists) (r ∷ rs) h =
     ∙ sym (sum_by-cons (λ (r : Routed). r.swaps) r rs)
 
 no_more : (d : Coupling) (starts : Starts) (clean : Bool) (n : ℕ) (first : List ℕ) (parts : List Part) (lists : List (List Gate)) (rs : List Routed)
-    → AreOfRuns clean n parts lists rs → IsTaken d starts lists first rs → HasNoMoreSwaps d starts lists parts
-no_more d (Given q) clean n first parts lists rs left taken = tt
-no_more d (Tries k) clean n first parts lists rs left taken = λ q xs plain other.
+    → AreOfRuns clean n parts lists rs → IsTaken d starts lists first rs → HasFirst d starts lists → HasNoMoreSwaps d starts lists parts
+no_more d (Given q) clean n first parts lists rs left taken before = tt
+no_more d (Tries k) clean n first parts lists rs left taken before =
+    let q = before.0 in
+    let xs = before.1 in
+    let one = before.2 in
     let some : 0 < k = above taken.number taken.among in
-    let least : expense d rs ≤ expense d xs = taken.least 0 q xs some other in
-    lesser (swaps-of_runs clean n parts lists rs left) (subst (λ (o : Option (List ℕ)). expense_by o (sum_by (λ (r : Routed). r.swaps) rs)
-    (sum_by (λ (r : Routed). cx_cost d (ops r.body.gates)) rs) ≤ expense_by o (sum_by (λ (r : Routed). r.swaps) xs)
-    (sum_by (λ (r : Routed). cx_cost d (ops r.body.gates)) xs)) plain least)
+    let least : expense d rs ≤ expense d xs = taken.least 0 q xs some (subst (λ j. IsTry d lists j q xs) (none one.number one.among) one.made) in (
+      q,
+      xs,
+      one,
+      λ plain. lesser (swaps-of_runs clean n parts lists rs left) (subst (λ (o : Option (List ℕ)). expense_by o (sum_by (λ (r : Routed). r.swaps) rs)
+          (sum_by (λ (r : Routed). cx_cost d (ops r.body.gates)) rs) ≤ expense_by o (sum_by (λ (r : Routed). r.swaps) xs)
+          (sum_by (λ (r : Routed). cx_cost d (ops r.body.gates)) xs)) plain least),
+    )
   where
     above : (j : ℕ) → j < k → 0 < k
     above j lt = omega (arith, lt)
+
+    none : (j : ℕ) → j < 1 → j ≡ 0
+    none j lt = omega (arith, lt)
 
     lesser : {a b c : ℕ} → a ≡ b → b ≤ c → a ≤ c
     lesser e le = omega (arith, e, le)
@@ -242,7 +253,7 @@ Stands-still keep s ms t is still wires swaps initial last cost trace alone = re
 
 pub Stands-legs : (keep traced clean : Bool) (starts : Starts) (d : Coupling) (s : Program) (ms : List PartTarget) (lists : List (List Gate)) (rs : List Routed)
     (t : Target) → IsPutTogether keep s ms t → AreLegs d clean s.wires t.initial (parts_of s.cut.parts ms) lists rs
-    → t.body.wires ≡ d.size → t.swaps ≡ sum_by (λ (m : PartTarget). m.swaps) ms → IsTaken d starts lists t.initial rs
+    → t.body.wires ≡ d.size → t.swaps ≡ sum_by (λ (m : PartTarget). m.swaps) ms → IsTaken d starts lists t.initial rs × HasFirst d starts lists
     → (k : ℕ) → IsDiameter d.size d.edges (cost d) k → t.cost ≡ told_cost d (ops t.body.gates)
     → ((told : Report) → IsTold t told → IsOwnTrace traced s (target_program s t) told t.trace.items)
     → t.spares ≡ None → Stands s keep traced (IsOnQubits d starts clean s) t
@@ -261,9 +272,9 @@ Stands-legs keep traced clean starts d s ms lists rs t is legs wires swaps taken
         runs = record {
           lists = lists;
           routed = rs;
-          taken = subst (λ p. IsTaken d starts lists p rs) (sym r.initial) taken;
+          taken = subst (λ p. IsTaken d starts lists p rs) (sym r.initial) taken.0;
           left = left;
-          no_more_swaps = no_more d starts clean s.wires t.initial parts lists rs left taken;
+          no_more_swaps = no_more d starts clean s.wires t.initial parts lists rs left taken.0 taken.1;
         };
         sum = r.swaps ∙ sum;
         swaps = rw (sources-source s ms is.many is.whole_source, targets_are, sym (r.swaps ∙ sum)) at few;

@@ -4,13 +4,17 @@
 --   chained, chained-over  .. that was made of chains
 --   runs-more, runs-all, parts-more, parts-all   runs through the first parts, with one part more, and through all
 --   expense-more, expense-nothing, run-expense   the expense of one run more, of none, and at most
+--   IsTaken-one            of one try there is nothing to compare
 --   IsBestOf-first, IsBestOf-next, IsBestOf-kept   one try more
+--   IsBestOf-nothing       nothing is less than 0
+--   IsRound-centres, IsTry-again, IsBestOf-again   tries come again
 --   HasBegun-one, HasBegun-best   the runs from the layout of the best try are those that are taken
 --   cx-part, cx-optimised  the CNOTs of parts that were rewritten
-use Rattle.std.proofs.Common.{◌≡◌, ℕ, zero, suc, ◌+◌, ◌*◌, ◌<◌, ◌≤◌, ◌⊎◌, inl, inr, Bool, true, false, List, [], ◌∷◌, ◌++◌, Option, None, Some, append_assoc, append-nil, drop, get_or, is_some, length, refl, sym, subst, ap, ◌∙◌, arith}
-use Rattle.std.specs.Prelude.{sum_by}
+use Rattle.std.proofs.Common.{◌≡◌, ℕ, zero, suc, ◌+◌, ◌-◌, ◌*◌, ◌%◌, ◌<◌, ◌≤◌, ◌⊎◌, inl, inr, Bool, true, false, List, [], ◌∷◌, ◌++◌, Option, None, Some, add-zero, append_assoc, append-nil, drop, get_or, is_some, length, refl, suc-add, sym, subst, ap, ◌∙◌, arith}
+use Rattle.std.specs.Prelude.{◌==◌, sum_by}
 use Rattle.std.specs.List.{AllZip}
-use Rattle.std.proofs.Math.Nat.{eq-or-lt_of_le}
+use Rattle.std.proofs.Math.Nat.{add-mod-mod, eq-or-lt_of_le, mul-mod_left}
+use Rattle.std.proofs.lemmas.Bool.{cases_lt}
 use Rattle.std.proofs.lemmas.List.{drop_more}
 use Rattle.std.proofs.lemmas.List.Sums.{sum_by-append}
 use Rattle.std.proofs.lemmas.Nat.{mul-le}
@@ -19,17 +23,18 @@ use Rattle.circuit_list.specs.Gates.{op_of, ops}
 use Rattle.coupling_map.specs.Coupling.{Coupling}
 use Rattle.program_parts.specs.Cuts.{whole}
 use Rattle.routed_parts.specs.Costs.{cx_cost}
-use Rattle.routed_parts.specs.Tries.{AreRouted, IsTry, ahead_of, is_along, expense, expense_by}
+use Rattle.routed_parts.specs.Tries.{AreRouted, IsTaken, IsTry, ahead_of, is_along, expense, expense_by}
 use Rattle.sabre_route.specs.Ahead.{IsLookoutOver, Outlook, cx_only}
-use Rattle.sabre_route.specs.Routing.{IsRouted}
+use Rattle.sabre_route.specs.Routing.{IsLayout, IsRouted}
 use Rattle.sabre_route.specs.declared.router.Routed.{Routed}
 use Rattle.unitary_model.specs.declared.Op.{Op}
 use Rattle.unitary_model.specs.Operations.{cx_count}
 use Rattle.unitary_model.proofs.Steps.{cx_count-append}
+use Rattle.wire_starts.specs.Starts.{IsNearestFirst, IsTryStart}
 use Rattle.wire_starts.specs.declared.Starts.TheVariants.{Tries}
 use Rattle.circuit_target.specs.Making.{AreRoutedParts, IsRoutedPart, gates_of}
 use Rattle.circuit_target.specs.Targets.{IsOptimised}
-use Rattle.circuit_target.specs.Trying.{HasBegun, IsBestOf, IsLaidOut, IsLookingOver, IsTried}
+use Rattle.circuit_target.specs.Trying.{AreAllOf, HasBegun, IsBestOf, IsLaidOut, IsLookingOver, IsRound, IsTried}
 use Rattle.circuit_target.specs.declared.parts.PartTarget.{PartTarget}
 use Rattle.circuit_target.specs.declared.passes.Rewritten.{Rewritten}
 
@@ -144,25 +149,41 @@ run-expense gs r b few cx swaps =
     record { cx = omega (arith, cx, swaps, most); most = omega (arith, cx, swaps, most) }
 
 -- ---- the best of several tries
-pub IsBestOf-first : (d : Coupling) (lists : List (List Gate)) (p : List ℕ) (w : ℕ)
+-- of one try there is nothing to compare
+pub IsTaken-one : (d : Coupling) (lists : List (List Gate)) (p : List ℕ) (rs : List Routed)
     → ((k : ℕ) (q t : List ℕ) (rs xs : List Routed) → IsTry d lists k q rs → IsTry d lists k t xs → expense d rs ≡ expense d xs)
-    → IsTried d lists 0 p w → IsBestOf d 1 lists 0 p w
-IsBestOf-first d lists p w one is = record {
+    → IsTry d lists 0 p rs → IsTaken d (Tries 1) lists p rs
+IsTaken-one d lists p rs one made = record {
+  number = 0;
   among = omega arith;
-  tried = is;
+  made = made;
   least = λ m q xs lt other. same m q xs lt other;
   first_of_equals = λ m q xs lt other. absurd (omega (arith, lt));
 }
   where
-    same : (m : ℕ) (q : List ℕ) (xs : List Routed) → m < 1 → IsTry d lists m q xs → w ≤ expense d xs
-    same zero q xs lt other = let e = one 0 p q is.routed xs is.made other in omega (arith, is.spent, e)
+    same : (m : ℕ) (q : List ℕ) (xs : List Routed) → m < 1 → IsTry d lists m q xs → expense d rs ≤ expense d xs
+    same zero q xs lt other = let e = one 0 p q rs xs made other in omega (arith, e)
     same (suc m) q xs lt other = absurd (omega (arith, lt))
+
+pub IsBestOf-first : (d : Coupling) (lists : List (List Gate)) (p : List ℕ) (w : ℕ)
+    → ((k : ℕ) (q t : List ℕ) (rs xs : List Routed) → IsTry d lists k q rs → IsTry d lists k t xs → expense d rs ≡ expense d xs)
+    → IsTried d lists 0 p w → IsBestOf d 1 lists 0 p w
+IsBestOf-first d lists p w one is =
+    let first = IsTaken-one d lists p is.routed one is.made in
+    record {
+      first = (p, is.routed, first);
+      among = omega arith;
+      tried = is;
+      least = λ m q xs lt other. let le = first.least m q xs lt other in omega (arith, is.spent, le);
+      first_of_equals = λ m q xs lt other. absurd (omega (arith, lt));
+    }
 
 -- of one try more, the lighter one
 pub IsBestOf-next : (d : Coupling) (lists : List (List Gate)) (n k : ℕ) (p q : List ℕ) (w v : ℕ)
     → ((k : ℕ) (q t : List ℕ) (rs xs : List Routed) → IsTry d lists k q rs → IsTry d lists k t xs → expense d rs ≡ expense d xs)
     → IsBestOf d n lists k p w → IsTried d lists n q v → v < w → IsBestOf d (n + 1) lists n q v
 IsBestOf-next d lists n k p q w v one best is less = record {
+  first = best.first;
   among = omega arith;
   tried = is;
   least = λ m t xs lt other. all m t xs lt other;
@@ -185,6 +206,7 @@ pub IsBestOf-kept : (d : Coupling) (lists : List (List Gate)) (n k : ℕ) (p q :
     → ((k : ℕ) (q t : List ℕ) (rs xs : List Routed) → IsTry d lists k q rs → IsTry d lists k t xs → expense d rs ≡ expense d xs)
     → IsBestOf d n lists k p w → IsTried d lists n q v → w ≤ v → IsBestOf d (n + 1) lists k p w
 IsBestOf-kept d lists n k p q w v one best is le = record {
+  first = best.first;
   among = let lt = best.among in omega (arith, lt);
   tried = best.tried;
   least = λ m t xs lt other. all m t xs lt other;
@@ -203,38 +225,102 @@ IsBestOf-kept d lists n k p q w v one best is le = record {
         split : (m : ℕ) → m < n + 1 → (m ≡ n) ⊎ (m < n)
         split m lt = eq-or-lt_of_le (omega (arith, lt))
 
+-- so many tries more, of which none is better
+module _ (d : Coupling) (lists : List (List Gate)) (n m k : ℕ) (p : List ℕ) (w : ℕ) (le : n ≤ m) (best : IsBestOf d n lists k p w) where
+  more-tries : ((j : ℕ) (q : List ℕ) (xs : List Routed) → j < m → IsTry d lists j q xs → w ≤ expense d xs) → IsBestOf d m lists k p w
+  more-tries least = record {
+    first = best.first;
+    among = let lt = best.among in omega (arith, lt, le);
+    tried = best.tried;
+    least = least;
+    first_of_equals = best.first_of_equals;
+  }
+
+  pub IsBestOf-nothing : w ≡ 0 → IsBestOf d m lists k p w
+  IsBestOf-nothing none = more-tries (λ j q xs lt other. omega (arith, none))
+
+-- from try 1 on tries come again
+pub IsRound-centres : (n c r : ℕ) → 0 < n → n ≤ 256 → (7 * c ≡ n) ⊎ (c ≡ n) → (r ≡ c) ⊎ (r ≡ 2 * c) → r % 2 ≡ 0 → IsRound n r
+IsRound-centres n c r some few around is even = elim around [
+  | inl seven ↦ elim is [
+    | inl one ↦ made 1 (omega (arith, seven, one)) (omega (arith, seven, one, some)) (omega (arith, seven, one, few))
+    | inr two ↦ made 2 (omega (arith, seven, two)) (omega (arith, seven, two, some)) (omega (arith, seven, two, few))
+  ]
+  | inr all ↦ elim is [
+    | inl one ↦ made 7 (omega (arith, all, one)) (omega (arith, all, one, some)) (omega (arith, all, one, few))
+    | inr two ↦ made 14 (omega (arith, all, two)) (omega (arith, all, two, some)) (omega (arith, all, two, few))
+  ]
+]
+  where
+    made : (m : ℕ) → 7 * r ≡ m * n → 1 ≤ r → r ≤ 512 → IsRound n r
+    made m whole least most = record { some = least; limit = most; even = even; around = ap (λ j. j % n) whole ∙ mul-mod_left m n }
+
+pub IsTry-again : (d : Coupling) (lists : List (List Gate)) (p k : ℕ) (q : List ℕ) (xs : List Routed) → IsRound d.size p
+    → IsTry d lists (suc k + p) q xs → IsTry d lists (suc k) q xs
+IsTry-again d lists p k q xs is h = record {
+  start = h.start;
+  starts = subst (λ c. IsNearestFirst d.edges d.size c h.start) turns (subst (λ j. IsTryStart d j h.start) (suc-add k p) h.starts);
+  laid_out = subst (λ b. IsLayout (ahead_of b []) d (whole lists) h.start q) kind h.laid_out;
+  routed = subst (λ b. AreRouted d b q lists xs) kind h.routed;
+}
+  where
+    halves : (a b : ℕ) → b % 2 ≡ 0 → (a + b) % 2 ≡ a % 2
+    halves a b even = omega (arith, even)
+
+    kind : is_along (suc k + p) ≡ is_along (suc k)
+    kind = ap (λ j. j == 1) (halves (suc k) p is.even)
+
+    spread : (a b : ℕ) → 7 * (a + b) ≡ 7 * a + 7 * b
+    spread a b = omega arith
+
+    turns : (7 * (k + p)) % d.size ≡ (7 * k) % d.size
+    turns = ap (λ j. j % d.size) (spread k p) ∙ sym (add-mod-mod (7 * k) (7 * p) d.size)
+        ∙ ap (λ j. (7 * k + j) % d.size) is.around ∙ ap (λ j. j % d.size) (add-zero (7 * k))
+
+-- the best of those that are made is the best of all
+pub IsBestOf-again : (d : Coupling) (lists : List (List Gate)) (n m k : ℕ) (p : List ℕ) (w : ℕ) → AreAllOf d.size n m
+    → IsBestOf d n lists k p w → IsBestOf d m lists k p w
+IsBestOf-again d lists n m k p w all best = more-tries d lists n m k p w all.within best (λ j q xs lt other. least j j q xs (omega arith) lt other)
+  where
+    place : (j r : ℕ) → n ≡ 1 + r → n ≤ j → j ≡ suc (j - n) + r
+    place j r is after = omega (arith, is, after)
+
+    least : (most j : ℕ) (q : List ℕ) (xs : List Routed) → j ≤ most → j < m → IsTry d lists j q xs → w ≤ expense d xs
+    least zero j q xs le lt other = let some = all.some in best.least j q xs (omega (arith, le, some)) other
+    least (suc most) j q xs le lt other = elim (cases_lt j n) [
+      | inl before ↦ best.least j q xs before other
+      | inr after ↦
+          let round = all.again (omega (arith, after, lt)) in
+          let is = round.1 in
+          let some = round.2.some in
+          least most (suc (j - n)) q xs (omega (arith, le, is, some, after)) (omega (arith, lt, is, some, after))
+          (IsTry-again d lists round.0 (j - n) q xs round.2 (subst (λ i. IsTry d lists i q xs) (place j round.0 is after) other))
+    ]
+
 -- the runs from the layout of the best try are its runs
 pub HasBegun-best : (d : Coupling) (lists : List (List Gate)) (n k : ℕ) (p : List ℕ) (w : ℕ)
     → ((along : Bool) (first : List ℕ) (rs xs : List Routed) → AreRouted d along first lists rs → AreRouted d along first lists xs → expense d rs ≡ expense d xs)
     → IsBestOf d n lists k p w → HasBegun d (Tries n) lists p (is_along k)
 HasBegun-best d lists n k p w one best = λ rs routed.
     let made = best.tried.made in
-    let same : expense d rs ≡ w = one (is_along k) p rs best.tried.routed routed made.routed ∙ sym best.tried.spent in
-    record {
-      number = k;
-      among = best.among;
-      made = record { start = made.start; starts = made.starts; laid_out = made.laid_out; routed = routed };
-      least = λ m q xs lt other. let le = best.least m q xs lt other in omega (arith, same, le);
-      first_of_equals = λ m q xs lt other. let less = best.first_of_equals m q xs lt other in omega (arith, same, less);
-    }
+    let same : expense d rs ≡ w = one (is_along k) p rs best.tried.routed routed made.routed ∙ sym best.tried.spent in (
+      record {
+        number = k;
+        among = best.among;
+        made = record { start = made.start; starts = made.starts; laid_out = made.laid_out; routed = routed };
+        least = λ m q xs lt other. let le = best.least m q xs lt other in omega (arith, same, le);
+        first_of_equals = λ m q xs lt other. let less = best.first_of_equals m q xs lt other in omega (arith, same, less);
+      },
+      best.first,
+    )
 
--- of one try there is nothing to compare
 pub HasBegun-one : (d : Coupling) (lists : List (List Gate)) (p : List ℕ)
     → ((k : ℕ) (q t : List ℕ) (rs xs : List Routed) → IsTry d lists k q rs → IsTry d lists k t xs → expense d rs ≡ expense d xs)
     → IsLaidOut d (whole lists) 0 p → HasBegun d (Tries 1) lists p false
 HasBegun-one d lists p one laid = λ rs routed.
-    let made : IsTry d lists 0 p rs = record { start = laid.start; starts = laid.starts; laid_out = laid.laid_out; routed = routed } in
-    record {
-      number = 0;
-      among = omega arith;
-      made = made;
-      least = λ m q xs lt other. same rs made m q xs lt other;
-      first_of_equals = λ m q xs lt other. absurd (omega (arith, lt));
-    }
-  where
-    same : (rs : List Routed) → IsTry d lists 0 p rs → (m : ℕ) (q : List ℕ) (xs : List Routed) → m < 1 → IsTry d lists m q xs → expense d rs ≤ expense d xs
-    same rs made zero q xs lt other = let e = one 0 p q rs xs made other in omega (arith, e)
-    same rs made (suc m) q xs lt other = absurd (omega (arith, lt))
+    let taken = IsTaken-one d lists p rs one
+    (record { start = laid.start; starts = laid.starts; laid_out = laid.laid_out; routed = routed }) in
+    (taken, (p, rs, taken))
 
 -- ---- CNOTs
 ops-append : (gs fs : List Gate) → ops (gs ++ fs) ≡ ops gs ++ ops fs

@@ -1,7 +1,8 @@
 -- A target that is made for a source part by part, each part from where the last one ended.
 --   placed_bars parts bars      the qubits at which the wires of each barrier stand when the part before it ends
---   AreMade source target first parts   the parts are those of both programs, and all of each; each is realised from where the last one
---                               ended; and each barrier of the target names the qubits of the wires of the source's
+--   AreMade source target first parts   the parts are those of both programs, and all of each; each is realised from
+--                               where the last one ended; and each barrier of the target names the qubits of the wires
+--                               of the source's
 --   between parts               where the wires stand at each barrier
 --   told_parts keep parts       what the line tells of the parts, where barriers are kept; else nothing
 --   HasFewTs n p                a part has no more T gates than its source has odd path parities

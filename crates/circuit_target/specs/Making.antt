@@ -1,14 +1,15 @@
 -- Working form. What is made of the parts of a source, one by one.
 --   IsRunOf ahead d n gates given r   what holds of a run of the routing machine over gates on n wires
---   IsRunTrace d c ss given r j trace   the trace proves each claim from a source whose gates the steps lead from, to the operations
---                        of the run r over the circuit c, up to the turn j
+--   IsRunTrace d c ss given r j trace   the trace proves each claim from a source whose gates the steps lead from, to
+--                        the operations of the run r over the circuit c, up to the turn j
 --   IsPlacedPart n us m  what is written for the part us of a source on its own wires
---   IsRoutedPart ahead d clean given w r m   what is written for a part, which was rewritten to w, on the qubits of a device: what is
---                        left of the machine's run r;  IsWrittenPart: .. of some run
+--   IsRoutedPart ahead d clean given w r m   what is written for a part, which was rewritten to w, on the qubits of a
+--                        device: what is left of the machine's run r;  IsWrittenPart: .. of some run
 --   AreRoutedParts d along clean given ws rs ms   the same of all parts, each from where the one before it ended
 --   AreWritten d clean given ws ms   .. for some runs, along dependences or not
 --   last_of given ms     where the wires end
---   IsTraceOf d given r m trace   where steps are told of a part, the trace is that of its run;  AreTraced: where it is the only part
+--   IsTraceOf d given r m trace   where steps are told of a part, the trace is that of its run;  AreTraced: where it is
+--                                 the only part
 --   are_told rs          whether steps are told
 --   gates_of rs          the gates of all parts
 --   part_of us m, parts_of uss ms   a part of a source with what is written for it; all of them
@@ -49,7 +50,8 @@ use Rattle.routed_parts.specs.Tries.{ahead_of}
 abbrev pub gates_of : List Rewritten → List (List Gate)
 gates_of rs = map (λ r. r.passed.body.gates) rs
 
-pub record IsRunOf (ahead : Ahead) (d : Coupling) (n : ℕ) (gates : List Gate) (given : List ℕ) (r : Routed) : Type 0 where
+pub record IsRunOf (ahead : Ahead) (d : Coupling) (n : ℕ) (gates : List Gate) (given : List ℕ) (r : Routed)
+    : Type 0 where
   pub run : IsRouted ahead d gates given r
   pub wires : r.body.wires ≡ d.size
   pub fine : All (IsFine d.size) r.body.gates
@@ -61,8 +63,9 @@ pub record IsRunOf (ahead : Ahead) (d : Coupling) (n : ℕ) (gates : List Gate) 
   pub few_swaps : (k : ℕ) → IsDiameter d.size d.edges (cost d) k → r.swaps ≤ cx_count (ops gates) * bound d k
 
 abbrev pub IsRunTrace : Coupling → Passed → List Step → List ℕ → Routed → ℕ → List ℕ → Type 0
-IsRunTrace d c ss given r j trace = (e : Claim) (t : ℕ) → e.wires ≡ c.body.wires → e.qubits ≡ d.size → length e.source ≤ most_operations
-    → All (IsFineOp e.wires) e.source → AreSteps e.wires (expanded e.source) ss c.body.gates t → e.target ≡ ops r.body.gates
+IsRunTrace d c ss given r j trace = (e : Claim) (t : ℕ) → e.wires ≡ c.body.wires → e.qubits ≡ d.size
+    → length e.source ≤ most_operations → All (IsFineOp e.wires) e.source
+    → AreSteps e.wires (expanded e.source) ss c.body.gates t → e.target ≡ ops r.body.gates
     → j ≡ (turn_of e.source + (t + r.turn)) % 8 → Proves e trace given r.last j
 
 pub record IsPlacedPart (n : ℕ) (us : List Op) (m : PartTarget) : Type 0 where
@@ -70,7 +73,8 @@ pub record IsPlacedPart (n : ℕ) (us : List Op) (m : PartTarget) : Type 0 where
   pub last : m.last ≡ identity n
   pub swaps : m.swaps ≡ 0
 
-pub record IsRoutedPart (ahead : Ahead) (d : Coupling) (clean : Bool) (given : List ℕ) (w : Rewritten) (r : Routed) (m : PartTarget) : Type 0 where
+pub record IsRoutedPart (ahead : Ahead) (d : Coupling) (clean : Bool) (given : List ℕ) (w : Rewritten) (r : Routed)
+    (m : PartTarget) : Type 0 where
   pub run : IsRunOf ahead d w.passed.body.wires w.passed.body.gates given r
   pub last : m.last ≡ r.last
   pub swaps : m.swaps ≡ r.swaps
@@ -80,17 +84,20 @@ pub record IsRoutedPart (ahead : Ahead) (d : Coupling) (clean : Bool) (given : L
   pub left : IsCleaned clean d.size r.body.gates m.body.gates turn
   pub sum : m.turn ≡ ((w.passed.turn + r.turn) % 8 + turn) % 8
 
-pub record IsWrittenPart (ahead : Ahead) (d : Coupling) (clean : Bool) (given : List ℕ) (w : Rewritten) (m : PartTarget) : Type 0 where
+pub record IsWrittenPart (ahead : Ahead) (d : Coupling) (clean : Bool) (given : List ℕ) (w : Rewritten) (m : PartTarget)
+    : Type 0 where
   pub routed : Routed
   pub part : IsRoutedPart ahead d clean given w routed m
 
 abbrev pub AreRoutedParts : Coupling → Bool → Bool → List ℕ → List Rewritten → List Routed → List PartTarget → Type 0
 AreRoutedParts d along clean given [] [] [] = Unit {0}
 AreRoutedParts d along clean given (w ∷ ws) (r ∷ rs) (m ∷ ms) =
-    IsRoutedPart (ahead_of along (whole (gates_of ws))) d clean given w r m × AreRoutedParts d along clean r.last ws rs ms
+    IsRoutedPart (ahead_of along (whole (gates_of ws))) d clean given w r m
+    × AreRoutedParts d along clean r.last ws rs ms
 AreRoutedParts d along clean given _ _ _ = ⊥
 
-pub record AreWritten (d : Coupling) (clean : Bool) (given : List ℕ) (ws : List Rewritten) (ms : List PartTarget) : Type 0 where
+pub record AreWritten (d : Coupling) (clean : Bool) (given : List ℕ) (ws : List Rewritten) (ms : List PartTarget)
+    : Type 0 where
   pub along : Bool
   pub routed : List Routed
   pub parts : AreRoutedParts d along clean given ws routed ms

@@ -1,8 +1,8 @@
 -- A program, as it is handed in: its parts, one by one.
 --   lists_of parts       the operations of each part
 --   parted ..            the program that the parts are, with all else
---   IsParted wires os p  it is within the limits, its parts are all its operations, and its operations and barriers are on its
---                        wires, as each part is
+--   IsParted wires os p  it is within the limits, its parts are all its operations, and its operations and barriers are
+--                        on its wires, as each part is
 use Rattle.std.specs.Prelude.{◌≡◌, ℕ, ◌≤◌, List, All, Option, length, map}
 use Rattle.gate_expand.specs.Expansion.{IsFineOp}
 use Rattle.gate_expand.specs.declared.source.Ops.{Ops}

@@ -1,10 +1,11 @@
 -- When a target stands for a source, on its own wires or on the qubits of a device.
 --   claim_of p q                the claim that the operations of the program q realise those of the program p
 --   placed_read p r             the qubit at which the wire of a read stands by p
---   StandsFor source target parts r   the target is the source, up to the reported power of w and the reported placements, as a whole
---                               and part by part
---   IsOwnTrace traced source target told trace   where a trace is asked for, it proves that the target realises the source, from and
---                               to the reported placements and up to the reported power; else it is empty
+--   StandsFor source target parts r   the target is the source, up to the reported power of w and the reported
+--                               placements, as a whole and part by part
+--   IsOwnTrace traced source target told trace   where a trace is asked for, it proves that the target realises the
+--                               source, from and to the reported placements and up to the reported power; else it is
+--                               empty
 --   IsInPlace source ..         no wire moves, and each part is settled
 --   IsOnQubits device starts ..   the qubits are the device's, and what is written is what is left of the routing
 --                               machine's run, from a given placement on or the best of so many tries
@@ -35,7 +36,8 @@ pub record StandsFor (source target : Program) (parts : List Part) (told : Repor
   -- it has the same classical registers and plain operations
   pub registers : target.registers ≡ source.registers
   pub plain : All IsPlain target.ops
-  -- the target's unitary is the source's, up to the reported power of w and the reported placements; spare wires only move
+  -- the target's unitary is the source's, up to the reported power of w and the reported placements; spare wires only
+  -- move
   pub unitary : Realises source.ops source.wires target.ops target.wires told.initial told.last told.phase
   -- each bit reads its wire of the source, where it ends
   pub reads : target.reads ≡ map (placed_read told.last) source.reads
@@ -61,10 +63,11 @@ pub record IsInPlace (source target : Program) (parts : List Part) (told : Repor
   pub stay : AllByRecursion (λ p. p.last ≡ identity source.wires) parts
   pub settled : AllByRecursion (λ p. IsSettled source.wires p.target) parts
 
--- the qubits are a device's, each CNOT follows an edge, what is written for each part is what is left of the routing machine's run,
--- from where `starts` says or with the best of so many tries, cleaned if `clean` says so, with few swaps, and if the device lists costs
--- of edges, the line tells what the CNOTs cost
-pub record IsOnQubits (device : Coupling) (starts : Starts) (clean : Bool) (source target : Program) (parts : List Part) (told : Report) : Type 0 where
+-- the qubits are a device's, each CNOT follows an edge, what is written for each part is what is left of the routing
+-- machine's run, from where `starts` says or with the best of so many tries, cleaned if `clean` says so, with few
+-- swaps, and if the device lists costs of edges, the line tells what the CNOTs cost
+pub record IsOnQubits (device : Coupling) (starts : Starts) (clean : Bool) (source target : Program) (parts : List Part)
+    (told : Report) : Type 0 where
   pub qubits : target.wires ≡ device.size
   pub edges : FollowsEdges device.edges target.ops
   pub runs : AreMachineRuns device starts clean source.wires told.initial parts

@@ -1,12 +1,13 @@
 -- Circuits that stand for a source of operations S on n wires, and targets that stand for a program.
---   IsOptimised n S c    the circuit c has the source's unitary up to its turn, no more T gates than the source has odd path
---                        parities, and no more CNOTs, and is settled
+--   IsOptimised n S c    the circuit c has the source's unitary up to its turn, no more T gates than the source has odd
+--                        path parities, and no more CNOTs, and is settled
 --   HasSteps n S c ss    the steps ss lead from the gates of S to those of the circuit c, whose turn is theirs
---   IsTold t r           the report r has the placements, the swaps, the turn, the cost, the parts and the spares of the target t
+--   IsTold t r           the report r has the placements, the swaps, the turn, the cost, the parts and the spares of
+--                        the target t
 --   target_program s t   the program of the target t, which reads what its source s reads
 --   IsFit s t            what is asked of a target before it is written
---   Stands s keep traced P t   the target stands for its source, its parts are told where barriers are kept, its trace is what is
---                        asked for, and of its parts, qubits, placements and edges P holds
+--   Stands s keep traced P t   the target stands for its source, its parts are told where barriers are kept, its trace
+--                        is what is asked for, and of its parts, qubits, placements and edges P holds
 use Rattle.std.specs.Prelude.{◌≡◌, ℕ, suc, ◌+◌, ◌%◌, ◌<◌, ◌≤◌, Bool, List, None, All, length, map, sum_by, []}
 use Rattle.circuit_list.specs.Gates.{IsFine, ops}
 use Rattle.circuit_list.specs.declared.Passed.{Passed}
@@ -68,7 +69,8 @@ pub record IsFit (s : Program) (t : Target) : Type 0 where
   pub bars : All (λ v. v.items ≡ [] → ⊥) t.barriers.items
   pub there : All (λ v. All (λ q. q < t.body.wires) v.items) t.barriers.items
 
-pub record Stands (s : Program) (keep traced : Bool) (IsPlaced : Program → List Part → Report → Type 0) (t : Target) : Type 0 where
+pub record Stands (s : Program) (keep traced : Bool) (IsPlaced : Program → List Part → Report → Type 0) (t : Target)
+    : Type 0 where
   pub parts : List Part
   pub stands : (told : Report) → IsTold t told → StandsFor s (target_program s t) parts told
   pub placed : (told : Report) → IsTold t told → IsPlaced (target_program s t) parts told

@@ -5,10 +5,13 @@
 --   IsLaidOut d gs k p        the layout that try k looks for
 --   IsExpense d along given ws w   the expense of runs over circuits, each from where the one before it ended
 --   IsTried d lists k p w     the expense of try k, whose layout is p
---   IsBestOf d tries lists k p w   .. where it is the best of so many
+--   HasFirst d starts lists   where the best of several tries is taken, one try alone has runs too
+--   IsBestOf d tries lists k p w   the expense of try k, whose layout is p, if it is the best of so many
+--   IsRound n p               from try 1 on, starts of n qubits and kinds come again after p tries
+--   AreAllOf n made tries     each of so many tries has the start and the kind of one of those that are made
 --   HasBegun d starts lists p along   the runs from there on are those that are taken
 --   IsRoute d starts clean ws p ms    what is written for all parts is what is left of the runs that are taken
-use Rattle.std.specs.Prelude.{◌≡◌, ℕ, ◌<◌, ◌≤◌, Bool, false, List, [], Option, None, Some, nat_lt, reverse}
+use Rattle.std.specs.Prelude.{◌≡◌, ℕ, ◌+◌, ◌*◌, ◌%◌, ◌<◌, ◌≤◌, Bool, false, List, [], Option, None, Some, nat_lt, reverse}
 use Rattle.circuit_list.specs.declared.Gate.{Gate}
 use Rattle.coupling_map.specs.Coupling.{Coupling}
 use Rattle.routed_parts.specs.Tries.{AreRouted, IsTaken, IsTry, ahead_of, is_along, expense}
@@ -49,15 +52,33 @@ pub record IsTried (d : Coupling) (lists : List (List Gate)) (k : ℕ) (p : List
   pub made : IsTry d lists k p routed
   pub spent : w ≡ expense d routed
 
+abbrev pub HasFirst : Coupling → Starts → List (List Gate) → Type 0
+HasFirst d (Given q) lists = Unit {0}
+HasFirst d (Tries k) lists = (q : List ℕ) × (rs : List Routed) × IsTaken d (Tries 1) lists q rs
+
 pub record IsBestOf (d : Coupling) (tries : ℕ) (lists : List (List Gate)) (k : ℕ) (p : List ℕ) (w : ℕ) : Type 0 where
+  pub first : HasFirst d (Tries tries) lists
   pub among : k < tries
   pub tried : IsTried d lists k p w
   pub least : (m : ℕ) (q : List ℕ) (xs : List Routed) → m < tries → IsTry d lists m q xs → w ≤ expense d xs
   pub first_of_equals : (m : ℕ) (q : List ℕ) (xs : List Routed) → m < k → IsTry d lists m q xs → w < expense d xs
 
-abbrev pub HasBegun : Coupling → Starts → List (List Gate) → List ℕ → Bool → Type 0
-HasBegun d starts lists p along = (rs : List Routed) → AreRouted d along p lists rs → IsTaken d starts lists p rs
+pub record IsRound (n p : ℕ) : Type 0 where
+  pub some : 1 ≤ p
+  pub limit : p ≤ 512
+  pub even : p % 2 ≡ 0
+  pub around : (7 * p) % n ≡ 0
 
-pub record IsRoute (d : Coupling) (starts : Starts) (clean : Bool) (ws : List Rewritten) (p : List ℕ) (ms : List PartTarget) : Type 0 where
+pub record AreAllOf (n made tries : ℕ) : Type 0 where
+  pub some : 1 ≤ made
+  pub within : made ≤ tries
+  pub again : made < tries → (p : ℕ) × (made ≡ 1 + p) × IsRound n p
+
+abbrev pub HasBegun : Coupling → Starts → List (List Gate) → List ℕ → Bool → Type 0
+HasBegun d starts lists p along = (rs : List Routed) → AreRouted d along p lists rs
+    → IsTaken d starts lists p rs × HasFirst d starts lists
+
+pub record IsRoute (d : Coupling) (starts : Starts) (clean : Bool) (ws : List Rewritten) (p : List ℕ)
+    (ms : List PartTarget) : Type 0 where
   pub written : AreWritten d clean p ws ms
   pub begun : HasBegun d starts (gates_of ws) p written.along

@@ -1,6 +1,6 @@
 //! Where the runs through a program begin: at a placement that is given, or at the layout of the best of several tries.
 
-ghost use Rattle.std.specs.Prelude.{◌≡◌, ◌+◌, ◌*◌, ◌≤◌, ◌∷◌, All, IfOk, None, [], false, is_some, length, true};
+ghost use Rattle.std.specs.Prelude.{◌≡◌, ◌+◌, ◌*◌, ◌≤◌, ◌∷◌, ◌⊎◌, All, IfOk, None, [], false, is_some, length, true};
 ghost use Rattle.circuit_list.specs.Gates.{ops};
 ghost use Rattle.coupling_map.specs.Edges.{FollowsEdges};
 ghost use Rattle.program_parts.specs.Cuts.{whole};
@@ -8,7 +8,8 @@ ghost use Rattle.routed_parts.specs.Tries.{is_along, expense};
 ghost use Rattle.sabre_route.specs.Ahead.{cx_only};
 ghost use Rattle.unitary_model.specs.Operations.{cx_count};
 ghost use Rattle.circuit_target.specs.Making.{gates_of};
-ghost use Rattle.circuit_target.specs.Trying.{HasBegun, HasChains, IsBestOf, IsLaidOut, IsLookingOver, IsTried, IsExpense, looks_along};
+ghost use Rattle.circuit_target.specs.Trying.{AreAllOf, HasBegun, HasChains, IsBestOf, IsExpense, IsLaidOut, IsLookingOver, IsRound, IsTried};
+ghost use Rattle.circuit_target.specs.Trying.{looks_along};
 ghost use Rattle.wire_starts.specs.Starts.{AreStarts};
 
 use crate::cost::cost_of;
@@ -98,7 +99,6 @@ fn layout_from(
     chains: &AllChains,
 ) -> Result<Placement, AllocError>
     requires fits { body.now.wires ≤ device.now.size }
-    requires limit { number ≤ 256 }
     requires chains { is_along number ≡ true → HasChains body.now.wires body.now.gates chains.now.out chains.now.back }
     ensures placed { IfOk result (λ p. length p ≡ device.now.size) }
     ensures laid_out { IfOk result (IsLaidOut device.now body.now.gates number) }
@@ -166,7 +166,6 @@ fn make_try(
     requires each { All (λ r. r.passed.body.wires ≤ device.now.size) rewritten.now }
     requires few { cx_count (ops body.now.gates) ≤ 65536 }
     requires fits { body.now.wires ≤ device.now.size }
-    requires limit { number ≤ 256 }
     requires chains { is_along number ≡ true → HasChains body.now.wires body.now.gates chains.now.out chains.now.back }
     ensures tried { IfOk result (λ w. IsTried device.now (gates_of rewritten.now) number w.layout w.expense) }
     ensures number { IfOk result (λ w. w.number ≡ number) }
@@ -183,6 +182,35 @@ fn make_try(
     })
 }
 
+/// How many qubits are centres of starts: each seventh, around and around until the first one comes again.
+fn centres_of(size: u32) -> u32
+    ensures { (7 * result ≡ size) ⊎ (result ≡ size) }
+{
+    if size % 7 == 0 { size / 7 } else { size }
+}
+
+/// After how many tries the starts and the kinds come again, from try 1 on.
+fn round_of(device: &Device) -> u32
+    ensures { IsRound device.now.size result }
+{
+    device.facts();
+    let centres = centres_of(device.size());
+    if centres % 2 == 0 {
+        centres
+    } else {
+        2 * centres
+    }
+}
+
+/// How many of so many tries are made: each other one would have the start and the kind of one of these.
+fn made_of(device: &Device, tries: u32) -> u32
+    requires some { 1 ≤ tries }
+    ensures { AreAllOf device.now.size result tries }
+{
+    let different = 1 + round_of(device);
+    if different < tries { different } else { tries }
+}
+
 /// The best of so many tries: the one of the least expense, of equals the first.
 fn best_try(
     alloc: Global,
@@ -197,15 +225,19 @@ fn best_try(
     requires few { cx_count (ops body.now.gates) ≤ 65536 }
     requires fits { body.now.wires ≤ device.now.size }
     requires some { 1 ≤ tries }
-    requires limit { tries ≤ 256 }
     requires chains { HasChains body.now.wires body.now.gates chains.now.out chains.now.back }
     ensures best { IfOk result (λ w. IsBestOf device.now tries (gates_of rewritten.now) w.number w.layout w.expense) }
     ensures placed { IfOk result (λ w. length w.layout ≡ device.now.size) }
 {
     device.facts();
     tries_are_one();
+    let made = made_of(device, tries);
     let mut best = make_try(alloc, rewritten, body, device, 0, chains)?;
-    'tries: for number in 1..tries {
+    'tries: for number in 1..made {
+        if best.expense == 0 {
+            // None has less, and of equals the first is taken.
+            return Ok(best);
+        }
         let next = make_try(alloc, rewritten, body, device, number, chains)?;
         if next.expense < best.expense {
             best = next;

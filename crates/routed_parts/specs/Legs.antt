@@ -1,7 +1,8 @@
 -- Parts that stand for a program's, on its own wires or on the qubits of a device.
 --   IsCleaned clean n old new k   the new gates are what is left of the old ones, with the turn k against them
 --   IsStill n p               the part stands for its source on n wires, none of which moves; it is settled
---   IsLeg d clean n first p gates r   the part is what is left of the run r over the gates, and stands for its source from `first` on
+--   IsLeg d clean n first p gates r   the part is what is left of the run r over the gates, and stands for its source
+--                             from `first` on
 --   AreLegs d clean n first parts lists rs   each part is so, from where the one before it ended
 use Rattle.std.specs.Prelude.{◌≡◌, ℕ, ◌+◌, ◌*◌, ◌≤◌, Bool, true, false, List, [], ◌∷◌}
 use Rattle.circuit_list.specs.declared.Gate.{Gate}
@@ -32,7 +33,8 @@ pub record IsStill (n : ℕ) (p : Part) : Type 0 where
   pub t_gates : t_count p.target ≤ odd_paths n p.source
   pub cx_gates : cx_count p.target ≤ cx_count p.source
 
-pub record IsLeg (d : Coupling) (clean : Bool) (n : ℕ) (first : List ℕ) (p : Part) (gates : List Gate) (r : Routed) : Type 0 where
+pub record IsLeg (d : Coupling) (clean : Bool) (n : ℕ) (first : List ℕ) (p : Part) (gates : List Gate) (r : Routed)
+    : Type 0 where
   pub left : IsOfRun clean n p gates r
   pub realised : Realises p.source n p.target d.size first p.last p.power
   pub edges : FollowsEdges d.edges p.target
@@ -42,5 +44,6 @@ pub record IsLeg (d : Coupling) (clean : Bool) (n : ℕ) (first : List ℕ) (p :
 
 abbrev pub AreLegs : Coupling → Bool → ℕ → List ℕ → List Part → List (List Gate) → List Routed → Type 0
 AreLegs d clean n first [] [] [] = Unit {0}
-AreLegs d clean n first (p ∷ parts) (gates ∷ lists) (r ∷ rs) = IsLeg d clean n first p gates r × AreLegs d clean n p.last parts lists rs
+AreLegs d clean n first (p ∷ parts) (gates ∷ lists) (r ∷ rs) =
+    IsLeg d clean n first p gates r × AreLegs d clean n p.last parts lists rs
 AreLegs d clean n first _ _ _ = ⊥

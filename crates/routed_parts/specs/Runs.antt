@@ -1,13 +1,14 @@
 -- What the router does for a source: the routing machine's runs.
---   IsLeft clean p k ws                 of the gates ws that the machine wrote, with the turn k against the source, the part has what is
---                                       written: these gates; or, cleaned, gates without a reducible pair whose CNOTs are on pairs of theirs
---   IsOfRun clean n p gates r           the part is what is left of the run r over these settled gates on n wires, which stand for its
---                                       source;  AreOfRuns: each of the parts is so
---   HasNoMoreSwaps d starts lists parts   where no costs are listed, parts that are the best of several tries have no more swaps than
---                                       the first try, which is all that there is where nothing is told of tries
---   AreMachineRuns d starts clean n first parts   the parts are what is left of the runs that are taken, over some lists
---   HasFewSwaps d S us swaps            for each CNOT of S at most as many swaps as the qubits and the diameter, or twice as many as
---                                       the qubits where costs are listed, so at most three times as many CNOTs more
+--   IsLeft clean p k ws         of the gates ws that the machine wrote, with the turn k against the source, the part
+--                               has what is written: these gates; or, cleaned, gates without a reducible pair whose
+--                               CNOTs are on pairs of theirs
+--   IsOfRun clean n p gates r   the part is what is left of the run r over these settled gates on n wires, which stand
+--                               for its source;  AreOfRuns: each of the parts is so
+--   HasNoMoreSwaps d starts lists parts   one try alone has runs too, which are taken where nothing is told of tries;
+--                               and if no costs are listed, parts that are the best of several tries have no more swaps
+--   AreMachineRuns d starts clean n first parts   the parts are what is left of the runs that are taken over some lists
+--   HasFewSwaps d S us swaps    for each CNOT of S at most as many swaps as the qubits and the diameter, or twice as
+--                               many as the qubits where costs are listed, so at most three times as many CNOTs more
 use Rattle.std.specs.Prelude.{◌≡◌, ℕ, ◌+◌, ◌*◌, ◌%◌, ◌≤◌, All, Bool, true, false, List, [], ◌∷◌, None, sum_by}
 use Rattle.circuit_list.specs.declared.Gate.{Gate}
 use Rattle.circuit_list.specs.Gates.{IsFine, ops}
@@ -25,7 +26,7 @@ use Rattle.unitary_model.specs.Realises.{Realises}
 use Rattle.wire_starts.specs.declared.Starts.{Starts}
 use Rattle.wire_starts.specs.declared.Starts.TheVariants.{Given, Tries}
 use Rattle.routed_parts.specs.Settled.{IsSettled}
-use Rattle.routed_parts.specs.Tries.{IsTaken, IsTry}
+use Rattle.routed_parts.specs.Tries.{IsTaken}
 
 abbrev pub IsLeft : Bool → Part → ℕ → List Gate → Type 0
 IsLeft false p k ws = (p.target ≡ ops ws) × (p.power ≡ k % 8)
@@ -49,10 +50,11 @@ AreOfRuns clean n _ _ _ = ⊥
 
 abbrev pub HasNoMoreSwaps : Coupling → Starts → List (List Gate) → List Part → Type 0
 HasNoMoreSwaps d (Given q) lists parts = Unit {0}
-HasNoMoreSwaps d (Tries k) lists parts = (q : List ℕ) (rs : List Routed) → d.costs ≡ None → IsTry d lists 0 q rs
-    → sum_by (λ p. p.swaps) parts ≤ sum_by (λ r. r.swaps) rs
+HasNoMoreSwaps d (Tries k) lists parts = (q : List ℕ) × (rs : List Routed) × IsTaken d (Tries 1) lists q rs
+    × (d.costs ≡ None → sum_by (λ p. p.swaps) parts ≤ sum_by (λ r. r.swaps) rs)
 
-pub record AreMachineRuns (d : Coupling) (starts : Starts) (clean : Bool) (n : ℕ) (first : List ℕ) (parts : List Part) : Type 0 where
+pub record AreMachineRuns (d : Coupling) (starts : Starts) (clean : Bool) (n : ℕ) (first : List ℕ) (parts : List Part)
+    : Type 0 where
   pub lists : List (List Gate)
   pub routed : List Routed
   pub taken : IsTaken d starts lists first routed

@@ -2,10 +2,12 @@
 --   is_along k                try k judges swaps along dependences: those of odd numbers do
 --   ahead_of along following  swaps are judged along dependences, also among the gates that follow, or in program order
 --   AreRouted d along first lists rs   the machine's runs over lists of gates, each from where the one before it ended
---   IsTry d lists k first rs  .. of try k: from the layout of all lists, one after the other, that is looked for from start k
---   expense d rs              what tries are compared by, expense_by: what the CNOTs cost if the device lists costs, else the swaps
+--   IsTry d lists k first rs  .. of try k: from the layout of all lists, one after the other, that is looked for from
+--                             start k
+--   expense d rs              what tries are compared by, expense_by: what the CNOTs cost if the device lists costs,
+--                             else the swaps
 --   IsBestTry d tries lists first rs   of so many tries the one of the least expense, of equals the first
---   IsTaken d starts lists first rs    the runs that are taken: those from the given placement on, or those of the best try
+--   IsTaken d starts lists first rs    the runs that are taken: from the given placement on, or those of the best try
 use Rattle.std.specs.Prelude.{◌≡◌, ℕ, ◌%◌, ◌<◌, ◌≤◌, ◌==◌, Bool, true, false, List, [], ◌∷◌, Option, None, Some, sum_by}
 use Rattle.circuit_list.specs.declared.Gate.{Gate}
 use Rattle.circuit_list.specs.Gates.{ops}
@@ -45,12 +47,14 @@ expense_by (Some cs) swaps cost = cost
 abbrev pub expense : Coupling → List Routed → ℕ
 expense d rs = expense_by d.costs (sum_by (λ r. r.swaps) rs) (sum_by (λ r. cx_cost d (ops r.body.gates)) rs)
 
-pub record IsBestTry (d : Coupling) (tries : ℕ) (lists : List (List Gate)) (first : List ℕ) (rs : List Routed) : Type 0 where
+pub record IsBestTry (d : Coupling) (tries : ℕ) (lists : List (List Gate)) (first : List ℕ) (rs : List Routed)
+    : Type 0 where
   pub number : ℕ
   pub among : number < tries
   pub made : IsTry d lists number first rs
   pub least : (k : ℕ) (q : List ℕ) (xs : List Routed) → k < tries → IsTry d lists k q xs → expense d rs ≤ expense d xs
-  pub first_of_equals : (k : ℕ) (q : List ℕ) (xs : List Routed) → k < number → IsTry d lists k q xs → expense d rs < expense d xs
+  pub first_of_equals : (k : ℕ) (q : List ℕ) (xs : List Routed) → k < number → IsTry d lists k q xs
+      → expense d rs < expense d xs
 
 abbrev pub IsTaken : Coupling → Starts → List (List Gate) → List ℕ → List Routed → Type 0
 IsTaken d (Given q) lists first rs = (first ≡ q) × AreRouted d false first lists rs

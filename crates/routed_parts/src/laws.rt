@@ -61,7 +61,8 @@ pub fn run_is_leg()
         IsLeg d clean n first p gates r }
 {}
 
-/// All runs of one try from one placement expense_from the same, and so do all runs of one try: there is one start, one layout and one run.
+/// Runs through the same lists from one placement have one expense, and so have the runs of one try: it has one start and one
+/// layout.
 pub fn tries_are_one()
     ensures runs { (d : Coupling) (along : Bool) (first : List ℕ) (lists : List (List Gate)) (rs xs : List Routed) →
         AreRouted d along first lists rs → AreRouted d along first lists xs → expense d rs ≡ expense d xs }

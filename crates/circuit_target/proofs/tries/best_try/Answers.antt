@@ -2,7 +2,7 @@
 use Rattle.std.proofs.Common.{◌+◌, ◌∙◌, ap, arith, length, subst, sym}
 use Rattle.circuit_target.specs.Making.{gates_of}
 use Rattle.circuit_target.specs.Trying.{IsBestOf}
-use Rattle.circuit_target.proofs.TryingLaws.{IsBestOf-first, IsBestOf-kept, IsBestOf-next}
+use Rattle.circuit_target.proofs.TryingLaws.{IsBestOf-again, IsBestOf-first, IsBestOf-kept, IsBestOf-next, IsBestOf-nothing}
 use Rattle.circuit_target.proofs.tries.best_try.Goals as goal
 use Rattle.circuit_target.proofs.tries.best_try.Goals.{then-next-best, else-next-best}
 
@@ -16,7 +16,7 @@ tries-init c =
       best = subst (λ k. IsBestOf d 1 lists k b.layout b.expense) (sym e.number)
           (IsBestOf-first d lists b.layout b.expense (λ k q t rs xs f g. c.tries_are_one.ensures.tries d lists k q t rs xs c.facts.ensures.coupling f g) e.tried);
       placed = e.placed;
-      within = c.requires.some;
+      within = c.made_of-made.ensures.some;
     }
 
 pub tries-preserved : goal.tries-preserved
@@ -49,12 +49,27 @@ tries-preserved c =
           }
     ]
 
+pub returns-then-best-eq0-clause-best : goal.returns-then-best-eq0-clause-best
+returns-then-best-eq0-clause-best c =
+    let b = c.tries.best in
+    let inv = c.tries.invariant in
+    let made = c.made_of-made.ensures.within in
+    let within = inv.within in
+    IsBestOf-nothing c.args.device.now (gates_of c.args.rewritten.now) c.tries.number c.args.tries b.number b.layout b.expense
+    (omega (arith, within, made)) inv.best c.if-best-eq0.true
+
 pub returns-clause-best : goal.returns-clause-best
 returns-clause-best c =
+    let d = c.args.device.now in
+    let lists = gates_of c.args.rewritten.now in
     let b = c.tries.best in
     let end = c.tries-test.false in
     let within = c.tries.invariant.within in
-    subst (λ n. IsBestOf c.args.device.now n (gates_of c.args.rewritten.now) b.number b.layout b.expense) (omega (arith, end, within)) c.tries.invariant.best
+    IsBestOf-again d lists c.made_of-made.result c.args.tries b.number b.layout b.expense c.made_of-made.ensures
+    (subst (λ n. IsBestOf d n lists b.number b.layout b.expense) (omega (arith, end, within)) c.tries.invariant.best)
 
 pub returns-clause-placed : goal.returns-clause-placed
 returns-clause-placed c = c.tries.invariant.placed
+
+pub returns-then-best-eq0-clause-placed : goal.returns-then-best-eq0-clause-placed
+returns-then-best-eq0-clause-placed c = c.tries.invariant.placed

@@ -8,5 +8,5 @@ abbrev pub invariant-tries : goal.invariant-tries
 invariant-tries l = record {
   best : IsBestOf l.device l.number (gates_of l.rewritten) l.best.number l.best.layout l.best.expense;
   placed : length l.best.layout ≡ l.device.size;
-  within : l.number ≤ l.tries;
+  within : l.number ≤ l.made;
 }
