@@ -5,6 +5,7 @@
 --   IsOptimised-rewritten  expanded, and then rewritten to a settled circuit
 --   HasSteps-summed        .. with the steps that led there
 --   IsOwnTrace-run         the trace of the run proves what the target claims
+--   IsTraceOf-run          what is written as it was routed has the trace of its run
 use Rattle.std.proofs.Common.{◌≡◌, ◌≢◌, ℕ, ◌+◌, ◌%◌, ◌<◌, ◌≤◌, Bool, true, false, cond, List, [], ◌∷◌, Option, None, Some, All, length, nat_eq, refl, sym, ◌∙◌, ap, subst, arith, is_some}
 use Rattle.std.proofs.lemmas.Bool.Decides.{nat_tests}
 use Rattle.std.specs.Prelude.{IfSome}
@@ -29,10 +30,13 @@ use Rattle.rewrite_pass.specs.Windows.IsWindow.{HadSHad, HadSdgHad, HadZHad, Had
 use Rattle.rewrite_pass.specs.Law.{IsRewriting}
 use Rattle.coupling_map.specs.Coupling.{Coupling}
 use Rattle.sabre_route.specs.declared.router.Routed.{Routed}
+use Rattle.routed_parts.specs.Legs.{IsCleaned}
 use Rattle.routed_parts.specs.Settled.{IsSettled}
 use Rattle.circuit_target.specs.Standing.{claim_of, IsOwnTrace}
 use Rattle.circuit_target.specs.Targets.{HasSteps, IsOptimised}
-use Rattle.circuit_target.specs.Making.{IsRunTrace}
+use Rattle.circuit_target.specs.Making.{IsRunTrace, IsTraceOf}
+use Rattle.circuit_target.specs.declared.parts.PartTarget.{PartTarget}
+use Rattle.circuit_target.specs.declared.passes.Rewritten.{Rewritten}
 
 pub IsSettled-left : (n : ℕ) (gs : List Gate) → ((i : ℕ) → i < length gs → IsWindow gs i → ⊥) × NoReducible gs × (t_count (ops gs) ≡ odd_paths n (ops gs))
     → IsSettled n (ops gs)
@@ -126,3 +130,23 @@ IsOwnTrace-run d n S c (Some ss) given r s t told j trace steps run none wires f
   where
     whole : (a b k m j : ℕ) → a ≡ (m + b) % 8 → j ≡ (a + k) % 8 → j ≡ (m + (b + k)) % 8
     whole a b k m j e f = omega (arith, e, f)
+
+pub IsTraceOf-run : (d : Coupling) (given at : List ℕ) (w : Rewritten) (x : Routed) (m : PartTarget) (clean : Bool) (n turn k : ℕ) (trace : List ℕ)
+    → IfSome w.steps (λ ss. IsRunTrace d w.passed ss at x turn trace) → at ≡ given → turn ≡ (w.passed.turn + x.turn) % 8
+    → IsCleaned clean n x.body.gates m.body.gates k → m.last ≡ x.last → m.turn ≡ (turn + k) % 8 → clean ≡ false → IsTraceOf d given w m trace
+IsTraceOf-run d given at w x m clean n turn k trace told same sum left last all kept =
+    let now : IsCleaned false n x.body.gates m.body.gates k = subst (λ (b : Bool). IsCleaned b n x.body.gates m.body.gates k) kept left in
+    let none : k ≡ 0 = now.1 in
+    go (omega (arith, sum, all, none)) (sym now.0) w.steps told
+  where
+    go : m.turn ≡ turn → x.body.gates ≡ m.body.gates → (o : Option (List Step)) → IfSome o (λ ss. IsRunTrace d w.passed ss at x turn trace)
+        → IfSome o (λ ss. (y : Routed) × IsRunTrace d w.passed ss given y m.turn trace × (y.last ≡ m.last) × (y.body.gates ≡ m.body.gates)
+        × (m.turn ≡ (w.passed.turn + y.turn) % 8))
+    go is gates None run = tt
+    go is gates (Some ss) run = (
+      x,
+      subst (λ j. IsRunTrace d w.passed ss given x j trace) (sym is) (subst (λ p. IsRunTrace d w.passed ss p x turn trace) same run),
+      sym last,
+      gates,
+      is ∙ sum,
+    )
