@@ -20,6 +20,7 @@ mod parts;
 mod routed;
 mod routing;
 mod sums;
+mod touched;
 mod windows;
 mod words;
 
