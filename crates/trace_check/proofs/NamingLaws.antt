@@ -13,7 +13,7 @@ use Rattle.circuit_list.specs.declared.Gate.TheVariants.{H, X, P, Cx}
 use Rattle.path_parity.specs.PathSum.{label, own_labels}
 use Rattle.path_parity.specs.NamedSums.{Seen, constant_of, next_variable, seen_after, unseen, SamePathSum}
 use Rattle.path_parity.proofs.NumberedLaws.{Renames, renamed, renamed-linear, renamed-own, renamed-zero}
-use Rattle.trace_check.specs.Names.{AreNamed, SameBy, constant_by, number_by, variables_of}
+use Rattle.trace_check.specs.Names.{AreAmong, SameBy, constant_by, number_by, variables_of}
 use Rattle.trace_check.proofs.CollectLaws.{equal, own}
 use Rattle.trace_check.proofs.TouchedLaws.{IsPlaced, placed}
 use Rattle.trace_check.proofs.RenameLaws.{Carries, carried_constant, constant-named, named-same, same-carried, same-named}
@@ -41,18 +41,18 @@ all_stay : (names vs : List ℕ) (u : ℕ) → list_any (nat_eq u) names ≡ tru
 all_stay names [] u h = h
 all_stay names (v ∷ vs) u h = all_stay (insert_key nat_eq names v) vs u (stays names v u h)
 
-AreNamed-all : (names vs : List ℕ) → AreNamed (insert_all nat_eq names vs) vs
-AreNamed-all names [] = tt
-AreNamed-all names (v ∷ vs) = (all_stay (insert_key nat_eq names v) vs v (comes names v), AreNamed-all (insert_key nat_eq names v) vs)
+AreAmong-all : (names vs : List ℕ) → AreAmong (insert_all nat_eq names vs) vs
+AreAmong-all names [] = tt
+AreAmong-all names (v ∷ vs) = (all_stay (insert_key nat_eq names v) vs v (comes names v), AreAmong-all (insert_key nat_eq names v) vs)
 
-AreNamed-kept : (names us vs : List ℕ) → AreNamed names vs → AreNamed (insert_all nat_eq names us) vs
-AreNamed-kept names us [] h = tt
-AreNamed-kept names us (v ∷ vs) h = (all_stay names us v h.0, AreNamed-kept names us vs h.1)
+AreAmong-kept : (names us vs : List ℕ) → AreAmong names vs → AreAmong (insert_all nat_eq names us) vs
+AreAmong-kept names us [] h = tt
+AreAmong-kept names us (v ∷ vs) h = (all_stay names us v h.0, AreAmong-kept names us vs h.1)
 
-pub named-both : (names more all us vs : List ℕ) → more ≡ insert_all nat_eq names us → all ≡ insert_all nat_eq more vs → AreNamed all us × AreNamed all vs
+pub named-both : (names more all us vs : List ℕ) → more ≡ insert_all nat_eq names us → all ≡ insert_all nat_eq more vs → AreAmong all us × AreAmong all vs
 named-both names more all us vs e f = (
-  subst (λ ks. AreNamed ks us) (sym f) (AreNamed-kept more vs us (subst (λ ks. AreNamed ks us) (sym e) (AreNamed-all names us))),
-  subst (λ ks. AreNamed ks vs) (sym f) (AreNamed-all more vs),
+  subst (λ ks. AreAmong ks us) (sym f) (AreAmong-kept more vs us (subst (λ ks. AreAmong ks us) (sym e) (AreAmong-all names us))),
+  subst (λ ks. AreAmong ks vs) (sym f) (AreAmong-all more vs),
 )
 
 abbrev bound : List ℕ → ℕ
@@ -108,14 +108,14 @@ module _ (n : ℕ) (names : List ℕ) where
   number-name : (v : ℕ) → n ≤ v → list_any (nat_eq v) names ≡ true → number_of (2 ^ v) ≡ 2 ^ number_by n names v
   number-name v le h = renamed-own (suc (n + bound names)) v forth (omega (arith, bounded names v h)) ∙ ap (λ k. 2 ^ k) (λ i. cond (above v n le i) v (number_by n names v))
 
-  carries-names : (vs : List ℕ) → AreNamed names vs → Carries (number_by n names) (λ v. v) name_of vs
+  carries-names : (vs : List ℕ) → AreAmong names vs → Carries (number_by n names) (λ v. v) name_of vs
   carries-names [] h = tt
   carries-names (v ∷ vs) h = (name-number v h.0, carries-names vs h.1)
 
   behind : (a q : ℕ) → n ≤ suc a * n + q
   behind a q = omega arith
 
-  carries-numbers : (gs : List Gate) (s : Seen) → AreNamed names (variables_of n gs s) → Carries (λ v. v) (number_by n names) number_of (variables_of n gs s)
+  carries-numbers : (gs : List Gate) (s : Seen) → AreAmong names (variables_of n gs s) → Carries (λ v. v) (number_by n names) number_of (variables_of n gs s)
   carries-numbers [] s h = tt
   carries-numbers (H q ∷ gs) s h = (number-name (next_variable n s q) (behind (s q) q) h.0, carries-numbers gs (seen_after (H q) s) h.1)
   carries-numbers (X q ∷ gs) s h = carries-numbers gs s h
@@ -128,11 +128,11 @@ module _ (n : ℕ) (names : List ℕ) where
   own-number : Renames number_of (own_labels n) (own_labels n)
   own-number = own-renamed (suc (n + bound names)) n forth (omega arith) (λ i lt j. cond (below i n lt j) i (number_by n names i))
 
-  pub sums-by : (A B : List Gate) → AreNamed names (variables_of n A unseen) → AreNamed names (variables_of n B unseen) → SameBy n (number_by n names) A B → SamePathSum n A B
+  pub sums-by : (A B : List Gate) → AreAmong names (variables_of n A unseen) → AreAmong names (variables_of n B unseen) → SameBy n (number_by n names) A B → SamePathSum n A B
   sums-by A B a b same = same-named n A B (same-carried n (number_by n names) (λ v. v) name_of (renamed-linear (n + length names) back) A B (carries-names (variables_of n A unseen) a) (carries-names (variables_of n B unseen) b) own-name same)
 
-  pub by-sums : (A B : List Gate) → AreNamed names (variables_of n A unseen) → AreNamed names (variables_of n B unseen) → SamePathSum n A B → SameBy n (number_by n names) A B
+  pub by-sums : (A B : List Gate) → AreAmong names (variables_of n A unseen) → AreAmong names (variables_of n B unseen) → SamePathSum n A B → SameBy n (number_by n names) A B
   by-sums A B a b same = same-carried n (λ v. v) (number_by n names) number_of (renamed-linear (suc (n + bound names)) forth) A B (carries-numbers A unseen a) (carries-numbers B unseen b) own-number (named-same n A B same)
 
-  pub constant-by : (A : List Gate) → AreNamed names (variables_of n A unseen) → constant_by n (number_by n names) A (own_labels n) unseen ≡ constant_of n A
+  pub constant-by : (A : List Gate) → AreAmong names (variables_of n A unseen) → constant_by n (number_by n names) A (own_labels n) unseen ≡ constant_of n A
   constant-by A a = sym (carried_constant n (number_by n names) (λ v. v) name_of (renamed-linear (n + length names) back) A (own_labels n) (own_labels n) unseen (carries-names (variables_of n A unseen) a) own-name) ∙ constant-named n A (own_labels n) unseen

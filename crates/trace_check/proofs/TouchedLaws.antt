@@ -32,7 +32,7 @@ use Rattle.path_parity.specs.PathSum.{PathLabel, fresh, label, own_labels, with_
 use Rattle.path_parity.specs.Sets.{label_of}
 use Rattle.path_parity.proofs.LoopLaws.{drop-get}
 use Rattle.trace_check.proofs.CollectLaws.{equal, own}
-use Rattle.trace_check.specs.Names.{AreNamed, IsTouched, counts, labels_on, place_in, wires_of, wires_on}
+use Rattle.trace_check.specs.Names.{AreAmong, IsTouched, counts, labels_on, place_in, wires_touched, wires_on}
 
 -- ---- numbers
 unlike : (m s : ℕ) → (m ≡ s → ⊥) → nat_eq m s ≡ false
@@ -130,25 +130,25 @@ set-at (y ∷ ys) (suc q) x d (suc p) h = set-at ys q x d p (omega arith) ∙ (�
 
 -- ---- along a circuit
 pub touch-more : (gs : List Gate) (i : ℕ) (g : Gate) (ws more all : List ℕ) → slice_get gs i ≡ Some g → more ≡ insert_all nat_eq ws (wires_on g) →
-    insert_all nat_eq ws (wires_of (drop i gs)) ≡ all → insert_all nat_eq more (wires_of (drop (i + 1) gs)) ≡ all
+    insert_all nat_eq ws (wires_touched (drop i gs)) ≡ all → insert_all nat_eq more (wires_touched (drop (i + 1) gs)) ≡ all
 touch-more gs i g ws more all there e h =
-    (λ j. insert_all nat_eq (e j) (wires_of (drop (i + 1) gs)))
-    ∙ sym (fold-append (insert_key nat_eq) ws (wires_on g) (wires_of (drop (i + 1) gs)))
-    ∙ sym (λ j. insert_all nat_eq ws (wires_of (drop-get gs i g there j))) ∙ h
+    (λ j. insert_all nat_eq (e j) (wires_touched (drop (i + 1) gs)))
+    ∙ sym (fold-append (insert_key nat_eq) ws (wires_on g) (wires_touched (drop (i + 1) gs)))
+    ∙ sym (λ j. insert_all nat_eq ws (wires_touched (drop-get gs i g there j))) ∙ h
 
-pub touch-end : (gs : List Gate) (i : ℕ) (ws all : List ℕ) → length gs ≤ i → insert_all nat_eq ws (wires_of (drop i gs)) ≡ all → ws ≡ all
-touch-end gs i ws all le h = sym (λ j. insert_all nat_eq ws (wires_of (drop_of_length-le gs le j))) ∙ h
+pub touch-end : (gs : List Gate) (i : ℕ) (ws all : List ℕ) → length gs ≤ i → insert_all nat_eq ws (wires_touched (drop i gs)) ≡ all → ws ≡ all
+touch-end gs i ws all le h = sym (λ j. insert_all nat_eq ws (wires_touched (drop_of_length-le gs le j))) ∙ h
 
-first : (ws : List ℕ) (g : Gate) (more : List ℕ) → AreNamed ws (wires_on g ++ more) → IsTouched ws g × AreNamed ws more
+first : (ws : List ℕ) (g : Gate) (more : List ℕ) → AreAmong ws (wires_on g ++ more) → IsTouched ws g × AreAmong ws more
 first ws (H q) more h = h
 first ws (X q) more h = h
 first ws (P k q) more h = h
 first ws (Cx c t) more h = ((h.0, h.1.0), h.1.1)
 
-pub touched-at : (ws : List ℕ) (gs : List Gate) (i : ℕ) (g : Gate) → slice_get gs i ≡ Some g → AreNamed ws (wires_of gs) → IsTouched ws g
+pub touched-at : (ws : List ℕ) (gs : List Gate) (i : ℕ) (g : Gate) → slice_get gs i ≡ Some g → AreAmong ws (wires_touched gs) → IsTouched ws g
 touched-at ws [] i g e h = absurd (cc)
-touched-at ws (x ∷ xs) zero g e h = let same : x ≡ g = cc in subst (IsTouched ws) same (first ws x (wires_of xs) h).0
-touched-at ws (x ∷ xs) (suc i) g e h = touched-at ws xs i g e (first ws x (wires_of xs) h).1
+touched-at ws (x ∷ xs) zero g e h = let same : x ≡ g = cc in subst (IsTouched ws) same (first ws x (wires_touched xs) h).0
+touched-at ws (x ∷ xs) (suc i) g e h = touched-at ws xs i g e (first ws x (wires_touched xs) h).1
 
 abbrev AreBelow : ℕ → List ℕ → Type 0
 AreBelow n ws = AllByRecursion (λ q. q < n) ws
@@ -167,9 +167,9 @@ below-on n (X q) h = (h, tt)
 below-on n (P k q) h = (h.0, tt)
 below-on n (Cx c t) h = (h.0, (h.1.0, tt))
 
-below-of : (n : ℕ) (gs : List Gate) → All (IsFine n) gs → AreBelow n (wires_of gs)
+below-of : (n : ℕ) (gs : List Gate) → All (IsFine n) gs → AreBelow n (wires_touched gs)
 below-of n [] h = tt
-below-of n (g ∷ gs) h = below-append n (wires_on g) (wires_of gs) (below-on n g (h 0 g (omega arith))) (below-of n gs (λ k d lt. h (suc k) d (omega arith)))
+below-of n (g ∷ gs) h = below-append n (wires_on g) (wires_touched gs) (below-on n g (h 0 g (omega arith))) (below-of n gs (λ k d lt. h (suc k) d (omega arith)))
 
 below-insert : (n : ℕ) (ws vs : List ℕ) → AreBelow n ws → AreBelow n vs → AreBelow n (insert_all nat_eq ws vs)
 below-insert n ws [] h k = h
@@ -179,10 +179,10 @@ below-insert n ws (v ∷ vs) h k = below-insert n (insert_key nat_eq ws v) vs (g
     go true = h
     go false = below-push n ws v h k.0
 
-pub below-all : (n : ℕ) (one two : List ℕ) (A B : List Gate) → All (IsFine n) A → All (IsFine n) B → one ≡ insert_all nat_eq [] (wires_of A) → two ≡ insert_all nat_eq one (wires_of B) → All (λ q. q < n) two
+pub below-all : (n : ℕ) (one two : List ℕ) (A B : List Gate) → All (IsFine n) A → All (IsFine n) B → one ≡ insert_all nat_eq [] (wires_touched A) → two ≡ insert_all nat_eq one (wires_touched B) → All (λ q. q < n) two
 below-all n one two A B fineA fineB e f = All-from_recursion (λ q. q < n) two
-    (subst (AreBelow n) (sym (f ∙ ap (λ ws. insert_all nat_eq ws (wires_of B)) e))
-    (below-insert n (insert_all nat_eq [] (wires_of A)) (wires_of B) (below-insert n [] (wires_of A) tt (below-of n A fineA)) (below-of n B fineB)))
+    (subst (AreBelow n) (sym (f ∙ ap (λ ws. insert_all nat_eq ws (wires_touched B)) e))
+    (below-insert n (insert_all nat_eq [] (wires_touched A)) (wires_touched B) (below-insert n [] (wires_touched A) tt (below-of n A fineA)) (below-of n B fineB)))
 
 -- ---- counts and labels
 pub counts-set : (ws seen : List ℕ) (q x p : ℕ) → list_any (nat_eq q) ws ≡ true → length seen ≡ length ws → counts ws (set seen (place_in ws q) x) p ≡ cond (nat_eq p q) x (counts ws seen p)

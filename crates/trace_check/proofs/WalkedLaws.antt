@@ -12,7 +12,7 @@ use Rattle.path_parity.specs.PathSum.{Wires, own_labels}
 use Rattle.path_parity.proofs.LoopLaws.{drop-get}
 use Rattle.rewrite_pass.specs.Traces.{constants_turn}
 use Rattle.trace_check.proofs.NamingLaws.{by-sums, constant-by, sums-by}
-use Rattle.trace_check.specs.Names.{AreNamed, SameBy, after_by, constant_by, hadamards_by, last_by, number_by, term_by, terms_by, variables_of}
+use Rattle.trace_check.specs.Names.{AreAmong, SameBy, after_by, constant_by, hadamards_by, last_by, number_by, term_by, terms_by, variables_of}
 use Rattle.trace_check.specs.Sums.{Adds, Collected, IsSameWalk, IsWalked, NamedWalk, Passes, labels_in, seen_in}
 
 pub total-append : (m : ℕ) (xs ys : List (ℕ × ℕ)) → total m (xs ++ ys) ≡ total m xs + total m ys
@@ -81,7 +81,7 @@ underway-end n r gs i sign none t w le h =
     last x a y b e f = omega (arith, ap (λ k. sign * k) e, f)
 
 -- ---- two walks
-module _ (n : ℕ) (names : List ℕ) (A B : List Gate) (namedA : AreNamed names (variables_of n A unseen)) (namedB : AreNamed names (variables_of n B unseen)) (none one two : Collected) (a b : NamedWalk)
+module _ (n : ℕ) (names : List ℕ) (A B : List Gate) (namedA : AreAmong names (variables_of n A unseen)) (namedB : AreAmong names (variables_of n B unseen)) (none one two : Collected) (a b : NamedWalk)
     (blank : none.sets ≡ []) (zero : none.constant ≡ 0) (first : IsWalked n (number_by n names) A 7 none one a) (second : IsWalked n (number_by n names) B 1 one two b) where
   abbrev termsA : List (ℕ × ℕ)
   termsA = terms_by n (number_by n names) A (own_labels n) unseen

@@ -1,7 +1,7 @@
 -- Working form. Path sums in variables that are numbered as they come up. Each variable of an H has its name, which is that of a
 -- path sum with named variables, and names stand in a list.
---     AreNamed names vs       each of vs stands among the names
---     wires_on g, wires_of gs     the wires of a gate, and of a list of gates
+--     AreAmong names vs       each of vs stands among the names
+--     wires_on g, wires_touched gs     the wires of a gate, and of a list of gates
 --     IsTouched ws g          the wires of gate g stand among the wires ws
 --     place_in ws q           the place of wire q among the wires ws, and their number where it isn't there
 --     counts ws xs            how many H stand before, where xs has that for the wires ws; none on another wire
@@ -23,9 +23,9 @@ use Rattle.circuit_list.specs.declared.Gate.TheVariants.{H, X, P, Cx}
 use Rattle.path_parity.specs.NamedSums.{Seen, constant_at, hadamard, next_variable, seen_after, set_before, total, unseen}
 use Rattle.path_parity.specs.PathSum.{PathLabel, Wires, with_label, add_labels, flipped, fresh, own_labels}
 
-abbrev pub AreNamed : List ℕ → List ℕ → Type 0
-AreNamed names [] = Unit {0}
-AreNamed names (v ∷ vs) = (list_any (nat_eq v) names ≡ true) × AreNamed names vs
+abbrev pub AreAmong : List ℕ → List ℕ → Type 0
+AreAmong names [] = Unit {0}
+AreAmong names (v ∷ vs) = (list_any (nat_eq v) names ≡ true) × AreAmong names vs
 
 abbrev pub wires_on : Gate → List ℕ
 wires_on (H q) = q ∷ []
@@ -33,9 +33,9 @@ wires_on (X q) = q ∷ []
 wires_on (P k q) = q ∷ []
 wires_on (Cx c t) = c ∷ t ∷ []
 
-abbrev pub wires_of : List Gate → List ℕ
-wires_of [] = []
-wires_of (g ∷ gs) = wires_on g ++ wires_of gs
+abbrev pub wires_touched : List Gate → List ℕ
+wires_touched [] = []
+wires_touched (g ∷ gs) = wires_on g ++ wires_touched gs
 
 abbrev pub IsTouched : List ℕ → Gate → Type 0
 IsTouched wires (H q) = list_any (nat_eq q) wires ≡ true

@@ -4,7 +4,7 @@ ghost use Rattle.std.specs.Prelude.{◌≡◌, ◌<◌, ◌+◌, ◌*◌, ℕ, s
 ghost use Rattle.circuit_list.specs.Gates.{IsFine};
 ghost use Rattle.indexmap.specs.IndexSet.{insert_all};
 ghost use Rattle.path_parity.specs.NamedSums.{seen_after, unseen};
-ghost use Rattle.trace_check.specs.Names.{AreNamed, IsTouched, counts, number_by, seen_last, variable, variables_of, wires_of};
+ghost use Rattle.trace_check.specs.Names.{AreAmong, IsTouched, counts, number_by, seen_last, variable, variables_of, wires_touched};
 
 use crate::touched::place_in;
 use circuit_list::{Circuit, Gate};
@@ -86,7 +86,7 @@ pub(crate) fn note_names(
     names: &mut IndexSet<u64>,
     body: &Circuit,
 ) -> Result<Vec<u64>, AllocError>
-    requires { AreNamed touched.now.keys (wires_of body.now.gates) }
+    requires { AreAmong touched.now.keys (wires_touched body.now.gates) }
     ensures wires { IfOk result (λ v. length v.items ≡ length touched.now.keys) }
     ensures seen { IfOk result (λ v. counts touched.now.keys v.items ≡ seen_last body.now.gates unseen) }
     ensures names { OnOk result (names.new.keys ≡ insert_all nat_eq names.old.keys (variables_of body.now.wires body.now.gates unseen)) }

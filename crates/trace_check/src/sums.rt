@@ -12,7 +12,7 @@ ghost use Rattle.path_parity.specs.LabelWalks.{labels_of_list};
 ghost use Rattle.path_parity.specs.PathSum.{fresh, own_labels};
 ghost use Rattle.path_parity.specs.Sets.{IsLabel, IsPacked, label_of, set_of};
 ghost use Rattle.rewrite_pass.specs.Traces.{constants_turn};
-ghost use Rattle.trace_check.specs.Names.{AreNamed, IsTouched, number_by, term_by, wires_of};
+ghost use Rattle.trace_check.specs.Names.{AreAmong, IsTouched, number_by, term_by, wires_touched};
 ghost use Rattle.trace_check.specs.Sums.{Adds, AddsKnown, AreRows, IsSameWalk, IsWalked, Passes, befores, compact, is_sparse, labels_in, mark, seen_in, sparse};
 
 use crate::names::{first_counts, next_variable, note_names, number};
@@ -380,7 +380,7 @@ fn walked<'a>(
     sign: u8,
 ) -> Result<Walk<'a>, AllocError>
     requires below { All (λ q. q < body.now.wires) touched.now.keys }
-    requires touched { AreNamed touched.now.keys (wires_of body.now.gates) }
+    requires touched { AreAmong touched.now.keys (wires_touched body.now.gates) }
     ensures touched { IfOk result (λ w. w.touched ≡ touched.now.keys) }
     ensures walked { IfOk result (λ w. IsWalked body.now.wires (number_by body.now.wires names.now.keys) body.now.gates sign totals.old totals.new w) }
 {

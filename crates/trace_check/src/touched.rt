@@ -3,7 +3,7 @@
 ghost use Rattle.std.specs.Prelude.{◌≡◌, ◌<◌, All, IfOk, OnOk, length, nat_eq, true};
 ghost use Rattle.std.specs.List.{IsDistinct, list_any};
 ghost use Rattle.indexmap.specs.IndexSet.{insert_all};
-ghost use Rattle.trace_check.specs.Names.{AreNamed, place_in, wires_of, wires_on};
+ghost use Rattle.trace_check.specs.Names.{AreAmong, place_in, wires_touched, wires_on};
 
 use circuit_list::{Circuit, Gate};
 use indexmap::IndexSet;
@@ -36,7 +36,7 @@ fn touch(touched: &mut IndexSet<u32>, gate: Gate) -> Result<(), AllocError>
 
 /// Puts the wires of a circuit's gates behind those that are touched, those that aren't there.
 fn touch_wires(touched: &mut IndexSet<u32>, body: &Circuit) -> Result<(), AllocError>
-    ensures { OnOk result (touched.new.keys ≡ insert_all nat_eq touched.old.keys (wires_of body.now.gates)) }
+    ensures { OnOk result (touched.new.keys ≡ insert_all nat_eq touched.old.keys (wires_touched body.now.gates)) }
 {
     'gates: for place in 0..body.len() {
         touch(touched, body.gate(place))?;
@@ -51,8 +51,8 @@ pub(crate) fn touched_by(
     new: &Circuit,
 ) -> Result<IndexSet<u32>, AllocError>
     requires { old.now.wires ≡ new.now.wires }
-    ensures old { IfOk result (λ s. AreNamed s.keys (wires_of old.now.gates)) }
-    ensures new { IfOk result (λ s. AreNamed s.keys (wires_of new.now.gates)) }
+    ensures old { IfOk result (λ s. AreAmong s.keys (wires_touched old.now.gates)) }
+    ensures new { IfOk result (λ s. AreAmong s.keys (wires_touched new.now.gates)) }
     ensures distinct { IfOk result (λ s. IsDistinct nat_eq s.keys) }
     ensures below { IfOk result (λ s. All (λ q. q < old.now.wires) s.keys) }
     ensures within { IfOk result (λ s. All (λ q. q < new.now.wires) s.keys) }
