@@ -97,7 +97,15 @@ pub fn check(alloc: Global, source: &Ops, target: &Ops, trace: &[u8]) -> Result<
     let Some(routing) = placing(alloc, state, goal.body.wires(), &numbers)? else {
         return Ok(Outcome::Stopped { line: line - 1 });
     };
-    routed(alloc, head.edition, text, line, routing, &goal, &mut numbers)
+    routed(
+        alloc,
+        head.edition,
+        text,
+        line,
+        routing,
+        &goal,
+        &mut numbers,
+    )
 }
 
 /// The first line of a trace: its edition, and the text behind it.

@@ -16,12 +16,7 @@ use std::alloc::{AllocError, Global};
 use unitary_model::turn_sum;
 
 /// Puts the gates of a circuit at the places from one on and before another behind those of a circuit.
-fn push_part(
-    to: &mut Circuit,
-    from: &Circuit,
-    first: usize,
-    end: usize,
-) -> Result<(), AllocError>
+fn push_part(to: &mut Circuit, from: &Circuit, first: usize, end: usize) -> Result<(), AllocError>
     requires wires { from.now.wires ≡ to.old.wires }
     requires ordered { first ≤ end }
     requires within { end ≤ length from.now.gates }
