@@ -193,7 +193,6 @@ class Page(OfAProgram):
         self.assertEqual(self.run_tool(*words), (1, "", f"page: {broken}:5:1: an angle that has no value\n"))
         self.assertFalse(os.path.exists(page))
 
-
     def test_reports_that_cannot_be(self):
         page, found = self.made(HEAD + "qreg q[1];\nh q[0];\n", "line_5")
         words = ["page", *(os.path.join(self.room, it) for it in ("source.qasm", "target.qasm")), "--device", os.path.join(TOP, "devices/line_5.toml")]
@@ -214,14 +213,22 @@ class InABrowser(OfAProgram):
         super().setUp()
         if BROWSER is None:
             self.skipTest("there is no Chromium")
+        empty = self.file("empty.html", "<p>Nothing.</p>\n")
+        try:
+            if "Nothing." not in self.run_browser("--dump-dom", f"file://{empty}", timeout=100).stdout:
+                self.skipTest("Chromium shows no page here")
+        except subprocess.TimeoutExpired:
+            self.skipTest("Chromium takes too long here")
+
+    def run_browser(self, *words, timeout):
+        flags = ["--headless", "--no-sandbox", "--disable-gpu", "--disable-dev-shm-usage", "--hide-scrollbars", "--window-size=1320,1010"]
+        flags += ["--force-device-scale-factor=0.6", "--virtual-time-budget=900", f"--user-data-dir={self.room}/profile"]
+        return subprocess.run([BROWSER, *flags, *words], capture_output=True, text=True, timeout=timeout)
 
     def browsed(self, page, at):
         """The document at a step, once its scripts ran, and the picture of it."""
         picture = f"{page}.png"
-        flags = ["--headless", "--no-sandbox", "--disable-gpu", "--hide-scrollbars", "--window-size=1320,1010"]
-        flags += ["--force-device-scale-factor=0.6", "--virtual-time-budget=900", f"--user-data-dir={self.room}/profile"]
-        words = [BROWSER, *flags, "--dump-dom", f"--screenshot={picture}", f"file://{page}#{at}"]
-        ran = subprocess.run(words, capture_output=True, text=True, timeout=300)
+        ran = self.run_browser("--dump-dom", f"--screenshot={picture}", f"file://{page}#{at}", timeout=300)
         self.assertEqual(ran.returncode, 0, ran.stderr)
         return ran.stdout, picture
 
