@@ -12,6 +12,11 @@ pub mod ReadWires
 pub mod KeptLaws
 pub mod BegunLaws
 pub mod QuietLaws
+pub mod IntLaws
+pub mod PartLaws
+pub mod LinearLaws
+pub mod AtLaws
+pub mod LineLaws
 pub mod ProgressLaws
 pub mod RenamingLaws
 pub mod BarLaws

@@ -14,6 +14,8 @@ pub mod Placed
 pub mod Frames
 pub mod Remembered
 pub mod Quiet
+pub mod Linear
+pub mod Lines
 pub mod Progress
 pub mod Renaming
 pub mod Parting

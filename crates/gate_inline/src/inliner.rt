@@ -5,6 +5,7 @@ ghost use Rattle.gate_library.specs.Operands.{broadcast as broadcast_of, wire_at
 ghost use Rattle.gate_library.specs.Views.{gate as gate_view};
 ghost use Rattle.gate_inline.specs.Capped.{capped};
 ghost use Rattle.gate_inline.specs.Frames.{call_answer, frame_answer, frame_room, frames_room};
+ghost use Rattle.gate_inline.specs.Lines.{body_of};
 ghost use Rattle.gate_inline.specs.Meanings.{broadcast_answer, meaning_at, meanings, one_op, step_answer};
 ghost use Rattle.gate_inline.specs.Placed.{IsPlaced};
 ghost use Rattle.gate_inline.specs.Progress.{IsUnderway, HasWritten, at_start, gates_of, written};
@@ -16,6 +17,7 @@ ghost use Rattle.gate_inline.specs.declared.stop.InlineStop.TheVariants.{NoMemor
 ghost use Rattle.qasm_check.specs.StepViews.{step as step_view};
 
 use crate::body::{Call, Entered, Frame, call_of, enter, push_body, split};
+use crate::line::Line;
 use crate::memo::{Kept, Memo};
 use crate::quiet::is_nothing;
 use crate::renaming::{is_renaming, push_renamed};
@@ -34,6 +36,7 @@ use unitary_model::Op;
 #[derive(Drop)]
 pub struct Inliner<'a> {
     gates: &'a [BoundGate],
+    bodies: &'a [Vec<Line<'a>>],
     sizes: Vec<Size>,
     limits: Vec<Option<u64>>,
     memo: Memo,
@@ -43,6 +46,7 @@ pub struct Inliner<'a> {
 impl<'a> Model for Inliner<'a> {
     ghost use Rattle.std.specs.Coded.{codes};
     ghost use Rattle.gate_library.specs.contracts.formula.Formula as formula;
+    ghost use Rattle.std.specs.Prelude.{map};
     ghost use Rattle.gate_inline.specs.Progress.{IsInliner, Progress};
 
     ghost Value = { Progress };
@@ -51,7 +55,7 @@ impl<'a> Model for Inliner<'a> {
 
     ghost view = { λ s. record { gates = s.gates.now; list = s.list.items } };
 
-    ghost invariant = { λ s. IsInliner s.gates.now s.sizes.items s.limits.items s.list.items s.memo.places.items };
+    ghost invariant = { λ s. IsInliner s.gates.now (map (λ b. b.items) s.bodies.now) s.sizes.items s.limits.items s.list.items s.memo.places.items };
 }
 
 /// The wires at an index of a broadcast.
@@ -77,15 +81,18 @@ impl<'a> Inliner<'a> {
     pub fn new(
         alloc: Global,
         gates: &'a [BoundGate],
+        bodies: &'a [Vec<Line<'a>>],
         sizes: Vec<Size>,
         limits: Vec<Option<u64>>,
     ) -> Inliner<'a>
+        requires lined { map (λ b. b.items) bodies.now ≡ map body_of gates.now }
         requires sized { sizes.items ≡ map capped (sizes_of (map gate_view gates.now)) }
         requires limits { AreQuiet (meanings (map gate_view gates.now)) limits.items }
         ensures value { result ≡ at_start gates.now }
     {
         Inliner {
             gates,
+            bodies,
             sizes,
             limits,
             memo: Memo::new(alloc),
@@ -106,6 +113,7 @@ impl<'a> Inliner<'a> {
     {
         let Inliner {
             gates: _,
+            bodies: _,
             sizes: _,
             limits: _,
             memo: _,
@@ -201,7 +209,7 @@ impl<'a> Inliner<'a> {
             self.write_again(start, end)?;
             return Ok(());
         }
-        let Entered { op, body } = enter(self.gates, below, call, self.written())?;
+        let Entered { op, body } = enter(self.gates, self.bodies, below, call, self.written())?;
         self.push_op(op)?;
         push_body(frames, body)?;
         Ok(())
@@ -227,7 +235,7 @@ impl<'a> Inliner<'a> {
             angles,
             wires,
         } = frame;
-        let Some((item, rest)) = split(rest) else {
+        let Some((line, rest)) = split(rest) else {
             let end = self.written();
             self.keep(
                 alloc,
@@ -241,7 +249,7 @@ impl<'a> Inliner<'a> {
             )?;
             return Ok(());
         };
-        let call = call_of(alloc, item, &angles, &wires)?;
+        let call = call_of(alloc, line, &angles, &wires)?;
         frames.push(Frame {
             own,
             start,
@@ -352,7 +360,7 @@ impl<'a> Inliner<'a> {
                 gate,
                 angles,
                 operands,
-            } => match values(alloc, &[], angles) {
+            } => match values(alloc, &[], angles, &[]) {
                 Ok(angles) => self.write_broadcast(alloc, *gate, &angles, operands.as_slice()),
                 Err(stop) => Err(stop),
             },

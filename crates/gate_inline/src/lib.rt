@@ -13,9 +13,11 @@
 #![tactic(auto)]
 
 mod body;
+mod form;
 mod inliner;
 mod inlining;
 mod laws;
+mod line;
 mod memo;
 mod parts;
 mod program;

@@ -10,6 +10,7 @@ ghost use Rattle.gate_inline.specs.Progress.{gates_of};
 ghost use Rattle.gate_inline.specs.Splits.{IsCutBy, IsSplit};
 
 use crate::inliner::Inliner;
+use crate::line::bodies_of;
 use crate::parts::{Parts, end_all, end_part, no_marks};
 use crate::program::{Unwritten, at_statement, fitting_inliner, number, reads, unwritten_fault};
 use crate::refusal::InlineFault;
@@ -63,7 +64,8 @@ pub fn split_out(
     ensures ok { IfOk result (IsSplit (record { gates = map gate_view gates.now; steps = map step_view steps.now; wires = wires; bits = bits; registers = [] })) }
     ensures err { IfErr result (IsInlineFault (record { gates = map gate_view gates.now; steps = map step_view steps.now; wires = wires; bits = bits; registers = [] })) }
 {
-    let inliner = fitting_inliner(alloc, gates, steps)?;
+    let bodies = bodies_of(alloc, gates)?;
+    let inliner = fitting_inliner(alloc, gates, &bodies, steps)?;
     let mut marks = no_marks(alloc, wires)?;
     let parts = match split_operations(alloc, inliner, steps, &mut marks) {
         Ok(parts) => parts,

@@ -1,11 +1,15 @@
 //! The values of angles.
 
-ghost use Rattle.std.specs.Prelude.{◌≡◌, ◌<◌, Ok, IfOk, IfErr, map, slice_get, unwrap_or};
+ghost use Rattle.std.specs.Prelude.{◌≡◌, ◌<◌, Ok, IfOk, IfErr, IfSome, map, slice_get, unwrap_or};
 ghost use Rattle.gate_library.specs.Views.{formula as formula_view};
+ghost use Rattle.gate_inline.specs.Linear.{IsForm};
+ghost use Rattle.gate_inline.specs.Lines.{AreForms};
 ghost use Rattle.gate_inline.specs.Meanings.{eighth as eighth_of, unvalued};
 ghost use Rattle.gate_inline.specs.Stops.{IsStop};
 ghost use Rattle.gate_inline.specs.Values.{no_angle, operation as operation_of, value as value_of, values as values_of};
 
+use crate::form::Form;
+use crate::line::first_form;
 use crate::stop::{AngleRefusal, InlineStop};
 use angle_fraction::{Angle, AngleFault, Frac, add, div, eighths, mul, neg, pow, sub};
 use qasm_check::Formula;
@@ -13,7 +17,7 @@ use qasm_parser::Binary;
 use std::alloc::Global;
 
 /// The value of the parameter at a place; a bound expression has no other places.
-fn param(params: &[Angle], place: usize) -> Angle
+pub fn param(params: &[Angle], place: usize) -> Angle
     ensures { result ≡ unwrap_or (slice_get params.now place) no_angle }
 {
     match params.get(place) {
@@ -67,18 +71,37 @@ pub fn value(params: &[Angle], formula: &Formula) -> Result<Angle, AngleFault>
     }
 }
 
-/// The values of expressions, from left to right.
+/// The value of an expression that may have a form.
+fn value_by(params: &[Angle], formula: &Formula, form: Option<&Form>) -> Result<Angle, AngleFault>
+    requires form { IfSome form (λ g. IsForm (formula_view formula.now) g.now) }
+    ensures value { result ≡ value_of params.now (formula_view formula.now) }
+{
+    match form {
+        Some(form) => match form.at(params) {
+            Some(angle) => Ok(angle),
+            None => value(params, formula),
+        },
+        None => value(params, formula),
+    }
+}
+
+/// The values of expressions, from left to right; the first ones may have forms.
 pub fn values(
     alloc: Global,
     params: &[Angle],
     formulas: &[Formula],
+    forms: &[Option<Form>],
 ) -> Result<Vec<Angle>, InlineStop>
+    requires forms { AreForms forms.now (map formula_view formulas.now) }
     ensures ok { IfOk result (λ v. unvalued (values_of params.now (map formula_view formulas.now)) ≡ Ok v.items) }
     ensures err { IfErr result (IsStop (unvalued (values_of params.now (map formula_view formulas.now)))) }
 {
     let mut list = Vec::with_capacity(alloc, formulas.len())?;
+    let mut left = forms;
     'formulas: for formula in formulas {
-        let angle = value(params, formula)?;
+        let (form, others) = first_form(left);
+        left = others;
+        let angle = value_by(params, formula, form)?;
         list.push(angle)?;
     }
     Ok(list)
