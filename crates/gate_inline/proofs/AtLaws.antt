@@ -1,11 +1,10 @@
 -- The value of a form.
 --     one_more        one parameter more
---     added, multiplied   sums and products as the code keeps them
+--     factor_is       an element, whatever stands for none
 --     so_far-init, so_far-more, so_far-end    the totals of the first parameters
 --     at_value        the value that the totals give
-use Rattle.std.proofs.Common.{◌≡◌, ◌⊎◌, inl, inr, ℕ, zero, suc, ◌+◌, ◌*◌, ◌<◌, ◌≤◌, Bool, true, false, if◌then◌else◌, ℤ, pos, ◌+ℤ◌, ◌*ℤ◌, unsigned_abs, List, [], ◌∷◌, Result, Ok, Err, refl, sym, ◌∙◌, ap, subst, arith, drop, get_or, length, FitsSigned, to_z, of_z}
-use Rattle.std.specs.Int.{w128}
-use Rattle.std.proofs.lemmas.Int.{ints, to_z-of_z}
+use Rattle.std.proofs.Common.{◌≡◌, ◌⊎◌, inl, inr, ℕ, zero, suc, ◌+◌, ◌*◌, ◌<◌, ◌≤◌, Bool, true, false, if◌then◌else◌, ℤ, pos, ◌+ℤ◌, ◌*ℤ◌, unsigned_abs, List, [], ◌∷◌, Result, Ok, Err, refl, sym, ◌∙◌, ap, subst, arith, drop, get_or, length}
+use Rattle.std.proofs.lemmas.Int.{ints}
 use Rattle.std.proofs.lemmas.Bool.{cases_eq}
 use Rattle.angle_fraction.specs.Fraction.{Fraction, IsLowest, fraction, is_small, lowest, most_part}
 use Rattle.angle_fraction.specs.Angles.{angle, fitted}
@@ -33,15 +32,6 @@ one_more d c x y a t u low low' e f plain pis first second most = record {
   most = most;
 }
 
--- a sum as the code keeps it
-pub added : (v a m f x g y : ℤ) → FitsSigned w128 (a +ℤ m) × (v ≡ a +ℤ m) → FitsSigned w128 (g *ℤ y) × (m ≡ g *ℤ y) → g ≡ f → y ≡ x → to_z w128 (of_z w128 v) ≡ a +ℤ f *ℤ x
-added v a m f x g y h k e l =
-    to_z-of_z w128 v (subst (λ (z : ℤ). FitsSigned w128 z) (sym h.1) h.0) ∙ h.1 ∙ ap (λ z. a +ℤ z) (k.1 ∙ (λ i. e i *ℤ l i))
-
--- a product as the code keeps it
-pub multiplied : (v f x g y : ℤ) → FitsSigned w128 (g *ℤ y) × (v ≡ g *ℤ y) → g ≡ f → y ≡ x → to_z w128 (of_z w128 v) ≡ f *ℤ x
-multiplied v f x g y h e l = to_z-of_z w128 v (subst (λ (z : ℤ). FitsSigned w128 z) (sym h.1) h.0) ∙ h.1 ∙ (λ i. e i *ℤ l i)
-
 -- ---- one by one
 over_weaker : (d b c : ℕ) (x : Fraction) (n : ℤ) → b ≤ c → IsOver d b x n → IsOver d c x n
 over_weaker d b c x n l h = record { lowest = h.lowest; same = h.same; size = let s = h.size in omega (arith, s, l) }
@@ -66,6 +56,11 @@ so_far-init g d params t e f = record {
 
 below_more : (j i : ℕ) → j < i + 1 → (j < i) ⊎ (j ≡ i)
 below_more j i h = elim (cases_eq j i) [ inl e ↦ inr e | inr e ↦ inl (omega (arith, h, e)) ]
+
+pub factor_is : (cs : List ℤ) (i : ℕ) (c d : ℤ) → i < length cs → get_or cs i c ≡ get_or cs i d
+factor_is [] i c d h = absurd (omega (arith, h))
+factor_is (x ∷ cs) zero c d h = refl
+factor_is (x ∷ cs) (suc i) c d h = let less : i < length cs = omega (arith, h) in factor_is cs i c d less
 
 pub so_far-more : (g : Form) (d : ℕ) (params : List Angle) (i : ℕ) (c : ℤ) (t u : Totals) → i < length g.sums.factors.items → c ≡ get_or g.sums.factors.items i (pos 0) → IsOneMore d c (param_at params i) t u → AreSoFar g d params i t → AreSoFar g d params (i + 1) u
 so_far-more g d params i c t u less is one h = record {

@@ -1,6 +1,6 @@
 //! Long expressions of a gate's parameters as sums of these, worked out once for all values of the parameters.
 
-ghost use Rattle.std.specs.Prelude.{◌≡◌, ◌+◌, ◌*◌, ◌<◌, ◌≤◌, ℤ, pos, negsuc, ◌*ℤ◌, ◌<ℤ◌, unsigned_abs, IfOk, IfSome, Ok, true, false};
+ghost use Rattle.std.specs.Prelude.{◌≡◌, ◌+◌, ◌*◌, ◌<◌, ◌≤◌, ℤ, pos, negsuc, ◌+ℤ◌, ◌*ℤ◌, ◌<ℤ◌, unsigned_abs, IfOk, IfSome, Ok, true, false};
 ghost use Rattle.angle_fraction.specs.Fraction.{Fraction, fraction, inverse_of, most_part};
 ghost use Rattle.angle_fraction.specs.Angles.{fitted, is_nought};
 ghost use Rattle.gate_library.specs.Gates.{Formula as SpecFormula, number as number_of, param as param_of, pi as pi_of};
@@ -291,8 +291,16 @@ fn noted(sums: Sums, step: u64) -> Sums
     }
 }
 
+/// A sum with so many times a part, if it isn't too large.
+fn more(all: i64, sign: i64, part: i64) -> Option<i64>
+    ensures { IfSome result (λ n. n ≡ all +ℤ sign *ℤ part) }
+{
+    let product = sign.checked_mul(part)?;
+    let sum = all.checked_add(product)?;
+    Some(sum)
+}
+
 /// One number more.
-#[tactic(auto, using(crate::proofs::LinearLaws::gathered_number))]
 fn with_number(number: &Frac, step: u64, sign: i64, sums: Sums) -> Option<Sums>
     ensures { IfSome result (IsGathered (number_of number.now) step sign sums) }
 {
@@ -308,18 +316,19 @@ fn with_number(number: &Frac, step: u64, sign: i64, sums: Sums) -> Option<Sums>
     if number.den() < 1 {
         return None;
     }
+    let plain = more(plain, sign, part)?;
+    let fixed = fixed.checked_add(part.unsigned_abs())?;
     Some(Sums {
-        plain: plain.checked_add(sign.checked_mul(part)?)?,
+        plain,
         pis,
         factors,
-        fixed: fixed.checked_add(part.unsigned_abs())?,
+        fixed,
         times,
         most: most.max(step),
     })
 }
 
 /// One pi more.
-#[tactic(auto, using(crate::proofs::LinearLaws::gathered_pi))]
 fn with_pi(step: u64, sign: i64, sums: Sums) -> Option<Sums>
     ensures { IfSome result (IsGathered pi_of step sign sums) }
 {
@@ -332,18 +341,19 @@ fn with_pi(step: u64, sign: i64, sums: Sums) -> Option<Sums>
         most,
     } = sums;
     let part = signed(step)?;
+    let pis = more(pis, sign, part)?;
+    let fixed = fixed.checked_add(step)?;
     Some(Sums {
         plain,
-        pis: pis.checked_add(sign.checked_mul(part)?)?,
+        pis,
         factors,
-        fixed: fixed.checked_add(step)?,
+        fixed,
         times,
         most: most.max(step),
     })
 }
 
 /// One parameter more.
-#[tactic(auto, using(crate::proofs::LinearLaws::gathered_param))]
 fn with_param(place: usize, step: u64, sign: i64, sums: Sums) -> Option<Sums>
     ensures { IfSome result (IsGathered (param_of place) step sign sums) }
 {
@@ -359,19 +369,20 @@ fn with_param(place: usize, step: u64, sign: i64, sums: Sums) -> Option<Sums>
         return None;
     }
     let part = signed(step)?;
-    factors[place] = factors[place].checked_add(sign.checked_mul(part)?)?;
+    let factor = more(factors[place], sign, part)?;
+    factors[place] = factor;
+    let times = times.checked_add(step)?;
     Some(Sums {
         plain,
         pis,
         factors,
         fixed,
-        times: times.checked_add(step)?,
+        times,
         most: most.max(step),
     })
 }
 
 /// Adds an expression, so many times as the sign says, whose denominator is `step` times that of the parameters.
-#[tactic(auto, using(crate::proofs::LinearLaws::gathered_negated, crate::proofs::LinearLaws::gathered_sum, crate::proofs::LinearLaws::gathered_difference, crate::proofs::LinearLaws::gathered_left, crate::proofs::LinearLaws::gathered_right, crate::proofs::LinearLaws::gathered_quotient))]
 fn gather(formula: &Formula, step: u64, sign: i64, sums: Sums) -> Option<Sums>
     requires positive { 0 < step }
     ensures { IfSome result (IsGathered (formula_view formula.now) step sign sums) }
@@ -456,8 +467,24 @@ pub fn form_of(alloc: Global, formula: &Formula) -> Result<Option<Form>, AllocEr
     }
 }
 
+/// A wide sum with so many times a part, if it isn't too large.
+fn more_wide(all: i128, factor: i64, part: i64) -> Option<i128>
+    ensures { IfSome result (λ n. n ≡ all +ℤ factor *ℤ part) }
+{
+    let product = i128::from(factor).checked_mul(i128::from(part))?;
+    let sum = all.checked_add(product)?;
+    Some(sum)
+}
+
+/// So many times a numerator.
+fn scaled_part(part: i64, d: u64) -> Option<i128>
+    ensures { IfSome result (λ n. n ≡ part *ℤ pos d) }
+{
+    let product = i128::from(part).checked_mul(i128::from(d))?;
+    Some(product)
+}
+
 /// The totals with one parameter more.
-#[tactic(auto, using(crate::proofs::AtLaws::one_more))]
 fn with_parameter(totals: Totals, factor: i64, angle: &Angle, d: u64) -> Option<Totals>
     ensures { IfSome result (IsOneMore d factor angle.now totals) }
 {
@@ -466,12 +493,11 @@ fn with_parameter(totals: Totals, factor: i64, angle: &Angle, d: u64) -> Option<
     if angle.plain.den() < 1 || angle.pis.den() < 1 {
         return None;
     }
-    let factor = i128::from(factor);
+    let plain = more_wide(totals.plain, factor, x)?;
+    let pis = more_wide(totals.pis, factor, y)?;
     Some(Totals {
-        plain: totals
-            .plain
-            .checked_add(factor.checked_mul(i128::from(x))?)?,
-        pis: totals.pis.checked_add(factor.checked_mul(i128::from(y))?)?,
+        plain,
+        pis,
         most: totals.most.max(x.unsigned_abs()).max(y.unsigned_abs()),
     })
 }
@@ -504,9 +530,11 @@ impl Form {
     fn added_up(&self, params: &[Angle], d: u64) -> Option<Totals>
         ensures { IfSome result (AreTotals self.now d params.now) }
     {
+        let plain = scaled_part(self.sums.plain, d)?;
+        let pis = scaled_part(self.sums.pis, d)?;
         let mut totals = Totals {
-            plain: i128::from(self.sums.plain).checked_mul(i128::from(d))?,
-            pis: i128::from(self.sums.pis).checked_mul(i128::from(d))?,
+            plain,
+            pis,
             most: 0,
         };
         'factors: for (i, factor) in self.sums.factors.iter().enumerate() {
