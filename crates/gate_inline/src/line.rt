@@ -52,6 +52,7 @@ impl<'a> Line<'a> {
 }
 
 /// The first form, and the others.
+#[tactic(auto, using(crate::proofs::LineLaws::first_of, crate::proofs::LineLaws::first_none))]
 pub fn first_form(forms: &[Option<Form>]) -> (Option<&Form>, &[Option<Form>])
     ensures { (f : SpecFormula) (fs : List SpecFormula) → AreForms forms.now (f ∷ fs) → IfSome result.0 (λ g. IsForm f g.now) × AreForms result.1.now fs }
 {
@@ -70,7 +71,7 @@ fn forms_of(alloc: Global, angles: &[Formula]) -> Result<Vec<Option<Form>>, Allo
     let mut some = false;
     'angles: for angle in angles {
         let form = form_of(alloc, angle)?;
-        some = some || form.is_some();
+        some |= form.is_some();
         list.push(form)?;
     }
     if some { Ok(list) } else { Ok(Vec::new(alloc)) }
@@ -80,15 +81,20 @@ fn forms_of(alloc: Global, angles: &[Formula]) -> Result<Vec<Option<Form>>, Allo
 fn line_of<'a>(alloc: Global, item: &'a Item) -> Result<Line<'a>, AllocError>
     ensures { IfOk result (λ l. l ≡ item.now) }
 {
-    let forms = match item {
+    match item {
         Item::Call {
             gate: _,
             angles,
             qubits: _,
-        } => forms_of(alloc, angles)?,
-        Item::Barrier => Vec::new(alloc),
-    };
-    Ok(Line { item, forms })
+        } => {
+            let forms = forms_of(alloc, angles)?;
+            Ok(Line { item, forms })
+        }
+        Item::Barrier => Ok(Line {
+            item,
+            forms: Vec::new(alloc),
+        }),
+    }
 }
 
 /// The lines of a body.
@@ -97,7 +103,8 @@ fn lines_of<'a>(alloc: Global, body: &'a [Item]) -> Result<Vec<Line<'a>>, AllocE
 {
     let mut list = Vec::with_capacity(alloc, body.len())?;
     'items: for item in body {
-        list.push(line_of(alloc, item)?)?;
+        let line = line_of(alloc, item)?;
+        list.push(line)?;
     }
     Ok(list)
 }
@@ -129,12 +136,14 @@ pub fn bodies_of<'a>(
 {
     let mut list = Vec::with_capacity(alloc, gates.len())?;
     'gates: for gate in gates {
-        list.push(gate_lines(alloc, gate)?)?;
+        let lines = gate_lines(alloc, gate)?;
+        list.push(lines)?;
     }
     Ok(list)
 }
 
 /// The lines of the body of the gate of this number.
+#[tactic(auto, using(crate::proofs::LineLaws::lines_in, crate::proofs::LineLaws::lines_none))]
 pub fn lines_at<'a>(bodies: &'a [Vec<Line<'a>>], number: usize) -> &'a [Line<'a>]
     ensures value { result.now ≡ unwrap_or (slice_get (map (λ b. b.items) bodies.now) number) [] }
 {

@@ -71,16 +71,24 @@ pub fn value(params: &[Angle], formula: &Formula) -> Result<Angle, AngleFault>
     }
 }
 
+/// The value that a form gives, if there is one.
+fn value_of_form(params: &[Angle], formula: &Formula, form: Option<&Form>) -> Option<Angle>
+    requires form { IfSome form (λ g. IsForm (formula_view formula.now) g.now) }
+    ensures { IfSome result (λ a. value_of params.now (formula_view formula.now) ≡ Ok a) }
+{
+    match form {
+        Some(form) => form.at(params),
+        None => None,
+    }
+}
+
 /// The value of an expression that may have a form.
 fn value_by(params: &[Angle], formula: &Formula, form: Option<&Form>) -> Result<Angle, AngleFault>
     requires form { IfSome form (λ g. IsForm (formula_view formula.now) g.now) }
     ensures value { result ≡ value_of params.now (formula_view formula.now) }
 {
-    match form {
-        Some(form) => match form.at(params) {
-            Some(angle) => Ok(angle),
-            None => value(params, formula),
-        },
+    match value_of_form(params, formula, form) {
+        Some(angle) => Ok(angle),
         None => value(params, formula),
     }
 }

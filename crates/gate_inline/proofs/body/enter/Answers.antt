@@ -46,7 +46,7 @@ returns-in-Some-Composed-clause-ok c =
     (composed c.in-Some-Composed.field-0-0 c.in-Some-Composed.field-0-1 (map item_view c.lines_at.result.now))
     c.args.call.angles.items c.args.call.wires.items
     (sym c.in-Some-Composed.ensures.gate ∙ ap (λ g. Some (gate_view g)) c.in-Some-Composed.field-0-is
-    ∙ ap (λ items. Some (composed c.in-Some-Composed.field-0-0 c.in-Some-Composed.field-0-1 (map item_view items))) (sym (lines_there c.args.gates.now (map (λ b. b.items) c.args.bodies.now) c.args.call.gate c.gate_below.result c.lines_at.result.now c.requires.lined c.in-Some-Composed.ensures.there c.lines_at.ensures.value ∙ ap body_of c.in-Some-Composed.field-0-is)))
+    ∙ ap (λ items. Some (composed c.in-Some-Composed.field-0-0 c.in-Some-Composed.field-0-1 (map item_view items))) (sym (lines_there c.args.gates.now (map (λ b. b.items) c.args.bodies.now) c.args.call.gate c.in-Some-Composed.field-0.now c.lines_at.result.now c.requires.lined c.in-Some-Composed.ensures.there c.lines_at.ensures.value ∙ ap body_of c.in-Some-Composed.field-0-is)))
 
 pub returns-in-Some-Composed-clause-begun : goal.returns-in-Some-Composed-clause-begun
 returns-in-Some-Composed-clause-begun c = (
@@ -55,7 +55,7 @@ returns-in-Some-Composed-clause-begun c = (
       (meaning_at-called (map gate_view c.args.gates.now) c.args.below c.args.call.gate
       (composed c.in-Some-Composed.field-0-0 c.in-Some-Composed.field-0-1 (map item_view c.lines_at.result.now))
       (sym c.in-Some-Composed.ensures.gate ∙ ap (λ g. Some (gate_view g)) c.in-Some-Composed.field-0-is
-      ∙ ap (λ items. Some (composed c.in-Some-Composed.field-0-0 c.in-Some-Composed.field-0-1 (map item_view items))) (sym (lines_there c.args.gates.now (map (λ b. b.items) c.args.bodies.now) c.args.call.gate c.gate_below.result c.lines_at.result.now c.requires.lined c.in-Some-Composed.ensures.there c.lines_at.ensures.value ∙ ap body_of c.in-Some-Composed.field-0-is)))),
+      ∙ ap (λ items. Some (composed c.in-Some-Composed.field-0-0 c.in-Some-Composed.field-0-1 (map item_view items))) (sym (lines_there c.args.gates.now (map (λ b. b.items) c.args.bodies.now) c.args.call.gate c.in-Some-Composed.field-0.now c.lines_at.result.now c.requires.lined c.in-Some-Composed.ensures.there c.lines_at.ensures.value ∙ ap body_of c.in-Some-Composed.field-0-is)))),
 )
 
 pub returns-in-Some-Composed-clause-room : goal.returns-in-Some-Composed-clause-room
@@ -63,7 +63,7 @@ returns-in-Some-Composed-clause-room c =
     called_room (map gate_view c.args.gates.now) c.args.below c.args.call.gate
     c.in-Some-Composed.field-0-0 c.in-Some-Composed.field-0-1 (map item_view c.lines_at.result.now)
     (sym c.in-Some-Composed.ensures.gate ∙ ap (λ g. Some (gate_view g)) c.in-Some-Composed.field-0-is
-    ∙ ap (λ items. Some (composed c.in-Some-Composed.field-0-0 c.in-Some-Composed.field-0-1 (map item_view items))) (sym (lines_there c.args.gates.now (map (λ b. b.items) c.args.bodies.now) c.args.call.gate c.gate_below.result c.lines_at.result.now c.requires.lined c.in-Some-Composed.ensures.there c.lines_at.ensures.value ∙ ap body_of c.in-Some-Composed.field-0-is)))
+    ∙ ap (λ items. Some (composed c.in-Some-Composed.field-0-0 c.in-Some-Composed.field-0-1 (map item_view items))) (sym (lines_there c.args.gates.now (map (λ b. b.items) c.args.bodies.now) c.args.call.gate c.in-Some-Composed.field-0.now c.lines_at.result.now c.requires.lined c.in-Some-Composed.ensures.there c.lines_at.ensures.value ∙ ap body_of c.in-Some-Composed.field-0-is)))
 
 pub returns-in-Some-Opaque-clause-ok : goal.returns-in-Some-Opaque-clause-ok
 returns-in-Some-Opaque-clause-ok c =
