@@ -30,10 +30,10 @@ pub struct Call {
 
 /// What is left of a body: that of gate `own`, for these angles and wires; its operations begin at `start` of the list.
 #[derive(Drop)]
-pub struct Frame<'a> {
+pub struct Frame<'a, 'b> {
     pub own: usize,
     pub start: usize,
-    pub rest: &'a [Line<'a>],
+    pub rest: &'b [Line<'a>],
     pub angles: Vec<Angle>,
     pub wires: Vec<u32>,
 }
@@ -104,19 +104,19 @@ fn gate_below<'a>(gates: &'a [BoundGate], below: usize, number: usize) -> Option
 
 /// What applying a gate comes to: an operation, or a body.
 #[derive(Drop)]
-pub struct Entered<'a> {
+pub struct Entered<'a, 'b> {
     pub op: Option<Op>,
-    pub body: Option<Frame<'a>>,
+    pub body: Option<Frame<'a, 'b>>,
 }
 
 /// What a call of one of the first `below` gates comes to, where so many operations are written.
-pub fn enter<'a>(
+pub fn enter<'a, 'b>(
     gates: &'a [BoundGate],
-    bodies: &'a [Vec<Line<'a>>],
+    bodies: &'b [Vec<Line<'a>>],
     below: usize,
     call: Call,
     start: usize,
-) -> Result<Entered<'a>, InlineStop>
+) -> Result<Entered<'a, 'b>, InlineStop>
     requires lined { map (λ b. b.items) bodies.now ≡ map body_of gates.now }
     ensures ok { IfOk result (λ e. call_answer (map gate_view gates.now) below call ≡ entered_answer (map gate_view gates.now) e) }
     ensures err { IfErr result (IsStop (call_answer (map gate_view gates.now) below call)) }
@@ -170,7 +170,10 @@ pub fn enter<'a>(
 }
 
 /// Keeps a body for later, if there is one.
-pub fn push_body<'a>(frames: &mut Vec<Frame<'a>>, body: Option<Frame<'a>>) -> Result<(), InlineStop>
+pub fn push_body<'a, 'b>(
+    frames: &mut Vec<Frame<'a, 'b>>,
+    body: Option<Frame<'a, 'b>>,
+) -> Result<(), InlineStop>
     ensures ok { OnOk result (frames.new.items ≡ frames.old.items ++ one_frame body.entry) }
     ensures err { IfErr result (λ e. e ≡ NoMemory) }
 {
@@ -210,7 +213,7 @@ pub fn call_of(
 }
 
 /// The first line and the others.
-pub fn split<'a>(items: &'a [Line<'a>]) -> Option<(&'a Line<'a>, &'a [Line<'a>])>
+pub fn split<'a, 'b>(items: &'b [Line<'a>]) -> Option<(&'b Line<'a>, &'b [Line<'a>])>
     ensures found { MatchOption result (items.now ≡ []) (λ p. items.now ≡ p.0.now ∷ p.1.now) }
 {
     items.split_first()

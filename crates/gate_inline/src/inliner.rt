@@ -34,16 +34,16 @@ use unitary_model::Op;
 /// Writes the operations of steps over these gates, one behind the other. Contracts see the gates, and the operations so far.
 /// Beside these it keeps the gates' sizes, the limits below which they come to nothing, and calls that are remembered.
 #[derive(Drop)]
-pub struct Inliner<'a> {
+pub struct Inliner<'a, 'b> {
     gates: &'a [BoundGate],
-    bodies: &'a [Vec<Line<'a>>],
+    bodies: &'b [Vec<Line<'a>>],
     sizes: Vec<Size>,
     limits: Vec<Option<u64>>,
     memo: Memo,
     list: Vec<Op>,
 }
 
-impl<'a> Model for Inliner<'a> {
+impl<'a, 'b> Model for Inliner<'a, 'b> {
     ghost use Rattle.std.specs.Coded.{codes};
     ghost use Rattle.gate_library.specs.contracts.formula.Formula as formula;
     ghost use Rattle.std.specs.Prelude.{map};
@@ -76,15 +76,15 @@ fn copied(alloc: Global, angles: &[Angle]) -> Result<Vec<Angle>, AllocError>
     angles.iter().copied().collect(alloc)
 }
 
-impl<'a> Inliner<'a> {
+impl<'a, 'b> Inliner<'a, 'b> {
     /// Nothing is written.
     pub fn new(
         alloc: Global,
         gates: &'a [BoundGate],
-        bodies: &'a [Vec<Line<'a>>],
+        bodies: &'b [Vec<Line<'a>>],
         sizes: Vec<Size>,
         limits: Vec<Option<u64>>,
-    ) -> Inliner<'a>
+    ) -> Inliner<'a, 'b>
         requires lined { map (λ b. b.items) bodies.now ≡ map body_of gates.now }
         requires sized { sizes.items ≡ map capped (sizes_of (map gate_view gates.now)) }
         requires limits { AreQuiet (meanings (map gate_view gates.now)) limits.items }
@@ -194,7 +194,7 @@ impl<'a> Inliner<'a> {
         &mut self,
         below: usize,
         call: Call,
-        frames: &mut Vec<Frame<'a>>,
+        frames: &mut Vec<Frame<'a, 'b>>,
     ) -> Result<(), InlineStop>
         requires begun { AreBegun (gates_of self.old) self.old.list (call_answer (gates_of self.old) below call) frames.old.items }
         ensures ok { OnOk result (IsUnderway self.old frames.old.items (call_answer (gates_of self.old) below call) self.new frames.new.items) }
@@ -219,8 +219,8 @@ impl<'a> Inliner<'a> {
     fn advance(
         &mut self,
         alloc: Global,
-        frame: Frame<'a>,
-        frames: &mut Vec<Frame<'a>>,
+        frame: Frame<'a, 'b>,
+        frames: &mut Vec<Frame<'a, 'b>>,
     ) -> Result<(), InlineStop>
         requires begun { AreBegun (gates_of self.old) self.old.list (Ok []) (frames.old.items ++ frame ∷ []) }
         ensures ok { OnOk result (IsUnderway self.old frames.old.items (frame_answer (gates_of self.old) frame.entry) self.new frames.new.items) }

@@ -144,7 +144,7 @@ pub fn bodies_of<'a>(
 
 /// The lines of the body of the gate of this number.
 #[tactic(auto, using(crate::proofs::LineLaws::lines_in, crate::proofs::LineLaws::lines_none))]
-pub fn lines_at<'a>(bodies: &'a [Vec<Line<'a>>], number: usize) -> &'a [Line<'a>]
+pub fn lines_at<'a, 'b>(bodies: &'b [Vec<Line<'a>>], number: usize) -> &'b [Line<'a>]
     ensures value { result.now ≡ unwrap_or (slice_get (map (λ b. b.items) bodies.now) number) [] }
 {
     match bodies.get(number) {

@@ -98,9 +98,9 @@ pub fn at_statement(stop: InlineStop, statement: u32) -> Unwritten
 }
 
 /// The operations of all steps.
-fn operations<'a>(
+fn operations<'a, 'b>(
     alloc: Global,
-    mut inliner: Inliner<'a>,
+    mut inliner: Inliner<'a, 'b>,
     steps: &[Step],
 ) -> Result<Vec<Op>, Unwritten>
     requires steps_limit { length steps.now < 2 ^ 32 }
@@ -144,12 +144,12 @@ pub fn unwritten_fault(unwritten: Unwritten) -> InlineFault
 }
 
 /// What writes the steps, where they aren't too much; else the first step with which there is too much.
-pub fn fitting_inliner<'a>(
+pub fn fitting_inliner<'a, 'b>(
     alloc: Global,
     gates: &'a [BoundGate],
-    bodies: &'a [Vec<Line<'a>>],
+    bodies: &'b [Vec<Line<'a>>],
     steps: &[Step],
-) -> Result<Inliner<'a>, InlineFault>
+) -> Result<Inliner<'a, 'b>, InlineFault>
     requires steps_limit { length steps.now < 2 ^ 32 }
     requires lined { map (λ b. b.items) bodies.now ≡ map body_of gates.now }
     ensures start { IfOk result (λ s. s ≡ at_start gates.now) }

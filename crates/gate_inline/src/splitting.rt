@@ -20,9 +20,9 @@ use std::alloc::Global;
 
 /// The operations of all steps, cut at the barriers. Calls that are remembered are copied from the operations so far, so these
 /// are one list, from which each part is copied where it ends.
-fn split_operations<'a>(
+fn split_operations<'a, 'b>(
     alloc: Global,
-    mut inliner: Inliner<'a>,
+    mut inliner: Inliner<'a, 'b>,
     steps: &[Step],
     marks: &mut [bool],
 ) -> Result<Parts, Unwritten>
