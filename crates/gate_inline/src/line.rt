@@ -147,8 +147,8 @@ pub fn bodies_of<'a>(
 pub fn lines_at<'a, 'b>(bodies: &'b [Vec<Line<'a>>], number: usize) -> &'b [Line<'a>]
     ensures value { result.now ≡ unwrap_or (slice_get (map (λ b. b.items) bodies.now) number) [] }
 {
-    match bodies.get(number) {
-        Some(lines) => lines,
-        None => &[],
-    }
+    let Some(lines) = bodies.get(number) else {
+        return &[];
+    };
+    lines
 }
