@@ -5,11 +5,11 @@
 --     values_more     one value more
 --     lines_there     the lines of a gate's body
 --     bodies_more     the lines of one gate more
---     lines_in, lines_none    the lines at a number
-use Rattle.std.proofs.Common.{◌≡◌, ℕ, suc, ◌+◌, ◌<◌, List, [], ◌∷◌, ◌++◌, Option, Some, None, IfSome, Result, Ok, Err, append_assoc, drop, get_or, length, map, take, slice_get, unwrap_or, refl, sym, ◌∙◌, ap, subst, arith}
+--     lines_in, number_there  the lines at a number
+use Rattle.std.proofs.Common.{◌≡◌, ℕ, suc, ◌+◌, ◌<◌, List, [], ◌∷◌, ◌++◌, Option, Some, IfSome, Result, Ok, Err, append_assoc, drop, get_or, length, map, take, slice_get, unwrap_or, refl, sym, ◌∙◌, ap, subst, arith}
 use Rattle.std.specs.Option.{option_map}
-use Rattle.std.proofs.lemmas.List.{append-nil, map-append}
-use Rattle.std.proofs.lemmas.Option.{slice_get-map}
+use Rattle.std.proofs.lemmas.List.{append-nil, length-map, map-append}
+use Rattle.std.proofs.lemmas.Option.{slice_get-get_or, slice_get-map, slice_get_within}
 use Rattle.std.proofs.Math.Seq.{drop-cons}
 use Rattle.angle_fraction.specs.declared.Angle.{Angle}
 use Rattle.angle_fraction.specs.declared.AngleFault.{AngleFault}
@@ -64,8 +64,12 @@ pub bodies_more : {B X Y : Type 0} (v : B → Y) (w : X → Y) (bs more : List B
 bodies_more v w bs more xs i b x e h k less there =
     ap (map v) e ∙ map-append v bs (b ∷ []) ∙ (λ j. h j ++ k j ∷ []) ∙ sym (next_views w xs i x less there)
 
-pub lines_in : {B Y : Type 0} (v : B → List Y) (bs : List B) (i : ℕ) (b : B) → slice_get bs i ≡ Some b → v b ≡ unwrap_or (slice_get (map v bs) i) []
-lines_in v bs i b e = sym (ap (λ o. unwrap_or o []) (slice_get-map v bs i ∙ ap (option_map v) e))
+pub lines_in : {B Y : Type 0} (v : B → List Y) (bs : List B) (i : ℕ) (b : B) (ys : List Y) → i < length bs → b ≡ get_or bs i b → ys ≡ v b → ys ≡ unwrap_or (slice_get (map v bs) i) []
+lines_in v bs i b ys less e k =
+    k ∙ sym (ap (λ o. unwrap_or o []) (slice_get-map v bs i ∙ ap (option_map v) (slice_get-get_or bs i b less ∙ ap (λ x. Some x) (sym e))))
 
-pub lines_none : {B Y : Type 0} (v : B → List Y) (bs : List B) (i : ℕ) → slice_get bs i ≡ None → [] ≡ unwrap_or (slice_get (map v bs) i) []
-lines_none v bs i e = sym (ap (λ o. unwrap_or o []) (slice_get-map v bs i ∙ ap (option_map v) e))
+pub number_there : {B X Y : Type 0} (v : B → Y) (w : X → Y) (bs : List B) (xs : List X) (i : ℕ) (x : X) → map v bs ≡ map w xs → slice_get xs i ≡ Some x → i < length bs
+number_there v w bs xs i x e h =
+    let same : length bs ≡ length xs = sym (length-map bs v) ∙ ap length e ∙ length-map xs w in
+    let within = slice_get_within xs i x h in
+    omega (arith, same, within)

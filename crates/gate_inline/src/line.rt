@@ -1,6 +1,6 @@
 //! Lines of gates' bodies, with what is worked out once of their expressions.
 
-ghost use Rattle.std.specs.Prelude.{◌≡◌, [], ◌∷◌, IfOk, IfSome, List, Some, map, slice_get, unwrap_or};
+ghost use Rattle.std.specs.Prelude.{◌≡◌, ◌<◌, [], ◌∷◌, IfOk, IfSome, List, Some, length, map, slice_get, unwrap_or};
 ghost use Rattle.gate_library.specs.Gates.{Formula as SpecFormula};
 ghost use Rattle.gate_library.specs.Views.{formula as formula_view, item as item_view};
 ghost use Rattle.gate_library.specs.declared.gate.BoundGate.{BoundGate as CodeGate};
@@ -143,12 +143,10 @@ pub fn bodies_of<'a>(
 }
 
 /// The lines of the body of the gate of this number.
-#[tactic(auto, using(crate::proofs::LineLaws::lines_in, crate::proofs::LineLaws::lines_none))]
+#[tactic(auto, using(crate::proofs::LineLaws::lines_in))]
 pub fn lines_at<'a, 'b>(bodies: &'b [Vec<Line<'a>>], number: usize) -> &'b [Line<'a>]
+    requires there { number < length bodies.now }
     ensures value { result.now ≡ unwrap_or (slice_get (map (λ b. b.items) bodies.now) number) [] }
 {
-    let Some(lines) = bodies.get(number) else {
-        return &[];
-    };
-    lines
+    &bodies[number]
 }

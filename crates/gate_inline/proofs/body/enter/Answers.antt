@@ -7,7 +7,7 @@ use Rattle.gate_inline.specs.Meanings.{Meaning, controlled, one_op, rotation}
 use Rattle.gate_inline.specs.Stops.{IsStop}
 use Rattle.gate_inline.proofs.FrameLaws.{called_op, called_stop, called_body, called_none, called_size, called_size_none, called_room}
 use Rattle.gate_inline.proofs.KeptLaws.{meaning_at-called}
-use Rattle.gate_inline.proofs.LineLaws.{lines_there}
+use Rattle.gate_inline.proofs.LineLaws.{lines_there, number_there}
 use Rattle.gate_inline.specs.Lines.{body_of}
 use Rattle.gate_inline.proofs.body.enter.Goals as goal
 
@@ -81,3 +81,8 @@ returns-clause-ok c =
 
 pub returns-clause-room : goal.returns-clause-room
 returns-clause-room c = called_size_none (map gate_view c.args.gates.now) c.args.below c.args.call.gate (sym c.in-None.ensures.gate)
+
+pub lines_at-requires : goal.lines_at-requires
+lines_at-requires c = record {
+  there = number_there (λ b. b.items) body_of c.args.bodies.now c.args.gates.now c.args.call.gate c.in-Some-Composed.field-0.now c.requires.lined c.in-Some-Composed.ensures.there;
+}
