@@ -1,5 +1,5 @@
 -- A part once more.
-use Rattle.std.proofs.Common.{List, sym, subst, ap, ◌∙◌}
+use Rattle.std.proofs.Common.{map, List, sym, subst, ap, ◌∙◌}
 use Rattle.unitary_model.specs.declared.Op.{Op}
 use Rattle.gate_inline.specs.Progress.{IsInliner, Progress, written}
 use Rattle.gate_inline.specs.Remembered.{part}
