@@ -7,9 +7,8 @@ use Rattle.std.proofs.lemmas.List.Elements.{recursion_from_All}
 use Rattle.circuit_list.specs.declared.Gate.{Gate}
 use Rattle.circuit_list.specs.Body.{Body}
 use Rattle.circuit_list.specs.Gates.{IsFine}
-use Rattle.path_parity.specs.NamedSums.{SamePathSum}
 use Rattle.rewrite_pass.specs.Law.{IsRewriting}
-use Rattle.rewrite_pass.specs.Traces.{Step, AreSteps, constants_turn}
+use Rattle.rewrite_pass.specs.Traces.{Step, AreSteps, IsSumsStep}
 use Rattle.rewrite_pass.specs.TraceOf.{IsTraced}
 use Rattle.rewrite_pass.specs.Derivations.{Derivation, IsContinued, IsDerivation, IsStepped, IsReplaced, HasNoMore}
 use Rattle.rewrite_pass.proofs.RewritingLaws.{IsRewriting_trans}
@@ -46,18 +45,13 @@ derivation_stepped x y s t d made st =
     moved x y t d st.continued made st.turn
     (λ on. IsTraced_step n gs gs y.body.gates 0 t t s x.steps x.steps y.steps (IsTraced_refl n gs x.steps) st.step (st.steps on) (omega (arith, lt)))
 
--- what keeps the path sum is a rewriting, if there is no more of what is counted
-sums_made : (n : ℕ) (old new : List Gate) (t : ℕ) → All (IsFine n) old → All (IsFine n) new → SamePathSum n old new → t ≡ constants_turn n old new → HasNoMore n old new → IsRewriting n old new t
-sums_made n old new t fine fine' same e more =
-    let k = sums_kept n new old new t (recursion_from_All (IsFine n) old fine) (record { fine = fine'; same = same; becomes = refl; turn = e }) in
-    record { below = k.below; same = k.same; t_gates = more.t_gates; odd_paths = more.odd_paths; cx_gates = more.cx_gates }
-
-pub derivation_replaced : (x y : Derivation) (b : Body) (t : ℕ) → IsDerivation x → All (IsFine x.body.wires) x.body.gates → All (IsFine b.wires) b.gates → b.wires ≡ x.body.wires →
-    SamePathSum x.body.wires x.body.gates b.gates → t ≡ constants_turn x.body.wires x.body.gates b.gates → HasNoMore x.body.wires x.body.gates b.gates → IsReplaced t x b y → IsDerivation y
-derivation_replaced x y b t d fine fine' wires same e more r =
+pub derivation_replaced : (x y : Derivation) (b : Body) (t : ℕ) → IsDerivation x → All (IsFine x.body.wires) x.body.gates → IsSumsStep x.body.wires b.gates x.body.gates b.gates t →
+    HasNoMore x.body.wires x.body.gates b.gates → IsReplaced t x b y → IsDerivation y
+derivation_replaced x y b t d fine step more r =
     let n = x.body.wires in
-    let fine2 : All (IsFine n) b.gates = subst (λ m. All (IsFine m) b.gates) wires fine' in
-    let gates : y.body.gates ≡ b.gates = ap (λ (k : Body). k.gates) r.body in
-    moved x y t d r.continued (subst (λ gs. IsRewriting n x.body.gates gs t) (sym gates) (sums_made n x.body.gates b.gates t fine fine2 same e more)) r.turn
-    (λ on. subst (λ gs. IsTraced n x.body.gates gs t x.steps y.steps) (sym gates)
-    (IsTraced_sums n x.body.gates b.gates t x.steps y.steps (record { fine = fine2; same = same; becomes = refl; turn = e }) (r.steps on)))
+    let gs : List Gate = x.body.gates in
+    let k = sums_kept n b.gates gs b.gates t (recursion_from_All (IsFine n) gs fine) step in
+    let made : IsRewriting n gs b.gates t = record { below = k.below; same = k.same; t_gates = more.t_gates; odd_paths = more.odd_paths; cx_gates = more.cx_gates } in
+    let same : b.gates ≡ y.body.gates = sym (ap (λ (k : Body). k.gates) r.body) in
+    moved x y t d r.continued (subst (λ hs. IsRewriting n gs hs t) same made) r.turn
+    (λ on. subst (λ hs. IsTraced n gs hs t x.steps y.steps) same (IsTraced_sums n gs b.gates t x.steps y.steps step (r.steps on)))

@@ -5,11 +5,10 @@ ghost use Rattle.circuit_list.specs.Slots.{IsLive, place_of};
 ghost use Rattle.commute_rules.specs.Cancels.{with_phase};
 ghost use Rattle.commute_rules.specs.declared.Cancel.TheVariants as cancelling;
 ghost use Rattle.commute_rules.specs.Reducible.{IsReducible};
-ghost use Rattle.path_parity.specs.NamedSums.{SamePathSum};
 ghost use Rattle.rewrite_pass.specs.Derivations.{HasNoMore, IsCompacted, IsOutcome, IsReplaced, IsStepped};
 ghost use Rattle.rewrite_pass.specs.Edits.{IsChange, changed};
 ghost use Rattle.rewrite_pass.specs.Law.{IsRewriting};
-ghost use Rattle.rewrite_pass.specs.Traces.{Step, AreSteps, IsRuleStep, constants_turn};
+ghost use Rattle.rewrite_pass.specs.Traces.{Step, AreSteps, IsRuleStep, IsSumsStep};
 
 use crate::log::Log;
 use crate::make::make_change;
@@ -153,16 +152,14 @@ impl Rewriting {
     /// changes.
     pub fn replace(&mut self, body: Circuit, turn: u8) -> Result<(), AllocError>
         requires wires { body.wires ≡ self.old.body.wires }
-        requires sums { SamePathSum self.old.body.wires self.old.body.gates body.gates }
-        requires turn { turn ≡ constants_turn self.old.body.wires self.old.body.gates body.gates }
+        requires step { IsSumsStep self.old.body.wires body.gates self.old.body.gates body.gates turn }
         requires no_more { HasNoMore self.old.body.wires self.old.body.gates body.gates }
         ensures ok { OnOk result (IsReplaced turn self.old body self.new) }
         ensures err { OnErr result (self.new ≡ self.old) }
     {
         self.log.push_sums(&self.body, &body)?;
-        // they say that the gates are fine
+        // it says that the gates are fine
         self.body.facts();
-        body.facts();
         self.body = body;
         self.turn = turn_sum(self.turn, turn);
         Ok(())
