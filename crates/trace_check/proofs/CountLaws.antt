@@ -3,8 +3,9 @@
 --     noted-more, noted-end   the names along a circuit
 --     seen-more, seen-end     the counts
 --     same-counts             circuits with the same path sum have as many H on each wire
-use Rattle.std.proofs.Common.{◌≡◌, ℕ, suc, ◌+◌, ◌*◌, ◌<◌, ◌≤◌, Bool, true, false, cond, List, [], ◌∷◌, ◌++◌, All, Some, None, length, drop, take, get_or, append-nil, take_all, refl, sym, subst, ◌∙◌, ap, arith}
+use Rattle.std.proofs.Common.{◌≡◌, ℕ, suc, ◌+◌, ◌*◌, ◌<◌, ◌≤◌, Bool, true, false, cond, List, [], ◌∷◌, ◌++◌, All, Some, None, length, drop, take, append-nil, take_all, refl, sym, subst, ◌∙◌, ap, arith}
 use Rattle.std.specs.Prelude.{nat_eq, slice_get}
+use Rattle.std.specs.List.{IsDistinct}
 use Rattle.std.proofs.Math.ListN.{drop_of_length-le}
 use Rattle.std.proofs.lemmas.Bool.Decides.{nat_tests}
 use Rattle.std.proofs.lemmas.List.{ext_get_or}
@@ -19,6 +20,7 @@ use Rattle.path_parity.proofs.LoopLaws.{drop-get}
 use Rattle.trace_check.specs.Names.{counts, seen_last, variable, variables_of}
 use Rattle.trace_check.proofs.CollectLaws.{equal}
 use Rattle.trace_check.proofs.NameLaws.{other_variable}
+use Rattle.trace_check.proofs.TouchedLaws.{on-counts}
 
 -- ---- counts in a slice
 pub written-back : (xs ys : List ℕ) (n : ℕ) → length xs ≡ length ys → length ys ≤ n → take n (xs ++ drop (length xs) ys) ≡ xs
@@ -115,14 +117,15 @@ fewer n A B q lt fine same less =
     some n q (seen_last A unseen q) lt B (own_labels n) unseen (omega arith) less
     (same (suc (seen_last A unseen q) * n + q) ∙ none n q (seen_last A unseen q) lt A (own_labels n) unseen fine (omega arith))
 
-pub same-counts : (n : ℕ) (A B : List Gate) (xs ys : List ℕ) → All (IsFine n) A → All (IsFine n) B → length xs ≡ n → length ys ≡ n → counts xs ≡ seen_last A unseen → counts ys ≡ seen_last B unseen →
-    SamePathSum n A B → xs ≡ ys
-same-counts n A B xs ys fineA fineB long wide seenA seenB same = ext_get_or 0 xs ys (long ∙ sym wide) (λ q lt. go q (subst (λ m. q < m) long lt))
+pub same-counts : (n : ℕ) (ws : List ℕ) (A B : List Gate) (xs ys : List ℕ) → All (IsFine n) A → All (IsFine n) B → All (λ q. q < n) ws → IsDistinct nat_eq ws → length xs ≡ length ws → length ys ≡ length ws →
+    counts ws xs ≡ seen_last A unseen → counts ws ys ≡ seen_last B unseen → SamePathSum n A B → xs ≡ ys
+same-counts n ws A B xs ys fineA fineB below distinct long wide seenA seenB same =
+    ext_get_or 0 xs ys (long ∙ sym wide) (λ p lt. on-counts n ws xs ys below distinct long wide go p (subst (λ m. p < m) long lt))
   where
     equal_counts : (a b : ℕ) → (a < b → ⊥) → (b < a → ⊥) → a ≡ b
     equal_counts a b f g = omega (arith, f, g)
 
-    go : (q : ℕ) → q < n → get_or xs q 0 ≡ get_or ys q 0
+    go : (q : ℕ) → q < n → counts ws xs q ≡ counts ws ys q
     go q lt = (λ i. seenA i q)
         ∙ equal_counts (seen_last A unseen q) (seen_last B unseen q) (fewer n A B q lt fineA same.sets) (fewer n B A q lt fineB (λ v. sym (same.sets v)))
         ∙ sym (λ i. seenB i q)

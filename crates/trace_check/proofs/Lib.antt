@@ -12,6 +12,7 @@ pub mod WrittenLaws
 pub mod PairLaws
 pub mod SparseLaws
 pub mod CollectLaws
+pub mod TouchedLaws
 pub mod NameLaws
 pub mod RenameLaws
 pub mod NamingLaws

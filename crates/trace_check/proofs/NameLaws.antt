@@ -2,7 +2,6 @@
 --     befores-push, AreRows-push      one H more
 --     before-lookup, absent           what the program's map has at a variable
 --     other_variable                  two H have different variables
---     seen-set                        one H more on a wire
 --     IsWalk-had                      a walk past an H
 --     none-push                       no H on one wire more
 --     viewed                          what contracts see of a walk
@@ -14,25 +13,25 @@ use Rattle.std.specs.Prelude.{nat_eq}
 use Rattle.std.specs.Cmp.{nat_eq_equiv}
 use Rattle.std.specs.HashMap.{hash_map_eq}
 use Rattle.std.specs.HashMap.Eq.{get_from_hash_map_eq, hash_map_eq_from_get}
+use Rattle.std.specs.List.{list_any}
 use Rattle.std.specs.Map.{lookup}
 use Rattle.indexmap.specs.IndexMap.{IndexMap}
 use Rattle.std.specs.Option.{option_map, option_eq}
 use Rattle.std.specs.Cmp.Lexicographic.{bytes_decides}
 use Rattle.std.specs.declared.alloc.Global.{Global}
-use Rattle.std.proofs.Math.Path.{fun_ext}
 use Rattle.std.proofs.lemmas.Bool.Decides.{nat_tests}
 use Rattle.std.proofs.lemmas.List.{length-set, get_or-map}
 use Rattle.std.proofs.lemmas.Nat.{mod-mul-add, div-mul-add}
 use Rattle.circuit_list.specs.declared.Gate.TheVariants.{H, X, Cx}
 use Rattle.path_parity.specs.declared.label.Label.{Label}
-use Rattle.path_parity.specs.NamedSums.{seen_more, set_before}
+use Rattle.path_parity.specs.NamedSums.{set_before}
 use Rattle.path_parity.specs.LabelWalks.{labels_of_list}
 use Rattle.path_parity.specs.PathSum.{label, with_label, add_labels, flipped, fresh}
 use Rattle.path_parity.specs.Sets.{IsLabel, label_of}
-use Rattle.path_parity.proofs.WalkLaws.{labels-set}
 use Rattle.trace_check.proofs.CollectLaws.{equal, own, same_row}
+use Rattle.trace_check.proofs.TouchedLaws.{counts-set, labels-put, seen-set}
 use Rattle.trace_check.proofs.SparseLaws.{compact-same}
-use Rattle.trace_check.specs.Names.{counts}
+use Rattle.trace_check.specs.Names.{counts, labels_on, place_in}
 use Rattle.trace_check.specs.Sums.{AreRows, IsCompact, IsWalk, NamedWalk, Passes, befores, compact_set}
 
 -- ---- numbers
@@ -89,39 +88,18 @@ other_variable n a b q p lt mt e = (
   sym (div-mul-add a n q lt) ∙ ap (λ m. m / n) e ∙ div-mul-add b n p mt,
 )
 
-set-at : (xs : List ℕ) (q x p : ℕ) → q < length xs → get_or (set xs q x) p 0 ≡ cond (nat_eq p q) x (get_or xs p 0)
-set-at [] q x p h = absurd (omega arith)
-set-at (y ∷ ys) zero x zero h = refl
-set-at (y ∷ ys) zero x (suc p) h = λ i. cond (sym (never p) i) x (get_or ys p 0)
-  where
-    never : (p : ℕ) → nat_eq (suc p) 0 ≡ false
-    never p = grind (arith, nat_tests)
-set-at (y ∷ ys) (suc q) x zero h = λ i. cond (sym (never q) i) x y
-  where
-    never : (q : ℕ) → nat_eq 0 (suc q) ≡ false
-    never q = grind (arith, nat_tests)
-set-at (y ∷ ys) (suc q) x (suc p) h = set-at ys q x p (omega arith) ∙ (λ i. cond (same p q i) x (get_or ys p 0))
-  where
-    same : (p q : ℕ) → nat_eq p q ≡ nat_eq (suc p) (suc q)
-    same p q = grind (arith, nat_tests)
-
-pub seen-set : (seen : List ℕ) (q : ℕ) → q < length seen → counts (set seen q (suc (get_or seen q 0))) ≡ seen_more (counts seen) q
-seen-set seen q h = fun_ext (λ p. set-at seen q (suc (get_or seen q 0)) p h ∙ go p (nat_eq p q) refl)
-  where
-    go : (p : ℕ) (b : Bool) → nat_eq p q ≡ b → cond b (suc (get_or seen q 0)) (get_or seen p 0) ≡ cond b (suc (get_or seen p 0)) (get_or seen p 0)
-    go p true e = ap (λ k. suc (get_or seen k 0)) (sym (equal p q e))
-    go p false e = refl
-
-pub IsWalk-had : (n : ℕ) (labels more : List Label) (seen : List ℕ) (es : List (ℕ × Vec ℕ Global)) (q : ℕ) (row : Vec ℕ Global) →
-    IsWalk n labels seen es → q < n → IsCompact row.items → length more ≡ n → All IsLabel more →
-    IsWalk n more (set seen q (suc (get_or seen q 0))) (es ++ (suc (get_or seen q 0) * n + q, row) ∷ [])
-IsWalk-had n labels more seen es q row h lt packed long each = record {
+pub IsWalk-had : (n : ℕ) (ws : List ℕ) (labels more : List Label) (seen : List ℕ) (es : List (ℕ × Vec ℕ Global)) (q : ℕ) (row : Vec ℕ Global) →
+    IsWalk n ws labels seen es → q < n → list_any (nat_eq q) ws ≡ true → IsCompact row.items → length more ≡ length ws → All IsLabel more →
+    IsWalk n ws more (set seen (place_in ws q) (suc (counts ws seen q))) (es ++ (suc (counts ws seen q) * n + q, row) ∷ [])
+IsWalk-had n ws labels more seen es q row h lt on packed long each = record {
+  below = h.below;
+  distinct = h.distinct;
   labelled = long;
-  counted = length-set seen q (suc (get_or seen q 0)) ∙ h.counted;
+  counted = length-set seen (place_in ws q) (suc (counts ws seen q)) ∙ h.counted;
   packed = each;
-  rows = AreRows-push es (suc (get_or seen q 0) * n + q) row h.rows packed;
-  to_come = λ p k mt le. ap (set_before (suc k * n + p)) (befores-push es (suc (get_or seen q 0) * n + q) row)
-      ∙ go p k mt (nat_eq p q) refl (subst (λ m. m ≤ k) (set-at seen q (suc (get_or seen q 0)) p (subst (λ m. q < m) (sym h.counted) lt)) le);
+  rows = AreRows-push es (suc (counts ws seen q) * n + q) row h.rows packed;
+  to_come = λ p k mt le. ap (set_before (suc k * n + p)) (befores-push es (suc (counts ws seen q) * n + q) row)
+      ∙ go p k mt (nat_eq p q) refl (subst (λ m. m ≤ k) (counts-set ws seen q (suc (counts ws seen q)) p on h.counted) le);
 }
   where
     further : (a b : ℕ) → suc a ≡ suc b → suc a ≤ b → ⊥
@@ -130,13 +108,13 @@ IsWalk-had n labels more seen es q row h lt packed long each = record {
     clash : (m s : ℕ) → m ≡ s → nat_eq m s ≡ false → ⊥
     clash m s f e = grind (arith, nat_tests)
 
-    go : (p k : ℕ) → p < n → (b : Bool) → nat_eq p q ≡ b → cond b (suc (get_or seen q 0)) (get_or seen p 0) ≤ k →
-        set_before (suc k * n + p) (befores es ++ (suc (get_or seen q 0) * n + q, compact_set row.items) ∷ []) ≡ None
-    go p k mt true e le = still_absent (befores es) (suc k * n + p) (suc (get_or seen q 0) * n + q) (compact_set row.items)
-        (λ f. further (get_or seen q 0) k (other_variable n (suc (get_or seen q 0)) (suc k) q p lt mt f).1 le)
-        (h.to_come p k mt (subst (λ r. get_or seen r 0 ≤ k) (sym (equal p q e)) (omega arith)))
-    go p k mt false e le = still_absent (befores es) (suc k * n + p) (suc (get_or seen q 0) * n + q) (compact_set row.items)
-        (λ f. clash p q (sym (other_variable n (suc (get_or seen q 0)) (suc k) q p lt mt f).0) e)
+    go : (p k : ℕ) → p < n → (b : Bool) → nat_eq p q ≡ b → cond b (suc (counts ws seen q)) (counts ws seen p) ≤ k →
+        set_before (suc k * n + p) (befores es ++ (suc (counts ws seen q) * n + q, compact_set row.items) ∷ []) ≡ None
+    go p k mt true e le = still_absent (befores es) (suc k * n + p) (suc (counts ws seen q) * n + q) (compact_set row.items)
+        (λ f. further (counts ws seen q) k (other_variable n (suc (counts ws seen q)) (suc k) q p lt mt f).1 le)
+        (h.to_come p k mt (subst (λ r. counts ws seen r ≤ k) (sym (equal p q e)) (omega arith)))
+    go p k mt false e le = still_absent (befores es) (suc k * n + p) (suc (counts ws seen q) * n + q) (compact_set row.items)
+        (λ f. clash p q (sym (other_variable n (suc (counts ws seen q)) (suc k) q p lt mt f).0) e)
         (h.to_come p k mt le)
 
 -- ---- two maps
@@ -175,38 +153,41 @@ before-same m n f g h = hash_map_eq_from_get nat_eq same_row m n
     (λ v. agreed (lookup (nat_eq v) m.entries) (lookup (nat_eq v) n.entries) (looked m.entries v f) (looked n.entries v g) (sym (before-lookup m.entries v) ∙ h v ∙ before-lookup n.entries v))
 
 -- ---- what a walk passes
-abbrev pub viewed : ℕ → List Label → List ℕ → List (ℕ × Vec ℕ Global) → NamedWalk
-viewed n labels seen es = record { wires = n; labels = map label_of labels; seen = seen; sets = befores es }
+abbrev pub viewed : ℕ → List ℕ → List Label → List ℕ → List (ℕ × Vec ℕ Global) → NamedWalk
+viewed n ws labels seen es = record { wires = n; touched = ws; labels = map label_of labels; seen = seen; sets = befores es }
 
 pub label-here : (labels : List Label) (q : ℕ) (l : Label) → q < length labels → l ≡ get_or labels q l → label_of l ≡ labels_of_list (map label_of labels) q
 label-here labels q l lt e = ap label_of e ∙ sym (get_or-map label_of labels q l (label 0 false) lt)
 
-pub passes-x : (n : ℕ) (r : ℕ → ℕ) (labels : List Label) (seen : List ℕ) (es : List (ℕ × Vec ℕ Global)) (q : ℕ) (l : Label) → q < length labels → label_of l ≡ flipped (labels_of_list (map label_of labels) q) →
-    Passes r (X q) (viewed n labels seen es) (viewed n (set labels q l) seen es)
-passes-x n r labels seen es q l lt e = record {
+pub passes-x : (n : ℕ) (r : ℕ → ℕ) (ws : List ℕ) (labels : List Label) (seen : List ℕ) (es : List (ℕ × Vec ℕ Global)) (q : ℕ) (l : Label) → list_any (nat_eq q) ws ≡ true → length labels ≡ length ws →
+    label_of l ≡ flipped (labels_on n ws (map label_of labels) q) → Passes r (X q) (viewed n ws labels seen es) (viewed n ws (set labels (place_in ws q) l) seen es)
+passes-x n r ws labels seen es q l on long e = record {
   wires = refl;
-  labels = labels-set label_of labels q l lt ∙ ap (with_label (labels_of_list (map label_of labels)) q) e;
+  touched = refl;
+  labels = labels-put n ws labels q l on long ∙ ap (with_label (labels_on n ws (map label_of labels)) q) e;
   seen = refl;
   sets = sym (append-nil (befores es));
 }
 
-pub passes-cx : (n : ℕ) (r : ℕ → ℕ) (labels : List Label) (seen : List ℕ) (es : List (ℕ × Vec ℕ Global)) (c t : ℕ) (l : Label) → t < length labels →
-    label_of l ≡ add_labels (labels_of_list (map label_of labels) t) (labels_of_list (map label_of labels) c) → Passes r (Cx c t) (viewed n labels seen es) (viewed n (set labels t l) seen es)
-passes-cx n r labels seen es c t l lt e = record {
+pub passes-cx : (n : ℕ) (r : ℕ → ℕ) (ws : List ℕ) (labels : List Label) (seen : List ℕ) (es : List (ℕ × Vec ℕ Global)) (c t : ℕ) (l : Label) → list_any (nat_eq t) ws ≡ true → length labels ≡ length ws →
+    label_of l ≡ add_labels (labels_on n ws (map label_of labels) t) (labels_on n ws (map label_of labels) c) → Passes r (Cx c t) (viewed n ws labels seen es) (viewed n ws (set labels (place_in ws t) l) seen es)
+passes-cx n r ws labels seen es c t l on long e = record {
   wires = refl;
-  labels = labels-set label_of labels t l lt ∙ ap (with_label (labels_of_list (map label_of labels)) t) e;
+  touched = refl;
+  labels = labels-put n ws labels t l on long ∙ ap (with_label (labels_on n ws (map label_of labels)) t) e;
   seen = refl;
   sets = sym (append-nil (befores es));
 }
 
-pub passes-h : (n : ℕ) (r : ℕ → ℕ) (labels : List Label) (seen : List ℕ) (es : List (ℕ × Vec ℕ Global)) (q : ℕ) (l : Label) (row : Vec ℕ Global) → q < length labels → q < length seen →
-    label_of l ≡ fresh (r (suc (get_or seen q 0) * n + q)) → compact_set row.items ≡ (labels_of_list (map label_of labels) q).variables →
-    Passes r (H q) (viewed n labels seen es) (viewed n (set labels q l) (set seen q (suc (get_or seen q 0))) (es ++ (suc (get_or seen q 0) * n + q, row) ∷ []))
-passes-h n r labels seen es q l row lt mt e f = record {
+pub passes-h : (n : ℕ) (r : ℕ → ℕ) (ws : List ℕ) (labels : List Label) (seen : List ℕ) (es : List (ℕ × Vec ℕ Global)) (q : ℕ) (l : Label) (row : Vec ℕ Global) → list_any (nat_eq q) ws ≡ true →
+    length labels ≡ length ws → length seen ≡ length ws → label_of l ≡ fresh (r (suc (counts ws seen q) * n + q)) → compact_set row.items ≡ (labels_on n ws (map label_of labels) q).variables →
+    Passes r (H q) (viewed n ws labels seen es) (viewed n ws (set labels (place_in ws q) l) (set seen (place_in ws q) (suc (counts ws seen q))) (es ++ (suc (counts ws seen q) * n + q, row) ∷ []))
+passes-h n r ws labels seen es q l row on long counted e f = record {
   wires = refl;
-  labels = labels-set label_of labels q l lt ∙ ap (with_label (labels_of_list (map label_of labels)) q) e;
-  seen = seen-set seen q mt;
-  sets = befores-push es (suc (get_or seen q 0) * n + q) row ∙ ap (λ (m : ℕ). befores es ++ (suc (get_or seen q 0) * n + q, m) ∷ []) f;
+  touched = refl;
+  labels = labels-put n ws labels q l on long ∙ ap (with_label (labels_on n ws (map label_of labels)) q) e;
+  seen = seen-set ws seen q on counted;
+  sets = befores-push es (suc (counts ws seen q) * n + q) row ∙ ap (λ (m : ℕ). befores es ++ (suc (counts ws seen q) * n + q, m) ∷ []) f;
 }
 
 pub count-here : (seen : List ℕ) (q k : ℕ) → q < length seen → k ≡ get_or seen q k → k ≡ get_or seen q 0

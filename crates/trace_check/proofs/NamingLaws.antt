@@ -1,7 +1,5 @@
 -- The names of variables, and what they do for path sums.
---     AreNamed names vs       each of vs stands among the names
 --     named-both              what was put in, and then more, stands there
---     place-of                the place of a name, or the one behind all
 --     sums-by, by-sums        what is the same by number is the same path sum, and the other way round
 --     constant-by             what stands on none is the same number
 use Rattle.std.proofs.Common.{◌≡◌, ℕ, suc, ◌+◌, ◌-◌, ◌*◌, ◌^◌, ◌<◌, ◌≤◌, Bool, true, false, cond, not, if◌then◌else◌, ◌||◌, List, [], ◌∷◌, ◌++◌, length, get_or, refl, sym, subst, ◌∙◌, ap, arith, true≢false}
@@ -15,13 +13,10 @@ use Rattle.circuit_list.specs.declared.Gate.TheVariants.{H, X, P, Cx}
 use Rattle.path_parity.specs.PathSum.{label, own_labels}
 use Rattle.path_parity.specs.NamedSums.{Seen, constant_of, next_variable, seen_after, unseen, SamePathSum}
 use Rattle.path_parity.proofs.NumberedLaws.{Renames, renamed, renamed-linear, renamed-own, renamed-zero}
-use Rattle.trace_check.specs.Names.{SameBy, constant_by, number_by, variables_of}
+use Rattle.trace_check.specs.Names.{AreNamed, SameBy, constant_by, number_by, variables_of}
 use Rattle.trace_check.proofs.CollectLaws.{equal, own}
+use Rattle.trace_check.proofs.TouchedLaws.{IsPlaced, placed}
 use Rattle.trace_check.proofs.RenameLaws.{Carries, carried_constant, constant-named, named-same, same-carried, same-named}
-
-abbrev pub AreNamed : List ℕ → List ℕ → Type 0
-AreNamed names [] = Unit {0}
-AreNamed names (v ∷ vs) = (list_any (nat_eq v) names ≡ true) × AreNamed names vs
 
 -- ---- names that are put in
 stays : (names : List ℕ) (v u : ℕ) → list_any (nat_eq u) names ≡ true → list_any (nat_eq u) (insert_key nat_eq names v) ≡ true
@@ -59,36 +54,6 @@ named-both names more all us vs e f = (
   subst (λ ks. AreNamed ks us) (sym f) (AreNamed-kept more vs us (subst (λ ks. AreNamed ks us) (sym e) (AreNamed-all names us))),
   subst (λ ks. AreNamed ks vs) (sym f) (AreNamed-all more vs),
 )
-
--- ---- the place of a name
-record IsPlaced (names : List ℕ) (v : ℕ) : Type 0 where
-  within : position_or_len (nat_eq v) names < length names
-  there : get_or names (position_or_len (nat_eq v) names) 0 ≡ v
-
-placed : (names : List ℕ) (v : ℕ) → list_any (nat_eq v) names ≡ true → IsPlaced names v
-placed [] v h = absurd (true≢false (sym h))
-placed (x ∷ xs) v h = go (nat_eq v x) refl h (placed xs v)
-  where
-    go : (b : Bool) → nat_eq v x ≡ b → (b || list_any (nat_eq v) xs) ≡ true → (list_any (nat_eq v) xs ≡ true → IsPlaced xs v) → IsPlaced (x ∷ xs) v
-    go true e f r = let first : position_or_len (nat_eq v) (x ∷ xs) ≡ 0 = ap (λ b. cond (not b) (1 + position_or_len (nat_eq v) xs) 0) e in
-        record { within = omega (arith, first); there = ap (λ k. get_or (x ∷ xs) k 0) first ∙ sym (equal v x e) }
-    go false e f r = let later : position_or_len (nat_eq v) (x ∷ xs) ≡ suc (position_or_len (nat_eq v) xs) = ap (λ b. cond (not b) (1 + position_or_len (nat_eq v) xs) 0) e ∙ omega arith in
-        record { within = omega (arith, later, (r f).within); there = ap (λ k. get_or (x ∷ xs) k 0) later ∙ (r f).there }
-
-place_within : (names : List ℕ) (v : ℕ) → position_or_len (nat_eq v) names ≤ length names
-place_within [] v = omega arith
-place_within (x ∷ xs) v = go (nat_eq v x) (place_within xs v)
-  where
-    go : (b : Bool) → position_or_len (nat_eq v) xs ≤ length xs → cond (not b) (1 + position_or_len (nat_eq v) xs) 0 ≤ suc (length xs)
-    go true r = omega arith
-    go false r = omega arith
-
-pub place-of : (names : List ℕ) (v : ℕ) → unwrap_or (position (nat_eq v) names) (length names) ≡ position_or_len (nat_eq v) names
-place-of names v = go (nat_lt (position_or_len (nat_eq v) names) (length names)) refl
-  where
-    go : (b : Bool) → nat_lt (position_or_len (nat_eq v) names) (length names) ≡ b → unwrap_or (cond b (Some (position_or_len (nat_eq v) names)) None) (length names) ≡ position_or_len (nat_eq v) names
-    go true e = refl
-    go false e = let not_less : length names ≤ position_or_len (nat_eq v) names = grind (arith, nat_tests) in omega (arith, not_less, place_within names v)
 
 abbrev bound : List ℕ → ℕ
 bound [] = 0

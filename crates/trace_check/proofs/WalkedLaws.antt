@@ -11,8 +11,8 @@ use Rattle.path_parity.specs.NamedSums.{Seen, constant_at, constant_of, hadamard
 use Rattle.path_parity.specs.PathSum.{Wires, own_labels}
 use Rattle.path_parity.proofs.LoopLaws.{drop-get}
 use Rattle.rewrite_pass.specs.Traces.{constants_turn}
-use Rattle.trace_check.proofs.NamingLaws.{AreNamed, by-sums, constant-by, sums-by}
-use Rattle.trace_check.specs.Names.{SameBy, after_by, constant_by, hadamards_by, last_by, number_by, term_by, terms_by, variables_of}
+use Rattle.trace_check.proofs.NamingLaws.{by-sums, constant-by, sums-by}
+use Rattle.trace_check.specs.Names.{AreNamed, SameBy, after_by, constant_by, hadamards_by, last_by, number_by, term_by, terms_by, variables_of}
 use Rattle.trace_check.specs.Sums.{Adds, Collected, IsSameWalk, IsWalked, NamedWalk, Passes, labels_in, seen_in}
 
 pub total-append : (m : ℕ) (xs ys : List (ℕ × ℕ)) → total m (xs ++ ys) ≡ total m xs + total m ys

@@ -1,6 +1,11 @@
 -- Working form. Path sums in variables that are numbered as they come up. Each variable of an H has its name, which is that of a
 -- path sum with named variables, and names stand in a list.
---     counts xs               a list of how many H stand before, for all wires
+--     AreNamed names vs       each of vs stands among the names
+--     wires_on g, wires_of gs     the wires of a gate, and of a list of gates
+--     IsTouched ws g          the wires of gate g stand among the wires ws
+--     place_in ws q           the place of wire q among the wires ws, and their number where it isn't there
+--     counts ws xs            how many H stand before, where xs has that for the wires ws; none on another wire
+--     labels_on n ws ls       the labels of all n wires, where ls are those of the wires ws; another wire has its own variable
 --     variable n g s          the variable of a gate that is an H, by its name, and none of another gate;  variables_of n gs s: those of
 --                             the H of a list, in order
 --     seen_last gs s          how many H stand on each wire behind a list
@@ -11,15 +16,41 @@
 --     term_by n r g w s, terms_by n r gs w s      what a gate, and what a list, puts on sets
 --     constant_by n r gs w s  what the gates of a list put on none, together
 --     SameBy n r A B          the same H with the same sets, the same last labels, and on each set the same total modulo 8
-use Rattle.std.specs.Prelude.{◌≡◌, ℕ, ◌+◌, ◌-◌, ◌%◌, ◌^◌, ◌<◌, cond, List, [], ◌∷◌, ◌++◌, get_or, nat_eq}
-use Rattle.std.specs.List.{position_or_len}
+use Rattle.std.specs.Prelude.{◌≡◌, ℕ, ◌+◌, ◌-◌, ◌%◌, ◌^◌, ◌<◌, cond, true, List, [], ◌∷◌, ◌++◌, get_or, nat_eq}
+use Rattle.std.specs.List.{list_any, position_or_len}
 use Rattle.circuit_list.specs.declared.Gate.{Gate}
 use Rattle.circuit_list.specs.declared.Gate.TheVariants.{H, X, P, Cx}
 use Rattle.path_parity.specs.NamedSums.{Seen, constant_at, hadamard, next_variable, seen_after, set_before, total, unseen}
-use Rattle.path_parity.specs.PathSum.{Wires, with_label, add_labels, flipped, fresh, own_labels}
+use Rattle.path_parity.specs.PathSum.{PathLabel, Wires, with_label, add_labels, flipped, fresh, own_labels}
 
-abbrev pub counts : List ℕ → Seen
-counts xs = λ q. get_or xs q 0
+abbrev pub AreNamed : List ℕ → List ℕ → Type 0
+AreNamed names [] = Unit {0}
+AreNamed names (v ∷ vs) = (list_any (nat_eq v) names ≡ true) × AreNamed names vs
+
+abbrev pub wires_on : Gate → List ℕ
+wires_on (H q) = q ∷ []
+wires_on (X q) = q ∷ []
+wires_on (P k q) = q ∷ []
+wires_on (Cx c t) = c ∷ t ∷ []
+
+abbrev pub wires_of : List Gate → List ℕ
+wires_of [] = []
+wires_of (g ∷ gs) = wires_on g ++ wires_of gs
+
+abbrev pub IsTouched : List ℕ → Gate → Type 0
+IsTouched wires (H q) = list_any (nat_eq q) wires ≡ true
+IsTouched wires (X q) = list_any (nat_eq q) wires ≡ true
+IsTouched wires (P k q) = list_any (nat_eq q) wires ≡ true
+IsTouched wires (Cx c t) = (list_any (nat_eq c) wires ≡ true) × (list_any (nat_eq t) wires ≡ true)
+
+abbrev pub place_in : List ℕ → ℕ → ℕ
+place_in wires q = position_or_len (nat_eq q) wires
+
+abbrev pub counts : List ℕ → List ℕ → Seen
+counts wires xs = λ q. get_or xs (place_in wires q) 0
+
+abbrev pub labels_on : ℕ → List ℕ → List PathLabel → Wires
+labels_on n wires ls = λ q. get_or ls (place_in wires q) (own_labels n q)
 
 abbrev pub variable : ℕ → Gate → Seen → List ℕ
 variable n (H q) s = next_variable n s q ∷ []

@@ -11,27 +11,27 @@
 --     AreTotals es        the rows are those of sets, and the totals are below 8
 --     Adds sign es c old new  `sign` times what es and the constant c say was added, modulo 8
 --     AddsKnown row k old new     a row that is there has k more, modulo 8
---     NamedWalk           a walk: the wires, the label of each and how many H stand before on it, and each H so far, as its variable
---                         and the set before it
+--     NamedWalk           a walk: the wires, those that are touched, the label of each and how many H stand before on it, and each H
+--                         so far, as its variable and the set before it
 --     labels_in w, seen_in w  the labels of all wires, and how many H stand before on them
 --     befores es          the entries of the program's map from variables to compact rows, by sets
 --     AreRows es          the rows are those of sets
---     IsWalk n labels seen es     the labels and the counts are those of n wires, the rows are those of sets, and no variable of an H
---                         to come is among the entries
+--     IsWalk n ws labels seen es  the labels and the counts are those of the wires ws, different ones of n, the rows are those of sets,
+--                         and no variable of an H to come is among the entries
 --     Passes r g old new  a walk after gate g, where r tells which variable stands for each named one
 --     IsWalked n r gs sign old new w  the walk past all gates of a circuit, and what they added
 --     IsSameWalk one two  the same H with the same sets, and the same labels
-use Rattle.std.specs.Prelude.{◌≡◌, ℕ, suc, ◌+◌, ◌-◌, ◌*◌, ◌/◌, ◌%◌, ◌^◌, ◌<◌, ◌≤◌, Bool, true, false, cond, not, List, [], ◌∷◌, ◌++◌, Vec, All, None, Some, count_by, length, get_or, nat_eq, nat_lt}
+use Rattle.std.specs.Prelude.{◌≡◌, ℕ, suc, ◌+◌, ◌-◌, ◌*◌, ◌/◌, ◌%◌, ◌^◌, ◌<◌, ◌≤◌, Bool, true, false, cond, not, List, [], ◌∷◌, ◌++◌, Vec, All, None, Some, count_by, length, nat_eq, nat_lt}
 use Rattle.std.specs.Cmp.Lexicographic.{pointwise}
+use Rattle.std.specs.List.{IsDistinct}
 use Rattle.std.specs.Map.{lookup, set_value}
 use Rattle.std.specs.declared.alloc.Global.{Global}
 use Rattle.circuit_list.specs.declared.Gate.{Gate}
 use Rattle.path_parity.specs.declared.label.Label.{Label}
-use Rattle.path_parity.specs.LabelWalks.{labels_of_list}
 use Rattle.path_parity.specs.NamedSums.{Seen, hadamard, seen_after, set_before, total, unseen}
 use Rattle.path_parity.specs.PathSum.{PathLabel, Wires, own_labels}
 use Rattle.path_parity.specs.Sets.{IsLabel, IsPacked, set_of}
-use Rattle.trace_check.specs.Names.{after_by, constant_by, hadamards_by, last_by, terms_by}
+use Rattle.trace_check.specs.Names.{after_by, counts, constant_by, hadamards_by, labels_on, last_by, terms_by}
 
 pub record Collected : Type 0 where
   pub sets : List (ℕ × ℕ)
@@ -91,15 +91,16 @@ pub record AddsKnown (row : List ℕ) (k : ℕ) (old new : List (Vec ℕ Global 
 
 pub record NamedWalk : Type 0 where
   pub wires : ℕ
+  pub touched : List ℕ
   pub labels : List PathLabel
   pub seen : List ℕ
   pub sets : List (ℕ × ℕ)
 
 abbrev pub labels_in : NamedWalk → Wires
-labels_in w = labels_of_list w.labels
+labels_in w = labels_on w.wires w.touched w.labels
 
 abbrev pub seen_in : NamedWalk → Seen
-seen_in w = λ q. get_or w.seen q 0
+seen_in w = counts w.touched w.seen
 
 abbrev pub befores : List (ℕ × Vec ℕ Global) → List (ℕ × ℕ)
 befores [] = []
@@ -109,15 +110,18 @@ abbrev pub AreRows : List (ℕ × Vec ℕ Global) → Type 0
 AreRows [] = Unit {0}
 AreRows (e ∷ es) = IsCompact e.1.items × AreRows es
 
-pub record IsWalk (n : ℕ) (labels : List Label) (seen : List ℕ) (es : List (ℕ × Vec ℕ Global)) : Type 0 where
-  pub labelled : length labels ≡ n
-  pub counted : length seen ≡ n
+pub record IsWalk (n : ℕ) (touched : List ℕ) (labels : List Label) (seen : List ℕ) (es : List (ℕ × Vec ℕ Global)) : Type 0 where
+  pub below : All (λ q. q < n) touched
+  pub distinct : IsDistinct nat_eq touched
+  pub labelled : length labels ≡ length touched
+  pub counted : length seen ≡ length touched
   pub packed : All IsLabel labels
   pub rows : AreRows es
-  pub to_come : (q k : ℕ) → q < n → get_or seen q 0 ≤ k → set_before (suc k * n + q) (befores es) ≡ None
+  pub to_come : (q k : ℕ) → q < n → counts touched seen q ≤ k → set_before (suc k * n + q) (befores es) ≡ None
 
 pub record Passes (r : ℕ → ℕ) (g : Gate) (old new : NamedWalk) : Type 0 where
   pub wires : new.wires ≡ old.wires
+  pub touched : new.touched ≡ old.touched
   pub labels : labels_in new ≡ after_by old.wires r g (labels_in old) (seen_in old)
   pub seen : seen_in new ≡ seen_after g (seen_in old)
   pub sets : new.sets ≡ old.sets ++ hadamard old.wires g (labels_in old) (seen_in old)

@@ -16,6 +16,7 @@ mod pairs;
 mod routed;
 mod routing;
 mod sums;
+mod touched;
 mod windows;
 mod words;
 

@@ -9,13 +9,14 @@ ghost use Rattle.std.specs.Map.{keys_of, lookup};
 ghost use Rattle.std.specs.Cmp.Lexicographic.{pointwise};
 ghost use Rattle.path_parity.specs.NamedSums.{SamePathSum, constant_at, set_before, total, unseen};
 ghost use Rattle.path_parity.specs.LabelWalks.{labels_of_list};
-ghost use Rattle.path_parity.specs.PathSum.{own_labels};
+ghost use Rattle.path_parity.specs.PathSum.{fresh, own_labels};
 ghost use Rattle.path_parity.specs.Sets.{IsLabel, IsPacked, label_of, set_of};
 ghost use Rattle.rewrite_pass.specs.Traces.{constants_turn};
-ghost use Rattle.trace_check.specs.Names.{number_by, term_by};
+ghost use Rattle.trace_check.specs.Names.{AreNamed, IsTouched, number_by, term_by, wires_of};
 ghost use Rattle.trace_check.specs.Sums.{Adds, AddsKnown, AreRows, IsSameWalk, IsWalked, Passes, befores, compact, is_sparse, labels_in, mark, seen_in, sparse};
 
 use crate::names::{first_counts, next_variable, note_names, number};
+use crate::touched::{place_in, touched_by};
 use circuit_list::{Circuit, Gate};
 use indexmap::{IndexMap, IndexSet};
 use path_parity::Label;
@@ -122,18 +123,19 @@ impl Totals {
     }
 }
 
-/// A walk along a circuit: the label of each wire and how many H stand before on it, and the compact row of the set before each H,
-/// by its variable.
+/// A walk along a circuit: the label of each wire that is touched and how many H stand before on it, and the compact row of the
+/// set before each H, by its variable.
 #[derive(Drop)]
-struct Walk {
+struct Walk<'a> {
     wires: u32,
+    touched: &'a IndexSet<u32>,
     labels: Vec<Label>,
     seen: Vec<u64>,
     sets: IndexMap<u64, Vec<u64>>,
     spare: Label,
 }
 
-impl Model for Walk {
+impl<'a> Model for Walk<'a> {
     ghost use Rattle.std.specs.Prelude.{map};
     ghost use Rattle.path_parity.specs.Sets.{label_of};
     ghost use Rattle.trace_check.specs.Sums.{IsWalk, NamedWalk, befores};
@@ -142,26 +144,30 @@ impl Model for Walk {
 
     ghost view = { λ a. record {
       wires = a.wires;
+      touched = a.touched.now.keys;
       labels = map label_of a.labels.items;
       seen = a.seen.items;
       sets = befores a.sets.entries;
     } };
 
-    ghost invariant = { λ a. IsWalk a.wires a.labels.items a.seen.items a.sets.entries };
+    ghost invariant = { λ a. IsWalk a.wires a.touched.now.keys a.labels.items a.seen.items a.sets.entries };
 }
 
-impl Walk {
+impl<'a> Walk<'a> {
     /// The walk before the first gate.
-    fn new(alloc: Global, wires: u32) -> Result<Walk, AllocError>
+    fn new(alloc: Global, touched: &'a IndexSet<u32>, wires: u32) -> Result<Walk<'a>, AllocError>
+        requires { All (λ q. q < wires) touched.now.keys }
+        ensures touched { IfOk result (λ w. w.touched ≡ touched.now.keys) }
         ensures wires { IfOk result (λ w. w.wires ≡ wires) }
         ensures labels { IfOk result (λ w. labels_in w ≡ own_labels wires) }
         ensures seen { IfOk result (λ w. seen_in w ≡ unseen) }
         ensures sets { IfOk result (λ w. w.sets ≡ []) }
     {
-        let labels = first_labels(alloc, wires)?;
-        let seen = first_counts(alloc, wires)?;
+        let labels = first_labels(alloc, touched.as_slice())?;
+        let seen = first_counts(alloc, touched.len())?;
         Ok(Walk {
             wires,
+            touched,
             labels,
             seen,
             sets: IndexMap::new(alloc),
@@ -181,21 +187,23 @@ impl Walk {
         q: u32,
         sign: u8,
     ) -> Result<(), AllocError>
-        requires { q < self.old.wires }
+        requires within { q < self.old.wires }
+        requires touched { IsTouched self.old.touched (H q) }
         ensures passes { OnOk result (Passes (number_by self.old.wires names.now.keys) (H q) self.old self.new) }
         ensures adds { OnOk result (Adds sign
             (term_by self.old.wires (number_by self.old.wires names.now.keys) (H q) (labels_in self.old) (seen_in self.old)) 0 totals.old totals.new) }
     {
-        let (seen, variable) = next_variable(self.seen[q as usize], self.wires, q)?;
+        let place = place_in(self.touched, q);
+        let (seen, variable) = next_variable(self.seen[place], self.wires, q)?;
         let fresh = number(names, self.wires, variable)?;
-        let label = &self.labels[q as usize];
+        let label = &self.labels[place];
         let bit = label.bit;
         let set = compact_row(alloc, &label.set)?;
         self.spare.write_fresh(fresh)?;
         totals.add_turn(alloc, &self.spare.set, bit, sign)?;
         self.sets.insert(variable, set)?;
-        self.seen[q as usize] = seen;
-        swap(&mut self.labels[q as usize], &mut self.spare);
+        self.seen[place] = seen;
+        swap(&mut self.labels[place], &mut self.spare);
         Ok(())
     }
 
@@ -209,7 +217,8 @@ impl Walk {
         gate: Gate,
         sign: u8,
     ) -> Result<(), AllocError>
-        requires { IsFine self.old.wires gate }
+        requires fine { IsFine self.old.wires gate }
+        requires touched { IsTouched self.old.touched gate }
         ensures passes { OnOk result (Passes (number_by self.old.wires names.now.keys) gate self.old self.new) }
         ensures adds { OnOk result (Adds sign
             (term_by self.old.wires (number_by self.old.wires names.now.keys) gate (labels_in self.old) (seen_in self.old))
@@ -218,14 +227,20 @@ impl Walk {
         match gate {
             Gate::H { q } => self.pass_hadamard(alloc, names, totals, q, sign)?,
             Gate::X { q } => {
-                self.labels[q as usize].bit = !self.labels[q as usize].bit;
+                let place = place_in(self.touched, q);
+                self.labels[place].bit = !self.labels[place].bit;
                 totals.add_constant(2, sign);
             }
-            Gate::P { k, q } => totals.add_phase(alloc, &self.labels[q as usize], k, sign)?,
+            Gate::P { k, q } => {
+                let place = place_in(self.touched, q);
+                totals.add_phase(alloc, &self.labels[place], k, sign)?;
+            }
             Gate::Cx { c, t } => {
+                let control = place_in(self.touched, c);
+                let target = place_in(self.touched, t);
                 self.spare
-                    .write_sum(&self.labels[t as usize], &self.labels[c as usize])?;
-                swap(&mut self.labels[t as usize], &mut self.spare);
+                    .write_sum(&self.labels[target], &self.labels[control])?;
+                swap(&mut self.labels[target], &mut self.spare);
             }
         }
         Ok(())
@@ -233,22 +248,23 @@ impl Walk {
 
     /// Whether another walk has the same labels, and had the same sets before the same H.
     fn is_same(&self, other: &Walk) -> bool
-        requires { self.now.wires ≡ other.now.wires }
+        requires wires { self.now.wires ≡ other.now.wires }
+        requires touched { self.now.touched ≡ other.now.touched }
         ensures { IsTrue result ↔ IsSameWalk self.now other.now }
     {
         same_sets(&self.sets, &other.sets) && same_labels(&self.labels, &other.labels)
     }
 }
 
-/// Each wire with its own variable alone.
-fn first_labels(alloc: Global, wires: u32) -> Result<Vec<Label>, AllocError>
-    ensures wires { IfOk result (λ v. length v.items ≡ wires) }
-    ensures labels { IfOk result (λ v. labels_of_list (map label_of v.items) ≡ own_labels wires) }
+/// Each of some wires with its own variable alone.
+fn first_labels(alloc: Global, wires: &[u32]) -> Result<Vec<Label>, AllocError>
+    ensures wires { IfOk result (λ v. length v.items ≡ length wires.now) }
+    ensures labels { IfOk result (λ v. map label_of v.items ≡ map fresh wires.now) }
     ensures packed { IfOk result (λ v. All IsLabel v.items) }
 {
     let mut labels = Vec::new(alloc);
-    'wires: for q in 0..wires {
-        labels.push(Label::fresh(alloc, q as u64)?)?;
+    'wires: for place in 0..wires.len() {
+        labels.push(Label::fresh(alloc, wires[place] as u64)?)?;
     }
     Ok(labels)
 }
@@ -355,16 +371,20 @@ fn signed(k: u8, sign: u8) -> u8
 }
 
 /// Walks along a whole circuit, and adds what its gates put on sets and on none, so many times the sign.
-fn walked(
+fn walked<'a>(
     alloc: Global,
+    touched: &'a IndexSet<u32>,
     names: &IndexSet<u64>,
     totals: &mut Totals,
     body: &Circuit,
     sign: u8,
-) -> Result<Walk, AllocError>
-    ensures { IfOk result (λ w. IsWalked body.now.wires (number_by body.now.wires names.now.keys) body.now.gates sign totals.old totals.new w) }
+) -> Result<Walk<'a>, AllocError>
+    requires below { All (λ q. q < body.now.wires) touched.now.keys }
+    requires touched { AreNamed touched.now.keys (wires_of body.now.gates) }
+    ensures touched { IfOk result (λ w. w.touched ≡ touched.now.keys) }
+    ensures walked { IfOk result (λ w. IsWalked body.now.wires (number_by body.now.wires names.now.keys) body.now.gates sign totals.old totals.new w) }
 {
-    let mut walk = Walk::new(alloc, body.wires())?;
+    let mut walk = Walk::new(alloc, touched, body.wires())?;
     'gates: for place in 0..body.len() {
         walk.pass(alloc, names, totals, body.gate(place), sign)?;
     }
@@ -379,15 +399,16 @@ pub(crate) fn sums(alloc: Global, old: &Circuit, new: &Circuit) -> Result<Option
 {
     old.facts();
     new.facts();
+    let touched = touched_by(alloc, old, new)?;
     let mut names = IndexSet::new(alloc);
-    let first = note_names(alloc, &mut names, old)?;
-    let second = note_names(alloc, &mut names, new)?;
+    let first = note_names(alloc, &touched, &mut names, old)?;
+    let second = note_names(alloc, &touched, &mut names, new)?;
     if first != second {
         return Ok(None);
     }
     let mut totals = Totals::new(alloc);
-    let before = walked(alloc, &names, &mut totals, old, 7)?;
-    let after = walked(alloc, &names, &mut totals, new, 1)?;
+    let before = walked(alloc, &touched, &names, &mut totals, old, 7)?;
+    let after = walked(alloc, &touched, &names, &mut totals, new, 1)?;
     if before.is_same(&after) && totals.are_none() {
         return Ok(Some(totals.constant()));
     }

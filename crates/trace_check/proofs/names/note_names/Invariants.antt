@@ -8,7 +8,7 @@ use Rattle.trace_check.proofs.names.note_names.Given as goal
 
 abbrev pub invariant-gates : goal.invariant-gates
 invariant-gates l = record {
-  wires : length l.seen.items ≡ l.body.wires;
-  seen : seen_last (drop l.place l.body.gates) (counts l.seen.items) ≡ seen_last l.body.gates unseen;
-  names : insert_all nat_eq l.names.keys (variables_of l.body.wires (drop l.place l.body.gates) (counts l.seen.items)) ≡ insert_all nat_eq l.initial.names.keys (variables_of l.body.wires l.body.gates unseen);
+  wires : length l.seen.items ≡ length l.touched.keys;
+  seen : seen_last (drop l.place l.body.gates) (counts l.touched.keys l.seen.items) ≡ seen_last l.body.gates unseen;
+  names : insert_all nat_eq l.names.keys (variables_of l.body.wires (drop l.place l.body.gates) (counts l.touched.keys l.seen.items)) ≡ insert_all nat_eq l.initial.names.keys (variables_of l.body.wires l.body.gates unseen);
 }

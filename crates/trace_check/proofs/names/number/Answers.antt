@@ -2,7 +2,7 @@
 use Rattle.std.proofs.Common.{◌≡◌, ◌∙◌, arith}
 use Rattle.std.specs.Prelude.{nat_eq, unwrap_or}
 use Rattle.std.specs.List.{position_or_len}
-use Rattle.trace_check.proofs.NamingLaws.{place-of}
+use Rattle.trace_check.proofs.TouchedLaws.{place-of}
 use Rattle.trace_check.proofs.names.number.Goals as goal
 
 pub returns-in-Some : goal.returns-in-Some
