@@ -26,6 +26,7 @@ ghost use Rattle.gate_expand.specs.Expansion.{IsFineOp};
 ghost use Rattle.rewrite_pass.specs.TraceLines.{words};
 ghost use Rattle.rewrite_pass.specs.Traces.{IsStep, Step};
 ghost use Rattle.trace_text.specs.Texts.{lines_of};
+ghost use Rattle.trace_check.specs.Pairs.{AreReaches};
 ghost use Rattle.trace_check.specs.Outcomes.{IsOutcome, claim};
 ghost use Rattle.trace_check.specs.Progress.{Blocked, Came, IsRouting, Leads, placed, reached, step_of};
 ghost use Rattle.trace_check.specs.Proves.{Claim, IsStuck, Routed, StopsAt, Unread};
@@ -33,6 +34,7 @@ ghost use Rattle.trace_check.specs.Spelling.{spelling};
 ghost use Rattle.trace_check.specs.declared.words.Word.TheVariants as kind;
 
 use crate::gates::read_gates;
+use crate::known::Known;
 use crate::mark::Mark;
 use crate::pairs::{both, join};
 use crate::routed::routed;
@@ -150,6 +152,7 @@ fn rewritten<'a>(
         StopsAt e trace r.mark.line) }
 {
     let mut mark = start;
+    let mut known = Known::nothing(alloc);
     'lines: while let Some((line, text)) = first_line(mark.text) {
         let behind = Mark {
             text,
@@ -164,7 +167,7 @@ fn rewritten<'a>(
                 mark: behind,
             });
         }
-        let Some(next) = changed(alloc, behind, state, word, numbers)? else {
+        let Some(next) = changed(alloc, behind, state, &mut known, word, numbers)? else {
             break 'lines;
         };
         mark = next;
@@ -180,13 +183,16 @@ fn changed<'a>(
     alloc: Global,
     mark: Mark<'a>,
     state: &mut Passed,
+    known: &mut Known,
     word: Word,
     numbers: &mut Vec<u32>,
 ) -> Result<Option<Mark<'a>>, AllocError>
     requires on { word ≡ kind.Place → ⊥ }
+    requires known { AreReaches state.old.body.gates state.old.body.slots known.old.reaches.items }
     requires turn { state.old.turn < 8 }
     requires short { mark.line + length mark.text.now < 2 ^ 32 }
     ensures wires { state.new.body.wires ≡ state.old.body.wires }
+    ensures known { AreReaches state.new.body.gates state.new.body.slots known.new.reaches.items }
     ensures turn { state.new.turn < 8 }
     ensures shorter { IfOk result (λ o. IfSome o (λ m. length m.text.now ≤ length mark.entry.text.now)) }
     ensures short { IfOk result (λ o. IfSome o (λ m. m.line + length m.text.now ≤ mark.entry.line + length mark.entry.text.now)) }
@@ -199,9 +205,9 @@ fn changed<'a>(
         (lines_of m.text.now))) }
 {
     if word == Word::Sums {
-        return replaced(alloc, mark, state, numbers);
+        return replaced(alloc, mark, state, known, numbers);
     }
-    if rewrites(state, word, numbers) {
+    if rewrites(state, known, word, numbers) {
         Ok(Some(mark))
     } else {
         Ok(None)
@@ -209,11 +215,13 @@ fn changed<'a>(
 }
 
 /// Makes the step of a line `rule`, `both` or `join`. False where it doesn't apply.
-fn rewrites(state: &mut Passed, word: Word, numbers: &[u32]) -> bool
+fn rewrites(state: &mut Passed, known: &mut Known, word: Word, numbers: &[u32]) -> bool
     requires place { word ≡ kind.Place → ⊥ }
     requires sums { word ≡ kind.Sums → ⊥ }
+    requires known { AreReaches state.old.body.gates state.old.body.slots known.old.reaches.items }
     requires turn { state.old.turn < 8 }
     ensures wires { state.new.body.wires ≡ state.old.body.wires }
+    ensures known { AreReaches state.new.body.gates state.new.body.slots known.new.reaches.items }
     ensures turn { state.new.turn < 8 }
     ensures applies { result ≡ true → (behind : List (List ℕ)) →
         Leads state.old state.new (words (spelling word) numbers.now ∷ behind) behind }
@@ -222,7 +230,7 @@ fn rewrites(state: &mut Passed, word: Word, numbers: &[u32]) -> bool
     let Some((first, second)) = two(numbers) else {
         return false;
     };
-    match step(&mut state.body, word, first, second) {
+    match step(&mut state.body, known, word, first, second) {
         Some(turn) => {
             state.turn = turn_sum(state.turn, turn);
             true
@@ -232,7 +240,15 @@ fn rewrites(state: &mut Passed, word: Word, numbers: &[u32]) -> bool
 }
 
 /// Makes the step that a word and two numbers tell, and gives its turn. None where there is none, or where it doesn't apply.
-fn step(body: &mut Circuit, word: Word, first: u32, second: u32) -> Option<u8>
+fn step(
+    body: &mut Circuit,
+    known: &mut Known,
+    word: Word,
+    first: u32,
+    second: u32,
+) -> Option<u8>
+    requires known { AreReaches body.old.gates body.old.slots known.old.reaches.items }
+    ensures known { AreReaches body.new.gates body.new.slots known.new.reaches.items }
     ensures wires { body.new.wires ≡ body.old.wires }
     ensures turn { IfSome result (λ turn. turn < 8) }
     ensures step { MatchOption result ((p : Step) (gates : List Gate) (turn : ℕ) → step_of word first second ≡ Some p →
@@ -241,10 +257,13 @@ fn step(body: &mut Circuit, word: Word, first: u32, second: u32) -> Option<u8>
         × IsStep body.old.wires body.old.gates p body.new.gates turn)) }
 {
     match word {
-        Word::Rule => rule(body, first, second as usize),
-        Word::Both => both(body, first as usize, second as usize),
+        Word::Rule => {
+            known.forget();
+            rule(body, first, second as usize)
+        }
+        Word::Both => both(body, known, first as usize, second as usize),
         Word::Join => {
-            if join(body, first as usize, second as usize) {
+            if join(body, known, first as usize, second as usize) {
                 Some(0)
             } else {
                 None
@@ -266,11 +285,13 @@ fn replaced<'a>(
     alloc: Global,
     mark: Mark<'a>,
     state: &mut Passed,
+    known: &mut Known,
     numbers: &mut Vec<u32>,
 ) -> Result<Option<Mark<'a>>, AllocError>
     requires turn { state.old.turn < 8 }
     requires short { mark.line + length mark.text.now < 2 ^ 32 }
     ensures wires { state.new.body.wires ≡ state.old.body.wires }
+    ensures known { AreReaches state.new.body.gates state.new.body.slots known.new.reaches.items }
     ensures turn { state.new.turn < 8 }
     ensures shorter { IfOk result (λ o. IfSome o (λ m. length m.text.now ≤ length mark.entry.text.now)) }
     ensures short { IfOk result (λ o. IfSome o (λ m. m.line + length m.text.now ≤ mark.entry.line + length mark.entry.text.now)) }
@@ -282,6 +303,7 @@ fn replaced<'a>(
         (λ m. Leads state.old state.new (words (codes "sums") numbers.old.items ∷ lines_of mark.entry.text.now)
         (lines_of m.text.now))) }
 {
+    known.forget();
     known_small(numbers);
     let Some(count) = one(numbers) else {
         return Ok(None);

@@ -8,6 +8,7 @@
 
 mod checker;
 mod gates;
+mod known;
 pub mod laws;
 mod mark;
 mod names;

@@ -40,6 +40,7 @@ lines-preserved c =
     record {
       wires = c.in_ok-next.ensures.wires ∙ c.lines.invariant.wires;
       turn = c.in_ok-next.ensures.turn;
+      known = c.in_ok-next.ensures.known;
       short = omega (arith, short, c.in-Some.ensures.shorter, c.lines.invariant.short);
       later = omega (arith, later, c.lines.invariant.later);
       came = λ e trace n q k is.
