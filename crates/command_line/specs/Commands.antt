@@ -33,7 +33,8 @@
 --   if_different ns     the numbers where they are different, else none
 --   qubits_of text      the list of qubits that the text spells: different ones, with commas between their numbers; else none
 --   initial_of rows     the list behind `--initial`, none where the text spells none
---   tries_of rows       the number behind `--tries`, 1 to 256
+--   most_tries          the most tries of which the best is taken
+--   tries_of rows       the number behind `--tries`, from 1 to these
 --   begin_of rows       where the wires begin: as one of the three options says, or at one try; none where its text spells no list
 --                       or number
 --   route_of rows       what `route` asks for, with what was matched
@@ -53,7 +54,7 @@
 --   verify_of rows      what `verify` asks for, with what was matched
 --   meaning name rows   what the subcommand of this name asks for, with what it matched
 --   command_of words    the command that the words mean, the program's name first; none where they mean none
---   IsBeginAllowed b    a list has different qubits, and there are 1 to 256 tries
+--   IsBeginAllowed b    a list has different qubits, and there is at least one try, and no more than the most
 --   IsAllowed c         `bench` has 1 to 20000 gates, `route` no trace beside kept barriers or cleaning and begins as it may, and
 --                       there are 1 to 255 spare wires where there are any
 use Rattle.std.specs.Prelude.{◌≡◌, ℕ, List, ◌==◌, ◌≤◌, ◌&&◌, ◌||◌, Bool, true, false, Option, Some, None, IfSome, if◌then◌else◌, [], ◌∷◌, codes, decimal, is_some, length, map, nat_eq, nat_le, not, option_map, option_and_then}
@@ -198,8 +199,11 @@ qubits_of text = option_and_then if_different (numbers_in (pieces text))
 abbrev pub initial_of : List Row → Option (List ℕ)
 initial_of rows = option_and_then qubits_of (first_of (codes "initial") rows)
 
+abbrev pub most_tries : ℕ
+most_tries = 256
+
 abbrev pub tries_of : List Row → Option ℕ
-tries_of rows = option_and_then (number_of 1 256) (first_of (codes "tries") rows)
+tries_of rows = option_and_then (number_of 1 most_tries) (first_of (codes "tries") rows)
 
 abbrev pub begin_of : List Row → Option Begin
 begin_of rows = if is_trivial rows then Some Trivial
@@ -277,7 +281,7 @@ command_of words = if length (fault_of qroute_command words) == 0
 abbrev pub IsBeginAllowed : Begin → Type 0
 IsBeginAllowed Trivial = Unit {0}
 IsBeginAllowed (Listed list) = IsDistinct nat_eq list
-IsBeginAllowed (Tries k) = (1 ≤ k) × (k ≤ 256)
+IsBeginAllowed (Tries k) = (1 ≤ k) × (k ≤ most_tries)
 
 abbrev pub IsAllowed : Command → Type 0
 IsAllowed (Opt kept) = Unit {0}

@@ -23,7 +23,7 @@ use Rattle.command_line.specs.Commands.{IsAllowed, IsBeginAllowed, command_of}
 use Rattle.command_line.specs.Demands.{Entry, Question, Spares, asked_texts, device_name, initial_list, keeps_barriers, question_of, reads_input, told_list, writes_out, writes_report}
 use Rattle.command_line.specs.declared.commands.Begin.{Begin}
 use Rattle.command_line.specs.declared.commands.Begin.TheVariants.{Tries}
-use Rattle.wire_starts.specs.declared.Starts.TheVariants.{Tries as Best}
+use Rattle.wire_starts.specs.declared.Starts.TheVariants as starts
 use Rattle.command_line.specs.declared.commands.Command.{Command}
 use Rattle.command_line.specs.declared.commands.Command.TheVariants.{Opt, OptWithSpares, Route, Check, Stages, Bench, Amplitude, Verify}
 use Rattle.route_report.specs.Lines.{check_line}
@@ -282,7 +282,7 @@ pub Delivers-drawn : (words : List (List ℕ)) (content : Content) (c : Command)
     (d : Coupling) (n : ℕ) (initial : Option (List ℕ)) (text line : List ℕ)
     → command_of words ≡ Some c → c ≡ Bench start gates name
     → (t : List ℕ) × TellsText (content name) t × IsDevice t d × (n ≤ d.size) × Fits initial n d.size
-    → p ≡ drawn_program start gates d.size → Rewrites p false false (IsOnQubits d (Best 1) false p) text line → Delivers words content old new text line
+    → p ≡ drawn_program start gates d.size → Rewrites p false false (IsOnQubits d (starts.Tries 1) false p) text line → Delivers words content old new text line
 Delivers-drawn words content c start gates name old new p d n initial text line asked is loaded drawn made =
     delivers words content (Bench start gates name) old new p text line (asked ∙ ap (λ x. Some x) is) tt (λ r u. u) (record {
       target = made.target;

@@ -29,7 +29,7 @@ use Rattle.unitary_model.specs.Operations.{cx_count, t_count}
 use Rattle.unitary_model.specs.Placement.{identity}
 use Rattle.wire_starts.specs.Starts.{completed}
 use Rattle.wire_starts.specs.declared.Starts.{Starts}
-use Rattle.wire_starts.specs.declared.Starts.TheVariants.{Given, Tries as Best}
+use Rattle.wire_starts.specs.declared.Starts.TheVariants as starts
 use Rattle.bench_program.specs.Program.{drawn}
 use Rattle.gate_expand.specs.Expansion.{expanded}
 use Rattle.gate_inline.specs.Programs.{IsAccepted, IsWritten, Program, kept}
@@ -84,9 +84,9 @@ pub record Rewrites (source : Program) (keep traced : Bool) (IsPlaced : Program 
   pub placed : IsPlaced target parts told
 
 abbrev pub starts_of : Begin → ℕ → Starts
-starts_of Trivial size = Given (identity size)
-starts_of (Listed list) size = Given (completed size list)
-starts_of (Tries k) size = Best k
+starts_of Trivial size = starts.Given (identity size)
+starts_of (Listed list) size = starts.Given (completed size list)
+starts_of (Tries k) size = starts.Tries k
 
 -- the device is the one that the shelf's text of this name describes, and a list that is given has a qubit of it for each wire
 pub record IsOnDevice (content : Content) (name : List ℕ) (begin : Begin) (clean : Bool) (source target : Program) (parts : List Part) (told : Report) : Type 0 where
