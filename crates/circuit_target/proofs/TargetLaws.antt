@@ -1,25 +1,31 @@
 -- A circuit that was rewritten, and then routed, stands for the source.
 --   IsSettled-left         what the last pass leaves is settled
+--   IsRewriting-same       a circuit that is left as it is
+--   IsSettled-few          with one gate or none it is settled
 --   IsOptimised-rewritten  expanded, and then rewritten to a settled circuit
 --   HasSteps-summed        .. with the steps that led there
 --   IsOwnTrace-run         the trace of the run proves what the target claims
-use Rattle.std.proofs.Common.{◌≡◌, ℕ, ◌+◌, ◌%◌, ◌<◌, ◌≤◌, List, Option, None, Some, All, length, refl, sym, ◌∙◌, ap, subst, arith, is_some, []}
+use Rattle.std.proofs.Common.{◌≡◌, ◌≢◌, ℕ, ◌+◌, ◌%◌, ◌<◌, ◌≤◌, Bool, true, false, cond, List, [], ◌∷◌, Option, None, Some, All, length, nat_eq, refl, sym, ◌∙◌, ap, subst, arith, is_some}
+use Rattle.std.proofs.lemmas.Bool.Decides.{nat_tests}
 use Rattle.std.specs.Prelude.{IfSome}
+use Rattle.std.proofs.lemmas.Option.{slice_get_within}
 use Rattle.circuit_list.specs.declared.Gate.{Gate}
+use Rattle.circuit_list.specs.declared.Gate.TheVariants.{H, X, P, Cx}
 use Rattle.circuit_list.specs.Gates.{IsFine, ops}
 use Rattle.circuit_list.specs.declared.Passed.{Passed}
 use Rattle.unitary_model.specs.declared.Op.{Op}
-use Rattle.unitary_model.specs.OddPaths.{odd_paths}
+use Rattle.unitary_model.specs.OddPaths.{first_walk, odd_paths, toggle_at, toggle_odd}
 use Rattle.unitary_model.specs.Operations.{cx_count, t_count}
 use Rattle.unitary_model.specs.SameUpTo.{SameUpTo}
-use Rattle.unitary_model.proofs.AmplitudeLaws.{SameUpTo_trans}
+use Rattle.unitary_model.proofs.AmplitudeLaws.{SameUpTo_refl, SameUpTo_trans}
 use Rattle.commute_rules.specs.Reducible.{NoReducible}
 use Rattle.gate_expand.specs.Expansion.{IsFineOp, expanded, turn_of}
 use Rattle.gate_inline.specs.Programs.{Program}
 use Rattle.gate_inline.specs.Sizes.{most_operations}
 use Rattle.rewrite_pass.specs.Traces.{AreSteps, Step}
 use Rattle.route_report.specs.declared.lines.Report.{Report}
-use Rattle.rewrite_pass.specs.Windows.{IsWindow}
+use Rattle.rewrite_pass.specs.Windows.{Follows, IsWindow}
+use Rattle.rewrite_pass.specs.Windows.IsWindow.{HadSHad, HadSdgHad, HadZHad, HadXHad, FourHads, SCxSdg, SdgCxS}
 use Rattle.rewrite_pass.specs.Law.{IsRewriting}
 use Rattle.coupling_map.specs.Coupling.{Coupling}
 use Rattle.sabre_route.specs.declared.router.Routed.{Routed}
@@ -31,6 +37,50 @@ use Rattle.circuit_target.specs.Making.{IsRunTrace}
 pub IsSettled-left : (n : ℕ) (gs : List Gate) → ((i : ℕ) → i < length gs → IsWindow gs i → ⊥) × NoReducible gs × (t_count (ops gs) ≡ odd_paths n (ops gs))
     → IsSettled n (ops gs)
 IsSettled-left n gs (windows, pairs, t_gates) = record { gates = gs; plain = refl; pairs = pairs; windows = windows; t_gates = t_gates }
+
+pub IsRewriting-same : (n : ℕ) (gs : List Gate) → IsRewriting n gs gs 0
+IsRewriting-same n gs = record { below = omega arith; same = SameUpTo_refl n (ops gs); t_gates = omega arith; odd_paths = omega arith; cx_gates = omega arith }
+
+-- one gate alone is an odd path exactly if it is a T gate
+phase-odd : (m q n : ℕ) → m % 2 + 0 ≡ length (toggle_odd m q (first_walk n)).odd
+phase-odd m q n = go (nat_eq (m % 2) 1) refl
+  where
+    one : nat_eq (m % 2) 1 ≡ true → 1 ≡ m % 2 + 0
+    one e = grind (arith, nat_tests)
+
+    none : nat_eq (m % 2) 1 ≡ false → 0 ≡ m % 2 + 0
+    none e = let h : m % 2 ≢ 1 = (grind (arith, nat_tests)) in omega arith
+
+    go : (t : Bool) → nat_eq (m % 2) 1 ≡ t → m % 2 + 0 ≡ length (cond t (toggle_at q (first_walk n)) (first_walk n)).odd
+    go true e = sym (one e)
+    go false e = sym (none e)
+
+few-odd : (n : ℕ) (gs : List Gate) → length gs ≤ 1 → t_count (ops gs) ≡ odd_paths n (ops gs)
+few-odd n [] few = refl
+few-odd n (H q ∷ []) few = refl
+few-odd n (X q ∷ []) few = refl
+few-odd n (P k q ∷ []) few = phase-odd (0 + k) q n
+few-odd n (Cx c t ∷ []) few = refl
+few-odd n (g ∷ h ∷ gs) few = omega (arith, few)
+
+-- no gate follows another
+not-followed : (w i j : ℕ) (g : Gate) (gs : List Gate) → length gs ≤ 1 → Follows w gs i g j → ⊥
+not-followed w i j g gs few f = omega (arith, few, f.next.behind, slice_get_within gs j g f.there)
+
+few-windows : (i : ℕ) (gs : List Gate) → length gs ≤ 1 → IsWindow gs i → ⊥
+few-windows i gs few (HadSHad h) = not-followed _ _ _ _ gs few h.second
+few-windows i gs few (HadSdgHad h) = not-followed _ _ _ _ gs few h.second
+few-windows i gs few (HadZHad h) = not-followed _ _ _ _ gs few h.second
+few-windows i gs few (HadXHad h) = not-followed _ _ _ _ gs few h.second
+few-windows i gs few (FourHads h) = not-followed _ _ _ _ gs few h.middle_control
+few-windows i gs few (SCxSdg h) = not-followed _ _ _ _ gs few h.second
+few-windows i gs few (SdgCxS h) = not-followed _ _ _ _ gs few h.second
+
+pub IsSettled-few : (n : ℕ) (gs : List Gate) → length gs ≤ 1 → IsSettled n (ops gs)
+IsSettled-few n gs few = IsSettled-left n gs ((λ i within w. few-windows i gs few w), no_pair, few-odd n gs few)
+  where
+    no_pair : NoReducible gs
+    no_pair i j r = omega (arith, few, r.before, slice_get_within gs j r.second r.at_second)
 
 pub IsOptimised-rewritten : (n : ℕ) (S : List Op) (e r : Passed) (t : ℕ) → e.body.wires ≡ n → e.turn < 8 → SameUpTo e.turn n S (ops e.body.gates)
     → odd_paths n (ops e.body.gates) ≡ odd_paths n S → cx_count (ops e.body.gates) ≡ cx_count S
