@@ -145,8 +145,7 @@ fn between(alloc: Global, made: &[PartTarget]) -> Result<Vec<Wires>, AllocError>
 {
     let mut between = Vec::with_capacity(alloc, made.len())?;
     'parts: for place in 0..made.len().saturating_sub(1) {
-        let last = Vec::from_slice(alloc, made[place].last.as_slice())?;
-        between.push(Wires::new(last))?;
+        between.push(made[place].last.copy()?)?;
     }
     Ok(between)
 }

@@ -112,11 +112,11 @@ fn optimised_parts(
 fn qubits_of(alloc: Global, placement: &Placement) -> Result<Wires, AllocError>
     ensures { IfOk result (λ w. w ≡ placement.now) }
 {
-    Ok(Wires::new(Vec::from_slice(alloc, placement.qubits())?))
+    Wires::shared(alloc, Vec::from_slice(alloc, placement.qubits())?)
 }
 
 /// A part of a source after all passes, on its own wires.
-fn placed_part(alloc: Global, part: &Ops, own: &Placement) -> Result<PartTarget, AllocError>
+fn placed_part(alloc: Global, part: &Ops, own: &Wires) -> Result<PartTarget, AllocError>
     requires wires_limit { part.now.wires ≤ most_wires }
     requires fine { All (IsFineOp part.now.wires) part.now.list }
     requires own { own.now ≡ identity part.now.wires }
@@ -125,7 +125,7 @@ fn placed_part(alloc: Global, part: &Ops, own: &Placement) -> Result<PartTarget,
     let Rewritten { passed, .. } = optimised(alloc, part, false)?;
     Ok(PartTarget {
         body: passed.body,
-        last: qubits_of(alloc, own)?,
+        last: own.copy()?,
         swaps: 0,
         turn: passed.turn,
     })
@@ -137,7 +137,8 @@ fn placed_parts(alloc: Global, source: &PartedProgram) -> Result<Vec<PartTarget>
 {
     source.facts();
     let parts = source.parts();
-    let own = Placement::identity(alloc, source.wires())?;
+    let identity = Placement::identity(alloc, source.wires())?;
+    let own = qubits_of(alloc, &identity)?;
     let mut made = Vec::with_capacity(alloc, parts.len())?;
     'parts: for part in parts {
         made.push(placed_part(alloc, part, &own)?)?;
