@@ -353,7 +353,8 @@ fn put_parts<S: Sink>(
     let mut from = 0;
     'barriers: for k in 0..output.barriers.len() {
         let to = from + output.lengths[k];
-        put_part(buffer, sink, q, output.body, from, to, &output.barriers[k])?;
+        let wires = output.barriers[k].wires();
+        put_part(buffer, sink, q, output.body, from, to, wires)?;
         from = to;
     }
     put_gates(buffer, sink, q, output.body, from, end)

@@ -129,7 +129,7 @@ fn parts_again(alloc: Global, parts: &Parts) -> Result<Parts, AllocError>
 {
     let mut between = Vec::with_capacity(alloc, parts.between.len())?;
     'barriers: for placement in parts.between.iter() {
-        between.push(Wires::new(Vec::from_slice(alloc, placement.as_slice())?))?;
+        between.push(placement.copy()?)?;
     }
     let powers = Vec::from_slice(alloc, &parts.powers)?;
     Ok(Parts { between, powers })

@@ -3,6 +3,7 @@
 ghost use Rattle.std.specs.Prelude.{◌≡◌, IfOk};
 
 use circuit_list::{Circuit, Gate};
+use gate_inline::Barrier;
 use outside_io::MemSink;
 use qasm_writer::output::{Output, Register};
 use qasm_writer::{PieceBuffer, program_text, write_program};
@@ -125,9 +126,9 @@ fn parts_text(alloc: Global, body: &Circuit) -> Result<Vec<u8>, AllocError>
     requires { body.now.wires ≡ 2 }
 {
     let barriers = [
-        Vec::from_slice(alloc, &[0])?,
-        Vec::from_slice(alloc, &[1, 0, 1])?,
-        Vec::from_slice(alloc, &[1])?,
+        Barrier::new(alloc, Vec::from_slice(alloc, &[0])?)?,
+        Barrier::new(alloc, Vec::from_slice(alloc, &[1, 0, 1])?)?,
+        Barrier::new(alloc, Vec::from_slice(alloc, &[1])?)?,
     ];
     let output = Output {
         body,
@@ -157,7 +158,7 @@ fn writes_parts_without_gates(rt: HostRuntime) -> Result<(), Wrong> {
 fn later_text(alloc: Global, body: &Circuit) -> Result<Vec<u8>, AllocError>
     requires { body.now.wires ≡ 12 }
 {
-    let barriers = [Vec::from_slice(alloc, &[11, 0])?];
+    let barriers = [Barrier::new(alloc, Vec::from_slice(alloc, &[11, 0])?)?];
     let last = body.len().min(30);
     let output = Output {
         body,
