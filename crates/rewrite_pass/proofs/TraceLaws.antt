@@ -6,7 +6,7 @@
 --     window_made             a window that is changed
 --     rule_made, both_made, join_made     what a step makes that changes a few gates is a rewriting;  sums_kept: the amplitudes alone
 --     step_kept, steps_kept   a step, and steps one after the other
-use Rattle.std.proofs.Common.{◌≡◌, ◌≢◌, ◌⊎◌, inl, inr, ℕ, ◌+◌, ◌-◌, ◌%◌, ◌<◌, Bool, true, false, cond, List, [], ◌∷◌, ◌++◌, length, refl, sym, subst, ◌∙◌, ap, arith, Option, None, Some, All, set}
+use Rattle.std.proofs.Common.{◌≡◌, ◌≢◌, ◌⊎◌, inl, inr, ℕ, ◌+◌, ◌-◌, ◌%◌, ◌<◌, Bool, true, false, cond, List, [], ◌∷◌, ◌++◌, length, refl, sym, subst, ◌∙◌, ap, arith, Option, None, Some, All, min, set}
 use Rattle.std.specs.Prelude.{nat_eq}
 use Rattle.std.specs.List.{remove, AllByRecursion}
 use Rattle.std.proofs.lemmas.List.Elements.{recursion_from_All, All-from_recursion}
@@ -24,7 +24,7 @@ use Rattle.rewrite_pass.specs.declared.rule.Change.{Change}
 use Rattle.rewrite_pass.specs.Edits.{taken, placed, put_at, instead, changed, changed_from}
 use Rattle.rewrite_pass.specs.Law.{IsRewriting}
 use Rattle.rewrite_pass.specs.Windows.{At, IsTurned, IsConjugated, IsSurrounded, IsWindow, HadSHad, HadSdgHad, HadZHad, HadXHad, FourHads, SCxSdg, SdgCxS}
-use Rattle.rewrite_pass.specs.WindowPlaces.{Others, IsTurnedAt, IsConjugatedAt, IsSurroundedAt, three_edits, surrounded_change, conjugated_change}
+use Rattle.rewrite_pass.specs.WindowPlaces.{Quiet, Others, IsTurnedAt, IsConjugatedAt, IsSurroundedAt, three_edits, surrounded_change, conjugated_change}
 use Rattle.rewrite_pass.specs.Traces.{Step, Rule, Both, Join, Sums, edited, edits_of, rule_of, turn_of, constants_turn, IsRuleStep, IsBothStep, IsJoinStep, IsSumsStep, IsStep, AreSteps}
 use Rattle.rewrite_pass.proofs.EditLaws.{changed_fine}
 use Rattle.rewrite_pass.proofs.PieceLaws.{Lawful}
@@ -81,6 +81,29 @@ same_wire gs a b c t f g e =
     let h : At gs a (H t) = subst (λ k. At gs k (H t)) (sym e) g in
     cc
 
+-- two gates H of a CNOT's wires, on one side of it, by their places; near tells how such a gate stands to the CNOT
+record InOrder (gs : List Gate) (c t x y : ℕ) (near : ℕ → ℕ → Type 0) : Type 0 where
+  pub q : ℕ
+  pub r : ℕ
+  pub a : ℕ
+  pub b : ℕ
+  pub wires : Others c t q r
+  pub first : At gs a (H q)
+  pub second : At gs b (H r)
+  pub first_near : near q a
+  pub second_near : near r b
+  pub ordered : a < b
+  pub least : a ≡ min x y
+  pub told : (k : ℕ) (z : Option (Option Gate)) → cond (nat_eq a k) (Some None) (cond (nat_eq b k) (Some None) z) ≡ cond (nat_eq x k) (Some None) (cond (nat_eq y k) (Some None) z)
+
+in_order : (gs : List Gate) (c t x y : ℕ) (near : ℕ → ℕ → Type 0) → c ≢ t → At gs x (H c) → At gs y (H t) → near c x → near t y → InOrder gs c t x y near
+in_order gs c t x y near ne f g p q = go (order x y)
+  where
+    go : (x < y) ⊎ ((x ≡ y) ⊎ (y < x)) → InOrder gs c t x y near
+    go (inl lt) = record { q = c; r = t; a = x; b = y; wires = inl (refl, refl); first = f; second = g; first_near = p; second_near = q; ordered = lt; least = omega (arith, lt); told = λ k z. refl }
+    go (inr (inl e)) = absurd (ne (same_wire gs x y c t f g e))
+    go (inr (inr lt)) = record { q = t; r = c; a = y; b = x; wires = inr (refl, refl); first = g; second = f; first_near = q; second_near = p; ordered = lt; least = omega (arith, lt); told = λ k z. swap (nat_eq y k) (nat_eq x k) z }
+
 pub record Surrounded (gs : List Gate) (i : ℕ) (c t m d e x y : ℕ) : Type 0 where
   pub a : ℕ
   pub b : ℕ
@@ -91,147 +114,41 @@ pub record Surrounded (gs : List Gate) (i : ℕ) (c t m d e x y : ℕ) : Type 0 
   pub told : (k : ℕ) → put_at (surrounded_change a c t b m u v).edits 5 k ≡ put_at (taken x ∷ taken y ∷ placed m (Cx t c) ∷ taken d ∷ taken e ∷ []) 5 k
 
 surrounded : (gs : List Gate) (i : ℕ) (w : IsSurrounded gs i) → w.c ≢ w.t → Surrounded gs i w.c w.t w.m w.d w.e w.a w.b
-surrounded gs i w ne = go (order w.a w.b) (order w.d w.e)
-  where
-    left : Others w.c w.t w.c w.t
-    left = inl (refl, refl)
-
-    right : Others w.c w.t w.t w.c
-    right = inr (refl, refl)
-
-    begin : w.a < w.b → w.a ≡ i
-    begin lt = let e = w.begins in omega arith
-
-    begin' : w.b < w.a → w.b ≡ i
-    begin' lt = let e = w.begins in omega arith
-
-    rest : ℕ → Option (Option Gate)
-    rest k = cond (nat_eq w.d k) (Some None) (cond (nat_eq w.e k) (Some None) None)
-
-    inner : (k : ℕ) → Option (Option Gate) → Option (Option Gate)
-    inner k x = cond (nat_eq w.m k) (Some (Some (Cx w.t w.c))) x
-
-    middle : At gs w.m (Cx w.c w.t)
-    middle = w.middle_control.there
-
-    go : (w.a < w.b) ⊎ ((w.a ≡ w.b) ⊎ (w.b < w.a)) → (w.d < w.e) ⊎ ((w.d ≡ w.e) ⊎ (w.e < w.d)) → Surrounded gs i w.c w.t w.m w.d w.e w.a w.b
-    go (inr (inl e)) z = absurd (ne (same_wire gs w.a w.b w.c w.t w.control_before w.target_before e))
-    go z (inr (inl e)) = absurd (ne (same_wire gs w.d w.e w.c w.t w.control_behind.there w.target_behind.there e))
-    go (inl f) (inl g) = record {
-      a = w.a;
-      b = w.b;
-      u = w.d;
-      v = w.e;
-      start = begin f;
-      told = λ k. refl;
+surrounded gs i w ne =
+    let front = in_order gs w.c w.t w.a w.b (λ q k. (k < w.m) × Quiet q gs k w.m) ne w.control_before w.target_before
+    (w.middle_control.next.behind, w.middle_control.next.none) (w.middle_target.next.behind, w.middle_target.next.none) in
+    let back = in_order gs w.c w.t w.d w.e (λ q k. (w.m < k) × Quiet q gs w.m k) ne w.control_behind.there w.target_behind.there
+    (w.control_behind.next.behind, w.control_behind.next.none) (w.target_behind.next.behind, w.target_behind.next.none) in
+    record {
+      a = front.a;
+      b = front.b;
+      u = back.a;
+      v = back.b;
+      start = front.least ∙ sym w.begins;
+      told = λ k.
+          let middle : Option (Option Gate) → Option (Option Gate) = cond (nat_eq w.m k) (Some (Some (Cx w.t w.c))) in
+          ap (λ z. cond (nat_eq front.a k) (Some None) (cond (nat_eq front.b k) (Some None) (middle z))) (back.told k None)
+          ∙ front.told k (middle (cond (nat_eq w.d k) (Some None) (cond (nat_eq w.e k) (Some None) None)));
       window = record {
-        q = w.c;
-        r = w.t;
-        u = w.c;
-        v = w.t;
-        before = left;
-        behind = left;
-        first = w.control_before;
-        second = w.target_before;
-        third = middle;
-        fourth = w.control_behind.there;
-        fifth = w.target_behind.there;
-        first_second = f;
-        second_third = w.middle_target.next.behind;
-        third_fourth = w.control_behind.next.behind;
-        fourth_fifth = g;
-        first_quiet = w.middle_control.next.none;
-        second_quiet = w.middle_target.next.none;
-        fourth_quiet = w.control_behind.next.none;
-        fifth_quiet = w.target_behind.next.none;
-      };
-    }
-    go (inl f) (inr (inr g)) = record {
-      a = w.a;
-      b = w.b;
-      u = w.e;
-      v = w.d;
-      start = begin f;
-      told = λ k. ap (λ x. cond (nat_eq w.a k) (Some None) (cond (nat_eq w.b k) (Some None) (inner k x))) (swap (nat_eq w.e k) (nat_eq w.d k) None);
-      window = record {
-        q = w.c;
-        r = w.t;
-        u = w.t;
-        v = w.c;
-        before = left;
-        behind = right;
-        first = w.control_before;
-        second = w.target_before;
-        third = middle;
-        fourth = w.target_behind.there;
-        fifth = w.control_behind.there;
-        first_second = f;
-        second_third = w.middle_target.next.behind;
-        third_fourth = w.target_behind.next.behind;
-        fourth_fifth = g;
-        first_quiet = w.middle_control.next.none;
-        second_quiet = w.middle_target.next.none;
-        fourth_quiet = w.target_behind.next.none;
-        fifth_quiet = w.control_behind.next.none;
-      };
-    }
-    go (inr (inr f)) (inl g) = record {
-      a = w.b;
-      b = w.a;
-      u = w.d;
-      v = w.e;
-      start = begin' f;
-      told = λ k. swap (nat_eq w.b k) (nat_eq w.a k) (inner k (rest k));
-      window = record {
-        q = w.t;
-        r = w.c;
-        u = w.c;
-        v = w.t;
-        before = right;
-        behind = left;
-        first = w.target_before;
-        second = w.control_before;
-        third = middle;
-        fourth = w.control_behind.there;
-        fifth = w.target_behind.there;
-        first_second = f;
-        second_third = w.middle_control.next.behind;
-        third_fourth = w.control_behind.next.behind;
-        fourth_fifth = g;
-        first_quiet = w.middle_target.next.none;
-        second_quiet = w.middle_control.next.none;
-        fourth_quiet = w.control_behind.next.none;
-        fifth_quiet = w.target_behind.next.none;
-      };
-    }
-    go (inr (inr f)) (inr (inr g)) = record {
-      a = w.b;
-      b = w.a;
-      u = w.e;
-      v = w.d;
-      start = begin' f;
-      told = λ k. swap (nat_eq w.b k) (nat_eq w.a k) (inner k (cond (nat_eq w.e k) (Some None) (cond (nat_eq w.d k) (Some None) None)))
-          ∙ ap (λ x. cond (nat_eq w.a k) (Some None) (cond (nat_eq w.b k) (Some None) (inner k x))) (swap (nat_eq w.e k) (nat_eq w.d k) None);
-      window = record {
-        q = w.t;
-        r = w.c;
-        u = w.t;
-        v = w.c;
-        before = right;
-        behind = right;
-        first = w.target_before;
-        second = w.control_before;
-        third = middle;
-        fourth = w.target_behind.there;
-        fifth = w.control_behind.there;
-        first_second = f;
-        second_third = w.middle_control.next.behind;
-        third_fourth = w.target_behind.next.behind;
-        fourth_fifth = g;
-        first_quiet = w.middle_target.next.none;
-        second_quiet = w.middle_control.next.none;
-        fourth_quiet = w.target_behind.next.none;
-        fifth_quiet = w.control_behind.next.none;
+        q = front.q;
+        r = front.r;
+        u = back.q;
+        v = back.r;
+        before = front.wires;
+        behind = back.wires;
+        first = front.first;
+        second = front.second;
+        third = w.middle_control.there;
+        fourth = back.first;
+        fifth = back.second;
+        first_second = front.ordered;
+        second_third = front.second_near.0;
+        third_fourth = back.first_near.0;
+        fourth_fifth = back.ordered;
+        first_quiet = front.first_near.1;
+        second_quiet = front.second_near.1;
+        fourth_quiet = back.first_near.1;
+        fifth_quiet = back.second_near.1;
       };
     }
 

@@ -8,6 +8,8 @@
 //! promise follows from what their parts promise.
 //! A pass that is [`Traced`] also tells its steps ([`Trace`]): steps of a table (`specs/Traces.antt`) that lead from the circuit
 //! to the result, which anyone can check again.
+//! A [`Rewriting`] is a circuit that changes by these steps alone: it keeps the law, the turn and the steps itself, so a pass on
+//! it proves its shape and what it has kept, and tells its steps or doesn't by one body.
 //! [`next_gate`], [`next_is`] and [`prev_is`] go along the wires of a circuit, for rules and for a check of their steps.
 //!
 //! A circuit is always fine, so no pass refuses one: the only error is want of memory.

@@ -1,6 +1,6 @@
 //! The steps of a rewriting, if they are asked for.
 
-ghost use Rattle.std.specs.Prelude.{◌≡◌, ◌++◌, ◌∷◌, [], true, OnErr, OnOk};
+ghost use Rattle.std.specs.Prelude.{◌≡◌, ◌++◌, ◌∷◌, [], cond, true, OnErr, OnOk};
 ghost use Rattle.circuit_list.specs.Slots.{IsLive, place_of};
 ghost use Rattle.rewrite_pass.specs.TraceOf.{AddsSums};
 ghost use Rattle.rewrite_pass.specs.Traces.{Step};
@@ -17,49 +17,30 @@ pub(crate) struct Log {
 }
 
 impl Log {
-    /// Notes that the gates in two slots are about to go. If memory runs out, nothing changes.
-    pub(crate) fn push_both(
+    /// Notes that the gates in two slots are about to become one, or to go. If memory runs out, nothing changes.
+    pub(crate) fn push_pair(
         &mut self,
         body: &Circuit,
         first: Slot,
         second: Slot,
+        merge: bool,
     ) -> Result<(), AllocError>
         requires first { IsLive body.now first }
         requires second { IsLive body.now second }
         ensures told { self.new.told ≡ self.old.told }
-        ensures pushed { OnOk result (self.old.told ≡ true →
-            self.new.steps ≡ self.old.steps ++ Step.Both (place_of first body.now.slots) (place_of second body.now.slots) ∷ []) }
+        ensures pushed { OnOk result (self.old.told ≡ true → self.new.steps ≡ self.old.steps
+            ++ cond merge (Step.Join (place_of first body.now.slots) (place_of second body.now.slots)) (Step.Both (place_of first body.now.slots) (place_of second body.now.slots)) ∷ []) }
         ensures unchanged { OnErr result (self.new ≡ self.old) }
     {
         if !self.told {
             return Ok(());
         }
-        self.steps.push(TraceStep::Both {
-            first: body.place(first),
-            second: body.place(second),
-        })
-    }
-
-    /// Notes that the phases in two slots are about to become one. If memory runs out, nothing changes.
-    pub(crate) fn push_join(
-        &mut self,
-        body: &Circuit,
-        first: Slot,
-        second: Slot,
-    ) -> Result<(), AllocError>
-        requires first { IsLive body.now first }
-        requires second { IsLive body.now second }
-        ensures told { self.new.told ≡ self.old.told }
-        ensures pushed { OnOk result (self.old.told ≡ true →
-            self.new.steps ≡ self.old.steps ++ Step.Join (place_of first body.now.slots) (place_of second body.now.slots) ∷ []) }
-        ensures unchanged { OnErr result (self.new ≡ self.old) }
-    {
-        if !self.told {
-            return Ok(());
-        }
-        self.steps.push(TraceStep::Join {
-            first: body.place(first),
-            second: body.place(second),
+        let first = body.place(first);
+        let second = body.place(second);
+        self.steps.push(if merge {
+            TraceStep::Join { first, second }
+        } else {
+            TraceStep::Both { first, second }
         })
     }
 

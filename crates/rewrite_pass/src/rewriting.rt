@@ -101,7 +101,7 @@ impl Rewriting {
         ensures ok { OnOk result (IsStepped (Step.Both (place_of first self.old.body.slots) (place_of second self.old.body.slots)) turn self.old self.new) }
         ensures err { OnErr result (self.new ≡ self.old) }
     {
-        self.log.push_both(&self.body, first, second)?;
+        self.log.push_pair(&self.body, first, second, false)?;
         // it says that the gates are fine
         self.body.facts();
         self.body.remove_at(second);
@@ -123,7 +123,7 @@ impl Rewriting {
             place_of t self.new.body.slots ≡ place_of t self.old.body.slots) }
         ensures err { OnErr result (self.new ≡ self.old) }
     {
-        self.log.push_join(&self.body, first, second)?;
+        self.log.push_pair(&self.body, first, second, true)?;
         // it says that the gates are fine
         self.body.facts();
         let gate = with_phase(self.body.gate_at(first), k);

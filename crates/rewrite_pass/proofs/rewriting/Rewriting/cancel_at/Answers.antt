@@ -14,7 +14,7 @@ abbrev before : (c : goal.After-self-1) → Derivation
 before c = the_view c.self.inside
 
 abbrev after : (c : goal.After-self-1) → Derivation
-after c = the_view (record { body = c.remove_at-2.new.self; turn = c.turn_sum-self-inside.result; log = c.push_both.new.self; source = c.self.inside.source })
+after c = the_view (record { body = c.remove_at-2.new.self; turn = c.turn_sum-self-inside.result; log = c.push_pair.new.self; source = c.self.inside.source })
 
 abbrev step : goal.After-self-1 → Derivation → Step
 step c d = Both (place_of c.args.first d.body.slots) (place_of c.args.second d.body.slots)
@@ -24,14 +24,14 @@ stepped c =
     let pair = subst (λ (a : Derivation). IsReducible a.body.gates (place_of c.args.first a.body.slots) (place_of c.args.second a.body.slots)) (sym c.self.view_is) c.requires.pair in
     let outcome = subst (λ (a : Derivation). IsOutcome a.body.gates (place_of c.args.first a.body.slots) (place_of c.args.second a.body.slots) (cancelling.Both c.args.turn)) (sym c.self.view_is) c.requires.outcome in
     record {
-      continued = record { source = refl; wires = c.remove_at-2.ensures.wires ∙ c.remove_at.ensures.wires; told = c.push_both.ensures.told };
+      continued = record { source = refl; wires = c.remove_at-2.ensures.wires ∙ c.remove_at.ensures.wires; told = c.push_pair.ensures.told };
       step = record {
         pair = pair;
         cancel = outcome pair.first pair.second pair.at_first pair.at_second;
         gates = c.remove_at-2.ensures.gates ∙ (λ k. remove (c.remove_at.ensures.gates k) (c.remove_at.ensures.earlier c.args.first pair.before k));
       };
       turn = c.turn_sum-self-inside.ensures.sum;
-      steps = c.in_ok-push_both.ensures.pushed;
+      steps = c.in_ok-push_pair.ensures.pushed;
     }
 
 pub invariant_of-self-2 : goal.invariant_of-self-2

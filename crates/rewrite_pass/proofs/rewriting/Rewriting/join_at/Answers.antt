@@ -15,7 +15,7 @@ abbrev before : (c : goal.After-remove_at) → Derivation
 before c = the_view c.self.inside
 
 abbrev after : (c : goal.After-remove_at) → Derivation
-after c = the_view (record { body = c.remove_at.new.self; turn = c.self.inside.turn; log = c.push_join.new.self; source = c.self.inside.source })
+after c = the_view (record { body = c.remove_at.new.self; turn = c.self.inside.turn; log = c.push_pair.new.self; source = c.self.inside.source })
 
 abbrev step : goal.After-remove_at → Derivation → Step
 step c d = Join (place_of c.args.first d.body.slots) (place_of c.args.second d.body.slots)
@@ -29,7 +29,7 @@ stepped c =
     let same : c.gate_at.result ≡ pair.first = (let e = pair.at_first in let f = c.gate_at.ensures.there in cc) in
     let low : c.self.inside.turn < 8 = c.self.invariant.law.below in
     record {
-      continued = record { source = refl; wires = c.remove_at.ensures.wires ∙ c.replace_at.ensures.wires; told = c.push_join.ensures.told };
+      continued = record { source = refl; wires = c.remove_at.ensures.wires ∙ c.replace_at.ensures.wires; told = c.push_pair.ensures.told };
       step = record {
         pair = pair;
         k = c.args.k;
@@ -39,7 +39,7 @@ stepped c =
         turn = refl;
       };
       turn = omega (arith, low);
-      steps = c.in_ok-push_join.ensures.pushed;
+      steps = c.in_ok-push_pair.ensures.pushed;
     }
 
 pub invariant_of-self-2 : goal.invariant_of-self-2
