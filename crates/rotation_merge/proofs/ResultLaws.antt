@@ -1,16 +1,15 @@
--- The law of merging, its shape and its size, of a whole circuit on n wires.
+-- What merging does to the counts, its shape and its size, of a whole circuit on n wires.
 --     totals_of-marks         the totals of a circuit are those of its marks
 --     marks-result            the marks of the merged circuit are those that stay
 --     total-result            so each set keeps its total
 --     result-odd_paths, result-shape      as many odd path parities, and as many T gates as these
---     result-rewriting        the law
+--     result-no_more          no more of what is counted
 --     result-smaller          fewer gates, or the same
---     merged-law, merged-shape, merged-kept       the same of what the code gives
-use Rattle.std.proofs.Common.{◌≡◌, ℕ, suc, ◌+◌, ◌%◌, ◌<◌, ◌≤◌, List, [], ◌∷◌, All, refl, sym, ◌∙◌, ap, subst, arith, zero-add}
+--     merged-no_more, merged-shape, merged-kept       the same of what the code gives
+use Rattle.std.proofs.Common.{◌≡◌, ℕ, suc, ◌%◌, ◌<◌, ◌≤◌, List, [], ◌∷◌, All, refl, sym, ◌∙◌, ap, subst, arith, zero-add}
 use Rattle.std.specs.Prelude.{nat_eq}
 use Rattle.std.specs.List.{AllByRecursion}
 use Rattle.std.proofs.lemmas.List.Elements.{All-from_recursion}
-use Rattle.unitary_model.specs.Acts.{Turns}
 use Rattle.unitary_model.specs.Operations.{t_count, cx_count}
 use Rattle.unitary_model.specs.OddPaths.{odd_paths}
 use Rattle.unitary_model.proofs.OddCount.{odd_paths-t_count}
@@ -21,16 +20,16 @@ use Rattle.circuit_list.specs.Gates.{IsFine, ops}
 use Rattle.path_parity.specs.PathSum.{PathLabel, own_labels}
 use Rattle.path_parity.specs.OddLabels.{is_odd, IsOnce}
 use Rattle.path_parity.proofs.Totals.{total}
-use Rattle.path_parity.proofs.MergeLaws.{marks, frame, start}
-use Rattle.path_parity.proofs.MergeSums.{signed, constant, merge_pass_law}
-use Rattle.path_parity.proofs.MarkLaws.{AreFine, fine_from_all, marks-start, odd_marks, odd_paths-marks, t_count-marks, marks-eighths}
+use Rattle.path_parity.proofs.MergeLaws.{marks, frame}
+use Rattle.path_parity.proofs.MergeSums.{signed}
+use Rattle.path_parity.proofs.MarkLaws.{AreFine, fine_from_all, odd_marks, odd_paths-marks, t_count-marks, marks-eighths}
 use Rattle.path_parity.proofs.OddLaws.{par_from_odd, odd_size-same, odd_size-once}
-use Rattle.rewrite_pass.specs.Law.{IsRewriting, IsSmallerOrSame}
-use Rattle.rewrite_pass.proofs.RewritingLaws.{Turned-IsRewriting}
-use Rattle.rotation_merge.specs.Merging.{totals_of, merged, constant_of}
+use Rattle.rewrite_pass.specs.Derivations.{HasNoMore}
+use Rattle.rewrite_pass.specs.Law.{IsSmallerOrSame}
+use Rattle.rotation_merge.specs.Merging.{totals_of, merged}
 use Rattle.rotation_merge.specs.Sums.{IsMerged}
 use Rattle.rotation_merge.proofs.MarkLists.{kept_marks, total-has, total-kept, once-kept, is_odd-total}
-use Rattle.rotation_merge.proofs.MergedLaws.{frame-merged, marks-merged, merged-fine, totals_from-marks, constant_from-marks, merged-same}
+use Rattle.rotation_merge.proofs.MergedLaws.{frame-merged, marks-merged, merged-fine, totals_from-marks, merged-same}
 
 -- the marks from the wires' own labels
 abbrev pub own_marks : ℕ → List Gate → List (PathLabel × ℕ)
@@ -87,15 +86,7 @@ cx_count-frame (X q ∷ gs) = cx_count-frame gs
 cx_count-frame (P k q ∷ gs) = cx_count-frame gs
 cx_count-frame (Cx c t ∷ gs) = ap (λ k. suc k) (cx_count-frame gs)
 
--- ---- the law
-result-turns : (n : ℕ) (gs : List Gate) (t : ℕ) → AreFine n gs → constant_of n (merged n gs) % 8 ≡ (constant_of n gs + t) % 8 → Turns t (ops gs) (ops (merged n gs))
-result-turns n gs t f e = merge_pass_law gs (merged n gs) n t (sym (frame-merged gs (own_labels n) n (totals_of n gs)))
-    (λ x. marks-eighths gs n n (start n x) f) (λ x. marks-eighths (merged n gs) n n (start n x) (result-fine n gs f))
-    (λ x s. ap (λ ms. total s (signed ms) % 8) (marks-start (merged n gs) n x (result-fine n gs f)) ∙ total-result n gs s ∙ sym (ap (λ ms. total s (signed ms) % 8) (marks-start gs n x f)))
-    (λ x. ap (λ ms. constant ms % 8) (marks-start (merged n gs) n x (result-fine n gs f))
-    ∙ ap (λ k. k % 8) (sym (constant_from-marks (merged n gs) (own_labels n) n)) ∙ e ∙ ap (λ k. (k + t) % 8) (constant_from-marks gs (own_labels n) n)
-    ∙ sym (ap (λ ms. (constant ms + t) % 8) (marks-start gs n x f)))
-
+-- ---- what is counted
 pub all_fine : (n : ℕ) (gs : List Gate) → AreFine n gs → All (IsFine n) gs
 all_fine n gs f = All-from_recursion (IsFine n) gs (go gs f)
   where
@@ -103,28 +94,20 @@ all_fine n gs f = All-from_recursion (IsFine n) gs (go gs f)
     go [] f = tt
     go (g ∷ gs) f = (f.0, go gs f.1)
 
-pub result-rewriting : (n : ℕ) (gs : List Gate) (t : ℕ) → All (IsFine n) gs → t < 8 → constant_of n (merged n gs) % 8 ≡ (constant_of n gs + t) % 8 → IsRewriting n gs (merged n gs) t
-result-rewriting n gs t all lt e =
-    let f : AreFine n gs = fine_from_all n gs all in
-    let same : odd_paths n (ops (merged n gs)) ≡ odd_paths n (ops gs) = result-odd_paths n gs f in
+pub result-no_more : (n : ℕ) (gs : List Gate) → All (IsFine n) gs → HasNoMore n gs (merged n gs)
+result-no_more n gs all =
+    let same : odd_paths n (ops (merged n gs)) ≡ odd_paths n (ops gs) = result-odd_paths n gs (fine_from_all n gs all) in
     let shape : t_count (ops (merged n gs)) ≡ odd_paths n (ops (merged n gs)) = result-shape n gs in
     let most : odd_paths n (ops gs) ≤ t_count (ops gs) = odd_paths-t_count n (ops gs) in
     let cnots : cx_count (ops (merged n gs)) ≡ cx_count (ops gs) = cx_count-frame (merged n gs) ∙ ap (λ us. cx_count (ops us)) (frame-merged gs (own_labels n) n (totals_of n gs)) ∙ sym (cx_count-frame gs) in
-    Turned-IsRewriting n gs (merged n gs) t all (all_fine n (merged n gs) (result-fine n gs f)) (record {
-      below = lt;
-      turns = result-turns n gs t f e;
-      t_gates = omega (arith, same, shape, most);
-      odd_paths = omega (arith, same);
-      cx_gates = omega (arith, cnots);
-    })
+    record { t_gates = omega (arith, same, shape, most); odd_paths = omega (arith, same); cx_gates = omega (arith, cnots) }
 
 pub result-smaller : (n : ℕ) (gs : List Gate) → All (IsFine n) gs → IsSmallerOrSame gs (merged n gs)
 result-smaller n gs all = merged-same gs (own_labels n) n n (totals_of n gs) (fine_from_all n gs all) (totals_of-marks n gs)
 
 -- ---- what the code gives
-pub merged-law : (n : ℕ) (gs : List Gate) (p : Passed) → All (IsFine n) gs → IsMerged n gs p → IsRewriting n gs p.body.gates p.turn
-merged-law n gs p all m =
-    subst (λ us. IsRewriting n gs us p.turn) (sym m.gates) (result-rewriting n gs p.turn all m.below (sym (ap (λ us. constant_of n us % 8) m.gates) ∙ m.turn))
+pub merged-no_more : (n : ℕ) (gs : List Gate) (p : Passed) → All (IsFine n) gs → IsMerged n gs p → HasNoMore n gs p.body.gates
+merged-no_more n gs p all m = subst (HasNoMore n gs) (sym m.gates) (result-no_more n gs all)
 
 pub merged-shape : (n : ℕ) (gs : List Gate) (p : Passed) → IsMerged n gs p → t_count (ops p.body.gates) ≡ odd_paths n (ops p.body.gates)
 merged-shape n gs p m = subst (λ us. t_count (ops us) ≡ odd_paths n (ops us)) (sym m.gates) (result-shape n gs)

@@ -13,11 +13,11 @@
 mod row_hash;
 mod totals;
 
-ghost use Rattle.std.specs.Prelude.{◌≡◌, ◌%◌, All, IfOk};
+ghost use Rattle.std.specs.Prelude.{◌≡◌, ◌%◌, All, IfOk, true};
 ghost use Rattle.circuit_list.specs.Gates.{IsFine, ops};
 ghost use Rattle.path_parity.specs.PathSum.{own_labels, phase_labels};
 ghost use Rattle.rewrite_pass.specs.Law.{IsRewriting, IsSmallerOrSame};
-ghost use Rattle.rewrite_pass.specs.Traces.{IsSumsStep};
+ghost use Rattle.rewrite_pass.specs.Traces.{AreSteps};
 ghost use Rattle.rotation_merge.specs.Merging.{constant_of, totals_of};
 ghost use Rattle.rotation_merge.specs.Sums.{AreNoted, HasTotals, IsMerged, rows};
 ghost use Rattle.unitary_model.specs.Operations.{t_count};
@@ -25,7 +25,7 @@ ghost use Rattle.unitary_model.specs.OddPaths.{odd_paths};
 
 use circuit_list::{Circuit, Passed};
 use path_parity::Walk;
-use rewrite_pass::{MayStay, Pass, Shrinks, Trace, Traced};
+use rewrite_pass::{MayStay, Pass, Rewriting, Shrinks, Trace, Traced};
 use std::alloc::{AllocError, Global};
 use totals::Totals;
 
@@ -41,7 +41,8 @@ impl Pass for MergePass {
     ghost kept = { λ _ old new. IsSmallerOrSame old new };
 
     fn run(&self, alloc: Global, body: Circuit) -> Result<Passed, AllocError> {
-        merged(alloc, &body)
+        let (passed, _step) = merged(alloc, body, false)?;
+        Ok(passed)
     }
 }
 
@@ -52,8 +53,8 @@ impl Traced for MergePass {
         body: Circuit,
         trace: &mut Trace,
     ) -> Result<Passed, AllocError> {
-        let passed = merged(alloc, &body)?;
-        trace.push_sums(&body, &passed.body)?;
+        let (passed, mut step) = merged(alloc, body, true)?;
+        trace.append(&mut step)?;
         Ok(passed)
     }
 }
@@ -68,16 +69,19 @@ impl Shrinks for MergePass {
     ghost shrinks = { λ _ _ _ holds. holds };
 }
 
-/// What [`MergePass`] gives. It has the path sum of the circuit, so one step leads there.
-fn merged(alloc: Global, body: &Circuit) -> Result<Passed, AllocError>
-    ensures wires { IfOk result (λ p. p.body.wires ≡ body.now.wires) }
-    ensures law { IfOk result (λ p. IsRewriting body.now.wires body.now.gates p.body.gates p.turn) }
-    ensures shape { IfOk result (λ p. t_count (ops p.body.gates) ≡ odd_paths body.now.wires (ops p.body.gates)) }
-    ensures kept { IfOk result (λ p. IsSmallerOrSame body.now.gates p.body.gates) }
-    ensures sums { IfOk result (λ p. IsSumsStep body.now.wires p.body.gates body.now.gates p.body.gates p.turn) }
+/// What [`MergePass`] gives, and the step that led to it, if it is told: the result has the path sum of the circuit.
+fn merged(alloc: Global, body: Circuit, told: bool) -> Result<(Passed, Trace), AllocError>
+    ensures wires { IfOk result (λ r. r.0.body.wires ≡ body.wires) }
+    ensures law { IfOk result (λ r. IsRewriting body.wires body.gates r.0.body.gates r.0.turn) }
+    ensures shape { IfOk result (λ r. t_count (ops r.0.body.gates) ≡ odd_paths body.wires (ops r.0.body.gates)) }
+    ensures kept { IfOk result (λ r. IsSmallerOrSame body.gates r.0.body.gates) }
+    ensures steps { IfOk result (λ r. told ≡ true → AreSteps body.wires body.gates r.1 r.0.body.gates r.0.turn) }
 {
-    let totals = gathered(alloc, body)?;
-    rewritten(alloc, body, totals)
+    let totals = gathered(alloc, &body)?;
+    let passed = rewritten(alloc, &body, totals)?;
+    let mut circuit = Rewriting::new(alloc, body, told);
+    circuit.replace(passed.body, passed.turn)?;
+    Ok(circuit.finish())
 }
 
 /// The totals of a circuit, and the labels of its phases.

@@ -1,32 +1,43 @@
--- The merged circuit keeps the law, has the shape, is smaller or the same, and has the same path sum.
-use Rattle.std.proofs.Common.{◌≡◌}
-use Rattle.std.proofs.lemmas.Result.{IfOk-weaker}
+-- What takes the circuit's place is one step further, has no more of what is counted, has the shape, and is smaller or the same.
+use Rattle.std.proofs.Common.{◌≡◌, sym, subst, ◌∙◌}
+use Rattle.circuit_list.specs.Body.{Body}
 use Rattle.circuit_list.specs.Gates.{ops}
+use Rattle.path_parity.specs.NamedSums.{SamePathSum}
 use Rattle.unitary_model.specs.Operations.{t_count}
 use Rattle.unitary_model.specs.OddPaths.{odd_paths}
-use Rattle.rewrite_pass.specs.Law.{IsRewriting, IsSmallerOrSame}
-use Rattle.rewrite_pass.specs.Traces.{IsSumsStep}
-use Rattle.rotation_merge.specs.Sums.{IsMerged}
+use Rattle.rewrite_pass.specs.Derivations.{HasNoMore}
+use Rattle.rewrite_pass.specs.Law.{IsSmallerOrSame}
+use Rattle.rewrite_pass.specs.Traces.{constants_turn}
 use Rattle.rotation_merge.proofs.SumLaws.{merged-step}
-use Rattle.rotation_merge.proofs.ResultLaws.{merged-law, merged-shape, merged-kept}
+use Rattle.rotation_merge.proofs.ResultLaws.{merged-no_more, merged-shape, merged-kept}
 use Rattle.rotation_merge.proofs.merged.Goals as goal
 
-pub returns-clause-wires : goal.returns-clause-wires
-returns-clause-wires c = IfOk-weaker c.rewritten.result (IsMerged c.args.body.now.wires c.args.body.now.gates) (λ p. p.body.wires ≡ c.args.body.now.wires)
-    (λ p m. m.wires) c.rewritten.ensures.merged
+pub replace-requires-clause-sums : goal.replace-requires-clause-sums
+replace-requires-clause-sums c =
+    let b = c.args.body in
+    let p = c.in_ok-passed.passed in
+    subst (λ (a : Body). SamePathSum a.wires a.gates p.body.gates) (sym c.new-circuit.ensures.body) (merged-step b.wires b.gates p c.rewritten.ensures.fine c.in_ok-passed.ensures.merged).same
 
-pub returns-clause-law : goal.returns-clause-law
-returns-clause-law c = IfOk-weaker c.rewritten.result (IsMerged c.args.body.now.wires c.args.body.now.gates) (λ p. IsRewriting c.args.body.now.wires c.args.body.now.gates p.body.gates p.turn)
-    (λ p m. merged-law c.args.body.now.wires c.args.body.now.gates p c.rewritten.ensures.fine m) c.rewritten.ensures.merged
+pub replace-requires-clause-turn : goal.replace-requires-clause-turn
+replace-requires-clause-turn c =
+    let b = c.args.body in
+    let p = c.in_ok-passed.passed in
+    subst (λ (a : Body). p.turn ≡ constants_turn a.wires a.gates p.body.gates) (sym c.new-circuit.ensures.body) (merged-step b.wires b.gates p c.rewritten.ensures.fine c.in_ok-passed.ensures.merged).turn
+
+pub replace-requires-clause-no_more : goal.replace-requires-clause-no_more
+replace-requires-clause-no_more c =
+    let b = c.args.body in
+    let p = c.in_ok-passed.passed in
+    subst (λ (a : Body). HasNoMore a.wires a.gates p.body.gates) (sym c.new-circuit.ensures.body) (merged-no_more b.wires b.gates p c.rewritten.ensures.fine c.in_ok-passed.ensures.merged)
 
 pub returns-clause-shape : goal.returns-clause-shape
-returns-clause-shape c = IfOk-weaker c.rewritten.result (IsMerged c.args.body.now.wires c.args.body.now.gates) (λ p. t_count (ops p.body.gates) ≡ odd_paths c.args.body.now.wires (ops p.body.gates))
-    (λ p m. merged-shape c.args.body.now.wires c.args.body.now.gates p m) c.rewritten.ensures.merged
+returns-clause-shape c =
+    let b = c.args.body in
+    let p = c.in_ok-passed.passed in
+    subst (λ (a : Body). t_count (ops a.gates) ≡ odd_paths b.wires (ops a.gates)) (sym (c.finish.ensures.body ∙ c.in_ok-replace.ensures.ok.body)) (merged-shape b.wires b.gates p c.in_ok-passed.ensures.merged)
 
 pub returns-clause-kept : goal.returns-clause-kept
-returns-clause-kept c = IfOk-weaker c.rewritten.result (IsMerged c.args.body.now.wires c.args.body.now.gates) (λ p. IsSmallerOrSame c.args.body.now.gates p.body.gates)
-    (λ p m. merged-kept c.args.body.now.wires c.args.body.now.gates p c.rewritten.ensures.fine m) c.rewritten.ensures.merged
-
-pub returns-clause-sums : goal.returns-clause-sums
-returns-clause-sums c = IfOk-weaker c.rewritten.result (IsMerged c.args.body.now.wires c.args.body.now.gates) (λ p. IsSumsStep c.args.body.now.wires p.body.gates c.args.body.now.gates p.body.gates p.turn)
-    (λ p m. merged-step c.args.body.now.wires c.args.body.now.gates p c.rewritten.ensures.fine m) c.rewritten.ensures.merged
+returns-clause-kept c =
+    let b = c.args.body in
+    let p = c.in_ok-passed.passed in
+    subst (λ (a : Body). IsSmallerOrSame b.gates a.gates) (sym (c.finish.ensures.body ∙ c.in_ok-replace.ensures.ok.body)) (merged-kept b.wires b.gates p c.rewritten.ensures.fine c.in_ok-passed.ensures.merged)
