@@ -2,11 +2,13 @@
 --     Kept n old new t        on n wires the new gates are fine, and w^t times the old ones
 --     changed_alike           changes that say the same of each place
 --     rule_step               a change that says of each place what a window's edits do is the step of the window's rule
+--     order                   one of two numbers is less, or they are equal
 --     swap                    two gates that are taken, in either order
+--     in_order                two H on a CNOT's wires, on one side of it, by their places
 --     window_made             a window that is changed
 --     rule_made, both_made, join_made     what a step makes that changes a few gates is a rewriting;  sums_kept: the amplitudes alone
 --     step_kept, steps_kept   a step, and steps one after the other
-use Rattle.std.proofs.Common.{◌≡◌, ◌≢◌, ◌⊎◌, inl, inr, ℕ, ◌+◌, ◌-◌, ◌%◌, ◌<◌, Bool, true, false, cond, List, [], ◌∷◌, ◌++◌, length, refl, sym, subst, ◌∙◌, ap, arith, Option, None, Some, All, min, set}
+use Rattle.std.proofs.Common.{◌≡◌, ◌≢◌, ◌⊎◌, inl, inr, ℕ, ◌+◌, ◌-◌, ◌%◌, ◌<◌, Bool, true, false, cond, List, [], ◌∷◌, ◌++◌, length, refl, sym, subst, ◌∙◌, ap, arith, Option, None, Some, All, min, max, set}
 use Rattle.std.specs.Prelude.{nat_eq}
 use Rattle.std.specs.List.{remove, AllByRecursion}
 use Rattle.std.proofs.lemmas.List.Elements.{recursion_from_All, All-from_recursion}
@@ -73,7 +75,7 @@ swap true false x = refl
 swap false true x = refl
 swap false false x = refl
 
-order : (a b : ℕ) → (a < b) ⊎ ((a ≡ b) ⊎ (b < a))
+pub order : (a b : ℕ) → (a < b) ⊎ ((a ≡ b) ⊎ (b < a))
 order a b = grind arith
 
 same_wire : (gs : List Gate) (a b c t : ℕ) → At gs a (H c) → At gs b (H t) → a ≡ b → c ≡ t
@@ -82,7 +84,7 @@ same_wire gs a b c t f g e =
     cc
 
 -- two gates H of a CNOT's wires, on one side of it, by their places; near tells how such a gate stands to the CNOT
-record InOrder (gs : List Gate) (c t x y : ℕ) (near : ℕ → ℕ → Type 0) : Type 0 where
+pub record InOrder (gs : List Gate) (c t x y : ℕ) (near : ℕ → ℕ → Type 0) : Type 0 where
   pub q : ℕ
   pub r : ℕ
   pub a : ℕ
@@ -94,15 +96,16 @@ record InOrder (gs : List Gate) (c t x y : ℕ) (near : ℕ → ℕ → Type 0) 
   pub second_near : near r b
   pub ordered : a < b
   pub least : a ≡ min x y
+  pub greatest : b ≡ max x y
   pub told : (k : ℕ) (z : Option (Option Gate)) → cond (nat_eq a k) (Some None) (cond (nat_eq b k) (Some None) z) ≡ cond (nat_eq x k) (Some None) (cond (nat_eq y k) (Some None) z)
 
-in_order : (gs : List Gate) (c t x y : ℕ) (near : ℕ → ℕ → Type 0) → c ≢ t → At gs x (H c) → At gs y (H t) → near c x → near t y → InOrder gs c t x y near
+pub in_order : (gs : List Gate) (c t x y : ℕ) (near : ℕ → ℕ → Type 0) → c ≢ t → At gs x (H c) → At gs y (H t) → near c x → near t y → InOrder gs c t x y near
 in_order gs c t x y near ne f g p q = go (order x y)
   where
     go : (x < y) ⊎ ((x ≡ y) ⊎ (y < x)) → InOrder gs c t x y near
-    go (inl lt) = record { q = c; r = t; a = x; b = y; wires = inl (refl, refl); first = f; second = g; first_near = p; second_near = q; ordered = lt; least = omega (arith, lt); told = λ k z. refl }
+    go (inl lt) = record { q = c; r = t; a = x; b = y; wires = inl (refl, refl); first = f; second = g; first_near = p; second_near = q; ordered = lt; least = omega (arith, lt); greatest = omega (arith, lt); told = λ k z. refl }
     go (inr (inl e)) = absurd (ne (same_wire gs x y c t f g e))
-    go (inr (inr lt)) = record { q = t; r = c; a = y; b = x; wires = inr (refl, refl); first = g; second = f; first_near = q; second_near = p; ordered = lt; least = omega (arith, lt); told = λ k z. swap (nat_eq y k) (nat_eq x k) z }
+    go (inr (inr lt)) = record { q = t; r = c; a = y; b = x; wires = inr (refl, refl); first = g; second = f; first_near = q; second_near = p; ordered = lt; least = omega (arith, lt); greatest = omega (arith, lt); told = λ k z. swap (nat_eq y k) (nat_eq x k) z }
 
 pub record Surrounded (gs : List Gate) (i : ℕ) (c t m d e x y : ℕ) : Type 0 where
   pub a : ℕ
