@@ -2,7 +2,6 @@
 --   none-kept              without rows
 --   inserted, inserted-row, inserted-kept    a basis with a row that it didn't span
 --   widened-kept           what is told of all rows spans more
---   others-new             no block that isn't listed has room for a row that is spanned
 --   chain-root             a block that has room is a chain without exchanges
 --   entered-kept           a row came in by a chain
 --   closed-kept            a full block is off the list
@@ -21,7 +20,7 @@ use Rattle.matroid_partition.specs.declared.search.Node.{Node}
 use Rattle.matroid_partition.specs.declared.witness.ReachedRows.{ReachedRows}
 use Rattle.gf2_linear.specs.Rows.{is_sum}
 use Rattle.matroid_partition.specs.Arrangements.{Arrangement, IsArranged, IsFull, IsPartitioning, rows_with}
-use Rattle.matroid_partition.specs.Blocks.{HasRoomAt, IsBlock, IsOpen, IsShown, IsState, OthersSpan, SpansFirst, places_at}
+use Rattle.matroid_partition.specs.Blocks.{HasRoomAt, IsBlock, IsOpen, IsShown, IsState, SpansFirst, places_at}
 use Rattle.matroid_partition.specs.Closed.{IsClosed, IsClosedBy, places_seen, seen_by}
 use Rattle.matroid_partition.specs.Places.{Has, taken_out}
 use Rattle.matroid_partition.specs.Searches.{IsChain}
@@ -31,7 +30,7 @@ use Rattle.matroid_partition.proofs.BlockLaws.{within-taken_out}
 use Rattle.matroid_partition.proofs.StateLaws.{state-begun}
 use Rattle.matroid_partition.proofs.OpenLaws.{IsOpen-begun}
 use Rattle.matroid_partition.proofs.ArrangementLaws.{count-with, spans-with, state-with}
-use Rattle.matroid_partition.proofs.PartLaws.{chain-listed, others-span, sizes-kept}
+use Rattle.matroid_partition.proofs.PartLaws.{chain-listed, sizes-kept}
 use Rattle.matroid_partition.proofs.ClosedLaws.{closed-full, closed-shown}
 
 pub none-kept : IsPartitioning (record { rows = []; homes = []; blocks = []; all = [] }) []
@@ -74,13 +73,6 @@ widened-kept a unfilled more new p o k = record {
   };
   rooms = o;
 }
-
--- the rows with a home are spanned
-spans-homes : (a : Arrangement) → IsArranged a → SpansFirst (length a.homes) a.rows a.all
-spans-homes a w = subst (λ k. SpansFirst k a.rows a.all) (sym w.count) w.spans
-
-pub others-new : (a : Arrangement) (unfilled : List ℕ) (v : ℕ) → IsPartitioning a unfilled → is_sum a.all v ≡ true → OthersSpan a.blocks unfilled v
-others-new a unfilled v p h = others-span a.rows a.homes a.blocks a.all unfilled v p.arranged.state (spans-homes a p.arranged) p.rooms h
 
 pub chain-root : (a : Arrangement) (v into : ℕ) → IsArranged a → HasRoomAt v a.blocks into
     → IsChain (rows_with a v) a.homes a.blocks (record { place = length a.homes; parent = 0 } ∷ []) 0 into

@@ -2,7 +2,7 @@
 --   IsBlock rows b              ascending places of independent rows, and their basis
 --   HasRoom rows b i            the row at i is no sum of the block's rows
 --   HasRoomAt v blocks k        v is no sum of the rows of the k-th block
---   AllSpan v blocks            v is a sum of the rows of each block
+--   LastSpans v blocks unfilled    v is a sum of the rows of the last block that is listed
 --   OthersSpan blocks unfilled v   v is a sum of the rows of each block that isn't listed
 --   IsOpen full blocks unfilled    each block that isn't listed has `full` rows
 --   places_at blocks k          the places of the k-th block
@@ -35,8 +35,8 @@ pub record HasRoomAt (v : ℕ) (blocks : List Block) (k : ℕ) : Type 0 where
   pub there : k < length blocks
   pub room : (d : Block) → is_sum (slice_index_or blocks k d).basis v ≡ false
 
-abbrev pub AllSpan : ℕ → List Block → Type 0
-AllSpan v blocks = (k : ℕ) (d : Block) → k < length blocks → is_sum (slice_index_or blocks k d).basis v ≡ true
+abbrev pub LastSpans : ℕ → List Block → List ℕ → Type 0
+LastSpans v blocks unfilled = (j : ℕ) (d : Block) → suc j ≡ length unfilled → is_sum (slice_index_or blocks (slice_index unfilled j) d).basis v ≡ true
 
 abbrev pub OthersSpan : List Block → List ℕ → ℕ → Type 0
 OthersSpan blocks unfilled v = (k : ℕ) (d : Block) → k < length blocks → (Has unfilled k → ⊥) → is_sum (slice_index_or blocks k d).basis v ≡ true

@@ -3,7 +3,7 @@
 ghost use Rattle.std.specs.Prelude.{◌≡◌, ℕ, ◌<◌, All, IfOk, IfSome, IfNone, IsTrue, length};
 ghost use Rattle.gf2_linear.specs.Rows.{is_independent, rows_at};
 ghost use Rattle.matroid_partition.specs.Places.{Has, IsAscending, put_in, taken_out};
-ghost use Rattle.matroid_partition.specs.Blocks.{AllSpan, HasRoom, HasRoomAt, IsBlock, OthersSpan, values};
+ghost use Rattle.matroid_partition.specs.Blocks.{HasRoom, HasRoomAt, IsBlock, LastSpans, values};
 
 use gf2_linear::{Basis, Row};
 use std::alloc::{AllocError, Global};
@@ -100,17 +100,28 @@ pub fn without(alloc: Global, places: &[usize], place: usize) -> Result<Vec<usiz
     Ok(fewer)
 }
 
-/// The first of the blocks that may have room that has room for a row. The others are known to have none.
+/// The first of the blocks that may have room that has room for a row, found by halving.
+///
+/// Each block spans what the next one does, since a row comes into a block only if those before have no room for it, and
+/// exchanges leave the span of a block as it is. No clause rests on that: if it weren't so, another block might be found, or none.
 pub fn first_fit(blocks: &[Block], unfilled: &[usize], row: &Row) -> Option<usize>
     requires within { All (λ k. k < length blocks.now) unfilled.now }
-    requires others { OthersSpan blocks.now unfilled.now row.now }
     ensures some { IfSome result (λ k. HasRoomAt row.now blocks.now k) }
-    ensures none { IfNone result (AllSpan row.now blocks.now) }
+    ensures none { IfNone result (LastSpans row.now blocks.now unfilled.now) }
 {
-    'numbers: for number in unfilled {
-        if !blocks[*number].basis.spans(row) {
-            return Some(*number);
+    let mut low = 0;
+    let mut high = unfilled.len();
+    'halves: while low < high {
+        let middle = low + (high - low) / 2;
+        if blocks[unfilled[middle]].basis.spans(row) {
+            low = middle + 1;
+        } else {
+            high = middle;
         }
     }
-    None
+    if low < unfilled.len() {
+        Some(unfilled[low])
+    } else {
+        None
+    }
 }
