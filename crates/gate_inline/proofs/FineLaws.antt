@@ -36,7 +36,7 @@ use Rattle.gate_inline.specs.declared.stop.AngleRefusal.TheVariants.{NoForm, ByZ
 use Rattle.gate_expand.specs.declared.source.Ops.{Ops}
 use Rattle.gate_inline.specs.Meanings.{Evaluation, Meaning, controlled, eighth, followed, gate_meaning, item_answer, joined, meaning_at, meanings, rotation, step_answer, step_of, unvalued, wire_of}
 use Rattle.gate_inline.specs.Placed.{IsPlaced}
-use Rattle.gate_inline.specs.Values.{and_next, values}
+use Rattle.linear_forms.specs.Values.{and_next, values}
 use Rattle.gate_inline.specs.declared.stop.AngleRefusal.{AngleRefusal}
 use Rattle.gate_inline.proofs.PlacedLaws.{and_left, and_right, below_of, both_false, equal_of, not_true, or_left, or_right, step_apart, step_counted, step_placed, steps_placed}
 use Rattle.gate_inline.proofs.StepLaws.{upto-more, upto_none}

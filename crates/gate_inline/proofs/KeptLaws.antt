@@ -12,7 +12,7 @@ use Rattle.gate_inline.specs.Capped.{capped, most}
 use Rattle.gate_inline.specs.Meanings.{Evaluation, Meaning, body_answer, followed, gate_meaning, item_answer, meaning_at, meanings, no_meaning, unvalued, wire_of}
 use Rattle.gate_inline.specs.Remembered.{AreKept, IsKeptPlace, IsPart, part}
 use Rattle.gate_inline.specs.Sizes.{gate_size, item_size, size, size_all, size_at, sizes}
-use Rattle.gate_inline.specs.Values.{and_next, values}
+use Rattle.linear_forms.specs.Values.{and_next, values}
 use Rattle.gate_inline.specs.declared.memo.Kept.{Kept}
 use Rattle.gate_inline.specs.declared.size.Size.{Size}
 use Rattle.gate_inline.proofs.OrderLaws.{get_take-within, in_order-get, take-take_less}

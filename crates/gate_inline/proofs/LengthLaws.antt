@@ -18,7 +18,7 @@ use Rattle.gate_expand.specs.declared.source.Ops.{Ops}
 use Rattle.gate_inline.specs.Inlined.{IsInlined, operations}
 use Rattle.gate_inline.specs.Meanings.{Evaluation, Meaning, body_answer, controlled, eighth, followed, gate_meaning, item_answer, joined, meaning_at, meanings, no_meaning, rotation, step_answer, unvalued, wire_of}
 use Rattle.gate_inline.specs.Sizes.{gate_size, item_size, most_operations, size, size_all, size_at, sizes, step_size, steps_size, total}
-use Rattle.gate_inline.specs.Values.{and_next, values}
+use Rattle.linear_forms.specs.Values.{and_next, values}
 use Rattle.gate_inline.specs.declared.size.Size.{Size}
 use Rattle.gate_inline.specs.declared.stop.AngleRefusal.{AngleRefusal}
 use Rattle.gate_inline.proofs.OrderLaws.{in_order-get}

@@ -12,6 +12,7 @@ pub mod ReadWires
 pub mod KeptLaws
 pub mod BegunLaws
 pub mod QuietLaws
+pub mod LineLaws
 pub mod ProgressLaws
 pub mod RenamingLaws
 pub mod BarLaws

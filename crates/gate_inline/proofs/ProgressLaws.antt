@@ -10,6 +10,7 @@ use Rattle.unitary_model.specs.declared.Op.{Op}
 use Rattle.gate_library.specs.Gates.{BoundGate}
 use Rattle.gate_library.specs.Views.{gate as gate_view}
 use Rattle.gate_library.specs.declared.gate.BoundGate.{BoundGate as CodeGate}
+use Rattle.gate_library.specs.declared.gate.Item.{Item as CodeItem}
 use Rattle.gate_inline.specs.Frames.{call_answer, frame_answer, frames_answer}
 use Rattle.gate_inline.specs.Meanings.{Evaluation, followed, meaning_at, meanings}
 use Rattle.gate_inline.specs.Progress.{IsInliner, IsUnderway, HasWritten, Progress, gates_of}
@@ -24,9 +25,9 @@ use Rattle.gate_inline.proofs.BegunLaws.{call_answer-all}
 use Rattle.gate_inline.proofs.FrameLaws.{IsStop_through, followed-followed, followed-nil, frames_answer-push}
 use Rattle.gate_inline.proofs.KeptLaws.{AreKept_more}
 
-pub IsInliner-more : (gates : List CodeGate) (sizes : List Size) (limits : List (Option ℕ)) (us ops vs : List Op) (places : List (Option Kept)) → vs ≡ us ++ ops →
-    IsInliner gates sizes limits us places → IsInliner gates sizes limits vs places
-IsInliner-more gates sizes limits us ops vs places e h = record { sized = h.sized; quiet = h.quiet; kept = AreKept_more (map gate_view gates) us ops vs places e h.kept }
+pub IsInliner-more : (gates : List CodeGate) (bodies : List (List CodeItem)) (sizes : List Size) (limits : List (Option ℕ)) (us ops vs : List Op) (places : List (Option Kept)) → vs ≡ us ++ ops →
+    IsInliner gates bodies sizes limits us places → IsInliner gates bodies sizes limits vs places
+IsInliner-more gates bodies sizes limits us ops vs places e h = record { lined = h.lined; sized = h.sized; quiet = h.quiet; kept = AreKept_more (map gate_view gates) us ops vs places e h.kept }
 
 -- ---- answers
 pub written_nothing : (p : Progress) → HasWritten p (Ok []) p

@@ -23,7 +23,7 @@ use Rattle.angle_fraction.specs.declared.signs.Binary.TheVariants.{Add, Sub}
 use Rattle.gate_library.specs.Gates.{Formula, number, pi, param, negated, binary, Item, call, barrier, BoundGate, opaque}
 use Rattle.gate_inline.specs.Meanings.{Evaluation, Meaning, body_answer, followed, gate_meaning, item_answer, joined, meaning_at, meanings, no_meaning, unvalued, wire_of}
 use Rattle.gate_inline.specs.Quiet.{AreKeptWithin, AreQuiet, AreWithin, HasWithin, IsBounded, IsKeptWithin, IsNothing, IsNothingBy, IsWhole, IsWithin}
-use Rattle.gate_inline.specs.Values.{and_next, no_angle, operation, value, values}
+use Rattle.linear_forms.specs.Values.{and_next, no_angle, operation, value, values}
 use Rattle.gate_inline.specs.declared.quiet.PartBound.{PartBound}
 use Rattle.gate_inline.proofs.KeptLaws.{meaning_at-first}
 use Rattle.gate_inline.proofs.OrderLaws.{in_order-get}

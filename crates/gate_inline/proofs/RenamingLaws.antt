@@ -2,23 +2,22 @@
 --     natural                 every gate's are the same with these wires
 --     renamed-found, renamed-past, renamed-next, renamed-last     a wire is found at an index, or where nothing stands for it; it isn't; there is no
 --                             other index
-use Rattle.std.proofs.Common.{◌≡◌, ℕ, zero, suc, ◌+◌, ◌-◌, ◌<◌, ◌≤◌, List, [], ◌∷◌, ◌++◌, append_assoc, true, false, if◌then◌else◌, Option, Some, None, Result, Ok, Err, refl, sym, subst, ◌∙◌, ap, arith, drop, get_or, map, slice_get, take, unwrap_or, length}
+use Rattle.std.proofs.Common.{◌≡◌, ℕ, zero, suc, ◌+◌, ◌-◌, ◌<◌, ◌≤◌, List, [], ◌∷◌, ◌++◌, append_assoc, true, false, if◌then◌else◌, Option, Some, None, Result, Ok, Err, refl, sym, subst, ◌∙◌, ap, arith, drop, get_or, map, slice_get, take, length}
 use Rattle.std.specs.Prelude.{◌≢◌, nat_eq, nat_lt}
 use Rattle.std.proofs.lemmas.Bool.Decides.{nat_tests}
 use Rattle.std.proofs.lemmas.Option.{get_or_from_slice_get, slice_get_within}
 use Rattle.std.proofs.lemmas.List.{drop-drop, drop_all, drop_more, get_or-drop, get_or_append_left, length-drop, map-append, take_more}
-use Rattle.angle_fraction.specs.Angles.{eighths_of}
 use Rattle.angle_fraction.specs.declared.Angle.{Angle}
 use Rattle.unitary_model.specs.declared.Op.{Op}
-use Rattle.unitary_model.specs.declared.Op.TheVariants.{U, Cx}
+use Rattle.unitary_model.specs.declared.Op.TheVariants.{U}
 use Rattle.gate_library.specs.Gates.{Item, call, barrier, BoundGate, u, cx, opaque, composed}
-use Rattle.gate_inline.specs.Meanings.{Evaluation, Meaning, controlled, eighth, followed, gate_meaning, item_answer, joined, meaning_at, meanings, no_meaning, rotation, step_of, unvalued, wire_of}
+use Rattle.gate_inline.specs.Meanings.{Evaluation, Meaning, controlled, eighth, followed, gate_meaning, item_answer, joined, meaning_at, meanings, rotation, unvalued, wire_of}
 use Rattle.gate_library.specs.Views.{gate as gate_view}
 use Rattle.gate_library.specs.declared.gate.BoundGate.{BoundGate as CodeGate}
 use Rattle.gate_inline.specs.Progress.{HasWritten, Progress, gates_of}
 use Rattle.gate_inline.specs.Remembered.{IsPart, part}
 use Rattle.gate_inline.specs.Renaming.{IsNatural, IsRenaming, renamed, renamed_answer, renamed_op}
-use Rattle.gate_inline.specs.Values.{and_next, values}
+use Rattle.linear_forms.specs.Values.{and_next, values}
 use Rattle.gate_inline.specs.declared.stop.AngleRefusal.{AngleRefusal}
 use Rattle.gate_inline.proofs.OrderLaws.{get_take-within, meaning_at-below, meaning_at-none}
 

@@ -1,5 +1,5 @@
 -- ---- definitions that public clauses reach
-pub mod Values
+pub use Rattle.linear_forms.specs.Values
 pub mod Meanings
 pub mod Sizes
 pub mod Reads

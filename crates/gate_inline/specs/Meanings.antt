@@ -28,7 +28,7 @@ use Rattle.gate_library.specs.Gates.{Item, call, barrier, BoundGate, u, cx, opaq
 use Rattle.gate_library.specs.Operands.{broadcast, upto, wire_at}
 use Rattle.gate_library.specs.declared.operand.Operand.{Operand}
 use Rattle.qasm_check.specs.Steps.{Step, applies, measures, bars, nothing}
-use Rattle.gate_inline.specs.Values.{and_next, values}
+use Rattle.linear_forms.specs.Values.{and_next, values}
 use Rattle.gate_inline.specs.declared.stop.AngleRefusal.{AngleRefusal}
 use Rattle.gate_inline.specs.declared.stop.AngleRefusal.TheVariants.{NoForm, ByZero, TooLarge, NoStep}
 

@@ -3,7 +3,7 @@
 --     gates_of p          its gates, apart from where their parts lie in memory
 --     at_start gates      nothing is written
 --     written p us        these operations are written behind the others
---     IsInliner gates sizes limits us places      what an inliner keeps beside these: sizes that are those of the gates, limits below which they
+--     IsInliner gates bodies sizes limits us places      what an inliner keeps beside these: the lines of their bodies, sizes that are those of the gates, limits below which they
 --                         come to nothing, and calls whose operations are those that they tell
 --     HasWritten p a q     an answer's operations are written behind the others
 --     IsUnderway p fs a q gs      an answer is written, or left to bodies that wait: fs wait before it, and gs behind
@@ -12,8 +12,10 @@ use Rattle.unitary_model.specs.declared.Op.{Op}
 use Rattle.gate_library.specs.Gates.{BoundGate}
 use Rattle.gate_library.specs.Views.{gate as gate_view}
 use Rattle.gate_library.specs.declared.gate.BoundGate.{BoundGate as CodeGate}
+use Rattle.gate_library.specs.declared.gate.Item.{Item}
 use Rattle.gate_inline.specs.Capped.{capped}
 use Rattle.gate_inline.specs.Frames.{frames_answer}
+use Rattle.linear_forms.specs.Lines.{gate_body}
 use Rattle.gate_inline.specs.Meanings.{Evaluation, followed, meanings}
 use Rattle.gate_inline.specs.Quiet.{AreQuiet}
 use Rattle.gate_inline.specs.Remembered.{AreBegun, AreKept}
@@ -37,7 +39,8 @@ at_start gates = record { gates = gates; list = [] }
 abbrev pub written : Progress → List Op → Progress
 written p us = record { gates = p.gates; list = p.list ++ us }
 
-pub record IsInliner (gates : List CodeGate) (sizes : List Size) (limits : List (Option ℕ)) (us : List Op) (places : List (Option Kept)) : Type 0 where
+pub record IsInliner (gates : List CodeGate) (bodies : List (List Item)) (sizes : List Size) (limits : List (Option ℕ)) (us : List Op) (places : List (Option Kept)) : Type 0 where
+  pub lined : bodies ≡ map gate_body gates
   pub sized : sizes ≡ map capped (sizes_of (map gate_view gates))
   pub quiet : AreQuiet (meanings (map gate_view gates)) limits
   pub kept : AreKept (map gate_view gates) us places

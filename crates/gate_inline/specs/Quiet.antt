@@ -12,7 +12,7 @@ use Rattle.angle_fraction.specs.Fraction.{Fraction, most_part}
 use Rattle.angle_fraction.specs.declared.Angle.{Angle}
 use Rattle.gate_library.specs.Gates.{Formula}
 use Rattle.gate_inline.specs.Meanings.{Meaning, meaning_at}
-use Rattle.gate_inline.specs.Values.{value, values}
+use Rattle.linear_forms.specs.Values.{value, values}
 use Rattle.gate_inline.specs.declared.quiet.PartBound.{PartBound}
 
 pub record IsWhole (n : ℕ) (x : Fraction) : Type 0 where

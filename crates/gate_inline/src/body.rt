@@ -1,11 +1,12 @@
 //! Calls of gates, and what is left of their bodies.
 
-ghost use Rattle.std.specs.Prelude.{◌≡◌, ◌*◌, ◌<◌, [], ◌∷◌, ◌++◌, List, MatchOption, Ok, IfOk, IfErr, IfSome, OnOk, map, slice_get, take};
+ghost use Rattle.std.specs.Prelude.{◌≡◌, ◌*◌, ◌<◌, [], ◌∷◌, ◌++◌, List, MatchOption, Ok, Some, IfOk, IfErr, IfSome, OnOk, map, slice_get, take};
 ghost use Rattle.std.specs.Option.{option_map};
 ghost use Rattle.gate_library.specs.Views.{gate as gate_view, item as item_view};
 ghost use Rattle.gate_inline.specs.declared.size.Size.{Size};
 ghost use Rattle.gate_inline.specs.declared.stop.InlineStop.TheVariants.{NoMemory};
 ghost use Rattle.gate_inline.specs.Frames.{asked_answer, asked_size, body_room, call_answer, entered_answer, one_frame};
+ghost use Rattle.linear_forms.specs.Lines.{gate_body};
 ghost use Rattle.gate_inline.specs.Meanings.{Meaning, controlled as controlled_of, item_answer, one_op, rotation as rotation_of, wire_of as wire_there};
 ghost use Rattle.gate_inline.specs.Remembered.{frame_meaning};
 ghost use Rattle.gate_inline.specs.Sizes.{item_size, size_at, sizes as sizes_of};
@@ -14,6 +15,7 @@ ghost use Rattle.gate_inline.specs.Stops.{IsStop};
 use crate::stop::InlineStop;
 use crate::value::{eighth, values};
 use angle_fraction::Angle;
+use linear_forms::{Line, lines_at};
 use qasm_check::{BoundGate, Item};
 use std::alloc::{AllocError, Global};
 use unitary_model::Op;
@@ -28,10 +30,10 @@ pub struct Call {
 
 /// What is left of a body: that of gate `own`, for these angles and wires; its operations begin at `start` of the list.
 #[derive(Drop)]
-pub struct Frame<'a> {
+pub struct Frame<'a, 'b> {
     pub own: usize,
     pub start: usize,
-    pub rest: &'a [Item],
+    pub rest: &'b [Line<'a>],
     pub angles: Vec<Angle>,
     pub wires: Vec<u32>,
 }
@@ -90,7 +92,8 @@ fn controlled(wires: &[u32]) -> Option<Op>
 
 /// The gate of a number among the first so many.
 fn gate_below<'a>(gates: &'a [BoundGate], below: usize, number: usize) -> Option<&'a BoundGate>
-    ensures { option_map (λ g. gate_view g.now) result ≡ slice_get (take below (map gate_view gates.now)) number }
+    ensures gate { option_map (λ g. gate_view g.now) result ≡ slice_get (take below (map gate_view gates.now)) number }
+    ensures there { IfSome result (λ g. slice_get gates.now number ≡ Some g.now) }
 {
     if number < below {
         gates.get(number)
@@ -101,18 +104,20 @@ fn gate_below<'a>(gates: &'a [BoundGate], below: usize, number: usize) -> Option
 
 /// What applying a gate comes to: an operation, or a body.
 #[derive(Drop)]
-pub struct Entered<'a> {
+pub struct Entered<'a, 'b> {
     pub op: Option<Op>,
-    pub body: Option<Frame<'a>>,
+    pub body: Option<Frame<'a, 'b>>,
 }
 
 /// What a call of one of the first `below` gates comes to, where so many operations are written.
-pub fn enter<'a>(
+pub fn enter<'a, 'b>(
     gates: &'a [BoundGate],
+    bodies: &'b [Vec<Line<'a>>],
     below: usize,
     call: Call,
     start: usize,
-) -> Result<Entered<'a>, InlineStop>
+) -> Result<Entered<'a, 'b>, InlineStop>
+    requires lined { map (λ b. b.items) bodies.now ≡ map gate_body gates.now }
     ensures ok { IfOk result (λ e. call_answer (map gate_view gates.now) below call ≡ entered_answer (map gate_view gates.now) e) }
     ensures err { IfErr result (IsStop (call_answer (map gate_view gates.now) below call)) }
     ensures begun { IfOk result (λ e. IfSome e.body (λ f. (f.start ≡ start) × (frame_meaning (map gate_view gates.now) f ≡ call_answer (map gate_view gates.now) below call))) }
@@ -136,14 +141,14 @@ pub fn enter<'a>(
             BoundGate::Composed {
                 params: _,
                 qubits: _,
-                body,
+                body: _,
             },
         ) => Ok(Entered {
             op: None,
             body: Some(Frame {
                 own: number,
                 start,
-                rest: body,
+                rest: lines_at(bodies, number),
                 angles,
                 wires,
             }),
@@ -165,7 +170,10 @@ pub fn enter<'a>(
 }
 
 /// Keeps a body for later, if there is one.
-pub fn push_body<'a>(frames: &mut Vec<Frame<'a>>, body: Option<Frame<'a>>) -> Result<(), InlineStop>
+pub fn push_body<'a, 'b>(
+    frames: &mut Vec<Frame<'a, 'b>>,
+    body: Option<Frame<'a, 'b>>,
+) -> Result<(), InlineStop>
     ensures ok { OnOk result (frames.new.items ≡ frames.old.items ++ one_frame body.entry) }
     ensures err { IfErr result (λ e. e ≡ NoMemory) }
 {
@@ -178,21 +186,21 @@ pub fn push_body<'a>(frames: &mut Vec<Frame<'a>>, body: Option<Frame<'a>>) -> Re
 /// The call of a line, with its angles' values and its wires; none where it is a barrier.
 pub fn call_of(
     alloc: Global,
-    item: &Item,
+    line: &Line,
     params: &[Angle],
     wires: &[u32],
 ) -> Result<Option<Call>, InlineStop>
-    ensures ok { IfOk result (λ o. (ms : List Meaning) → item_answer ms params.now wires.now (item_view item.now) ≡ asked_answer ms o) }
-    ensures size { IfOk result (λ o. (ss : List Size) → item_size ss (item_view item.now) ≡ asked_size ss o) }
-    ensures err { IfErr result (λ e. (ms : List Meaning) → IsStop (item_answer ms params.now wires.now (item_view item.now)) e) }
+    ensures ok { IfOk result (λ o. (ms : List Meaning) → item_answer ms params.now wires.now (item_view line.now) ≡ asked_answer ms o) }
+    ensures size { IfOk result (λ o. (ss : List Size) → item_size ss (item_view line.now) ≡ asked_size ss o) }
+    ensures err { IfErr result (λ e. (ms : List Meaning) → IsStop (item_answer ms params.now wires.now (item_view line.now)) e) }
 {
-    match item {
+    match line.item() {
         Item::Call {
             gate,
             angles,
             qubits,
         } => {
-            let angles = values(alloc, params, angles)?;
+            let angles = values(alloc, params, angles, line.forms())?;
             let wires = wires_of(alloc, wires, qubits)?;
             Ok(Some(Call {
                 gate: *gate,
@@ -205,7 +213,7 @@ pub fn call_of(
 }
 
 /// The first line and the others.
-pub fn split<'a>(items: &'a [Item]) -> Option<(&'a Item, &'a [Item])>
+pub fn split<'a, 'b>(items: &'b [Line<'a>]) -> Option<(&'b Line<'a>, &'b [Line<'a>])>
     ensures found { MatchOption result (items.now ≡ []) (λ p. items.now ≡ p.0.now ∷ p.1.now) }
 {
     items.split_first()

@@ -5,6 +5,7 @@ ghost use Rattle.gate_library.specs.Operands.{broadcast as broadcast_of, wire_at
 ghost use Rattle.gate_library.specs.Views.{gate as gate_view};
 ghost use Rattle.gate_inline.specs.Capped.{capped};
 ghost use Rattle.gate_inline.specs.Frames.{call_answer, frame_answer, frame_room, frames_room};
+ghost use Rattle.linear_forms.specs.Lines.{gate_body};
 ghost use Rattle.gate_inline.specs.Meanings.{broadcast_answer, meaning_at, meanings, one_op, step_answer};
 ghost use Rattle.gate_inline.specs.Placed.{IsPlaced};
 ghost use Rattle.gate_inline.specs.Progress.{IsUnderway, HasWritten, at_start, gates_of, written};
@@ -24,6 +25,7 @@ use crate::stop::InlineStop;
 use crate::value::values;
 use angle_fraction::Angle;
 use gate_library::broadcast;
+use linear_forms::Line;
 use qasm_check::{BoundGate, Operand, Step};
 use std::alloc::{AllocError, Global};
 use std::marker::Model;
@@ -32,17 +34,19 @@ use unitary_model::Op;
 /// Writes the operations of steps over these gates, one behind the other. Contracts see the gates, and the operations so far.
 /// Beside these it keeps the gates' sizes, the limits below which they come to nothing, and calls that are remembered.
 #[derive(Drop)]
-pub struct Inliner<'a> {
+pub struct Inliner<'a, 'b> {
     gates: &'a [BoundGate],
+    bodies: &'b [Vec<Line<'a>>],
     sizes: Vec<Size>,
     limits: Vec<Option<u64>>,
     memo: Memo,
     list: Vec<Op>,
 }
 
-impl<'a> Model for Inliner<'a> {
+impl<'a, 'b> Model for Inliner<'a, 'b> {
     ghost use Rattle.std.specs.Coded.{codes};
     ghost use Rattle.gate_library.specs.contracts.formula.Formula as formula;
+    ghost use Rattle.std.specs.Prelude.{map};
     ghost use Rattle.gate_inline.specs.Progress.{IsInliner, Progress};
 
     ghost Value = { Progress };
@@ -51,7 +55,7 @@ impl<'a> Model for Inliner<'a> {
 
     ghost view = { λ s. record { gates = s.gates.now; list = s.list.items } };
 
-    ghost invariant = { λ s. IsInliner s.gates.now s.sizes.items s.limits.items s.list.items s.memo.places.items };
+    ghost invariant = { λ s. IsInliner s.gates.now (map (λ b. b.items) s.bodies.now) s.sizes.items s.limits.items s.list.items s.memo.places.items };
 }
 
 /// The wires at an index of a broadcast.
@@ -72,20 +76,23 @@ fn copied(alloc: Global, angles: &[Angle]) -> Result<Vec<Angle>, AllocError>
     angles.iter().copied().collect(alloc)
 }
 
-impl<'a> Inliner<'a> {
+impl<'a, 'b> Inliner<'a, 'b> {
     /// Nothing is written.
     pub fn new(
         alloc: Global,
         gates: &'a [BoundGate],
+        bodies: &'b [Vec<Line<'a>>],
         sizes: Vec<Size>,
         limits: Vec<Option<u64>>,
-    ) -> Inliner<'a>
+    ) -> Inliner<'a, 'b>
+        requires lined { map (λ b. b.items) bodies.now ≡ map gate_body gates.now }
         requires sized { sizes.items ≡ map capped (sizes_of (map gate_view gates.now)) }
         requires limits { AreQuiet (meanings (map gate_view gates.now)) limits.items }
         ensures value { result ≡ at_start gates.now }
     {
         Inliner {
             gates,
+            bodies,
             sizes,
             limits,
             memo: Memo::new(alloc),
@@ -106,6 +113,7 @@ impl<'a> Inliner<'a> {
     {
         let Inliner {
             gates: _,
+            bodies: _,
             sizes: _,
             limits: _,
             memo: _,
@@ -186,7 +194,7 @@ impl<'a> Inliner<'a> {
         &mut self,
         below: usize,
         call: Call,
-        frames: &mut Vec<Frame<'a>>,
+        frames: &mut Vec<Frame<'a, 'b>>,
     ) -> Result<(), InlineStop>
         requires begun { AreBegun (gates_of self.old) self.old.list (call_answer (gates_of self.old) below call) frames.old.items }
         ensures ok { OnOk result (IsUnderway self.old frames.old.items (call_answer (gates_of self.old) below call) self.new frames.new.items) }
@@ -201,7 +209,7 @@ impl<'a> Inliner<'a> {
             self.write_again(start, end)?;
             return Ok(());
         }
-        let Entered { op, body } = enter(self.gates, below, call, self.written())?;
+        let Entered { op, body } = enter(self.gates, self.bodies, below, call, self.written())?;
         self.push_op(op)?;
         push_body(frames, body)?;
         Ok(())
@@ -211,8 +219,8 @@ impl<'a> Inliner<'a> {
     fn advance(
         &mut self,
         alloc: Global,
-        frame: Frame<'a>,
-        frames: &mut Vec<Frame<'a>>,
+        frame: Frame<'a, 'b>,
+        frames: &mut Vec<Frame<'a, 'b>>,
     ) -> Result<(), InlineStop>
         requires begun { AreBegun (gates_of self.old) self.old.list (Ok []) (frames.old.items ++ frame ∷ []) }
         ensures ok { OnOk result (IsUnderway self.old frames.old.items (frame_answer (gates_of self.old) frame.entry) self.new frames.new.items) }
@@ -227,7 +235,7 @@ impl<'a> Inliner<'a> {
             angles,
             wires,
         } = frame;
-        let Some((item, rest)) = split(rest) else {
+        let Some((line, rest)) = split(rest) else {
             let end = self.written();
             self.keep(
                 alloc,
@@ -241,7 +249,7 @@ impl<'a> Inliner<'a> {
             )?;
             return Ok(());
         };
-        let call = call_of(alloc, item, &angles, &wires)?;
+        let call = call_of(alloc, line, &angles, &wires)?;
         frames.push(Frame {
             own,
             start,
@@ -352,7 +360,7 @@ impl<'a> Inliner<'a> {
                 gate,
                 angles,
                 operands,
-            } => match values(alloc, &[], angles) {
+            } => match values(alloc, &[], angles, &[]) {
                 Ok(angles) => self.write_broadcast(alloc, *gate, &angles, operands.as_slice()),
                 Err(stop) => Err(stop),
             },

@@ -5,7 +5,8 @@
 //! says why there are none: with which statement there is too much, before anything is written out; else which is the first
 //! with an angle that isn't exact. Bodies are kept in a list on the heap, so a long chain of gates needs no deep stack. Each
 //! operation is such as `gate_expand::expand` asks for. Time is linear in the operations and items, and in the expressions of
-//! the angles of each. A gate that was applied to the same values of its parameters before, and to the same wires if it has an
+//! the angles of each; a long one that is linear in the parameters is worked out once, and then costs its parameters
+//! (`linear_forms`). A gate that was applied to the same values of its parameters before, and to the same wires if it has an
 //! operation, is copied and not worked out again; so many calls are remembered as 32 MiB of values have. A statement need not be
 //! on the same wires for that, if it names at most eight and wire 0 keeps its place. A gate that has no operation, and whose
 //! body asks only for sums of whole numbers, pi and parameters, is passed over where its angles are whole and so small that

@@ -7,6 +7,7 @@ ghost use Rattle.gate_library.specs.Operands.{times, wire_at as wire_there};
 ghost use Rattle.qasm_check.specs.StepViews.{step as step_view};
 ghost use Rattle.gate_library.specs.Views.{gate as gate_view};
 ghost use Rattle.gate_inline.specs.Inlined.{IsInlineFault, IsInlined, IsUnwritten, operations as operations_of, refusal_of as refusal_there, stopped_at, unwritten_fault};
+ghost use Rattle.linear_forms.specs.Lines.{gate_body};
 ghost use Rattle.gate_inline.specs.Placed.{IsPlaced};
 ghost use Rattle.gate_inline.specs.Progress.{at_start, gates_of};
 ghost use Rattle.gate_inline.specs.Sizes.{is_too_much, total};
@@ -18,6 +19,7 @@ use crate::refusal::{InlineFault, InlineRefusal, InlineRefused};
 use crate::size::{sizes, too_much};
 use crate::stop::{AngleRefusal, InlineStop};
 use gate_expand::{OpList, Ops, ReadList};
+use linear_forms::{Line, bodies_of};
 use qasm_check::{BoundGate, Operand, Step};
 use std::alloc::{AllocError, Global};
 use unitary_model::Op;
@@ -96,9 +98,9 @@ pub fn at_statement(stop: InlineStop, statement: u32) -> Unwritten
 }
 
 /// The operations of all steps.
-fn operations<'a>(
+fn operations<'a, 'b>(
     alloc: Global,
-    mut inliner: Inliner<'a>,
+    mut inliner: Inliner<'a, 'b>,
     steps: &[Step],
 ) -> Result<Vec<Op>, Unwritten>
     requires steps_limit { length steps.now < 2 ^ 32 }
@@ -142,12 +144,14 @@ pub fn unwritten_fault(unwritten: Unwritten) -> InlineFault
 }
 
 /// What writes the steps, where they aren't too much; else the first step with which there is too much.
-pub fn fitting_inliner<'a>(
+pub fn fitting_inliner<'a, 'b>(
     alloc: Global,
     gates: &'a [BoundGate],
+    bodies: &'b [Vec<Line<'a>>],
     steps: &[Step],
-) -> Result<Inliner<'a>, InlineFault>
+) -> Result<Inliner<'a, 'b>, InlineFault>
     requires steps_limit { length steps.now < 2 ^ 32 }
+    requires lined { map (λ b. b.items) bodies.now ≡ map gate_body gates.now }
     ensures start { IfOk result (λ s. s ≡ at_start gates.now) }
     ensures small { IfOk result (λ _. is_too_much (total (map gate_view gates.now) (map step_view steps.now)) ≡ false) }
     ensures err { IfErr result (λ f. (wires bits : ℕ) → IsInlineFault (record { gates = map gate_view gates.now; steps = map step_view steps.now; wires = wires; bits = bits; registers = [] }) f) }
@@ -156,7 +160,7 @@ pub fn fitting_inliner<'a>(
     match too_much(&sizes, steps) {
         None => {
             let limits = limits(alloc, gates)?;
-            Ok(Inliner::new(alloc, gates, sizes, limits))
+            Ok(Inliner::new(alloc, gates, bodies, sizes, limits))
         }
         Some(index) => Err(InlineFault::Refused(InlineRefused {
             refusal: InlineRefusal::TooManyOps,
@@ -178,7 +182,8 @@ pub fn written_out(
     ensures ok { IfOk result (IsInlined (record { gates = map gate_view gates.now; steps = map step_view steps.now; wires = wires; bits = bits; registers = [] })) }
     ensures err { IfErr result (IsInlineFault (record { gates = map gate_view gates.now; steps = map step_view steps.now; wires = wires; bits = bits; registers = [] })) }
 {
-    let inliner = fitting_inliner(alloc, gates, steps)?;
+    let bodies = bodies_of(alloc, gates)?;
+    let inliner = fitting_inliner(alloc, gates, &bodies, steps)?;
     let list = match operations(alloc, inliner, steps) {
         Ok(list) => list,
         Err(unwritten) => return Err(unwritten_fault(unwritten)),

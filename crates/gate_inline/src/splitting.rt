@@ -14,14 +14,15 @@ use crate::parts::{Parts, end_all, end_part, no_marks};
 use crate::program::{Unwritten, at_statement, fitting_inliner, number, reads, unwritten_fault};
 use crate::refusal::InlineFault;
 use crate::split::Split;
+use linear_forms::bodies_of;
 use qasm_check::{BoundGate, Step};
 use std::alloc::Global;
 
 /// The operations of all steps, cut at the barriers. Calls that are remembered are copied from the operations so far, so these
 /// are one list, from which each part is copied where it ends.
-fn split_operations<'a>(
+fn split_operations<'a, 'b>(
     alloc: Global,
-    mut inliner: Inliner<'a>,
+    mut inliner: Inliner<'a, 'b>,
     steps: &[Step],
     marks: &mut [bool],
 ) -> Result<Parts, Unwritten>
@@ -63,7 +64,8 @@ pub fn split_out(
     ensures ok { IfOk result (IsSplit (record { gates = map gate_view gates.now; steps = map step_view steps.now; wires = wires; bits = bits; registers = [] })) }
     ensures err { IfErr result (IsInlineFault (record { gates = map gate_view gates.now; steps = map step_view steps.now; wires = wires; bits = bits; registers = [] })) }
 {
-    let inliner = fitting_inliner(alloc, gates, steps)?;
+    let bodies = bodies_of(alloc, gates)?;
+    let inliner = fitting_inliner(alloc, gates, &bodies, steps)?;
     let mut marks = no_marks(alloc, wires)?;
     let parts = match split_operations(alloc, inliner, steps, &mut marks) {
         Ok(parts) => parts,

@@ -1,84 +1,35 @@
 //! The values of angles.
 
-ghost use Rattle.std.specs.Prelude.{◌≡◌, ◌<◌, Ok, IfOk, IfErr, map, slice_get, unwrap_or};
+ghost use Rattle.std.specs.Prelude.{◌≡◌, ◌<◌, Ok, IfOk, IfErr, map};
 ghost use Rattle.gate_library.specs.Views.{formula as formula_view};
+ghost use Rattle.linear_forms.specs.Lines.{AreForms};
+ghost use Rattle.linear_forms.specs.Values.{values as values_of};
 ghost use Rattle.gate_inline.specs.Meanings.{eighth as eighth_of, unvalued};
 ghost use Rattle.gate_inline.specs.Stops.{IsStop};
-ghost use Rattle.gate_inline.specs.Values.{no_angle, operation as operation_of, value as value_of, values as values_of};
 
 use crate::stop::{AngleRefusal, InlineStop};
-use angle_fraction::{Angle, AngleFault, Frac, add, div, eighths, mul, neg, pow, sub};
+use angle_fraction::{Angle, eighths};
+use linear_forms::{Form, first_form, value_by};
 use qasm_check::Formula;
-use qasm_parser::Binary;
 use std::alloc::Global;
 
-/// The value of the parameter at a place; a bound expression has no other places.
-fn param(params: &[Angle], place: usize) -> Angle
-    ensures { result ≡ unwrap_or (slice_get params.now place) no_angle }
-{
-    match params.get(place) {
-        Some(angle) => *angle,
-        None => Angle {
-            plain: Frac::nought(),
-            pis: Frac::nought(),
-        },
-    }
-}
-
-fn operation(sign: Binary, left: &Angle, right: &Angle) -> Result<Angle, AngleFault>
-    ensures { result ≡ operation_of sign left.now right.now }
-{
-    match sign {
-        Binary::Add => add(left, right),
-        Binary::Sub => sub(left, right),
-        Binary::Mul => mul(left, right),
-        Binary::Div => div(left, right),
-        Binary::Pow => pow(left, right),
-    }
-}
-
-/// The value of an expression under values of the parameters, or its first fault. An expression is at most 64 deep.
-pub fn value(params: &[Angle], formula: &Formula) -> Result<Angle, AngleFault>
-    ensures value { result ≡ value_of params.now (formula_view formula.now) }
-{
-    match formula {
-        Formula::Number(number) => Ok(Angle {
-            plain: *number,
-            pis: Frac::nought(),
-        }),
-        Formula::Pi => Ok(Angle {
-            plain: Frac::nought(),
-            pis: Frac::unit(),
-        }),
-        Formula::Param(place) => Ok(param(params, *place)),
-        Formula::Neg(part) => {
-            let part = value(params, part)?;
-            neg(&part)
-        }
-        Formula::Call { function: _, arg } => {
-            let _arg = value(params, arg)?;
-            Err(AngleFault::Form)
-        }
-        Formula::Binary { sign, sides } => {
-            let left = value(params, &sides.left)?;
-            let right = value(params, &sides.right)?;
-            operation(*sign, &left, &right)
-        }
-    }
-}
-
-/// The values of expressions, from left to right.
+/// The values of expressions, from left to right; the first ones may have forms.
 pub fn values(
     alloc: Global,
     params: &[Angle],
     formulas: &[Formula],
+    forms: &[Option<Form>],
 ) -> Result<Vec<Angle>, InlineStop>
+    requires forms { AreForms forms.now (map formula_view formulas.now) }
     ensures ok { IfOk result (λ v. unvalued (values_of params.now (map formula_view formulas.now)) ≡ Ok v.items) }
     ensures err { IfErr result (IsStop (unvalued (values_of params.now (map formula_view formulas.now)))) }
 {
     let mut list = Vec::with_capacity(alloc, formulas.len())?;
+    let mut left = forms;
     'formulas: for formula in formulas {
-        let angle = value(params, formula)?;
+        let (form, others) = first_form(left);
+        left = others;
+        let angle = value_by(params, formula, form)?;
         list.push(angle)?;
     }
     Ok(list)

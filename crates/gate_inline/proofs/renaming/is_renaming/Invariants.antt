@@ -1,5 +1,5 @@
 -- The first wires are these, renamed.
-use Rattle.std.proofs.Common.{◌≡◌, ◌<◌, ℕ, get_or, length, map}
+use Rattle.std.proofs.Common.{◌≡◌, ◌<◌, ℕ, get_or, map}
 use Rattle.gate_library.specs.Operands.{wire_at as wire_there}
 use Rattle.gate_inline.specs.Renaming.{renamed}
 use Rattle.gate_inline.proofs.renaming.is_renaming.Given as goal

@@ -1,4 +1,4 @@
-use Rattle.std.proofs.Common.{◌≡◌, Some, get_or, map, slice_get, sym, ◌∙◌}
+use Rattle.std.proofs.Common.{map, sym}
 use Rattle.gate_library.specs.Operands.{wire_at as wire_there}
 use Rattle.gate_inline.proofs.RenamingLaws.{get-map, inside, renamed-found, renamed-next}
 use Rattle.gate_inline.proofs.renaming.renamed.Goals as goal

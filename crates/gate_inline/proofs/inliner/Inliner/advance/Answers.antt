@@ -39,9 +39,9 @@ returns-in_err-call-clause-err c =
     let gs = gates_of c.args.self.now in
     let f = c.args.frame in
     let ms = meanings (take f.own gs) in
-    let answer = λ (angles : List Angle) (wires : List ℕ). item_answer ms angles wires (item_view c.in-Some.item.now) in
+    let answer = λ (angles : List Angle) (wires : List ℕ). item_answer ms angles wires (item_view c.in-Some.line.now) in
     rw (r.1, r.2) (stop_of_first (answer f.angles.items f.wires.items) (joined (map (item_answer ms f.angles.items f.wires.items) (map item_view c.in-Some.rest.now)))
-    (frame_answer gs f) c.in_err-call.field-0.0 (frame_answer-cons gs f c.in-Some.item.now c.in-Some.rest.now c.in-Some.ensures.found)
+    (frame_answer gs f) c.in_err-call.field-0.0 (frame_answer-cons gs f c.in-Some.line.now c.in-Some.rest.now c.in-Some.ensures.found)
     (subst (λ (angles : List Angle). IsStop (answer angles f.wires.items) c.in_err-call.field-0.0) c.deref.ensures.value
     (subst (λ (wires : List ℕ). IsStop (answer c.deref.result.now wires) c.in_err-call.field-0.0) c.deref-2.ensures.value (c.in_err-call.ensures.err ms))))
 
@@ -53,8 +53,8 @@ returns-in_default-call-clause-ok c =
     let f = c.args.frame in
     let g : Frame = record { own = f.own; start = f.start; rest = c.in-Some.rest; angles = f.angles; wires = f.wires } in
     let ms = meanings (take f.own gs) in
-    let answer = λ (angles : List Angle) (wires : List ℕ). item_answer ms angles wires (item_view c.in-Some.item.now) in
-    let line = frame_answer-cons gs f c.in-Some.item.now c.in-Some.rest.now c.in-Some.ensures.found in
+    let answer = λ (angles : List Angle) (wires : List ℕ). item_answer ms angles wires (item_view c.in-Some.line.now) in
+    let line = frame_answer-cons gs f c.in-Some.line.now c.in-Some.rest.now c.in-Some.ensures.found in
     let none = (λ i. answer (sym c.deref.ensures.value i) (sym c.deref-2.ensures.value i)) ∙ c.in_ok-call.ensures.ok ms ∙ ap (asked_answer ms) c.in_default-call.is in
     record {
       gates = refl;
@@ -72,7 +72,7 @@ returns-in_default-call-clause-room c =
     let ss = sizes (take f.own gs) in
     room_line_none _ _ _ _ (size_all (map (item_size ss) (map item_view c.in-Some.rest.now))).items
     (ap (frames_room gs) c.in_ok-push.ensures.items ∙ frames_room-push gs c.args.frames.now.items g)
-    (frame_room-cons gs f c.in-Some.item.now c.in-Some.rest.now c.in-Some.ensures.found)
+    (frame_room-cons gs f c.in-Some.line.now c.in-Some.rest.now c.in-Some.ensures.found)
     (ap (λ (s : Size). s.items) (c.in_ok-call.ensures.size ss ∙ ap (asked_size ss) c.in_default-call.is))
 
 pub apply-requires : goal.apply-requires
@@ -82,8 +82,8 @@ apply-requires c =
     let f = c.args.frame in
     let g : Frame = record { own = f.own; start = f.start; rest = c.in-Some.rest; angles = f.angles; wires = f.wires } in
     let ms = meanings (take f.own gs) in
-    let answer = λ (angles : List Angle) (wires : List ℕ). item_answer ms angles wires (item_view c.in-Some.item.now) in
-    let line = frame_answer-cons gs f c.in-Some.item.now c.in-Some.rest.now c.in-Some.ensures.found in
+    let answer = λ (angles : List Angle) (wires : List ℕ). item_answer ms angles wires (item_view c.in-Some.line.now) in
+    let line = frame_answer-cons gs f c.in-Some.line.now c.in-Some.rest.now c.in-Some.ensures.found in
     record {
       begun =
           subst (λ (fs : List Frame). AreBegun gs p.list (call_answer gs f.own c.in-Some-call.call) fs) (sym c.in_ok-push.ensures.items)
@@ -98,8 +98,8 @@ returns-clause-ok c =
     let f = c.args.frame in
     let g : Frame = record { own = f.own; start = f.start; rest = c.in-Some.rest; angles = f.angles; wires = f.wires } in
     let ms = meanings (take f.own gs) in
-    let answer = λ (angles : List Angle) (wires : List ℕ). item_answer ms angles wires (item_view c.in-Some.item.now) in
-    let line = frame_answer-cons gs f c.in-Some.item.now c.in-Some.rest.now c.in-Some.ensures.found in
+    let answer = λ (angles : List Angle) (wires : List ℕ). item_answer ms angles wires (item_view c.in-Some.line.now) in
+    let line = frame_answer-cons gs f c.in-Some.line.now c.in-Some.rest.now c.in-Some.ensures.found in
     let done = c.in_ok-apply.ensures.ok in
     record {
       gates = done.gates;
@@ -120,7 +120,7 @@ returns-clause-room c =
     room_line _ _ _ _ (size_at ss c.in-Some-call.call.gate).items rest
     c.in_ok-apply.ensures.room
     (ap (frames_room gs) c.in_ok-push.ensures.items ∙ frames_room-push gs c.args.frames.now.items g)
-    (frame_room-cons gs f c.in-Some.item.now c.in-Some.rest.now c.in-Some.ensures.found
+    (frame_room-cons gs f c.in-Some.line.now c.in-Some.rest.now c.in-Some.ensures.found
     ∙ ap (λ (s : Size). 2 * (s.items + rest) + 1) (c.in_ok-call.ensures.size ss ∙ ap (asked_size ss) c.in-Some-call.is))
 
 pub returns-in_err-apply-clause-err : goal.returns-in_err-apply-clause-err
@@ -129,8 +129,8 @@ returns-in_err-apply-clause-err c =
     let f = c.args.frame in
     let g : Frame = record { own = f.own; start = f.start; rest = c.in-Some.rest; angles = f.angles; wires = f.wires } in
     let ms = meanings (take f.own gs) in
-    let answer = λ (angles : List Angle) (wires : List ℕ). item_answer ms angles wires (item_view c.in-Some.item.now) in
-    let line = frame_answer-cons gs f c.in-Some.item.now c.in-Some.rest.now c.in-Some.ensures.found in
+    let answer = λ (angles : List Angle) (wires : List ℕ). item_answer ms angles wires (item_view c.in-Some.line.now) in
+    let line = frame_answer-cons gs f c.in-Some.line.now c.in-Some.rest.now c.in-Some.ensures.found in
     let r = err_from_is_err_and c.from_residual-in_err-apply.result c.from_residual-in_err-apply.ensures.1 in
     rw (r.1, r.2) (stop_of_first (answer f.angles.items f.wires.items) (frame_answer gs g) (frame_answer gs f) c.in_err-apply.field-0.0 line
     (subst (λ a. IsStop a c.in_err-apply.field-0.0) (sym ((λ i. answer (sym c.deref.ensures.value i) (sym c.deref-2.ensures.value i)) ∙ c.in_ok-call.ensures.ok ms ∙ ap (asked_answer ms) c.in-Some-call.is)) c.in_err-apply.ensures.err))

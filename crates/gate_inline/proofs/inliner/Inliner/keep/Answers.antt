@@ -7,6 +7,7 @@ use Rattle.gate_inline.proofs.inliner.Inliner.keep.Goals as goal
 
 pub invariant_of-self : goal.invariant_of-self
 invariant_of-self c = record {
+  lined = c.self.invariant.lined;
   sized = c.self.invariant.sized;
   quiet = c.self.invariant.quiet;
   kept =

@@ -1,5 +1,5 @@
 -- A part once more.
-use Rattle.std.proofs.Common.{List, sym, subst, ap, ◌∙◌}
+use Rattle.std.proofs.Common.{map, List, sym, subst, ap, ◌∙◌}
 use Rattle.unitary_model.specs.declared.Op.{Op}
 use Rattle.gate_inline.specs.Progress.{IsInliner, Progress, written}
 use Rattle.gate_inline.specs.Remembered.{part}
@@ -8,11 +8,11 @@ use Rattle.gate_inline.proofs.inliner.Inliner.write_again.Goals as goal
 
 pub invariant_of-self : goal.invariant_of-self
 invariant_of-self c =
-    subst (λ (us : List Op). IsInliner c.self.inside.gates.now c.self.inside.sizes.items c.self.inside.limits.items us c.self.inside.memo.places.items)
+    subst (λ (us : List Op). IsInliner c.self.inside.gates.now (map (λ b. b.items) c.self.inside.bodies.now) c.self.inside.sizes.items c.self.inside.limits.items us c.self.inside.memo.places.items)
     (sym c.in_err-extend_from_within.ensures.items) c.self.invariant
 
 pub invariant_of-self-2 : goal.invariant_of-self-2
-invariant_of-self-2 c = IsInliner-more _ _ _ _ _ _ _ c.in_ok-extend_from_within.ensures.items c.self.invariant
+invariant_of-self-2 c = IsInliner-more _ _ _ _ _ _ _ _ c.in_ok-extend_from_within.ensures.items c.self.invariant
 
 pub returns-clause-ok : goal.returns-clause-ok
 returns-clause-ok c =

@@ -1,5 +1,5 @@
 -- A call that is remembered, on other wires.
-use Rattle.std.proofs.Common.{List, map, subst, sym, ◌≡◌, ◌++◌, ◌∙◌, ℕ}
+use Rattle.std.proofs.Common.{List, map, subst, sym, ◌≡◌, ◌++◌, ℕ}
 use Rattle.gate_library.specs.Operands.{wire_at as wire_there}
 use Rattle.gate_library.specs.Views.{gate as gate_view}
 use Rattle.gate_inline.specs.Remembered.{part}

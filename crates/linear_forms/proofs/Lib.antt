@@ -1,0 +1,5 @@
+pub mod IntLaws
+pub mod PartLaws
+pub mod LinearLaws
+pub mod AtLaws
+pub mod FormLaws
