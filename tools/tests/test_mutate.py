@@ -66,10 +66,13 @@ SAYS = {
     "return n + 0;": "./proofs/Evens/next/Answers.antt:3:1: error: `returns`: `c.n` has no field `is`\nfn low::Evens::next: not proved",
 }
 RT = """#!{python}
-import glob, sys
+import glob, os, sys
 text = "".join(open(it).read() for it in ["src/lib.rt", *glob.glob("specs/*")])
 open(sys.argv[sys.argv.index("--stage-times") + 1], "w").write("stage session 2.0 1\\n" + "stage offers 1.25 1\\n" * ("    4\\n" in text))
-open("{log}", "a").write("check\\n")
+begun = open("out/incremental/kept").read() if os.path.exists("out/incremental/kept") else ""
+open("{log}", "a").write("check" + begun + "\\n")
+os.makedirs("out/incremental", exist_ok=True)
+open("out/incremental/kept", "w").write(" after a check")
 if "$" in text:
     sys.exit("error: it can't be read")
 told = [said for sign, said in {says!r}.items() if sign in text]
@@ -262,6 +265,18 @@ class Mutate(ToolTest):
         self.assertEqual(status, 1)
         self.assertEqual(sorted(os.listdir(os.path.join(self.room, "log"))), ["high-1.log", "low-1.log"])
         self.assertTrue(lines[-1].startswith("2 edits, 1 shown, 2 checks, "))
+
+    def test_a_check_begins_with_what_one_before_it_kept(self):
+        self.edit("four", "    2", "    4")
+        self.edit("five", "    2", "    5")
+        self.mutate("--joined", "low")
+        with open(self.checks, encoding="utf-8") as file:
+            self.assertEqual(file.read(), "check\ncheck after a check\n")
+        os.remove(self.checks)
+        self.file("other/crates/low/out/incremental/kept", " elsewhere")
+        self.mutate("--joined", "low", "--out", os.path.join(self.room, "other"))
+        with open(self.checks, encoding="utf-8") as file:
+            self.assertEqual(file.read(), "check elsewhere\ncheck elsewhere\n")
 
     def test_words(self):
         self.edit("four", "    2", "    4")
