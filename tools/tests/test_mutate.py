@@ -70,7 +70,8 @@ import glob, os, sys
 text = "".join(open(it).read() for it in ["src/lib.rt", *glob.glob("specs/*")])
 open(sys.argv[sys.argv.index("--stage-times") + 1], "w").write("stage session 2.0 1\\n" + "stage offers 1.25 1\\n" * ("    4\\n" in text))
 begun = open("out/incremental/kept").read() if os.path.exists("out/incremental/kept") else ""
-open("{log}", "a").write("check" + begun + "\\n")
+only = "".join(" " + it for flag, it in zip(sys.argv, sys.argv[1:]) if flag == "--only")
+open("{log}", "a").write("check" + only + begun + "\\n")
 os.makedirs("out/incremental", exist_ok=True)
 open("out/incremental/kept", "w").write(" after a check")
 if "$" in text:
@@ -193,7 +194,8 @@ class Mutate(ToolTest):
         self.edit("unread", "    LIMIT", "    LIMIT $")
         status, verdicts, _ = self.mutate("--joined", "low")
         self.assertEqual(verdicts, ["four: shown: `even` of `two`", "unread: can't be made: error: it can't be read"])
-        self.assertEqual((status, self.number_of_checks()), (1, 3))
+        # both, each, and the crate with the second
+        self.assertEqual((status, self.number_of_checks()), (1, 4))
 
     def test_edits_that_do_not_fit_the_files(self):
         self.edit("seven", "    7", "    8")
@@ -270,13 +272,30 @@ class Mutate(ToolTest):
         self.edit("four", "    2", "    4")
         self.edit("five", "    2", "    5")
         self.mutate("--joined", "low")
-        with open(self.checks, encoding="utf-8") as file:
-            self.assertEqual(file.read(), "check\ncheck after a check\n")
-        os.remove(self.checks)
+        self.assertEqual(self.told_checks(), "check two\ncheck two after a check\n")
         self.file("other/crates/low/out/incremental/kept", " elsewhere")
         self.mutate("--joined", "low", "--out", os.path.join(self.room, "other"))
+        self.assertEqual(self.told_checks(), "check two elsewhere\ncheck two elsewhere\n")
+
+    def test_the_functions_of_the_edits_alone_are_checked(self):
+        self.edit("four", "    2", "    4")
+        self.edit("two_more", "half + 1", "half + 2")
+        self.file("crates/low/more-edits/one_always.edit", "file: src/lib.rt\nold: /// Three.\nnew: /// Three!\nold: return n;\nnew: return 1;\n")
+        self.mutate("--joined", "low")
+        self.assertEqual(self.told_checks(), "check EvenNext::next Evens::next two\n")
+        # a constant may be relied on anywhere; and what isn't shown so is tried in the whole crate
+        self.edit("limit", "LIMIT: u8 = 3;", "LIMIT: u8 = 4;")
+        self.mutate("--joined", "low")
+        self.mutate("--joined", "low", "four")
+        self.edit("nothing", "    LIMIT", "    3")
+        self.mutate("--joined", "low", "nothing")
+        self.assertEqual(self.told_checks(), "check\ncheck two\ncheck three\ncheck after a check\n")
+
+    def told_checks(self):
         with open(self.checks, encoding="utf-8") as file:
-            self.assertEqual(file.read(), "check elsewhere\ncheck elsewhere\n")
+            told = file.read()
+        os.remove(self.checks)
+        return told
 
     def test_words(self):
         self.edit("four", "    2", "    4")
