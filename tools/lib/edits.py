@@ -65,7 +65,7 @@ class Place:
 
     def is_named(self, path: str) -> bool:
         """Whether a check's output has this name for the function, or for a closure in it."""
-        words = path.split("::")
+        words = path.replace("+", "").split("::")  # a function that calls itself stands for its cycle, as +f
         if self.owner:
             # a method stands under the module of its type, wherever its `impl` is, and one of a trait under both names in one word
             return (self.owner + self.trait, self.name) in zip(words, words[1:])
