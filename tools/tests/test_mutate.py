@@ -63,6 +63,7 @@ SAYS = {
     "sum 3": "./proofs/Sums.antt:7:1: error: `sum-one`: terms differ\n./proofs/Sums.antt:9:5: error: 1 declaration that depends on `sum-one`, which was rejected, was not checked: sums\n"
     "./proofs/two/Answers.antt:3:1: error: 2 declarations that depend on `sums`, which was not admitted, were not checked: small, returns-clause-even (via small)\n"
     "fn low::two: not proved",
+    "    6\n": "./proofs/+two/Answers.antt:3:1: error: `returns-clause-even`: terms differ\nfn low::two: not proved",
     "return n + 0;": "./proofs/Evens/next/Answers.antt:3:1: error: `returns`: `c.n` has no field `is`\nfn low::Evens::next: not proved",
 }
 RT = """#!{python}
@@ -177,6 +178,12 @@ class Mutate(ToolTest):
         self.assertEqual(verdicts, ["three: shown: within, `small`, `even` of `two`", "two_and_nothing: not shown"])
         self.assertEqual((status, self.number_of_checks()), (1, 2))
 
+    def test_a_function_that_calls_itself(self):
+        self.edit("six", "    2", "    6")
+        self.edit("two_more", "half + 1", "half + 2")
+        self.assertEqual(self.mutate("--joined", "low")[:2], (0, ["six: shown: `even` of `two`", "two_more: shown: `twice` of `Even::next`"]))
+        self.assertEqual(self.number_of_checks(), 1)
+
     def test_a_refusal_without_a_goal_shows_nothing(self):
         self.edit("nought", "return n;", "return 0;")
         self.edit("half", "half + 1", "half + 3")
@@ -273,22 +280,29 @@ class Mutate(ToolTest):
         self.edit("five", "    2", "    5")
         self.mutate("--joined", "low")
         self.assertEqual(self.told_checks(), "check two\ncheck two after a check\n")
-        self.file("other/crates/low/out/incremental/kept", " elsewhere")
-        self.mutate("--joined", "low", "--out", os.path.join(self.room, "other"))
-        self.assertEqual(self.told_checks(), "check two elsewhere\ncheck two elsewhere\n")
+        # a later run too, unless it takes what was kept elsewhere, and leaves it as it is
+        kept = self.file("other/crates/low/out/incremental/kept", " elsewhere")
+        for _ in range(2):
+            self.mutate("--joined", "low", "four", "--out", os.path.join(self.room, "other"))
+            self.assertEqual(self.told_checks(), "check two elsewhere\n")
+        with open(kept, encoding="utf-8") as file:
+            self.assertEqual(file.read(), " elsewhere")
+        self.mutate("--joined", "low", "four")
+        self.assertEqual(self.told_checks(), "check two after a check\n")
 
     def test_the_functions_of_the_edits_alone_are_checked(self):
         self.edit("four", "    2", "    4")
         self.edit("two_more", "half + 1", "half + 2")
         self.file("crates/low/more-edits/one_always.edit", "file: src/lib.rt\nold: /// Three.\nnew: /// Three!\nold: return n;\nnew: return 1;\n")
-        self.mutate("--joined", "low")
+        elsewhere = ("--out", os.path.join(self.room, "other"))
+        self.mutate("--joined", "low", *elsewhere)
         self.assertEqual(self.told_checks(), "check EvenNext::next Evens::next two\n")
         # a constant may be relied on anywhere; and what isn't shown so is tried in the whole crate
         self.edit("limit", "LIMIT: u8 = 3;", "LIMIT: u8 = 4;")
-        self.mutate("--joined", "low")
-        self.mutate("--joined", "low", "four")
+        self.mutate("--joined", "low", *elsewhere)
+        self.mutate("--joined", "low", "four", *elsewhere)
         self.edit("nothing", "    LIMIT", "    3")
-        self.mutate("--joined", "low", "nothing")
+        self.mutate("--joined", "low", "nothing", *elsewhere)
         self.assertEqual(self.told_checks(), "check\ncheck two\ncheck three\ncheck after a check\n")
 
     def told_checks(self):
