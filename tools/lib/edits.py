@@ -18,6 +18,8 @@ NAMES = re.compile(r"has no field|is not in scope|is no name|not found in|has no
 HANGING = re.compile(r"\d+ declarations? that depends? on .* not checked: (.*)")
 ERROR = re.compile(r"(?:\./)?(proofs/(\S+)/\w+\.antt|\S+\.(?:antt|rt)):(\d+):\d+: error\S*:? (.*)")
 NOTE = re.compile(r"note: src/(\S+)\.rt:(\d+):\d+: it is not proved that (.*)")
+# lines on which no proof rests: comments, above which an edit may put a function, and imports
+BARE = re.compile(r"\s*(//|use )")
 
 
 class CannotMake(Exception):
@@ -57,9 +59,13 @@ class Place:
     def __str__(self) -> str:
         return f"{self.owner}::{self.name}" if self.owner else self.name
 
+    def path(self) -> str:
+        """The name by which a check can be asked for it: the end of that which its output has."""
+        return f"{self.owner}{self.trait}::{self.name}" if self.owner else f"{self.module}::{self.name}".removeprefix("::")
+
     def is_named(self, path: str) -> bool:
         """Whether a check's output has this name for the function, or for a closure in it."""
-        words = path.split("::")
+        words = path.replace("+", "").split("::")  # a function that calls itself stands for its cycle, as +f
         if self.owner:
             # a method stands under the module of its type, wherever its `impl` is, and one of a trait under both names in one word
             return (self.owner + self.trait, self.name) in zip(words, words[1:])
@@ -145,7 +151,7 @@ def touch(edit: Edit, file: str, text: str, old: str) -> None:
         place, first, last = found
         edit.functions.add(place)
         edit.held |= set(sources.WORD.findall("\n".join(text.split("\n")[first : last + 1])))
-    else:
+    elif not BARE.match(text.split("\n")[line]):
         edit.words |= {it for it in sources.WORD.findall(old) if re.search("[A-Z_]", it)} or {old}
 
 
@@ -348,8 +354,8 @@ def meant(goal: str, clauses: list[str]) -> str:
 
 
 def is_judged(said: str) -> bool:
-    """Whether a check came so far as to judge proofs."""
-    return re.search(r"^logic=", said, re.MULTILINE) is not None
+    """Whether a check of a crate, or of some functions, came so far as to judge proofs."""
+    return re.search(r"^(logic|only)=", said, re.MULTILINE) is not None
 
 
 # The table of docs/CLAIMS.md: for each crate at which commit its edits were tried, and what refuses them.

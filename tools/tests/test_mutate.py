@@ -63,13 +63,18 @@ SAYS = {
     "sum 3": "./proofs/Sums.antt:7:1: error: `sum-one`: terms differ\n./proofs/Sums.antt:9:5: error: 1 declaration that depends on `sum-one`, which was rejected, was not checked: sums\n"
     "./proofs/two/Answers.antt:3:1: error: 2 declarations that depend on `sums`, which was not admitted, were not checked: small, returns-clause-even (via small)\n"
     "fn low::two: not proved",
+    "    6\n": "./proofs/+two/Answers.antt:3:1: error: `returns-clause-even`: terms differ\nfn low::two: not proved",
     "return n + 0;": "./proofs/Evens/next/Answers.antt:3:1: error: `returns`: `c.n` has no field `is`\nfn low::Evens::next: not proved",
 }
 RT = """#!{python}
-import glob, sys
+import glob, os, sys
 text = "".join(open(it).read() for it in ["src/lib.rt", *glob.glob("specs/*")])
 open(sys.argv[sys.argv.index("--stage-times") + 1], "w").write("stage session 2.0 1\\n" + "stage offers 1.25 1\\n" * ("    4\\n" in text))
-open("{log}", "a").write("check\\n")
+begun = open("out/incremental/kept").read() if os.path.exists("out/incremental/kept") else ""
+only = "".join(" " + it for flag, it in zip(sys.argv, sys.argv[1:]) if flag == "--only")
+open("{log}", "a").write("check" + only + begun + "\\n")
+os.makedirs("out/incremental", exist_ok=True)
+open("out/incremental/kept", "w").write(" after a check")
 if "$" in text:
     sys.exit("error: it can't be read")
 told = [said for sign, said in {says!r}.items() if sign in text]
@@ -173,6 +178,12 @@ class Mutate(ToolTest):
         self.assertEqual(verdicts, ["three: shown: within, `small`, `even` of `two`", "two_and_nothing: not shown"])
         self.assertEqual((status, self.number_of_checks()), (1, 2))
 
+    def test_a_function_that_calls_itself(self):
+        self.edit("six", "    2", "    6")
+        self.edit("two_more", "half + 1", "half + 2")
+        self.assertEqual(self.mutate("--joined", "low")[:2], (0, ["six: shown: `even` of `two`", "two_more: shown: `twice` of `Even::next`"]))
+        self.assertEqual(self.number_of_checks(), 1)
+
     def test_a_refusal_without_a_goal_shows_nothing(self):
         self.edit("nought", "return n;", "return 0;")
         self.edit("half", "half + 1", "half + 3")
@@ -190,7 +201,8 @@ class Mutate(ToolTest):
         self.edit("unread", "    LIMIT", "    LIMIT $")
         status, verdicts, _ = self.mutate("--joined", "low")
         self.assertEqual(verdicts, ["four: shown: `even` of `two`", "unread: can't be made: error: it can't be read"])
-        self.assertEqual((status, self.number_of_checks()), (1, 3))
+        # both, each, and the crate with the second
+        self.assertEqual((status, self.number_of_checks()), (1, 4))
 
     def test_edits_that_do_not_fit_the_files(self):
         self.edit("seven", "    7", "    8")
@@ -262,6 +274,42 @@ class Mutate(ToolTest):
         self.assertEqual(status, 1)
         self.assertEqual(sorted(os.listdir(os.path.join(self.room, "log"))), ["high-1.log", "low-1.log"])
         self.assertTrue(lines[-1].startswith("2 edits, 1 shown, 2 checks, "))
+
+    def test_a_check_begins_with_what_one_before_it_kept(self):
+        self.edit("four", "    2", "    4")
+        self.edit("five", "    2", "    5")
+        self.mutate("--joined", "low")
+        self.assertEqual(self.told_checks(), "check two\ncheck two after a check\n")
+        # a later run too, unless it takes what was kept elsewhere, and leaves it as it is
+        kept = self.file("other/crates/low/out/incremental/kept", " elsewhere")
+        for _ in range(2):
+            self.mutate("--joined", "low", "four", "--out", os.path.join(self.room, "other"))
+            self.assertEqual(self.told_checks(), "check two elsewhere\n")
+        with open(kept, encoding="utf-8") as file:
+            self.assertEqual(file.read(), " elsewhere")
+        self.mutate("--joined", "low", "four")
+        self.assertEqual(self.told_checks(), "check two after a check\n")
+
+    def test_the_functions_of_the_edits_alone_are_checked(self):
+        self.edit("four", "    2", "    4")
+        self.edit("two_more", "half + 1", "half + 2")
+        self.file("crates/low/more-edits/one_always.edit", "file: src/lib.rt\nold: /// Three.\nnew: /// Three!\nold: return n;\nnew: return 1;\n")
+        elsewhere = ("--out", os.path.join(self.room, "other"))
+        self.mutate("--joined", "low", *elsewhere)
+        self.assertEqual(self.told_checks(), "check EvenNext::next Evens::next two\n")
+        # a constant may be relied on anywhere; and what isn't shown so is tried in the whole crate
+        self.edit("limit", "LIMIT: u8 = 3;", "LIMIT: u8 = 4;")
+        self.mutate("--joined", "low", *elsewhere)
+        self.mutate("--joined", "low", "four", *elsewhere)
+        self.edit("nothing", "    LIMIT", "    3")
+        self.mutate("--joined", "low", "nothing", *elsewhere)
+        self.assertEqual(self.told_checks(), "check\ncheck two\ncheck three\ncheck after a check\n")
+
+    def told_checks(self):
+        with open(self.checks, encoding="utf-8") as file:
+            told = file.read()
+        os.remove(self.checks)
+        return told
 
     def test_words(self):
         self.edit("four", "    2", "    4")
