@@ -1,11 +1,11 @@
 -- The loop over the gates.
 --     fits_first, none_first, begins    at first nothing is written, and all gates are left
 --     goes_on             one gate more
---     ends, ends_x        at the end no gate is left: the law, and the shape
+--     ends, ends_x        at the end no gate is left: no more of what is counted, and the shape
 --     next_gate           the gates from a place on
 --     length-flags_at     as many flags behind a gate as before it
 --     fits_on, none_more  one flag for each wire, and no X among what is written
-use Rattle.std.proofs.Common.{◌≡◌, ℕ, ◌+◌, ◌-◌, ◌≤◌, Bool, true, false, cond, List, [], ◌∷◌, ◌++◌, length, replicate, drop, refl, sym, subst, ◌∙◌, ap, arith, add-one, append_assoc, append-nil, Some, All}
+use Rattle.std.proofs.Common.{◌≡◌, ℕ, ◌+◌, ◌-◌, ◌≤◌, Bool, true, false, cond, List, [], ◌∷◌, ◌++◌, length, replicate, drop, refl, sym, subst, ◌∙◌, ap, arith, add-one, append_assoc, append-nil, Some}
 use Rattle.std.specs.Prelude.{slice_get}
 use Rattle.std.specs.List.{AllByRecursion}
 use Rattle.std.proofs.Math.ListN.{set}
@@ -17,8 +17,8 @@ use Rattle.circuit_list.specs.declared.Gate.{Gate}
 use Rattle.circuit_list.specs.declared.Gate.TheVariants.{H, X, P, Cx}
 use Rattle.circuit_list.specs.declared.Passed.{Passed}
 use Rattle.circuit_list.specs.Gates.{IsFine}
-use Rattle.rewrite_pass.specs.Law.{IsRewriting}
-use Rattle.rewrite_pass.proofs.RewritingLaws.{Turned, Turned_refl, Turned_step, Turned-IsRewriting}
+use Rattle.rewrite_pass.specs.Derivations.{HasNoMore}
+use Rattle.rewrite_pass.proofs.RewritingLaws.{Turned, Turned_refl, Turned_step}
 use Rattle.not_propagate.specs.declared.walk.Walk.{Walk}
 use Rattle.not_propagate.specs.LastX.{XLast}
 use Rattle.not_propagate.specs.Walks.{flag_of, waiting, turned, gates_at, flags_at, turn_at, is_x, NoX, IsFitting, HasWalked, HasFinished}
@@ -106,12 +106,12 @@ none_more g old new walked none = subst NoX (sym walked.gates)
     (All-from_recursion (λ g. is_x g ≡ false) (gates_at g old.flags.items) (no_x_at g old.flags.items)))
 
 -- ---- the end
-pub ends : (n : ℕ) (gs : List Gate) (i : ℕ) (w : Walk) (p : Passed) → All (IsFine n) gs → length gs ≤ i → w.written.wires ≡ n →
-    Turned n gs (w.written.gates ++ (waiting w.flags.items ++ drop i gs)) w.turn → HasFinished w p → IsRewriting n gs p.body.gates p.turn
-ends n gs i w p fine past wires so_far done =
-    Turned-IsRewriting n gs p.body.gates p.turn fine (subst (λ m. All (IsFine m) p.body.gates) (done.wires ∙ wires) done.fine)
-    (subst (Turned n gs p.body.gates) (sym done.turn)
-    (subst (λ us. Turned n gs us w.turn) (ap (λ us. w.written.gates ++ us) (ap (λ us. waiting w.flags.items ++ us) (drop_all i gs past) ∙ append-nil (waiting w.flags.items)) ∙ sym done.gates) so_far))
+pub ends : (n : ℕ) (gs : List Gate) (i : ℕ) (w : Walk) (p : Passed) → length gs ≤ i →
+    Turned n gs (w.written.gates ++ (waiting w.flags.items ++ drop i gs)) w.turn → HasFinished w p → HasNoMore n gs p.body.gates
+ends n gs i w p past so_far done =
+    let all = ap (λ us. w.written.gates ++ us) (ap (λ us. waiting w.flags.items ++ us) (drop_all i gs past) ∙ append-nil (waiting w.flags.items)) ∙ sym done.gates in
+    let t = subst (λ us. Turned n gs us w.turn) all so_far in
+    record { t_gates = t.t_gates; odd_paths = t.odd_paths; cx_gates = t.cx_gates }
 
 pub ends_x : (w : Walk) (p : Passed) → NoX w.written.gates → HasFinished w p → XLast p.body.gates
 ends_x w p none done = subst XLast (sym done.gates) (last_x w.written.gates w.flags.items none)

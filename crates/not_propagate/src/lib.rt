@@ -11,13 +11,13 @@
 
 mod walk;
 
-ghost use Rattle.std.specs.Prelude.{◌≡◌, IfOk};
+ghost use Rattle.std.specs.Prelude.{◌≡◌, IfOk, true};
 ghost use Rattle.not_propagate.specs.LastX.{XLast};
 ghost use Rattle.rewrite_pass.specs.Law.{IsRewriting};
-ghost use Rattle.rewrite_pass.specs.Traces.{IsSumsStep};
+ghost use Rattle.rewrite_pass.specs.Traces.{AreSteps};
 
 use circuit_list::{Circuit, Passed};
-use rewrite_pass::{Pass, Trace, Traced};
+use rewrite_pass::{Pass, Rewriting, Trace, Traced};
 use std::alloc::{AllocError, Global};
 use walk::Walk;
 
@@ -32,7 +32,8 @@ impl Pass for NotPass {
     ghost kept = { λ _ _ _. Unit {0} };
 
     fn run(&self, alloc: Global, body: Circuit) -> Result<Passed, AllocError> {
-        propagated(alloc, &body)
+        let (passed, _step) = propagated(alloc, body, false)?;
+        Ok(passed)
     }
 }
 
@@ -43,23 +44,26 @@ impl Traced for NotPass {
         body: Circuit,
         trace: &mut Trace,
     ) -> Result<Passed, AllocError> {
-        let passed = propagated(alloc, &body)?;
-        trace.push_sums(&body, &passed.body)?;
+        let (passed, mut step) = propagated(alloc, body, true)?;
+        trace.append(&mut step)?;
         Ok(passed)
     }
 }
 
-/// What [`NotPass`] gives. It has the path sum of the circuit, so one step leads there.
-fn propagated(alloc: Global, body: &Circuit) -> Result<Passed, AllocError>
-    ensures wires { IfOk result (λ p. p.body.wires ≡ body.now.wires) }
-    ensures law { IfOk result (λ p. IsRewriting body.now.wires body.now.gates p.body.gates p.turn) }
-    ensures shape { IfOk result (λ p. XLast p.body.gates) }
-    ensures sums { IfOk result (λ p. IsSumsStep body.now.wires p.body.gates body.now.gates p.body.gates p.turn) }
+/// What [`NotPass`] gives, and the step that led to it, if it is told: the result has the path sum of the circuit.
+fn propagated(alloc: Global, body: Circuit, told: bool) -> Result<(Passed, Trace), AllocError>
+    ensures wires { IfOk result (λ r. r.0.body.wires ≡ body.wires) }
+    ensures law { IfOk result (λ r. IsRewriting body.wires body.gates r.0.body.gates r.0.turn) }
+    ensures shape { IfOk result (λ r. XLast r.0.body.gates) }
+    ensures steps { IfOk result (λ r. told ≡ true → AreSteps body.wires body.gates r.1 r.0.body.gates r.0.turn) }
 {
     body.facts();
     let mut walk = Walk::start(alloc, body.wires(), body.len())?;
     'gates: for i in 0..body.len() {
         walk.step(body.gate(i))?;
     }
-    walk.finish()
+    let passed = walk.finish()?;
+    let mut circuit = Rewriting::new(alloc, body, told);
+    circuit.replace(passed.body, passed.turn)?;
+    Ok(circuit.finish())
 }
