@@ -346,7 +346,7 @@ def told_of_file(path: str, refusal: Refusal) -> Refused:
 
 def meant(goal: str, clauses: list[str]) -> str:
     """What a goal stands for: a clause by its label, the only clause of a function or of its trait, or what the function needs within."""
-    if match := re.search(r"-clause-(\w+)", goal):
+    if match := re.match(r"returns\b.*-clause-(\w+)", goal):
         return f"`{match.group(1)}`"
     if re.match(r"returns\b", goal):
         return f"`{clauses[0]}`" if len(clauses) == 1 and clauses[0] else "the clause" if clauses in ([""], []) else f"`{goal}`"

@@ -64,6 +64,7 @@ SAYS = {
     "./proofs/two/Answers.antt:3:1: error: 2 declarations that depend on `sums`, which was not admitted, were not checked: small, returns-clause-even (via small)\n"
     "fn low::two: not proved",
     "    6\n": "./proofs/+two/Answers.antt:3:1: error: `returns-clause-even`: terms differ\nfn low::two: not proved",
+    "    7\n": "fn low::two: no proof: expected answers in ./proofs/two/Answers.antt; `search` did not prove `three-requires-clause-even`",
     "return n + 0;": "./proofs/Evens/next/Answers.antt:3:1: error: `returns`: `c.n` has no field `is`\nfn low::Evens::next: not proved",
 }
 RT = """#!{python}
@@ -177,6 +178,10 @@ class Mutate(ToolTest):
         status, verdicts, _ = self.mutate("--joined", "low")
         self.assertEqual(verdicts, ["three: shown: within, `small`, `even` of `two`", "two_and_nothing: not shown"])
         self.assertEqual((status, self.number_of_checks()), (1, 2))
+
+    def test_what_a_callee_requires_is_no_clause_of_the_function(self):
+        self.edit("seven", "    2", "    7")
+        self.assertEqual(self.mutate("--joined", "low")[1], ["seven: shown: within, `three-requires-clause-even` of `two`"])
 
     def test_a_function_that_calls_itself(self):
         self.edit("six", "    2", "    6")
