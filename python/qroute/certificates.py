@@ -1,0 +1,732 @@
+"""Traces for what other compilers wrote: why one program is another, found from the two texts alone.
+
+The target is read back onto the source's wires: swaps that a router put in, CNOTs that it reversed, and swaps that it left out
+are told from gates of the source by the path sum, in which each H has a set of variables before it. What differs then is
+brought together by rewriting both sides. `verify` judges what comes out: nothing here has to be believed.
+"""
+
+from __future__ import annotations
+
+import collections.abc
+import dataclasses
+import typing
+
+import qroute
+
+from . import qasm, rewriting
+from .rewriting import Gate, PathSum, Rewriting, Variables, on_wires, path_sum, shown, wires_of
+
+MOST_AHEAD = 16  # gates of the source on one wire among which a gate of the target is looked for
+MOST_READINGS = 6  # of the target, each with the swaps that the one before it found left out
+LAST = 2  # level of rewriting: 0 is none, 1 are windows, pairs and phases, 2 is CZ besides
+Pair: typing.TypeAlias = tuple[int, int]
+
+
+class Uncertified(qroute.QrouteError):
+    """No trace was found.
+
+    `which` text has the gate, `source` or `target`; `line` and `column`, from 1, are those of its statement, and `operation` counts
+    the gates of that text written out as H, X, P and CNOT, from 1. `wire` is the source's by its name. Each is None if it isn't
+    known. `tried` has what was tried, in words.
+    """
+
+    def __init__(self, says: str, which: str | None = None, wire: str | None = None) -> None:
+        self.says = says
+        self.which = which
+        self.wire = wire
+        self.operation: int | None = None
+        self.line: int | None = None
+        self.column: int | None = None
+        self.tried: list[str] = []
+        super().__init__(says)
+
+    def __str__(self) -> str:
+        where = [self.which] if self.which else []
+        if self.line is not None:
+            where += [f"line {self.line}", f"column {self.column}", f"gate {self.operation}"]
+        return f"{', '.join(where)}{': ' if where else ''}{self.says}" + (f"; tried: {', '.join(self.tried)}" if self.tried else "")
+
+
+@dataclasses.dataclass
+class Side:
+    """One of the two programs: its gates, for each the offset of its statement, and the turn that they are of its operations."""
+
+    which: str
+    text: str
+    wires: list[str]
+    gates: list[Gate]
+    offsets: list[int]
+    turn: int
+
+    def fault(self, says: str, place: int | None, wire: str | None = None) -> Uncertified:
+        """That something fails at the gate at a place."""
+        found = Uncertified(says, self.which, wire)
+        if place is not None and place < len(self.offsets):
+            found.operation = place + 1
+            found.line, found.column = qroute.position(self.text.encode("latin-1"), self.offsets[place])
+        return found
+
+
+def gates_of(operation: tuple[typing.Any, ...]) -> tuple[list[Gate], int]:
+    """The gates of an operation, and the turn that they are of it."""
+    if operation[0] == "CX":
+        return [("C", *operation[1:])], 0
+    a, b, c, wire = operation[1:]
+    # each number but H and X is a phase
+    rows: dict[int, tuple[list[typing.Any], int]] = {0: ([b + c], 0), 2: ([c + 4, "H", b], 0), 4: ([c + 4, "X", b], 0), 6: ([c, "H", b + 4], 2)}
+    row, turn = rows.get(a, ([c + 6, "H", a, "H", b + 2], 2))
+    gates: list[Gate] = [(it, wire) if isinstance(it, str) else ("P", it % 8, wire) for it in row]
+    return [it for it in gates if it[:2] != ("P", 0)], turn
+
+
+def side(which: str, data: bytes) -> Side:
+    """A program written out; `Unreadable` if it can't be read."""
+    text = qasm.text_of(data)
+    try:
+        program = qasm.read(text)
+        if program.has_gates_behind_measurements():
+            raise ValueError("a gate is on a qubit that was measured before")
+        found = Side(which, text, program.wires, [], [], 0)
+        known: dict[typing.Any, tuple[list[Gate], int]] = {}
+        for step in program.steps:
+            if step.kind != "gate":
+                continue
+            key = (id(step.gate), *step.angles)
+            if key not in known:
+                parts = [gates_of(it) for it in qasm.written(step.gate, step.angles, range(len(step.wires)))]
+                known[key] = [gate for gates, _ in parts for gate in gates], sum(turn for _, turn in parts)
+            gates, turn = known[key]
+            found.gates += [on_wires(it, step.wires) for it in gates]
+            found.offsets += [step.offset] * len(gates)
+            found.turn += turn
+    except qasm.Fault as fault:
+        raise qroute.Unreadable(f"the {which}: {fault}", text, fault.offset) from None
+    except (ValueError, RecursionError) as fault:
+        raise qroute.Unreadable(f"the {which}: {fault}", text, 0) from None
+    return found
+
+
+@dataclasses.dataclass
+class Event:
+    """What a part of the target is: `emit` or `back` of a gate on the source's wires, `swap` or `turn` of two qubits, or `elide` of two wires.
+
+    `place` is that of its first gate in the target.
+    """
+
+    kind: str
+    gate: Gate
+    place: int
+
+    def gates(self) -> list[Gate]:
+        """The gates that it takes of the list."""
+        if self.kind == "elide":
+            a, b = self.gate
+            return [("C", a, b), ("C", b, a), ("C", a, b)]
+        return [self.gate] if self.kind in ("emit", "back") else []
+
+
+class Queues:
+    """The gates of a list wire by wire, of which some were found again."""
+
+    def __init__(self, size: int, gates: list[Gate]) -> None:
+        self.gates = gates
+        self.is_found = bytearray(len(gates))
+        self.on: list[list[int]] = [[] for _ in range(size)]
+        for place, gate in enumerate(gates):
+            for wire in wires_of(gate):
+                self.on[wire].append(place)
+        self.at = [0] * size
+
+    def front(self, wire: int, count: int) -> list[int]:
+        """The places of the next gates on a wire, so many if there are."""
+        on, at = self.on[wire], self.at[wire]
+        while at < len(on) and self.is_found[on[at]]:
+            at += 1
+        self.at[wire] = at
+        found: list[int] = []
+        while at < len(on) and len(found) < count:
+            if not self.is_found[on[at]]:
+                found.append(on[at])
+            at += 1
+        return found
+
+    def find(self, gate: Gate) -> int | None:
+        """The place of the same gate, ahead on its wires past what it commutes with."""
+        places = []
+        for wire in wires_of(gate):
+            for place in self.front(wire, MOST_AHEAD):
+                if self.gates[place] == gate:
+                    places.append(place)
+                    break
+                if not rewriting.commute(self.gates[place], gate):
+                    return None
+        return places[0] if places and len(places) == len(wires_of(gate)) and len(set(places)) == 1 else None
+
+    def begins(self, gates: list[Gate]) -> bool:
+        """Whether these are the next gates on their wires."""
+        for wire in {wire for it in gates for wire in wires_of(it)}:
+            wanted = [it for it in gates if wire in wires_of(it)]
+            if [self.gates[it] for it in self.front(wire, len(wanted))] != wanted:
+                return False
+        return True
+
+    def swap(self, wire: int) -> list[int] | None:
+        """The places of three CNOTs on a wire that are a swap, if they are the next gates on both of its wires."""
+        ahead = self.front(wire, 3)
+        if len(ahead) < 3 or self.gates[ahead[0]][0] != "C":
+            return None
+        a, b = self.gates[ahead[0]][1:]
+        same = self.front(a, 3) == self.front(b, 3) and [self.gates[it] for it in ahead] == triple(a, b)
+        return ahead if same else None
+
+    def pass_by(self, gate: Gate) -> bool:
+        """Marks the same gate as found, if there is one."""
+        place = self.find(gate)
+        if place is not None:
+            self.is_found[place] = 1
+        return place is not None
+
+
+def triple(u: int, v: int) -> list[Gate]:
+    return [("C", u, v), ("C", v, u), ("C", u, v)]
+
+
+def reversed_cnot(control: int, target: int) -> list[Gate]:
+    """A CNOT by one the other way round, in the order of `back`."""
+    around: list[Gate] = [("H", control), ("H", target)]
+    return [*around, ("C", target, control), *around]
+
+
+def neighbours(size: int, gates: list[Gate]) -> list[int | None]:
+    """For each CNOT the gate that is next on both of its wires, if one is."""
+    found: list[int | None] = [None] * len(gates)
+    near: list[int | None] = [None] * size
+    for place in range(len(gates) - 1, -1, -1):
+        wires = wires_of(gates[place])
+        if len(wires) == 2 and near[wires[0]] == near[wires[1]]:
+            found[place] = near[wires[0]]
+        for it in wires:
+            near[it] = place
+    return found
+
+
+class Reading:
+    """The target read back onto the source's wires, from a placement on."""
+
+    def __init__(self, source: Side, target: Side, initial: list[int], edges: set[Pair] | None, is_each_reversed: bool) -> None:
+        self.source, self.target = source, target
+        self.wires = len(source.wires)
+        self.edges = edges
+        self.is_each_reversed = is_each_reversed
+        self.queues = Queues(self.wires, source.gates)
+        self.events: list[Event] = []
+        self.initial = initial
+        self.names = [0] * len(initial)  # the wire on each qubit; from `wires` on they are spare
+        for wire, qubit in enumerate(initial):
+            self.names[qubit] = wire
+        self.missed = 0  # gates that the source hasn't at their places
+        self.after = neighbours(len(initial), target.gates)
+        self.of_swaps: set[int] = set()  # CNOTs of swaps that stand apart
+        self.ends: set[int] = set()  # the last ones of these
+        place = 0
+        while place < len(target.gates):
+            place += self.read(place)
+
+    def read(self, place: int) -> int:
+        """Reads what stands at a place of the target; the number of its gates."""
+        gates = self.target.gates
+        gate = gates[place]
+        if gate[0] == "C":
+            u, v = gate[1:]
+            for kind, whole in (("swap", triple(u, v)), ("turn", [("C", u, v), *reversed_cnot(v, u), ("C", u, v)])):
+                if gates[place : place + len(whole)] == whole and not self.is_own(whole):
+                    self.events.append(Event(kind, (u, v), place))
+                    self.names[u], self.names[v] = self.names[v], self.names[u]
+                    return len(whole)
+            self.look_for_swap(place)
+        if gate[0] == "H" and self.is_back(place):
+            _, u, v = gates[place + 2]
+            self.emit("back", ("C", self.names[v], self.names[u]), place)
+            return 5
+        if max(self.names[it] for it in wires_of(gate)) >= self.wires:
+            raise self.target.fault(f"{shown(gate)} is on a spare qubit, and belongs to no swap that stands in one piece", place)
+        self.emit("emit", on_wires(gate, self.names), place)
+        if place in self.ends:
+            self.elide(tuple(self.names[it] for it in gate[1:]), place)
+        return 1
+
+    def look_for_swap(self, place: int) -> None:
+        """Notes the three CNOTs of a swap that begins here and stands apart: they are gates of the list, which an elided swap follows."""
+        if place in self.of_swaps:
+            return
+        gates, found = self.target.gates, [place]
+        for _ in range(2):
+            there = self.after[found[-1]]
+            _, u, v = gates[found[-1]]
+            if there is None or gates[there] != ("C", v, u):
+                return
+            found.append(there)
+        if not self.is_own([gates[it] for it in found]) and max(self.names[it] for it in gates[place][1:]) < self.wires:
+            self.of_swaps.update(found)
+            self.ends.add(found[-1])
+
+    def is_own(self, gates: list[Gate]) -> bool:
+        """Whether the source has these gates of the target, there."""
+        if any(self.names[wire] >= self.wires for it in gates for wire in wires_of(it)):
+            return False
+        return self.queues.begins([on_wires(it, self.names) for it in gates])
+
+    def is_back(self, place: int) -> bool:
+        """Whether a reversed CNOT begins here that the source has the right way round."""
+        gates = self.target.gates[place : place + 5]
+        if len(gates) < 5 or gates[2][0] != "C" or gates != reversed_cnot(gates[2][2], gates[2][1]):
+            return False
+        _, u, v = gates[2]
+        if max(self.names[u], self.names[v]) >= self.wires or self.edges is not None and (v, u) in self.edges:
+            return False
+        return self.is_each_reversed or self.queues.find(("C", self.names[v], self.names[u])) is not None
+
+    def emit(self, kind: str, gate: Gate, place: int) -> None:
+        if place not in self.of_swaps and not self.queues.pass_by(gate):
+            if gate_there := self.elided(gate, place):
+                gate = gate_there
+            else:
+                self.missed += 1
+        self.events.append(Event(kind, gate, place))
+
+    def elided(self, gate: Gate, place: int) -> Gate | None:
+        """The gate on the wires where the source has it, if that takes swaps of the source that are left out; they are."""
+        queues = self.queues
+        found: list[list[int]] = []
+        names = list(range(self.wires))
+        begun = queues.at[:]
+        for _ in range(MOST_AHEAD):
+            ahead = next((it for it in map(queues.swap, wires_of(on_wires(gate, names))) if it), None)
+            if ahead is None:
+                break
+            for it in ahead:
+                queues.is_found[it] = 1
+            found.append(ahead)
+            _, a, b = queues.gates[ahead[0]]
+            names = [b if it == a else a if it == b else it for it in names]
+            if queues.pass_by(on_wires(gate, names)):
+                for there in found:
+                    self.elide(queues.gates[there[0]][1:], place)
+                return on_wires(gate, names)
+        for it in (each for ahead in found for each in ahead):
+            queues.is_found[it] = 0
+        queues.at = begun
+        return None
+
+    def elide(self, wires: Gate, place: int) -> None:
+        a, b = wires
+        self.events.append(Event("elide", wires, place))
+        self.names = [b if it == a else a if it == b else it for it in self.names]
+
+
+@dataclasses.dataclass
+class Mismatch:
+    """Where two path sums differ: at a place of the read gates, or if that is None, of the source's; and in what."""
+
+    place: int | None
+    of_source: int | None
+    wire: int
+    says: str
+
+
+class Matching:
+    """Gates compared with a path sum, each H by the set before it. If it stands on another wire there, `swaps` has that the two
+    wires are exchanged from a place on.
+    """
+
+    def __init__(self, wanted: PathSum, size: int, variables: Variables) -> None:
+        self.wanted, self.size, self.variables = wanted, size, variables
+        self.swaps: list[tuple[int, int, int]] = []
+        self.names = list(range(size))  # the wire there of each wire here
+        self.at = list(range(size))
+        self.labels = [variables.of(wire, 0) for wire in range(size)]
+        self.bits = [0] * size
+        self.seen = [0] * size
+        self.ahead = {sets[0]: wire for wire, sets in enumerate(wanted.before) if sets}
+        self.totals: dict[int, int] = {}
+        self.of_set: dict[int, tuple[int, int]] = {}
+
+    def exchange(self, one: int, other: int, begins: int) -> None:
+        """Exchanges two wires, by their names there."""
+        self.swaps.append((begins, one, other))
+        x, y = self.at[one], self.at[other]
+        self.names[x], self.names[y] = other, one
+        self.at[one], self.at[other] = y, x
+
+    def put(self, wire: int, k: int, begins: int) -> None:
+        on = self.labels[wire]
+        self.totals[on] = self.totals.get(on, 0) + k
+        self.of_set.setdefault(on, (begins, self.names[wire]))
+
+    def hadamard(self, wire: int, begins: int) -> Mismatch | None:
+        name, on = self.names[wire], self.labels[wire]
+        sets = self.wanted.before[name]
+        if self.seen[name] == len(sets) or sets[self.seen[name]] != on:
+            other = self.ahead.get(on)
+            if other is None:
+                return Mismatch(begins, None, name, "the source has no H on this sum of path variables")
+            self.exchange(name, other, begins)
+            name, sets = other, self.wanted.before[other]
+        self.seen[name] += 1
+        self.ahead.pop(on, None)
+        if self.seen[name] < len(sets):
+            self.ahead[sets[self.seen[name]]] = name
+        self.labels[wire] = self.variables.of(name, self.seen[name])
+        if self.bits[wire]:
+            self.put(wire, 4, begins)
+        self.bits[wire] = 0
+        return None
+
+    def walk(self, gates: list[Gate], since: list[int]) -> Mismatch | None:
+        """Compares gates, which begin at such places; the first mismatch."""
+        labels, bits = self.labels, self.bits
+        for gate, begins in zip(gates, since):
+            wire = gate[-1]
+            if gate[0] == "C":
+                labels[wire] ^= labels[gate[1]]
+                bits[wire] ^= bits[gate[1]]
+            elif gate[0] == "X":
+                bits[wire] ^= 1
+            elif gate[0] == "P":
+                self.put(wire, -gate[1] if bits[wire] else gate[1], begins)
+            elif mismatch := self.hadamard(wire, begins):
+                return mismatch
+        return self.at_end() or self.of_phases()
+
+    def at_end(self) -> Mismatch | None:
+        for name, sets in enumerate(self.wanted.before):
+            if self.seen[name] < len(sets):
+                return Mismatch(None, self.wanted.hadamards[name][self.seen[name]], name, "the target has no such H")
+        ends = {on: wire for wire, on in enumerate(self.labels)}
+        for name, (on, bit) in enumerate(self.wanted.last):
+            if on not in ends or self.bits[ends[on]] != bit:
+                return Mismatch(None, None, name, "no qubit of the target ends with what this wire ends with")
+        for name, (on, _) in enumerate(self.wanted.last):
+            if self.names[ends[on]] != name:
+                self.exchange(self.names[ends[on]], name, -1)
+        return None
+
+    def of_phases(self) -> Mismatch | None:
+        for on, k in self.wanted.totals.items():
+            if self.totals.get(on, 0) % 8 != k:
+                place, wire = self.of_set.get(on, (None, 0))
+                says = f"phases on one parity come to {self.totals.get(on, 0) % 8} pi/4 in the target, and in the source to {k} pi/4"
+                return Mismatch(place, None if place is not None else self.wanted.of_set[on], wire, says)
+        for on, k in self.totals.items():
+            if k % 8 and on not in self.wanted.totals:
+                place, wire = self.of_set[on]
+                return Mismatch(place, None, wire, f"phases on one parity come to {k % 8} pi/4, and in the source to none")
+        return None
+
+
+def with_swaps(events: list[Event], swaps: list[tuple[int, int, int]]) -> list[Event]:
+    """The events with swaps that are left out, each before the event of a gate, -1 being the end; later gates are on the wires exchanged."""
+    of_gate = [number for number, it in enumerate(events) for _ in it.gates()]
+    placed: list[tuple[int, int, int]] = []
+    for begins, one, other in swaps:
+        number = len(events) if begins < 0 else of_gate[begins]
+        number = max([number, *(it for it, *pair in placed if {one, other} & set(pair))])
+        placed.append((number, one, other))
+    placed.sort(key=lambda it: it[0], reverse=True)
+    names = list(range(256))
+    found = []
+    for number, it in enumerate([*events, Event("", (), events[-1].place if events else 0)]):
+        while placed and placed[-1][0] == number:
+            _, one, other = placed.pop()
+            found.append(Event("elide", (one, other), it.place))
+            names = [other if name == one else one if name == other else name for name in names]
+        if it.kind in ("emit", "back"):
+            found.append(dataclasses.replace(it, gate=on_wires(it.gate, names)))
+        elif it.kind == "elide":
+            found.append(dataclasses.replace(it, gate=tuple(names[wire] for wire in it.gate)))
+        elif it.kind:
+            found.append(it)
+    return found
+
+
+class Failure(Exception):
+    """A reading that doesn't fit, and how far of the target it got."""
+
+    def __init__(self, fault: Uncertified, reach: int) -> None:
+        super().__init__(str(fault))
+        self.fault = fault
+        self.reach = reach
+
+
+class Certificate:
+    """The trace of a target, once the source and one reading of it are brought together at a level of rewriting."""
+
+    def __init__(self, source: Side, target: Side, settled: Rewriting, level: int, reading: Reading) -> None:
+        self.source, self.target, self.settled = source, target, settled
+        self.initial, self.events = reading.initial, reading.events
+        size = len(source.wires)
+        variables = Variables(size)
+        wanted = path_sum(size, settled.listed(), variables)
+        for _ in range(MOST_READINGS):
+            self.gates = [gate for it in self.events for gate in it.gates()]
+            self.read = settle(size, self.gates, level)
+            matching = Matching(wanted, size, variables)
+            mismatch = matching.walk(self.read.listed(), self.read.since_listed())
+            if not matching.swaps:
+                break
+            self.events = with_swaps(self.events, matching.swaps)
+        else:
+            mismatch = mismatch or Mismatch(None, None, 0, "swaps that are left out can't be placed")
+        if mismatch is not None:
+            raise self.failure(mismatch)
+        self.turn = path_sum(size, self.read.listed(), variables).constant - wanted.constant
+
+    def failure(self, mismatch: Mismatch) -> Failure:
+        wire = self.source.wires[mismatch.wire] if self.source.wires else None
+        if mismatch.place is not None:
+            of_gate = [it.place for it in self.events for _ in it.gates()]
+            place = of_gate[mismatch.place]
+            return Failure(self.target.fault(mismatch.says, place, wire), place)
+        place_there = None if mismatch.of_source is None else self.settled.since_listed()[mismatch.of_source]
+        return Failure(self.source.fault(mismatch.says, place_there, wire), len(self.target.gates))
+
+    def lines(self) -> list[str]:
+        """The lines of the trace."""
+        order = self.order()
+        steps = self.steps() if order is None else []
+        places = rewriting.Places(len(self.gates)) if order else None
+        found = []
+        turn = self.source.turn + self.settled.turn + self.turn - self.read.turn - self.target.turn
+        at = 0
+        for it in self.events:
+            count = len(it.gates())
+            first = places.of(order[at]) if places and order and count else 0
+            for taken in range(at, at + count):
+                if places and order:
+                    places.take(order[taken])
+            at += count
+            turn += 4 * (it.kind in ("back", "turn"))
+            found.append(f"{it.kind} {first}" if count else f"{it.kind} {it.gate[0]} {it.gate[1]}")
+        edition = 2 if any(it.startswith(("goal", "elide")) for it in (*steps, *found)) else 1
+        return [f"TRACE {edition}", *steps, " ".join(["place", *map(str, self.initial)]), *found, f"end {turn % 8}"]
+
+    def steps(self) -> list[str]:
+        """The lines above `place`: from the source to its settled form, from there to that of the target, and on to the target's gates."""
+        wanted, read = self.settled.listed(), self.read.listed()
+        between = [] if wanted == read else rewriting.sums_lines(read)
+        return [*self.settled.in_order(), *between, *self.read.in_reverse()]
+
+    def order(self) -> list[int] | None:
+        """The place in the source of each gate that is read, if both lists are the same wire by wire, and nothing was rewritten."""
+        if self.settled.in_order() or self.read.in_order() or len(self.gates) != len(self.source.gates):
+            return None
+        queues = Queues(len(self.source.wires), self.source.gates)
+        found = []
+        for gate in self.gates:
+            places = {place for wire in wires_of(gate) for place in queues.front(wire, 1)}
+            place = places.pop() if len(places) == 1 else None
+            if place is None or self.source.gates[place] != gate:
+                return None
+            queues.is_found[place] = 1
+            found.append(place)
+        return found
+
+
+def settle(size: int, gates: list[Gate], level: int) -> Rewriting:
+    """The gates, settled at a level of rewriting."""
+    found = Rewriting(size, gates)
+    if level == 1:
+        found.settle()
+    if level > 1:
+        found.settle_further()
+    return found
+
+
+def guessed(source: Side, target: Side) -> list[int]:
+    """Where the wires begin, by the first CNOTs: those of the target, told by the qubit where each of its wires begins, in turn.
+
+    If one of the two wires is known, the source's next CNOT on it tells the other. If none is, it is the first CNOT of the source
+    with the same gates before it.
+    """
+    tokens = token_gates(target)
+    there, firsts = of_pairs(len(source.wires), source.gates)
+    here, _ = of_pairs(len(target.wires), tokens)
+    free = [place for place in firsts if source.gates[place][0] == "C"]
+    wire_of: dict[int, int] = {}
+    qubit_of: dict[int, int] = {}
+    before: list[list[Gate]] = [[] for _ in target.wires]
+
+    def join(qubit: int, wire: int) -> None:
+        if qubit not in wire_of and wire not in qubit_of:
+            wire_of[qubit], qubit_of[wire] = wire, qubit
+
+    at = [0] * len(source.wires)
+    for gate in tokens:
+        if gate[0] != "C":
+            before[gate[-1]].append(gate[:-1])
+            continue
+        u, v = gate[1:]
+        if u not in wire_of and v not in wire_of:
+            for exact in (True, False):
+                for place in free:
+                    c, t = source.gates[place][1:]
+                    if c in qubit_of or t in qubit_of:
+                        continue
+                    if not exact or (there[c][0][1], there[t][0][1]) == (before[u], before[v]):
+                        join(u, c)
+                        join(v, t)
+                        break
+        for qubit, other in ((u, v), (v, u)):
+            wire = wire_of.get(qubit)
+            if wire is not None and at[wire] < len(there[wire]):
+                place, _ = there[wire][at[wire]]
+                c, t = source.gates[place][1:]
+                join(other, t if c == wire else c)
+        wires = wire_of.get(u), wire_of.get(v)
+        if None not in wires:
+            for wire in typing.cast(Pair, wires):
+                if at[wire] < len(there[wire]) and set(source.gates[there[wire][at[wire]][0]][1:]) == set(wires):
+                    at[wire] += 1
+    singles = of_singles(source, [wire for wire in range(len(source.wires)) if wire not in qubit_of])
+    for qubit in range(len(target.wires)):
+        if qubit not in wire_of and before[qubit] and singles.get(tuple(before[qubit])):
+            join(qubit, singles[tuple(before[qubit])].pop(0))
+    left = [qubit for qubit in range(len(target.wires)) if qubit not in wire_of]
+    return [qubit_of[wire] if wire in qubit_of else left.pop(0) for wire in range(len(source.wires))]
+
+
+def of_singles(source: Side, wires: list[int]) -> dict[tuple[Gate, ...], list[int]]:
+    """Wires by their gates, in order."""
+    gates: dict[int, list[Gate]] = {wire: [] for wire in wires}
+    for gate in source.gates:
+        if gate[-1] in gates:
+            gates[gate[-1]].append(gate[:-1])
+    found: dict[tuple[Gate, ...], list[int]] = {}
+    for wire, its in gates.items():
+        found.setdefault(tuple(its), []).append(wire)
+    return found
+
+
+def token_gates(target: Side) -> list[Gate]:
+    """The target's gates without swaps that stand in one piece, and reversed CNOTs as one gate; a wire is told by the qubit where it begins."""
+    names = list(range(len(target.wires)))
+    found: list[Gate] = []
+    place = 0
+    while place < len(target.gates):
+        gate = target.gates[place]
+        ahead = target.gates[place : place + 7]
+        count = 1
+        if gate[0] == "C":
+            u, v = gate[1:]
+            swaps = (triple(u, v), [("C", u, v), *reversed_cnot(v, u), ("C", u, v)])
+            count = next((len(it) for it in swaps if ahead[: len(it)] == it), 1)
+            if count > 1:
+                names[u], names[v] = names[v], names[u]
+        elif gate[0] == "H" and len(ahead) > 4 and ahead[2][0] == "C" and ahead[:5] == reversed_cnot(ahead[2][2], ahead[2][1]):
+            gate, count = ("C", ahead[2][2], ahead[2][1]), 5
+        if count != 3 and count != 7:
+            found.append(on_wires(gate, names))
+        place += count
+    return found
+
+
+def of_pairs(size: int, gates: list[Gate]) -> tuple[list[list[tuple[int, list[Gate]]]], list[int]]:
+    """For each wire its CNOTs, each with what stands before it on that wire since the last one; and the CNOTs that are first on both wires."""
+    found: list[list[tuple[int, list[Gate]]]] = [[] for _ in range(size)]
+    before: list[list[Gate]] = [[] for _ in range(size)]
+    firsts = []
+    for place, gate in enumerate(gates):
+        if gate[0] != "C":
+            before[gate[-1]].append(gate[:-1])
+            continue
+        if not found[gate[1]] and not found[gate[2]]:
+            firsts.append(place)
+        for wire in gate[1:]:
+            found[wire].append((place, before[wire]))
+            before[wire] = []
+    return found, firsts
+
+
+def placements(source: Side, target: Side, initial: collections.abc.Iterable[int] | None) -> dict[str, list[int]]:
+    """Where the wires may begin, in words and as a qubit for each of the target's wires."""
+    size, qubits = len(source.wires), len(target.wires)
+    if size > qubits:
+        raise Uncertified(f"{size} wires of the source don't fit on the target's {qubits} qubits", "target")
+    if initial is not None:
+        given = list(initial)
+        if len(given) != size or len(set(given)) != size or not set(given) <= set(range(qubits)):
+            raise ValueError(f"where wires begin is {size} different qubits below {qubits}, one for each wire of the source")
+        firsts = {"the given qubits": given}
+    else:
+        firsts = {"wire i on qubit i": list(range(size)), "wires by the first CNOTs": guessed(source, target)}
+    found: dict[str, list[int]] = {}
+    for name, on in firsts.items():
+        whole = [*on, *sorted(set(range(qubits)) - set(on))]
+        if whole not in found.values():
+            found[name] = whole
+    return found
+
+
+def readings(source: Side, target: Side, begins: dict[str, list[int]], edges: set[Pair] | None) -> tuple[list[Reading], list[Failure]]:
+    """The target read from each placement, those with the fewest gates that the source hasn't first; and what can't be read."""
+    found: list[Reading] = []
+    failures = []
+    for on in begins.values():
+        for is_each_reversed in (False, True):
+            try:
+                reading = Reading(source, target, on, edges, is_each_reversed)
+            except Uncertified as fault:
+                failures.append(Failure(fault, (fault.operation or 1) - 1))
+                continue
+            if not any((it.initial, it.events) == (on, reading.events) for it in found):
+                found.append(reading)
+    return sorted(found, key=lambda it: it.missed), failures
+
+
+def certify(
+    source: str | bytes,
+    target: str | bytes,
+    initial: collections.abc.Iterable[int] | None = None,
+    device: qroute.Device | None = None,
+) -> str:
+    """The target's text with a trace by which `verify` can tell that it is the source, whoever made it; a trace that it has is left out.
+
+    `initial` has the qubit on which each of the source's wires begins; without it wire i is tried on qubit i, and then what the first
+    CNOTs of both programs tell. With a device H, H, CNOT, H, H is taken for a reversed CNOT only where its edge isn't there.
+
+    It may fail and raises `Uncertified` then, though the target may be right. What it gives needn't be believed: `verify` judges it.
+
+    >>> source = 'OPENQASM 2.0; include "qelib1.inc"; qreg q[2]; cz q[0],q[1];'
+    >>> found = certify(source, source.replace("q[0],q[1]", "q[1],q[0]"))
+    >>> bool(qroute.verify(source, found))
+    True
+    """
+    data = qroute.as_bytes(target)
+    one, other = side("source", qroute.as_bytes(source)), side("target", data)
+    begins = placements(one, other, initial)
+    edges = None if device is None else {(it[0], it[1]) for it in device.edges()}
+    found, failures = readings(one, other, begins, edges)
+    for level in range(LAST + 1):
+        settled = settle(len(one.wires), one.gates, level)
+        for reading in found if level == 0 else found[:2]:
+            try:
+                lines = Certificate(one, other, settled, level, reading).lines()
+            except Failure as failure:
+                failures.append(failure)
+                continue
+            return with_trace(data, lines)
+    fault = max(failures, key=lambda it: it.reach).fault
+    fault.tried = [f"{name} ({','.join(map(str, on[: len(one.wires)]))})" for name, on in begins.items()]
+    raise fault
+
+
+def with_trace(data: bytes, lines: list[str]) -> str:
+    """A text and, after its last line, a trace in place of its own."""
+    text = data.decode("utf-8", "surrogateescape")
+    kept = [it for it in text.split("\n") if not it.startswith("//!")]
+    if kept[-1] == "":
+        kept.pop()
+    whole = "".join(f"{it}\n" for it in (*kept, *(f"//!{it}" for it in lines)))
+    if len(whole) > qroute.MOST_BYTES_OF_TARGET:
+        raise Uncertified(f"the target with its trace is longer than {qroute.MOST_BYTES_OF_TARGET:,} bytes", "target")
+    return whole

@@ -1,0 +1,485 @@
+"""Lists of gates that are rewritten by lines of traces, and path sums told apart by drawn numbers.
+
+Gates are `("H", q)`, `("X", q)`, `("P", k, q)` and `("C", control, target)`. docs/REWRITING.md defines the lines and their turns,
+and `verify` judges what comes out: nothing here has to be believed.
+"""
+
+from __future__ import annotations
+
+import collections
+import collections.abc
+import dataclasses
+import random
+import typing
+
+Gate: typing.TypeAlias = tuple[typing.Any, ...]
+Edit: typing.TypeAlias = tuple[int, Gate | None]
+
+MOST_STEPS = 200  # gates that are passed in search of a partner
+MOST_ROUNDS = 12
+NEAR = 6  # gates before a change, on each of its wires, at which is looked again
+TURN_OF_PAIR = {"H": 6, "X": 4, "C": 0, "P": 0}
+BITS = 96  # of a drawn number
+
+
+def wires_of(gate: Gate) -> Gate:
+    return gate[1:] if gate[0] == "C" else gate[-1:]
+
+
+def shown(gate: Gate) -> str:
+    """A gate as a line of a trace spells it."""
+    return " ".join(map(str, gate))
+
+
+def on_wires(gate: Gate, names: collections.abc.Sequence[int]) -> Gate:
+    """The gate on the wires that stand at the places of its own."""
+    wires = wires_of(gate)
+    return (*gate[: len(gate) - len(wires)], *(names[it] for it in wires))
+
+
+def commute(one: Gate, other: Gate) -> bool:
+    """Whether two gates commute, by the table of pairs."""
+    kinds = one[0] + other[0]
+    if kinds in ("PP", "XX"):
+        return True
+    if kinds == "CC":
+        return bool(one[1] != other[2] and one[2] != other[1])
+    if kinds == "CP" or kinds == "PC":
+        cx, phase = (one, other) if one[0] == "C" else (other, one)
+        return bool(phase[-1] != cx[2])
+    if kinds == "CX" or kinds == "XC":
+        cx, flip = (one, other) if one[0] == "C" else (other, one)
+        return bool(flip[-1] != cx[1])
+    return set(wires_of(one)).isdisjoint(wires_of(other))
+
+
+class Places:
+    """Numbers from 0 on of which some go, and how many of those that are left stand before each."""
+
+    def __init__(self, size: int) -> None:
+        self.tree = [i & -i for i in range(size + 1)]
+
+    def of(self, number: int) -> int:
+        place = 0
+        while number:
+            place += self.tree[number]
+            number &= number - 1
+        return place
+
+    def take(self, number: int) -> None:
+        number += 1
+        while number < len(self.tree):
+            self.tree[number] -= 1
+            number += number & -number
+
+
+class Variables:
+    """A drawn number for each variable of path sums, by its wire and its count of H: sums of them tell sets apart."""
+
+    def __init__(self, size: int) -> None:
+        self.dice = random.Random(size)
+        self.drawn: list[list[int]] = [[] for _ in range(size)]
+
+    def of(self, wire: int, count: int) -> int:
+        while len(self.drawn[wire]) <= count:
+            self.drawn[wire].append(self.dice.getrandbits(BITS))
+        return self.drawn[wire][count]
+
+
+@dataclasses.dataclass
+class PathSum:
+    """What gates do along their paths: for each wire the set before each H, and the last label with its bit; for each set what
+    stands on it; and a constant. `of_set` has the first gate of each set, `hadamards` the place of each H.
+    """
+
+    before: list[list[int]]
+    last: list[tuple[int, int]]
+    totals: dict[int, int]
+    constant: int
+    of_set: dict[int, int]
+    hadamards: list[list[int]]
+
+
+def path_sum(size: int, gates: collections.abc.Sequence[Gate], variables: Variables) -> PathSum:
+    labels = [variables.of(wire, 0) for wire in range(size)]
+    bits = [0] * size
+    found = PathSum([[] for _ in range(size)], [], {}, 0, {}, [[] for _ in range(size)])
+    totals = found.totals
+    for place, gate in enumerate(gates):
+        wire = gate[-1]
+        if gate[0] == "C":
+            labels[wire] ^= labels[gate[1]]
+            bits[wire] ^= bits[gate[1]]
+        elif gate[0] == "P":
+            totals[labels[wire]] = totals.get(labels[wire], 0) + (-gate[1] if bits[wire] else gate[1])
+            found.constant += gate[1] if bits[wire] else 0
+            found.of_set.setdefault(labels[wire], place)
+        elif gate[0] == "X":
+            bits[wire] ^= 1
+            found.constant += 2
+        else:
+            found.before[wire].append(labels[wire])
+            found.hadamards[wire].append(place)
+            labels[wire] = variables.of(wire, len(found.before[wire]))
+            if bits[wire]:
+                totals[labels[wire]] = totals.get(labels[wire], 0) + 4
+                found.of_set.setdefault(labels[wire], place)
+            bits[wire] = 0
+    found.totals = {it: k % 8 for it, k in totals.items() if k % 8}
+    found.last = list(zip(labels, bits))
+    return found
+
+
+@dataclasses.dataclass
+class Stretch:
+    """Lines, and the gates that they begin with. If they are backwards, they lead from the later list to the earlier one."""
+
+    gates: list[Gate]
+    lines: list[str]
+    is_backwards: bool
+
+    def told(self, is_goal: bool) -> list[str]:
+        """The lines, as those of a goal or as they are."""
+        return [f"goal {len(self.gates)}", *map(shown, self.gates), *self.lines, "meet"] if is_goal else self.lines
+
+
+class Rewriting:
+    """A list of gates, the lines that led to it from the first one, and their turn.
+
+    A gate has a slot, which stays its own; `since` has the place in the first list at which it begins.
+    """
+
+    def __init__(self, size: int, gates: collections.abc.Sequence[Gate]) -> None:
+        self.size = size
+        self.turn = 0
+        self.stretches: list[Stretch] = []
+        self.load(list(gates), list(range(len(gates))))
+        self.begin(False)
+
+    def begin(self, is_backwards: bool) -> None:
+        """What follows is another stretch, from the gates that stand now."""
+        self.stretches.append(Stretch(self.listed(), [], is_backwards))
+        self.lines = self.stretches[-1].lines
+
+    def load(self, gates: list[Gate], since: list[int]) -> None:
+        self.gates: list[Gate | None] = list(gates)
+        self.since = since
+        self.places = Places(len(gates))
+        self.before: dict[tuple[int, int], int] = {}
+        self.after: dict[tuple[int, int], int] = {}
+        last: dict[int, int] = {}
+        for slot, gate in enumerate(gates):
+            for wire in wires_of(gate):
+                if wire in last:
+                    self.before[slot, wire] = last[wire]
+                    self.after[last[wire], wire] = slot
+                last[wire] = slot
+
+    def listed(self) -> list[Gate]:
+        return [it for it in self.gates if it is not None]
+
+    def since_listed(self) -> list[int]:
+        return [since for since, it in zip(self.since, self.gates) if it is not None]
+
+    def take(self, slot: int) -> None:
+        gate, self.gates[slot] = self.gates[slot], None
+        self.places.take(slot)
+        for wire in wires_of(typing.cast(Gate, gate)):
+            before, after = self.before.pop((slot, wire), None), self.after.pop((slot, wire), None)
+            if before is not None:
+                self.after.pop((before, wire))
+            if after is not None:
+                self.before.pop((after, wire))
+            if before is not None and after is not None:
+                self.after[before, wire], self.before[after, wire] = after, before
+
+    def gate_after(self, slot: int, wire: int) -> tuple[int, Gate]:
+        """The next gate on a wire, and its slot; an empty one if there is none."""
+        after = self.after.get((slot, wire))
+        return (-1, ()) if after is None else (after, typing.cast(Gate, self.gates[after]))
+
+    # windows and pairs
+
+    def window(self, slot: int) -> tuple[int, int, list[Edit], int] | None:
+        """The rule of the window that begins with this H, the slot where it begins, its edits and its turn."""
+        gate = self.gates[slot]
+        if gate is None or gate[0] != "H":
+            return None
+        wire = gate[1]
+        second, middle = self.gate_after(slot, wire)
+        if not middle or middle[0] == "H":
+            return None
+        if middle[0] == "C":
+            return self.surrounded(second)
+        third, last = self.gate_after(second, wire)
+        if last == gate:
+            return self.turned(slot, second, middle, third)
+        if not last or middle[0] != "P" or middle[1] not in (2, 6) or last[0] != "C" or last[2] != wire:
+            return None
+        k = middle[1]
+        fourth, behind = self.gate_after(third, wire)
+        if behind != ("P", 8 - k, wire):
+            return None
+        fifth, end = self.gate_after(fourth, wire)
+        if end != gate:
+            return None
+        return 6 if k == 2 else 7, slot, [(slot, None), (second, ("P", 8 - k, wire)), (fourth, ("P", k, wire)), (fifth, None)], 6
+
+    def turned(self, first: int, second: int, middle: Gate, third: int) -> tuple[int, int, list[Edit], int] | None:
+        wire = middle[-1]
+        if middle[0] == "X":
+            return 4, first, [(first, None), (second, ("P", 4, wire)), (third, None)], 4
+        if middle[1] == 4:
+            return 3, first, [(first, None), (second, ("X", wire)), (third, None)], 0
+        if middle[1] in (2, 6):
+            phase = ("P", 8 - middle[1], wire)
+            return 1 if middle[1] == 2 else 2, first, [(first, phase), (second, ("H", wire)), (third, phase)], 6 if middle[1] == 2 else 0
+        return None
+
+    def surrounded(self, slot: int) -> tuple[int, int, list[Edit], int] | None:
+        """The same of a CNOT with four H around it."""
+        _, control, target = typing.cast(Gate, self.gates[slot])
+        around = [it.get((slot, wire), -1) for it in (self.before, self.after) for wire in (control, target)]
+        if min(around) < 0 or any(self.gates[it] != ("H", wire) for it, wire in zip(around, (control, target) * 2)):
+            return None
+        return 5, min(around), [(slot, ("C", target, control)), *((it, None) for it in around)], 4
+
+    def partner(self, slot: int) -> int | None:
+        """The slot of the gate that cancels or merges with this one past those between."""
+        gate = typing.cast(Gate, self.gates[slot])
+        wires = wires_of(gate)
+        near = [self.after.get((slot, wire)) for wire in wires]
+        for _ in range(MOST_STEPS):
+            left = [it for it in near if it is not None]
+            if not left:
+                return None
+            first = min(left)
+            other = typing.cast(Gate, self.gates[first])
+            if gate[0] == other[0] and wires == wires_of(other):
+                return first
+            if not commute(gate, other):
+                return None
+            near = [self.after.get((first, wire)) if it == first else it for wire, it in zip(wires, near)]
+        return None
+
+    def pair(self, slot: int) -> tuple[str, list[Edit], int] | None:
+        """The line for a gate and its partner, its edits and its turn."""
+        gate, other = typing.cast(Gate, self.gates[slot]), self.partner(slot)
+        if other is None:
+            return None
+        at = f"{self.places.of(slot)} {self.places.of(other)}"
+        k = (gate[1] + typing.cast(Gate, self.gates[other])[1]) % 8 if gate[0] == "P" else 0
+        if k:
+            return f"join {at}", [(slot, ("P", k, gate[-1])), (other, None)], 0
+        return f"both {at}", [(slot, None), (other, None)], TURN_OF_PAIR[gate[0]]
+
+    def step(self, slot: int) -> list[int]:
+        """Does what can be done with the gate of a slot; the slots at which is looked again."""
+        if self.gates[slot] is None:
+            return []
+        found = self.window(slot)
+        if found is not None:
+            rule, first, edits, turn = found
+            self.lines.append(f"rule {rule} {self.places.of(first)}")
+        else:
+            pair = self.pair(slot)
+            if pair is None:
+                return []
+            line, edits, turn = pair
+            self.lines.append(line)
+        self.turn += turn
+        return self.edit(edits)
+
+    def edit(self, edits: list[Edit]) -> list[int]:
+        """Makes some edits; the slots near them."""
+        near = set()
+        begins = min(self.since[it] for it, _ in edits)
+        for slot, gate in edits:
+            for wire in wires_of(typing.cast(Gate, self.gates[slot])):
+                at: int | None = slot
+                for _ in range(NEAR):
+                    if at is None:
+                        break
+                    near.add(at)
+                    at = self.before.get((at, wire))
+            if gate is not None:
+                self.gates[slot] = gate
+                self.since[slot] = min(self.since[slot], begins)
+        for slot, gate in edits:
+            if gate is None:
+                self.take(slot)
+        return sorted(near)
+
+    def sweep(self) -> None:
+        """Rewrites windows and pairs until none is found."""
+        for _ in range(MOST_ROUNDS):
+            before = len(self.lines)
+            waiting = collections.deque(range(len(self.gates)))
+            is_waiting = bytearray(b"\1" * len(self.gates))
+            while waiting:
+                slot = waiting.popleft()
+                is_waiting[slot] = 0
+                for it in self.step(slot):
+                    if not is_waiting[it]:
+                        is_waiting[it] = 1
+                        waiting.appendleft(it)
+            if len(self.lines) == before:
+                return
+
+    def in_order(self) -> list[str]:
+        """The lines from the first list to this one."""
+        return [line for it in self.stretches for line in it.told(it.is_backwards)]
+
+    def in_reverse(self) -> list[str]:
+        """The lines from this list to the first one."""
+        return [line for it in reversed(self.stretches) if it.lines for line in it.told(not it.is_backwards)]
+
+    # all gates at once
+
+    def fold(self, is_early: bool = False) -> bool:
+        """X go to the ends of their wires, and what stands on one set to the first phase on it; whether that changed anything.
+
+        If it is early, all that stands on a set goes to where the set first comes up.
+        """
+        old, since = self.listed(), self.since_listed()
+        variables = Variables(self.size)
+        labels = [variables.of(wire, 0) for wire in range(self.size)]
+        seen = [0] * self.size
+        flips = [0] * self.size
+        of_x = [0] * self.size
+        new: list[tuple[Gate, int]] = []
+        totals: dict[int, int] = {}
+        at: dict[int, int] = {}
+        constant = 0
+
+        def put(wire: int, k: int, begins: int) -> None:
+            on = labels[wire]
+            if on not in at:
+                at[on] = len(new)
+                new.append((("P", 0, wire), begins))
+            totals[on] = (totals.get(on, 0) + k) % 8
+
+        for wire in range(self.size if is_early else 0):
+            put(wire, 0, 0)
+        for gate, begins in zip(old, since):
+            wire = gate[-1]
+            if gate[0] == "P":
+                put(wire, -gate[1] if flips[wire] else gate[1], begins)
+                constant += gate[1] if flips[wire] else 0
+            elif gate[0] == "X":
+                flips[wire] ^= 1
+                of_x[wire] = begins
+                constant += 2
+            elif gate[0] == "C":
+                labels[wire] ^= labels[gate[1]]
+                flips[wire] ^= flips[gate[1]]
+                of_x[wire] = max(of_x[wire], of_x[gate[1]])
+                new.append((gate, begins))
+                if is_early:
+                    put(wire, 0, begins)
+            else:
+                new.append((gate, begins))
+                seen[wire] += 1
+                labels[wire] = variables.of(wire, seen[wire])
+                if flips[wire] or is_early:
+                    put(wire, 4 * flips[wire], begins)
+                flips[wire] = 0
+        for on, place in at.items():
+            new[place] = (("P", totals[on], new[place][0][2]), new[place][1])
+        new = [it for it in new if it[0][:2] != ("P", 0)]
+        new += [(("X", wire), of_x[wire]) for wire in range(self.size) if flips[wire]]
+        listed = [it for it, _ in new]
+        if listed == old:
+            return False
+        self.lines += sums_lines(listed)
+        self.turn += 2 * sum(flips) - constant
+        self.load(listed, [it for _, it in new])
+        return True
+
+    def settle(self, is_early: bool = False) -> None:
+        """Windows, pairs, X and phases until nothing changes."""
+        for _ in range(MOST_ROUNDS):
+            self.sweep()
+            if not self.fold(is_early):
+                return
+
+    def settle_further(self) -> None:
+        """The same, and each CZ has its H on the greater wire; phases pass it on both of its wires."""
+        self.settle()
+        for _ in range(MOST_ROUNDS // 2):
+            before = self.listed()
+            for is_greater in (False, True):
+                self.orient(is_greater)
+                self.settle(True)
+            if self.listed() == before:
+                return
+
+    def orient(self, is_greater: bool) -> bool:
+        """Reverses the CNOT of each CZ whose H stand on the lesser wire, or on the greater; whether there was one.
+
+        The H that this takes are told backwards: a goal with pairs of H, which cancel to what stood there, and then rule 5.
+        """
+        gates, since = self.listed(), self.since_listed()
+        wrong, parted = misplaced(gates, is_greater)
+        if not wrong:
+            return False
+        new: list[Gate] = []
+        begins: list[int] = []
+        pairs: list[int] = []
+        reversed_at: list[int] = []
+
+        def put(gate: Gate, place: int, count: int = 1) -> None:
+            if count == 2:
+                pairs.append(len(new))
+            new.extend([gate] * count)
+            begins.extend([since[place]] * count)
+
+        for place, gate in enumerate(gates):
+            if place in parted:
+                put(("H", gate[2]), place, 2)
+            if place in wrong:
+                put(("H", gate[1]), place, 2)
+                reversed_at.append(len(new))
+            put(gate, place)
+            if place in wrong:
+                put(("H", gate[1]), place, 2)
+        self.load(new, begins)
+        self.begin(True)
+        self.lines += [f"both {it - 2 * i} {it - 2 * i + 1}" for i, it in enumerate(pairs)]
+        self.turn -= TURN_OF_PAIR["H"] * len(pairs)
+        self.begin(False)
+        for slot in reversed_at:
+            found = self.surrounded(slot)
+            if found is None:
+                raise AssertionError("no window where one was made")
+            self.lines.append(f"rule 5 {self.places.of(found[1])}")
+            self.edit(found[2])
+            self.turn += found[3]
+        return True
+
+
+def sums_lines(gates: collections.abc.Sequence[Gate]) -> list[str]:
+    return [f"sums {len(gates)}", *map(shown, gates)]
+
+
+def misplaced(gates: list[Gate], is_greater: bool) -> tuple[set[int], set[int]]:
+    """The CNOTs between two H on their targets whose H should be on the control, and those before which two H part them from others."""
+    wrong: set[int] = set()
+    parted: set[int] = set()
+    opened: dict[int, list[int]] = {}  # since an H the CNOTs onto its wire, if nothing else came
+    for place, gate in enumerate(gates):
+        wire = gate[-1]
+        if gate[0] == "C":
+            opened.pop(gate[1], None)
+            if wire in opened:
+                opened[wire].append(place)
+        elif gate[0] == "H" and opened.get(wire):
+            fan = opened.pop(wire)
+            bad = [(gates[it][1] > wire) == is_greater for it in fan]
+            wrong.update(it for it, is_bad in zip(fan, bad) if is_bad)
+            parted.update(fan[i] for i in range(1, len(fan)) if bad[i - 1] or bad[i])
+        elif gate[0] == "H":
+            opened[wire] = []
+        else:
+            opened.pop(wire, None)
+    return wrong, parted
