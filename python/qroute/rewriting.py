@@ -279,14 +279,12 @@ class Rewriting:
             return []
         found = self.window(slot)
         if found is not None:
-            rule, first, edits, turn = found
-            self.lines.append(f"rule {rule} {self.places.of(first)}")
-        else:
-            pair = self.pair(slot)
-            if pair is None:
-                return []
-            line, edits, turn = pair
-            self.lines.append(line)
+            return self.rule(found)
+        pair = self.pair(slot)
+        if pair is None:
+            return []
+        line, edits, turn = pair
+        self.lines.append(line)
         self.turn += turn
         return self.edit(edits)
 
@@ -336,11 +334,8 @@ class Rewriting:
 
     # all gates at once
 
-    def fold(self, is_early: bool = False) -> bool:
-        """X go to the ends of their wires, and what stands on one set to the first phase on it; whether that changed anything.
-
-        If it is early, all that stands on a set goes to where the set first comes up.
-        """
+    def fold(self) -> bool:
+        """X go to the ends of their wires, and what stands on a set to where the set first comes up; whether that changed anything."""
         old, since = self.listed(), self.since_listed()
         variables = Variables(self.size)
         labels = [variables.of(wire, 0) for wire in range(self.size)]
@@ -359,7 +354,7 @@ class Rewriting:
                 new.append((("P", 0, wire), begins))
             totals[on] = (totals.get(on, 0) + k) % 8
 
-        for wire in range(self.size if is_early else 0):
+        for wire in range(self.size):
             put(wire, 0, 0)
         for gate, begins in zip(old, since):
             wire = gate[-1]
@@ -375,14 +370,12 @@ class Rewriting:
                 flips[wire] ^= flips[gate[1]]
                 of_x[wire] = max(of_x[wire], of_x[gate[1]])
                 new.append((gate, begins))
-                if is_early:
-                    put(wire, 0, begins)
+                put(wire, 0, begins)
             else:
                 new.append((gate, begins))
                 seen[wire] += 1
                 labels[wire] = variables.of(wire, seen[wire])
-                if flips[wire] or is_early:
-                    put(wire, 4 * flips[wire], begins)
+                put(wire, 4 * flips[wire], begins)
                 flips[wire] = 0
         for on, place in at.items():
             new[place] = (("P", totals[on], new[place][0][2]), new[place][1])
@@ -396,11 +389,11 @@ class Rewriting:
         self.load(listed, [it for _, it in new])
         return True
 
-    def settle(self, is_early: bool = False) -> None:
+    def settle(self) -> None:
         """Windows, pairs, X and phases until nothing changes."""
         for _ in range(MOST_ROUNDS):
             self.sweep()
-            if not self.fold(is_early):
+            if not self.fold() and not self.lift():
                 return
 
     def settle_further(self) -> None:
@@ -410,51 +403,106 @@ class Rewriting:
             before = self.listed()
             for is_greater in (False, True):
                 self.orient(is_greater)
-                self.settle(True)
+                self.settle()
             if self.listed() == before:
                 return
 
-    def orient(self, is_greater: bool) -> bool:
-        """Reverses the CNOT of each CZ whose H stand on the lesser wire, or on the greater; whether there was one.
+    def insert(self, chunks: dict[int, list[list[Gate]]]) -> list[int]:
+        """Puts palindromes, each of which cancels from within, before the gates at some places; the slot of each gate then.
 
-        The H that this takes are told backwards: a goal with pairs of H, which cancel to what stood there, and then rule 5.
+        They are told backwards: the lines lead from the list with them to the one without.
         """
         gates, since = self.listed(), self.since_listed()
-        wrong, parted = misplaced(gates, is_greater)
-        if not wrong:
-            return False
         new: list[Gate] = []
         begins: list[int] = []
-        pairs: list[int] = []
-        reversed_at: list[int] = []
-
-        def put(gate: Gate, place: int, count: int = 1) -> None:
-            if count == 2:
-                pairs.append(len(new))
-            new.extend([gate] * count)
-            begins.extend([since[place]] * count)
-
-        for place, gate in enumerate(gates):
-            if place in parted:
-                put(("H", gate[2]), place, 2)
-            if place in wrong:
-                put(("H", gate[1]), place, 2)
-                reversed_at.append(len(new))
-            put(gate, place)
-            if place in wrong:
-                put(("H", gate[1]), place, 2)
+        lines: list[str] = []
+        slots: list[int] = []
+        for place in range(len(gates) + 1):
+            for palindrome in chunks.get(place, []):
+                new += palindrome
+                begins += [since[min(place, len(gates) - 1)]] * len(palindrome)
+                for i in range(len(palindrome) // 2 - 1, -1, -1):
+                    lines.append(f"both {place + i} {place + i + 1}")
+                    self.turn -= TURN_OF_PAIR[palindrome[i][0]]
+            if place < len(gates):
+                slots.append(len(new))
+                new.append(gates[place])
+                begins.append(since[place])
         self.load(new, begins)
         self.begin(True)
-        self.lines += [f"both {it - 2 * i} {it - 2 * i + 1}" for i, it in enumerate(pairs)]
-        self.turn -= TURN_OF_PAIR["H"] * len(pairs)
+        self.lines += lines
         self.begin(False)
-        for slot in reversed_at:
-            found = self.surrounded(slot)
-            if found is None:
-                raise AssertionError("no window where one was made")
-            self.lines.append(f"rule 5 {self.places.of(found[1])}")
-            self.edit(found[2])
-            self.turn += found[3]
+        return slots
+
+    def lift(self) -> bool:
+        """A phase of 4 or more on what stands before an H leaves 4 of it behind the H, as an X; whether there was one.
+
+        It begins with gates as `fold` leaves them. Z, H becomes H, H, Z, H, and by rule 3 H, X.
+        """
+        found = self.to_lift()
+        if not found:
+            return False
+        slots = self.insert({place: [[("P", 4, wire), ("H", wire), ("H", wire), ("P", 4, wire)]] for place, wire in found})
+        for place, _ in found:
+            self.rule(self.window(slots[place] - 2))
+        return True
+
+    def to_lift(self) -> list[tuple[int, int]]:
+        """The places of H that a Z passes, with their wires. Each X that comes of it goes on along the gates."""
+        variables = Variables(self.size)
+        labels = [variables.of(wire, 0) for wire in range(self.size)]
+        seen, flips = [0] * self.size, [0] * self.size
+        totals: dict[int, int] = {}
+        found = []
+        for place, gate in enumerate(self.listed()):
+            wire = gate[-1]
+            if gate[0] == "C":
+                labels[wire] ^= labels[gate[1]]
+                flips[wire] ^= flips[gate[1]]
+            elif gate[0] == "P":
+                totals[labels[wire]] = (totals.get(labels[wire], 0) + (-gate[1] if flips[wire] else gate[1])) % 8
+            elif gate[0] == "H":
+                is_lifted = totals.get(labels[wire], 0) >= 4
+                if is_lifted:
+                    totals[labels[wire]] -= 4
+                    found.append((place, wire))
+                seen[wire] += 1
+                labels[wire] = variables.of(wire, seen[wire])
+                totals[labels[wire]] = 4 * flips[wire]
+                flips[wire] = int(is_lifted)
+        return found
+
+    def rule(self, found: tuple[int, int, list[Edit], int] | None) -> list[int]:
+        """Rewrites a window; the slots at which is looked again."""
+        if found is None:
+            raise AssertionError("no window where one was made")
+        rule, first, edits, turn = found
+        self.lines.append(f"rule {rule} {self.places.of(first)}")
+        self.turn += turn
+        return self.edit(edits)
+
+    def orient(self, is_greater: bool) -> bool:
+        """Reverses the CNOT of each CZ whose H stand on the lesser wire, or on the greater; whether there was one."""
+        fans = fans_of(self.listed())
+        gates = self.listed()
+        return self.reverse(fans, [it for fan in fans for it in fan if (gates[it][1] > gates[it][2]) == is_greater])
+
+    def reverse(self, fans: list[list[int]], places: list[int]) -> bool:
+        """Reverses the CNOTs at some places, which are of CZ, between H put in beside them, by rule 5; whether there was one."""
+        gates, wrong = self.listed(), set(places)
+        parted = {two: gates[two][2] for fan in fans for one, two in zip(fan, fan[1:]) if one in wrong or two in wrong}
+        chunks: dict[int, list[list[Gate]]] = {}
+        for place in sorted({*parted, *wrong}):
+            if place in parted:
+                chunks.setdefault(place, []).append([("H", parted[place])] * 2)
+            if place in wrong:
+                for it in (place, place + 1):
+                    chunks.setdefault(it, []).append([("H", gates[place][1])] * 2)
+        if not places:
+            return False
+        slots = self.insert(chunks)
+        for place in sorted(wrong):
+            self.rule(self.surrounded(slots[place]))
         return True
 
 
@@ -462,10 +510,9 @@ def sums_lines(gates: collections.abc.Sequence[Gate]) -> list[str]:
     return [f"sums {len(gates)}", *map(shown, gates)]
 
 
-def misplaced(gates: list[Gate], is_greater: bool) -> tuple[set[int], set[int]]:
-    """The CNOTs between two H on their targets whose H should be on the control, and those before which two H part them from others."""
-    wrong: set[int] = set()
-    parted: set[int] = set()
+def fans_of(gates: list[Gate]) -> list[list[int]]:
+    """The places of the CNOTs between two H on their targets, if nothing else stands there on the wire: each is a CZ with these H."""
+    found = []
     opened: dict[int, list[int]] = {}  # since an H the CNOTs onto its wire, if nothing else came
     for place, gate in enumerate(gates):
         wire = gate[-1]
@@ -474,12 +521,9 @@ def misplaced(gates: list[Gate], is_greater: bool) -> tuple[set[int], set[int]]:
             if wire in opened:
                 opened[wire].append(place)
         elif gate[0] == "H" and opened.get(wire):
-            fan = opened.pop(wire)
-            bad = [(gates[it][1] > wire) == is_greater for it in fan]
-            wrong.update(it for it, is_bad in zip(fan, bad) if is_bad)
-            parted.update(fan[i] for i in range(1, len(fan)) if bad[i - 1] or bad[i])
+            found.append(opened.pop(wire))
         elif gate[0] == "H":
             opened[wire] = []
         else:
             opened.pop(wire, None)
-    return wrong, parted
+    return found
