@@ -18,7 +18,7 @@ from .rewriting import Gate, PathSum, Rewriting, Variables, on_wires, path_sum, 
 
 MOST_AHEAD = 16  # gates of the source on one wire among which a gate of the target is looked for
 MOST_READINGS = 6  # of the target, each with the swaps that the one before it found left out
-LAST = 2  # level of rewriting: 0 is none, 1 are windows, pairs and phases, 2 is CZ besides
+LAST = 3  # level of rewriting: 0 is none, 1 are windows and pairs, 2 are X and phases besides, 3 is CZ
 Pair: typing.TypeAlias = tuple[int, int]
 
 
@@ -536,8 +536,10 @@ def settle(size: int, gates: list[Gate], level: int) -> Rewriting:
     """The gates, settled at a level of rewriting."""
     found = Rewriting(size, gates)
     if level == 1:
+        found.sweep()
+    if level == 2:
         found.settle()
-    if level > 1:
+    if level > 2:
         found.settle_further()
     return found
 

@@ -273,11 +273,11 @@ class Rewriting:
             return f"join {at}", [(slot, ("P", k, gate[-1])), (other, None)], 0
         return f"both {at}", [(slot, None), (other, None)], TURN_OF_PAIR[gate[0]]
 
-    def step(self, slot: int) -> list[int]:
+    def step(self, slot: int, is_whole: bool) -> list[int]:
         """Does what can be done with the gate of a slot; the slots at which is looked again."""
         if self.gates[slot] is None:
             return []
-        found = self.window(slot)
+        found = self.window(slot) if is_whole else None
         if found is not None:
             return self.rule(found)
         pair = self.pair(slot)
@@ -308,8 +308,8 @@ class Rewriting:
                 self.take(slot)
         return sorted(near)
 
-    def sweep(self) -> None:
-        """Rewrites windows and pairs until none is found."""
+    def sweep(self, is_whole: bool = True) -> None:
+        """Rewrites pairs and, if it is whole, windows until none is found."""
         for _ in range(MOST_ROUNDS):
             before = len(self.lines)
             waiting = collections.deque(range(len(self.gates)))
@@ -317,7 +317,7 @@ class Rewriting:
             while waiting:
                 slot = waiting.popleft()
                 is_waiting[slot] = 0
-                for it in self.step(slot):
+                for it in self.step(slot, is_whole):
                     if not is_waiting[it]:
                         is_waiting[it] = 1
                         waiting.appendleft(it)
@@ -390,22 +390,28 @@ class Rewriting:
         return True
 
     def settle(self) -> None:
-        """Windows, pairs, X and phases until nothing changes."""
+        """Windows, pairs, X, phases and corners until nothing changes."""
         for _ in range(MOST_ROUNDS):
             self.sweep()
-            if not self.fold() and not self.lift():
+            if not self.fold() and not self.lift() and not self.corner():
                 return
 
     def settle_further(self) -> None:
         """The same, and each CZ has its H on the greater wire; phases pass it on both of its wires."""
-        self.settle()
-        for _ in range(MOST_ROUNDS // 2):
-            before = self.listed()
-            for is_greater in (False, True):
-                self.orient(is_greater)
-                self.settle()
-            if self.listed() == before:
-                return
+        for is_whole in (False, True):
+            for _ in range(MOST_ROUNDS // 2):
+                before = self.listed()
+                for is_greater in (False, True):
+                    self.sweep(is_whole)
+                    self.fold()
+                    if self.lift():
+                        self.fold()
+                    self.orient(is_greater)
+                    self.fold()
+                if is_whole:
+                    self.settle()
+                if self.listed() == before:
+                    break
 
     def insert(self, chunks: dict[int, list[list[Gate]]]) -> list[int]:
         """Puts palindromes, each of which cancels from within, before the gates at some places; the slot of each gate then.
@@ -435,42 +441,108 @@ class Rewriting:
         return slots
 
     def lift(self) -> bool:
-        """A phase of 4 or more on what stands before an H leaves 4 of it behind the H, as an X; whether there was one.
+        """Each phase of 4 or more leaves 4 of it behind, which goes as Z and X to the ends of the wires; whether there was one.
 
-        It begins with gates as `fold` leaves them. Z, H becomes H, H, Z, H, and by rule 3 H, X.
+        It begins with gates as `fold` leaves them. Before each gate that a Z passes stand two, one of which passes: Z, H becomes
+        H, H, Z, H, and H, X by rule 3; past a CNOT from its target it is an X between H past the reversed CNOT from its control.
         """
-        found = self.to_lift()
-        if not found:
+        gates = self.listed()
+        places = self.to_lift()
+        if not places:
             return False
-        slots = self.insert({place: [[("P", 4, wire), ("H", wire), ("H", wire), ("P", 4, wire)]] for place, wire in found})
-        for place, _ in found:
-            self.rule(self.window(slots[place] - 2))
+        chunks: dict[int, list[list[Gate]]] = {}
+        for place in places:
+            wire = gates[place][-1]
+            h, x, z = ("H", wire), ("X", wire), ("P", 4, wire)
+            if gates[place] == h:
+                chunks.setdefault(place, []).append([z, h, h, z])
+            else:
+                control = ("H", gates[place][1])
+                chunks.setdefault(place, []).extend([[h, x, h, h, x, h], [control, control]])
+                chunks.setdefault(place + 1, []).extend([[control, control], [h, h]])
+        slots = self.insert(chunks)
+        passed = []
+        for place in places:
+            slot = slots[place]
+            if gates[place][0] == "H":
+                self.rule(self.window(slot - 2))
+            else:
+                self.rule(self.window(slot - 8))
+                self.rule(self.surrounded(slot))
+                passed.append(slot)
+        if passed:
+            self.pass_on(passed)
         return True
 
-    def to_lift(self) -> list[tuple[int, int]]:
-        """The places of H that a Z passes, with their wires. Each X that comes of it goes on along the gates."""
+    def pass_on(self, slots: list[int]) -> None:
+        """The X before the controls of some CNOTs, which stand between H on both wires, go past these, and become Z."""
+        old = self.listed()
+        moved = {slot: self.places.of(slot) for slot in slots}
+        at = set(moved.values())
+        new: list[Gate] = []
+        since: list[int] = []
+        begins = self.since_listed()
+        ends = []
+        for place, gate in enumerate(old):
+            if place + 2 in at:
+                continue  # the X, which stands before the H on the target and the CNOT
+            new.append(gate)
+            since.append(begins[place])
+            if place in at:
+                ends.append(len(new) - 1)
+                new += [("X", gate[1]), ("X", gate[2])]
+                since += [begins[place]] * 2
         variables = Variables(self.size)
-        labels = [variables.of(wire, 0) for wire in range(self.size)]
-        seen, flips = [0] * self.size, [0] * self.size
-        totals: dict[int, int] = {}
+        self.turn += path_sum(self.size, new, variables).constant - path_sum(self.size, old, variables).constant
+        self.lines += sums_lines(new)
+        self.load(new, since)
+        slots = self.insert({end + 1 + i: [[("H", new[end][1 + i])] * 2] for end in ends for i in range(2)})
+        for end in ends:
+            for i in (1, 2):
+                self.rule(self.window(slots[end + i] - 1))
+            self.rule(self.surrounded(slots[end]))
+
+    def to_lift(self) -> list[int]:
+        """The places of the H and the CNOTs that a Z passes, from the wire of the H or from that of the target."""
+        flips, zs = [0] * self.size, [0] * self.size
         found = []
         for place, gate in enumerate(self.listed()):
             wire = gate[-1]
             if gate[0] == "C":
-                labels[wire] ^= labels[gate[1]]
+                if zs[wire]:
+                    found.append(place)
                 flips[wire] ^= flips[gate[1]]
+                zs[gate[1]] ^= zs[wire]
             elif gate[0] == "P":
-                totals[labels[wire]] = (totals.get(labels[wire], 0) + (-gate[1] if flips[wire] else gate[1])) % 8
+                zs[wire] ^= (-gate[1] if flips[wire] else gate[1]) % 8 >> 2
             elif gate[0] == "H":
-                is_lifted = totals.get(labels[wire], 0) >= 4
-                if is_lifted:
-                    totals[labels[wire]] -= 4
-                    found.append((place, wire))
-                seen[wire] += 1
-                labels[wire] = variables.of(wire, seen[wire])
-                totals[labels[wire]] = 4 * flips[wire]
-                flips[wire] = int(is_lifted)
+                if zs[wire]:
+                    found.append(place)
+                flips[wire], zs[wire] = zs[wire], flips[wire]
         return found
+
+    def corner(self) -> bool:
+        """Reverses each CNOT with three H beside it, which leaves one H at the fourth place; whether there was one."""
+        gates = self.gates
+        chunks: dict[int, list[list[Gate]]] = {}
+        found, used = [], set()
+        for slot, gate in enumerate(gates):
+            if gate is None or gate[0] != "C":
+                continue
+            around = [it.get((slot, wire), -1) for it in (self.before, self.after) for wire in gate[1:]]
+            are_h = [it >= 0 and typing.cast(Gate, gates[it])[0] == "H" and it not in used for it in around]
+            if sum(are_h) == 3:
+                used.update(around)
+                missing = are_h.index(False)
+                place = self.places.of(slot)
+                chunks.setdefault(place + missing // 2, []).append([("H", gate[1 + missing % 2])] * 2)
+                found.append(place)
+        if not found:
+            return False
+        slots = self.insert(chunks)
+        for place in found:
+            self.rule(self.surrounded(slots[place]))
+        return True
 
     def rule(self, found: tuple[int, int, list[Edit], int] | None) -> list[int]:
         """Rewrites a window; the slots at which is looked again."""
