@@ -345,6 +345,7 @@ class Rewriting:
         new: list[tuple[Gate, int]] = []
         totals: dict[int, int] = {}
         at: dict[int, int] = {}
+        fresh = [0] * self.size  # where the label of each wire changed last
         constant = 0
 
         def put(wire: int, k: int, begins: int) -> None:
@@ -354,8 +355,12 @@ class Rewriting:
                 new.append((("P", 0, wire), begins))
             totals[on] = (totals.get(on, 0) + k) % 8
 
+        def change(wire: int, k: int, begins: int) -> None:
+            fresh[wire] = len(new)
+            put(wire, k, begins)
+
         for wire in range(self.size):
-            put(wire, 0, 0)
+            change(wire, 0, 0)
         for gate, begins in zip(old, since):
             wire = gate[-1]
             if gate[0] == "P":
@@ -370,16 +375,21 @@ class Rewriting:
                 flips[wire] ^= flips[gate[1]]
                 of_x[wire] = max(of_x[wire], of_x[gate[1]])
                 new.append((gate, begins))
-                put(wire, 0, begins)
+                change(wire, 0, begins)
             else:
                 new.append((gate, begins))
                 seen[wire] += 1
                 labels[wire] = variables.of(wire, seen[wire])
-                put(wire, 4 * flips[wire], begins)
+                change(wire, 4 * flips[wire], begins)
                 flips[wire] = 0
+        # where a wire ends with a set that first comes up elsewhere, a Z stays at its end
+        ends = [wire for wire in range(self.size) if totals[labels[wire]] >= 4 and at[labels[wire]] != fresh[wire]]
+        for wire in ends:
+            totals[labels[wire]] -= 4
         for on, place in at.items():
             new[place] = (("P", totals[on], new[place][0][2]), new[place][1])
         new = [it for it in new if it[0][:2] != ("P", 0)]
+        new += [(("P", 4, wire), of_x[wire]) for wire in ends]
         new += [(("X", wire), of_x[wire]) for wire in range(self.size) if flips[wire]]
         listed = [it for it, _ in new]
         if listed == old:
