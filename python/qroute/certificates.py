@@ -9,6 +9,7 @@ from __future__ import annotations
 
 import collections.abc
 import dataclasses
+import itertools
 import typing
 
 import qroute
@@ -18,6 +19,7 @@ from .rewriting import Gate, PathSum, Rewriting, Variables, on_wires, path_sum, 
 
 MOST_AHEAD = 16  # gates of the source on one wire among which a gate of the target is looked for
 MOST_READINGS = 6  # of the target, each with the swaps that the one before it found left out
+MOST_REWRITTEN = 3  # readings for which both sides are rewritten
 LAST = 3  # level of rewriting: 0 is none, 1 are windows and pairs, 2 are X and phases besides, 3 is CZ
 Pair: typing.TypeAlias = tuple[int, int]
 
@@ -170,6 +172,19 @@ class Queues:
                 return False
         return True
 
+    def find_further(self, gates: list[Gate]) -> list[int] | None:
+        """The places of some gates that stand one after the other on their wires, a little ahead and past whatever else."""
+        found: list[int] = []
+        for wire in sorted({wire for it in gates for wire in wires_of(it)}):
+            ahead = self.front(wire, MOST_AHEAD)
+            wanted = [it for it in gates if wire in wires_of(it)]
+            there = [self.gates[it] for it in ahead]
+            at = next((i for i in range(len(ahead)) if there[i : i + len(wanted)] == wanted), None)
+            if at is None:
+                return None
+            found += ahead[at : at + len(wanted)]
+        return found if len(set(found)) == len(gates) else None
+
     def swap(self, wire: int) -> list[int] | None:
         """The places of three CNOTs on a wire that are a swap, if they are the next gates on both of its wires."""
         ahead = self.front(wire, 3)
@@ -213,8 +228,9 @@ def neighbours(size: int, gates: list[Gate]) -> list[int | None]:
 class Reading:
     """The target read back onto the source's wires, from a placement on."""
 
-    def __init__(self, source: Side, target: Side, initial: list[int], edges: set[Pair] | None, is_each_reversed: bool) -> None:
+    def __init__(self, source: Side, target: Side, initial: list[int], edges: set[Pair] | None, is_lenient: bool, is_each_reversed: bool) -> None:
         self.source, self.target = source, target
+        self.is_lenient = is_lenient  # whether a swap is the source's own if it has the same one a little further ahead
         self.wires = len(source.wires)
         self.edges = edges
         self.is_each_reversed = is_each_reversed
@@ -274,7 +290,8 @@ class Reading:
         """Whether the source has these gates of the target, there."""
         if any(self.names[wire] >= self.wires for it in gates for wire in wires_of(it)):
             return False
-        return self.queues.begins([on_wires(it, self.names) for it in gates])
+        there = [on_wires(it, self.names) for it in gates]
+        return self.queues.find_further(there) is not None if self.is_lenient else self.queues.begins(there)
 
     def is_back(self, place: int) -> bool:
         """Whether a reversed CNOT begins here that the source has the right way round."""
@@ -292,6 +309,8 @@ class Reading:
                 gate = gate_there
             else:
                 self.missed += 1
+                for it in self.queues.find_further([gate]) or []:
+                    self.queues.is_found[it] = 1
         self.events.append(Event(kind, gate, place))
 
     def elided(self, gate: Gate, place: int) -> Gate | None:
@@ -550,10 +569,8 @@ def guessed(source: Side, target: Side) -> list[int]:
     If one of the two wires is known, the source's next CNOT on it tells the other. If none is, it is the first CNOT of the source
     with the same gates before it.
     """
-    tokens = token_gates(target)
-    there, firsts = of_pairs(len(source.wires), source.gates)
-    here, _ = of_pairs(len(target.wires), tokens)
-    free = [place for place in firsts if source.gates[place][0] == "C"]
+    tokens, gates = token_gates(target), token_gates(source)
+    there, free = of_pairs(len(source.wires), gates)
     wire_of: dict[int, int] = {}
     qubit_of: dict[int, int] = {}
     before: list[list[Gate]] = [[] for _ in target.wires]
@@ -571,7 +588,7 @@ def guessed(source: Side, target: Side) -> list[int]:
         if u not in wire_of and v not in wire_of:
             for exact in (True, False):
                 for place in free:
-                    c, t = source.gates[place][1:]
+                    c, t = gates[place][1:]
                     if c in qubit_of or t in qubit_of:
                         continue
                     if not exact or (there[c][0][1], there[t][0][1]) == (before[u], before[v]):
@@ -582,14 +599,14 @@ def guessed(source: Side, target: Side) -> list[int]:
             wire = wire_of.get(qubit)
             if wire is not None and at[wire] < len(there[wire]):
                 place, _ = there[wire][at[wire]]
-                c, t = source.gates[place][1:]
+                c, t = gates[place][1:]
                 join(other, t if c == wire else c)
         wires = wire_of.get(u), wire_of.get(v)
         if None not in wires:
             for wire in typing.cast(Pair, wires):
-                if at[wire] < len(there[wire]) and set(source.gates[there[wire][at[wire]][0]][1:]) == set(wires):
+                if at[wire] < len(there[wire]) and set(gates[there[wire][at[wire]][0]][1:]) == set(wires):
                     at[wire] += 1
-    singles = of_singles(source, [wire for wire in range(len(source.wires)) if wire not in qubit_of])
+    singles = of_singles(gates, [wire for wire in range(len(source.wires)) if wire not in qubit_of])
     for qubit in range(len(target.wires)):
         if qubit not in wire_of and before[qubit] and singles.get(tuple(before[qubit])):
             join(qubit, singles[tuple(before[qubit])].pop(0))
@@ -597,26 +614,26 @@ def guessed(source: Side, target: Side) -> list[int]:
     return [qubit_of[wire] if wire in qubit_of else left.pop(0) for wire in range(len(source.wires))]
 
 
-def of_singles(source: Side, wires: list[int]) -> dict[tuple[Gate, ...], list[int]]:
+def of_singles(gates: list[Gate], wires: list[int]) -> dict[tuple[Gate, ...], list[int]]:
     """Wires by their gates, in order."""
-    gates: dict[int, list[Gate]] = {wire: [] for wire in wires}
-    for gate in source.gates:
-        if gate[-1] in gates:
-            gates[gate[-1]].append(gate[:-1])
+    on: dict[int, list[Gate]] = {wire: [] for wire in wires}
+    for gate in gates:
+        if gate[-1] in on:
+            on[gate[-1]].append(gate[:-1])
     found: dict[tuple[Gate, ...], list[int]] = {}
-    for wire, its in gates.items():
+    for wire, its in on.items():
         found.setdefault(tuple(its), []).append(wire)
     return found
 
 
-def token_gates(target: Side) -> list[Gate]:
-    """The target's gates without swaps that stand in one piece, and reversed CNOTs as one gate; a wire is told by the qubit where it begins."""
-    names = list(range(len(target.wires)))
+def token_gates(program: Side) -> list[Gate]:
+    """The gates of a program without swaps that stand in one piece, and reversed CNOTs as one gate, on wires told by where they begin."""
+    names = list(range(len(program.wires)))
     found: list[Gate] = []
     place = 0
-    while place < len(target.gates):
-        gate = target.gates[place]
-        ahead = target.gates[place : place + 7]
+    while place < len(program.gates):
+        gate = program.gates[place]
+        ahead = program.gates[place : place + 7]
         count = 1
         if gate[0] == "C":
             u, v = gate[1:]
@@ -674,9 +691,9 @@ def readings(source: Side, target: Side, begins: dict[str, list[int]], edges: se
     found: list[Reading] = []
     failures = []
     for on in begins.values():
-        for is_each_reversed in (False, True):
+        for flags in itertools.product((False, True), repeat=2):
             try:
-                reading = Reading(source, target, on, edges, is_each_reversed)
+                reading = Reading(source, target, on, edges, *flags)
             except Uncertified as fault:
                 failures.append(Failure(fault, (fault.operation or 1) - 1))
                 continue
@@ -710,7 +727,7 @@ def certify(
     found, failures = readings(one, other, begins, edges)
     for level in range(LAST + 1):
         settled = settle(len(one.wires), one.gates, level)
-        for reading in found if level == 0 else found[:2]:
+        for reading in found if level == 0 else found[:MOST_REWRITTEN]:
             try:
                 lines = Certificate(one, other, settled, level, reading).lines()
             except Failure as failure:
