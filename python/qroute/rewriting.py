@@ -275,9 +275,10 @@ class Rewriting:
 
     def step(self, slot: int, is_whole: bool) -> list[int]:
         """Does what can be done with the gate of a slot; the slots at which is looked again."""
-        if self.gates[slot] is None:
+        gate = self.gates[slot]
+        if gate is None or gate[0] == "H" and not is_whole:
             return []
-        found = self.window(slot) if is_whole else None
+        found = self.window(slot)
         if found is not None:
             return self.rule(found)
         pair = self.pair(slot)
@@ -309,7 +310,7 @@ class Rewriting:
         return sorted(near)
 
     def sweep(self, is_whole: bool = True) -> None:
-        """Rewrites pairs and, if it is whole, windows until none is found."""
+        """Rewrites windows and pairs until none is found; if it isn't whole, pairs of other gates than H alone."""
         for _ in range(MOST_ROUNDS):
             before = len(self.lines)
             waiting = collections.deque(range(len(self.gates)))
@@ -407,21 +408,43 @@ class Rewriting:
                 return
 
     def settle_further(self) -> None:
-        """The same, and each CZ has its H on the greater wire; phases pass it on both of its wires."""
+        """The same, and the H of each CZ stand on the odd one of its wires; phases pass it on both of them.
+
+        First no H goes but for two between CZ, so that each CZ is still seen.
+        """
         for is_whole in (False, True):
             for _ in range(MOST_ROUNDS // 2):
                 before = self.listed()
-                for is_greater in (False, True):
+                for is_odd in (False, True):
+                    self.orient(is_odd)
+                    self.join_fans()
                     self.sweep(is_whole)
                     self.fold()
                     if self.lift():
                         self.fold()
-                    self.orient(is_greater)
-                    self.fold()
                 if is_whole:
                     self.settle()
                 if self.listed() == before:
                     break
+
+    def join_fans(self) -> None:
+        """CZ that follow each other with their H on one wire lose the two H between."""
+        gates = self.listed()
+        ends: dict[int, int] = {}
+        slots = [slot for slot, it in enumerate(self.gates) if it is not None]
+        for fan in fans_of(gates):
+            wire = gates[fan[0]][2]
+            first, last = self.before[slots[fan[0]], wire], self.after[slots[fan[-1]], wire]
+            if self.before.get((first, wire), -1) == ends.get(wire):
+                self.pair_goes(ends[wire], first)
+            ends[wire] = last
+
+    def pair_goes(self, one: int, other: int) -> None:
+        """Two H that follow each other go."""
+        self.lines.append(f"both {self.places.of(one)} {self.places.of(other)}")
+        self.turn += TURN_OF_PAIR["H"]
+        self.take(one)
+        self.take(other)
 
     def insert(self, chunks: dict[int, list[list[Gate]]]) -> list[int]:
         """Puts palindromes, each of which cancels from within, before the gates at some places; the slot of each gate then.
@@ -563,11 +586,15 @@ class Rewriting:
         self.turn += turn
         return self.edit(edits)
 
-    def orient(self, is_greater: bool) -> bool:
-        """Reverses the CNOT of each CZ whose H stand on the lesser wire, or on the greater; whether there was one."""
-        fans = fans_of(self.listed())
+    def orient(self, is_odd: bool) -> bool:
+        """Reverses CNOTs of CZ, so that the H of each stand on the odd one of its wires, or on the even one; whether it reversed one.
+
+        Wires with a CZ between them are even and odd in turn, as far as that is possible. Of two that aren't, the greater counts as odd.
+        """
         gates = self.listed()
-        return self.reverse(fans, [it for fan in fans for it in fan if (gates[it][1] > gates[it][2]) == is_greater])
+        fans = fans_of(gates)
+        odd = in_turn(self.size, [gates[it] for fan in fans for it in fan])
+        return self.reverse(fans, [it for fan in fans for it in fan if ((odd[gates[it][1]], gates[it][1]) > (odd[gates[it][2]], gates[it][2])) == is_odd])
 
     def reverse(self, fans: list[list[int]], places: list[int]) -> bool:
         """Reverses the CNOTs at some places, which are of CZ, between H put in beside them, by rule 5; whether there was one."""
@@ -608,4 +635,23 @@ def fans_of(gates: list[Gate]) -> list[list[int]]:
             opened[wire] = []
         else:
             opened.pop(wire, None)
+    return found
+
+
+def in_turn(size: int, pairs: list[Gate]) -> list[int]:
+    """For each wire 0 or 1, which change along the CNOTs as far as that is possible; the least of those that hang together has 0."""
+    near: list[set[int]] = [set() for _ in range(size)]
+    for _, one, other in pairs:
+        near[one].add(other)
+        near[other].add(one)
+    found = [-1] * size
+    for wire in range(size):
+        if found[wire] < 0:
+            found[wire] = 0
+            waiting = [wire]
+            for it in waiting:
+                for other in sorted(near[it]):
+                    if found[other] < 0:
+                        found[other] = 1 - found[it]
+                        waiting.append(other)
     return found
