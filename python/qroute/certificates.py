@@ -18,6 +18,7 @@ from . import qasm, rewriting
 from .rewriting import Gate, PathSum, Rewriting, Variables, on_wires, path_sum, shown, wires_of
 
 MOST_AHEAD = 16  # gates of the source on one wire among which a gate of the target is looked for
+MOST_PASSED = 64  # gates of the source on one wire, from the first that wasn't found
 MOST_READINGS = 6  # of the target, each with the swaps that the one before it found left out
 MOST_REWRITTEN = 3  # readings for which both sides are rewritten
 LAST = 3  # level of rewriting: 0 is none, 1 are windows and pairs, 2 are X and phases besides, 3 is CZ
@@ -140,17 +141,18 @@ class Queues:
         self.at = [0] * size
 
     def front(self, wire: int, count: int) -> list[int]:
-        """The places of the next gates on a wire, so many if there are."""
-        on, at = self.on[wire], self.at[wire]
-        while at < len(on) and self.is_found[on[at]]:
-            at += 1
-        self.at[wire] = at
-        found: list[int] = []
-        while at < len(on) and len(found) < count:
-            if not self.is_found[on[at]]:
-                found.append(on[at])
-            at += 1
-        return found
+        """The places of the next gates on a wire, so many if there are. One that many later ones were found before is given up."""
+        on, is_found = self.on[wire], self.is_found
+        while self.at[wire] < len(on):
+            begins = self.at[wire]
+            ahead = [it for it in on[begins : begins + MOST_PASSED] if not is_found[it]]
+            if ahead and (len(ahead) >= count or begins + MOST_PASSED >= len(on)):
+                return ahead[:count]
+            if ahead and len(ahead) >= MOST_PASSED // 4:
+                return ahead
+            # the next one is found, or waits for too long
+            self.at[wire] = begins + 1
+        return []
 
     def find(self, gate: Gate) -> int | None:
         """The place of the same gate, ahead on its wires past what it commutes with."""
@@ -186,13 +188,19 @@ class Queues:
         return found if len(set(found)) == len(gates) else None
 
     def swap(self, wire: int) -> list[int] | None:
-        """The places of three CNOTs on a wire that are a swap, if they are the next gates on both of its wires."""
-        ahead = self.front(wire, 3)
-        if len(ahead) < 3 or self.gates[ahead[0]][0] != "C":
-            return None
-        a, b = self.gates[ahead[0]][1:]
-        same = self.front(a, 3) == self.front(b, 3) and [self.gates[it] for it in ahead] == triple(a, b)
-        return ahead if same else None
+        """The places of three CNOTs that are a swap and the next gates on both of its wires: on this wire, or before its next swap."""
+        waiting = [wire]
+        for it in waiting:
+            ahead = self.front(it, 3)
+            gate = self.gates[ahead[0]] if len(ahead) == 3 else ("",)
+            if gate[0] != "C" or [self.gates[place] for place in ahead] != triple(*gate[1:]):
+                continue
+            other = gate[2] if gate[1] == it else gate[1]
+            if self.front(other, 3) == ahead:
+                return ahead
+            if other not in waiting:
+                waiting.append(other)
+        return None
 
     def pass_by(self, gate: Gate) -> bool:
         """Marks the same gate as found, if there is one."""
@@ -447,12 +455,14 @@ def with_swaps(events: list[Event], swaps: list[tuple[int, int, int]]) -> list[E
     """The events with swaps that are left out, each before the event of a gate, -1 being the end; later gates are on the wires exchanged."""
     of_gate = [number for number, it in enumerate(events) for _ in it.gates()]
     placed: list[tuple[int, int, int]] = []
-    for begins, one, other in swaps:
-        number = len(events) if begins < 0 else of_gate[begins]
-        number = max([number, *(it for it, *pair in placed if {one, other} & set(pair))])
-        placed.append((number, one, other))
-    placed.sort(key=lambda it: it[0], reverse=True)
     names = list(range(256))
+    last = [0] * len(names)  # the event before which the last swap on a wire stands
+    for begins, one, other in swaps:
+        number = max(len(events) if begins < 0 else of_gate[begins], last[one], last[other])
+        last[one] = last[other] = number
+        placed.append((number, one, other))
+    placed = sorted(placed, key=lambda it: it[0])
+    placed.reverse()
     found = []
     for number, it in enumerate([*events, Event("", (), events[-1].place if events else 0)]):
         while placed and placed[-1][0] == number:
