@@ -260,7 +260,7 @@ class Reading:
         """Reads what stands at a place of the target; the number of its gates."""
         gates = self.target.gates
         gate = gates[place]
-        if gate[0] == "C":
+        if gate[0] == "C" and place not in self.of_swaps:
             u, v = gate[1:]
             for kind, whole in (("swap", triple(u, v)), ("turn", [("C", u, v), *reversed_cnot(v, u), ("C", u, v)])):
                 if gates[place : place + len(whole)] == whole and not self.is_own(whole):
@@ -281,16 +281,17 @@ class Reading:
 
     def look_for_swap(self, place: int) -> None:
         """Notes the three CNOTs of a swap that begins here and stands apart: they are gates of the list, which an elided swap follows."""
-        if place in self.of_swaps:
-            return
         gates, found = self.target.gates, [place]
+        is_spare = max(self.names[it] for it in gates[place][1:]) >= self.wires
+        if is_spare or self.queues.find(on_wires(gates[place], self.names)) is not None:
+            return
         for _ in range(2):
             there = self.after[found[-1]]
             _, u, v = gates[found[-1]]
             if there is None or gates[there] != ("C", v, u):
                 return
             found.append(there)
-        if not self.is_own([gates[it] for it in found]) and max(self.names[it] for it in gates[place][1:]) < self.wires:
+        if not self.is_own([gates[it] for it in found]):
             self.of_swaps.update(found)
             self.ends.add(found[-1])
 
@@ -697,7 +698,10 @@ def placements(source: Side, target: Side, initial: collections.abc.Iterable[int
 
 
 def readings(source: Side, target: Side, begins: dict[str, list[int]], edges: set[Pair] | None) -> tuple[list[Reading], list[Failure]]:
-    """The target read from each placement, those with the fewest gates that the source hasn't first; and what can't be read."""
+    """The target read from each placement, those with the fewest gates that the source hasn't first; and what can't be read.
+
+    If one has none, it is the only one.
+    """
     found: list[Reading] = []
     failures = []
     for on in begins.values():
@@ -707,6 +711,8 @@ def readings(source: Side, target: Side, begins: dict[str, list[int]], edges: se
             except Uncertified as fault:
                 failures.append(Failure(fault, (fault.operation or 1) - 1))
                 continue
+            if reading.missed == 0:
+                return [reading], failures
             if not any((it.initial, it.events) == (on, reading.events) for it in found):
                 found.append(reading)
     return sorted(found, key=lambda it: it.missed), failures
