@@ -21,7 +21,9 @@ MOST_AHEAD = 16  # gates of the source on one wire among which a gate of the tar
 MOST_PASSED = 64  # gates of the source on one wire, from the first that wasn't found
 MOST_READINGS = 6  # of the target, each with the swaps that the one before it found left out
 MOST_REWRITTEN = 3  # readings for which both sides are rewritten
-LAST = 3  # level of rewriting: 0 is none, 1 are windows and pairs, 2 are X and phases besides, 3 is CZ
+MOST_OF_ONE = 4_096  # gates from which on it is one reading
+# levels of rewriting, each with the gates up to which it is tried: none; windows and pairs; X and phases besides; CZ besides
+LEVELS = (None, None, 16_384, 8_192)
 Pair: typing.TypeAlias = tuple[int, int]
 
 
@@ -497,12 +499,13 @@ class Certificate:
         size = len(source.wires)
         variables = Variables(size)
         wanted = path_sum(size, settled.listed(), variables)
+        reach: int | None = -1
         for _ in range(MOST_READINGS):
             self.gates = [gate for it in self.events for gate in it.gates()]
             self.read = settle(size, self.gates, level)
             matching = Matching(wanted, size, variables)
             mismatch = matching.walk(self.read.listed(), self.read.since_listed())
-            if not matching.swaps:
+            if not matching.swaps or mismatch is not None and reach == (reach := mismatch.place):
                 break
             self.events = with_swaps(self.events, matching.swaps)
         else:
@@ -741,9 +744,12 @@ def certify(
     begins = placements(one, other, initial)
     edges = None if device is None else {(it[0], it[1]) for it in device.edges()}
     found, failures = readings(one, other, begins, edges)
-    for level in range(LAST + 1):
+    size = max(len(one.gates), len(other.gates))
+    for level, most in enumerate(LEVELS):
+        if most is not None and size > most:
+            break
         settled = settle(len(one.wires), one.gates, level)
-        for reading in found if level == 0 else found[:MOST_REWRITTEN]:
+        for reading in found if level == 0 else found[: 1 if size > MOST_OF_ONE else MOST_REWRITTEN]:
             try:
                 lines = Certificate(one, other, settled, level, reading).lines()
             except Failure as failure:
