@@ -745,8 +745,10 @@ def certify(
     edges = None if device is None else {(it[0], it[1]) for it in device.edges()}
     found, failures = readings(one, other, begins, edges)
     size = max(len(one.gates), len(other.gates))
+    limit: list[str] = []
     for level, most in enumerate(LEVELS):
         if most is not None and size > most:
+            limit = [f"no rewriting beyond level {level - 1}, as one side has {size:,} gates"]
             break
         settled = settle(len(one.wires), one.gates, level)
         for reading in found if level == 0 else found[: 1 if size > MOST_OF_ONE else MOST_REWRITTEN]:
@@ -757,7 +759,7 @@ def certify(
                 continue
             return with_trace(data, lines)
     fault = max(failures, key=lambda it: it.reach).fault
-    fault.tried = [f"{name} ({','.join(map(str, on[: len(one.wires)]))})" for name, on in begins.items()]
+    fault.tried = [f"{name} ({','.join(map(str, on[: len(one.wires)]))})" for name, on in begins.items()] + limit
     raise fault
 
 
