@@ -577,55 +577,69 @@ def settle(size: int, gates: list[Gate], level: int) -> Rewriting:
     return found
 
 
-def guessed(source: Side, target: Side) -> list[int]:
+class Guess:
     """Where the wires begin, by the first CNOTs: those of the target, told by the qubit where each of its wires begins, in turn.
 
     If one of the two wires is known, the source's next CNOT on it tells the other. If none is, it is the first CNOT of the source
     with the same gates before it.
     """
-    tokens, gates = token_gates(target), token_gates(source)
-    there, free = of_pairs(len(source.wires), gates)
-    wire_of: dict[int, int] = {}
-    qubit_of: dict[int, int] = {}
-    before: list[list[Gate]] = [[] for _ in target.wires]
 
-    def join(qubit: int, wire: int) -> None:
-        if qubit not in wire_of and wire not in qubit_of:
-            wire_of[qubit], qubit_of[wire] = wire, qubit
+    def __init__(self, source: Side, target: Side) -> None:
+        self.gates = token_gates(source)
+        self.pairs, self.firsts = of_pairs(len(source.wires), self.gates)
+        self.at = [0] * len(source.wires)  # as many CNOTs of each wire were met
+        self.wire_of: dict[int, int] = {}
+        self.qubit_of: dict[int, int] = {}
+        self.before: list[list[Gate]] = [[] for _ in target.wires]
+        for gate in token_gates(target):
+            if gate[0] == "C":
+                self.meet(*gate[1:])
+            else:
+                self.before[gate[-1]].append(gate[:-1])
+        self.of_singles()
 
-    at = [0] * len(source.wires)
-    for gate in tokens:
-        if gate[0] != "C":
-            before[gate[-1]].append(gate[:-1])
-            continue
-        u, v = gate[1:]
-        if u not in wire_of and v not in wire_of:
-            for exact in (True, False):
-                for place in free:
-                    c, t = gates[place][1:]
-                    if c in qubit_of or t in qubit_of:
-                        continue
-                    if not exact or (there[c][0][1], there[t][0][1]) == (before[u], before[v]):
-                        join(u, c)
-                        join(v, t)
-                        break
+    def join(self, qubit: int, wire: int) -> None:
+        if qubit not in self.wire_of and wire not in self.qubit_of:
+            self.wire_of[qubit], self.qubit_of[wire] = wire, qubit
+
+    def meet(self, u: int, v: int) -> None:
+        """Takes in a CNOT of the target."""
+        if u not in self.wire_of and v not in self.wire_of:
+            self.begin(u, v)
         for qubit, other in ((u, v), (v, u)):
-            wire = wire_of.get(qubit)
-            if wire is not None and at[wire] < len(there[wire]):
-                place, _ = there[wire][at[wire]]
-                c, t = gates[place][1:]
-                join(other, t if c == wire else c)
-        wires = wire_of.get(u), wire_of.get(v)
-        if None not in wires:
-            for wire in typing.cast(Pair, wires):
-                if at[wire] < len(there[wire]) and set(gates[there[wire][at[wire]][0]][1:]) == set(wires):
-                    at[wire] += 1
-    singles = of_singles(gates, [wire for wire in range(len(source.wires)) if wire not in qubit_of])
-    for qubit in range(len(target.wires)):
-        if qubit not in wire_of and before[qubit] and singles.get(tuple(before[qubit])):
-            join(qubit, singles[tuple(before[qubit])].pop(0))
-    left = [qubit for qubit in range(len(target.wires)) if qubit not in wire_of]
-    return [qubit_of[wire] if wire in qubit_of else left.pop(0) for wire in range(len(source.wires))]
+            if (pair := self.next_pair(self.wire_of.get(qubit))) is not None:
+                self.join(other, pair[1] if pair[0] == self.wire_of[qubit] else pair[0])
+        wires = [self.wire_of[it] for it in (u, v) if it in self.wire_of]
+        for wire in wires if len(wires) == 2 else []:
+            if set(self.next_pair(wire) or ()) == set(wires):
+                self.at[wire] += 1
+
+    def next_pair(self, wire: int | None) -> Gate | None:
+        """Control and target of the source's next CNOT on a wire."""
+        if wire is None or self.at[wire] == len(self.pairs[wire]):
+            return None
+        return self.gates[self.pairs[wire][self.at[wire]][0]][1:]
+
+    def begin(self, u: int, v: int) -> None:
+        """Takes the first CNOT of the source on wires that aren't known, best with the same gates before it."""
+        left = [self.gates[it][1:] for it in self.firsts]
+        left = [it for it in left if it[0] not in self.qubit_of and it[1] not in self.qubit_of]
+        same = [it for it in left if [self.pairs[wire][0][1] for wire in it] == [self.before[u], self.before[v]]]
+        for wires in (same or left)[:1]:
+            self.join(u, wires[0])
+            self.join(v, wires[1])
+
+    def of_singles(self) -> None:
+        """Wires without a CNOT are told by their gates."""
+        singles = of_singles(self.gates, [wire for wire in range(len(self.at)) if wire not in self.qubit_of])
+        for qubit, gates in enumerate(self.before):
+            if qubit not in self.wire_of and gates and singles.get(tuple(gates)):
+                self.join(qubit, singles[tuple(gates)].pop(0))
+
+    def placement(self) -> list[int]:
+        """The qubit of each wire; those that nothing tells have the qubits that are left."""
+        left = [qubit for qubit in range(len(self.before)) if qubit not in self.wire_of]
+        return [self.qubit_of[wire] if wire in self.qubit_of else left.pop(0) for wire in range(len(self.at))]
 
 
 def of_singles(gates: list[Gate], wires: list[int]) -> dict[tuple[Gate, ...], list[int]]:
@@ -691,7 +705,7 @@ def placements(source: Side, target: Side, initial: collections.abc.Iterable[int
             raise ValueError(f"where wires begin is {size} different qubits below {qubits}, one for each wire of the source")
         firsts = {"the given qubits": given}
     else:
-        firsts = {"wire i on qubit i": list(range(size)), "wires by the first CNOTs": guessed(source, target)}
+        firsts = {"wire i on qubit i": list(range(size)), "wires by the first CNOTs": Guess(source, target).placement()}
     found: dict[str, list[int]] = {}
     for name, on in firsts.items():
         whole = [*on, *sorted(set(range(qubits)) - set(on))]
