@@ -143,6 +143,72 @@ class Stretch:
         return [f"goal {len(self.gates)}", *map(shown, self.gates), *self.lines, "meet"] if is_goal else self.lines
 
 
+class Folding:
+    """Gates of which X go to the ends of their wires, and what stands on a set to where the set first comes up."""
+
+    def __init__(self, size: int) -> None:
+        self.variables = Variables(size)
+        self.labels = [0] * size
+        self.seen = [0] * size
+        self.flips = [0] * size
+        self.of_x = [0] * size  # since when a wire is flipped
+        self.new: list[tuple[Gate, int]] = []
+        self.totals: dict[int, int] = {}
+        self.at: dict[int, int] = {}  # the place of the phase on a set
+        self.fresh = [0] * size  # where the label of each wire changed last
+        self.constant = 0  # of the path sum of the gates that were taken
+        for wire in range(size):
+            self.change(wire, self.variables.of(wire, 0), 0)
+
+    def put(self, wire: int, k: int, begins: int) -> None:
+        """Puts a phase on the label of a wire."""
+        on = self.labels[wire]
+        if on not in self.at:
+            self.at[on] = len(self.new)
+            self.new.append((("P", 0, wire), begins))
+        self.totals[on] = (self.totals.get(on, 0) + k) % 8
+
+    def change(self, wire: int, label: int, begins: int) -> None:
+        self.labels[wire] = label
+        self.fresh[wire] = len(self.new)
+        self.put(wire, 0, begins)
+
+    def take(self, gate: Gate, begins: int) -> None:
+        """Takes the next gate, which begins at a place of the first list."""
+        wire = gate[-1]
+        if gate[0] == "P":
+            self.put(wire, -gate[1] if self.flips[wire] else gate[1], begins)
+            self.constant += gate[1] if self.flips[wire] else 0
+        elif gate[0] == "X":
+            self.flips[wire] ^= 1
+            self.of_x[wire] = begins
+            self.constant += 2
+        elif gate[0] == "C":
+            self.flips[wire] ^= self.flips[gate[1]]
+            self.of_x[wire] = max(self.of_x[wire], self.of_x[gate[1]])
+            self.new.append((gate, begins))
+            self.change(wire, self.labels[wire] ^ self.labels[gate[1]], begins)
+        else:
+            self.seen[wire] += 1
+            self.new.append((gate, begins))
+            self.change(wire, self.variables.of(wire, self.seen[wire]), begins)
+            self.put(wire, 4 * self.flips[wire], begins)
+            self.flips[wire] = 0
+
+    def written(self) -> tuple[list[Gate], list[int]]:
+        """The gates, and where each begins. If a wire ends with a set that first comes up elsewhere, a Z stays at its end."""
+        totals, new = self.totals, self.new
+        ends = [wire for wire, on in enumerate(self.labels) if totals[on] >= 4 and self.at[on] != self.fresh[wire]]
+        for wire in ends:
+            totals[self.labels[wire]] -= 4
+        for on, place in self.at.items():
+            new[place] = (("P", totals[on], new[place][0][2]), new[place][1])
+        new = [it for it in new if it[0][:2] != ("P", 0)]
+        new += [(("P", 4, wire), self.of_x[wire]) for wire in ends]
+        new += [(("X", wire), self.of_x[wire]) for wire, flip in enumerate(self.flips) if flip]
+        return [it for it, _ in new], [it for _, it in new]
+
+
 class Rewriting:
     """A list of gates, the lines that led to it from the first one, and their turn.
 
@@ -337,67 +403,16 @@ class Rewriting:
 
     def fold(self) -> bool:
         """X go to the ends of their wires, and what stands on a set to where the set first comes up; whether that changed anything."""
-        old, since = self.listed(), self.since_listed()
-        variables = Variables(self.size)
-        labels = [variables.of(wire, 0) for wire in range(self.size)]
-        seen = [0] * self.size
-        flips = [0] * self.size
-        of_x = [0] * self.size
-        new: list[tuple[Gate, int]] = []
-        totals: dict[int, int] = {}
-        at: dict[int, int] = {}
-        fresh = [0] * self.size  # where the label of each wire changed last
-        constant = 0
-
-        def put(wire: int, k: int, begins: int) -> None:
-            on = labels[wire]
-            if on not in at:
-                at[on] = len(new)
-                new.append((("P", 0, wire), begins))
-            totals[on] = (totals.get(on, 0) + k) % 8
-
-        def change(wire: int, k: int, begins: int) -> None:
-            fresh[wire] = len(new)
-            put(wire, k, begins)
-
-        for wire in range(self.size):
-            change(wire, 0, 0)
-        for gate, begins in zip(old, since):
-            wire = gate[-1]
-            if gate[0] == "P":
-                put(wire, -gate[1] if flips[wire] else gate[1], begins)
-                constant += gate[1] if flips[wire] else 0
-            elif gate[0] == "X":
-                flips[wire] ^= 1
-                of_x[wire] = begins
-                constant += 2
-            elif gate[0] == "C":
-                labels[wire] ^= labels[gate[1]]
-                flips[wire] ^= flips[gate[1]]
-                of_x[wire] = max(of_x[wire], of_x[gate[1]])
-                new.append((gate, begins))
-                change(wire, 0, begins)
-            else:
-                new.append((gate, begins))
-                seen[wire] += 1
-                labels[wire] = variables.of(wire, seen[wire])
-                change(wire, 4 * flips[wire], begins)
-                flips[wire] = 0
-        # where a wire ends with a set that first comes up elsewhere, a Z stays at its end
-        ends = [wire for wire in range(self.size) if totals[labels[wire]] >= 4 and at[labels[wire]] != fresh[wire]]
-        for wire in ends:
-            totals[labels[wire]] -= 4
-        for on, place in at.items():
-            new[place] = (("P", totals[on], new[place][0][2]), new[place][1])
-        new = [it for it in new if it[0][:2] != ("P", 0)]
-        new += [(("P", 4, wire), of_x[wire]) for wire in ends]
-        new += [(("X", wire), of_x[wire]) for wire in range(self.size) if flips[wire]]
-        listed = [it for it, _ in new]
-        if listed == old:
+        old = self.listed()
+        folded = Folding(self.size)
+        for gate, begins in zip(old, self.since_listed()):
+            folded.take(gate, begins)
+        new, since = folded.written()
+        if new == old:
             return False
-        self.lines += sums_lines(listed)
-        self.turn += 2 * sum(flips) - constant
-        self.load(listed, [it for _, it in new])
+        self.lines += sums_lines(new)
+        self.turn += 2 * sum(folded.flips) - folded.constant
+        self.load(new, since)
         return True
 
     def settle(self) -> None:
@@ -594,7 +609,8 @@ class Rewriting:
         gates = self.listed()
         fans = fans_of(gates)
         odd = in_turn(self.size, [gates[it] for fan in fans for it in fan])
-        return self.reverse(fans, [it for fan in fans for it in fan if ((odd[gates[it][1]], gates[it][1]) > (odd[gates[it][2]], gates[it][2])) == is_odd])
+        rank = [(odd[wire], wire) for wire in range(self.size)]
+        return self.reverse(fans, [it for fan in fans for it in fan if (rank[gates[it][1]] > rank[gates[it][2]]) == is_odd])
 
     def reverse(self, fans: list[list[int]], places: list[int]) -> bool:
         """Reverses the CNOTs at some places, which are of CZ, between H put in beside them, by rule 5; whether there was one."""
