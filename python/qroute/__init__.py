@@ -49,9 +49,11 @@ __all__ = [
     "SAYS",
     "Stage",
     "StreamFault",
+    "Uncertified",
     "Unreadable",
     "Verdict",
     "amplitude",
+    "certify",
     "check",
     "opt",
     "perfect_layout",
@@ -725,7 +727,8 @@ def amplitude(text: str | bytes, begins: str, ends: str, *, timeout: float | Non
     return a, b, c, d, e
 
 
-from . import layouts, metrics, whole  # at the end, since they stand on what is above
+from . import certificates, layouts, metrics, whole  # at the end, since they stand on what is above
+from .certificates import Uncertified, certify
 from .layouts import Layout, perfect_layout
 from .metrics import Metrics
 from .whole import AnyGates, Unreadable

@@ -577,7 +577,7 @@ class Built(ToolTest):
         self.assertTrue(out.startswith("agrees on each of"), out + err)
 
     def test_examples_of_docstrings(self):
-        for module, least in ((qroute, 10), (qroute.layouts, 3)):
+        for module, least in ((qroute, 10), (qroute.certificates, 2), (qroute.layouts, 3)):
             failed, tried = doctest.testmod(module)
             self.assertEqual(failed, 0)
             self.assertGreater(tried, least)

@@ -19,6 +19,7 @@ class Streams(ToolTest):
         self.given = self.file("given", '[[0, 1]]\n{"fault":"Words","status":2}\n')
         self.map = self.file("map", "[[0, 1]]")
         self.calls = {
+            "certify": [program, program],
             "check-small": [program, program, report],
             "check-trace": [program, program, self.file("trace", "TRACE 1\nplace 0\nend 0\n")],
             "device": [self.map],
