@@ -349,7 +349,8 @@ def meant(goal: str, clauses: list[str]) -> str:
     if match := re.match(r"returns\b.*-clause-(\w+)", goal):
         return f"`{match.group(1)}`"
     if re.match(r"returns\b", goal):
-        return f"`{clauses[0]}`" if len(clauses) == 1 and clauses[0] else "the clause" if clauses in ([""], []) else f"`{goal}`"
+        # one goal for all clauses
+        return ", ".join(f"`{it}`" for it in clauses if it) or "the clause"
     return f"within, `{goal}`"
 
 
