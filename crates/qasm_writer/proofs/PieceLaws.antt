@@ -9,6 +9,7 @@
 --   on_err, on_err-same, on_ok-map, on_err-map, then-ok, then-err    the same for what a call answers
 --   last-ok, last-err    what a call answers that puts the last of some lines behind a loop
 --   fault-whole, Sends-whole, Sends-rest, rest-fault    a whole text by an empty buffer
+--   Sends-kept           the same, if the sink takes nothing: the text is in the buffer
 use Rattle.std.proofs.Common.{◌≡◌, ℕ, ◌+◌, List, [], ◌++◌, Option, Some, None, Result, Ok, Err, OnErr, OnOk, refl, sym, subst, ap, ◌∙◌, arith, append_assoc, append-nil, length, length-append, take}
 use Rattle.std.proofs.Math.Seq.{take-append-add}
 use Rattle.std.proofs.lemmas.List.{take-append-le}
@@ -160,6 +161,10 @@ Sends-rest a b c r s xs e h gained =
 
 pub rest-fault : (a b c : Option (List ℕ)) (r s xs : List ℕ) → r ≡ [] → Sends a r b s xs → GainsPrefix b c s → GainsPrefix a c xs
 rest-fault a b c r s xs e h failed = fault-whole a c r xs e (Leads-fault a b c r s xs [] h failed)
+
+pub Sends-kept : (r s xs : List ℕ) → r ≡ [] → Sends (Some []) r (Some []) s xs → s ≡ xs
+Sends-kept r s xs e h =
+    sym (append-nil s) ∙ ap (λ z. z ++ (s ++ [])) h.gained ∙ sym h.all ∙ ap (λ (z : List ℕ). z ++ xs) e
 
 pub ruleset pieces = (Leads-start, Leads-sent)
 
