@@ -6,6 +6,7 @@ pub mod Outcomes
 pub mod Spelling
 pub mod Progress
 pub mod Pairs
+pub mod Known
 pub mod Elides
 pub mod Names
 pub mod Sums
