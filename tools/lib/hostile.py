@@ -238,6 +238,16 @@ def phases(count):
     return ONE + "t q[0];\n" + "t q[0];\ntdg q[0];\n" * (count // 2 - 1) + "t q[0];\n"
 
 
+def t_gates(count):
+    """T gates on one wire."""
+    return ONE + "t q[0];\n" * count
+
+
+def many_t_gates():
+    """As many of them as may be."""
+    return t_gates(MOST_OPERATIONS)
+
+
 def far_joins(count):
     """The one gate that they are, and a trace that joins the first of them with the last, again and again."""
     joins = [f"join 0 {it}" for it in range(count - 1, 0, -1)]
@@ -254,6 +264,22 @@ def far_boths(count, wires=256):
     """Nothing of them, by a trace that takes the first and the same after the middle away, again and again."""
     boths = [f"both 0 {it}" for it in range(count // 2, 0, -1)]
     return HEAD + f"qreg q[{wires}];\n" + commented(["TRACE 1", *boths, *emitted(wires, 0)])
+
+
+def growing_parts(gates, rounds, is_at_many=False, is_kept=False):
+    """So many T gates, and a trace that puts two gates before one of them that do nothing, and takes them out, again and again.
+
+    They come before the first gate or before many, and go at once or all together in the end.
+    """
+    places = [it * 7_919 % gates if is_at_many else 0 for it in range(rounds)]
+    lines = []
+    for it in places:
+        lines += [f"part {it} {it} 2", "P 1 0", "P 7 0"]
+        if not is_kept:
+            lines.append(f"part {it} {it + 2} 0")
+    if is_kept:
+        lines.append(f"part 0 {2 * rounds} 0")
+    return t_gates(gates) + commented(["TRACE 2", *lines, *emitted(1, gates)])
 
 
 def dense_sums(pairs):
@@ -338,6 +364,9 @@ KINDS = [
     Kind("the same, its one step again and again", VERIFY, 0, lambda: in_turn(2_000), target=lambda: in_turn_target(2_000, True)),
     Kind("a trace of joins far apart", VERIFY, 0, lambda: phases(MOST_OPERATIONS), target=lambda: far_joins(MOST_OPERATIONS)),
     Kind("a trace of pairs far apart", VERIFY, 0, lambda: far_pairs(MOST_OPERATIONS), target=lambda: far_boths(MOST_OPERATIONS)),
+    Kind("a trace of parts that grow and shrink", VERIFY, 0, many_t_gates, target=lambda: growing_parts(MOST_OPERATIONS, 20_000)),
+    Kind("the same at many places", VERIFY, 0, many_t_gates, target=lambda: growing_parts(MOST_OPERATIONS, 20_000, is_at_many=True)),
+    Kind("a trace of parts that grow", VERIFY, 0, many_t_gates, target=lambda: growing_parts(MOST_OPERATIONS, 20_000, is_kept=True)),
     Kind("a trace of 400,000 sums of nothing", VERIFY, 0, lambda: f"{HEAD}qreg q[256];\n", target=lambda: empty_sums(400_000)),
     Kind("a trace of dense sums", VERIFY, 1, lambda: PAIR, target=lambda: dense_sums(min(100_000, MOST_TARGET // 26))),
     Kind("a trace that never applies", VERIFY, 1, lambda: ONE, target=lambda: traced(["TRACE 1"], "//!rule 1 0\n")),

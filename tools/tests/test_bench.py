@@ -192,6 +192,9 @@ class Bench(ToolTest):
                 (hostile.phases(10), hostile.far_joins(10), "yes 0"),
                 (hostile.far_pairs(20, 4), hostile.far_boths(20, 4), "yes 0"),
                 (hostile.HEAD + "qreg q[4];\n", hostile.empty_sums(3, 4), "yes 0"),
+                (hostile.t_gates(9), hostile.growing_parts(9, 5), "yes 0"),
+                (hostile.t_gates(9), hostile.growing_parts(9, 5, is_at_many=True), "yes 0"),
+                (hostile.t_gates(9), hostile.growing_parts(9, 5, is_kept=True), "yes 0"),
             ):
                 self.assertEqual(checked(source, target), wanted)
             for it in hostile.KINDS:

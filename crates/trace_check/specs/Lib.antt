@@ -8,6 +8,4 @@ pub mod Progress
 pub mod Pairs
 pub mod Known
 pub mod Elides
-pub mod Names
-pub mod Sums
 pub mod RuleWindows

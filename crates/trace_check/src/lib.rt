@@ -14,14 +14,11 @@ mod goals;
 mod known;
 pub mod laws;
 mod mark;
-mod names;
 mod numbers;
 mod pairs;
 mod parts;
 mod routed;
 mod routing;
-mod sums;
-mod touched;
 mod windows;
 mod words;
 
