@@ -130,18 +130,19 @@ class Examples(AnyGates):
             self.assertLess(self.apart(list(simulation.statements(qasm.read(text))), 10, found), 1e-7, f"{name} on {on}")
 
     def test_large_ones_are_simulated(self):
-        """The others, by turns on one of the devices: all but three, whose states have 2^20 terms or more; there is room for a million."""
+        """The others, on each of the devices that holds them: all but three, whose states have 2^20 terms or more; there is room for a million."""
         if simulation.numpy is None or not ALL:
             self.skipTest("numpy isn't installed" if ALL else "it takes minutes, so it runs with QROUTE_TEST_ALL alone")
         left = set()
-        for turn, path in enumerate(sorted(glob.glob(f"{TOP}/examples/literature/*.qasm")) + sorted(glob.glob(f"{TOP}/examples/sabre/*.qasm"))):
+        for path in sorted(glob.glob(f"{TOP}/examples/literature/*.qasm")) + sorted(glob.glob(f"{TOP}/examples/sabre/*.qasm")):
             program = qasm.read(qasm.text_in(path))
             size, name = len(program.wires), os.path.basename(path).removesuffix(".qasm")
             if size <= 8 and len(program.steps) <= 150 or name == "qft_20":
                 continue
             devices = [it for it in map(qroute.Device.named, DEVICES) if size <= it.qubits()]
             try:
-                self.compare_large(program, qasm.text_in(path), devices[turn % len(devices)], name)
+                for device in devices:
+                    self.compare_large(program, qasm.text_in(path), device, name)
             except simulation.TooMany:
                 left.add(name)
         self.assertEqual(left, {"qft_cut_64", "surface_code_5"})
