@@ -41,7 +41,7 @@ class Test(ToolTest):
     def test_a_name_that_is_none(self):
         status, out, err = self.run_tool("test", "nosuch")
         self.assertEqual((status, out, err.count("\n")), (2, "", 1))
-        self.assertRegex(err, "^test: no tests of the name nosuch; there are [a-z_ ]*\\bbench [a-z_ ]*\\bbuild case_files check_small ")
+        self.assertRegex(err, "^test: no tests of the name nosuch; there are [a-z_ ]*\\bbench [a-z_ ]*\\bbuild case_files certify check_small ")
 
     def test_what_fails_is_told(self):
         path = self.program()
