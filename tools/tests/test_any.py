@@ -6,6 +6,7 @@ import os
 import random
 import re
 import sys
+import unittest.mock
 
 from tool import TOP, ToolTest
 
@@ -130,19 +131,22 @@ class Examples(AnyGates):
             self.assertLess(self.apart(list(simulation.statements(qasm.read(text))), 10, found), 1e-7, f"{name} on {on}")
 
     def test_large_ones_are_simulated(self):
-        """The others, on each of the devices that holds them: all but three, whose states have 2^20 terms or more; there is room for a million."""
+        """The others, on each of the devices that holds them: all but two, whose states have more terms than there is room for."""
         if simulation.numpy is None or not ALL:
             self.skipTest("numpy isn't installed" if ALL else "it takes minutes, so it runs with QROUTE_TEST_ALL alone")
         left = set()
         for path in sorted(glob.glob(f"{TOP}/examples/literature/*.qasm")) + sorted(glob.glob(f"{TOP}/examples/sabre/*.qasm")):
             program = qasm.read(qasm.text_in(path))
             size, name = len(program.wires), os.path.basename(path).removesuffix(".qasm")
-            if size <= 8 and len(program.steps) <= 150 or name == "qft_20":
+            if size <= 8 and len(program.steps) <= 150:
                 continue
+            # its state has 2^20 terms, and more while CNOTs with a free qubit are turned round
+            room = 1 << 24 if name == "qft_20" else simulation.Terms.MOST
             devices = [it for it in map(qroute.Device.named, DEVICES) if size <= it.qubits()]
             try:
-                for device in devices:
-                    self.compare_large(program, qasm.text_in(path), device, name)
+                with unittest.mock.patch.object(simulation.Terms, "MOST", room):
+                    for device in devices:
+                        self.compare_large(program, qasm.text_in(path), device, name)
             except simulation.TooMany:
                 left.add(name)
         self.assertEqual(left, {"qft_cut_64", "surface_code_5"})
