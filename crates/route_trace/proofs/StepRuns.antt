@@ -19,7 +19,7 @@ use Rattle.rewrite_pass.specs.Windows.{IsWindow, HadSHad, HadSdgHad, HadZHad, Ha
 use Rattle.rewrite_pass.proofs.EditLaws.{changed_short}
 use Rattle.trace_check.specs.Lines.{Line, Rewrite}
 use Rattle.trace_check.specs.Proves.{Claim, Rewritten, Runs, State}
-use Rattle.trace_check.proofs.SpellingLaws.{Small}
+use Rattle.trace_check.specs.Spelling.{AreSmall}
 use Rattle.route_trace.proofs.TextLaws.{ended-append}
 
 pub remove-short : (gs : List Gate) (i : ℕ) → length (remove gs i) ≤ length gs
@@ -30,7 +30,7 @@ remove-short (g ∷ gs) (suc i) = omega (arith, remove-short gs i)
 
 -- ---- the numbers of a step
 record Sized (B : ℕ) (s : Step) (new : List Gate) : Type 0 where
-  small : Small (step_numbers s)
+  small : AreSmall (step_numbers s)
   size : length new ≤ B
 
 rule-below : (gs : List Gate) (i : ℕ) (w : IsWindow gs i) → rule_of gs i w < 8
@@ -54,17 +54,17 @@ window-within gs i (FourHads w) = least-below w.a w.b i (length gs) w.begins (sl
 window-within gs i (SCxSdg w) = slice_get_within gs i _ w.first
 window-within gs i (SdgCxS w) = slice_get_within gs i _ w.first
 
-small-append : (a b : List ℕ) → Small a → Small b → Small (a ++ b)
+small-append : (a b : List ℕ) → AreSmall a → AreSmall b → AreSmall (a ++ b)
 small-append [] b h g = g
 small-append (k ∷ a) b h g = (h.0, small-append a b h.1 g)
 
-gate-small : (n : ℕ) (g : Gate) → n ≤ 2 ^ 32 → IsFine n g → Small (gate_numbers g)
+gate-small : (n : ℕ) (g : Gate) → n ≤ 2 ^ 32 → IsFine n g → AreSmall (gate_numbers g)
 gate-small n (H q) le f = (omega (arith, le, f), tt)
 gate-small n (X q) le f = (omega (arith, le, f), tt)
 gate-small n (P k q) le f = (omega (arith, f.1.1), (omega (arith, le, f.0), tt))
 gate-small n (Cx c t) le f = (omega (arith, le, f.0), (omega (arith, le, f.1.0), tt))
 
-gates-small : (n : ℕ) (gs : List Gate) → n ≤ 2 ^ 32 → AllByRecursion (IsFine n) gs → Small (flat_map gate_numbers gs)
+gates-small : (n : ℕ) (gs : List Gate) → n ≤ 2 ^ 32 → AllByRecursion (IsFine n) gs → AreSmall (flat_map gate_numbers gs)
 gates-small n [] le f = tt
 gates-small n (g ∷ gs) le f = small-append (gate_numbers g) (flat_map gate_numbers gs) (gate-small n g le f.0) (gates-small n gs le f.1)
 

@@ -16,7 +16,8 @@ use Rattle.circuit_list.specs.declared.Gate.TheVariants.{H, X, P, Cx}
 use Rattle.rewrite_pass.specs.Traces.{Rule, Both, Join, Sums}
 use Rattle.rewrite_pass.specs.TraceLines.{gate_line, gate_numbers, words}
 use Rattle.trace_check.specs.Lines.{Line, Heading, Rewrite, Part, Goal, Meet, Place, Emit, Back, Elide, Swap, Turn, End, IsSmall, all_spelt, numbers_of, spelt}
-use Rattle.trace_check.proofs.SpellingLaws.{Small, small-split}
+use Rattle.trace_check.specs.Spelling.{AreSmall}
+use Rattle.trace_check.proofs.SpellingLaws.{small-split}
 use Rattle.trace_text.specs.Texts.{begun, ended, lines_of}
 
 pub ended-append : (a b : List (List ℕ)) → ended (a ++ b) ≡ ended a ++ ended b
@@ -77,11 +78,11 @@ lines-append (l ∷ a) b h g = (h.0, lines-append a b h.1 g)
 decimal-plain : (n : ℕ) → n < 2 ^ 64 → NoBreak (decimal n)
 decimal-plain n lt = decimal_by_steps (λ k ds. NoBreak ds) (λ k l. ((λ e. absurd (omega arith)), tt)) (λ k ds le h. plain-append ds ((48 + k % 10) ∷ []) h ((λ e. absurd (omega arith)), tt)) n lt
 
-numbers-plain : (ks : List ℕ) → Small ks → NoBreak (flat_map (λ k. 32 ∷ decimal k) ks)
+numbers-plain : (ks : List ℕ) → AreSmall ks → NoBreak (flat_map (λ k. 32 ∷ decimal k) ks)
 numbers-plain [] h = tt
 numbers-plain (k ∷ ks) h = plain-append (32 ∷ decimal k) (flat_map (λ k. 32 ∷ decimal k) ks) ((λ e. absurd (omega (arith, e))), decimal-plain k (omega (arith, h.0))) (numbers-plain ks h.1)
 
-words-plain : (w ks : List ℕ) → NoBreak w → Small ks → NoBreak (words w ks)
+words-plain : (w ks : List ℕ) → NoBreak w → AreSmall ks → NoBreak (words w ks)
 words-plain w ks h s = plain-append w (flat_map (λ k. 32 ∷ decimal k) ks) h (numbers-plain ks s)
 
 letter : (a : ℕ) → 10 < a → NoBreak (a ∷ [])
@@ -96,17 +97,17 @@ four a b c d ha hb hc hd = ((λ e. absurd (omega arith)), three b c d hb hc hd)
 five : (a b c d f : ℕ) → 10 < a → 10 < b → 10 < c → 10 < d → 10 < f → NoBreak (a ∷ b ∷ c ∷ d ∷ f ∷ [])
 five a b c d f ha hb hc hd hf = ((λ e. absurd (omega arith)), four b c d f hb hc hd hf)
 
-gate-plain : (g : Gate) → Small (gate_numbers g) → NoBreak (gate_line g)
+gate-plain : (g : Gate) → AreSmall (gate_numbers g) → NoBreak (gate_line g)
 gate-plain (H q) s = words-plain (codes "H") (q ∷ []) (letter 72 (omega arith)) s
 gate-plain (X q) s = words-plain (codes "X") (q ∷ []) (letter 88 (omega arith)) s
 gate-plain (P k q) s = words-plain (codes "P") (k ∷ q ∷ []) (letter 80 (omega arith)) s
 gate-plain (Cx c t) s = words-plain (codes "C") (c ∷ t ∷ []) (letter 67 (omega arith)) s
 
-gates-plain : (gs : List Gate) → Small (flat_map gate_numbers gs) → NoBreaks (map gate_line gs)
+gates-plain : (gs : List Gate) → AreSmall (flat_map gate_numbers gs) → NoBreaks (map gate_line gs)
 gates-plain [] h = tt
 gates-plain (g ∷ gs) h = let s = small-split (gate_numbers g) (flat_map gate_numbers gs) h in (gate-plain g s.0, gates-plain gs s.1)
 
-plain : (l : Line) → Small (numbers_of l) → NoBreaks (spelt l)
+plain : (l : Line) → AreSmall (numbers_of l) → NoBreaks (spelt l)
 plain (Heading v) h = (words-plain (codes "TRACE") (v ∷ []) (five 84 82 65 67 69 (omega arith) (omega arith) (omega arith) (omega arith) (omega arith)) h, tt)
 plain (Rewrite (Rule k i)) h = (words-plain (codes "rule") (k ∷ i ∷ []) (four 114 117 108 101 (omega arith) (omega arith) (omega arith) (omega arith)) h, tt)
 plain (Rewrite (Both i j)) h = (words-plain (codes "both") (i ∷ j ∷ []) (four 98 111 116 104 (omega arith) (omega arith) (omega arith) (omega arith)) h, tt)

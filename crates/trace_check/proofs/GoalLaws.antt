@@ -24,8 +24,8 @@ use Rattle.trace_check.specs.Progress.{BlockedWith, LeadsOn, reached}
 use Rattle.trace_check.specs.Proves.{Applies, Claim, Rewritten, Seeking, State}
 use Rattle.trace_check.specs.Spelling.{AreSmall}
 use Rattle.trace_check.proofs.GateLaws.{fine-small}
-use Rattle.trace_check.proofs.KindLaws.{kind_of, stuck-numbers}
-use Rattle.trace_check.proofs.SpellingLaws.{first_numbers, line_gates}
+use Rattle.trace_check.proofs.KindLaws.{stuck-numbers}
+use Rattle.trace_check.proofs.SpellingLaws.{first_numbers, kind_of, line_gates}
 
 -- ---- the line `goal`
 pub goal-turns : (ks : List ℕ) (count : ℕ) (s t : Passed) (h : Held) (lines behind : List (List ℕ)) → AreSmall ks → ks ≡ count ∷ [] → s.body.wires ≤ most_wires → All (IsFine s.body.wires) t.body.gates →

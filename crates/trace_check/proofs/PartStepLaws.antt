@@ -29,8 +29,8 @@ use Rattle.trace_check.specs.Progress.{Blocked, Leads, reached}
 use Rattle.trace_check.specs.Proves.{slice_of}
 use Rattle.trace_check.specs.Spelling.{AreSmall}
 use Rattle.trace_check.proofs.GateLaws.{fine-small}
-use Rattle.trace_check.proofs.KindLaws.{kind_of, stuck-numbers}
-use Rattle.trace_check.proofs.SpellingLaws.{first_numbers, gates-unique, line_gates}
+use Rattle.trace_check.proofs.KindLaws.{stuck-numbers}
+use Rattle.trace_check.proofs.SpellingLaws.{first_numbers, gates-unique, kind_of, line_gates}
 use Rattle.trace_check.proofs.StepLaws.{Changed, IsRewriting, changed-by, leads-by}
 
 pub part-leads : (ks : List ℕ) (i j count : ℕ) (gates : List Gate) (s t : Passed) (turn : ℕ) (lines behind : List (List ℕ)) → AreSmall ks → ks ≡ i ∷ j ∷ count ∷ [] → s.body.wires ≤ most_wires →

@@ -22,8 +22,8 @@ use Rattle.std.specs.declared.result.Result.TheVariants.{Ok, Err}
 use Rattle.std.proofs.lemmas.List.Elements.{All-from_recursion}
 use Rattle.unitary_model.specs.Placement.{exchanged}
 use Rattle.trace_check.specs.Proves.{on_qubits, swap_cx, turn_cx, turned_cx}
-use Rattle.trace_check.proofs.KindLaws.{kind_of, stuck-line}
-use Rattle.trace_check.proofs.SpellingLaws.{with_one, with_two}
+use Rattle.trace_check.proofs.KindLaws.{stuck-line}
+use Rattle.trace_check.proofs.SpellingLaws.{kind_of, with_one, with_two}
 
 pub made : (s t : Placed) → s.first ≡ t.first → s.now ≡ t.now → s.rest ≡ t.rest → s.written ≡ t.written → s.turn ≡ t.turn → Routed s ≡ Routed t
 made s t a b c d e = λ i. Routed (record { first = a i; now = b i; rest = c i; written = d i; turn = e i })

@@ -39,10 +39,10 @@ use Rattle.trace_check.specs.Proves.{Applies, Changes, Claim, IsOpen, IsStuck, P
 use Rattle.unitary_model.specs.Placement.{IsPlacement}
 use Rattle.trace_check.specs.Spelling.{AreSmall, IsWordIn, spelling}
 use Rattle.trace_check.proofs.GateLaws.{fine-small}
-use Rattle.trace_check.proofs.KindLaws.{kind_of, stuck-numbers}
+use Rattle.trace_check.proofs.KindLaws.{stuck-numbers}
 use Rattle.trace_check.proofs.ProgressLaws.{came-more, came-start, came-stops}
 use Rattle.trace_check.proofs.RoutedLaws.{made, small-line}
-use Rattle.trace_check.proofs.SpellingLaws.{first_numbers, gates-unique, line_gates}
+use Rattle.trace_check.proofs.SpellingLaws.{first_numbers, gates-unique, kind_of, line_gates}
 
 -- ---- what a line makes of the gates that are rewritten, whatever is held
 pub record IsRewriting (w : Word) : Type 0 where

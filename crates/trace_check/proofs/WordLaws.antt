@@ -16,8 +16,7 @@ use Rattle.trace_check.specs.Spelling.{AreSmall, HasNoSpace}
 use Rattle.std.proofs.Common.{IfSome, Option, None, Some, MatchOption, get_or, ◌==◌}
 use Rattle.trace_check.specs.declared.words.Word.{Word}
 use Rattle.trace_check.specs.Spelling.{spelling}
-use Rattle.trace_check.proofs.KindLaws.{spelling-plain}
-use Rattle.trace_check.proofs.SpellingLaws.{words-unique, NoSpace-decimal, Spaced, cut, tail, tail-spaced}
+use Rattle.trace_check.proofs.SpellingLaws.{words-unique, NoSpace-decimal, Spaced, cut, spelling-plain, tail, tail-spaced}
 
 abbrev inside : ℕ → Bool
 inside b = not (nat_eq b 32)
