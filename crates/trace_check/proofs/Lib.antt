@@ -10,14 +10,6 @@ pub mod ProgressLaws
 pub mod RoutedLaws
 pub mod WrittenLaws
 pub mod PairLaws
-pub mod SparseLaws
-pub mod CollectLaws
-pub mod TouchedLaws
-pub mod NameLaws
-pub mod RenameLaws
-pub mod NamingLaws
-pub mod CountLaws
-pub mod WalkedLaws
 pub mod WalkLaws
 pub mod GateLaws
 pub mod StepLaws

@@ -7,6 +7,4 @@ pub mod Spelling
 pub mod Progress
 pub mod Pairs
 pub mod Elides
-pub mod Names
-pub mod Sums
 pub mod RuleWindows

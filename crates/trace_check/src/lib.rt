@@ -13,14 +13,11 @@ mod gates;
 mod goals;
 pub mod laws;
 mod mark;
-mod names;
 mod numbers;
 mod pairs;
 mod parts;
 mod routed;
 mod routing;
-mod sums;
-mod touched;
 mod windows;
 mod words;
 

@@ -9,9 +9,9 @@ ghost use Rattle.trace_check.specs.declared.words.Word.TheVariants as kind;
 
 use crate::gates::read_gates;
 use crate::mark::Mark;
-use crate::sums::sums;
 use crate::words::{known_small, three};
 use circuit_list::{Circuit, Passed};
+use path_sums::sums;
 use std::alloc::{AllocError, Global};
 use unitary_model::turn_sum;
 

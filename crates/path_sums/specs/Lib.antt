@@ -1,0 +1,3 @@
+-- ---- working forms
+pub mod Names
+pub mod Sums
