@@ -1,7 +1,7 @@
 //! Whether two circuits have one path sum, in variables that are named by wires.
 //!
 //! What goes in is two circuits on the same wires. What comes out is the turn from the one to the other, or that they have another
-//! path sum; it is wrong of none, whatever the circuits are. No size of them is too great but for memory. [`sums`] walks along each
+//! path sum; it is wrong of none, whatever the circuits are. No size of them is too great but for memory. [`same_sums`] walks along each
 //! once.
 #![tactic(auto)]
 
@@ -9,4 +9,4 @@ mod names;
 mod sums;
 mod touched;
 
-pub use sums::sums;
+pub use sums::same_sums;

@@ -392,7 +392,7 @@ fn walked<'a>(
 
 /// The turn from a circuit to another on the same wires with the same path sum, the constant of its path sum less that of the
 /// first. None where they have another. Fails for want of memory alone.
-pub fn sums(alloc: Global, old: &Circuit, new: &Circuit) -> Result<Option<u8>, AllocError>
+pub fn same_sums(alloc: Global, old: &Circuit, new: &Circuit) -> Result<Option<u8>, AllocError>
     requires wires { old.now.wires ≡ new.now.wires }
     ensures same { IfOk result (λ o. MatchOption o (SamePathSum old.now.wires old.now.gates new.now.gates → ⊥)
         (λ turn. SamePathSum old.now.wires old.now.gates new.now.gates × (turn ≡ (constant_of old.now.wires new.now.gates + (8 - constant_of old.now.wires old.now.gates % 8)) % 8))) }

@@ -47,7 +47,7 @@ use crate::windows::rule;
 use crate::words::{Word, known_small, one, read_words, two};
 use circuit_list::{Circuit, Passed};
 use gate_expand::{Ops, expand};
-use path_sums::sums;
+use path_sums::same_sums;
 use placement::Placement;
 use std::alloc::{AllocError, Global};
 use trace_text::first_line;
@@ -367,7 +367,7 @@ fn replaced<'a>(
         return Ok(None);
     };
     listed.body.facts();
-    let Some(turn) = sums(alloc, &state.body, &listed.body)? else {
+    let Some(turn) = same_sums(alloc, &state.body, &listed.body)? else {
         return Ok(None);
     };
     let mut body = listed.body;

@@ -11,7 +11,7 @@ use crate::gates::read_gates;
 use crate::mark::Mark;
 use crate::words::{known_small, three};
 use circuit_list::{Circuit, Passed};
-use path_sums::sums;
+use path_sums::same_sums;
 use std::alloc::{AllocError, Global};
 use unitary_model::turn_sum;
 
@@ -147,7 +147,7 @@ pub(crate) fn replaced_part<'a>(
     };
     listed.body.facts();
     let old = part(alloc, &state.body, first, end)?;
-    let Some(turn) = sums(alloc, &old, &listed.body)? else {
+    let Some(turn) = same_sums(alloc, &old, &listed.body)? else {
         return Ok(None);
     };
     put_part(alloc, &mut state.body, first, end, &listed.body)?;

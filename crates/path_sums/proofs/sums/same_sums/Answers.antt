@@ -10,8 +10,8 @@ use Rattle.path_sums.specs.Sums.{IsWalked}
 use Rattle.path_sums.proofs.CountLaws.{same-counts}
 use Rattle.path_sums.proofs.NamingLaws.{named-both}
 use Rattle.path_sums.proofs.WalkedLaws.{same-sums, sums-turn, sums-same, sums-even}
-use Rattle.path_sums.proofs.sums.sums.Goals as goal
-use Rattle.path_sums.proofs.sums.sums.Goals.{else-is_same-via-then-is_same+else-are_none, else-is_same-via-else-is_same}
+use Rattle.path_sums.proofs.sums.same_sums.Goals as goal
+use Rattle.path_sums.proofs.sums.same_sums.Goals.{else-is_same-via-then-is_same+else-are_none, else-is_same-via-else-is_same}
 
 pub returns-then-are_none : goal.returns-then-are_none
 returns-then-are_none c =
