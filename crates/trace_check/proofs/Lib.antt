@@ -10,6 +10,7 @@ pub mod ProgressLaws
 pub mod RoutedLaws
 pub mod WrittenLaws
 pub mod PairLaws
+pub mod KnownLaws
 pub mod WalkLaws
 pub mod GateLaws
 pub mod StepLaws

@@ -6,5 +6,6 @@ pub mod Outcomes
 pub mod Spelling
 pub mod Progress
 pub mod Pairs
+pub mod Known
 pub mod Elides
 pub mod RuleWindows

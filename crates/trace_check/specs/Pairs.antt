@@ -1,19 +1,14 @@
 -- Working form.
 -- Two gates of a list, past those between.
---   IsFreeOn w g gs i j     gate g commutes with each gate on wire w between the places i and j
---   IsFree g gs i j         with each gate between them
+--   IsFree g gs i j         gate g commutes with each gate between the places i and j
 --   Reduces gs i j c        c is what the gates at i and j are together, past those between: both gone, one phase, or neither
 use Rattle.std.specs.Prelude.{◌≡◌, ℕ, ◌<◌, true, List, Some, slice_get}
 use Rattle.circuit_list.specs.declared.Gate.{Gate}
-use Rattle.circuit_list.specs.Gates.{is_on}
 use Rattle.commute_rules.specs.declared.Cancel.{Cancel}
 use Rattle.commute_rules.specs.declared.Cancel.TheVariants.{No, Both, Merge}
 use Rattle.commute_rules.specs.Cancels.{cancel_of}
 use Rattle.commute_rules.specs.Commutes.{commutes}
 use Rattle.commute_rules.specs.Reducible.{IsReducible}
-
-abbrev pub IsFreeOn : ℕ → Gate → List Gate → ℕ → ℕ → Type 0
-IsFreeOn w g gs i j = (k : ℕ) (h : Gate) → i < k → k < j → slice_get gs k ≡ Some h → is_on w h ≡ true → commutes g h ≡ true
 
 abbrev pub IsFree : Gate → List Gate → ℕ → ℕ → Type 0
 IsFree g gs i j = (k : ℕ) (h : Gate) → i < k → k < j → slice_get gs k ≡ Some h → commutes g h ≡ true

@@ -29,6 +29,7 @@ ghost use Rattle.rewrite_pass.specs.TraceLines.{words};
 ghost use Rattle.rewrite_pass.specs.Traces.{IsStep, Step};
 ghost use Rattle.trace_text.specs.Texts.{lines_of};
 ghost use Rattle.trace_check.specs.Outcomes.{IsOutcome, claim};
+ghost use Rattle.trace_check.specs.Known.{AreSpans};
 ghost use Rattle.trace_check.specs.Lines.{edition_of};
 ghost use Rattle.trace_check.specs.Progress.{Blocked, Came, IsHeldFit, IsRouting, Leads, BlockedWith, LeadsOn, placed, reached, step_named};
 ghost use Rattle.trace_check.specs.Proves.{Claim, IsStuck, Routed, StopsAt, Unread};
@@ -38,6 +39,7 @@ ghost use Rattle.trace_check.specs.declared.words.Word.TheVariants as kind;
 use crate::editions::{edition_from, read_line};
 use crate::gates::read_gates;
 use crate::goals::{Held, aim, meet};
+use crate::known::Known;
 use crate::mark::Mark;
 use crate::pairs::{both, join};
 use crate::parts::replaced_part;
@@ -172,6 +174,7 @@ fn rewritten<'a>(
 {
     let mut mark = start;
     let mut held = None;
+    let mut known = Known::nothing(alloc);
     'lines: while let Some((line, text)) = first_line(mark.text) {
         let behind = Mark {
             text,
@@ -189,7 +192,7 @@ fn rewritten<'a>(
                 mark: behind,
             });
         }
-        let Some(next) = moved(alloc, behind, state, &mut held, word, numbers)? else {
+        let Some(next) = moved(alloc, behind, state, &mut held, &mut known, word, numbers)? else {
             break 'lines;
         };
         mark = next;
@@ -206,16 +209,19 @@ fn moved<'a>(
     mark: Mark<'a>,
     state: &mut Passed,
     held: &mut Option<Held>,
+    known: &mut Known,
     word: Word,
     numbers: &mut Vec<u32>,
 ) -> Result<Option<Mark<'a>>, AllocError>
     requires on { word ≡ kind.Place → ⊥ }
     requires turn { state.old.turn < 8 }
     requires held { IsHeldFit state.old.body.wires held.old }
+    requires known { AreSpans state.old.body.gates state.old.body.slots known.old.spans.items }
     requires short { mark.line + length mark.text.now < 2 ^ 32 }
     ensures wires { state.new.body.wires ≡ state.old.body.wires }
     ensures turn { state.new.turn < 8 }
     ensures held { IsHeldFit state.old.body.wires held.new }
+    ensures known { AreSpans state.new.body.gates state.new.body.slots known.new.spans.items }
     ensures shorter { IfOk result (λ o. IfSome o (λ m. length m.text.now ≤ length mark.entry.text.now)) }
     ensures short { IfOk result (λ o. IfSome o (λ m. m.line + length m.text.now ≤ mark.entry.line + length mark.entry.text.now)) }
     ensures later { IfOk result (λ o. IfSome o (λ m. mark.entry.line ≤ m.line)) }
@@ -227,16 +233,18 @@ fn moved<'a>(
         (lines_of m.text.now))) }
 {
     if word == Word::Goal {
+        known.forget();
         return aim(alloc, mark, state, held, numbers);
     }
     if word == Word::Meet {
+        known.forget();
         return if meet(state, held, numbers)? {
             Ok(Some(mark))
         } else {
             Ok(None)
         };
     }
-    changed(alloc, mark, state, word, numbers)
+    changed(alloc, mark, state, known, word, numbers)
 }
 
 /// Makes the step of a line behind which a walk is, and goes past the gates that are listed with it. None where it doesn't apply.
@@ -244,6 +252,7 @@ fn changed<'a>(
     alloc: Global,
     mark: Mark<'a>,
     state: &mut Passed,
+    known: &mut Known,
     word: Word,
     numbers: &mut Vec<u32>,
 ) -> Result<Option<Mark<'a>>, AllocError>
@@ -251,9 +260,11 @@ fn changed<'a>(
     requires goal { word ≡ kind.Goal → ⊥ }
     requires meet { word ≡ kind.Meet → ⊥ }
     requires turn { state.old.turn < 8 }
+    requires known { AreSpans state.old.body.gates state.old.body.slots known.old.spans.items }
     requires short { mark.line + length mark.text.now < 2 ^ 32 }
     ensures wires { state.new.body.wires ≡ state.old.body.wires }
     ensures turn { state.new.turn < 8 }
+    ensures known { AreSpans state.new.body.gates state.new.body.slots known.new.spans.items }
     ensures shorter { IfOk result (λ o. IfSome o (λ m. length m.text.now ≤ length mark.entry.text.now)) }
     ensures short { IfOk result (λ o. IfSome o (λ m. m.line + length m.text.now ≤ mark.entry.line + length mark.entry.text.now)) }
     ensures later { IfOk result (λ o. IfSome o (λ m. mark.entry.line ≤ m.line)) }
@@ -265,12 +276,14 @@ fn changed<'a>(
         (lines_of m.text.now))) }
 {
     if word == Word::Sums {
+        known.forget();
         return replaced(alloc, mark, state, numbers);
     }
     if word == Word::Part {
+        known.forget();
         return replaced_part(alloc, mark, state, numbers);
     }
-    if rewrites(state, word, numbers) {
+    if rewrites(state, known, word, numbers) {
         Ok(Some(mark))
     } else {
         Ok(None)
@@ -278,15 +291,17 @@ fn changed<'a>(
 }
 
 /// Makes the step of a line `rule`, `both` or `join`. False where it doesn't apply.
-fn rewrites(state: &mut Passed, word: Word, numbers: &[u32]) -> bool
+fn rewrites(state: &mut Passed, known: &mut Known, word: Word, numbers: &[u32]) -> bool
     requires place { word ≡ kind.Place → ⊥ }
     requires goal { word ≡ kind.Goal → ⊥ }
     requires meet { word ≡ kind.Meet → ⊥ }
     requires sums { word ≡ kind.Sums → ⊥ }
     requires part { word ≡ kind.Part → ⊥ }
     requires turn { state.old.turn < 8 }
+    requires known { AreSpans state.old.body.gates state.old.body.slots known.old.spans.items }
     ensures wires { state.new.body.wires ≡ state.old.body.wires }
     ensures turn { state.new.turn < 8 }
+    ensures known { AreSpans state.new.body.gates state.new.body.slots known.new.spans.items }
     ensures applies { result ≡ true → (behind : List (List ℕ)) →
         Leads word state.old state.new (words (spelling word) numbers.now ∷ behind) behind }
     ensures not { result ≡ false → (behind : List (List ℕ)) → Blocked state.old (words (spelling word) numbers.now ∷ behind) }
@@ -294,7 +309,7 @@ fn rewrites(state: &mut Passed, word: Word, numbers: &[u32]) -> bool
     let Some((first, second)) = two(numbers) else {
         return false;
     };
-    match step(&mut state.body, word, first, second) {
+    match step(&mut state.body, known, word, first, second) {
         Some(turn) => {
             state.turn = turn_sum(state.turn, turn);
             true
@@ -304,7 +319,9 @@ fn rewrites(state: &mut Passed, word: Word, numbers: &[u32]) -> bool
 }
 
 /// Makes the step that a word and two numbers tell, and gives its turn. None where there is none, or where it doesn't apply.
-fn step(body: &mut Circuit, word: Word, first: u32, second: u32) -> Option<u8>
+fn step(body: &mut Circuit, known: &mut Known, word: Word, first: u32, second: u32) -> Option<u8>
+    requires known { AreSpans body.old.gates body.old.slots known.old.spans.items }
+    ensures known { AreSpans body.new.gates body.new.slots known.new.spans.items }
     ensures wires { body.new.wires ≡ body.old.wires }
     ensures turn { IfSome result (λ turn. turn < 8) }
     ensures step { MatchOption result ((p : Step) (gates : List Gate) (turn : ℕ) → step_named word first second ≡ Some p →
@@ -313,10 +330,13 @@ fn step(body: &mut Circuit, word: Word, first: u32, second: u32) -> Option<u8>
         × IsStep body.old.wires body.old.gates p body.new.gates turn)) }
 {
     match word {
-        Word::Rule => rule(body, first, second as usize),
-        Word::Both => both(body, first as usize, second as usize),
+        Word::Rule => {
+            known.forget();
+            rule(body, first, second as usize)
+        }
+        Word::Both => both(body, known, first as usize, second as usize),
         Word::Join => {
-            if join(body, first as usize, second as usize) {
+            if join(body, known, first as usize, second as usize) {
                 Some(0)
             } else {
                 None

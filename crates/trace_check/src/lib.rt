@@ -11,6 +11,7 @@ mod editions;
 mod elides;
 mod gates;
 mod goals;
+mod known;
 pub mod laws;
 mod mark;
 mod numbers;

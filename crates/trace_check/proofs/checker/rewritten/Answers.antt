@@ -50,6 +50,7 @@ lines-preserved c =
       short = omega (arith, short, c.in-Some.ensures.shorter, c.lines.invariant.short);
       later = omega (arith, later, c.lines.invariant.later);
       held = subst (λ n. IsHeldFit n new) (sym c.in_ok-next.ensures.wires) c.in_ok-next.ensures.held;
+      known = c.in_ok-next.ensures.known;
       came = λ e trace n q k is.
           let h = c.lines.invariant.came e trace n q k is in
           came-turns e c.args.edition trace c.in-Some-2.word old s new t (lines_of c.lines.mark.text.now) (lines_of m.text.now) h.0 c.lines.mark.line m.line read.0 (q ∙ sym c.lines.invariant.wires) turns h.1.0 h.1.1 all;

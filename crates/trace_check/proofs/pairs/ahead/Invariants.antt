@@ -1,15 +1,15 @@
--- The gate commutes with what it has come to on the wire.
+-- The probe commutes with what it has come to on the wire.
 use Rattle.std.proofs.Common.{◌≡◌, ◌+◌, ◌-◌, ◌≤◌, length, true}
 use Rattle.circuit_list.specs.Slots.{IsLive, is_on_at, place_of}
-use Rattle.trace_check.specs.Pairs.{IsFreeOn}
-use Rattle.trace_check.proofs.pairs.is_free_on.Given as goal
+use Rattle.trace_check.specs.Known.{IsBetween}
+use Rattle.trace_check.proofs.pairs.ahead.Given as goal
 
 abbrev pub invariant-gates : goal.invariant-gates
 invariant-gates l = record {
   live : IsLive l.body l.at;
   on : is_on_at l.wire l.body.gates (place_of l.at l.body.slots) ≡ true;
-  from : place_of l.fn.from l.body.slots ≤ place_of l.at l.body.slots;
-  free : IsFreeOn l.wire l.gate l.body.gates (place_of l.fn.from l.body.slots) (place_of l.at l.body.slots + 1);
+  from : l.fn.from ≤ l.at;
+  clear : IsBetween l.probe l.body.gates l.body.slots l.fn.from (l.at + 1);
 }
 
 abbrev pub decreases-gates : goal.decreases-gates
