@@ -1,4 +1,5 @@
 -- What is remembered of gates that stand far apart.
+--   span-there, spans-pushed            one of them, and one more
 --   AreSpans-remove, AreSpans-set       spans stay where a gate goes, and where a phase gets another number
 --   live-slot, slot-order               slots of gates, and the order of their places
 --   slot-clear, place-clear, slot-stops     a gate in a slot commutes with the probe, or doesn't
@@ -9,8 +10,9 @@
 --   free-between, between-free          the same by places
 --   phase-free, free-phase, cx-free, free-control, free-target      a gate by its probes
 --   x-ends, phase-ends, control-ends, target-ends      the probes of two gates that cancel or merge
-use Rattle.std.proofs.Common.{◌≡◌, inl, inr, ◌⊎◌, ℕ, zero, suc, ◌+◌, ◌<◌, ◌≤◌, ◌%◌, Bool, true, false, cond, not, ◌&&◌, ◌||◌, ◌==◌, List, [], ◌∷◌, All, Some, length, set, refl, sym, subst, ◌∙◌, ap, arith, slice_get}
+use Rattle.std.proofs.Common.{◌≡◌, inl, inr, ◌⊎◌, ℕ, zero, suc, ◌+◌, ◌<◌, ◌≤◌, ◌%◌, Bool, true, false, cond, not, ◌&&◌, ◌||◌, ◌==◌, if◌then◌else◌, List, [], ◌∷◌, ◌++◌, All, Some, get_or, length, set, refl, sym, subst, ◌∙◌, ap, arith, slice_get}
 use Rattle.std.specs.List.{remove}
+use Rattle.std.proofs.lemmas.List.Elements.{All-push}
 use Rattle.std.proofs.lemmas.Bool.{and_from, cases_lt, eq-eqb, eqb-true, ne_eqb}
 use Rattle.std.proofs.lemmas.Bool.Decides.{eqb_tells}
 use Rattle.circuit_list.specs.Body.{Body}
@@ -25,13 +27,21 @@ use Rattle.trace_check.specs.Known.{AreEnds, AreSpans, IsBetween, IsClear, IsPro
 use Rattle.trace_check.specs.Pairs.{IsFree}
 use Rattle.trace_check.specs.declared.known.Span.{Span}
 
--- ---- a list without one element
-up : ℕ → ℕ → ℕ
-up zero j = suc j
-up (suc i) zero = zero
-up (suc i) (suc j) = suc (up i j)
+-- ---- one of the spans, and one more
+pub span-there : (gs : List Gate) (slots : List ℕ) (ss : List Span) (i : ℕ) (s : Span) → i < length ss → s ≡ get_or ss i s → AreSpans gs slots ss → IsSpan gs slots s
+span-there gs slots ss i s lt e h = subst (IsSpan gs slots) (sym e) (h i s lt)
 
-get-remove : {A : Type 0} (xs : List A) (i j : ℕ) (x : A) → slice_get (remove xs i) j ≡ Some x → slice_get xs (up i j) ≡ Some x
+pub spans-pushed : (gs : List Gate) (slots : List ℕ) (old new : List Span) (s : Span) (b : Bool) → new ≡ (if b then old ++ s ∷ [] else old) → AreSpans gs slots old → IsSpan gs slots s → AreSpans gs slots new
+spans-pushed gs slots old new s true e h span = subst (AreSpans gs slots) (sym e) (All-push (IsSpan gs slots) old s h span)
+spans-pushed gs slots old new s false e h span = subst (AreSpans gs slots) (sym e) h
+
+-- ---- a list without one element
+abbrev past : ℕ → ℕ → ℕ
+past zero j = suc j
+past (suc i) zero = zero
+past (suc i) (suc j) = suc (past i j)
+
+get-remove : {A : Type 0} (xs : List A) (i j : ℕ) (x : A) → slice_get (remove xs i) j ≡ Some x → slice_get xs (past i j) ≡ Some x
 get-remove [] zero j x e = absurd (cc)
 get-remove [] (suc i) j x e = absurd (cc)
 get-remove (y ∷ ys) zero j x e = e
@@ -39,10 +49,11 @@ get-remove (y ∷ ys) (suc i) zero x e = e
 get-remove (y ∷ ys) (suc i) (suc j) x e = get-remove ys i j x e
 
 span-remove : (gs : List Gate) (slots : List ℕ) (i : ℕ) (s : Span) → IsSpan gs slots s → IsSpan (remove gs i) (remove slots i) s
-span-remove gs slots i s h k x g slot gate = h (up i k) x g (get-remove slots i k x slot) (get-remove gs i k g gate)
+span-remove gs slots i s h k x g slot gate = h (past i k) x g (get-remove slots i k x slot) (get-remove gs i k g gate)
 
-pub AreSpans-remove : (gs : List Gate) (slots : List ℕ) (i : ℕ) (ss : List Span) → AreSpans gs slots ss → AreSpans (remove gs i) (remove slots i) ss
-AreSpans-remove gs slots i ss h = λ j d lt. span-remove gs slots i _ (h j d lt)
+pub AreSpans-remove : (gs hs : List Gate) (slots more : List ℕ) (i : ℕ) (ss : List Span) → hs ≡ remove gs i → more ≡ remove slots i → AreSpans gs slots ss → AreSpans hs more ss
+AreSpans-remove gs hs slots more i ss e f h = λ j d lt.
+    subst (λ x. IsSpan x more (get_or ss j d)) (sym e) (subst (λ x. IsSpan (remove gs i) x (get_or ss j d)) (sym f) (span-remove gs slots i (get_or ss j d) (h j d lt)))
 
 -- ---- a phase with another number
 -- g and b are the same to each other gate
@@ -78,8 +89,9 @@ span-set gs slots i k o s e h j x b slot gate from to =
     let w = was gs i o (with_phase k o) j b e (alike-with k o) gate in
     w.alike s.probe ∙ h j x w.old slot w.there from to
 
-pub AreSpans-set : (gs : List Gate) (slots : List ℕ) (i k : ℕ) (o : Gate) (ss : List Span) → slice_get gs i ≡ Some o → AreSpans gs slots ss → AreSpans (set gs i (with_phase k o)) slots ss
-AreSpans-set gs slots i k o ss e h = λ j d lt. span-set gs slots i k o _ e (h j d lt)
+pub AreSpans-set : (gs hs : List Gate) (slots more : List ℕ) (i k : ℕ) (o g : Gate) (ss : List Span) → slice_get gs i ≡ Some o → g ≡ with_phase k o → hs ≡ set gs i g → more ≡ slots → AreSpans gs slots ss → AreSpans hs more ss
+AreSpans-set gs hs slots more i k o g ss e same f m h = λ j d lt.
+    subst (λ x. IsSpan x more (get_or ss j d)) (sym (f ∙ ap (set gs i) same)) (subst (λ x. IsSpan (set gs i (with_phase k o)) x (get_or ss j d)) (sym m) (span-set gs slots i k o (get_or ss j d) e (h j d lt)))
 
 -- ---- slots and places
 place-get : (s : ℕ) (xs : List ℕ) → place_of s xs < length xs → slice_get xs (place_of s xs) ≡ Some s

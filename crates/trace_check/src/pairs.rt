@@ -2,6 +2,7 @@
 
 ghost use Rattle.std.specs.Prelude.{◌≡◌, ℕ, ◌<◌, ◌≤◌, List, MatchOption, Some, false, length, slice_get, true};
 ghost use Rattle.circuit_list.specs.declared.Gate.{Gate};
+ghost use Rattle.circuit_list.specs.Gates.{IsFine};
 ghost use Rattle.circuit_list.specs.Slots.{IsLive, is_on_at, place_of};
 ghost use Rattle.commute_rules.specs.Cancels.{Cancels, with_phase};
 ghost use Rattle.rewrite_pass.specs.Traces.{IsBothStep, IsJoinStep};
@@ -83,9 +84,10 @@ fn is_clear(body: &Circuit, known: &mut Known, from: Slot, to: Slot, probe: Gate
     let Some(after) = behind(body, span.to, to, probe, wire) else {
         return false;
     };
-    if before.saturating_add(after) >= FAR {
-        known.keep(found.place, wider(span, from, to));
+    if before.saturating_add(after) < FAR {
+        return true;
     }
+    known.keep(found.place, wider(span, from, to));
     true
 }
 
@@ -102,18 +104,19 @@ fn is_free(
     requires other { slice_get body.now.gates second ≡ Some other }
     requires ordered { first < second }
     requires pair { Cancels gate other }
+    requires fine { IsFine body.now.wires gate }
     requires known { AreSpans body.now.gates body.now.slots known.old.spans.items }
     ensures free { result ≡ true → IsFree gate body.now.gates first second }
     ensures not { result ≡ false → ¬ (IsFree gate body.now.gates first second) }
     ensures known { AreSpans body.now.gates body.now.slots known.new.spans.items }
 {
-    // it says that the slots ascend, and that the two wires of a CNOT differ
+    // it says that the slots ascend
     body.facts();
     let from = body.slot(first);
     let to = body.slot(second);
     match gate {
-        Gate::H { q } => ahead(body, from, to, gate, q).is_some(),
-        Gate::X { q } => is_clear(body, known, from, to, gate, q),
+        Gate::H { q } => ahead(body, from, to, Gate::H { q }, q).is_some(),
+        Gate::X { q } => is_clear(body, known, from, to, Gate::X { q }, q),
         Gate::P { k: _, q } => is_clear(body, known, from, to, Gate::P { k: 1, q }, q),
         Gate::Cx { c, t } => {
             if !is_clear(body, known, from, to, Gate::P { k: 1, q: c }, c) {
