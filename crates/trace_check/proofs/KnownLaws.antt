@@ -7,10 +7,11 @@
 --   prev-between, none-before           the same the other way round
 --   on-between, back-between            what is known up to a slot, and from it on
 --   known-between, known-wider          a span with what was looked at on both sides of it
+--   some-is, some-not      what an answer that may be missing says
 --   free-between, between-free          the same by places
 --   phase-free, free-phase, cx-free, free-control, free-target      a gate by its probes
 --   x-ends, phase-ends, control-ends, target-ends      the probes of two gates that cancel or merge
-use Rattle.std.proofs.Common.{◌≡◌, inl, inr, ◌⊎◌, ℕ, zero, suc, ◌+◌, ◌<◌, ◌≤◌, ◌%◌, Bool, true, false, cond, not, ◌&&◌, ◌||◌, ◌==◌, if◌then◌else◌, List, [], ◌∷◌, ◌++◌, All, Some, get_or, length, set, refl, sym, subst, ◌∙◌, ap, arith, slice_get}
+use Rattle.std.proofs.Common.{◌≡◌, inl, inr, ◌⊎◌, ℕ, zero, suc, ◌+◌, ◌<◌, ◌≤◌, ◌%◌, Bool, true, false, cond, not, ◌&&◌, ◌||◌, ◌==◌, if◌then◌else◌, List, [], ◌∷◌, ◌++◌, All, MatchOption, Option, None, Some, is_some, get_or, length, set, refl, sym, subst, ◌∙◌, ap, arith, slice_get}
 use Rattle.std.specs.List.{remove}
 use Rattle.std.proofs.lemmas.List.Elements.{All-push}
 use Rattle.std.proofs.lemmas.Bool.{and_from, cases_lt, eq-eqb, eqb-true, ne_eqb}
@@ -138,6 +139,18 @@ get-within [] k x e = absurd (cc)
 get-within (y ∷ ys) zero x e = omega arith
 get-within (y ∷ ys) (suc k) x e = let l = get-within ys k x e in omega (arith, l)
 
+clash : (b : Bool) → b ≡ true → b ≡ false → ⊥
+clash b e f = cc
+
+-- ---- an answer that is there, or isn't
+pub some-is : {A : Type 0} (o : Option ℕ) (r : Bool) → r ≡ is_some o → r ≡ true → MatchOption o (A → ⊥) (λ _. A) → A
+some-is (Some n) r e y h = h
+some-is None r e y h = absurd (clash r y e)
+
+pub some-not : {A : Type 0} (o : Option ℕ) (r : Bool) → r ≡ is_some o → r ≡ false → MatchOption o (A → ⊥) (λ _. A) → A → ⊥
+some-not (Some n) r e y h = absurd (clash r e y)
+some-not None r e y h = h
+
 -- ---- one gate
 pub slot-clear : (g : Gate) (gs : List Gate) (slots : List ℕ) (s i : ℕ) (b : Gate) → Ascend slots → slice_get slots i ≡ Some s → slice_get gs i ≡ Some b → commutes g b ≡ true → IsClear g gs slots s s
 slot-clear g gs slots s i b up e there ok k x h slot gate from to = subst (λ z. commutes g z ≡ true) (same_some b h (sym there ∙ ap (slice_get gs) (sym place) ∙ gate)) ok
@@ -153,9 +166,6 @@ live-slot b long s live = subst (λ n. place_of s b.slots < n) (sym long) live
 
 pub place-clear : (g : Gate) (gs : List Gate) (slots : List ℕ) (s : ℕ) (b : Gate) → Ascend slots → place_of s slots < length slots → slice_get gs (place_of s slots) ≡ Some b → commutes g b ≡ true → IsClear g gs slots s s
 place-clear g gs slots s b up live there ok = slot-clear g gs slots s (place_of s slots) b up (place-get s slots live) there ok
-
-clash : (b : Bool) → b ≡ true → b ≡ false → ⊥
-clash b e f = cc
 
 pub slot-stops : (g : Gate) (gs : List Gate) (slots : List ℕ) (s t n : ℕ) (b : Gate) → place_of n slots < length slots → slice_get gs (place_of n slots) ≡ Some b → commutes g b ≡ false →
     s < n → n < t → IsBetween g gs slots s t → ⊥
