@@ -22,7 +22,7 @@ use Rattle.sabre_route.specs.Machine.{start}
 use Rattle.sabre_route.specs.Routing.{turned, written}
 use Rattle.sabre_route.specs.Telling.{IsRoutedBy}
 use Rattle.trace_check.specs.Lines.{Line, Rewrite, Place, End, IsSmall, all_spelt, edition_of, spelt}
-use Rattle.trace_check.proofs.StepLaws.{edition-named}
+use Rattle.trace_check.proofs.StepLaws.{edition-first}
 use Rattle.trace_check.specs.Proves.{Claim, Proved, Proves, Rewritten, Runs, State, Unread}
 use Rattle.trace_text.specs.Texts.{ended, lines_of}
 use Rattle.unitary_model.specs.Placement.{IsPlacement}
@@ -157,5 +157,5 @@ trace-proves ahead d ss n m gs given r xs turn text near le fits placed fine h l
     (omega (arith, short, ap length same, steps-within ss given (event_lines d.edges given gs xs) turn)) (omega arith) e t wires qubits (omega (arith, source, length-expanded e.source)) steps target whole in
     let lines : lines_of text ≡ all_spelt ls = ap lines_of same ∙ lines-ended (all_spelt ls) (spelt-plain ls (runs-small e Unread ls [] (Proved given r.last turn) run)) in
     let rest : List Line = map (λ s. Rewrite s) ss ++ (Place given ∷ (event_lines d.edges given gs xs ++ End turn ∷ [])) in
-    let named : edition_of (lines_of text) ≡ 1 = ap edition_of lines ∙ edition-named 1 (all_spelt rest) (inl refl) in
+    let named : edition_of (lines_of text) ≡ 1 = ap edition_of lines ∙ edition-first (all_spelt rest) in
     record { lines = ls; text = lines; run = subst (λ v. Runs e v Unread ls [] (Proved given r.last turn)) (sym named) run }

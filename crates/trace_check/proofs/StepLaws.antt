@@ -8,15 +8,15 @@
 --     NoStep, blocked-step            a line that doesn't;  no-numbers, no-change: since its numbers are others, or the step isn't there
 --     sums-leads          a line `sums` that applies
 --     NoSums, blocked-sums            one that doesn't;  no-count, no-gates, no-sum: why
---     edition-named, edition-either   the edition of a trace
+--     edition-first, edition-named, edition-other, edition-either     the edition of a trace
 --     came-heading, stuck-heading     the first line
 --     came-place, stuck-place, stuck-held     the line `place`
 --     came-turns          a line more
 --     came-blocked        no line more
-use Rattle.std.proofs.Common.{◌≡◌, ◌≢◌, ℕ, ◌+◌, ◌%◌, ◌^◌, ◌<◌, ◌≤◌, ◌⊎◌, inl, inr, Bool, true, false, cond, List, [], ◌∷◌, ◌++◌, length, map, MatchOption, Option, Some, None, All, refl, sym, subst, ◌∙◌, ap, arith}
+use Rattle.std.proofs.Common.{◌≡◌, ◌≢◌, ℕ, ◌+◌, ◌%◌, ◌^◌, ◌<◌, ◌≤◌, ◌⊎◌, inl, inr, ◌&&◌, Bool, true, false, cond, List, [], ◌∷◌, ◌++◌, length, map, MatchOption, Option, Some, None, All, refl, sym, subst, ◌∙◌, ap, arith}
 use Rattle.std.specs.Prelude.{codes, nat_eq}
 use Rattle.std.specs.Cmp.Lexicographic.{pointwise}
-use Rattle.std.specs.List.{flat_map}
+use Rattle.std.specs.List.{flat_map, list_any}
 use Rattle.std.specs.Option.{is_some}
 use Rattle.std.proofs.lemmas.Fmt.{decimal_digit}
 use Rattle.std.proofs.lemmas.List.{length-append}
@@ -32,7 +32,7 @@ use Rattle.rewrite_pass.specs.TraceLines.{gate_line, gate_numbers, words}
 use Rattle.trace_check.specs.declared.goals.Held.{Held}
 use Rattle.trace_check.specs.declared.words.Word.{Word}
 use Rattle.trace_check.specs.declared.words.Word.TheVariants as word
-use Rattle.trace_check.specs.Lines.{Line, Heading, Rewrite, Part, Goal, Meet, Place, IsIn, IsLineIn, IsSmall, edition_of, numbers_of, spelt}
+use Rattle.trace_check.specs.Lines.{Line, Heading, Rewrite, Part, Goal, Meet, Place, IsIn, IsLineIn, IsSmall, edition_of, is_later, numbers_of, spelt}
 use Rattle.trace_text.specs.Texts.{lines_of}
 use Rattle.trace_check.specs.Progress.{Blocked, Came, Leads, BlockedWith, LeadsOn, reached, step_named}
 use Rattle.trace_check.specs.Proves.{Applies, Changes, Claim, IsOpen, IsStuck, Placed, Rewritten, Routed, Seeking, State, StopsAt, Unread}
@@ -211,40 +211,63 @@ heading = λ z. codes "TRACE" ++ ((32 ∷ decimal_digit 1 (omega arith) z) ++ []
 second_heading : words (codes "TRACE") (2 ∷ []) ≡ codes "TRACE 2"
 second_heading = λ z. codes "TRACE" ++ ((32 ∷ decimal_digit 2 (omega arith) z) ++ [])
 
-pub edition-named : (v : ℕ) (rest : List (List ℕ)) → (v ≡ 1) ⊎ (v ≡ 2) → edition_of (words (codes "TRACE") (v ∷ []) ∷ rest) ≡ v
-edition-named v rest (inl e) = ap (λ k. edition_of (words (codes "TRACE") (k ∷ []) ∷ rest)) e ∙ ap (λ l. edition_of (l ∷ rest)) heading ∙ sym e
-edition-named v rest (inr e) = ap (λ k. edition_of (words (codes "TRACE") (k ∷ []) ∷ rest)) e ∙ ap (λ l. edition_of (l ∷ rest)) second_heading ∙ sym e
+pub edition-first : (rest : List (List ℕ)) → edition_of (words (codes "TRACE") (1 ∷ []) ∷ rest) ≡ 1
+edition-first rest = ap (λ l. edition_of (l ∷ rest)) heading
+
+edition-second : (b : Bool) (rest : List (List ℕ)) → list_any is_later rest ≡ b → edition_of (words (codes "TRACE") (2 ∷ []) ∷ rest) ≡ cond b 2 1
+edition-second b rest e = ap (λ l. edition_of (l ∷ rest)) second_heading ∙ ap (λ c. cond c 2 1) e
+
+pub edition-named : (k : ℕ) (rest : List (List ℕ)) → (k ≡ 1) ⊎ ((k ≡ 2) × (list_any is_later rest ≡ true)) → edition_of (words (codes "TRACE") (k ∷ []) ∷ rest) ≡ k
+edition-named k rest (inl e) = ap (λ j. edition_of (words (codes "TRACE") (j ∷ []) ∷ rest)) e ∙ edition-first rest ∙ sym e
+edition-named k rest (inr e) = ap (λ j. edition_of (words (codes "TRACE") (j ∷ []) ∷ rest)) e.0 ∙ edition-second true rest e.1 ∙ sym e.0
 
 pub edition-either : (ls : List (List ℕ)) → (edition_of ls ≡ 1) ⊎ (edition_of ls ≡ 2)
 edition-either [] = inl refl
-edition-either (l ∷ ls) = go (pointwise nat_eq l (codes "TRACE 2"))
+edition-either (l ∷ ls) = go (pointwise nat_eq l (codes "TRACE 2") && list_any is_later ls)
   where
     go : (b : Bool) → (◌≡◌ {A = ℕ} (cond b 2 1) 1) ⊎ (◌≡◌ {A = ℕ} (cond b 2 1) 2)
     go true = inr refl
     go false = inl refl
 
+pub edition-other : (ks : List ℕ) (k : ℕ) (rest : List (List ℕ)) → ks ≡ k ∷ [] → (k ≡ 1 → ⊥) → (k ≡ 2 → list_any is_later rest ≡ false) → ks ≡ edition_of (words (codes "TRACE") ks ∷ rest) ∷ [] → ⊥
+edition-other ks k rest is first second e = go (edition-either (words (codes "TRACE") ks ∷ rest))
+  where
+    v : ℕ
+    v = edition_of (words (codes "TRACE") ks ∷ rest)
+
+    same : k ≡ v
+    same = cons-first k v (sym is ∙ e)
+      where
+        cons-first : (a b : ℕ) → a ∷ [] ≡ b ∷ [] → a ≡ b
+        cons-first a b h = cc
+
+    go : (v ≡ 1) ⊎ (v ≡ 2) → ⊥
+    go (inl f) = first (same ∙ f)
+    go (inr f) =
+        let two : ks ≡ 2 ∷ [] = is ∙ ap (λ j. j ∷ []) (same ∙ f) in
+        let one : v ≡ 1 = ap (λ x. edition_of (words (codes "TRACE") x ∷ rest)) two ∙ edition-second false rest (second (same ∙ f)) in
+        omega (arith, one, f)
+
 heading-goes : (e : Claim) (s : Passed) → s.body.gates ≡ expanded e.source → s.turn ≡ turn_of e.source → reached None s ≡ Rewritten (expanded e.source) (turn_of e.source)
 heading-goes e s a b = λ i. Rewritten (a i) (b i)
 
-pub came-heading : (e : Claim) (v : ℕ) (trace : List ℕ) (s : Passed) (rest : List (List ℕ)) → (v ≡ 1) ⊎ (v ≡ 2) → s.body.gates ≡ expanded e.source → s.turn ≡ turn_of e.source →
+pub came-heading : (e : Claim) (v : ℕ) (trace : List ℕ) (s : Passed) (rest : List (List ℕ)) → edition_of (lines_of trace) ≡ v → s.body.gates ≡ expanded e.source → s.turn ≡ turn_of e.source →
     lines_of trace ≡ words (codes "TRACE") (v ∷ []) ∷ rest → Came e v trace (reached None s) rest 1
 came-heading e v trace s rest named a b lines =
-    came-more e v trace Unread (reached None s) (Heading v) rest 0 (subst (λ x. Came e v trace Unread x 0) lines (came-start e v trace (ap edition_of lines ∙ edition-named v rest named)))
-    (All-from_recursion (λ k. k < 2 ^ 32) (v ∷ []) (low named, tt), refl) (heading-goes e s a b)
+    came-more e v trace Unread (reached None s) (Heading v) rest 0 (subst (λ x. Came e v trace Unread x 0) lines (came-start e v trace named)) (All-from_recursion (λ k. k < 2 ^ 32) (v ∷ []) (low (edition-either (lines_of trace)), tt), refl)
+    (heading-goes e s a b)
   where
-    low : (v ≡ 1) ⊎ (v ≡ 2) → v < 2 ^ 32
-    low (inl e) = omega (arith, e)
-    low (inr e) = omega (arith, e)
+    low : (edition_of (lines_of trace) ≡ 1) ⊎ (edition_of (lines_of trace) ≡ 2) → v < 2 ^ 32
+    low (inl e) = omega (arith, e, named)
+    low (inr e) = omega (arith, e, named)
 
-no_heading : (e : Claim) (v : ℕ) (w : Word) (ks : List ℕ) (rest : List (List ℕ)) (new : State) → (v ≡ 1) ⊎ (v ≡ 2) → (w ≡ word.Trace → (ks ≡ 1 ∷ [] → ⊥) × (ks ≡ 2 ∷ [] → ⊥)) → (l : Line) → IsIn v l → kind_of l ≡ w →
-    ks ≡ first_numbers l → Applies e Unread l rest new → ⊥
-no_heading e v w ks rest new (inl f) none (Heading n) i kind is a = (none (sym kind)).0 (is ∙ ap (λ k. k ∷ []) (i ∙ f))
-no_heading e v w ks rest new (inr f) none (Heading n) i kind is a = (none (sym kind)).1 (is ∙ ap (λ k. k ∷ []) (i ∙ f))
-no_heading e v w ks rest new _ none _ i kind is a = a
+no_heading : (e : Claim) (v : ℕ) (w : Word) (ks : List ℕ) (rest : List (List ℕ)) (new : State) → (w ≡ word.Trace → ks ≡ v ∷ [] → ⊥) → (l : Line) → IsIn v l → kind_of l ≡ w → ks ≡ first_numbers l →
+    Applies e Unread l rest new → ⊥
+no_heading e v w ks rest new none (Heading n) i kind is a = none (sym kind) (is ∙ ap (λ k. k ∷ []) i)
+no_heading e v w ks rest new none _ i kind is a = a
 
-pub stuck-heading : (e : Claim) (v : ℕ) (w : Word) (ks : List ℕ) (behind : List (List ℕ)) → AreSmall ks → (v ≡ 1) ⊎ (v ≡ 2) → (w ≡ word.Trace → (ks ≡ 1 ∷ [] → ⊥) × (ks ≡ 2 ∷ [] → ⊥)) →
-    IsStuck e v Unread (words (spelling w) ks ∷ behind)
-stuck-heading e v w ks behind small named none = stuck-numbers e v Unread w ks behind small (λ l rest new hl kind is left a. no_heading e v w ks rest new named none l hl.1 kind is a)
+pub stuck-heading : (e : Claim) (v : ℕ) (w : Word) (ks : List ℕ) (behind : List (List ℕ)) → AreSmall ks → (w ≡ word.Trace → ks ≡ v ∷ [] → ⊥) → IsStuck e v Unread (words (spelling w) ks ∷ behind)
+stuck-heading e v w ks behind small none = stuck-numbers e v Unread w ks behind small (λ l rest new hl kind is left a. no_heading e v w ks rest new none l hl.1 kind is a)
 
 -- ---- the line `place`
 not_place : (p : Step) → kind_of (Rewrite p) ≡ word.Place → ⊥

@@ -121,7 +121,7 @@ struct Head<'a> {
 fn headed<'a>(text: &'a [u8], numbers: &mut Vec<u32>) -> Result<Option<Head<'a>>, AllocError>
     ensures lines { IfOk result (λ o. MatchOption o ((e : Claim) → IsStuck e (edition_of (lines_of text.now)) Unread (lines_of text.now))
         (λ h. lines_of text.now ≡ words (codes "TRACE") (h.edition ∷ []) ∷ lines_of h.text.now)) }
-    ensures edition { IfOk result (λ o. IfSome o (λ h. (h.edition ≡ 1) ⊎ (h.edition ≡ 2))) }
+    ensures edition { IfOk result (λ o. IfSome o (λ h. edition_of (lines_of text.now) ≡ h.edition)) }
     ensures shorter { IfOk result (λ o. IfSome o (λ h. length h.text.now < length text.now)) }
 {
     let Some((line, behind)) = first_line(text) else {
@@ -134,7 +134,7 @@ fn headed<'a>(text: &'a [u8], numbers: &mut Vec<u32>) -> Result<Option<Head<'a>>
     if word != Word::Trace {
         return Ok(None);
     }
-    match edition_from(numbers) {
+    match edition_from(numbers, behind) {
         Some(edition) => Ok(Some(Head {
             edition,
             text: behind,

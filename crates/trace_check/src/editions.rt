@@ -1,22 +1,59 @@
 //! The edition of a trace, and the words that it has.
 
-ghost use Rattle.std.specs.Prelude.{◌≡◌, ℕ, ◌∷◌, [], ◌⊎◌, List, IfOk, MatchOption, false, true};
+ghost use Rattle.std.specs.Prelude.{◌≡◌, ℕ, ◌∷◌, [], List, IfOk, MatchOption, codes, false, true};
+ghost use Rattle.std.specs.List.{list_any};
 ghost use Rattle.rewrite_pass.specs.TraceLines.{words};
+ghost use Rattle.trace_text.specs.Texts.{lines_of};
+ghost use Rattle.trace_check.specs.Lines.{edition_of, is_later};
 ghost use Rattle.trace_check.specs.Spelling.{AreSmall, IsWordIn, spelling};
 ghost use Rattle.trace_check.specs.declared.words.Word.{Word};
 
 use crate::words::{Word, one, read_words};
 use std::alloc::AllocError;
+use trace_text::first_line;
 
-/// The edition that the numbers of a first line name.
-pub(crate) fn edition_from(numbers: &[u32]) -> Option<u32>
-    ensures none { MatchOption result ((numbers.now ≡ 1 ∷ [] → ⊥) × (numbers.now ≡ 2 ∷ [] → ⊥))
-        (λ v. (numbers.now ≡ v ∷ []) × ((v ≡ 1) ⊎ (v ≡ 2))) }
+/// The edition that the numbers of a first line name, before that text: the second only if a line of the text came with it.
+pub(crate) fn edition_from(numbers: &[u32], behind: &[u8]) -> Option<u32>
+    ensures named { MatchOption result
+        (numbers.now ≡ edition_of (words (codes "TRACE") numbers.now ∷ lines_of behind.now) ∷ [] → ⊥)
+        (λ v. (numbers.now ≡ v ∷ []) × (edition_of (words (codes "TRACE") (v ∷ []) ∷ lines_of behind.now) ≡ v)) }
 {
-    match one(numbers) {
-        Some(number) if number == 1 || number == 2 => Some(number),
-        _ => None,
+    let number = one(numbers)?;
+    if number == 1 {
+        return Some(number);
     }
+    if number != 2 {
+        return None;
+    }
+    if has_later(behind) {
+        Some(number)
+    } else {
+        None
+    }
+}
+
+/// Whether a line of a text begins with a word that came with the second edition.
+fn has_later(text: &[u8]) -> bool
+    ensures { result ≡ list_any is_later (lines_of text.now) }
+{
+    let mut rest = text;
+    'lines: while let Some((line, behind)) = first_line(rest) {
+        if is_later(line) {
+            return true;
+        }
+        rest = behind;
+    }
+    false
+}
+
+/// Whether a line begins with such a word.
+fn is_later(line: &[u8]) -> bool
+    ensures { result ≡ is_later line.now }
+{
+    line.strip_prefix(b"part".as_slice()).is_some()
+        || line.strip_prefix(b"goal".as_slice()).is_some()
+        || line.strip_prefix(b"meet".as_slice()).is_some()
+        || line.strip_prefix(b"elide".as_slice()).is_some()
 }
 
 /// Whether an edition has a word.

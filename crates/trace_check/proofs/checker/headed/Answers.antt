@@ -1,4 +1,4 @@
-use Rattle.std.proofs.Common.{◌≡◌, ◌∙◌, ℕ, List, ◌∷◌, ap, rules, subst, sym}
+use Rattle.std.proofs.Common.{◌≡◌, ◌∙◌, ℕ, List, [], ◌∷◌, ap, rules, subst, sym}
 use Rattle.rewrite_pass.specs.TraceLines.{words}
 use Rattle.trace_text.specs.Texts.{lines_of}
 use Rattle.trace_check.specs.Lines.{edition_of}
@@ -24,7 +24,7 @@ returns-then-ne-clause-lines c = λ e.
     let first : c.in-Some.line.now ≡ words (spelling c.in-Some-2.word) ks = some-of _ c.in_ok-word.field-0 c.in-Some-2.word _ c.in-Some-2.is c.in_ok-word.ensures.ok in
     let lines : lines_of c.args.text.now ≡ words (spelling c.in-Some-2.word) ks ∷ lines_of c.in-Some.behind.now = c.in-Some.ensures.lines ∙ ap (λ l. l ∷ lines_of c.in-Some.behind.now) first in
     let other : c.in-Some-2.word ≡ kind.Trace → ⊥ = search rules in
-    subst (IsStuck e v Unread) (sym lines) (stuck-heading e v c.in-Some-2.word ks (lines_of c.in-Some.behind.now) small (edition-either (lines_of c.args.text.now)) (λ a. absurd (other a)))
+    subst (IsStuck e v Unread) (sym lines) (stuck-heading e v c.in-Some-2.word ks (lines_of c.in-Some.behind.now) small (λ a. absurd (other a)))
 
 pub returns-in-None-clause-lines : goal.returns-in-None-clause-lines
 returns-in-None-clause-lines c = λ e.
@@ -33,7 +33,8 @@ returns-in-None-clause-lines c = λ e.
     let small : AreSmall ks = subst AreSmall c.deref.ensures.value c.known_small.ensures.small in
     let first : c.in-Some.line.now ≡ words (spelling c.in-Some-2.word) ks = some-of _ c.in_ok-word.field-0 c.in-Some-2.word _ c.in-Some-2.is c.in_ok-word.ensures.ok in
     let lines : lines_of c.args.text.now ≡ words (spelling c.in-Some-2.word) ks ∷ lines_of c.in-Some.behind.now = c.in-Some.ensures.lines ∙ ap (λ l. l ∷ lines_of c.in-Some.behind.now) first in
-    let none = c.in-None.ensures.none in
+    let none = c.in-None.ensures.named in
+    let value = c.deref-2.ensures.value in
     subst (IsStuck e v Unread) (sym lines)
-    (stuck-heading e v c.in-Some-2.word ks (lines_of c.in-Some.behind.now) small (edition-either (lines_of c.args.text.now))
-    (λ a. ((λ b. none.0 (c.deref-2.ensures.value ∙ b)), (λ b. none.1 (c.deref-2.ensures.value ∙ b)))))
+    (stuck-heading e v c.in-Some-2.word ks (lines_of c.in-Some.behind.now) small
+    (λ a b. none (value ∙ b ∙ ap (λ k. k ∷ []) (ap edition_of lines ∙ (λ i. edition_of (words (spelling (a i)) (sym value i) ∷ lines_of c.in-Some.behind.now))))))
