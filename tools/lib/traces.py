@@ -152,6 +152,8 @@ class Check:
         if self.done == 0 or word == "TRACE":
             if self.done or word != "TRACE" or numbers not in ([1], [2]):
                 raise Stop("the first line, and no other, is `TRACE 1` or `TRACE 2`")
+            if numbers == [2] and not any(it.startswith(tuple(LATER)) for it in self.lines):
+                raise Stop("no line came with the second edition, so the first one is `TRACE 1`")
             self.words = EDITIONS[numbers[0]]
             self.done = 1
             return
