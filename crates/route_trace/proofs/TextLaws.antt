@@ -15,7 +15,7 @@ use Rattle.circuit_list.specs.declared.Gate.{Gate}
 use Rattle.circuit_list.specs.declared.Gate.TheVariants.{H, X, P, Cx}
 use Rattle.rewrite_pass.specs.Traces.{Rule, Both, Join, Sums}
 use Rattle.rewrite_pass.specs.TraceLines.{gate_line, gate_numbers, words}
-use Rattle.trace_check.specs.Lines.{Line, Heading, Rewrite, Part, Goal, Meet, Place, Emit, Back, Elide, Swap, Turn, End, IsSmall, all_spelt, numbers_of, spelt}
+use Rattle.trace_check.specs.Lines.{Line, Heading, Rewrite, Part, Phases, Goal, Meet, Place, Emit, Back, Elide, Swap, Turn, End, IsSmall, all_spelt, numbers_of, spelt}
 use Rattle.trace_check.specs.Spelling.{AreSmall}
 use Rattle.trace_check.proofs.SpellingLaws.{small-split}
 use Rattle.trace_text.specs.Texts.{begun, ended, lines_of}
@@ -97,6 +97,9 @@ four a b c d ha hb hc hd = ((λ e. absurd (omega arith)), three b c d hb hc hd)
 five : (a b c d f : ℕ) → 10 < a → 10 < b → 10 < c → 10 < d → 10 < f → NoBreak (a ∷ b ∷ c ∷ d ∷ f ∷ [])
 five a b c d f ha hb hc hd hf = ((λ e. absurd (omega arith)), four b c d f hb hc hd hf)
 
+six : (a b c d f g : ℕ) → 10 < a → 10 < b → 10 < c → 10 < d → 10 < f → 10 < g → NoBreak (a ∷ b ∷ c ∷ d ∷ f ∷ g ∷ [])
+six a b c d f g ha hb hc hd hf hg = ((λ e. absurd (omega arith)), five b c d f g hb hc hd hf hg)
+
 gate-plain : (g : Gate) → AreSmall (gate_numbers g) → NoBreak (gate_line g)
 gate-plain (H q) s = words-plain (codes "H") (q ∷ []) (letter 72 (omega arith)) s
 gate-plain (X q) s = words-plain (codes "X") (q ∷ []) (letter 88 (omega arith)) s
@@ -114,6 +117,7 @@ plain (Rewrite (Both i j)) h = (words-plain (codes "both") (i ∷ j ∷ []) (fou
 plain (Rewrite (Join i j)) h = (words-plain (codes "join") (i ∷ j ∷ []) (four 106 111 105 110 (omega arith) (omega arith) (omega arith) (omega arith)) h, tt)
 plain (Rewrite (Sums gates)) h = (words-plain (codes "sums") (length gates ∷ []) (four 115 117 109 115 (omega arith) (omega arith) (omega arith) (omega arith)) (h.0, tt), gates-plain gates h.1)
 plain (Part i j gates) h = (words-plain (codes "part") (i ∷ j ∷ length gates ∷ []) (four 112 97 114 116 (omega arith) (omega arith) (omega arith) (omega arith)) (h.0, (h.1.0, (h.1.1.0, tt))), gates-plain gates h.1.1.1)
+plain (Phases gates) h = (words-plain (codes "phases") (length gates ∷ []) (six 112 104 97 115 101 115 (omega arith) (omega arith) (omega arith) (omega arith) (omega arith) (omega arith)) (h.0, tt), gates-plain gates h.1)
 plain (Goal gates) h = (words-plain (codes "goal") (length gates ∷ []) (four 103 111 97 108 (omega arith) (omega arith) (omega arith) (omega arith)) (h.0, tt), gates-plain gates h.1)
 plain Meet h = (words-plain (codes "meet") [] (four 109 101 101 116 (omega arith) (omega arith) (omega arith) (omega arith)) tt, tt)
 plain (Place p) h = (words-plain (codes "place") p (five 112 108 97 99 101 (omega arith) (omega arith) (omega arith) (omega arith) (omega arith)) h, tt)

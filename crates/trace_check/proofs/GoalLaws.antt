@@ -19,7 +19,7 @@ use Rattle.rewrite_pass.specs.Traces.{Step, Rule, Both, Join, Sums}
 use Rattle.rewrite_pass.specs.TraceLines.{gate_line, gate_numbers, words}
 use Rattle.trace_check.specs.declared.goals.Held.{Held}
 use Rattle.trace_check.specs.declared.words.Word.TheVariants as word
-use Rattle.trace_check.specs.Lines.{Line, Rewrite, Part, Goal, Meet, Place, IsSmall}
+use Rattle.trace_check.specs.Lines.{Line, Rewrite, Part, Phases, Goal, Meet, Place, IsSmall}
 use Rattle.trace_check.specs.Progress.{BlockedWith, LeadsOn, reached}
 use Rattle.trace_check.specs.Proves.{Applies, Claim, Rewritten, Seeking, State}
 use Rattle.trace_check.specs.Spelling.{AreSmall}
@@ -65,10 +65,12 @@ no_goal e None ks s lines rest new q none (Goal gs) hl kind is left a =
     none gs rest refl is (subst (λ n. All (IsFine n) gs) q a.fine) small.1 left
 no_goal e None ks s lines rest new q none (Rewrite p) hl kind is left a = not_goal p kind
 no_goal e None ks s lines rest new q none (Part i j gs) hl kind is left a = absurd (cc)
+no_goal e None ks s lines rest new q none (Phases gs) hl kind is left a = absurd (cc)
 no_goal e None ks s lines rest new q none (Place p) hl kind is left a = absurd (cc)
 no_goal e None ks s lines rest new q none _ hl kind is left a = a
 no_goal e (Some h) ks s lines rest new q none (Rewrite p) hl kind is left a = not_goal p kind
 no_goal e (Some h) ks s lines rest new q none (Part i j gs) hl kind is left a = absurd (cc)
+no_goal e (Some h) ks s lines rest new q none (Phases gs) hl kind is left a = absurd (cc)
 no_goal e (Some h) ks s lines rest new q none Meet hl kind is left a = absurd (cc)
 no_goal e (Some h) ks s lines rest new q none _ hl kind is left a = a
 
@@ -113,9 +115,11 @@ no_meet : (e : Claim) (o : Option Held) (ks : List ℕ) (s : Passed) (rest : Lis
 no_meet e (Some h) ks s rest new none Meet kind is a = none h refl is a.met
 no_meet e (Some h) ks s rest new none (Rewrite p) kind is a = not_meet p kind
 no_meet e (Some h) ks s rest new none (Part i j gs) kind is a = absurd (cc)
+no_meet e (Some h) ks s rest new none (Phases gs) kind is a = absurd (cc)
 no_meet e (Some h) ks s rest new none _ kind is a = a
 no_meet e None ks s rest new none (Rewrite p) kind is a = not_meet p kind
 no_meet e None ks s rest new none (Part i j gs) kind is a = absurd (cc)
+no_meet e None ks s rest new none (Phases gs) kind is a = absurd (cc)
 no_meet e None ks s rest new none (Goal gs) kind is a = absurd (cc)
 no_meet e None ks s rest new none (Place p) kind is a = absurd (cc)
 no_meet e None ks s rest new none _ kind is a = a

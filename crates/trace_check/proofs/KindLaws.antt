@@ -12,7 +12,7 @@ use Rattle.rewrite_pass.specs.Traces.{Rule, Both, Join, Sums}
 use Rattle.rewrite_pass.specs.TraceLines.{gate_line, words}
 use Rattle.trace_check.specs.declared.words.Word.{Word}
 use Rattle.trace_check.specs.declared.words.Word.TheVariants as word
-use Rattle.trace_check.specs.Lines.{Line, Heading, Rewrite, Part, Goal, Meet, Place, Emit, Back, Elide, Swap, Turn, End, IsIn, IsLineIn, IsSmall, numbers_of, spelt}
+use Rattle.trace_check.specs.Lines.{Line, Heading, Rewrite, Part, Phases, Goal, Meet, Place, Emit, Back, Elide, Swap, Turn, End, IsIn, IsLineIn, IsSmall, numbers_of, spelt}
 use Rattle.trace_check.specs.Proves.{Applies, Claim, IsStuck, State}
 use Rattle.trace_check.specs.Spelling.{AreSmall, IsWordIn, spelling}
 use Rattle.trace_check.proofs.SpellingLaws.{first-small, first-spelt, first_numbers, kind_of, line_from, line-read, line_gates, line_word, spelling-plain, spelling-read, word_from, words-unique}
@@ -24,6 +24,7 @@ word-in v (Rewrite (Both i j)) h = tt
 word-in v (Rewrite (Join i j)) h = tt
 word-in v (Rewrite (Sums gates)) h = tt
 word-in v (Part i j gates) h = h
+word-in v (Phases gates) h = h
 word-in v (Goal gates) h = h
 word-in v Meet h = h
 word-in v (Place p) h = tt

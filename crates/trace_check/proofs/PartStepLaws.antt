@@ -24,7 +24,7 @@ use Rattle.rewrite_pass.specs.Traces.{Step, Rule, Both, Join, Sums, constants_tu
 use Rattle.rewrite_pass.specs.TraceLines.{gate_line, gate_numbers, words}
 use Rattle.rewrite_pass.proofs.ListLaws.{take-next}
 use Rattle.trace_check.specs.declared.words.Word.TheVariants as word
-use Rattle.trace_check.specs.Lines.{Line, Rewrite, Part, IsSmall}
+use Rattle.trace_check.specs.Lines.{Line, Rewrite, Part, Phases, IsSmall}
 use Rattle.trace_check.specs.Progress.{Blocked, Leads, reached}
 use Rattle.trace_check.specs.Proves.{slice_of}
 use Rattle.trace_check.specs.Spelling.{AreSmall}
@@ -65,6 +65,7 @@ no_part n ks s lines rest q none (Part i j gs) hl kind is left c =
     let small = recursion_from_All (λ k. k < 2 ^ 32) (i ∷ j ∷ length gs ∷ flat_map gate_numbers gs) hl in
     none i j gs rest is c.step.ordered c.step.within (subst (λ m. All (IsFine m) gs) q c.step.fine) small.1.1.1 left (subst (λ m. SamePathSum m (slice_of s.body.gates i j) gs) q c.step.same)
 no_part n ks s lines rest q none (Rewrite p) hl kind is left c = not_part p kind
+no_part n ks s lines rest q none (Phases gs) hl kind is left c = absurd (cc)
 no_part n ks s lines rest q none _ hl kind is left c = c.step
 
 part_rewriting : IsRewriting word.Part

@@ -6,8 +6,8 @@
 --     step-leads          such a line that applies
 --     step-found          what a call found at two numbers
 --     NoStep, blocked-step            a line that doesn't;  no-numbers, no-change: since its numbers are others, or the step isn't there
---     sums-leads          a line `sums` that applies
---     NoSums, blocked-sums            one that doesn't;  no-count, no-gates, no-sum: why
+--     listed-leads        a line `sums` or `phases` that applies
+--     NoListed, blocked-listed        one that doesn't;  no-count, no-gates, no-same: why
 --     edition-first, edition-named, edition-other, edition-either     the edition of a trace
 --     came-heading, stuck-heading     the first line
 --     came-place, stuck-place, stuck-held     the line `place`
@@ -27,14 +27,15 @@ use Rattle.circuit_list.specs.declared.Passed.{Passed}
 use Rattle.circuit_list.specs.Gates.{IsFine, most_wires}
 use Rattle.gate_expand.specs.Expansion.{expanded, turn_of}
 use Rattle.path_parity.specs.NamedSums.{SamePathSum}
+use Rattle.path_parity.specs.PathFunctions.{SamePathFunction}
 use Rattle.rewrite_pass.specs.Traces.{Step, Rule, Both, Join, Sums, IsStep, constants_turn}
 use Rattle.rewrite_pass.specs.TraceLines.{gate_line, gate_numbers, words}
 use Rattle.trace_check.specs.declared.goals.Held.{Held}
 use Rattle.trace_check.specs.declared.words.Word.{Word}
 use Rattle.trace_check.specs.declared.words.Word.TheVariants as word
-use Rattle.trace_check.specs.Lines.{Line, Heading, Rewrite, Part, Goal, Meet, Place, IsIn, IsLineIn, IsSmall, edition_of, is_later, numbers_of, spelt}
+use Rattle.trace_check.specs.Lines.{Line, Heading, Rewrite, Part, Phases, Goal, Meet, Place, IsIn, IsLineIn, IsSmall, edition_of, is_later, numbers_of, spelt}
 use Rattle.trace_text.specs.Texts.{lines_of}
-use Rattle.trace_check.specs.Progress.{Blocked, Came, Leads, BlockedWith, LeadsOn, reached, step_named}
+use Rattle.trace_check.specs.Progress.{Blocked, Came, Leads, BlockedWith, IsListing, IsSame, LeadsOn, reached, step_named}
 use Rattle.trace_check.specs.Proves.{Applies, Changes, Claim, IsOpen, IsStuck, Placed, Rewritten, Routed, Seeking, State, StopsAt, Unread}
 use Rattle.unitary_model.specs.Placement.{IsPlacement}
 use Rattle.trace_check.specs.Spelling.{AreSmall, IsWordIn, spelling}
@@ -58,11 +59,13 @@ pub record Changed (n : ℕ) (old : List Gate) (l : Line) : Type 0 where
 pub changed-by : (e : Claim) (h : Option Held) (s : Passed) (l : Line) (rest : List (List ℕ)) (new : State) → IsRewriting (kind_of l) → Applies e (reached h s) l rest new → Changed e.wires s.body.gates l
 changed-by e None s (Rewrite p) rest new w a = record { gates = a.gates; turn = a.turn; step = a.step }
 changed-by e None s (Part i j gs) rest new w a = record { gates = a.gates; turn = a.turn; step = a.step }
+changed-by e None s (Phases gs) rest new w a = record { gates = a.gates; turn = a.turn; step = a.step }
 changed-by e None s (Goal gs) rest new w a = absurd (w.goal refl)
 changed-by e None s (Place p) rest new w a = absurd (w.place refl)
 changed-by e None s _ rest new w a = absurd a
 changed-by e (Some h) s (Rewrite p) rest new w a = record { gates = a.gates; turn = a.turn; step = a.step }
 changed-by e (Some h) s (Part i j gs) rest new w a = record { gates = a.gates; turn = a.turn; step = a.step }
+changed-by e (Some h) s (Phases gs) rest new w a = record { gates = a.gates; turn = a.turn; step = a.step }
 changed-by e (Some h) s Meet rest new w a = absurd (w.meet refl)
 changed-by e (Some h) s _ rest new w a = absurd a
 
@@ -70,6 +73,7 @@ changes-applies : (e : Claim) (h : Option Held) (s t : Passed) (l : Line) (turn 
     Applies e (reached h s) l behind (reached h t)
 changes-applies e None s t (Rewrite p) turn behind c sum = record { gates = t.body.gates; turn = turn; step = c; after = ap (λ k. Rewritten t.body.gates k) sum }
 changes-applies e None s t (Part i j gs) turn behind c sum = record { gates = t.body.gates; turn = turn; step = c; after = ap (λ k. Rewritten t.body.gates k) sum }
+changes-applies e None s t (Phases gs) turn behind c sum = record { gates = t.body.gates; turn = turn; step = c; after = ap (λ k. Rewritten t.body.gates k) sum }
 changes-applies e (Some h) s t (Rewrite p) turn behind c sum = record {
   gates = t.body.gates;
   turn = turn;
@@ -82,11 +86,18 @@ changes-applies e (Some h) s t (Part i j gs) turn behind c sum = record {
   step = c;
   after = ap (λ k. Seeking (record { held = h.body.gates; turn = h.turn; goal = h.goal.gates; gates = t.body.gates; since = k })) sum;
 }
+changes-applies e (Some h) s t (Phases gs) turn behind c sum = record {
+  gates = t.body.gates;
+  turn = turn;
+  step = c;
+  after = ap (λ k. Seeking (record { held = h.body.gates; turn = h.turn; goal = h.goal.gates; gates = t.body.gates; since = k })) sum;
+}
 changes-applies e _ s t _ turn behind c sum = absurd c
 
 line_in : (n v : ℕ) (old new : List Gate) (turn : ℕ) (l : Line) → Changes n old l new turn → IsWordIn v (kind_of l) → IsIn v l
 line_in n v old new turn (Rewrite p) c i = tt
 line_in n v old new turn (Part a b gs) c i = i
+line_in n v old new turn (Phases gs) c i = i
 line_in n v old new turn _ c i = absurd c
 
 pub leads-by : (w : Word) (s t : Passed) (l : Line) (turn : ℕ) (lines behind : List (List ℕ)) → kind_of l ≡ w → IsSmall l → lines ≡ spelt l ++ behind → Changes s.body.wires s.body.gates l t.body.gates turn →
@@ -130,20 +141,21 @@ step-found w i j n old new q (Some t) f h = (q, (f, h))
 abbrev pub NoStep : Word → List ℕ → Passed → Type 0
 NoStep w ks s = (i j : ℕ) (p : Step) (gates : List Gate) (turn : ℕ) → ks ≡ i ∷ j ∷ [] → step_named w i j ≡ Some p → IsStep s.body.wires s.body.gates p gates turn → ⊥
 
-no_step : (n : ℕ) (w : Word) (ks : List ℕ) (s : Passed) → n ≡ s.body.wires → w ≢ word.Sums → w ≢ word.Part → NoStep w ks s → (l : Line) → kind_of l ≡ w → ks ≡ first_numbers l → Changed n s.body.gates l → ⊥
-no_step n w ks s q ns np none (Rewrite (Rule k i)) kind is c =
+no_step : (n : ℕ) (w : Word) (ks : List ℕ) (s : Passed) → n ≡ s.body.wires → w ≢ word.Sums → w ≢ word.Part → w ≢ word.Phases → NoStep w ks s → (l : Line) → kind_of l ≡ w → ks ≡ first_numbers l → Changed n s.body.gates l → ⊥
+no_step n w ks s q ns np nf none (Rewrite (Rule k i)) kind is c =
     none k i (Rule k i) c.gates c.turn is (ap (λ v. step_named v k i) (sym kind)) (subst (λ m. IsStep m s.body.gates (Rule k i) c.gates c.turn) q c.step)
-no_step n w ks s q ns np none (Rewrite (Both i j)) kind is c =
+no_step n w ks s q ns np nf none (Rewrite (Both i j)) kind is c =
     none i j (Both i j) c.gates c.turn is (ap (λ v. step_named v i j) (sym kind)) (subst (λ m. IsStep m s.body.gates (Both i j) c.gates c.turn) q c.step)
-no_step n w ks s q ns np none (Rewrite (Join i j)) kind is c =
+no_step n w ks s q ns np nf none (Rewrite (Join i j)) kind is c =
     none i j (Join i j) c.gates c.turn is (ap (λ v. step_named v i j) (sym kind)) (subst (λ m. IsStep m s.body.gates (Join i j) c.gates c.turn) q c.step)
-no_step n w ks s q ns np none (Rewrite (Sums gs)) kind is c = ns (sym kind)
-no_step n w ks s q ns np none (Part i j gs) kind is c = np (sym kind)
-no_step n w ks s q ns np none _ kind is c = c.step
+no_step n w ks s q ns np nf none (Rewrite (Sums gs)) kind is c = ns (sym kind)
+no_step n w ks s q ns np nf none (Part i j gs) kind is c = np (sym kind)
+no_step n w ks s q ns np nf none (Phases gs) kind is c = nf (sym kind)
+no_step n w ks s q ns np nf none _ kind is c = c.step
 
-pub blocked-step : (w : Word) (ks : List ℕ) (s : Passed) (behind : List (List ℕ)) → AreSmall ks → IsRewriting w → w ≢ word.Sums → w ≢ word.Part → NoStep w ks s → Blocked s (words (spelling w) ks ∷ behind)
-blocked-step w ks s behind small rw ns np none = λ h e v q.
-    stuck-numbers e v (reached h s) w ks behind small (λ l rest new hl kind is left a. no_step e.wires w ks s q ns np none l kind is (changed-by e h s l rest new (subst IsRewriting (sym kind) rw) a))
+pub blocked-step : (w : Word) (ks : List ℕ) (s : Passed) (behind : List (List ℕ)) → AreSmall ks → IsRewriting w → w ≢ word.Sums → w ≢ word.Part → w ≢ word.Phases → NoStep w ks s → Blocked s (words (spelling w) ks ∷ behind)
+blocked-step w ks s behind small rw ns np nf none = λ h e v q.
+    stuck-numbers e v (reached h s) w ks behind small (λ l rest new hl kind is left a. no_step e.wires w ks s q ns np nf none l kind is (changed-by e h s l rest new (subst IsRewriting (sym kind) rw) a))
 
 pub no-numbers : (w : Word) (ks : List ℕ) (s : Passed) → ((i j : ℕ) → ks ≡ i ∷ j ∷ [] → ⊥) → NoStep w ks s
 no-numbers w ks s none = λ i j p gates turn is f step. none i j is
@@ -154,55 +166,67 @@ no-change w ks i j s e none = λ k m p gates turn is f step.
     let b : j ≡ m = cc in
     none p gates turn ((λ z. step_named w (a z) (b z)) ∙ f) step
 
--- ---- the line `sums`
-pub sums-leads : (ks : List ℕ) (count : ℕ) (s t : Passed) (turn : ℕ) (lines behind : List (List ℕ)) → AreSmall ks → ks ≡ count ∷ [] → s.body.wires ≤ most_wires → All (IsFine s.body.wires) t.body.gates →
-    length t.body.gates ≡ count → lines ≡ map gate_line t.body.gates ++ behind → SamePathSum s.body.wires s.body.gates t.body.gates → turn ≡ constants_turn s.body.wires s.body.gates t.body.gates →
-    t.turn ≡ (s.turn + turn) % 8 → Leads word.Sums s t (words (codes "sums") ks ∷ lines) behind
-sums-leads ks count s t turn lines behind small is few fine long all same constants sum =
-    leads-by word.Sums s t (Rewrite (Sums t.body.gates)) turn (words (codes "sums") ks ∷ lines) behind refl
-    (All-from_recursion (λ k. k < 2 ^ 32) (length t.body.gates ∷ flat_map gate_numbers t.body.gates) ((subst AreSmall numbers small).0, fine-small s.body.wires few t.body.gates (recursion_from_All (IsFine s.body.wires) t.body.gates fine)))
-    (λ z. words (codes "sums") (numbers z) ∷ all z) (record { fine = fine; same = same; becomes = refl; turn = constants }) sum
-  where
-    numbers : ks ≡ length t.body.gates ∷ []
-    numbers = is ∙ ap (λ k. k ∷ []) (sym long)
+-- ---- the lines `sums` and `phases`
+listed_small : (n count : ℕ) (ks : List ℕ) (gs : List Gate) → AreSmall ks → ks ≡ count ∷ [] → n ≤ most_wires → All (IsFine n) gs → length gs ≡ count → All (λ k. k < 2 ^ 32) (length gs ∷ flat_map gate_numbers gs)
+listed_small n count ks gs small is few fine long =
+    All-from_recursion (λ k. k < 2 ^ 32) (length gs ∷ flat_map gate_numbers gs) ((subst AreSmall (is ∙ ap (λ k. k ∷ []) (sym long)) small).0, fine-small n few gs (recursion_from_All (IsFine n) gs fine))
 
--- no gates are listed that have the same path sum
-abbrev pub NoSums : List ℕ → Passed → List (List ℕ) → Type 0
-NoSums ks s lines = (gs : List Gate) (rest : List (List ℕ)) → ks ≡ length gs ∷ [] → All (IsFine s.body.wires) gs → AreSmall (flat_map gate_numbers gs) → lines ≡ map gate_line gs ++ rest →
-    SamePathSum s.body.wires s.body.gates gs → ⊥
+pub listed-leads : (w : Word) (ks : List ℕ) (count : ℕ) (s t : Passed) (turn : ℕ) (lines behind : List (List ℕ)) → AreSmall ks → ks ≡ count ∷ [] → s.body.wires ≤ most_wires → All (IsFine s.body.wires) t.body.gates →
+    length t.body.gates ≡ count → lines ≡ map gate_line t.body.gates ++ behind → IsSame w s.body.wires s.body.gates t.body.gates → turn ≡ constants_turn s.body.wires s.body.gates t.body.gates →
+    t.turn ≡ (s.turn + turn) % 8 → Leads w s t (words (spelling w) ks ∷ lines) behind
+listed-leads word.Sums ks count s t turn lines behind small is few fine long all same constants sum =
+    leads-by word.Sums s t (Rewrite (Sums t.body.gates)) turn (words (codes "sums") ks ∷ lines) behind refl (listed_small s.body.wires count ks t.body.gates small is few fine long)
+    (λ z. words (codes "sums") ((is ∙ ap (λ k. k ∷ []) (sym long)) z) ∷ all z) (record { fine = fine; same = same; becomes = refl; turn = constants }) sum
+listed-leads word.Phases ks count s t turn lines behind small is few fine long all same constants sum =
+    leads-by word.Phases s t (Phases t.body.gates) turn (words (codes "phases") ks ∷ lines) behind refl (listed_small s.body.wires count ks t.body.gates small is few fine long)
+    (λ z. words (codes "phases") ((is ∙ ap (λ k. k ∷ []) (sym long)) z) ∷ all z) (record { fine = fine; same = same; becomes = refl; turn = constants }) sum
+listed-leads _ ks count s t turn lines behind small is few fine long all same constants sum = absurd same
 
-no_sums : (n : ℕ) (ks : List ℕ) (s : Passed) (lines rest : List (List ℕ)) → n ≡ s.body.wires → NoSums ks s lines → (l : Line) → IsSmall l → kind_of l ≡ word.Sums → ks ≡ first_numbers l →
+-- no gates are listed that are the same
+abbrev pub NoListed : Word → List ℕ → Passed → List (List ℕ) → Type 0
+NoListed w ks s lines = (gs : List Gate) (rest : List (List ℕ)) → ks ≡ length gs ∷ [] → All (IsFine s.body.wires) gs → AreSmall (flat_map gate_numbers gs) → lines ≡ map gate_line gs ++ rest →
+    IsSame w s.body.wires s.body.gates gs → ⊥
+
+no_other : (v w : Word) → v ≡ w → IsListing w → v ≢ word.Sums → v ≢ word.Phases → ⊥
+no_other v w kind (inl e) ns np = ns (kind ∙ e)
+no_other v w kind (inr e) ns np = np (kind ∙ e)
+
+no_listed : (n : ℕ) (w : Word) (ks : List ℕ) (s : Passed) (lines rest : List (List ℕ)) → n ≡ s.body.wires → IsListing w → NoListed w ks s lines → (l : Line) → IsSmall l → kind_of l ≡ w → ks ≡ first_numbers l →
     lines ≡ map gate_line (line_gates l) ++ rest → Changed n s.body.gates l → ⊥
-no_sums n ks s lines rest q none (Rewrite (Sums gs)) hl kind is left c =
+no_listed n w ks s lines rest q listing none (Rewrite (Sums gs)) hl kind is left c =
     let small = recursion_from_All (λ k. k < 2 ^ 32) (length gs ∷ flat_map gate_numbers gs) hl in
-    none gs rest is (subst (λ m. All (IsFine m) gs) q c.step.fine) small.1 left (subst (λ m. SamePathSum m s.body.gates gs) q c.step.same)
-no_sums n ks s lines rest q none (Rewrite (Rule k i)) hl kind is left c = absurd (cc)
-no_sums n ks s lines rest q none (Rewrite (Both i j)) hl kind is left c = absurd (cc)
-no_sums n ks s lines rest q none (Rewrite (Join i j)) hl kind is left c = absurd (cc)
-no_sums n ks s lines rest q none (Part i j gs) hl kind is left c = absurd (cc)
-no_sums n ks s lines rest q none _ hl kind is left c = c.step
+    none gs rest is (subst (λ m. All (IsFine m) gs) q c.step.fine) small.1 left (subst (λ v. IsSame v s.body.wires s.body.gates gs) kind (subst (λ m. SamePathSum m s.body.gates gs) q c.step.same))
+no_listed n w ks s lines rest q listing none (Phases gs) hl kind is left c =
+    let small = recursion_from_All (λ k. k < 2 ^ 32) (length gs ∷ flat_map gate_numbers gs) hl in
+    none gs rest is (subst (λ m. All (IsFine m) gs) q c.step.fine) small.1 left (subst (λ v. IsSame v s.body.wires s.body.gates gs) kind (subst (λ m. SamePathFunction m s.body.gates gs) q c.step.same))
+no_listed n w ks s lines rest q listing none (Rewrite (Rule k i)) hl kind is left c = no_other word.Rule w kind listing (λ e. cc) (λ e. cc)
+no_listed n w ks s lines rest q listing none (Rewrite (Both i j)) hl kind is left c = no_other word.Both w kind listing (λ e. cc) (λ e. cc)
+no_listed n w ks s lines rest q listing none (Rewrite (Join i j)) hl kind is left c = no_other word.Join w kind listing (λ e. cc) (λ e. cc)
+no_listed n w ks s lines rest q listing none (Part i j gs) hl kind is left c = no_other word.Part w kind listing (λ e. cc) (λ e. cc)
+no_listed n w ks s lines rest q listing none _ hl kind is left c = c.step
 
-sums_rewriting : IsRewriting word.Sums
-sums_rewriting = record { place = λ x. cc; goal = λ x. cc; meet = λ x. cc }
+listing_rewriting : (w : Word) → IsListing w → IsRewriting w
+listing_rewriting w (inl e) = record { place = λ x. cc; goal = λ x. cc; meet = λ x. cc }
+listing_rewriting w (inr e) = record { place = λ x. cc; goal = λ x. cc; meet = λ x. cc }
 
-pub blocked-sums : (ks : List ℕ) (s : Passed) (lines : List (List ℕ)) → AreSmall ks → NoSums ks s lines → Blocked s (words (codes "sums") ks ∷ lines)
-blocked-sums ks s lines small none = λ h e v q.
-    stuck-numbers e v (reached h s) word.Sums ks lines small
-    (λ l rest new hl kind is left a. no_sums e.wires ks s lines rest q none l hl.0 kind is left (changed-by e h s l rest new (subst IsRewriting (sym kind) sums_rewriting) a))
+pub blocked-listed : (w : Word) (ks : List ℕ) (s : Passed) (lines : List (List ℕ)) → AreSmall ks → IsListing w → NoListed w ks s lines → Blocked s (words (spelling w) ks ∷ lines)
+blocked-listed w ks s lines small listing none = λ h e v q.
+    stuck-numbers e v (reached h s) w ks lines small
+    (λ l rest new hl kind is left a. no_listed e.wires w ks s lines rest q listing none l hl.0 kind is left (changed-by e h s l rest new (subst IsRewriting (sym kind) (listing_rewriting w listing)) a))
 
-pub no-count : (ks : List ℕ) (s : Passed) (lines : List (List ℕ)) → ((i : ℕ) → ks ≡ i ∷ [] → ⊥) → NoSums ks s lines
-no-count ks s lines none = λ gs rest is fine small left same. none (length gs) is
+pub no-count : (w : Word) (ks : List ℕ) (s : Passed) (lines : List (List ℕ)) → ((i : ℕ) → ks ≡ i ∷ [] → ⊥) → NoListed w ks s lines
+no-count w ks s lines none = λ gs rest is fine small left same. none (length gs) is
 
-pub no-gates : (ks : List ℕ) (count : ℕ) (s : Passed) (lines : List (List ℕ)) → ks ≡ count ∷ [] →
-    ((gs : List Gate) (rest : List (List ℕ)) → length gs ≡ count → All (IsFine s.body.wires) gs → AreSmall (flat_map gate_numbers gs) → lines ≡ map gate_line gs ++ rest → ⊥) → NoSums ks s lines
-no-gates ks count s lines e none = λ gs rest is fine small left same. let long : length gs ≡ count = cc in none gs rest long fine small left
+pub no-gates : (w : Word) (ks : List ℕ) (count : ℕ) (s : Passed) (lines : List (List ℕ)) → ks ≡ count ∷ [] →
+    ((gs : List Gate) (rest : List (List ℕ)) → length gs ≡ count → All (IsFine s.body.wires) gs → AreSmall (flat_map gate_numbers gs) → lines ≡ map gate_line gs ++ rest → ⊥) → NoListed w ks s lines
+no-gates w ks count s lines e none = λ gs rest is fine small left same. let long : length gs ≡ count = cc in none gs rest long fine small left
 
-pub no-sum : (ks : List ℕ) (count : ℕ) (s : Passed) (lines behind : List (List ℕ)) (hs : List Gate) → ks ≡ count ∷ [] → s.body.wires ≤ most_wires → All (IsFine s.body.wires) hs → length hs ≡ count →
-    lines ≡ map gate_line hs ++ behind → (SamePathSum s.body.wires s.body.gates hs → ⊥) → NoSums ks s lines
-no-sum ks count s lines behind hs e few fine long all none = λ gs rest is fg small left same.
+pub no-same : (w : Word) (ks : List ℕ) (count : ℕ) (s : Passed) (lines behind : List (List ℕ)) (hs : List Gate) → ks ≡ count ∷ [] → s.body.wires ≤ most_wires → All (IsFine s.body.wires) hs → length hs ≡ count →
+    lines ≡ map gate_line hs ++ behind → (IsSame w s.body.wires s.body.gates hs → ⊥) → NoListed w ks s lines
+no-same w ks count s lines behind hs e few fine long all none = λ gs rest is fg small left same.
     let other : length gs ≡ count = cc in
     let u = gates-unique gs hs rest behind small (fine-small s.body.wires few hs (recursion_from_All (IsFine s.body.wires) hs fine)) (other ∙ sym long) (sym left ∙ all) in
-    none (subst (λ x. SamePathSum s.body.wires s.body.gates x) u.gates same)
+    none (subst (λ x. IsSame w s.body.wires s.body.gates x) u.gates same)
 
 -- ---- the first line
 heading : words (codes "TRACE") (1 ∷ []) ≡ codes "TRACE 1"
@@ -281,6 +305,7 @@ no_place : (e : Claim) (ks : List ℕ) (s : Passed) (rest : List (List ℕ)) (ne
 no_place e ks s rest new none (Place p) kind is a = none a.fits (subst (IsPlacement e.qubits) (sym is) a.placement)
 no_place e ks s rest new none (Rewrite p) kind is a = not_place p kind
 no_place e ks s rest new none (Part i j gs) kind is a = absurd (cc)
+no_place e ks s rest new none (Phases gs) kind is a = absurd (cc)
 no_place e ks s rest new none (Goal gs) kind is a = absurd (cc)
 no_place e ks s rest new none _ kind is a = a
 
@@ -290,6 +315,7 @@ stuck-place e v s ks behind small none = stuck-numbers e v (reached None s) word
 none_held : (e : Claim) (h : Held) (s : Passed) (rest : List (List ℕ)) (new : State) (l : Line) → kind_of l ≡ word.Place → Applies e (reached (Some h) s) l rest new → ⊥
 none_held e h s rest new (Rewrite p) kind a = not_place p kind
 none_held e h s rest new (Part i j gs) kind a = absurd (cc)
+none_held e h s rest new (Phases gs) kind a = absurd (cc)
 none_held e h s rest new Meet kind a = absurd (cc)
 none_held e h s rest new _ kind a = a
 

@@ -17,12 +17,16 @@
 --     LeadsOn w h s g t ls behind       where edition v has the word w, the first of the lines ls apply, and lead from s, with h held, to t,
 --                             with g held, and the lines `behind` are left
 --     Leads w s t ls behind   so it is, and what is held stays
+--     IsListing w         behind a line of the word w gates are listed that come in the place of all
+--     IsSame w n old new      what it asks of these and the ones before
 --     BlockedWith h s ls           no line applies that the first of the lines ls spell, where h is held;  Blocked s ls: whatever is held
 --     Ends e goal             the gates and the turn of the target are those
-use Rattle.std.specs.Prelude.{◌≡◌, ℕ, ◌<◌, ◌≤◌, List, [], ◌∷◌, ◌++◌, Option, Some, None, length, take}
+use Rattle.std.specs.Prelude.{◌≡◌, ℕ, ◌<◌, ◌≤◌, ◌⊎◌, List, [], ◌∷◌, ◌++◌, Option, Some, None, length, take}
 use Rattle.circuit_list.specs.declared.Gate.{Gate}
 use Rattle.circuit_list.specs.declared.Passed.{Passed}
 use Rattle.gate_expand.specs.Expansion.{expanded, turn_of}
+use Rattle.path_parity.specs.NamedSums.{SamePathSum}
+use Rattle.path_parity.specs.PathFunctions.{SamePathFunction}
 use Rattle.rewrite_pass.specs.Traces.{Step, Rule, Both, Join}
 use Rattle.rewrite_pass.specs.TraceLines.{words}
 use Rattle.trace_check.specs.Lines.{IsLineIn, Line, all_spelt, edition_of, spelt}
@@ -33,6 +37,14 @@ use Rattle.trace_check.specs.declared.goals.Held.{Held}
 use Rattle.trace_check.specs.declared.words.Word.{Word}
 use Rattle.trace_check.specs.declared.words.Word.TheVariants as word
 use Rattle.trace_check.specs.declared.routing.Routing.{Routing}
+
+abbrev pub IsListing : Word → Type 0
+IsListing w = (w ≡ word.Sums) ⊎ (w ≡ word.Phases)
+
+abbrev pub IsSame : Word → ℕ → List Gate → List Gate → Type 0
+IsSame word.Sums n old new = SamePathSum n old new
+IsSame word.Phases n old new = SamePathFunction n old new
+IsSame _ n old new = ⊥
 
 abbrev pub IsAppended : List Gate → Option ℕ → List Gate → Type 0
 IsAppended goal None written = (more : List Gate) → written ++ more ≡ goal → ⊥

@@ -20,6 +20,7 @@ spelling word.Both = codes "both"
 spelling word.Join = codes "join"
 spelling word.Sums = codes "sums"
 spelling word.Part = codes "part"
+spelling word.Phases = codes "phases"
 spelling word.Goal = codes "goal"
 spelling word.Meet = codes "meet"
 spelling word.Place = codes "place"
@@ -32,6 +33,7 @@ spelling word.End = codes "end"
 
 abbrev pub IsWordIn : ℕ → Word → Type 0
 IsWordIn v word.Part = 2 ≤ v
+IsWordIn v word.Phases = 2 ≤ v
 IsWordIn v word.Goal = 2 ≤ v
 IsWordIn v word.Meet = 2 ≤ v
 IsWordIn v word.Elide = 2 ≤ v

@@ -31,25 +31,24 @@ ghost use Rattle.trace_text.specs.Texts.{lines_of};
 ghost use Rattle.trace_check.specs.Outcomes.{IsOutcome, claim};
 ghost use Rattle.trace_check.specs.Known.{AreSpans};
 ghost use Rattle.trace_check.specs.Lines.{edition_of};
-ghost use Rattle.trace_check.specs.Progress.{Blocked, Came, IsHeldFit, IsRouting, Leads, BlockedWith, LeadsOn, placed, reached, step_named};
+ghost use Rattle.trace_check.specs.Progress.{Blocked, Came, IsHeldFit, IsListing, IsRouting, Leads, BlockedWith, LeadsOn, placed, reached, step_named};
 ghost use Rattle.trace_check.specs.Proves.{Claim, IsStuck, Routed, StopsAt, Unread};
 ghost use Rattle.trace_check.specs.Spelling.{spelling};
 ghost use Rattle.trace_check.specs.declared.words.Word.TheVariants as kind;
 
 use crate::editions::{edition_from, read_line};
-use crate::gates::read_gates;
 use crate::goals::{Held, aim, meet};
 use crate::known::Known;
+use crate::listed::{is_listing, replaced};
 use crate::mark::Mark;
 use crate::pairs::{both, join};
 use crate::parts::replaced_part;
 use crate::routed::routed;
 use crate::routing::Routing;
 use crate::windows::rule;
-use crate::words::{Word, known_small, one, read_words, two};
+use crate::words::{Word, known_small, read_words, two};
 use circuit_list::{Circuit, Passed};
 use gate_expand::{Ops, expand};
-use path_sums::same_sums;
 use placement::Placement;
 use std::alloc::{AllocError, Global};
 use trace_text::first_line;
@@ -275,9 +274,9 @@ fn changed<'a>(
         (λ m. Leads word state.old state.new (words (spelling word) numbers.old.items ∷ lines_of mark.entry.text.now)
         (lines_of m.text.now))) }
 {
-    if word == Word::Sums {
+    if is_listing(word) {
         known.forget();
-        return replaced(alloc, mark, state, numbers);
+        return replaced(alloc, mark, state, word, numbers);
     }
     if word == Word::Part {
         known.forget();
@@ -295,7 +294,7 @@ fn rewrites(state: &mut Passed, known: &mut Known, word: Word, numbers: &[u32]) 
     requires place { word ≡ kind.Place → ⊥ }
     requires goal { word ≡ kind.Goal → ⊥ }
     requires meet { word ≡ kind.Meet → ⊥ }
-    requires sums { word ≡ kind.Sums → ⊥ }
+    requires listing { IsListing word → ⊥ }
     requires part { word ≡ kind.Part → ⊥ }
     requires turn { state.old.turn < 8 }
     requires known { AreSpans state.old.body.gates state.old.body.slots known.old.spans.items }
@@ -345,6 +344,7 @@ fn step(body: &mut Circuit, known: &mut Known, word: Word, first: u32, second: u
         Word::Trace
         | Word::Sums
         | Word::Part
+        | Word::Phases
         | Word::Goal
         | Word::Meet
         | Word::Place
@@ -355,49 +355,6 @@ fn step(body: &mut Circuit, known: &mut Known, word: Word, first: u32, second: u
         | Word::Turn
         | Word::End => None,
     }
-}
-
-/// Puts the gates that are listed behind a line `sums` in the place of all. None where it doesn't apply.
-fn replaced<'a>(
-    alloc: Global,
-    mark: Mark<'a>,
-    state: &mut Passed,
-    numbers: &mut Vec<u32>,
-) -> Result<Option<Mark<'a>>, AllocError>
-    requires turn { state.old.turn < 8 }
-    requires short { mark.line + length mark.text.now < 2 ^ 32 }
-    ensures wires { state.new.body.wires ≡ state.old.body.wires }
-    ensures turn { state.new.turn < 8 }
-    ensures shorter { IfOk result (λ o. IfSome o (λ m. length m.text.now ≤ length mark.entry.text.now)) }
-    ensures short { IfOk result (λ o. IfSome o (λ m. m.line + length m.text.now ≤ mark.entry.line + length mark.entry.text.now)) }
-    ensures later { IfOk result (λ o. IfSome o (λ m. mark.entry.line ≤ m.line)) }
-    ensures counted { IfOk result (λ o. IfSome o
-        (λ m. m.line + length (lines_of m.text.now) ≡ mark.entry.line + length (lines_of mark.entry.text.now))) }
-    ensures step { IfOk result
-        (λ o. MatchOption o (Blocked state.old (words (codes "sums") numbers.old.items ∷ lines_of mark.entry.text.now))
-        (λ m. Leads kind.Sums state.old state.new (words (codes "sums") numbers.old.items ∷ lines_of mark.entry.text.now)
-        (lines_of m.text.now))) }
-{
-    known_small(numbers);
-    let Some(count) = one(numbers) else {
-        return Ok(None);
-    };
-    state.body.facts();
-    let Some(listed) = read_gates(alloc, mark.text, state.body.wires(), count, numbers)? else {
-        return Ok(None);
-    };
-    listed.body.facts();
-    let Some(turn) = same_sums(alloc, &state.body, &listed.body)? else {
-        return Ok(None);
-    };
-    let mut body = listed.body;
-    body.link()?;
-    state.body = body;
-    state.turn = turn_sum(state.turn, turn);
-    Ok(Some(Mark {
-        text: listed.behind,
-        line: mark.line + count,
-    }))
 }
 
 /// What a line `place` with these numbers leads to, on so many qubits. None where it doesn't apply.

@@ -3,7 +3,7 @@
 ghost use Rattle.std.specs.Prelude.{◌≡◌, ℕ, ◌∷◌, [], List, IfOk, MatchOption, codes, false, true};
 ghost use Rattle.std.specs.List.{list_any};
 ghost use Rattle.rewrite_pass.specs.TraceLines.{words};
-ghost use Rattle.trace_text.specs.Texts.{lines_of};
+ghost use Rattle.trace_text.specs.Texts.{begins, lines_of};
 ghost use Rattle.trace_check.specs.Lines.{edition_of, is_later};
 ghost use Rattle.trace_check.specs.Spelling.{AreSmall, IsWordIn, spelling};
 ghost use Rattle.trace_check.specs.declared.words.Word.{Word};
@@ -50,9 +50,26 @@ fn has_later(text: &[u8]) -> bool
 fn is_later(line: &[u8]) -> bool
     ensures { result ≡ is_later line.now }
 {
+    if lists_later(line) {
+        return true;
+    }
+    tells_later(line)
+}
+
+/// Whether a line begins with one of these words behind which gates are listed.
+fn lists_later(line: &[u8]) -> bool
+    ensures { result ≡ list_any (λ w. begins w line.now) (codes "part" ∷ codes "phases" ∷ codes "goal" ∷ []) }
+{
     line.strip_prefix(b"part".as_slice()).is_some()
+        || line.strip_prefix(b"phases".as_slice()).is_some()
         || line.strip_prefix(b"goal".as_slice()).is_some()
-        || line.strip_prefix(b"meet".as_slice()).is_some()
+}
+
+/// Whether a line begins with one of the others.
+fn tells_later(line: &[u8]) -> bool
+    ensures { result ≡ list_any (λ w. begins w line.now) (codes "meet" ∷ codes "elide" ∷ []) }
+{
+    line.strip_prefix(b"meet".as_slice()).is_some()
         || line.strip_prefix(b"elide".as_slice()).is_some()
 }
 
@@ -62,7 +79,7 @@ fn has_word(edition: u32, word: Word) -> bool
     ensures no { result ≡ false → IsWordIn edition word → ⊥ }
 {
     match word {
-        Word::Part | Word::Goal | Word::Meet | Word::Elide => edition >= 2,
+        Word::Part | Word::Phases | Word::Goal | Word::Meet | Word::Elide => edition >= 2,
         Word::Trace
         | Word::Rule
         | Word::Both

@@ -13,6 +13,7 @@ mod gates;
 mod goals;
 mod known;
 pub mod laws;
+mod listed;
 mod mark;
 mod numbers;
 mod pairs;

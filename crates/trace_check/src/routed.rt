@@ -103,6 +103,7 @@ fn routes(state: &mut Routing, goal: &Circuit, word: Word, numbers: &[u32]) -> b
         | Word::Join
         | Word::Sums
         | Word::Part
+        | Word::Phases
         | Word::Goal
         | Word::Meet
         | Word::Place

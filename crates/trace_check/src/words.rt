@@ -18,6 +18,7 @@ pub(crate) enum Word {
     Join,
     Sums,
     Part,
+    Phases,
     Goal,
     Meet,
     Place,
@@ -75,6 +76,9 @@ fn later_word_of(bytes: &[u8]) -> Option<Word>
 {
     if bytes == b"part".as_slice() {
         return Some(Word::Part);
+    }
+    if bytes == b"phases".as_slice() {
+        return Some(Word::Phases);
     }
     if bytes == b"goal".as_slice() {
         return Some(Word::Goal);

@@ -11,14 +11,6 @@ pub returns-then-eq-clause-step : goal.returns-then-eq-clause-step
 returns-then-eq-clause-step c =
     let ks : List ℕ = c.args.numbers.now.items in
     let lines : List (List ℕ) = lines_of c.args.mark.text.now in
-    let word : c.args.word ≡ kind.Sums = search rules in
-    subst (λ w. IfOk c.replaced.result (λ o. MatchOption o (Blocked c.args.state.now (words (spelling w) ks ∷ lines)) (λ (m : Mark). Leads w c.args.state.now c.replaced.new.state (words (spelling w) ks ∷ lines) (lines_of m.text.now))))
-    (sym word) c.replaced.ensures.step
-
-pub returns-then-eq-2-clause-step : goal.returns-then-eq-2-clause-step
-returns-then-eq-2-clause-step c =
-    let ks : List ℕ = c.args.numbers.now.items in
-    let lines : List (List ℕ) = lines_of c.args.mark.text.now in
     let word : c.args.word ≡ kind.Part = search rules in
     subst (λ w. IfOk c.replaced_part.result (λ o. MatchOption o (Blocked c.args.state.now (words (spelling w) ks ∷ lines)) (λ (m : Mark). Leads w c.args.state.now c.replaced_part.new.state (words (spelling w) ks ∷ lines) (lines_of m.text.now))))
     (sym word) c.replaced_part.ensures.step
@@ -28,8 +20,8 @@ returns-then-rewrites-clause-step c =
     let lines : List (List ℕ) = lines_of c.args.mark.text.now in
     subst (λ l. Leads c.args.word c.args.state.now c.rewrites.new.state (words (spelling c.args.word) l ∷ lines) lines) c.deref.ensures.value (c.if-rewrites.ensures.applies refl lines)
 
-pub returns-then-eq-clause-known : goal.returns-then-eq-clause-known
-returns-then-eq-clause-known c = c.forget.ensures c.replaced.new.state.body.gates c.replaced.new.state.body.slots
+pub returns-then-is_listing-clause-known : goal.returns-then-is_listing-clause-known
+returns-then-is_listing-clause-known c = c.forget.ensures c.replaced.new.state.body.gates c.replaced.new.state.body.slots
 
-pub returns-then-eq-2-clause-known : goal.returns-then-eq-2-clause-known
-returns-then-eq-2-clause-known c = c.forget-then-eq-2.ensures c.replaced_part.new.state.body.gates c.replaced_part.new.state.body.slots
+pub returns-then-eq-clause-known : goal.returns-then-eq-clause-known
+returns-then-eq-clause-known c = c.forget-then-eq.ensures c.replaced_part.new.state.body.gates c.replaced_part.new.state.body.slots
