@@ -2,7 +2,7 @@
 --     written-back            what was lent as a slice, and has as many counts
 --     noted-more, noted-end   the names along a circuit
 --     seen-more, seen-end     the counts
---     same-counts             circuits with the same path sum have as many H on each wire
+--     same-counts             circuits with the same sets before the H have as many H on each wire
 use Rattle.std.proofs.Common.{◌≡◌, ℕ, suc, ◌+◌, ◌*◌, ◌<◌, ◌≤◌, Bool, true, false, cond, List, [], ◌∷◌, ◌++◌, All, Some, None, length, drop, take, append-nil, take_all, refl, sym, subst, ◌∙◌, ap, arith}
 use Rattle.std.specs.Prelude.{nat_eq, slice_get}
 use Rattle.std.specs.List.{IsDistinct}
@@ -14,7 +14,7 @@ use Rattle.indexmap.specs.IndexSet.{insert_all, insert_key}
 use Rattle.circuit_list.specs.declared.Gate.{Gate}
 use Rattle.circuit_list.specs.declared.Gate.TheVariants.{H, X, P, Cx}
 use Rattle.circuit_list.specs.Gates.{IsFine}
-use Rattle.path_parity.specs.NamedSums.{Seen, hadamards, named_after, seen_after, seen_more, set_before, unseen, SamePathSum}
+use Rattle.path_parity.specs.NamedSums.{Seen, hadamards, named_after, seen_after, seen_more, set_before, unseen}
 use Rattle.path_parity.specs.PathSum.{Wires, own_labels}
 use Rattle.path_parity.proofs.LoopLaws.{drop-get}
 use Rattle.path_sums.specs.Names.{counts, seen_last, variable, variables_of}
@@ -118,7 +118,8 @@ fewer n A B q lt fine same less =
     (same (suc (seen_last A unseen q) * n + q) ∙ none n q (seen_last A unseen q) lt A (own_labels n) unseen fine (omega arith))
 
 pub same-counts : (n : ℕ) (ws : List ℕ) (A B : List Gate) (xs ys : List ℕ) → All (IsFine n) A → All (IsFine n) B → All (λ q. q < n) ws → IsDistinct nat_eq ws → length xs ≡ length ws → length ys ≡ length ws →
-    counts ws xs ≡ seen_last A unseen → counts ws ys ≡ seen_last B unseen → SamePathSum n A B → xs ≡ ys
+    counts ws xs ≡ seen_last A unseen → counts ws ys ≡ seen_last B unseen →
+    ((v : ℕ) → set_before v (hadamards n B (own_labels n) unseen) ≡ set_before v (hadamards n A (own_labels n) unseen)) → xs ≡ ys
 same-counts n ws A B xs ys fineA fineB below distinct long wide seenA seenB same =
     ext_get_or 0 xs ys (long ∙ sym wide) (λ p lt. on-counts n ws xs ys below distinct long wide go p (subst (λ m. p < m) long lt))
   where
@@ -127,5 +128,5 @@ same-counts n ws A B xs ys fineA fineB below distinct long wide seenA seenB same
 
     go : (q : ℕ) → q < n → counts ws xs q ≡ counts ws ys q
     go q lt = (λ i. seenA i q)
-        ∙ equal_counts (seen_last A unseen q) (seen_last B unseen q) (fewer n A B q lt fineA same.sets) (fewer n B A q lt fineB (λ v. sym (same.sets v)))
+        ∙ equal_counts (seen_last A unseen q) (seen_last B unseen q) (fewer n A B q lt fineA same) (fewer n B A q lt fineB (λ v. sym (same v)))
         ∙ sym (λ i. seenB i q)

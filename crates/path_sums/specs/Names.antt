@@ -16,11 +16,14 @@
 --     term_by n r g w s, terms_by n r gs w s      what a gate, and what a list, puts on sets
 --     constant_by n r gs w s  what the gates of a list put on none, together
 --     SameBy n r A B          the same H with the same sets, the same last labels, and on each set the same total modulo 8
+--     SameFunctionBy n r A B  the same, but for the totals, and the same phase modulo 8 for all values of the variables
 use Rattle.std.specs.Prelude.{◌≡◌, ℕ, ◌+◌, ◌-◌, ◌%◌, ◌^◌, ◌<◌, cond, true, List, [], ◌∷◌, ◌++◌, get_or, nat_eq}
 use Rattle.std.specs.List.{list_any, position_or_len}
+use Rattle.unitary_model.specs.Acts.{Bits}
 use Rattle.circuit_list.specs.declared.Gate.{Gate}
 use Rattle.circuit_list.specs.declared.Gate.TheVariants.{H, X, P, Cx}
 use Rattle.path_parity.specs.NamedSums.{Seen, constant_at, hadamard, next_variable, seen_after, set_before, total, unseen}
+use Rattle.path_parity.specs.PathFunctions.{phase}
 use Rattle.path_parity.specs.PathSum.{PathLabel, Wires, with_label, add_labels, flipped, fresh, own_labels}
 
 abbrev pub AreAmong : List ℕ → List ℕ → Type 0
@@ -101,3 +104,8 @@ pub record SameBy (n : ℕ) (r : ℕ → ℕ) (A B : List Gate) : Type 0 where
   pub sets : (v : ℕ) → set_before v (hadamards_by n r B (own_labels n) unseen) ≡ set_before v (hadamards_by n r A (own_labels n) unseen)
   pub last : (q : ℕ) → q < n → last_by n r B (own_labels n) unseen q ≡ last_by n r A (own_labels n) unseen q
   pub totals : (m : ℕ) → total m (terms_by n r B (own_labels n) unseen) % 8 ≡ total m (terms_by n r A (own_labels n) unseen) % 8
+
+pub record SameFunctionBy (n : ℕ) (r : ℕ → ℕ) (A B : List Gate) : Type 0 where
+  pub sets : (v : ℕ) → set_before v (hadamards_by n r B (own_labels n) unseen) ≡ set_before v (hadamards_by n r A (own_labels n) unseen)
+  pub last : (q : ℕ) → q < n → last_by n r B (own_labels n) unseen q ≡ last_by n r A (own_labels n) unseen q
+  pub phases : (v : Bits) → phase (terms_by n r B (own_labels n) unseen) v % 8 ≡ phase (terms_by n r A (own_labels n) unseen) v % 8

@@ -2,11 +2,12 @@
 //!
 //! What goes in is two circuits on the same wires. What comes out is the turn from the one to the other, or that they have another
 //! path sum; it is wrong of none, whatever the circuits are. No size of them is too great but for memory. [`same_sums`] walks along each
-//! once.
+//! once, and [`same_phases`] asks of the phases only that they are the same function of the variables.
 #![tactic(auto)]
 
 mod names;
 mod sums;
 mod touched;
+mod vanishing;
 
-pub use sums::same_sums;
+pub use sums::{same_phases, same_sums};

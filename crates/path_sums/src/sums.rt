@@ -9,13 +9,15 @@ ghost use Rattle.std.specs.Map.{keys_of, lookup};
 ghost use Rattle.std.specs.Cmp.Lexicographic.{pointwise};
 ghost use Rattle.path_parity.specs.NamedSums.{SamePathSum, constant_at, constant_of, set_before, total, unseen};
 ghost use Rattle.path_parity.specs.LabelWalks.{labels_of_list};
+ghost use Rattle.path_parity.specs.PathFunctions.{SamePathFunction, Vanishes};
 ghost use Rattle.path_parity.specs.PathSum.{fresh, own_labels};
 ghost use Rattle.path_parity.specs.Sets.{IsLabel, IsPacked, label_of, set_of};
 ghost use Rattle.path_sums.specs.Names.{AreAmong, IsTouched, number_by, term_by, wires_touched};
-ghost use Rattle.path_sums.specs.Sums.{Adds, AddsKnown, AreRows, IsSameWalk, IsWalked, Passes, befores, compact, is_sparse, labels_in, mark, seen_in, sparse};
+ghost use Rattle.path_sums.specs.Sums.{Adds, AddsKnown, AreRows, IsDifference, IsSameWalk, IsUnlike, IsWalked, Passes, befores, compact, is_sparse, labels_in, mark, seen_in, sparse};
 
 use crate::names::{first_counts, next_variable, note_names, number};
 use crate::touched::{place_in, touched_by};
+use crate::vanishing::vanish;
 use circuit_list::{Circuit, Gate};
 use indexmap::{IndexMap, IndexSet};
 use path_parity::Label;
@@ -112,6 +114,13 @@ impl Totals {
         ensures { result ≡ self.now.constant % 8 }
     {
         self.constant % 8
+    }
+
+    /// Whether what stands on the sets adds nothing, modulo 8, whatever the values of the variables are.
+    fn vanish(&self, alloc: Global) -> Result<bool, AllocError>
+        ensures { IfOk result (λ b. IsTrue b ↔ Vanishes self.now.sets) }
+    {
+        vanish(alloc, &self.sets)
     }
 
     /// Whether 0 stands on each set.
@@ -390,12 +399,11 @@ fn walked<'a>(
     Ok(walk)
 }
 
-/// The turn from a circuit to another on the same wires with the same path sum, the constant of its path sum less that of the
-/// first. None where they have another. Fails for want of memory alone.
-pub fn same_sums(alloc: Global, old: &Circuit, new: &Circuit) -> Result<Option<u8>, AllocError>
+/// What one circuit adds to sets and to none, less what another does. None where the H, the sets before these or the last labels differ.
+fn difference(alloc: Global, old: &Circuit, new: &Circuit) -> Result<Option<Totals>, AllocError>
     requires wires { old.now.wires ≡ new.now.wires }
-    ensures same { IfOk result (λ o. MatchOption o (SamePathSum old.now.wires old.now.gates new.now.gates → ⊥)
-        (λ turn. SamePathSum old.now.wires old.now.gates new.now.gates × (turn ≡ (constant_of old.now.wires new.now.gates + (8 - constant_of old.now.wires old.now.gates % 8)) % 8))) }
+    ensures same { IfOk result (λ o. MatchOption o (IsUnlike old.now.wires old.now.gates new.now.gates)
+        (λ t. IsDifference old.now.wires old.now.gates new.now.gates t)) }
 {
     old.facts();
     new.facts();
@@ -409,7 +417,39 @@ pub fn same_sums(alloc: Global, old: &Circuit, new: &Circuit) -> Result<Option<u
     let mut totals = Totals::new(alloc);
     let before = walked(alloc, &touched, &names, &mut totals, old, 7)?;
     let after = walked(alloc, &touched, &names, &mut totals, new, 1)?;
-    if before.is_same(&after) && totals.are_none() {
+    if before.is_same(&after) {
+        return Ok(Some(totals));
+    }
+    Ok(None)
+}
+
+/// The turn from a circuit to another on the same wires with the same path sum, the constant of its path sum less that of the
+/// first. None where they have another. Fails for want of memory alone.
+pub fn same_sums(alloc: Global, old: &Circuit, new: &Circuit) -> Result<Option<u8>, AllocError>
+    requires wires { old.now.wires ≡ new.now.wires }
+    ensures same { IfOk result (λ o. MatchOption o (SamePathSum old.now.wires old.now.gates new.now.gates → ⊥)
+        (λ turn. SamePathSum old.now.wires old.now.gates new.now.gates × (turn ≡ (constant_of old.now.wires new.now.gates + (8 - constant_of old.now.wires old.now.gates % 8)) % 8))) }
+{
+    let Some(totals) = difference(alloc, old, new)? else {
+        return Ok(None);
+    };
+    if totals.are_none() {
+        return Ok(Some(totals.constant()));
+    }
+    Ok(None)
+}
+
+/// The turn from one circuit to another, modulo 8, if they have the same H with the same sets, the same last labels, and phases that
+/// are the same function of the variables; else none. Fails for want of memory alone.
+pub fn same_phases(alloc: Global, old: &Circuit, new: &Circuit) -> Result<Option<u8>, AllocError>
+    requires wires { old.now.wires ≡ new.now.wires }
+    ensures same { IfOk result (λ o. MatchOption o (SamePathFunction old.now.wires old.now.gates new.now.gates → ⊥)
+        (λ turn. SamePathFunction old.now.wires old.now.gates new.now.gates × (turn ≡ (constant_of old.now.wires new.now.gates + (8 - constant_of old.now.wires old.now.gates % 8)) % 8))) }
+{
+    let Some(totals) = difference(alloc, old, new)? else {
+        return Ok(None);
+    };
+    if totals.vanish(alloc)? {
         return Ok(Some(totals.constant()));
     }
     Ok(None)
