@@ -13,6 +13,7 @@
 //! none of these sums is refused.
 #![tactic(auto)]
 
+mod barrier;
 mod body;
 mod inliner;
 mod inlining;
@@ -29,6 +30,7 @@ mod splitting;
 mod stop;
 mod value;
 
+pub use barrier::Barrier;
 pub use inlining::{inline, inline_parts};
 pub use laws::{
     cut_once, inlined_has_no_fault, inlined_or_refused, operations_are_cut, refused_once,

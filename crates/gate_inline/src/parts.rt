@@ -7,6 +7,7 @@ ghost use Rattle.gate_library.specs.Operands.{wires_of};
 ghost use Rattle.gate_inline.specs.Parting.{AreMarked, IsOn, IsOnWires, cut_in, ended, named_of, so_far, with_wire};
 ghost use Rattle.gate_inline.specs.Splits.{if_some, once};
 
+use crate::barrier::Barrier;
 use qasm_check::{Operand, Step};
 use std::alloc::{AllocError, Global};
 use unitary_model::Op;
@@ -15,7 +16,7 @@ use unitary_model::Op;
 #[derive(Drop)]
 pub struct Parts {
     pub done: Vec<Vec<Op>>,
-    pub bars: Vec<Vec<u32>>,
+    pub bars: Vec<Barrier>,
     pub start: usize,
 }
 
@@ -102,7 +103,8 @@ fn end_with(
     }
     let part = copied_from(alloc, list, parts.start)?;
     parts.done.push(part)?;
-    parts.bars.push(wires)?;
+    let bar = Barrier::behind(alloc, wires, &parts.bars)?;
+    parts.bars.push(bar)?;
     parts.start = list.len();
     Ok(())
 }

@@ -4,7 +4,7 @@ ghost use Rattle.std.specs.Prelude.{◌≡◌, All, IfOk, map};
 ghost use Rattle.program_reader.specs.Sources.{lists_of};
 
 use gate_expand::{OpList, Ops, ReadList};
-use gate_inline::Split;
+use gate_inline::{Barrier, Split};
 use qasm_check::ClassicalRegister;
 use std::alloc::{AllocError, Global};
 use std::marker::Model;
@@ -18,7 +18,7 @@ use unitary_model::Op;
 pub struct SourceProgram {
     wires: u32,
     parts: Vec<Ops>,
-    bars: Vec<Vec<u32>>,
+    bars: Vec<Barrier>,
     reads: ReadList,
     registers: Vec<ClassicalRegister>,
     barriers: u64,
@@ -160,7 +160,7 @@ impl SourceProgram {
     }
 
     /// The wires that the barrier behind each part but the last names.
-    pub fn bars(&self) -> &[Vec<u32>]
+    pub fn bars(&self) -> &[Barrier]
         ensures value { map (λ v. v.items) result.now ≡ self.now.cut.bars }
     {
         &self.bars

@@ -29,6 +29,7 @@ use trace_text::laws::{commented_trace, lines_of_text};
 
 mod growing;
 mod lines;
+mod nowhere;
 pub mod output;
 mod pieces;
 
@@ -95,8 +96,9 @@ pub fn program_text(alloc: Global, output: &Output) -> Result<Vec<u8>, AllocErro
     ensures trace { IfOk result (λ v. trace_of v.items ≡ ended (lines_of output.now.trace.now)) }
 {
     let mut buffer = PieceBuffer::new(alloc)?;
+    let mut line = PieceBuffer::new(alloc)?;
     let mut text = Growing::new(alloc);
-    match write_program(output, &mut buffer, &mut text) {
+    match write_program(output, &mut buffer, &mut line, &mut text) {
         Ok(()) => Ok(text.into_bytes()),
         Err(Failed) => Err(AllocError),
     }
@@ -105,10 +107,12 @@ pub fn program_text(alloc: Global, output: &Output) -> Result<Vec<u8>, AllocErro
 /// Writes the text of a program to a sink, in pieces of 4,096 bytes, of which the last may be shorter. After `Failed` a prefix
 /// of the text was written.
 ///
-/// A piece is put together in the buffer, and no memory is taken. The buffer is emptied first, and comes back empty.
+/// A piece is put together in the buffer, and no memory is taken. The buffer is emptied first, and comes back empty. The line of a
+/// barrier is put together in the other buffer, from where it is put again if the next one names the same qubits.
 pub fn write_program<S: Sink>(
     output: &Output,
     buffer: &mut PieceBuffer,
+    line: &mut PieceBuffer,
     sink: &mut S,
 ) -> Result<(), Failed>
     requires output { IsOutput output.now }
@@ -118,7 +122,7 @@ pub fn write_program<S: Sink>(
     ensures empty { buffer.new ≡ [] }
 {
     buffer.clear();
-    let written = write_lines(output, buffer, sink);
+    let written = write_lines(output, buffer, line, sink);
     buffer.clear();
     written
 }
@@ -127,6 +131,7 @@ pub fn write_program<S: Sink>(
 fn write_lines<S: Sink>(
     output: &Output,
     buffer: &mut PieceBuffer,
+    line: &mut PieceBuffer,
     sink: &mut S,
 ) -> Result<(), Failed>
     requires output { IsOutput output.now }
@@ -141,6 +146,6 @@ fn write_lines<S: Sink>(
     output.body.facts();
     let wires = output.body.wires();
     let q = underscores(output.registers);
-    put_lines(output, q, wires, buffer, sink)?;
+    put_lines(output, q, wires, buffer, line, sink)?;
     send_buffer(buffer, sink)
 }

@@ -1,6 +1,6 @@
 //! The lines of a program, put one after the other. A number `q` is the number of underscores in the quantum register's name.
 
-ghost use Rattle.std.specs.Prelude.{◌≡◌, ◌+◌, ◌-◌, ◌≤◌, ◌++◌, [], OnErr, OnOk, Some, codes, drop, length, map, replicate, sum_by, take};
+ghost use Rattle.std.specs.Prelude.{◌≡◌, ◌+◌, ◌-◌, ◌≤◌, ◌++◌, [], OnErr, OnOk, Some, codes, drop, length, map, replicate, sum_by, take, true};
 ghost use Rattle.std.specs.List.{flat_map};
 ghost use Rattle.circuit_list.specs.Gates.{op_of, ops};
 ghost use Rattle.outside_io.specs.Bytes.{GainsPrefix};
@@ -10,6 +10,7 @@ ghost use Rattle.qasm_writer.specs.Outputs.{bits_of, cut_of};
 ghost use Rattle.qasm_writer.specs.Pieces.{Sends};
 ghost use Rattle.qasm_writer.specs.Texts.{barrier_line, bits_line, index_text, listed, op_line, part_lines, phase_text, read_line, read_lines, register_lines, wires_line, with_underscores, written_text};
 
+use crate::nowhere::Nowhere;
 use crate::output::{Output, Register};
 use crate::pieces::{PieceBuffer, put, put_bytes, put_number};
 use circuit_list::{Circuit, Gate};
@@ -293,6 +294,41 @@ fn put_barrier<S: Sink>(
     put(buffer, sink, ";\n")
 }
 
+/// Notes the line of a barrier, and says whether it could: a line of a piece or more is not noted. The line of the barrier before
+/// it stays, if both name the same qubits.
+fn note_barrier(line: &mut PieceBuffer, q: usize, known: bool, named: &[u32], wires: &[u32]) -> bool
+    requires known { known ≡ true → line.old ≡ barrier_line (with_underscores q) named.now }
+    ensures noted { result ≡ true → line.new ≡ barrier_line (with_underscores q) wires.now }
+{
+    if known && named == wires {
+        return true;
+    }
+    line.clear();
+    let mut nowhere = Nowhere::new();
+    put_barrier(line, &mut nowhere, q, wires).is_ok()
+}
+
+/// Puts the line of a barrier, which may be noted.
+fn put_noted<S: Sink>(
+    buffer: &mut PieceBuffer,
+    sink: &mut S,
+    q: usize,
+    wires: &[u32],
+    line: &PieceBuffer,
+    known: bool,
+) -> Result<(), Failed>
+    requires known { known ≡ true → line.now ≡ barrier_line (with_underscores q) wires.now }
+    ensures ok { OnOk result (Sends (S.held sink.old) buffer.old (S.held sink.new) buffer.new (barrier_line (with_underscores q) wires.now)) }
+    ensures err { OnErr result (GainsPrefix (S.held sink.old) (S.held sink.new) (buffer.old ++ barrier_line (with_underscores q) wires.now)) }
+    ensures cause { HasCause (S.faults sink.old) (S.faults sink.new) result }
+{
+    if known {
+        put_bytes(buffer, sink, line.as_slice())
+    } else {
+        put_barrier(buffer, sink, q, wires)
+    }
+}
+
 /// Puts the lines of the gates from one place to another.
 #[tactic(auto, using(crate::proofs::PieceLaws::loops, crate::proofs::LineLaws::lines))]
 fn put_gates<S: Sink>(
@@ -324,24 +360,29 @@ fn put_part<S: Sink>(
     from: usize,
     to: usize,
     wires: &[u32],
+    line: &PieceBuffer,
+    known: bool,
 ) -> Result<(), Failed>
     requires order { from ≤ to }
     requires there { to ≤ length body.now.gates }
+    requires known { known ≡ true → line.now ≡ barrier_line (with_underscores q) wires.now }
     ensures ok { OnOk result (Sends (S.held sink.old) buffer.old (S.held sink.new) buffer.new (flat_map (op_line (with_underscores q)) (ops (take (to - from) (drop from body.now.gates))) ++ barrier_line (with_underscores q) wires.now)) }
     ensures err { OnErr result (GainsPrefix (S.held sink.old) (S.held sink.new) (buffer.old ++ (flat_map (op_line (with_underscores q)) (ops (take (to - from) (drop from body.now.gates))) ++ barrier_line (with_underscores q) wires.now))) }
     ensures cause { HasCause (S.faults sink.old) (S.faults sink.new) result }
 {
     put_gates(buffer, sink, q, body, from, to)?;
-    put_barrier(buffer, sink, q, wires)
+    put_noted(buffer, sink, q, wires, line, known)
 }
 
-/// Puts the lines of all parts, a barrier between two of them.
+/// Puts the lines of all parts, a barrier between two of them. The line of a barrier is noted, since the next one often names the
+/// same qubits.
 #[tactic(auto, using(crate::proofs::PieceLaws::loops, crate::proofs::LineLaws::lines))]
 fn put_parts<S: Sink>(
     buffer: &mut PieceBuffer,
     sink: &mut S,
     q: usize,
     output: &Output,
+    line: &mut PieceBuffer,
 ) -> Result<(), Failed>
     requires lengths { sum_by (λ n. n) output.now.lengths.now ≡ length output.now.body.now.gates }
     requires cut { length output.now.lengths.now ≡ length output.now.barriers.now + 1 }
@@ -351,9 +392,14 @@ fn put_parts<S: Sink>(
 {
     let end = output.body.len();
     let mut from = 0;
+    let mut named: &[u32] = &[];
+    let mut known = false;
     'barriers: for k in 0..output.barriers.len() {
         let to = from + output.lengths[k];
-        put_part(buffer, sink, q, output.body, from, to, &output.barriers[k])?;
+        let wires = output.barriers[k].wires();
+        known = note_barrier(line, q, known, named, wires);
+        named = wires;
+        put_part(buffer, sink, q, output.body, from, to, wires, line, known)?;
         from = to;
     }
     put_gates(buffer, sink, q, output.body, from, end)
@@ -407,6 +453,7 @@ fn put_program<S: Sink>(
     q: usize,
     wires: u32,
     buffer: &mut PieceBuffer,
+    line: &mut PieceBuffer,
     sink: &mut S,
 ) -> Result<(), Failed>
     requires lengths { sum_by (λ n. n) output.now.lengths.now ≡ length output.now.body.now.gates }
@@ -419,7 +466,7 @@ fn put_program<S: Sink>(
     put(buffer, sink, "OPENQASM 2.0;\ninclude \"qelib1.inc\";\n")?;
     put_wires(buffer, sink, q, wires)?;
     put_registers(buffer, sink, output.registers)?;
-    put_parts(buffer, sink, q, output)?;
+    put_parts(buffer, sink, q, output, line)?;
     put_reads(buffer, sink, q, output.registers, output.reads)
 }
 
@@ -455,6 +502,7 @@ pub fn put_lines<S: Sink>(
     q: usize,
     wires: u32,
     buffer: &mut PieceBuffer,
+    line: &mut PieceBuffer,
     sink: &mut S,
 ) -> Result<(), Failed>
     requires lengths { sum_by (λ n. n) output.now.lengths.now ≡ length output.now.body.now.gates }
@@ -464,6 +512,6 @@ pub fn put_lines<S: Sink>(
     ensures err { OnErr result (GainsPrefix (S.held sink.old) (S.held sink.new) (buffer.old ++ (written_text (with_underscores q) wires (cut_of output.now) (map bits_of output.now.registers.now) output.now.reads.now ++ commented output.now.trace.now))) }
     ensures cause { HasCause (S.faults sink.old) (S.faults sink.new) result }
 {
-    put_program(output, q, wires, buffer, sink)?;
+    put_program(output, q, wires, buffer, line, sink)?;
     put_trace(buffer, sink, output.trace)
 }

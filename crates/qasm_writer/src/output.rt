@@ -1,6 +1,7 @@
 //! What is written.
 
 use circuit_list::Circuit;
+use gate_inline::Barrier;
 
 /// A classical register.
 #[derive(Clone, Copy)]
@@ -22,7 +23,7 @@ pub struct Output<'a> {
     /// The number of gates of each part. The parts stand one after the other in the body, with a barrier between two of them.
     pub lengths: &'a [usize],
     /// The qubits that each barrier names, one at least.
-    pub barriers: &'a [Vec<u32>],
+    pub barriers: &'a [Barrier],
     /// The lines of a trace, each of which is written behind `//!` after the last line of the program; empty where there is none.
     pub trace: &'a [u8],
 }

@@ -40,6 +40,13 @@ impl PieceBuffer {
         Ok(PieceBuffer { bytes })
     }
 
+    /// The bytes that wait.
+    pub(crate) fn as_slice(&self) -> &[u8]
+        ensures value { result.now ≡ self.now }
+    {
+        &self.bytes
+    }
+
     /// Drops the bytes that wait.
     pub(crate) fn clear(&mut self)
         ensures empty { self.new ≡ [] }

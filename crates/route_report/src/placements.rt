@@ -48,23 +48,52 @@ fn push_numbers(bytes: &mut Vec<u8>, numbers: &[u32]) -> Result<(), AllocError>
     Ok(())
 }
 
-/// A placement, behind a comma if one stands before it.
-fn push_placement(bytes: &mut Vec<u8>, later: bool, placement: &Wires) -> Result<(), AllocError>
-    ensures { OnOk result (bytes.new.items ≡ bytes.old.items ++ (comma_if later ++ compact_text (wholes placement.now))) }
+/// Makes the text of a placement; that of the one before it stays, if both are the same.
+fn note_placement(text: &mut Vec<u8>, noted: &[u32], numbers: &[u32]) -> Result<(), AllocError>
+    requires { text.old.items ≡ compact_text (wholes noted.now) }
+    ensures { OnOk result (text.new.items ≡ compact_text (wholes numbers.now)) }
 {
-    push_comma(bytes, later)?;
-    push_numbers(bytes, placement.as_slice())
+    if noted == numbers {
+        return Ok(());
+    }
+    text.clear();
+    push_numbers(text, numbers)
 }
 
-/// An array of placements, each an array of whole numbers.
+/// A placement, behind a comma if one stands before it. Its text is made, or is that of the one before it.
+fn push_placement(
+    bytes: &mut Vec<u8>,
+    later: bool,
+    placement: &Wires,
+    text: &mut Vec<u8>,
+    noted: &[u32],
+) -> Result<(), AllocError>
+    requires { text.old.items ≡ compact_text (wholes noted.now) }
+    ensures pushed { OnOk result (bytes.new.items ≡ bytes.old.items ++ (comma_if later ++ compact_text (wholes placement.now))) }
+    ensures noted { OnOk result (text.new.items ≡ compact_text (wholes placement.now)) }
+{
+    note_placement(text, noted, placement.as_slice())?;
+    push_comma(bytes, later)?;
+    bytes.extend_from_slice(text)?;
+    Ok(())
+}
+
+/// An array of placements, each an array of whole numbers. One that is the same as the one before it has the same text.
 #[tactic(auto, using(crate::proofs::PlacementLaws::pushes))]
-fn push_placements(bytes: &mut Vec<u8>, placements: &[Wires]) -> Result<(), AllocError>
+fn push_placements(
+    alloc: Global,
+    bytes: &mut Vec<u8>,
+    placements: &[Wires],
+) -> Result<(), AllocError>
     ensures { OnOk result (bytes.new.items ≡ bytes.old.items ++ compact_text (lists placements.now)) }
 {
     bytes.push(b'[')?;
+    let mut noted: &[u32] = &[];
+    let mut text = Vec::from_slice(alloc, b"[]")?;
     let mut later = false;
     'placements: for placement in placements {
-        push_placement(bytes, later, placement)?;
+        push_placement(bytes, later, placement, &mut text, noted)?;
+        noted = placement.as_slice();
         later = true;
     }
     bytes.push(b']')?;
@@ -108,7 +137,7 @@ pub(crate) fn with_placements(
     push_barriers(&mut bytes, report.barriers)?;
     let (_head, rest) = text.split_at(bytes.len());
     bytes.extend_from_slice(b",\"between\":")?;
-    push_placements(&mut bytes, placements)?;
+    push_placements(alloc, &mut bytes, placements)?;
     bytes.extend_from_slice(rest)?;
     Ok(bytes)
 }

@@ -3,6 +3,7 @@
 ghost use Rattle.std.specs.Prelude.{◌≡◌, IfOk};
 
 use circuit_list::{Circuit, Gate};
+use gate_inline::Barrier;
 use outside_io::MemSink;
 use qasm_writer::output::{Output, Register};
 use qasm_writer::{PieceBuffer, program_text, write_program};
@@ -43,7 +44,12 @@ fn long_body(alloc: Global) -> Result<Circuit, AllocError>
 }
 
 /// Whether the text of a circuit is sent.
-fn sends(body: &Circuit, buffer: &mut PieceBuffer, sink: &mut MemSink) -> bool {
+fn sends(
+    body: &Circuit,
+    buffer: &mut PieceBuffer,
+    line: &mut PieceBuffer,
+    sink: &mut MemSink,
+) -> bool {
     let output = Output {
         body,
         registers: &[],
@@ -52,7 +58,7 @@ fn sends(body: &Circuit, buffer: &mut PieceBuffer, sink: &mut MemSink) -> bool {
         barriers: &[],
         trace: b"",
     };
-    write_program(&output, buffer, sink).is_ok()
+    write_program(&output, buffer, line, sink).is_ok()
 }
 
 /// Whether so much of the text of a circuit comes to a sink as a row says.
@@ -64,14 +70,15 @@ fn is_sent(alloc: Global, body: &Circuit, text: &[u8], row: &str) -> Result<bool
     let failing = Vec::from_slice(alloc, &[number(row, 0)])?;
     let mut sink = MemSink::new(alloc, 20_000, 4_096, failing)?;
     let mut buffer = PieceBuffer::new(alloc)?;
-    let is_whole = sends(body, &mut buffer, &mut sink) == (word(row, 1) == "sent");
+    let mut line = PieceBuffer::new(alloc)?;
+    let is_whole = sends(body, &mut buffer, &mut line, &mut sink) == (word(row, 1) == "sent");
     // again with the same buffer, to a sink that takes all
     let mut all = MemSink::new(alloc, 20_000, 20_000, Vec::new(alloc))?;
     Ok(
         is_whole
             && sink.as_slice() == &text[..held]
             && sink.calls() == number(row, 3)
-            && sends(body, &mut buffer, &mut all)
+            && sends(body, &mut buffer, &mut line, &mut all)
             && all.as_slice() == text,
     )
 }
@@ -120,20 +127,22 @@ fn writes_a_trace_behind_the_program(rt: HostRuntime) -> Result<(), Wrong> {
     each_row(rt.alloc(), TRACES, "\n....\n", is_commented)
 }
 
-/// The text of a circuit on two wires, all of it in the second of four parts.
+/// The text of a circuit on two wires, all of it in the second of six parts.
 fn parts_text(alloc: Global, body: &Circuit) -> Result<Vec<u8>, AllocError>
     requires { body.now.wires ≡ 2 }
 {
     let barriers = [
-        Vec::from_slice(alloc, &[0])?,
-        Vec::from_slice(alloc, &[1, 0, 1])?,
-        Vec::from_slice(alloc, &[1])?,
+        Barrier::new(alloc, Vec::from_slice(alloc, &[0])?)?,
+        Barrier::new(alloc, Vec::from_slice(alloc, &[1, 0, 1])?)?,
+        Barrier::new(alloc, Vec::from_slice(alloc, &[1, 0, 1])?)?,
+        Barrier::new(alloc, Vec::from_slice(alloc, &[0, 1])?)?,
+        Barrier::new(alloc, Vec::from_slice(alloc, &[1])?)?,
     ];
     let output = Output {
         body,
         registers: &[],
         reads: &[],
-        lengths: &[0, body.len(), 0, 0],
+        lengths: &[0, body.len(), 0, 0, 0, 0],
         barriers: &barriers,
         trace: b"",
     };
@@ -149,7 +158,8 @@ fn are_parts(alloc: Global, lines: &str) -> Result<bool, AllocError> {
 
 #[test]
 fn writes_parts_without_gates(rt: HostRuntime) -> Result<(), Wrong> {
-    let lines = "qreg q[2];\nbarrier q[0];\nx q[0];\nbarrier q[1],q[0],q[1];\nbarrier q[1];\n";
+    let lines =
+        "qreg q[2];\nbarrier q[0];\nx q[0];\nbarrier q[1],q[0],q[1];\nbarrier q[1],q[0],q[1];\nbarrier q[0],q[1];\nbarrier q[1];\n";
     each_row(rt.alloc(), lines, "\n\n", are_parts)
 }
 
@@ -157,7 +167,7 @@ fn writes_parts_without_gates(rt: HostRuntime) -> Result<(), Wrong> {
 fn later_text(alloc: Global, body: &Circuit) -> Result<Vec<u8>, AllocError>
     requires { body.now.wires ≡ 12 }
 {
-    let barriers = [Vec::from_slice(alloc, &[11, 0])?];
+    let barriers = [Barrier::new(alloc, Vec::from_slice(alloc, &[11, 0])?)?];
     let last = body.len().min(30);
     let output = Output {
         body,

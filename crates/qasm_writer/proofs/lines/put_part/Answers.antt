@@ -12,7 +12,7 @@ returns-in_err-put_gates-clause-err g c =
     c.in_err-put_gates.ensures.err)
 
 pub returns-clause-ok : goal.returns-clause-ok
-returns-clause-ok g c = then-ok _ _ _ _ _ _ _ _ _ c.in_ok-put_gates.ensures.ok c.put_barrier.ensures.ok
+returns-clause-ok g c = then-ok _ _ _ _ _ _ _ _ _ c.in_ok-put_gates.ensures.ok c.put_noted.ensures.ok
 
 pub returns-clause-err : goal.returns-clause-err
-returns-clause-err g c = then-err _ _ _ _ _ _ _ _ c.in_ok-put_gates.ensures.ok c.put_barrier.ensures.err
+returns-clause-err g c = then-err _ _ _ _ _ _ _ _ c.in_ok-put_gates.ensures.ok c.put_noted.ensures.err

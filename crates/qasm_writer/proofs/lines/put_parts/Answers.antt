@@ -9,7 +9,7 @@ returns-in_err-put_part-clause-err g c =
     let o = c.args.output.now in
     on_err _ _ (Leads-stop _ _ _ _ _ _ _ _ _ c.barriers.invariant.leads
     (parts-next (with_underscores c.args.q) o.lengths.now o.barriers.now o.body.now.gates c.barriers.k c.barriers.from _ _ _ _ c.barriers-test.true
-    c.requires.cut refl c.deref.ensures.value)
+    c.requires.cut refl c.wires-wires.ensures.value)
     c.in_err-put_part.ensures.err)
 
 pub barriers-preserved : goal.barriers-preserved
@@ -17,10 +17,11 @@ barriers-preserved g c =
     let o = c.args.output.now in record {
       leads = Leads-more _ _ _ _ _ _ _ _ _ _ c.barriers.invariant.leads
           (parts-next (with_underscores c.args.q) o.lengths.now o.barriers.now o.body.now.gates c.barriers.k c.barriers.from _ _ _ _ c.barriers-test.true
-          c.requires.cut refl c.deref.ensures.value)
+          c.requires.cut refl c.wires-wires.ensures.value)
           c.in_ok-put_part.ensures.ok;
       calm = c.in_ok-put_part.ensures.cause.ok ∙ c.barriers.invariant.calm;
       left = parts_within o.lengths.now c.barriers.k c.barriers.from _ (length o.body.now.gates) (omega (arith, c.barriers-test.true, c.requires.cut)) c.barriers.invariant.left;
+      known = c.note_barrier-known.ensures.noted;
     }
 
 pub returns-clause-ok : goal.returns-clause-ok
