@@ -1,6 +1,7 @@
 //! A program, as it is handed in: its parts, and the barriers between them.
 
 use gate_expand::Ops;
+use gate_inline::Barrier;
 use qasm_check::ClassicalRegister;
 use std::marker::Model;
 
@@ -11,7 +12,7 @@ use std::marker::Model;
 pub struct PartedProgram<'a> {
     wires: u32,
     parts: &'a [Ops],
-    bars: &'a [Vec<u32>],
+    bars: &'a [Barrier],
     reads: &'a [Option<u32>],
     registers: &'a [ClassicalRegister],
     barriers: u64,
@@ -42,7 +43,7 @@ impl<'a> PartedProgram<'a> {
     pub fn new(
         wires: u32,
         parts: &'a [Ops],
-        bars: &'a [Vec<u32>],
+        bars: &'a [Barrier],
         reads: &'a [Option<u32>],
         registers: &'a [ClassicalRegister],
         barriers: u64,
@@ -93,7 +94,7 @@ impl<'a> PartedProgram<'a> {
     }
 
     /// The wires that the barrier behind each part but the last names.
-    pub fn bars(&self) -> &'a [Vec<u32>]
+    pub fn bars(&self) -> &'a [Barrier]
         ensures value { map (λ v. v.items) result.now ≡ self.now.cut.bars }
     {
         self.bars

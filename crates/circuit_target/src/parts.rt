@@ -8,6 +8,7 @@ ghost use Rattle.circuit_target.specs.Making.{IsOnSize, lasts_but_one, parts_of,
 
 use crate::parted::PartedProgram;
 use circuit_list::Circuit;
+use gate_inline::Barrier;
 use route_report::{Parts, Wires};
 use std::alloc::{AllocError, Global};
 use unitary_model::turn_sum;
@@ -124,7 +125,7 @@ pub fn placed_bars(
     alloc: Global,
     source: &PartedProgram,
     made: &[PartTarget],
-) -> Result<Vec<Vec<u32>>, AllocError>
+) -> Result<Vec<Barrier>, AllocError>
     requires many { length made.now ≡ length source.now.cut.parts }
     requires placed { All (λ m. source.now.wires ≤ length m.last) made.now }
     ensures ok { IfOk result (λ v. map (λ b. b.items) v.items ≡ placed_bars (parts_of source.now.cut.parts made.now) source.now.cut.bars) }
@@ -133,7 +134,9 @@ pub fn placed_bars(
     let bars = source.bars();
     let mut placed = Vec::with_capacity(alloc, bars.len())?;
     'bars: for part in 0..bars.len() {
-        placed.push(placed_bar(alloc, &bars[part], made[part].last.as_slice())?)?;
+        let qubits = placed_bar(alloc, bars[part].wires(), made[part].last.as_slice())?;
+        let bar = Barrier::behind(alloc, qubits, &placed)?;
+        placed.push(bar)?;
     }
     Ok(placed)
 }

@@ -30,6 +30,7 @@ use circuit_list::{Circuit, Passed};
 use coupling_map::Device;
 use gate_cancel::CancelPass;
 use gate_expand::{Ops, expand};
+use gate_inline::Barrier;
 use placement::Placement;
 use rewrite_pass::Pass;
 use route_report::{Parts, Wires};
@@ -46,7 +47,7 @@ pub struct Target {
     /// The number of gates of each part.
     pub lengths: Vec<usize>,
     /// The qubits of the barrier between two parts.
-    pub barriers: Vec<Vec<u32>>,
+    pub barriers: Vec<Barrier>,
     /// The qubit on which each wire begins, spare wires included.
     pub initial: Placement,
     /// The qubit on which each wire ends.

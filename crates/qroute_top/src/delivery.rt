@@ -225,6 +225,7 @@ fn emit_text<O: Sink, R: Sink>(text: &[u8], fault: &[u8], out: &mut O, report: &
 fn send_program<O: Sink>(
     output: &Output,
     buffer: &mut PieceBuffer,
+    bar: &mut PieceBuffer,
     out: &mut O,
 ) -> Result<(), Failed>
     requires output { IsOutput output.now }
@@ -233,7 +234,7 @@ fn send_program<O: Sink>(
     ensures err { OnErr result (HasText output.now (λ text. GainsPrefix (O.held out.old) (O.held out.new) text)) }
     ensures cause { HasCause (O.faults out.old) (O.faults out.new) result }
 {
-    write_program(output, buffer, out)?;
+    write_program(output, buffer, bar, out)?;
     out.flush()
 }
 
@@ -241,6 +242,7 @@ fn send_program<O: Sink>(
 fn emit_program<O: Sink, R: Sink>(
     output: &Output,
     buffer: &mut PieceBuffer,
+    bar: &mut PieceBuffer,
     line: &[u8],
     fault: &[u8],
     out: &mut O,
@@ -252,7 +254,7 @@ fn emit_program<O: Sink, R: Sink>(
         (sent O.held O.flushed O.faults out.old out.new) (sent R.held R.flushed R.faults report.old report.new) result }
     ensures memory { result ≡ 7 → ⊥ }
 {
-    match send_program(output, buffer, out) {
+    match send_program(output, buffer, bar, out) {
         Ok(()) => emit_line(line, report),
         Err(Failed) => tell_failed(fault, report),
     }
@@ -278,6 +280,7 @@ fn emit_target<O: Sink, R: Sink>(
                 registers,
                 reads,
                 mut buffer,
+                mut bar,
                 line,
                 fault,
             },
@@ -290,7 +293,7 @@ fn emit_target<O: Sink, R: Sink>(
                 barriers: &target.barriers,
                 trace: &target.trace,
             };
-            emit_program(&output, &mut buffer, &line, &fault, out, report)
+            emit_program(&output, &mut buffer, &mut bar, &line, &fault, out, report)
         }
     }
 }

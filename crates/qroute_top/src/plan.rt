@@ -47,6 +47,8 @@ pub struct Prepared<'a> {
     pub reads: Vec<Option<u32>>,
     /// Where the pieces of the text are put together.
     pub buffer: PieceBuffer,
+    /// Where the line of a barrier is put together.
+    pub bar: PieceBuffer,
     /// The line of the report.
     pub line: Vec<u8>,
     /// The line that is told where the output fails.
@@ -129,7 +131,7 @@ fn parts_again(alloc: Global, parts: &Parts) -> Result<Parts, AllocError>
 {
     let mut between = Vec::with_capacity(alloc, parts.between.len())?;
     'barriers: for placement in parts.between.iter() {
-        between.push(Wires::new(Vec::from_slice(alloc, placement.as_slice())?))?;
+        between.push(placement.copy()?)?;
     }
     let powers = Vec::from_slice(alloc, &parts.powers)?;
     Ok(Parts { between, powers })
@@ -201,10 +203,12 @@ pub fn prepare<'a>(
     let line = report_line(alloc, &report)?;
     let fault = fault_line(alloc, &Fault::Output)?;
     let buffer = PieceBuffer::new(alloc)?;
+    let bar = PieceBuffer::new(alloc)?;
     Ok(Prepared {
         registers,
         reads,
         buffer,
+        bar,
         line,
         fault,
     })
