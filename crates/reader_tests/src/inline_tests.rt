@@ -91,7 +91,7 @@ fn told_split(alloc: Global, split: &Split) -> Result<Vec<u8>, AllocError> {
     'parts: for (i, part) in split.parts.iter().enumerate() {
         write_ops(&mut text, part)?;
         if let Some(wires) = split.barriers.get(i) {
-            write_barrier(&mut text, wires)?;
+            write_barrier(&mut text, wires.wires())?;
         }
     }
     write_reads(&mut text, &split.reads)?;
