@@ -4,5 +4,7 @@ pub mod TouchedLaws
 pub mod NameLaws
 pub mod RenameLaws
 pub mod NamingLaws
+pub mod FunctionLaws
+pub mod RowLaws
 pub mod CountLaws
 pub mod WalkedLaws

@@ -12,7 +12,7 @@ use Rattle.path_parity.proofs.SetLaws.{set-same}
 use Rattle.path_sums.specs.Sums.{IsCompact, compact, compact_set, is_sparse, mark, marked_set, sparse, sparse_set, words_from}
 
 -- ---- sets
-joined : (place n word : ℕ) → word * 2 ^ (64 * place) + n * 2 ^ (64 * (place + 1)) ≡ (n * 2 ^ 64 + word) * 2 ^ (64 * place)
+pub joined : (place n word : ℕ) → word * 2 ^ (64 * place) + n * 2 ^ (64 * (place + 1)) ≡ (n * 2 ^ 64 + word) * 2 ^ (64 * place)
 joined place n word = ap (λ k. word * 2 ^ (64 * place) + n * k) power ∙ go (2 ^ (64 * place))
   where
     power : 2 ^ (64 * (place + 1)) ≡ 2 ^ (64 * place) * 2 ^ 64
@@ -36,7 +36,7 @@ sparse_set-sparse : (row : List ℕ) → sparse_set (sparse row) ≡ set_of row
 sparse_set-sparse [] = refl
 sparse_set-sparse (from ∷ words) = sparse_set-words from words
 
-unmarked : (row : List ℕ) → IsPacked row → compact_set row ≡ set_of row
+pub unmarked : (row : List ℕ) → IsPacked row → compact_set row ≡ set_of row
 unmarked [] h = refl
 unmarked (from ∷ words) h = let other : nat_eq from mark ≡ false = grind (arith, nat_tests, h.within) in ap (λ b. marked_set b from words) other
 

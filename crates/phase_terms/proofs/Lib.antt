@@ -1,0 +1,3 @@
+pub mod TermLaws
+pub mod VanishingLaws
+pub mod WordLaws

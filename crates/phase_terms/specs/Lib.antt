@@ -1,0 +1,5 @@
+pub mod Terms
+pub mod Words
+-- ---- working forms
+pub mod Gathering
+pub mod Vanishing
