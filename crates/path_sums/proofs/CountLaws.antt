@@ -2,7 +2,7 @@
 --     written-back            what was lent as a slice, and has as many counts
 --     noted-more, noted-end   the names along a circuit
 --     seen-more, seen-end     the counts
---     same-counts             circuits with the same H have as many on each wire
+--     same-counts             circuits with the same sets before the H have as many H on each wire
 use Rattle.std.proofs.Common.{◌≡◌, ℕ, suc, ◌+◌, ◌*◌, ◌<◌, ◌≤◌, Bool, true, false, cond, List, [], ◌∷◌, ◌++◌, All, Some, None, length, drop, take, append-nil, take_all, refl, sym, subst, ◌∙◌, ap, arith}
 use Rattle.std.specs.Prelude.{nat_eq, slice_get}
 use Rattle.std.specs.List.{IsDistinct}

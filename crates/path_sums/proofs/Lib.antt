@@ -4,7 +4,6 @@ pub mod TouchedLaws
 pub mod NameLaws
 pub mod RenameLaws
 pub mod NamingLaws
-pub mod FunctionLaws
 pub mod RowLaws
 pub mod CountLaws
 pub mod WalkedLaws

@@ -1,19 +1,21 @@
 -- From variables that are numbered as they come up to those of path sums, and back.
 --     Carries r p f vs        the map f takes each variable of vs, as r has it, to what p has for it
 --     carried_last, carried_sets, carried_terms, carried_constant     two walks side by side, by r and by p
---     sets-carried, last-carried, same-carried    what is the same by r is so by p
---     same-named, named-same  by the names themselves it is the same path sum
-use Rattle.std.proofs.Common.{◌≡◌, ℕ, ◌+◌, ◌-◌, ◌%◌, ◌^◌, Bool, true, false, cond, List, [], ◌∷◌, ◌++◌, Some, length, refl, sym, ◌∙◌, ap, arith}
+--     same-carried, function-carried  what is the same by r is so by p, path sums and phases as functions
+--     same-named, named-same, function-named, named-function  by the names themselves it is that of the definition
+use Rattle.std.proofs.Common.{◌≡◌, ℕ, ◌+◌, ◌-◌, ◌%◌, ◌^◌, ◌<◌, Bool, true, false, cond, List, [], ◌∷◌, ◌++◌, Some, length, refl, sym, ◌∙◌, ap, arith}
 use Rattle.std.specs.Prelude.{nat_eq}
 use Rattle.std.specs.Option.{option_map}
+use Rattle.unitary_model.specs.Acts.{Bits}
 use Rattle.circuit_list.specs.declared.Gate.{Gate}
 use Rattle.circuit_list.specs.declared.Gate.TheVariants.{H, X, P, Cx}
+use Rattle.path_parity.specs.PathFunctions.{parity, phase, SamePathFunction}
 use Rattle.path_parity.specs.PathSum.{PathLabel, label, xor, Wires, with_label, add_labels, flipped, fresh, own_labels}
 use Rattle.path_parity.specs.OddLabels.{IsLinear}
 use Rattle.path_parity.specs.NamedSums.{Seen, constant, constant_at, hadamard, hadamards, named_after, named_last, next_variable, seen_after, set_before, term, terms, total, unseen, SamePathSum}
 use Rattle.path_parity.proofs.NumberedLaws.{Renames, mapped, total-mapped}
 use Rattle.path_parity.proofs.Totals.{by_totals}
-use Rattle.path_sums.specs.Names.{SameBy, after_by, constant_by, hadamards_by, last_by, term_by, terms_by, variable, variables_of}
+use Rattle.path_sums.specs.Names.{SameBy, SameFunctionBy, after_by, constant_by, hadamards_by, last_by, term_by, terms_by, variable, variables_of}
 
 abbrev pub Carries : (ℕ → ℕ) → (ℕ → ℕ) → (ℕ → ℕ) → List ℕ → Type 0
 Carries r p f [] = Unit {0}
@@ -76,18 +78,18 @@ module _ (n : ℕ) (r p f : ℕ → ℕ) (lin : IsLinear f) where
   constant_at-carried (Cx a t) w v h = refl
 
   -- ---- all gates
-  pub carried_last : (gs : List Gate) (w v : Wires) (s : Seen) → Carries r p f (variables_of n gs s) → Renames f w v → Renames f (last_by n r gs w s) (last_by n p gs v s)
+  carried_last : (gs : List Gate) (w v : Wires) (s : Seen) → Carries r p f (variables_of n gs s) → Renames f w v → Renames f (last_by n r gs w s) (last_by n p gs v s)
   carried_last [] w v s c h = h
   carried_last (g ∷ gs) w v s c h = let vs : List ℕ = variables_of n gs (seen_after g s) in
       carried_last gs (after_by n r g w s) (after_by n p g v s) (seen_after g s) (rest-carried g vs s c) (after-carried g vs w v s c h)
 
-  pub carried_sets : (gs : List Gate) (w v : Wires) (s : Seen) → Carries r p f (variables_of n gs s) → Renames f w v → hadamards_by n p gs v s ≡ sets_mapped f (hadamards_by n r gs w s)
+  carried_sets : (gs : List Gate) (w v : Wires) (s : Seen) → Carries r p f (variables_of n gs s) → Renames f w v → hadamards_by n p gs v s ≡ sets_mapped f (hadamards_by n r gs w s)
   carried_sets [] w v s c h = refl
   carried_sets (g ∷ gs) w v s c h = let vs : List ℕ = variables_of n gs (seen_after g s) in
       set-carried g w v s (hadamards_by n r gs (after_by n r g w s) (seen_after g s)) (hadamards_by n p gs (after_by n p g v s) (seen_after g s)) h
       (carried_sets gs (after_by n r g w s) (after_by n p g v s) (seen_after g s) (rest-carried g vs s c) (after-carried g vs w v s c h))
 
-  pub carried_terms : (gs : List Gate) (w v : Wires) (s : Seen) → Carries r p f (variables_of n gs s) → Renames f w v → terms_by n p gs v s ≡ mapped f (terms_by n r gs w s)
+  carried_terms : (gs : List Gate) (w v : Wires) (s : Seen) → Carries r p f (variables_of n gs s) → Renames f w v → terms_by n p gs v s ≡ mapped f (terms_by n r gs w s)
   carried_terms [] w v s c h = refl
   carried_terms (g ∷ gs) w v s c h = let vs : List ℕ = variables_of n gs (seen_after g s) in
       term-carried g vs w v s (terms_by n r gs (after_by n r g w s) (seen_after g s)) (terms_by n p gs (after_by n p g v s) (seen_after g s)) c h
@@ -99,26 +101,27 @@ module _ (n : ℕ) (r p f : ℕ → ℕ) (lin : IsLinear f) where
       λ i. constant_at-carried g w v h i + carried_constant gs (after_by n r g w s) (after_by n p g v s) (seen_after g s) (rest-carried g vs s c) (after-carried g vs w v s c h) i
 
   -- ---- two circuits
-  pub sets-carried : (A B : List Gate) → Carries r p f (variables_of n A unseen) → Carries r p f (variables_of n B unseen) → Renames f (own_labels n) (own_labels n) → (v : ℕ) →
-      set_before v (hadamards_by n r B (own_labels n) unseen) ≡ set_before v (hadamards_by n r A (own_labels n) unseen) →
-      set_before v (hadamards_by n p B (own_labels n) unseen) ≡ set_before v (hadamards_by n p A (own_labels n) unseen)
-  sets-carried A B a b own v same = ap (set_before v) (carried_sets B w w unseen b own) ∙ set_before-mapped v f (hadamards_by n r B w unseen) ∙ ap (option_map f) same
+  sets-carried : (A B : List Gate) → Carries r p f (variables_of n A unseen) → Carries r p f (variables_of n B unseen) → Renames f (own_labels n) (own_labels n) →
+      ((v : ℕ) → set_before v (hadamards_by n r B (own_labels n) unseen) ≡ set_before v (hadamards_by n r A (own_labels n) unseen)) →
+      (v : ℕ) → set_before v (hadamards_by n p B (own_labels n) unseen) ≡ set_before v (hadamards_by n p A (own_labels n) unseen)
+  sets-carried A B a b own same = λ v. ap (set_before v) (carried_sets B w w unseen b own) ∙ set_before-mapped v f (hadamards_by n r B w unseen) ∙ ap (option_map f) (same v)
       ∙ sym (set_before-mapped v f (hadamards_by n r A w unseen)) ∙ sym (ap (set_before v) (carried_sets A w w unseen a own))
     where
       w : Wires
       w = own_labels n
 
-  pub last-carried : (A B : List Gate) → Carries r p f (variables_of n A unseen) → Carries r p f (variables_of n B unseen) → Renames f (own_labels n) (own_labels n) → (q : ℕ) →
-      last_by n r B (own_labels n) unseen q ≡ last_by n r A (own_labels n) unseen q → last_by n p B (own_labels n) unseen q ≡ last_by n p A (own_labels n) unseen q
-  last-carried A B a b own q same = (carried_last B w w unseen b own).at q ∙ ap (λ (l : PathLabel). label (f l.variables) l.bit) same ∙ sym ((carried_last A w w unseen a own).at q)
+  last-carried : (A B : List Gate) → Carries r p f (variables_of n A unseen) → Carries r p f (variables_of n B unseen) → Renames f (own_labels n) (own_labels n) →
+      ((q : ℕ) → q < n → last_by n r B (own_labels n) unseen q ≡ last_by n r A (own_labels n) unseen q) →
+      (q : ℕ) → q < n → last_by n p B (own_labels n) unseen q ≡ last_by n p A (own_labels n) unseen q
+  last-carried A B a b own same = λ q lt. (carried_last B w w unseen b own).at q ∙ ap (λ (l : PathLabel). label (f l.variables) l.bit) (same q lt) ∙ sym ((carried_last A w w unseen a own).at q)
     where
       w : Wires
       w = own_labels n
 
   pub same-carried : (A B : List Gate) → Carries r p f (variables_of n A unseen) → Carries r p f (variables_of n B unseen) → Renames f (own_labels n) (own_labels n) → SameBy n r A B → SameBy n p A B
   same-carried A B a b own same = record {
-    sets = λ v. sets-carried A B a b own v (same.sets v);
-    last = λ q lt. last-carried A B a b own q (same.last q lt);
+    sets = sets-carried A B a b own same.sets;
+    last = last-carried A B a b own same.last;
     totals = λ m. ap (λ es. total m es % 8) (carried_terms B w w unseen b own) ∙ ap (λ k. k % 8) (total-mapped m f (terms_by n r B w unseen))
         ∙ by_totals (length (terms_by n r B w unseen) + length (terms_by n r A w unseen)) (λ k. nat_eq (f k) m) (terms_by n r B w unseen) (terms_by n r A w unseen) (omega arith) same.totals
         ∙ sym (ap (λ k. k % 8) (total-mapped m f (terms_by n r A w unseen))) ∙ sym (ap (λ es. total m es % 8) (carried_terms A w w unseen a own));
@@ -126,6 +129,24 @@ module _ (n : ℕ) (r p f : ℕ → ℕ) (lin : IsLinear f) where
     where
       w : Wires
       w = own_labels n
+
+  -- values of the variables as p has them give values as r has them
+  pub function-carried : (pull : Bits → Bits) → ((v : Bits) (m : ℕ) → parity v (f m) ≡ parity (pull v) m) → (A B : List Gate) → Carries r p f (variables_of n A unseen) → Carries r p f (variables_of n B unseen) →
+      Renames f (own_labels n) (own_labels n) → SameFunctionBy n r A B → SameFunctionBy n p A B
+  function-carried pull pulled A B a b own same = record {
+    sets = sets-carried A B a b own same.sets;
+    last = last-carried A B a b own same.last;
+    phases = λ v. ap (λ es. phase es v % 8) (carried_terms B w w unseen b own) ∙ ap (λ k. k % 8) (phase-pulled v (terms_by n r B w unseen))
+        ∙ same.phases (pull v)
+        ∙ sym (ap (λ k. k % 8) (phase-pulled v (terms_by n r A w unseen))) ∙ sym (ap (λ es. phase es v % 8) (carried_terms A w w unseen a own));
+  }
+    where
+      w : Wires
+      w = own_labels n
+
+      phase-pulled : (v : Bits) (es : List (ℕ × ℕ)) → phase (mapped f es) v ≡ phase es (pull v)
+      phase-pulled v [] = refl
+      phase-pulled v (e ∷ es) = λ i. cond (pulled v e.0 i) e.1 0 + phase-pulled v es i
 
 -- ---- the names themselves
 module _ (n : ℕ) where
@@ -141,15 +162,15 @@ module _ (n : ℕ) where
   term-named (P k q) w s = refl
   term-named (Cx c t) w s = refl
 
-  pub last-named : (gs : List Gate) (w : Wires) (s : Seen) → last_by n (λ v. v) gs w s ≡ named_last n gs w s
+  last-named : (gs : List Gate) (w : Wires) (s : Seen) → last_by n (λ v. v) gs w s ≡ named_last n gs w s
   last-named [] w s = refl
   last-named (g ∷ gs) w s = (λ i. last_by n (λ v. v) gs (after-named g w s i) (seen_after g s)) ∙ last-named gs (named_after n g w s) (seen_after g s)
 
-  pub sets-named : (gs : List Gate) (w : Wires) (s : Seen) → hadamards_by n (λ v. v) gs w s ≡ hadamards n gs w s
+  sets-named : (gs : List Gate) (w : Wires) (s : Seen) → hadamards_by n (λ v. v) gs w s ≡ hadamards n gs w s
   sets-named [] w s = refl
   sets-named (g ∷ gs) w s = (λ i. hadamard n g w s ++ hadamards_by n (λ v. v) gs (after-named g w s i) (seen_after g s)) ∙ ap (λ hs. hadamard n g w s ++ hs) (sets-named gs (named_after n g w s) (seen_after g s))
 
-  pub terms-named : (gs : List Gate) (w : Wires) (s : Seen) → terms_by n (λ v. v) gs w s ≡ terms n gs w s
+  terms-named : (gs : List Gate) (w : Wires) (s : Seen) → terms_by n (λ v. v) gs w s ≡ terms n gs w s
   terms-named [] w s = refl
   terms-named (g ∷ gs) w s = (λ i. term-named g w s i ++ terms_by n (λ v. v) gs (after-named g w s i) (seen_after g s)) ∙ ap (λ es. term n g w s ++ es) (terms-named gs (named_after n g w s) (seen_after g s))
 
@@ -172,6 +193,26 @@ module _ (n : ℕ) where
     sets = λ v. ap (set_before v) (sets-named B w unseen) ∙ same.sets v ∙ sym (ap (set_before v) (sets-named A w unseen));
     last = λ q lt. (λ i. last-named B w unseen i q) ∙ same.last q lt ∙ sym (λ i. last-named A w unseen i q);
     totals = λ m. ap (λ es. total m es % 8) (terms-named B w unseen) ∙ same.totals m ∙ sym (ap (λ es. total m es % 8) (terms-named A w unseen));
+  }
+    where
+      w : Wires
+      w = own_labels n
+
+  pub function-named : (A B : List Gate) → SameFunctionBy n (λ v. v) A B → SamePathFunction n A B
+  function-named A B same = record {
+    sets = λ v. sym (ap (set_before v) (sets-named B w unseen)) ∙ same.sets v ∙ ap (set_before v) (sets-named A w unseen);
+    last = λ q lt. sym (λ i. last-named B w unseen i q) ∙ same.last q lt ∙ (λ i. last-named A w unseen i q);
+    phases = λ v. sym (ap (λ es. phase es v % 8) (terms-named B w unseen)) ∙ same.phases v ∙ ap (λ es. phase es v % 8) (terms-named A w unseen);
+  }
+    where
+      w : Wires
+      w = own_labels n
+
+  pub named-function : (A B : List Gate) → SamePathFunction n A B → SameFunctionBy n (λ v. v) A B
+  named-function A B same = record {
+    sets = λ v. ap (set_before v) (sets-named B w unseen) ∙ same.sets v ∙ sym (ap (set_before v) (sets-named A w unseen));
+    last = λ q lt. (λ i. last-named B w unseen i q) ∙ same.last q lt ∙ sym (λ i. last-named A w unseen i q);
+    phases = λ v. ap (λ es. phase es v % 8) (terms-named B w unseen) ∙ same.phases v ∙ sym (ap (λ es. phase es v % 8) (terms-named A w unseen));
   }
     where
       w : Wires

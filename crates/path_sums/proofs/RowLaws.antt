@@ -7,7 +7,8 @@
 --     paired-start, paired-more, paired-end   those of a sparse row
 --     term-more, term-none    one term more, and one that adds nothing
 --     row-compact, rows-more, rows-end        the rows one by one
-use Rattle.std.proofs.Common.{◌≡◌, ℕ, zero, suc, ◌+◌, ◌-◌, ◌*◌, ◌%◌, ◌^◌, ◌<◌, ◌≤◌, Bool, true, false, cond, List, [], ◌∷◌, ◌++◌, Vec, Some, length, get_or, drop, map, refl, sym, subst, ◌∙◌, ap, arith, ◌⊎◌, inl, inr, add-zero, append_assoc, append-nil, length-drop, drop-cons, drop_of_length-le}
+--     IfOk-more           what a call that went well gave says more
+use Rattle.std.proofs.Common.{◌≡◌, ℕ, zero, suc, ◌+◌, ◌-◌, ◌*◌, ◌%◌, ◌^◌, ◌<◌, ◌≤◌, Bool, true, false, cond, List, [], ◌∷◌, ◌++◌, IfOk, Result, Ok, Err, Vec, Some, length, get_or, drop, map, refl, sym, subst, ◌∙◌, ap, arith, ◌⊎◌, inl, inr, add-zero, append_assoc, append-nil, length-drop, drop-cons, drop_of_length-le}
 use Rattle.std.specs.Prelude.{bit_xor, nat_eq, slice_get}
 use Rattle.std.specs.Int.{bit_at}
 use Rattle.std.specs.Int.Bits.{xor_zero_l}
@@ -23,7 +24,7 @@ use Rattle.path_parity.specs.PathFunctions.{parity, phase}
 use Rattle.path_parity.specs.Sets.{IsPacked, number_of, set_of}
 use Rattle.path_parity.proofs.LoopLaws.{drop-get}
 use Rattle.path_parity.proofs.ParityLaws.{phase-append}
-use Rattle.path_sums.specs.Phases.{paired, words_at, words_behind, words_in}
+use Rattle.path_sums.specs.Rows.{paired, words_at, words_behind, words_in}
 use Rattle.path_sums.specs.Sums.{AreTotals, IsCompact, compact, compact_set, is_sparse, mark, sparse, sums_of, words_from}
 use Rattle.path_sums.proofs.SparseLaws.{compact_set-compact, joined, unmarked}
 use Rattle.phase_terms.specs.declared.term.Term.{Term}
@@ -84,22 +85,22 @@ words_at-set place (word ∷ words) h =
 
 words_at-behind : (p place : ℕ) (words : List ℕ) → p < place → IsFurther p (words_at place words)
 words_at-behind p place [] lt = tt
-words_at-behind p place (word ∷ words) lt = go (nat_eq word 0)
+words_at-behind p place (word ∷ words) lt = go (nat_eq word 0) (words_at-behind p (place + 1) words (omega arith))
   where
-    go : (b : Bool) → IsFurther p (cond b [] (record { place = place; bits = word } ∷ []) ++ words_at (place + 1) words)
-    go true = words_at-behind p (place + 1) words (omega arith)
-    go false = lt
+    go : (b : Bool) → IsFurther p (words_at (place + 1) words) → IsFurther p (cond b [] (record { place = place; bits = word } ∷ []) ++ words_at (place + 1) words)
+    go true r = r
+    go false r = lt
 
 words_at-words : (place : ℕ) (words : List ℕ) → Wide words → place + length words ≤ 2 ^ 58 → AreAscending (words_at place words)
 words_at-words place [] h le = tt
-words_at-words place (word ∷ words) h le = go (nat_eq word 0) refl
+words_at-words place (word ∷ words) h le = go (nat_eq word 0) refl (words_at-words (place + 1) words (λ k. h (suc k)) (omega arith))
   where
     some : nat_eq word 0 ≡ false → 0 < word
     some e = grind (arith, nat_tests)
 
-    go : (b : Bool) → nat_eq word 0 ≡ b → AreAscending (cond b [] (record { place = place; bits = word } ∷ []) ++ words_at (place + 1) words)
-    go true e = words_at-words (place + 1) words (λ k. h (suc k)) (omega arith)
-    go false e = (some e, h 0, omega arith, words_at-behind place (place + 1) words (omega arith), words_at-words (place + 1) words (λ k. h (suc k)) (omega arith))
+    go : (b : Bool) → nat_eq word 0 ≡ b → AreAscending (words_at (place + 1) words) → AreAscending (cond b [] (record { place = place; bits = word } ∷ []) ++ words_at (place + 1) words)
+    go true e r = r
+    go false e r = (some e, h 0, omega arith, words_at-behind place (place + 1) words (omega arith), r)
 
 pub words_in-set : (row : List ℕ) → IsPacked row → words_set (words_in row) ≡ set_of row
 words_in-set [] h = refl
@@ -112,11 +113,12 @@ words_in-words (from ∷ words) h = words_at-words from words h.fits h.within
 -- ---- compact rows
 paired-from : (place : ℕ) (words : List ℕ) → paired (words_from place words) ≡ words_at place words
 paired-from place [] = refl
-paired-from place (word ∷ words) = go (nat_eq word 0)
+paired-from place (word ∷ words) = go (nat_eq word 0) (paired-from (place + 1) words)
   where
-    go : (b : Bool) → paired (cond b [] (place ∷ word ∷ []) ++ words_from (place + 1) words) ≡ cond b [] (record { place = place; bits = word } ∷ []) ++ words_at (place + 1) words
-    go true = paired-from (place + 1) words
-    go false = ap (λ ws. record { place = place; bits = word } ∷ ws) (paired-from (place + 1) words)
+    go : (b : Bool) → paired (words_from (place + 1) words) ≡ words_at (place + 1) words →
+        paired (cond b [] (place ∷ word ∷ []) ++ words_from (place + 1) words) ≡ cond b [] (record { place = place; bits = word } ∷ []) ++ words_at (place + 1) words
+    go true r = r
+    go false r = ap (λ ws. record { place = place; bits = word } ∷ ws) r
 
 paired-sparse : (row : List ℕ) → paired (sparse row) ≡ words_in row
 paired-sparse [] = refl
@@ -243,3 +245,8 @@ rows-more es i e ts new all v there n h = omega (arith, n, h, ap (λ fs. phase (
 
 pub rows-end : (es : List (Vec ℕ Global × ℕ)) (i : ℕ) (x all : ℕ) (v : Bits) → length es ≤ i → x + phase (sums_of (drop i es)) v ≡ all → x ≡ all
 rows-end es i x all v le h = omega (arith, h, ap (λ fs. phase (sums_of fs) v) (drop_of_length-le es le))
+
+-- ---- what a call that went well gave
+pub IfOk-more : {A E : Type 0} (r : Result A E) (f g : A → Type 0) → IfOk r f → ((x : A) → f x → g x) → IfOk r g
+IfOk-more (Ok x) f g h k = k x h
+IfOk-more (Err e) f g h k = tt

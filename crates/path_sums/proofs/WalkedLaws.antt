@@ -2,24 +2,24 @@
 --     IsUnderway n r gs rest sign none t w      the gates of gs before rest were passed, from `none` on
 --     underway-start, underway-more, underway-end
 --     IsWalked n r gs sign none t w             all were
---     same-by, walk-by, nothing-by, sums-turn     two walks, one after the other
---     hadamards-by                            whatever is asked of the phases, the H are the same
-use Rattle.std.proofs.Common.{◌≡◌, ℕ, ◌+◌, ◌-◌, ◌*◌, ◌%◌, ◌<◌, ◌≤◌, List, [], ◌∷◌, ◌++◌, Some, length, drop, sym, ◌∙◌, ap, arith, append_assoc, append-nil, zero-add, add_assoc, cond}
-use Rattle.std.specs.Prelude.{nat_eq, slice_get}
+--     walks-difference, function-walks        two walks, one after the other
+--     unlike                  not the same but for phases, so not the same
+--     difference-there        what a call found
+use Rattle.std.proofs.Common.{◌≡◌, ℕ, ◌+◌, ◌-◌, ◌*◌, ◌%◌, ◌<◌, ◌≤◌, List, [], ◌∷◌, ◌++◌, MatchOption, Option, None, Some, length, drop, sym, subst, ◌∙◌, ap, arith, append_assoc, append-nil, zero-add, add_assoc, cond}
+use Rattle.std.specs.Prelude.{◌↔◌, nat_eq, slice_get}
+use Rattle.std.proofs.lemmas.Option.{same_Some}
 use Rattle.std.proofs.Math.ListN.{drop_of_length-le}
+use Rattle.unitary_model.specs.Acts.{Bits}
 use Rattle.circuit_list.specs.declared.Gate.{Gate}
-use Rattle.path_parity.specs.NamedSums.{Seen, constant_at, constant_of, hadamard, hadamards, seen_after, set_before, total, unseen, SamePathSum}
-use Rattle.path_parity.specs.PathFunctions.{SamePathFunction, Vanishes}
+use Rattle.path_parity.specs.NamedSums.{Seen, constant_at, constant_of, hadamard, seen_after, set_before, total, unseen, SamePathSum}
+use Rattle.path_parity.specs.PathFunctions.{phase, SamePathFunction, Vanishes}
 use Rattle.path_parity.specs.PathSum.{Wires, own_labels}
 use Rattle.path_parity.proofs.ParityLaws.{difference}
+use Rattle.path_parity.proofs.SamePathSumLaws.{path_sum-function}
 use Rattle.path_parity.proofs.LoopLaws.{drop-get}
-use Rattle.path_sums.specs.declared.sums.Phases.{Phases}
-use Rattle.path_sums.specs.declared.sums.Phases.TheVariants.{Sums, Functions}
-use Rattle.path_sums.specs.Phases.{ComesToNothing, IsSame}
-use Rattle.path_sums.proofs.FunctionLaws.{by-function, function-by}
-use Rattle.path_sums.proofs.NamingLaws.{by-sums, constant-by, sums-by}
+use Rattle.path_sums.proofs.NamingLaws.{by-function, by-sums, constant-by, function-by, sums-by}
 use Rattle.path_sums.specs.Names.{AreAmong, SameBy, SameFunctionBy, after_by, constant_by, hadamards_by, last_by, number_by, term_by, terms_by, variables_of}
-use Rattle.path_sums.specs.Sums.{Adds, Collected, IsSameWalk, IsWalked, NamedWalk, Passes, labels_in, seen_in}
+use Rattle.path_sums.specs.Sums.{Adds, Collected, IsDifference, IsSameWalk, IsUnlike, IsWalked, NamedWalk, Passes, labels_in, seen_in}
 
 pub total-append : (m : ℕ) (xs ys : List (ℕ × ℕ)) → total m (xs ++ ys) ≡ total m xs + total m ys
 total-append m [] ys = sym (zero-add (total m ys))
@@ -101,31 +101,17 @@ module _ (n : ℕ) (names : List ℕ) (A B : List Gate) (namedA : AreAmong names
       go : (z x y p q : ℕ) → z ≡ 0 → x % 8 ≡ (z + 7 * p) % 8 → y % 8 ≡ (x + 1 * q) % 8 → y % 8 ≡ (7 * p + q) % 8
       go z x y p q e f g = omega arith
 
-  walked-sets : IsSameWalk a b → (v : ℕ) → set_before v (hadamards_by n (number_by n names) B (own_labels n) unseen) ≡ set_before v (hadamards_by n (number_by n names) A (own_labels n) unseen)
-  walked-sets same v = ap (set_before v) (sym second.sets) ∙ sym (same.sets v) ∙ ap (set_before v) first.sets
+  walk-sets : IsSameWalk a b → (v : ℕ) → set_before v (hadamards_by n (number_by n names) B (own_labels n) unseen) ≡ set_before v (hadamards_by n (number_by n names) A (own_labels n) unseen)
+  walk-sets same v = ap (set_before v) (sym second.sets) ∙ sym (same.sets v) ∙ ap (set_before v) first.sets
 
-  walked-last : IsSameWalk a b → (q : ℕ) → q < n → last_by n (number_by n names) B (own_labels n) unseen q ≡ last_by n (number_by n names) A (own_labels n) unseen q
-  walked-last same q lt = sym (λ i. second.labels i q) ∙ sym (same.labels q (omega (arith, first.wires))) ∙ (λ i. first.labels i q)
+  walk-last : IsSameWalk a b → (q : ℕ) → q < n → last_by n (number_by n names) B (own_labels n) unseen q ≡ last_by n (number_by n names) A (own_labels n) unseen q
+  walk-last same q lt = sym (λ i. second.labels i q) ∙ sym (same.labels q (omega (arith, first.wires))) ∙ (λ i. first.labels i q)
 
-  walked-same : ((v : ℕ) → set_before v (hadamards_by n (number_by n names) B (own_labels n) unseen) ≡ set_before v (hadamards_by n (number_by n names) A (own_labels n) unseen)) →
-      ((q : ℕ) → q < n → last_by n (number_by n names) B (own_labels n) unseen q ≡ last_by n (number_by n names) A (own_labels n) unseen q) → IsSameWalk a b
-  walked-same sets last = record {
-    sets = λ v. ap (set_before v) first.sets ∙ sym (sets v) ∙ ap (set_before v) (sym second.sets);
-    labels = λ q lt. (λ i. first.labels i q) ∙ sym (last q (omega (arith, first.wires))) ∙ sym (λ i. second.labels i q);
-  }
-
-  same-sums : IsSameWalk a b → ((m : ℕ) → total m two.sets % 8 ≡ 0) → SamePathSum n A B
-  same-sums same even = sums-by n names A B namedA namedB (record {
-    sets = walked-sets same;
-    last = walked-last same;
-    totals = λ m. go (total m two.sets) (total m termsA) (total m termsB) (balance m) (even m);
-  })
+  sums-same-walk : IsSameWalk a b → ((m : ℕ) → total m two.sets % 8 ≡ 0) → SamePathSum n A B
+  sums-same-walk same even = sums-by n names A B namedA namedB (record { sets = walk-sets same; last = walk-last same; totals = λ m. go (total m two.sets) (total m termsA) (total m termsB) (balance m) (even m) })
     where
       go : (y p q : ℕ) → y % 8 ≡ (7 * p + q) % 8 → y % 8 ≡ 0 → q % 8 ≡ p % 8
       go y p q e f = omega arith
-
-  sums-same : SamePathSum n A B → IsSameWalk a b
-  sums-same same = let h : SameBy n (number_by n names) A B = by-sums n names A B namedA namedB same in walked-same h.sets h.last
 
   sums-even : SamePathSum n A B → (m : ℕ) → total m two.sets % 8 ≡ 0
   sums-even same m = let h : SameBy n (number_by n names) A B = by-sums n names A B namedA namedB same in go (total m two.sets) (total m termsA) (total m termsB) (balance m) (h.totals m)
@@ -133,40 +119,34 @@ module _ (n : ℕ) (names : List ℕ) (A B : List Gate) (namedA : AreAmong names
       go : (y p q : ℕ) → y % 8 ≡ (7 * p + q) % 8 → q % 8 ≡ p % 8 → y % 8 ≡ 0
       go y p q e f = omega arith
 
-  pub sums-turn : two.constant % 8 ≡ (constant_of n B + (8 - constant_of n A % 8)) % 8
+  vanishing : Vanishes two.sets ↔ ((v : Bits) → phase termsB v % 8 ≡ phase termsA v % 8)
+  vanishing = difference two.sets termsA termsB balance
+
+  function-same-walk : IsSameWalk a b → Vanishes two.sets → SamePathFunction n A B
+  function-same-walk same none = function-by n names A B namedA namedB (record { sets = walk-sets same; last = walk-last same; phases = vanishing.0 none })
+
+  function-vanishes : SamePathFunction n A B → Vanishes two.sets
+  function-vanishes same = let h : SameFunctionBy n (number_by n names) A B = by-function n names A B namedA namedB same in vanishing.1 h.phases
+
+  pub function-walks : SamePathFunction n A B → IsSameWalk a b
+  function-walks same = let h : SameFunctionBy n (number_by n names) A B = by-function n names A B namedA namedB same in record {
+    sets = λ v. ap (set_before v) first.sets ∙ sym (h.sets v) ∙ ap (set_before v) (sym second.sets);
+    labels = λ q lt. (λ i. first.labels i q) ∙ sym (h.last q (omega (arith, first.wires))) ∙ sym (λ i. second.labels i q);
+  }
+
+  sums-turn : two.constant % 8 ≡ (constant_of n B + (8 - constant_of n A % 8)) % 8
   sums-turn = go none.constant one.constant two.constant (constant_of n A) (constant_of n B) zero
       (first.constant ∙ ap (λ k. (none.constant + 7 * k) % 8) (constant-by n names A namedA)) (second.constant ∙ ap (λ k. (one.constant + 1 * k) % 8) (constant-by n names B namedB))
     where
       go : (z x y p q : ℕ) → z ≡ 0 → x % 8 ≡ (z + 7 * p) % 8 → y % 8 ≡ (x + 1 * q) % 8 → y % 8 ≡ (q + (8 - p % 8)) % 8
       go z x y p q e f g = omega arith
 
-  -- ---- phases that are the same function
-  function-same : IsSameWalk a b → Vanishes two.sets → SamePathFunction n A B
-  function-same same none = function-by n names A B namedA namedB (record {
-    sets = walked-sets same;
-    last = walked-last same;
-    phases = (difference two.sets termsA termsB balance).0 none;
-  })
+  pub walks-difference : IsSameWalk a b → IsDifference n A B two
+  walks-difference same = record { sums = (sums-same-walk same, sums-even); phases = (function-same-walk same, function-vanishes); turn = sums-turn }
 
-  same-function : SamePathFunction n A B → IsSameWalk a b
-  same-function same = let h : SameFunctionBy n (number_by n names) A B = by-function n names A B namedA namedB same in walked-same h.sets h.last
+pub unlike : (n : ℕ) (A B : List Gate) → (SamePathFunction n A B → ⊥) → IsUnlike n A B
+unlike n A B none = record { sums = λ h. none (path_sum-function n A B h); phases = none }
 
-  function-vanishes : SamePathFunction n A B → Vanishes two.sets
-  function-vanishes same = (difference two.sets termsA termsB balance).1 (by-function n names A B namedA namedB same).phases
-
-  -- ---- whatever is asked of the phases
-  pub same-by : (k : Phases) → IsSameWalk a b → ComesToNothing k two.sets → IsSame k n A B
-  same-by Sums = same-sums
-  same-by Functions = function-same
-
-  pub walk-by : (k : Phases) → IsSame k n A B → IsSameWalk a b
-  walk-by Sums = sums-same
-  walk-by Functions = same-function
-
-  pub nothing-by : (k : Phases) → IsSame k n A B → ComesToNothing k two.sets
-  nothing-by Sums = sums-even
-  nothing-by Functions = function-vanishes
-
-pub hadamards-by : (k : Phases) (n : ℕ) (A B : List Gate) → IsSame k n A B → (v : ℕ) → set_before v (hadamards n B (own_labels n) unseen) ≡ set_before v (hadamards n A (own_labels n) unseen)
-hadamards-by Sums n A B h = h.sets
-hadamards-by Functions n A B h = h.sets
+pub difference-there : (n : ℕ) (A B : List Gate) (o : Option Collected) (t : Collected) → o ≡ Some t → MatchOption o (IsUnlike n A B) (IsDifference n A B) → IsDifference n A B t
+difference-there n A B None t e h = absurd (cc)
+difference-there n A B (Some u) t e h = subst (IsDifference n A B) (same_Some u t e) h

@@ -1,4 +1,4 @@
 -- ---- working forms
 pub mod Names
 pub mod Sums
-pub mod Phases
+pub mod Rows

@@ -16,13 +16,13 @@
 --     term_by n r g w s, terms_by n r gs w s      what a gate, and what a list, puts on sets
 --     constant_by n r gs w s  what the gates of a list put on none, together
 --     SameBy n r A B          the same H with the same sets, the same last labels, and on each set the same total modulo 8
---     SameFunctionBy n r A B  the same with phases that are the same function of the variables
+--     SameFunctionBy n r A B  the same, but for the totals, and the same phase modulo 8 for all values of the variables
 use Rattle.std.specs.Prelude.{◌≡◌, ℕ, ◌+◌, ◌-◌, ◌%◌, ◌^◌, ◌<◌, cond, true, List, [], ◌∷◌, ◌++◌, get_or, nat_eq}
 use Rattle.std.specs.List.{list_any, position_or_len}
+use Rattle.unitary_model.specs.Acts.{Bits}
 use Rattle.circuit_list.specs.declared.Gate.{Gate}
 use Rattle.circuit_list.specs.declared.Gate.TheVariants.{H, X, P, Cx}
 use Rattle.path_parity.specs.NamedSums.{Seen, constant_at, hadamard, next_variable, seen_after, set_before, total, unseen}
-use Rattle.unitary_model.specs.Acts.{Bits}
 use Rattle.path_parity.specs.PathFunctions.{phase}
 use Rattle.path_parity.specs.PathSum.{PathLabel, Wires, with_label, add_labels, flipped, fresh, own_labels}
 

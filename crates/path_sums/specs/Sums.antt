@@ -21,14 +21,17 @@
 --     Passes r g old new  a walk after gate g, where r tells which variable stands for each named one
 --     IsWalked n r gs sign old new w  the walk past all gates of a circuit, and what they added
 --     IsSameWalk one two  the same H with the same sets, and the same labels
-use Rattle.std.specs.Prelude.{◌≡◌, ℕ, suc, ◌+◌, ◌-◌, ◌*◌, ◌/◌, ◌%◌, ◌^◌, ◌<◌, ◌≤◌, Bool, true, false, cond, not, List, [], ◌∷◌, ◌++◌, Vec, All, None, Some, count_by, length, nat_eq, nat_lt}
+--     IsUnlike n A B      neither the same path sum nor the same but for the phases, with these the same function
+--     IsDifference n A B t  what B adds less what A adds tells whether they are the same, in both ways
+use Rattle.std.specs.Prelude.{◌≡◌, ℕ, suc, ◌+◌, ◌-◌, ◌*◌, ◌/◌, ◌%◌, ◌^◌, ◌<◌, ◌≤◌, ◌↔◌, Bool, true, false, cond, not, List, [], ◌∷◌, ◌++◌, Vec, All, None, Some, count_by, length, nat_eq, nat_lt}
 use Rattle.std.specs.Cmp.Lexicographic.{pointwise}
 use Rattle.std.specs.List.{IsDistinct}
 use Rattle.std.specs.Map.{lookup, set_value}
 use Rattle.std.specs.declared.alloc.Global.{Global}
 use Rattle.circuit_list.specs.declared.Gate.{Gate}
 use Rattle.path_parity.specs.declared.label.Label.{Label}
-use Rattle.path_parity.specs.NamedSums.{Seen, hadamard, seen_after, set_before, total, unseen}
+use Rattle.path_parity.specs.NamedSums.{SamePathSum, Seen, constant_of, hadamard, seen_after, set_before, total, unseen}
+use Rattle.path_parity.specs.PathFunctions.{SamePathFunction, Vanishes}
 use Rattle.path_parity.specs.PathSum.{PathLabel, Wires, own_labels}
 use Rattle.path_parity.specs.Sets.{IsLabel, IsPacked, set_of}
 use Rattle.path_sums.specs.Names.{after_by, counts, constant_by, hadamards_by, labels_on, last_by, terms_by}
@@ -136,3 +139,12 @@ pub record IsWalked (n : ℕ) (r : ℕ → ℕ) (gs : List Gate) (sign : ℕ) (o
   pub sets : w.sets ≡ hadamards_by n r gs (own_labels n) unseen
   pub totals : (m : ℕ) → total m new.sets % 8 ≡ (total m old.sets + sign * total m (terms_by n r gs (own_labels n) unseen)) % 8
   pub constant : new.constant % 8 ≡ (old.constant + sign * constant_by n r gs (own_labels n) unseen) % 8
+
+pub record IsUnlike (n : ℕ) (A B : List Gate) : Type 0 where
+  pub sums : SamePathSum n A B → ⊥
+  pub phases : SamePathFunction n A B → ⊥
+
+pub record IsDifference (n : ℕ) (A B : List Gate) (t : Collected) : Type 0 where
+  pub sums : ((m : ℕ) → total m t.sets % 8 ≡ 0) ↔ SamePathSum n A B
+  pub phases : Vanishes t.sets ↔ SamePathFunction n A B
+  pub turn : t.constant % 8 ≡ (constant_of n B + (8 - constant_of n A % 8)) % 8

@@ -1,4 +1,4 @@
-//! Two circuits with one path sum, or with phases that are one function of the path variables.
+//! Two circuits with one path sum.
 
 ghost use Rattle.std.specs.Prelude.{◌≡◌, ◌<◌, ◌≤◌, ◌+◌, ◌-◌, ◌*◌, ◌%◌, ◌↔◌, ℕ, suc, cond, [], ◌∷◌};
 ghost use Rattle.std.specs.Prelude.{All, false, IfOk, IsTrue, MatchOption, OnOk, length, map, nat_eq, slice_index};
@@ -13,8 +13,7 @@ ghost use Rattle.path_parity.specs.PathFunctions.{SamePathFunction, Vanishes};
 ghost use Rattle.path_parity.specs.PathSum.{fresh, own_labels};
 ghost use Rattle.path_parity.specs.Sets.{IsLabel, IsPacked, label_of, set_of};
 ghost use Rattle.path_sums.specs.Names.{AreAmong, IsTouched, number_by, term_by, wires_touched};
-ghost use Rattle.path_sums.specs.Sums.{Adds, AddsKnown, AreRows, IsSameWalk, IsWalked, Passes, befores, compact, is_sparse, labels_in, mark, seen_in, sparse};
-ghost use Rattle.path_sums.specs.Phases.{ComesToNothing, IsSame};
+ghost use Rattle.path_sums.specs.Sums.{Adds, AddsKnown, AreRows, IsDifference, IsSameWalk, IsUnlike, IsWalked, Passes, befores, compact, is_sparse, labels_in, mark, seen_in, sparse};
 
 use crate::names::{first_counts, next_variable, note_names, number};
 use crate::terms::terms_of;
@@ -29,14 +28,6 @@ use std::mem::swap;
 
 /// What stands before a sparse row: no row of a set begins with it.
 pub(crate) const MARK: u64 = u64::MAX;
-
-/// What is asked of the phases of two circuits: that the same stands on each set, or that they are the same function of the
-/// variables.
-#[derive(Clone, Copy)]
-enum Phases {
-    Sums,
-    Functions,
-}
 
 /// What stands on each set of variables_of, the set by its compact row, and on none, both modulo 8.
 #[derive(Drop)]
@@ -126,13 +117,6 @@ impl Totals {
         self.constant % 8
     }
 
-    /// Whether 0 stands on each set.
-    fn are_none(&self) -> bool
-        ensures { IsTrue result ↔ ((m : ℕ) → total m self.now.sets % 8 ≡ 0) }
-    {
-        are_zero(&self.sets)
-    }
-
     /// Whether what stands on the sets adds nothing, modulo 8, whatever the values of the variables are.
     fn vanish(&self, alloc: Global) -> Result<bool, AllocError>
         ensures { IfOk result (λ b. IsTrue b ↔ Vanishes self.now.sets) }
@@ -141,14 +125,11 @@ impl Totals {
         vanish(alloc, &terms)
     }
 
-    /// Whether what stands on the sets is nothing in what is asked of them.
-    fn are_nothing(&self, alloc: Global, phases: Phases) -> Result<bool, AllocError>
-        ensures { IfOk result (λ b. IsTrue b ↔ ComesToNothing phases self.now.sets) }
+    /// Whether 0 stands on each set.
+    fn are_none(&self) -> bool
+        ensures { IsTrue result ↔ ((m : ℕ) → total m self.now.sets % 8 ≡ 0) }
     {
-        match phases {
-            Phases::Sums => Ok(self.are_none()),
-            Phases::Functions => self.vanish(alloc),
-        }
+        are_zero(&self.sets)
     }
 }
 
@@ -420,17 +401,11 @@ fn walked<'a>(
     Ok(walk)
 }
 
-/// The turn from a circuit to another on the same wires with the same H, the same last labels and phases that are the same in what
-/// is asked of them: the constant of its path sum less that of the first. None where they aren't. Fails for want of memory alone.
-fn compared(
-    alloc: Global,
-    old: &Circuit,
-    new: &Circuit,
-    phases: Phases,
-) -> Result<Option<u8>, AllocError>
+/// What one circuit adds to sets and to none, less what another does. None where the H, the sets before these or the last labels differ.
+fn difference(alloc: Global, old: &Circuit, new: &Circuit) -> Result<Option<Totals>, AllocError>
     requires wires { old.now.wires ≡ new.now.wires }
-    ensures same { IfOk result (λ o. MatchOption o (IsSame phases old.now.wires old.now.gates new.now.gates → ⊥)
-        (λ turn. IsSame phases old.now.wires old.now.gates new.now.gates × (turn ≡ (constant_of old.now.wires new.now.gates + (8 - constant_of old.now.wires old.now.gates % 8)) % 8))) }
+    ensures same { IfOk result (λ o. MatchOption o (IsUnlike old.now.wires old.now.gates new.now.gates)
+        (λ t. IsDifference old.now.wires old.now.gates new.now.gates t)) }
 {
     old.facts();
     new.facts();
@@ -444,8 +419,8 @@ fn compared(
     let mut totals = Totals::new(alloc);
     let before = walked(alloc, &touched, &names, &mut totals, old, 7)?;
     let after = walked(alloc, &touched, &names, &mut totals, new, 1)?;
-    if before.is_same(&after) && totals.are_nothing(alloc, phases)? {
-        return Ok(Some(totals.constant()));
+    if before.is_same(&after) {
+        return Ok(Some(totals));
     }
     Ok(None)
 }
@@ -457,16 +432,27 @@ pub fn same_sums(alloc: Global, old: &Circuit, new: &Circuit) -> Result<Option<u
     ensures same { IfOk result (λ o. MatchOption o (SamePathSum old.now.wires old.now.gates new.now.gates → ⊥)
         (λ turn. SamePathSum old.now.wires old.now.gates new.now.gates × (turn ≡ (constant_of old.now.wires new.now.gates + (8 - constant_of old.now.wires old.now.gates % 8)) % 8))) }
 {
-    compared(alloc, old, new, Phases::Sums)
+    let Some(totals) = difference(alloc, old, new)? else {
+        return Ok(None);
+    };
+    if totals.are_none() {
+        return Ok(Some(totals.constant()));
+    }
+    Ok(None)
 }
 
-/// The turn from a circuit to another on the same wires with the same H, the same last labels, and phases that are the same function
-/// of the path variables, whatever stands on which set: the constant of its path sum less that of the first. None where they have
-/// others. Fails for want of memory alone.
+/// The turn from one circuit to another, modulo 8, if they have the same H with the same sets, the same last labels, and phases that
+/// are the same function of the variables; else none. Fails for want of memory alone.
 pub fn same_phases(alloc: Global, old: &Circuit, new: &Circuit) -> Result<Option<u8>, AllocError>
     requires wires { old.now.wires ≡ new.now.wires }
     ensures same { IfOk result (λ o. MatchOption o (SamePathFunction old.now.wires old.now.gates new.now.gates → ⊥)
         (λ turn. SamePathFunction old.now.wires old.now.gates new.now.gates × (turn ≡ (constant_of old.now.wires new.now.gates + (8 - constant_of old.now.wires old.now.gates % 8)) % 8))) }
 {
-    compared(alloc, old, new, Phases::Functions)
+    let Some(totals) = difference(alloc, old, new)? else {
+        return Ok(None);
+    };
+    if totals.vanish(alloc)? {
+        return Ok(Some(totals.constant()));
+    }
+    Ok(None)
 }

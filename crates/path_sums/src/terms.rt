@@ -5,7 +5,7 @@ ghost use Rattle.unitary_model.specs.Acts.{Bits};
 ghost use Rattle.path_parity.specs.PathFunctions.{parity, phase};
 ghost use Rattle.path_parity.specs.Sets.{IsPacked};
 ghost use Rattle.path_sums.specs.Sums.{AreTotals, IsCompact, compact_set, sums_of};
-ghost use Rattle.path_sums.specs.Phases.{words_behind, words_in};
+ghost use Rattle.path_sums.specs.Rows.{words_behind, words_in};
 ghost use Rattle.phase_terms.specs.Terms.{IsTerm, term_of};
 ghost use Rattle.phase_terms.specs.Words.{AreAscending, words_set};
 

@@ -1,6 +1,6 @@
 -- The words so far are kept, and those that are left are to come.
 use Rattle.std.proofs.Common.{◌≡◌, ◌+◌, ◌-◌, ◌++◌, drop, get_or}
-use Rattle.path_sums.specs.Phases.{words_at, words_in}
+use Rattle.path_sums.specs.Rows.{words_at, words_in}
 use Rattle.path_sums.proofs.terms.full_words.Given as goal
 
 abbrev pub invariant-words : goal.invariant-words

@@ -1,6 +1,6 @@
 -- The words so far are kept, and those that are left are to come.
 use Rattle.std.proofs.Common.{◌≡◌, ◌+◌, ◌-◌, ◌≤◌, ◌++◌, drop, length}
-use Rattle.path_sums.specs.Phases.{paired, words_behind}
+use Rattle.path_sums.specs.Rows.{paired, words_behind}
 use Rattle.path_sums.proofs.terms.sparse_words.Given as goal
 
 abbrev pub invariant-words : goal.invariant-words

@@ -9,12 +9,11 @@ use Rattle.path_sums.specs.Names.{number_by, variables_of}
 use Rattle.path_sums.specs.Sums.{IsWalked}
 use Rattle.path_sums.proofs.CountLaws.{same-counts}
 use Rattle.path_sums.proofs.NamingLaws.{named-both}
-use Rattle.path_sums.proofs.WalkedLaws.{same-sums, sums-turn, sums-same, sums-even}
-use Rattle.path_sums.proofs.sums.compared.Goals as goal
-use Rattle.path_sums.proofs.sums.compared.Goals.{else-is_same-via-then-is_same+else-are_none, else-is_same-via-else-is_same}
+use Rattle.path_sums.proofs.WalkedLaws.{function-walks, unlike, walks-difference}
+use Rattle.path_sums.proofs.sums.difference.Goals as goal
 
-pub returns-then-are_none : goal.returns-then-are_none
-returns-then-are_none c =
+pub returns-then-is_same : goal.returns-then-is_same
+returns-then-is_same c =
     let n = c.args.old.now.wires in
     let A = c.args.old.now.gates in
     let B = c.args.new.now.gates in
@@ -27,12 +26,7 @@ returns-then-are_none c =
     let more : names ≡ insert_all nat_eq c.note_names.new.names.keys (variables_of n B unseen) = c.in_ok-second.ensures.names ∙ (λ i. insert_all nat_eq c.note_names.new.names.keys (variables_of (sym c.requires.wires i) B unseen)) in
     let named = named-both c.new-names.result.keys c.note_names.new.names.keys names (variables_of n A unseen) (variables_of n B unseen) c.in_ok-first.ensures.names more in
     let second : IsWalked n (number_by n names) B 1 one two b = subst (λ k. IsWalked k (number_by k names) B 1 one two b) (sym c.requires.wires) c.in_ok-after.ensures.walked in
-    record {
-      same = (
-        same-sums n names A B named.0 named.1 none one two a b c.new-totals.ensures.sets c.new-totals.ensures.constant c.in_ok-before.ensures.walked second (c.is_same.ensures.0 c.if-is_same.true) (c.are_none.ensures.0 c.if-are_none.true),
-        c.constant.ensures ∙ sums-turn n names A B named.0 named.1 none one two a b c.new-totals.ensures.sets c.new-totals.ensures.constant c.in_ok-before.ensures.walked second,
-      );
-    }
+    record { same = walks-difference n names A B named.0 named.1 none one two a b c.new-totals.ensures.sets c.new-totals.ensures.constant c.in_ok-before.ensures.walked second (c.is_same.ensures.0 c.if-is_same.true) }
 
 pub returns : goal.returns
 returns c =
@@ -48,14 +42,7 @@ returns c =
     let more : names ≡ insert_all nat_eq c.note_names.new.names.keys (variables_of n B unseen) = c.in_ok-second.ensures.names ∙ (λ i. insert_all nat_eq c.note_names.new.names.keys (variables_of (sym c.requires.wires i) B unseen)) in
     let named = named-both c.new-names.result.keys c.note_names.new.names.keys names (variables_of n A unseen) (variables_of n B unseen) c.in_ok-first.ensures.names more in
     let second : IsWalked n (number_by n names) B 1 one two b = subst (λ k. IsWalked k (number_by k names) B 1 one two b) (sym c.requires.wires) c.in_ok-after.ensures.walked in
-    record {
-      same = λ h. elim c.else-is_same.branch [
-        | else-is_same-via-then-is_same+else-are_none w ↦
-            absurd (true≢false (sym (w.are_none.ensures.1 (sums-even n names A B named.0 named.1 none one two a b c.new-totals.ensures.sets c.new-totals.ensures.constant c.in_ok-before.ensures.walked second h)) ∙ w.if-are_none.false))
-        | else-is_same-via-else-is_same w ↦
-            absurd (true≢false (sym (c.is_same.ensures.1 (sums-same n names A B named.0 named.1 none one two a b c.new-totals.ensures.sets c.new-totals.ensures.constant c.in_ok-before.ensures.walked second h)) ∙ w.if-is_same.false))
-      ];
-    }
+    record { same = unlike n A B (λ h. true≢false (sym (c.is_same.ensures.1 (function-walks n names A B named.0 named.1 none one two a b c.new-totals.ensures.sets c.new-totals.ensures.constant c.in_ok-before.ensures.walked second h)) ∙ c.if-is_same.false)) }
 
 pub returns-then-ne : goal.returns-then-ne
 returns-then-ne c =
@@ -67,7 +54,7 @@ returns-then-ne c =
     let ys = c.in_ok-second.second.items in
     let fine : All (IsFine n) B = subst (λ k. All (IsFine k) B) (sym c.requires.wires) c.facts-2.ensures.fine in
     record {
-      same = λ h. true≢false (c.if-ne.ensures
+      same = unlike n A B (λ h. true≢false (c.if-ne.ensures
           ∙ ap not ((bytes_decides xs ys).1 (same-counts n ws A B xs ys c.facts.ensures.fine fine c.in_ok-touched.ensures.below c.in_ok-touched.ensures.distinct
-          c.in_ok-first.ensures.wires c.in_ok-second.ensures.wires c.in_ok-first.ensures.seen c.in_ok-second.ensures.seen h)));
+          c.in_ok-first.ensures.wires c.in_ok-second.ensures.wires c.in_ok-first.ensures.seen c.in_ok-second.ensures.seen h.sets))));
     }
