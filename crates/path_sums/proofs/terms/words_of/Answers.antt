@@ -25,8 +25,8 @@ pub returns-clause-set : goal.returns-clause-set
 returns-clause-set c =
     let row : List ℕ = c.args.row.now in
     let h : IsRowOf row (words_in row) = full-row row (full row c.requires (elim c.else-not-is_empty.branch [
-        | else-not-is_empty-via-then-not-is_empty+else-row w ↦ λ lt m. w.if-row.false m
-        | else-not-is_empty-via-else-not-is_empty w ↦ λ lt m. absurd (grind (arith, nat_tests, c.is_empty.ensures, w.if-not-is_empty.false, lt))
+      | else-not-is_empty-via-then-not-is_empty+else-row w ↦ λ lt m. w.if-row.false m
+      | else-not-is_empty-via-else-not-is_empty w ↦ λ lt m. absurd (grind (arith, nat_tests, c.is_empty.ensures, w.if-not-is_empty.false, lt))
     ])) in
     IfOk-more c.full_words.result (λ (v : Vec Word Global). v.items ≡ words_in row) (λ v. words_set v.items ≡ compact_set row) c.full_words.ensures (λ v e. ap words_set e ∙ h.set)
 
@@ -34,7 +34,7 @@ pub returns-clause-words : goal.returns-clause-words
 returns-clause-words c =
     let row : List ℕ = c.args.row.now in
     let h : IsRowOf row (words_in row) = full-row row (full row c.requires (elim c.else-not-is_empty.branch [
-        | else-not-is_empty-via-then-not-is_empty+else-row w ↦ λ lt m. w.if-row.false m
-        | else-not-is_empty-via-else-not-is_empty w ↦ λ lt m. absurd (grind (arith, nat_tests, c.is_empty.ensures, w.if-not-is_empty.false, lt))
+      | else-not-is_empty-via-then-not-is_empty+else-row w ↦ λ lt m. w.if-row.false m
+      | else-not-is_empty-via-else-not-is_empty w ↦ λ lt m. absurd (grind (arith, nat_tests, c.is_empty.ensures, w.if-not-is_empty.false, lt))
     ])) in
     IfOk-more c.full_words.result (λ (v : Vec Word Global). v.items ≡ words_in row) (λ v. AreAscending v.items) c.full_words.ensures (λ v e. subst AreAscending (sym e) h.words)
