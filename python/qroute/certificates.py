@@ -2,7 +2,8 @@
 
 The target is read back onto the source's wires: swaps that a router put in, CNOTs that it reversed, and swaps that it left out
 are told from gates of the source by the path sum, in which each H has a set of variables before it. What differs then is
-brought together by rewriting both sides. `verify` judges what comes out: nothing here has to be believed.
+brought together by rewriting both sides, until they are the same but for phases that are one function of the path variables.
+`verify` judges what comes out: nothing here has to be believed.
 """
 
 from __future__ import annotations
@@ -15,7 +16,7 @@ import typing
 import qroute
 
 from . import qasm, rewriting
-from .rewriting import Gate, PathSum, Rewriting, Variables, on_wires, path_sum, shown, wires_of
+from .rewriting import Gate, PathSum, Rewriting, Variables, on_wires, path_sum, same_function, shown, wires_of
 
 MOST_AHEAD = 16  # gates of the source on one wire among which a gate of the target is looked for
 MOST_PASSED = 64  # gates of the source on one wire, from the first that wasn't found
@@ -356,12 +357,16 @@ class Reading:
 
 @dataclasses.dataclass
 class Mismatch:
-    """Where two path sums differ: at a place of the read gates, or if that is None, of the source's; and in what."""
+    """Where two path sums differ: at a place of the read gates, or if that is None, of the source's; and in what.
+
+    If it is in phases alone, `apart` has on how many sets.
+    """
 
     place: int | None
     of_source: int | None
     wire: int
     says: str
+    apart: int = 0
 
 
 class Matching:
@@ -442,16 +447,18 @@ class Matching:
         return None
 
     def of_phases(self) -> Mismatch | None:
-        for on, k in self.wanted.totals.items():
-            if self.totals.get(on, 0) % 8 != k:
-                place, wire = self.of_set.get(on, (None, 0))
-                says = f"phases on one parity come to {self.totals.get(on, 0) % 8} pi/4 in the target, and in the source to {k} pi/4"
-                return Mismatch(place, None if place is not None else self.wanted.of_set[on], wire, says)
-        for on, k in self.totals.items():
-            if k % 8 and on not in self.wanted.totals:
-                place, wire = self.of_set[on]
-                return Mismatch(place, None, wire, f"phases on one parity come to {k % 8} pi/4, and in the source to none")
-        return None
+        wanted = self.wanted.totals
+        apart = [on for on, k in wanted.items() if self.totals.get(on, 0) % 8 != k]
+        apart += [on for on, k in self.totals.items() if k % 8 and on not in wanted]
+        if not apart:
+            return None
+        on = apart[0]
+        place, wire = self.of_set.get(on, (None, 0))
+        k = self.totals.get(on, 0) % 8
+        if on not in wanted:
+            return Mismatch(place, None, wire, f"phases on one parity come to {k} pi/4, and in the source to none", len(apart))
+        says = f"phases on one parity come to {k} pi/4 in the target, and in the source to {wanted[on]} pi/4"
+        return Mismatch(place, None if place is not None else self.wanted.of_set[on], wire, says, len(apart))
 
 
 def with_swaps(events: list[Event], swaps: list[tuple[int, int, int]]) -> list[Event]:
@@ -510,7 +517,8 @@ class Certificate:
             self.events = with_swaps(self.events, matching.swaps)
         else:
             mismatch = mismatch or Mismatch(None, None, 0, "swaps that are left out can't be placed")
-        if mismatch is not None:
+        self.word = "sums" if mismatch is None else "phases"
+        if mismatch is not None and not (mismatch.apart and same_function(size, settled.listed(), self.read.listed(), mismatch.apart)):
             raise self.failure(mismatch)
         self.turn = path_sum(size, self.read.listed(), variables).constant - wanted.constant
 
@@ -540,13 +548,13 @@ class Certificate:
             at += count
             turn += 4 * (it.kind in ("back", "turn"))
             found.append(f"{it.kind} {first}" if count else f"{it.kind} {it.gate[0]} {it.gate[1]}")
-        edition = 2 if any(it.startswith(("goal", "elide")) for it in (*steps, *found)) else 1
+        edition = 2 if any(it.startswith(("phases", "goal", "elide")) for it in (*steps, *found)) else 1
         return [f"TRACE {edition}", *steps, " ".join(["place", *map(str, self.initial)]), *found, f"end {turn % 8}"]
 
     def steps(self) -> list[str]:
         """The lines above `place`: from the source to its settled form, from there to that of the target, and on to the target's gates."""
         wanted, read = self.settled.listed(), self.read.listed()
-        between = [] if wanted == read else rewriting.sums_lines(read)
+        between = [] if wanted == read else rewriting.listed_lines(self.word, read)
         return [*self.settled.in_order(), *between, *self.read.in_reverse()]
 
     def order(self) -> list[int] | None:

@@ -9,6 +9,7 @@ from __future__ import annotations
 import collections
 import collections.abc
 import dataclasses
+import itertools
 import random
 import typing
 
@@ -20,6 +21,7 @@ MOST_ROUNDS = 12
 NEAR = 6  # gates before a change, on each of its wires, at which is looked again
 TURN_OF_PAIR = {"H": 6, "X": 4, "C": 0, "P": 0}
 BITS = 96  # of a drawn number
+MOST_TRIPLES = 6_000_000  # of independent sets, times six, that are looked at
 
 
 def wires_of(gate: Gate) -> Gate:
@@ -76,13 +78,14 @@ class Places:
 class Variables:
     """A drawn number for each variable of path sums, by its wire and its count of H: sums of them tell sets apart."""
 
-    def __init__(self, size: int) -> None:
+    def __init__(self, size: int, bits: int = BITS) -> None:
         self.dice = random.Random(size)
+        self.bits = bits
         self.drawn: list[list[int]] = [[] for _ in range(size)]
 
     def of(self, wire: int, count: int) -> int:
         while len(self.drawn[wire]) <= count:
-            self.drawn[wire].append(self.dice.getrandbits(BITS))
+            self.drawn[wire].append(self.dice.getrandbits(self.bits))
         return self.drawn[wire][count]
 
 
@@ -130,6 +133,47 @@ def path_sum(size: int, gates: collections.abc.Sequence[Gate], variables: Variab
     return found
 
 
+def same_function(size: int, old: collections.abc.Sequence[Gate], new: collections.abc.Sequence[Gate], apart: int) -> bool:
+    """Whether two lists, on whose sets as many totals are apart, have the same path sum but for the phases, and these come to the
+    same for all values of the variables. If that takes too long it is taken for a no.
+    """
+    # of so many sets the numbers are independent if the sets are
+    variables = Variables(size, apart + BITS)
+    one, other = (path_sum(size, it, variables) for it in (old, new))
+    if (one.before, one.last) != (other.before, other.last):
+        return False
+    totals = {on: other.totals.get(on, 0) - one.totals.get(on, 0) for on in {**one.totals, **other.totals}}
+    return vanish({on: k for on, k in totals.items() if k % 8})
+
+
+def vanish(totals: dict[int, int]) -> bool:
+    """Whether what stands on some sets comes to nothing modulo 8 for all values of the variables.
+
+    Each set is a sum of independent ones among them, and so its value is the sum of theirs, less twice that of their pairs and four
+    times that of their triples: of these none may be left, modulo 8, 4 and 2.
+    """
+    rows: dict[int, tuple[int, int]] = {}  # by its greatest bit a sum of independent sets, and which ones it is of
+    left: collections.Counter[tuple[int, ...]] = collections.Counter()
+    count = steps = 0
+    for on, k in totals.items():
+        of = 0
+        while on and (row := rows.get(on.bit_length())):
+            on ^= row[0]
+            of ^= row[1]
+        if on:
+            rows[on.bit_length()] = on, of ^ 1 << count
+            of = 1 << count
+            count += 1
+        parts = [it for it in range(of.bit_length()) if of >> it & 1]
+        steps += len(parts) ** 3
+        if steps > MOST_TRIPLES:
+            return False
+        for length in (1, 2, 3):
+            for chosen in itertools.combinations(parts, length):
+                left[chosen] += k
+    return all(k % (16 >> len(chosen)) == 0 for chosen, k in left.items())
+
+
 @dataclasses.dataclass
 class Stretch:
     """Lines, and the gates that they begin with. If they are backwards, they lead from the later list to the earlier one."""
@@ -140,7 +184,7 @@ class Stretch:
 
     def told(self, is_goal: bool) -> list[str]:
         """The lines, as those of a goal or as they are."""
-        return [f"goal {len(self.gates)}", *map(shown, self.gates), *self.lines, "meet"] if is_goal else self.lines
+        return [*listed_lines("goal", self.gates), *self.lines, "meet"] if is_goal else self.lines
 
 
 class Folding:
@@ -410,7 +454,7 @@ class Rewriting:
         new, since = folded.written()
         if new == old:
             return False
-        self.lines += sums_lines(new)
+        self.lines += listed_lines("sums", new)
         self.turn += 2 * sum(folded.flips) - folded.constant
         self.load(new, since)
         return True
@@ -542,7 +586,7 @@ class Rewriting:
                 since += [begins[place]] * 2
         variables = Variables(self.size)
         self.turn += path_sum(self.size, new, variables).constant - path_sum(self.size, old, variables).constant
-        self.lines += sums_lines(new)
+        self.lines += listed_lines("sums", new)
         self.load(new, since)
         slots = self.insert({end + 1 + i: [[("H", new[end][1 + i])] * 2] for end in ends for i in range(2)})
         for end in ends:
@@ -631,8 +675,9 @@ class Rewriting:
         return True
 
 
-def sums_lines(gates: collections.abc.Sequence[Gate]) -> list[str]:
-    return [f"sums {len(gates)}", *map(shown, gates)]
+def listed_lines(word: str, gates: collections.abc.Sequence[Gate]) -> list[str]:
+    """The line that lists gates behind it, and their lines."""
+    return [f"{word} {len(gates)}", *map(shown, gates)]
 
 
 def fans_of(gates: list[Gate]) -> list[list[int]]:

@@ -1,8 +1,8 @@
 """Gates as traces tell them, `("H", q)`, `("X", q)`, `("P", k, q)` and `("C", control, target)`, and what may be done to them.
 
 `expanded` makes them of operations, `commute` and `cancelled` are the tables of pairs, `Gates` is a list whose places stay
-known while gates go, and `path_sum` is what a list does along its paths. All of it is written from the definitions in
-docs/REWRITING.md, in the plain way.
+known while gates go, `path_sum` is what a list does along its paths, and `differences` and `differences_as_functions` compare
+two of them. All of it is written from the definitions in docs/REWRITING.md, in the plain way.
 """
 
 import dataclasses
@@ -236,22 +236,87 @@ def odd_parities(size, operations):
     return sum(k % 2 for k in path_sum(size, expanded(operations)[0], {}).totals.values())
 
 
+def said(on, bits, more=()):
+    """A set of variables in words, as a sum with what else there is."""
+    names = named(on, bits)
+    return " + ".join([*names[:4], *[".."] * (len(names) > 4), *more])
+
+
+def named(on, bits):
+    """The variables of a set, in words."""
+    return [f"H {k} of wire {wire}" if k else f"wire {wire}" for (wire, k), it in bits.items() if on >> it & 1]
+
+
 def differences(old, new, bits):
     """Where two path sums aren't the same, in words."""
+    yield from differences_besides(old, new, bits)
+    for on in {**old.totals, **new.totals}:
+        if old.totals.get(on) != new.totals.get(on):
+            yield f"phases of {new.totals.get(on, 0)} on {said(on, bits)} in place of {old.totals.get(on, 0)}"
 
-    def said(on, bit=0):
-        names = [f"H {k} of wire {wire}" if k else f"wire {wire}" for (wire, k), it in bits.items() if on >> it & 1]
-        return " + ".join(names[:4] + [".."] * (len(names) > 4) + ["1"] * bit)
 
+def differences_as_functions(old, new, bits):
+    """The same, where phases may stand on other sets if they come to the same for all values of the variables."""
+    yield from differences_besides(old, new, bits)
+    ones = values_apart(old, new)
+    if ones is not None:
+        *names, last = named(ones, bits)
+        where = f"{', '.join(names)} and {last} alone are" if names else f"{last} alone is"
+        yield f"phases of {phase_at(new, ones)} in place of {phase_at(old, ones)} where {where} 1"
+
+
+def differences_besides(old, new, bits):
+    """Where they differ besides the phases."""
     for wire, (one, other) in enumerate(zip(old.counts, new.counts)):
         if one != other:
             yield f"{other} H on wire {wire} in place of {one}"
     for (wire, k), on in new.sets.items():
         if on != old.sets.get((wire, k), on):
-            yield f"H {k} of wire {wire} on {said(on)} in place of {said(old.sets[wire, k])}"
+            yield f"H {k} of wire {wire} on {said(on, bits)} in place of {said(old.sets[wire, k], bits)}"
     for wire, (one, other) in enumerate(zip(old.last, new.last)):
         if one != other:
-            yield f"{said(*other)} at the end of wire {wire} in place of {said(*one)}"
-    for on in {**old.totals, **new.totals}:
-        if old.totals.get(on) != new.totals.get(on):
-            yield f"phases of {new.totals.get(on, 0)} on {said(on)} in place of {old.totals.get(on, 0)}"
+            (before, bit), (its, turned) = one, other
+            yield f"{said(its, bits, ['1'] * turned)} at the end of wire {wire} in place of {said(before, bits, ['1'] * bit)}"
+
+
+def phase_at(found, ones):
+    """What stands on the sets of a path sum together, modulo 8, where these variables are 1 and the others 0."""
+    return sum(k for on, k in found.totals.items() if (on & ones).bit_count() % 2) % 8
+
+
+def values_apart(old, new):
+    """At most three variables that tell the phases of two path sums apart if they are 1 and the others 0; None if nothing does.
+
+    It is enough to look at as many variables as there are independent sets among those on which a difference d stands, chosen so
+    that they give these sets whatever values. On them a parity is the sum of its variables less twice that of its pairs and four
+    times that of its triples, modulo 8. So the differences vanish exactly if the d of the sets with a variable come to 0
+    modulo 8, of those with two variables to 0 modulo 4, and of those with three to 0 modulo 2.
+    """
+    left = {on: (new.totals.get(on, 0) - old.totals.get(on, 0)) % 8 for on in {**old.totals, **new.totals}}
+    left = {on: d for on, d in left.items() if d}
+    rows = {}  # by its greatest variable
+    for on in left:
+        while on and (lead := on.bit_length() - 1) in rows:
+            on ^= rows[lead]
+        if on:
+            rows[lead] = on
+    leads = sorted(rows)
+    # sets as bits: those with each of the variables, and those whose d has each bit
+    with_lead = [sum(1 << i for i, on in enumerate(left) if on >> lead & 1) for lead in leads]
+    digits = [sum(1 << i for i, d in enumerate(left.values()) if d >> bit & 1) for bit in range(3)]
+
+    def choices(count, among, begin=0):
+        """Choices of so many of the variables, with the sets among some that have all of these, if there is one."""
+        if count == 0:
+            yield 0, among
+            return
+        for i in range(begin, len(leads)):
+            if its := among & with_lead[i]:
+                for ones, both in choices(count - 1, its, i + 1):
+                    yield ones | 1 << leads[i], both
+
+    for count, modulus in ((1, 8), (2, 4), (3, 2)):
+        for ones, among in choices(count, (1 << len(left)) - 1):
+            if sum((among & it).bit_count() << bit for bit, it in enumerate(digits)) % modulus:
+                return ones
+    return None

@@ -33,6 +33,7 @@ WORDS = {
 # the lines that came with the second edition
 LATER = {
     "part": (ABOVE, 3),
+    "phases": (ABOVE, 1),
     "goal": (ABOVE, 1),
     "meet": (ABOVE, 0),
     "elide": (BEHIND, 1),
@@ -166,7 +167,7 @@ class Check:
             raise Stop(f"`{word}` stands {where}" if word != "place" else "`place` stands once")
         if count not in (None, len(numbers)):
             raise Stop(f"`{word}` has {count or 'no'} number{'' if count == 1 else 's'}")
-        # `sums`, `part` and `goal` take the lines of their gates besides
+        # `sums`, `part`, `phases` and `goal` take the lines of their gates besides
         more = getattr(self, word)(*numbers)
         self.done += 1 + (more or 0)
 
@@ -266,7 +267,13 @@ class Check:
 
     def sums(self, count):
         new = self.gates_behind(count)
-        self.turns += self.turn_to(self.list.listed(), new, "the list")
+        self.turns += self.turn_to(self.list.listed(), new, "the path sum of the list")
+        self.list = gate_lists.Gates(new)
+        return count
+
+    def phases(self, count):
+        new = self.gates_behind(count)
+        self.turns += self.turn_to(self.list.listed(), new, "the path function of the list", gate_lists.differences_as_functions)
         self.list = gate_lists.Gates(new)
         return count
 
@@ -277,7 +284,7 @@ class Check:
             raise Stop(f"there is no place {j - 1} in a list of length {len(self.list)}")
         new = self.gates_behind(count)
         old = self.list.listed()
-        self.turns += self.turn_to(old[i:j], new, f"places {i} to {j - 1}" if i < j else "no gates")
+        self.turns += self.turn_to(old[i:j], new, "the path sum of " + (f"places {i} to {j - 1}" if i < j else "no gates"))
         self.list = gate_lists.Gates(old[:i] + new + old[j:])
         return count
 
@@ -301,13 +308,13 @@ class Check:
         self.list, self.turns = gate_lists.Gates(self.held.goal), self.held.turns - self.turns
         self.held = None
 
-    def turn_to(self, old, new, what):
-        """The turn from gates to others with the same path sum."""
+    def turn_to(self, old, new, what, differences=gate_lists.differences):
+        """The turn from gates to others that don't differ by their path sums."""
         bits = {}
         before = gate_lists.path_sum(self.wires, old, bits)
         its = gate_lists.path_sum(self.wires, new, bits)
-        for why in gate_lists.differences(before, its, bits):
-            raise Stop(f"its gates haven't the path sum of {what}: {why}")
+        for why in differences(before, its, bits):
+            raise Stop(f"its gates haven't {what}: {why}")
         return its.constant - before.constant
 
     def gates_behind(self, count):
@@ -318,7 +325,7 @@ class Check:
         return [self.gate_of(it) for it in range(begins, begins + count)]
 
     def gate_of(self, index):
-        """The gate of a line after `sums`, `part` or `goal`."""
+        """The gate of a line after `sums`, `part`, `phases` or `goal`."""
         try:
             word, numbers = read(self.lines[index])
         except Stop:

@@ -1,7 +1,12 @@
+import collections
+import functools
 import importlib.machinery
 import importlib.util
+import itertools
+import operator
 import os
 import random
+import re
 import sys
 
 from tool import TOP, ToolTest
@@ -13,6 +18,7 @@ import qasm
 import qroute
 import random_router
 import traces
+from qroute import rewriting
 
 HEAD = 'OPENQASM 2.0;\ninclude "qelib1.inc";\n'
 SWAP = "cx q[0],q[1]; cx q[1],q[0]; cx q[0],q[1];"
@@ -41,11 +47,30 @@ RIGHT = {
     "CZ in another order": (3, "cz q[0],q[1]; cz q[1],q[2]; h q[1];", 3, "cz q[2],q[1]; cz q[1],q[0]; h q[1];", (), None),
     "Z as H X H": (1, "z q[0];", 1, "h q[0]; x q[0]; h q[0];", (), None),
     "S H S": (1, "sdg q[0]; h q[0]; sdg q[0];", 1, "h q[0]; s q[0]; h q[0];", (), None),
-    "Z past H and a CNOT": (2, "z q[1]; cx q[0],q[1]; z q[0]; h q[0];", 2, "cx q[0],q[1]; h q[0]; z q[1];", (), None),
+    "Z past a CNOT and an H": (2, "z q[1]; cx q[0],q[1]; h q[0]; z q[1];", 2, "cx q[0],q[1]; h q[0]; x q[0];", (), None),
     "T through CNOTs": (2, "t q[1]; cx q[0],q[1]; cx q[0],q[1];", 2, "cx q[0],q[1]; cx q[0],q[1]; t q[1];", (), None),
     "H beside a CNOT": (2, "h q[1]; cx q[1],q[0];", 2, "h q[0]; cx q[0],q[1]; h q[0]; h q[1];", (), None),
     "a Toffoli's controls": (3, "ccx q[0],q[1],q[2];", 3, "ccx q[1],q[0],q[2];", (), None),
     "no wires": (0, "", 0, "", (), "TRACE 1|place|end 0"),
+}  # fmt: skip
+# the library's Toffoli gate with each T and its inverse exchanged
+MIRRORED = (
+    "h q[2]; cx q[1],q[2]; t q[2]; cx q[0],q[2]; tdg q[2]; cx q[1],q[2]; t q[2]; cx q[0],q[2]; "
+    "tdg q[1]; tdg q[2]; h q[2]; cx q[0],q[1]; tdg q[0]; t q[1]; cx q[0],q[1]; "
+)
+THREE_Z = "z q[0]; z q[1]; cx q[0],q[1]; z q[1]; cx q[0],q[1];"
+# the same as RIGHT; each has the line `phases`
+FUNCTIONS = {
+    "a Toffoli mirrored": (3, "ccx q[0],q[1],q[2];", 3, MIRRORED, (), None),
+    "two, of which one is mirrored": (3, "ccx q[0],q[1],q[2]; ccx q[0],q[1],q[2];", 3, MIRRORED + "ccx q[0],q[1],q[2];", (), None),
+    "one behind a swap": (4, "h q[3]; ccx q[1],q[0],q[2]; t q[2];", 4, "h q[3]; cx q[1],q[0]; cx q[0],q[1]; cx q[1],q[0]; " + MIRRORED + "t q[2];", (), None),
+    "one beside a swap that is left out": (5, "ccx q[0],q[1],q[2]; swap q[3],q[4]; t q[3];", 5, MIRRORED + "t q[4];", (), None),
+    "one and Z as H X H": (3, "ccx q[0],q[1],q[2]; z q[1];", 3, MIRRORED + "h q[1]; x q[1]; h q[1];", (), None),
+    "one and X that cancel": (3, "ccx q[0],q[1],q[2]; x q[2]; t q[2]; x q[2];", 3, MIRRORED + "tdg q[2];", (), None),
+    "three Z": (2, THREE_Z, 2, "", (), "TRACE 2|phases 0|place 0 1|end 0"),
+    "none, and three Z": (2, "", 2, THREE_Z, (), "TRACE 2|phases 5|P 4 0|P 4 1|C 0 1|P 4 1|C 0 1|place 0 1|emit 0|emit 0|emit 0|emit 0|emit 0|end 0"),
+    "Z past H and a CNOT": (2, "z q[1]; cx q[0],q[1]; z q[0]; h q[0];", 2, "cx q[0],q[1]; h q[0]; z q[1];", (), None),
+    "S on a sum and its wires": (2, "s q[0]; s q[1]; cx q[0],q[1]; sdg q[1]; cx q[0],q[1];", 2, "sdg q[0]; sdg q[1]; cx q[0],q[1]; s q[1]; cx q[0],q[1];", (), None),
 }  # fmt: skip
 # the same without words, and what is said
 WRONG = {
@@ -55,6 +80,8 @@ WRONG = {
     "an H less": (1, "h q[0];", 1, "", "source, line 4, column 1, gate 1: the target has no such H"),
     "an X more": (1, "t q[0];", 1, "t q[0]; x q[0];", "source: no qubit of the target ends with what this wire ends with"),
     "more wires": (2, "t q[0];", 1, "t q[0];", "target: 2 wires of the source don't fit on the target's 1 qubits"),
+    "six of seven T mirrored": (3, "ccx q[0],q[1],q[2];", 3, MIRRORED.replace("tdg q[0]", "t q[0]"), "target, line 4, column 23, gate 3: phases on one parity come to 1 pi/4 in the target, and in the source to 7 pi/4"),
+    "Z on a sum": (2, "cx q[0],q[1]; z q[1]; cx q[0],q[1];", 2, "z q[0];", "source, line 4, column 15, gate 2: phases on one parity come to 0 pi/4 in the target, and in the source to 4 pi/4"),
     "a spare qubit": (1, "t q[0];", 2, "t q[0]; x q[1];", "target, line 4, column 9, gate 2: X 1 is on a spare qubit, and belongs to no swap that stands in one piece"),
 }  # fmt: skip
 
@@ -65,6 +92,19 @@ def text_of(size, body):
 
 def program_of(size, statements):
     return text_of(size, "\n".join(f"{name} {','.join(f'q[{it}]' for it in wires)};" for name, wires in statements))
+
+
+def mirrored(source, is_one):
+    """The statements of a program, those of Toffoli gates written out, some of them mirrored."""
+    exchanged = {"t": "tdg", "tdg": "t"}
+    for name, operands in re.findall(r"(\w+) (q\[[^;]*\]);", re.sub("//.*", "", source)):
+        wires = [int(it) for it in re.findall(r"\d+", operands)]
+        if name == "ccx":
+            is_mirrored = is_one()
+            for kind, on in re.findall(r"(\w+) (q\[[^;]*\]);", MIRRORED):
+                yield kind if is_mirrored else exchanged.get(kind, kind), tuple(wires[int(it)] for it in re.findall(r"\d+", on))
+        elif name != "qreg":
+            yield name, tuple(wires)
 
 
 def lines_of(text):
@@ -80,14 +120,19 @@ def check_small():
 
 
 class Judging(ToolTest):
-    def judged(self, source, target):
-        """What the checker in Python has made of a trace; `verify` says the same."""
-        check, line = traces.Check(traces.side("source", source), traces.side("target", target), lines_of(target)), None
+    def checked(self, source, target):
+        """What the checker in Python has made of a trace, and the line at which it stops."""
+        check = traces.Check(traces.side("source", source), traces.side("target", target), lines_of(target))
         try:
             while check.power is None:
                 check.step()
         except traces.Stop:
-            line = check.done + 1
+            return check, check.done + 1
+        return check, None
+
+    def judged(self, source, target):
+        """What the checker in Python has made of a trace; `verify` says the same."""
+        check, line = self.checked(source, target)
         found = qroute.verify(source, target)
         self.assertEqual((found.phase, found.line), (check.power, line))
         return check
@@ -158,6 +203,56 @@ class Certify(Judging):
                 made.insert(dice.choice([i for i, (kind, _) in enumerate(made) if kind == "h"]), ("t", (begins[0],)))
                 with self.assertRaises(qroute.Uncertified):
                     qroute.certify(source, program_of(size, made), begins[: len(program.wires)])
+
+
+class Functions(Judging):
+    """Phases that are one function, of which nothing but the checker in Python is asked."""
+
+    def test_examples(self):
+        for name, (wires, body, qubits, made, words, lines) in FUNCTIONS.items():
+            with self.subTest(name):
+                source, target = text_of(wires, body), text_of(qubits, made)
+                files = self.file("s.qasm", source), self.file("t.qasm", target)
+                status, out, err = self.run_tool("certify", *files, *words)
+                self.assertEqual((status, err, out[: len(target)]), (0, "", target))
+                self.assertIsNotNone(self.checked(source, out)[0].power)
+                self.assertIn("phases", [it.split(" ")[0] for it in lines_of(out)])
+                if lines is not None:
+                    self.assertEqual("|".join(lines_of(out)), lines)
+
+    def test_routed_programs(self):
+        """Programs of Toffoli gates, of which all or some have each T and its inverse exchanged, routed at random; and each with a T more."""
+        dice = random.Random(11)
+        size, edges = coupling.read(os.path.join(TOP, "devices/grid_4x5.toml"))
+        for name in ("tof_5", "barenco_tof_4", "gf2_4_mult", "vbe_adder_3"):
+            with open(os.path.join(TOP, f"examples/literature/{name}.qasm"), encoding="utf-8") as file:
+                source = file.read()
+            for chance in (1, 0.5):
+                with self.subTest(name=name, chance=chance):
+                    made, begins = random_router.routed(list(mirrored(source, lambda: dice.random() < chance)), size, edges, dice)
+                    begins = begins[: len(qasm.read(source).wires)]
+                    found = qroute.certify(source, program_of(size, made), begins)
+                    self.assertIsNotNone(self.checked(source, found)[0].power)
+                    self.assertTrue(any(it.startswith("phases ") for it in lines_of(found)))
+                    made.insert(dice.choice([i for i, (kind, _) in enumerate(made) if kind == "h"]), ("t", (begins[0],)))
+                    with self.assertRaises(qroute.Uncertified):
+                        qroute.certify(source, program_of(size, made), begins)
+
+    def test_nothing_for_all_values(self):
+        dice = random.Random(12)
+        count = [0, 0]
+        for _ in range(400):
+            totals = collections.Counter()
+            for _ in range(dice.randint(1, 4)):
+                k, length = dice.choice([(4, 2), (2, 3), (1, 4), (6, 3)] * 3 + [(4, 1), (2, 2), (1, 3)])
+                over = [dice.randrange(1, 64) for _ in range(length)]
+                for chosen in itertools.product((0, 1), repeat=length):
+                    totals[functools.reduce(operator.xor, (on for on, it in zip(over, chosen) if it), 0)] += k * (-1) ** sum(chosen)
+            totals = {on: k for on, k in totals.items() if on and k % 8}
+            is_nothing = all(sum(k for on, k in totals.items() if (on & ones).bit_count() % 2) % 8 == 0 for ones in range(64))
+            self.assertEqual(rewriting.vanish(totals), is_nothing)
+            count[is_nothing] += 1
+        self.assertGreater(min(count), 50)
 
 
 class Drawn:

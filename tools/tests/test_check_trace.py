@@ -1,5 +1,9 @@
+import collections
+import functools
 import glob
+import itertools
 import json
+import operator
 import os
 import random
 import subprocess
@@ -14,6 +18,46 @@ import traces
 
 HEAD = 'OPENQASM 2.0;\ninclude "qelib1.inc";\n'
 AROUND = "h q[0]; h q[1]; "
+
+
+def along_parities(size, phase_of):
+    """Gates that bring wires to each sum of them and back; on a sum, which has a bit for each of its wires, stands its phase."""
+    found = []
+    for wire in range(size):
+        on = 1 << wire
+        for step in range(1, (1 << wire) + 1):
+            found.append(("P", phase_of(on) % 8, wire))
+            if wire:
+                # the next one in Gray's order, and behind the last one the first
+                added = min((step & -step).bit_length() - 1, wire - 1)
+                found.append(("C", added, wire))
+                on ^= 1 << added
+    return [it for it in found if it[:2] != ("P", 0)]
+
+
+def product(k):
+    """The phases on sums of wires that are 4k where all wires are 1, and nothing elsewhere, if there are three."""
+    return lambda on: k if on.bit_count() % 2 else -k
+
+
+def body(listed):
+    """Gates as statements of a program."""
+    forms = {"H": "h q[{}];", "X": "x q[{}];", "P": "u1({}*pi/4) q[{}];", "C": "cx q[{}],q[{}];"}
+    return " ".join(forms[it[0]].format(*it[1:]) for it in listed)
+
+
+def listed_lines(word, listed):
+    """A line with the lines of gates that are listed behind it, and the separator after each."""
+    return f"{word} {len(listed)}|" + "".join(f"{gates.shown(it)}|" for it in listed)
+
+
+# the library's Toffoli gate with each T and its inverse exchanged
+MIRRORED = [
+    ("H", 2), ("C", 1, 2), ("P", 1, 2), ("C", 0, 2), ("P", 7, 2), ("C", 1, 2), ("P", 1, 2), ("C", 0, 2),
+    ("P", 7, 1), ("P", 7, 2), ("H", 2), ("C", 0, 1), ("P", 7, 0), ("P", 1, 1), ("C", 0, 1),
+]  # fmt: skip
+THREE_Z = [("P", 4, 0), ("P", 4, 1), ("C", 0, 1), ("P", 4, 1), ("C", 0, 1)]
+CZ_BY_PHASES = [("P", 2, 0), ("P", 2, 1), ("C", 0, 1), ("P", 6, 1), ("C", 0, 1)]
 
 # wires and body of the source, qubits and body of the target, the lines behind the first, the power
 RIGHT = {
@@ -76,7 +120,19 @@ RIGHT = {
     "a part of a goal": (
         1, "tdg q[0];", 1, "x q[0]; t q[0]; x q[0];", "goal 3|X 0|P 1 0|X 0|part 0 3 1|P 7 0|meet|place 0|emit 0|emit 0|emit 0|end 5", 5,
     ),
+    "a Toffoli mirrored": (
+        3, "ccx q[0],q[1],q[2];", 3, body(MIRRORED), listed_lines("phases", MIRRORED) + "place 0 1 2|" + "emit 0|" * 15 + "end 0", 0,
+    ),
+    "fifteen T": (4, body(along_parities(4, lambda on: 1)), 4, "", "phases 0|place 0 1 2 3|end 0", 0),
+    "seven S": (3, body(along_parities(3, product(2))), 3, "", "phases 0|place 0 1 2|end 0", 0),
+    "three Z": (2, body(THREE_Z), 2, "", "phases 0|place 0 1|end 0", 0),
+    "phases that are the constant": (1, "x q[0]; t q[0]; x q[0]; t q[0];", 1, "", "phases 0|place 0|end 3", 3),
+    "phases in a goal": (
+        1, "", 1, "x q[0]; t q[0]; x q[0]; t q[0];", "goal 4|X 0|P 1 0|X 0|P 1 0|phases 0|meet|place 0|" + "emit 0|" * 4 + "end 5", 5,
+    ),
 }  # fmt: skip
+
+OTHERS = "its gates haven't the path function of the list: "
 
 # of one of these: the line that is exchanged for others, the line that is told, and why
 WRONG = [
@@ -156,6 +212,29 @@ WRONG = [
     ("a part with a turn", "end 3", "end 0", 7, "all turns together are 3"),
     ("a part of no gates", "C 0 1|C 0 1", "C 0 1|C 1 0", 2, "its gates haven't the path sum of no gates: "),
     ("a part of a goal", "end 5", "end 3", 13, "all turns together are 5"),
+    ("a Toffoli mirrored", "P 1 1", "P 7 1", 2, f"{OTHERS}phases of 6 in place of 0 where wire 0 alone is 1"),
+    ("a Toffoli mirrored", "P 1 1", "P 1 2", 2, f"{OTHERS}phases of 7 in place of 0 where wire 0 alone is 1"),
+    ("a Toffoli mirrored", "P 1 1", "P 5 1", 2, f"{OTHERS}phases of 4 in place of 0 where wire 0 alone is 1"),
+    ("a Toffoli mirrored", "H 2|C 1 2", "C 1 2|H 2", 2, f"{OTHERS}H 1 of wire 2 on wire 1 + wire 2 in place of wire 2"),
+    ("a Toffoli mirrored", "phases 15|H 2", "phases 14", 2, f"{OTHERS}1 H on wire 2 in place of 2"),
+    ("a Toffoli mirrored", "phases 15", "phases 16", 2, "line 18, `place 0 1 2`, is no gate on wires below 3"),
+    ("a Toffoli mirrored", "phases 15", "phases 14", 2, f"{OTHERS}wire 0 + wire 1 at the end of wire 1 in place of wire 1"),
+    ("a Toffoli mirrored", "phases 15", "phases 99", 2, "fewer lines stand behind it, 32"),
+    ("fifteen T", "phases 0", "phases 1|P 1 3", 2, f"{OTHERS}phases of 1 in place of 0 where wire 3 alone is 1"),
+    ("fifteen T", "phases 0", listed_lines("phases", along_parities(4, lambda on: 7 * (on == 15)))[:-1], 2, f"{OTHERS}phases of 7 in place of 0 where wire 0 alone is 1"),
+    ("fifteen T", "phases 0", "phases", 2, "`phases` has 1 number"),
+    ("fifteen T", "phases 0", "phases 0 0", 2, "`phases` has 1 number"),
+    ("seven S", "phases 0", listed_lines("phases", along_parities(3, product(1)))[:-1], 2, f"{OTHERS}phases of 4 in place of 0 where wire 0, wire 1 and wire 2 alone are 1"),
+    ("seven S", "phases 0", listed_lines("phases", along_parities(3, product(7)))[:-1], 2, f"{OTHERS}phases of 4 in place of 0 where wire 0, wire 1 and wire 2 alone are 1"),
+    ("three Z", "phases 0", "phases 1|P 4 0", 2, f"{OTHERS}phases of 4 in place of 0 where wire 0 alone is 1"),
+    ("three Z", "phases 0", listed_lines("phases", CZ_BY_PHASES)[:-1], 2, f"{OTHERS}phases of 4 in place of 0 where wire 0 and wire 1 alone are 1"),
+    ("three Z", "phases 0", "phases 1|X 1", 2, f"{OTHERS}wire 1 + 1 at the end of wire 1 in place of wire 1"),
+    ("three Z", "phases 0", "sums 0|phases 0", 2, "its gates haven't the path sum of the list: phases of 0 on wire 0 in place of 4"),
+    ("three Z", "phases 0|place 0 1", "place 0 1|phases 0", 3, "`phases` stands above `place`"),
+    ("phases that are the constant", "end 3", "end 0", 4, "all turns together are 3"),
+    ("phases that are the constant", "phases 0", "phases 1|P 7 0", 2, f"{OTHERS}phases of 7 in place of 0 where wire 0 alone is 1"),
+    ("phases in a goal", "phases 0", "phases 1|P 2 0", 7, f"{OTHERS}phases of 2 in place of 0 where wire 0 alone is 1"),
+    ("phases in a goal", "end 5", "end 3", 14, "all turns together are 5"),
 ]  # fmt: skip
 
 
@@ -406,6 +485,96 @@ class Places(ToolTest):
                 on = [slot for slot, it in left if wire in gates.wires_of(it)]
                 self.assertEqual(listed.follow(on[0], wire, 99) if on else [], on)
         self.assertEqual((len(listed), listed.before, listed.behind), (0, {}, {}))
+
+
+# phases and numbers of sums of wires by which what `drawn` makes of them is nothing modulo 8, and by which it isn't
+NOTHING = [(4, 2), (2, 3), (6, 3), (1, 4), (3, 4)]
+SOMETHING = [(4, 1), (6, 2), (1, 3), (5, 3)]
+
+
+class Functions(ToolTest):
+    """Phases as functions of the variables, beside what each path collects."""
+
+    @staticmethod
+    def exponent(listed, value_of):
+        """What a path collects, gate by gate, where its variables have these values."""
+        power, seen, values = 0, collections.Counter(), {}
+        for gate in listed:
+            wire = gate[-1]
+            value = values.get(wire, value_of[wire, 0])
+            if gate[0] == "C":
+                value ^= values.get(gate[1], value_of[gate[1], 0])
+            elif gate[0] == "X":
+                power += 2
+                value ^= 1
+            elif gate[0] == "P":
+                power += gate[1] * value
+            else:
+                seen[wire] += 1
+                power += 4 * value * value_of[wire, seen[wire]]
+                value = value_of[wire, seen[wire]]
+            values[wire] = value
+        return power
+
+    @classmethod
+    def powers(cls, size, old, new):
+        """By how much the paths of two lists differ, for all values of their variables."""
+        variables = [(wire, k) for wire in range(size) for k in range(1 + sum(it == ("H", wire) for it in old))]
+        found = set()
+        for values in itertools.product((0, 1), repeat=len(variables)):
+            value_of = dict(zip(variables, values))
+            found.add((cls.exponent(new, value_of) - cls.exponent(old, value_of)) % 8)
+        return found
+
+    @staticmethod
+    def drawn(draw, size):
+        """Two lists with the same gates besides phases, and these the same function or nearly so."""
+        old, new = [], []
+        for _ in range(2):
+            phases = [draw.randrange(8) for _ in range(1 << size)]
+            more = [0] * (1 << size)
+            words = [(k, [draw.randrange(1 << size) for _ in range(count)]) for k, count in draw.choices(NOTHING, k=draw.randint(0, 3))]
+            if draw.random() < 0.3:
+                k, count = draw.choice(SOMETHING)
+                words.append((k, [1 << it for it in draw.sample(range(size), min(count, size))]))
+            for k, over in words:
+                # up to its sign this comes to k times 2 ** (len(over) - 1) where all these sums of wires are 1, and to nothing elsewhere
+                for chosen in itertools.product((0, 1), repeat=len(over)):
+                    more[functools.reduce(operator.xor, (on for on, it in zip(over, chosen) if it), 0)] += k * (-1) ** sum(chosen)
+            same = [draw.choice([("H", draw.randrange(size)), ("X", draw.randrange(size))]) for _ in range(draw.randint(0, 1))]
+            old += along_parities(size, lambda on: phases[on]) + same
+            for it in along_parities(size, lambda on: phases[on] + more[on]) + same:
+                is_turned = it[0] == "P" and draw.random() < 0.1
+                new += [("X", it[2]), ("P", 8 - it[1], it[2]), ("X", it[2])] if is_turned else [it]
+        return old, new
+
+    def test_all_values(self):
+        draw, count = random.Random(3), collections.Counter()
+        for number in range(400):
+            size = draw.randint(2, 4)
+            old, new = self.drawn(draw, size)
+            bits = {}
+            before, its = (gates.path_sum(size, it, bits) for it in (old, new))
+            found = list(gates.differences_as_functions(before, its, bits))
+            powers = self.powers(size, old, new)
+            with self.subTest(number):
+                if found:
+                    self.assertGreater(len(powers), 1)
+                else:
+                    self.assertEqual(powers, {(its.constant - before.constant) % 8})
+            count[found[0].count("wire") if found else "same", before.totals == its.totals] += 1
+        for is_listed in (False, True):
+            self.assertGreater(count["same", is_listed], 40)
+        for it in (1, 2, 3):
+            self.assertGreater(count[it, False], 10)
+
+    def test_variables_that_tell_phases_apart(self):
+        draw = random.Random(4)
+        for _ in range(300):
+            before, its = (gates.PathSum([], {}, [], {draw.randrange(1, 64): draw.randrange(1, 8) for _ in range(draw.randint(0, 6))}, 0) for _ in range(2))
+            ones = gates.values_apart(before, its)
+            apart = [it for it in range(64) if gates.phase_at(before, it) != gates.phase_at(its, it)]
+            self.assertTrue(ones in apart if apart else ones is None)
 
 
 class Expansion(ToolTest):
