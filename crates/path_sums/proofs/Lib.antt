@@ -4,6 +4,9 @@ pub mod TouchedLaws
 pub mod NameLaws
 pub mod RenameLaws
 pub mod NamingLaws
+pub mod WordLaws
+pub mod VanishingLaws
+pub mod TermLaws
 pub mod RowLaws
 pub mod CountLaws
 pub mod WalkedLaws

@@ -27,10 +27,10 @@ use Rattle.path_parity.proofs.ParityLaws.{phase-append}
 use Rattle.path_sums.specs.Rows.{paired, words_at, words_behind, words_in}
 use Rattle.path_sums.specs.Sums.{AreTotals, IsCompact, compact, compact_set, is_sparse, mark, sparse, sums_of, words_from}
 use Rattle.path_sums.proofs.SparseLaws.{compact_set-compact, joined, unmarked}
-use Rattle.phase_terms.specs.declared.term.Term.{Term}
-use Rattle.phase_terms.specs.declared.words.Word.{Word}
-use Rattle.phase_terms.specs.Terms.{term_of}
-use Rattle.phase_terms.specs.Words.{AreAscending, IsFurther, words_set}
+use Rattle.path_sums.specs.declared.term.Term.{Term}
+use Rattle.path_sums.specs.declared.words.Word.{Word}
+use Rattle.path_sums.specs.Terms.{term_of}
+use Rattle.path_sums.specs.Words.{AreAscending, IsFurther, words_set}
 
 -- ---- sets
 -- what has no bit in common is summed

@@ -4,7 +4,7 @@
 --     paired flat         words that stand behind their places
 --     words_behind flat   those behind a mark
 use Rattle.std.specs.Prelude.{ℕ, ◌+◌, cond, List, [], ◌∷◌, ◌++◌, nat_eq}
-use Rattle.phase_terms.specs.declared.words.Word.{Word}
+use Rattle.path_sums.specs.declared.words.Word.{Word}
 
 abbrev pub words_at : ℕ → List ℕ → List Word
 words_at place [] = []

@@ -6,8 +6,10 @@
 #![tactic(auto)]
 
 mod names;
+mod rows;
 mod sums;
-mod terms;
+mod term;
 mod touched;
+mod words;
 
 pub use sums::{same_phases, same_sums};

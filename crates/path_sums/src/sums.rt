@@ -16,12 +16,12 @@ ghost use Rattle.path_sums.specs.Names.{AreAmong, IsTouched, number_by, term_by,
 ghost use Rattle.path_sums.specs.Sums.{Adds, AddsKnown, AreRows, IsDifference, IsSameWalk, IsUnlike, IsWalked, Passes, befores, compact, is_sparse, labels_in, mark, seen_in, sparse};
 
 use crate::names::{first_counts, next_variable, note_names, number};
-use crate::terms::terms_of;
+use crate::rows::terms_of;
+use crate::term::vanish;
 use crate::touched::{place_in, touched_by};
 use circuit_list::{Circuit, Gate};
 use indexmap::{IndexMap, IndexSet};
 use path_parity::Label;
-use phase_terms::vanish;
 use std::alloc::{AllocError, Global};
 use std::marker::Model;
 use std::mem::swap;

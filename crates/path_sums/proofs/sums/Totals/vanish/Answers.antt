@@ -3,7 +3,7 @@ use Rattle.std.proofs.Common.{◌≡◌, ℕ, ◌%◌, IfOk, List, ap, map, sym,
 use Rattle.std.specs.Prelude.{◌↔◌, IsTrue}
 use Rattle.unitary_model.specs.Acts.{Bits}
 use Rattle.path_parity.specs.PathFunctions.{Vanishes, phase}
-use Rattle.phase_terms.specs.Terms.{term_of}
+use Rattle.path_sums.specs.Terms.{term_of}
 use Rattle.path_sums.specs.Sums.{Collected, sums_of}
 use Rattle.path_sums.proofs.RowLaws.{IfOk-more}
 use Rattle.path_sums.proofs.sums.Totals.vanish.Goals as goal
