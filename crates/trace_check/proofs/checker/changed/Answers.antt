@@ -27,3 +27,9 @@ pub returns-then-rewrites-clause-step : goal.returns-then-rewrites-clause-step
 returns-then-rewrites-clause-step c =
     let lines : List (List ℕ) = lines_of c.args.mark.text.now in
     subst (λ l. Leads c.args.word c.args.state.now c.rewrites.new.state (words (spelling c.args.word) l ∷ lines) lines) c.deref.ensures.value (c.if-rewrites.ensures.applies refl lines)
+
+pub returns-then-eq-clause-known : goal.returns-then-eq-clause-known
+returns-then-eq-clause-known c = c.forget.ensures c.replaced.new.state.body.gates c.replaced.new.state.body.slots
+
+pub returns-then-eq-2-clause-known : goal.returns-then-eq-2-clause-known
+returns-then-eq-2-clause-known c = c.forget-then-eq-2.ensures c.replaced_part.new.state.body.gates c.replaced_part.new.state.body.slots

@@ -14,3 +14,15 @@ returns-then-eq-clause-step c =
     let word : c.args.word ≡ kind.Goal = search rules in
     subst (λ w. IfOk c.aim.result (λ o. MatchOption o (BlockedWith c.args.held.now c.args.state.now (words (spelling w) ks ∷ lines)) (λ (m : Mark). LeadsOn w c.args.held.now c.args.state.now c.aim.new.held c.aim.new.state (words (spelling w) ks ∷ lines) (lines_of m.text.now))))
     (sym word) c.aim.ensures.step
+
+pub returns-then-eq-clause-known : goal.returns-then-eq-clause-known
+returns-then-eq-clause-known c = c.forget.ensures c.aim.new.state.body.gates c.aim.new.state.body.slots
+
+pub returns-in_err-meet-clause-known : goal.returns-in_err-meet-clause-known
+returns-in_err-meet-clause-known c = c.forget-then-eq-2.ensures c.meet.new.state.body.gates c.meet.new.state.body.slots
+
+pub returns-then-branch-clause-known : goal.returns-then-branch-clause-known
+returns-then-branch-clause-known c = c.forget-then-eq-2.ensures c.meet.new.state.body.gates c.meet.new.state.body.slots
+
+pub returns-else-branch-clause-known : goal.returns-else-branch-clause-known
+returns-else-branch-clause-known c = c.forget-then-eq-2.ensures c.meet.new.state.body.gates c.meet.new.state.body.slots

@@ -1,4 +1,4 @@
-use Rattle.std.proofs.Common.{◌≡◌, ◌∙◌, ℕ, ◌+◌, List, ◌∷◌, None, Option, ap, arith, length, rules, subst, sym}
+use Rattle.std.proofs.Common.{◌≡◌, ◌∙◌, ℕ, ◌+◌, List, ◌∷◌, None, Option, ap, arith, length, refl, rules, subst, sym}
 use Rattle.std.specs.Prelude.{codes}
 use Rattle.circuit_list.specs.declared.Passed.{Passed}
 use Rattle.rewrite_pass.specs.TraceLines.{words}
@@ -15,6 +15,17 @@ use Rattle.trace_check.proofs.StepLaws.{came-blocked, came-turns, stuck-held}
 use Rattle.trace_check.proofs.WordLaws.{if-some, items-small, none-of, some-of}
 use Rattle.trace_check.proofs.checker.rewritten.Goals as goal
 use Rattle.trace_check.proofs.checker.rewritten.Goals.{in-Some+in_ok-word+in_default-2, in-Some+in_ok-word+in-Some-2+then-eq+then-is_some, in-Some+in_ok-word+in-Some-2+else-eq+in_ok-next+in_default-3, in_default}
+
+pub lines-init : goal.lines-init
+lines-init c = record {
+  wires = refl;
+  turn = c.requires.turn;
+  short = c.requires.short;
+  later = omega arith;
+  held = tt;
+  known = c.nothing-known.ensures c.args.state.now.body.gates c.args.state.now.body.slots;
+  came = λ e trace n q k is. (n, (k, is));
+}
 
 pub returns-then-eq-clause-place : goal.returns-then-eq-clause-place
 returns-then-eq-clause-place c = λ y e trace n q k is.
