@@ -1,14 +1,10 @@
 -- Two gates past those between.
 --   reduces, apart, bound   what the gates are together, that they neither cancel nor merge, and that one between is in the way
-use Rattle.std.proofs.Common.{◌≡◌, inl, inr, ℕ, ◌+◌, ◌<◌, ◌≤◌, Bool, true, false, List, Some, sym, subst, ap, ◌∙◌, arith, slice_get}
-use Rattle.std.proofs.lemmas.Bool.{cases_lt}
+use Rattle.std.proofs.Common.{◌≡◌, ℕ, ◌<◌, List, Some, sym, subst, ◌∙◌, slice_get}
 use Rattle.circuit_list.specs.declared.Gate.{Gate}
-use Rattle.circuit_list.specs.Gates.{is_on}
-use Rattle.circuit_list.specs.Slots.{IsNextOn, NoneBehind, is_on_at, is_on_some}
 use Rattle.commute_rules.specs.declared.Cancel.{Cancel}
 use Rattle.commute_rules.specs.declared.Cancel.TheVariants.{No, Both, Merge}
 use Rattle.commute_rules.specs.Cancels.{Cancels, cancel_of}
-use Rattle.commute_rules.specs.Commutes.{commutes}
 use Rattle.commute_rules.specs.Reducible.{IsReducible}
 use Rattle.trace_check.specs.Pairs.{IsFree, Reduces}
 
