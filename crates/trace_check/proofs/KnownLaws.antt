@@ -11,7 +11,7 @@
 --   free-between, between-free          the same by places
 --   phase-free, free-phase, cx-free, free-control, free-target      a gate by its probes
 --   x-ends, phase-ends, control-ends, target-ends      the probes of two gates that cancel or merge
-use Rattle.std.proofs.Common.{◌≡◌, inl, inr, ◌⊎◌, ℕ, zero, suc, ◌+◌, ◌<◌, ◌≤◌, ◌%◌, Bool, true, false, cond, not, ◌&&◌, ◌||◌, ◌==◌, if◌then◌else◌, List, [], ◌∷◌, ◌++◌, All, MatchOption, Option, None, Some, is_some, get_or, length, set, refl, sym, subst, ◌∙◌, ap, arith, slice_get}
+use Rattle.std.proofs.Common.{◌≡◌, inl, inr, ◌⊎◌, ℕ, zero, suc, ◌+◌, ◌<◌, ◌≤◌, ◌%◌, Bool, true, false, cond, not, ◌&&◌, ◌||◌, ◌==◌, if◌then◌else◌, List, [], ◌∷◌, ◌++◌, MatchOption, Option, None, Some, is_some, get_or, length, set, refl, sym, subst, ◌∙◌, ap, arith, slice_get}
 use Rattle.std.specs.List.{remove}
 use Rattle.std.proofs.lemmas.List.Elements.{All-push}
 use Rattle.std.proofs.lemmas.Bool.{and_from, cases_lt, eq-eqb, eqb-true, ne_eqb}
@@ -19,10 +19,10 @@ use Rattle.std.proofs.lemmas.Bool.Decides.{eqb_tells}
 use Rattle.circuit_list.specs.Body.{Body}
 use Rattle.circuit_list.specs.declared.Gate.{Gate}
 use Rattle.circuit_list.specs.declared.Gate.TheVariants.{H, X, P, Cx}
-use Rattle.circuit_list.specs.Gates.{IsFine, is_on}
+use Rattle.circuit_list.specs.Gates.{is_on}
 use Rattle.circuit_list.specs.Slots.{Ascend, IsLive, IsNextOn, IsPrevOn, NoneBefore, NoneBehind, is_on_at, is_on_some, place_of}
 use Rattle.commute_rules.specs.declared.Cancel.TheVariants.{No, Both, Merge}
-use Rattle.commute_rules.specs.Cancels.{Cancels, cancel_of, with_phase}
+use Rattle.commute_rules.specs.Cancels.{Cancels, with_phase}
 use Rattle.commute_rules.specs.Commutes.{commutes}
 use Rattle.trace_check.specs.Known.{AreEnds, AreSpans, IsBetween, IsClear, IsProbe, IsSpan}
 use Rattle.trace_check.specs.Pairs.{IsFree}

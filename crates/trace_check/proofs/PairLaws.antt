@@ -1,14 +1,10 @@
 -- Two gates past those between.
---   reduces, apart, bound   what the gates are together, that they neither cancel nor merge, and that one between is in the way
-use Rattle.std.proofs.Common.{◌≡◌, inl, inr, ℕ, ◌+◌, ◌<◌, ◌≤◌, Bool, true, false, List, Some, sym, subst, ap, ◌∙◌, arith, slice_get}
-use Rattle.std.proofs.lemmas.Bool.{cases_lt}
+--   reduces, bound   what the gates are together, and that one between is in the way
+use Rattle.std.proofs.Common.{◌≡◌, ℕ, ◌<◌, List, Some, sym, subst, ◌∙◌, slice_get}
 use Rattle.circuit_list.specs.declared.Gate.{Gate}
-use Rattle.circuit_list.specs.Gates.{is_on}
-use Rattle.circuit_list.specs.Slots.{IsNextOn, NoneBehind, is_on_at, is_on_some}
 use Rattle.commute_rules.specs.declared.Cancel.{Cancel}
 use Rattle.commute_rules.specs.declared.Cancel.TheVariants.{No, Both, Merge}
-use Rattle.commute_rules.specs.Cancels.{Cancels, cancel_of}
-use Rattle.commute_rules.specs.Commutes.{commutes}
+use Rattle.commute_rules.specs.Cancels.{cancel_of}
 use Rattle.commute_rules.specs.Reducible.{IsReducible}
 use Rattle.trace_check.specs.Pairs.{IsFree, Reduces}
 
@@ -29,6 +25,3 @@ reduces gs i j g h (Merge m) e f lt free is = (record { first = g; second = h; a
 
 pub bound : (gs : List Gate) (i j : ℕ) (g : Gate) → slice_get gs i ≡ Some g → (IsFree g gs i j → ⊥) → IsReducible gs i j → ⊥
 bound gs i j g e stops p = stops (subst (λ z. IsFree z gs i j) (same_gate gs i p.first g p.at_first e) p.commute)
-
-pub apart : (gs : List Gate) (i j : ℕ) (g h : Gate) → slice_get gs i ≡ Some g → slice_get gs j ≡ Some h → (Cancels g h → ⊥) → IsReducible gs i j → ⊥
-apart gs i j g h e f stops p = stops (subst (λ z. Cancels z h) (same_gate gs i p.first g p.at_first e) (subst (Cancels p.first) (same_gate gs j p.second h p.at_second f) p.cancel))

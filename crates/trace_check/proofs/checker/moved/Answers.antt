@@ -1,4 +1,4 @@
-use Rattle.std.proofs.Common.{◌≡◌, ℕ, List, ◌∷◌, IfOk, MatchOption, refl, rules, subst, sym}
+use Rattle.std.proofs.Common.{◌≡◌, ℕ, List, ◌∷◌, IfOk, MatchOption, rules, subst, sym}
 use Rattle.rewrite_pass.specs.TraceLines.{words}
 use Rattle.trace_text.specs.Texts.{lines_of}
 use Rattle.trace_check.specs.Progress.{BlockedWith, LeadsOn}

@@ -16,6 +16,17 @@ use Rattle.trace_check.proofs.WordLaws.{if-some, items-small, none-of, some-of}
 use Rattle.trace_check.proofs.checker.rewritten.Goals as goal
 use Rattle.trace_check.proofs.checker.rewritten.Goals.{in-Some+in_ok-word+in_default-2, in-Some+in_ok-word+in-Some-2+then-eq+then-is_some, in-Some+in_ok-word+in-Some-2+else-eq+in_ok-next+in_default-3, in_default}
 
+pub lines-init : goal.lines-init
+lines-init c = record {
+  wires = refl;
+  turn = c.requires.turn;
+  short = c.requires.short;
+  later = omega arith;
+  held = tt;
+  known = c.nothing-known.ensures c.args.state.now.body.gates c.args.state.now.body.slots;
+  came = λ e trace n q k is. (n, (k, is));
+}
+
 pub returns-then-eq-clause-place : goal.returns-then-eq-clause-place
 returns-then-eq-clause-place c = λ y e trace n q k is.
     let h = c.lines.invariant.came e trace n q k is in

@@ -1,7 +1,5 @@
-use Rattle.std.proofs.Common.{◌≡◌, ◌<◌, ◌≤◌, ◌+◌, false, true, arith, length, rules, subst, sym}
-use Rattle.circuit_list.specs.Slots.{place_of}
+use Rattle.std.proofs.Common.{◌≡◌, ◌<◌, ◌≤◌, false, true, arith, rules}
 use Rattle.commute_rules.specs.Commutes.{commutes}
-use Rattle.trace_check.specs.Known.{IsBetween}
 use Rattle.trace_check.proofs.KnownLaws.{live-slot, less-between, next-between, none-behind, on-between, on-more, place-clear, slot-order, slot-stops}
 use Rattle.trace_check.proofs.pairs.ahead.Goals as goal
 

@@ -1,4 +1,4 @@
-use Rattle.trace_check.proofs.PairLaws.{apart, bound, reduces}
+use Rattle.trace_check.proofs.PairLaws.{bound, reduces}
 use Rattle.trace_check.proofs.pairs.together.Goals as goal
 
 pub returns-then-is_free-clause-pair : goal.returns-then-is_free-clause-pair
