@@ -5,13 +5,11 @@
 --     stuck-line, stuck-numbers       a line is stuck where no line with its word and numbers applies
 --     stuck-unread            it is stuck where no word with numbers is spelt so
 --     stuck-nothing           nothing is left
-use Rattle.std.proofs.Common.{◌≡◌, ℕ, ◌^◌, ◌<◌, cond, List, [], ◌∷◌, ◌++◌, map, refl, sym, ◌∙◌, ap, Some}
-use Rattle.std.specs.Prelude.{codes}
+use Rattle.std.proofs.Common.{◌≡◌, ℕ, ◌^◌, ◌<◌, List, [], ◌∷◌, ◌++◌, map, sym, ◌∙◌, ap, Some}
 use Rattle.std.proofs.lemmas.List.Elements.{recursion_from_All}
 use Rattle.rewrite_pass.specs.Traces.{Rule, Both, Join, Sums}
 use Rattle.rewrite_pass.specs.TraceLines.{gate_line, words}
 use Rattle.trace_check.specs.declared.words.Word.{Word}
-use Rattle.trace_check.specs.declared.words.Word.TheVariants as word
 use Rattle.trace_check.specs.Lines.{Line, Heading, Rewrite, Part, Phases, Goal, Meet, Place, Emit, Back, Elide, Swap, Turn, End, IsIn, IsLineIn, IsSmall, numbers_of, spelt}
 use Rattle.trace_check.specs.Proves.{Applies, Claim, IsStuck, State}
 use Rattle.trace_check.specs.Spelling.{AreSmall, IsWordIn, spelling}

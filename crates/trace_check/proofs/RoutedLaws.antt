@@ -11,7 +11,7 @@ use Rattle.circuit_list.specs.declared.Gate.TheVariants.{Cx}
 use Rattle.rewrite_pass.specs.TraceLines.{words}
 use Rattle.trace_check.specs.declared.words.Word.{Word}
 use Rattle.trace_check.specs.declared.words.Word.TheVariants as word
-use Rattle.trace_check.specs.Lines.{Line, Emit, Back, Elide, Swap, Turn, End, IsLineIn}
+use Rattle.trace_check.specs.Lines.{Line, Emit, Back, Elide, Swap, Turn, End}
 use Rattle.trace_check.specs.Proves.{Applies, Claim, IsFirst, IsStuck, Placed, Routed, State}
 use Rattle.trace_check.specs.Elides.{ByFirst, IsElided}
 use Rattle.trace_check.specs.Spelling.{AreSmall, spelling}

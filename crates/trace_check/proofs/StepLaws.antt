@@ -33,7 +33,7 @@ use Rattle.rewrite_pass.specs.TraceLines.{gate_line, gate_numbers, words}
 use Rattle.trace_check.specs.declared.goals.Held.{Held}
 use Rattle.trace_check.specs.declared.words.Word.{Word}
 use Rattle.trace_check.specs.declared.words.Word.TheVariants as word
-use Rattle.trace_check.specs.Lines.{Line, Heading, Rewrite, Part, Phases, Goal, Meet, Place, IsIn, IsLineIn, IsSmall, edition_of, is_later, numbers_of, spelt}
+use Rattle.trace_check.specs.Lines.{Line, Heading, Rewrite, Part, Phases, Goal, Meet, Place, IsIn, IsSmall, edition_of, is_later, numbers_of, spelt}
 use Rattle.trace_text.specs.Texts.{lines_of}
 use Rattle.trace_check.specs.Progress.{Blocked, Came, Leads, BlockedWith, IsListing, IsSame, LeadsOn, reached, step_named}
 use Rattle.trace_check.specs.Proves.{Applies, Changes, Claim, IsOpen, IsStuck, Placed, Rewritten, Routed, Seeking, State, StopsAt, Unread}

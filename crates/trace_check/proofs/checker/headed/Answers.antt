@@ -6,7 +6,7 @@ use Rattle.trace_check.specs.Proves.{IsStuck, Unread}
 use Rattle.trace_check.specs.Spelling.{AreSmall, spelling}
 use Rattle.trace_check.specs.declared.words.Word.TheVariants as kind
 use Rattle.trace_check.proofs.KindLaws.{stuck-unread}
-use Rattle.trace_check.proofs.StepLaws.{edition-either, stuck-heading}
+use Rattle.trace_check.proofs.StepLaws.{stuck-heading}
 use Rattle.trace_check.proofs.WordLaws.{none-of, some-of}
 use Rattle.trace_check.proofs.checker.headed.Goals as goal
 

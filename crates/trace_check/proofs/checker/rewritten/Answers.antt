@@ -96,14 +96,3 @@ returns-clause-stops c = λ y e trace n q k is.
       | in_default w ↦ subst (IsStuck e v (reached old s)) (sym w.in_default.ensures.lines) (stuck-nothing e v (reached old s))
     ])
     h.1.0 h.1.1
-
-pub lines-init : goal.lines-init
-lines-init c = record {
-  wires = refl;
-  turn = c.requires.turn;
-  short = c.requires.short;
-  later = omega arith;
-  held = tt;
-  known = c.nothing-known.ensures c.args.state.now.body.gates c.args.state.now.body.slots;
-  came = λ e trace n q k is. (n, (k, is));
-}

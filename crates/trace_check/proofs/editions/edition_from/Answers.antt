@@ -1,4 +1,4 @@
-use Rattle.std.proofs.Common.{◌≡◌, ℕ, inl, inr, rules, sym}
+use Rattle.std.proofs.Common.{◌≡◌, inl, inr, rules, sym}
 use Rattle.trace_text.specs.Texts.{lines_of}
 use Rattle.trace_check.proofs.StepLaws.{edition-named}
 use Rattle.trace_check.proofs.editions.edition_from.Goals as goal

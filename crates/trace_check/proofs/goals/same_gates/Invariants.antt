@@ -1,5 +1,5 @@
 -- The gates so far are the same.
-use Rattle.std.proofs.Common.{◌≡◌, ℕ, ◌<◌, length, slice_get}
+use Rattle.std.proofs.Common.{◌≡◌, ℕ, ◌<◌, slice_get}
 use Rattle.trace_check.proofs.goals.same_gates.Given as goal
 
 abbrev pub invariant-gates : goal.invariant-gates

@@ -1,2 +1,0 @@
-use Rattle.std.proofs.Common.{◌≡◌, rules}
-use Rattle.trace_check.proofs.listed.turn_between.Goals as goal

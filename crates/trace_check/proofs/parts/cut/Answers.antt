@@ -1,6 +1,6 @@
-use Rattle.std.proofs.Common.{◌≡◌, ◌∙◌, ap, arith}
+use Rattle.std.proofs.Common.{◌∙◌, ap, arith}
 use Rattle.std.specs.List.{remove}
-use Rattle.trace_check.proofs.PartStepLaws.{cut-long, cut-more}
+use Rattle.trace_check.proofs.PartStepLaws.{cut-more}
 use Rattle.trace_check.proofs.parts.cut.Goals as goal
 
 pub gates-preserved : goal.gates-preserved

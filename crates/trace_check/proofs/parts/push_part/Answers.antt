@@ -1,4 +1,4 @@
-use Rattle.std.proofs.Common.{◌≡◌, ◌∙◌, ◌++◌, ◌∷◌, [], List, ap, append_assoc, arith, sym}
+use Rattle.std.proofs.Common.{◌∙◌, ◌++◌, ◌∷◌, [], List, ap, append_assoc, arith, sym}
 use Rattle.circuit_list.specs.declared.Gate.{Gate}
 use Rattle.trace_check.specs.Proves.{slice_of}
 use Rattle.trace_check.proofs.PartStepLaws.{slice_of-more}

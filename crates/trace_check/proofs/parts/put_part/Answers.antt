@@ -1,4 +1,4 @@
-use Rattle.std.proofs.Common.{◌≡◌, ◌∙◌, ◌+◌, ◌++◌, ◌≤◌, ap, arith, drop, length, take}
+use Rattle.std.proofs.Common.{◌∙◌, ◌+◌, ◌++◌, ◌≤◌, ap, arith, drop, length, take}
 use Rattle.trace_check.proofs.PartStepLaws.{cut-put}
 use Rattle.trace_check.proofs.parts.put_part.Goals as goal
 

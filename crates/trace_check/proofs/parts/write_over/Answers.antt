@@ -1,4 +1,4 @@
-use Rattle.std.proofs.Common.{◌≡◌, ◌∙◌, ◌+◌, ap, arith, set}
+use Rattle.std.proofs.Common.{◌∙◌, ◌+◌, ap, arith, set}
 use Rattle.trace_check.proofs.PartStepLaws.{put-more}
 use Rattle.trace_check.proofs.parts.write_over.Goals as goal
 

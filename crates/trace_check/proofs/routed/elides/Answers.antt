@@ -1,5 +1,4 @@
-use Rattle.std.proofs.Common.{List, refl, subst, sym}
-use Rattle.circuit_list.specs.declared.Gate.{Gate}
+use Rattle.std.proofs.Common.{refl, subst, sym}
 use Rattle.trace_check.specs.Proves.{Routed}
 use Rattle.trace_check.specs.Progress.{IsAppended, placed}
 use Rattle.trace_check.proofs.RoutedLaws.{elides-goes, elides-halts, numbers-small, stuck-elides}
