@@ -24,7 +24,7 @@ use Rattle.trace_text.specs.Texts.{begins, begun, ended, lines_of, trace_of, tra
 use Rattle.qroute_top.specs.Stops.{IsReadAs, IsClaimStop, IsTextStop, IsTraceStop, IsUnreadText, unloaded_text}
 use Rattle.circuit_target.specs.Standing.{claim_of}
 use Rattle.qroute_top.specs.Causes.{IsClaimCause, claim_status}
-use Rattle.qroute_top.specs.Claims.{Absent, AreTold, Bad, Ending, Found, Good, IsBehind, IsCompared, IsEnding, IsJudged, IsTextRefused, IsVerified, Missing, Proved, Refused, Says, Stopped, ending_status, limit_of}
+use Rattle.qroute_top.specs.Claims.{Absent, AreContents, Bad, Ending, Found, Good, IsBehind, IsCompared, IsEnding, IsJudged, IsTextRefused, IsVerified, Missing, Proved, Refused, Finds, Stopped, ending_status, limit_of}
 use Rattle.qroute_top.specs.declared.stops.ClaimStop.{ClaimStop}
 use Rattle.qroute_top.specs.declared.stops.ClaimStop.TheVariants as claim
 use Rattle.qroute_top.specs.declared.stops.Stop.{Stop}
@@ -87,7 +87,7 @@ IsClaimStop-source content a b before after (stop.Claim claim.Absent) t calm = (
 IsClaimStop-source content a b before after (stop.Claim (claim.Refused s r)) t calm = ((Bad r, t.1, ap (λ y. Refused y r) t.0), calm (λ e. cc))
 IsClaimStop-source content a b before after (stop.Claim (claim.Trace line)) t calm = absurd t
 
-pub IsClaimStop-target : (content : Content) (a b text : List ℕ) (p : Program) (before after : ℕ) (x : Stop) → Says (content a) side.Source (Good text p)
+pub IsClaimStop-target : (content : Content) (a b text : List ℕ) (p : Program) (before after : ℕ) (x : Stop) → Finds (content a) side.Source (Good text p)
     → IsTextStop side.Target (content b) before after x → Calm x before after → IsClaimStop content a b before after x
 IsClaimStop-target content a b text p before after stop.NoMemory told t calm = tt
 IsClaimStop-target content a b text p before after stop.Words told t calm = absurd t
@@ -103,8 +103,8 @@ IsClaimStop-target content a b text p before after (stop.Claim (claim.Refused s 
     ((Good text p, told, (Bad r, t.1, ap (λ y. Refused y r) t.0)), calm (λ e. cc))
 IsClaimStop-target content a b text p before after (stop.Claim (claim.Trace line)) told t calm = absurd t
 
-pub IsClaimStop-trace : (content : Content) (a b text other : List ℕ) (p q : Program) (before after : ℕ) (x : Stop) → Says (content a) side.Source (Good text p)
-    → Says (content b) side.Target (Good other q) → IsTraceStop (claim_of p q) (trace_of other) x → after ≡ before → IsClaimStop content a b before after x
+pub IsClaimStop-trace : (content : Content) (a b text other : List ℕ) (p q : Program) (before after : ℕ) (x : Stop) → Finds (content a) side.Source (Good text p)
+    → Finds (content b) side.Target (Good other q) → IsTraceStop (claim_of p q) (trace_of other) x → after ≡ before → IsClaimStop content a b before after x
 IsClaimStop-trace content a b text other p q before after stop.NoMemory told too t calm = tt
 IsClaimStop-trace content a b text other p q before after stop.Words told too t calm = absurd t
 IsClaimStop-trace content a b text other p q before after stop.Input told too t calm = absurd t
@@ -185,7 +185,7 @@ refused_or_good law s text r p (inr x) short ok = law.accepted text p r ok x.1
 same_text : (u : Option (List ℕ)) (t v : List ℕ) → u ≡ Some t → u ≡ Some v → t ≡ v
 same_text u t v e f = cc
 
-same_found : Readable → (u : Option (List ℕ)) (s : Side) (x y : Found) → Says (Some u) s x → Says (Some u) s y → x ≡ y
+same_found : Readable → (u : Option (List ℕ)) (s : Side) (x y : Found) → Finds (Some u) s x → Finds (Some u) s y → x ≡ y
 same_found law u s Missing Missing a b = refl
 same_found law u s Missing (Bad r) a (t, told, is) = cc
 same_found law u s Missing (Good t p) a (told, short, ok) = cc
@@ -226,11 +226,11 @@ same_compared law p Missing x y a b = a ∙ sym b
 same_compared law p (Bad r) x y a b = a ∙ sym b
 same_compared law p (Good text q) x y a b = same_judged law (claim_of p q) (trace_of text) x y a b
 
-told_as : Readable → (content : Option (Option (List ℕ))) (u : Option (List ℕ)) (s : Side) (x y : Found) → content ≡ Some u → Says content s x
-    → Says content s y → x ≡ y
-told_as law content u s x y told a b = same_found law u s x y (subst (λ c. Says c s x) told a) (subst (λ c. Says c s y) told b)
+told_as : Readable → (content : Option (Option (List ℕ))) (u : Option (List ℕ)) (s : Side) (x y : Found) → content ≡ Some u → Finds content s x
+    → Finds content s y → x ≡ y
+told_as law content u s x y told a b = same_found law u s x y (subst (λ c. Finds c s x) told a) (subst (λ c. Finds c s y) told b)
 
-same_behind : Readable → Traceable → (content : Content) (a b : List ℕ) (f : Found) (x y : Ending) → AreTold content a b → Says (content a) side.Source f
+same_behind : Readable → Traceable → (content : Content) (a b : List ℕ) (f : Found) (x y : Ending) → AreContents content a b → Finds (content a) side.Source f
     → IsBehind (content b) f x → IsBehind (content b) f y → x ≡ y
 same_behind law traces content a b Missing x y told says c d = c ∙ sym d
 same_behind law traces content a b (Bad r) x y told says c d = c ∙ sym d
@@ -239,7 +239,7 @@ same_behind law traces content a b (Good text p) x y told says (f, found, c) (g,
     let same : f ≡ g = told_as law (content b) other.0 side.Target f g other.1 found too in
     same_compared traces p g x y (subst (λ w. IsCompared p w x) same c) d
 
-pub same_ending : Readable → Traceable → (content : Content) (a b : List ℕ) (x y : Ending) → AreTold content a b → IsEnding content a b x
+pub same_ending : Readable → Traceable → (content : Content) (a b : List ℕ) (x y : Ending) → AreContents content a b → IsEnding content a b x
     → IsEnding content a b y → x ≡ y
 same_ending law traces content a b x y told (f, found, c) (g, too, d) =
     let same : f ≡ g = told_as law (content a) told.first side.Source f g told.first_told found too in
@@ -269,7 +269,7 @@ abbrev pub Unrefused : Side → List ℕ → Type 0
 Unrefused s text = (r : ProgramRefusal) → IsTextRefused s text r → ⊥
 
 -- of a text that is there and isn't refused nothing else is found
-good_alone : (s : Side) (o : Option (Option (List ℕ))) (t : List ℕ) (f : Found) → o ≡ Some (Some t) → Unrefused s t → Says o s f
+good_alone : (s : Side) (o : Option (Option (List ℕ))) (t : List ℕ) (f : Found) → o ≡ Some (Some t) → Unrefused s t → Finds o s f
     → (f ≡ Missing → ⊥) × ((r : ProgramRefusal) → f ≡ Bad r → ⊥)
 good_alone s o t Missing told fine h = absurd (no_text_here o t told h)
 good_alone s o t (Bad r) told fine (text, tells, is) =
@@ -283,13 +283,13 @@ judged_status e trace (Stopped line) h = inr refl
 judged_status e trace (Proved p q j) h = inl refl
 
 compared_status : (o : Option (Option (List ℕ))) (t : List ℕ) (p : Program) (f : Found) (x : Ending) → o ≡ Some (Some t) → Unrefused side.Target t
-    → Says o side.Target f → IsCompared p f x → (ending_status x ≡ 0) ⊎ (ending_status x ≡ 1)
+    → Finds o side.Target f → IsCompared p f x → (ending_status x ≡ 0) ⊎ (ending_status x ≡ 1)
 compared_status o t p Missing x told fine says c = absurd ((good_alone side.Target o t Missing told fine says).0 refl)
 compared_status o t p (Bad r) x told fine says c = absurd ((good_alone side.Target o t (Bad r) told fine says).1 r refl)
 compared_status o t p (Good text q) x told fine says c = judged_status (claim_of p q) (trace_of text) x c
 
 behind_status : (o u : Option (Option (List ℕ))) (s t : List ℕ) (f : Found) (x : Ending) → o ≡ Some (Some s) → Unrefused side.Source s
-    → u ≡ Some (Some t) → Unrefused side.Target t → Says o side.Source f → IsBehind u f x → (ending_status x ≡ 0) ⊎ (ending_status x ≡ 1)
+    → u ≡ Some (Some t) → Unrefused side.Target t → Finds o side.Source f → IsBehind u f x → (ending_status x ≡ 0) ⊎ (ending_status x ≡ 1)
 behind_status o u s t Missing x told fine here well says c = absurd ((good_alone side.Source o s Missing told fine says).0 refl)
 behind_status o u s t (Bad r) x told fine here well says c = absurd ((good_alone side.Source o s (Bad r) told fine says).1 r refl)
 behind_status o u s t (Good text p) x told fine here well says (f, found, c) = compared_status u t p f x here well found c

@@ -27,7 +27,7 @@ use Rattle.wire_starts.specs.declared.Starts.TheVariants.{Tries as Best}
 use Rattle.command_line.specs.declared.commands.Command.{Command}
 use Rattle.command_line.specs.declared.commands.Command.TheVariants.{Opt, OptWithSpares, Route, Check, Stages, Bench, Amplitude, Verify}
 use Rattle.route_report.specs.Lines.{check_line}
-use Rattle.qroute_top.specs.Claims.{AreTold, Compares, Ending, IsEnding, IsVerified, Proved, ending_status}
+use Rattle.qroute_top.specs.Claims.{AreContents, Compares, Ending, IsEnding, IsVerified, Proved, ending_status}
 use Rattle.qroute_top.specs.Causes.{Handed, claim_status, IsCause, IsDeviceCause, IsRefusedDevice, IsRefusedQuestion, IsRefusedSource, IsSourceCause, Reaches, Reads}
 use Rattle.qroute_top.specs.Delivered.{Content, Delivered, Delivers, IsAnswer, IsHad, IsOnDevice, IsStages, Rewrites, WritesWithSpares, counts_of, drawn_program, starts_of}
 use Rattle.circuit_target.specs.Standing.{IsInPlace, IsOnQubits}
@@ -923,7 +923,7 @@ same_texts a b c d o e f = let same = some_texts a b c d o e f in (ap (λ (p : L
 
 -- a stop of the run, where the command is `verify`
 pub stopped-verdict : Readable → Traceable → (h : Handed) (s : Stop) (n : ℕ) (c : Command) (a b : List ℕ) (x : Ending) → IsCause h s → Ends s n
-    → command_of h.words ≡ Some c → asked_texts c ≡ Some (a, b) → AreTold h.content a b → IsEnding h.content a b x
+    → command_of h.words ≡ Some c → asked_texts c ≡ Some (a, b) → AreContents h.content a b → IsEnding h.content a b x
     → (Rose h.shelf_before h.shelf_after → ⊥) → (n ≡ ending_status x) ⊎ (n ≡ 7)
 stopped-verdict law traces h stop.NoMemory n c a b x w e asked texts told is calm = inr (grind arith)
 stopped-verdict law traces h stop.Words n c a b x w e asked texts told is calm = cc
@@ -977,7 +977,7 @@ verify_writes (Verify c d) a b e = (refl, refl)
 pub planned-verdict : {A B : Type 0} {has line : Bool} {o : Sent A} {r : Sent B} → Readable → Traceable → (words : List (List ℕ)) (content : Content)
     (old new : Option (List ℕ)) (w : Answer) (n : ℕ) (c : Command) (a b : List ℕ) (x : Ending) → DeliversAnswer words content old new w
     → IsEmitted has line (HasAnswer w) o r n → command_of words ≡ Some c → asked_texts c ≡ Some (a, b) → line ≡ writes_report c
-    → AreTold content a b → IsEnding content a b x → (ending_status x ≡ 0 → Rose (o.faults o.old) (o.faults o.new) → ⊥)
+    → AreContents content a b → IsEnding content a b x → (ending_status x ≡ 0 → Rose (o.faults o.old) (o.faults o.new) → ⊥)
     → (n ≡ ending_status x) ⊎ (n ≡ 7)
 planned-verdict law traces words content old new w n c a b x delivers e asked texts tells told is calm = by_came (came w n e)
   where

@@ -2,14 +2,14 @@
 --   limit_of side        the most bytes of a text: the source's as long as an input, the target's 64 MiB
 --   IsTextRefused side text r    r is the first refusal of the text: its length, or else what is refused of a text of any length
 --   Found                of a text: Missing where there is none, Bad where it is refused, or Good where it is accepted as a program
---   Says content side x  this is found of the content of a name, the told one where one is told
+--   Finds content side x  this is found of the content of a name, the told one where one is told
 --   Ending               how `verify` ends: a text is Absent, or Refused, or the trace is Stopped at a line, or the claim is Proved
 --   IsJudged e trace x   by the trace the claim ends so
 --   IsCompared p y x     with the source's program p and what is found of the target it ends so
 --   IsBehind content f x  with what is found of the source, and the content of the target's name, it ends so
 --   IsEnding content a b x   it ends so on the texts of these two names: the source is judged first, and the target only where that
 --                        is accepted
---   AreTold content a b  what the first name has is told, and what the second has where the first one's text is accepted
+--   AreContents content a b  what the first name has is told, and what the second has where the first one's text is accepted
 --   IsVerified content a b text   the text is the line of the power up to which the target realises the source
 --   Compares words a b   the words mean `verify` with these two names
 --   ending_status x      the status that it ends with
@@ -42,10 +42,10 @@ pub data Found : Type 0 where
   Bad : (refusal : ProgramRefusal) → Found
   Good : (text : List ℕ) (program : Program) → Found
 
-abbrev pub Says : Option (Option (List ℕ)) → Side → Found → Type 0
-Says content s Missing = HasNoText content
-Says content s (Bad r) = (text : List ℕ) × TellsText content text × IsTextRefused s text r
-Says content s (Good text p) = TellsText content text × (length text ≤ limit_of s) × IsAcceptedText text p
+abbrev pub Finds : Option (Option (List ℕ)) → Side → Found → Type 0
+Finds content s Missing = HasNoText content
+Finds content s (Bad r) = (text : List ℕ) × TellsText content text × IsTextRefused s text r
+Finds content s (Good text p) = TellsText content text × (length text ≤ limit_of s) × IsAcceptedText text p
 
 pub data Ending : Type 0 where
   Absent : Ending
@@ -67,24 +67,24 @@ IsCompared p (Good text q) x = IsJudged (claim_of p q) (trace_of text) x
 abbrev pub IsBehind : Option (Option (List ℕ)) → Found → Ending → Type 0
 IsBehind content Missing x = x ≡ Absent
 IsBehind content (Bad r) x = x ≡ Refused side.Source r
-IsBehind content (Good text p) x = (y : Found) × Says content side.Target y × IsCompared p y x
+IsBehind content (Good text p) x = (y : Found) × Finds content side.Target y × IsCompared p y x
 
 abbrev pub IsEnding : (List ℕ → Option (Option (List ℕ))) → List ℕ → List ℕ → Ending → Type 0
-IsEnding content a b x = (y : Found) × Says (content a) side.Source y × IsBehind (content b) y x
+IsEnding content a b x = (y : Found) × Finds (content a) side.Source y × IsBehind (content b) y x
 
-pub record AreTold (content : List ℕ → Option (Option (List ℕ))) (a b : List ℕ) : Type 0 where
+pub record AreContents (content : List ℕ → Option (Option (List ℕ))) (a b : List ℕ) : Type 0 where
   pub first : Option (List ℕ)
   pub first_told : content a ≡ Some first
-  pub second : (text : List ℕ) (p : Program) → Says (content a) side.Source (Good text p) → (other : Option (List ℕ)) × (content b ≡ Some other)
+  pub second : (text : List ℕ) (p : Program) → Finds (content a) side.Source (Good text p) → (other : Option (List ℕ)) × (content b ≡ Some other)
 
 pub record IsVerified (content : List ℕ → Option (Option (List ℕ))) (a b : List ℕ) (text : List ℕ) : Type 0 where
   -- the two texts, and the programs that they are accepted as
   pub source_text : List ℕ
   pub source : Program
-  pub source_told : Says (content a) side.Source (Good source_text source)
+  pub source_told : Finds (content a) side.Source (Good source_text source)
   pub target_text : List ℕ
   pub target : Program
-  pub target_told : Says (content b) side.Target (Good target_text target)
+  pub target_told : Finds (content b) side.Target (Good target_text target)
   -- the trace in the comments of the target proves the claim, so it is so
   pub first : List ℕ
   pub last : List ℕ

@@ -37,7 +37,7 @@ use Rattle.route_report.specs.declared.faults.Side.{Side}
 use Rattle.trace_check.specs.Proves.{Claim, StopsAt}
 use Rattle.qroute_top.specs.declared.stops.ClaimStop.TheVariants as claim
 use Rattle.qroute_top.specs.Causes.{IsClaimCause}
-use Rattle.qroute_top.specs.Claims.{Bad, IsTextRefused, Says}
+use Rattle.qroute_top.specs.Claims.{Bad, IsTextRefused, Finds}
 use Rattle.qroute_top.specs.Devices.{IsDeviceRefusal}
 use Rattle.qroute_top.specs.Questions.{IsQuestionRefusal}
 
@@ -99,7 +99,7 @@ abbrev pub IsTextStop : Side → Option (Option (List ℕ)) → ℕ → ℕ → 
 IsTextStop s content before after stop.NoMemory = ⊤
 IsTextStop s content before after (stop.Claim claim.Failed) = Rose before after
 IsTextStop s content before after (stop.Claim claim.Absent) = HasNoText content
-IsTextStop s content before after (stop.Claim (claim.Refused t r)) = (t ≡ s) × Says content s (Bad r)
+IsTextStop s content before after (stop.Claim (claim.Refused t r)) = (t ≡ s) × Finds content s (Bad r)
 IsTextStop s content before after _ = ⊥
 
 abbrev pub IsTraceStop : Claim → List ℕ → Stop → Type 0

@@ -36,7 +36,7 @@ ghost use Rattle.qroute_top.specs.declared.stops.QuestionRefusal.{QuestionRefusa
 ghost use Rattle.qroute_top.specs.Devices.{HasDevice, IsDeviceRefusal, HasSource};
 ghost use Rattle.qroute_top.specs.Questions.{IsQuestionRefusal};
 ghost use Rattle.qroute_top.specs.Causes.{EndsWithFault, is_early_fault, output_fault_line};
-ghost use Rattle.qroute_top.specs.Claims.{AreTold, Ending, IsEnding, IsTextRefused, ending_status};
+ghost use Rattle.qroute_top.specs.Claims.{AreContents, Ending, IsEnding, IsTextRefused, ending_status};
 ghost use Rattle.qroute_top.specs.Delivered.{Delivered};
 
 pub use bench_program::made;
@@ -143,7 +143,7 @@ pub fn run<I: Source, F: Shelf, O: Sink, R: Sink>(
     // or wants memory: 9 where one is absent, 3 where one is refused, 1 where the trace stops at a line, and 0 where it proves that
     // the second realises the first, unless a count of faults rose.
     ensures verdict { (c : Asked) (a b : List ℕ) (x : Ending) → command_of (map (λ w. w.now) words.now) ≡ Some c
-        → asked_texts c ≡ Some (a, b) → AreTold (F.content shelf.old) a b → IsEnding (F.content shelf.old) a b x
+        → asked_texts c ≡ Some (a, b) → AreContents (F.content shelf.old) a b → IsEnding (F.content shelf.old) a b x
         → (Rose (F.faults shelf.old) (F.faults shelf.new) → ⊥) → (ending_status x ≡ 0 → Rose (O.faults out.old) (O.faults out.new) → ⊥)
         → (result ≡ ending_status x) ⊎ (result ≡ 7) }
 
