@@ -14,11 +14,6 @@ import random
 
 import qasm
 
-try:
-    import numpy
-except ImportError:
-    numpy = None
-
 R = math.sqrt(0.5)
 W = cmath.exp(1j * math.pi / 4)
 
@@ -320,78 +315,3 @@ def gates(gate, angles, wires, own):
 
 def drawn(seed):
     return random.Random(seed)
-
-
-class TooMany(Exception):
-    """A state has more terms than there is room for."""
-
-
-class Terms:
-    """A state as arrays of numpy, for many terms: the bit of each term on each wire, and its amplitude."""
-
-    MOST = 1 << 20
-
-    def __init__(self, state, size):
-        self.bits = numpy.array([[x >> wire & 1 for x in state] for wire in range(size)], dtype=bool)
-        self.amplitudes = numpy.array(list(state.values()), dtype=complex)
-
-    def apply(self, matrix, wires):
-        columns = numpy.array(matrix, dtype=complex)
-        index = sum(self.bits[wire].astype(numpy.int64) << i for i, wire in enumerate(wires))
-        rows = [numpy.flatnonzero(abs(it) > 1e-15) for it in columns]
-        most = max(map(len, rows))
-        parts = []
-        for turn in range(most):
-            # the turn-th entry of each column, where there is one
-            image = numpy.array([it[turn] if turn < len(it) else -1 for it in rows])
-            kept = numpy.flatnonzero(image[index] >= 0)
-            bits = self.bits if most == 1 else self.bits[:, kept]
-            new = image[index[kept]]
-            for i, wire in enumerate(wires):
-                bits[wire] = new >> i & 1
-            parts.append((bits, self.amplitudes[kept] * columns[index[kept], new]))
-        if most == 1:
-            self.amplitudes = parts[0][1]
-        else:
-            self.join(parts)
-
-    def join(self, parts):
-        """One term for each basis state: those that meet add up, and those that are 0 go."""
-        bits = numpy.concatenate([it for it, _ in parts], axis=1)
-        _, first, at = numpy.unique(self.keys(bits), return_index=True, return_inverse=True)
-        added = numpy.zeros(len(first), dtype=complex)
-        numpy.add.at(added, at, numpy.concatenate([it for _, it in parts]))
-        kept = abs(added) > 1e-12
-        self.bits, self.amplitudes = bits[:, first[kept]], added[kept]
-        if len(self.amplitudes) > self.MOST:
-            raise TooMany
-
-    @staticmethod
-    def keys(bits):
-        """A number for each term; two terms with the same are one, but for a chance of 2^-64."""
-        marks = numpy.random.default_rng(1).integers(1, 1 << 63, len(bits), dtype=numpy.uint64)
-        found = numpy.zeros(bits.shape[1], dtype=numpy.uint64)
-        for row, mark in zip(bits, marks):
-            found ^= row * mark
-        return found
-
-    def run(self, statements):
-        """The state after gates, and which wire each classical bit reads at the end."""
-        reads = {}
-        for it in statements:
-            if it[0] == "measure":
-                reads[it[2]] = it[1]
-            else:
-                self.apply(*it[1:])
-        return reads
-
-    def apart(self, other, wires):
-        """How far another state is from this one up to a global phase, its wires being those; 2 if it isn't at zero elsewhere."""
-        rest = numpy.ones(len(other.bits), dtype=bool)
-        rest[wires] = False
-        one, two = numpy.argsort(self.keys(self.bits)), numpy.argsort(self.keys(other.bits[wires]))
-        if other.bits[rest].any() or len(one) != len(two) or (self.bits[:, one] != other.bits[wires][:, two]).any():
-            return 2.0
-        mine, others = self.amplitudes[one], other.amplitudes[two]
-        turn = numpy.vdot(mine, others)
-        return float(abs(others - mine * turn / abs(turn)).max()) if abs(turn) > 1e-9 else 2.0

@@ -6,15 +6,21 @@ import os
 import random
 import re
 import sys
-import unittest.mock
 
 from tool import TOP, ToolTest
 
 sys.path.insert(0, os.path.join(TOP, "python"))
 import drawn_programs
+import planted
 import qasm
 import qroute
 import simulation
+
+try:
+    import chain
+    import stabilisers
+except ModuleNotFoundError:
+    chain = stabilisers = None  # numpy isn't installed
 
 BUILT = os.path.join(TOP, "out/qroute")
 DEVICES = ["ring_8", "ibm_qx5", "ibm_tokyo", "grid_8x8_directed", "ibm_eagle_127"]
@@ -107,14 +113,17 @@ class Examples(AnyGates):
             self.assertEqual((found.any_gates.put_back, found.any_gates.exact, found.any_gates.declared), ({}, (), ()), path)
             self.assertEqual((found.text, found.report), (plain.text, plain.report), path)
 
+    def programs(self, large):
+        """The name, text and program of each example that is small enough to be simulated from all terms, or of each other one."""
+        for path in sorted(glob.glob(f"{TOP}/examples/**/*.qasm", recursive=True)):
+            text = qasm.text_in(path)
+            program = qasm.read(text)
+            if large == (len(program.wires) > 8 or len(program.steps) > 150):
+                yield os.path.basename(path).removesuffix(".qasm"), text, program
+
     def test_small_ones_are_simulated(self):
         count = 0
-        for path in sorted(glob.glob(f"{TOP}/examples/*.qasm") + glob.glob(f"{TOP}/examples/literature/*.qasm")):
-            with open(path, encoding="utf-8") as file:
-                text = file.read()
-            program = qasm.read(text)
-            if len(program.wires) > 8 or len(program.steps) > 150:
-                continue
+        for path, text, program in self.programs(large=False):
             source = list(simulation.statements(program))
             for name in DEVICES:
                 if len(program.wires) <= qroute.Device.named(name).qubits():
@@ -123,45 +132,75 @@ class Examples(AnyGates):
                     count += 1
         self.assertGreater(count, 50)
 
-    def test_two_of_the_router_s_paper_are_simulated(self):
-        """The others of the folder are larger, and are simulated with the large ones."""
-        for name, on in (("qft_10", "ibm_tokyo"), ("ising_10", "ibm_qx5")):
-            text = qasm.text_in(f"{TOP}/examples/sabre/{name}.qasm")
-            found = qroute.route(text, qroute.Device.named(on), any_gates=True)
-            self.assertLess(self.apart(list(simulation.statements(qasm.read(text))), 10, found), 1e-7, f"{name} on {on}")
+    def far(self, name, program, target, initial, final):
+        """How far statements are from a large program: 0 or 1 for every input if it is of Clifford gates, else from a drawn one.
 
-    def test_large_ones_are_simulated(self):
-        """The others, on each of the devices that holds them: all but two, whose states have more terms than there is room for."""
-        if simulation.numpy is None or not ALL:
+        The multiplications, which entangle most, may be compared from inputs of few terms."""
+        source, size, bits = list(simulation.statements(program)), len(program.wires), sum(it for _, it in program.registers)
+        if stabilisers.are_clifford(source, size, bits):
+            return 0 if stabilisers.same(source, target, size, initial, final, bits) else 1
+        return chain.apart(source, target, size, initial, final, size, may_be_few=name.startswith("gf2_"))
+
+    def compare_large(self, name, text, program, on):
+        """Compares an example with what becomes of it on a device."""
+        found = qroute.route(text, qroute.Device.named(on), any_gates=True)
+        made = qasm.read(found.text, qasm.MOST_ITEMS)
+        self.assertEqual(made.registers, program.registers)
+        self.assertLess(self.far(name, program, list(simulation.statements(made)), found.initial, found.final), 1e-7, f"{name} on {on}")
+
+    def test_some_large_ones_are_compared(self):
+        """The others take longer, and are compared with QROUTE_TEST_ALL."""
+        if chain is None:
+            self.skipTest("numpy isn't installed")
+        wanted = {"qft_10": "ibm_tokyo", "ising_10": "ibm_qx5", "qft_cut_64": "ibm_eagle_127", "surface_code_5": "grid_8x8_directed"}
+        for name, text, program in self.programs(large=True):
+            if name in wanted:
+                self.compare_large(name, text, program, wanted.pop(name))
+        self.assertEqual(wanted, {})
+
+    def test_what_is_wrong_is_seen_in_large_ones(self):
+        """On devices of as many qubits as wires, so that each gate counts. The second one takes longer, so it is for QROUTE_TEST_ALL."""
+        if chain is None:
+            self.skipTest("numpy isn't installed")
+        square = [(i, i + by) for i in range(49) for by in (1, 7) if i + by < 49 and (by == 7 or i % 7 < 6)]
+        for name, device, nudge, many, count in (
+            ("surface_code_5", qroute.Device.of(square, both=True), simulation.SX, 3, 24),
+            ("qft_cut_64", qroute.Device.named("grid_8x8_directed"), simulation.phase(1e-5), 1, 5),
+        )[: 2 if ALL else 1]:
+            text = qasm.text_in(f"{TOP}/examples/literature/{name}.qasm")
+            program = qasm.read(text)
+            found = qroute.route(text, device, any_gates=True)
+            target = list(simulation.statements(qasm.read(found.text)))
+            self.assertLess(self.far(name, program, target, found.initial, found.final), 1e-7)
+            for kind, wrong, final in planted.faults(target, list(found.final), simulation.drawn(1), nudge, many):
+                self.assertGreater(self.far(name, program, wrong, found.initial, final), 1e-7, (name, kind))
+                count -= 1
+            self.assertEqual(count, 0, name)
+
+    def compare_all_large(self, on, count):
+        """Compares each large example that a device holds; there have to be so many."""
+        if chain is None or not ALL:
             self.skipTest("numpy isn't installed" if ALL else "it takes minutes, so it runs with QROUTE_TEST_ALL alone")
-        left = set()
-        for path in sorted(glob.glob(f"{TOP}/examples/literature/*.qasm")) + sorted(glob.glob(f"{TOP}/examples/sabre/*.qasm")):
-            program = qasm.read(qasm.text_in(path))
-            size, name = len(program.wires), os.path.basename(path).removesuffix(".qasm")
-            if size <= 8 and len(program.steps) <= 150:
-                continue
-            # its state has 2^20 terms, and more while CNOTs with a free qubit are turned round
-            room = 1 << 24 if name == "qft_20" else simulation.Terms.MOST
-            devices = [it for it in map(qroute.Device.named, DEVICES) if size <= it.qubits()]
-            try:
-                with unittest.mock.patch.object(simulation.Terms, "MOST", room):
-                    for device in devices:
-                        self.compare_large(program, qasm.text_in(path), device, name)
-            except simulation.TooMany:
-                left.add(name)
-        self.assertEqual(left, {"qft_cut_64", "surface_code_5"})
+        for name, text, program in self.programs(large=True):
+            if len(program.wires) <= qroute.Device.named(on).qubits():
+                self.compare_large(name, text, program, on)
+                count -= 1
+        self.assertEqual(count, 0)
 
-    def compare_large(self, program, text, device, name):
-        """Simulates a program, and what becomes of it on a device, from a state of two terms."""
-        size = len(program.wires)
-        found = qroute.route(text, device, any_gates=True)
-        dice = simulation.drawn(size)
-        state = {dice.getrandbits(size): 0.6, dice.getrandbits(size): 0.8j}
-        source, target = simulation.Terms(state, size), simulation.Terms(simulation.placed(state, found.initial, size), device.qubits())
-        reads = source.run(simulation.statements(program))
-        ends = target.run(simulation.statements(qasm.read(found.text, qasm.MOST_ITEMS)))
-        self.assertLess(source.apart(target, list(found.final[:size])), 1e-7, f"{name} on {device.name}")
-        self.assertEqual(ends, {bit: found.final[wire] for bit, wire in reads.items()}, f"{name} on {device.name}")
+    def test_large_ones_on_ring_8(self):
+        self.compare_all_large("ring_8", 1)
+
+    def test_large_ones_on_ibm_qx5(self):
+        self.compare_all_large("ibm_qx5", 22)
+
+    def test_large_ones_on_ibm_tokyo(self):
+        self.compare_all_large("ibm_tokyo", 33)
+
+    def test_large_ones_on_grid_8x8_directed(self):
+        self.compare_all_large("grid_8x8_directed", 47)
+
+    def test_large_ones_on_ibm_eagle_127(self):
+        self.compare_all_large("ibm_eagle_127", 47)
 
 
 class Styles(AnyGates):
