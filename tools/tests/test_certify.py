@@ -206,7 +206,7 @@ class Certify(Judging):
 
 
 class Functions(Judging):
-    """Phases that are one function, of which nothing but the checker in Python is asked."""
+    """Phases that are one function."""
 
     def test_examples(self):
         for name, (wires, body, qubits, made, words, lines) in FUNCTIONS.items():
@@ -215,7 +215,7 @@ class Functions(Judging):
                 files = self.file("s.qasm", source), self.file("t.qasm", target)
                 status, out, err = self.run_tool("certify", *files, *words)
                 self.assertEqual((status, err, out[: len(target)]), (0, "", target))
-                self.assertIsNotNone(self.checked(source, out)[0].power)
+                self.assertIsNotNone(self.judged(source, out).power)
                 self.assertIn("phases", [it.split(" ")[0] for it in lines_of(out)])
                 if lines is not None:
                     self.assertEqual("|".join(lines_of(out)), lines)
@@ -232,7 +232,7 @@ class Functions(Judging):
                     made, begins = random_router.routed(list(mirrored(source, lambda: dice.random() < chance)), size, edges, dice)
                     begins = begins[: len(qasm.read(source).wires)]
                     found = qroute.certify(source, program_of(size, made), begins)
-                    self.assertIsNotNone(self.checked(source, found)[0].power)
+                    self.assertIsNotNone(self.judged(source, found).power)
                     self.assertTrue(any(it.startswith("phases ") for it in lines_of(found)))
                     made.insert(dice.choice([i for i, (kind, _) in enumerate(made) if kind == "h"]), ("t", (begins[0],)))
                     with self.assertRaises(qroute.Uncertified):
