@@ -58,9 +58,9 @@ class AnyGates(ToolTest):
 class Drawn(AnyGates):
     """Drawn programs against their simulation, which reads no text of the source."""
 
-    def test_routed(self):
+    def compare(self, seeds):
         edges = {it: self.edges(it) for it in DEVICES}
-        for seed in range(500):
+        for seed in seeds:
             drawn = drawn_programs.Drawn(seed)
             for i, name in enumerate(DEVICES):
                 if not ALL and i != seed % len(DEVICES):
@@ -73,6 +73,21 @@ class Drawn(AnyGates):
                     self.assertEqual(list(found.initial[: drawn.size]), begins)
                 self.on_edges(found.text, edges[name])
                 self.assertLess(self.apart(drawn.statements, drawn.size, found, seed), 1e-7, f"seed {seed} on {name}:\n{drawn.text}")
+
+    def test_routed_from_0(self):
+        self.compare(range(0, 100))
+
+    def test_routed_from_100(self):
+        self.compare(range(100, 200))
+
+    def test_routed_from_200(self):
+        self.compare(range(200, 300))
+
+    def test_routed_from_300(self):
+        self.compare(range(300, 400))
+
+    def test_routed_from_400(self):
+        self.compare(range(400, 500))
 
     def test_on_their_own_wires(self):
         for seed in range(500, 560):
