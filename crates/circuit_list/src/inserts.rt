@@ -83,10 +83,19 @@ impl Tree {
         let mut width = LEAST_WIDTH;
         let mut height = LEAST_HEIGHT;
         'wider: while width < slots {
-            let low = before - before % width;
-            let high = slots.min(low + width);
-            if self.has_room(low, high, more, height) {
-                return Some(Window { low, high });
+            // the last window has the slots that are left over too, so that none is narrow
+            let last = (slots - slots % width).saturating_sub(width);
+            let start = before - before % width;
+            if start < last {
+                let high = slots.min(start + width);
+                if self.has_room(start, high, more, height) {
+                    return Some(Window { low: start, high });
+                }
+            } else if self.has_room(last, slots, more, height) {
+                return Some(Window {
+                    low: last,
+                    high: slots,
+                });
             }
             width *= 2;
             height = height.saturating_add(1);
