@@ -8,6 +8,7 @@ ghost use Rattle.gate_inline.specs.Meanings.{Meaning, body_answer, gate_meaning,
 ghost use Rattle.gate_inline.specs.Quiet.{AreKeptWithin, AreQuiet, AreWithin, IsBounded, IsKeptWithin, IsNothingBy, IsWhole, IsWithin};
 
 use angle_fraction::{Angle, Frac};
+use gate_library::{Parts, Term, parts_of};
 use qasm_check::{BoundGate, Formula, Item};
 use qasm_parser::Binary;
 use std::alloc::{AllocError, Global};
@@ -49,23 +50,22 @@ fn number_bound(number: &Frac) -> Option<PartBound>
 /// How large the parts of an expression's value are at most, where those of the parameters are whole: then its own are whole,
 /// and it has a value if they may be so large. None where this isn't known.
 #[tactic(auto, using(crate::proofs::QuietLaws::bounded_pi, crate::proofs::QuietLaws::bounded_param, crate::proofs::QuietLaws::bounded_negated, crate::proofs::QuietLaws::bounded_sum, crate::proofs::QuietLaws::bounded_difference))]
-fn bound_of(formula: &Formula) -> Option<PartBound>
-    ensures bounded { IfSome result (IsBounded (formula_view formula.now)) }
+fn bound_of(terms: &[Term]) -> Option<PartBound>
 {
-    match formula {
-        Formula::Number(number) => number_bound(number),
-        Formula::Pi => Some(PartBound { fixed: 1, times: 0 }),
-        Formula::Param(_) => Some(PartBound { fixed: 0, times: 1 }),
-        Formula::Neg(part) => bound_of(part),
-        Formula::Binary { sign, sides } => match sign {
+    match parts_of(terms) {
+        Parts::Number(number) => number_bound(&number),
+        Parts::Pi => Some(PartBound { fixed: 1, times: 0 }),
+        Parts::Param(_) => Some(PartBound { fixed: 0, times: 1 }),
+        Parts::Neg(part) => bound_of(part),
+        Parts::Binary { sign, left, right } => match sign {
             Binary::Add | Binary::Sub => {
-                let left = bound_of(&sides.left)?;
-                let right = bound_of(&sides.right)?;
+                let left = bound_of(left)?;
+                let right = bound_of(right)?;
                 sum_bound(left, right)
             }
             Binary::Mul | Binary::Div | Binary::Pow => None,
         },
-        Formula::Call {
+        Parts::Call {
             function: _,
             arg: _,
         } => None,
@@ -77,7 +77,7 @@ fn bound_of(formula: &Formula) -> Option<PartBound>
 fn angle_limit(limit: u64, angle: &Formula) -> Option<u64>
     ensures kept { IfSome result (λ l. IsKeptWithin limit l (formula_view angle.now)) }
 {
-    let bound = bound_of(angle)?;
+    let bound = bound_of(&angle.terms)?;
     if bound.fixed > limit {
         return None;
     }

@@ -13,7 +13,7 @@ mod operand;
 mod repeats;
 mod table;
 
-pub use formula::{Formula, FormulaSides};
+pub use formula::{Formula, Parts, Term, parts_of};
 pub use gate::{BoundGate, Item};
 pub use library::{gates, is_in_table, is_standard, own_number, standard_names};
 pub use operand::{Operand, broadcast, measure_differs, repeats_wire, sizes_differ};

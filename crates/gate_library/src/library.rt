@@ -10,7 +10,7 @@ ghost use Rattle.gate_library.specs.Names.{is_one_of};
 ghost use Rattle.gate_library.specs.Rows.{lines_of, row, row_formula, row_gate, row_gates, row_item};
 ghost use Rattle.gate_library.specs.Views.{gate as gate_view, formula as formula_view, item as item_view};
 
-use crate::formula::{Formula, FormulaSides};
+use crate::formula::{Formula, Term};
 use crate::gate::{BoundGate, Item};
 use crate::table::{LINES, Line, NAMES, PRIMITIVES, SHAPES, STANDARD, TableAngle};
 use angle_fraction::{Binary, Frac, lowest};
@@ -125,24 +125,33 @@ fn four() -> Frac
 }
 
 /// A part divided by a number.
-fn divided(alloc: Global, part: Formula, by: Frac) -> Result<Formula, AllocError>
+fn divided(part: Formula, by: Frac) -> Result<Formula, AllocError>
     ensures { IfOk result (λ f. formula_view f ≡ binary Div (formula_view part) (number by)) }
 {
-    let sides = FormulaSides {
-        left: part,
-        right: Formula::Number(by),
-    };
-    Ok(Formula::Binary {
+    let Formula { mut terms } = part;
+    terms.push(Term::Number(by))?;
+    terms.push(Term::Binary {
         sign: Binary::Div,
-        sides: Box::new(alloc, sides)?,
-    })
+        right: 1,
+    })?;
+    Ok(Formula { terms })
 }
 
 /// Unary minus.
-fn negated(alloc: Global, part: Formula) -> Result<Formula, AllocError>
+fn negated(part: Formula) -> Result<Formula, AllocError>
     ensures { IfOk result (λ f. formula_view f ≡ minus (formula_view part)) }
 {
-    Ok(Formula::Neg(Box::new(alloc, part)?))
+    let Formula { mut terms } = part;
+    terms.push(Term::Neg)?;
+    Ok(Formula { terms })
+}
+
+/// An expression of one term.
+fn just(alloc: Global, term: Term) -> Result<Formula, AllocError>
+{
+    let mut terms = Vec::with_capacity(alloc, 4)?;
+    terms.push(term)?;
+    Ok(Formula { terms })
 }
 
 /// The formula of a table's angle.
@@ -150,24 +159,15 @@ fn angle(alloc: Global, angle: TableAngle) -> Result<Formula, AllocError>
     ensures { IfOk result (λ f. formula_view f ≡ row_formula angle) }
 {
     match angle {
-        TableAngle::Zero => Ok(Formula::Number(Frac::nought())),
-        TableAngle::Pi => Ok(Formula::Pi),
-        TableAngle::HalfPi => divided(alloc, Formula::Pi, two()),
-        TableAngle::MinusHalfPi => {
-            let part = negated(alloc, Formula::Pi)?;
-            divided(alloc, part, two())
-        }
-        TableAngle::QuarterPi => divided(alloc, Formula::Pi, four()),
-        TableAngle::MinusQuarterPi => {
-            let part = negated(alloc, Formula::Pi)?;
-            divided(alloc, part, four())
-        }
-        TableAngle::Param(index) => Ok(Formula::Param(index)),
-        TableAngle::Half(index) => divided(alloc, Formula::Param(index), two()),
-        TableAngle::MinusHalf(index) => {
-            let part = negated(alloc, Formula::Param(index))?;
-            divided(alloc, part, two())
-        }
+        TableAngle::Zero => just(alloc, Term::Number(Frac::nought())),
+        TableAngle::Pi => just(alloc, Term::Pi),
+        TableAngle::HalfPi => divided(just(alloc, Term::Pi)?, two()),
+        TableAngle::MinusHalfPi => divided(negated(just(alloc, Term::Pi)?)?, two()),
+        TableAngle::QuarterPi => divided(just(alloc, Term::Pi)?, four()),
+        TableAngle::MinusQuarterPi => divided(negated(just(alloc, Term::Pi)?)?, four()),
+        TableAngle::Param(index) => just(alloc, Term::Param(index)),
+        TableAngle::Half(index) => divided(just(alloc, Term::Param(index))?, two()),
+        TableAngle::MinusHalf(index) => divided(negated(just(alloc, Term::Param(index))?)?, two()),
     }
 }
 

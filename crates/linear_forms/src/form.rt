@@ -10,7 +10,7 @@ ghost use Rattle.linear_forms.specs.Values.{value as value_of};
 
 use crate::value::param;
 use angle_fraction::{Angle, Binary, Frac, lowest, lowest_terms};
-use gate_library::Formula;
+use gate_library::{Formula, Parts, Term, parts_of};
 use std::alloc::{AllocError, Global};
 
 /// The greatest size of a part of an angle, 2^62.
@@ -91,8 +91,8 @@ fn joined_shape(left: Shape, right: Shape, divisor: u64) -> Shape {
 /// The divisor of a product or a quotient.
 fn shape_of_sides(
     sign: Binary,
-    left: &Formula,
-    right: &Formula,
+    left: &[Term],
+    right: &[Term],
     a: Shape,
     b: Shape,
 ) -> Option<u64> {
@@ -114,33 +114,33 @@ fn shape_of_sides(
 }
 
 /// The shape of an expression, if it is linear in the parameters.
-fn shape_of(formula: &Formula) -> Option<Shape> {
-    match formula {
-        Formula::Number(number) => Some(Shape {
+fn shape_of(terms: &[Term]) -> Option<Shape> {
+    match parts_of(terms) {
+        Parts::Number(number) => Some(Shape {
             divisor: number.den().unsigned_abs() as u64,
             places: 0,
             parts: 1,
         }),
-        Formula::Pi => Some(Shape {
+        Parts::Pi => Some(Shape {
             divisor: 1,
             places: 0,
             parts: 1,
         }),
-        Formula::Param(place) => Some(Shape {
+        Parts::Param(place) => Some(Shape {
             divisor: 1,
             places: place.saturating_add(1),
             parts: 1,
         }),
-        Formula::Neg(part) => shape_of(part),
-        Formula::Call {
+        Parts::Neg(part) => shape_of(part),
+        Parts::Call {
             function: _,
             arg: _,
         } => None,
-        Formula::Binary { sign, sides } => {
-            let left = shape_of(&sides.left)?;
-            let right = shape_of(&sides.right)?;
-            let divisor = shape_of_sides(*sign, &sides.left, &sides.right, left, right)?;
-            Some(joined_shape(left, right, divisor))
+        Parts::Binary { sign, left, right } => {
+            let a = shape_of(left)?;
+            let b = shape_of(right)?;
+            let divisor = shape_of_sides(sign, left, right, a, b)?;
+            Some(joined_shape(a, b, divisor))
         }
     }
 }
@@ -157,11 +157,10 @@ fn known(number: &Frac) -> Option<Frac>
 }
 
 /// The plain number that an expression is.
-fn constant(formula: &Formula) -> Option<Frac>
-    ensures { IfSome result (IsConstant (formula_view formula.now)) }
+fn constant(terms: &[Term]) -> Option<Frac>
 {
-    match formula {
-        Formula::Number(number) => known(number),
+    match parts_of(terms) {
+        Parts::Number(number) => known(&number),
         _ => None,
     }
 }
@@ -382,44 +381,44 @@ fn with_param(place: usize, step: u64, sign: i64, sums: Sums) -> Option<Sums>
 }
 
 /// Adds an expression, so many times as the sign says, whose denominator is `step` times that of the parameters.
-fn gather(formula: &Formula, step: u64, sign: i64, sums: Sums) -> Option<Sums>
+fn gather(terms: &[Term], step: u64, sign: i64, sums: Sums) -> Option<Sums>
     requires positive { 0 < step }
-    ensures { IfSome result (IsGathered (formula_view formula.now) step sign sums) }
 {
-    match formula {
-        Formula::Number(number) => with_number(number, step, sign, sums),
-        Formula::Pi => with_pi(step, sign, sums),
-        Formula::Param(place) => with_param(*place, step, sign, sums),
-        Formula::Neg(part) => gather(part, step, opposite(sign)?, sums),
-        Formula::Call {
+    match parts_of(terms) {
+        Parts::Number(number) => with_number(&number, step, sign, sums),
+        Parts::Pi => with_pi(step, sign, sums),
+        Parts::Param(place) => with_param(place, step, sign, sums),
+        Parts::Neg(part) => gather(part, step, opposite(sign)?, sums),
+        Parts::Call {
             function: _,
             arg: _,
         } => None,
-        Formula::Binary {
+        Parts::Binary {
             sign: operation,
-            sides,
+            left,
+            right,
         } => match operation {
             Binary::Add => {
-                let sums = gather(&sides.left, step, sign, sums)?;
-                gather(&sides.right, step, sign, sums)
+                let sums = gather(left, step, sign, sums)?;
+                gather(right, step, sign, sums)
             }
             Binary::Sub => {
-                let sums = gather(&sides.left, step, sign, sums)?;
-                gather(&sides.right, step, opposite(sign)?, sums)
+                let sums = gather(left, step, sign, sums)?;
+                gather(right, step, opposite(sign)?, sums)
             }
             Binary::Mul => {
-                if let Some(number) = constant(&sides.left) {
+                if let Some(number) = constant(left) {
                     let scale = product_scale(&number, step, sign)?;
-                    return gather(&sides.right, scale.step, scale.sign, noted(sums, step));
+                    return gather(right, scale.step, scale.sign, noted(sums, step));
                 }
-                let number = constant(&sides.right)?;
+                let number = constant(right)?;
                 let scale = product_scale(&number, step, sign)?;
-                gather(&sides.left, scale.step, scale.sign, noted(sums, step))
+                gather(left, scale.step, scale.sign, noted(sums, step))
             }
             Binary::Div => {
-                let number = constant(&sides.right)?;
+                let number = constant(right)?;
                 let scale = quotient_scale(&number, step, sign)?;
-                gather(&sides.left, scale.step, scale.sign, noted(sums, step))
+                gather(left, scale.step, scale.sign, noted(sums, step))
             }
             Binary::Pow => None,
         },
@@ -450,14 +449,14 @@ fn is_long(shape: Shape) -> bool {
 pub fn form_of(alloc: Global, formula: &Formula) -> Result<Option<Form>, AllocError>
     ensures { IfOk result (λ o. IfSome o (IsForm (formula_view formula.now))) }
 {
-    let Some(shape) = shape_of(formula) else {
+    let Some(shape) = shape_of(&formula.terms) else {
         return Ok(None);
     };
     if shape.divisor == 0 || !is_long(shape) {
         return Ok(None);
     }
     let sums = no_sums(alloc, shape.places)?;
-    match gather(formula, shape.divisor, 1, sums) {
+    match gather(&formula.terms, shape.divisor, 1, sums) {
         Some(sums) => Ok(Some(Form {
             sums,
             step: shape.divisor,

@@ -7,7 +7,7 @@ ghost use Rattle.linear_forms.specs.Values.{no_angle, operation as operation_of,
 
 use crate::form::Form;
 use angle_fraction::{Angle, AngleFault, Binary, Frac, add, div, mul, neg, pow, sub};
-use gate_library::Formula;
+use gate_library::{Formula, Parts, Term, parts_of};
 
 /// The value of the parameter at a place; a bound expression has no other places.
 pub fn param(params: &[Angle], place: usize) -> Angle
@@ -34,32 +34,31 @@ fn operation(sign: Binary, left: &Angle, right: &Angle) -> Result<Angle, AngleFa
     }
 }
 
-/// The value of an expression under values of the parameters, or its first fault. An expression is at most 64 deep.
-pub fn value(params: &[Angle], formula: &Formula) -> Result<Angle, AngleFault>
-    ensures value { result ≡ value_of params.now (formula_view formula.now) }
+/// The value of an expression of these terms under values of the parameters, or its first fault. It is at most 64 deep.
+fn value(params: &[Angle], terms: &[Term]) -> Result<Angle, AngleFault>
 {
-    match formula {
-        Formula::Number(number) => Ok(Angle {
-            plain: *number,
+    match parts_of(terms) {
+        Parts::Number(number) => Ok(Angle {
+            plain: number,
             pis: Frac::nought(),
         }),
-        Formula::Pi => Ok(Angle {
+        Parts::Pi => Ok(Angle {
             plain: Frac::nought(),
             pis: Frac::unit(),
         }),
-        Formula::Param(place) => Ok(param(params, *place)),
-        Formula::Neg(part) => {
+        Parts::Param(place) => Ok(param(params, place)),
+        Parts::Neg(part) => {
             let part = value(params, part)?;
             neg(&part)
         }
-        Formula::Call { function: _, arg } => {
+        Parts::Call { function: _, arg } => {
             let _arg = value(params, arg)?;
             Err(AngleFault::Form)
         }
-        Formula::Binary { sign, sides } => {
-            let left = value(params, &sides.left)?;
-            let right = value(params, &sides.right)?;
-            operation(*sign, &left, &right)
+        Parts::Binary { sign, left, right } => {
+            let left = value(params, left)?;
+            let right = value(params, right)?;
+            operation(sign, &left, &right)
         }
     }
 }
@@ -86,6 +85,6 @@ pub fn value_by(
 {
     match value_of_form(params, formula, form) {
         Some(angle) => Ok(angle),
-        None => value(params, formula),
+        None => value(params, &formula.terms),
     }
 }

@@ -8,22 +8,38 @@ ghost use Rattle.gate_library.specs.Views.{formula as formula_view};
 ghost use Rattle.qasm_check.specs.Arguments.{knows as knows_all};
 
 use crate::indices::Indices;
-use gate_library::{Formula, FormulaSides};
-use qasm_parser::Expr;
+use gate_library::{Formula, Term};
+use qasm_parser::{Expr, Node};
 use std::alloc::{AllocError, Global};
 
 /// Whether each name in an expression is one of these.
 pub fn knows<'a>(params: &Indices<'a>, tree: &'a Expr) -> bool
     ensures value { result ≡ knows_all params.now (expression tree.now) }
 {
-    match tree {
-        Expr::Number(_) | Expr::Pi => true,
-        Expr::Param(name) => params.has(name.as_bytes()),
-        Expr::Neg(part) => knows(params, part),
-        Expr::Paren(part) => knows(params, part),
-        Expr::Call { function: _, arg } => knows(params, arg),
-        Expr::Binary { sign: _, sides } => knows(params, &sides.left)
-            && knows(params, &sides.right),
+    'nodes: for node in &tree.nodes {
+        if let Node::Param(name) = node {
+            if !params.has(name.as_bytes()) {
+                return false;
+            }
+        }
+    }
+    true
+}
+
+/// A node with its name bound to its index among these.
+fn term<'a>(params: &Indices<'a>, node: &'a Node) -> Term
+{
+    match node {
+        Node::Number(value) => Term::Number(*value),
+        Node::Pi => Term::Pi,
+        Node::Param(name) => Term::Param(params.index(name.as_bytes())),
+        Node::Neg => Term::Neg,
+        Node::Paren => Term::Paren,
+        Node::Call(function) => Term::Call(*function),
+        Node::Binary { sign, right } => Term::Binary {
+            sign: *sign,
+            right: *right,
+        },
     }
 }
 
@@ -31,30 +47,11 @@ pub fn knows<'a>(params: &Indices<'a>, tree: &'a Expr) -> bool
 pub fn bind<'a>(alloc: Global, params: &Indices<'a>, tree: &'a Expr) -> Result<Formula, AllocError>
     ensures ok { IfOk result (λ f. formula_view f ≡ bound_formula params.now (expression tree.now)) }
 {
-    match tree {
-        Expr::Number(value) => Ok(Formula::Number(*value)),
-        Expr::Pi => Ok(Formula::Pi),
-        Expr::Param(name) => Ok(Formula::Param(params.index(name.as_bytes()))),
-        Expr::Neg(part) => {
-            let part = bind(alloc, params, part)?;
-            Ok(Formula::Neg(Box::new(alloc, part)?))
-        }
-        Expr::Paren(part) => bind(alloc, params, part),
-        Expr::Call { function, arg } => {
-            let arg = bind(alloc, params, arg)?;
-            let arg = Box::new(alloc, arg)?;
-            Ok(Formula::Call {
-                function: *function,
-                arg,
-            })
-        }
-        Expr::Binary { sign, sides } => {
-            let left = bind(alloc, params, &sides.left)?;
-            let right = bind(alloc, params, &sides.right)?;
-            let sides = Box::new(alloc, FormulaSides { left, right })?;
-            Ok(Formula::Binary { sign: *sign, sides })
-        }
+    let mut terms = Vec::with_capacity(alloc, tree.nodes.len())?;
+    'nodes: for node in &tree.nodes {
+        terms.push(term(params, node))?;
     }
+    Ok(Formula { terms })
 }
 
 /// Expressions with their names bound.

@@ -24,7 +24,7 @@ mod statement;
 mod stop;
 
 pub use checked::Checked;
-pub use gate_library::{BoundGate, Formula, FormulaSides, Item, Operand};
+pub use gate_library::{BoundGate, Formula, Item, Operand};
 pub use laws::{
     accepted_has_no_fault, accepted_is_sound, checked_or_refused, listing_is_spelt, refused_once,
 };

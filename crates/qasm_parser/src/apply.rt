@@ -5,7 +5,8 @@ ghost use Rattle.std.specs.Prelude.{◌≡◌, ◌≤◌, ◌<◌, Some, None, m
 ghost use Rattle.qasm_parser.specs.Misread.{IsMisread};
 ghost use Rattle.qasm_parser.specs.Ways.{past, sum as sum_shape, walk};
 ghost use Rattle.qasm_parser.specs.Shapes.{angles_shape, application_shape, head_shape, list_shape, optional_shape, u_shape};
-ghost use Rattle.qasm_parser.specs.Tree.{application, most_depth, expression};
+ghost use Rattle.qasm_parser.specs.Tree.{application, most_depth, expression, pi};
+ghost use Rattle.qasm_parser.specs.declared.stop.ParseStop.TheVariants.{NoMemory};
 ghost use Rattle.qasm_parser.specs.Reading.{angle_of, angles_of, angles_of_u, application_of, first_of, head_of, list_of, optional_of, read};
 ghost use Rattle.qasm_parser.specs.Heads.{head_view};
 
@@ -15,8 +16,18 @@ use crate::lists::{args, expect, take};
 use crate::name::Name;
 use crate::stop::ParseStop;
 use crate::symbols::{Keyword, Mark, Symbol};
-use crate::tree::{Apply, Expr};
+use crate::tree::{Apply, Expr, Node};
 use std::alloc::Global;
+
+/// The expression pi.
+fn just_pi(alloc: Global) -> Result<Expr, ParseStop>
+    ensures ok { IfOk result (λ e. expression e ≡ pi) }
+    ensures err { IfErr result (λ e. e ≡ NoMemory) }
+{
+    let mut nodes = Vec::with_capacity(alloc, 1)?;
+    nodes.push(Node::Pi)?;
+    Ok(Expr { nodes })
+}
 
 /// An expression, and where it begins if it is too deep.
 #[tactic(auto, unfolding(crate::specs::Reading::angle_of))]
@@ -28,8 +39,8 @@ fn angle(alloc: Global, cursor: &mut Cursor<'_>) -> Result<(Expr, Option<usize>)
 {
     let left = cursor.left();
     match sum(alloc, cursor)? {
-        Some(part) => Ok((part.tree, None)),
-        None => Ok((Expr::Pi, Some(left))),
+        Some(tree) => Ok((tree, None)),
+        None => Ok((just_pi(alloc)?, Some(left))),
     }
 }
 

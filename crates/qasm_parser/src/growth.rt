@@ -1,97 +1,66 @@
 //! Parts of an expression put into greater ones; one that gets deeper than the limit is let go.
 
-ghost use Rattle.std.specs.Prelude.{◌≡◌, IfOk};
-ghost use Rattle.qasm_parser.specs.Tree.{most_depth};
-ghost use Rattle.qasm_parser.specs.Machine.{called, closed, joined, minus, opened};
-ghost use Rattle.qasm_parser.specs.Parts.{part_of};
+ghost use Rattle.std.specs.Prelude.{◌≡◌, ◌≤◌, ℕ, List, IfOk, IfSome, OnOk, length};
+ghost use Rattle.qasm_parser.specs.Tree.{most_depth, Expression};
+ghost use Rattle.qasm_parser.specs.Machine.{closed, grown, joined};
+ghost use Rattle.qasm_parser.specs.Nodes.{IsPart, IsNode, part_in};
 
 use crate::part::{MOST_DEPTH, Part};
-use crate::tree::{Expr, Sides};
-use angle_fraction::{Binary, Function};
-use std::alloc::{AllocError, Global};
+use crate::tree::Node;
+use angle_fraction::Binary;
+use std::alloc::AllocError;
 
-/// Unary minus.
-#[tactic(auto, unfolding(crate::specs::Machine::capped))]
-pub fn negated(alloc: Global, part: Option<Part>) -> Result<Option<Part>, AllocError>
-    ensures ok { IfOk result (λ p. part_of p ≡ closed most_depth minus (part_of part)) }
-{
-    let Some(part) = part else {
-        return Ok(None);
-    };
-    if part.depth >= MOST_DEPTH {
-        return Ok(None);
-    }
-    let depth = part.depth + 1;
-    let tree = Expr::Neg(Box::new(alloc, part.tree)?);
-    Ok(Some(Part { tree, depth }))
-}
-
-/// A pair of parentheses.
-#[tactic(auto, unfolding(crate::specs::Machine::capped))]
-pub fn parenthesised(alloc: Global, part: Option<Part>) -> Result<Option<Part>, AllocError>
-    ensures ok { IfOk result (λ p. part_of p ≡ closed most_depth opened (part_of part)) }
-{
-    let Some(part) = part else {
-        return Ok(None);
-    };
-    if part.depth >= MOST_DEPTH {
-        return Ok(None);
-    }
-    let depth = part.depth + 1;
-    let tree = Expr::Paren(Box::new(alloc, part.tree)?);
-    Ok(Some(Part { tree, depth }))
-}
-
-/// A function of a part.
-#[tactic(auto, unfolding(crate::specs::Machine::capped))]
-pub fn applied(
-    alloc: Global,
-    function: Function,
+/// A part and the node that stands behind it. Where it gets too deep its nodes are taken away.
+pub fn grown(
+    nodes: &mut Vec<Node>,
     part: Option<Part>,
+    node: Node,
 ) -> Result<Option<Part>, AllocError>
-    ensures ok { IfOk result (λ p. part_of p ≡ closed most_depth (called function) (part_of part)) }
 {
     let Some(part) = part else {
         return Ok(None);
     };
     if part.depth >= MOST_DEPTH {
+        nodes.truncate(part.start);
         return Ok(None);
     }
-    let depth = part.depth + 1;
-    let arg = Box::new(alloc, part.tree)?;
+    nodes.push(node)?;
     Ok(Some(Part {
-        tree: Expr::Call { function, arg },
-        depth,
+        start: part.start,
+        depth: part.depth + 1,
     }))
 }
 
+/// Takes the nodes of a part away, which are the last ones.
+fn without(nodes: &mut Vec<Node>, part: Option<Part>)
+{
+    if let Some(part) = part {
+        nodes.truncate(part.start);
+    }
+}
+
 /// Two parts with a sign between them.
-#[tactic(auto, unfolding(crate::specs::Machine::capped))]
 pub fn joined(
-    alloc: Global,
+    nodes: &mut Vec<Node>,
     sign: Binary,
     left: Option<Part>,
     right: Option<Part>,
 ) -> Result<Option<Part>, AllocError>
-    ensures ok { IfOk result (λ p. part_of p ≡ joined most_depth sign (part_of left) (part_of right)) }
 {
-    let Some(left) = left else {
+    let (Some(first), Some(second)) = (left, right) else {
+        without(nodes, right);
+        without(nodes, left);
         return Ok(None);
     };
-    let Some(right) = right else {
-        return Ok(None);
-    };
-    let deepest = left.depth.max(right.depth);
+    let deepest = first.depth.max(second.depth);
     if deepest >= MOST_DEPTH {
+        nodes.truncate(first.start);
         return Ok(None);
     }
-    let sides = Sides {
-        left: left.tree,
-        right: right.tree,
-    };
-    let sides = Box::new(alloc, sides)?;
+    let right = nodes.len() - second.start;
+    nodes.push(Node::Binary { sign, right })?;
     Ok(Some(Part {
-        tree: Expr::Binary { sign, sides },
+        start: first.start,
         depth: deepest + 1,
     }))
 }

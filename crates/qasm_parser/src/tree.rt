@@ -6,29 +6,27 @@ use smallvec::SmallVec;
 use std::alloc::Global;
 use std::default::MadeWith;
 
-/// An expression, at most 64 deep in the tree of a text.
-#[cycle(expression)]
+/// What an expression is made of. A node stands right behind the nodes of its part, or of its left and then its right part.
 #[derive(Drop)]
-pub enum Expr {
+pub enum Node {
     /// A whole number or a real, by its exact value.
     Number(Frac),
     Pi,
     /// A name; in a gate's body it may be a parameter.
     Param(Name),
     /// Unary minus.
-    Neg(Box<Expr>),
+    Neg,
     /// A pair of parentheses.
-    Paren(Box<Expr>),
-    Call { function: Function, arg: Box<Expr> },
-    Binary { sign: Binary, sides: Box<Sides> },
+    Paren,
+    Call(Function),
+    /// So many nodes before it are those of its right part.
+    Binary { sign: Binary, right: usize },
 }
 
-/// The two parts of an expression with a sign between them.
-#[cycle(expression)]
+/// An expression, at most 64 deep in the tree of a text, as one list of its nodes.
 #[derive(Drop)]
-pub struct Sides {
-    pub left: Expr,
-    pub right: Expr,
+pub struct Expr {
+    pub nodes: Vec<Node>,
 }
 
 /// A register, or one place of it, counted from 0.
