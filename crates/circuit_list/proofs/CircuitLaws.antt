@@ -6,7 +6,7 @@
 --   after-some, after-none, before-some, before-none, from-some, from-none    the next gate on any wire
 --   next-some, next-none, prev-some, prev-none    the gates on a wire
 --   t_count-entries, cx_count-entries, h_count-entries    counts over the slots
-use Rattle.std.proofs.Common.{◌≡◌, ℕ, zero, suc, ◌+◌, ◌-◌, ◌<◌, ◌≤◌, ◌==◌, ◌||◌, Bool, true, false, cond, List, [], ◌∷◌, ◌++◌, Option, None, Some, Ok, Err, Result, OnOk, OnErr, refl, sym, ap, ◌∙◌, subst, arith, inl, inr, ◌⊎◌, All, length, set, slice_get, zero-add, add-zero}
+use Rattle.std.proofs.Common.{◌≡◌, ℕ, zero, suc, ◌+◌, ◌-◌, ◌<◌, ◌≤◌, ◌==◌, ◌||◌, Bool, true, false, cond, List, [], ◌∷◌, ◌++◌, Option, None, Some, Ok, Err, Result, OnOk, OnErr, refl, sym, ap, ◌∙◌, subst, arith, inl, inr, ◌⊎◌, All, length, set, slice_get, take, drop, zero-add, add-zero}
 use Rattle.std.specs.List.{count_by, remove}
 use Rattle.std.proofs.lemmas.Bool.{both_ways, eqb-true}
 use Rattle.std.proofs.lemmas.List.Elements.{All-from_recursion, All-get_or, All-append, All-set, All-take, All-drop}
@@ -254,6 +254,14 @@ pub push-fine : (n : ℕ) (es fs : List (Option Gate)) (g : Gate) (r : Result (U
 push-fine n es fs g (Ok u) ok err f all =
     subst (λ gs. All (IsFine n) gs) (sym (ap gates_of ok ∙ gates_of-push es g)) (All-append (IsFine n) (gates_of es) (g ∷ []) all (All-one n g f))
 push-fine n es fs g (Err e) ok err f all = subst (λ (xs : List (Option Gate)). All (IsFine n) (gates_of xs)) (sym err) all
+
+pub insert-fine : (n : ℕ) (es fs more : List (Option Gate)) (i : ℕ) (r : Result (Unit {0}) AllocError)
+    → OnOk r (gates_of fs ≡ take i (gates_of es) ++ (gates_of more ++ drop i (gates_of es))) → OnErr r (fs ≡ es)
+    → All (IsFine n) (gates_of more) → All (IsFine n) (gates_of es) → All (IsFine n) (gates_of fs)
+insert-fine n es fs more i (Ok u) ok err new all =
+    subst (λ gs. All (IsFine n) gs) (sym ok)
+    (All-append (IsFine n) _ _ (All-take (IsFine n) i (gates_of es) all) (All-append (IsFine n) (gates_of more) _ new (All-drop (IsFine n) i (gates_of es) all)))
+insert-fine n es fs more i (Err e) ok err new all = subst (λ (xs : List (Option Gate)). All (IsFine n) (gates_of xs)) (sym err) all
 
 pub gone-fine : (n : ℕ) (es fs : List (Option Gate)) (s : ℕ) (g : Gate) → entry es s ≡ Some g → fs ≡ set es s None → All (IsFine n) (gates_of es) → All (IsFine n) (gates_of fs)
 gone-fine n es fs s g h e all =

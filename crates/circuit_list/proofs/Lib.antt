@@ -2,6 +2,7 @@ pub mod CircuitLaws
 pub mod CountLaws
 pub mod EntryLaws
 pub mod GateLaws
+pub mod InsertLaws
 pub mod MarkLaws
 pub mod OnWireLaws
 pub mod SlotLaws

@@ -14,6 +14,7 @@
 #![tactic(auto)]
 
 mod entry;
+mod inserts;
 pub mod laws;
 mod links;
 mod marks;
@@ -23,7 +24,7 @@ mod slot;
 mod tree;
 mod walks;
 
-ghost use Rattle.std.specs.Prelude.{◌≡◌, ℕ, ◌+◌, ◌-◌, ◌%◌, ◌<◌, ◌≤◌, length, IfOk, IfSome, OnErr, OnOk, MatchOption, ◌⊎◌, slice_get, All, None, Some, cond, true, remove, slice_set, [], ◌∷◌, ◌++◌};
+ghost use Rattle.std.specs.Prelude.{◌≡◌, ℕ, ◌+◌, ◌-◌, ◌%◌, ◌<◌, ◌≤◌, length, IfOk, IfSome, OnErr, OnOk, MatchOption, ◌⊎◌, slice_get, All, None, Some, cond, true, remove, slice_set, [], ◌∷◌, ◌++◌, drop, take};
 ghost use Rattle.circuit_list.specs.Entries.{holds};
 ghost use Rattle.circuit_list.specs.Gates.{IsFine, first_wire, h_count, is_cx, is_h, is_on, is_t, most_wires, ops, second_wire};
 ghost use Rattle.circuit_list.specs.Slots.{Ascend, IsFirstFrom, IsLive, IsNextOn, IsPrevOn, NoneBefore, NoneBehind, NoneFrom, is_on_at, place_of};
@@ -161,6 +162,21 @@ impl Circuit {
     {
         let slot = self.slot(i);
         self.replace_at(slot, g);
+    }
+
+    /// Puts the gates of another circuit before the one at a place, or behind all, where the place is their number. All get new
+    /// slots, and those of before mean nothing any more. It goes through the slots of the other circuit, and in a linked one it
+    /// takes a logarithm more for each gate that is put in if there are enough empty slots before the place. Else gates around it
+    /// move, on the average as many for each new one as the square of the logarithm, however gates are put in and taken away, and
+    /// now and then all, into half as many slots again. After want of memory the circuit is as it was.
+    pub fn insert(&mut self, i: usize, other: &Circuit) -> Result<(), AllocError>
+        requires within { i ≤ length self.old.gates }
+        requires wires { other.now.wires ≡ self.old.wires }
+        ensures wires { self.new.wires ≡ self.old.wires }
+        ensures gates { OnOk result (self.new.gates ≡ take i self.old.gates ++ (other.now.gates ++ drop i self.old.gates)) }
+        ensures err { OnErr result (self.new ≡ self.old) }
+    {
+        self.tree.insert(i, other.tree.entries())
     }
 
     /// The number of gates.

@@ -65,6 +65,29 @@ impl Tree {
         })
     }
 
+    /// Empty slots, so many.
+    pub(crate) fn with_slots(alloc: Global, slots: usize) -> Result<Tree, AllocError>
+        ensures ok { IfOk result (λ t. length t ≡ slots) }
+    {
+        let mut gates = Vec::new(alloc);
+        gates.resize(slots, Entry::of(None))?;
+        Ok(Tree {
+            gates,
+            count: 0,
+            links: None,
+        })
+    }
+
+    /// Where the slots get their memory.
+    pub(crate) fn allocator(&self) -> Global {
+        *self.gates.allocator()
+    }
+
+    /// Whether there are links.
+    pub(crate) fn is_linked(&self) -> bool {
+        self.links.is_some()
+    }
+
     /// Makes the links, where there are none.
     pub(crate) fn link(&mut self) -> Result<(), AllocError>
         ensures new { self.new ≡ self.old }
@@ -321,7 +344,7 @@ fn recounted(count: usize, before: Entry, after: Entry) -> usize
 }
 
 /// The slots with gates alone.
-fn live(alloc: Global, entries: &[Entry]) -> Result<Vec<Entry>, AllocError>
+pub(crate) fn live(alloc: Global, entries: &[Entry]) -> Result<Vec<Entry>, AllocError>
     ensures { IfOk result (λ v. gates_of v.items ≡ gates_of entries.now) }
 {
     let mut kept = Vec::new(alloc);
