@@ -1,7 +1,6 @@
 -- The machine's numbers group parts as the levels of the grammar do.
 --   next-some                 what comes next binds at all
 --   takes-minus, takes-left   a frame takes its right part before a sign if what it makes may stand left of the sign
---   takes                     what the code of frames needs
 use Rattle.std.proofs.Common.{◌≡◌, ℕ, ◌≤◌, ◌∙◌, Bool, nat_le, Option, Some, None, refl, arith}
 use Rattle.angle_fraction.specs.declared.signs.Binary.{Binary}
 use Rattle.angle_fraction.specs.declared.signs.Binary.TheVariants.{Add, Sub, Mul, Div, Pow}
@@ -55,5 +54,3 @@ takes-minus r s h = h pi ∙ minus-same s
 pub takes-left : (r : Bool) (l s : Binary) (left : Option Expression) → ((a b : Expression) → r ≡ nat_le (left_level s) (level (binary l a b)))
     → r ≡ nat_le (next_binding (Some s)) (tightness (before l left))
 takes-left r l s left h = h pi pi ∙ left-same l s
-
-pub ruleset takes = (takes-minus, takes-left)

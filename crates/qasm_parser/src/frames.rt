@@ -31,7 +31,6 @@ pub struct Frames {
 }
 
 /// Whether a frame takes its right part before a sign, or at an end if there is none; parentheses wait for their own end.
-#[tactic(auto, using(crate::proofs::GroupingLaws::takes))]
 fn takes(frame: Frame, sign: Option<Binary>) -> bool
     ensures { (left : Option SpecExpression) → result ≡ nat_le (next_binding sign) (tightness (frame_with frame left)) }
 {
