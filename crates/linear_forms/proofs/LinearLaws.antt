@@ -25,7 +25,7 @@ use Rattle.linear_forms.specs.declared.form.Form.{Form}
 use Rattle.linear_forms.specs.declared.form.Sums.{Sums}
 use Rattle.unitary_model.proofs.RingLaws.{add_mul}
 use Rattle.linear_forms.proofs.IntLaws.{minus_one, mul_add, mul_assoc, mul_swap, neg_mul}
-use Rattle.linear_forms.proofs.PartLaws.{HasFitted, difference_over, lowest_over, nought-over, nought_by, nought_is, opposite_over, product-over, product_over, sum_over}
+use Rattle.linear_forms.proofs.PartLaws.{difference_over, lowest_over, nought-over, nought_by, nought_is, opposite_over, product-over, product_over, sum_over}
 
 abbrev Value : Type 0
 Value = Result Angle AngleFault
@@ -300,16 +300,8 @@ both_sides : (f g : Formula) (params : List Angle) (a b : Angle) (o : Binary) (r
 both_sides f g params a b o r e h k =
     ap (λ (v : Value). and_next v (λ x. and_next (value params g) (operation o x))) e ∙ ap (λ (v : Value). and_next v (operation o a)) h ∙ k
 
--- a sign of which both sides are put into sums: what it makes of parts that fit, and of angles
-record IsJoining (o : Binary) (part : Fraction → Fraction → Fraction) (number : ℤ → ℤ → ℤ) : Type 0 where
-  over : LowestLaws → (e b c : ℕ) (x y : Fraction) (n k : ℤ) → 0 < e → e ≤ most_part → b + c ≤ most_part → IsOver e b x n → IsOver e c y k →
-      HasFitted e (b + c) (part x y) (number n k)
-  is : (a b : Angle) (x y : Fraction) → fitted (part a.plain b.plain) ≡ Ok x → fitted (part a.pis b.pis) ≡ Ok y → operation o a b ≡ Ok (angle x y)
-
-gathered_both : (o : Binary) (part : Fraction → Fraction → Fraction) (number : ℤ → ℤ → ℤ) → IsJoining o part number → (f g : Formula) (h : ℕ) (s t : ℤ) (p r q : Sums)
-    → ((a b c n k : ℤ) → b ≡ a +ℤ s *ℤ n → c ≡ b +ℤ t *ℤ k → c ≡ a +ℤ s *ℤ number n k) → IsGathered f h s p r → IsGathered g h t r q → 0 < h
-    → IsGathered (binary o f g) h s p q
-gathered_both o part number joins f g h s t p r q all first second above =
+pub gathered_sum : (f g : Formula) (h : ℕ) (s : ℤ) (p r q : Sums) → IsGathered f h s p r → IsGathered g h s r q → 0 < h → IsGathered (binary Add f g) h s p q
+gathered_sum f g h s p r q first second above =
     let fixed : p.fixed ≤ q.fixed = let a = first.fixed in let b = second.fixed in omega (arith, a, b) in
     let times : p.times ≤ q.times = let a = first.times in let b = second.times in omega (arith, a, b) in
     let most : p.most ≤ q.most = let a = first.most in let b = second.most in omega (arith, a, b) in
@@ -328,28 +320,57 @@ gathered_both o part number joins f g h s t p r q all first second above =
           let b = k.within in
           let fits : j.room + k.room ≤ most_part = omega (arith, a, b, small) in
           let low = most_low h q.most d second.step far in
-          let x = joins.over laws (h * d) j.room k.room j.angle.plain k.angle.plain j.plain k.plain (mul-pos above some) low fits j.plain_over k.plain_over in
-          let y = joins.over laws (h * d) j.room k.room j.angle.pis k.angle.pis j.pis k.pis (mul-pos above some) low fits j.pis_over k.pis_over in
+          let x = sum_over laws (h * d) j.room k.room j.angle.plain k.angle.plain j.plain k.plain (mul-pos above some) low fits j.plain_over k.plain_over in
+          let y = sum_over laws (h * d) j.room k.room j.angle.pis k.angle.pis j.pis k.pis (mul-pos above some) low fits j.pis_over k.pis_over in
           record {
             angle = angle x.part y.part;
-            plain = number j.plain k.plain;
-            pis = number j.pis k.pis;
+            plain = j.plain +ℤ k.plain;
+            pis = j.pis +ℤ k.pis;
             room = j.room + k.room;
-            is = both_sides f g params j.angle k.angle o _ j.is k.is (joins.is j.angle k.angle x.part y.part x.is y.is);
+            is = both_sides f g params j.angle k.angle Add _ j.is k.is (sum_is j.angle k.angle x.part y.part x.is y.is);
             plain_over = x.over;
             pis_over = y.over;
             within = omega (arith, a, b);
-            plain_is = all (plain_sum p d xs) (plain_sum r d xs) (plain_sum q d xs) j.plain k.plain j.plain_is k.plain_is;
-            pis_is = all (pis_sum p d ys) (pis_sum r d ys) (pis_sum q d ys) j.pis k.pis j.pis_is k.pis_is;
+            plain_is = two_sums (plain_sum p d xs) (plain_sum r d xs) (plain_sum q d xs) s j.plain k.plain j.plain_is k.plain_is;
+            pis_is = two_sums (pis_sum p d ys) (pis_sum r d ys) (pis_sum q d ys) s j.pis k.pis j.pis_is k.pis_is;
           };
     }
 
-pub gathered_sum : (f g : Formula) (h : ℕ) (s : ℤ) (p r q : Sums) → IsGathered f h s p r → IsGathered g h s r q → 0 < h → IsGathered (binary Add f g) h s p q
-gathered_sum f g h s p r q = gathered_both Add sum ◌+ℤ◌ (record { over = sum_over; is = sum_is }) f g h s s p r q (λ a b c n k. two_sums a b c s n k)
-
 pub gathered_difference : (f g : Formula) (h : ℕ) (s t : ℤ) (p r q : Sums) → IsGathered f h s p r → IsGathered g h t r q → t ≡ s *ℤ negsuc 0 → 0 < h → IsGathered (binary Sub f g) h s p q
 gathered_difference f g h s t p r q first second e above =
-    gathered_both Sub difference ◌-ℤ◌ (record { over = difference_over; is = difference_is }) f g h s t p r q (λ a b c n k. two_apart a b c s t n k e) first second above
+    let fixed : p.fixed ≤ q.fixed = let a = first.fixed in let b = second.fixed in omega (arith, a, b) in
+    let times : p.times ≤ q.times = let a = first.times in let b = second.times in omega (arith, a, b) in
+    let most : p.most ≤ q.most = let a = first.most in let b = second.most in omega (arith, a, b) in
+    record {
+      step = second.step;
+      count = second.count ∙ first.count;
+      fixed = fixed;
+      times = times;
+      most = most;
+      has = λ laws d m params xs ys some over small far.
+          let less = reach_low r q d m second.fixed second.times in
+          let near : reach r d m ≤ most_part = omega (arith, less, small) in
+          let j = first.has laws d m params xs ys some (over_more d m _ _ params xs ys second.count over) near (most_low r.most q.most d second.most far) in
+          let k = second.has laws d m params xs ys some over small far in
+          let a = j.within in
+          let b = k.within in
+          let fits : j.room + k.room ≤ most_part = omega (arith, a, b, small) in
+          let low = most_low h q.most d second.step far in
+          let x = difference_over laws (h * d) j.room k.room j.angle.plain k.angle.plain j.plain k.plain (mul-pos above some) low fits j.plain_over k.plain_over in
+          let y = difference_over laws (h * d) j.room k.room j.angle.pis k.angle.pis j.pis k.pis (mul-pos above some) low fits j.pis_over k.pis_over in
+          record {
+            angle = angle x.part y.part;
+            plain = j.plain -ℤ k.plain;
+            pis = j.pis -ℤ k.pis;
+            room = j.room + k.room;
+            is = both_sides f g params j.angle k.angle Sub _ j.is k.is (difference_is j.angle k.angle x.part y.part x.is y.is);
+            plain_over = x.over;
+            pis_over = y.over;
+            within = omega (arith, a, b);
+            plain_is = two_apart (plain_sum p d xs) (plain_sum r d xs) (plain_sum q d xs) s t j.plain k.plain e j.plain_is k.plain_is;
+            pis_is = two_apart (pis_sum p d ys) (pis_sum r d ys) (pis_sum q d ys) s t j.pis k.pis e j.pis_is k.pis_is;
+          };
+    }
 
 -- ---- products and quotients
 noted_plain : (h d : ℕ) (xs : ℕ → ℤ) (p r : Sums) → IsNoted h p r → plain_sum r d xs ≡ plain_sum p d xs

@@ -178,53 +178,42 @@ module _ (n : ℕ) where
   constant-named [] w s = refl
   constant-named (g ∷ gs) w s = (λ i. constant_at g w + constant_by n (λ v. v) gs (after-named g w s i) (seen_after g s)) ∙ ap (λ k. constant_at g w + k) (constant-named gs (named_after n g w s) (seen_after g s))
 
-  -- sets and last labels, by the names and by the definition
-  set-named : (gs : List Gate) (v : ℕ) → set_before v (hadamards_by n (λ v. v) gs (own_labels n) unseen) ≡ set_before v (hadamards n gs (own_labels n) unseen)
-  set-named gs v = ap (set_before v) (sets-named gs (own_labels n) unseen)
-
-  end-named : (gs : List Gate) (q : ℕ) → last_by n (λ v. v) gs (own_labels n) unseen q ≡ named_last n gs (own_labels n) unseen q
-  end-named gs q = λ i. last-named gs (own_labels n) unseen i q
-
-  sets-defined : (A B : List Gate) → ((v : ℕ) → set_before v (hadamards_by n (λ v. v) B (own_labels n) unseen) ≡ set_before v (hadamards_by n (λ v. v) A (own_labels n) unseen))
-      → (v : ℕ) → set_before v (hadamards n B (own_labels n) unseen) ≡ set_before v (hadamards n A (own_labels n) unseen)
-  sets-defined A B same v = sym (set-named B v) ∙ same v ∙ set-named A v
-
-  last-defined : (A B : List Gate) → ((q : ℕ) → q < n → last_by n (λ v. v) B (own_labels n) unseen q ≡ last_by n (λ v. v) A (own_labels n) unseen q)
-      → (q : ℕ) → q < n → named_last n B (own_labels n) unseen q ≡ named_last n A (own_labels n) unseen q
-  last-defined A B same q lt = sym (end-named B q) ∙ same q lt ∙ end-named A q
-
-  defined-sets : (A B : List Gate) → ((v : ℕ) → set_before v (hadamards n B (own_labels n) unseen) ≡ set_before v (hadamards n A (own_labels n) unseen))
-      → (v : ℕ) → set_before v (hadamards_by n (λ v. v) B (own_labels n) unseen) ≡ set_before v (hadamards_by n (λ v. v) A (own_labels n) unseen)
-  defined-sets A B same v = set-named B v ∙ same v ∙ sym (set-named A v)
-
-  defined-last : (A B : List Gate) → ((q : ℕ) → q < n → named_last n B (own_labels n) unseen q ≡ named_last n A (own_labels n) unseen q)
-      → (q : ℕ) → q < n → last_by n (λ v. v) B (own_labels n) unseen q ≡ last_by n (λ v. v) A (own_labels n) unseen q
-  defined-last A B same q lt = end-named B q ∙ same q lt ∙ sym (end-named A q)
-
   pub same-named : (A B : List Gate) → SameBy n (λ v. v) A B → SamePathSum n A B
   same-named A B same = record {
-    sets = sets-defined A B same.sets;
-    last = last-defined A B same.last;
-    totals = λ m. sym (ap (λ es. total m es % 8) (terms-named B (own_labels n) unseen)) ∙ same.totals m ∙ ap (λ es. total m es % 8) (terms-named A (own_labels n) unseen);
+    sets = λ v. sym (ap (set_before v) (sets-named B w unseen)) ∙ same.sets v ∙ ap (set_before v) (sets-named A w unseen);
+    last = λ q lt. sym (λ i. last-named B w unseen i q) ∙ same.last q lt ∙ (λ i. last-named A w unseen i q);
+    totals = λ m. sym (ap (λ es. total m es % 8) (terms-named B w unseen)) ∙ same.totals m ∙ ap (λ es. total m es % 8) (terms-named A w unseen);
   }
+    where
+      w : Wires
+      w = own_labels n
 
   pub named-same : (A B : List Gate) → SamePathSum n A B → SameBy n (λ v. v) A B
   named-same A B same = record {
-    sets = defined-sets A B same.sets;
-    last = defined-last A B same.last;
-    totals = λ m. ap (λ es. total m es % 8) (terms-named B (own_labels n) unseen) ∙ same.totals m ∙ sym (ap (λ es. total m es % 8) (terms-named A (own_labels n) unseen));
+    sets = λ v. ap (set_before v) (sets-named B w unseen) ∙ same.sets v ∙ sym (ap (set_before v) (sets-named A w unseen));
+    last = λ q lt. (λ i. last-named B w unseen i q) ∙ same.last q lt ∙ sym (λ i. last-named A w unseen i q);
+    totals = λ m. ap (λ es. total m es % 8) (terms-named B w unseen) ∙ same.totals m ∙ sym (ap (λ es. total m es % 8) (terms-named A w unseen));
   }
+    where
+      w : Wires
+      w = own_labels n
 
   pub function-named : (A B : List Gate) → SameFunctionBy n (λ v. v) A B → SamePathFunction n A B
   function-named A B same = record {
-    sets = sets-defined A B same.sets;
-    last = last-defined A B same.last;
-    phases = λ v. sym (ap (λ es. phase es v % 8) (terms-named B (own_labels n) unseen)) ∙ same.phases v ∙ ap (λ es. phase es v % 8) (terms-named A (own_labels n) unseen);
+    sets = λ v. sym (ap (set_before v) (sets-named B w unseen)) ∙ same.sets v ∙ ap (set_before v) (sets-named A w unseen);
+    last = λ q lt. sym (λ i. last-named B w unseen i q) ∙ same.last q lt ∙ (λ i. last-named A w unseen i q);
+    phases = λ v. sym (ap (λ es. phase es v % 8) (terms-named B w unseen)) ∙ same.phases v ∙ ap (λ es. phase es v % 8) (terms-named A w unseen);
   }
+    where
+      w : Wires
+      w = own_labels n
 
   pub named-function : (A B : List Gate) → SamePathFunction n A B → SameFunctionBy n (λ v. v) A B
   named-function A B same = record {
-    sets = defined-sets A B same.sets;
-    last = defined-last A B same.last;
-    phases = λ v. ap (λ es. phase es v % 8) (terms-named B (own_labels n) unseen) ∙ same.phases v ∙ sym (ap (λ es. phase es v % 8) (terms-named A (own_labels n) unseen));
+    sets = λ v. ap (set_before v) (sets-named B w unseen) ∙ same.sets v ∙ sym (ap (set_before v) (sets-named A w unseen));
+    last = λ q lt. (λ i. last-named B w unseen i q) ∙ same.last q lt ∙ sym (λ i. last-named A w unseen i q);
+    phases = λ v. ap (λ es. phase es v % 8) (terms-named B w unseen) ∙ same.phases v ∙ sym (ap (λ es. phase es v % 8) (terms-named A w unseen));
   }
+    where
+      w : Wires
+      w = own_labels n

@@ -97,7 +97,7 @@ fn phase_name(k: u8) -> &'static str
     }
 }
 
-/// Puts a line with a word and a number in brackets after the register's name: a gate on one qubit, or the register itself.
+/// Puts the line of a gate on one qubit.
 fn put_single<S: Sink>(
     buffer: &mut PieceBuffer,
     sink: &mut S,
@@ -153,6 +153,22 @@ pub fn put_gate<S: Sink>(
     }
 }
 
+/// Puts the line of the quantum register.
+fn put_quantum_register<S: Sink>(
+    buffer: &mut PieceBuffer,
+    sink: &mut S,
+    q: usize,
+    wires: u32,
+) -> Result<(), Failed>
+    ensures ok { OnOk result (Sends (S.held sink.old) buffer.old (S.held sink.new) buffer.new (codes "qreg " ++ (index_text (with_underscores q) wires ++ codes ";\n"))) }
+    ensures err { OnErr result (GainsPrefix (S.held sink.old) (S.held sink.new) (buffer.old ++ (codes "qreg " ++ (index_text (with_underscores q) wires ++ codes ";\n")))) }
+    ensures cause { HasCause (S.faults sink.old) (S.faults sink.new) result }
+{
+    put(buffer, sink, "qreg ")?;
+    put_qubit(buffer, sink, q, wires)?;
+    put(buffer, sink, ";\n")
+}
+
 /// Puts the line of the quantum register, if there are wires.
 fn put_wires<S: Sink>(
     buffer: &mut PieceBuffer,
@@ -167,7 +183,7 @@ fn put_wires<S: Sink>(
     if wires == 0 {
         return Ok(());
     }
-    put_single(buffer, sink, "qreg", q, wires)
+    put_quantum_register(buffer, sink, q, wires)
 }
 
 /// Puts the line of a classical register.
