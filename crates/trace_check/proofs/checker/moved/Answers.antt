@@ -2,9 +2,9 @@ use Rattle.std.proofs.Common.{◌≡◌, ℕ, List, ◌∷◌, IfOk, MatchOption
 use Rattle.rewrite_pass.specs.TraceLines.{words}
 use Rattle.trace_text.specs.Texts.{lines_of}
 use Rattle.trace_check.specs.Progress.{BlockedWith, LeadsOn}
-use Rattle.trace_check.specs.Spelling.{spelling}
+use Rattle.trace_model.specs.Spelling.{spelling}
 use Rattle.trace_check.specs.declared.mark.Mark.{Mark}
-use Rattle.trace_check.specs.declared.words.Word.TheVariants as kind
+use Rattle.trace_model.specs.declared.word.Word.TheVariants as kind
 use Rattle.trace_check.proofs.checker.moved.Goals as goal
 
 pub returns-then-eq-clause-step : goal.returns-then-eq-clause-step
