@@ -7,7 +7,7 @@
 ghost use Rattle.std.specs.Prelude.{◌≡◌, ℕ, ◌≤◌, ◌⊎◌, List};
 ghost use Rattle.circuit_list.specs.declared.Gate.{Gate};
 ghost use Rattle.circuit_list.specs.Body.{Body};
-ghost use Rattle.rewrite_steps.specs.Known.{AreSpans, IsClear, IsKnown, IsSpan};
+ghost use Rattle.rewrite_steps.specs.Known.{AreSpans, IsClear, AreSpansIn, IsSpan};
 
 use circuit_list::{Gate, Slot};
 use std::alloc::Global;
@@ -54,7 +54,7 @@ pub(crate) struct Found {
 impl Known {
     /// No span.
     pub fn nothing(alloc: Global) -> Known
-        ensures { (b : Body) → IsKnown result b }
+        ensures { (b : Body) → AreSpansIn result b }
     {
         Known {
             spans: Vec::new(alloc),
@@ -64,7 +64,7 @@ impl Known {
 
     /// Drops all spans.
     pub fn forget(&mut self)
-        ensures { (b : Body) → IsKnown self.new b }
+        ensures { (b : Body) → AreSpansIn self.new b }
     {
         self.spans.clear();
     }

@@ -6,7 +6,7 @@ ghost use Rattle.circuit_list.specs.Gates.{IsFine};
 ghost use Rattle.circuit_list.specs.Slots.{IsLive, is_on_at, place_of};
 ghost use Rattle.commute_rules.specs.Cancels.{Cancels, with_phase};
 ghost use Rattle.rewrite_pass.specs.Traces.{IsBothStep, IsJoinStep};
-ghost use Rattle.rewrite_steps.specs.Known.{AreEnds, IsBetween, IsKnown, IsProbe};
+ghost use Rattle.rewrite_steps.specs.Known.{AreEnds, IsBetween, AreSpansIn, IsProbe};
 ghost use Rattle.rewrite_steps.specs.Pairs.{IsFree, Reduces};
 
 use crate::known::{Known, wider};
@@ -71,10 +71,10 @@ fn behind(body: &Circuit, start: Slot, to: Slot, probe: Gate, wire: u32) -> Opti
 /// Whether a probe commutes with each gate between two of its wire: those of a span are known, and the others are looked at.
 fn is_clear(body: &Circuit, known: &mut Known, from: Slot, to: Slot, probe: Gate, wire: u32) -> bool
     requires ends { AreEnds wire probe body.now from to }
-    requires known { IsKnown known.old body.now }
+    requires known { AreSpansIn known.old body.now }
     ensures clear { result ≡ true → IsBetween probe body.now.gates body.now.slots from to }
     ensures not { result ≡ false → ¬ (IsBetween probe body.now.gates body.now.slots from to) }
-    ensures known { IsKnown known.new body.now }
+    ensures known { AreSpansIn known.new body.now }
 {
     let found = known.around(probe, from, to);
     let span = found.span;
@@ -105,10 +105,10 @@ fn is_free(
     requires ordered { first < second }
     requires pair { Cancels gate other }
     requires fine { IsFine body.now.wires gate }
-    requires known { IsKnown known.old body.now }
+    requires known { AreSpansIn known.old body.now }
     ensures free { result ≡ true → IsFree gate body.now.gates first second }
     ensures not { result ≡ false → ¬ (IsFree gate body.now.gates first second) }
-    ensures known { IsKnown known.new body.now }
+    ensures known { AreSpansIn known.new body.now }
 {
     // it says that the slots ascend
     body.facts();
@@ -140,9 +140,9 @@ fn are_pair(gate: Gate, other: Gate) -> bool
 
 /// What the gates at two places are together, past those between.
 fn together(body: &Circuit, known: &mut Known, first: usize, second: usize) -> Cancel
-    requires known { IsKnown known.old body.now }
+    requires known { AreSpansIn known.old body.now }
     ensures pair { Reduces body.now.gates first second result }
-    ensures known { IsKnown known.new body.now }
+    ensures known { AreSpansIn known.new body.now }
 {
     if first >= second || second >= body.len() {
         return Cancel::No;
@@ -171,8 +171,8 @@ fn with_phase(gate: Gate, k: u8) -> Gate
 
 /// Takes two gates away that cancel, and gives the turn. None where they don't; then nothing changes.
 pub fn both(body: &mut Circuit, known: &mut Known, first: usize, second: usize) -> Option<u8>
-    requires known { IsKnown known.old body.old }
-    ensures known { IsKnown known.new body.new }
+    requires known { AreSpansIn known.old body.old }
+    ensures known { AreSpansIn known.new body.new }
     ensures wires { body.new.wires ≡ body.old.wires }
     ensures applies { MatchOption result ((gates : List Gate) (turn : ℕ) → IsBothStep first second body.old.gates gates turn → ⊥)
         (λ turn. IsBothStep first second body.old.gates body.new.gates turn) }
@@ -191,8 +191,8 @@ pub fn both(body: &mut Circuit, known: &mut Known, first: usize, second: usize) 
 
 /// Puts one phase in the place of two that merge. False where they don't; then nothing changes.
 pub fn join(body: &mut Circuit, known: &mut Known, first: usize, second: usize) -> bool
-    requires known { IsKnown known.old body.old }
-    ensures known { IsKnown known.new body.new }
+    requires known { AreSpansIn known.old body.old }
+    ensures known { AreSpansIn known.new body.new }
     ensures wires { body.new.wires ≡ body.old.wires }
     ensures applies { result ≡ true → IsJoinStep first second body.old.gates body.new.gates 0 }
     ensures not { result ≡ false → ((gates : List Gate) (turn : ℕ) → IsJoinStep first second body.old.gates gates turn → ⊥) × (body.new.gates ≡ body.old.gates) }

@@ -29,7 +29,7 @@ ghost use Rattle.rewrite_pass.specs.TraceLines.{words};
 ghost use Rattle.rewrite_pass.specs.Traces.{IsStep, Step};
 ghost use Rattle.trace_text.specs.Texts.{lines_of};
 ghost use Rattle.trace_check.specs.Outcomes.{IsOutcome, claim};
-ghost use Rattle.rewrite_steps.specs.Known.{IsKnown};
+ghost use Rattle.rewrite_steps.specs.Known.{AreSpansIn};
 ghost use Rattle.trace_model.specs.Lines.{edition_of};
 ghost use Rattle.trace_check.specs.Progress.{Blocked, Came, IsHeldFit, IsListing, IsRouting, Leads, BlockedWith, LeadsOn, placed, reached, step_named};
 ghost use Rattle.trace_model.specs.Proves.{Claim, IsStuck, Routed, StopsAt, Unread};
@@ -214,12 +214,12 @@ fn moved<'a>(
     requires on { word ≡ kind.Place → ⊥ }
     requires turn { state.old.turn < 8 }
     requires held { IsHeldFit state.old.body.wires held.old }
-    requires known { IsKnown known.old state.old.body }
+    requires known { AreSpansIn known.old state.old.body }
     requires short { mark.line + length mark.text.now < 2 ^ 32 }
     ensures wires { state.new.body.wires ≡ state.old.body.wires }
     ensures turn { state.new.turn < 8 }
     ensures held { IsHeldFit state.old.body.wires held.new }
-    ensures known { IsKnown known.new state.new.body }
+    ensures known { AreSpansIn known.new state.new.body }
     ensures shorter { IfOk result (λ o. IfSome o (λ m. length m.text.now ≤ length mark.entry.text.now)) }
     ensures short { IfOk result (λ o. IfSome o (λ m. m.line + length m.text.now ≤ mark.entry.line + length mark.entry.text.now)) }
     ensures later { IfOk result (λ o. IfSome o (λ m. mark.entry.line ≤ m.line)) }
@@ -258,11 +258,11 @@ fn changed<'a>(
     requires goal { word ≡ kind.Goal → ⊥ }
     requires meet { word ≡ kind.Meet → ⊥ }
     requires turn { state.old.turn < 8 }
-    requires known { IsKnown known.old state.old.body }
+    requires known { AreSpansIn known.old state.old.body }
     requires short { mark.line + length mark.text.now < 2 ^ 32 }
     ensures wires { state.new.body.wires ≡ state.old.body.wires }
     ensures turn { state.new.turn < 8 }
-    ensures known { IsKnown known.new state.new.body }
+    ensures known { AreSpansIn known.new state.new.body }
     ensures shorter { IfOk result (λ o. IfSome o (λ m. length m.text.now ≤ length mark.entry.text.now)) }
     ensures short { IfOk result (λ o. IfSome o (λ m. m.line + length m.text.now ≤ mark.entry.line + length mark.entry.text.now)) }
     ensures later { IfOk result (λ o. IfSome o (λ m. mark.entry.line ≤ m.line)) }
@@ -296,10 +296,10 @@ fn rewrites(state: &mut Passed, known: &mut Known, word: Word, numbers: &[u32]) 
     requires listing { IsListing word → ⊥ }
     requires part { word ≡ kind.Part → ⊥ }
     requires turn { state.old.turn < 8 }
-    requires known { IsKnown known.old state.old.body }
+    requires known { AreSpansIn known.old state.old.body }
     ensures wires { state.new.body.wires ≡ state.old.body.wires }
     ensures turn { state.new.turn < 8 }
-    ensures known { IsKnown known.new state.new.body }
+    ensures known { AreSpansIn known.new state.new.body }
     ensures applies { result ≡ true → (behind : List (List ℕ)) →
         Leads word state.old state.new (words (spelling word) numbers.now ∷ behind) behind }
     ensures not { result ≡ false → (behind : List (List ℕ)) → Blocked state.old (words (spelling word) numbers.now ∷ behind) }
@@ -318,8 +318,8 @@ fn rewrites(state: &mut Passed, known: &mut Known, word: Word, numbers: &[u32]) 
 
 /// Makes the step that a word and two numbers tell, and gives its turn. None where there is none, or where it doesn't apply.
 fn step(body: &mut Circuit, known: &mut Known, word: Word, first: u32, second: u32) -> Option<u8>
-    requires known { IsKnown known.old body.old }
-    ensures known { IsKnown known.new body.new }
+    requires known { AreSpansIn known.old body.old }
+    ensures known { AreSpansIn known.new body.new }
     ensures wires { body.new.wires ≡ body.old.wires }
     ensures turn { IfSome result (λ turn. turn < 8) }
     ensures step { MatchOption result ((p : Step) (gates : List Gate) (turn : ℕ) → step_named word first second ≡ Some p →

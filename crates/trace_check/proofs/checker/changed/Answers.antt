@@ -21,7 +21,7 @@ returns-then-rewrites-clause-step c =
     subst (λ l. Leads c.args.word c.args.state.now c.rewrites.new.state (words (spelling c.args.word) l ∷ lines) lines) c.deref.ensures.value (c.if-rewrites.ensures.applies refl lines)
 
 pub returns-then-is_listing-clause-known : goal.returns-then-is_listing-clause-known
-returns-then-is_listing-clause-known c = c.forget.ensures c.replaced.new.state.body.gates c.replaced.new.state.body.slots
+returns-then-is_listing-clause-known c = c.forget.ensures c.replaced.new.state.body
 
 pub returns-then-eq-clause-known : goal.returns-then-eq-clause-known
-returns-then-eq-clause-known c = c.forget-then-eq.ensures c.replaced_part.new.state.body.gates c.replaced_part.new.state.body.slots
+returns-then-eq-clause-known c = c.forget-then-eq.ensures c.replaced_part.new.state.body

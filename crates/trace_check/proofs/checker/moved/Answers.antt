@@ -16,13 +16,13 @@ returns-then-eq-clause-step c =
     (sym word) c.aim.ensures.step
 
 pub returns-then-eq-clause-known : goal.returns-then-eq-clause-known
-returns-then-eq-clause-known c = c.forget.ensures c.aim.new.state.body.gates c.aim.new.state.body.slots
+returns-then-eq-clause-known c = c.forget.ensures c.aim.new.state.body
 
 pub returns-in_err-meet-clause-known : goal.returns-in_err-meet-clause-known
-returns-in_err-meet-clause-known c = c.forget-then-eq-2.ensures c.meet.new.state.body.gates c.meet.new.state.body.slots
+returns-in_err-meet-clause-known c = c.forget-then-eq-2.ensures c.meet.new.state.body
 
 pub returns-then-branch-clause-known : goal.returns-then-branch-clause-known
-returns-then-branch-clause-known c = c.forget-then-eq-2.ensures c.meet.new.state.body.gates c.meet.new.state.body.slots
+returns-then-branch-clause-known c = c.forget-then-eq-2.ensures c.meet.new.state.body
 
 pub returns-else-branch-clause-known : goal.returns-else-branch-clause-known
-returns-else-branch-clause-known c = c.forget-then-eq-2.ensures c.meet.new.state.body.gates c.meet.new.state.body.slots
+returns-else-branch-clause-known c = c.forget-then-eq-2.ensures c.meet.new.state.body

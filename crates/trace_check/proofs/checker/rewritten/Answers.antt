@@ -23,7 +23,7 @@ lines-init c = record {
   short = c.requires.short;
   later = omega arith;
   held = tt;
-  known = c.nothing-known.ensures c.args.state.now.body.gates c.args.state.now.body.slots;
+  known = c.nothing-known.ensures c.args.state.now.body;
   came = λ e trace n q k is. (n, (k, is));
 }
 
