@@ -5,7 +5,7 @@ use Rattle.trace_check.proofs.PartStepLaws.{slice_of-more, slice_of-none}
 use Rattle.trace_check.proofs.parts.part.Goals as goal
 
 pub gates-init : goal.gates-init
-gates-init c = record { from = omega arith; wires = c.in_ok-made.ensures.wires; gates = c.in_ok-made.ensures.gates ∙ sym (slice_of-none c.args.body.now.gates c.args.first) }
+gates-init c = record { from = omega arith; wires = c.in_ok-made.ensures.wires ∙ c.wires.ensures.wires; gates = c.in_ok-made.ensures.gates ∙ sym (slice_of-none c.args.body.now.gates c.args.first) }
 
 pub gates-preserved : goal.gates-preserved
 gates-preserved c =
