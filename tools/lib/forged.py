@@ -254,7 +254,8 @@ class Author:
         kind = dice.choice(["step", "step", "step", "step", "sums", "phases", "part", "goal"])
         if kind == "step":
             # of each word, and of each rule, as often
-            found = {it[:6] if it.startswith("rule") else it[:4]: it for it in dice.sample(steps := self.steps(), len(steps))}
+            steps = self.steps()
+            found = {it[:6] if it.startswith("rule") else it[:4]: it for it in dice.sample(steps, len(steps))}
             self.more([dice.choice(list(found.values()))] if found else [])
         elif kind in ("sums", "phases"):
             self.more(listed_lines(kind, same_sums(dice, self.size, listed, kind == "phases")))
