@@ -730,7 +730,7 @@ class ProgramReader(Reader):
             found = self.program.borrowed[name] = known_gate(self.known[name])
         if found is None:
             self.fail(f"no gate {name}")
-        if found.is_opaque and not self.whole:
+        elif found.is_opaque and not self.whole:
             self.fail(f"the gate {name} has no body")
         self.at += 1
         if found is CX and self.peek() == "(" and not self.whole:

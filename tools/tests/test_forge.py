@@ -50,7 +50,8 @@ class Forge(ToolTest):
             self.assertTrue(tool.is_right(texts, verdict), seed)
             verdict.power = (verdict.power + 1) % 8
             self.assertFalse(tool.is_right(texts, verdict), seed)
-            words.update(it[:6] if it.startswith("rule") else it.split(" ")[0] for it in trace.lines)
+            words.update(it.split(" ")[0] for it in trace.lines)
+            words.update(it[:6] for it in trace.lines if it.startswith("rule"))
         for word in [*traces.WORDS, *traces.LATER, *(f"rule {k}" for k in range(1, 8)), "TRACE", "H", "X", "P", "C"]:
             self.assertGreater(words[word], 0, word)
 
