@@ -227,8 +227,8 @@ class Bench(ToolTest):
 
     def test_the_table_of_hostile_texts(self):
         kinds = [hostile.Kind(name, ("check",), status, lambda: "") for name, status in (("fast", 0), ("slow", 0), ("endless", 3))]
-        measured = self.parts["Measured"]
-        found = [measured(it, *row) for it, row in zip(kinds, ((0.1, 20, 9, 0, 0), (7.25, 500, 4_190_000, 12, 0), (200, 20, 9, 0, -24)))]
+        taken = self.parts["Taken"]
+        found = [taken(it, *row) for it, row in zip(kinds, ((0.1, 20, 9, 0, 0), (7.25, 500, 4_190_000, 12, 0), (200, 20, 9, 0, -24)))]
         lines = self.parts["hostile_part"](found, 3).splitlines()
         self.assertRegex(lines[0], r"^Of \d+\.\d+\.\d+, on [-\d]+, best of 3 runs: 3 texts, of which 2 take more than 5 s ")
         self.assertRegex(lines[1], r"; no other takes more than 0\.10 s or 20 MB:$")
