@@ -111,6 +111,9 @@ fn item(alloc: Global, cursor: &mut Cursor<'_>) -> Result<(Stmt, Option<usize>),
     applying(alloc, cursor, true)
 }
 
+/// A body of so many items keeps the room that was taken for them.
+const SHORT: usize = 4;
+
 /// The items of a gate's body, up to its end.
 #[tactic(auto, using(crate::proofs::StepLaws::items, crate::proofs::LoopLaws::items))]
 fn items(alloc: Global, cursor: &mut Cursor<'_>) -> Result<(Vec<Stmt>, Option<usize>), ParseStop>
@@ -139,6 +142,8 @@ pub fn body(alloc: Global, cursor: &mut Cursor<'_>) -> Result<(Vec<Stmt>, Option
 {
     let (mut list, deep) = items(alloc, cursor)?;
     expect(cursor, Mark::CloseBrace)?;
-    list.shrink_to_fit();
+    if list.len() > SHORT {
+        list.shrink_to_fit();
+    }
     Ok((list, deep))
 }
