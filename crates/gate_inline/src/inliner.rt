@@ -22,7 +22,7 @@ use crate::quiet::is_nothing;
 use crate::renaming::{is_renaming, push_renamed};
 use crate::size::Size;
 use crate::stop::InlineStop;
-use crate::value::values;
+use crate::value::constant_values;
 use angle_fraction::Angle;
 use gate_library::broadcast;
 use linear_forms::Line;
@@ -360,7 +360,7 @@ impl<'a, 'b> Inliner<'a, 'b> {
                 gate,
                 angles,
                 operands,
-            } => match values(alloc, &[], angles, &[]) {
+            } => match constant_values(alloc, angles) {
                 Ok(angles) => self.write_broadcast(alloc, *gate, &angles, operands.as_slice()),
                 Err(stop) => Err(stop),
             },

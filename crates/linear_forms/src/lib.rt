@@ -14,4 +14,4 @@ mod value;
 
 pub use form::Form;
 pub use line::{Line, bodies_of, first_form, lines_at};
-pub use value::value_by;
+pub use value::{operation, value, value_by};

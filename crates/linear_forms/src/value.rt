@@ -22,7 +22,8 @@ pub fn param(params: &[Angle], place: usize) -> Angle
     }
 }
 
-fn operation(sign: Binary, left: &Angle, right: &Angle) -> Result<Angle, AngleFault>
+/// What a sign makes of two angles.
+pub fn operation(sign: Binary, left: &Angle, right: &Angle) -> Result<Angle, AngleFault>
     ensures { result ≡ operation_of sign left.now right.now }
 {
     match sign {

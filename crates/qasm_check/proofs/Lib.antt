@@ -1,4 +1,5 @@
 mod AcceptedLaws
+mod ChainLaws
 mod EitherLaws
 mod IndexLaws
 mod ListingLaws

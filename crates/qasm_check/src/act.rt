@@ -12,7 +12,7 @@ ghost use Rattle.qasm_check.specs.Verdicts.{IsStop, verdict};
 ghost use Rattle.qasm_check.specs.StepViews.{step};
 
 use crate::arguments::{NamedArgs, named};
-use crate::expression::{any_foreign, formulas};
+use crate::expression::{any_foreign, constants};
 use crate::indices::Indices;
 use crate::known::Known;
 use crate::meaning::{Meaning, is_other, is_past_end, names_register, operand_in};
@@ -146,7 +146,7 @@ pub fn application<'a>(
     let none = Indices::none(alloc);
     let found = known.meaning(apply.gate.as_bytes());
     let operands = tested(alloc, known, found, &none, apply)?;
-    let angles = formulas(alloc, &none, &apply.angles)?;
+    let angles = constants(alloc, &none, &apply.angles)?;
     Ok(Step::Apply {
         gate: number_of(found),
         angles,

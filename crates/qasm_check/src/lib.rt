@@ -12,6 +12,7 @@ mod act;
 mod arguments;
 mod body;
 mod checked;
+mod constant;
 mod expression;
 mod indices;
 mod known;
@@ -24,6 +25,7 @@ mod statement;
 mod stop;
 
 pub use checked::Checked;
+pub use constant::Constant;
 pub use gate_library::{BoundGate, Formula, FormulaSides, Item, Operand};
 pub use laws::{
     accepted_has_no_fault, accepted_is_sound, checked_or_refused, listing_is_spelt, refused_once,

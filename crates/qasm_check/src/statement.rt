@@ -14,11 +14,12 @@ ghost use Rattle.qasm_check.specs.Verdicts.{IsStop, verdict};
 use crate::act::{application, barrier, measure};
 use crate::arguments::operand;
 use crate::body::{gate, opaque};
+use crate::constant::Constant;
 use crate::known::Known;
 use crate::refusal::CheckRefusal;
 use crate::stop::CheckStop;
 use crate::{MOST_BITS, MOST_QUBITS};
-use gate_library::{Formula, Operand, is_in_table};
+use gate_library::{Operand, is_in_table};
 use qasm_parser::{Arg, GateDef, Name, Stmt};
 use smallvec::SmallVec;
 use std::alloc::Global;
@@ -30,7 +31,7 @@ pub enum Step {
     /// its wires; single wires are repeated.
     Apply {
         gate: usize,
-        angles: Vec<Formula>,
+        angles: Vec<Constant>,
         operands: SmallVec<Operand, 2>,
     },
     /// Measures a wire into a bit, or wire by wire a register into one of bits.

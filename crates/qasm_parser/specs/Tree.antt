@@ -11,17 +11,22 @@
 --   Statement, Tree   a statement; a program
 --   include, register, gate, opaque, conditional, act   a library that is included; a register of qubits or of bits; a gate with
 --                  its body; a gate without one; an action behind `if`; an action
+--   term, linked, chain   what a term of a chain spells; what comes before a link, with it; a chain from left to right
 --   expression, application, action, actions, statement, program   what a tree of the code spells; in a body or behind `if`
 --                  a statement that can't stand there is an empty barrier, which no text spells
 --   definition     a gate's names and its body as one value
-use Rattle.std.specs.Prelude.{ℕ, ◌+◌, max, List, [], ◌∷◌, Bool, map}
-use Rattle.angle_fraction.specs.Fraction.{Fraction}
+use Rattle.std.specs.Prelude.{ℕ, ◌+◌, max, List, [], ◌∷◌, Bool, Some, None, fold, map}
+use Rattle.angle_fraction.specs.Fraction.{Fraction, nought}
 use Rattle.angle_fraction.specs.declared.signs.Function.{Function}
 use Rattle.angle_fraction.specs.declared.signs.Binary.{Binary}
+use Rattle.angle_fraction.specs.declared.signs.Binary.TheVariants.{Div}
 use Rattle.qasm_parser.specs.declared.tree.Arg.{Arg}
 use Rattle.qasm_parser.specs.declared.tree.Apply.{Apply}
 use Rattle.qasm_parser.specs.declared.tree.Program.{Program}
-use Rattle.qasm_parser.specs.declared.tree.Expr.{Expr, Number, Pi, Param, Neg', Paren', Call', Binary'}
+use Rattle.qasm_parser.specs.declared.tree.Expr.{Expr, Number, Pi, Param, Over, Chain, Neg', Paren', Call', Binary'}
+use Rattle.qasm_parser.specs.declared.tree.Term.{Term}
+use Rattle.qasm_parser.specs.declared.tree.Term.TheVariants.{Number as NumberTerm, Pi as PiTerm, Over as OverTerm}
+use Rattle.qasm_parser.specs.declared.tree.Link.{Link}
 use Rattle.qasm_parser.specs.declared.tree.Stmt.{Stmt, Include, Register, Gate', Opaque', Apply as Applied, Measure, Reset, If', Barrier, Row_of-Stmt, end_of-Stmt, more_of-Stmt}
 
 pub data Expression : Type 0 where
@@ -75,10 +80,23 @@ pub record Tree : Type 0 where
   pub list : List Statement
 
 -- ---- trees of the code
+abbrev pub term : Term → Expression
+term (NumberTerm value) = number value
+term PiTerm = pi
+term (OverTerm value) = binary Div pi (number value)
+
+abbrev pub linked : Expression → Link → Expression
+linked before link = elim (link.sign) [ Some s ↦ binary s before (term link.term) | None ↦ term link.term ]
+
+abbrev pub chain : List Link → Expression
+chain links = fold linked (number nought) links
+
 abbrev pub expression : Expr → Expression
 expression (Number value) = number value
 expression Pi = pi
 expression (Param name) = param name
+expression (Over value) = binary Div pi (number value)
+expression (Chain links) = chain links.items
 expression (Neg' p part) = negated (expression part)
 expression (Paren' p part) = paren (expression part)
 expression (Call' function p part) = call function (expression part)

@@ -119,7 +119,7 @@ fn items(alloc: Global, cursor: &mut Cursor<'_>) -> Result<(Vec<Stmt>, Option<us
     ensures err { IfErr result (IsMisread (walk (until (this_mark CloseBrace) item_shape) cursor.old)) }
     ensures rest { OnOk result (length cursor.new ≤ length cursor.old) }
 {
-    let mut list = Vec::new(alloc);
+    let mut list = Vec::with_capacity(alloc, 1)?;
     let mut deep = None;
     'items: while !is_next(cursor, Mark::CloseBrace) {
         let (next, place) = item(alloc, cursor)?;

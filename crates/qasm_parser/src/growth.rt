@@ -1,12 +1,12 @@
 //! Parts of an expression put into greater ones; one that gets deeper than the limit is let go.
 
-ghost use Rattle.std.specs.Prelude.{◌≡◌, IfOk};
-ghost use Rattle.qasm_parser.specs.Tree.{most_depth};
+ghost use Rattle.std.specs.Prelude.{◌≡◌, IfOk, IfSome};
+ghost use Rattle.qasm_parser.specs.Tree.{binary, chain, expression, most_depth, term as spelt_term};
 ghost use Rattle.qasm_parser.specs.Machine.{called, closed, joined, minus, opened};
 ghost use Rattle.qasm_parser.specs.Parts.{part_of};
 
 use crate::part::{MOST_DEPTH, Part};
-use crate::tree::{Expr, Sides};
+use crate::tree::{Expr, Link, Sides, Term};
 use angle_fraction::{Binary, Function};
 use std::alloc::{AllocError, Global};
 
@@ -65,6 +65,78 @@ pub fn applied(
     }))
 }
 
+/// What an expression is in a chain, where it can stand there.
+fn term_of(tree: &Expr) -> Option<Term>
+    ensures { IfSome result (λ t. spelt_term t ≡ expression tree.now) }
+{
+    match tree {
+        Expr::Number(value) => Some(Term::Number(*value)),
+        Expr::Pi => Some(Term::Pi),
+        Expr::Over(value) => Some(Term::Over(*value)),
+        _ => None,
+    }
+}
+
+/// Two trees with a sign between them, in a box of their own.
+fn boxed(alloc: Global, sign: Binary, left: Expr, right: Expr) -> Result<Expr, AllocError>
+    ensures { IfOk result (λ e. expression e ≡ binary sign (expression left) (expression right)) }
+{
+    let sides = Box::new(alloc, Sides { left, right })?;
+    Ok(Expr::Binary { sign, sides })
+}
+
+/// Two terms with a sign between them.
+fn paired(alloc: Global, first: Term, sign: Binary, last: Term) -> Result<Expr, AllocError>
+    ensures { IfOk result (λ e. expression e ≡ binary sign (spelt_term first) (spelt_term last)) }
+{
+    if let Binary::Div = sign {
+        if let Term::Pi = first {
+            if let Term::Number(value) = last {
+                return Ok(Expr::Over(value));
+            }
+        }
+    }
+    let mut links = Vec::with_capacity(alloc, 4)?;
+    links.push(Link {
+        sign: None,
+        term: first,
+    })?;
+    links.push(Link {
+        sign: Some(sign),
+        term: last,
+    })?;
+    Ok(Expr::Chain(links))
+}
+
+/// A chain with one more term.
+#[tactic(auto, using(std::proofs::lemmas::List::Sums::fold-append))]
+fn lengthened(links: Vec<Link>, sign: Binary, last: Term) -> Result<Expr, AllocError>
+    ensures { IfOk result (λ e. expression e ≡ binary sign (chain links.items) (spelt_term last)) }
+{
+    let mut links = links;
+    links.push(Link {
+        sign: Some(sign),
+        term: last,
+    })?;
+    Ok(Expr::Chain(links))
+}
+
+/// Two trees with a sign between them: in a chain, where the right one can stand in one.
+fn tree_of(alloc: Global, sign: Binary, left: Expr, right: Expr) -> Result<Expr, AllocError>
+    ensures { IfOk result (λ e. expression e ≡ binary sign (expression left) (expression right)) }
+{
+    let Some(term) = term_of(&right) else {
+        return boxed(alloc, sign, left, right);
+    };
+    match left {
+        Expr::Chain(links) => lengthened(links, sign, term),
+        left => match term_of(&left) {
+            Some(first) => paired(alloc, first, sign, term),
+            None => boxed(alloc, sign, left, right),
+        },
+    }
+}
+
 /// Two parts with a sign between them.
 #[tactic(auto, unfolding(crate::specs::Machine::capped))]
 pub fn joined(
@@ -85,13 +157,9 @@ pub fn joined(
     if deepest >= MOST_DEPTH {
         return Ok(None);
     }
-    let sides = Sides {
-        left: left.tree,
-        right: right.tree,
-    };
-    let sides = Box::new(alloc, sides)?;
+    let tree = tree_of(alloc, sign, left.tree, right.tree)?;
     Ok(Some(Part {
-        tree: Expr::Binary { sign, sides },
+        tree,
         depth: deepest + 1,
     }))
 }

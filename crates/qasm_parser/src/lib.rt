@@ -31,7 +31,7 @@ pub use laws::{
 pub use name::Name;
 pub use program::parse;
 use thiserror::Error;
-pub use tree::{Apply, Arg, Expr, GateDef, Program, Sides, Stmt};
+pub use tree::{Apply, Arg, Expr, GateDef, Link, Program, Sides, Stmt, Term};
 
 /// Why the tokens of a text are refused. A place is an offset in bytes.
 #[derive(Clone, Copy, Debug, PartialEq, Eq, Error)]

@@ -243,7 +243,7 @@ pub fn names(alloc: Global, cursor: &mut Cursor<'_>) -> Result<Vec<Name>, ParseS
     ensures err { IfErr result (IsMisread (walk (list_shape (one a_name)) cursor.old)) }
     ensures rest { OnOk result (length cursor.new ≤ length cursor.old) }
 {
-    let mut list = Vec::new(alloc);
+    let mut list = Vec::with_capacity(alloc, 1)?;
     list.push(name(alloc, cursor)?)?;
     'names: while take(cursor, Mark::Comma) {
         list.push(name(alloc, cursor)?)?;

@@ -6,6 +6,21 @@ use smallvec::SmallVec;
 use std::alloc::Global;
 use std::default::MadeWith;
 
+/// What stands in a chain: a number, pi, or pi over a number.
+#[derive(Clone, Copy)]
+pub enum Term {
+    Number(Frac),
+    Pi,
+    Over(Frac),
+}
+
+/// A term of a chain, behind what comes before it and a sign; the first has none.
+#[derive(Clone, Copy)]
+pub struct Link {
+    pub sign: Option<Binary>,
+    pub term: Term,
+}
+
 /// An expression, at most 64 deep in the tree of a text.
 #[cycle(expression)]
 #[derive(Drop)]
@@ -15,6 +30,10 @@ pub enum Expr {
     Pi,
     /// A name; in a gate's body it may be a parameter.
     Param(Name),
+    /// Pi over a number.
+    Over(Frac),
+    /// Terms with signs between, taken from left to right.
+    Chain(Vec<Link>),
     /// Unary minus.
     Neg(Box<Expr>),
     /// A pair of parentheses.

@@ -5,7 +5,7 @@ ghost use Rattle.std.specs.Prelude.{◌<◌, ◌^◌};
 use crate::rows::sides;
 use angle_fraction::Frac;
 use qasm_lexer::lex;
-use qasm_parser::{Binary, Expr, Name, Program, Stmt, parse};
+use qasm_parser::{Binary, Expr, Link, Name, Program, Stmt, Term, parse};
 use std::alloc::{AllocError, Global};
 use test_rows::{Wrong, each_row, small};
 
@@ -44,6 +44,40 @@ fn write_number(out: &mut Vec<u8>, value: Frac) -> Result<(), AllocError> {
     Ok(())
 }
 
+/// Pi over a number.
+fn write_over(out: &mut Vec<u8>, value: Frac) -> Result<(), AllocError> {
+    out.extend_from_slice(b"/ p ")?;
+    write_number(out, value)
+}
+
+fn write_term(out: &mut Vec<u8>, term: Term) -> Result<(), AllocError> {
+    match term {
+        Term::Number(value) => write_number(out, value),
+        Term::Pi => {
+            out.push(b'p')?;
+            Ok(())
+        }
+        Term::Over(value) => write_over(out, value),
+    }
+}
+
+/// A chain: its signs, the last in front, then its terms.
+fn write_chain(out: &mut Vec<u8>, links: &[Link]) -> Result<(), AllocError> {
+    'signs: for i in 0..links.len() {
+        if let Some(sign) = links[links.len() - 1 - i].sign {
+            out.push(sign_of(sign))?;
+            out.push(b' ')?;
+        }
+    }
+    'terms: for (i, link) in links.iter().enumerate() {
+        if i > 0 {
+            out.push(b' ')?;
+        }
+        write_term(out, link.term)?;
+    }
+    Ok(())
+}
+
 /// The expression with its signs in front, unary minus as `~`, parentheses as `()`.
 fn write_tree(out: &mut Vec<u8>, tree: &Expr) -> Result<(), AllocError> {
     match tree {
@@ -56,6 +90,8 @@ fn write_tree(out: &mut Vec<u8>, tree: &Expr) -> Result<(), AllocError> {
             out.push(b'x')?;
             Ok(())
         }
+        Expr::Over(value) => write_over(out, *value),
+        Expr::Chain(links) => write_chain(out, links),
         Expr::Neg(part) => {
             out.push(b'~')?;
             write_tree(out, part)
