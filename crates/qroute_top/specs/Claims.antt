@@ -21,8 +21,8 @@
 --   IsBehind content v d f x  with what is found of the source, and the content of the target's name, it ends so
 --   IsEnding content v x   it ends so where the device, if one is asked for, is had: the source is judged first, the target only where
 --                        that is accepted, and the trace's text only where that is too
---   AreContents content v   what the first name has is told, what the second has where the first one's text is accepted, and what the
---                        trace's has where both are
+--   AreContents content v   what the device's name has is told, where one is asked for, what the first name has, what the second has
+--                        where the first one's text is accepted, and what the trace's has where both are
 --   IsVerified content v text   the text says yes for what is asked for
 --   Compares words v     the words mean `verify`, with this asked for
 --   ending_status x      the status that it ends with
@@ -141,6 +141,7 @@ IsEnding content v x = (d : Option Coupling) × HasAskedDevice content v.device 
     × ((y : Found) × Finds (content v.source) side.Source y × IsBehind content v d y x)
 
 pub record AreContents (content : List ℕ → Option (Option (List ℕ))) (v : Verifying) : Type 0 where
+  pub device : IfSome v.device (λ name. (told : Option (List ℕ)) × (content name ≡ Some told))
   pub first : Option (List ℕ)
   pub first_told : content v.source ≡ Some first
   pub second : (text : List ℕ) (p : Program) → Finds (content v.source) side.Source (Good text p)

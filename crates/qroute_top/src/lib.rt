@@ -27,7 +27,6 @@ ghost use Rattle.route_report.specs.Faults.{fault_line};
 ghost use Rattle.route_report.specs.declared.faults.Side.TheVariants as Side;
 ghost use Rattle.program_reader.specs.Refusals.{IsRefusal};
 ghost use Rattle.program_reader.specs.Texts.{IsAcceptedText};
-ghost use Rattle.coupling_map.specs.Coupling.{Coupling};
 ghost use Rattle.program_reader.specs.declared.refusal.ProgramRefusal.{ProgramRefusal as Refused};
 ghost use Rattle.command_line.specs.Commands.{command_of};
 ghost use Rattle.command_line.specs.Demands.{asked_claim, device_name, initial_list, question_of, reads_input, writes_out, writes_report};
@@ -39,7 +38,7 @@ ghost use Rattle.qroute_top.specs.declared.stops.QuestionRefusal.{QuestionRefusa
 ghost use Rattle.qroute_top.specs.Devices.{HasDevice, IsDeviceRefusal, HasSource};
 ghost use Rattle.qroute_top.specs.Questions.{IsQuestionRefusal};
 ghost use Rattle.qroute_top.specs.Causes.{EndsWithFault, is_early_fault, output_fault_line};
-ghost use Rattle.qroute_top.specs.Claims.{AreContents, Ending, HasAskedDevice, IsEnding, IsTextRefused, ending_status, limit_of};
+ghost use Rattle.qroute_top.specs.Claims.{AreContents, Ending, IsEnding, IsTextRefused, ending_status, limit_of};
 ghost use Rattle.qroute_top.specs.Delivered.{Delivered};
 
 pub use bench_program::made;
@@ -142,11 +141,11 @@ pub fn run<I: Source, F: Shelf, O: Sink, R: Sink>(
         → (writes_out c ≡ true → Rose (O.faults out.old) (O.faults out.new) → ⊥)
         → (writes_report c ≡ true → Rose (R.faults report.old) (R.faults report.new) → ⊥) → (result ≡ 0) ⊎ (result ≡ 7) }
 
-    // A command that compares two texts which the shelf tells, or tells to be absent, as it does the trace's where that has one of its
-    // own, ends as these, the trace and what is asked besides say, or wants memory: 9 where a text is absent, 3 where one is refused,
-    // 4 where the device has fewer qubits than the target, 1 where the trace stops at a line, or what is asked isn't so, and 0 where
-    // the trace proves that the second realises the first and all that is asked is so, unless a count of faults rose. A device that is
-    // absent or refused ends it before, as `absent` and `refuses_device` say.
+    // A command that compares two texts which the shelf tells, or tells to be absent, as it does the device's where one is asked for,
+    // and the trace's where that has one of its own, ends as these, the trace and what is asked besides say, or wants memory: 9 where
+    // a text is absent, 3 where one is refused, 4 where the device has fewer qubits than the target, 1 where the trace stops at a
+    // line, or what is asked isn't so, and 0 where the trace proves that the second realises the first and all that is asked is so,
+    // unless a count of faults rose. A device that is absent or refused ends it before, as `absent` and `refuses_device` say.
     ensures verdict { (c : Asked) (v : Verifying) (x : Ending) → command_of (map (λ w. w.now) words.now) ≡ Some c
         → asked_claim c ≡ Some v → AreContents (F.content shelf.old) v → IsEnding (F.content shelf.old) v x
         → (Rose (F.faults shelf.old) (F.faults shelf.new) → ⊥) → (ending_status x ≡ 0 → Rose (O.faults out.old) (O.faults out.new) → ⊥)
@@ -154,11 +153,11 @@ pub fn run<I: Source, F: Shelf, O: Sink, R: Sink>(
 
     // Where all texts are there, none is refused, and the device, if one is asked for, has a qubit for each of the target's, it ends
     // with 0 or 1, or wants memory, unless a count of faults rose.
-    ensures complete_texts { (c : Asked) (v : Verifying) (s t u : List ℕ) (d : Option Coupling) → command_of (map (λ w. w.now) words.now) ≡ Some c
-        → asked_claim c ≡ Some v → HasAskedDevice (F.content shelf.old) v.device d
+    ensures complete_texts { (c : Asked) (v : Verifying) (s t u : List ℕ) (n : ℕ) → command_of (map (λ w. w.now) words.now) ≡ Some c
+        → asked_claim c ≡ Some v → HasDevice (F.content shelf.old) v.device None n
         → F.content shelf.old v.source ≡ Some (Some s) → ((r : Refused) → IsTextRefused Side.Source s r → ⊥)
         → F.content shelf.old v.target ≡ Some (Some t) → ((r : Refused) → IsTextRefused Side.Target t r → ⊥)
-        → ((q : Program) → IsAcceptedText t q → IfSome d (λ e. q.wires ≤ e.size))
+        → ((q : Program) → IsAcceptedText t q → q.wires ≤ n)
         → IfSome v.trace (λ name. (F.content shelf.old name ≡ Some (Some u)) × (length u ≤ limit_of Side.Trace))
         → (Rose (F.faults shelf.old) (F.faults shelf.new) → ⊥) → (Rose (O.faults out.old) (O.faults out.new) → ⊥)
         → (result ≡ 0) ⊎ ((result ≡ 1) ⊎ (result ≡ 7)) }
