@@ -41,7 +41,7 @@ edges_said range = []
 edges_said (self_edge q) = []
 edges_said (edge_cost from to) = []
 
-device_said : Outcome → Coupling
+abbrev pub device_said : Outcome → Coupling
 device_said (graph n es cs) = record { size = n; edges = es; costs = cs }
 device_said shape = record { size = 0; edges = []; costs = None }
 device_said range = record { size = 0; edges = []; costs = None }
@@ -49,7 +49,6 @@ device_said (self_edge q) = record { size = 0; edges = []; costs = None }
 device_said (edge_cost from to) = record { size = 0; edges = []; costs = None }
 
 pub IsDevice-once : (text : List ℕ) (c d : Coupling) → IsDevice text c → IsDevice text d → c ≡ d
-unfolding device_said
 IsDevice-once text c d is too = ap device_said (Says-once text (graph c.size c.edges c.costs) (graph d.size d.edges d.costs) is.says too.says)
 
 -- where a text describes a device with a qubit for each wire, it is not refused
