@@ -605,7 +605,7 @@ stopped_early law h (stop.Claim x) n c q w e a absent refused = absurd (a.alone 
 
 -- ---- commands that claim nothing, or whose device isn't had
 pub unclaimed : (h : Handed) (c : Command) → command_of h.words ≡ Some c → asked_claim c ≡ None → (y : ClaimStop) → IsCause h (stop.Claim y) → ⊥
-unclaimed h c asked alone y w = let claim = compares_claim h c w.0 w.1 asked in cc
+unclaimed h c asked alone y w = let asks = compares_claim h c w.0 w.1 asked in cc
 
 device_claimed : (h : Handed) (c : Command) (name : List ℕ) (v : Verifying) → command_of h.words ≡ Some c → device_name c ≡ Some name → Compares h.words v
     → v.device ≡ Some name
@@ -619,17 +619,17 @@ unclaimed-absent h c name asked wants none calm y w =
     (subst HasNoText (sym none) refl) had.1
 
 none_needed : (c : Command) (v : Verifying) (P : List ℕ → Type 0) (q : ℕ) → asked_claim c ≡ Some v → HasSource (reads_input c) P q → q ≡ 0
-none_needed c v P q claim needs = subst (λ b. HasSource b P q) (apart c v claim).0 needs
+none_needed c v P q asks needs = subst (λ b. HasSource b P q) (apart c v asks).0 needs
 
 none_listed : (c : Command) (v : Verifying) → asked_claim c ≡ Some v → initial_list c ≡ None
-none_listed c v claim = ap initial_list (claims c v claim)
+none_listed c v asks = ap initial_list (claims c v asks)
 
 -- a refusal of the device of `verify` is one for a program without wires
 plain_refusal : (c : Command) (v : Verifying) (P : List ℕ → Type 0) (q : ℕ) (t : List ℕ) (r : DeviceRefusal) → asked_claim c ≡ Some v
     → HasSource (reads_input c) P q → IsDeviceRefusal t q (initial_list c) r → IsDeviceRefusal t 0 None r
-plain_refusal c v P q t r claim needs refusal =
-    subst (λ o. IsDeviceRefusal t 0 o r) (none_listed c v claim)
-    (subst (λ (m : ℕ). IsDeviceRefusal t m (initial_list c) r) (none_needed c v P q claim needs) refusal)
+plain_refusal c v P q t r asks needs refusal =
+    subst (λ o. IsDeviceRefusal t 0 o r) (none_listed c v asks)
+    (subst (λ (m : ℕ). IsDeviceRefusal t m (initial_list c) r) (none_needed c v P q asks needs) refusal)
 
 tells_told : (o : Option (Option (List ℕ))) (t : List ℕ) → o ≡ Some (Some t) → TellsText o t
 tells_told o t e = subst (λ w. TellsText w t) (sym e) refl
@@ -831,10 +831,10 @@ record IsFromDevice (content : Content) (name : List ℕ) (initial : Option (Lis
 
 -- .. or it is `verify`, whose device is had
 record IsClaimedOn (content : Content) (name : List ℕ) (c : Command) : Type 0 where
-  claim : Verifying
-  is : c ≡ Verify claim
-  wants : claim.device ≡ Some name
-  had : (d : Option Coupling) × HasAskedDevice content claim.device d
+  asks : Verifying
+  is : c ≡ Verify asks
+  wants : asks.device ≡ Some name
+  had : (d : Option Coupling) × HasAskedDevice content asks.device d
 
 answer_on : (content : Content) (name : List ℕ) (c : Command) (source : Program) (x l : List ℕ) → device_name c ≡ Some name → IsAnswer content c source x l
     → IsFromDevice content name (initial_list c) source x l ⊎ IsClaimedOn content name c
@@ -853,7 +853,7 @@ answer_on content name Check source x l wants answer = cc
 answer_on content name (Stages spares) source x l wants answer = cc
 answer_on content name (Amplitude from to) source x l wants answer = cc
 answer_on content name (Verify v) source x l wants answer =
-    inr (record { claim = v; is = refl; wants = wants; had = (answer.0.device, answer.0.device_told) })
+    inr (record { asks = v; is = refl; wants = wants; had = (answer.0.device, answer.0.device_told) })
 answer_on content name (Bench start gates other) source x l wants answer =
     let same : other ≡ name = cc in inl (record {
       begin = Tries 1;
@@ -888,7 +888,7 @@ planned-absent words content old new w n name c delivers (inl seven) asked wants
 planned-absent words content old new w n name c delivers (inr (x, l, is)) asked wants none =
     elim (planned_on words content old new x l name c (delivers x l is) asked wants) [
       | inl on ↦ absurd (absent_text (content name) on.answer.placed.device_text none on.answer.placed.loaded)
-      | inr on ↦ absurd (asked-absent content on.claim.device on.had.0 name None on.wants none (subst HasNoText (sym none) refl) on.had.1)
+      | inr on ↦ absurd (asked-absent content on.asks.device on.had.0 name None on.wants none (subst HasNoText (sym none) refl) on.had.1)
     ]
 
 refused_or_routed : MeansOnce → (words : List (List ℕ)) (content : Content) (old new : Option (List ℕ)) (x l name : List ℕ) (c : Command) (t : List ℕ)
@@ -917,9 +917,9 @@ refused_or_routed once words content old new x l name c t q r d asked wants need
 
     claimed : IsClaimedOn content name c → ⊥
     claimed on =
-        let claim : asked_claim c ≡ Some on.claim = ap asked_claim on.is in
-        let plain = plain_refusal c on.claim (λ u. old ≡ Some u) q t r claim needs refusal in
-        asked-refused content on.claim.device on.had.0 name (Some t) r on.wants here (t, tells_told (content name) t here, plain) on.had.1
+        let asks : asked_claim c ≡ Some on.asks = ap asked_claim on.is in
+        let plain = plain_refusal c on.asks (λ u. old ≡ Some u) q t r asks needs refusal in
+        asked-refused content on.asks.device on.had.0 name (Some t) r on.wants here (t, tells_told (content name) t here, plain) on.had.1
 
 pub planned-refuses_device : MeansOnce → (words : List (List ℕ)) (content : Content) (old new : Option (List ℕ)) (w : Answer) (n : ℕ) (name : List ℕ) (c : Command)
     (t : List ℕ) (q : ℕ) (r : DeviceRefusal) → DeliversAnswer words content old new w → Came w n → command_of words ≡ Some c
@@ -1000,12 +1000,12 @@ Delivered-done words content old new w Done delivers (text, line, is, done) = (t
 -- what a stop before the texts says of the device
 stopped_at : (h : Handed) (c : Command) (v : Verifying) (name : List ℕ) → command_of h.words ≡ Some c → asked_claim c ≡ Some v → Reaches h name
     → v.device ≡ Some name
-stopped_at h c v name asked claim route = sym (apart c v claim).1 ∙ same_name h name c route asked
+stopped_at h c v name asked asks route = sym (apart c v asks).1 ∙ same_name h name c route asked
 
 refused_at : (h : Handed) (c : Command) (v : Verifying) (name : List ℕ) (r : DeviceRefusal) (route : Reaches h name) → command_of h.words ≡ Some c
     → asked_claim c ≡ Some v → IsRefusedDevice (h.content name) route.wires (initial_list route.command) r → IsRefusedDevice (h.content name) 0 None r
-refused_at h c v name r route asked claim (t, tells, refusal) =
-    let there : asked_claim route.command ≡ Some v = subst (λ y. asked_claim y ≡ Some v) (same_command h.words c route.command asked route.asked) claim in
+refused_at h c v name r route asked asks (t, tells, refusal) =
+    let there : asked_claim route.command ≡ Some v = subst (λ y. asked_claim y ≡ Some v) (same_command h.words c route.command asked route.asked) asks in
     (t, tells, plain_refusal route.command v (Tells h.input) route.wires t r there route.source refusal)
 
 told_at : (content : Content) (o : Option (List ℕ)) (name : List ℕ) → IfSome o (λ n. (told : Option (List ℕ)) × (content n ≡ Some told))
@@ -1016,25 +1016,25 @@ told_at content o name told e = subst (λ w. IfSome w (λ n. (u : Option (List �
 pub stopped-verdict : Readable → Traceable → (h : Handed) (s : Stop) (n : ℕ) (c : Command) (v : Verifying) (x : Ending) → IsCause h s → Ends s n
     → command_of h.words ≡ Some c → asked_claim c ≡ Some v → AreContents h.content v → IsEnding h.content v x
     → (Rose h.shelf_before h.shelf_after → ⊥) → (n ≡ ending_status x) ⊎ (n ≡ 7)
-stopped-verdict law traces h stop.NoMemory n c v x w e asked claim told is calm = inr (grind arith)
-stopped-verdict law traces h stop.Words n c v x w e asked claim told is calm = cc
-stopped-verdict law traces h stop.Input n c v x w e asked claim told is calm =
-    let reads = reads_same h c w.0 asked in let no = (apart c v claim).0 in cc
-stopped-verdict law traces h (stop.Program r) n c v x w e asked claim told is calm =
-    let reads = reads_same h c w.0 asked in let no = (apart c v claim).0 in cc
-stopped-verdict law traces h stop.Shelf n c v x w e asked claim told is calm = absurd (calm w.2)
-stopped-verdict law traces h stop.Absent n c v x w e asked claim told is calm =
-    let wants = stopped_at h c v w.0 asked claim w.1 in
+stopped-verdict law traces h stop.NoMemory n c v x w e asked asks told is calm = inr (grind arith)
+stopped-verdict law traces h stop.Words n c v x w e asked asks told is calm = cc
+stopped-verdict law traces h stop.Input n c v x w e asked asks told is calm =
+    let reads = reads_same h c w.0 asked in let no = (apart c v asks).0 in cc
+stopped-verdict law traces h (stop.Program r) n c v x w e asked asks told is calm =
+    let reads = reads_same h c w.0 asked in let no = (apart c v asks).0 in cc
+stopped-verdict law traces h stop.Shelf n c v x w e asked asks told is calm = absurd (calm w.2)
+stopped-verdict law traces h stop.Absent n c v x w e asked asks told is calm =
+    let wants = stopped_at h c v w.0 asked asks w.1 in
     let there = told_at h.content v.device w.0 told.device wants in
     absurd (asked-absent h.content v.device is.0 w.0 there.0 wants there.1 w.2 is.1)
-stopped-verdict law traces h (stop.Device r) n c v x w e asked claim told is calm =
-    let wants = stopped_at h c v w.0 asked claim w.1 in
+stopped-verdict law traces h (stop.Device r) n c v x w e asked asks told is calm =
+    let wants = stopped_at h c v w.0 asked asks w.1 in
     let there = told_at h.content v.device w.0 told.device wants in
-    absurd (asked-refused h.content v.device is.0 w.0 there.0 r wants there.1 (refused_at h c v w.0 r w.1 asked claim w.2) is.1)
-stopped-verdict law traces h (stop.Question r) n c v x w e asked claim told is calm =
-    let reads = reads_same h c w.0 asked in let no = (apart c v claim).0 in cc
-stopped-verdict law traces h (stop.Claim y) n c v x w e asked claim told is calm =
-    let same_claim : w.0 ≡ v = some_claim w.0 v (sym (compares_claim h c w.0 w.1 asked) ∙ claim) in
+    absurd (asked-refused h.content v.device is.0 w.0 there.0 r wants there.1 (refused_at h c v w.0 r w.1 asked asks w.2) is.1)
+stopped-verdict law traces h (stop.Question r) n c v x w e asked asks told is calm =
+    let reads = reads_same h c w.0 asked in let no = (apart c v asks).0 in cc
+stopped-verdict law traces h (stop.Claim y) n c v x w e asked asks told is calm =
+    let same_claim : w.0 ≡ v = some_claim w.0 v (sym (compares_claim h c w.0 w.1 asked) ∙ asks) in
     let cause : IsClaimCause h.content v h.shelf_before h.shelf_after y =
     subst (λ (z : Verifying). IsClaimCause h.content z h.shelf_before h.shelf_after y) same_claim w.2 in
     let ended = ended-claim h.content v h.shelf_before h.shelf_after y cause calm in
@@ -1060,7 +1060,7 @@ pub planned-verdict : {A B : Type 0} {has line : Bool} {o : Sent A} {r : Sent B}
     → IsEmitted has line (HasAnswer w) o r n → command_of words ≡ Some c → asked_claim c ≡ Some v → line ≡ writes_report c
     → AreContents content v → IsEnding content v x → (ending_status x ≡ 0 → Rose (o.faults o.old) (o.faults o.new) → ⊥)
     → (n ≡ ending_status x) ⊎ (n ≡ 7)
-planned-verdict law traces words content old new w n c v x delivers e asked claim tells told is calm = by_came (came w n e)
+planned-verdict law traces words content old new w n c v x delivers e asked asks tells told is calm = by_came (came w n e)
   where
     by_end : (m : ℕ) → (n ≡ 0) ⊎ ((n ≡ 6) ⊎ ((n ≡ 7) ⊎ (n ≡ 8))) → m ≡ 0 → (n ≡ 6 → ⊥) → (n ≡ 8 → ⊥) → (n ≡ m) ⊎ (n ≡ 7)
     by_end m (inl z) zero six eight = inl (z ∙ sym zero)
@@ -1072,11 +1072,11 @@ planned-verdict law traces words content old new w n c v x delivers e asked clai
     by_came (inl seven) = inr seven
     by_came (inr (t, l, made)) =
         let d = delivers t l made in
-        let there : asked_claim d.command ≡ Some v = subst (λ y. asked_claim y ≡ Some v) (same_command words c d.command asked d.asked) claim in
+        let there : asked_claim d.command ≡ Some v = subst (λ y. asked_claim y ≡ Some v) (same_command words c d.command asked d.asked) asks in
         let y = verified_of content d.command v d.source t l there d.answer in
         let same = same_ending law traces content v (Proved y.first y.last y.phase) x told (ended-verified content v t y) is in
         let zero : ending_status x ≡ 0 = sym (ap ending_status same) in
-        by_end (ending_status x) e.ends zero (λ six. calm zero (e.output six).1) (e.no_report (tells ∙ (verify_writes c v claim).1))
+        by_end (ending_status x) e.ends zero (λ six. calm zero (e.output six).1) (e.no_report (tells ∙ (verify_writes c v asks).1))
 
 -- where all texts are there, none is refused, and the device has room
 there_told : (content : Content) (o : Option (List ℕ)) (n : ℕ) (name : List ℕ) → HasDevice content o None n → o ≡ Some name
@@ -1087,27 +1087,27 @@ there_told content o n name has e =
 pub stopped-complete_texts : (h : Handed) (s : Stop) (n : ℕ) (c : Command) (v : Verifying) (source target trace : List ℕ) (m : ℕ) → IsCause h s → Ends s n
     → command_of h.words ≡ Some c → asked_claim c ≡ Some v → AllThere h.content v source target trace m
     → (Rose h.shelf_before h.shelf_after → ⊥) → (n ≡ 0) ⊎ ((n ≡ 1) ⊎ (n ≡ 7))
-stopped-complete_texts h stop.NoMemory n c v source target trace m w e asked claim all calm = inr (inr (grind arith))
-stopped-complete_texts h stop.Words n c v source target trace m w e asked claim all calm = cc
-stopped-complete_texts h stop.Input n c v source target trace m w e asked claim all calm =
-    let reads = reads_same h c w.0 asked in let no = (apart c v claim).0 in cc
-stopped-complete_texts h (stop.Program r) n c v source target trace m w e asked claim all calm =
-    let reads = reads_same h c w.0 asked in let no = (apart c v claim).0 in cc
-stopped-complete_texts h stop.Shelf n c v source target trace m w e asked claim all calm = absurd (calm w.2)
-stopped-complete_texts h stop.Absent n c v source target trace m w e asked claim all calm =
-    let there = there_told h.content v.device m w.0 all.device (stopped_at h c v w.0 asked claim w.1) in
+stopped-complete_texts h stop.NoMemory n c v source target trace m w e asked asks all calm = inr (inr (grind arith))
+stopped-complete_texts h stop.Words n c v source target trace m w e asked asks all calm = cc
+stopped-complete_texts h stop.Input n c v source target trace m w e asked asks all calm =
+    let reads = reads_same h c w.0 asked in let no = (apart c v asks).0 in cc
+stopped-complete_texts h (stop.Program r) n c v source target trace m w e asked asks all calm =
+    let reads = reads_same h c w.0 asked in let no = (apart c v asks).0 in cc
+stopped-complete_texts h stop.Shelf n c v source target trace m w e asked asks all calm = absurd (calm w.2)
+stopped-complete_texts h stop.Absent n c v source target trace m w e asked asks all calm =
+    let there = there_told h.content v.device m w.0 all.device (stopped_at h c v w.0 asked asks w.1) in
     absurd (no_text_here (h.content w.0) there.0 there.2 w.2)
-stopped-complete_texts h (stop.Device r) n c v source target trace m w e asked claim all calm =
-    let wants = stopped_at h c v w.0 asked claim w.1 in
+stopped-complete_texts h (stop.Device r) n c v source target trace m w e asked asks all calm =
+    let wants = stopped_at h c v w.0 asked asks w.1 in
     let there = there_told h.content v.device m w.0 all.device wants in
-    let asks : HasAskedDevice h.content v.device (Some there.1) =
+    let standing : HasAskedDevice h.content v.device (Some there.1) =
     subst (λ o. HasAskedDevice h.content o (Some there.1)) (sym wants)
     (there.0, there.1, tells_told (h.content w.0) there.0 there.2, there.3, refl) in
-    absurd (asked-refused h.content v.device (Some there.1) w.0 (Some there.0) r wants there.2 (refused_at h c v w.0 r w.1 asked claim w.2) asks)
-stopped-complete_texts h (stop.Question r) n c v source target trace m w e asked claim all calm =
-    let reads = reads_same h c w.0 asked in let no = (apart c v claim).0 in cc
-stopped-complete_texts h (stop.Claim y) n c v source target trace m w e asked claim all calm =
-    let same_claim : w.0 ≡ v = some_claim w.0 v (sym (compares_claim h c w.0 w.1 asked) ∙ claim) in
+    absurd (asked-refused h.content v.device (Some there.1) w.0 (Some there.0) r wants there.2 (refused_at h c v w.0 r w.1 asked asks w.2) standing)
+stopped-complete_texts h (stop.Question r) n c v source target trace m w e asked asks all calm =
+    let reads = reads_same h c w.0 asked in let no = (apart c v asks).0 in cc
+stopped-complete_texts h (stop.Claim y) n c v source target trace m w e asked asks all calm =
+    let same_claim : w.0 ≡ v = some_claim w.0 v (sym (compares_claim h c w.0 w.1 asked) ∙ asks) in
     let cause : IsClaimCause h.content v h.shelf_before h.shelf_after y =
     subst (λ (z : Verifying). IsClaimCause h.content z h.shelf_before h.shelf_after y) same_claim w.2 in
     let ended = ended-claim h.content v h.shelf_before h.shelf_after y cause calm in
@@ -1121,8 +1121,8 @@ stopped-complete_texts h (stop.Claim y) n c v source target trace m w e asked cl
 pub planned-complete_texts : {A B : Type 0} {P : (List ℕ → List ℕ → Type 0) → Type 0} {has line : Bool} {o : Sent A} {r : Sent B} {n : ℕ} (c : Command)
     (v : Verifying) → IsEmitted has line P o r n → asked_claim c ≡ Some v → has ≡ writes_out c → line ≡ writes_report c
     → (Rose (o.faults o.old) (o.faults o.new) → ⊥) → (n ≡ 0) ⊎ ((n ≡ 1) ⊎ (n ≡ 7))
-planned-complete_texts c v e claim same told calm = elim
-    (planned-complete (writes_out c) (writes_report c) e same told (λ w. calm) (λ w. let no = (verify_writes c v claim).1 in cc)) [
+planned-complete_texts c v e asks same told calm = elim
+    (planned-complete (writes_out c) (writes_report c) e same told (λ w. calm) (λ w. let no = (verify_writes c v asks).1 in cc)) [
       | inl zero ↦ inl zero
       | inr seven ↦ inr (inr seven)
     ]
