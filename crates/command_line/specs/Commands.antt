@@ -52,7 +52,7 @@
 --   from_of, to_of      the bits behind `--from` and `--to`
 --   amplitude_of rows   what `amplitude` asks for, with what was matched
 --   source_of, target_of the names behind `--source` and `--target`
---   trace_of rows       the name behind `--trace` of `verify`, none where there is none
+--   own_trace_of rows   the name behind `--trace` of `verify`, none where there is none
 --   verifying_of rows source target   what `verify` asks for of the two texts of these names
 --   verify_of rows      what `verify` asks for, with what was matched
 --   meaning name rows   what the subcommand of this name asks for, with what it matched
@@ -269,14 +269,14 @@ source_of rows = first_of (codes "source") rows
 abbrev pub target_of : List Row → Option Text
 target_of rows = first_of (codes "target") rows
 
-abbrev pub trace_of : List Row → Option Text
-trace_of rows = first_of (codes "trace") rows
+abbrev pub own_trace_of : List Row → Option Text
+own_trace_of rows = first_of (codes "trace") rows
 
 abbrev pub verifying_of : List Row → Text → Text → Verifying
 verifying_of rows source target = record {
   source = source;
   target = target;
-  trace = trace_of rows;
+  trace = own_trace_of rows;
   device = device_of rows;
   placements = is_given (codes "placements") rows;
   in_place = is_given (codes "in-place") rows;

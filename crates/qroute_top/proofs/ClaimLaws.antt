@@ -39,7 +39,7 @@ use Rattle.trace_text.specs.Texts.{begins, begun, ended, lines_of, trace_of, tra
 use Rattle.qroute_top.specs.Stops.{IsAskedStop, IsReadAs, IsClaimStop, IsTextStop, IsTraceStop, IsTraceTextStop, IsUnreadText, device_stopped, unloaded_text}
 use Rattle.circuit_target.specs.Standing.{claim_of}
 use Rattle.qroute_top.specs.Causes.{IsClaimCause, IsDeviceCause, IsRefusedDevice, claim_status}
-use Rattle.qroute_top.specs.Claims.{Absent, AreContents, AreReadAlike, Bad, Edge, Ending, Found, Good, HasAskedDevice, HasTrace, IsAllAsked, IsBehind, IsChecked, IsCompared, IsEdgedAsAsked, IsEnding, IsJudged, IsPlacedAsAsked, IsReadAsAsked, IsTextRefused, IsTraced, IsVerified, Missing, Narrow, Placed, Proved, Reads, Refused, Finds, Stopped, ending_status, limit_of}
+use Rattle.qroute_top.specs.Claims.{Absent, AreContents, AreReadAlike, Bad, Edge, Ending, Found, Good, HasAskedDevice, HasTrace, IsAllAsked, IsBehind, IsChecked, IsCompared, IsEdgedAsAsked, IsEnding, IsJudged, IsPlacedAsAsked, IsReadAsAsked, IsTextRefused, IsComparedOn, IsVerified, Missing, Narrow, Placed, Proved, Reads, Refused, Finds, Stopped, ending_status, limit_of}
 use Rattle.qroute_top.specs.Devices.{HasDevice, IsDevice, IsDeviceRefusal}
 use Rattle.qroute_top.specs.declared.stops.ClaimStop.{ClaimStop}
 use Rattle.qroute_top.specs.declared.stops.ClaimStop.TheVariants as claim
@@ -176,7 +176,7 @@ pub record Met (content : Content) (v : Verifying) (d : Option Coupling) (text o
   pub too : Finds (content v.target) side.Target (Good other q)
 
 ending-met : (content : Content) (v : Verifying) (d : Option Coupling) (text other : List ℕ) (p q : Program) (x : Ending) → Met content v d text other p q
-    → IsTraced content v d p other q x → IsEnding content v x
+    → IsComparedOn content v d p other q x → IsEnding content v x
 ending-met content v d text other p q x m h = (d, m.begun.had, (Good text p, m.begun.told, (Good other q, m.too, h)))
 
 abbrev pub HasRoom : Option Coupling → Program → Type 0
@@ -602,7 +602,7 @@ TracedAs content v d p text q x = ((c : Coupling) × (d ≡ Some c) × (x ≡ Na
     ⊎ (HasRoom d q × TextAs content v.trace text (JudgedAs v d p q) x)
 
 traced_as : (content : Content) (v : Verifying) (d : Option Coupling) (p : Program) (text : List ℕ) (q : Program) (x : Ending)
-    → IsTraced content v d p text q x → TracedAs content v d p text q x
+    → IsComparedOn content v d p text q x → TracedAs content v d p text q x
 traced_as content v d p text q (Narrow size qubits) (c, e, s, k, less) =
     inl (c, e, ap (λ w. Narrow w qubits) s ∙ ap (λ w. Narrow c.size w) k, omega (arith, s, k, less))
 traced_as content v d p text q Absent (room, (name, e, none)) =
@@ -775,7 +775,7 @@ there-trace : (content : Content) (o : Option (List ℕ)) (u name : List ℕ) �
 there-trace content o u name h e = subst (λ w. HasTraceText content w u) e h
 
 traced_status : (content : Content) (v : Verifying) (d : Option Coupling) (p : Program) (text : List ℕ) (q : Program) (u : List ℕ) (n : ℕ) (x : Ending)
-    → ((c : Coupling) → d ≡ Some c → n ≤ c.size) → q.wires ≤ n → HasTraceText content v.trace u → IsTraced content v d p text q x
+    → ((c : Coupling) → d ≡ Some c → n ≤ c.size) → q.wires ≤ n → HasTraceText content v.trace u → IsComparedOn content v d p text q x
     → (ending_status x ≡ 0) ⊎ (ending_status x ≡ 1)
 traced_status content v d p text q u n (Narrow size qubits) wide few has (c, e, s, k, less) =
     let room = wide c e in absurd (omega (arith, room, few, s, k, less))

@@ -15,7 +15,7 @@
 --                        number of the operation that follows none; or the claim is Proved
 --   IsChecked v d p q first last phase x   what the trace proves being so, it ends so
 --   IsJudged v d p q trace x   by the trace it ends so
---   IsTraced content v d p q text x   with the source's program, the target's text and program, it ends so: the trace's text is
+--   IsComparedOn content v d p q text x   with the source's program, the target's text and program, it ends so: the trace's text is
 --                        looked at where the device has room
 --   IsCompared content v d p y x  with the source's program p and what is found of the target it ends so
 --   IsBehind content v d f x  with what is found of the source, and the content of the target's name, it ends so
@@ -118,18 +118,18 @@ IsJudged v d p q trace x = (first : List ℕ) × (last : List ℕ) × (phase : �
     × IsChecked v d p q first last phase x
 
 -- what is found of the trace's text, where it has one of its own
-abbrev pub IsTraced : (List ℕ → Option (Option (List ℕ))) → Verifying → Option Coupling → Program → List ℕ → Program → Ending → Type 0
-IsTraced content v d p text q (Narrow size qubits) = (c : Coupling) × (d ≡ Some c) × (size ≡ c.size) × (qubits ≡ q.wires) × (size < qubits)
-IsTraced content v d p text q Absent = IfSome d (λ c. q.wires ≤ c.size) × ((name : List ℕ) × (v.trace ≡ Some name) × HasNoText (content name))
-IsTraced content v d p text q (Refused s r) = IfSome d (λ c. q.wires ≤ c.size) × ((name : List ℕ) × (other : List ℕ) × (v.trace ≡ Some name)
+abbrev pub IsComparedOn : (List ℕ → Option (Option (List ℕ))) → Verifying → Option Coupling → Program → List ℕ → Program → Ending → Type 0
+IsComparedOn content v d p text q (Narrow size qubits) = (c : Coupling) × (d ≡ Some c) × (size ≡ c.size) × (qubits ≡ q.wires) × (size < qubits)
+IsComparedOn content v d p text q Absent = IfSome d (λ c. q.wires ≤ c.size) × ((name : List ℕ) × (v.trace ≡ Some name) × HasNoText (content name))
+IsComparedOn content v d p text q (Refused s r) = IfSome d (λ c. q.wires ≤ c.size) × ((name : List ℕ) × (other : List ℕ) × (v.trace ≡ Some name)
     × TellsText (content name) other × (limit_of side.Trace < length other) × (s ≡ side.Trace) × (r ≡ TooLong))
-IsTraced content v d p text q x = IfSome d (λ c. q.wires ≤ c.size) × ((trace : List ℕ) × HasTrace content v.trace text trace
+IsComparedOn content v d p text q x = IfSome d (λ c. q.wires ≤ c.size) × ((trace : List ℕ) × HasTrace content v.trace text trace
     × IsJudged v d p q trace x)
 
 abbrev pub IsCompared : (List ℕ → Option (Option (List ℕ))) → Verifying → Option Coupling → Program → Found → Ending → Type 0
 IsCompared content v d p Missing x = x ≡ Absent
 IsCompared content v d p (Bad r) x = x ≡ Refused side.Target r
-IsCompared content v d p (Good text q) x = IsTraced content v d p text q x
+IsCompared content v d p (Good text q) x = IsComparedOn content v d p text q x
 
 abbrev pub IsBehind : (List ℕ → Option (Option (List ℕ))) → Verifying → Option Coupling → Found → Ending → Type 0
 IsBehind content v d Missing x = x ≡ Absent
