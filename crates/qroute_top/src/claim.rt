@@ -9,7 +9,7 @@ ghost use Rattle.trace_text.specs.Texts.{trace_of};
 ghost use Rattle.qroute_top.specs.Stops.{IsAskedStop, IsReadAs, IsClaimStop, IsTextStop, IsTraceStop, IsTraceTextStop, IsUnreadText, unloaded_text};
 ghost use Rattle.circuit_target.specs.Standing.{claim_of};
 ghost use Rattle.qroute_top.specs.Causes.{IsDeviceCause};
-ghost use Rattle.qroute_top.specs.Claims.{AreReadAlike, HasAskedDevice, HasTrace, IsAllAsked, IsVerified, limit_of};
+ghost use Rattle.qroute_top.specs.Claims.{AreReadAlike, HasAskedDevice, HasTrace, IsAllAsked, IsPlacedAsAsked, IsReadAsAsked, IsVerified, limit_of};
 ghost use Rattle.qroute_top.specs.Plans.{IsFitAnswer, IsAnswerOf, has_line, has_text};
 
 use crate::device::load_device;
@@ -144,7 +144,7 @@ fn asked_trace<F: Shelf>(
 ) -> Result<Vec<u8>, Stop>
     requires short { length target.now ≤ limit_of Side.Target }
     ensures ok { IfOk result (λ v. HasTrace (F.content shelf.old) name.now target.now v.items) }
-    ensures short { IfOk result (λ v. length v.items ≤ limit_of Side.Trace) }
+    ensures short { IfOk result (λ v. length v.items < 2147483648) }
     ensures err { IfErr result (λ s. IsTraceTextStop (F.content shelf.old) name.now (F.faults shelf.old) (F.faults shelf.new) s) }
     ensures keeps { (other : List ℕ) → F.content shelf.new other ≡ F.content shelf.old other }
     ensures grows { F.faults shelf.old ≤ F.faults shelf.new }
@@ -174,7 +174,7 @@ fn proof_of(
     target: &SourceProgram,
     trace: &[u8],
 ) -> Result<Proof, Stop>
-    requires short { length trace.now ≤ limit_of Side.Trace }
+    requires short { length trace.now < 2147483648 }
     requires source { source.now.cut ≡ uncut source.now.ops }
     requires target { target.now.cut ≡ uncut target.now.ops }
     ensures ok { IfOk result (λ p. Proves (claim_of source.now target.now) trace.now p.first.items p.last.items p.phase) }
@@ -207,6 +207,28 @@ fn are_read_alike(source: &SourceProgram, target: &SourceProgram, last: &[u32]) 
         && are_reads_alike(last, source.reads(), target.reads())
 }
 
+/// Whether what is asked of the placements is so.
+fn is_placed_as_asked(asked: &Verifying, proof: &Proof) -> bool
+    ensures yes { result ≡ true → IsPlacedAsAsked asked.now proof.now.first.items proof.now.last.items }
+    ensures no { result ≡ false → IsPlacedAsAsked asked.now proof.now.first.items proof.now.last.items → ⊥ }
+{
+    !asked.in_place || are_in_place(&proof.first, &proof.last)
+}
+
+/// Whether what is asked of the reads is so.
+fn is_read_as_asked(
+    asked: &Verifying,
+    source: &SourceProgram,
+    target: &SourceProgram,
+    last: &[u32],
+) -> bool
+    requires { source.now.wires ≤ length last.now }
+    ensures yes { result ≡ true → IsReadAsAsked asked.now source.now target.now last.now }
+    ensures no { result ≡ false → IsReadAsAsked asked.now source.now target.now last.now → ⊥ }
+{
+    !asked.reads || are_read_alike(source, target, last)
+}
+
 /// The first of what is asked of a target, besides its unitary, that isn't so.
 fn check_asked(
     asked: &Verifying,
@@ -221,10 +243,10 @@ fn check_asked(
     ensures ok { OnOk result (IsAllAsked asked.now device.now source.now target.now proof.now.first.items proof.now.last.items) }
     ensures err { IfErr result (IsAskedStop asked.now device.now source.now target.now proof.now.first.items proof.now.last.items) }
 {
-    if asked.in_place && !are_in_place(&proof.first, &proof.last) {
+    if !is_placed_as_asked(asked, proof) {
         return Err(ClaimStop::Placed);
     }
-    if asked.reads && !are_read_alike(source, target, &proof.last) {
+    if !is_read_as_asked(asked, source, target, &proof.last) {
         return Err(ClaimStop::Reads);
     }
     target.facts();
