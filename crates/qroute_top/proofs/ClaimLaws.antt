@@ -435,26 +435,25 @@ follows_before es us i j u all less long there =
     subst (FollowsEdge es) (get_or-take j us i u less ∙ get_or_from_slice_get us i u u there)
     (All-get_or (FollowsEdge es) (take j us) i u (omega (arith, taken, less)) all)
 
-order : (i j : ℕ) → (i < j) ⊎ ((j < i) ⊎ (i ≡ j))
-order i j = omega arith
+order : (i j : ℕ) → (i < j) ⊎ ((i ≡ j) ⊎ (j < i))
+order i j = grind arith
 
 same_some : {X : Type 0} (x y : X) → Some x ≡ Some y → x ≡ y
 same_some x y e = cc
 
 one_first : (es : List (ℕ × ℕ)) (us : List Op) (m n : ℕ) → IsFirstOff es us m → IsFirstOff es us n → m ≡ n
-one_first es us m n a b = elim (order a.place b.place) [
-  | inl less ↦ absurd (a.off (follows_before es us a.place b.place a.op b.before less below_b a.there))
-  | inr others ↦ elim others [
-    | inl more ↦ absurd (b.off (follows_before es us b.place a.place b.op a.before more below_a b.there))
-    | inr same ↦ a.number ∙ ap (λ k. k + 1) same ∙ sym b.number
-  ]
-]
+one_first es us m n a b = go (order a.place b.place)
   where
     below_a : a.place ≤ length us
     below_a = let h = slice_get_within us a.place a.op a.there in omega (arith, h)
 
     below_b : b.place ≤ length us
     below_b = let h = slice_get_within us b.place b.op b.there in omega (arith, h)
+
+    go : (a.place < b.place) ⊎ ((a.place ≡ b.place) ⊎ (b.place < a.place)) → m ≡ n
+    go (inl less) = absurd (a.off (follows_before es us a.place b.place a.op b.before less below_b a.there))
+    go (inr (inl same)) = a.number ∙ (ap (λ k. k + 1) same ∙ sym b.number)
+    go (inr (inr more)) = absurd (b.off (follows_before es us b.place a.place b.op a.before more below_a b.there))
 
 -- ---- one ending, by what is so
 -- of what is asked
