@@ -349,7 +349,7 @@ asked-kept v d p q first last (claim.Refused s r) h = absurd h
 asked-kept v d p q first last (claim.TooFewQubits size qubits) h = absurd h
 asked-kept v d p q first last (claim.Trace line) h = absurd h
 asked-kept v d p q first last claim.Placed h = h
-asked-kept v d p q first last claim.Reads h = (h.0, λ yes. h.1 (λ e. kept-alike p q last (yes e)))
+asked-kept v d p q first last claim.Reads h = (h.0, λ holds. h.1 (λ e. kept-alike p q last (holds e)))
 asked-kept v d p q first last (claim.Edge n) h = (h.0, (λ e. alike-kept p q last (h.1 e)), h.2)
 
 pub IsAllAsked-read : (v : Verifying) (d : Option Coupling) (x y p q : Program) (first last : List ℕ) → x ≡ kept false p → y ≡ kept false q
@@ -490,23 +490,23 @@ one_off d q m n (c, e, a) (f, g, b) =
 
 checked_once : (v : Verifying) (d : Option Coupling) (p q : Program) (first last : List ℕ) (phase : ℕ) (x y : Ending)
     → CheckedAs v d p q first last phase x → CheckedAs v d p q first last phase y → x ≡ y
-checked_once v d p q first last phase x y (inl (e, no)) (inl (f, never)) = e ∙ sym f
-checked_once v d p q first last phase x y (inl (e, no)) (inr (inl (f, yes, never))) = absurd (no yes)
-checked_once v d p q first last phase x y (inl (e, no)) (inr (inr (inl (n, f, yes, read, off)))) = absurd (no yes)
-checked_once v d p q first last phase x y (inl (e, no)) (inr (inr (inr (f, all)))) = absurd (no all.placed)
-checked_once v d p q first last phase x y (inr (inl (e, yes, no))) (inl (f, never)) = absurd (never yes)
-checked_once v d p q first last phase x y (inr (inl (e, yes, no))) (inr (inl (f, placed, never))) = e ∙ sym f
-checked_once v d p q first last phase x y (inr (inl (e, yes, no))) (inr (inr (inl (n, f, placed, read, off)))) = absurd (no read)
-checked_once v d p q first last phase x y (inr (inl (e, yes, no))) (inr (inr (inr (f, all)))) = absurd (no all.reads)
+checked_once v d p q first last phase x y (inl (e, fails)) (inl (f, never)) = e ∙ sym f
+checked_once v d p q first last phase x y (inl (e, fails)) (inr (inl (f, holds, never))) = absurd (fails holds)
+checked_once v d p q first last phase x y (inl (e, fails)) (inr (inr (inl (n, f, holds, read, off)))) = absurd (fails holds)
+checked_once v d p q first last phase x y (inl (e, fails)) (inr (inr (inr (f, all)))) = absurd (fails all.placed)
+checked_once v d p q first last phase x y (inr (inl (e, holds, fails))) (inl (f, never)) = absurd (never holds)
+checked_once v d p q first last phase x y (inr (inl (e, holds, fails))) (inr (inl (f, placed, never))) = e ∙ sym f
+checked_once v d p q first last phase x y (inr (inl (e, holds, fails))) (inr (inr (inl (n, f, placed, read, off)))) = absurd (fails read)
+checked_once v d p q first last phase x y (inr (inl (e, holds, fails))) (inr (inr (inr (f, all)))) = absurd (fails all.reads)
 checked_once v d p q first last phase x y (inr (inr (inl (m, e, placed, read, off)))) (inl (f, never)) = absurd (never placed)
-checked_once v d p q first last phase x y (inr (inr (inl (m, e, placed, read, off)))) (inr (inl (f, yes, never))) = absurd (never read)
-checked_once v d p q first last phase x y (inr (inr (inl (m, e, placed, read, off)))) (inr (inr (inl (n, f, yes, too, other)))) =
+checked_once v d p q first last phase x y (inr (inr (inl (m, e, placed, read, off)))) (inr (inl (f, holds, never))) = absurd (never read)
+checked_once v d p q first last phase x y (inr (inr (inl (m, e, placed, read, off)))) (inr (inr (inl (n, f, holds, too, other)))) =
     e ∙ (ap (λ w. Edge w) (one_off d q m n off other) ∙ sym f)
 checked_once v d p q first last phase x y (inr (inr (inl (m, e, placed, read, off)))) (inr (inr (inr (f, all)))) =
     absurd (off_or_all v d p q first last m off all)
 checked_once v d p q first last phase x y (inr (inr (inr (e, all)))) (inl (f, never)) = absurd (never all.placed)
-checked_once v d p q first last phase x y (inr (inr (inr (e, all)))) (inr (inl (f, yes, never))) = absurd (never all.reads)
-checked_once v d p q first last phase x y (inr (inr (inr (e, all)))) (inr (inr (inl (n, f, yes, too, other)))) =
+checked_once v d p q first last phase x y (inr (inr (inr (e, all)))) (inr (inl (f, holds, never))) = absurd (never all.reads)
+checked_once v d p q first last phase x y (inr (inr (inr (e, all)))) (inr (inr (inl (n, f, holds, too, other)))) =
     absurd (off_or_all v d p q first last n other all)
 checked_once v d p q first last phase x y (inr (inr (inr (e, all)))) (inr (inr (inr (f, too)))) = e ∙ sym f
 

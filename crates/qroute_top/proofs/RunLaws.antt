@@ -327,6 +327,7 @@ some_at (Some a) P h = (a, refl, h)
 -- a claim's stop is one of `verify`
 pub IsCause-claim : (h : Handed) (c : Command) (v : Verifying) (s : Stop) → command_of h.words ≡ Some c → c ≡ Verify v
     → IsClaimStop h.content v h.shelf_before h.shelf_after s → IsCause h s
+unfolding claim_reached
 IsCause-claim h c v stop.NoMemory asked is x = tt
 IsCause-claim h c v stop.Words asked is x = absurd x
 IsCause-claim h c v stop.Input asked is x = absurd x
