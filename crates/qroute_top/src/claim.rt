@@ -285,9 +285,7 @@ pub fn claim_answer<F: Shelf>(
     check_room(&device, &target.program)?;
     let trace = asked_trace(alloc, shelf, &asked.trace, &target.text)?;
     let proof = proof_of(alloc, &source.program, &target.program, &trace)?;
-    if let Err(stop) = check_asked(asked, &device, &source.program, &target.program, &proof) {
-        return Err(Stop::Claim(stop));
-    }
+    check_asked(asked, &device, &source.program, &target.program, &proof)?;
     let text = verdict_text(
         alloc,
         asked.placements,

@@ -133,6 +133,17 @@ impl From<AllocError> for Stop {
     }
 }
 
+impl From<ClaimStop> for Stop {
+    ghost use Rattle.std.specs.Prelude.{◌≡◌};
+    ghost use Rattle.qroute_top.specs.declared.stops.Stop.TheVariants.{Claim};
+
+    ghost from_gives = { λ e s. s ≡ Claim e };
+
+    fn from(stop: ClaimStop) -> Stop {
+        Stop::Claim(stop)
+    }
+}
+
 impl From<SourceStop> for Stop {
     ghost use Rattle.std.specs.Prelude.{◌≡◌};
     ghost use Rattle.qroute_top.specs.Stops.{source_stopped};

@@ -5,7 +5,10 @@ use Rattle.outside_io.specs.Shelf.{TellsText}
 use Rattle.gate_expand.specs.Expansion.{IsFineOp}
 use Rattle.gate_inline.specs.Programs.{Program}
 use Rattle.route_report.specs.declared.faults.Side.TheVariants as side
+use Rattle.route_report.specs.Verdicts.{verdict_text}
 use Rattle.trace_check.specs.Proves.{Proves}
+use Rattle.qroute_top.specs.Claims.{HasTrace}
+use Rattle.qroute_top.specs.Stops.{IsTraceStop}
 use Rattle.circuit_target.specs.Standing.{claim_of}
 use Rattle.unitary_model.specs.Realises.{Realises}
 use Rattle.qroute_top.proofs.ClaimLaws.{Begun, HasRoom-read, HasTrace-after, IsAllAsked-read, IsAskedStop-read, IsClaimStop-asked, IsClaimStop-device, IsClaimStop-room, IsClaimStop-source, IsClaimStop-target, IsClaimStop-text, IsClaimStop-trace, IsTraceStop-same, Met, claim-kept, failed_device, failed_same, narrow-read, ok_is_no_device_err, ok_is_no_err, stop_after, trace_after}
@@ -91,13 +94,34 @@ returns-in_err-trace-clause-err g c =
     let met : Met (g.F.Shelf.content c.args.shelf.now) c.args.asked.now c.in_ok-device.device c.in_ok-source.source.text.items
     c.in_ok-target.target.text.items read.0 other.0 = record { begun = begun; too = (target_told, second.short, other.1) } in
     let calm_second = second.calm (λ e. ok_is_no_err _ _ e) ∙ calm_first in
-    let room = HasRoom-read c.in_ok-device.device c.in_ok-target.target.program other.0 other.2 c.check_room.ensures.ok in
+    let room = HasRoom-read c.in_ok-device.device c.in_ok-target.target.program other.0 other.2 c.in_ok-check_room.ensures.ok in
     let third = c.in_err-trace.ensures in
     let it = IsClaimStop-text (g.F.Shelf.content c.args.shelf.now) c.args.asked.now c.in_ok-device.device c.in_ok-source.source.text.items
     c.in_ok-target.target.text.items read.0 other.0 (g.F.Shelf.faults c.args.shelf.now) (g.F.Shelf.faults c.asked_trace.new.shelf) _ met room
     (trace_after (g.F.Shelf.content c.args.shelf.now) _ c.args.asked.now.trace _ _ _ _ (λ n. second.keeps n ∙ (first.keeps n ∙ had.keeps n)) calm_second third.err)
     (λ f. third.calm (λ e. f (failed_same _ _ _ refl e)) ∙ calm_second) in
     rw (p.1, p.2) it
+
+pub returns-in_err-trace-clause-calm : goal.returns-in_err-trace-clause-calm
+returns-in_err-trace-clause-calm g c =
+    let p = err_from_is_err_and c.from_residual-in_err-trace.result c.from_residual-in_err-trace.ensures.1 in
+    let had = c.in_ok-device.ensures in
+    let steady = had.calm (λ e. ok_is_no_device_err _ _ e) in
+    let first = c.in_ok-source.ensures in
+    let read = first.accepted in
+    let source_told : TellsText ((g.F.Shelf.content c.args.shelf.now) c.args.asked.now.source) c.in_ok-source.source.text.items =
+    subst (λ o. TellsText o c.in_ok-source.source.text.items) (had.keeps c.args.asked.now.source) first.told in
+    let begun : Begun (g.F.Shelf.content c.args.shelf.now) c.args.asked.now c.in_ok-device.device c.in_ok-source.source.text.items read.0 =
+    record { had = had.ok; told = (source_told, first.short, read.1) } in
+    let calm_first = first.calm (λ e. ok_is_no_err _ _ e) ∙ steady in
+    let second = c.in_ok-target.ensures in
+    let other = second.accepted in
+    let target_told : TellsText ((g.F.Shelf.content c.args.shelf.now) c.args.asked.now.target) c.in_ok-target.target.text.items =
+    subst (λ o. TellsText o c.in_ok-target.target.text.items) (first.keeps c.args.asked.now.target ∙ had.keeps c.args.asked.now.target) second.told in
+    let met : Met (g.F.Shelf.content c.args.shelf.now) c.args.asked.now c.in_ok-device.device c.in_ok-source.source.text.items
+    c.in_ok-target.target.text.items read.0 other.0 = record { begun = begun; too = (target_told, second.short, other.1) } in
+    let calm_second = second.calm (λ e. ok_is_no_err _ _ e) ∙ calm_first in
+    λ failed shelf. c.in_err-trace.ensures.calm (λ e. failed (let a = p.1 in let b = p.2 in cc)) ∙ calm_second
 
 pub returns-in_err-proof-clause-err : goal.returns-in_err-proof-clause-err
 returns-in_err-proof-clause-err g c =
@@ -118,28 +142,31 @@ returns-in_err-proof-clause-err g c =
     let met : Met (g.F.Shelf.content c.args.shelf.now) c.args.asked.now c.in_ok-device.device c.in_ok-source.source.text.items
     c.in_ok-target.target.text.items read.0 other.0 = record { begun = begun; too = (target_told, second.short, other.1) } in
     let calm_second = second.calm (λ e. ok_is_no_err _ _ e) ∙ calm_first in
-    let room = HasRoom-read c.in_ok-device.device c.in_ok-target.target.program other.0 other.2 c.check_room.ensures.ok in
+    let room = HasRoom-read c.in_ok-device.device c.in_ok-target.target.program other.0 other.2 c.in_ok-check_room.ensures.ok in
     let third = c.in_ok-trace.ensures in
-    let has = HasTrace-after (g.F.Shelf.content c.args.shelf.now) _ c.args.asked.now.trace c.in_ok-target.target.text.items c.in_ok-trace.trace.items
-    (λ n. second.keeps n ∙ (first.keeps n ∙ had.keeps n)) third.ok in
+    let has = subst (λ t. HasTrace (g.F.Shelf.content c.args.shelf.now) c.args.asked.now.trace t c.in_ok-trace.trace.items) c.deref.ensures.value
+    (HasTrace-after (g.F.Shelf.content c.args.shelf.now) _ c.args.asked.now.trace c.deref.result.now c.in_ok-trace.trace.items
+    (λ n. second.keeps n ∙ (first.keeps n ∙ had.keeps n)) third.ok) in
     let calm_third = third.calm (λ e. ok_is_no_err _ _ e) ∙ calm_second in
     let same = claim-kept c.in_ok-source.source.program c.in_ok-target.target.program read.0 other.0 read.2 other.2 in
     let it = IsClaimStop-trace (g.F.Shelf.content c.args.shelf.now) c.args.asked.now c.in_ok-device.device c.in_ok-source.source.text.items
     c.in_ok-target.target.text.items read.0 other.0 c.in_ok-trace.trace.items (g.F.Shelf.faults c.args.shelf.now) (g.F.Shelf.faults c.asked_trace.new.shelf) _ met room has
-    (IsTraceStop-same _ _ _ _ same c.in_err-proof.ensures.err) calm_third in
+    (subst (λ t. IsTraceStop (claim_of read.0 other.0) t _) c.deref-2.ensures.value (IsTraceStop-same _ _ _ _ same c.in_err-proof.ensures.err)) calm_third in
     rw (p.1, p.2) it
 
 pub check_asked-requires-clause-long : goal.check_asked-requires-clause-long
 check_asked-requires-clause-long g c =
     let real = c.traces_are_sound.ensures.sound (claim_of c.in_ok-source.source.program c.in_ok-target.target.program) c.in_ok-trace.trace.items
     c.in_ok-proof.proof.first.items c.in_ok-proof.proof.last.items c.in_ok-proof.proof.phase c.facts.ensures.fine c.facts-2.ensures.fine
-    c.in_ok-proof.ensures.ok in
+    (subst (λ t. Proves (claim_of c.in_ok-source.source.program c.in_ok-target.target.program) t c.in_ok-proof.proof.first.items c.in_ok-proof.proof.last.items
+    c.in_ok-proof.proof.phase) c.deref-2.ensures.value c.in_ok-proof.ensures.ok) in
     let fits : c.in_ok-source.source.program.wires ≤ c.in_ok-target.target.program.wires = real.fits in
     let long : length c.in_ok-proof.proof.last.items ≡ c.in_ok-target.target.program.wires = real.ends.long in
     omega (arith, fits, long)
 
-pub returns-in-Err-clause-err : goal.returns-in-Err-clause-err
-returns-in-Err-clause-err g c =
+pub returns-in_err-check_asked-clause-err : goal.returns-in_err-check_asked-clause-err
+returns-in_err-check_asked-clause-err g c =
+    let p = err_from_is_err_and c.from_residual-in_err-check_asked.result c.from_residual-in_err-check_asked.ensures.1 in
     let had = c.in_ok-device.ensures in
     let steady = had.calm (λ e. ok_is_no_device_err _ _ e) in
     let first = c.in_ok-source.ensures in
@@ -156,19 +183,29 @@ returns-in-Err-clause-err g c =
     let met : Met (g.F.Shelf.content c.args.shelf.now) c.args.asked.now c.in_ok-device.device c.in_ok-source.source.text.items
     c.in_ok-target.target.text.items read.0 other.0 = record { begun = begun; too = (target_told, second.short, other.1) } in
     let calm_second = second.calm (λ e. ok_is_no_err _ _ e) ∙ calm_first in
-    let room = HasRoom-read c.in_ok-device.device c.in_ok-target.target.program other.0 other.2 c.check_room.ensures.ok in
+    let room = HasRoom-read c.in_ok-device.device c.in_ok-target.target.program other.0 other.2 c.in_ok-check_room.ensures.ok in
     let third = c.in_ok-trace.ensures in
-    let has = HasTrace-after (g.F.Shelf.content c.args.shelf.now) _ c.args.asked.now.trace c.in_ok-target.target.text.items c.in_ok-trace.trace.items
-    (λ n. second.keeps n ∙ (first.keeps n ∙ had.keeps n)) third.ok in
+    let has = subst (λ t. HasTrace (g.F.Shelf.content c.args.shelf.now) c.args.asked.now.trace t c.in_ok-trace.trace.items) c.deref.ensures.value
+    (HasTrace-after (g.F.Shelf.content c.args.shelf.now) _ c.args.asked.now.trace c.deref.result.now c.in_ok-trace.trace.items
+    (λ n. second.keeps n ∙ (first.keeps n ∙ had.keeps n)) third.ok) in
     let calm_third = third.calm (λ e. ok_is_no_err _ _ e) ∙ calm_second in
     let same = claim-kept c.in_ok-source.source.program c.in_ok-target.target.program read.0 other.0 read.2 other.2 in
-    let proves = subst (λ e. Proves e c.in_ok-trace.trace.items c.in_ok-proof.proof.first.items c.in_ok-proof.proof.last.items c.in_ok-proof.proof.phase)
-    same c.in_ok-proof.ensures.ok in
-    IsClaimStop-asked (g.F.Shelf.content c.args.shelf.now) c.args.asked.now c.in_ok-device.device c.in_ok-source.source.text.items
+    let proves = subst (λ t. Proves (claim_of read.0 other.0) t c.in_ok-proof.proof.first.items c.in_ok-proof.proof.last.items c.in_ok-proof.proof.phase)
+    c.deref-2.ensures.value
+    (subst (λ e. Proves e c.deref-2.result.now c.in_ok-proof.proof.first.items c.in_ok-proof.proof.last.items c.in_ok-proof.proof.phase)
+    same c.in_ok-proof.ensures.ok) in
+    let it = IsClaimStop-asked (g.F.Shelf.content c.args.shelf.now) c.args.asked.now c.in_ok-device.device c.in_ok-source.source.text.items
     c.in_ok-target.target.text.items read.0 other.0 c.in_ok-trace.trace.items c.in_ok-proof.proof.first.items c.in_ok-proof.proof.last.items
-    c.in_ok-proof.proof.phase (g.F.Shelf.faults c.args.shelf.now) (g.F.Shelf.faults c.asked_trace.new.shelf) c.in-Err.stop met room has proves
+    c.in_ok-proof.proof.phase (g.F.Shelf.faults c.args.shelf.now) (g.F.Shelf.faults c.asked_trace.new.shelf) _ met room has proves
     (IsAskedStop-read c.args.asked.now c.in_ok-device.device c.in_ok-source.source.program c.in_ok-target.target.program read.0 other.0
-    c.in_ok-proof.proof.first.items c.in_ok-proof.proof.last.items c.in-Err.stop read.2 other.2 c.in-Err.ensures.err) calm_third
+    c.in_ok-proof.proof.first.items c.in_ok-proof.proof.last.items _ read.2 other.2 c.in_err-check_asked.ensures.err) calm_third in
+    rw (p.1, p.2) it
+
+-- want of memory has no cause
+pub returns-in_err-text-clause-err : goal.returns-in_err-text-clause-err
+returns-in_err-text-clause-err g c =
+    let p = err_from_is_err_and c.from_residual-in_err-text.result c.from_residual-in_err-text.ensures.1 in
+    rw (p.1, p.2) tt
 
 pub returns-clause-made : goal.returns-clause-made
 returns-clause-made g c =
@@ -188,14 +225,17 @@ returns-clause-made g c =
     let met : Met (g.F.Shelf.content c.args.shelf.now) c.args.asked.now c.in_ok-device.device c.in_ok-source.source.text.items
     c.in_ok-target.target.text.items read.0 other.0 = record { begun = begun; too = (target_told, second.short, other.1) } in
     let calm_second = second.calm (λ e. ok_is_no_err _ _ e) ∙ calm_first in
-    let room = HasRoom-read c.in_ok-device.device c.in_ok-target.target.program other.0 other.2 c.check_room.ensures.ok in
+    let room = HasRoom-read c.in_ok-device.device c.in_ok-target.target.program other.0 other.2 c.in_ok-check_room.ensures.ok in
     let third = c.in_ok-trace.ensures in
-    let has = HasTrace-after (g.F.Shelf.content c.args.shelf.now) _ c.args.asked.now.trace c.in_ok-target.target.text.items c.in_ok-trace.trace.items
-    (λ n. second.keeps n ∙ (first.keeps n ∙ had.keeps n)) third.ok in
+    let has = subst (λ t. HasTrace (g.F.Shelf.content c.args.shelf.now) c.args.asked.now.trace t c.in_ok-trace.trace.items) c.deref.ensures.value
+    (HasTrace-after (g.F.Shelf.content c.args.shelf.now) _ c.args.asked.now.trace c.deref.result.now c.in_ok-trace.trace.items
+    (λ n. second.keeps n ∙ (first.keeps n ∙ had.keeps n)) third.ok) in
     let calm_third = third.calm (λ e. ok_is_no_err _ _ e) ∙ calm_second in
     let same = claim-kept c.in_ok-source.source.program c.in_ok-target.target.program read.0 other.0 read.2 other.2 in
-    let proves = subst (λ e. Proves e c.in_ok-trace.trace.items c.in_ok-proof.proof.first.items c.in_ok-proof.proof.last.items c.in_ok-proof.proof.phase)
-    same c.in_ok-proof.ensures.ok in
+    let proves = subst (λ t. Proves (claim_of read.0 other.0) t c.in_ok-proof.proof.first.items c.in_ok-proof.proof.last.items c.in_ok-proof.proof.phase)
+    c.deref-2.ensures.value
+    (subst (λ e. Proves e c.deref-2.result.now c.in_ok-proof.proof.first.items c.in_ok-proof.proof.last.items c.in_ok-proof.proof.phase)
+    same c.in_ok-proof.ensures.ok) in
     λ text line is. (
       record {
         device = c.in_ok-device.device;
@@ -216,8 +256,10 @@ returns-clause-made g c =
             c.in_ok-proof.proof.last.items c.in_ok-proof.proof.phase (subst (λ (p : Program). All (IsFineOp p.wires) p.ops) read.2 c.facts.ensures.fine)
             (subst (λ (p : Program). All (IsFineOp p.wires) p.ops) other.2 c.facts-2.ensures.fine) proves;
         asked = IsAllAsked-read c.args.asked.now c.in_ok-device.device c.in_ok-source.source.program c.in_ok-target.target.program read.0 other.0
-            c.in_ok-proof.proof.first.items c.in_ok-proof.proof.last.items read.2 other.2 c.check_asked.ensures.ok;
-        line = is.0 ∙ c.in_ok-text.ensures.ok;
+            c.in_ok-proof.proof.first.items c.in_ok-proof.proof.last.items read.2 other.2 c.in_ok-check_asked.ensures.ok;
+        line = is.0 ∙ (c.in_ok-text.ensures.ok
+            ∙ (ap (λ l. verdict_text c.args.asked.now.placements l c.deref-4.result.now c.in_ok-proof.proof.phase) c.deref-3.ensures.value
+            ∙ ap (λ l. verdict_text c.args.asked.now.placements c.in_ok-proof.proof.first.items l c.in_ok-proof.proof.phase) c.deref-4.ensures.value));
       },
       is.1,
     )
