@@ -607,8 +607,11 @@ traced_as content v d p text q (Narrow size qubits) (c, e, s, k, less) =
 traced_as content v d p text q Absent (room, (name, e, none)) =
     inr (room, text_missing content v.trace text (JudgedAs v d p q) name Absent e none refl)
 traced_as content v d p text q (Refused s r) (room, (name, other, e, tells, long, a, b)) =
-    inr (room, text_long content v.trace text (JudgedAs v d p q) name other (Refused s r) e tells long
-    (ap (λ w. Refused w r) a ∙ ap (λ w. Refused side.Trace w) b))
+    inr (
+      room,
+      text_long content v.trace text (JudgedAs v d p q) name other (Refused s r) e tells long
+          (ap (λ w. Refused w r) a ∙ ap (λ w. Refused side.Trace w) b),
+    )
 traced_as content v d p text q (Stopped line) (room, (trace, has, j)) =
     inr (room, text_had content v.trace text (JudgedAs v d p q) trace (Stopped line) has (judged_as v d p q trace (Stopped line) j))
 traced_as content v d p text q Placed (room, (trace, has, j)) =
