@@ -324,6 +324,9 @@ claim-kept x y p q e f = λ i. claim_of (e i) (f i)
 pub IsTraceStop-same : (e f : Claim) (trace : List ℕ) (s : Stop) → e ≡ f → IsTraceStop e trace s → IsTraceStop f trace s
 IsTraceStop-same e f trace s same h = subst (λ x. IsTraceStop x trace s) same h
 
+pub IsTraceStop-at : (e : Claim) (t u : List ℕ) (s : Stop) → t ≡ u → IsTraceStop e t s → IsTraceStop e u s
+IsTraceStop-at e t u s same h = subst (λ x. IsTraceStop e x s) same h
+
 pub one-part : (text : List ℕ) (x : Program) → IsReadAs text x → x.cut ≡ uncut x.ops
 one-part text x (p, ok, e) = subst (λ (y : Program). y.cut ≡ uncut y.ops) (sym e) refl
 

@@ -8,10 +8,9 @@ use Rattle.route_report.specs.declared.faults.Side.TheVariants as side
 use Rattle.route_report.specs.Verdicts.{verdict_text}
 use Rattle.trace_check.specs.Proves.{Proves}
 use Rattle.qroute_top.specs.Claims.{HasTrace}
-use Rattle.qroute_top.specs.Stops.{IsTraceStop}
 use Rattle.circuit_target.specs.Standing.{claim_of}
 use Rattle.unitary_model.specs.Realises.{Realises}
-use Rattle.qroute_top.proofs.ClaimLaws.{Begun, HasRoom-read, HasTrace-after, IsAllAsked-read, IsAskedStop-read, IsClaimStop-asked, IsClaimStop-device, IsClaimStop-room, IsClaimStop-source, IsClaimStop-target, IsClaimStop-text, IsClaimStop-trace, IsTraceStop-same, Met, claim-kept, failed_device, failed_same, narrow-read, ok_is_no_device_err, ok_is_no_err, stop_after, trace_after}
+use Rattle.qroute_top.proofs.ClaimLaws.{Begun, HasRoom-read, HasTrace-after, IsAllAsked-read, IsAskedStop-read, IsClaimStop-asked, IsClaimStop-device, IsClaimStop-room, IsClaimStop-source, IsClaimStop-target, IsClaimStop-text, IsClaimStop-trace, IsTraceStop-at, IsTraceStop-same, Met, claim-kept, failed_device, failed_same, narrow-read, ok_is_no_device_err, ok_is_no_err, stop_after, trace_after}
 use Rattle.qroute_top.proofs.claim.claim_answer.Goals as goal
 
 pub returns-in_err-device-clause-err : goal.returns-in_err-device-clause-err
@@ -151,7 +150,7 @@ returns-in_err-proof-clause-err g c =
     let same = claim-kept c.in_ok-source.source.program c.in_ok-target.target.program read.0 other.0 read.2 other.2 in
     let it = IsClaimStop-trace (g.F.Shelf.content c.args.shelf.now) c.args.asked.now c.in_ok-device.device c.in_ok-source.source.text.items
     c.in_ok-target.target.text.items read.0 other.0 c.in_ok-trace.trace.items (g.F.Shelf.faults c.args.shelf.now) (g.F.Shelf.faults c.asked_trace.new.shelf) _ met room has
-    (subst (λ t. IsTraceStop (claim_of read.0 other.0) t _) c.deref-2.ensures.value (IsTraceStop-same _ _ _ _ same c.in_err-proof.ensures.err)) calm_third in
+    (IsTraceStop-at _ _ _ _ c.deref-2.ensures.value (IsTraceStop-same _ _ _ _ same c.in_err-proof.ensures.err)) calm_third in
     rw (p.1, p.2) it
 
 pub check_asked-requires-clause-long : goal.check_asked-requires-clause-long
