@@ -141,7 +141,11 @@ fn fault_of_claim(stop: ClaimStop) -> Fault
         ClaimStop::Failed => Fault::Shelf,
         ClaimStop::Absent => Fault::Absent,
         ClaimStop::Refused { side, refusal } => fault_of_text(side, refusal),
+        ClaimStop::TooFewQubits { device, qubits } => Fault::TooFewQubits { device, qubits },
         ClaimStop::Trace { line } => Fault::Trace { line },
+        ClaimStop::Placed => Fault::Placed,
+        ClaimStop::Reads => Fault::Reads,
+        ClaimStop::Edge { operation } => Fault::Edge { operation },
     }
 }
 

@@ -13,13 +13,15 @@ use crate::refusals::{
 use serde_json::{Value, json};
 use std::alloc::{AllocError, Global};
 
-/// One of the two program texts that a trace is verified against.
+/// One of the texts of `verify`: the two programs that a trace is verified against, or the trace, where it has a text of its own.
 #[derive(Clone, Copy, Debug, PartialEq, Eq)]
 pub enum Side {
     /// The text of the program that the trace begins with.
     Source,
     /// The text of the program that it ends with.
     Target,
+    /// The text of the trace.
+    Trace,
 }
 
 /// A fault, with what its line tells. A `code` is that of a refusal.
@@ -111,6 +113,14 @@ pub enum Fault {
     Trace {
         line: u32,
     },
+    /// Some wire begins or ends on another qubit than its own.
+    Placed,
+    /// Some classical bit reads another wire than in the source, or the registers differ.
+    Reads,
+    /// This operation of the target, counted from 1 on, is the first CNOT that follows no edge of the device.
+    Edge {
+        operation: u64,
+    },
 }
 
 /// The word of a side in the line.
@@ -120,6 +130,7 @@ fn side_word(side: Side) -> &'static str
     match side {
         Side::Source => "source",
         Side::Target => "target",
+        Side::Trace => "trace",
     }
 }
 
@@ -147,7 +158,7 @@ pub fn status(fault: &Fault) -> u8
         Fault::ManyBranches { .. } => refusal_status(MANY_BRANCHES),
         Fault::BitsLength { .. } => refusal_status(BITS_LENGTH),
         Fault::TooManySpares { .. } => refusal_status(TOO_MANY_SPARES),
-        Fault::Trace { .. } => 1,
+        Fault::Trace { .. } | Fault::Placed | Fault::Reads | Fault::Edge { .. } => 1,
     }
 }
 
@@ -184,6 +195,9 @@ pub(crate) fn fault_value(alloc: Global, fault: &Fault) -> Result<Value, AllocEr
             side,
         } => with_side(alloc, statement_value(alloc, code, statement)?, side),
         Fault::Trace { line } => trace_value(alloc, line),
+        Fault::Placed => outside_value(alloc, "Placed", status),
+        Fault::Reads => outside_value(alloc, "Reads", status),
+        Fault::Edge { operation } => edge_value(alloc, operation),
     }
 }
 
@@ -310,4 +324,10 @@ fn trace_value(alloc: Global, line: u32) -> Result<Value, AllocError>
     ensures { IfOk result (λ v. view v ≡ fault_data (Fault.Trace line)) }
 {
     json!(in alloc; {"fault": "Trace", "line": line, "status": 1u8})
+}
+
+fn edge_value(alloc: Global, operation: u64) -> Result<Value, AllocError>
+    ensures { IfOk result (λ v. view v ≡ fault_data (Fault.Edge operation)) }
+{
+    json!(in alloc; {"fault": "Edge", "operation": operation, "status": 1u8})
 }
