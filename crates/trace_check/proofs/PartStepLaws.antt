@@ -4,13 +4,12 @@
 --     slice_of-none, slice_of-more     no gates of a list, and one more
 --     cut-start, cut-more, cut-long     gates are taken out from a place on
 --     cut-within, cut-put     others are put there
-use Rattle.std.proofs.Common.{◌≡◌, ℕ, zero, suc, ◌+◌, ◌-◌, ◌%◌, ◌^◌, ◌<◌, ◌≤◌, List, [], ◌∷◌, ◌++◌, length, map, take, drop, get_or, set, Some, slice_get, All, refl, sym, subst, ◌∙◌, ap, append_assoc, arith}
+use Rattle.std.proofs.Common.{◌≡◌, ℕ, suc, ◌+◌, ◌-◌, ◌%◌, ◌^◌, ◌<◌, ◌≤◌, List, [], ◌∷◌, ◌++◌, length, map, take, drop, get_or, Some, slice_get, All, refl, sym, subst, ◌∙◌, ap, arith}
 use Rattle.std.specs.Prelude.{codes}
 use Rattle.std.specs.List.{flat_map, remove}
 use Rattle.std.proofs.lemmas.List.{drop_at, get_or-drop, length-append, length-drop, length-take-le, take-append-drop, take_at, take_more}
 use Rattle.std.proofs.lemmas.List.Edits.{remove-append_right}
-use Rattle.std.proofs.lemmas.Slice.{drop-append-drop}
-use Rattle.std.proofs.Math.Seq.{drop-cons, set-append_seam, take-append_seam}
+use Rattle.std.proofs.Math.Seq.{drop-cons}
 use Rattle.std.proofs.lemmas.Option.{get_or_from_slice_get, slice_get_within}
 use Rattle.std.proofs.lemmas.List.Elements.{All-from_recursion, recursion_from_All}
 use Rattle.circuit_list.specs.declared.Gate.{Gate}
@@ -20,7 +19,6 @@ use Rattle.circuit_list.specs.Gates.{IsFine, most_wires}
 use Rattle.path_parity.specs.NamedSums.{SamePathSum}
 use Rattle.rewrite_pass.specs.Traces.{Step, Rule, Both, Join, Sums, constants_turn}
 use Rattle.rewrite_pass.specs.TraceLines.{gate_line, gate_numbers, words}
-use Rattle.rewrite_pass.proofs.ListLaws.{take-next}
 use Rattle.trace_model.specs.declared.word.Word.TheVariants as word
 use Rattle.trace_model.specs.Lines.{Line, Rewrite, Part, Phases, IsSmall}
 use Rattle.trace_check.specs.Progress.{Blocked, Leads, reached}

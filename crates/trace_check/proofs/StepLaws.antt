@@ -12,12 +12,10 @@
 --     came-place, stuck-place, stuck-held     the line `place`
 --     came-turns          a line more
 --     came-blocked        no line more
-use Rattle.std.proofs.Common.{◌≡◌, ◌≢◌, ℕ, ◌+◌, ◌%◌, ◌^◌, ◌<◌, ◌≤◌, ◌⊎◌, inl, inr, ◌&&◌, Bool, true, false, cond, List, [], ◌∷◌, ◌++◌, length, map, MatchOption, Option, Some, None, All, refl, sym, subst, ◌∙◌, ap, arith}
-use Rattle.std.specs.Prelude.{codes, nat_eq}
-use Rattle.std.specs.Cmp.Lexicographic.{pointwise}
-use Rattle.std.specs.List.{flat_map, list_any}
+use Rattle.std.proofs.Common.{◌≡◌, ◌≢◌, ℕ, ◌+◌, ◌%◌, ◌^◌, ◌<◌, ◌≤◌, ◌⊎◌, inl, inr, true, List, [], ◌∷◌, ◌++◌, length, map, MatchOption, Option, Some, None, All, refl, sym, subst, ◌∙◌, ap, arith}
+use Rattle.std.specs.Prelude.{codes}
+use Rattle.std.specs.List.{flat_map}
 use Rattle.std.specs.Option.{is_some}
-use Rattle.std.proofs.lemmas.Fmt.{decimal_digit}
 use Rattle.std.proofs.lemmas.List.{length-append}
 use Rattle.std.proofs.lemmas.List.Elements.{All-from_recursion, recursion_from_All}
 use Rattle.std.proofs.lemmas.Option.{same_Some}
@@ -32,7 +30,7 @@ use Rattle.rewrite_pass.specs.TraceLines.{gate_line, gate_numbers, words}
 use Rattle.trace_check.specs.declared.goals.Held.{Held}
 use Rattle.trace_model.specs.declared.word.Word.{Word}
 use Rattle.trace_model.specs.declared.word.Word.TheVariants as word
-use Rattle.trace_model.specs.Lines.{Line, Heading, Rewrite, Part, Phases, Goal, Meet, Place, IsIn, IsSmall, edition_of, is_later, numbers_of, spelt}
+use Rattle.trace_model.specs.Lines.{Line, Heading, Rewrite, Part, Phases, Goal, Meet, Place, IsIn, IsSmall, edition_of, numbers_of, spelt}
 use Rattle.trace_text.specs.Texts.{lines_of}
 use Rattle.trace_check.specs.Progress.{Blocked, Came, Leads, BlockedWith, IsListing, IsSame, LeadsOn, reached, step_named}
 use Rattle.trace_model.specs.Proves.{Applies, Changes, Claim, IsOpen, IsStuck, Placed, Rewritten, Routed, Seeking, State, StopsAt, Unread}

@@ -1,6 +1,5 @@
-use Rattle.std.proofs.Common.{◌≡◌, ◌∙◌, ◌++◌, ◌∷◌, [], List, ap, arith, sym}
+use Rattle.std.proofs.Common.{◌∙◌, ◌++◌, ◌∷◌, [], List, ap, arith, sym}
 use Rattle.circuit_list.specs.declared.Gate.{Gate}
-use Rattle.trace_model.specs.Proves.{slice_of}
 use Rattle.trace_check.proofs.PartStepLaws.{slice_of-more, slice_of-none}
 use Rattle.trace_check.proofs.parts.part.Goals as goal
 

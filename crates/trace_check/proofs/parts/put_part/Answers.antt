@@ -1,6 +1,5 @@
-use Rattle.std.proofs.Common.{◌≡◌, ◌∙◌, ◌++◌, List, ap, arith, sym, drop, length, take}
+use Rattle.std.proofs.Common.{◌∙◌, arith, sym}
 use Rattle.std.proofs.lemmas.Result.{on_ok_weaker}
-use Rattle.circuit_list.specs.declared.Gate.{Gate}
 use Rattle.trace_check.proofs.PartStepLaws.{cut-put, cut-within}
 use Rattle.trace_check.proofs.parts.put_part.Goals as goal
 
