@@ -1,5 +1,5 @@
 -- Lines of worked records, computed by their definitions.
-use Rattle.std.proofs.Common.{◌≡◌, [], ◌∷◌, codes, refl, None, Some, pos, negsuc}
+use Rattle.std.proofs.Common.{◌≡◌, [], ◌∷◌, codes, refl, true, false, None, Some, pos, negsuc}
 use Rattle.std.specs.Fmt.{digits}
 use Rattle.serde_json.proofs.OnLiterals.{serde_json_on_literals}
 use Rattle.route_report.specs.declared.faults.Fault.TheVariants as fault
