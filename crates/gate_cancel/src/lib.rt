@@ -41,7 +41,8 @@ impl Pass for CancelPass {
     ghost kept = { λ n old new. KeepsCnots old new × IsSmallerOrSame old new };
 
     fn rewrite(&self, alloc: Global, circuit: &mut Rewriting) -> Result<(), AllocError> {
-        cancel_all(alloc, circuit)
+        cancel_all(alloc, circuit)?;
+        Ok(())
     }
 }
 

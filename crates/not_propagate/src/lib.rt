@@ -52,5 +52,6 @@ fn propagated(alloc: Global, body: &Circuit) -> Result<Passed, AllocError>
     'gates: for i in 0..body.len() {
         walk.step(body.gate(i))?;
     }
-    walk.finish()
+    let passed = walk.finish()?;
+    Ok(passed)
 }

@@ -25,9 +25,10 @@ impl Pass for ResynthPass {
     ghost kept = { KeepsBound };
 
     fn rewrite(&self, alloc: Global, circuit: &mut Rewriting) -> Result<(), AllocError> {
-        if let Some(passed) = remade(alloc, circuit.body())? {
-            circuit.replace(passed.body, passed.turn)?;
-        }
+        let Some(passed) = remade(alloc, circuit.body())? else {
+            return Ok(());
+        };
+        circuit.replace(passed.body, passed.turn)?;
         Ok(())
     }
 }

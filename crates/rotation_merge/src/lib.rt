@@ -13,7 +13,7 @@
 mod row_hash;
 mod totals;
 
-ghost use Rattle.std.specs.Prelude.{◌≡◌, ◌%◌, All, IfOk};
+ghost use Rattle.std.specs.Prelude.{◌≡◌, ◌%◌, All, IfOk, OnOk};
 ghost use Rattle.circuit_list.specs.Gates.{IsFine, ops};
 ghost use Rattle.path_parity.specs.PathSum.{own_labels, phase_labels};
 ghost use Rattle.rewrite_pass.specs.Law.{IsSmallerOrSame};
@@ -40,8 +40,7 @@ impl Pass for MergePass {
     ghost kept = { λ _ old new. IsSmallerOrSame old new };
 
     fn rewrite(&self, alloc: Global, circuit: &mut Rewriting) -> Result<(), AllocError> {
-        let totals = gathered(alloc, circuit.body())?;
-        let passed = rewritten(alloc, circuit.body(), totals)?;
+        let passed = merged(alloc, circuit.body())?;
         circuit.replace(passed.body, passed.turn)?;
         Ok(())
     }
@@ -55,6 +54,16 @@ impl MayStay for MergePass {
 
 impl Shrinks for MergePass {
     ghost shrinks = { λ _ _ _ holds. holds };
+}
+
+/// The circuit with its phases merged, and its turn.
+fn merged(alloc: Global, body: &Circuit) -> Result<Passed, AllocError>
+    ensures fine { OnOk result (All (IsFine body.now.wires) body.now.gates) }
+    ensures merged { IfOk result (IsMerged body.now.wires body.now.gates) }
+{
+    let totals = gathered(alloc, body)?;
+    let passed = rewritten(alloc, body, totals)?;
+    Ok(passed)
 }
 
 /// The totals of a circuit, and the labels of its phases.
