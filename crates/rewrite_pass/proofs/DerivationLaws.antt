@@ -3,7 +3,7 @@
 --     derivation_stepped      one step more
 --     derivation_replaced     another circuit with the same path sum
 --     derivation_gone_on      what was made in a branch, and its steps
-use Rattle.std.proofs.Common.{◌≡◌, ℕ, ◌+◌, ◌%◌, List, true, refl, sym, subst, ◌∙◌, ap, arith, All}
+use Rattle.std.proofs.Common.{◌≡◌, ℕ, ◌+◌, ◌%◌, ◌++◌, List, true, refl, sym, subst, ◌∙◌, ap, arith, All}
 use Rattle.std.proofs.lemmas.List.Elements.{recursion_from_All}
 use Rattle.circuit_list.specs.declared.Gate.{Gate}
 use Rattle.circuit_list.specs.Body.{Body}
