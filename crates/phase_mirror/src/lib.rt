@@ -107,7 +107,14 @@ fn with_sign(gate: Gate, turned: bool) -> Gate
 }
 
 impl MayStay for MirrorPass {
-    ghost use Rattle.phase_mirror.proofs.MirroredLaws.{mirrored-none};
+    ghost use Rattle.std.specs.Prelude.{[]};
+    ghost use Rattle.std.proofs.Common.{refl};
 
-    ghost may_stay = { λ n gs _. mirrored-none n gs };
+    ghost may_stay = { λ n gs _. record {
+        turned = [];
+        gates = refl;
+        phases = record { sets = λ v. refl; last = λ q lt. refl; phases = λ v. refl };
+        t_gates = refl;
+        odd_paths = refl;
+    } };
 }
