@@ -6,18 +6,19 @@
 //!
 //! A CCZ is seven odd phases on three sets of path variables and their sums. It is its own inverse, so all seven signs may be
 //! turned. The pass finds such sevens along the circuit, wherever their gates stand, among the last odd phases that belong to none
-//! so far. Then it goes along the sevens once, and turns those that leave fewer sets with a phase.
+//! so far. Then it goes along the sevens once. It turns each whose phases then meet more of their opposites among the signs that
+//! came last on their sets.
 //!
 //! A circuit is always fine, so nothing is refused: the only error is want of memory. Time is linear in the gates, but for the
 //! words of their labels.
 #![tactic(auto)]
 
+mod last_signs;
 mod mark;
 mod prints;
 mod search;
 mod seven;
 mod signs;
-mod totals;
 
 ghost use Rattle.std.specs.Prelude.{◌≡◌, IfOk};
 ghost use Rattle.circuit_list.specs.Gates.{IsFine};
@@ -28,6 +29,7 @@ ghost use Rattle.rewrite_pass.specs.Law.{IsRewriting};
 ghost use Rattle.rewrite_pass.specs.Traces.{constants_turn};
 
 use circuit_list::{Circuit, Gate, Passed};
+use last_signs::LastSigns;
 use rewrite_pass::{MayStay, Pass};
 use search::sevens_of;
 use signs::Signs;
@@ -64,17 +66,18 @@ pub fn mirrored(alloc: Global, body: &Circuit) -> Result<Passed, AllocError>
     })
 }
 
-/// The signs to be turned: those of each seven that leaves fewer sets with a phase, one after the other.
+/// The signs to be turned: one seven after the other, those of each whose phases then meet more of their opposites.
 fn signs_of(alloc: Global, body: &Circuit) -> Result<Signs, AllocError>
     ensures signs { IfOk result (AreSigns body.now.wires body.now.gates) }
 {
-    let (sevens, mut totals) = sevens_of(alloc, body)?;
+    let sevens = sevens_of(alloc, body)?;
+    let mut last = LastSigns::new(alloc);
     let mut signs = Signs::none(alloc, body.len())?;
     'sevens: for i in 0..sevens.len() {
         let seven = &sevens[i];
-        if totals.falls(seven) && signs.turn(seven) {
-            totals.turn(seven);
-        }
+        let better = last.is_better_turned(seven);
+        let turned = better && signs.turn(seven);
+        last.note(seven, turned)?;
     }
     Ok(signs)
 }

@@ -8,7 +8,6 @@ ghost use Rattle.phase_mirror.specs.Marks.{IsFineMark, IsMark, IsSearched, IsSev
 use crate::mark::Mark;
 use crate::prints::Prints;
 use crate::seven::{Seven, Six, seven_of};
-use crate::totals::Totals;
 use circuit_list::{Circuit, Gate};
 use path_parity::Walk;
 use std::alloc::{AllocError, Global};
@@ -16,18 +15,17 @@ use std::alloc::{AllocError, Global};
 /// How many odd phases are remembered that belong to no seven so far.
 const MOST_MARKS: usize = 16;
 
-/// The last odd phases that belong to no seven, the sevens, and the totals of all sets.
+/// The last odd phases that belong to no seven, and the sevens.
 #[derive(Drop)]
 pub struct Search {
     prints: Prints,
     marks: Vec<Mark>,
     sevens: Vec<Seven>,
-    totals: Totals,
 }
 
-/// The sevens of a circuit, in the order in which their last phases stand, no two with a phase in common, and the totals of its sets.
-pub fn sevens_of(alloc: Global, body: &Circuit) -> Result<(Vec<Seven>, Totals), AllocError>
-    ensures sevens { IfOk result (λ r. All (IsSeven (places_of body.now.wires body.now.gates)) r.0.items) }
+/// The sevens of a circuit, in the order in which their last phases stand.
+pub fn sevens_of(alloc: Global, body: &Circuit) -> Result<Vec<Seven>, AllocError>
+    ensures sevens { IfOk result (λ v. All (IsSeven (places_of body.now.wires body.now.gates)) v.items) }
 {
     let mut walk = Walk::new(alloc, body.wires())?;
     let mut search = Search::new(alloc, body.wires())?;
@@ -36,7 +34,7 @@ pub fn sevens_of(alloc: Global, body: &Circuit) -> Result<(Vec<Seven>, Totals), 
         search.step(alloc, &walk, i, gate)?;
         walk.pass(gate)?;
     }
-    Ok((search.sevens, search.totals))
+    Ok(search.sevens)
 }
 
 impl Search {
@@ -49,7 +47,6 @@ impl Search {
             prints: Prints::new(alloc, wires)?,
             marks: Vec::new(alloc),
             sevens: Vec::new(alloc),
-            totals: Totals::new(alloc),
         })
     }
 
@@ -70,14 +67,13 @@ impl Search {
             IsSearched ms self.old → IsSearched ms self.new) }
     {
         if let Gate::P { k, q } = gate {
-            let mark = Mark {
-                place,
-                label: walk.label(q).copy(alloc)?,
-                k,
-                print: self.prints.on(q),
-            };
-            self.totals.add(mark.print, mark.signed())?;
             if k % 2 == 1 {
+                let mark = Mark {
+                    place,
+                    label: walk.label(q).copy(alloc)?,
+                    k,
+                    print: self.prints.on(q),
+                };
                 self.meet(alloc, mark)?;
             }
         }
