@@ -1,3 +1,4 @@
+pub mod MarkLaws
 pub mod MirroredLaws
 pub mod SevenLaws
 pub mod SignLaws

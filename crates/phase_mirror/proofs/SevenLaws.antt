@@ -12,13 +12,13 @@ use Rattle.phase_mirror.specs.Marks.{AreEven, AreSums, IsMark, IsSeven, Placed, 
 
 even_sum : (A B C : Bool) (a b c ab ac bc abc : ℕ) → AreEven a b c ab ac bc abc →
     (cond A (6 * a) 0 + (cond B (6 * b) 0 + (cond C (6 * c) 0 + (cond (xor A B) (6 * ab) 0 + (cond (xor A C) (6 * ac) 0 + (cond (xor B C) (6 * bc) 0 + (cond (xor (xor A B) C) (6 * abc) 0 + 0))))))) % 8 ≡ 0
-even_sum true true true a b c ab ac bc abc h = omega (arith, h.abc)
-even_sum true true false a b c ab ac bc abc h = omega (arith, h.ab)
-even_sum true false true a b c ab ac bc abc h = omega (arith, h.ac)
-even_sum true false false a b c ab ac bc abc h = omega (arith, h.a)
-even_sum false true true a b c ab ac bc abc h = omega (arith, h.bc)
-even_sum false true false a b c ab ac bc abc h = omega (arith, h.b)
-even_sum false false true a b c ab ac bc abc h = omega (arith, h.c)
+even_sum true true true a b c ab ac bc abc h = omega (arith, h.of_abc)
+even_sum true true false a b c ab ac bc abc h = omega (arith, h.of_ab)
+even_sum true false true a b c ab ac bc abc h = omega (arith, h.of_ac)
+even_sum true false false a b c ab ac bc abc h = omega (arith, h.of_a)
+even_sum false true true a b c ab ac bc abc h = omega (arith, h.of_bc)
+even_sum false true false a b c ab ac bc abc h = omega (arith, h.of_b)
+even_sum false false true a b c ab ac bc abc h = omega (arith, h.of_c)
 even_sum false false false a b c ab ac bc abc h = refl
 
 abbrev pub places : Mark → Mark → Mark → Mark → Mark → Mark → Mark → List ℕ
@@ -42,16 +42,16 @@ module _ (ms : List Placed) (a b c ab ac bc abc : Mark) (ea : IsMark ms a) (eb :
       C = parity v (set_in c)
 
       pab : parity v (set_in ab) ≡ xor A B
-      pab = ap (parity v) s.ab ∙ parity-xor v (set_in a) (set_in b)
+      pab = ap (parity v) s.of_ab ∙ parity-xor v (set_in a) (set_in b)
 
       pac : parity v (set_in ac) ≡ xor A C
-      pac = ap (parity v) s.ac ∙ parity-xor v (set_in a) (set_in c)
+      pac = ap (parity v) s.of_ac ∙ parity-xor v (set_in a) (set_in c)
 
       pbc : parity v (set_in bc) ≡ xor B C
-      pbc = ap (parity v) s.bc ∙ parity-xor v (set_in b) (set_in c)
+      pbc = ap (parity v) s.of_bc ∙ parity-xor v (set_in b) (set_in c)
 
       pabc : parity v (set_in abc) ≡ xor (xor A B) C
-      pabc = ap (parity v) s.abc ∙ parity-xor v (set_in ab) (set_in c) ∙ ap (λ d. xor d C) pab
+      pabc = ap (parity v) s.of_abc ∙ parity-xor v (set_in ab) (set_in c) ∙ ap (λ d. xor d C) pab
 
   shifts : sum_at shift_of (places a b c ab ac bc abc) ms % 8 ≡ (shift_in a + shift_in b + shift_in c + shift_in ab + shift_in ac + shift_in bc + shift_in abc) % 8
   shifts =

@@ -1,19 +1,25 @@
 -- Sums over the places whose signs are turned.
---     sum_turned-none         where none is turned there is nothing
+--     sum_turned-none         where none is turned there is nothing;  signs-none: so these signs have nothing
 --     sum_turned-set          one place more
 --     sum_turned-all          the places of a list more
 --     signs-turned            a seven more
-use Rattle.std.proofs.Common.{◌≡◌, ℕ, zero, suc, ◌+◌, ◌%◌, ◌<◌, Bool, true, false, cond, List, [], ◌∷◌, set, length, get_or, refl, sym, ◌∙◌, ap, arith, zero-add}
-use Rattle.std.proofs.lemmas.List.{length-set}
-use Rattle.phase_mirror.specs.Marks.{Placed, nothing, sum_turned, sum_at, all_turned, AreFree}
+use Rattle.std.proofs.Common.{◌≡◌, ℕ, zero, suc, ◌+◌, ◌%◌, ◌<◌, Bool, true, false, cond, List, [], ◌∷◌, set, length, get_or, replicate, refl, sym, ◌∙◌, ap, arith, zero-add}
+use Rattle.std.proofs.lemmas.List.{length-set, length-replicate}
+use Rattle.phase_mirror.specs.declared.seven.Seven.{Seven}
+use Rattle.phase_mirror.specs.declared.signs.Signs.{Signs}
+use Rattle.phase_mirror.specs.Marks.{AreFree, HasSigns, IsSeven, Placed, all_turned, gain_of, nothing, shift_of, sum_at, sum_turned}
 
-pub sum_turned-none : (F : Placed → ℕ) (ts : List Bool) (ms : List Placed) → ((i : ℕ) → i < length ts → get_or ts i true ≡ false) → sum_turned F ts ms ≡ 0
-sum_turned-none F [] ms h = refl
-sum_turned-none F (t ∷ ts) [] h = refl
-sum_turned-none F (t ∷ ts) (m ∷ ms) h = (λ i. cond (first i) (F m) 0 + sum_turned F ts ms) ∙ zero-add (sum_turned F ts ms) ∙ sum_turned-none F ts ms (λ i lt. h (suc i) (omega arith))
-  where
-    first : t ≡ false
-    first = h zero (omega arith)
+sum_turned-none : (F : Placed → ℕ) (n : ℕ) (ms : List Placed) → sum_turned F (replicate n false) ms ≡ 0
+sum_turned-none F zero ms = refl
+sum_turned-none F (suc n) [] = refl
+sum_turned-none F (suc n) (m ∷ ms) = zero-add (sum_turned F (replicate n false) ms) ∙ sum_turned-none F n ms
+
+pub signs-none : (ms : List Placed) (n : ℕ) (s : Signs) → length ms ≡ n → s.turned.items ≡ replicate n false → s.turn ≡ 0 → HasSigns ms s
+signs-none ms n s e h z = record {
+  many = ap (λ (ts : List Bool). length ts) h ∙ length-replicate n false ∙ sym e;
+  phases = λ v. ap (λ ts. sum_turned (gain_of v) ts ms % 8) h ∙ ap (λ k. k % 8) (sum_turned-none (gain_of v) n ms);
+  turn = ap (λ ts. sum_turned shift_of ts ms % 8) h ∙ ap (λ k. k % 8) (sum_turned-none shift_of n ms) ∙ sym z;
+}
 
 pub sum_turned-set : (F : Placed → ℕ) (ts : List Bool) (ms : List Placed) (p : ℕ) → length ts ≡ length ms → p < length ts → get_or ts p true ≡ false →
     sum_turned F (set ts p true) ms ≡ F (get_or ms p nothing) + sum_turned F ts ms
@@ -41,3 +47,21 @@ sum_turned-all F (p ∷ ps) ts ms e h =
   where
     move : (a b c : ℕ) → a + (b + c) ≡ b + a + c
     move a b c = omega arith
+
+-- ---- a seven more
+pub signs-turned : (ms : List Placed) (seven : Seven) (old new : Signs) → AreFree old.turned.items seven.places → new.turned.items ≡ all_turned old.turned.items seven.places →
+    new.turn ≡ (old.turn + seven.shift) % 8 → IsSeven ms seven → HasSigns ms old → HasSigns ms new
+signs-turned ms seven old new free turned turn s h = record {
+  many = ap (λ (ts : List Bool). length ts) turned ∙ length-all_turned seven.places old.turned.items ∙ h.many;
+  phases = λ v. omega (arith, more (gain_of v), s.phases v, h.phases v);
+  turn = omega (arith, more shift_of, s.shift, h.turn, turn);
+}
+  where
+    more : (F : Placed → ℕ) → sum_turned F new.turned.items ms ≡ sum_at F seven.places ms + sum_turned F old.turned.items ms
+    more F = ap (λ ts. sum_turned F ts ms) turned ∙ sum_turned-all F seven.places old.turned.items ms h.many free
+
+-- ---- turning one and back
+pub turned-back : (ts : List Bool) (p : ℕ) → get_or ts p true ≡ false → set (set ts p true) p false ≡ ts
+turned-back [] p h = absurd (cc)
+turned-back (t ∷ ts) zero h = let e : t ≡ false = h in λ i. sym e i ∷ ts
+turned-back (t ∷ ts) (suc p) h = ap (λ us. t ∷ us) (turned-back ts p h)

@@ -90,13 +90,13 @@ pub record IsFineMark (m : Mark) : Type 0 where
   pub small : m.k < 8
 
 pub record AreFineMarks (a b c ab ac bc abc : Mark) : Type 0 where
-  pub a : IsFineMark a
-  pub b : IsFineMark b
-  pub c : IsFineMark c
-  pub ab : IsFineMark ab
-  pub ac : IsFineMark ac
-  pub bc : IsFineMark bc
-  pub abc : IsFineMark abc
+  pub of_a : IsFineMark a
+  pub of_b : IsFineMark b
+  pub of_c : IsFineMark c
+  pub of_ab : IsFineMark ab
+  pub of_ac : IsFineMark ac
+  pub of_bc : IsFineMark bc
+  pub of_abc : IsFineMark abc
 
 abbrev pub IsMark : List Placed → Mark → Type 0
 IsMark ms m = get_or ms m.place nothing ≡ (label_of m.label, m.k)
@@ -126,25 +126,25 @@ pub record IsWithin (six : Six) (n : ℕ) : Type 0 where
   pub abc : six.abc < n
 
 pub record AreSums (a b c ab ac bc abc : Mark) : Type 0 where
-  pub ab : set_in ab ≡ bit_xor (set_in a) (set_in b)
-  pub ac : set_in ac ≡ bit_xor (set_in a) (set_in c)
-  pub bc : set_in bc ≡ bit_xor (set_in b) (set_in c)
-  pub abc : set_in abc ≡ bit_xor (set_in ab) (set_in c)
+  pub of_ab : set_in ab ≡ bit_xor (set_in a) (set_in b)
+  pub of_ac : set_in ac ≡ bit_xor (set_in a) (set_in c)
+  pub of_bc : set_in bc ≡ bit_xor (set_in b) (set_in c)
+  pub of_abc : set_in abc ≡ bit_xor (set_in ab) (set_in c)
 
 pub record AreSmall (a b c ab ac bc abc : ℕ) : Type 0 where
-  pub a : a ≤ 8
-  pub b : b ≤ 8
-  pub c : c ≤ 8
-  pub ab : ab ≤ 8
-  pub ac : ac ≤ 8
-  pub bc : bc ≤ 8
-  pub abc : abc ≤ 8
+  pub of_a : a ≤ 8
+  pub of_b : b ≤ 8
+  pub of_c : c ≤ 8
+  pub of_ab : ab ≤ 8
+  pub of_ac : ac ≤ 8
+  pub of_bc : bc ≤ 8
+  pub of_abc : abc ≤ 8
 
 pub record AreEven (a b c ab ac bc abc : ℕ) : Type 0 where
-  pub a : (a + ab + ac + abc) % 4 ≡ 0
-  pub b : (b + ab + bc + abc) % 4 ≡ 0
-  pub c : (c + ac + bc + abc) % 4 ≡ 0
-  pub ab : (a + b + ac + bc) % 4 ≡ 0
-  pub ac : (a + c + ab + bc) % 4 ≡ 0
-  pub bc : (b + c + ab + ac) % 4 ≡ 0
-  pub abc : (a + b + c + abc) % 4 ≡ 0
+  pub of_a : (a + ab + ac + abc) % 4 ≡ 0
+  pub of_b : (b + ab + bc + abc) % 4 ≡ 0
+  pub of_c : (c + ac + bc + abc) % 4 ≡ 0
+  pub of_ab : (a + b + ac + bc) % 4 ≡ 0
+  pub of_ac : (a + c + ab + bc) % 4 ≡ 0
+  pub of_bc : (b + c + ab + ac) % 4 ≡ 0
+  pub of_abc : (a + b + c + abc) % 4 ≡ 0

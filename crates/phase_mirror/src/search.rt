@@ -27,8 +27,9 @@ pub struct Search {
 pub fn sevens_of(alloc: Global, body: &Circuit) -> Result<Vec<Seven>, AllocError>
     ensures sevens { IfOk result (λ v. All (IsSeven (places_of body.now.wires body.now.gates)) v.items) }
 {
-    let mut walk = Walk::new(alloc, body.wires())?;
-    let mut search = Search::new(alloc, body.wires())?;
+    let wires = body.wires();
+    let mut walk = Walk::new(alloc, wires)?;
+    let mut search = Search::new(alloc, wires)?;
     'gates: for i in 0..body.len() {
         let gate = body.gate(i);
         search.step(alloc, &walk, i, gate)?;
@@ -41,6 +42,7 @@ impl Search {
     /// Nothing was met.
     fn new(alloc: Global, wires: u32) -> Result<Search, AllocError>
         ensures prints { IfOk result (λ s. length s.prints.wires.items ≡ wires) }
+        ensures marks { IfOk result (λ s. All IsFineMark s.marks.items) }
         ensures searched { (ms : List Placed) → IfOk result (IsSearched ms) }
     {
         Ok(Search {
@@ -92,9 +94,7 @@ impl Search {
         if let Some(six) = six_with(&self.marks, mark.print) {
             if let Some(seven) = seven_of(alloc, &self.marks, six, &mark)? {
                 self.sevens.push(seven)?;
-                'places: for i in 0..7 {
-                    forget(&mut self.marks, seven.places[i]);
-                }
+                forget_all(&mut self.marks, &seven.places);
                 return Ok(());
             }
         }
@@ -114,6 +114,17 @@ fn remember(marks: &mut Vec<Mark>, mark: Mark) -> Result<(), AllocError>
     }
     marks.push(mark)?;
     Ok(())
+}
+
+/// Takes the marks at some places out.
+fn forget_all(marks: &mut Vec<Mark>, places: &[usize])
+    requires marks { All IsFineMark marks.old.items }
+    ensures marks { All IsFineMark marks.new.items }
+    ensures met { (ms : List Placed) → All (IsMark ms) marks.old.items → All (IsMark ms) marks.new.items }
+{
+    'places: for i in 0..places.len() {
+        forget(marks, places[i]);
+    }
 }
 
 /// Takes the mark at a place out, if there is one.

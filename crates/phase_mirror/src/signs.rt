@@ -19,10 +19,7 @@ impl Signs {
     pub fn none(alloc: Global, gates: usize) -> Result<Signs, AllocError>
         ensures none { (ms : List Placed) → length ms ≡ gates → IfOk result (HasSigns ms) }
     {
-        let mut turned = Vec::with_capacity(alloc, gates)?;
-        'gates: for _ in 0..gates {
-            turned.push(false)?;
-        }
+        let turned = vec![in alloc; false; gates]?;
         Ok(Signs { turned, turn: 0 })
     }
 
