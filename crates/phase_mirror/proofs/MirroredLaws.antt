@@ -26,7 +26,7 @@ use Rattle.path_parity.proofs.NumberedLaws.{numbered-function, constant-numbered
 use Rattle.path_parity.proofs.OddLaws.{odd_paths-sets}
 use Rattle.path_parity.proofs.ParityLaws.{phase-append}
 use Rattle.path_parity.proofs.SamePathSumLaws.{same_path_function}
-use Rattle.phase_mirror.specs.Marks.{Placed, placed_of, places_from, places_of, signed_of, shift_of, gain_of, sum_turned, HasSigns}
+use Rattle.phase_mirror.specs.Marks.{Labelled, placed_of, places_from, places_of, signed_of, shift_of, gain_of, sum_turned, HasSigns}
 use Rattle.phase_mirror.specs.Mirrored.{mirrored_gate, mirrored, IsMirrored}
 use Rattle.phase_mirror.specs.declared.signs.Signs.{Signs}
 use Rattle.rewrite_pass.specs.Law.{IsRewriting}

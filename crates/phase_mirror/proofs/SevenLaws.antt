@@ -8,7 +8,7 @@ use Rattle.path_parity.specs.PathSum.{xor}
 use Rattle.path_parity.proofs.ParityLaws.{parity-xor}
 use Rattle.phase_mirror.specs.declared.mark.Mark.{Mark}
 use Rattle.phase_mirror.specs.declared.seven.Seven.{Seven}
-use Rattle.phase_mirror.specs.Marks.{AreEven, AreSums, IsMark, IsSeven, Placed, gain_of, nothing, set_in, shift_in, shift_of, signed_in, sum_at}
+use Rattle.phase_mirror.specs.Marks.{AreEven, AreSetSums, IsMark, IsSeven, Labelled, gain_of, nothing, set_in, shift_in, shift_of, signed_in, sum_at}
 
 even_sum : (A B C : Bool) (a b c ab ac bc abc : ℕ) → AreEven a b c ab ac bc abc →
     (cond A (6 * a) 0 + (cond B (6 * b) 0 + (cond C (6 * c) 0 + (cond (xor A B) (6 * ab) 0 + (cond (xor A C) (6 * ac) 0 + (cond (xor B C) (6 * bc) 0 + (cond (xor (xor A B) C) (6 * abc) 0 + 0))))))) % 8 ≡ 0
@@ -24,8 +24,8 @@ even_sum false false false a b c ab ac bc abc h = refl
 abbrev pub places : Mark → Mark → Mark → Mark → Mark → Mark → Mark → List ℕ
 places a b c ab ac bc abc = a.place ∷ b.place ∷ c.place ∷ ab.place ∷ ac.place ∷ bc.place ∷ abc.place ∷ []
 
-module _ (ms : List Placed) (a b c ab ac bc abc : Mark) (ea : IsMark ms a) (eb : IsMark ms b) (ec : IsMark ms c) (eab : IsMark ms ab) (eac : IsMark ms ac) (ebc : IsMark ms bc) (eabc : IsMark ms abc) where
-  gains : AreSums a b c ab ac bc abc → AreEven (signed_in a) (signed_in b) (signed_in c) (signed_in ab) (signed_in ac) (signed_in bc) (signed_in abc) →
+module _ (ms : List Labelled) (a b c ab ac bc abc : Mark) (ea : IsMark ms a) (eb : IsMark ms b) (ec : IsMark ms c) (eab : IsMark ms ab) (eac : IsMark ms ac) (ebc : IsMark ms bc) (eabc : IsMark ms abc) where
+  gains : AreSetSums a b c ab ac bc abc → AreEven (signed_in a) (signed_in b) (signed_in c) (signed_in ab) (signed_in ac) (signed_in bc) (signed_in abc) →
       (v : Bits) → sum_at (gain_of v) (places a b c ab ac bc abc) ms % 8 ≡ 0
   gains s e v =
       (λ i. (gain_of v (ea i) + (gain_of v (eb i) + (gain_of v (ec i) + (gain_of v (eab i) + (gain_of v (eac i) + (gain_of v (ebc i) + (gain_of v (eabc i) + 0))))))) % 8)
@@ -62,7 +62,7 @@ module _ (ms : List Placed) (a b c ab ac bc abc : Mark) (ea : IsMark ms a) (eb :
       move p q r s t u v = omega arith
 
   pub seven-gathered : (s : Seven) → s.places ≡ places a b c ab ac bc abc → s.shift ≡ (shift_in a + shift_in b + shift_in c + shift_in ab + shift_in ac + shift_in bc + shift_in abc) % 8 →
-      AreSums a b c ab ac bc abc → AreEven (signed_in a) (signed_in b) (signed_in c) (signed_in ab) (signed_in ac) (signed_in bc) (signed_in abc) → IsSeven ms s
+      AreSetSums a b c ab ac bc abc → AreEven (signed_in a) (signed_in b) (signed_in c) (signed_in ab) (signed_in ac) (signed_in bc) (signed_in abc) → IsSeven ms s
   seven-gathered s p h sums even = record {
     phases = λ v. ap (λ ps. sum_at (gain_of v) ps ms % 8) p ∙ gains sums even v;
     shift = ap (λ ps. sum_at shift_of ps ms % 8) p ∙ shifts ∙ sym h;

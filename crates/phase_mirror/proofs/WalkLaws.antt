@@ -10,7 +10,7 @@ use Rattle.std.proofs.lemmas.List.{get_or-drop}
 use Rattle.circuit_list.specs.declared.Gate.{Gate}
 use Rattle.path_parity.specs.PathSum.{Wires, labels_after, unused_after}
 use Rattle.path_parity.proofs.LoopLaws.{drop-get}
-use Rattle.phase_mirror.specs.Marks.{Placed, nothing, placed_of, places_from}
+use Rattle.phase_mirror.specs.Marks.{Labelled, nothing, placed_of, places_from}
 use Rattle.phase_mirror.specs.Mirrored.{mirrored, mirrored_gate}
 
 pub drop-next : {X : Type 0} (xs : List X) (i : ℕ) (x : X) (r : List X) → drop i xs ≡ x ∷ r → drop (i + 1) xs ≡ r
@@ -25,13 +25,13 @@ drop-next {X = X} xs i x r e = ap (λ k. drop k xs) next ∙ at xs i e
     at (y ∷ ys) zero e = cc
     at (y ∷ ys) (suc i) e = at ys i e
 
-pub drop-here : (ms : List Placed) (i : ℕ) (m : Placed) (r : List Placed) → drop i ms ≡ m ∷ r → get_or ms i nothing ≡ m
+pub drop-here : (ms : List Labelled) (i : ℕ) (m : Labelled) (r : List Labelled) → drop i ms ≡ m ∷ r → get_or ms i nothing ≡ m
 drop-here [] zero m r e = absurd (cc)
 drop-here [] (suc i) m r e = absurd (cc)
 drop-here (y ∷ ms) zero m r e = cc
 drop-here (y ∷ ms) (suc i) m r e = drop-here ms i m r e
 
-module _ (ms : List Placed) (gs : List Gate) (i : ℕ) (g : Gate) (w : Wires) (u : ℕ) (there : slice_get gs i ≡ Some g) (left : drop i ms ≡ places_from (drop i gs) w u) where
+module _ (ms : List Labelled) (gs : List Gate) (i : ℕ) (g : Gate) (w : Wires) (u : ℕ) (there : slice_get gs i ≡ Some g) (left : drop i ms ≡ places_from (drop i gs) w u) where
   split : drop i ms ≡ placed_of g w ∷ places_from (drop (i + 1) gs) (labels_after g w u) (unused_after g u)
   split = left ∙ ap (λ hs. places_from hs w u) (drop-get gs i g there)
 

@@ -76,7 +76,7 @@ fn signs_of(alloc: Global, body: &Circuit) -> Result<Signs, AllocError>
     'sevens: for i in 0..sevens.len() {
         let seven = &sevens[i];
         let better = last.is_better_turned(seven);
-        let turned = better && signs.turn(seven);
+        let turned = signs.turn_if(better, seven);
         last.note(seven, turned)?;
     }
     Ok(signs)
@@ -91,7 +91,9 @@ fn written(alloc: Global, body: &Circuit, signs: &Signs) -> Result<Circuit, Allo
     body.facts();
     let mut written = Circuit::with_room(alloc, body.wires(), body.len())?;
     'gates: for i in 0..body.len() {
-        written.push(with_sign(body.gate(i), signs.turned[i]))?;
+        let gate = body.gate(i);
+        let turned = signs.turned[i];
+        written.push(with_sign(gate, turned))?;
     }
     Ok(written)
 }

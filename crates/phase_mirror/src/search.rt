@@ -3,7 +3,7 @@
 ghost use Rattle.std.specs.Prelude.{◌≡◌, ◌<◌, List, All, IfOk, IfSome, OnOk, get_or, length};
 ghost use Rattle.circuit_list.specs.Gates.{IsFine};
 ghost use Rattle.path_parity.specs.LabelWalks.{labels_at};
-ghost use Rattle.phase_mirror.specs.Marks.{IsFineMark, IsMark, IsSearched, IsSeven, IsWithin, Placed, nothing, placed_of, places_of};
+ghost use Rattle.phase_mirror.specs.Marks.{IsFineMark, IsMark, HasFound, IsSeven, SixBelow, Labelled, nothing, placed_of, places_of};
 
 use crate::mark::Mark;
 use crate::prints::Prints;
@@ -43,7 +43,7 @@ impl Search {
     fn new(alloc: Global, wires: u32) -> Result<Search, AllocError>
         ensures prints { IfOk result (λ s. length s.prints.wires.items ≡ wires) }
         ensures marks { IfOk result (λ s. All IsFineMark s.marks.items) }
-        ensures searched { (ms : List Placed) → IfOk result (IsSearched ms) }
+        ensures searched { (ms : List Labelled) → IfOk result (HasFound ms) }
     {
         Ok(Search {
             prints: Prints::new(alloc, wires)?,
@@ -65,8 +65,8 @@ impl Search {
         requires marks { All IsFineMark self.old.marks.items }
         ensures prints { length self.new.prints.wires.items ≡ length self.old.prints.wires.items }
         ensures marks { OnOk result (All IsFineMark self.new.marks.items) }
-        ensures searched { OnOk result ((ms : List Placed) → get_or ms place nothing ≡ placed_of gate (labels_at walk.now) →
-            IsSearched ms self.old → IsSearched ms self.new) }
+        ensures searched { OnOk result ((ms : List Labelled) → get_or ms place nothing ≡ placed_of gate (labels_at walk.now) →
+            HasFound ms self.old → HasFound ms self.new) }
     {
         if let Gate::P { k, q } = gate {
             if k % 2 == 1 {
@@ -89,7 +89,7 @@ impl Search {
         requires mark { IsFineMark mark }
         ensures prints { self.new.prints ≡ self.old.prints }
         ensures marks { OnOk result (All IsFineMark self.new.marks.items) }
-        ensures searched { OnOk result ((ms : List Placed) → IsMark ms mark → IsSearched ms self.old → IsSearched ms self.new) }
+        ensures searched { OnOk result ((ms : List Labelled) → IsMark ms mark → HasFound ms self.old → HasFound ms self.new) }
     {
         if let Some(six) = six_with(&self.marks, mark.print) {
             if let Some(seven) = seven_of(alloc, &self.marks, six, &mark)? {
@@ -107,7 +107,7 @@ fn remember(marks: &mut Vec<Mark>, mark: Mark) -> Result<(), AllocError>
     requires marks { All IsFineMark marks.old.items }
     requires mark { IsFineMark mark }
     ensures marks { OnOk result (All IsFineMark marks.new.items) }
-    ensures met { OnOk result ((ms : List Placed) → IsMark ms mark → All (IsMark ms) marks.old.items → All (IsMark ms) marks.new.items) }
+    ensures met { OnOk result ((ms : List Labelled) → IsMark ms mark → All (IsMark ms) marks.old.items → All (IsMark ms) marks.new.items) }
 {
     if marks.len() >= MOST_MARKS {
         let _first = marks.remove(0);
@@ -120,7 +120,7 @@ fn remember(marks: &mut Vec<Mark>, mark: Mark) -> Result<(), AllocError>
 fn forget_all(marks: &mut Vec<Mark>, places: &[usize])
     requires marks { All IsFineMark marks.old.items }
     ensures marks { All IsFineMark marks.new.items }
-    ensures met { (ms : List Placed) → All (IsMark ms) marks.old.items → All (IsMark ms) marks.new.items }
+    ensures met { (ms : List Labelled) → All (IsMark ms) marks.old.items → All (IsMark ms) marks.new.items }
 {
     'places: for i in 0..places.len() {
         forget(marks, places[i]);
@@ -131,7 +131,7 @@ fn forget_all(marks: &mut Vec<Mark>, places: &[usize])
 fn forget(marks: &mut Vec<Mark>, place: usize)
     requires marks { All IsFineMark marks.old.items }
     ensures marks { All IsFineMark marks.new.items }
-    ensures met { (ms : List Placed) → All (IsMark ms) marks.old.items → All (IsMark ms) marks.new.items }
+    ensures met { (ms : List Labelled) → All (IsMark ms) marks.old.items → All (IsMark ms) marks.new.items }
 {
     let found = marks.iter().position(|mark| mark.place == place);
     if let Some(index) = found {
@@ -141,7 +141,7 @@ fn forget(marks: &mut Vec<Mark>, place: usize)
 
 /// Six marks that may make a seven with one more of this print.
 fn six_with(marks: &[Mark], print: u64) -> Option<Six>
-    ensures within { IfSome result (λ six. IsWithin six (length marks.now)) }
+    ensures within { IfSome result (λ six. SixBelow six (length marks.now)) }
 {
     'first: for a in 0..marks.len() {
         let Some(ac) = find(marks, marks[a].print ^ print) else {
@@ -162,7 +162,7 @@ fn six_at(marks: &[Mark], print: u64, a: usize, ac: usize, b: usize) -> Option<S
     requires a { a < length marks.now }
     requires ac { ac < length marks.now }
     requires b { b < length marks.now }
-    ensures within { IfSome result (λ six. IsWithin six (length marks.now)) }
+    ensures within { IfSome result (λ six. SixBelow six (length marks.now)) }
 {
     let bc = find(marks, marks[b].print ^ print)?;
     let ab = find(marks, marks[a].print ^ marks[b].print)?;

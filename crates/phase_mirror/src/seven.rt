@@ -1,7 +1,7 @@
 //! Seven odd phases that make a CCZ.
 
 ghost use Rattle.std.specs.Prelude.{◌≡◌, ◌+◌, ◌%◌, ◌≤◌, List, [], ◌∷◌, true, All, IfOk, IfSome, length};
-ghost use Rattle.phase_mirror.specs.Marks.{AreEven, AreFineMarks, AreSmall, AreSums, IsFineMark, IsMark, IsSeven, IsWithin, Placed, shift_in};
+ghost use Rattle.phase_mirror.specs.Marks.{AreEven, AreFineMarks, AtMostEight, AreSetSums, IsFineMark, IsMark, IsSeven, SixBelow, Labelled, shift_in};
 
 use crate::mark::Mark;
 use path_parity::Label;
@@ -35,10 +35,10 @@ pub fn seven_of(
     six: Six,
     c: &Mark,
 ) -> Result<Option<Seven>, AllocError>
-    requires within { IsWithin six (length marks.now) }
+    requires within { SixBelow six (length marks.now) }
     requires fine { All IsFineMark marks.now }
     requires last { IsFineMark c.now }
-    ensures seven { (ms : List Placed) → All (IsMark ms) marks.now → IsMark ms c.now → IfOk result (λ o. IfSome o (IsSeven ms)) }
+    ensures seven { (ms : List Labelled) → All (IsMark ms) marks.now → IsMark ms c.now → IfOk result (λ o. IfSome o (IsSeven ms)) }
 {
     let (a, b, ab) = (&marks[six.a], &marks[six.b], &marks[six.ab]);
     let (ac, bc, abc) = (&marks[six.ac], &marks[six.bc], &marks[six.abc]);
@@ -71,7 +71,7 @@ fn are_sums(
     abc: &Mark,
 ) -> Result<bool, AllocError>
     requires fine { AreFineMarks a.now b.now c.now ab.now ac.now bc.now abc.now }
-    ensures sums { IfOk result (λ yes. yes ≡ true → AreSums a.now b.now c.now ab.now ac.now bc.now abc.now) }
+    ensures sums { IfOk result (λ yes. yes ≡ true → AreSetSums a.now b.now c.now ab.now ac.now bc.now abc.now) }
 {
     let mut sum = Label::fresh(alloc, 0)?;
     let first = ab.is_sum(a, b, &mut sum)?;
@@ -132,7 +132,7 @@ fn are_even(
     bc: u8,
     abc: u8,
 ) -> bool
-    requires small { AreSmall a b c ab ac bc abc }
+    requires small { AtMostEight a b c ab ac bc abc }
     ensures even { result ≡ true → AreEven a b c ab ac bc abc }
 {
     is_even(a, ab, ac, abc)
