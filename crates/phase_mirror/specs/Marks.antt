@@ -1,5 +1,5 @@
 -- Working form. Phases with their labels, and what turning their signs adds.
---     Labelled                  the label at a phase, and its k
+--     Labelled                the label at a phase, and its k
 --     nothing                 what stands at another gate
 --     placed_of g w           what stands at a gate;  places_from gs w u, places_of n gs: at each gate of a list, of a circuit on n wires
 --     signed_of m             what it puts on its set
@@ -8,13 +8,13 @@
 --     sum_turned F ts ms      F of those of ms whose place in ts says that they are turned, together
 --     sum_at F ps ms          F of those at the places ps, together
 --     all_turned ts ps        the places ps turned too
---     AreUnturned ts ps           none of them is turned so far, and no two are the same
+--     AreUnturned ts ps       none of them is turned so far, and no two are the same
 --     set_in, signed_in, shift_in m   of the code's mark
 --     IsFineMark m            its label is packed, and its k is below 8;  AreFineMarks: of seven
 --     IsMark ms m             the mark stands among ms
 --     IsSeven ms s            turning the places of s adds nothing to the phase, and its shift to the constant
 --     HasSigns ms s           turning the signs of s adds nothing to the phase, and its turn to the constant;  AreSigns n gs s: of a circuit
---     HasFound ms s         the marks and sevens of a search are such
+--     HasFound ms s           the marks and sevens of a search are such
 --     SixBelow six n          the six places are below n
 --     AreSetSums, AtMostEight, AreEven      of a, b, c, a + b, a + c, b + c and a + b + c: the sets are these sums; the numbers are at most 8; for
 --                             all values of a, b and c those on sets of value 1 are together a multiple of 4

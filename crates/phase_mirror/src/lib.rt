@@ -104,7 +104,7 @@ fn with_sign(gate: Gate, turned: bool) -> Gate
 {
     match gate {
         Gate::P { k, q } => Gate::P {
-            k: if turned { 8 - k } else { k },
+            k: if turned { 8_u8.saturating_sub(k) } else { k },
             q,
         },
         Gate::H { q: _ } | Gate::X { q: _ } | Gate::Cx { c: _, t: _ } => gate,
