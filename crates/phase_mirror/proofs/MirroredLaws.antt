@@ -5,7 +5,7 @@
 --     mirrored-t_count, mirrored-cx_count, mirrored-odd_sets      what is counted stays
 --     mirrored-fine           the gates stay fine
 --     mirrored-kept           all of it, where the turned places gain nothing
-use Rattle.std.proofs.Common.{◌≡◌, ℕ, suc, ◌+◌, ◌-◌, ◌*◌, ◌%◌, ◌<◌, ◌≤◌, Bool, true, false, cond, List, [], ◌∷◌, ◌++◌, All, length, refl, sym, ◌∙◌, ap, arith, zero-add}
+use Rattle.std.proofs.Common.{◌≡◌, ℕ, suc, ◌+◌, ◌-◌, ◌*◌, ◌%◌, ◌^◌, ◌<◌, ◌≤◌, Bool, true, false, cond, List, [], ◌∷◌, ◌++◌, All, length, refl, sym, ◌∙◌, ap, arith, zero-add}
 use Rattle.std.specs.Prelude.{nat_eq}
 use Rattle.std.specs.List.{AllByRecursion}
 use Rattle.std.proofs.lemmas.Bool.Decides.{nat_tests}
@@ -65,13 +65,13 @@ turned_phase false false false k l h = refl
 both : (a b c d e f : ℕ) → a % 8 ≡ (b + c) % 8 → d % 8 ≡ (e + f) % 8 → (a + d) % 8 ≡ (b + e + (c + f)) % 8
 both a b c d e f g h = omega arith
 
-idle : (t : Bool) → cond t 0 0 ≡ 0
+idle : (t : Bool) → ◌≡◌ {A = ℕ} (cond t 0 0) 0
 idle true = refl
 idle false = refl
 
 pub mirrored-phase : (n : ℕ) (v : Bits) (ts : List Bool) (gs : List Gate) (w : Wires) (u : ℕ) → AllByRecursion (IsFine n) gs →
     phase (numbered_terms (mirrored ts gs) w u) v % 8 ≡ (phase (numbered_terms gs w u) v + sum_turned (gain_of v) ts (places_from gs w u)) % 8
-mirrored-phase n v [] gs w u f = refl
+mirrored-phase n v [] gs w u f = omega arith
 mirrored-phase n v (t ∷ ts) [] w u f = refl
 mirrored-phase n v (t ∷ ts) (H q ∷ gs) w u f =
     let A : List (ℕ × ℕ) = cond (w q).bit ((2 ^ u, 4) ∷ []) [] in
@@ -95,7 +95,7 @@ turned_constant false false k l h = refl
 
 pub mirrored-constant : (n : ℕ) (ts : List Bool) (gs : List Gate) (w : Wires) (u : ℕ) → AllByRecursion (IsFine n) gs →
     numbered_constant (mirrored ts gs) w u % 8 ≡ (numbered_constant gs w u + sum_turned shift_of ts (places_from gs w u)) % 8
-mirrored-constant n [] gs w u f = refl
+mirrored-constant n [] gs w u f = omega arith
 mirrored-constant n (t ∷ ts) [] w u f = refl
 mirrored-constant n (t ∷ ts) (H q ∷ gs) w u f = omega (arith, idle t, mirrored-constant n ts gs (labels_after (H q) w u) (suc u) f.1)
 mirrored-constant n (t ∷ ts) (X q ∷ gs) w u f = omega (arith, idle t, mirrored-constant n ts gs (labels_after (X q) w u) u f.1)

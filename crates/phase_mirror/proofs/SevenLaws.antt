@@ -21,6 +21,18 @@ even_sum false true false a b c ab ac bc abc h = omega (arith, h.of_b)
 even_sum false false true a b c ab ac bc abc h = omega (arith, h.of_c)
 even_sum false false false a b c ab ac bc abc h = refl
 
+-- numbers that are equal
+pub even-same : (a b c ab ac bc abc x y z xy xz yz xyz : ℕ) → a ≡ x → b ≡ y → c ≡ z → ab ≡ xy → ac ≡ xz → bc ≡ yz → abc ≡ xyz → AreEven a b c ab ac bc abc → AreEven x y z xy xz yz xyz
+even-same a b c ab ac bc abc x y z xy xz yz xyz e f g ef eg fg efg h = record {
+  of_a = sym (λ i. (e i + ef i + eg i + efg i) % 4) ∙ h.of_a;
+  of_b = sym (λ i. (f i + ef i + fg i + efg i) % 4) ∙ h.of_b;
+  of_c = sym (λ i. (g i + eg i + fg i + efg i) % 4) ∙ h.of_c;
+  of_ab = sym (λ i. (e i + f i + eg i + fg i) % 4) ∙ h.of_ab;
+  of_ac = sym (λ i. (e i + g i + ef i + fg i) % 4) ∙ h.of_ac;
+  of_bc = sym (λ i. (f i + g i + ef i + eg i) % 4) ∙ h.of_bc;
+  of_abc = sym (λ i. (e i + f i + g i + efg i) % 4) ∙ h.of_abc;
+}
+
 abbrev pub places : Mark → Mark → Mark → Mark → Mark → Mark → Mark → List ℕ
 places a b c ab ac bc abc = a.place ∷ b.place ∷ c.place ∷ ab.place ∷ ac.place ∷ bc.place ∷ abc.place ∷ []
 

@@ -2,7 +2,7 @@
 --     drop-here, drop-next    where a list from a place on is known
 --     places-start, places-step   the places that are left
 --     mirrored-step, mirrored-end     what is written so far, and what is left
-use Rattle.std.proofs.Common.{◌≡◌, ℕ, zero, suc, ◌+◌, ◌<◌, ◌≤◌, Bool, true, List, [], ◌∷◌, ◌++◌, drop, length, get_or, Some, refl, sym, ◌∙◌, ap, arith, append_assoc, append-nil}
+use Rattle.std.proofs.Common.{◌≡◌, ℕ, zero, suc, ◌+◌, ◌<◌, ◌≤◌, Bool, true, List, [], ◌∷◌, ◌++◌, drop, length, get_or, Some, refl, sym, ◌∙◌, ap, arith, add-one, append_assoc, append-nil}
 use Rattle.std.specs.Prelude.{slice_get}
 use Rattle.std.proofs.Math.ListN.{drop_of_length-le}
 use Rattle.std.proofs.Math.Seq.{drop-cons}
@@ -40,6 +40,9 @@ module _ (ms : List Labelled) (gs : List Gate) (i : ℕ) (g : Gate) (w : Wires) 
 
   pub places-step : (x : Wires) (m : ℕ) → x ≡ labels_after g w u → m ≡ unused_after g u → drop (i + 1) ms ≡ places_from (drop (i + 1) gs) x m
   places-step x m e d = drop-next ms i (placed_of g w) (places_from (drop (i + 1) gs) (labels_after g w u) (unused_after g u)) split ∙ sym (λ j. places_from (drop (i + 1) gs) (e j) (d j))
+
+pub drop-at : (ts : List Bool) (i : ℕ) (t : Bool) → i < length ts → t ≡ get_or ts i t → drop i ts ≡ t ∷ drop (i + 1) ts
+drop-at ts i t lt e = drop-cons ts i t lt ∙ (λ j. sym e j ∷ drop (sym (add-one i) j) ts)
 
 -- ---- what is written
 pub mirrored-step : (ts : List Bool) (gs : List Gate) (i : ℕ) (g : Gate) (t : Bool) (done more all : List Gate) → slice_get gs i ≡ Some g → drop i ts ≡ t ∷ drop (i + 1) ts →

@@ -11,10 +11,10 @@ gates-init c =
     let b = c.args.body.now in
     let w = c.in_ok-walk.walk in
     record {
-      wires = c.in_ok-walk.ensures.wires ∙ c.wires.ensures.wires;
-      prints = c.in_ok-search.ensures.prints ∙ c.wires.ensures.wires;
+      wires = c.in_ok-walk.ensures.wires ∙ c.wires-wires.ensures.wires;
+      prints = c.in_ok-search.ensures.prints ∙ c.wires-wires.ensures.wires;
       fine = c.in_ok-search.ensures.marks;
-      left = sym (λ i. places_from b.gates ((c.in_ok-walk.ensures.labels ∙ ap own_labels c.wires.ensures.wires) i) ((c.in_ok-walk.ensures.unused ∙ c.wires.ensures.wires) i));
+      left = sym (λ i. places_from b.gates ((c.in_ok-walk.ensures.labels ∙ ap own_labels c.wires-wires.ensures.wires) i) ((c.in_ok-walk.ensures.unused ∙ c.wires-wires.ensures.wires) i));
       searched = c.in_ok-search.ensures.searched (places_of b.wires b.gates);
     }
 
