@@ -5,29 +5,26 @@
 --     mirrored-t_count, mirrored-cx_count, mirrored-odd_sets      what is counted stays
 --     mirrored-fine           the gates stay fine
 --     mirrored-kept           all of it, where the turned places gain nothing
-use Rattle.std.proofs.Common.{◌≡◌, ℕ, suc, ◌+◌, ◌-◌, ◌*◌, ◌%◌, ◌^◌, ◌<◌, ◌≤◌, Bool, true, false, cond, List, [], ◌∷◌, ◌++◌, All, length, refl, sym, ◌∙◌, ap, arith, zero-add}
+use Rattle.std.proofs.Common.{◌≡◌, ℕ, suc, ◌+◌, ◌-◌, ◌*◌, ◌%◌, ◌^◌, ◌<◌, Bool, true, false, cond, List, [], ◌∷◌, ◌++◌, refl, sym, ◌∙◌, ap, arith}
 use Rattle.std.specs.Prelude.{nat_eq}
 use Rattle.std.specs.List.{AllByRecursion}
-use Rattle.std.proofs.lemmas.Bool.Decides.{nat_tests}
-use Rattle.std.proofs.lemmas.List.Elements.{recursion_from_All, All-from_recursion}
 use Rattle.circuit_list.specs.declared.Gate.{Gate}
 use Rattle.circuit_list.specs.declared.Gate.TheVariants.{H, X, P, Cx}
 use Rattle.circuit_list.specs.Gates.{IsFine, ops}
 use Rattle.unitary_model.specs.Acts.{Bits}
 use Rattle.unitary_model.specs.Operations.{t_count, cx_count}
 use Rattle.unitary_model.specs.OddPaths.{odd_paths}
-use Rattle.unitary_model.specs.SameUpTo.{SameUpTo}
-use Rattle.path_parity.specs.NamedSums.{constant_at, constant_of}
+use Rattle.path_parity.specs.NamedSums.{constant_of}
 use Rattle.path_parity.specs.NumberedSums.{numbered_hadamards, numbered_terms, numbered_constant}
 use Rattle.path_parity.specs.OddLabels.{odd_sets, odd_size}
-use Rattle.path_parity.specs.PathFunctions.{parity, phase, SamePathFunction, SameNumberedFunction}
-use Rattle.path_parity.specs.PathSum.{PathLabel, Wires, own_labels, labels_after, unused_after, last_labels}
+use Rattle.path_parity.specs.PathFunctions.{parity, phase, SamePathFunction}
+use Rattle.path_parity.specs.PathSum.{Wires, own_labels, labels_after, last_labels}
 use Rattle.path_parity.proofs.NumberedLaws.{numbered-function, constant-numbered}
 use Rattle.path_parity.proofs.OddLaws.{odd_paths-sets}
 use Rattle.path_parity.proofs.ParityLaws.{phase-append}
 use Rattle.path_parity.proofs.SamePathSumLaws.{same_path_function}
-use Rattle.phase_mirror.specs.Marks.{Labelled, placed_of, places_from, places_of, signed_of, shift_of, gain_of, sum_turned, HasSigns}
-use Rattle.phase_mirror.specs.Mirrored.{mirrored_gate, mirrored, IsMirrored}
+use Rattle.phase_mirror.specs.Marks.{places_from, places_of, shift_of, gain_of, sum_turned, HasSigns}
+use Rattle.phase_mirror.specs.Mirrored.{mirrored, IsMirrored}
 use Rattle.phase_mirror.specs.declared.signs.Signs.{Signs}
 use Rattle.rewrite_pass.specs.Law.{IsRewriting}
 use Rattle.rewrite_pass.specs.Traces.{constants_turn}
@@ -81,9 +78,9 @@ mirrored-phase n v (t ∷ ts) (H q ∷ gs) w u f =
 mirrored-phase n v (t ∷ ts) (X q ∷ gs) w u f = omega (arith, idle t, mirrored-phase n v ts gs (labels_after (X q) w u) u f.1)
 mirrored-phase n v (t ∷ ts) (P k q ∷ gs) w u f =
     both (cond (parity v (w q).variables) (cond (w q).bit (8 - cond t (8 - k) k) (cond t (8 - k) k)) 0) (cond (parity v (w q).variables) (cond (w q).bit (8 - k) k) 0)
-        (cond t (gain_of v (w q, k)) 0)
-        (phase (numbered_terms (mirrored ts gs) w u) v) (phase (numbered_terms gs w u) v) (sum_turned (gain_of v) ts (places_from gs w u))
-        (turned_phase t (w q).bit (parity v (w q).variables) k f.0.1.0 f.0.1.1) (mirrored-phase n v ts gs w u f.1)
+    (cond t (gain_of v (w q, k)) 0)
+    (phase (numbered_terms (mirrored ts gs) w u) v) (phase (numbered_terms gs w u) v) (sum_turned (gain_of v) ts (places_from gs w u))
+    (turned_phase t (w q).bit (parity v (w q).variables) k f.0.1.0 f.0.1.1) (mirrored-phase n v ts gs w u f.1)
 mirrored-phase n v (t ∷ ts) (Cx c d ∷ gs) w u f = omega (arith, idle t, mirrored-phase n v ts gs (labels_after (Cx c d) w u) u f.1)
 
 -- ---- the constant
@@ -101,8 +98,8 @@ mirrored-constant n (t ∷ ts) (H q ∷ gs) w u f = omega (arith, idle t, mirror
 mirrored-constant n (t ∷ ts) (X q ∷ gs) w u f = omega (arith, idle t, mirrored-constant n ts gs (labels_after (X q) w u) u f.1)
 mirrored-constant n (t ∷ ts) (P k q ∷ gs) w u f =
     both (cond (w q).bit (cond t (8 - k) k) 0) (cond (w q).bit k 0) (cond t (shift_of (w q, k)) 0)
-        (numbered_constant (mirrored ts gs) w u) (numbered_constant gs w u) (sum_turned shift_of ts (places_from gs w u))
-        (turned_constant t (w q).bit k f.0.1.0 f.0.1.1) (mirrored-constant n ts gs w u f.1)
+    (numbered_constant (mirrored ts gs) w u) (numbered_constant gs w u) (sum_turned shift_of ts (places_from gs w u))
+    (turned_constant t (w q).bit k f.0.1.0 f.0.1.1) (mirrored-constant n ts gs w u f.1)
 mirrored-constant n (t ∷ ts) (Cx c d ∷ gs) w u f = omega (arith, idle t, mirrored-constant n ts gs (labels_after (Cx c d) w u) u f.1)
 
 -- ---- what is counted

@@ -1,14 +1,14 @@
 -- Seven phases that make a CCZ.
 --     even_sum                for all values of three sets what they gain is nothing
 --     seven-gathered          so seven marks of three sets and their sums are a seven
-use Rattle.std.proofs.Common.{◌≡◌, ℕ, ◌+◌, ◌*◌, ◌%◌, Bool, true, false, cond, List, [], ◌∷◌, get_or, refl, sym, ◌∙◌, ap, subst, arith}
+use Rattle.std.proofs.Common.{◌≡◌, ℕ, ◌+◌, ◌*◌, ◌%◌, Bool, true, false, cond, List, [], ◌∷◌, refl, sym, ◌∙◌, ap, arith}
 use Rattle.unitary_model.specs.Acts.{Bits}
 use Rattle.path_parity.specs.PathFunctions.{parity}
 use Rattle.path_parity.specs.PathSum.{xor}
 use Rattle.path_parity.proofs.ParityLaws.{parity-xor}
 use Rattle.phase_mirror.specs.declared.mark.Mark.{Mark}
 use Rattle.phase_mirror.specs.declared.seven.Seven.{Seven}
-use Rattle.phase_mirror.specs.Marks.{AreEven, AreSetSums, IsMark, IsSeven, Labelled, gain_of, nothing, set_in, shift_in, shift_of, signed_in, sum_at}
+use Rattle.phase_mirror.specs.Marks.{AreEven, AreSetSums, IsMark, IsSeven, Labelled, gain_of, set_in, shift_in, shift_of, signed_in, sum_at}
 
 even_sum : (A B C : Bool) (a b c ab ac bc abc : ℕ) → AreEven a b c ab ac bc abc →
     (cond A (6 * a) 0 + (cond B (6 * b) 0 + (cond C (6 * c) 0 + (cond (xor A B) (6 * ab) 0 + (cond (xor A C) (6 * ac) 0 + (cond (xor B C) (6 * bc) 0 + (cond (xor (xor A B) C) (6 * abc) 0 + 0))))))) % 8 ≡ 0

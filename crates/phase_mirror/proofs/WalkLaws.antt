@@ -2,11 +2,10 @@
 --     drop-here, drop-next    where a list from a place on is known
 --     places-start, places-step   the places that are left
 --     mirrored-step, mirrored-end     what is written so far, and what is left
-use Rattle.std.proofs.Common.{◌≡◌, ℕ, zero, suc, ◌+◌, ◌<◌, ◌≤◌, Bool, true, List, [], ◌∷◌, ◌++◌, drop, length, get_or, Some, refl, sym, ◌∙◌, ap, arith, add-one, append_assoc, append-nil}
+use Rattle.std.proofs.Common.{◌≡◌, ℕ, zero, suc, ◌+◌, ◌<◌, ◌≤◌, Bool, List, [], ◌∷◌, ◌++◌, drop, length, get_or, Some, refl, sym, ◌∙◌, ap, arith, add-one, append_assoc, append-nil}
 use Rattle.std.specs.Prelude.{slice_get}
 use Rattle.std.proofs.Math.ListN.{drop_of_length-le}
 use Rattle.std.proofs.Math.Seq.{drop-cons}
-use Rattle.std.proofs.lemmas.List.{get_or-drop}
 use Rattle.circuit_list.specs.declared.Gate.{Gate}
 use Rattle.path_parity.specs.PathSum.{Wires, labels_after, unused_after}
 use Rattle.path_parity.proofs.LoopLaws.{drop-get}

@@ -116,10 +116,10 @@ impl MayStay for MirrorPass {
     ghost use Rattle.std.proofs.Common.{refl};
 
     ghost may_stay = { λ n gs _. record {
-        turned = [];
-        gates = refl;
-        phases = record { sets = λ v. refl; last = λ q lt. refl; phases = λ v. refl };
-        t_gates = refl;
-        odd_paths = refl;
+      turned = [];
+      gates = refl;
+      phases = record { sets = λ v. refl; last = λ q lt. refl; phases = λ v. refl };
+      t_gates = refl;
+      odd_paths = refl;
     } };
 }

@@ -57,9 +57,7 @@ impl Prints {
 
 /// The print of one variable: its number with its bits mixed (Steele, Lea and Flood 2014).
 fn print_of(variable: u64) -> u64 {
-    let start = variable
-        .wrapping_add(1)
-        .wrapping_mul(0x9e37_79b9_7f4a_7c15);
+    let start = variable.wrapping_add(1).wrapping_mul(0x9e37_79b9_7f4a_7c15);
     let middle = (start ^ start >> 30).wrapping_mul(0xbf58_476d_1ce4_e5b9);
     let end = (middle ^ middle >> 27).wrapping_mul(0x94d0_49bb_1331_11eb);
     end ^ end >> 31

@@ -82,15 +82,7 @@ fn are_sums(
 }
 
 /// What is told of seven marks.
-fn gathered(
-    a: &Mark,
-    b: &Mark,
-    c: &Mark,
-    ab: &Mark,
-    ac: &Mark,
-    bc: &Mark,
-    abc: &Mark,
-) -> Seven
+fn gathered(a: &Mark, b: &Mark, c: &Mark, ab: &Mark, ac: &Mark, bc: &Mark, abc: &Mark) -> Seven
     requires fine { AreFineMarks a.now b.now c.now ab.now ac.now bc.now abc.now }
     ensures places { result.places ≡ a.now.place ∷ b.now.place ∷ c.now.place ∷ ab.now.place ∷ ac.now.place ∷ bc.now.place ∷ abc.now.place ∷ [] }
     ensures shift { result.shift ≡ (shift_in a.now + shift_in b.now + shift_in c.now + shift_in ab.now + shift_in ac.now + shift_in bc.now + shift_in abc.now) % 8 }
@@ -123,15 +115,7 @@ fn gathered(
 }
 
 /// Whether for all values of three sets, with those of their sums, what stands on the sets of value 1 is together a multiple of 4.
-fn are_even(
-    a: u8,
-    b: u8,
-    c: u8,
-    ab: u8,
-    ac: u8,
-    bc: u8,
-    abc: u8,
-) -> bool
+fn are_even(a: u8, b: u8, c: u8, ab: u8, ac: u8, bc: u8, abc: u8) -> bool
     requires small { AtMostEight a b c ab ac bc abc }
     ensures even { result ≡ true → AreEven a b c ab ac bc abc }
 {

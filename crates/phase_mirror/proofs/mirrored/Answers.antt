@@ -13,18 +13,18 @@ returns-clause-law c =
     let b = c.args.body.now in
     let s = c.in_ok-signs.signs in
     subst (λ gs. IsRewriting b.wires b.gates gs s.turn) (sym c.in_ok-written.ensures.gates)
-        (mirrored-law b.wires b.gates s (recursion_from_All (IsFine b.wires) b.gates c.facts.ensures.fine) c.in_ok-signs.ensures.signs)
+    (mirrored-law b.wires b.gates s (recursion_from_All (IsFine b.wires) b.gates c.facts.ensures.fine) c.in_ok-signs.ensures.signs)
 
 pub returns-clause-kept : goal.returns-clause-kept
 returns-clause-kept c =
     let b = c.args.body.now in
     let s = c.in_ok-signs.signs in
     subst (λ gs. IsMirrored b.wires b.gates gs) (sym c.in_ok-written.ensures.gates)
-        (mirrored-kept b.wires b.gates s (recursion_from_All (IsFine b.wires) b.gates c.facts.ensures.fine) c.in_ok-signs.ensures.signs)
+    (mirrored-kept b.wires b.gates s (recursion_from_All (IsFine b.wires) b.gates c.facts.ensures.fine) c.in_ok-signs.ensures.signs)
 
 pub returns-clause-turn : goal.returns-clause-turn
 returns-clause-turn c =
     let b = c.args.body.now in
     let s = c.in_ok-signs.signs in
     subst (λ gs. s.turn ≡ constants_turn b.wires b.gates gs) (sym c.in_ok-written.ensures.gates)
-        (mirrored-turn b.wires b.gates s (recursion_from_All (IsFine b.wires) b.gates c.facts.ensures.fine) c.in_ok-signs.ensures.signs)
+    (mirrored-turn b.wires b.gates s (recursion_from_All (IsFine b.wires) b.gates c.facts.ensures.fine) c.in_ok-signs.ensures.signs)

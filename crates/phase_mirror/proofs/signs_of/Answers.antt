@@ -1,5 +1,5 @@
 -- No sign is turned at first; a seven more, or not.
-use Rattle.std.proofs.Common.{◌≡◌, ◌∙◌, ◌<◌, length, sym, subst, arith, rules}
+use Rattle.std.proofs.Common.{◌∙◌, ◌<◌, length, sym, subst, arith}
 use Rattle.path_parity.specs.PathSum.{own_labels}
 use Rattle.phase_mirror.specs.Marks.{IsSeven, places_of}
 use Rattle.phase_mirror.proofs.WalkLaws.{length-places}
@@ -16,5 +16,5 @@ sevens-preserved c =
     let v = c.in_ok-sevens.sevens in
     let within : c.sevens.i < length v.items = omega (arith, v.ok.0, c.len-i-end.ensures, c.sevens-test.true) in
     c.turn_if-turned.ensures.signs (places_of b.wires b.gates)
-        (subst (IsSeven (places_of b.wires b.gates)) (sym c.index-seven.ensures) (c.in_ok-sevens.ensures.sevens c.sevens.i c.index-seven.result.now within))
-        c.sevens.invariant
+    (subst (IsSeven (places_of b.wires b.gates)) (sym c.index-seven.ensures) (c.in_ok-sevens.ensures.sevens c.sevens.i c.index-seven.result.now within))
+    c.sevens.invariant

@@ -1,5 +1,5 @@
 -- The writing begins, goes on, and ends.
-use Rattle.std.proofs.Common.{◌≡◌, ◌∙◌, ◌++◌, ◌∷◌, [], ◌<◌, length, sym, ap, arith}
+use Rattle.std.proofs.Common.{◌∙◌, ◌++◌, ◌∷◌, [], ◌<◌, length, ap, arith}
 use Rattle.path_parity.specs.PathSum.{own_labels}
 use Rattle.phase_mirror.specs.Mirrored.{mirrored}
 use Rattle.phase_mirror.proofs.WalkLaws.{drop-at, length-places, mirrored-step, mirrored-end}
@@ -34,4 +34,4 @@ returns-clause-gates c =
     let b = c.args.body.now in
     let ts = c.args.signs.now.turned.items in
     mirrored-end ts b.gates c.gates.i c.gates.written.gates (mirrored ts b.gates) (omega (arith, c.len-i-end.ensures.value, c.gates-test.false))
-        (c.requires.signs.many ∙ length-places b.gates (own_labels b.wires) b.wires) c.gates.invariant.gates
+    (c.requires.signs.many ∙ length-places b.gates (own_labels b.wires) b.wires) c.gates.invariant.gates

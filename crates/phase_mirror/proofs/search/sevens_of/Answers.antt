@@ -1,5 +1,5 @@
 -- The search begins, goes past a gate, and ends.
-use Rattle.std.proofs.Common.{◌≡◌, ◌∙◌, sym, ap, arith}
+use Rattle.std.proofs.Common.{◌∙◌, sym, ap}
 use Rattle.path_parity.specs.LabelWalks.{labels_at}
 use Rattle.path_parity.specs.PathSum.{own_labels}
 use Rattle.phase_mirror.specs.Marks.{places_from, places_of}

@@ -1,7 +1,6 @@
 -- The seven marks stand among the list, their sets are sums, and what they put on these is even.
-use Rattle.std.proofs.Common.{◌≡◌, true, All, refl, sym, subst, arith, get_or, length, ◌<◌, List, ℕ}
-use Rattle.phase_mirror.specs.Marks.{AreSetSums, IsMark, Labelled}
-use Rattle.phase_mirror.specs.declared.mark.Mark.{Mark}
+use Rattle.std.proofs.Common.{refl, sym, subst}
+use Rattle.phase_mirror.specs.Marks.{IsMark}
 use Rattle.phase_mirror.proofs.SevenLaws.{seven-gathered, even-same}
 use Rattle.phase_mirror.proofs.seven.seven_of.Goals as goal
 
