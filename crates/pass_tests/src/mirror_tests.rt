@@ -8,7 +8,14 @@ use test_rows::{Wrong, each_row, field};
 
 fn is_mirrored(alloc: Global, row: &str) -> Result<bool, AllocError> {
     let (wires, turn) = (number(row, 0), number(row, 3));
-    makes(alloc, &MirrorPass, wires, field(row, 1), field(row, 2), turn)
+    makes(
+        alloc,
+        &MirrorPass,
+        wires,
+        field(row, 1),
+        field(row, 2),
+        turn,
+    )
 }
 
 /// Wires, gates, what they are with signs turned, and the turn.

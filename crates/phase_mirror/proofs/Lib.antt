@@ -1,4 +1,3 @@
-pub mod MarkLaws
 pub mod MirroredLaws
 pub mod SevenLaws
 pub mod SignLaws

@@ -4,7 +4,7 @@
 --     mirrored-constant       and so does the constant
 --     mirrored-t_count, mirrored-cx_count, mirrored-odd_sets      what is counted stays
 --     mirrored-fine           the gates stay fine
---     mirrored-kept           all of it, where the turned places gain nothing
+--     mirrored-turn, mirrored-law, mirrored-kept      the turn, a pass's law, and what is kept, where the turned places gain nothing
 use Rattle.std.proofs.Common.{◌≡◌, ℕ, suc, ◌+◌, ◌-◌, ◌*◌, ◌%◌, ◌^◌, ◌<◌, Bool, true, false, cond, List, [], ◌∷◌, ◌++◌, refl, sym, ◌∙◌, ap, arith}
 use Rattle.std.specs.Prelude.{nat_eq}
 use Rattle.std.specs.List.{AllByRecursion}

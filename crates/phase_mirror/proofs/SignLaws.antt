@@ -1,8 +1,9 @@
 -- Sums over the places whose signs are turned.
---     sum_turned-none         where none is turned there is nothing;  signs-none: so these signs have nothing
+--     signs-none              where none is turned there is nothing
 --     sum_turned-set          one place more
---     sum_turned-all          the places of a list more
+--     length-all_turned, sum_turned-all   the places of a list more
 --     signs-turned            a seven more
+--     turned-back             one place turned and back
 use Rattle.std.proofs.Common.{◌≡◌, ℕ, zero, suc, ◌+◌, ◌%◌, ◌<◌, Bool, true, false, cond, List, [], ◌∷◌, set, length, get_or, replicate, refl, sym, ◌∙◌, ap, arith, zero-add}
 use Rattle.std.proofs.lemmas.List.{length-set, length-replicate}
 use Rattle.phase_mirror.specs.declared.seven.Seven.{Seven}

@@ -1,7 +1,9 @@
 -- Along a circuit.
 --     drop-here, drop-next    where a list from a place on is known
---     places-start, places-step   the places that are left
+--     drop-at                 a list from a place on, by what stands there
+--     places-here, places-step    what stands at the next gate, and the places that are left behind it
 --     mirrored-step, mirrored-end     what is written so far, and what is left
+--     length-places           there is a place for each gate
 use Rattle.std.proofs.Common.{◌≡◌, ℕ, zero, suc, ◌+◌, ◌<◌, ◌≤◌, Bool, List, [], ◌∷◌, ◌++◌, drop, length, get_or, Some, refl, sym, ◌∙◌, ap, arith, add-one, append_assoc, append-nil}
 use Rattle.std.specs.Prelude.{slice_get}
 use Rattle.std.proofs.Math.ListN.{drop_of_length-le}
