@@ -84,13 +84,17 @@ def at_level(tokens, i, end, wanted, stops=()):
 class Scan:
     """The free places of a name in some antt."""
 
-    def __init__(self, name):
+    def __init__(self, name, is_constructor=False):
         self.name = name
+        self.is_constructor = is_constructor  # so a pattern binds nothing by it
         self.free = []  # tokens
         self.bound = []  # tokens that are local
 
-    def has(self, tokens, i, end):
-        """Whether a pattern binds the name."""
+    def has(self, tokens, i, end, is_pattern=False):
+        """Whether binders, or a pattern, bind the name."""
+        if is_pattern and self.is_constructor:
+            self.free += [tokens[j] for j in range(i, end) if tokens[j].text == self.name and not is_label(tokens, j)]
+            return False
         found = False
         j = i
         while j < end:
@@ -208,7 +212,7 @@ class Scan:
         while j <= end:
             cut = self.part_end(tokens, j, end, ("|",))
             arrow = at_level(tokens, j, cut, ("↦",))
-            binds = self.has(tokens, j, arrow) if arrow < cut else False
+            binds = self.has(tokens, j, arrow, True) if arrow < cut else False
             self.term(tokens, arrow + 1 if arrow < cut else j, cut, binds or bound)
             j = cut + 1
 
@@ -252,7 +256,7 @@ class Scan:
             if equals < end:
                 self.term(tokens, equals + 1, end, bound)
         elif equals < end:
-            binds = self.has(tokens, heads + 1, equals)
+            binds = self.has(tokens, heads + 1, equals, True)
             self.term(tokens, equals + 1, end, binds or bound)
         else:
             self.term(tokens, heads + 1, end, bound)
@@ -275,6 +279,8 @@ class Scan:
                 while j < len(part) and part[j].text != ":":
                     j += 1
                 self.term(part, j + 1, len(part), now)
+                if "data" in marks and self.is_constructor and is_top:
+                    self.free += [it for it in part[names:j] if it.text == self.name]
                 if "record" in marks and any(it.text == self.name for it in part[names:j]):
                     self.bound += [it for it in part[names:j] if it.text == self.name]
                     now = True
@@ -291,7 +297,7 @@ class Scan:
                 (self.free if is_top and not bound else self.bound).append(tokens[heads])
             now = bound or local
             if colon == equals:
-                now = self.has(tokens, heads + 1, equals) or now
+                now = self.has(tokens, heads + 1, equals, True) or now
             else:
                 self.term(tokens, colon + 1, equals, now)
             if equals < where:
@@ -310,11 +316,11 @@ def parted(tokens):
     return found
 
 
-def in_file(text, name):
+def in_file(text, name, is_constructor=False):
     """The places of a file of antt that name a definition of the file or one that it imports, and those where it is local."""
     if name not in text:
         return [], []
-    scan = Scan(name)
+    scan = Scan(name, is_constructor)
     for part in parted(tokens_of(text)):
         if any(it.text == name for it in part):
             scan.chunk(part, False, True)
@@ -362,9 +368,9 @@ def parameters(text, at):
     return names | set(re.findall(r"\bghost (\w+)\s*:", text[i:at]))
 
 
-def in_code(text, name):
+def in_code(text, name, is_constructor=False):
     """The same of a file of code: the free and local places of its contracts."""
-    scan = Scan(name)
+    scan = Scan(name, is_constructor)
     if name not in text:
         return [], []
     for start, begin, end in regions(text):
