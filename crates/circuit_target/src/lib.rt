@@ -23,5 +23,5 @@ mod tries;
 
 pub use parted::PartedProgram;
 pub use passes::Rewritten;
-pub use target::{Target, Wishes, in_place, optimised, routed};
+pub use target::{Target, RouteOptions, in_place, optimised, routed};
 pub use traces::RunTraces;

@@ -1,7 +1,7 @@
 //! The refusals of a program's text, of a device's text, of a list of its qubits and of a question on a program, by their codes.
 
 ghost use Rattle.std.specs.Prelude.{◌≡◌};
-ghost use Rattle.route_report.specs.Refusals.{name_of, stops_with};
+ghost use Rattle.route_report.specs.Refusals.{refusal_name, stops_with};
 
 pub(crate) const SELF_EDGE: u8 = 53;
 
@@ -23,7 +23,7 @@ pub(crate) const TOO_MANY_SPARES: u8 = 73;
 
 /// The name of a refusal.
 pub(crate) fn refusal_name(code: u8) -> &'static str
-    ensures value { result.now ≡ name_of code }
+    ensures value { result.now ≡ refusal_name code }
 {
     match code {
         10 => "BadByte",
