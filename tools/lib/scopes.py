@@ -310,7 +310,8 @@ def parted(tokens):
     """The tokens of a block, declaration by declaration: each begins at the indentation of the first."""
     found = []
     for it in tokens:
-        if not found or (it.line_begins and it.indent <= found[0][0].indent):
+        # a bracket that closes at the margin goes on, and so does a `where` after it
+        if not found or (it.line_begins and it.indent <= found[0][0].indent and it.text not in (")", "}", "]", "where")):
             found.append([])
         found[-1].append(it)
     return found
