@@ -17,8 +17,8 @@ use outside_io::{Shelf, TextFault, load_text};
 use program_reader::{ProgramFault, ProgramRefusal, SourceProgram, read_text};
 use route_report::{Side, verdict_line};
 use std::alloc::Global;
-use trace_model::laws::traces_are_sound;
 use trace_check::{Outcome, check};
+use trace_model::laws::traces_are_sound;
 use trace_text::trace_of;
 
 /// The most bytes of a text: the source's is no longer than an input, the target's has 64 MiB.
