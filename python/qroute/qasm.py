@@ -191,24 +191,6 @@ def tokens(text, whole=False):
     return found
 
 
-def statements(text):
-    """The offset of each statement after the header, in order."""
-    found = []
-    depth = 0
-    begins = False
-    for token in tokens(text):
-        if begins and depth == 0:
-            found.append(token.offset)
-            begins = False
-        if token.text == "{":
-            depth += 1
-        if token.text == "}":
-            depth -= 1
-        if depth == 0 and token.text in (";", "}"):
-            begins = True
-    return found
-
-
 def plain(value):
     return (fractions.Fraction(value), fractions.Fraction(0))
 

@@ -379,8 +379,8 @@ def numbered(dice, lines):
         lines[i] = " ".join([word, *numbers])
 
 
-def wires_exchanged(dice, lines):
-    """Two numbers of a line, or of all gates of a line, exchanged."""
+def numbers_exchanged(dice, lines):
+    """Two numbers of a line exchanged."""
     i = dice.randrange(len(lines))
     word, *numbers = lines[i].split(" ")
     if len(numbers) > 1:
@@ -414,7 +414,7 @@ def blanks(dice, lines):
     lines[i] = dice.choice(forms)
 
 
-LINES = [dropped, doubled, moved_away, with_neighbour, cut_off, inserted, numbered, numbered, numbered, wires_exchanged, reworded, another_edition, blanks]
+LINES = [dropped, doubled, moved_away, with_neighbour, cut_off, inserted, numbered, numbered, numbered, numbers_exchanged, reworded, another_edition, blanks]
 
 
 def statement_altered(dice, text):
@@ -460,7 +460,7 @@ HEADS = [
 
 
 def altered(dice, trace):
-    """A trace with so many alterations, mostly one."""
+    """A trace with alterations, mostly one."""
     found = dataclasses.replace(trace, lines=list(trace.lines))
     for _ in range(dice.choice([0, 1, 1, 1, 1, 1, 2, 3])):
         kind = dice.random()

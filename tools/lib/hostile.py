@@ -4,8 +4,8 @@
 text, and what makes the device's or the target's if there is one. Each text is as long as it may be, or has as many
 operations, except if time or what is written grows faster than the text: traces of H in turn with CNOTs, since for a `sums`
 each H takes as long as its label's row, and time grows with the square of the H on one wire; gates that double; gates in
-levels, and phases of many sets, of which there are two sizes; CNOTs with a barrier after each; and texts under a long name, of
-which `route` writes gigabytes.
+levels, and phases of many sets, of which there are two sizes; parts that grow, of 20,000 lines; CNOTs with a barrier after
+each; and texts under a long name, of which `route` writes gigabytes.
 """
 
 import dataclasses

@@ -22,8 +22,8 @@ use outside_io::{Shelf, TextFault, load_text};
 use program_reader::{ProgramFault, ProgramRefusal, SourceProgram, read_text};
 use route_report::{Side, verdict_text};
 use std::alloc::Global;
-use trace_model::laws::traces_are_sound;
 use trace_check::{Outcome, check};
+use trace_model::laws::traces_are_sound;
 use trace_text::trace_of;
 use verdict_checks::{are_in_place, are_reads_alike, are_registers_alike, first_off};
 
