@@ -62,7 +62,7 @@ __all__ = [
     "stages",
     "verify",
 ]
-__version__ = "0.13.0"
+__version__ = "0.14.0"
 
 HERE = pathlib.Path(__file__).resolve().parent
 MOST_TRIES = 256

@@ -2,12 +2,13 @@
 
 `read(text)` gives a `Program`: its wires and classical bits in order of declaration, and its steps, in which whole
 registers are written out. `operations(program)` gives the operations `("U", a, b, c, wire)`, with angles in units of pi/4
-below 8, and `("CX", control, target)`, with gates written out by their bodies. It reads more than `qroute` may read, and looks
-for no more faults than it needs to. What it can't make sense of, or is beyond the bounds below, is a `Fault` with an offset,
-or of angles and operations a ValueError.
+below 8, and `("CX", control, target)`, with gates written out by their bodies. What `qroute` refuses is refused here too: a
+`Fault` with an offset, or of angles and operations a ValueError. Only a gate after a measurement is read, which
+`has_gates_behind_measurements` tells, and the text may have any length.
 
 `read(text, whole=True)` reads the whole language: conditions, `reset`, opaque gates, gates after measurements, and angles
-without an exact value, each of which is a float then. It also looks whether a name is taken, and skips a byte order mark.
+without an exact value, each of which is a float then. It also reads more than the language has: gates' names with capitals, the
+tables included again, numbers with an exponent and no point, and a byte order mark, which it skips.
 """
 
 import contextlib
@@ -43,6 +44,7 @@ TOKEN = re.compile(
 BARE = re.compile(r"([0-9]+)([eE][-+]?[0-9]+)(?![A-Za-z0-9_.])")
 
 FUNCTIONS = "sin cos tan exp ln sqrt".split()
+CAPITALS = "OPENQASM U CX".split()
 KEYWORDS = "include qreg creg gate opaque measure reset if barrier pi".split() + FUNCTIONS
 LATER = "u p cp swap cswap sx sxdg".split()  # names of the library that a program may declare again
 LIBRARY = """
@@ -149,10 +151,10 @@ U = Gate(["theta", "phi", "lambda"], ["q"], [], name="U")
 CX = Gate([], ["control", "target"], [], name="CX")
 
 
-def gate_of(params, qubits, body, name="", text=""):
-    """A gate with a body."""
+def gate_of(params, qubits, body, name="", text="", barriers=0):
+    """A gate with a body, in which so many barriers stand besides."""
     operations = sum(gate.operations for gate, _, _ in body)
-    items = 1 + sum(gate.items for gate, _, _ in body)
+    items = 1 + barriers + sum(gate.items for gate, _, _ in body)
     return Gate(params, qubits, body, min(operations, MOST_ITEMS + 1), min(items, MOST_ITEMS + 1), name, text=text)
 
 
@@ -179,29 +181,13 @@ def tokens(text, whole=False):
             found.append(Token("real", f"{bare[1]}.0{bare[2]}", offset))
             offset = bare.end()
             continue
-        if match is None:
+        if match is None or (not whole and match.lastgroup == "word" and match.group()[0].isupper() and match.group() not in CAPITALS):
             raise Fault(f"no token begins with {text[offset]!r}", offset)
+        if not whole and match.lastgroup in ("whole", "real") and number(match.group()) is None:
+            raise Fault("a number with a part above 2^62", offset)
         if match.lastgroup != "blank":
             found.append(Token(str(match.lastgroup), match.group(), offset))
         offset = match.end()
-    return found
-
-
-def statements(text):
-    """The offset of each statement after the header, in order."""
-    found = []
-    depth = 0
-    begins = False
-    for token in tokens(text):
-        if begins and depth == 0:
-            found.append(token.offset)
-            begins = False
-        if token.text == "{":
-            depth += 1
-        if token.text == "}":
-            depth -= 1
-        if depth == 0 and token.text in (";", "}"):
-            begins = True
     return found
 
 
@@ -549,7 +535,7 @@ class ProgramReader(Reader):
     def all(self):
         self.take("OPENQASM")
         version = self.take(kind="real")
-        if self.whole and number(version) != 2:
+        if number(version) != 2:
             self.at -= 1
             self.fail("the version must be 2.0")
         self.take(";")
@@ -568,15 +554,12 @@ class ProgramReader(Reader):
             "gate": self.gate,
             "measure": self.measure,
             "barrier": self.barrier,
+            "opaque": self.opaque,
         }
         if self.whole:
-            known |= {"if": self.conditional, "reset": self.reset, "opaque": self.opaque}
+            known |= {"if": self.conditional, "reset": self.reset}
         if word in ("if", "reset") and not self.whole:
             self.fail(f"{word} is not for this tool")
-        if word == "opaque" and not self.whole:
-            while self.take() != ";":
-                pass
-            return
         if word in known:
             self.at += 1
             known[word]()
@@ -625,23 +608,32 @@ class ProgramReader(Reader):
         if self.take(kind="text") != '"qelib1.inc"':
             self.at -= 1
             self.fail("another file than qelib1.inc is included")
+        if self.is_included and not self.whole:
+            self.at -= 1
+            self.fail("qelib1.inc is included already")
+        if taken := [it for it in self.declared if it in library() and it not in LATER and not self.whole]:
+            self.at -= 1
+            self.fail(f"the name {min(taken)} is taken")
         self.take(";")
         self.is_included = True
         for name, gate in library().items():
             self.program.gates.setdefault(name, gate)
 
+    def is_reserved(self, name):
+        return name in KEYWORDS or (not self.whole and name in CAPITALS)
+
     def look_whether_taken(self, name, is_register):
         """Whether the name that was just read may be declared."""
-        if self.whole and name in KEYWORDS:
+        if self.is_reserved(name):
             self.at -= 1
             self.fail(f"the name {name} is a word of the language")
         registers = name in self.quantum or name in self.classical
         if is_register:
-            is_taken = registers or name in self.declared or (self.whole and name in library())
+            is_taken = registers or name in self.declared or name in library()
         else:
             is_taken = registers or name in self.declared or name in self.program.borrowed
             is_taken = is_taken or (self.is_included and name in library() and name not in LATER)
-        if is_taken and self.whole:
+        if is_taken:
             self.at -= 1
             is_hidden = is_register and name in library() and not self.is_included
             self.fail(f"the name {name} is taken{': the tables are always included' if is_hidden else ''}")
@@ -678,21 +670,22 @@ class ProgramReader(Reader):
         """Names of a declaration's parameters or qubits, which aren't those before."""
         begins, found = self.at, self.names()
         for i, it in enumerate(found):
-            if self.whole and (it in KEYWORDS or it in before or it in found[:i]):
+            if self.is_reserved(it) or it in before or it in found[:i]:
                 self.at = begins + 2 * i
-                self.fail(f"the name {it} is {'a word of the language' if it in KEYWORDS else 'taken'}")
+                self.fail(f"the name {it} is {'a word of the language' if self.is_reserved(it) else 'taken'}")
         return found
 
     def gate(self):
         name, params = self.named()
         qubits = self.own_names(params)
         self.take("{")
-        body = []
+        lines = []
         self.params = params
         while not self.skips("}"):
-            body += self.line_of_body(qubits)
+            lines.append(self.line_of_body(qubits))
         self.params = ()
-        self.declare(gate_of(params, qubits, body, name, self.said()))
+        body = [it for it in lines if it is not None]
+        self.declare(gate_of(params, qubits, body, name, self.said(), len(lines) - len(body)))
 
     def declare(self, gate):
         gate.offset = self.offset
@@ -700,20 +693,17 @@ class ProgramReader(Reader):
         self.declared.add(gate.name)
 
     def line_of_body(self, qubits):
-        """What a line of a gate's body applies to some of its qubits: one gate, or with a barrier none."""
-        if self.skips("barrier"):
-            self.names()
-            self.take(";")
-            return []
-        gate = self.gate_of_name()
-        angles = self.expressions(gate)
+        """A line of a gate's body: a gate with its angles and some of the qubits, or with a barrier None."""
+        gate = None if self.skips("barrier") else self.gate_of_name()
+        angles = self.expressions(gate) if gate else []
         places = self.names()
         for it in places:
             if it not in qubits:
                 self.fail(f"no qubit {it}")
-        self.look_at_sizes(gate, angles, places)
+        if gate:
+            self.look_at_sizes(gate, angles, places)
         self.take(";")
-        return [(gate, angles, places)]
+        return (gate, angles, places) if gate else None
 
     def gate_of_name(self):
         name = self.peek()
@@ -722,7 +712,11 @@ class ProgramReader(Reader):
             found = self.program.borrowed[name] = known_gate(self.known[name])
         if found is None:
             self.fail(f"no gate {name}")
+        elif found.is_opaque and not self.whole:
+            self.fail(f"the gate {name} has no body")
         self.at += 1
+        if found is CX and self.peek() == "(" and not self.whole:
+            self.fail("CX takes no parentheses")
         return found
 
     def look_at_sizes(self, gate, angles, on):
@@ -752,10 +746,10 @@ class ProgramReader(Reader):
         return [first + index], False
 
     def measure(self):
-        wires, _ = self.wires_of(self.argument(), self.quantum)
+        wires, is_register = self.wires_of(self.argument(), self.quantum)
         self.take("->")
-        bits, _ = self.wires_of(self.argument(), self.classical)
-        if len(wires) != len(bits):
+        bits, is_whole = self.wires_of(self.argument(), self.classical)
+        if len(wires) != len(bits) or (is_register != is_whole and not self.whole):
             self.fail("a measurement between different sizes")
         if self.condition is not None and len(wires) > 1 and self.classical[self.condition[0]][0] <= bits[0] < sum(self.classical[self.condition[0]]):
             self.fail("the register that is measured is the one that its `if` reads")

@@ -4,8 +4,8 @@
 text, and what makes the device's or the target's if there is one. Each text is as long as it may be, or has as many
 operations, except if time or what is written grows faster than the text: traces of H in turn with CNOTs, since for a `sums`
 each H takes as long as its label's row, and time grows with the square of the H on one wire; gates that double; gates in
-levels, of which there are three sizes; CNOTs with a barrier after each; and texts under a long name, of which `route` writes
-gigabytes.
+levels, and phases of many sets, of which there are two sizes; parts that grow, of 20,000 lines; CNOTs with a barrier after
+each; and texts under a long name, of which `route` writes gigabytes.
 """
 
 import dataclasses
@@ -145,9 +145,9 @@ def nested():
     return ONE + "h q[0]; t q[0];\n" * count + "tdg q[0]; h q[0];\n" * count
 
 
-def mixed(wires, kinds, operations=MOST_OPERATIONS):
-    """Gates that look random."""
-    x, lines = wires, [HEAD + f"qreg q[{wires}];"]
+def mixed(wires, kinds, operations=MOST_OPERATIONS, start=0):
+    """Gates that look random, from another start others."""
+    x, lines = wires + start, [HEAD + f"qreg q[{wires}];"]
 
     def below(n):
         nonlocal x
@@ -260,10 +260,41 @@ def far_pairs(count, wires=256):
     return HEAD + f"qreg q[{wires}];\n" + "".join(lines + lines)
 
 
-def far_boths(count, wires=256):
-    """Nothing of them, by a trace that takes the first and the same after the middle away, again and again."""
+def far_boths(count, wires=256, between=None):
+    """Nothing of them, by a trace that takes the first and the same after the middle away, again and again; and with a line between."""
     boths = [f"both 0 {it}" for it in range(count // 2, 0, -1)]
-    return HEAD + f"qreg q[{wires}];\n" + commented(["TRACE 1", *boths, *emitted(wires, 0)])
+    lines = ["TRACE 2", *(line for it in boths for line in (it, between))] if between else ["TRACE 1", *boths]
+    return HEAD + f"qreg q[{wires}];\n" + commented([*lines, *emitted(wires, 0)])
+
+
+def four_sums(a, b, c, d):
+    """CNOTs and T gates by which each sum of four wires has a T gate, which comes to nothing."""
+    lines, wires = [], (a, b, c, d)
+    for i, wire in enumerate(wires):
+        for step in range(1, (1 << i) + 1):
+            lines.append(f"t q[{wire}];")
+            if i:
+                lines.append(f"cx q[{wires[min((step & -step).bit_length() - 1, i - 1)]}],q[{wire}];")
+    return lines
+
+
+def mixed_sums(stages, wires=256, is_kept=True):
+    """In each stage CNOTs that make long sums of all wires, of these T gates on all sums of each four, and H on all wires; without
+    the T gates and their CNOTs if they aren't kept."""
+    lines = []
+    for stage in range(stages):
+        lines += mixed(wires, ["cx"], 4 * wires, stage).split("\n")[3:]
+        for first in range(0, wires if is_kept else 0, 4):
+            lines += four_sums(*range(first, first + 4))
+        lines += [f"h q[{it}];" for it in range(wires)]
+    return f"{HEAD}qreg q[{wires}];\n" + "\n".join(lines) + "\n"
+
+
+def mixed_sums_target(stages, wires=256):
+    """The same without the T gates, by one line `phases`: as many sets differ as there were T gates, and each is of many variables."""
+    text = mixed_sums(stages, wires, is_kept=False)
+    gates = [it.replace("cx q[", "C ").replace("h q[", "H ").replace("],q[", " ").replace("];", "") for it in text.splitlines()[3:]]
+    return text + commented(["TRACE 2", f"phases {len(gates)}", *gates, *emitted(wires, len(gates))])
 
 
 def growing_parts(gates, rounds, is_at_many=False, is_kept=False):
@@ -310,14 +341,13 @@ KINDS = [
     Kind("a list of angles", CHECK, 3, lambda: filled(ONE + "u1(0", ",0", ") q[0];")),
     Kind("a list of qubits", CHECK, 0, lambda: filled(ONE + "barrier q[0]", ",q[0]", ";")),
     Kind("barriers", OPT, 0, lambda: filled(ONE, "barrier q;\n")),
-    Kind("barriers that are kept", KEPT, 0, lambda: filled(ONE, "barrier q;\n")),
     Kind("barriers that are kept, a gate behind each", KEPT, 0, lambda: filled(ONE, "barrier q;t q;", most=MOST_OPERATIONS * 14)),
     Kind("barriers on 256 wires that are kept", KEPT, 0, lambda: filled(f"{HEAD}qreg q[256];\n", "barrier q;")),
-    Kind("the same, a gate on one wire behind each", KEPT, 0, lambda: wide_barriers(MOST_OPERATIONS)),
+    Kind("barriers of two orders in turn that are kept", KEPT, 0, lambda: filled(f"{HEAD}qreg q[128]; qreg r[128];\n", "barrier q,r;barrier r,q;")),
+    Kind("barriers on 256 wires, a gate behind each", KEPT, 0, lambda: wide_barriers(MOST_OPERATIONS)),
     Kind("CNOTs on a line of 16, a barrier behind each", (*ROUTE, "--keep-barriers"), 0, barred, lambda: line(16)),
     Kind("a comment", OPT, 0, lambda: filled(ONE + "t q[0]; //", "/")),
     Kind("digits", CHECK, 0, lambda: filled(ONE + "u1(0.", "0", ") q[0];")),
-    Kind("zeros", CHECK, 3, lambda: filled(ONE + "u1(", "0")),
     Kind("zeros, and then a digit", CHECK, 3, lambda: filled(ONE + "u1(", "0", "1")),
     Kind("zeros before a point", CHECK, 0, lambda: filled(ONE + "u1(", "0", ".5*pi) q[0];")),
     Kind("a long name", CHECK, 0, lambda: f"{HEAD}qreg {'a' * 2_000_000}[1]; h {'a' * 2_000_000};"),
@@ -337,7 +367,6 @@ KINDS = [
     Kind("1,024 underscores, CNOTs in layers", ROUTE, 0, many_underscores, lambda: line(64)),
     Kind("a nest", OPT, 0, nested),
     Kind("CNOTs there and back", OPT, 0, there_and_back),
-    Kind("8,000 gates in levels", OPT, 0, lambda: levels(1_000)),
     Kind("32,000 gates in levels", OPT, 0, lambda: levels(4_000)),
     Kind("65,528 gates in levels", OPT, 0, lambda: levels(8_191)),
     Kind("16,000 gates in levels, traced", (*ROUTE, "--trivial", "--trace"), 0, lambda: levels(2_000), lambda: device(2, [(0, 1), (1, 0)])),
@@ -364,6 +393,9 @@ KINDS = [
     Kind("the same, its one step again and again", VERIFY, 0, lambda: in_turn(2_000), target=lambda: in_turn_target(2_000, True)),
     Kind("a trace of joins far apart", VERIFY, 0, lambda: phases(MOST_OPERATIONS), target=lambda: far_joins(MOST_OPERATIONS)),
     Kind("a trace of pairs far apart", VERIFY, 0, lambda: far_pairs(MOST_OPERATIONS), target=lambda: far_boths(MOST_OPERATIONS)),
+    Kind("the same, an empty part between", VERIFY, 0, lambda: far_pairs(MOST_OPERATIONS), target=lambda: far_boths(MOST_OPERATIONS, between="part 0 0 0")),
+    Kind("phases of 1,920 sets that differ", VERIFY, 0, lambda: mixed_sums(2), target=lambda: mixed_sums_target(2)),
+    Kind("phases of 3,840 sets that differ", VERIFY, 0, lambda: mixed_sums(4), target=lambda: mixed_sums_target(4)),
     Kind("a trace of parts that grow and shrink", VERIFY, 0, many_t_gates, target=lambda: growing_parts(MOST_OPERATIONS, 20_000)),
     Kind("the same at many places", VERIFY, 0, many_t_gates, target=lambda: growing_parts(MOST_OPERATIONS, 20_000, is_at_many=True)),
     Kind("a trace of parts that grow", VERIFY, 0, many_t_gates, target=lambda: growing_parts(MOST_OPERATIONS, 20_000, is_kept=True)),
@@ -375,6 +407,5 @@ KINDS = [
     Kind("a trace of one placement", VERIFY, 1, lambda: ONE, target=lambda: traced(["TRACE 1"], " 0", begins="//!place")),
     Kind("a trace of gates that are told", VERIFY, 1, lambda: ONE, target=lambda: HEAD + commented(["TRACE 1", TOLD, "H 0", "H 0"])),
     Kind("a trace of gates that are listed", VERIFY, 1, lambda: ONE, target=lambda: traced(["TRACE 1", TOLD], "//!H 0\n")),
-    Kind("a trace of steps that do nothing", VERIFY, 1, lambda: ONE, target=lambda: traced(["TRACE 1"], "//!sums 0\n")),
     Kind("a trace of swaps", VERIFY, 1, lambda: PAIR, target=lambda: traced(["TRACE 1", "place 0 1"], "//!turn 0 1\n", wires=2)),
 ]

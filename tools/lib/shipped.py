@@ -11,8 +11,8 @@ import os
 
 TOP = os.path.dirname(os.path.dirname(os.path.dirname(os.path.realpath(__file__))))
 # what only serves who changes the program
-FOR_DEVELOPERS = "build cases gate-minutes check-docs check-transcripts definitions mutate refuse-growths release test try-release".split()
-FOR_RELEASES = ("built.py", "elf.py", "shipped.py")
+FOR_DEVELOPERS = "build cases gate-minutes check-docs check-transcripts definitions forge mutate refuse-growths release test try-release".split()
+FOR_RELEASES = ("built.py", "elf.py", "forged.py", "shipped.py")
 PROGRAM = "lib/qroute/qroute"
 
 

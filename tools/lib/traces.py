@@ -65,12 +65,16 @@ class Held:
 
 @dataclasses.dataclass
 class Verdict:
-    """A trace's power, or the line at which it stops, what stands there (None if it is missing), and why it stops."""
+    """A trace's power and the qubits on which the wires begin and end; or the line at which it stops, what stands there (None if it is
+    missing), and why it stops.
+    """
 
     power: int | None = None
     line: int | None = None
     stood: str | None = None
     why: str = ""
+    initial: tuple | None = None
+    final: list | None = None
 
     def in_words(self):
         if self.line is None:
@@ -124,7 +128,7 @@ def checked(source, target, lines):
     except Stop as why:
         stood = lines[check.done] if check.done < len(lines) else None
         return Verdict(None, check.done + 1, stood, str(why))
-    return Verdict(check.power)
+    return Verdict(check.power, initial=check.begins, final=check.now)
 
 
 class Check:
@@ -141,7 +145,7 @@ class Check:
         self.qubits, operations = target
         self.target, self.target_turns = gate_lists.expanded(operations)
         self.written = []  # the gates that were appended
-        self.now = None  # after `place` the qubit of each wire
+        self.begins = self.now = None  # after `place` the qubit of each wire, there and now
         self.power = None  # after `end` what is proved
 
     def step(self):
@@ -342,7 +346,7 @@ class Check:
             raise Stop(f"{self.wires} wires of the source don't fit on the qubits of the target ({self.qubits})")
         if sorted(qubits) != list(range(self.qubits)):
             raise Stop(f"its numbers aren't those below {self.qubits}, each once")
-        self.now = list(qubits)
+        self.begins, self.now = qubits, list(qubits)
 
     # lines after `place`
 

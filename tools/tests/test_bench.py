@@ -191,6 +191,8 @@ class Bench(ToolTest):
                 (hostile.in_turn(3), hostile.in_turn_target(3, True), "yes 6"),
                 (hostile.phases(10), hostile.far_joins(10), "yes 0"),
                 (hostile.far_pairs(20, 4), hostile.far_boths(20, 4), "yes 0"),
+                (hostile.far_pairs(20, 4), hostile.far_boths(20, 4, "part 0 0 0"), "yes 0"),
+                (hostile.mixed_sums(2, 8), hostile.mixed_sums_target(2, 8), "yes 0"),
                 (hostile.HEAD + "qreg q[4];\n", hostile.empty_sums(3, 4), "yes 0"),
                 (hostile.t_gates(9), hostile.growing_parts(9, 5), "yes 0"),
                 (hostile.t_gates(9), hostile.growing_parts(9, 5, is_at_many=True), "yes 0"),
@@ -222,3 +224,21 @@ class Bench(ToolTest):
             wrong = self.parts["hostile_texts"](path)
         self.assertEqual(wrong, ["verify of a text: status 1 in place of 0", "verify of a text: status 1 in place of 1"])
         self.assertIn(" 12            12\n", told.getvalue())
+
+    def test_the_table_of_hostile_texts(self):
+        kinds = [hostile.Kind(name, ("check",), status, lambda: "") for name, status in (("fast", 0), ("slow", 0), ("endless", 3))]
+        taken = self.parts["Taken"]
+        found = [taken(it, *row) for it, row in zip(kinds, ((0.1, 20, 9, 0, 0), (7.25, 500, 4_190_000, 12, 0), (200, 20, 9, 0, -24)))]
+        lines = self.parts["hostile_part"](found, 3).splitlines()
+        self.assertRegex(lines[0], r"^Of \d+\.\d+\.\d+, on [-\d]+, best of 3 runs: 3 texts, of which 2 take more than 5 s ")
+        self.assertRegex(lines[1], r"; no other takes more than 0\.10 s or 20 MB:$")
+        self.assertEqual(lines[5:], ["| endless | `check` | 0.00 | 0.0 | above 200 | 20 |", "| slow | `check` | 4.19 | 0.0 | 7.25 | 500 |"])
+        document = self.file("document", "a\n<!-- hostile -->\nold\n<!-- /hostile -->\nb\n")
+        told = self.parts["hostile_texts"].__globals__
+        with mock.patch.dict(told, DOCUMENT=pathlib.Path(document), hostile_measured=lambda *_: found):
+            with contextlib.redirect_stdout(io.StringIO()):
+                self.assertEqual(self.parts["hostile_texts"]("", "", 3, True), [])
+        with open(document, encoding="utf-8") as file:
+            self.assertEqual(file.read(), "a\n<!-- hostile -->\n" + "\n".join(lines) + "\n<!-- /hostile -->\nb\n")
+        ran = self.bench("--hostile", "a", "--mend")
+        self.assertEqual(ran, (2, "", "bench: --mend goes with --hostile of all texts\n"))

@@ -333,7 +333,7 @@ class DrawnPrograms(Judging):
             self.assertIsNotNone(judged.power, seed)
             sides = qasm.written_out("", source), qasm.written_out("", target)
             begins = next([int(it) for it in line.split()[1:]] for line in lines_of(found) if line.startswith("place"))
-            part = check.Part(sides[0][1], sides[1][1], begins, judged.now, judged.power)
+            part = check.amplitudes.Part(sides[0][1], sides[1][1], begins, judged.now, judged.power)
             self.assertEqual(check.unitaries(sides[0][0], sides[1][0], [part], {})[0], [], seed)
         self.assertGreater(certified, 160)
 

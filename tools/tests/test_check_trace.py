@@ -13,7 +13,9 @@ from tool import TOP, ToolTest
 
 sys.path.insert(0, os.path.join(TOP, "tools", "lib"))
 import built
+import cases
 import gates
+import qasm
 import traces
 
 HEAD = 'OPENQASM 2.0;\ninclude "qelib1.inc";\n'
@@ -259,6 +261,61 @@ TEXTS = {
         "no, line 5: `end 0` doesn't apply: gate 1 of the target is P 1 1, and C 0 1 was appended",
     ),
 }  # fmt: skip
+# whole texts that are no program, by the code of their refusal, and some that are programs
+PLAIN = "OPENQASM 2.0;\nqreg q[2]; creg c[2];\n"
+TABLES = HEAD + "qreg q[2]; creg c[2];\n"
+REFUSED = {
+    10: [TABLES + "CXx q[0],q[1];", TABLES + "gate Up a { }", TABLES + "\x0c", "\xef\xbb\xbf" + TABLES, TABLES + "é"],
+    11: [TABLES + "u1(0*1.0e-20) q[0];", "OPENQASM 1.0e99;", TABLES + "x q[4611686018427387905];"],
+    12: [
+        TABLES + "CX() q[0],q[1];", TABLES + "x q[0]", TABLES + "U() q[0];", TABLES + "gate pi a { }", TABLES + "gate U a { }", TABLES + "opaque;",
+        TABLES + "gate g a { measure a; }", TABLES + "barrier;", TABLES + "u1(1e0) q[0];", TABLES + "qreg OPENQASM[1];", TABLES + "gate g(if) a { }",
+        "OPENQASM 2;\n", "",
+    ],
+    13: ["OPENQASM 3.0;\n" + TABLES[14:], "OPENQASM 2.1;\nqreg q[1];", "OPENQASM 0.2;\n", "OPENQASM 20.0e0;\n"],
+    14: [TABLES + f"u1({'(' * 64}0{')' * 64}) q[0];"],
+    20: [HEAD + 'include "qelib1.inc";\nqreg q[1];', HEAD + 'qreg q[1]; x q[0]; include "qelib1.inc";', 'OPENQASM 2.0;\ninclude "stdgates.inc";\n'],
+    21: [
+        TABLES + "qreg q[1];", TABLES + "creg q[1];", TABLES + "gate g a { } gate g a { x a; }", TABLES + "creg c[2];", TABLES + "gate h a { x a; }",
+        TABLES + "qreg h[1];", PLAIN + "qreg h[1];", PLAIN + "creg sx[1];", TABLES + "gate q a { }", TABLES + "gate g a { } qreg g[1];",
+        TABLES + "gate g a,a { }", TABLES + "gate g(a) a { }", TABLES + "gate g(t,t) a { }", TABLES + "opaque g a,a;", TABLES + "opaque h a;",
+        TABLES + "opaque g a; gate g a { }", PLAIN + 'gate h a { U(0,0,0) a; } include "qelib1.inc";', PLAIN + 'opaque x a; include "qelib1.inc";',
+    ],
+    22: [
+        TABLES + "g q[0];", TABLES + "x r[0];", PLAIN + "x q[0];", TABLES + "gate g a { x b; }", TABLES + "gate g a { barrier b; }", TABLES + "u1(t) q[0];",
+        TABLES + "gate g a { g a; }", TABLES + "gate g(t) a { u1(a) a; }", TABLES + "measure q[0] -> d[0];", TABLES + "barrier r;",
+    ],
+    23: [TABLES + "q q[0];", TABLES + "x c[0];", TABLES + "measure c -> q;", TABLES + "barrier c;"],
+    24: [TABLES + "x q[2];", TABLES + "barrier q[2];", TABLES + "measure q[0] -> c[2];"],
+    25: [TABLES + "qreg r[0];", TABLES + "creg r[0];"],
+    26: [TABLES + "x(0) q[0];", TABLES + "u1() q[0];", TABLES + "gate g a { u1 a; }"],
+    27: [TABLES + "x q[0],q[1];", TABLES + "cx q[0];", TABLES + "gate g a { cx a; }"],
+    28: [TABLES + "qreg r[3]; cx q,r;", TABLES + "measure q -> c[0];", TABLES + "qreg r[1]; measure r -> c[0];", TABLES + "creg d[1]; measure q[0] -> d;"],
+    29: [TABLES + "cx q[0],q[0];", TABLES + "cx q,q[0];", TABLES + "gate g a { cx a,a; }"],
+    30: [TABLES + "if(c==0) x q[0];"],
+    31: [TABLES + "reset q[0];"],
+    32: [TABLES + "opaque g a; g q[0];", TABLES + "opaque g a; gate f a { g a; }"],
+    33: [TABLES + "measure q[0] -> c[0]; x q[0];", TABLES + "measure q -> c; x q;"],
+    34: [TABLES + "qreg r[255];"],
+    35: [TABLES + "creg d[1023];"],
+    40: [TABLES + "u1(pi*pi) q[0];", TABLES + "u1(sin(0)) q[0];", TABLES + "gate f(t) a { } gate g(t) a { f(ln(t)) a; } g(1) q[0];"],
+    41: [TABLES + "u1(1/0) q[0];", TABLES + "u1(0^-1) q[0];"],
+    42: [TABLES + "u1(2^63) q[0];"],
+    43: [TABLES + "u1(pi/8) q[0];", TABLES + "u1(1) q[0];"],
+    44: [
+        # 2^20 + 1 items: bodies of nothing but barriers
+        TABLES + "gate g0 a { barrier a; barrier a; barrier a; } " + "".join(f"gate g{i} a {{ g{i - 1} a; g{i - 1} a; }} " for i in range(1, 19)) + "g18 q[0];",
+        TABLES + "gate g0 a { x a; } " + "".join(f"gate g{i} a {{ g{i - 1} a; g{i - 1} a; }} " for i in range(1, 18)) + "g17 q[0];",
+    ],
+}  # fmt: skip
+READ = [
+    "OPENQASM 2.0;", "OPENQASM 2.00;", "OPENQASM 0.2e1;", "OPENQASM 2.;\nqreg q[1];", TABLES + f"u1({'(' * 63}0{')' * 63}) q[0];",
+    PLAIN + 'gate sx a { U(0,0,0) a; } include "qelib1.inc";', TABLES + "gate sx a { x a; } sx q[0];", PLAIN + "gate h a { U(pi,0,pi) a; } h q[0];",
+    TABLES + "gate g g { x g; } g q[0];", TABLES + "gate g(g) a { u1(g) a; } g(pi) q[0];", TABLES + "opaque g(t) a,b;", TABLES + "h() q[0];",
+    TABLES + "gate g a { } g q;", TABLES + "barrier q,q[0],q;", TABLES + "measure q -> c; barrier q;", TABLES + "measure q[0] -> c[0]; x q[1];",
+    TABLES + "gate g(t) a { u1(sin(t)) a; }", TABLES + "u1(2^62*0) q[0];", TABLES + "u1(4/2*pi^1) q[0];", TABLES + "gate g a,b { barrier a,b,a; } g q[0],q[1];",
+    TABLES + "gate f(t) a { } f(0.3) q[0];", PLAIN + "CX q[0],q[1]; U(0,0,pi/4) q[0];", TABLES + "qreg r[254]; creg d[1022];",
+]  # fmt: skip
 BUILT = built.program()
 
 
@@ -447,6 +504,40 @@ class CheckTrace(ToolTest):
         # the source is looked at before the target is there
         ran = self.run_tool("check-trace", self.file("s", "OPENQASM"), f"{self.room}/none")
         self.assertEqual((ran[0], ran[1]), (3, ""))
+
+    def test_refusals_by_code(self):
+        """Whole texts that are no program, and the like that are one, by the code that `qroute check` has for them."""
+        right, target = program(1, ""), program(1, "") + commented(["TRACE 1", "place 0", "end 0"])
+        for code, texts in REFUSED.items():
+            for wrong in texts:
+                with self.subTest(code=code, text=wrong):
+                    with self.assertRaises(ValueError):
+                        traces.side("", wrong)
+        for text in READ:
+            with self.subTest(text):
+                traces.side("", text)
+        for code in (13, 20, 21):
+            for wrong in REFUSED[code][:3]:
+                status, out, err = self.checked(wrong, target)
+                self.assertEqual((status, out, err[:38]), (3, "", "check-trace: the source is refused: " + self.room[:2]), wrong)
+                self.assertEqual(self.checked(right, wrong + commented(["TRACE 1", "place 0", "end 0"]))[:2], (3, ""), wrong)
+
+    def test_given_cases(self):
+        """Each given case of `check` is refused here exactly if it is there, but for those that are large."""
+        count = collections.Counter()
+        for theme in cases.themes():
+            for case in cases.read_cases(os.path.join(cases.FOLDER, f"{theme}.txt")):
+                if case.words[1:] != ["check"] or case.ends or case.status not in (0, 3) or len(case.input) > 4_000:
+                    continue
+                with self.subTest(case.place):
+                    try:
+                        qasm.written_out("", qasm.text_of(case.input))
+                        status = 0
+                    except ValueError:
+                        status = 3
+                    self.assertEqual(status, case.status, case.input)
+                    count[status] += 1
+        self.assertGreater(min(count[0], count[3]), 30)
 
     def test_a_name_that_gets_another_meaning(self):
         # before its own declaration `p` is the library's; a function is read where nothing applies it

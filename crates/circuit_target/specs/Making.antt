@@ -34,7 +34,7 @@ use Rattle.sabre_route.specs.Measures.{bound}
 use Rattle.sabre_route.specs.Routing.{IsRouted}
 use Rattle.sabre_route.specs.Ahead.{Ahead}
 use Rattle.sabre_route.specs.declared.router.Routed.{Routed}
-use Rattle.trace_check.specs.Proves.{Claim, Proves}
+use Rattle.trace_model.specs.Proves.{Claim, Proves}
 use Rattle.unitary_model.specs.declared.Op.{Op}
 use Rattle.unitary_model.specs.Operations.{cx_count, t_count}
 use Rattle.unitary_model.specs.Placement.{IsPlacement, identity}

@@ -18,7 +18,7 @@ use Rattle.program_parts.specs.Parts.{Part, ends, powers}
 use Rattle.route_report.specs.declared.lines.Report.{Report}
 use Rattle.routed_parts.specs.Runs.{AreMachineRuns, HasFewSwaps}
 use Rattle.routed_parts.specs.Settled.{IsSettled}
-use Rattle.trace_check.specs.Proves.{Claim, Proves}
+use Rattle.trace_model.specs.Proves.{Claim, Proves}
 use Rattle.unitary_model.specs.Operations.{IsPlain, cx_count}
 use Rattle.unitary_model.specs.Placement.{identity}
 use Rattle.unitary_model.specs.Realises.{Realises}

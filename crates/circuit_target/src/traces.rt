@@ -15,7 +15,7 @@ pub trait RunTraces {
     ghost use Rattle.rewrite_pass.specs.Traces.{AreSteps};
     ghost use Rattle.sabre_route.specs.Ahead.{Ahead};
     ghost use Rattle.sabre_route.specs.Telling.{IsRoutedBy};
-    ghost use Rattle.trace_check.specs.Proves.{Claim, Proves};
+    ghost use Rattle.trace_model.specs.Proves.{Claim, Proves};
     ghost use Rattle.trace_text.specs.Texts.{ended, lines_of};
     ghost use Rattle.unitary_model.specs.Placement.{IsPlacement};
 

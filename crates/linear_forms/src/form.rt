@@ -445,6 +445,14 @@ fn is_long(shape: Shape) -> bool {
     shape.parts >= LEAST_PARTS && shape.parts / PARTS_EACH >= shape.places
 }
 
+/// Whether an expression is long, and linear in the parameters.
+pub fn is_worth_a_form(formula: &Formula) -> bool {
+    match shape_of(formula) {
+        Some(shape) => shape.divisor != 0 && is_long(shape),
+        None => false,
+    }
+}
+
 /// The form of an expression that is long and linear in the parameters, where its numbers are small.
 #[tactic(auto, using(crate::proofs::LinearLaws::form_of))]
 pub fn form_of(alloc: Global, formula: &Formula) -> Result<Option<Form>, AllocError>

@@ -7,7 +7,7 @@ ghost use Rattle.gate_library.specs.declared.gate.BoundGate.{BoundGate as CodeGa
 ghost use Rattle.linear_forms.specs.Linear.{IsForm};
 ghost use Rattle.linear_forms.specs.Lines.{AreForms, angles_in, gate_body};
 
-use crate::form::{Form, form_of};
+use crate::form::{Form, form_of, is_worth_a_form};
 use gate_library::{BoundGate, Formula, Item};
 use std::alloc::{AllocError, Global};
 use std::marker::Model;
@@ -63,18 +63,29 @@ pub fn first_form(forms: &[Option<Form>]) -> (Option<&Form>, &[Option<Form>])
     }
 }
 
+/// Whether one of some expressions is long, and linear in the parameters.
+fn any_worth_a_form(angles: &[Formula]) -> bool {
+    for angle in angles {
+        if is_worth_a_form(angle) {
+            return true;
+        }
+    }
+    false
+}
+
 /// The forms of angles, if one of them has any.
 fn forms_of(alloc: Global, angles: &[Formula]) -> Result<Vec<Option<Form>>, AllocError>
     ensures { IfOk result (λ v. AreForms v.items (map formula_view angles.now)) }
 {
-    let mut list = Vec::with_capacity(alloc, angles.len())?;
-    let mut some = false;
+    let mut list = Vec::new(alloc);
+    if !any_worth_a_form(angles) {
+        return Ok(list);
+    }
     'angles: for angle in angles {
         let form = form_of(alloc, angle)?;
-        some |= form.is_some();
         list.push(form)?;
     }
-    if some { Ok(list) } else { Ok(Vec::new(alloc)) }
+    Ok(list)
 }
 
 /// A line with its forms.

@@ -22,6 +22,7 @@ use crate::refusal::CheckRefusal;
 use crate::stop::CheckStop;
 use gate_library::{BoundGate, Item, is_standard, names_repeat};
 use qasm_parser::{Apply, Arg, GateDef, Name, Stmt};
+use smallvec::SmallVec;
 use std::alloc::{AllocError, Global};
 
 /// Whether an argument is no qubit of the gate.
@@ -221,7 +222,7 @@ fn items<'a>(
 }
 
 /// Puts names behind others.
-fn add_names<'a>(list: &mut Vec<&'a [u8]>, names: &'a [Name]) -> Result<(), AllocError>
+fn add_names<'a>(list: &mut SmallVec<&'a [u8], 4>, names: &'a [Name]) -> Result<(), AllocError>
     ensures { OnOk result (map (λ n. n.now) list.new.items ≡ map (λ n. n.now) list.old.items ++ names.now) }
 {
     'names: for name in names {
@@ -231,10 +232,13 @@ fn add_names<'a>(list: &mut Vec<&'a [u8]>, names: &'a [Name]) -> Result<(), Allo
 }
 
 /// The names of a gate's parameters and qubits.
-fn local_names<'a>(alloc: Global, definition: &'a GateDef) -> Result<Vec<&'a [u8]>, AllocError>
+fn local_names<'a>(
+    alloc: Global,
+    definition: &'a GateDef,
+) -> Result<SmallVec<&'a [u8], 4>, AllocError>
     ensures { IfOk result (λ v. map (λ n. n.now) v.items ≡ definition.now.params.items ++ definition.now.qubits.items) }
 {
-    let mut names = Vec::new(alloc);
+    let mut names = SmallVec::new(alloc);
     add_names(&mut names, &definition.params)?;
     add_names(&mut names, &definition.qubits)?;
     Ok(names)
@@ -259,7 +263,7 @@ fn is_taken<'a>(
         return Ok(true);
     }
     let names = local_names(alloc, definition)?;
-    let repeats = names_repeat(alloc, &names)?;
+    let repeats = names_repeat(alloc, names.as_slice())?;
     Ok(repeats)
 }
 

@@ -2,6 +2,7 @@ pub mod CodeLaws
 pub mod ExpressionLaws
 pub mod FormLaws
 pub mod FrameLaws
+pub mod GroupingLaws
 pub mod KindLaws
 pub mod ListLaws
 pub mod LoopLaws

@@ -1,11 +1,13 @@
 -- Words that are told apart from the reserved ones by their first two bytes.
 --   unlike           such a word isn't a word that isn't so
 --   name_symbol      it is a name
-use Rattle.std.proofs.Common.{◌≡◌, ℕ, Bool, true, false, List, refl, sym, ap, ◌∙◌, None, codes}
+--   pi_word          the word pi is reserved
+use Rattle.std.proofs.Common.{◌≡◌, ℕ, Bool, true, false, List, refl, sym, ap, ◌∙◌, None, Some, codes}
 use Rattle.std.specs.Str.{bytes_eq}
 use Rattle.std.proofs.lemmas.Slice.Eq.{bytes_eq-Decides}
 use Rattle.qasm_parser.specs.Symbols.{function_of, keyword_of, name, word_symbol, Symbol}
 use Rattle.qasm_parser.specs.Views.{may_be_reserved}
+use Rattle.qasm_parser.specs.declared.symbols.Keyword.TheVariants.{Pi}
 
 unlike : (w v : List ℕ) → may_be_reserved w ≡ false → may_be_reserved v ≡ true → bytes_eq w v ≡ false
 unlike w v h k = by_test (bytes_eq w v) refl
@@ -27,3 +29,6 @@ no_function w h =
 pub name_symbol : (w : List ℕ) → may_be_reserved w ≡ false → name w ≡ word_symbol w (keyword_of w)
 unfolding word_symbol
 name_symbol w h = rw (no_keyword w h, no_function w h) refl
+
+pub pi_word : (w : List ℕ) → bytes_eq w (codes "pi") ≡ true → keyword_of w ≡ Some Pi
+pi_word w h = ap (λ (z : List ℕ). keyword_of z) ((bytes_eq-Decides w (codes "pi")).0 h)

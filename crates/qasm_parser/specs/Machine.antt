@@ -4,6 +4,7 @@
 --   Frame          what was begun and waits for its right part
 --   minus, opened, called, before   a minus in front; a parenthesis; that of a function; a sign of two parts behind its left one
 --   binding, tightness_of   how tightly a sign of two parts holds what is left of it, and what is right of it
+--   next_binding   how tightly a sign binds, or the end of an expression if there is none
 --   tightness      a frame takes its right part before a sign that binds no tighter; parentheses wait for their end
 --   closed         a frame with its right part
 --   Reduced, reduced   the frames that aren't closed, and the part behind them
@@ -55,6 +56,10 @@ binding Sub = 1
 binding Mul = 2
 binding Div = 2
 binding Pow = 3
+
+abbrev pub next_binding : Option Binary → ℕ
+next_binding None = 1
+next_binding (Some s) = binding s
 
 -- a power and a minus take what binds as tightly as ^ into their right part
 abbrev pub tightness_of : Binary → ℕ

@@ -111,6 +111,9 @@ fn item(alloc: Global, cursor: &mut Cursor<'_>) -> Result<(Stmt, Option<usize>),
     applying(alloc, cursor, true)
 }
 
+/// A body of so many items keeps the room that was taken for them.
+const SHORT: usize = 4;
+
 /// The items of a gate's body, up to its end.
 #[tactic(auto, using(crate::proofs::StepLaws::items, crate::proofs::LoopLaws::items))]
 fn items(alloc: Global, cursor: &mut Cursor<'_>) -> Result<(Vec<Stmt>, Option<usize>), ParseStop>
@@ -119,7 +122,7 @@ fn items(alloc: Global, cursor: &mut Cursor<'_>) -> Result<(Vec<Stmt>, Option<us
     ensures err { IfErr result (IsMisread (walk (until (this_mark CloseBrace) item_shape) cursor.old)) }
     ensures rest { OnOk result (length cursor.new ≤ length cursor.old) }
 {
-    let mut list = Vec::new(alloc);
+    let mut list = Vec::with_capacity(alloc, 1)?;
     let mut deep = None;
     'items: while !is_next(cursor, Mark::CloseBrace) {
         let (next, place) = item(alloc, cursor)?;
@@ -139,6 +142,8 @@ pub fn body(alloc: Global, cursor: &mut Cursor<'_>) -> Result<(Vec<Stmt>, Option
 {
     let (mut list, deep) = items(alloc, cursor)?;
     expect(cursor, Mark::CloseBrace)?;
-    list.shrink_to_fit();
+    if list.len() > SHORT {
+        list.shrink_to_fit();
+    }
     Ok((list, deep))
 }

@@ -13,7 +13,7 @@ ghost use Rattle.qasm_parser.specs.declared.symbols.Mark.TheVariants.{Open};
 ghost use Rattle.qasm_parser.specs.declared.stop.ParseStop.TheVariants.{Misfit};
 
 use crate::cursor::Cursor;
-use crate::frames::{Frame, Frames, binding, reduce};
+use crate::frames::{Frame, Frames, reduce};
 use crate::growth::{applied, parenthesised};
 use crate::name::Name;
 use crate::part::{Part, atom, number};
@@ -138,7 +138,7 @@ fn finish(
     ensures err { IfErr result (λ e. (ts : List SpecSymbol) → left ≡ length ts → IsMisread (finish_way (open_in (stack frames.old)) ts) e) }
     ensures shorter { IfOk result (λ m. steps m left ≡ 2 * left) }
 {
-    let part = reduce(alloc, frames, part, 1)?;
+    let part = reduce(alloc, frames, part, None)?;
     if frames.is_empty() {
         Ok(Mode::Done(part))
     } else {
@@ -163,12 +163,12 @@ fn after(
     match cursor.peek() {
         Some(Symbol::Sign(sign)) => {
             cursor.advance();
-            let left = reduce(alloc, frames, part, binding(sign))?;
+            let left = reduce(alloc, frames, part, Some(sign))?;
             frames.push_left(sign, left)?;
             Ok(Mode::Front)
         }
         Some(Symbol::Mark(Mark::Close)) => {
-            let part = reduce(alloc, frames, part, 1)?;
+            let part = reduce(alloc, frames, part, None)?;
             close(alloc, cursor, frames, part)
         }
         _ => finish(alloc, frames, part, left),

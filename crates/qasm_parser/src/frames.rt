@@ -1,12 +1,13 @@
 //! What was begun in an expression and waits for its right part, the last on top.
 
-ghost use Rattle.std.specs.Prelude.{◌≡◌, ◌≤◌, false, ◌↔◌, ◌++◌, ◌∷◌, [], IsTrue, drop, reverse, IfErr, IfOk, MatchOption, OnOk, Option};
+ghost use Rattle.std.specs.Prelude.{◌≡◌, false, ◌↔◌, ◌++◌, ◌∷◌, [], IsTrue, drop, reverse, IfErr, IfOk, MatchOption, OnOk, Option, nat_le};
 ghost use Rattle.qasm_parser.specs.Tree.{Expression as SpecExpression, most_depth};
-ghost use Rattle.qasm_parser.specs.Machine.{before, binding, called, closed, closes, minus, open_in, opened, reduce, reduced, tightness};
+ghost use Rattle.qasm_parser.specs.Machine.{before, called, closed, closes, minus, next_binding, open_in, opened, reduce, reduced, tightness};
 ghost use Rattle.qasm_parser.specs.Parts.{part_of};
 ghost use Rattle.qasm_parser.specs.Frames.{first_left, frame_with, stack};
 ghost use Rattle.qasm_parser.specs.declared.stop.ParseStop.TheVariants.{NoMemory};
 
+use crate::grouping::{is_left_first, is_minus_first};
 use crate::growth::{applied, joined, negated, parenthesised};
 use crate::part::Part;
 use crate::stop::ParseStop;
@@ -29,27 +30,19 @@ pub struct Frames {
     lefts: Vec<Option<Part>>,
 }
 
-/// How tightly a sign binds: 1 for `+` and `-`, 2 for `*` and `/`, 3 for `^`.
-pub fn binding(sign: Binary) -> u8
-    ensures value { result ≡ binding sign }
-{
-    match sign {
-        Binary::Add | Binary::Sub => 1,
-        Binary::Mul | Binary::Div => 2,
-        Binary::Pow => 3,
-    }
-}
-
-/// A frame takes its right part before a sign that binds no tighter; parentheses wait for their end.
-fn tightness(frame: Frame) -> u8
-    ensures { (left : Option SpecExpression) → result ≡ tightness (frame_with frame left) }
+/// Whether a frame takes its right part before a sign, or at an end if there is none; parentheses wait for their own end.
+fn takes(frame: Frame, sign: Option<Binary>) -> bool
+    ensures { (left : Option SpecExpression) → result ≡ nat_le (next_binding sign) (tightness (frame_with frame left)) }
 {
     match frame {
-        Frame::Minus => 2,
-        Frame::Paren | Frame::Call(_) => 0,
-        Frame::Left(sign) => match sign {
-            Binary::Add | Binary::Sub => 1,
-            Binary::Mul | Binary::Div | Binary::Pow => 2,
+        Frame::Paren | Frame::Call(_) => false,
+        Frame::Minus => match sign {
+            Some(sign) => is_minus_first(sign),
+            None => true,
+        },
+        Frame::Left(left) => match sign {
+            Some(sign) => is_left_first(left, sign),
+            None => true,
         },
     }
 }
@@ -147,13 +140,13 @@ impl Frames {
         self.kinds.is_empty()
     }
 
-    /// Whether the frame on top binds at least so tightly.
+    /// Whether the frame on top takes its right part before a sign, or at an end.
     #[tactic(auto, using(crate::proofs::FrameLaws::stacks))]
-    fn closes(&self, binding: u8) -> bool
-        ensures { result ≡ closes binding (stack self.now) }
+    fn closes(&self, sign: Option<Binary>) -> bool
+        ensures { result ≡ closes (next_binding sign) (stack self.now) }
     {
         match self.kinds.last() {
-            Some(frame) => tightness(*frame) >= binding,
+            Some(frame) => takes(*frame, sign),
             None => false,
         }
     }
@@ -176,20 +169,20 @@ fn closed(
     }
 }
 
-/// Closes the frames that bind at least so tightly.
+/// Closes the frames that take their right part before a sign, or at an end if there is none.
 #[tactic(auto, using(crate::proofs::FrameLaws::stacks))]
 pub fn reduce(
     alloc: Global,
     frames: &mut Frames,
     part: Option<Part>,
-    binding: u8,
+    sign: Option<Binary>,
 ) -> Result<Option<Part>, AllocError>
-    ensures ok { IfOk result (λ p. reduce most_depth binding (stack frames.old) (part_of part) ≡ reduced (stack frames.new) (part_of p)) }
-    ensures open_still { OnOk result (1 ≤ binding → open_in (stack frames.new) ≡ open_in (stack frames.old)) }
-    ensures waits { OnOk result (closes binding (stack frames.new) ≡ false) }
+    ensures ok { IfOk result (λ p. reduce most_depth (next_binding sign) (stack frames.old) (part_of part) ≡ reduced (stack frames.new) (part_of p)) }
+    ensures open_still { OnOk result (open_in (stack frames.new) ≡ open_in (stack frames.old)) }
+    ensures waits { OnOk result (closes (next_binding sign) (stack frames.new) ≡ false) }
 {
     let mut part = part;
-    'frames: while frames.closes(binding) {
+    'frames: while frames.closes(sign) {
         let Some((frame, left)) = frames.pop() else {
             return Ok(part);
         };

@@ -12,6 +12,7 @@ mod apply;
 mod cursor;
 mod expression;
 mod frames;
+mod grouping;
 mod growth;
 mod laws;
 mod lists;
@@ -24,6 +25,7 @@ mod symbols;
 mod tree;
 
 pub use angle_fraction::{Binary, Function};
+pub use grouping::{is_left_first, is_minus_first};
 pub use laws::{
     accepted_has_no_fault, declares_names, few_statements, parsed_or_refused, refused_once,
     spelt_once,

@@ -16,6 +16,9 @@ use angle_fraction::Frac;
 use smallvec::SmallVec;
 use std::alloc::Global;
 
+/// Room for so many names is taken at once: most gates have no more parameters, and no more qubits.
+const FEW: usize = 2;
+
 fn code(mark: Mark) -> u8
     ensures { result ≡ mark_code mark }
 {
@@ -243,12 +246,14 @@ pub fn names(alloc: Global, cursor: &mut Cursor<'_>) -> Result<Vec<Name>, ParseS
     ensures err { IfErr result (IsMisread (walk (list_shape (one a_name)) cursor.old)) }
     ensures rest { OnOk result (length cursor.new ≤ length cursor.old) }
 {
-    let mut list = Vec::new(alloc);
+    let mut list = Vec::with_capacity(alloc, FEW)?;
     list.push(name(alloc, cursor)?)?;
     'names: while take(cursor, Mark::Comma) {
         list.push(name(alloc, cursor)?)?;
     }
-    list.shrink_to_fit();
+    if list.len() > FEW {
+        list.shrink_to_fit();
+    }
     Ok(list)
 }
 

@@ -216,11 +216,14 @@ fn may_be_reserved(word: &[u8]) -> bool
     }
 }
 
-/// The symbol of a word that isn't told apart from the reserved words by its first two bytes.
-#[tactic(auto, unfolding(crate::specs::Symbols::word_symbol))]
+/// The symbol of a word that isn't told apart from the reserved words by its first two bytes. Most such words are `pi`.
+#[tactic(auto, unfolding(crate::specs::Symbols::word_symbol), using(crate::proofs::ReservedLaws::pi_word))]
 fn looked_up(word: &[u8]) -> Symbol<'_>
     ensures { (v : Fraction) → symbol result v ≡ word_symbol word.now (keyword_of word.now) }
 {
+    if spells(word, b"pi".as_slice()) {
+        return Symbol::Word(Keyword::Pi);
+    }
     match keyword_of(word) {
         Some(keyword) => Symbol::Word(keyword),
         None => match function_of(word) {

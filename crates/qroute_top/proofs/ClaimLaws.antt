@@ -17,7 +17,7 @@ use Rattle.program_reader.specs.Texts.{IsAcceptedText, IsTextRefusal}
 use Rattle.program_reader.specs.declared.refusal.ProgramRefusal.{ProgramRefusal}
 use Rattle.route_report.specs.declared.faults.Side.{Side}
 use Rattle.route_report.specs.declared.faults.Side.TheVariants as side
-use Rattle.trace_check.specs.Proves.{Claim, Proves, StopsAt}
+use Rattle.trace_model.specs.Proves.{Claim, Proves, StopsAt}
 use Rattle.std.proofs.lemmas.Grind.{common_steps}
 use Rattle.std.specs.Prelude.{Bool, true, false, cond, codes, drop, nat_eq, suc, ◌+◌, ◌∷◌}
 use Rattle.trace_text.specs.Texts.{begins, begun, ended, lines_of, trace_of, traced}

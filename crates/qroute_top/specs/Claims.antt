@@ -25,7 +25,7 @@ use Rattle.command_line.specs.declared.commands.Command.{Command}
 use Rattle.route_report.specs.Verdicts.{verdict_line}
 use Rattle.route_report.specs.declared.faults.Side.{Side}
 use Rattle.route_report.specs.declared.faults.Side.TheVariants as side
-use Rattle.trace_check.specs.Proves.{Claim, Proves, StopsAt}
+use Rattle.trace_model.specs.Proves.{Claim, Proves, StopsAt}
 use Rattle.trace_text.specs.Texts.{trace_of}
 use Rattle.unitary_model.specs.Realises.{Realises}
 use Rattle.circuit_target.specs.Standing.{claim_of}

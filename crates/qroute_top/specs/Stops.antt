@@ -34,7 +34,7 @@ use Rattle.outside_io.specs.Causes.{Rose}
 use Rattle.outside_io.specs.Shelf.{HasNoText}
 use Rattle.program_reader.specs.declared.refusal.ProgramRefusal.TheVariants as refusal
 use Rattle.route_report.specs.declared.faults.Side.{Side}
-use Rattle.trace_check.specs.Proves.{Claim, StopsAt}
+use Rattle.trace_model.specs.Proves.{Claim, StopsAt}
 use Rattle.qroute_top.specs.declared.stops.ClaimStop.TheVariants as claim
 use Rattle.qroute_top.specs.Causes.{IsClaimCause}
 use Rattle.qroute_top.specs.Claims.{Bad, IsTextRefused, Finds}

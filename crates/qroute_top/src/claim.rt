@@ -3,7 +3,7 @@
 ghost use Rattle.std.specs.Prelude.{◌≡◌, ◌≤◌, ℕ, List, IfErr, IfOk, Err, false, length, true, []};
 ghost use Rattle.outside_io.specs.Shelf.{TellsText};
 ghost use Rattle.program_parts.specs.Cuts.{uncut};
-ghost use Rattle.trace_check.specs.Proves.{Proves};
+ghost use Rattle.trace_model.specs.Proves.{Proves};
 ghost use Rattle.trace_text.specs.Texts.{trace_of};
 ghost use Rattle.qroute_top.specs.Stops.{IsReadAs, IsClaimStop, IsTextStop, IsTraceStop, IsUnreadText, unloaded_text};
 ghost use Rattle.circuit_target.specs.Standing.{claim_of};
@@ -17,8 +17,8 @@ use outside_io::{Shelf, TextFault, load_text};
 use program_reader::{ProgramFault, ProgramRefusal, SourceProgram, read_text};
 use route_report::{Side, verdict_line};
 use std::alloc::Global;
-use trace_check::laws::traces_are_sound;
 use trace_check::{Outcome, check};
+use trace_model::laws::traces_are_sound;
 use trace_text::trace_of;
 
 /// The most bytes of a text: the source's is no longer than an input, the target's has 64 MiB.

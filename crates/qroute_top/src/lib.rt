@@ -48,7 +48,7 @@ use program_reader::{
     accepted_has_no_refusal, accepted_text_has_no_refusal, means_once, text_refused_once,
 };
 use std::alloc::Global;
-use trace_check::laws::traces_are_exact;
+use trace_model::laws::traces_are_exact;
 
 mod claim;
 mod decision;

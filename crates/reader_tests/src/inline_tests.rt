@@ -5,7 +5,7 @@ ghost use Rattle.std.specs.Prelude.{◌<◌, ◌^◌};
 use crate::check_tests::checked;
 use crate::rows::sides;
 use gate_expand::Ops;
-use gate_inline::{Split, inline, inline_parts};
+use gate_inline::{InlineFault, Split, inline, inline_parts};
 use std::alloc::{AllocError, Global};
 use test_rows::{Wrong, each_row, small};
 use unitary_model::Op;
@@ -143,6 +143,81 @@ gate none(k) a { } gate once(k) a { U(0,0,0) a; none(k+k) a; } gate twice(k) a {
 #[test]
 fn operations_by_hand(rt: HostRuntime) -> Result<(), Wrong> {
     each_row(rt.alloc(), OPERATIONS, "\n", is_inlined)
+}
+
+/// What a program is inlined to, as `104.0 cx01 | 1 -`, or the code of its refusal, as `! 42`.
+fn told(alloc: Global, body: &str) -> Result<Vec<u8>, AllocError> {
+    let mut text = Vec::new(alloc);
+    let Some(checked) = checked(alloc, body) else {
+        return Ok(text);
+    };
+    match inline(alloc, &checked) {
+        Ok(ops) => return told_ops(alloc, &ops),
+        Err(InlineFault::NoMemory) => {}
+        Err(InlineFault::Refused(refused)) => {
+            let code = refused.refusal.code();
+            text.extend_from_slice(&[
+                b'!',
+                b' ',
+                digit(u32::from(code / 10)),
+                digit(u32::from(code % 10)),
+            ])?;
+        }
+    }
+    Ok(text)
+}
+
+fn is_told(alloc: Global, row: &str) -> Result<bool, AllocError> {
+    let (body, wanted) = sides(row);
+    Ok(told(alloc, body)?.as_slice() == wanted.as_bytes())
+}
+
+/// Expressions that are so long that their values are told by sums of the parameters, if no operation is refused. The values are
+/// worked out by hand, and both kinds of answers are those of a plain program. In order: sums, minus, constants and
+/// quotients; sums that are refused in the middle or just aren't, although they end small; products by 0, whose other side
+/// counts; coefficients above 2^62; denominators above 2^62; divisors 0; of two refusals the first; no step; products of parameters; and
+/// several calls, also of one gate.
+const LONG: &str = "\
+gate g(p) a { U(p+p+p+p+p+p+p+p+p+p+p+p+p+p+p+p,0,0) a; } qreg q[1]; g(pi/64) q[0]; => 100.0 |
+gate g(p) a { U((p+p+p+p+p+p+p+p+p+p+p+p+p+p+p+p)/4,0,0) a; } qreg q[1]; g(3*pi/16) q[0]; => 300.0 |
+gate g(p) a { U((p+p+p+p+p+p+p+p+p+p+p+p+p+p+p+p)/-4,0,0) a; } qreg q[1]; g(pi/16) q[0]; => 700.0 |
+gate g(p) a { U((p+p+p+p+p+p+p+p)/3+2*(p+p+p+p+p+p+p+p)/3,0,0) a; } qreg q[1]; g(pi/16) q[0]; => 200.0 |
+gate g(p) a { U(-(p+p+p+p+p+p+p+p)-(-(p+p+p+p+p+p+p+p))-(p-p)+pi/4,0,0) a; } qreg q[1]; g(1/3) q[0]; => 100.0 |
+gate g(p,r) a { U(3*p+7*r-2+pi/4+(p+p+p+p+p+p+p+p)*0+(p+p+p+p+p+p+p+p)*0,0,0) a; } qreg q[1]; g(1/3,1/7) q[0]; => 100.0 |
+gate g(p) a { U((p+p+p+p+p+p+p+p+p+p+p+p+p+p+p+p)/2.5-p*6.4+1/3-1/3+pi/4,0,0) a; } qreg q[1]; g(5/7) q[0]; => 100.0 |
+gate g(p,r) a { U(2*(p+p+p+p+p+p+p+p)-(r+r+r+r+r+r+r+r)/2,0,0) a; } qreg q[1]; g(pi/8,pi/2) q[0]; => 000.0 |
+gate g(p) a { U(p+p+p-p-p-p+0*(p+p+p+p+p+p+p+p+p+p+p+p+p+p+p+p)+pi/4,0,0) a; } qreg q[1]; g(2305843009213693952) q[0]; => ! 42
+gate g(p) a { U(p-p+p-p+p-p+p-p+p-p+p-p+p-p+p-p+p-p+pi/4,0,0) a; } qreg q[1]; g(4611686018427387904) q[0]; => 100.0 |
+gate g(p) a { U(p+p-p-p+p+p-p-p+p+p-p-p+p+p-p-p+pi/4,0,0) a; } qreg q[1]; g(2305843009213693952) q[0]; => 100.0 |
+gate g(p) a { U(p+p-p-p+p+p-p-p+p+p-p-p+p+p-p-p+pi/4,0,0) a; } qreg q[1]; g(2305843009213693953) q[0]; => ! 42
+gate g(p) a { U(0*(p+p+p+p+p+p+p+p+p+p+p+p+p+p+p+p)+pi/4,0,0) a; } qreg q[1]; g(288230376151711744) q[0]; => 100.0 |
+gate g(p) a { U(0*(p+p+p+p+p+p+p+p+p+p+p+p+p+p+p+p)+pi/4,0,0) a; } qreg q[1]; g(288230376151711745) q[0]; => ! 42
+gate g(p) a { U(4611686018427387904*(4611686018427387904*(p+p+p+p+p+p+p+p+p+p+p+p+p+p+p+p))+pi/4,0,0) a; } qreg q[1]; g(0) q[0]; => 100.0 |
+gate g(p) a { U(4611686018427387904*(4611686018427387904*(p+p+p+p+p+p+p+p+p+p+p+p+p+p+p+p))+pi/4,0,0) a; } qreg q[1]; g(1/4611686018427387904) q[0]; => ! 42
+gate g(p) a { U(4611686018427387904*((p+p+p+p+p+p+p+p+p+p+p+p+p+p+p+p)/4611686018427387904)+pi/4,0,0) a; } qreg q[1]; g(0) q[0]; => 100.0 |
+gate g(p) a { U((p+p+p+p+p+p+p+p+p+p+p+p+p+p+p+p-15*p-p)/4611686018427387904/4611686018427387904+pi/4,0,0) a; } qreg q[1]; g(1) q[0]; => 100.0 |
+gate g(p) a { U(p/2*2-p+0*(p+p+p+p+p+p+p+p+p+p+p+p+p+p+p+p)+pi/4,0,0) a; } qreg q[1]; g(1/4611686018427387904) q[0]; => ! 42
+gate g(p) a { U(p/2*2-p+0*(p+p+p+p+p+p+p+p+p+p+p+p+p+p+p+p)+pi/4,0,0) a; } qreg q[1]; g(1/2305843009213693952) q[0]; => 100.0 |
+gate g(p,r) a { U(p+r-p-r+0*(p+p+p+p+p+p+p+p+p+p+p+p+p+p+p+p)+pi/4,0,0) a; } qreg q[1]; g(1/2147483647,1/2147483649) q[0]; => 100.0 |
+gate g(p,r) a { U(p+r-p-r+0*(p+p+p+p+p+p+p+p+p+p+p+p+p+p+p+p)+pi/4,0,0) a; } qreg q[1]; g(1/4294967295,1/4294967297) q[0]; => ! 42
+gate g(p) a { U((p+p+p+p+p+p+p+p+p+p+p+p+p+p+p+p)/0,0,0) a; } qreg q[1]; g(pi) q[0]; => ! 41
+gate g(p) a { U(0*((p+p+p+p+p+p+p+p+p+p+p+p+p+p+p+p)/0),0,0) a; } qreg q[1]; g(0) q[0]; => ! 41
+gate g(p) a { U((p+p+p+p+p+p+p+p+p+p+p+p+p+p+p+p)*4611686018427387904+1/0,0,0) a; } qreg q[1]; g(1) q[0]; => ! 42
+gate g(p) a { U(1/0+(p+p+p+p+p+p+p+p+p+p+p+p+p+p+p+p)*4611686018427387904,0,0) a; } qreg q[1]; g(1) q[0]; => ! 41
+gate g(p) a { U((p+p+p+p+p+p+p+p+p+p+p+p+p+p+p+p)*4611686018427387904+sin(1),0,0) a; } qreg q[1]; g(1) q[0]; => ! 42
+gate g(p) a { U((p+p+p+p+p+p+p+p+p+p+p+p+p+p+p+p)*4611686018427387904+sin(1),0,0) a; } qreg q[1]; g(0) q[0]; => ! 40
+gate g(p) a { U(p+p+p+p+p+p+p+p+p+p+p+p+p+p+p+p,0,0) a; } qreg q[1]; g(pi/128) q[0]; => ! 43
+gate g(p) a { U(p+p+p+p+p+p+p+p+p+p+p+p+p+p+p+p,0,0) a; } qreg q[1]; g(1) q[0]; => ! 43
+gate g(p) a { U((p+p+p+p+p+p+p+p+p+p+p+p+p+p+p+p)*pi,0,0) a; } qreg q[1]; g(1/64) q[0]; => 100.0 |
+gate g(p) a { U((p+p+p+p+p+p+p+p+p+p+p+p+p+p+p+p)*pi,0,0) a; } qreg q[1]; g(pi) q[0]; => ! 40
+gate g(p) a { U(p*p*pi+0*(p+p+p+p+p+p+p+p+p+p+p+p+p+p+p+p),0,0) a; } qreg q[1]; g(1/2) q[0]; => 100.0 |
+gate e(x,y) a { } gate g(p) a { e(p+p+p+p+p+p+p+p+p+p+p+p+p+p+p+p,1/p) a; } qreg q[1]; g(1) q[0]; g(288230376151711744) q[0]; g(0) q[0]; => ! 41
+gate e(x,y) a { } gate g(p) a { e(p+p+p+p+p+p+p+p+p+p+p+p+p+p+p+p,1/(p-288230376151711744)) a; } qreg q[1]; g(1) q[0]; g(576460752303423488) q[0]; g(288230376151711744) q[0]; => ! 42
+gate g(p,r) a { U(p+r+p+r+p+r+p+r+p+r+p+r+p+r+p+r,p,r+r+r+r+r+r+r+r+r+r+r+r+r+r+r+r-r-r-r-r-r-r-r-r-r-r-r-r-r-r-r-8*r) a; } qreg q[1]; g(pi/4,0) q[0]; g(0,pi/4) q[0]; g(pi/2,pi/4) q[0]; => 010.0 001.0 021.0 |";
+
+#[test]
+fn long_expressions(rt: HostRuntime) -> Result<(), Wrong> {
+    each_row(rt.alloc(), LONG, "\n", is_told)
 }
 
 fn is_split(alloc: Global, row: &str) -> Result<bool, AllocError> {

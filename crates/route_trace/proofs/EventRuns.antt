@@ -23,8 +23,8 @@ use Rattle.sabre_route.specs.Routing.{turned, written}
 use Rattle.sabre_route.specs.Search.{is_free, shares}
 use Rattle.sabre_route.specs.Telling.{told}
 use Rattle.sabre_route.proofs.EmissionLaws.{low_order-is}
-use Rattle.trace_check.specs.Lines.{Line, Emit, Back, Swap, Turn}
-use Rattle.trace_check.specs.Proves.{Claim, IsFirst, Routed, Runs, State, on_qubits, swap_cx, turn_cx, turned_cx}
+use Rattle.trace_model.specs.Lines.{Line, Emit, Back, Swap, Turn}
+use Rattle.trace_model.specs.Proves.{Claim, IsFirst, Routed, Runs, State, on_qubits, swap_cx, turn_cx, turned_cx}
 use Rattle.unitary_model.specs.Placement.{exchanged}
 use Rattle.unitary_model.proofs.ReachedLaws.{exchanged-comm}
 use Rattle.route_trace.specs.EventLines.{AreThere, emitted_line, event_lines, swapped_line}

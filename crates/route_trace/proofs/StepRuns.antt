@@ -17,9 +17,9 @@ use Rattle.rewrite_pass.specs.TraceLines.{gate_line, gate_numbers, step_lines, s
 use Rattle.trace_text.specs.Texts.{ended}
 use Rattle.rewrite_pass.specs.Windows.{IsWindow, HadSHad, HadSdgHad, HadZHad, HadXHad, FourHads, SCxSdg, SdgCxS}
 use Rattle.rewrite_pass.proofs.EditLaws.{changed_short}
-use Rattle.trace_check.specs.Lines.{Line, Rewrite}
-use Rattle.trace_check.specs.Proves.{Claim, Rewritten, Runs, State}
-use Rattle.trace_check.specs.Spelling.{AreSmall}
+use Rattle.trace_model.specs.Lines.{Line, Rewrite}
+use Rattle.trace_model.specs.Proves.{Claim, Rewritten, Runs, State}
+use Rattle.trace_model.specs.Spelling.{AreSmall}
 use Rattle.route_trace.proofs.TextLaws.{ended-append}
 
 pub remove-short : (gs : List Gate) (i : ℕ) → length (remove gs i) ≤ length gs

@@ -15,9 +15,9 @@ use Rattle.circuit_list.specs.declared.Gate.{Gate}
 use Rattle.circuit_list.specs.declared.Gate.TheVariants.{H, X, P, Cx}
 use Rattle.rewrite_pass.specs.Traces.{Rule, Both, Join, Sums}
 use Rattle.rewrite_pass.specs.TraceLines.{gate_line, gate_numbers, words}
-use Rattle.trace_check.specs.Lines.{Line, Heading, Rewrite, Part, Phases, Goal, Meet, Place, Emit, Back, Elide, Swap, Turn, End, IsSmall, all_spelt, numbers_of, spelt}
-use Rattle.trace_check.specs.Spelling.{AreSmall}
-use Rattle.trace_check.proofs.SpellingLaws.{small-split}
+use Rattle.trace_model.specs.Lines.{Line, Heading, Rewrite, Part, Phases, Goal, Meet, Place, Emit, Back, Elide, Swap, Turn, End, IsSmall, all_spelt, numbers_of, spelt}
+use Rattle.trace_model.specs.Spelling.{AreSmall}
+use Rattle.trace_model.proofs.SpellingLaws.{small-split}
 use Rattle.trace_text.specs.Texts.{begun, ended, lines_of}
 
 pub ended-append : (a b : List (List ℕ)) → ended (a ++ b) ≡ ended a ++ ended b

@@ -21,9 +21,9 @@ use Rattle.sabre_route.specs.declared.router.Routed.{Routed as Router}
 use Rattle.sabre_route.specs.Machine.{start}
 use Rattle.sabre_route.specs.Routing.{turned, written}
 use Rattle.sabre_route.specs.Telling.{IsRoutedBy}
-use Rattle.trace_check.specs.Lines.{Line, Rewrite, Place, End, IsSmall, all_spelt, edition_of, spelt}
-use Rattle.trace_check.proofs.StepLaws.{edition-first}
-use Rattle.trace_check.specs.Proves.{Claim, Proved, Proves, Rewritten, Runs, State, Unread}
+use Rattle.trace_model.specs.Lines.{Line, Rewrite, Place, End, IsSmall, all_spelt, edition_of, spelt}
+use Rattle.trace_model.proofs.EditionLaws.{edition-first}
+use Rattle.trace_model.specs.Proves.{Claim, Proved, Proves, Rewritten, Runs, State, Unread}
 use Rattle.trace_text.specs.Texts.{ended, lines_of}
 use Rattle.unitary_model.specs.Placement.{IsPlacement}
 use Rattle.route_trace.specs.EventLines.{event_lines, trace_lines}

@@ -16,7 +16,7 @@ use Rattle.rewrite_pass.specs.Traces.{Step}
 use Rattle.sabre_route.specs.Emission.{low_order}
 use Rattle.sabre_route.specs.declared.events.Event.{Event as Told}
 use Rattle.sabre_route.specs.declared.events.Event.TheVariants.{Emit as ToldEmit, Swap as ToldSwap}
-use Rattle.trace_check.specs.Lines.{Line, Heading, Rewrite, Place, Emit, Back, Swap, Turn, End}
+use Rattle.trace_model.specs.Lines.{Line, Heading, Rewrite, Place, Emit, Back, Swap, Turn, End}
 use Rattle.unitary_model.specs.Placement.{exchanged}
 use Rattle.route_trace.specs.declared.replay.EventLine.{EventLine}
 use Rattle.route_trace.specs.declared.replay.EventLine.TheVariants as made

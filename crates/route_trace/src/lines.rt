@@ -3,7 +3,7 @@
 ghost use Rattle.std.specs.Prelude.{◌≡◌, [], ◌∷◌, ◌++◌, codes, decimal, OnOk};
 ghost use Rattle.rewrite_pass.specs.TraceLines.{words};
 ghost use Rattle.trace_text.specs.Texts.{ended};
-ghost use Rattle.trace_check.specs.Lines.{spelt};
+ghost use Rattle.trace_model.specs.Lines.{spelt};
 ghost use Rattle.route_trace.specs.EventLines.{line_of};
 
 use crate::replay::EventLine;

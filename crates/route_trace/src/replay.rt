@@ -4,7 +4,7 @@ ghost use Rattle.std.specs.Prelude.{◌≡◌, ◌<◌, ◌≤◌, ◌++◌, Som
 ghost use Rattle.circuit_list.specs.Gates.{IsFine};
 ghost use Rattle.trace_text.specs.Texts.{ended};
 ghost use Rattle.sabre_route.specs.Emission.{low_order};
-ghost use Rattle.trace_check.specs.Lines.{all_spelt};
+ghost use Rattle.trace_model.specs.Lines.{all_spelt};
 ghost use Rattle.unitary_model.specs.Placement.{IsPlacement};
 ghost use Rattle.route_trace.specs.EventLines.{AreThere, IsThere, emitted_line, event_line, event_lines, left_by, line_of, placed_by, swapped_line};
 ghost use Rattle.route_trace.specs.Replays.{IsReplay};

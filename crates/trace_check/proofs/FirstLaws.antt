@@ -9,7 +9,7 @@ use Rattle.circuit_list.specs.declared.Gate.{Gate}
 use Rattle.circuit_list.specs.declared.Gate.TheVariants.{H, X, P, Cx}
 use Rattle.circuit_list.specs.Gates.{first_wire, second_wire, is_on}
 use Rattle.circuit_list.specs.Slots.{IsPrevOn, NoneBefore, is_on_at}
-use Rattle.trace_check.specs.Proves.{IsFirst}
+use Rattle.trace_model.specs.Proves.{IsFirst}
 
 same_gate : (gs : List Gate) (i : ℕ) (g h : Gate) → slice_get gs i ≡ Some g → slice_get gs i ≡ Some h → g ≡ h
 same_gate gs i g h a b = cc

@@ -13,8 +13,8 @@ use Rattle.circuit_list.specs.declared.Gate.{Gate}
 use Rattle.circuit_list.specs.declared.Gate.TheVariants.{H, X, P, Cx}
 use Rattle.circuit_list.specs.Gates.{IsFine, most_wires}
 use Rattle.rewrite_pass.specs.TraceLines.{gate_line, gate_numbers, words}
-use Rattle.trace_check.specs.Spelling.{AreSmall, HasNoSpace, gate_word}
-use Rattle.trace_check.proofs.SpellingLaws.{gate-plain, gate-spelt, gate-unique, small-split, words-unique}
+use Rattle.trace_model.specs.Spelling.{AreSmall, HasNoSpace, gate_word}
+use Rattle.trace_model.proofs.SpellingLaws.{gate-plain, gate-spelt, gate-unique, small-split, words-unique}
 
 pub gate-unsplit : (line : List ℕ) (n : ℕ) → ((w ks : List ℕ) → HasNoSpace w → AreSmall ks → line ≡ words w ks → ⊥) → (g : Gate) → IsFine n g → AreSmall (gate_numbers g) → line ≡ gate_line g → ⊥
 gate-unsplit line n none g fine small e = none (gate_word g) (gate_numbers g) (gate-plain g) small (e ∙ gate-spelt g)

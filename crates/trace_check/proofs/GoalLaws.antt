@@ -18,14 +18,14 @@ use Rattle.circuit_list.specs.Gates.{IsFine, most_wires}
 use Rattle.rewrite_pass.specs.Traces.{Step, Rule, Both, Join, Sums}
 use Rattle.rewrite_pass.specs.TraceLines.{gate_line, gate_numbers, words}
 use Rattle.trace_check.specs.declared.goals.Held.{Held}
-use Rattle.trace_check.specs.declared.words.Word.TheVariants as word
-use Rattle.trace_check.specs.Lines.{Line, Rewrite, Part, Phases, Goal, Meet, Place, IsSmall}
+use Rattle.trace_model.specs.declared.word.Word.TheVariants as word
+use Rattle.trace_model.specs.Lines.{Line, Rewrite, Part, Phases, Goal, Meet, Place, IsSmall}
 use Rattle.trace_check.specs.Progress.{BlockedWith, LeadsOn, reached}
-use Rattle.trace_check.specs.Proves.{Applies, Claim, Rewritten, Seeking, State}
-use Rattle.trace_check.specs.Spelling.{AreSmall}
+use Rattle.trace_model.specs.Proves.{Applies, Claim, Rewritten, Seeking, State}
+use Rattle.trace_model.specs.Spelling.{AreSmall}
 use Rattle.trace_check.proofs.GateLaws.{fine-small}
 use Rattle.trace_check.proofs.KindLaws.{stuck-numbers}
-use Rattle.trace_check.proofs.SpellingLaws.{first_numbers, kind_of, line_gates}
+use Rattle.trace_model.proofs.SpellingLaws.{first_numbers, kind_of, line_gates}
 
 -- ---- the line `goal`
 pub goal-turns : (ks : List ℕ) (count : ℕ) (s t : Passed) (h : Held) (lines behind : List (List ℕ)) → AreSmall ks → ks ≡ count ∷ [] → s.body.wires ≤ most_wires → All (IsFine s.body.wires) t.body.gates →

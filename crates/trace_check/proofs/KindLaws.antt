@@ -9,11 +9,11 @@ use Rattle.std.proofs.Common.{◌≡◌, ℕ, ◌^◌, ◌<◌, List, [], ◌∷
 use Rattle.std.proofs.lemmas.List.Elements.{recursion_from_All}
 use Rattle.rewrite_pass.specs.Traces.{Rule, Both, Join, Sums}
 use Rattle.rewrite_pass.specs.TraceLines.{gate_line, words}
-use Rattle.trace_check.specs.declared.words.Word.{Word}
-use Rattle.trace_check.specs.Lines.{Line, Heading, Rewrite, Part, Phases, Goal, Meet, Place, Emit, Back, Elide, Swap, Turn, End, IsIn, IsLineIn, IsSmall, numbers_of, spelt}
-use Rattle.trace_check.specs.Proves.{Applies, Claim, IsStuck, State}
-use Rattle.trace_check.specs.Spelling.{AreSmall, IsWordIn, spelling}
-use Rattle.trace_check.proofs.SpellingLaws.{first-small, first-spelt, first_numbers, kind_of, line_from, line-read, line_gates, line_word, spelling-plain, spelling-read, word_from, words-unique}
+use Rattle.trace_model.specs.declared.word.Word.{Word}
+use Rattle.trace_model.specs.Lines.{Line, Heading, Rewrite, Part, Phases, Goal, Meet, Place, Emit, Back, Elide, Swap, Turn, End, IsIn, IsLineIn, IsSmall, numbers_of, spelt}
+use Rattle.trace_model.specs.Proves.{Applies, Claim, IsStuck, State}
+use Rattle.trace_model.specs.Spelling.{AreSmall, IsWordIn, spelling}
+use Rattle.trace_model.proofs.SpellingLaws.{first-small, first-spelt, first_numbers, kind_of, line_from, line-read, line_gates, line_word, spelling-plain, spelling-read, word_from, words-unique}
 
 pub word-in : (v : ℕ) (l : Line) → IsIn v l → IsWordIn v (kind_of l)
 word-in v (Heading n) h = tt

@@ -1,7 +1,3 @@
-pub mod RouteLaws
-pub mod SoundLaws
-pub mod SpellingLaws
-pub mod ExactLaws
 pub mod FirstLaws
 pub mod NumberLaws
 pub mod WordLaws
@@ -9,16 +5,9 @@ pub mod KindLaws
 pub mod ProgressLaws
 pub mod RoutedLaws
 pub mod WrittenLaws
-pub mod PairLaws
-pub mod KnownLaws
 pub mod WalkLaws
 pub mod GateLaws
 pub mod StepLaws
-pub mod EditLaws
-pub mod RuleLaws
-pub mod PartLaws
-pub mod Examples
 pub mod ElideLaws
-pub mod BackLaws
 pub mod GoalLaws
 pub mod PartStepLaws

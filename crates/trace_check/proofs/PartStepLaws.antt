@@ -1,18 +1,15 @@
 -- The line `part`.
 --     part-leads          a line `part` that applies
 --     NoPart, blocked-part            one that doesn't;  no-three, no-order, no-part_gates, no-part_sum: why
---     slice_of-front, slice_of-back     the gates before a place, and those from a place on
---     slice_of-more        one gate more
---     put-start, put-more     gates are written over those from a place on, one by one
---     cut-start, cut-more     gates are taken out from a place on
---     cut-put             both
-use Rattle.std.proofs.Common.{◌≡◌, ℕ, suc, ◌+◌, ◌-◌, ◌%◌, ◌^◌, ◌<◌, ◌≤◌, List, [], ◌∷◌, ◌++◌, length, map, take, drop, get_or, set, Some, slice_get, All, refl, sym, subst, ◌∙◌, ap, append_assoc, arith}
+--     slice_of-none, slice_of-more     no gates of a list, and one more
+--     cut-start, cut-more, cut-long     gates are taken out from a place on
+--     cut-within, cut-put     others are put there
+use Rattle.std.proofs.Common.{◌≡◌, ℕ, suc, ◌+◌, ◌-◌, ◌%◌, ◌^◌, ◌<◌, ◌≤◌, List, [], ◌∷◌, ◌++◌, length, map, take, drop, get_or, Some, slice_get, All, refl, sym, subst, ◌∙◌, ap, arith}
 use Rattle.std.specs.Prelude.{codes}
 use Rattle.std.specs.List.{flat_map, remove}
-use Rattle.std.proofs.lemmas.List.{get_or-drop, length-append, length-drop, length-take-le, take-append-drop, take_all, take_more}
+use Rattle.std.proofs.lemmas.List.{drop_at, get_or-drop, length-append, length-drop, length-take-le, take-append-drop, take_at, take_more}
 use Rattle.std.proofs.lemmas.List.Edits.{remove-append_right}
-use Rattle.std.proofs.lemmas.Slice.{drop-append-drop}
-use Rattle.std.proofs.Math.Seq.{drop-cons, set-append_seam, take-append_seam}
+use Rattle.std.proofs.Math.Seq.{drop-cons}
 use Rattle.std.proofs.lemmas.Option.{get_or_from_slice_get, slice_get_within}
 use Rattle.std.proofs.lemmas.List.Elements.{All-from_recursion, recursion_from_All}
 use Rattle.circuit_list.specs.declared.Gate.{Gate}
@@ -22,15 +19,14 @@ use Rattle.circuit_list.specs.Gates.{IsFine, most_wires}
 use Rattle.path_parity.specs.NamedSums.{SamePathSum}
 use Rattle.rewrite_pass.specs.Traces.{Step, Rule, Both, Join, Sums, constants_turn}
 use Rattle.rewrite_pass.specs.TraceLines.{gate_line, gate_numbers, words}
-use Rattle.rewrite_pass.proofs.ListLaws.{take-next}
-use Rattle.trace_check.specs.declared.words.Word.TheVariants as word
-use Rattle.trace_check.specs.Lines.{Line, Rewrite, Part, Phases, IsSmall}
+use Rattle.trace_model.specs.declared.word.Word.TheVariants as word
+use Rattle.trace_model.specs.Lines.{Line, Rewrite, Part, Phases, IsSmall}
 use Rattle.trace_check.specs.Progress.{Blocked, Leads, reached}
-use Rattle.trace_check.specs.Proves.{slice_of}
-use Rattle.trace_check.specs.Spelling.{AreSmall}
+use Rattle.trace_model.specs.Proves.{slice_of}
+use Rattle.trace_model.specs.Spelling.{AreSmall}
 use Rattle.trace_check.proofs.GateLaws.{fine-small}
 use Rattle.trace_check.proofs.KindLaws.{stuck-numbers}
-use Rattle.trace_check.proofs.SpellingLaws.{first_numbers, gates-unique, kind_of, line_gates}
+use Rattle.trace_model.proofs.SpellingLaws.{first_numbers, gates-unique, kind_of, line_gates}
 use Rattle.trace_check.proofs.StepLaws.{Changed, IsRewriting, changed-by, leads-by}
 
 pub part-leads : (ks : List ℕ) (i j count : ℕ) (gates : List Gate) (s t : Passed) (turn : ℕ) (lines behind : List (List ℕ)) → AreSmall ks → ks ≡ i ∷ j ∷ count ∷ [] → s.body.wires ≤ most_wires →
@@ -107,20 +103,11 @@ no-part_sum ks i j count s lines behind hs e few fine long all none = λ a b gs 
     none (subst (λ x. SamePathSum s.body.wires (slice_of s.body.gates i j) x) u.gates (subst (λ m. SamePathSum s.body.wires (slice_of s.body.gates m j) gs) t.first (subst (λ m. SamePathSum s.body.wires (slice_of s.body.gates a m) gs) t.second same)))
 
 -- ---- parts
-pub slice_of-front : (gs : List Gate) (i : ℕ) → slice_of gs 0 i ≡ take i gs
-slice_of-front gs i = ap (λ n. take n gs) (less i)
-  where
-    less : (i : ℕ) → i - 0 ≡ i
-    less i = omega arith
-
 pub slice_of-none : (gs : List Gate) (i : ℕ) → slice_of gs i i ≡ []
 slice_of-none gs i = ap (λ n. take n (drop i gs)) (less i)
   where
     less : (i : ℕ) → i - i ≡ 0
     less i = omega arith
-
-pub slice_of-back : (gs : List Gate) (i : ℕ) → slice_of gs i (length gs) ≡ drop i gs
-slice_of-back gs i = take_all (length gs - i) (drop i gs) (omega (arith, length-drop i gs))
 
 pub slice_of-more : (gs : List Gate) (i k : ℕ) (g : Gate) → i ≤ k → slice_get gs k ≡ Some g → slice_of gs i (k + 1) ≡ slice_of gs i k ++ g ∷ []
 slice_of-more gs i k g le there =
@@ -135,35 +122,6 @@ slice_of-more gs i k g le there =
     around i k le = omega arith
 
 -- ---- gates in the place of a part
-pub put-start : (old G : List Gate) (first : ℕ) → old ≡ take first old ++ (take 0 G ++ drop (first + 0) old)
-put-start old G first = sym (take-append-drop first old) ∙ ap (λ k. take first old ++ drop k old) (none first)
-  where
-    none : (first : ℕ) → first ≡ first + 0
-    none first = omega arith
-
-pub put-more : (old G : List Gate) (first p : ℕ) (g : Gate) → first + p < length old → slice_get G p ≡ Some g →
-    set (take first old ++ (take p G ++ drop (first + p) old)) (first + p) g ≡ take first old ++ (take (p + 1) G ++ drop (first + (p + 1)) old)
-put-more old G first p g lt there =
-    let a : List Gate = take first old in
-    let b : List Gate = take p G in
-    let rest : List Gate = drop (suc (first + p)) old in
-    let x : Gate = get_or old (first + p) g in
-    let within : p < length G = slice_get_within G p g there in
-    let long : length (a ++ b) ≡ first + p = length-append a b ∙ (λ i. length-take-le first old le i + length-take-le p G (omega (arith, within)) i) in
-    let parts : a ++ (b ++ drop (first + p) old) ≡ (a ++ b) ++ x ∷ rest = sym (append_assoc a b (drop (first + p) old)) ∙ ap (λ t. (a ++ b) ++ t) (drop-cons old (first + p) g lt) in
-    let joined : (a ++ b) ++ g ∷ rest ≡ a ++ ((b ++ g ∷ []) ++ rest) = append_assoc a b (g ∷ rest) ∙ ap (λ t. a ++ t) (sym (append_assoc b (g ∷ []) rest)) in
-    ap (λ t. set t (first + p) g) parts
-    ∙ ap (λ k. set ((a ++ b) ++ x ∷ rest) k g) (sym long)
-    ∙ set-append_seam (a ++ b) x rest g
-    ∙ joined
-    ∙ (λ i. a ++ (sym (take-next G p g there) i ++ drop (next first p i) old))
-  where
-    le : first ≤ length old
-    le = omega (arith, lt)
-
-    next : (first p : ℕ) → suc (first + p) ≡ first + (p + 1)
-    next first p = omega arith
-
 pub cut-start : (old : List Gate) (first : ℕ) → old ≡ take first old ++ drop first old
 cut-start old first = sym (take-append-drop first old)
 
@@ -183,13 +141,15 @@ cut-more old first gone le lt =
 pub cut-long : (old : List Gate) (first gone : ℕ) → first ≤ length old → gone < length old → first < length (take first old ++ drop gone old)
 cut-long old first gone le lt = omega (arith, length-append (take first old) (drop gone old), length-take-le first old le, length-drop gone old, lt)
 
-pub cut-put : (old G M : List Gate) (first end : ℕ) → first + length G ≤ end → end ≤ length old → M ≡ take first old ++ (G ++ drop (first + length G) old) →
-    take (first + length G) M ++ drop end M ≡ take first old ++ (G ++ drop end old)
+pub cut-within : (old M : List Gate) (first end : ℕ) → first ≤ end → end ≤ length old → M ≡ take first old ++ drop end old → first ≤ length M
+cut-within old M first end le within is =
+    omega (arith, ap (λ (gs : List Gate). length gs) is, length-append (take first old) (drop end old), length-take-le first old (omega (arith, le, within)))
+
+pub cut-put : (old G M : List Gate) (first end : ℕ) → first ≤ end → end ≤ length old → M ≡ take first old ++ drop end old →
+    take first M ++ (G ++ drop first M) ≡ take first old ++ (G ++ drop end old)
 cut-put old G M first end le within is =
     let a : List Gate = take first old in
-    let k : ℕ = first + length G in
-    let long : length (a ++ G) ≡ k = length-append a G ∙ ap (λ n. n + length G) (length-take-le first old (omega (arith, le, within))) in
-    let shape : M ≡ (a ++ G) ++ drop k old = is ∙ sym (append_assoc a G (drop k old)) in
-    let front : take k M ≡ a ++ G = ap (take k) shape ∙ ap (λ n. take n ((a ++ G) ++ drop k old)) (sym long) ∙ take-append_seam (a ++ G) (drop k old) in
-    let back : drop end M ≡ drop end old = ap (drop end) shape ∙ drop-append-drop k old (a ++ G) end le long in
-    (λ i. front i ++ back i) ∙ append_assoc a G (drop end old)
+    let long : length a ≡ first = length-take-le first old (omega (arith, le, within)) in
+    let front : take first M ≡ a = ap (take first) is ∙ take_at a (drop end old) first long in
+    let back : drop first M ≡ drop end old = ap (drop first) is ∙ drop_at a (drop end old) first long in
+    λ i. front i ++ (G ++ back i)

@@ -7,9 +7,9 @@
 --     stuck-unread        the first line that is left is no word with numbers
 use Rattle.std.proofs.Common.{◌≡◌, ℕ, ◌+◌, List, [], ◌∷◌, ◌++◌, length, refl, sym, subst, ◌∙◌, ap, append_assoc, append-nil}
 use Rattle.std.proofs.lemmas.List.{length-append}
-use Rattle.trace_check.specs.Lines.{IsLineIn, Line, all_spelt, edition_of, spelt}
+use Rattle.trace_model.specs.Lines.{IsLineIn, Line, all_spelt, edition_of, spelt}
 use Rattle.trace_text.specs.Texts.{lines_of}
-use Rattle.trace_check.specs.Proves.{Applies, Claim, IsOpen, IsStuck, Proved, Proves, Runs, State, StopsAt, Unread}
+use Rattle.trace_model.specs.Proves.{Applies, Claim, IsOpen, IsStuck, Proved, Proves, Runs, State, StopsAt, Unread}
 use Rattle.trace_check.specs.Progress.{Came}
 
 spelt-append : (ls ms : List Line) → all_spelt (ls ++ ms) ≡ all_spelt ls ++ all_spelt ms

@@ -9,21 +9,21 @@ use Rattle.std.proofs.lemmas.Option.{same_Some}
 use Rattle.circuit_list.specs.declared.Gate.{Gate}
 use Rattle.circuit_list.specs.declared.Gate.TheVariants.{Cx}
 use Rattle.rewrite_pass.specs.TraceLines.{words}
-use Rattle.trace_check.specs.declared.words.Word.{Word}
-use Rattle.trace_check.specs.declared.words.Word.TheVariants as word
-use Rattle.trace_check.specs.Lines.{Line, Emit, Back, Elide, Swap, Turn, End}
-use Rattle.trace_check.specs.Proves.{Applies, Claim, IsFirst, IsStuck, Placed, Routed, State}
+use Rattle.trace_model.specs.declared.word.Word.{Word}
+use Rattle.trace_model.specs.declared.word.Word.TheVariants as word
+use Rattle.trace_model.specs.Lines.{Line, Emit, Back, Elide, Swap, Turn, End}
+use Rattle.trace_model.specs.Proves.{Applies, Claim, IsFirst, IsStuck, Placed, Routed, State}
 use Rattle.trace_check.specs.Elides.{ByFirst, IsElided}
-use Rattle.trace_check.specs.Spelling.{AreSmall, spelling}
+use Rattle.trace_model.specs.Spelling.{AreSmall, spelling}
 use Rattle.trace_check.specs.Progress.{Goes, Halts}
 use Rattle.std.proofs.Common.{Fits, w32, All, ◌^◌, get_or, suc, IfOk}
 use Rattle.std.specs.declared.result.Result.{Result}
 use Rattle.std.specs.declared.result.Result.TheVariants.{Ok, Err}
 use Rattle.std.proofs.lemmas.List.Elements.{All-from_recursion}
 use Rattle.unitary_model.specs.Placement.{exchanged}
-use Rattle.trace_check.specs.Proves.{on_qubits, swap_cx, turn_cx, turned_cx}
+use Rattle.trace_model.specs.Proves.{on_qubits, swap_cx, turn_cx, turned_cx}
 use Rattle.trace_check.proofs.KindLaws.{stuck-line}
-use Rattle.trace_check.proofs.SpellingLaws.{kind_of, with_one, with_two}
+use Rattle.trace_model.proofs.SpellingLaws.{kind_of, with_one, with_two}
 
 pub made : (s t : Placed) → s.first ≡ t.first → s.now ≡ t.now → s.rest ≡ t.rest → s.written ≡ t.written → s.turn ≡ t.turn → Routed s ≡ Routed t
 made s t a b c d e = λ i. Routed (record { first = a i; now = b i; rest = c i; written = d i; turn = e i })

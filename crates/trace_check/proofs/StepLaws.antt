@@ -8,17 +8,14 @@
 --     NoStep, blocked-step            a line that doesn't;  no-numbers, no-change: since its numbers are others, or the step isn't there
 --     listed-leads        a line `sums` or `phases` that applies
 --     NoListed, blocked-listed        one that doesn't;  no-count, no-gates, no-same: why
---     edition-first, edition-named, edition-other, edition-either     the edition of a trace
 --     came-heading, stuck-heading     the first line
 --     came-place, stuck-place, stuck-held     the line `place`
 --     came-turns          a line more
 --     came-blocked        no line more
-use Rattle.std.proofs.Common.{◌≡◌, ◌≢◌, ℕ, ◌+◌, ◌%◌, ◌^◌, ◌<◌, ◌≤◌, ◌⊎◌, inl, inr, ◌&&◌, Bool, true, false, cond, List, [], ◌∷◌, ◌++◌, length, map, MatchOption, Option, Some, None, All, refl, sym, subst, ◌∙◌, ap, arith}
-use Rattle.std.specs.Prelude.{codes, nat_eq}
-use Rattle.std.specs.Cmp.Lexicographic.{pointwise}
-use Rattle.std.specs.List.{flat_map, list_any}
+use Rattle.std.proofs.Common.{◌≡◌, ◌≢◌, ℕ, ◌+◌, ◌%◌, ◌^◌, ◌<◌, ◌≤◌, ◌⊎◌, inl, inr, true, List, [], ◌∷◌, ◌++◌, length, map, MatchOption, Option, Some, None, All, refl, sym, subst, ◌∙◌, ap, arith}
+use Rattle.std.specs.Prelude.{codes}
+use Rattle.std.specs.List.{flat_map}
 use Rattle.std.specs.Option.{is_some}
-use Rattle.std.proofs.lemmas.Fmt.{decimal_digit}
 use Rattle.std.proofs.lemmas.List.{length-append}
 use Rattle.std.proofs.lemmas.List.Elements.{All-from_recursion, recursion_from_All}
 use Rattle.std.proofs.lemmas.Option.{same_Some}
@@ -31,19 +28,20 @@ use Rattle.path_parity.specs.PathFunctions.{SamePathFunction}
 use Rattle.rewrite_pass.specs.Traces.{Step, Rule, Both, Join, Sums, IsStep, constants_turn}
 use Rattle.rewrite_pass.specs.TraceLines.{gate_line, gate_numbers, words}
 use Rattle.trace_check.specs.declared.goals.Held.{Held}
-use Rattle.trace_check.specs.declared.words.Word.{Word}
-use Rattle.trace_check.specs.declared.words.Word.TheVariants as word
-use Rattle.trace_check.specs.Lines.{Line, Heading, Rewrite, Part, Phases, Goal, Meet, Place, IsIn, IsSmall, edition_of, is_later, numbers_of, spelt}
+use Rattle.trace_model.specs.declared.word.Word.{Word}
+use Rattle.trace_model.specs.declared.word.Word.TheVariants as word
+use Rattle.trace_model.specs.Lines.{Line, Heading, Rewrite, Part, Phases, Goal, Meet, Place, IsIn, IsSmall, edition_of, numbers_of, spelt}
 use Rattle.trace_text.specs.Texts.{lines_of}
 use Rattle.trace_check.specs.Progress.{Blocked, Came, Leads, BlockedWith, IsListing, IsSame, LeadsOn, reached, step_named}
-use Rattle.trace_check.specs.Proves.{Applies, Changes, Claim, IsOpen, IsStuck, Placed, Rewritten, Routed, Seeking, State, StopsAt, Unread}
+use Rattle.trace_model.specs.Proves.{Applies, Changes, Claim, IsOpen, IsStuck, Placed, Rewritten, Routed, Seeking, State, StopsAt, Unread}
 use Rattle.unitary_model.specs.Placement.{IsPlacement}
-use Rattle.trace_check.specs.Spelling.{AreSmall, IsWordIn, spelling}
+use Rattle.trace_model.specs.Spelling.{AreSmall, IsWordIn, spelling}
+use Rattle.trace_model.proofs.EditionLaws.{edition-either}
 use Rattle.trace_check.proofs.GateLaws.{fine-small}
 use Rattle.trace_check.proofs.KindLaws.{stuck-numbers}
 use Rattle.trace_check.proofs.ProgressLaws.{came-more, came-start, came-stops}
 use Rattle.trace_check.proofs.RoutedLaws.{made, small-line}
-use Rattle.trace_check.proofs.SpellingLaws.{first_numbers, gates-unique, kind_of, line_gates}
+use Rattle.trace_model.proofs.SpellingLaws.{first_numbers, gates-unique, kind_of, line_gates}
 
 -- ---- what a line makes of the gates that are rewritten, whatever is held
 pub record IsRewriting (w : Word) : Type 0 where
@@ -229,49 +227,6 @@ no-same w ks count s lines behind hs e few fine long all none = λ gs rest is fg
     none (subst (λ x. IsSame w s.body.wires s.body.gates x) u.gates same)
 
 -- ---- the first line
-heading : words (codes "TRACE") (1 ∷ []) ≡ codes "TRACE 1"
-heading = λ z. codes "TRACE" ++ ((32 ∷ decimal_digit 1 (omega arith) z) ++ [])
-
-second_heading : words (codes "TRACE") (2 ∷ []) ≡ codes "TRACE 2"
-second_heading = λ z. codes "TRACE" ++ ((32 ∷ decimal_digit 2 (omega arith) z) ++ [])
-
-pub edition-first : (rest : List (List ℕ)) → edition_of (words (codes "TRACE") (1 ∷ []) ∷ rest) ≡ 1
-edition-first rest = ap (λ l. edition_of (l ∷ rest)) heading
-
-edition-second : (b : Bool) (rest : List (List ℕ)) → list_any is_later rest ≡ b → edition_of (words (codes "TRACE") (2 ∷ []) ∷ rest) ≡ cond b 2 1
-edition-second b rest e = ap (λ l. edition_of (l ∷ rest)) second_heading ∙ ap (λ c. cond c 2 1) e
-
-pub edition-named : (k : ℕ) (rest : List (List ℕ)) → (k ≡ 1) ⊎ ((k ≡ 2) × (list_any is_later rest ≡ true)) → edition_of (words (codes "TRACE") (k ∷ []) ∷ rest) ≡ k
-edition-named k rest (inl e) = ap (λ j. edition_of (words (codes "TRACE") (j ∷ []) ∷ rest)) e ∙ edition-first rest ∙ sym e
-edition-named k rest (inr e) = ap (λ j. edition_of (words (codes "TRACE") (j ∷ []) ∷ rest)) e.0 ∙ edition-second true rest e.1 ∙ sym e.0
-
-pub edition-either : (ls : List (List ℕ)) → (edition_of ls ≡ 1) ⊎ (edition_of ls ≡ 2)
-edition-either [] = inl refl
-edition-either (l ∷ ls) = go (pointwise nat_eq l (codes "TRACE 2") && list_any is_later ls)
-  where
-    go : (b : Bool) → (◌≡◌ {A = ℕ} (cond b 2 1) 1) ⊎ (◌≡◌ {A = ℕ} (cond b 2 1) 2)
-    go true = inr refl
-    go false = inl refl
-
-pub edition-other : (ks : List ℕ) (k : ℕ) (rest : List (List ℕ)) → ks ≡ k ∷ [] → (k ≡ 1 → ⊥) → (k ≡ 2 → list_any is_later rest ≡ false) → ks ≡ edition_of (words (codes "TRACE") ks ∷ rest) ∷ [] → ⊥
-edition-other ks k rest is first second e = go (edition-either (words (codes "TRACE") ks ∷ rest))
-  where
-    v : ℕ
-    v = edition_of (words (codes "TRACE") ks ∷ rest)
-
-    same : k ≡ v
-    same = cons-first k v (sym is ∙ e)
-      where
-        cons-first : (a b : ℕ) → a ∷ [] ≡ b ∷ [] → a ≡ b
-        cons-first a b h = cc
-
-    go : (v ≡ 1) ⊎ (v ≡ 2) → ⊥
-    go (inl f) = first (same ∙ f)
-    go (inr f) =
-        let two : ks ≡ 2 ∷ [] = is ∙ ap (λ j. j ∷ []) (same ∙ f) in
-        let one : v ≡ 1 = ap (λ x. edition_of (words (codes "TRACE") x ∷ rest)) two ∙ edition-second false rest (second (same ∙ f)) in
-        omega (arith, one, f)
-
 heading-goes : (e : Claim) (s : Passed) → s.body.gates ≡ expanded e.source → s.turn ≡ turn_of e.source → reached None s ≡ Rewritten (expanded e.source) (turn_of e.source)
 heading-goes e s a b = λ i. Rewritten (a i) (b i)
 

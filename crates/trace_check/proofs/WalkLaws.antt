@@ -14,16 +14,16 @@ use Rattle.std.proofs.lemmas.List.Elements.{All-from_recursion}
 use Rattle.std.proofs.lemmas.Option.{same_Some}
 use Rattle.circuit_list.specs.declared.Passed.{Passed}
 use Rattle.rewrite_pass.specs.TraceLines.{gate_line, words}
-use Rattle.trace_check.specs.declared.words.Word.{Word}
-use Rattle.trace_check.specs.declared.words.Word.TheVariants as word
-use Rattle.trace_check.specs.Lines.{Line, End, spelt}
+use Rattle.trace_model.specs.declared.word.Word.{Word}
+use Rattle.trace_model.specs.declared.word.Word.TheVariants as word
+use Rattle.trace_model.specs.Lines.{Line, End, spelt}
 use Rattle.trace_text.specs.Texts.{begun, lines_of}
 use Rattle.trace_check.specs.Progress.{Came, Ends, Goes}
-use Rattle.trace_check.specs.Proves.{Applies, Claim, IsEnd, IsStuck, Placed, Proved, Proves, Routed, State, StopsAt}
-use Rattle.trace_check.specs.Spelling.{AreSmall, IsWordIn, spelling}
+use Rattle.trace_model.specs.Proves.{Applies, Claim, IsEnd, IsStuck, Placed, Proved, Proves, Routed, State, StopsAt}
+use Rattle.trace_model.specs.Spelling.{AreSmall, IsWordIn, spelling}
 use Rattle.trace_check.proofs.KindLaws.{stuck-line}
 use Rattle.trace_check.proofs.ProgressLaws.{came-more, came-proves, came-stops}
-use Rattle.trace_check.proofs.SpellingLaws.{line_gates, with_one}
+use Rattle.trace_model.proofs.SpellingLaws.{line_gates, with_one}
 
 begun-some : (b : ℕ) (ls : List (List ℕ)) → begun b ls ≡ [] → ⊥
 begun-some b [] e = cc

@@ -12,11 +12,11 @@ use Rattle.std.proofs.lemmas.Bool.Decides.{nat_tests}
 use Rattle.std.proofs.lemmas.Fmt.{decimal_injective}
 use Rattle.std.proofs.lemmas.List.{take-append-drop}
 use Rattle.rewrite_pass.specs.TraceLines.{words}
-use Rattle.trace_check.specs.Spelling.{AreSmall, HasNoSpace}
+use Rattle.trace_model.specs.Spelling.{AreSmall, HasNoSpace}
 use Rattle.std.proofs.Common.{IfSome, Option, None, Some, MatchOption, get_or, ◌==◌}
-use Rattle.trace_check.specs.declared.words.Word.{Word}
-use Rattle.trace_check.specs.Spelling.{spelling}
-use Rattle.trace_check.proofs.SpellingLaws.{words-unique, NoSpace-decimal, Spaced, cut, spelling-plain, tail, tail-spaced}
+use Rattle.trace_model.specs.declared.word.Word.{Word}
+use Rattle.trace_model.specs.Spelling.{spelling}
+use Rattle.trace_model.proofs.SpellingLaws.{words-unique, NoSpace-decimal, Spaced, cut, spelling-plain, tail, tail-spaced}
 
 abbrev inside : ℕ → Bool
 inside b = not (nat_eq b 32)

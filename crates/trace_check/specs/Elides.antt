@@ -9,7 +9,7 @@ use Rattle.std.specs.Prelude.{◌≡◌, ℕ, suc, List, Some, map, remove, slic
 use Rattle.circuit_list.specs.declared.Gate.{Gate}
 use Rattle.circuit_list.specs.declared.Gate.TheVariants.{Cx}
 use Rattle.circuit_list.specs.Slots.{IsNextOn}
-use Rattle.trace_check.specs.Proves.{IsFirst}
+use Rattle.trace_model.specs.Proves.{IsFirst}
 use Rattle.unitary_model.specs.Placement.{exchanged}
 
 pub record IsReverse (gs : List Gate) (i c t j : ℕ) : Type 0 where

@@ -3,7 +3,7 @@
 --     IsOutcome e trace o     what is told of the trace is so: it proves the claim, or stops at the line
 use Rattle.std.specs.Prelude.{ℕ, List}
 use Rattle.gate_expand.specs.declared.source.Ops.{Ops}
-use Rattle.trace_check.specs.Proves.{Claim, Proves, StopsAt}
+use Rattle.trace_model.specs.Proves.{Claim, Proves, StopsAt}
 use Rattle.trace_check.specs.declared.checker.Outcome.{Outcome}
 use Rattle.trace_check.specs.declared.checker.Outcome.TheVariants as outcome
 

@@ -29,13 +29,13 @@ use Rattle.path_parity.specs.NamedSums.{SamePathSum}
 use Rattle.path_parity.specs.PathFunctions.{SamePathFunction}
 use Rattle.rewrite_pass.specs.Traces.{Step, Rule, Both, Join}
 use Rattle.rewrite_pass.specs.TraceLines.{words}
-use Rattle.trace_check.specs.Lines.{IsLineIn, Line, all_spelt, edition_of, spelt}
+use Rattle.trace_model.specs.Lines.{IsLineIn, Line, all_spelt, edition_of, spelt}
 use Rattle.trace_text.specs.Texts.{lines_of}
-use Rattle.trace_check.specs.Proves.{Applies, Claim, IsStuck, Placed, Rewritten, Routed, Runs, Seeking, State, Unread}
-use Rattle.trace_check.specs.Spelling.{IsWordIn, spelling}
+use Rattle.trace_model.specs.Proves.{Applies, Claim, IsStuck, Placed, Rewritten, Routed, Runs, Seeking, State, Unread}
+use Rattle.trace_model.specs.Spelling.{IsWordIn, spelling}
 use Rattle.trace_check.specs.declared.goals.Held.{Held}
-use Rattle.trace_check.specs.declared.words.Word.{Word}
-use Rattle.trace_check.specs.declared.words.Word.TheVariants as word
+use Rattle.trace_model.specs.declared.word.Word.{Word}
+use Rattle.trace_model.specs.declared.word.Word.TheVariants as word
 use Rattle.trace_check.specs.declared.routing.Routing.{Routing}
 
 abbrev pub IsListing : Word → Type 0

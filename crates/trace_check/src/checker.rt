@@ -29,28 +29,27 @@ ghost use Rattle.rewrite_pass.specs.TraceLines.{words};
 ghost use Rattle.rewrite_pass.specs.Traces.{IsStep, Step};
 ghost use Rattle.trace_text.specs.Texts.{lines_of};
 ghost use Rattle.trace_check.specs.Outcomes.{IsOutcome, claim};
-ghost use Rattle.trace_check.specs.Known.{AreSpans};
-ghost use Rattle.trace_check.specs.Lines.{edition_of};
+ghost use Rattle.rewrite_steps.specs.Known.{AreSpansIn};
+ghost use Rattle.trace_model.specs.Lines.{edition_of};
 ghost use Rattle.trace_check.specs.Progress.{Blocked, Came, IsHeldFit, IsListing, IsRouting, Leads, BlockedWith, LeadsOn, placed, reached, step_named};
-ghost use Rattle.trace_check.specs.Proves.{Claim, IsStuck, Routed, StopsAt, Unread};
-ghost use Rattle.trace_check.specs.Spelling.{spelling};
-ghost use Rattle.trace_check.specs.declared.words.Word.TheVariants as kind;
+ghost use Rattle.trace_model.specs.Proves.{Claim, IsStuck, Routed, StopsAt, Unread};
+ghost use Rattle.trace_model.specs.Spelling.{spelling};
+ghost use Rattle.trace_model.specs.declared.word.Word.TheVariants as kind;
 
 use crate::editions::{edition_from, read_line};
 use crate::goals::{Held, aim, meet};
-use crate::known::Known;
 use crate::listed::{is_listing, replaced};
 use crate::mark::Mark;
-use crate::pairs::{both, join};
 use crate::parts::replaced_part;
 use crate::routed::routed;
 use crate::routing::Routing;
-use crate::windows::rule;
-use crate::words::{Word, known_small, read_words, two};
+use crate::words::{known_small, read_words, two};
 use circuit_list::{Circuit, Passed};
 use gate_expand::{Ops, expand};
 use placement::Placement;
+use rewrite_steps::{Known, both, join, rule};
 use std::alloc::{AllocError, Global};
+use trace_model::Word;
 use trace_text::first_line;
 use unitary_model::turn_sum;
 
@@ -215,12 +214,12 @@ fn moved<'a>(
     requires on { word ≡ kind.Place → ⊥ }
     requires turn { state.old.turn < 8 }
     requires held { IsHeldFit state.old.body.wires held.old }
-    requires known { AreSpans state.old.body.gates state.old.body.slots known.old.spans.items }
+    requires known { AreSpansIn known.old state.old.body }
     requires short { mark.line + length mark.text.now < 2 ^ 32 }
     ensures wires { state.new.body.wires ≡ state.old.body.wires }
     ensures turn { state.new.turn < 8 }
     ensures held { IsHeldFit state.old.body.wires held.new }
-    ensures known { AreSpans state.new.body.gates state.new.body.slots known.new.spans.items }
+    ensures known { AreSpansIn known.new state.new.body }
     ensures shorter { IfOk result (λ o. IfSome o (λ m. length m.text.now ≤ length mark.entry.text.now)) }
     ensures short { IfOk result (λ o. IfSome o (λ m. m.line + length m.text.now ≤ mark.entry.line + length mark.entry.text.now)) }
     ensures later { IfOk result (λ o. IfSome o (λ m. mark.entry.line ≤ m.line)) }
@@ -259,11 +258,11 @@ fn changed<'a>(
     requires goal { word ≡ kind.Goal → ⊥ }
     requires meet { word ≡ kind.Meet → ⊥ }
     requires turn { state.old.turn < 8 }
-    requires known { AreSpans state.old.body.gates state.old.body.slots known.old.spans.items }
+    requires known { AreSpansIn known.old state.old.body }
     requires short { mark.line + length mark.text.now < 2 ^ 32 }
     ensures wires { state.new.body.wires ≡ state.old.body.wires }
     ensures turn { state.new.turn < 8 }
-    ensures known { AreSpans state.new.body.gates state.new.body.slots known.new.spans.items }
+    ensures known { AreSpansIn known.new state.new.body }
     ensures shorter { IfOk result (λ o. IfSome o (λ m. length m.text.now ≤ length mark.entry.text.now)) }
     ensures short { IfOk result (λ o. IfSome o (λ m. m.line + length m.text.now ≤ mark.entry.line + length mark.entry.text.now)) }
     ensures later { IfOk result (λ o. IfSome o (λ m. mark.entry.line ≤ m.line)) }
@@ -297,10 +296,10 @@ fn rewrites(state: &mut Passed, known: &mut Known, word: Word, numbers: &[u32]) 
     requires listing { IsListing word → ⊥ }
     requires part { word ≡ kind.Part → ⊥ }
     requires turn { state.old.turn < 8 }
-    requires known { AreSpans state.old.body.gates state.old.body.slots known.old.spans.items }
+    requires known { AreSpansIn known.old state.old.body }
     ensures wires { state.new.body.wires ≡ state.old.body.wires }
     ensures turn { state.new.turn < 8 }
-    ensures known { AreSpans state.new.body.gates state.new.body.slots known.new.spans.items }
+    ensures known { AreSpansIn known.new state.new.body }
     ensures applies { result ≡ true → (behind : List (List ℕ)) →
         Leads word state.old state.new (words (spelling word) numbers.now ∷ behind) behind }
     ensures not { result ≡ false → (behind : List (List ℕ)) → Blocked state.old (words (spelling word) numbers.now ∷ behind) }
@@ -319,8 +318,8 @@ fn rewrites(state: &mut Passed, known: &mut Known, word: Word, numbers: &[u32]) 
 
 /// Makes the step that a word and two numbers tell, and gives its turn. None where there is none, or where it doesn't apply.
 fn step(body: &mut Circuit, known: &mut Known, word: Word, first: u32, second: u32) -> Option<u8>
-    requires known { AreSpans body.old.gates body.old.slots known.old.spans.items }
-    ensures known { AreSpans body.new.gates body.new.slots known.new.spans.items }
+    requires known { AreSpansIn known.old body.old }
+    ensures known { AreSpansIn known.new body.new }
     ensures wires { body.new.wires ≡ body.old.wires }
     ensures turn { IfSome result (λ turn. turn < 8) }
     ensures step { MatchOption result ((p : Step) (gates : List Gate) (turn : ℕ) → step_named word first second ≡ Some p →

@@ -4,12 +4,13 @@ ghost use Rattle.std.specs.Prelude.{◌≡◌, ℕ, ◌∷◌, [], List, IfOk, M
 ghost use Rattle.std.specs.List.{list_any};
 ghost use Rattle.rewrite_pass.specs.TraceLines.{words};
 ghost use Rattle.trace_text.specs.Texts.{begins, lines_of};
-ghost use Rattle.trace_check.specs.Lines.{edition_of, is_later};
-ghost use Rattle.trace_check.specs.Spelling.{AreSmall, IsWordIn, spelling};
-ghost use Rattle.trace_check.specs.declared.words.Word.{Word};
+ghost use Rattle.trace_model.specs.Lines.{edition_of, is_later};
+ghost use Rattle.trace_model.specs.Spelling.{AreSmall, IsWordIn, spelling};
+ghost use Rattle.trace_model.specs.declared.word.Word.{Word};
 
-use crate::words::{Word, one, read_words};
+use crate::words::{one, read_words};
 use std::alloc::AllocError;
+use trace_model::Word;
 use trace_text::first_line;
 
 /// The edition that the numbers of a first line name, before that text: the second only if a line of the text came with it.

@@ -6,7 +6,7 @@ ghost use Rattle.circuit_list.specs.Gates.{IsFine, most_wires};
 ghost use Rattle.circuit_list.specs.declared.Gate.{Gate};
 ghost use Rattle.rewrite_pass.specs.TraceLines.{gate_line, gate_numbers, words};
 ghost use Rattle.trace_text.specs.Texts.{lines_of};
-ghost use Rattle.trace_check.specs.Spelling.{AreSmall, gate_word};
+ghost use Rattle.trace_model.specs.Spelling.{AreSmall, gate_word};
 
 use crate::words::{one, split_words, two};
 use circuit_list::{Circuit, Gate};

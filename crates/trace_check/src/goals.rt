@@ -4,7 +4,7 @@ ghost use Rattle.std.specs.Prelude.{◌≡◌, ℕ, ◌+◌, ◌^◌, ◌<◌, �
 ghost use Rattle.rewrite_pass.specs.TraceLines.{words};
 ghost use Rattle.trace_text.specs.Texts.{lines_of};
 ghost use Rattle.trace_check.specs.Progress.{IsHeldFit, BlockedWith, LeadsOn};
-ghost use Rattle.trace_check.specs.declared.words.Word.TheVariants as kind;
+ghost use Rattle.trace_model.specs.declared.word.Word.TheVariants as kind;
 
 use crate::gates::read_gates;
 use crate::mark::Mark;

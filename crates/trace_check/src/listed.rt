@@ -5,14 +5,15 @@ ghost use Rattle.rewrite_pass.specs.TraceLines.{words};
 ghost use Rattle.rewrite_pass.specs.Traces.{constants_turn};
 ghost use Rattle.trace_text.specs.Texts.{lines_of};
 ghost use Rattle.trace_check.specs.Progress.{Blocked, IsListing, IsSame, Leads};
-ghost use Rattle.trace_check.specs.Spelling.{spelling};
+ghost use Rattle.trace_model.specs.Spelling.{spelling};
 
 use crate::gates::read_gates;
 use crate::mark::Mark;
-use crate::words::{Word, known_small, one};
+use crate::words::{known_small, one};
 use circuit_list::{Circuit, Passed};
 use path_sums::{same_phases, same_sums};
 use std::alloc::{AllocError, Global};
+use trace_model::Word;
 use unitary_model::turn_sum;
 
 /// Whether gates are listed behind a line of a word that come in the place of all.

@@ -4,8 +4,8 @@ ghost use Rattle.std.specs.Prelude.{◌≡◌, ℕ, ◌+◌, ◌^◌, ◌<◌, �
 ghost use Rattle.rewrite_pass.specs.TraceLines.{words};
 ghost use Rattle.trace_text.specs.Texts.{lines_of};
 ghost use Rattle.trace_check.specs.Progress.{Blocked, Leads};
-ghost use Rattle.trace_check.specs.Proves.{slice_of};
-ghost use Rattle.trace_check.specs.declared.words.Word.TheVariants as kind;
+ghost use Rattle.trace_model.specs.Proves.{slice_of};
+ghost use Rattle.trace_model.specs.declared.word.Word.TheVariants as kind;
 
 use crate::gates::read_gates;
 use crate::mark::Mark;
@@ -14,20 +14,6 @@ use circuit_list::{Circuit, Passed};
 use path_sums::same_sums;
 use std::alloc::{AllocError, Global};
 use unitary_model::turn_sum;
-
-/// Puts the gates of a circuit at the places from one on and before another behind those of a circuit.
-fn push_part(to: &mut Circuit, from: &Circuit, first: usize, end: usize) -> Result<(), AllocError>
-    requires wires { from.now.wires ≡ to.old.wires }
-    requires ordered { first ≤ end }
-    requires within { end ≤ length from.now.gates }
-    ensures wires { to.new.wires ≡ to.old.wires }
-    ensures gates { OnOk result (to.new.gates ≡ to.old.gates ++ slice_of from.now.gates first end) }
-{
-    'gates: for place in first..end {
-        to.push(from.gate(place))?;
-    }
-    Ok(())
-}
 
 /// The gates at the places from one on and before another, as a circuit.
 fn part(alloc: Global, body: &Circuit, first: usize, end: usize) -> Result<Circuit, AllocError>
@@ -38,42 +24,10 @@ fn part(alloc: Global, body: &Circuit, first: usize, end: usize) -> Result<Circu
 {
     body.facts();
     let mut made = Circuit::empty(alloc, body.wires())?;
-    push_part(&mut made, body, first, end)?;
-    Ok(made)
-}
-
-/// A circuit with other gates in the place of a part.
-fn with_part(
-    alloc: Global,
-    body: &Circuit,
-    first: usize,
-    end: usize,
-    gates: &Circuit,
-) -> Result<Circuit, AllocError>
-    requires wires { gates.now.wires ≡ body.now.wires }
-    requires ordered { first ≤ end }
-    requires within { end ≤ length body.now.gates }
-    ensures wires { IfOk result (λ c. c.wires ≡ body.now.wires) }
-    ensures gates { IfOk result (λ c. c.gates ≡ take first body.now.gates ++ (gates.now.gates ++ drop end body.now.gates)) }
-{
-    let mut made = part(alloc, body, 0, first)?;
-    push_part(&mut made, gates, 0, gates.len())?;
-    push_part(&mut made, body, end, body.len())?;
-    made.link()?;
-    Ok(made)
-}
-
-/// Writes gates over those from a place on.
-fn write_over(body: &mut Circuit, first: usize, gates: &Circuit)
-    requires wires { gates.now.wires ≡ body.old.wires }
-    requires within { first + length gates.now.gates ≤ length body.old.gates }
-    ensures wires { body.new.wires ≡ body.old.wires }
-    ensures gates { body.new.gates ≡ take first body.old.gates ++ (gates.now.gates ++ drop (first + length gates.now.gates) body.old.gates) }
-{
-    let _gates = body.len();
-    'gates: for place in 0..gates.len() {
-        body.replace(first + place, gates.gate(place));
+    'gates: for place in first..end {
+        made.push(body.gate(place))?;
     }
+    Ok(made)
 }
 
 /// Takes the gates out that stand at the places from one on and before another.
@@ -88,28 +42,16 @@ fn cut(body: &mut Circuit, first: usize, end: usize)
     }
 }
 
-/// Puts gates in the place of a part. Where they are no more than it has, only they and the part are touched.
-fn put_part(
-    alloc: Global,
-    body: &mut Circuit,
-    first: usize,
-    end: usize,
-    gates: &Circuit,
-) -> Result<(), AllocError>
+/// Puts gates in the place of a part, into the slots that become empty and others around them.
+fn put_part(body: &mut Circuit, first: usize, end: usize, gates: &Circuit) -> Result<(), AllocError>
     requires wires { gates.now.wires ≡ body.old.wires }
     requires ordered { first ≤ end }
     requires within { end ≤ length body.old.gates }
     ensures wires { body.new.wires ≡ body.old.wires }
     ensures gates { OnOk result (body.new.gates ≡ take first body.old.gates ++ (gates.now.gates ++ drop end body.old.gates)) }
 {
-    let count = gates.len();
-    if count > end - first {
-        *body = with_part(alloc, body, first, end, gates)?;
-        return Ok(());
-    }
-    write_over(body, first, gates);
-    cut(body, first + count, end);
-    Ok(())
+    cut(body, first, end);
+    body.insert(first, gates)
 }
 
 /// Puts the gates that are listed behind a line `part` in the place of that part. None where it doesn't apply.
@@ -150,7 +92,7 @@ pub(crate) fn replaced_part<'a>(
     let Some(turn) = same_sums(alloc, &old, &listed.body)? else {
         return Ok(None);
     };
-    put_part(alloc, &mut state.body, first, end, &listed.body)?;
+    put_part(&mut state.body, first, end, &listed.body)?;
     state.turn = turn_sum(state.turn, turn);
     Ok(Some(Mark {
         text: listed.behind,

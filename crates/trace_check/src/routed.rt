@@ -5,16 +5,17 @@ ghost use Rattle.circuit_list.specs.declared.Gate.{Gate};
 ghost use Rattle.trace_text.specs.Texts.{lines_of};
 ghost use Rattle.trace_check.specs.Outcomes.{IsOutcome};
 ghost use Rattle.trace_check.specs.Progress.{Came, Ends, Halts, KeepsGoal, IsRouting, IsAppended, Moves, placed};
-ghost use Rattle.trace_check.specs.Proves.{Claim, Routed};
-ghost use Rattle.trace_check.specs.declared.words.Word.TheVariants as kind;
+ghost use Rattle.trace_model.specs.Proves.{Claim, Routed};
+ghost use Rattle.trace_model.specs.declared.word.Word.TheVariants as kind;
 
 use crate::checker::Outcome;
 use crate::editions::read_line;
 use crate::elides::elide;
 use crate::routing::{Routing, back, emit, swap, turn};
-use crate::words::{Word, one, two};
+use crate::words::{one, two};
 use circuit_list::{Circuit, Passed};
 use std::alloc::{AllocError, Global};
+use trace_model::Word;
 use trace_text::first_line;
 use unitary_model::turn_sum;
 

@@ -5,7 +5,7 @@ ghost use Rattle.circuit_list.specs.Gates.{IsFine};
 ghost use Rattle.circuit_list.specs.Slots.{IsLive, place_of};
 ghost use Rattle.circuit_list.specs.declared.Gate.{Gate};
 ghost use Rattle.trace_check.specs.Progress.{Grows};
-ghost use Rattle.trace_check.specs.Proves.{IsFirst, on_qubits, swap_cx, turn_cx, turned_cx};
+ghost use Rattle.trace_model.specs.Proves.{IsFirst, on_qubits, swap_cx, turn_cx, turned_cx};
 ghost use Rattle.unitary_model.specs.Placement.{exchanged};
 
 use circuit_list::{Circuit, Gate, Slot};

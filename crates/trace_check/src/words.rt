@@ -3,32 +3,12 @@
 ghost use Rattle.std.specs.Prelude.{◌≡◌, ℕ, ◌^◌, ◌<◌, ◌≤◌, ◌∷◌, List, [], IfOk, MatchOption, decimal, drop, length, nat_eq, not};
 ghost use Rattle.std.specs.List.{prefix_len};
 ghost use Rattle.rewrite_pass.specs.TraceLines.{words};
-ghost use Rattle.trace_check.specs.Spelling.{AreSmall, HasNoSpace, IsWordIn, piece, piece_size, spelling};
-ghost use Rattle.trace_check.specs.declared.words.Word.{Word};
+ghost use Rattle.trace_model.specs.Spelling.{AreSmall, HasNoSpace, IsWordIn, piece, piece_size, spelling};
+ghost use Rattle.trace_model.specs.declared.word.Word.{Word};
 
 use crate::numbers::number;
 use std::alloc::AllocError;
-
-/// The word that a line begins with.
-#[derive(Clone, Copy, Debug, PartialEq, Eq)]
-pub(crate) enum Word {
-    Trace,
-    Rule,
-    Both,
-    Join,
-    Sums,
-    Part,
-    Phases,
-    Goal,
-    Meet,
-    Place,
-    Emit,
-    Back,
-    Elide,
-    Swap,
-    Turn,
-    End,
-}
+use trace_model::Word;
 
 /// The word that some bytes spell.
 fn word_of(bytes: &[u8]) -> Option<Word>

@@ -13,7 +13,7 @@ use Rattle.program_reader.specs.Texts.{IsAcceptedText, IsTextRefusal}
 use Rattle.program_reader.specs.declared.refusal.ProgramRefusal.{ProgramRefusal as First}
 use Rattle.unitary_model.specs.Realises.{Realises}
 use Rattle.trace_check.specs.Outcomes.{IsOutcome}
-use Rattle.trace_check.specs.Proves.{Claim, Proves, StopsAt}
+use Rattle.trace_model.specs.Proves.{Claim, Proves, StopsAt}
 use Rattle.trace_text.specs.Texts.{trace_of}
 use Rattle.trace_verdict.specs.Told.{verdict_of, IsReadAs}
 use Rattle.trace_verdict.specs.Verdicts.{BothSay, IsReadable, IsRealised, IsRefused, IsSameVerdict, IsVerdict, IsYes}

@@ -14,7 +14,7 @@ use Rattle.program_reader.specs.Refusals.{at_of, code_of}
 use Rattle.program_reader.specs.Texts.{IsAcceptedText, IsTextRefusal}
 use Rattle.program_reader.specs.declared.refusal.ProgramRefusal.{ProgramRefusal as First}
 use Rattle.unitary_model.specs.Realises.{Realises}
-use Rattle.trace_check.specs.Proves.{Claim, Proves, StopsAt}
+use Rattle.trace_model.specs.Proves.{Claim, Proves, StopsAt}
 use Rattle.circuit_target.specs.Standing.{claim_of}
 use Rattle.trace_verdict.specs.declared.verdict.TextRefusal.{TextRefusal}
 use Rattle.trace_verdict.specs.declared.verdict.Verdict.{Verdict}

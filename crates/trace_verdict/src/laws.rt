@@ -13,7 +13,7 @@ ghost use Rattle.trace_verdict.specs.declared.verdict.Verdict.{Verdict as Told};
 use program_reader::{
     accepted_text_has_no_refusal, means_once, text_accepted_or_refused, text_refused_once,
 };
-use trace_check::laws::traces_are_exact;
+use trace_model::laws::traces_are_exact;
 
 /// Two verdicts on a source, a target and a trace are one: of the same kind, with the same placements and power of w, the same
 /// line, or the same refusal.

@@ -6,8 +6,8 @@ ghost use Rattle.trace_verdict.specs.Verdicts.{IsRealised, IsRefused, IsVerdict}
 
 use program_reader::{ProgramFault, SourceProgram, means_once, read_text};
 use std::alloc::{AllocError, Global};
-use trace_check::laws::traces_are_sound;
 use trace_check::{Outcome, check};
+use trace_model::laws::traces_are_sound;
 
 /// The first refusal of a text.
 #[derive(Clone, Copy, Debug, PartialEq, Eq)]

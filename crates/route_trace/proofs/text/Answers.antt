@@ -1,6 +1,6 @@
 use Rattle.std.proofs.Common.{◌≡◌, ℕ, List, [], ◌∷◌, ◌++◌, ◌∙◌, ap, subst, sym}
 use Rattle.std.specs.Prelude.{codes}
-use Rattle.trace_check.specs.Lines.{all_spelt}
+use Rattle.trace_model.specs.Lines.{all_spelt}
 use Rattle.trace_text.specs.Texts.{ended, lines_of}
 use Rattle.route_trace.specs.EventLines.{event_lines, trace_lines}
 use Rattle.route_trace.proofs.TextLaws.{ended-lines}

@@ -11,6 +11,6 @@ angles-preserved c =
     c.in_ok-push.ensures.items (drop_views formula_view c.args.angles.now c.angles.angle-index c.angle-item.result (omega arith) c.angle-item.is)
     c.in_ok-form.ensures c.angles.invariant
 
-pub returns-then-some : goal.returns-then-some
-returns-then-some c =
+pub returns : goal.returns
+returns c =
     forms_all (map formula_view c.args.angles.now) (map formula_view (drop c.angles.angle-index c.args.angles.now)) c.angles.list.items c.angles.invariant

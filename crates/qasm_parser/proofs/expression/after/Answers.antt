@@ -1,4 +1,4 @@
-use Rattle.std.proofs.Common.{◌≡◌, sym, subst, lit≤}
+use Rattle.std.proofs.Common.{◌≡◌, sym, subst}
 use Rattle.std.specs.Result.{IfOk}
 use Rattle.qasm_parser.specs.Frames.{stack}
 use Rattle.qasm_parser.specs.Machine.{open_in}
@@ -21,5 +21,5 @@ returns-in_ok-part-in-Some-Mark-Close-clause-walked c =
     let first = close-first _ _ _ _ _ c.in-Some-Mark-Close.ensures.first c.in-Some-Mark-Close.field-0-is c.in-Some-Mark-Close.field-0-0-is in
     subst (λ x. IfOk c.close.result (λ m. x ≡ way_go (open_in (stack c.close.new.frames)) m c.close.new.cursor))
     (sym (close-way (open_in (stack c.args.frames.now)) (open_in (stack c.reduce-in-Some-Mark-Close.new.frames)) c.args.cursor.now _ first
-    (sym (c.in_ok-part-in-Some-Mark-Close.ensures.open_still (lit≤ tt)))))
+    (sym c.in_ok-part-in-Some-Mark-Close.ensures.open_still)))
     c.close.ensures.walked

@@ -5,7 +5,7 @@ use Rattle.outside_io.specs.Shelf.{TellsText}
 use Rattle.gate_expand.specs.Expansion.{IsFineOp}
 use Rattle.gate_inline.specs.Programs.{Program}
 use Rattle.route_report.specs.declared.faults.Side.TheVariants as side
-use Rattle.trace_check.specs.Proves.{Proves}
+use Rattle.trace_model.specs.Proves.{Proves}
 use Rattle.trace_text.specs.Texts.{trace_of}
 use Rattle.circuit_target.specs.Standing.{claim_of}
 use Rattle.qroute_top.proofs.ClaimLaws.{IsClaimStop-source, IsClaimStop-target, IsClaimStop-trace, IsTraceStop-same, claim-kept, failed_same, ok_is_no_err, stop_after}

@@ -1,7 +1,7 @@
 -- The lines of the events so far are written, and the replay has gone past these.
 use Rattle.std.proofs.Common.{◌≡◌, ◌++◌, drop}
 use Rattle.trace_text.specs.Texts.{ended}
-use Rattle.trace_check.specs.Lines.{all_spelt}
+use Rattle.trace_model.specs.Lines.{all_spelt}
 use Rattle.route_trace.specs.EventLines.{AreThere, event_lines}
 use Rattle.route_trace.specs.Replays.{IsReplay}
 use Rattle.route_trace.proofs.replay.push_events.Given as goal

@@ -2,9 +2,9 @@ use Rattle.std.proofs.Common.{◌≡◌, ℕ, List, ◌∷◌, IfOk, MatchOption
 use Rattle.rewrite_pass.specs.TraceLines.{words}
 use Rattle.trace_text.specs.Texts.{lines_of}
 use Rattle.trace_check.specs.Progress.{Blocked, Leads}
-use Rattle.trace_check.specs.Spelling.{spelling}
+use Rattle.trace_model.specs.Spelling.{spelling}
 use Rattle.trace_check.specs.declared.mark.Mark.{Mark}
-use Rattle.trace_check.specs.declared.words.Word.TheVariants as kind
+use Rattle.trace_model.specs.declared.word.Word.TheVariants as kind
 use Rattle.trace_check.proofs.checker.changed.Goals as goal
 
 pub returns-then-eq-clause-step : goal.returns-then-eq-clause-step
@@ -21,7 +21,7 @@ returns-then-rewrites-clause-step c =
     subst (λ l. Leads c.args.word c.args.state.now c.rewrites.new.state (words (spelling c.args.word) l ∷ lines) lines) c.deref.ensures.value (c.if-rewrites.ensures.applies refl lines)
 
 pub returns-then-is_listing-clause-known : goal.returns-then-is_listing-clause-known
-returns-then-is_listing-clause-known c = c.forget.ensures c.replaced.new.state.body.gates c.replaced.new.state.body.slots
+returns-then-is_listing-clause-known c = c.forget.ensures c.replaced.new.state.body
 
 pub returns-then-eq-clause-known : goal.returns-then-eq-clause-known
-returns-then-eq-clause-known c = c.forget-then-eq.ensures c.replaced_part.new.state.body.gates c.replaced_part.new.state.body.slots
+returns-then-eq-clause-known c = c.forget-then-eq.ensures c.replaced_part.new.state.body

@@ -5,7 +5,7 @@ use Rattle.rewrite_pass.specs.TraceLines.{words}
 use Rattle.trace_text.specs.Texts.{lines_of}
 use Rattle.trace_check.specs.Outcomes.{IsOutcome, claim}
 use Rattle.trace_check.specs.Progress.{Came, Ends, IsAppended, reached}
-use Rattle.trace_check.specs.Proves.{Claim, IsStuck, StopsAt}
+use Rattle.trace_model.specs.Proves.{Claim, IsStuck, StopsAt}
 use Rattle.trace_check.proofs.ProgressLaws.{came-stops}
 use Rattle.trace_check.proofs.RoutedLaws.{IfOk-map}
 use Rattle.trace_check.proofs.StepLaws.{came-heading}

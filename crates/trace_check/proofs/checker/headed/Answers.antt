@@ -1,10 +1,10 @@
 use Rattle.std.proofs.Common.{◌≡◌, ◌∙◌, ℕ, List, [], ◌∷◌, ap, rules, subst, sym}
 use Rattle.rewrite_pass.specs.TraceLines.{words}
 use Rattle.trace_text.specs.Texts.{lines_of}
-use Rattle.trace_check.specs.Lines.{edition_of}
-use Rattle.trace_check.specs.Proves.{IsStuck, Unread}
-use Rattle.trace_check.specs.Spelling.{AreSmall, spelling}
-use Rattle.trace_check.specs.declared.words.Word.TheVariants as kind
+use Rattle.trace_model.specs.Lines.{edition_of}
+use Rattle.trace_model.specs.Proves.{IsStuck, Unread}
+use Rattle.trace_model.specs.Spelling.{AreSmall, spelling}
+use Rattle.trace_model.specs.declared.word.Word.TheVariants as kind
 use Rattle.trace_check.proofs.KindLaws.{stuck-unread}
 use Rattle.trace_check.proofs.StepLaws.{stuck-heading}
 use Rattle.trace_check.proofs.WordLaws.{none-of, some-of}

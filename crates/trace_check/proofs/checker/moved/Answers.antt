@@ -2,9 +2,9 @@ use Rattle.std.proofs.Common.{◌≡◌, ℕ, List, ◌∷◌, IfOk, MatchOption
 use Rattle.rewrite_pass.specs.TraceLines.{words}
 use Rattle.trace_text.specs.Texts.{lines_of}
 use Rattle.trace_check.specs.Progress.{BlockedWith, LeadsOn}
-use Rattle.trace_check.specs.Spelling.{spelling}
+use Rattle.trace_model.specs.Spelling.{spelling}
 use Rattle.trace_check.specs.declared.mark.Mark.{Mark}
-use Rattle.trace_check.specs.declared.words.Word.TheVariants as kind
+use Rattle.trace_model.specs.declared.word.Word.TheVariants as kind
 use Rattle.trace_check.proofs.checker.moved.Goals as goal
 
 pub returns-then-eq-clause-step : goal.returns-then-eq-clause-step
@@ -16,13 +16,13 @@ returns-then-eq-clause-step c =
     (sym word) c.aim.ensures.step
 
 pub returns-then-eq-clause-known : goal.returns-then-eq-clause-known
-returns-then-eq-clause-known c = c.forget.ensures c.aim.new.state.body.gates c.aim.new.state.body.slots
+returns-then-eq-clause-known c = c.forget.ensures c.aim.new.state.body
 
 pub returns-in_err-meet-clause-known : goal.returns-in_err-meet-clause-known
-returns-in_err-meet-clause-known c = c.forget-then-eq-2.ensures c.meet.new.state.body.gates c.meet.new.state.body.slots
+returns-in_err-meet-clause-known c = c.forget-then-eq-2.ensures c.meet.new.state.body
 
 pub returns-then-branch-clause-known : goal.returns-then-branch-clause-known
-returns-then-branch-clause-known c = c.forget-then-eq-2.ensures c.meet.new.state.body.gates c.meet.new.state.body.slots
+returns-then-branch-clause-known c = c.forget-then-eq-2.ensures c.meet.new.state.body
 
 pub returns-else-branch-clause-known : goal.returns-else-branch-clause-known
-returns-else-branch-clause-known c = c.forget-then-eq-2.ensures c.meet.new.state.body.gates c.meet.new.state.body.slots
+returns-else-branch-clause-known c = c.forget-then-eq-2.ensures c.meet.new.state.body

@@ -4,11 +4,11 @@ use Rattle.circuit_list.specs.declared.Passed.{Passed}
 use Rattle.rewrite_pass.specs.TraceLines.{words}
 use Rattle.trace_text.specs.Texts.{lines_of}
 use Rattle.trace_check.specs.Progress.{Came, IsHeldFit, BlockedWith, LeadsOn, reached}
-use Rattle.trace_check.specs.Proves.{IsStuck}
-use Rattle.trace_check.specs.Spelling.{AreSmall, spelling}
+use Rattle.trace_model.specs.Proves.{IsStuck}
+use Rattle.trace_model.specs.Spelling.{AreSmall, spelling}
 use Rattle.trace_check.specs.declared.goals.Held.{Held}
 use Rattle.trace_check.specs.declared.mark.Mark.{Mark}
-use Rattle.trace_check.specs.declared.words.Word.TheVariants as kind
+use Rattle.trace_model.specs.declared.word.Word.TheVariants as kind
 use Rattle.trace_check.proofs.GoalLaws.{none-held}
 use Rattle.trace_check.proofs.KindLaws.{stuck-nothing, stuck-unread}
 use Rattle.trace_check.proofs.StepLaws.{came-blocked, came-turns, stuck-held}
@@ -23,7 +23,7 @@ lines-init c = record {
   short = c.requires.short;
   later = omega arith;
   held = tt;
-  known = c.nothing-known.ensures c.args.state.now.body.gates c.args.state.now.body.slots;
+  known = c.nothing-known.ensures c.args.state.now.body;
   came = λ e trace n q k is. (n, (k, is));
 }
 

@@ -16,4 +16,4 @@ pub returns-then-join-clause-step : goal.returns-then-join-clause-step
 returns-then-join-clause-step c = (Join c.args.first c.args.second, (ap (λ w. step_named w c.args.first c.args.second) c.in-Join.is, c.if-join.ensures.applies refl))
 
 pub returns-in-Rule-clause-known : goal.returns-in-Rule-clause-known
-returns-in-Rule-clause-known c = c.forget.ensures c.rule.new.body.gates c.rule.new.body.slots
+returns-in-Rule-clause-known c = c.forget.ensures c.rule.new.body

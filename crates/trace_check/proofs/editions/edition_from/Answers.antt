@@ -1,6 +1,6 @@
 use Rattle.std.proofs.Common.{◌≡◌, inl, inr, rules, sym}
 use Rattle.trace_text.specs.Texts.{lines_of}
-use Rattle.trace_check.proofs.StepLaws.{edition-named}
+use Rattle.trace_model.proofs.EditionLaws.{edition-named}
 use Rattle.trace_check.proofs.editions.edition_from.Goals as goal
 
 pub returns-then-number-eq1 : goal.returns-then-number-eq1

@@ -2,7 +2,7 @@
 use Rattle.std.proofs.Common.{◌≡◌, length}
 use Rattle.std.specs.List.{list_any}
 use Rattle.trace_text.specs.Texts.{lines_of}
-use Rattle.trace_check.specs.Lines.{is_later}
+use Rattle.trace_model.specs.Lines.{is_later}
 use Rattle.trace_check.proofs.editions.has_later.Given as goal
 
 abbrev pub invariant-lines : goal.invariant-lines

@@ -3,7 +3,7 @@ use Rattle.circuit_list.specs.declared.Gate.{Gate}
 use Rattle.circuit_list.specs.declared.Gate.TheVariants.{Cx}
 use Rattle.circuit_list.specs.Slots.{place_of}
 use Rattle.trace_check.specs.Elides.{IsReverse}
-use Rattle.trace_check.specs.Proves.{IsFirst}
+use Rattle.trace_model.specs.Proves.{IsFirst}
 use Rattle.trace_check.proofs.ElideLaws.{Told, by-reverse, no-second, no-third}
 use Rattle.trace_check.proofs.elides.swapping_at.Goals as goal
 

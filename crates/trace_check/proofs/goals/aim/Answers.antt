@@ -7,8 +7,8 @@ use Rattle.rewrite_pass.specs.TraceLines.{words}
 use Rattle.trace_text.specs.Texts.{lines_of}
 use Rattle.trace_check.specs.Progress.{LeadsOn}
 use Rattle.trace_check.specs.declared.goals.Held.{Held}
-use Rattle.trace_check.specs.declared.words.Word.TheVariants as kind
-use Rattle.trace_check.specs.Spelling.{AreSmall}
+use Rattle.trace_model.specs.declared.word.Word.TheVariants as kind
+use Rattle.trace_model.specs.Spelling.{AreSmall}
 use Rattle.trace_check.proofs.GoalLaws.{goal-held, goal-turns, no-goal_count, no-goal_gates, none-held, stands-goal}
 use Rattle.trace_check.proofs.WordLaws.{none-of, some-of}
 use Rattle.trace_check.proofs.goals.aim.Goals as goal

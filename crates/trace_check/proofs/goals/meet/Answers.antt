@@ -4,7 +4,7 @@ use Rattle.circuit_list.specs.declared.Passed.{Passed}
 use Rattle.rewrite_pass.specs.TraceLines.{words}
 use Rattle.trace_check.specs.Progress.{LeadsOn}
 use Rattle.trace_check.specs.declared.goals.Held.{Held}
-use Rattle.trace_check.specs.declared.words.Word.TheVariants as kind
+use Rattle.trace_model.specs.declared.word.Word.TheVariants as kind
 use Rattle.trace_check.proofs.GoalLaws.{meet-turns, no_numbers, stands-meet}
 use Rattle.trace_check.proofs.RoutedLaws.{numbers-small}
 use Rattle.trace_check.proofs.WordLaws.{filled}

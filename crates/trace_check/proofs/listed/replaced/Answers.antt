@@ -4,7 +4,7 @@ use Rattle.circuit_list.specs.declared.Passed.{Passed}
 use Rattle.rewrite_pass.specs.TraceLines.{words}
 use Rattle.trace_text.specs.Texts.{lines_of}
 use Rattle.trace_check.specs.Progress.{Leads}
-use Rattle.trace_check.specs.Spelling.{AreSmall, spelling}
+use Rattle.trace_model.specs.Spelling.{AreSmall, spelling}
 use Rattle.trace_check.proofs.StepLaws.{blocked-listed, listed-leads, no-count, no-gates, no-same}
 use Rattle.trace_check.proofs.WordLaws.{none-of, some-of}
 use Rattle.trace_check.proofs.listed.replaced.Goals as goal

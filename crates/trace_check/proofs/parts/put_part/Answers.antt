@@ -1,11 +1,14 @@
-use Rattle.std.proofs.Common.{◌∙◌, ◌+◌, ◌++◌, ◌≤◌, ap, arith, drop, length, take}
-use Rattle.trace_check.proofs.PartStepLaws.{cut-put}
+use Rattle.std.proofs.Common.{◌∙◌, arith, sym}
+use Rattle.std.proofs.lemmas.Result.{on_ok_weaker}
+use Rattle.trace_check.proofs.PartStepLaws.{cut-put, cut-within}
 use Rattle.trace_check.proofs.parts.put_part.Goals as goal
+
+pub insert-requires : goal.insert-requires
+insert-requires c = record {
+  within = omega (arith, c.requires.ordered, c.requires.within, cut-within c.args.body.now.gates c.cut.new.body.gates c.args.first c.args.end c.requires.ordered c.requires.within c.cut.ensures.gates);
+  wires = c.requires.wires ∙ sym c.cut.ensures.wires;
+}
 
 pub returns-clause-gates : goal.returns-clause-gates
 returns-clause-gates c =
-    let end = c.args.end in
-    let few : c.args.first + length c.args.gates.now.gates ≤ end = omega (arith, c.len-count.ensures.value, c.if-count-end.false, c.requires.ordered) in
-    c.cut.ensures.gates
-    ∙ ap (λ k. take (c.args.first + k) c.write_over.new.body.gates ++ drop end c.write_over.new.body.gates) c.len-count.ensures.value
-    ∙ cut-put c.args.body.now.gates c.args.gates.now.gates c.write_over.new.body.gates c.args.first end few c.requires.within c.write_over.ensures.gates
+    on_ok_weaker c.insert.result (λ e. e ∙ cut-put c.args.body.now.gates c.args.gates.now.gates c.cut.new.body.gates c.args.first c.args.end c.requires.ordered c.requires.within c.cut.ensures.gates) c.insert.ensures.gates

@@ -5,8 +5,8 @@ use Rattle.circuit_list.specs.declared.Passed.{Passed}
 use Rattle.path_parity.specs.NamedSums.{SamePathSum}
 use Rattle.rewrite_pass.specs.Traces.{constants_turn}
 use Rattle.trace_text.specs.Texts.{lines_of}
-use Rattle.trace_check.specs.Spelling.{AreSmall}
-use Rattle.trace_check.specs.Proves.{slice_of}
+use Rattle.trace_model.specs.Spelling.{AreSmall}
+use Rattle.trace_model.specs.Proves.{slice_of}
 use Rattle.trace_check.proofs.PartStepLaws.{blocked-part, no-order, no-part_gates, no-part_sum, no-three, part-leads}
 use Rattle.trace_check.proofs.WordLaws.{none-of, some-of}
 use Rattle.trace_check.proofs.parts.replaced_part.Goals as goal

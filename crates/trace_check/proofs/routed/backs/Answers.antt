@@ -1,6 +1,6 @@
 use Rattle.std.proofs.Common.{◌++◌, List, slice_index, refl}
 use Rattle.circuit_list.specs.declared.Gate.{Gate}
-use Rattle.trace_check.specs.Proves.{Routed, turned_cx}
+use Rattle.trace_model.specs.Proves.{Routed, turned_cx}
 use Rattle.trace_check.specs.Progress.{placed}
 use Rattle.trace_check.proofs.RoutedLaws.{numbers-small, backs-goes, backs-halts, stuck-backs}
 use Rattle.trace_check.proofs.routed.backs.Goals as goal

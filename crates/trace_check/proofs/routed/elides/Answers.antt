@@ -1,5 +1,5 @@
 use Rattle.std.proofs.Common.{refl, subst, sym}
-use Rattle.trace_check.specs.Proves.{Routed}
+use Rattle.trace_model.specs.Proves.{Routed}
 use Rattle.trace_check.specs.Progress.{IsAppended, placed}
 use Rattle.trace_check.proofs.RoutedLaws.{elides-goes, elides-halts, numbers-small, stuck-elides}
 use Rattle.trace_check.proofs.routed.elides.Goals as goal

@@ -1,6 +1,6 @@
 use Rattle.std.proofs.Common.{◌++◌, ◌∷◌, [], List, refl}
 use Rattle.circuit_list.specs.declared.Gate.{Gate}
-use Rattle.trace_check.specs.Proves.{Routed, on_qubits}
+use Rattle.trace_model.specs.Proves.{Routed, on_qubits}
 use Rattle.trace_check.specs.Progress.{placed}
 use Rattle.trace_check.proofs.RoutedLaws.{numbers-small, emits-goes, emits-halts, stuck-emits}
 use Rattle.trace_check.proofs.routed.emits.Goals as goal

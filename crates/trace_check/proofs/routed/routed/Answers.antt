@@ -3,9 +3,9 @@ use Rattle.std.specs.Prelude.{codes}
 use Rattle.rewrite_pass.specs.TraceLines.{words}
 use Rattle.trace_text.specs.Texts.{lines_of}
 use Rattle.trace_check.specs.Progress.{Halts, Moves, placed}
-use Rattle.trace_check.specs.Proves.{IsStuck, Placed, Proves, Routed}
-use Rattle.trace_check.specs.Spelling.{AreSmall, spelling}
-use Rattle.trace_check.specs.declared.words.Word.TheVariants as kind
+use Rattle.trace_model.specs.Proves.{IsStuck, Placed, Proves, Routed}
+use Rattle.trace_model.specs.Spelling.{AreSmall, spelling}
+use Rattle.trace_model.specs.declared.word.Word.TheVariants as kind
 use Rattle.trace_check.proofs.KindLaws.{stuck-nothing, stuck-unread}
 use Rattle.trace_check.proofs.WalkLaws.{empty-lines, routed-more, routed-proves, routed-stops, stuck-before, stuck-unequal}
 use Rattle.trace_check.proofs.WordLaws.{filled, items-small, none-of, some-of}

@@ -2,7 +2,7 @@ use Rattle.std.proofs.Common.{◌≡◌, ℕ, ◌+◌, ◌<◌, ◌^◌, List, l
 use Rattle.circuit_list.specs.declared.Gate.{Gate}
 use Rattle.trace_text.specs.Texts.{lines_of}
 use Rattle.trace_check.specs.Progress.{Came, Ends, IsRouting, IsAppended, placed}
-use Rattle.trace_check.specs.Proves.{Claim, Routed}
+use Rattle.trace_model.specs.Proves.{Claim, Routed}
 use Rattle.trace_check.proofs.routed.routed.Given as goal
 
 abbrev pub invariant-lines : goal.invariant-lines

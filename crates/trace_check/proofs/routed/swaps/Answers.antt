@@ -1,6 +1,6 @@
 use Rattle.std.proofs.Common.{◌++◌, List, refl}
 use Rattle.circuit_list.specs.declared.Gate.{Gate}
-use Rattle.trace_check.specs.Proves.{Routed, swap_cx}
+use Rattle.trace_model.specs.Proves.{Routed, swap_cx}
 use Rattle.trace_check.specs.Progress.{placed}
 use Rattle.trace_check.proofs.RoutedLaws.{numbers-small, swaps-goes, swaps-halts, stuck-swaps}
 use Rattle.trace_check.proofs.routed.swaps.Goals as goal

@@ -1,6 +1,6 @@
 use Rattle.std.proofs.Common.{◌++◌, List, refl}
 use Rattle.circuit_list.specs.declared.Gate.{Gate}
-use Rattle.trace_check.specs.Proves.{Routed, turn_cx}
+use Rattle.trace_model.specs.Proves.{Routed, turn_cx}
 use Rattle.trace_check.specs.Progress.{placed}
 use Rattle.trace_check.proofs.RoutedLaws.{numbers-small, turns-goes, turns-halts, stuck-turns}
 use Rattle.trace_check.proofs.routed.turns.Goals as goal

@@ -1,0 +1,4 @@
+pub mod PairLaws
+pub mod KnownLaws
+pub mod EditLaws
+pub mod RuleLaws

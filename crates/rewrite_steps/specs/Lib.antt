@@ -1,0 +1,5 @@
+-- ---- definitions that public clauses reach
+pub mod Known
+-- ---- working forms
+pub mod Pairs
+pub mod RuleWindows
