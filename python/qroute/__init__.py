@@ -62,7 +62,7 @@ __all__ = [
     "stages",
     "verify",
 ]
-__version__ = "0.14.0"
+__version__ = "0.15.0"
 
 HERE = pathlib.Path(__file__).resolve().parent
 MOST_TRIES = 256
@@ -115,8 +115,11 @@ SAYS = {
     "BitsLength": "a basis state has a 0 or 1 for each of the program's {qubits} qubits",
     "TooManySpares": "with {spares} spare wires behind the program's {qubits} there are more than 256 qubits",
     "Trace": "line {line} of the trace doesn't apply, or is missing",
+    "Placed": "a wire begins or ends on another qubit than that of its own number",
+    "Reads": "a classical bit reads another wire than in the source, or the registers differ",
+    "Edge": "operation {operation} of the target is a CNOT that follows no edge of the device",
 }
-# The most bytes that a program has, and those of the target of `verify`.
+# The most bytes that a program has, and those of the target of `verify`, and of its trace.
 MOST_BYTES = 4_194_304
 MOST_BYTES_OF_TARGET = 67_108_864
 # What ends without a line of its own, by the status.
@@ -125,7 +128,7 @@ SILENT = {7: "memory was wanting; nothing was written at all", 8: "the report fa
 
 def says(told: collections.abc.Mapping[str, typing.Any]) -> str:
     """What a fault line means, in words."""
-    most = MOST_BYTES_OF_TARGET if told.get("text") == "target" else MOST_BYTES
+    most = MOST_BYTES_OF_TARGET if told.get("text") in ("target", "trace") else MOST_BYTES
     try:
         return SAYS[told["fault"]].format(**{"most": most} | told)
     except KeyError:
@@ -162,7 +165,7 @@ class NoCommand(Fault):
 class Refused(Fault):
     """The text was refused. If the refusal has a place, `line` and `column` give it from 1, and `offset` in bytes.
 
-    `which` is `source` or `target` if `verify` was asked.
+    `which` is `source`, `target` or `trace` if `verify` was asked.
     """
 
     def __init__(self, told: dict[str, typing.Any], status: int, text: bytes) -> None:
@@ -178,12 +181,15 @@ class Refused(Fault):
 
 
 class NotShown(Fault):
-    """The trace doesn't show that the target is the source. `line` is the first of its lines, from 1, that doesn't apply, or is
-    missing; it counts the lines of the trace alone.
+    """The trace doesn't show that the target is the source, or what was asked of the target besides isn't so.
+
+    `line` is the first of the trace's lines, from 1, that doesn't apply, or is missing; it counts the lines of the trace alone.
+    `operation` is the first of the target's, from 1, that is a CNOT along no edge. Of another no both are None.
     """
 
     def __init__(self, told: dict[str, typing.Any], status: int) -> None:
         self.line: int | None = told.get("line")
+        self.operation: int | None = told.get("operation")
         super().__init__(told, status)
 
 
@@ -431,16 +437,20 @@ class Checked:
 
 @dataclasses.dataclass(frozen=True)
 class Verdict:
-    """What `verify` finds of two texts; it counts as true exactly if the trace shows that the target is the source.
+    """What `verify` finds of two texts; it counts as true exactly if the trace shows that the target is the source, and what was asked is so.
 
     `phase` is then the power J: the target's unitary is exp(i pi/4) to the power J times the source's, with the wires on the
-    qubits that the trace says. Otherwise `line` is the first line of the trace, from 1, that doesn't apply or is missing,
-    and `why` says so in words.
+    qubits that the trace says. With `placements` these are `initial` and `final`: entry i is the qubit on which wire i begins
+    and ends, spare wires included. Otherwise `why` says in words why not; `line` is the first line of the trace, from 1, that
+    doesn't apply or is missing, and `operation` the first CNOT of the target, among its operations from 1, that follows no edge.
     """
 
     proved: bool
     phase: int | None = None
+    initial: tuple[int, ...] | None = None
+    final: tuple[int, ...] | None = None
     line: int | None = None
+    operation: int | None = None
     why: str = ""
     fault: NotShown | None = dataclasses.field(default=None, repr=False, compare=False)
 
@@ -664,31 +674,54 @@ def route(
         return result(*run(words, as_bytes(text), timeout))
 
 
-def verify(source: str | bytes, target: str | bytes, *, timeout: float | None = None) -> Verdict:
+def verify(
+    source: str | bytes,
+    target: str | bytes,
+    *,
+    placements: bool = False,
+    in_place: bool = False,
+    reads: bool = False,
+    device: Device | None = None,
+    trace: str | bytes | None = None,
+    timeout: float | None = None,
+) -> Verdict:
     """Whether the trace in the target's text shows that its unitary is the source's up to a power of exp(i pi/4), whoever wrote it.
 
-    A no is an answer, no exception; `verify(..).demand()` raises `NotShown` for it. A text that is refused raises `Refused`.
+    With `trace` the trace is that text, whose lines don't begin with `//!`. With `in_place` each wire has to begin and end on the
+    qubit of its own number; with `reads` each classical bit has to read what it reads in the source; with a `device` each CNOT
+    has to follow an edge of it. With `placements` the verdict tells where the wires begin and end.
+
+    A no is an answer, no exception; `verify(..).demand()` raises `NotShown` for it. A text that is refused raises `Refused`, and
+    a device that is refused, or has fewer qubits than the target, `DeviceRefused`.
 
     >>> text = 'OPENQASM 2.0; include "qelib1.inc"; qreg q[3]; ccx q[0],q[1],q[2];'
     >>> found = route(text, Device.named("line_5"), trace=True)
     >>> verify(text, found.text).demand() == found.phase
     True
     >>> verify(text, text)
-    Verdict(proved=False, phase=None, line=1, why="line 1 of the trace doesn't apply, or is missing")
+    Verdict(proved=False, phase=None, initial=None, final=None, line=1, operation=None, why="line 1 of the trace doesn't apply, or is missing")
+    >>> wires = verify(text, found.text, placements=True, reads=True, device=Device.named("line_5"))
+    >>> (wires.initial, wires.final) == (found.initial, found.final)
+    True
     """
     named = {"source": as_bytes(source), "target": as_bytes(target)}
+    if trace is not None:
+        named["trace"] = as_bytes(trace)
+    files = named if device is None else named | {"device": device.text.encode()}
     with tempfile.TemporaryDirectory() as room:
         words = ["verify"]
-        for name, text in named.items():
-            path = os.path.join(room, f"{name}.qasm")
+        for name, text in files.items():
+            path = os.path.join(room, name)
             with open(path, "wb") as file:
                 file.write(text)
             words += [f"--{name}", path]
         try:
-            written, _ = run(words, b"", timeout, named)
+            written, _ = run([*words, *flags(placements=placements, in_place=in_place, reads=reads)], b"", timeout, named)
         except NotShown as fault:
-            return Verdict(proved=False, line=fault.line, why=fault.says, fault=fault)
-    return Verdict(proved=True, phase=int(written.removeprefix("yes ")))
+            return Verdict(proved=False, line=fault.line, operation=fault.operation, why=fault.says, fault=fault)
+    yes, _, told = written.partition("\n")
+    wires = {name: as_tuples(it) for name, it in json.loads(told).items() if name != "phase"} if placements else {}
+    return Verdict(proved=True, phase=int(yes.removeprefix("yes ")), **wires)
 
 
 def check(text: str | bytes, *, timeout: float | None = None) -> Checked:

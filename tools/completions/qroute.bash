@@ -29,7 +29,7 @@ _qroute() {
             [[ " ${COMP_WORDS[*]:2} " == *" --keep-barriers "* || " ${COMP_WORDS[*]:2} " == *" --clean "* ]] || options+=" --trace"
             [[ " ${COMP_WORDS[*]:2} " == *" --trace "* ]] || options+=" --keep-barriers --clean"
             ;;
-        verify) options="--source --target" ;;
+        verify) options="--source --target --trace --device --in-place --reads --placements" ;;
         amplitude) options="--from --to" ;;
         bench) options="--start --gates --device" ;;
     esac
@@ -37,6 +37,7 @@ _qroute() {
         --start | --gates | --from | --to | --spares | --initial | --tries) return ;;
         --device) ending=toml ;;
         --source | --target) ending=qasm ;;
+        --trace) [ "${COMP_WORDS[1]}" = verify ] && ending='*' ;;
     esac
     if [ -z "$options" ]; then
         return

@@ -35,13 +35,14 @@ class Completions(unittest.TestCase):
         cd devices; asked qroute route --device =
         """
         *found, devices = said("bash", "-c", script).splitlines()
+        asks = "--target --trace --device --in-place --reads --placements"
         self.assertEqual(sorted(devices.split()), sorted(os.listdir(os.path.join(TOP, "devices"))))
         self.assertEqual(
             found,
             [
                 *("opt route verify check stages amplitude bench", "route", "--device --trivial --initial --tries --trace --keep-barriers --clean"),
                 *("--device --trace --keep-barriers --clean", "--keep-barriers --spares"),
-                *("devices/line_5.toml", "--trivial --initial --tries", "--source --target", "--target", "examples/bell.qasm", "", "examples/ghz.qasm"),
+                *("devices/line_5.toml", "--trivial --initial --tries", f"--source {asks}", asks, "examples/bell.qasm", "", "examples/ghz.qasm"),
                 *("--start --gates --device", "--start --device", "", "devices/line_5.toml"),
                 *("devices/line_5.toml", "--trivial --initial --tries --trace --keep-barriers --clean", "", "--from --to", "--to"),
                 *("--keep-barriers --spares", "", "--trivial --initial --tries --keep-barriers", "--trivial --initial --tries --clean"),
@@ -67,7 +68,7 @@ class Completions(unittest.TestCase):
         self.assertEqual(asked("qroute opt --keep-barriers --"), [])
         self.assertEqual(asked("qroute stages --"), ["--spares"])
         self.assertEqual(asked("qroute route --device devices/line"), ["devices/line_5.toml"])
-        self.assertEqual(sorted(asked("qroute verify --")), ["--source", "--target"])
+        self.assertEqual(sorted(asked("qroute verify --")), ["--device", "--in-place", "--placements", "--reads", "--source", "--target", "--trace"])
         self.assertEqual(asked("qroute verify --source examples/bel"), ["examples/bell.qasm"])
         self.assertEqual(sorted(asked("qroute bench --")), ["--device", "--gates", "--start"])
         self.assertEqual(sorted(asked("qroute amplitude --")), ["--from", "--to"])

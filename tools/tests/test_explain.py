@@ -169,6 +169,22 @@ class Explain(ToolTest):
             _, out, _ = self.explained('{"code":60,"fault":"TextTooLong","status":3,"text":"%s"}' % which, *words)
             self.assertEqual(out, f"{path}: TextTooLong: the program is longer than {most} bytes\n")
 
+    def test_what_is_asked_besides(self):
+        source, target = self.file("s.qasm", HEAD + "qreg q[2];\n"), self.file("t.qasm", HEAD + "qreg q[2];\ncx q[0],q[1];\n")
+        trace = self.file("t.trace", "TRACE 1\nplace 0 1\nend 1\n")
+        words = (source, "--target", target)
+        says = "a wire begins or ends on another qubit than that of its own number"
+        self.assertEqual(self.explained('{"fault":"Placed","status":1}', *words)[1], f"{target}: Placed: {says}\n")
+        says = "operation 1 of the target is a CNOT that follows no edge of the device"
+        self.assertEqual(self.explained('{"fault":"Edge","operation":1,"status":1}', *words)[1], f"{target}: Edge: {says}\n")
+        line = '{"fault":"Trace","line":%d,"status":1}'
+        out = self.explained(line % 3, *words, "--trace", trace)[1]
+        self.assertEqual(out, f"{trace}:3:1: Trace: line 3 of the trace doesn't apply\n    end 1\n    ^\n")
+        out = self.explained(line % 4, *words, "--trace", trace)[1]
+        self.assertEqual(out.splitlines()[0], f"{trace}:3:6: Trace: line 4 of the trace is missing; the text ends here")
+        out = self.explained('{"code":60,"fault":"TextTooLong","status":3,"text":"trace"}', *words, "--trace", trace)[1]
+        self.assertEqual(out, f"{trace}: TextTooLong: the program is longer than 67,108,864 bytes\n")
+
     def test_files_that_verify_misses(self):
         there, none = self.file("s.qasm", HEAD), f"{self.room}/none"
         absent, shelf = '{"fault":"Absent","status":9}', '{"fault":"Shelf","status":9}'

@@ -202,6 +202,32 @@ class Module(StoodIn):
         words = self.given("words").split()
         self.assertEqual((words[0], words[1::2], len(words)), ("verify", ["--source", "--target"], 5))
 
+    def test_what_verify_is_asked(self):
+        self.answers(0, 'yes 3\n{"final":[1,0],"initial":[0,1],"phase":3}\n')
+        verdict = qroute.verify(SOURCE, SOURCE, placements=True, in_place=True, reads=True, device=qroute.Device.of([(0, 1)]), trace="TRACE 1\n")
+        self.assertEqual(verdict, qroute.Verdict(proved=True, phase=3, initial=(0, 1), final=(1, 0)))
+        words = self.given("words").split()
+        self.assertEqual(words[1:9:2], ["--source", "--target", "--trace", "--device"])
+        self.assertEqual(words[9:], ["--placements", "--in-place", "--reads"])
+        for told, says in (
+            ({"fault": "Placed", "status": 1}, "a wire begins or ends on another qubit than that of its own number"),
+            ({"fault": "Reads", "status": 1}, "a classical bit reads another wire than in the source, or the registers differ"),
+            ({"fault": "Edge", "operation": 4, "status": 1}, "operation 4 of the target is a CNOT that follows no edge of the device"),
+        ):
+            self.answers(1, "", told)
+            verdict = qroute.verify(SOURCE, SOURCE, in_place=True)
+            self.assertEqual((verdict.proved, verdict.line, verdict.operation, verdict.why), (False, None, told.get("operation"), says))
+            with self.assertRaises(qroute.NotShown) as caught:
+                verdict.demand()
+            self.assertEqual((caught.exception.name, caught.exception.operation), (told["fault"], told.get("operation")))
+        self.answers(3, "", {"code": 60, "fault": "TextTooLong", "status": 3, "text": "trace"})
+        with self.assertRaises(qroute.Refused) as refused:
+            qroute.verify(SOURCE, SOURCE, trace=b"")
+        self.assertEqual((refused.exception.which, refused.exception.says), ("trace", "the program is longer than 67,108,864 bytes"))
+        self.answers(4, "", {"code": 56, "device": 1, "fault": "TooFewQubits", "qubits": 2, "status": 4})
+        with self.assertRaises(qroute.DeviceRefused):
+            qroute.verify(SOURCE, SOURCE, device=qroute.Device.of([(0, 1)]))
+
     def fault(self, kind, status, told, call=lambda: qroute.opt(SOURCE)):
         self.answers(status, "", told)
         with self.assertRaises(kind) as caught:

@@ -10,18 +10,21 @@
 //! after all passes, and the steps that led to it. There is no bad input: each program is written, and only memory may be wanting.
 //!
 //! `parted` is the program as it is handed in, `passes` the passes in their order, `parts` puts together what is made of the parts,
-//! `cost` adds up what CNOTs cost, `tries` finds where the runs begin, and `traces` says what is asked of who writes a trace.
+//! `cost` adds up what CNOTs cost, `tries` finds where the runs begin, `reads` where the
+//! classical bits read, and `traces` says what is asked of who writes a trace.
 #![tactic(auto)]
 
 mod cost;
 mod parted;
 mod parts;
 mod passes;
+mod reads;
 mod target;
 mod traces;
 mod tries;
 
 pub use parted::PartedProgram;
 pub use passes::Rewritten;
+pub use reads::placed_reads;
 pub use target::{Target, Wishes, in_place, optimised, routed};
 pub use traces::RunTraces;

@@ -14,6 +14,7 @@
 --   of_bench, of_bench_..            `bench` with its start, gates and device
 --   of_amplitude, ..                 `amplitude` with its bits
 --   of_verify, ..                    `verify` with its names
+--   of_verify_device, ..             .. and with `--device`, `--trace`, `--placements`, `--in-place` or `--reads`, or all of them
 --   no_.., and other of_..           words that mean no command
 use Rattle.std.proofs.Common.{◌≡◌, ℕ, List, [], ◌∷◌, Some, None, refl, codes, true, false}
 use Rattle.std.specs.Fmt.{digits}
@@ -402,31 +403,31 @@ pub no_trace_of_opt : (name : List ℕ) → command_of (name ∷ codes "opt" ∷
 unfolding clap_on_literals
 no_trace_of_opt name = refl
 
-pub of_verify : (name : List ℕ) → command_of (name ∷ codes "verify" ∷ codes "--source" ∷ codes "a" ∷ codes "--target" ∷ codes "b" ∷ []) ≡ Some (Verify (codes "a") (codes "b"))
+pub of_verify : (name : List ℕ) → command_of (name ∷ codes "verify" ∷ codes "--source" ∷ codes "a" ∷ codes "--target" ∷ codes "b" ∷ []) ≡ Some (Verify (record { source = codes "a"; target = codes "b"; trace = None; device = None; placements = false; in_place = false; reads = false }))
 unfolding clap_on_literals
 of_verify name = refl
 
-pub of_verify_target_first : (name : List ℕ) → command_of (name ∷ codes "verify" ∷ codes "--target" ∷ codes "b" ∷ codes "--source" ∷ codes "a" ∷ []) ≡ Some (Verify (codes "a") (codes "b"))
+pub of_verify_target_first : (name : List ℕ) → command_of (name ∷ codes "verify" ∷ codes "--target" ∷ codes "b" ∷ codes "--source" ∷ codes "a" ∷ []) ≡ Some (Verify (record { source = codes "a"; target = codes "b"; trace = None; device = None; placements = false; in_place = false; reads = false }))
 unfolding clap_on_literals
 of_verify_target_first name = refl
 
-pub of_verify_equals : (name : List ℕ) → command_of (name ∷ codes "verify" ∷ codes "--source=a" ∷ codes "--target=b" ∷ []) ≡ Some (Verify (codes "a") (codes "b"))
+pub of_verify_equals : (name : List ℕ) → command_of (name ∷ codes "verify" ∷ codes "--source=a" ∷ codes "--target=b" ∷ []) ≡ Some (Verify (record { source = codes "a"; target = codes "b"; trace = None; device = None; placements = false; in_place = false; reads = false }))
 unfolding clap_on_literals
 of_verify_equals name = refl
 
-pub of_verify_dashes : (name : List ℕ) → command_of (name ∷ codes "verify" ∷ codes "--source" ∷ codes "a" ∷ codes "--target" ∷ codes "b" ∷ codes "--" ∷ []) ≡ Some (Verify (codes "a") (codes "b"))
+pub of_verify_dashes : (name : List ℕ) → command_of (name ∷ codes "verify" ∷ codes "--source" ∷ codes "a" ∷ codes "--target" ∷ codes "b" ∷ codes "--" ∷ []) ≡ Some (Verify (record { source = codes "a"; target = codes "b"; trace = None; device = None; placements = false; in_place = false; reads = false }))
 unfolding clap_on_literals
 of_verify_dashes name = refl
 
-pub of_verify_dash : (name : List ℕ) → command_of (name ∷ codes "verify" ∷ codes "--source" ∷ codes "-" ∷ codes "--target=-x" ∷ []) ≡ Some (Verify (codes "-") (codes "-x"))
+pub of_verify_dash : (name : List ℕ) → command_of (name ∷ codes "verify" ∷ codes "--source" ∷ codes "-" ∷ codes "--target=-x" ∷ []) ≡ Some (Verify (record { source = codes "-"; target = codes "-x"; trace = None; device = None; placements = false; in_place = false; reads = false }))
 unfolding clap_on_literals
 of_verify_dash name = refl
 
-pub of_verify_empty : (name : List ℕ) → command_of (name ∷ codes "verify" ∷ codes "--source=" ∷ codes "--target" ∷ [] ∷ []) ≡ Some (Verify [] [])
+pub of_verify_empty : (name : List ℕ) → command_of (name ∷ codes "verify" ∷ codes "--source=" ∷ codes "--target" ∷ [] ∷ []) ≡ Some (Verify (record { source = []; target = []; trace = None; device = None; placements = false; in_place = false; reads = false }))
 unfolding clap_on_literals
 of_verify_empty name = refl
 
-pub of_verify_one_text : (name : List ℕ) → command_of (name ∷ codes "verify" ∷ codes "--source" ∷ codes "a" ∷ codes "--target" ∷ codes "a" ∷ []) ≡ Some (Verify (codes "a") (codes "a"))
+pub of_verify_one_text : (name : List ℕ) → command_of (name ∷ codes "verify" ∷ codes "--source" ∷ codes "a" ∷ codes "--target" ∷ codes "a" ∷ []) ≡ Some (Verify (record { source = codes "a"; target = codes "a"; trace = None; device = None; placements = false; in_place = false; reads = false }))
 unfolding clap_on_literals
 of_verify_one_text name = refl
 
@@ -462,13 +463,69 @@ pub no_dashed_target : (name : List ℕ) → command_of (name ∷ codes "verify"
 unfolding clap_on_literals
 no_dashed_target name = refl
 
-pub no_trace_of_verify : (name : List ℕ) → command_of (name ∷ codes "verify" ∷ codes "--source" ∷ codes "a" ∷ codes "--target" ∷ codes "b" ∷ codes "--trace" ∷ []) ≡ None
+pub no_trace_without_name : (name : List ℕ) → command_of (name ∷ codes "verify" ∷ codes "--source" ∷ codes "a" ∷ codes "--target" ∷ codes "b" ∷ codes "--trace" ∷ []) ≡ None
 unfolding clap_on_literals
-no_trace_of_verify name = refl
+no_trace_without_name name = refl
 
-pub no_device_of_verify : (name : List ℕ) → command_of (name ∷ codes "verify" ∷ codes "--source" ∷ codes "a" ∷ codes "--target" ∷ codes "b" ∷ codes "--device" ∷ codes "d" ∷ []) ≡ None
+pub of_verify_device : (name : List ℕ) → command_of (name ∷ codes "verify" ∷ codes "--source" ∷ codes "a" ∷ codes "--target" ∷ codes "b" ∷ codes "--device" ∷ codes "d" ∷ []) ≡ Some (Verify (record { source = codes "a"; target = codes "b"; trace = None; device = Some (codes "d"); placements = false; in_place = false; reads = false }))
 unfolding clap_on_literals
-no_device_of_verify name = refl
+of_verify_device name = refl
+
+pub of_verify_trace : (name : List ℕ) → command_of (name ∷ codes "verify" ∷ codes "--source" ∷ codes "a" ∷ codes "--target" ∷ codes "b" ∷ codes "--trace" ∷ codes "u" ∷ []) ≡ Some (Verify (record { source = codes "a"; target = codes "b"; trace = Some (codes "u"); device = None; placements = false; in_place = false; reads = false }))
+unfolding clap_on_literals
+of_verify_trace name = refl
+
+pub of_verify_trace_equals : (name : List ℕ) → command_of (name ∷ codes "verify" ∷ codes "--source" ∷ codes "a" ∷ codes "--target" ∷ codes "b" ∷ codes "--trace=u" ∷ []) ≡ Some (Verify (record { source = codes "a"; target = codes "b"; trace = Some (codes "u"); device = None; placements = false; in_place = false; reads = false }))
+unfolding clap_on_literals
+of_verify_trace_equals name = refl
+
+pub of_verify_placements : (name : List ℕ) → command_of (name ∷ codes "verify" ∷ codes "--source" ∷ codes "a" ∷ codes "--target" ∷ codes "b" ∷ codes "--placements" ∷ []) ≡ Some (Verify (record { source = codes "a"; target = codes "b"; trace = None; device = None; placements = true; in_place = false; reads = false }))
+unfolding clap_on_literals
+of_verify_placements name = refl
+
+pub of_verify_in_place : (name : List ℕ) → command_of (name ∷ codes "verify" ∷ codes "--source" ∷ codes "a" ∷ codes "--target" ∷ codes "b" ∷ codes "--in-place" ∷ []) ≡ Some (Verify (record { source = codes "a"; target = codes "b"; trace = None; device = None; placements = false; in_place = true; reads = false }))
+unfolding clap_on_literals
+of_verify_in_place name = refl
+
+pub of_verify_reads : (name : List ℕ) → command_of (name ∷ codes "verify" ∷ codes "--source" ∷ codes "a" ∷ codes "--target" ∷ codes "b" ∷ codes "--reads" ∷ []) ≡ Some (Verify (record { source = codes "a"; target = codes "b"; trace = None; device = None; placements = false; in_place = false; reads = true }))
+unfolding clap_on_literals
+of_verify_reads name = refl
+
+pub of_verify_all : (name : List ℕ) → command_of (name ∷ codes "verify" ∷ codes "--source" ∷ codes "a" ∷ codes "--target" ∷ codes "b" ∷ codes "--reads" ∷ codes "--trace" ∷ codes "u" ∷ codes "--in-place" ∷ codes "--device=d" ∷ codes "--placements" ∷ []) ≡ Some (Verify (record { source = codes "a"; target = codes "b"; trace = Some (codes "u"); device = Some (codes "d"); placements = true; in_place = true; reads = true }))
+unfolding clap_on_literals
+of_verify_all name = refl
+
+pub no_second_device_of_verify : (name : List ℕ) → command_of (name ∷ codes "verify" ∷ codes "--source" ∷ codes "a" ∷ codes "--target" ∷ codes "b" ∷ codes "--device" ∷ codes "d" ∷ codes "--device" ∷ codes "d" ∷ []) ≡ None
+unfolding clap_on_literals
+no_second_device_of_verify name = refl
+
+pub no_second_trace_of_verify : (name : List ℕ) → command_of (name ∷ codes "verify" ∷ codes "--source" ∷ codes "a" ∷ codes "--target" ∷ codes "b" ∷ codes "--trace" ∷ codes "u" ∷ codes "--trace" ∷ codes "u" ∷ []) ≡ None
+unfolding clap_on_literals
+no_second_trace_of_verify name = refl
+
+pub no_second_placements : (name : List ℕ) → command_of (name ∷ codes "verify" ∷ codes "--source" ∷ codes "a" ∷ codes "--target" ∷ codes "b" ∷ codes "--placements" ∷ codes "--placements" ∷ []) ≡ None
+unfolding clap_on_literals
+no_second_placements name = refl
+
+pub no_value_of_in_place : (name : List ℕ) → command_of (name ∷ codes "verify" ∷ codes "--source" ∷ codes "a" ∷ codes "--target" ∷ codes "b" ∷ codes "--in-place=true" ∷ []) ≡ None
+unfolding clap_on_literals
+no_value_of_in_place name = refl
+
+pub no_second_reads : (name : List ℕ) → command_of (name ∷ codes "verify" ∷ codes "--source" ∷ codes "a" ∷ codes "--target" ∷ codes "b" ∷ codes "--reads" ∷ codes "--reads" ∷ []) ≡ None
+unfolding clap_on_literals
+no_second_reads name = refl
+
+pub no_empty_device_word : (name : List ℕ) → command_of (name ∷ codes "verify" ∷ codes "--source" ∷ codes "a" ∷ codes "--target" ∷ codes "b" ∷ codes "--device" ∷ []) ≡ None
+unfolding clap_on_literals
+no_empty_device_word name = refl
+
+pub no_place_of_verify : (name : List ℕ) → command_of (name ∷ codes "verify" ∷ codes "--source" ∷ codes "a" ∷ codes "--target" ∷ codes "b" ∷ codes "--in_place" ∷ []) ≡ None
+unfolding clap_on_literals
+no_place_of_verify name = refl
+
+pub no_trivial_of_verify : (name : List ℕ) → command_of (name ∷ codes "verify" ∷ codes "--source" ∷ codes "a" ∷ codes "--target" ∷ codes "b" ∷ codes "--trivial" ∷ []) ≡ None
+unfolding clap_on_literals
+no_trivial_of_verify name = refl
 
 pub of_opt_kept : (name : List ℕ) → command_of (name ∷ codes "opt" ∷ codes "--keep-barriers" ∷ []) ≡ Some (Opt true)
 unfolding clap_on_literals

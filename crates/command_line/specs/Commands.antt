@@ -11,7 +11,9 @@
 --   route_command       .. and with `--keep-barriers` and `--clean`, so with all that it takes
 --   bench_command       the subcommand `bench`, which takes `--start`, `--gates` and `--device`
 --   amplitude_command   the subcommand `amplitude`, which takes `--from` and `--to`
---   verify_command      the subcommand `verify`, which takes `--source` and `--target`
+--   texts_command       the subcommand `verify` with `--source` and `--target`
+--   checked_command     .. and with `--placements`, `--in-place` and `--reads`
+--   verify_command      .. and with `--device` and `--trace`, so with all that it takes
 --   plain_commands      the program with the subcommands that need no value
 --   device_commands     .. and with those that take a device
 --   entry_commands      .. and with `amplitude`
@@ -50,6 +52,8 @@
 --   from_of, to_of      the bits behind `--from` and `--to`
 --   amplitude_of rows   what `amplitude` asks for, with what was matched
 --   source_of, target_of the names behind `--source` and `--target`
+--   own_trace_of rows   the name behind `--trace` of `verify`, none where there is none
+--   verifying_of rows source target   what `verify` asks for of the two texts of these names
 --   verify_of rows      what `verify` asks for, with what was matched
 --   meaning name rows   what the subcommand of this name asks for, with what it matched
 --   command_of words    the command that the words mean, the program's name first; none where they mean none
@@ -68,6 +72,7 @@ use Rattle.command_line.specs.declared.commands.Begin.{Begin}
 use Rattle.command_line.specs.declared.commands.Begin.TheVariants.{Trivial, Listed, Tries}
 use Rattle.command_line.specs.declared.commands.Command.{Command}
 use Rattle.command_line.specs.declared.commands.Command.TheVariants.{Opt, OptWithSpares, Route, Check, Stages, Bench, Amplitude, Verify}
+use Rattle.command_line.specs.declared.commands.Verifying.{Verifying}
 
 abbrev pub root_command : App
 root_command = on_top (λ s. record s {
@@ -121,8 +126,15 @@ bench_command = with_rule (with_rule (with_rule (new_app (codes "bench")) (neede
 abbrev pub amplitude_command : App
 amplitude_command = with_rule (with_rule (new_app (codes "amplitude")) (needed_option (codes "from"))) (needed_option (codes "to"))
 
+abbrev pub texts_command : App
+texts_command = with_rule (with_rule (new_app (codes "verify")) (needed_option (codes "source"))) (needed_option (codes "target"))
+
+abbrev pub checked_command : App
+checked_command = with_rule (with_rule (with_rule texts_command (flag (codes "placements"))) (flag (codes "in-place")))
+    (flag (codes "reads"))
+
 abbrev pub verify_command : App
-verify_command = with_rule (with_rule (new_app (codes "verify")) (needed_option (codes "source"))) (needed_option (codes "target"))
+verify_command = with_rule (with_rule checked_command (optional (codes "device"))) (optional (codes "trace"))
 
 abbrev pub plain_commands : App
 plain_commands = with_subcommand (with_subcommand (with_subcommand root_command opt_command.top) check_command.top) stages_command.top
@@ -257,8 +269,23 @@ source_of rows = first_of (codes "source") rows
 abbrev pub target_of : List Row → Option Text
 target_of rows = first_of (codes "target") rows
 
+abbrev pub own_trace_of : List Row → Option Text
+own_trace_of rows = first_of (codes "trace") rows
+
+abbrev pub verifying_of : List Row → Text → Text → Verifying
+verifying_of rows source target = record {
+  source = source;
+  target = target;
+  trace = own_trace_of rows;
+  device = device_of rows;
+  placements = is_given (codes "placements") rows;
+  in_place = is_given (codes "in-place") rows;
+  reads = is_given (codes "reads") rows;
+}
+
 abbrev pub verify_of : List Row → Option Command
-verify_of rows = option_and_then (λ source. option_map (λ target. Verify source target) (target_of rows)) (source_of rows)
+verify_of rows = option_and_then (λ source. option_map (λ target. Verify (verifying_of rows source target)) (target_of rows))
+    (source_of rows)
 
 abbrev pub meaning : Text → List Row → Option Command
 meaning name rows = if bytes_eq name (codes "opt") then opt_of rows
@@ -286,5 +313,5 @@ IsAllowed (Route device begin trace kept clean) = (trace ≡ true → (kept ≡ 
 IsAllowed Check = Unit {0}
 IsAllowed (Stages o) = IfSome o (λ m. (1 ≤ m) × (m ≤ 255))
 IsAllowed (Amplitude from to) = Unit {0}
-IsAllowed (Verify source target) = Unit {0}
+IsAllowed (Verify v) = Unit {0}
 IsAllowed (Bench start gates device) = (1 ≤ gates) × (gates ≤ 20000)

@@ -9,12 +9,13 @@
 --   Question          what may be asked on a program;  Entry: the entry of its unitary from these bits to those;  Spares: whether so
 --                     many spare wires can stand behind its own
 --   question_of c     the question that it asks on its program, if it asks one
---   asked_texts c     the names of the two texts that it verifies a trace against, the source's and the target's, if it verifies one
+--   asked_claim c     what it verifies, if it verifies a trace: the names of the texts, and what is asked of the target besides
 use Rattle.std.specs.Prelude.{ℕ, Bool, true, false, List, Option, Some, None}
 use Rattle.command_line.specs.declared.commands.Begin.{Begin}
 use Rattle.command_line.specs.declared.commands.Begin.TheVariants.{Trivial, Listed, Tries}
 use Rattle.command_line.specs.declared.commands.Command.{Command}
 use Rattle.command_line.specs.declared.commands.Command.TheVariants.{Opt, OptWithSpares, Route, Check, Stages, Bench, Amplitude, Verify}
+use Rattle.command_line.specs.declared.commands.Verifying.{Verifying}
 
 abbrev pub reads_input : Command → Bool
 reads_input (Opt kept) = true
@@ -24,7 +25,7 @@ reads_input Check = true
 reads_input (Stages spares) = true
 reads_input (Bench start gates name) = false
 reads_input (Amplitude from to) = true
-reads_input (Verify source target) = false
+reads_input (Verify v) = false
 
 abbrev pub device_name : Command → Option (List ℕ)
 device_name (Opt kept) = None
@@ -34,7 +35,7 @@ device_name Check = None
 device_name (Stages spares) = None
 device_name (Bench start gates name) = Some name
 device_name (Amplitude from to) = None
-device_name (Verify source target) = None
+device_name (Verify v) = v.device
 
 abbrev pub told_list : Begin → Option (List ℕ)
 told_list Trivial = None
@@ -49,7 +50,7 @@ initial_list Check = None
 initial_list (Stages spares) = None
 initial_list (Bench start gates name) = None
 initial_list (Amplitude from to) = None
-initial_list (Verify source target) = None
+initial_list (Verify v) = None
 
 abbrev pub writes_out : Command → Bool
 writes_out (Opt kept) = true
@@ -59,7 +60,7 @@ writes_out Check = false
 writes_out (Stages spares) = true
 writes_out (Bench start gates name) = true
 writes_out (Amplitude from to) = true
-writes_out (Verify source target) = true
+writes_out (Verify v) = true
 
 abbrev pub writes_report : Command → Bool
 writes_report (Opt kept) = true
@@ -69,7 +70,7 @@ writes_report Check = true
 writes_report (Stages spares) = false
 writes_report (Bench start gates name) = true
 writes_report (Amplitude from to) = false
-writes_report (Verify source target) = false
+writes_report (Verify v) = false
 
 abbrev pub keeps_barriers : Command → Bool
 keeps_barriers (Opt kept) = kept
@@ -79,7 +80,7 @@ keeps_barriers Check = false
 keeps_barriers (Stages spares) = false
 keeps_barriers (Bench start gates name) = false
 keeps_barriers (Amplitude from to) = false
-keeps_barriers (Verify source target) = false
+keeps_barriers (Verify v) = false
 
 pub data Question : Type 0 where
   Entry : List Bool → List Bool → Question
@@ -93,14 +94,14 @@ question_of Check = None
 question_of (Stages spares) = None
 question_of (Bench start gates name) = None
 question_of (Amplitude from to) = Some (Entry from to)
-question_of (Verify source target) = None
+question_of (Verify v) = None
 
-abbrev pub asked_texts : Command → Option (List ℕ × List ℕ)
-asked_texts (Opt kept) = None
-asked_texts (OptWithSpares m) = None
-asked_texts (Route name begin trace kept clean) = None
-asked_texts Check = None
-asked_texts (Stages spares) = None
-asked_texts (Bench start gates name) = None
-asked_texts (Amplitude from to) = None
-asked_texts (Verify source target) = Some (source, target)
+abbrev pub asked_claim : Command → Option Verifying
+asked_claim (Opt kept) = None
+asked_claim (OptWithSpares m) = None
+asked_claim (Route name begin trace kept clean) = None
+asked_claim Check = None
+asked_claim (Stages spares) = None
+asked_claim (Bench start gates name) = None
+asked_claim (Amplitude from to) = None
+asked_claim (Verify v) = Some v

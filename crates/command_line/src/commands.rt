@@ -17,6 +17,25 @@ pub enum Begin {
     Tries(u32),
 }
 
+/// What `verify` is asked for.
+#[derive(Debug, Drop, PartialEq, Eq)]
+pub struct Verifying {
+    /// The name of the text of the program that the trace begins with.
+    pub source: Name,
+    /// The name of the text of the program that it ends with.
+    pub target: Name,
+    /// The name of the trace's text, where it has one of its own; else it stands in the comments of the target.
+    pub trace: Option<Name>,
+    /// The name of the text of the device whose edges the CNOTs of the target are to follow, where one is given.
+    pub device: Option<Name>,
+    /// Whether the placements are told.
+    pub placements: bool,
+    /// Whether each wire is to begin and to end on its own qubit.
+    pub in_place: bool,
+    /// Whether each classical bit is to read the wire that it reads in the source.
+    pub reads: bool,
+}
+
 /// What the words ask for.
 #[derive(Debug, Drop, PartialEq, Eq)]
 pub enum Command {
@@ -67,12 +86,7 @@ pub enum Command {
         to: BitList,
     },
     /// Reads a trace, and the two programs that it is of, and tells what it proves of them.
-    Verify {
-        /// The name of the text of the program that the trace begins with.
-        source: Name,
-        /// The name of the text of the program that it ends with.
-        target: Name,
-    },
+    Verify(Verifying),
 }
 
 /// Why words give no command.

@@ -13,10 +13,10 @@ ghost use Rattle.std.specs.Prelude.{◌≡◌, ◌==◌, [], IfOk, IfSome, IsErr
 ghost use Rattle.std.specs.List.{IsDistinct, list_all};
 ghost use Rattle.clap.specs.Words.{app_of, first_of, found_of, kind_of, rows_of, rule_of};
 ghost use Rattle.clap.specs.declared.builder.Command.TheViews.{out-Command as fields_of};
-ghost use Rattle.command_line.specs.Commands.{IsAllowed, IsBeginAllowed, amplitude_command, amplitude_of, begin_of, begins_twice, bench_command, bench_of, bits_of, check_command, clashes, clashes_with_trace, command_of, device_commands, entry_commands, flag, has_initial, has_spares, has_tries, if_different, initial_of, is_bit, is_given, meaning, needed_option, number_of, numbers_in, opt_command, opt_of, optional, pieces, placed_command, plain_commands, qroute_command, qubits_of, root_command, route_command, route_of, stages_command, stages_of, traced_command, verify_command, verify_of};
+ghost use Rattle.command_line.specs.Commands.{IsAllowed, IsBeginAllowed, amplitude_command, amplitude_of, begin_of, begins_twice, bench_command, bench_of, bits_of, check_command, checked_command, clashes, clashes_with_trace, command_of, device_commands, entry_commands, flag, has_initial, has_spares, has_tries, if_different, initial_of, is_bit, is_given, meaning, needed_option, number_of, numbers_in, opt_command, opt_of, optional, pieces, placed_command, plain_commands, qroute_command, qubits_of, root_command, route_command, route_of, stages_command, stages_of, texts_command, traced_command, verify_command, verify_of};
 
 use crate::bits::BitList;
-use crate::commands::{self, Begin, WordsFault};
+use crate::commands::{self, Begin, Verifying, WordsFault};
 use crate::name::Name;
 use crate::qubits::QubitList;
 use clap::error::ErrorKind;
@@ -138,14 +138,35 @@ fn amplitude_command<'a>(alloc: Global) -> Result<Command<'a>, AllocError>
         .arg(needed_option(alloc, "to"))
 }
 
-/// `verify`, which takes the names of two texts.
-fn verify_command<'a>(alloc: Global) -> Result<Command<'a>, AllocError>
-    ensures command { IfOk result (λ c. app_of c ≡ verify_command) }
+/// `verify` with the names of two texts.
+fn texts_command<'a>(alloc: Global) -> Result<Command<'a>, AllocError>
+    ensures command { IfOk result (λ c. app_of c ≡ texts_command) }
     ensures local { IfOk result (λ c. (fields_of c).has_globals ≡ false) }
 {
     Command::new(alloc, "verify")
         .arg(needed_option(alloc, "source"))?
         .arg(needed_option(alloc, "target"))
+}
+
+/// `verify` with the names of two texts and three flags.
+fn checked_command<'a>(alloc: Global) -> Result<Command<'a>, AllocError>
+    ensures command { IfOk result (λ c. app_of c ≡ checked_command) }
+    ensures local { IfOk result (λ c. (fields_of c).has_globals ≡ false) }
+{
+    texts_command(alloc)?
+        .arg(flag(alloc, "placements"))?
+        .arg(flag(alloc, "in-place"))?
+        .arg(flag(alloc, "reads"))
+}
+
+/// `verify`, which takes the names of two texts, three flags, and the names of a device and of a trace where they are given.
+fn verify_command<'a>(alloc: Global) -> Result<Command<'a>, AllocError>
+    ensures command { IfOk result (λ c. app_of c ≡ verify_command) }
+    ensures local { IfOk result (λ c. (fields_of c).has_globals ≡ false) }
+{
+    checked_command(alloc)?
+        .arg(optional(alloc, "device"))?
+        .arg(optional(alloc, "trace"))
 }
 
 /// The program with the subcommands that need no value.
@@ -492,7 +513,15 @@ fn verify_of(alloc: Global, matches: &ArgMatches<'_>) -> Result<commands::Comman
     let Some(target) = name_behind(alloc, matches, "target")? else {
         return Err(WordsFault::BadWords);
     };
-    Ok(commands::Command::Verify { source, target })
+    Ok(commands::Command::Verify(Verifying {
+        source,
+        target,
+        trace: name_behind(alloc, matches, "trace")?,
+        device: name_behind(alloc, matches, "device")?,
+        placements: is_given(matches, "placements"),
+        in_place: is_given(matches, "in-place"),
+        reads: is_given(matches, "reads"),
+    }))
 }
 
 /// What a subcommand with its matches asks for.

@@ -143,6 +143,7 @@ qroute amplitude --from 1 --to 1; 0 1 0 1; 16; 0; 99; none
 qroute route --device d --trivial; 0 2 0 0; 16; 0; 99; report
 qroute bench --start 1 --gates 1 --device d; 1 2 0 0; 16; 0; 99; report
 qroute verify --source s --target t; 1 3 0 1; 16; 0; 99; none
+qroute verify --source s --target t --device d --in-place --reads; 1 4 0 1; 16; 0; 99; none
 qroute opt; 1 1 1 0; 16; 5; 0; Input
 qroute opt; 2 1 1 0; 16; 5; 0; Input
 qroute check; 2 1 1 0; 16; 5; 0; Input
@@ -152,6 +153,8 @@ qroute route --device d --trivial; 2 1 1 0; 16; 5; 0; Input
 qroute route --device d --trivial; 0 1 1 0; 16; 9; 0; Shelf
 qroute verify --source s --target t; 1 1 1 0; 16; 9; 0; Shelf
 qroute verify --source s --target t; 1 2 1 0; 16; 9; 0; Shelf
+qroute verify --source s --target t --device d; 1 1 1 0; 16; 9; 0; Shelf
+qroute verify --source s --target t --device d; 1 3 1 0; 16; 9; 0; Shelf
 qroute opt; 0 0 1 0; 9999; 6; 0; Output
 qroute opt; 0 0 2 0; 9999; 6; 99; Output
 qroute route --device d --trivial; 0 0 2 0; 9999; 6; 99; Output

@@ -1,8 +1,8 @@
 -- Device texts: what they say, and what is refused.
---   Says-once              a text says one thing
+--   Says-once, IsDevice-once   a text says one thing, and describes one device
 --   IsDevice-refused       a text that describes a device is refused for too few qubits alone, or for a list that doesn't fit
 --   IsDeviceCause-text, IsDeviceCause-stop     why a device isn't had
-use Rattle.std.proofs.Common.{◌≡◌, ℕ, ◌≤◌, List, Option, Some, sym, ap, subst, ◌∙◌, arith, []}
+use Rattle.std.proofs.Common.{◌≡◌, ℕ, ◌≤◌, List, Option, Some, None, sym, ap, subst, ◌∙◌, arith, []}
 use Rattle.outside_io.specs.Shelf.{IsTextCause, TellsText}
 use Rattle.outside_io.specs.declared.TextFault.{TextFault}
 use Rattle.outside_io.specs.declared.TextFault.TheVariants as text_fault
@@ -40,6 +40,16 @@ edges_said shape = []
 edges_said range = []
 edges_said (self_edge q) = []
 edges_said (edge_cost from to) = []
+
+abbrev pub device_said : Outcome → Coupling
+device_said (graph n es cs) = record { size = n; edges = es; costs = cs }
+device_said shape = record { size = 0; edges = []; costs = None }
+device_said range = record { size = 0; edges = []; costs = None }
+device_said (self_edge q) = record { size = 0; edges = []; costs = None }
+device_said (edge_cost from to) = record { size = 0; edges = []; costs = None }
+
+pub IsDevice-once : (text : List ℕ) (c d : Coupling) → IsDevice text c → IsDevice text d → c ≡ d
+IsDevice-once text c d is too = ap device_said (Says-once text (graph c.size c.edges c.costs) (graph d.size d.edges d.costs) is.says too.says)
 
 -- where a text describes a device with a qubit for each wire, it is not refused
 pub IsDevice-refused : (text : List ℕ) (d : Coupling) (n : ℕ) (initial : Option (List ℕ)) (r : DeviceRefusal) → IsDevice text d → n ≤ d.size

@@ -11,7 +11,7 @@
 --   stopped-..               what follows of a status after a stop
 --   planned-..               what follows where an answer was decided on
 use Rattle.std.proofs.Common.{◌≡◌, ◌⊎◌, inl, inr, ℕ, ◌≤◌, Bool, true, false, List, Option, Some, None, Result, Err, refl, sym, ap, ◌∙◌, arith, subst, is_some, []}
-use Rattle.std.specs.Prelude.{All, IfSome, ◌<◌, nat_eq}
+use Rattle.std.specs.Prelude.{All, IfSome, IsSomeAnd, ◌<◌, nat_eq}
 use Rattle.outside_io.specs.Bytes.{Tells}
 use Rattle.outside_io.specs.Causes.{Rose}
 use Rattle.outside_io.specs.Shelf.{HasNoText, TellsText}
@@ -20,15 +20,16 @@ use Rattle.gate_inline.specs.Programs.{IsAccepted, IsWritten, Program, kept}
 use Rattle.program_reader.specs.Refusals.{IsRefusal}
 use Rattle.program_reader.specs.declared.refusal.ProgramRefusal.{ProgramRefusal}
 use Rattle.command_line.specs.Commands.{IsAllowed, IsBeginAllowed, command_of}
-use Rattle.command_line.specs.Demands.{Entry, Question, Spares, asked_texts, device_name, initial_list, keeps_barriers, question_of, reads_input, told_list, writes_out, writes_report}
+use Rattle.command_line.specs.Demands.{Entry, Question, Spares, asked_claim, device_name, initial_list, keeps_barriers, question_of, reads_input, told_list, writes_out, writes_report}
 use Rattle.command_line.specs.declared.commands.Begin.{Begin}
 use Rattle.command_line.specs.declared.commands.Begin.TheVariants.{Tries}
 use Rattle.wire_starts.specs.declared.Starts.TheVariants.{Tries as Best}
 use Rattle.command_line.specs.declared.commands.Command.{Command}
 use Rattle.command_line.specs.declared.commands.Command.TheVariants.{Opt, OptWithSpares, Route, Check, Stages, Bench, Amplitude, Verify}
+use Rattle.command_line.specs.declared.commands.Verifying.{Verifying}
 use Rattle.route_report.specs.Lines.{check_line}
-use Rattle.qroute_top.specs.Claims.{AreContents, Compares, Ending, IsEnding, IsVerified, Proved, ending_status}
-use Rattle.qroute_top.specs.Causes.{Handed, claim_status, IsCause, IsDeviceCause, IsRefusedDevice, IsRefusedQuestion, IsRefusedSource, IsSourceCause, Reaches, Reads}
+use Rattle.qroute_top.specs.Claims.{AreContents, Compares, Ending, HasAskedDevice, IsEnding, IsVerified, Proved, ending_status}
+use Rattle.qroute_top.specs.Causes.{Handed, claim_status, IsCause, IsClaimCause, IsDeviceCause, IsRefusedDevice, IsRefusedQuestion, IsRefusedSource, IsSourceCause, Reaches, Reads}
 use Rattle.qroute_top.specs.Delivered.{Content, Delivered, Delivers, IsAnswer, IsHad, IsOnDevice, IsStages, Rewrites, WritesWithSpares, counts_of, drawn_program, starts_of}
 use Rattle.circuit_target.specs.Standing.{IsInPlace, IsOnQubits}
 use Rattle.qroute_top.specs.Devices.{Fits, HasDevice, IsDevice, IsDeviceRefusal, HasSource}
@@ -50,8 +51,7 @@ use Rattle.qroute_top.specs.declared.stops.SourceStop.{SourceStop}
 use Rattle.qroute_top.specs.declared.stops.SourceStop.TheVariants as source_stop
 use Rattle.qroute_top.specs.declared.stops.Stop.{Stop}
 use Rattle.qroute_top.specs.declared.stops.Stop.TheVariants as stop
-use Rattle.route_report.specs.declared.faults.Side.TheVariants as side
-use Rattle.qroute_top.proofs.ClaimLaws.{Readable, Traceable, Unrefused, ended-claim, ended-verified, ending-unrefused, same_ending}
+use Rattle.qroute_top.proofs.ClaimLaws.{AllThere, Readable, Traceable, asked-absent, asked-refused, claim-had, ended-claim, ended-verified, ending-unrefused, no_text_here, same_ending}
 use Rattle.qroute_top.proofs.DeviceLaws.{IsDevice-refused}
 use Rattle.qroute_top.proofs.SourceLaws.{Tells-taken}
 use Rattle.qroute_top.proofs.StatusLaws.{Ends}
@@ -305,56 +305,78 @@ Delivers-drawn words content c start gates name old new p d n initial text line 
       );
     })
 
-pub Delivers-verified : (words : List (List ℕ)) (content : Content) (c : Command) (a b : List ℕ) (old new : Option (List ℕ)) (text line : List ℕ)
-    → command_of words ≡ Some c → c ≡ Verify a b → IsVerified content a b text × (line ≡ []) → Delivers words content old new text line
-Delivers-verified words content c a b old new text line asked is told =
-    delivers words content (Verify a b) old new told.0.source text line (asked ∙ ap (λ x. Some x) is) tt (λ r u. u) told
+pub Delivers-verified : (words : List (List ℕ)) (content : Content) (c : Command) (v : Verifying) (old new : Option (List ℕ)) (text line : List ℕ)
+    → command_of words ≡ Some c → c ≡ Verify v → IsVerified content v text × (line ≡ []) → Delivers words content old new text line
+Delivers-verified words content c v old new text line asked is told =
+    delivers words content (Verify v) old new told.0.source text line (asked ∙ ap (λ x. Some x) is) tt (λ r u. u) told
+
+-- the device of `verify` is reached for a program without wires
+claim_reached : (h : Handed) (c : Command) (v : Verifying) (name : List ℕ) → command_of h.words ≡ Some c → c ≡ Verify v → v.device ≡ Some name → Reaches h name
+claim_reached h c v name asked is wants = record {
+  command = Verify v;
+  asked = asked ∙ ap (λ x. Some x) is;
+  wants = wants;
+  wires = 0;
+  source = refl;
+}
+
+some_at : {A : Type 0} (o : Option A) (P : A → Type 0) → IsSomeAnd o P → (a : A) × (o ≡ Some a) × P a
+some_at None P h = absurd h
+some_at (Some a) P h = (a, refl, h)
 
 -- a claim's stop is one of `verify`
-pub IsCause-claim : (h : Handed) (c : Command) (a b : List ℕ) (s : Stop) → command_of h.words ≡ Some c → c ≡ Verify a b
-    → IsClaimStop h.content a b h.shelf_before h.shelf_after s → IsCause h s
-IsCause-claim h c a b stop.NoMemory asked is x = tt
-IsCause-claim h c a b stop.Words asked is x = absurd x
-IsCause-claim h c a b stop.Input asked is x = absurd x
-IsCause-claim h c a b (stop.Program r) asked is x = absurd x
-IsCause-claim h c a b stop.Shelf asked is x = absurd x
-IsCause-claim h c a b stop.Absent asked is x = absurd x
-IsCause-claim h c a b (stop.Device r) asked is x = absurd x
-IsCause-claim h c a b (stop.Question r) asked is x = absurd x
-IsCause-claim h c a b (stop.Claim y) asked is x = (a, b, record { command = Verify a b; asked = asked ∙ ap (λ y. Some y) is; texts = refl }, x)
+pub IsCause-claim : (h : Handed) (c : Command) (v : Verifying) (s : Stop) → command_of h.words ≡ Some c → c ≡ Verify v
+    → IsClaimStop h.content v h.shelf_before h.shelf_after s → IsCause h s
+unfolding claim_reached
+IsCause-claim h c v stop.NoMemory asked is x = tt
+IsCause-claim h c v stop.Words asked is x = absurd x
+IsCause-claim h c v stop.Input asked is x = absurd x
+IsCause-claim h c v (stop.Program r) asked is x = absurd x
+IsCause-claim h c v stop.Shelf asked is x =
+    let there = some_at v.device (λ name. Rose h.shelf_before h.shelf_after) x in
+    (there.0, claim_reached h c v there.0 asked is there.1, there.2)
+IsCause-claim h c v stop.Absent asked is x =
+    let there = some_at v.device (λ name. HasNoText (h.content name) × (h.shelf_after ≡ h.shelf_before)) x in
+    (there.0, claim_reached h c v there.0 asked is there.1, there.2.0, there.2.1)
+IsCause-claim h c v (stop.Device r) asked is x =
+    let there = some_at v.device (λ name. IsRefusedDevice (h.content name) 0 None r × (h.shelf_after ≡ h.shelf_before)) x in
+    (there.0, claim_reached h c v there.0 asked is there.1, there.2.0, there.2.1)
+IsCause-claim h c v (stop.Question r) asked is x = absurd x
+IsCause-claim h c v (stop.Claim y) asked is x = (v, record { command = Verify v; asked = asked ∙ ap (λ y. Some y) is; claim = refl }, x)
 
--- `verify` reads no input and loads no device
-apart : (c : Command) (a b : List ℕ) → asked_texts c ≡ Some (a, b) → (reads_input c ≡ false) × (device_name c ≡ None)
-apart (Opt keep) a b e = cc
-apart (OptWithSpares m) a b e = cc
-apart (Route name begin traced keep clean) a b e = cc
-apart Check a b e = cc
-apart (Stages spares) a b e = cc
-apart (Bench start gates name) a b e = cc
-apart (Amplitude from to) a b e = cc
-apart (Verify x y) a b e = (refl, refl)
+some_claim : (v w : Verifying) → Some v ≡ Some w → v ≡ w
+some_claim v w e = cc
 
-compares_texts : (h : Handed) (c : Command) (a b : List ℕ) → Compares h.words a b → command_of h.words ≡ Some c → asked_texts c ≡ Some (a, b)
-compares_texts h c a b x asked = subst (λ y. asked_texts y ≡ Some (a, b)) (same_command h.words x.command c x.asked asked) x.texts
+-- only `verify` claims something
+claims : (c : Command) (v : Verifying) → asked_claim c ≡ Some v → c ≡ Verify v
+claims (Opt keep) v e = cc
+claims (OptWithSpares m) v e = cc
+claims (Route name begin traced keep clean) v e = cc
+claims Check v e = cc
+claims (Stages spares) v e = cc
+claims (Bench start gates name) v e = cc
+claims (Amplitude from to) v e = cc
+claims (Verify w) v e = ap (λ x. Verify x) (some_claim w v e)
 
-compares_reads : (h : Handed) (c : Command) (a b : List ℕ) → Compares h.words a b → command_of h.words ≡ Some c → reads_input c ≡ true → ⊥
-compares_reads h c a b x asked reads = let no = (apart c a b (compares_texts h c a b x asked)).0 in cc
+-- it reads no input, and loads the device that is asked for
+apart : (c : Command) (v : Verifying) → asked_claim c ≡ Some v → (reads_input c ≡ false) × (device_name c ≡ v.device)
+apart c v e = let is = claims c v e in (ap reads_input is, ap device_name is)
 
-pub device_alone : (c : Command) (name : List ℕ) → device_name c ≡ Some name → asked_texts c ≡ None
-device_alone (Opt keep) name e = cc
-device_alone (OptWithSpares m) name e = cc
-device_alone (Route other begin traced keep clean) name e = refl
-device_alone Check name e = cc
-device_alone (Stages spares) name e = cc
-device_alone (Bench start gates other) name e = refl
-device_alone (Amplitude from to) name e = cc
-device_alone (Verify x y) name e = cc
+compares_claim : (h : Handed) (c : Command) (v : Verifying) → Compares h.words v → command_of h.words ≡ Some c → asked_claim c ≡ Some v
+compares_claim h c v x asked = subst (λ y. asked_claim y ≡ Some v) (same_command h.words x.command c x.asked asked) x.claim
+
+compares_reads : (h : Handed) (c : Command) (v : Verifying) → Compares h.words v → command_of h.words ≡ Some c → reads_input c ≡ true → ⊥
+compares_reads h c v x asked reads = let no = (apart c v (compares_claim h c v x asked)).0 in cc
 
 claim_late : (x : ClaimStop) (n : ℕ) → (n ≡ 7) ⊎ (n ≡ claim_status x) → (n ≡ 2) ⊎ (n ≡ 5) → ⊥
 claim_late claim.Failed n e two = grind arith
 claim_late claim.Absent n e two = grind arith
 claim_late (claim.Refused s r) n e two = grind arith
+claim_late (claim.TooFewQubits size qubits) n e two = grind arith
 claim_late (claim.Trace line) n e two = grind arith
+claim_late claim.Placed n e two = grind arith
+claim_late claim.Reads n e two = grind arith
+claim_late (claim.Edge k) n e two = grind arith
 
 -- ---- the status of a stop
 pub stopped-no_command : (h : Handed) (s : Stop) (n : ℕ) → IsCause h s → Ends s n → n ≡ 2 → command_of h.words ≡ None
@@ -377,7 +399,7 @@ stopped-words h stop.Shelf n c e none = let asked = c.1.asked in cc
 stopped-words h stop.Absent n c e none = let asked = c.1.asked in cc
 stopped-words h (stop.Device r) n c e none = let asked = c.1.asked in cc
 stopped-words h (stop.Question r) n c e none = let asked = c.0.asked in cc
-stopped-words h (stop.Claim x) n c e none = let asked = c.2.asked in cc
+stopped-words h (stop.Claim x) n c e none = let asked = c.1.asked in cc
 
 pub stopped-input : (h : Handed) (s : Stop) (n : ℕ) → IsCause h s → Ends s n → n ≡ 5 → Rose h.faults_before h.faults_after
 stopped-input h stop.NoMemory n c e five = absurd (grind arith)
@@ -438,7 +460,7 @@ stopped-refuses law h stop.Absent n a t r c e asked reads told is calm = absurd 
 stopped-refuses law h (stop.Device x) n a t r c e asked reads told is calm = absurd (reached_or_refused law h a c.0 t r c.1 asked reads told is)
 stopped-refuses law h (stop.Question x) n a t r c e asked reads told is calm =
     absurd (questioned_or_refused law h.input (question_of c.0.command) x t r c.1 told is)
-stopped-refuses law h (stop.Claim x) n a t r c e asked reads told is calm = absurd (compares_reads h a c.0 c.1 c.2 asked reads)
+stopped-refuses law h (stop.Claim x) n a t r c e asked reads told is calm = absurd (compares_reads h a c.0 c.1 asked reads)
 
 -- ---- the device that is asked for
 written_of : (text : List ℕ) (p : Program) → IsAccepted text p → IsWritten text p
@@ -492,7 +514,7 @@ fits_needed Check n wires size same fits = tt
 fits_needed (Stages spares) n wires size same fits = tt
 fits_needed (Bench start gates name) n wires size same fits = tt
 fits_needed (Amplitude from to) n wires size same fits = tt
-fits_needed (Verify a b) n wires size same fits = tt
+fits_needed (Verify v) n wires size same fits = tt
 
 absent_or_told : (o : Option (Option (List ℕ))) (t : List ℕ) → o ≡ Some (Some t) → HasNoText o → ⊥
 absent_or_told None t e h = cc
@@ -518,7 +540,7 @@ unasked Check name p r wants u = u
 unasked (Stages spares) name p r wants u = u
 unasked (Bench start gates other) name p r wants u = u
 unasked (Amplitude from to) name p r wants u = cc
-unasked (Verify a b) name p r wants u = u
+unasked (Verify v) name p r wants u = u
 
 -- a command that asks a question reads a program
 asking_reads : (c : Command) (p : Program) (r : QuestionRefusal) → IsQuestionRefusal (question_of c) p r → reads_input c ≡ true
@@ -529,7 +551,7 @@ asking_reads Check p r u = absurd u
 asking_reads (Stages spares) p r u = absurd u
 asking_reads (Bench start gates other) p r u = absurd u
 asking_reads (Amplitude from to) p r u = cc
-asking_reads (Verify a b) p r u = absurd u
+asking_reads (Verify v) p r u = absurd u
 
 -- no refusal of a question applies to the program of the input
 abbrev pub AnsweredInput : Option (List ℕ) → Command → Type 0
@@ -550,14 +572,14 @@ questioned_or_answered input false q bits r reads needs refused none = cc
 -- what is asked of a command: its words, its input, its question, and counts that didn't rise
 pub record IsAsked (h : Handed) (c : Command) (q : ℕ) : Type 0 where
   pub asked : command_of h.words ≡ Some c
-  pub alone : asked_texts c ≡ None
+  pub alone : (y : ClaimStop) → IsCause h (stop.Claim y) → ⊥
   pub needs : HasSource (reads_input c) (λ t. h.input ≡ Some t) q
   pub answered : AnsweredInput h.input c
   pub calm : reads_input c ≡ true → Rose h.faults_before h.faults_after → ⊥
   pub shelf_calm : is_some (device_name c) ≡ true → Rose h.shelf_before h.shelf_after → ⊥
 
-pub asked_of : (h : Handed) (c : Command) (q : ℕ) → command_of h.words ≡ Some c → asked_texts c ≡ None → HasSource (reads_input c) (λ t. h.input ≡ Some t) q
-    → AnsweredInput h.input c → (reads_input c ≡ true → Rose h.faults_before h.faults_after → ⊥) → (is_some (device_name c) ≡ true → Rose h.shelf_before h.shelf_after → ⊥) → IsAsked h c q
+pub asked_of : (h : Handed) (c : Command) (q : ℕ) → command_of h.words ≡ Some c → ((y : ClaimStop) → IsCause h (stop.Claim y) → ⊥)
+    → HasSource (reads_input c) (λ t. h.input ≡ Some t) q → AnsweredInput h.input c → (reads_input c ≡ true → Rose h.faults_before h.faults_after → ⊥) → (is_some (device_name c) ≡ true → Rose h.shelf_before h.shelf_after → ⊥) → IsAsked h c q
 asked_of h c q asked alone needs answered calm shelf_calm = record { asked = asked; alone = alone; needs = needs; answered = answered; calm = calm; shelf_calm = shelf_calm }
 
 wanted : (o : Option (List ℕ)) (name : List ℕ) → o ≡ Some name → is_some o ≡ true
@@ -580,10 +602,47 @@ stopped_early law h (stop.Question r) n c q w e a absent refused =
     let same = same_command h.words w.0.command c w.0.asked a.asked in
     let here : IsRefusedQuestion h.input (question_of c) r = subst (λ x. IsRefusedQuestion h.input (question_of x) r) same w.1 in
     absurd (questioned_or_answered h.input (reads_input c) q (question_of c) r (reads_same h c w.0 a.asked) a.needs here a.answered)
-stopped_early law h (stop.Claim x) n c q w e a absent refused =
-    let texts = compares_texts h c w.0 w.1 w.2 a.asked in
-    let alone = a.alone in
-    cc
+stopped_early law h (stop.Claim x) n c q w e a absent refused = absurd (a.alone x w)
+
+-- ---- commands that claim nothing, or whose device isn't had
+pub unclaimed : (h : Handed) (c : Command) → command_of h.words ≡ Some c → asked_claim c ≡ None → (y : ClaimStop) → IsCause h (stop.Claim y) → ⊥
+unclaimed h c asked alone y w = let asks = compares_claim h c w.0 w.1 asked in cc
+
+device_claimed : (h : Handed) (c : Command) (name : List ℕ) (v : Verifying) → command_of h.words ≡ Some c → device_name c ≡ Some name → Compares h.words v
+    → v.device ≡ Some name
+device_claimed h c name v asked wants x = sym (apart c v (compares_claim h c v x asked)).1 ∙ wants
+
+pub unclaimed-absent : (h : Handed) (c : Command) (name : List ℕ) → command_of h.words ≡ Some c → device_name c ≡ Some name
+    → h.content name ≡ Some None → (Rose h.shelf_before h.shelf_after → ⊥) → (y : ClaimStop) → IsCause h (stop.Claim y) → ⊥
+unclaimed-absent h c name asked wants none calm y w =
+    let had = claim-had h.content w.0 h.shelf_before h.shelf_after y w.2 calm in
+    asked-absent h.content w.0.device had.0 name None (device_claimed h c name w.0 asked wants w.1) none
+    (subst HasNoText (sym none) refl) had.1
+
+none_needed : (c : Command) (v : Verifying) (P : List ℕ → Type 0) (q : ℕ) → asked_claim c ≡ Some v → HasSource (reads_input c) P q → q ≡ 0
+none_needed c v P q asks needs = subst (λ b. HasSource b P q) (apart c v asks).0 needs
+
+none_listed : (c : Command) (v : Verifying) → asked_claim c ≡ Some v → initial_list c ≡ None
+none_listed c v asks = ap initial_list (claims c v asks)
+
+-- a refusal of the device of `verify` is one for a program without wires
+plain_refusal : (c : Command) (v : Verifying) (P : List ℕ → Type 0) (q : ℕ) (t : List ℕ) (r : DeviceRefusal) → asked_claim c ≡ Some v
+    → HasSource (reads_input c) P q → IsDeviceRefusal t q (initial_list c) r → IsDeviceRefusal t 0 None r
+plain_refusal c v P q t r asks needs refusal =
+    subst (λ o. IsDeviceRefusal t 0 o r) (none_listed c v asks)
+    (subst (λ (m : ℕ). IsDeviceRefusal t m (initial_list c) r) (none_needed c v P q asks needs) refusal)
+
+tells_told : (o : Option (Option (List ℕ))) (t : List ℕ) → o ≡ Some (Some t) → TellsText o t
+tells_told o t e = subst (λ w. TellsText w t) (sym e) refl
+
+pub unclaimed-refused : (h : Handed) (c : Command) (name t : List ℕ) (q : ℕ) (r : DeviceRefusal) → command_of h.words ≡ Some c
+    → device_name c ≡ Some name → HasSource (reads_input c) (λ u. h.input ≡ Some u) q → h.content name ≡ Some (Some t)
+    → IsDeviceRefusal t q (initial_list c) r → (Rose h.shelf_before h.shelf_after → ⊥) → (y : ClaimStop) → IsCause h (stop.Claim y) → ⊥
+unclaimed-refused h c name t q r asked wants needs here refusal calm y w =
+    let had = claim-had h.content w.0 h.shelf_before h.shelf_after y w.2 calm in
+    let plain = plain_refusal c w.0 (λ u. h.input ≡ Some u) q t r (compares_claim h c w.0 w.1 asked) needs refusal in
+    asked-refused h.content w.0.device had.0 name (Some t) r (device_claimed h c name w.0 asked wants w.1) here
+    (t, tells_told (h.content name) t here, plain) had.1
 
 -- a command whose question is refused
 pub stopped-refuses_question : (h : Handed) (s : Stop) (n : ℕ) (a : Command) (t : List ℕ) (p : Program) (r : QuestionRefusal) → IsCause h s → Ends s n
@@ -598,7 +657,7 @@ stopped-refuses_question h stop.Absent n a t p r c e asked told ok is calm = abs
 stopped-refuses_question h (stop.Device x) n a t p r c e asked told ok is calm = absurd (unasked a c.0 p r (same_name h c.0 a c.1 asked) is)
 stopped-refuses_question h (stop.Question x) n a t p r c e asked told ok is calm = grind arith
 stopped-refuses_question h (stop.Claim x) n a t p r c e asked told ok is calm =
-    absurd (compares_reads h a c.0 c.1 c.2 asked (asking_reads a p r is))
+    absurd (compares_reads h a c.0 c.1 asked (asking_reads a p r is))
 
 -- the text of the device that is asked for
 told_device : MeansOnce → (h : Handed) (c : Command) (name t : List ℕ) (q : ℕ) (r : DeviceRefusal) → IsCause h (stop.Device r) → IsAsked h c q
@@ -771,25 +830,33 @@ record IsFromDevice (content : Content) (name : List ℕ) (initial : Option (Lis
   clean : Bool
   answer : Rewrites source keep traced (IsOnDevice content name begin clean source) x l
 
+-- .. or it is `verify`, whose device is had
+record IsClaimedOn (content : Content) (name : List ℕ) (c : Command) : Type 0 where
+  asks : Verifying
+  is : c ≡ Verify asks
+  wants : asks.device ≡ Some name
+  had : (d : Option Coupling) × HasAskedDevice content asks.device d
+
 answer_on : (content : Content) (name : List ℕ) (c : Command) (source : Program) (x l : List ℕ) → device_name c ≡ Some name → IsAnswer content c source x l
-    → IsFromDevice content name (initial_list c) source x l
+    → IsFromDevice content name (initial_list c) source x l ⊎ IsClaimedOn content name c
 answer_on content name (Opt keep) source x l wants answer = cc
 answer_on content name (OptWithSpares m) source x l wants answer = cc
 answer_on content name (Route other begin traced keep clean) source x l wants answer =
-    let same : other ≡ name = cc in record {
+    let same : other ≡ name = cc in inl (record {
       begin = begin;
       listed = refl;
       traced = traced;
       keep = keep;
       clean = clean;
       answer = subst (λ y. Rewrites source keep traced (IsOnDevice content y begin clean source) x l) same answer;
-    }
+    })
 answer_on content name Check source x l wants answer = cc
 answer_on content name (Stages spares) source x l wants answer = cc
 answer_on content name (Amplitude from to) source x l wants answer = cc
-answer_on content name (Verify a b) source x l wants answer = cc
+answer_on content name (Verify v) source x l wants answer =
+    inr (record { asks = v; is = refl; wants = wants; had = (answer.0.device, answer.0.device_told) })
 answer_on content name (Bench start gates other) source x l wants answer =
-    let same : other ≡ name = cc in record {
+    let same : other ≡ name = cc in inl (record {
       begin = Tries 1;
       listed = refl;
       traced = false;
@@ -805,39 +872,55 @@ answer_on content name (Bench start gates other) source x l wants answer =
         trace = answer.trace;
         placed = subst (λ y. IsOnDevice content y (Tries 1) false source answer.target answer.parts answer.told) same answer.placed.0;
       };
-    }
+    })
 
 planned_on : (words : List (List ℕ)) (content : Content) (old new : Option (List ℕ)) (x l name : List ℕ) (c : Command) (d : Delivers words content old new x l)
-    → command_of words ≡ Some c → device_name c ≡ Some name → IsFromDevice content name (initial_list d.command) d.source x l
+    → command_of words ≡ Some c → device_name c ≡ Some name
+    → IsFromDevice content name (initial_list d.command) d.source x l ⊎ IsClaimedOn content name c
 planned_on words content old new x l name c d asked wants =
     let same = same_command words c d.command asked d.asked in
-    answer_on content name d.command d.source x l (subst (λ y. device_name y ≡ Some name) same wants) d.answer
+    subst (λ y. IsFromDevice content name (initial_list d.command) d.source x l ⊎ IsClaimedOn content name y) (sym same)
+    (answer_on content name d.command d.source x l (subst (λ y. device_name y ≡ Some name) same wants) d.answer)
 
 pub planned-absent : (words : List (List ℕ)) (content : Content) (old new : Option (List ℕ)) (w : Answer) (n : ℕ) (name : List ℕ) (c : Command)
     → DeliversAnswer words content old new w → Came w n → command_of words ≡ Some c → device_name c ≡ Some name → content name ≡ Some None
     → (n ≡ 9) ⊎ (n ≡ 7)
 planned-absent words content old new w n name c delivers (inl seven) asked wants none = inr seven
 planned-absent words content old new w n name c delivers (inr (x, l, is)) asked wants none =
-    let on = planned_on words content old new x l name c (delivers x l is) asked wants in
-    absurd (absent_text (content name) on.answer.placed.device_text none on.answer.placed.loaded)
+    elim (planned_on words content old new x l name c (delivers x l is) asked wants) [
+      | inl on ↦ absurd (absent_text (content name) on.answer.placed.device_text none on.answer.placed.loaded)
+      | inr on ↦ absurd (asked-absent content on.asks.device on.had.0 name None on.wants none (subst HasNoText (sym none) refl) on.had.1)
+    ]
 
 refused_or_routed : MeansOnce → (words : List (List ℕ)) (content : Content) (old new : Option (List ℕ)) (x l name : List ℕ) (c : Command) (t : List ℕ)
     (q : ℕ) (r : DeviceRefusal) → Delivers words content old new x l → command_of words ≡ Some c → device_name c ≡ Some name
     → HasSource (reads_input c) (λ u. old ≡ Some u) q → content name ≡ Some (Some t) → IsDeviceRefusal t q (initial_list c) r → ⊥
 refused_or_routed once words content old new x l name c t q r d asked wants needs here refusal =
-    let on = planned_on words content old new x l name c d asked wants in
-    let placed = on.answer.placed in
-    let same = device_text (content name) t placed.device_text here placed.loaded in
-    let described : IsDevice t placed.device = rw same at placed.described in
-    let there = subst (λ y. HasSource (reads_input y) (λ u. old ≡ Some u) q) (same_command words c d.command asked d.asked) needs in
-    let wires = had_needs once old new (reads_input d.command) (keeps_barriers d.command) q d.source there d.had in
-    let fits : d.source.wires ≤ placed.device.size = rw (← placed.routed.qubits) on.answer.made.stands.unitary.fits in
-    let listed : IsDeviceRefusal t q (initial_list d.command) r =
-    subst (λ y. IsDeviceRefusal t q (initial_list y) r) (same_command words c d.command asked d.asked) refusal in
-    let room = fits_needed d.command q d.source.wires placed.device.size
-    (λ reads. had_wires once old new (reads_input d.command) (keeps_barriers d.command) q d.source reads there d.had)
-    (subst (λ o. Fits o d.source.wires placed.device.size) on.listed placed.fits) in
-    IsDevice-refused t placed.device q (initial_list d.command) r described (omega (arith, wires, fits)) room listed
+    elim (planned_on words content old new x l name c d asked wants) [
+      | inl on ↦ routed on
+      | inr on ↦ claimed on
+    ]
+  where
+    routed : IsFromDevice content name (initial_list d.command) d.source x l → ⊥
+    routed on =
+        let placed = on.answer.placed in
+        let same = device_text (content name) t placed.device_text here placed.loaded in
+        let described : IsDevice t placed.device = rw same at placed.described in
+        let there = subst (λ y. HasSource (reads_input y) (λ u. old ≡ Some u) q) (same_command words c d.command asked d.asked) needs in
+        let wires = had_needs once old new (reads_input d.command) (keeps_barriers d.command) q d.source there d.had in
+        let fits : d.source.wires ≤ placed.device.size = rw (← placed.routed.qubits) on.answer.made.stands.unitary.fits in
+        let listed : IsDeviceRefusal t q (initial_list d.command) r =
+        subst (λ y. IsDeviceRefusal t q (initial_list y) r) (same_command words c d.command asked d.asked) refusal in
+        let room = fits_needed d.command q d.source.wires placed.device.size
+        (λ reads. had_wires once old new (reads_input d.command) (keeps_barriers d.command) q d.source reads there d.had)
+        (subst (λ o. Fits o d.source.wires placed.device.size) on.listed placed.fits) in
+        IsDevice-refused t placed.device q (initial_list d.command) r described (omega (arith, wires, fits)) room listed
+
+    claimed : IsClaimedOn content name c → ⊥
+    claimed on =
+        let asks : asked_claim c ≡ Some on.asks = ap asked_claim on.is in
+        let plain = plain_refusal c on.asks (λ u. old ≡ Some u) q t r asks needs refusal in
+        asked-refused content on.asks.device on.had.0 name (Some t) r on.wants here (t, tells_told (content name) t here, plain) on.had.1
 
 pub planned-refuses_device : MeansOnce → (words : List (List ℕ)) (content : Content) (old new : Option (List ℕ)) (w : Answer) (n : ℕ) (name : List ℕ) (c : Command)
     (t : List ℕ) (q : ℕ) (r : DeviceRefusal) → DeliversAnswer words content old new w → Came w n → command_of words ≡ Some c
@@ -915,35 +998,48 @@ pub Delivered-done : (words : List (List ℕ)) (content : Content) (old new : Op
 Delivered-done words content old new w Done delivers (text, line, is, done) = (text, line, delivers text line is, done)
 
 -- ---- how `verify` ends
-some_texts : (a b c d : List ℕ) (o : Option (List ℕ × List ℕ)) → o ≡ Some (a, b) → o ≡ Some (c, d) → ◌≡◌ {A = List ℕ × List ℕ} (a, b) (c, d)
-some_texts a b c d o e f = cc
+-- what a stop before the texts says of the device
+stopped_at : (h : Handed) (c : Command) (v : Verifying) (name : List ℕ) → command_of h.words ≡ Some c → asked_claim c ≡ Some v → Reaches h name
+    → v.device ≡ Some name
+stopped_at h c v name asked asks route = sym (apart c v asks).1 ∙ same_name h name c route asked
 
-same_texts : (a b c d : List ℕ) (o : Option (List ℕ × List ℕ)) → o ≡ Some (a, b) → o ≡ Some (c, d) → (a ≡ c) × (b ≡ d)
-same_texts a b c d o e f = let same = some_texts a b c d o e f in (ap (λ (p : List ℕ × List ℕ). p.0) same, ap (λ (p : List ℕ × List ℕ). p.1) same)
+refused_at : (h : Handed) (c : Command) (v : Verifying) (name : List ℕ) (r : DeviceRefusal) (route : Reaches h name) → command_of h.words ≡ Some c
+    → asked_claim c ≡ Some v → IsRefusedDevice (h.content name) route.wires (initial_list route.command) r → IsRefusedDevice (h.content name) 0 None r
+refused_at h c v name r route asked asks (t, tells, refusal) =
+    let there : asked_claim route.command ≡ Some v = subst (λ y. asked_claim y ≡ Some v) (same_command h.words c route.command asked route.asked) asks in
+    (t, tells, plain_refusal route.command v (Tells h.input) route.wires t r there route.source refusal)
+
+told_at : (content : Content) (o : Option (List ℕ)) (name : List ℕ) → IfSome o (λ n. (told : Option (List ℕ)) × (content n ≡ Some told))
+    → o ≡ Some name → (told : Option (List ℕ)) × (content name ≡ Some told)
+told_at content o name told e = subst (λ w. IfSome w (λ n. (u : Option (List ℕ)) × (content n ≡ Some u))) e told
 
 -- a stop of the run, where the command is `verify`
-pub stopped-verdict : Readable → Traceable → (h : Handed) (s : Stop) (n : ℕ) (c : Command) (a b : List ℕ) (x : Ending) → IsCause h s → Ends s n
-    → command_of h.words ≡ Some c → asked_texts c ≡ Some (a, b) → AreContents h.content a b → IsEnding h.content a b x
+pub stopped-verdict : Readable → Traceable → (h : Handed) (s : Stop) (n : ℕ) (c : Command) (v : Verifying) (x : Ending) → IsCause h s → Ends s n
+    → command_of h.words ≡ Some c → asked_claim c ≡ Some v → AreContents h.content v → IsEnding h.content v x
     → (Rose h.shelf_before h.shelf_after → ⊥) → (n ≡ ending_status x) ⊎ (n ≡ 7)
-stopped-verdict law traces h stop.NoMemory n c a b x w e asked texts told is calm = inr (grind arith)
-stopped-verdict law traces h stop.Words n c a b x w e asked texts told is calm = cc
-stopped-verdict law traces h stop.Input n c a b x w e asked texts told is calm =
-    let reads = reads_same h c w.0 asked in let no = (apart c a b texts).0 in cc
-stopped-verdict law traces h (stop.Program r) n c a b x w e asked texts told is calm =
-    let reads = reads_same h c w.0 asked in let no = (apart c a b texts).0 in cc
-stopped-verdict law traces h stop.Shelf n c a b x w e asked texts told is calm =
-    let name = same_name h w.0 c w.1 asked in let no = (apart c a b texts).1 in cc
-stopped-verdict law traces h stop.Absent n c a b x w e asked texts told is calm =
-    let name = same_name h w.0 c w.1 asked in let no = (apart c a b texts).1 in cc
-stopped-verdict law traces h (stop.Device r) n c a b x w e asked texts told is calm =
-    let name = same_name h w.0 c w.1 asked in let no = (apart c a b texts).1 in cc
-stopped-verdict law traces h (stop.Question r) n c a b x w e asked texts told is calm =
-    let reads = reads_same h c w.0 asked in let no = (apart c a b texts).0 in cc
-stopped-verdict law traces h (stop.Claim y) n c a b x w e asked texts told is calm =
-    let both = same_texts w.0 w.1 a b (asked_texts c) (compares_texts h c w.0 w.1 w.2 asked) texts in
-    let ended = ended-claim h.content w.0 w.1 h.shelf_before h.shelf_after y w.3 calm in
-    let here : IsEnding h.content a b ended.0 = subst (λ v. IsEnding h.content a v ended.0) both.1 (subst (λ v. IsEnding h.content v w.1 ended.0) both.0 ended.1) in
-    let same : ended.0 ≡ x = same_ending law traces h.content a b ended.0 x told here is in
+stopped-verdict law traces h stop.NoMemory n c v x w e asked asks told is calm = inr (grind arith)
+stopped-verdict law traces h stop.Words n c v x w e asked asks told is calm = cc
+stopped-verdict law traces h stop.Input n c v x w e asked asks told is calm =
+    let reads = reads_same h c w.0 asked in let no = (apart c v asks).0 in cc
+stopped-verdict law traces h (stop.Program r) n c v x w e asked asks told is calm =
+    let reads = reads_same h c w.0 asked in let no = (apart c v asks).0 in cc
+stopped-verdict law traces h stop.Shelf n c v x w e asked asks told is calm = absurd (calm w.2)
+stopped-verdict law traces h stop.Absent n c v x w e asked asks told is calm =
+    let wants = stopped_at h c v w.0 asked asks w.1 in
+    let there = told_at h.content v.device w.0 told.device wants in
+    absurd (asked-absent h.content v.device is.0 w.0 there.0 wants there.1 w.2 is.1)
+stopped-verdict law traces h (stop.Device r) n c v x w e asked asks told is calm =
+    let wants = stopped_at h c v w.0 asked asks w.1 in
+    let there = told_at h.content v.device w.0 told.device wants in
+    absurd (asked-refused h.content v.device is.0 w.0 there.0 r wants there.1 (refused_at h c v w.0 r w.1 asked asks w.2) is.1)
+stopped-verdict law traces h (stop.Question r) n c v x w e asked asks told is calm =
+    let reads = reads_same h c w.0 asked in let no = (apart c v asks).0 in cc
+stopped-verdict law traces h (stop.Claim y) n c v x w e asked asks told is calm =
+    let same_claim : w.0 ≡ v = some_claim w.0 v (sym (compares_claim h c w.0 w.1 asked) ∙ asks) in
+    let cause : IsClaimCause h.content v h.shelf_before h.shelf_after y =
+    subst (λ (z : Verifying). IsClaimCause h.content z h.shelf_before h.shelf_after y) same_claim w.2 in
+    let ended = ended-claim h.content v h.shelf_before h.shelf_after y cause calm in
+    let same : ended.0 ≡ x = same_ending law traces h.content v ended.0 x told ended.1 is in
     by_status n (claim_status y) (ending_status x) e (ended.2 ∙ ap ending_status same)
   where
     by_status : (n k m : ℕ) → (n ≡ 7) ⊎ (n ≡ k) → k ≡ m → (n ≡ m) ⊎ (n ≡ 7)
@@ -951,35 +1047,21 @@ stopped-verdict law traces h (stop.Claim y) n c a b x w e asked texts told is ca
     by_status n k m (inr is) same = inl (is ∙ same)
 
 -- what is delivered where the command is `verify`
-verified_of : (content : Content) (c : Command) (a b : List ℕ) (p : Program) (x l : List ℕ) → asked_texts c ≡ Some (a, b) → IsAnswer content c p x l
-    → IsVerified content a b x
-verified_of content (Opt keep) a b p x l e answer = cc
-verified_of content (OptWithSpares m) a b p x l e answer = cc
-verified_of content (Route name begin traced keep clean) a b p x l e answer = cc
-verified_of content Check a b p x l e answer = cc
-verified_of content (Stages spares) a b p x l e answer = cc
-verified_of content (Bench start gates name) a b p x l e answer = cc
-verified_of content (Amplitude from to) a b p x l e answer = cc
-verified_of content (Verify c d) a b p x l e answer =
-    let both = same_texts c d a b (Some (c, d)) refl e in
-    subst (λ v. IsVerified content a v x) both.1 (subst (λ v. IsVerified content v d x) both.0 answer.0)
+verified_of : (content : Content) (c : Command) (v : Verifying) (p : Program) (x l : List ℕ) → asked_claim c ≡ Some v → IsAnswer content c p x l
+    → IsVerified content v x
+verified_of content c v p x l e answer =
+    let here : IsAnswer content (Verify v) p x l = subst (λ y. IsAnswer content y p x l) (claims c v e) answer in
+    here.0
 
-verify_writes : (c : Command) (a b : List ℕ) → asked_texts c ≡ Some (a, b) → (writes_out c ≡ true) × (writes_report c ≡ false)
-verify_writes (Opt keep) a b e = cc
-verify_writes (OptWithSpares m) a b e = cc
-verify_writes (Route name begin traced keep clean) a b e = cc
-verify_writes Check a b e = cc
-verify_writes (Stages spares) a b e = cc
-verify_writes (Bench start gates name) a b e = cc
-verify_writes (Amplitude from to) a b e = cc
-verify_writes (Verify c d) a b e = (refl, refl)
+verify_writes : (c : Command) (v : Verifying) → asked_claim c ≡ Some v → (writes_out c ≡ true) × (writes_report c ≡ false)
+verify_writes c v e = let is = claims c v e in (ap writes_out is, ap writes_report is)
 
 pub planned-verdict : {A B : Type 0} {has line : Bool} {o : Sent A} {r : Sent B} → Readable → Traceable → (words : List (List ℕ)) (content : Content)
-    (old new : Option (List ℕ)) (w : Answer) (n : ℕ) (c : Command) (a b : List ℕ) (x : Ending) → DeliversAnswer words content old new w
-    → IsEmitted has line (HasAnswer w) o r n → command_of words ≡ Some c → asked_texts c ≡ Some (a, b) → line ≡ writes_report c
-    → AreContents content a b → IsEnding content a b x → (ending_status x ≡ 0 → Rose (o.faults o.old) (o.faults o.new) → ⊥)
+    (old new : Option (List ℕ)) (w : Answer) (n : ℕ) (c : Command) (v : Verifying) (x : Ending) → DeliversAnswer words content old new w
+    → IsEmitted has line (HasAnswer w) o r n → command_of words ≡ Some c → asked_claim c ≡ Some v → line ≡ writes_report c
+    → AreContents content v → IsEnding content v x → (ending_status x ≡ 0 → Rose (o.faults o.old) (o.faults o.new) → ⊥)
     → (n ≡ ending_status x) ⊎ (n ≡ 7)
-planned-verdict law traces words content old new w n c a b x delivers e asked texts tells told is calm = by_came (came w n e)
+planned-verdict law traces words content old new w n c v x delivers e asked asks tells told is calm = by_came (came w n e)
   where
     by_end : (m : ℕ) → (n ≡ 0) ⊎ ((n ≡ 6) ⊎ ((n ≡ 7) ⊎ (n ≡ 8))) → m ≡ 0 → (n ≡ 6 → ⊥) → (n ≡ 8 → ⊥) → (n ≡ m) ⊎ (n ≡ 7)
     by_end m (inl z) zero six eight = inl (z ∙ sym zero)
@@ -991,36 +1073,46 @@ planned-verdict law traces words content old new w n c a b x delivers e asked te
     by_came (inl seven) = inr seven
     by_came (inr (t, l, made)) =
         let d = delivers t l made in
-        let there : asked_texts d.command ≡ Some (a, b) = subst (λ y. asked_texts y ≡ Some (a, b)) (same_command words c d.command asked d.asked) texts in
-        let v = verified_of content d.command a b d.source t l there d.answer in
-        let same = same_ending law traces content a b (Proved v.first v.last v.phase) x told (ended-verified content a b t v) is in
+        let there : asked_claim d.command ≡ Some v = subst (λ y. asked_claim y ≡ Some v) (same_command words c d.command asked d.asked) asks in
+        let y = verified_of content d.command v d.source t l there d.answer in
+        let same = same_ending law traces content v (Proved y.first y.last y.phase) x told (ended-verified content v t y) is in
         let zero : ending_status x ≡ 0 = sym (ap ending_status same) in
-        by_end (ending_status x) e.ends zero (λ six. calm zero (e.output six).1) (e.no_report (tells ∙ (verify_writes c a b texts).1))
+        by_end (ending_status x) e.ends zero (λ six. calm zero (e.output six).1) (e.no_report (tells ∙ (verify_writes c v asks).1))
 
--- where both texts are there, and neither is refused
-pub stopped-complete_texts : (h : Handed) (s : Stop) (n : ℕ) (c : Command) (a b source target : List ℕ) → IsCause h s → Ends s n
-    → command_of h.words ≡ Some c → asked_texts c ≡ Some (a, b) → h.content a ≡ Some (Some source) → Unrefused side.Source source
-    → h.content b ≡ Some (Some target) → Unrefused side.Target target → (Rose h.shelf_before h.shelf_after → ⊥)
-    → (n ≡ 0) ⊎ ((n ≡ 1) ⊎ (n ≡ 7))
-stopped-complete_texts h stop.NoMemory n c a b source target w e asked texts told fine here well calm = inr (inr (grind arith))
-stopped-complete_texts h stop.Words n c a b source target w e asked texts told fine here well calm = cc
-stopped-complete_texts h stop.Input n c a b source target w e asked texts told fine here well calm =
-    let reads = reads_same h c w.0 asked in let no = (apart c a b texts).0 in cc
-stopped-complete_texts h (stop.Program r) n c a b source target w e asked texts told fine here well calm =
-    let reads = reads_same h c w.0 asked in let no = (apart c a b texts).0 in cc
-stopped-complete_texts h stop.Shelf n c a b source target w e asked texts told fine here well calm =
-    let name = same_name h w.0 c w.1 asked in let no = (apart c a b texts).1 in cc
-stopped-complete_texts h stop.Absent n c a b source target w e asked texts told fine here well calm =
-    let name = same_name h w.0 c w.1 asked in let no = (apart c a b texts).1 in cc
-stopped-complete_texts h (stop.Device r) n c a b source target w e asked texts told fine here well calm =
-    let name = same_name h w.0 c w.1 asked in let no = (apart c a b texts).1 in cc
-stopped-complete_texts h (stop.Question r) n c a b source target w e asked texts told fine here well calm =
-    let reads = reads_same h c w.0 asked in let no = (apart c a b texts).0 in cc
-stopped-complete_texts h (stop.Claim y) n c a b source target w e asked texts told fine here well calm =
-    let both = same_texts w.0 w.1 a b (asked_texts c) (compares_texts h c w.0 w.1 w.2 asked) texts in
-    let ended = ended-claim h.content w.0 w.1 h.shelf_before h.shelf_after y w.3 calm in
-    let ending : IsEnding h.content a b ended.0 = subst (λ v. IsEnding h.content a v ended.0) both.1 (subst (λ v. IsEnding h.content v w.1 ended.0) both.0 ended.1) in
-    by_status n (claim_status y) (ending_status ended.0) e ended.2 (ending-unrefused h.content a b source target ended.0 told fine here well ending)
+-- where all texts are there, none is refused, and the device has room
+there_told : (content : Content) (o : Option (List ℕ)) (n : ℕ) (name : List ℕ) → HasDevice content o None n → o ≡ Some name
+    → (t : List ℕ) × (d : Coupling) × (content name ≡ Some (Some t)) × IsDevice t d
+there_told content o n name has e =
+    let here : HasDevice content (Some name) None n = subst (λ w. HasDevice content w None n) e has in (here.0, here.1, here.2, here.3)
+
+pub stopped-complete_texts : (h : Handed) (s : Stop) (n : ℕ) (c : Command) (v : Verifying) (source target trace : List ℕ) (m : ℕ) → IsCause h s → Ends s n
+    → command_of h.words ≡ Some c → asked_claim c ≡ Some v → AllThere h.content v source target trace m
+    → (Rose h.shelf_before h.shelf_after → ⊥) → (n ≡ 0) ⊎ ((n ≡ 1) ⊎ (n ≡ 7))
+stopped-complete_texts h stop.NoMemory n c v source target trace m w e asked asks all calm = inr (inr (grind arith))
+stopped-complete_texts h stop.Words n c v source target trace m w e asked asks all calm = cc
+stopped-complete_texts h stop.Input n c v source target trace m w e asked asks all calm =
+    let reads = reads_same h c w.0 asked in let no = (apart c v asks).0 in cc
+stopped-complete_texts h (stop.Program r) n c v source target trace m w e asked asks all calm =
+    let reads = reads_same h c w.0 asked in let no = (apart c v asks).0 in cc
+stopped-complete_texts h stop.Shelf n c v source target trace m w e asked asks all calm = absurd (calm w.2)
+stopped-complete_texts h stop.Absent n c v source target trace m w e asked asks all calm =
+    let there = there_told h.content v.device m w.0 all.device (stopped_at h c v w.0 asked asks w.1) in
+    absurd (no_text_here (h.content w.0) there.0 there.2 w.2)
+stopped-complete_texts h (stop.Device r) n c v source target trace m w e asked asks all calm =
+    let wants = stopped_at h c v w.0 asked asks w.1 in
+    let there = there_told h.content v.device m w.0 all.device wants in
+    let standing : HasAskedDevice h.content v.device (Some there.1) =
+    subst (λ o. HasAskedDevice h.content o (Some there.1)) (sym wants)
+    (there.0, there.1, tells_told (h.content w.0) there.0 there.2, there.3, refl) in
+    absurd (asked-refused h.content v.device (Some there.1) w.0 (Some there.0) r wants there.2 (refused_at h c v w.0 r w.1 asked asks w.2) standing)
+stopped-complete_texts h (stop.Question r) n c v source target trace m w e asked asks all calm =
+    let reads = reads_same h c w.0 asked in let no = (apart c v asks).0 in cc
+stopped-complete_texts h (stop.Claim y) n c v source target trace m w e asked asks all calm =
+    let same_claim : w.0 ≡ v = some_claim w.0 v (sym (compares_claim h c w.0 w.1 asked) ∙ asks) in
+    let cause : IsClaimCause h.content v h.shelf_before h.shelf_after y =
+    subst (λ (z : Verifying). IsClaimCause h.content z h.shelf_before h.shelf_after y) same_claim w.2 in
+    let ended = ended-claim h.content v h.shelf_before h.shelf_after y cause calm in
+    by_status n (claim_status y) (ending_status ended.0) e ended.2 (ending-unrefused h.content v source target trace m ended.0 all ended.1)
   where
     by_status : (n k m : ℕ) → (n ≡ 7) ⊎ (n ≡ k) → k ≡ m → (m ≡ 0) ⊎ (m ≡ 1) → (n ≡ 0) ⊎ ((n ≡ 1) ⊎ (n ≡ 7))
     by_status n k m (inl seven) same at = inr (inr seven)
@@ -1028,10 +1120,10 @@ stopped-complete_texts h (stop.Claim y) n c a b source target w e asked texts to
     by_status n k m (inr is) same (inr one) = inr (inl (is ∙ same ∙ one))
 
 pub planned-complete_texts : {A B : Type 0} {P : (List ℕ → List ℕ → Type 0) → Type 0} {has line : Bool} {o : Sent A} {r : Sent B} {n : ℕ} (c : Command)
-    (a b : List ℕ) → IsEmitted has line P o r n → asked_texts c ≡ Some (a, b) → has ≡ writes_out c → line ≡ writes_report c
+    (v : Verifying) → IsEmitted has line P o r n → asked_claim c ≡ Some v → has ≡ writes_out c → line ≡ writes_report c
     → (Rose (o.faults o.old) (o.faults o.new) → ⊥) → (n ≡ 0) ⊎ ((n ≡ 1) ⊎ (n ≡ 7))
-planned-complete_texts c a b e texts same told calm = elim
-    (planned-complete (writes_out c) (writes_report c) e same told (λ w. calm) (λ w. let no = (verify_writes c a b texts).1 in cc)) [
+planned-complete_texts c v e asks same told calm = elim
+    (planned-complete (writes_out c) (writes_report c) e same told (λ w. calm) (λ w. let no = (verify_writes c v asks).1 in cc)) [
       | inl zero ↦ inl zero
       | inr seven ↦ inr (inr seven)
     ]

@@ -77,7 +77,11 @@ claim_told : (x : ClaimStop) → status_of (claim_fault x) ≡ claim_status x
 claim_told claim.Failed = refl
 claim_told claim.Absent = refl
 claim_told (claim.Refused s r) = text_status s r
+claim_told (claim.TooFewQubits size qubits) = refl
 claim_told (claim.Trace line) = refl
+claim_told claim.Placed = refl
+claim_told claim.Reads = refl
+claim_told (claim.Edge operation) = refl
 
 some_same : {X : Type 0} (x y : X) → Some x ≡ Some y → x ≡ y
 some_same x y e = cc
@@ -139,7 +143,11 @@ not_late (stop.Question r) n e late = grind arith
 not_late (stop.Claim claim.Failed) n e late = grind arith
 not_late (stop.Claim claim.Absent) n e late = grind arith
 not_late (stop.Claim (claim.Refused s r)) n e late = grind arith
+not_late (stop.Claim (claim.TooFewQubits size qubits)) n e late = grind arith
 not_late (stop.Claim (claim.Trace line)) n e late = grind arith
+not_late (stop.Claim claim.Placed) n e late = grind arith
+not_late (stop.Claim claim.Reads) n e late = grind arith
+not_late (stop.Claim (claim.Edge operation)) n e late = grind arith
 
 pub not_memory : (n : ℕ) → (n ≡ 6) ⊎ (is_early_fault n ≡ true) → n ≡ 7 → ⊥
 not_memory n (inl six) seven = grind arith

@@ -6,7 +6,7 @@
 --   IsRefusedSource input r   the input has a text, the told one where one is told, and r is its first refusal
 --   IsRefusedDevice ..    the same of the text of a device, for a program on n wires and the list on which they begin, if one is given
 --   IsRefusedQuestion ..  the input has an accepted text, and r is the first refusal of the question by its program
---   IsClaimCause content a b before after x   why a claim on the texts of these names isn't proved
+--   IsClaimCause content v before after x   why a claim isn't proved, or what is asked of its target besides isn't so
 --   IsCause h s           the stop s has its cause; want of memory is free
 --   IsSourceCause, IsDeviceCause   why the program isn't read, and why the device isn't had
 --   refusal_fault, device_fault, question_fault   the fault that a refusal of the program, of the device, or of a question is
@@ -32,6 +32,7 @@ use Rattle.program_reader.specs.Refusals.{IsRefusal}
 use Rattle.program_reader.specs.declared.refusal.ProgramRefusal.{ProgramRefusal}
 use Rattle.program_reader.specs.declared.refusal.ProgramRefusal.TheVariants as refusal
 use Rattle.command_line.specs.declared.commands.Command.{Command}
+use Rattle.command_line.specs.declared.commands.Verifying.{Verifying}
 use Rattle.command_line.specs.Commands.{command_of}
 use Rattle.command_line.specs.Demands.{Question, device_name, initial_list, question_of, reads_input}
 use Rattle.qroute_top.specs.declared.stops.DeviceRefusal.{DeviceRefusal}
@@ -82,11 +83,15 @@ IsRefusedDevice content n initial r = (text : List ℕ) × TellsText content tex
 abbrev pub IsRefusedQuestion : Option (List ℕ) → Option Question → QuestionRefusal → Type 0
 IsRefusedQuestion input q r = (text : List ℕ) × (p : Program) × Tells input text × IsAccepted text p × IsQuestionRefusal q p r
 
-abbrev pub IsClaimCause : Content → List ℕ → List ℕ → ℕ → ℕ → ClaimStop → Type 0
-IsClaimCause content a b before after claim.Failed = Rose before after
-IsClaimCause content a b before after claim.Absent = IsEnding content a b ending.Absent × (after ≡ before)
-IsClaimCause content a b before after (claim.Refused s r) = IsEnding content a b (ending.Refused s r) × (after ≡ before)
-IsClaimCause content a b before after (claim.Trace line) = IsEnding content a b (ending.Stopped line) × (after ≡ before)
+abbrev pub IsClaimCause : Content → Verifying → ℕ → ℕ → ClaimStop → Type 0
+IsClaimCause content v before after claim.Failed = Rose before after
+IsClaimCause content v before after claim.Absent = IsEnding content v ending.Absent × (after ≡ before)
+IsClaimCause content v before after (claim.Refused s r) = IsEnding content v (ending.Refused s r) × (after ≡ before)
+IsClaimCause content v before after (claim.TooFewQubits size qubits) = IsEnding content v (ending.Narrow size qubits) × (after ≡ before)
+IsClaimCause content v before after (claim.Trace line) = IsEnding content v (ending.Stopped line) × (after ≡ before)
+IsClaimCause content v before after claim.Placed = IsEnding content v ending.Placed × (after ≡ before)
+IsClaimCause content v before after claim.Reads = IsEnding content v ending.Reads × (after ≡ before)
+IsClaimCause content v before after (claim.Edge operation) = IsEnding content v (ending.Edge operation) × (after ≡ before)
 
 abbrev pub IsCause : Handed → Stop → Type 0
 IsCause h stop.NoMemory = ⊤
@@ -97,7 +102,7 @@ IsCause h stop.Shelf = (name : List ℕ) × Reaches h name × Rose h.shelf_befor
 IsCause h stop.Absent = (name : List ℕ) × Reaches h name × HasNoText (h.content name) × (h.shelf_after ≡ h.shelf_before)
 IsCause h (stop.Device r) = (name : List ℕ) × (asked : Reaches h name) × IsRefusedDevice (h.content name) asked.wires (initial_list asked.command) r
     × (h.shelf_after ≡ h.shelf_before)
-IsCause h (stop.Claim x) = (a : List ℕ) × (b : List ℕ) × Compares h.words a b × IsClaimCause h.content a b h.shelf_before h.shelf_after x
+IsCause h (stop.Claim x) = (v : Verifying) × Compares h.words v × IsClaimCause h.content v h.shelf_before h.shelf_after x
 IsCause h (stop.Question r) = (asked : Reads h) × IsRefusedQuestion h.input (question_of asked.command) r
 
 -- why reading the program stops
@@ -154,7 +159,11 @@ abbrev pub claim_fault : ClaimStop → Fault
 claim_fault claim.Failed = fault.Shelf
 claim_fault claim.Absent = fault.Absent
 claim_fault (claim.Refused s r) = text_fault s r
+claim_fault (claim.TooFewQubits size qubits) = fault.TooFewQubits size qubits
 claim_fault (claim.Trace line) = fault.Trace line
+claim_fault claim.Placed = fault.Placed
+claim_fault claim.Reads = fault.Reads
+claim_fault (claim.Edge operation) = fault.Edge operation
 
 abbrev pub fault_of : Stop → Option Fault
 fault_of stop.NoMemory = None
@@ -171,7 +180,11 @@ abbrev pub claim_status : ClaimStop → ℕ
 claim_status claim.Failed = 9
 claim_status claim.Absent = 9
 claim_status (claim.Refused s r) = 3
+claim_status (claim.TooFewQubits size qubits) = 4
 claim_status (claim.Trace line) = 1
+claim_status claim.Placed = 1
+claim_status claim.Reads = 1
+claim_status (claim.Edge operation) = 1
 
 -- the status that a stop ends with
 abbrev pub stop_status : Stop → ℕ

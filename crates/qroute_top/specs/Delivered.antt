@@ -141,7 +141,7 @@ IsAnswer content (Route name begin traced keep clean) source text line =
 IsAnswer content Check source text line = (text ≡ []) × (line ≡ check_line (counts_of source))
 IsAnswer content (Stages spares) source text line = IsStages source spares text × (line ≡ [])
 IsAnswer content (Amplitude from to) source text line = IsEntryText source.ops from to text × (line ≡ [])
-IsAnswer content (Verify a b) source text line = IsVerified content a b text × (line ≡ [])
+IsAnswer content (Verify v) source text line = IsVerified content v text × (line ≡ [])
 IsAnswer content (Bench start gates name) source text line = Rewrites source false false
     (λ target parts told. IsOnDevice content name (Tries 1) false source target parts told × (source ≡ drawn_program start gates target.wires)) text line
 

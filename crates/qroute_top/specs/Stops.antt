@@ -11,8 +11,10 @@
 --   IsUnreadText side text s   why a text that isn't too long isn't accepted
 --   IsTextStop ..        why a text of `verify` isn't had as a program
 --   IsTraceStop e trace s    why a trace proves no claim
---   IsClaimStop ..       why a claim on two texts isn't proved
-use Rattle.std.specs.Prelude.{◌≡◌, ℕ, false, List, Option, None, Some, ⊤}
+--   IsTraceTextStop ..   why the trace's text isn't had
+--   IsAskedStop ..       what is asked of a target besides its unitary isn't so, the first of it
+--   IsClaimStop ..       why a claim isn't proved, or what is asked besides isn't so
+use Rattle.std.specs.Prelude.{◌≡◌, ℕ, ◌<◌, false, List, Option, None, Some, IsSomeAnd, length, ⊤}
 use Rattle.command_line.specs.Commands.{command_of}
 use Rattle.command_line.specs.Demands.{Question}
 use Rattle.outside_io.specs.declared.TextFault.{TextFault}
@@ -31,13 +33,18 @@ use Rattle.qroute_top.specs.declared.stops.Stop.TheVariants as stop
 use Rattle.gate_inline.specs.Programs.{Program, kept}
 use Rattle.program_reader.specs.Texts.{IsAcceptedText}
 use Rattle.outside_io.specs.Causes.{Rose}
-use Rattle.outside_io.specs.Shelf.{HasNoText}
+use Rattle.outside_io.specs.Shelf.{HasNoText, TellsText}
 use Rattle.program_reader.specs.declared.refusal.ProgramRefusal.TheVariants as refusal
 use Rattle.route_report.specs.declared.faults.Side.{Side}
 use Rattle.trace_model.specs.Proves.{Claim, StopsAt}
 use Rattle.qroute_top.specs.declared.stops.ClaimStop.TheVariants as claim
-use Rattle.qroute_top.specs.Causes.{IsClaimCause}
-use Rattle.qroute_top.specs.Claims.{Bad, IsTextRefused, Finds}
+use Rattle.route_report.specs.declared.faults.Side.TheVariants.{Trace as trace_side}
+use Rattle.command_line.specs.declared.commands.Verifying.{Verifying}
+use Rattle.coupling_map.specs.Coupling.{Coupling}
+use Rattle.qroute_top.specs.declared.stops.ClaimStop.{ClaimStop}
+use Rattle.verdict_checks.specs.Checks.{IsFirstOff}
+use Rattle.qroute_top.specs.Causes.{IsClaimCause, IsRefusedDevice}
+use Rattle.qroute_top.specs.Claims.{Bad, IsPlacedAsAsked, IsReadAsAsked, IsTextRefused, Finds, limit_of}
 use Rattle.qroute_top.specs.Devices.{IsDeviceRefusal}
 use Rattle.qroute_top.specs.Questions.{IsQuestionRefusal}
 
@@ -107,7 +114,25 @@ IsTraceStop e trace stop.NoMemory = ⊤
 IsTraceStop e trace (stop.Claim (claim.Trace line)) = StopsAt e trace line
 IsTraceStop e trace _ = ⊥
 
-abbrev pub IsClaimStop : (List ℕ → Option (Option (List ℕ))) → List ℕ → List ℕ → ℕ → ℕ → Stop → Type 0
-IsClaimStop content a b before after stop.NoMemory = ⊤
-IsClaimStop content a b before after (stop.Claim x) = IsClaimCause content a b before after x
-IsClaimStop content a b before after _ = ⊥
+abbrev pub IsClaimStop : (List ℕ → Option (Option (List ℕ))) → Verifying → ℕ → ℕ → Stop → Type 0
+IsClaimStop content v before after stop.NoMemory = ⊤
+IsClaimStop content v before after (stop.Claim x) = IsClaimCause content v before after x
+IsClaimStop content v before after stop.Shelf = IsSomeAnd v.device (λ name. Rose before after)
+IsClaimStop content v before after stop.Absent = IsSomeAnd v.device (λ name. HasNoText (content name) × (after ≡ before))
+IsClaimStop content v before after (stop.Device r) = IsSomeAnd v.device (λ name. IsRefusedDevice (content name) 0 None r × (after ≡ before))
+IsClaimStop content v before after _ = ⊥
+
+abbrev pub IsTraceTextStop : (List ℕ → Option (Option (List ℕ))) → Option (List ℕ) → ℕ → ℕ → Stop → Type 0
+IsTraceTextStop content o before after stop.NoMemory = ⊤
+IsTraceTextStop content o before after (stop.Claim claim.Failed) = Rose before after
+IsTraceTextStop content o before after (stop.Claim claim.Absent) = IsSomeAnd o (λ name. HasNoText (content name))
+IsTraceTextStop content o before after (stop.Claim (claim.Refused s r)) = IsSomeAnd o (λ name. (text : List ℕ) × TellsText (content name) text
+    × (limit_of trace_side < length text) × (s ≡ trace_side) × (r ≡ refusal.TooLong))
+IsTraceTextStop content o before after _ = ⊥
+
+abbrev pub IsAskedStop : Verifying → Option Coupling → Program → Program → List ℕ → List ℕ → ClaimStop → Type 0
+IsAskedStop v d p q first last claim.Placed = IsPlacedAsAsked v first last → ⊥
+IsAskedStop v d p q first last claim.Reads = IsPlacedAsAsked v first last × (IsReadAsAsked v p q last → ⊥)
+IsAskedStop v d p q first last (claim.Edge n) = IsPlacedAsAsked v first last × IsReadAsAsked v p q last
+    × ((c : Coupling) × (d ≡ Some c) × IsFirstOff c.edges q.ops n)
+IsAskedStop v d p q first last _ = ⊥

@@ -2,7 +2,7 @@
 
 ghost use Rattle.std.specs.Prelude.{◌≡◌, ℕ, List, Some, None, Err, false, map, IfOk, IfErr};
 ghost use Rattle.command_line.specs.Commands.{IsAllowed, command_of};
-ghost use Rattle.command_line.specs.Demands.{asked_texts, device_name, reads_input, writes_out, writes_report};
+ghost use Rattle.command_line.specs.Demands.{asked_claim, device_name, reads_input, writes_out, writes_report};
 ghost use Rattle.command_line.specs.declared.commands.Command.{Command as Asked};
 ghost use Rattle.qroute_top.specs.Causes.{IsCause};
 ghost use Rattle.qroute_top.specs.Delivered.{Delivers};
@@ -64,7 +64,7 @@ pub fn decide<I: Input, F: Shelf>(
     ensures shelf_calm { IfOk result (λ _. F.faults shelf.new ≡ F.faults shelf.old) }
     ensures shelf_keeps { (name : List ℕ) → F.content shelf.new name ≡ F.content shelf.old name }
     ensures no_input { (c : Asked) → command_of (map (λ w. w.now) words.now) ≡ Some c → reads_input c ≡ false → input.new ≡ input.old }
-    ensures no_shelf { (c : Asked) → command_of (map (λ w. w.now) words.now) ≡ Some c → device_name c ≡ None → asked_texts c ≡ None → shelf.new ≡ shelf.old }
+    ensures no_shelf { (c : Asked) → command_of (map (λ w. w.now) words.now) ≡ Some c → device_name c ≡ None → asked_claim c ≡ None → shelf.new ≡ shelf.old }
 {
     let command = asked(alloc, words)?;
     match command {
@@ -123,6 +123,6 @@ pub fn decide<I: Input, F: Shelf>(
             };
             Ok(route_on(alloc, source, &device, starts, wishes)?)
         }
-        Command::Verify { source, target } => claim_answer(alloc, shelf, &source, &target),
+        Command::Verify(asked) => claim_answer(alloc, shelf, &asked),
     }
 }

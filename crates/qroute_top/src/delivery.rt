@@ -15,24 +15,13 @@ use crate::plan::{Answer, Prepared, prepare};
 use crate::stops::{ClaimStop, DeviceRefusal, QuestionRefusal, Stop};
 use circuit_target::Target;
 use coupling_map::DeviceFault;
+use exit_status::{Exit, exit_status};
 use outside_io::{Failed, Sink, send};
 use program_reader::{ProgramRefusal, SourceProgram};
 use qasm_writer::output::Output;
 use qasm_writer::{PieceBuffer, write_program};
 use route_report::{Fault, Side, fault_line, status};
 use std::alloc::{AllocError, Global};
-
-/// The work is done.
-const DONE: u8 = 0;
-
-/// The output failed.
-const OUTPUT_FAILED: u8 = 6;
-
-/// Memory was wanting before the first byte went out.
-const NO_MEMORY: u8 = 7;
-
-/// The report failed after the text was written.
-const REPORT_FAILED: u8 = 8;
 
 /// The fault that a refusal is told as.
 fn fault_of_refusal(refusal: ProgramRefusal) -> Fault
@@ -141,7 +130,11 @@ fn fault_of_claim(stop: ClaimStop) -> Fault
         ClaimStop::Failed => Fault::Shelf,
         ClaimStop::Absent => Fault::Absent,
         ClaimStop::Refused { side, refusal } => fault_of_text(side, refusal),
+        ClaimStop::TooFewQubits { device, qubits } => Fault::TooFewQubits { device, qubits },
         ClaimStop::Trace { line } => Fault::Trace { line },
+        ClaimStop::Placed => Fault::Placed,
+        ClaimStop::Reads => Fault::Reads,
+        ClaimStop::Edge { operation } => Fault::Edge { operation },
     }
 }
 
@@ -172,10 +165,10 @@ pub fn tell<R: Sink>(alloc: Global, stop: Stop, report: &mut R) -> u8
     ensures flushed { (result ≡ 7 → ⊥) → (Rose (R.faults report.old) (R.faults report.new) → ⊥) → R.flushed report.new ≡ true }
 {
     let Some(fault) = fault_of(stop) else {
-        return NO_MEMORY;
+        return exit_status(Exit::Memory);
     };
     match fault_line(alloc, &fault) {
-        Err(AllocError) => NO_MEMORY,
+        Err(AllocError) => exit_status(Exit::Memory),
         Ok(line) => {
             let _ = send(report, &line);
             status(&fault)
@@ -192,7 +185,7 @@ fn tell_failed<R: Sink>(fault: &[u8], report: &mut R) -> u8
     ensures flushed { (Rose (R.faults report.old) (R.faults report.new) → ⊥) → R.flushed report.new ≡ true }
 {
     let _ = send(report, fault);
-    OUTPUT_FAILED
+    exit_status(Exit::Output)
 }
 
 /// Writes the line of the report, and flushes it.
@@ -203,8 +196,8 @@ fn emit_line<R: Sink>(line: &[u8], report: &mut R) -> u8
     ensures report { result ≡ 8 → GainsPrefix (R.held report.old) (R.held report.new) line.now × Rose (R.faults report.old) (R.faults report.new) }
 {
     match send(report, line) {
-        Ok(()) => DONE,
-        Err(Failed) => REPORT_FAILED,
+        Ok(()) => exit_status(Exit::Done),
+        Err(Failed) => exit_status(Exit::Report),
     }
 }
 
@@ -216,7 +209,7 @@ fn emit_text<O: Sink, R: Sink>(text: &[u8], fault: &[u8], out: &mut O, report: &
     ensures memory { result ≡ 7 → ⊥ }
 {
     match send(out, text) {
-        Ok(()) => DONE,
+        Ok(()) => exit_status(Exit::Done),
         Err(Failed) => tell_failed(fault, report),
     }
 }
@@ -274,7 +267,7 @@ fn emit_target<O: Sink, R: Sink>(
 {
     source.facts();
     match prepare(alloc, source, target) {
-        Err(AllocError) => NO_MEMORY,
+        Err(AllocError) => exit_status(Exit::Memory),
         Ok(
             Prepared {
                 registers,
@@ -308,7 +301,7 @@ pub fn emit<O: Sink, R: Sink>(alloc: Global, answer: &Answer, out: &mut O, repor
     match answer {
         Answer::Program { source, target } => emit_target(alloc, source, target, out, report),
         Answer::Text { text } => match fault_line(alloc, &Fault::Output) {
-            Err(AllocError) => NO_MEMORY,
+            Err(AllocError) => exit_status(Exit::Memory),
             Ok(fault) => emit_text(text, &fault, out, report),
         },
         Answer::Line { line } => emit_line(line, report),

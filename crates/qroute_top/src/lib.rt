@@ -20,23 +20,25 @@
 //! memory. What a command asks of its surroundings is told by `command_line`, so that each clause is said once for all commands.
 #![tactic(auto)]
 
-ghost use Rattle.std.specs.Prelude.{◌≡◌, ◌⊎◌, ℕ, List, Some, None, map, true, false, is_some};
+ghost use Rattle.std.specs.Prelude.{◌≡◌, ◌⊎◌, ◌≤◌, ℕ, List, Option, Some, None, IfSome, length, map, true, false, is_some};
 ghost use Rattle.outside_io.specs.Bytes.{Gains, GainsPrefix, GainsUnlessFault};
 ghost use Rattle.outside_io.specs.Causes.{Rose};
 ghost use Rattle.route_report.specs.Faults.{fault_line};
 ghost use Rattle.route_report.specs.declared.faults.Side.TheVariants as Side;
 ghost use Rattle.program_reader.specs.Refusals.{IsRefusal};
+ghost use Rattle.program_reader.specs.Texts.{IsAcceptedText};
 ghost use Rattle.program_reader.specs.declared.refusal.ProgramRefusal.{ProgramRefusal as Refused};
 ghost use Rattle.command_line.specs.Commands.{command_of};
-ghost use Rattle.command_line.specs.Demands.{asked_texts, device_name, initial_list, question_of, reads_input, writes_out, writes_report};
+ghost use Rattle.command_line.specs.Demands.{asked_claim, device_name, initial_list, question_of, reads_input, writes_out, writes_report};
 ghost use Rattle.command_line.specs.declared.commands.Command.{Command as Asked};
+ghost use Rattle.command_line.specs.declared.commands.Verifying.{Verifying};
 ghost use Rattle.qroute_top.specs.declared.stops.DeviceRefusal.{DeviceRefusal as RefusedDevice};
 ghost use Rattle.gate_inline.specs.Programs.{IsAccepted, Program};
 ghost use Rattle.qroute_top.specs.declared.stops.QuestionRefusal.{QuestionRefusal as RefusedQuestion};
 ghost use Rattle.qroute_top.specs.Devices.{HasDevice, IsDeviceRefusal, HasSource};
 ghost use Rattle.qroute_top.specs.Questions.{IsQuestionRefusal};
 ghost use Rattle.qroute_top.specs.Causes.{EndsWithFault, is_early_fault, output_fault_line};
-ghost use Rattle.qroute_top.specs.Claims.{AreContents, Ending, IsEnding, IsTextRefused, ending_status};
+ghost use Rattle.qroute_top.specs.Claims.{AreContents, Ending, IsEnding, IsTextRefused, ending_status, limit_of};
 ghost use Rattle.qroute_top.specs.Delivered.{Delivered};
 
 pub use bench_program::made;
@@ -130,7 +132,7 @@ pub fn run<I: Source, F: Shelf, O: Sink, R: Sink>(
     // A command whose input, where it reads one, is accepted, whose device, where it wants one, has a qubit for each wire, and whose
     // list of the qubits on which these are to begin, if one is given, fits both, and whose question, where it asks one, isn't
     // refused, ends well, or wants memory, unless a count of faults rose.
-    ensures complete { (c : Asked) (n : ℕ) → command_of (map (λ w. w.now) words.now) ≡ Some c → asked_texts c ≡ None
+    ensures complete { (c : Asked) (n : ℕ) → command_of (map (λ w. w.now) words.now) ≡ Some c → asked_claim c ≡ None
         → HasSource (reads_input c) (λ text. I.left input.old ≡ Some text) n → HasDevice (F.content shelf.old) (device_name c) (initial_list c) n
         → ((text : List ℕ) (p : Program) (r : RefusedQuestion) → I.left input.old ≡ Some text → IsAccepted text p
         → IsQuestionRefusal (question_of c) p r → ⊥)
@@ -139,18 +141,24 @@ pub fn run<I: Source, F: Shelf, O: Sink, R: Sink>(
         → (writes_out c ≡ true → Rose (O.faults out.old) (O.faults out.new) → ⊥)
         → (writes_report c ≡ true → Rose (R.faults report.old) (R.faults report.new) → ⊥) → (result ≡ 0) ⊎ (result ≡ 7) }
 
-    // A command that compares two texts which the shelf tells, or tells to be absent, ends as these and the trace in the second say,
-    // or wants memory: 9 where one is absent, 3 where one is refused, 1 where the trace stops at a line, and 0 where it proves that
-    // the second realises the first, unless a count of faults rose.
-    ensures verdict { (c : Asked) (a b : List ℕ) (x : Ending) → command_of (map (λ w. w.now) words.now) ≡ Some c
-        → asked_texts c ≡ Some (a, b) → AreContents (F.content shelf.old) a b → IsEnding (F.content shelf.old) a b x
+    // A command that compares two texts which the shelf tells, or tells to be absent, as it does the device's where one is asked for,
+    // and the trace's where that has one of its own, ends as these, the trace and what is asked besides say, or wants memory: 9 where
+    // a text is absent, 3 where one is refused, 4 where the device has fewer qubits than the target, 1 where the trace stops at a
+    // line, or what is asked isn't so, and 0 where the trace proves that the second realises the first and all that is asked is so,
+    // unless a count of faults rose. A device that is absent or refused ends it before, as `absent` and `refuses_device` say.
+    ensures verdict { (c : Asked) (v : Verifying) (x : Ending) → command_of (map (λ w. w.now) words.now) ≡ Some c
+        → asked_claim c ≡ Some v → AreContents (F.content shelf.old) v → IsEnding (F.content shelf.old) v x
         → (Rose (F.faults shelf.old) (F.faults shelf.new) → ⊥) → (ending_status x ≡ 0 → Rose (O.faults out.old) (O.faults out.new) → ⊥)
         → (result ≡ ending_status x) ⊎ (result ≡ 7) }
 
-    // Where both texts are there and neither is refused, it ends with 0 or 1, or wants memory, unless a count of faults rose.
-    ensures complete_texts { (c : Asked) (a b s t : List ℕ) → command_of (map (λ w. w.now) words.now) ≡ Some c → asked_texts c ≡ Some (a, b)
-        → F.content shelf.old a ≡ Some (Some s) → ((r : Refused) → IsTextRefused Side.Source s r → ⊥)
-        → F.content shelf.old b ≡ Some (Some t) → ((r : Refused) → IsTextRefused Side.Target t r → ⊥)
+    // Where all texts are there, none is refused, and the device, if one is asked for, has a qubit for each of the target's, it ends
+    // with 0 or 1, or wants memory, unless a count of faults rose.
+    ensures complete_texts { (c : Asked) (v : Verifying) (s t u : List ℕ) (n : ℕ) → command_of (map (λ w. w.now) words.now) ≡ Some c
+        → asked_claim c ≡ Some v → HasDevice (F.content shelf.old) v.device None n
+        → F.content shelf.old v.source ≡ Some (Some s) → ((r : Refused) → IsTextRefused Side.Source s r → ⊥)
+        → F.content shelf.old v.target ≡ Some (Some t) → ((r : Refused) → IsTextRefused Side.Target t r → ⊥)
+        → ((q : Program) → IsAcceptedText t q → q.wires ≤ n)
+        → IfSome v.trace (λ name. (F.content shelf.old name ≡ Some (Some u)) × (length u ≤ limit_of Side.Trace))
         → (Rose (F.faults shelf.old) (F.faults shelf.new) → ⊥) → (Rose (O.faults out.old) (O.faults out.new) → ⊥)
         → (result ≡ 0) ⊎ ((result ≡ 1) ⊎ (result ≡ 7)) }
 
@@ -173,7 +181,7 @@ pub fn run<I: Source, F: Shelf, O: Sink, R: Sink>(
     ensures untouched { (result ≡ 7) ⊎ (is_early_fault result ≡ true) → out.new ≡ out.old }
     ensures shelf { (name : List ℕ) → F.content shelf.new name ≡ F.content shelf.old name }
     ensures no_input { (c : Asked) → command_of (map (λ w. w.now) words.now) ≡ Some c → reads_input c ≡ false → input.new ≡ input.old }
-    ensures no_shelf { (c : Asked) → command_of (map (λ w. w.now) words.now) ≡ Some c → device_name c ≡ None → asked_texts c ≡ None → shelf.new ≡ shelf.old }
+    ensures no_shelf { (c : Asked) → command_of (map (λ w. w.now) words.now) ≡ Some c → device_name c ≡ None → asked_claim c ≡ None → shelf.new ≡ shelf.old }
     ensures no_out { (c : Asked) → command_of (map (λ w. w.now) words.now) ≡ Some c → writes_out c ≡ false → out.new ≡ out.old }
     ensures no_report { (c : Asked) → command_of (map (λ w. w.now) words.now) ≡ Some c → writes_report c ≡ false
         → (result ≡ 8 → ⊥) × (result ≡ 0 → report.new ≡ report.old) }

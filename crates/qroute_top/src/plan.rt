@@ -11,10 +11,9 @@ ghost use Rattle.circuit_target.specs.Standing.{placed_read};
 ghost use Rattle.circuit_target.specs.Targets.{IsFit};
 ghost use Rattle.qroute_top.specs.Plans.{IsFitAnswer, IsPlanned, IsReport, IsAnswerOf, TellsReport, has_line, has_text};
 
-use circuit_target::Target;
+use circuit_target::{Target, placed_reads};
 use gate_expand::{cx_count_of, expand, t_count_of};
 use layer_stages::stage_lines;
-use placement::Placement;
 use program_reader::SourceProgram;
 use qasm_check::ClassicalRegister;
 use qasm_writer::PieceBuffer;
@@ -77,35 +76,6 @@ fn counts_of(source: &SourceProgram) -> Counts
         qubits: source.wires(),
         t,
     }
-}
-
-/// The qubit at which the wire of a read stands.
-fn placed_read(read: Option<u32>, last: &Placement) -> Option<u32>
-    requires { IsRead (length last.now) read }
-    ensures same { result ≡ placed_read last.now read }
-    ensures there { IsRead (length last.now) result }
-{
-    match read {
-        None => None,
-        Some(wire) => Some(last.phys(wire)),
-    }
-}
-
-/// The qubits that are read, from the wires.
-fn placed_reads(
-    alloc: Global,
-    reads: &[Option<u32>],
-    last: &Placement,
-) -> Result<Vec<Option<u32>>, AllocError>
-    requires { All (IsRead (length last.now)) reads.now }
-    ensures same { IfOk result (λ v. v.items ≡ map (placed_read last.now) reads.now) }
-    ensures there { IfOk result (λ v. All (IsRead (length last.now)) v.items) }
-{
-    let mut placed = Vec::new(alloc);
-    'reads: for read in reads {
-        placed.push(placed_read(*read, last))?;
-    }
-    Ok(placed)
 }
 
 /// The classical registers as they are written.

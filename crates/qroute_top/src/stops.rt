@@ -73,8 +73,16 @@ pub enum ClaimStop {
     Absent,
     /// A text is refused.
     Refused { side: Side, refusal: ProgramRefusal },
+    /// The device has fewer qubits than the target.
+    TooFewQubits { device: u32, qubits: u32 },
     /// The trace stops at this line.
     Trace { line: u32 },
+    /// Some wire begins or ends on another qubit than its own.
+    Placed,
+    /// Some classical bit reads another wire than in the source, or the registers differ.
+    Reads,
+    /// This operation of the target is the first CNOT that follows no edge of the device.
+    Edge { operation: u64 },
 }
 
 /// Want of memory, or a fault with what the fault line tells of it.
@@ -122,6 +130,17 @@ impl From<AllocError> for Stop {
 
     fn from(_error: AllocError) -> Stop {
         Stop::NoMemory
+    }
+}
+
+impl From<ClaimStop> for Stop {
+    ghost use Rattle.std.specs.Prelude.{◌≡◌};
+    ghost use Rattle.qroute_top.specs.declared.stops.Stop.TheVariants.{Claim};
+
+    ghost from_gives = { λ e s. s ≡ Claim e };
+
+    fn from(stop: ClaimStop) -> Stop {
+        Stop::Claim(stop)
     }
 }
 

@@ -23,7 +23,7 @@ use Rattle.serde_json.specs.Written.{compact_text, items_text}
 use Rattle.route_report.specs.declared.faults.Fault.{Fault}
 use Rattle.route_report.specs.declared.faults.Fault.TheVariants as fault
 use Rattle.route_report.specs.declared.faults.Side.{Side}
-use Rattle.route_report.specs.declared.faults.Side.TheVariants.{Source, Target}
+use Rattle.route_report.specs.declared.faults.Side.TheVariants.{Source, Target, Trace}
 use Rattle.route_report.specs.declared.lines.Report.{Report}
 use Rattle.route_report.specs.Compact.{whole, wholes}
 use Rattle.route_report.specs.Faults.{fault_line}
@@ -158,6 +158,7 @@ refusal_pieces code name kept behind =
 abbrev pub text_pieces : Side → List (List ℕ)
 text_pieces Source = codes ",\"text\":\"source\"" ∷ []
 text_pieces Target = codes ",\"text\":\"target\"" ∷ []
+text_pieces Trace = codes ",\"text\":\"trace\"" ∷ []
 
 abbrev pub fault_pieces : Fault → List (List ℕ)
 fault_pieces fault.Words = outside_pieces (codes "Words") 2
@@ -207,6 +208,10 @@ fault_pieces (fault.TextStatement code statement side) =
     refusal_pieces code (in_quotes (name_of code)) (codes ",\"statement\":" ∷ decimal statement ∷ []) (text_pieces side)
 fault_pieces (fault.Trace at_line) =
     codes "{\"fault\":\"Trace\",\"line\":" ∷ decimal at_line ∷ codes ",\"status\":1}" ∷ []
+fault_pieces fault.Placed = codes "{\"fault\":\"Placed\",\"status\":1}" ∷ []
+fault_pieces fault.Reads = codes "{\"fault\":\"Reads\",\"status\":1}" ∷ []
+fault_pieces (fault.Edge operation) =
+    codes "{\"fault\":\"Edge\",\"operation\":" ∷ decimal operation ∷ codes ",\"status\":1}" ∷ []
 
 refusal-alike : (code : ℕ) (kept behind : List (List ℕ)) →
     concat (refusal_pieces code (compact_text (string (name_of code))) kept behind) ++ 10 ∷ []
@@ -237,12 +242,20 @@ fault_line-pieces (fault.BitsLength qubits) = refl
 fault_line-pieces (fault.TooManySpares qubits spares) = refl
 fault_line-pieces (fault.TextPlain code Source) = refusal-alike code [] (text_pieces Source)
 fault_line-pieces (fault.TextPlain code Target) = refusal-alike code [] (text_pieces Target)
+fault_line-pieces (fault.TextPlain code Trace) = refusal-alike code [] (text_pieces Trace)
 fault_line-pieces (fault.TextPlace code place Source) =
     refusal-alike code (codes ",\"place\":" ∷ decimal place ∷ []) (text_pieces Source)
 fault_line-pieces (fault.TextPlace code place Target) =
     refusal-alike code (codes ",\"place\":" ∷ decimal place ∷ []) (text_pieces Target)
+fault_line-pieces (fault.TextPlace code place Trace) =
+    refusal-alike code (codes ",\"place\":" ∷ decimal place ∷ []) (text_pieces Trace)
 fault_line-pieces (fault.TextStatement code statement Source) =
     refusal-alike code (codes ",\"statement\":" ∷ decimal statement ∷ []) (text_pieces Source)
 fault_line-pieces (fault.TextStatement code statement Target) =
     refusal-alike code (codes ",\"statement\":" ∷ decimal statement ∷ []) (text_pieces Target)
+fault_line-pieces (fault.TextStatement code statement Trace) =
+    refusal-alike code (codes ",\"statement\":" ∷ decimal statement ∷ []) (text_pieces Trace)
 fault_line-pieces (fault.Trace at_line) = refl
+fault_line-pieces fault.Placed = refl
+fault_line-pieces fault.Reads = refl
+fault_line-pieces (fault.Edge operation) = refl

@@ -3,6 +3,7 @@
 --   has_float-unplaced       nor has a report without the placements between its parts
 --   has_float-check          nor have the numbers of a check
 --   has_float-fault          nor has a fault
+--   has_float-placed         nor have the placements of a verdict
 --   floats                   all of them, for the check to use
 use Rattle.std.proofs.Common.{◌≡◌, ℕ, List, [], ◌∷◌, map, false, refl, Option, None, Some, codes}
 use Rattle.serde_json.specs.Data.{member, object}
@@ -17,6 +18,7 @@ use Rattle.route_report.specs.Faults.{fault_data}
 use Rattle.route_report.specs.Lines.{check_data, count_members, middle_members, with_cost, with_powers, with_spares}
 use Rattle.route_report.specs.Parts.{ToldParts}
 use Rattle.route_report.specs.Unplaced.{unplaced_data}
+use Rattle.route_report.specs.Verdicts.{placed_data}
 
 items_have_float-wholes : (ns : List ℕ) → items_have_float (items_of (map whole ns)) ≡ false
 items_have_float-wholes [] = refl
@@ -62,5 +64,11 @@ has_float-fault (fault.TextPlain code side) = refl
 has_float-fault (fault.TextPlace code place side) = refl
 has_float-fault (fault.TextStatement code statement side) = refl
 has_float-fault (fault.Trace at_line) = refl
+has_float-fault fault.Placed = refl
+has_float-fault fault.Reads = refl
+has_float-fault (fault.Edge operation) = refl
 
-pub ruleset floats = (has_float-unplaced, has_float-check, has_float-fault)
+pub has_float-placed : (first last : List ℕ) (phase : ℕ) → has_float (placed_data first last phase) ≡ false
+has_float-placed first last phase = rw (items_have_float-wholes last, items_have_float-wholes first) refl
+
+pub ruleset floats = (has_float-unplaced, has_float-check, has_float-fault, has_float-placed)

@@ -1,13 +1,13 @@
 -- Lines of worked records, computed by their definitions.
-use Rattle.std.proofs.Common.{◌≡◌, [], ◌∷◌, codes, refl, None, Some, pos, negsuc}
+use Rattle.std.proofs.Common.{◌≡◌, [], ◌∷◌, codes, refl, true, false, None, Some, pos, negsuc}
 use Rattle.std.specs.Fmt.{digits}
 use Rattle.serde_json.proofs.OnLiterals.{serde_json_on_literals}
 use Rattle.route_report.specs.declared.faults.Fault.TheVariants as fault
-use Rattle.route_report.specs.declared.faults.Side.TheVariants.{Source, Target}
+use Rattle.route_report.specs.declared.faults.Side.TheVariants.{Source, Target, Trace}
 use Rattle.route_report.specs.Entries.{entry_line}
 use Rattle.route_report.specs.Faults.{fault_line}
 use Rattle.route_report.specs.Lines.{report_line}
-use Rattle.route_report.specs.Verdicts.{verdict_line}
+use Rattle.route_report.specs.Verdicts.{verdict_line, verdict_text}
 
 pub one_wire : report_line (record {
   barriers = 0;
@@ -299,6 +299,22 @@ pub trace : fault_line (fault.Trace 5) ≡ codes "{\"fault\":\"Trace\",\"line\":
 unfolding serde_json_on_literals digits
 trace = refl
 
+pub text_too_long_of_trace : fault_line (fault.TextPlain 60 Trace) ≡ codes "{\"code\":60,\"fault\":\"TextTooLong\",\"status\":3,\"text\":\"trace\"}\n"
+unfolding serde_json_on_literals digits
+text_too_long_of_trace = refl
+
+pub placed : fault_line fault.Placed ≡ codes "{\"fault\":\"Placed\",\"status\":1}\n"
+unfolding serde_json_on_literals digits
+placed = refl
+
+pub reads : fault_line fault.Reads ≡ codes "{\"fault\":\"Reads\",\"status\":1}\n"
+unfolding serde_json_on_literals digits
+reads = refl
+
+pub edge : fault_line (fault.Edge 3) ≡ codes "{\"fault\":\"Edge\",\"operation\":3,\"status\":1}\n"
+unfolding serde_json_on_literals digits
+edge = refl
+
 pub half_entry : entry_line (record { a = negsuc 0; b = pos 0; c = negsuc 0; d = pos 0; e = 1 }) ≡ codes "-1 0 -1 0 1\n"
 unfolding digits
 half_entry = refl
@@ -310,3 +326,11 @@ phase_zero = refl
 pub phase_seven : verdict_line 7 ≡ codes "yes 7\n"
 unfolding digits
 phase_seven = refl
+
+pub no_placements : verdict_text false (0 ∷ []) (0 ∷ []) 5 ≡ codes "yes 5\n"
+unfolding serde_json_on_literals digits
+no_placements = refl
+
+pub placements : verdict_text true (2 ∷ 0 ∷ 1 ∷ []) (0 ∷ 2 ∷ 1 ∷ []) 4 ≡ codes "yes 4\n{\"final\":[0,2,1],\"initial\":[2,0,1],\"phase\":4}\n"
+unfolding serde_json_on_literals digits
+placements = refl

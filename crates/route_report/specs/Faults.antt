@@ -1,7 +1,7 @@
 -- The line of a fault: one JSON object, its keys in the order of their bytes.
 --   status_of     the status that the program ends with
---   outside_data  the object of a fault that is no refusal: its name and its status
---   side_word     the word of one of the two texts of a trace
+--   outside_data  the object of a fault that tells nothing but its name and its status
+--   side_word     the word of one of the texts of `verify`
 --   plain_data, place_data, statement_data
 --                 the object of a refusal, of one at a place and of one of a statement, with what stands behind its status
 --   text_member   the member that tells which text it is
@@ -12,7 +12,7 @@ use Rattle.serde_json.specs.Data.{Data, Members, member, no_members, object, str
 use Rattle.route_report.specs.declared.faults.Fault.{Fault}
 use Rattle.route_report.specs.declared.faults.Fault.TheVariants as fault
 use Rattle.route_report.specs.declared.faults.Side.{Side}
-use Rattle.route_report.specs.declared.faults.Side.TheVariants.{Source, Target}
+use Rattle.route_report.specs.declared.faults.Side.TheVariants as side
 use Rattle.route_report.specs.Compact.{line, whole}
 use Rattle.route_report.specs.Refusals.{bits_length, edge_cost, initial, many_branches, name_of, not_connected, self_edge, stops_with, too_few_qubits, too_many_spares, wide_program}
 
@@ -34,10 +34,13 @@ status_of (fault.WideProgram qubits) = stops_with wide_program
 status_of (fault.ManyBranches branches) = stops_with many_branches
 status_of (fault.BitsLength qubits) = stops_with bits_length
 status_of (fault.TooManySpares qubits spares) = stops_with too_many_spares
-status_of (fault.TextPlain code side) = stops_with code
-status_of (fault.TextPlace code place side) = stops_with code
-status_of (fault.TextStatement code statement side) = stops_with code
+status_of (fault.TextPlain code s) = stops_with code
+status_of (fault.TextPlace code place s) = stops_with code
+status_of (fault.TextStatement code statement s) = stops_with code
 status_of (fault.Trace at_line) = 1
+status_of fault.Placed = 1
+status_of fault.Reads = 1
+status_of (fault.Edge operation) = 1
 
 abbrev pub outside_data : List ℕ → ℕ → Data
 outside_data name status = object
@@ -45,8 +48,9 @@ outside_data name status = object
     (member (codes "status") (whole status) no_members))
 
 abbrev pub side_word : Side → List ℕ
-side_word Source = codes "source"
-side_word Target = codes "target"
+side_word side.Source = codes "source"
+side_word side.Target = codes "target"
+side_word side.Trace = codes "trace"
 
 abbrev pub plain_data : ℕ → Members → Data
 plain_data code others = object
@@ -69,7 +73,7 @@ statement_data code statement others = object
     (member (codes "status") (whole (stops_with code)) others))))
 
 abbrev pub text_member : Side → Members
-text_member side = member (codes "text") (string (side_word side)) no_members
+text_member s = member (codes "text") (string (side_word s)) no_members
 
 abbrev pub fault_data : Fault → Data
 fault_data fault.Words = outside_data (codes "Words") (status_of fault.Words)
@@ -130,13 +134,19 @@ fault_data (fault.TooManySpares qubits spares) = object
     (member (codes "qubits") (whole qubits)
     (member (codes "spares") (whole spares)
     (member (codes "status") (whole (stops_with too_many_spares)) no_members)))))
-fault_data (fault.TextPlain code side) = plain_data code (text_member side)
-fault_data (fault.TextPlace code place side) = place_data code place (text_member side)
-fault_data (fault.TextStatement code statement side) = statement_data code statement (text_member side)
+fault_data (fault.TextPlain code s) = plain_data code (text_member s)
+fault_data (fault.TextPlace code place s) = place_data code place (text_member s)
+fault_data (fault.TextStatement code statement s) = statement_data code statement (text_member s)
 fault_data (fault.Trace at_line) = object
     (member (codes "fault") (string (codes "Trace"))
     (member (codes "line") (whole at_line)
     (member (codes "status") (whole (status_of (fault.Trace at_line))) no_members)))
+fault_data fault.Placed = outside_data (codes "Placed") (status_of fault.Placed)
+fault_data fault.Reads = outside_data (codes "Reads") (status_of fault.Reads)
+fault_data (fault.Edge operation) = object
+    (member (codes "fault") (string (codes "Edge"))
+    (member (codes "operation") (whole operation)
+    (member (codes "status") (whole (status_of (fault.Edge operation))) no_members)))
 
 abbrev pub fault_line : Fault → List ℕ
 fault_line f = line (fault_data f)

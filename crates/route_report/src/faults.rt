@@ -3,23 +3,27 @@
 ghost use Rattle.std.specs.Prelude.{◌≡◌, IfOk, codes};
 ghost use Rattle.serde_json.specs.Data.{Members, object, put, string};
 ghost use Rattle.serde_json.specs.View.{view};
+ghost use Rattle.exit_status.specs.Statuses.{status_with};
 ghost use Rattle.route_report.specs.Faults.{fault_data, outside_data, side_word, status_of};
 
 use crate::compact::with_member;
 use crate::refusals::{
     BITS_LENGTH, EDGE_COST, INITIAL, MANY_BRANCHES, NOT_CONNECTED, SELF_EDGE, TOO_FEW_QUBITS,
-    TOO_MANY_SPARES, WIDE_PROGRAM, refusal_name, refusal_status,
+    TOO_MANY_SPARES, WIDE_PROGRAM, refusal_exit, refusal_name, refusal_status,
 };
+use exit_status::{Exit, exit_status};
 use serde_json::{Value, json};
 use std::alloc::{AllocError, Global};
 
-/// One of the two program texts that a trace is verified against.
+/// One of the texts of `verify`: the two programs that a trace is verified against, or the trace, where it has a text of its own.
 #[derive(Clone, Copy, Debug, PartialEq, Eq)]
 pub enum Side {
     /// The text of the program that the trace begins with.
     Source,
     /// The text of the program that it ends with.
     Target,
+    /// The text of the trace.
+    Trace,
 }
 
 /// A fault, with what its line tells. A `code` is that of a refusal.
@@ -111,6 +115,14 @@ pub enum Fault {
     Trace {
         line: u32,
     },
+    /// Some wire begins or ends on another qubit than its own.
+    Placed,
+    /// Some classical bit reads another wire than in the source, or the registers differ.
+    Reads,
+    /// This operation of the target, counted from 1 on, is the first CNOT that follows no edge of the device.
+    Edge {
+        operation: u64,
+    },
 }
 
 /// The word of a side in the line.
@@ -120,6 +132,35 @@ fn side_word(side: Side) -> &'static str
     match side {
         Side::Source => "source",
         Side::Target => "target",
+        Side::Trace => "trace",
+    }
+}
+
+/// How a run ends with a fault.
+fn exit_of(fault: &Fault) -> Exit
+    ensures value { status_with result ≡ status_of fault.now }
+{
+    match *fault {
+        Fault::Words => Exit::Words,
+        Fault::Input => Exit::Input,
+        Fault::Output => Exit::Output,
+        Fault::Shelf | Fault::Absent => Exit::Shelf,
+        Fault::Plain { code }
+        | Fault::Place { code, .. }
+        | Fault::Statement { code, .. }
+        | Fault::TextPlain { code, .. }
+        | Fault::TextPlace { code, .. }
+        | Fault::TextStatement { code, .. } => refusal_exit(code),
+        Fault::SelfEdge { .. } => refusal_exit(SELF_EDGE),
+        Fault::NotConnected { .. } => refusal_exit(NOT_CONNECTED),
+        Fault::TooFewQubits { .. } => refusal_exit(TOO_FEW_QUBITS),
+        Fault::EdgeCost { .. } => refusal_exit(EDGE_COST),
+        Fault::Initial { .. } => refusal_exit(INITIAL),
+        Fault::WideProgram { .. } => refusal_exit(WIDE_PROGRAM),
+        Fault::ManyBranches { .. } => refusal_exit(MANY_BRANCHES),
+        Fault::BitsLength { .. } => refusal_exit(BITS_LENGTH),
+        Fault::TooManySpares { .. } => refusal_exit(TOO_MANY_SPARES),
+        Fault::Trace { .. } | Fault::Placed | Fault::Reads | Fault::Edge { .. } => Exit::Unproved,
     }
 }
 
@@ -127,28 +168,7 @@ fn side_word(side: Side) -> &'static str
 pub fn status(fault: &Fault) -> u8
     ensures value { result ≡ status_of fault.now }
 {
-    match *fault {
-        Fault::Words => 2,
-        Fault::Input => 5,
-        Fault::Output => 6,
-        Fault::Shelf | Fault::Absent => 9,
-        Fault::Plain { code }
-        | Fault::Place { code, .. }
-        | Fault::Statement { code, .. }
-        | Fault::TextPlain { code, .. }
-        | Fault::TextPlace { code, .. }
-        | Fault::TextStatement { code, .. } => refusal_status(code),
-        Fault::SelfEdge { .. } => refusal_status(SELF_EDGE),
-        Fault::NotConnected { .. } => refusal_status(NOT_CONNECTED),
-        Fault::TooFewQubits { .. } => refusal_status(TOO_FEW_QUBITS),
-        Fault::EdgeCost { .. } => refusal_status(EDGE_COST),
-        Fault::Initial { .. } => refusal_status(INITIAL),
-        Fault::WideProgram { .. } => refusal_status(WIDE_PROGRAM),
-        Fault::ManyBranches { .. } => refusal_status(MANY_BRANCHES),
-        Fault::BitsLength { .. } => refusal_status(BITS_LENGTH),
-        Fault::TooManySpares { .. } => refusal_status(TOO_MANY_SPARES),
-        Fault::Trace { .. } => 1,
-    }
+    exit_status(exit_of(fault))
 }
 
 /// The JSON object of a fault.
@@ -184,6 +204,9 @@ pub(crate) fn fault_value(alloc: Global, fault: &Fault) -> Result<Value, AllocEr
             side,
         } => with_side(alloc, statement_value(alloc, code, statement)?, side),
         Fault::Trace { line } => trace_value(alloc, line),
+        Fault::Placed => outside_value(alloc, "Placed", status),
+        Fault::Reads => outside_value(alloc, "Reads", status),
+        Fault::Edge { operation } => edge_value(alloc, operation),
     }
 }
 
@@ -310,4 +333,10 @@ fn trace_value(alloc: Global, line: u32) -> Result<Value, AllocError>
     ensures { IfOk result (λ v. view v ≡ fault_data (Fault.Trace line)) }
 {
     json!(in alloc; {"fault": "Trace", "line": line, "status": 1u8})
+}
+
+fn edge_value(alloc: Global, operation: u64) -> Result<Value, AllocError>
+    ensures { IfOk result (λ v. view v ≡ fault_data (Fault.Edge operation)) }
+{
+    json!(in alloc; {"fault": "Edge", "operation": operation, "status": 1u8})
 }

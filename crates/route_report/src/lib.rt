@@ -26,7 +26,7 @@ pub mod wires;
 pub use entries::{Entry, entry_line};
 pub use faults::{Fault, Side, status};
 pub use lines::{Counts, Parts, Report};
-pub use verdicts::verdict_line;
+pub use verdicts::{verdict_line, verdict_text};
 pub use wires::Wires;
 
 /// The bytes of the report line; `Err` for want of memory alone.

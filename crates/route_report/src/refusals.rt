@@ -1,7 +1,10 @@
 //! The refusals of a program's text, of a device's text, of a list of its qubits and of a question on a program, by their codes.
 
 ghost use Rattle.std.specs.Prelude.{◌≡◌};
+ghost use Rattle.exit_status.specs.Statuses.{status_with};
 ghost use Rattle.route_report.specs.Refusals.{name_of, stops_with};
+
+use exit_status::{Exit, exit_status};
 
 pub(crate) const SELF_EDGE: u8 = 53;
 
@@ -70,12 +73,19 @@ pub(crate) fn refusal_name(code: u8) -> &'static str
     }
 }
 
-/// The status that a refusal ends with: 4 for a device's text or a list of its qubits, 3 for a program's.
+/// How a run ends with a refusal: as one of a device for a device's text or a list of its qubits, else as one of a program.
+pub(crate) fn refusal_exit(code: u8) -> Exit
+    ensures value { status_with result ≡ stops_with code }
+{
+    match code {
+        50..=58 => Exit::Device,
+        _ => Exit::Program,
+    }
+}
+
+/// The status that a refusal ends with.
 pub(crate) fn refusal_status(code: u8) -> u8
     ensures value { result ≡ stops_with code }
 {
-    match code {
-        50..=58 => 4,
-        _ => 3,
-    }
+    exit_status(refusal_exit(code))
 }

@@ -3,8 +3,8 @@ use Rattle.std.proofs.Common.{inl, inr, ◌∙◌, ap, Err, map}
 use Rattle.outside_io.specs.Bytes.{Gains, GainsPrefix}
 use Rattle.command_line.specs.Demands.{writes_out, writes_report}
 use Rattle.qroute_top.specs.Causes.{Handed}
-use Rattle.qroute_top.proofs.RunLaws.{Delivered-done, device_alone, answered_on, asked_of, came, handed, planned-absent, planned-complete, planned-complete_texts, planned-refuses, planned-refuses_device, planned-refuses_question, planned-verdict, same_stop, stopped-absent, stopped-complete, stopped-complete_texts, stopped-read, stopped-refuses, stopped-refuses_device, stopped-refuses_question, stopped-two, stopped-verdict, stopped-words}
-use Rattle.qroute_top.proofs.ClaimLaws.{Readable, Traceable}
+use Rattle.qroute_top.proofs.RunLaws.{Delivered-done, answered_on, asked_of, came, handed, planned-absent, planned-complete, planned-complete_texts, planned-refuses, planned-refuses_device, planned-refuses_question, planned-verdict, same_stop, stopped-absent, stopped-complete, stopped-complete_texts, stopped-read, stopped-refuses, stopped-refuses_device, stopped-refuses_question, stopped-two, stopped-verdict, stopped-words, unclaimed, unclaimed-absent, unclaimed-refused}
+use Rattle.qroute_top.proofs.ClaimLaws.{AllThere, Readable, Traceable}
 use Rattle.qroute_top.proofs.StatusLaws.{not_late, not_memory}
 use Rattle.qroute_top.proofs.run.Goals as goal
 
@@ -103,7 +103,7 @@ returns-in-Err-clause-absent g c =
     (g.I.Source.faults c.decide.new.input) (g.F.Shelf.content c.args.shelf.now) (g.F.Shelf.faults c.args.shelf.now)
     (g.F.Shelf.faults c.decide.new.shelf) in
     λ a name n asked wants needs calm shelf_calm none. stopped-absent c.accepted_has_no_refusal.ensures.no_refusal h c.in-Err.stop c.tell.result a name n c.in-Err.ensures.stop
-    c.tell.ensures.status (asked_of h a n asked (device_alone a name wants) needs (answered_on (g.I.Source.left c.args.input.now) a name wants) calm (λ w. shelf_calm)) wants none
+    c.tell.ensures.status (asked_of h a n asked (unclaimed-absent h a name asked wants none shelf_calm) needs (answered_on (g.I.Source.left c.args.input.now) a name wants) calm (λ w. shelf_calm)) wants none
 
 pub returns-in-Err-clause-refuses_device : goal.returns-in-Err-clause-refuses_device
 returns-in-Err-clause-refuses_device g c =
@@ -111,7 +111,7 @@ returns-in-Err-clause-refuses_device g c =
     (g.I.Source.faults c.decide.new.input) (g.F.Shelf.content c.args.shelf.now) (g.F.Shelf.faults c.args.shelf.now)
     (g.F.Shelf.faults c.decide.new.shelf) in
     λ a name device_text n r asked wants needs calm shelf_calm here refusal. stopped-refuses_device c.accepted_has_no_refusal.ensures.no_refusal h c.in-Err.stop c.tell.result a name
-    device_text n c.in-Err.ensures.stop c.tell.ensures.status (asked_of h a n asked (device_alone a name wants) needs (answered_on (g.I.Source.left c.args.input.now) a name wants) calm (λ w. shelf_calm)) wants here
+    device_text n c.in-Err.ensures.stop c.tell.ensures.status (asked_of h a n asked (unclaimed-refused h a name device_text n r asked wants needs here refusal shelf_calm) needs (answered_on (g.I.Source.left c.args.input.now) a name wants) calm (λ w. shelf_calm)) wants here
 
 pub returns-in-Err-clause-complete : goal.returns-in-Err-clause-complete
 returns-in-Err-clause-complete g c =
@@ -119,7 +119,7 @@ returns-in-Err-clause-complete g c =
     (g.I.Source.faults c.decide.new.input) (g.F.Shelf.content c.args.shelf.now) (g.F.Shelf.faults c.args.shelf.now)
     (g.F.Shelf.faults c.decide.new.shelf) in
     λ a n asked alone needs has answered calm shelf_calm out_calm report_calm. stopped-complete c.accepted_has_no_refusal.ensures.no_refusal c.means_once.ensures.once h c.in-Err.stop c.tell.result a n
-    c.in-Err.ensures.stop c.tell.ensures.status (asked_of h a n asked alone needs answered calm shelf_calm) has
+    c.in-Err.ensures.stop c.tell.ensures.status (asked_of h a n asked (unclaimed h a asked alone) needs answered calm shelf_calm) has
 
 pub returns-in-Ok-clause-refuses_question : goal.returns-in-Ok-clause-refuses_question
 returns-in-Ok-clause-refuses_question g c =
@@ -140,9 +140,9 @@ pub returns-in-Ok-clause-verdict : goal.returns-in-Ok-clause-verdict
 returns-in-Ok-clause-verdict g c =
     let law : Readable = record { accepted = c.accepted_text_has_no_refusal.ensures.no_refusal; refused = c.text_refused_once.ensures.once; means = c.means_once.ensures.once } in
     let traces : Traceable = record { not_both = c.traces_are_exact.ensures.not_both; one_line = c.traces_are_exact.ensures.one_line; one_proof = c.traces_are_exact.ensures.one_proof } in
-    λ a x y end asked texts told is calm out_calm. planned-verdict law traces (map (λ w. w.now) c.args.words.now) (g.F.Shelf.content c.args.shelf.now)
-    (g.I.Source.left c.args.input.now) (g.I.Source.left c.decide.new.input) c.in-Ok.answer c.emit.result a x y end
-    c.in-Ok.ensures.made c.emit.ensures.emitted asked texts (c.in-Ok.ensures.tells a asked) told is out_calm
+    λ a v end asked claim told is calm out_calm. planned-verdict law traces (map (λ w. w.now) c.args.words.now) (g.F.Shelf.content c.args.shelf.now)
+    (g.I.Source.left c.args.input.now) (g.I.Source.left c.decide.new.input) c.in-Ok.answer c.emit.result a v end
+    c.in-Ok.ensures.made c.emit.ensures.emitted asked claim (c.in-Ok.ensures.tells a asked) told is out_calm
 
 pub returns-in-Err-clause-verdict : goal.returns-in-Err-clause-verdict
 returns-in-Err-clause-verdict g c =
@@ -151,8 +151,8 @@ returns-in-Err-clause-verdict g c =
     (g.F.Shelf.faults c.decide.new.shelf) in
     let law : Readable = record { accepted = c.accepted_text_has_no_refusal.ensures.no_refusal; refused = c.text_refused_once.ensures.once; means = c.means_once.ensures.once } in
     let traces : Traceable = record { not_both = c.traces_are_exact.ensures.not_both; one_line = c.traces_are_exact.ensures.one_line; one_proof = c.traces_are_exact.ensures.one_proof } in
-    λ a x y end asked texts told is calm out_calm. stopped-verdict law traces h c.in-Err.stop c.tell.result a x y end c.in-Err.ensures.stop c.tell.ensures.status
-    asked texts told is calm
+    λ a v end asked claim told is calm out_calm. stopped-verdict law traces h c.in-Err.stop c.tell.result a v end c.in-Err.ensures.stop c.tell.ensures.status
+    asked claim told is calm
 
 pub returns-in-Err-clause-words : goal.returns-in-Err-clause-words
 returns-in-Err-clause-words g c =
@@ -164,7 +164,7 @@ returns-in-Err-clause-words g c =
 pub returns-in-Ok-clause-complete_texts : goal.returns-in-Ok-clause-complete_texts
 returns-in-Ok-clause-complete_texts g c =
     let d = c.in-Ok.ensures in
-    λ a x y s t asked texts told fine here well calm out_calm. planned-complete_texts a x y c.emit.ensures.emitted texts (d.writes a asked)
+    λ a v s t u n asked claim has told fine here well wires trace calm out_calm. planned-complete_texts a v c.emit.ensures.emitted claim (d.writes a asked)
     (d.tells a asked) out_calm
 
 pub returns-in-Err-clause-complete_texts : goal.returns-in-Err-clause-complete_texts
@@ -172,5 +172,6 @@ returns-in-Err-clause-complete_texts g c =
     let h : Handed = handed (map (λ w. w.now) c.args.words.now) (g.I.Source.left c.args.input.now) (g.I.Source.faults c.args.input.now)
     (g.I.Source.faults c.decide.new.input) (g.F.Shelf.content c.args.shelf.now) (g.F.Shelf.faults c.args.shelf.now)
     (g.F.Shelf.faults c.decide.new.shelf) in
-    λ a x y s t asked texts told fine here well calm out_calm. stopped-complete_texts h c.in-Err.stop c.tell.result a x y s t c.in-Err.ensures.stop
-    c.tell.ensures.status asked texts told fine here well calm
+    λ a v s t u n asked claim has told fine here well wires trace calm out_calm.
+    let all : AllThere h.content v s t u n = record { device = has; source = told; fine = fine; target = here; well = well; wires = wires; trace = trace } in
+    stopped-complete_texts h c.in-Err.stop c.tell.result a v s t u n c.in-Err.ensures.stop c.tell.ensures.status asked claim all calm

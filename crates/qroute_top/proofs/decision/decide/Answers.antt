@@ -1,12 +1,12 @@
 -- Why the device isn't had, and what is delivered on one that is.
 use Rattle.std.proofs.Common.{refl, map, ap, subst, None, ◌∙◌}
-use Rattle.std.proofs.lemmas.Result.{err_from_is_err_and}
+use Rattle.std.proofs.lemmas.Result.{IfErr-weaker, err_from_is_err_and}
 use Rattle.command_line.specs.Demands.{Entry, Spares, told_list}
 use Rattle.command_line.specs.declared.commands.Command.TheVariants.{Amplitude, OptWithSpares}
 use Rattle.qroute_top.specs.Causes.{Handed}
 use Rattle.circuit_target.specs.Standing.{IsOnQubits}
 use Rattle.qroute_top.specs.Delivered.{Rewrites, drawn_program, starts_of}
-use Rattle.qroute_top.proofs.RunLaws.{Delivers-drawn, Delivers-entry, Delivers-routed, Delivers-spared, IsCause-device, IsCause-question, Reaches-drawn, Reaches-read, device_failed, handed}
+use Rattle.qroute_top.proofs.RunLaws.{Delivers-drawn, Delivers-entry, Delivers-routed, Delivers-spared, IsCause-claim, IsCause-device, IsCause-question, Reaches-drawn, Reaches-read, device_failed, handed}
 use Rattle.qroute_top.proofs.decision.decide.Goals as goal
 
 pub returns-in_err-device-in-Route-clause-stop : goal.returns-in_err-device-in-Route-clause-stop
@@ -97,3 +97,11 @@ returns-in_ok-optimise_with_spares-in-OptWithSpares-clause-made g c =
     c.in-OptWithSpares.spares (g.I.Source.left c.args.input.now) (g.I.Source.left c.read_source-in-OptWithSpares.new.input)
     c.in_ok-source-in-OptWithSpares.source text line c.in_ok-command.ensures.ok c.in-OptWithSpares.is c.in_ok-source-in-OptWithSpares.ensures.ok
     c.in_ok-optimise_with_spares-in-OptWithSpares.ensures.answered (c.in_ok-optimise_with_spares-in-OptWithSpares.ensures.made text line is)
+
+pub returns-in-Verify-clause-stop : goal.returns-in-Verify-clause-stop
+returns-in-Verify-clause-stop g c =
+    let h : Handed = handed (map (λ w. w.now) c.args.words.now) (g.I.Source.left c.args.input.now) (g.I.Source.faults c.args.input.now)
+    (g.I.Source.faults c.args.input.now) (g.F.Shelf.content c.args.shelf.now) (g.F.Shelf.faults c.args.shelf.now)
+    (g.F.Shelf.faults c.claim_answer.new.shelf) in
+    IfErr-weaker c.claim_answer.result _ _ (λ s x. IsCause-claim h c.in_ok-command.command c.in-Verify.asked s c.in_ok-command.ensures.ok c.in-Verify.is x)
+    c.claim_answer.ensures.err

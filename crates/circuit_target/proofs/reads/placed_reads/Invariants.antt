@@ -2,7 +2,7 @@
 use Rattle.std.proofs.Common.{◌≡◌, All, length, map, take}
 use Rattle.gate_inline.specs.Registers.{IsRead}
 use Rattle.circuit_target.specs.Standing.{placed_read}
-use Rattle.qroute_top.proofs.plan.placed_reads.Given as goal
+use Rattle.circuit_target.proofs.reads.placed_reads.Given as goal
 
 abbrev pub invariant-reads : goal.invariant-reads
 invariant-reads l = record {

@@ -1,0 +1,2 @@
+-- ---- definitions that public clauses reach
+pub mod Statuses
