@@ -5,6 +5,7 @@
 --   on_below                   the wires of a gate are there
 --   after-some, after-none, before-some, before-none, from-some, from-none    the next gate on any wire
 --   next-some, next-none, prev-some, prev-none    the gates on a wire
+--   push-fine, insert-fine, gone-fine, put-fine    the gates after an edit are fine
 --   t_count-entries, cx_count-entries, h_count-entries    counts over the slots
 use Rattle.std.proofs.Common.{◌≡◌, ℕ, zero, suc, ◌+◌, ◌-◌, ◌<◌, ◌≤◌, ◌==◌, ◌||◌, Bool, true, false, cond, List, [], ◌∷◌, ◌++◌, Option, None, Some, Ok, Err, Result, OnOk, OnErr, refl, sym, ap, ◌∙◌, subst, arith, inl, inr, ◌⊎◌, All, length, set, slice_get, take, drop, zero-add, add-zero}
 use Rattle.std.specs.List.{count_by, remove}

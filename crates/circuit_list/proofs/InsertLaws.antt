@@ -1,11 +1,12 @@
 -- Gates put between others.
 --   gates_of-append, gates_of-split     the gates of joined slots, and of slots that are split
 --   gates_of-front, gates_of-behind     the gates before a slot, and from it on
---   gates_of-between                    those of some slots between two others
+--   gates_of-upto, gates_of-from        those up to the second of two slots, and from the first on, by those between
 --   gates_of-joined                     the gates of a window with more at a slot are those of all slots with more at its place
 --   next_slot                           behind a slot with a gate
 --   put-front, put-rest, put-empty      a slot that is laid out again
---   laid-more, laid-none                one slot further
+--   IsLaid                              so many slots are laid out again with so many of the gates
+--   laid_first, laid_more, laid_none    none yet, and one slot further, with a gate or with none
 --   laid_all                            all of them
 --   no_gates                            slots without gates
 use Rattle.std.proofs.Common.{◌≡◌, ℕ, zero, suc, ◌+◌, ◌-◌, ◌<◌, ◌≤◌, true, false, List, [], ◌∷◌, ◌++◌, Option, None, Some, is_some, refl, sym, ap, ◌∙◌, arith, length, set, take, drop, replicate, append_assoc, add-one}

@@ -1,8 +1,9 @@
 //! Gates put between others: into empty slots there if these are enough, else the slots around are laid out again.
 //!
-//! The slots that are laid out again are a window around the place, the smallest of those twice as wide each that keeps a share of its
-//! slots empty. A wider one has to keep a greater share, so many gates go into a window before the next one is laid: on the average
-//! a gate moves as many others as the square of the logarithm. Only if all slots together are too full, new ones are made.
+//! The slots that are laid out again are a window around the place: the first, from the smallest on and each twice as wide, that
+//! keeps a share of its slots empty. A wider one has to keep a greater share, so many gates go into a window before the next one is
+//! laid: on the average a gate moves as many others as the square of the logarithm. Only if all slots together are too full, new
+//! ones are made.
 
 ghost use Rattle.std.specs.Prelude.{◌≡◌, ◌+◌, ◌<◌, ◌≤◌, ◌++◌, length, IfOk, IfSome, OnErr, OnOk, drop, false, slice_set, take, true};
 ghost use Rattle.circuit_list.specs.Entries.{gates_of, rank};
@@ -35,7 +36,7 @@ struct Window {
 }
 
 impl Tree {
-    /// Puts the gates of some slots before the one at a place, or behind all. After want of memory the slots are as they were.
+    /// Puts the gates of some slots before the one at a place, or behind all. If memory runs out, the slots are as they were.
     pub(crate) fn insert(&mut self, place: usize, entries: &[Entry]) -> Result<(), AllocError>
         requires within { place ≤ rank self.old (length self.old) }
         ensures ok { OnOk result (gates_of self.new ≡ take place (gates_of self.old) ++ (gates_of entries.now ++ drop place (gates_of self.old))) }
@@ -193,7 +194,7 @@ impl Tree {
         }
     }
 
-    /// New slots for gates, half as many again as these, and links where there were some. After want of memory the slots are as they
+    /// New slots for gates, half as many again as these, and links where there were some. If memory runs out, the slots are as they
     /// were.
     fn remake(&mut self, gates: &[Entry]) -> Result<(), AllocError>
         ensures ok { OnOk result (gates_of self.new ≡ gates_of gates.now) }

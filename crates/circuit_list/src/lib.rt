@@ -6,11 +6,11 @@
 //! control isn't its target and that a phase is from 1 to 7, so a reader of gates need not test it
 //! again.
 //!
-//! A slot is a gate's name: it stays while other gates are put in, taken out or replaced, and a gate is taken out without
-//! moving the others. Once the circuit is linked ([`Circuit::link`]), the next and the previous gate on one of a gate's wires are
-//! found from its slot without a look at the gates between. Such a call takes no memory, and as many steps as the logarithm of
-//! the number of slots, or of the distance alone where a neighbour is asked for. A near neighbour on a wire is found in a step.
-//! A circuit that isn't linked answers the same, by a look along its slots.
+//! A slot is a gate's name: it stays while other gates are put in, taken out or replaced, but for [`Circuit::insert`] and
+//! [`Circuit::compact`], and a gate is taken out without moving the others. Once the circuit is linked ([`Circuit::link`]), the
+//! next and the previous gate on one of a gate's wires are found from its slot without a look at the gates between. Such a call
+//! takes no memory, and as many steps as the logarithm of the number of slots, or of the distance alone where a neighbour is asked
+//! for. A near neighbour on a wire is found in a step. A circuit that isn't linked answers the same, by a look along its slots.
 #![tactic(auto)]
 
 mod entry;
@@ -70,8 +70,9 @@ impl Gate {
 
 /// The gates in circuit order, the first gate first.
 ///
-/// A slot whose gate was taken out stays, empty, and takes room and time until [`Circuit::compact`], behind which slots of
-/// before mean nothing: counting and copying go through all slots, and so does `compact` itself, in linear time.
+/// A slot whose gate was taken out stays, empty, and takes room and time until [`Circuit::compact`] or [`Circuit::insert`], after
+/// which slots of before mean nothing; `insert` may leave empty slots too. Counting and copying go through all slots, and so does
+/// `compact` itself, in linear time.
 ///
 /// A circuit begins as a plain list of slots, 12 bytes each. The number of gates and the gate in a slot are at hand, and where no
 /// slot is empty so are [`Circuit::place`], [`Circuit::slot`], [`Circuit::gate`], [`Circuit::after`], [`Circuit::before`] and
@@ -127,7 +128,7 @@ impl Circuit {
         Ok(Circuit { wires, tree })
     }
 
-    /// Puts a gate behind the others, in a new slot. After want of memory the circuit is as it was.
+    /// Puts a gate behind the others, in a new slot. If memory runs out, the circuit is as it was.
     pub fn push(&mut self, g: Gate) -> Result<(), AllocError>
         requires fine { IsFine self.old.wires g }
         ensures wires { self.new.wires ≡ self.old.wires }
@@ -168,7 +169,7 @@ impl Circuit {
     /// slots, and those of before mean nothing any more. It goes through the slots of the other circuit, and in a linked one it
     /// takes a logarithm more for each gate that is put in if there are enough empty slots before the place. Else gates around it
     /// move, on the average as many for each new one as the square of the logarithm, however gates are put in and taken away, and
-    /// now and then all, into half as many slots again. After want of memory the circuit is as it was.
+    /// now and then all, into half as many slots again. If memory runs out, the circuit is as it was.
     pub fn insert(&mut self, i: usize, other: &Circuit) -> Result<(), AllocError>
         requires within { i ≤ length self.old.gates }
         requires wires { other.now.wires ≡ self.old.wires }
@@ -323,7 +324,7 @@ impl Circuit {
     }
 
     /// Makes the links, so that the calls of which the head speaks no longer look along the slots. What contracts see of
-    /// the circuit stays, also after want of memory.
+    /// the circuit stays, even if memory runs out.
     pub fn link(&mut self) -> Result<(), AllocError>
         ensures same { self.new ≡ self.old }
     {
@@ -338,7 +339,7 @@ impl Circuit {
     }
 
     /// Drops the slots whose gates were taken out; where there is none, nothing changes. Else the gates get new slots, and
-    /// those of before mean nothing any more. After want of memory the circuit is as it was.
+    /// those of before mean nothing any more. If memory runs out, the circuit is as it was.
     pub fn compact(&mut self) -> Result<(), AllocError>
         ensures wires { self.new.wires ≡ self.old.wires }
         ensures gates { self.new.gates ≡ self.old.gates }

@@ -5,7 +5,7 @@ ghost use Rattle.std.specs.Prelude.{◌≡◌};
 use std::marker::Model;
 
 /// A gate of a circuit, by a name that stays while other gates are put in, taken out or replaced, up to the next
-/// [`crate::Circuit::compact`].
+/// [`crate::Circuit::compact`] or [`crate::Circuit::insert`].
 /// The slots of a circuit are in the order of its list.
 #[derive(Clone, Copy, Debug, PartialEq, Eq, PartialOrd, Ord)]
 pub struct Slot {

@@ -29,7 +29,7 @@ use std::mem::swap;
 /// What stands before a sparse row: no row of a set begins with it.
 pub(crate) const MARK: u64 = u64::MAX;
 
-/// What stands on each set of variables_of, the set by its compact row, and on none, both modulo 8.
+/// What stands on each set of variables, the set by its compact row, and on none, both modulo 8.
 #[derive(Drop)]
 struct Totals {
     sets: IndexMap<Vec<u64>, u8>,

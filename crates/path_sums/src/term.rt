@@ -39,7 +39,7 @@ struct Halves {
     left: Vec<Term>,
 }
 
-/// AddsTerm what stands on a set to some terms.
+/// Adds what stands on a set to some terms.
 fn add(
     alloc: Global,
     gathered: &mut Gathered,
@@ -83,7 +83,7 @@ fn listed(gathered: Gathered) -> Result<Vec<Term>, AllocError>
     Ok(terms)
 }
 
-/// AddsTerm a set to that of a term, where this has a variable, and tells whether it has.
+/// Adds a set to that of a term, where this has a variable, and tells whether it has.
 fn take_out(
     term: &mut Term,
     spare: &mut Vec<Word>,

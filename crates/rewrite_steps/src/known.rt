@@ -7,7 +7,7 @@
 ghost use Rattle.std.specs.Prelude.{◌≡◌, ℕ, ◌≤◌, ◌⊎◌, List};
 ghost use Rattle.circuit_list.specs.declared.Gate.{Gate};
 ghost use Rattle.circuit_list.specs.Body.{Body};
-ghost use Rattle.rewrite_steps.specs.Known.{AreSpans, IsClear, AreSpansIn, IsSpan};
+ghost use Rattle.rewrite_steps.specs.Known.{AreSpans, AreSpansIn, IsClear, IsSpan};
 
 use circuit_list::{Gate, Slot};
 use std::alloc::Global;

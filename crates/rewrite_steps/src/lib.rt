@@ -6,7 +6,7 @@
 //! `rewrite_pass/specs/Traces.antt` do, and answer that there is none only if there is none.
 //! What is [`Known`] makes far pairs cheap, and changes no answer (`specs/Known.antt`).
 //!
-//! Any numbers may be asked about; nothing fails for want of memory.
+//! Any numbers may be asked about; no call takes memory that it needs.
 #![tactic(auto)]
 
 mod known;

@@ -6,7 +6,7 @@ ghost use Rattle.circuit_list.specs.Gates.{IsFine};
 ghost use Rattle.circuit_list.specs.Slots.{IsLive, is_on_at, place_of};
 ghost use Rattle.commute_rules.specs.Cancels.{Cancels, with_phase};
 ghost use Rattle.rewrite_pass.specs.Traces.{IsBothStep, IsJoinStep};
-ghost use Rattle.rewrite_steps.specs.Known.{AreEnds, IsBetween, AreSpansIn, IsProbe};
+ghost use Rattle.rewrite_steps.specs.Known.{AreEnds, AreSpansIn, IsBetween, IsProbe};
 ghost use Rattle.rewrite_steps.specs.Pairs.{IsFree, Reduces};
 
 use crate::known::{Known, wider};
