@@ -194,15 +194,15 @@ impl Tree {
         }
     }
 
-    /// New slots for gates, half as many again as these, and links where there were some. If memory runs out, the slots are as they
-    /// were.
+    /// New slots for gates, as many again as these, and links where there were some. If memory runs out, the slots are as they were.
+    /// A window of 2^h slots keeps h in 64 empty, a third from two million slots on, for which half as many again would be too few.
     fn remake(&mut self, gates: &[Entry]) -> Result<(), AllocError>
         ensures ok { OnOk result (gates_of self.new ≡ gates_of gates.now) }
         ensures err { OnErr result (self.new ≡ self.old) }
     {
         let slots = gates
             .len()
-            .saturating_add((gates.len() / 2).saturating_add(LEAST_WIDTH));
+            .saturating_add(gates.len().saturating_add(LEAST_WIDTH));
         let mut made = Tree::with_slots(self.allocator(), slots)?;
         made.lay(0, slots, gates);
         if self.is_linked() {

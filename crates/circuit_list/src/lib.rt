@@ -169,7 +169,7 @@ impl Circuit {
     /// slots, and those of before mean nothing any more. It goes through the slots of the other circuit, and in a linked one it
     /// takes a logarithm more for each gate that is put in if there are enough empty slots before the place. Else gates around it
     /// move, on the average as many for each new one as the square of the logarithm, however gates are put in and taken away, and
-    /// now and then all, into half as many slots again. If memory runs out, the circuit is as it was.
+    /// now and then all, into as many slots again. If memory runs out, the circuit is as it was.
     pub fn insert(&mut self, i: usize, other: &Circuit) -> Result<(), AllocError>
         requires within { i ≤ length self.old.gates }
         requires wires { other.now.wires ≡ self.old.wires }
