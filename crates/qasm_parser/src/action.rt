@@ -1,7 +1,7 @@
 //! Measures, resets, barriers and applications, and the body of a gate. Where an expression is deeper than the limit is
 //! told as for applications.
 
-ghost use Rattle.std.specs.Prelude.{◌≡◌, ◌≤◌, ◌<◌, Some, None, map, IfOk, IfErr, OnOk, length};
+ghost use Rattle.std.specs.Prelude.{◌≡◌, ◌≤◌, ◌<◌, [], Some, None, map, IfOk, IfErr, OnOk, length};
 ghost use Rattle.qasm_parser.specs.Misread.{IsMisread};
 ghost use Rattle.qasm_parser.specs.Ways.{this_mark, until, past, walk};
 ghost use Rattle.qasm_parser.specs.Shapes.{action_shape, application_shape, args_shape, body_shape, item_shape, measure_shape, reset_shape};
@@ -15,7 +15,7 @@ use crate::lists::{arg, args, expect, is_next, is_word, next_word, take_word};
 use crate::stop::ParseStop;
 use crate::symbols::{Keyword, Mark};
 use crate::tree::Stmt;
-use std::alloc::Global;
+use std::alloc::{AllocError, Global};
 
 /// A measure, from behind its word.
 #[tactic(auto, unfolding(crate::specs::Reading::measure_of, crate::specs::Shapes::measure_shape))]
@@ -111,8 +111,19 @@ fn item(alloc: Global, cursor: &mut Cursor<'_>) -> Result<(Stmt, Option<usize>),
     applying(alloc, cursor, true)
 }
 
-/// A body of so many items keeps the room that was taken for them.
-const SHORT: usize = 4;
+/// A body of so many items keeps the room for one more: a list that grows from one gets room for four.
+const SHORT: usize = 3;
+
+/// No items yet, and room for one unless the body ends here.
+fn no_items(alloc: Global, cursor: &Cursor<'_>) -> Result<Vec<Stmt>, AllocError>
+    ensures { IfOk result (λ v. v.items ≡ []) }
+{
+    if is_next(cursor, Mark::CloseBrace) {
+        return Ok(Vec::new(alloc));
+    }
+    let list = Vec::with_capacity(alloc, 1)?;
+    Ok(list)
+}
 
 /// The items of a gate's body, up to its end.
 #[tactic(auto, using(crate::proofs::StepLaws::items, crate::proofs::LoopLaws::items))]
@@ -122,7 +133,7 @@ fn items(alloc: Global, cursor: &mut Cursor<'_>) -> Result<(Vec<Stmt>, Option<us
     ensures err { IfErr result (IsMisread (walk (until (this_mark CloseBrace) item_shape) cursor.old)) }
     ensures rest { OnOk result (length cursor.new ≤ length cursor.old) }
 {
-    let mut list = Vec::with_capacity(alloc, 1)?;
+    let mut list = no_items(alloc, cursor)?;
     let mut deep = None;
     'items: while !is_next(cursor, Mark::CloseBrace) {
         let (next, place) = item(alloc, cursor)?;
@@ -142,7 +153,7 @@ pub fn body(alloc: Global, cursor: &mut Cursor<'_>) -> Result<(Vec<Stmt>, Option
 {
     let (mut list, deep) = items(alloc, cursor)?;
     expect(cursor, Mark::CloseBrace)?;
-    if list.len() > SHORT {
+    if list.len() != SHORT {
         list.shrink_to_fit();
     }
     Ok((list, deep))
