@@ -4,14 +4,13 @@
 --   IsProbe w g                 gate g commutes with each gate that isn't on wire w
 --   AreEnds w g b s t           the gates of b in the slots s and t are on wire w, and commute with g, which is a probe of w
 --   IsSpan gs slots k, AreSpans gs slots ks      so it is of one span, and of each
---   AreSpansIn k b              so it is of each span that k remembers, in the circuit b
+--   AreSpansIn ks b             so it is of each span, in the circuit b
 use Rattle.std.specs.Prelude.{◌≡◌, ℕ, ◌<◌, ◌≤◌, false, true, List, All, Some, slice_get}
 use Rattle.circuit_list.specs.Body.{Body}
 use Rattle.circuit_list.specs.declared.Gate.{Gate}
 use Rattle.circuit_list.specs.Gates.{is_on}
 use Rattle.circuit_list.specs.Slots.{IsLive, is_on_at, place_of}
 use Rattle.commute_rules.specs.Commutes.{commutes}
-use Rattle.rewrite_steps.specs.declared.known.Known.{Known}
 use Rattle.rewrite_steps.specs.declared.known.Span.{Span}
 
 abbrev pub IsClear : Gate → List Gate → List ℕ → ℕ → ℕ → Type 0
@@ -39,5 +38,5 @@ IsSpan gs slots k = IsClear k.probe gs slots k.from k.to
 abbrev pub AreSpans : List Gate → List ℕ → List Span → Type 0
 AreSpans gs slots ks = All (IsSpan gs slots) ks
 
-abbrev pub AreSpansIn : Known → Body → Type 0
-AreSpansIn k b = AreSpans b.gates b.slots k.spans.items
+abbrev pub AreSpansIn : List Span → Body → Type 0
+AreSpansIn ks b = AreSpans b.gates b.slots ks

@@ -11,16 +11,17 @@ ghost use Rattle.rewrite_steps.specs.Known.{AreSpans, AreSpansIn, IsClear, IsSpa
 
 use circuit_list::{Gate, Slot};
 use std::alloc::Global;
+use std::marker::Model;
 
 /// So many spans are remembered at most.
 const MOST_SPANS: usize = 64;
 
 /// Each gate in the slots from one to another commutes with the probe.
 #[derive(Clone, Copy, Debug)]
-pub(crate) struct Span {
-    pub(crate) probe: Gate,
-    pub(crate) from: Slot,
-    pub(crate) to: Slot,
+pub struct Span {
+    pub probe: Gate,
+    pub from: Slot,
+    pub to: Slot,
 }
 
 /// A span, and the slots up to two that reach into it or touch it.
@@ -36,12 +37,30 @@ pub(crate) fn wider(span: Span, from: Slot, to: Slot) -> Span
     }
 }
 
-/// The spans that are remembered.
+/// The spans that are remembered: contracts see these.
 #[derive(Drop)]
 pub struct Known {
     spans: Vec<Span>,
     /// The one that goes if there is no room for another.
     next: usize,
+}
+
+impl Model for Known {
+    ghost use Rattle.std.specs.Prelude.{List};
+    ghost use Rattle.rewrite_steps.specs.declared.known.Span.{Span};
+
+    ghost Value = { List Span };
+
+    ghost view = { λ k. k.spans.items };
+}
+
+/// The place that goes next, after another span was put at a place.
+fn next_after(next: usize, place: usize) -> usize {
+    if place == next {
+        place.saturating_add(1) % MOST_SPANS
+    } else {
+        next
+    }
 }
 
 /// A span, and where it is remembered, or is to be.
@@ -75,7 +94,7 @@ impl Known {
         ensures probe { result.span.probe ≡ probe }
         ensures from { result.span.from ≤ to }
         ensures to { from ≤ result.span.to }
-        ensures span { (gs : List Gate) (slots : List ℕ) → AreSpans gs slots self.now.spans.items → IsClear probe gs slots to to →
+        ensures span { (gs : List Gate) (slots : List ℕ) → AreSpans gs slots self.now → IsClear probe gs slots to to →
             IsSpan gs slots result.span }
     {
         'spans: for place in 0..self.spans.len() {
@@ -99,14 +118,11 @@ impl Known {
 
     /// Remembers a span at a place, or behind the others. If there is no memory for it, it isn't remembered.
     pub(crate) fn keep(&mut self, place: usize, span: Span)
-        ensures { (gs : List Gate) (slots : List ℕ) → AreSpans gs slots self.old.spans.items → IsSpan gs slots span →
-            AreSpans gs slots self.new.spans.items }
+        ensures { (gs : List Gate) (slots : List ℕ) → AreSpans gs slots self.old → IsSpan gs slots span → AreSpans gs slots self.new }
     {
         if place < self.spans.len() {
             self.spans[place] = span;
-            if place == self.next {
-                self.next = (place + 1) % MOST_SPANS;
-            }
+            self.next = next_after(self.next, place);
             return;
         }
         if self.spans.push(span).is_err() {
