@@ -445,12 +445,20 @@ fn is_long(shape: Shape) -> bool {
     shape.parts >= LEAST_PARTS && shape.parts / PARTS_EACH >= shape.places
 }
 
+/// The shape of an expression that is long, and linear in the parameters.
+fn long_shape(formula: &Formula) -> Option<Shape>
+    ensures { IfSome result (λ s. 0 < s.divisor) }
+{
+    let shape = shape_of(formula)?;
+    if shape.divisor == 0 || !is_long(shape) {
+        return None;
+    }
+    Some(shape)
+}
+
 /// Whether an expression is long, and linear in the parameters.
 pub fn is_worth_a_form(formula: &Formula) -> bool {
-    match shape_of(formula) {
-        Some(shape) => shape.divisor != 0 && is_long(shape),
-        None => false,
-    }
+    long_shape(formula).is_some()
 }
 
 /// The form of an expression that is long and linear in the parameters, where its numbers are small.
@@ -458,12 +466,9 @@ pub fn is_worth_a_form(formula: &Formula) -> bool {
 pub fn form_of(alloc: Global, formula: &Formula) -> Result<Option<Form>, AllocError>
     ensures { IfOk result (λ o. IfSome o (IsForm (formula_view formula.now))) }
 {
-    let Some(shape) = shape_of(formula) else {
+    let Some(shape) = long_shape(formula) else {
         return Ok(None);
     };
-    if shape.divisor == 0 || !is_long(shape) {
-        return Ok(None);
-    }
     let sums = no_sums(alloc, shape.places)?;
     match gather(formula, shape.divisor, 1, sums) {
         Some(sums) => Ok(Some(Form {
